@@ -1,0 +1,193 @@
+#![tactic(auto)]
+//! Words and instructions of RV32IA.
+
+ghost use Rattle.std.specs.Prelude.{◌≡◌, ◌+◌, ◌-◌, ◌*◌, ◌/◌, ◌%◌, ◌^◌, ◌<◌, ◌≤◌, ℕ, Some, bit_and};
+ghost use Rattle.rv32_decode.specs.Rows.{instruction_of};
+
+mod parts;
+
+pub use parts::{Amount, BranchOffset, FenceBits, Imm12, JumpOffset, Reg, Upper};
+
+/// The condition of a branch.
+#[derive(Clone, Copy, Debug, PartialEq, Eq)]
+pub enum Cond {
+    Eq,
+    Ne,
+    Lt,
+    Ge,
+    Ltu,
+    Geu,
+}
+
+/// The width of a load, and whether it extends by the sign or by zeros.
+#[derive(Clone, Copy, Debug, PartialEq, Eq)]
+pub enum LoadKind {
+    Byte,
+    Half,
+    Word,
+    ByteU,
+    HalfU,
+}
+
+/// The width of a store.
+#[derive(Clone, Copy, Debug, PartialEq, Eq)]
+pub enum Width {
+    Byte,
+    Half,
+    Word,
+}
+
+/// An operation of OP on two registers.
+#[derive(Clone, Copy, Debug, PartialEq, Eq)]
+pub enum Op {
+    Add,
+    Sub,
+    Sll,
+    Slt,
+    Sltu,
+    Xor,
+    Srl,
+    Sra,
+    Or,
+    And,
+}
+
+/// An operation of OP-IMM that has a 12-bit immediate.
+#[derive(Clone, Copy, Debug, PartialEq, Eq)]
+pub enum ImmOp {
+    Add,
+    Slt,
+    Sltu,
+    Xor,
+    Or,
+    And,
+}
+
+/// A shift of OP-IMM.
+#[derive(Clone, Copy, Debug, PartialEq, Eq)]
+pub enum ShiftOp {
+    Sll,
+    Srl,
+    Sra,
+}
+
+/// An atomic memory operation.
+#[derive(Clone, Copy, Debug, PartialEq, Eq)]
+pub enum AmoOp {
+    Swap,
+    Add,
+    Xor,
+    And,
+    Or,
+    Min,
+    Max,
+    Minu,
+    Maxu,
+}
+
+/// A word that is accepted as an illegal instruction.
+#[derive(Clone, Copy, Debug, PartialEq, Eq)]
+pub enum IllegalWord {
+    /// 00000000
+    Zeros,
+    /// ffffffff
+    Ones,
+    /// c0001073, a CSRRW to the read-only counter `cycle`
+    CycleWrite,
+}
+
+/// An instruction of RV32IA.
+#[derive(Clone, Copy, Debug, PartialEq, Eq)]
+pub enum Instr {
+    Lui {
+        rd: Reg,
+        upper: Upper,
+    },
+    Auipc {
+        rd: Reg,
+        upper: Upper,
+    },
+    Jal {
+        rd: Reg,
+        offset: JumpOffset,
+    },
+    Jalr {
+        rd: Reg,
+        rs1: Reg,
+        imm: Imm12,
+    },
+    Branch {
+        cond: Cond,
+        rs1: Reg,
+        rs2: Reg,
+        offset: BranchOffset,
+    },
+    Load {
+        kind: LoadKind,
+        rd: Reg,
+        rs1: Reg,
+        imm: Imm12,
+    },
+    Store {
+        width: Width,
+        rs1: Reg,
+        rs2: Reg,
+        imm: Imm12,
+    },
+    OpImm {
+        op: ImmOp,
+        rd: Reg,
+        rs1: Reg,
+        imm: Imm12,
+    },
+    ShiftImm {
+        op: ShiftOp,
+        rd: Reg,
+        rs1: Reg,
+        amount: Amount,
+    },
+    Op {
+        op: Op,
+        rd: Reg,
+        rs1: Reg,
+        rs2: Reg,
+    },
+    Fence {
+        rd: Reg,
+        rs1: Reg,
+        bits: FenceBits,
+    },
+    Ecall,
+    Ebreak,
+    Lr {
+        rd: Reg,
+        rs1: Reg,
+        aq: bool,
+        rl: bool,
+    },
+    Sc {
+        rd: Reg,
+        rs1: Reg,
+        rs2: Reg,
+        aq: bool,
+        rl: bool,
+    },
+    Amo {
+        op: AmoOp,
+        rd: Reg,
+        rs1: Reg,
+        rs2: Reg,
+        aq: bool,
+        rl: bool,
+    },
+    Illegal {
+        word: IllegalWord,
+    },
+}
+
+/// The instruction of a word; None exactly where no row of the instruction table fits the word.
+pub fn decode(word: u32) -> Option<Instr>
+    ensures { result ≡ instruction_of word }
+{
+    None
+}
