@@ -184,10 +184,3 @@ pub enum Instr {
         word: IllegalWord,
     },
 }
-
-/// The instruction of a word; None exactly where no row of the instruction table fits the word.
-pub fn decode(word: u32) -> Option<Instr>
-    ensures { result ≡ instruction_of word }
-{
-    None
-}

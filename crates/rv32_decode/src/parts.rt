@@ -1,6 +1,7 @@
 //! The parts of an instruction, each of a type that holds its range.
 
 ghost use Rattle.std.specs.Prelude.{◌≡◌, ◌+◌, ◌-◌, ◌*◌, ◌/◌, ◌%◌, ◌^◌, ◌<◌, ◌≤◌, ℕ, pos};
+ghost use Rattle.rv32_decode.specs.Fields.{unsigned};
 
 use std::marker::Model;
 
@@ -23,6 +24,18 @@ impl Model for Reg {
 }
 
 impl Reg {
+    /// x10, the first argument and the result of a call.
+    pub const A0: Reg = Reg { number: 10 };
+
+    /// x11, the second argument.
+    pub const A1: Reg = Reg { number: 11 };
+
+    /// x12, the third argument.
+    pub const A2: Reg = Reg { number: 12 };
+
+    /// x17, the number of a call.
+    pub const A7: Reg = Reg { number: 17 };
+
     /// The register of a number from 0 to 31.
     pub fn new(number: u8) -> Reg
         requires { number < 32 }
@@ -92,6 +105,15 @@ impl Model for Imm12 {
     ghost inverse = { λ z. record { value = z } };
 
     ghost invariant = { λ i. (negsuc 2047 ≤ℤ i.value) × (i.value ≤ℤ pos 2047) };
+}
+
+impl Imm12 {
+    /// As a word of two's complement.
+    pub fn word(self) -> u32
+        ensures { result ≡ unsigned 32 self }
+    {
+        self.value.cast_unsigned()
+    }
 }
 
 /// The even distance of a branch: -4096 to 4094 bytes.

@@ -1,0 +1,2 @@
+#![tactic(auto)]
+//! The program of an executable.
