@@ -1,0 +1,4 @@
+#![tactic(auto)]
+//! Rewrites a program: the words of each place's sequence, and the maps between old and new addresses.
+
+pub mod templates;
