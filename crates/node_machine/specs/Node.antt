@@ -32,8 +32,6 @@ pub record Lane : Type 0 where
   pub written : ℕ
   -- where it went, when that was no place
   pub off : ℕ
-  pub executed : ℕ
-  pub end : Option End
 
 -- what is the node's: its copy of the shared bytes, the state byte of each line, and its counts
 pub record Local : Type 0 where
@@ -41,9 +39,12 @@ pub record Local : Type 0 where
   pub state : ℕ → ℕ
   pub counts : NodeCounts
 
+-- a node whose processor has executed so many words
 pub record Node : Type 0 where
   pub lane : Lane
   pub local : Local
+  pub executed : ℕ
+  pub end : Option End
 
 -- the state byte of a line of this class: writable, read-only, or not mapped
 abbrev pub first_state : Class → ℕ
@@ -64,81 +65,83 @@ opening_node program image me n = record {
     private = λ _. 0;
     written = 0;
     off = 0;
-    executed = 0;
-    end = None;
   };
   local = record { copy = program.first; state = λ line. first_state (program.class line); counts = no_counts };
+  executed = 0;
+  end = None;
 }
 
--- what a word leaves, what it accesses, and what it prints
+-- what a word leaves, what it accesses, what it prints, and the exit by which it ends the processor
 pub record Acted : Type 0 where
-  pub node : Node
+  pub lane : Lane
+  pub local : Local
   pub access : Access
   pub printed : Option ℕ
+  pub exit : Option Exit
 
-abbrev pub with_lane : Node → Lane → Acted
-with_lane n l = record { node = record n { lane = l }; access = Nothing; printed = None }
+-- the processor goes on so, and nothing else happens
+abbrev pub goes : Lane → Local → Acted
+goes l n = record { lane = l; local = n; access = Nothing; printed = None; exit = None }
 
-abbrev pub exits : Node → Exit → Acted
-exits n e = with_lane n (record n.lane { end = Some (Exited e) })
+abbrev pub exits : Lane → Local → Exit → Acted
+exits l n e = record { lane = l; local = n; access = Nothing; printed = None; exit = Some e }
 
 -- the byte that a load of the address gives
-abbrev pub loaded : Program → Node → ℕ → ℕ
-loaded program n a = byte_by (class_at program a) (n.local.copy a) (program.first a) (n.lane.private a)
+abbrev pub loaded : Program → Lane → Local → ℕ → ℕ
+loaded program l n a = byte_by (class_at program a) (n.copy a) (program.first a) (l.private a)
 
 -- the state byte says that the line is mapped
 abbrev pub is_mapped_state : ℕ → Bool
 is_mapped_state state = not (state == 7)
 
+-- the register gets the value, and the next word follows
+abbrev pub set_register : Lane → ℕ → ℕ → Lane
+set_register l r value = record l { registers = put l.registers r value; at = next_pc l.at }
+
 -- a0 gets the result, and the next word follows
-abbrev pub returned : Node → ℕ → Acted
-returned n value = with_lane n (record n.lane { registers = put n.lane.registers 10 value; at = next_pc n.lane.at; written = 0 })
+abbrev pub returned : Lane → ℕ → Lane
+returned l value = record l { registers = put l.registers 10 value; at = next_pc l.at; written = 0 }
 
 -- the byte is printed, and the word is executed again
-abbrev pub wrote : Node → ℕ → ℕ → Acted
-wrote n address byte = record {
-  node = record n { lane = record n.lane { written = n.lane.written + 1 } };
-  access = Reads address byte;
-  printed = Some byte;
-}
+abbrev pub printing : Lane → Local → ℕ → ℕ → Acted
+printing l n address byte =
+    record { lane = record l { written = l.written + 1 }; local = n; access = Reads address byte; printed = Some byte; exit = None }
 
 -- one step of a call
-abbrev pub called : Program → Node → CallStep → Acted
-called program n (Ends code) = exits n (Code code)
-called program n (Returns value) = returned n value
-called program n (Puts a) =
-    if is_mapped_state (n.local.state (line_of a)) then wrote n a (loaded program n a) else returned n (cut_short n.lane.written)
+abbrev pub called : Program → Lane → Local → CallStep → Acted
+called program l n (Ends code) = exits l n (Code code)
+called program l n (Returns value) = goes (returned l value) n
+called program l n (Puts a) =
+    if is_mapped_state (n.state (line_of a)) then printing l n a (loaded program l n a) else goes (returned l (cut_short l.written)) n
 
 -- a native instruction; no sequence has one that calls, or one that isn't supported
-abbrev pub native : Node → Demand → Acted
-native n (Sets r value) = with_lane n (record n.lane { registers = put n.lane.registers r value; at = next_pc n.lane.at })
-native n Calls = exits n (Fetch n.lane.at)
-native n Unsupported = exits n (Fetch n.lane.at)
+abbrev pub native : Lane → Local → Demand → Acted
+native l n (Sets r value) = goes (set_register l r value) n
+native l n Calls = exits l n (Fetch l.at)
+native l n Unsupported = exits l n (Fetch l.at)
 
 abbrev pub place_address : Option Place → ℕ
 place_address place = option_map_or (λ p. p.address) place 0
 
-abbrev pub worded : Program → Node → Option Place → RtWord → Acted
-worded program n place (Native i) = native n (effect i n.lane.registers n.lane.at)
-worded program n place Call = called program n (call_step n.lane.registers n.lane.written)
-worded program n place TrapFetch = exits n (Fetch (place_address place))
-worded program n place TrapOff = exits n (Fetch n.lane.off)
+-- what executing a word of a place does
+abbrev pub worded : Program → Option Place → RtWord → Lane → Local → Acted
+worded program place (Native i) l n = native l n (effect i l.registers l.at)
+worded program place Call l n = called program l n (call_step l.registers l.written)
+worded program place TrapFetch l n = exits l n (Fetch (place_address place))
+worded program place TrapOff l n = exits l n (Fetch l.off)
 
-abbrev pub acted_at : Program → Node → Option Fetched → Acted
-acted_at program n None = exits n (Fetch n.lane.at)
-acted_at program n (Some f) = worded program n f.place f.what
+abbrev pub acted_at : Program → Option Fetched → Lane → Local → Acted
+acted_at program None l n = exits l n (Fetch l.at)
+acted_at program (Some f) l n = worded program f.place f.what l n
 
--- what the next word does, before it is counted
-abbrev pub act : Program → List Cell → Node → Acted
-act program image n = acted_at program n (fetched image n.lane.at)
+-- what the next word does
+abbrev pub act : Program → List Cell → Lane → Local → Acted
+act program image l n = acted_at program (fetched image l.at) l n
 
--- a processor that has executed its budget, and has no exit, is stopped
-abbrev pub stopped_at : ℕ → ℕ → Option End → Option End
-stopped_at budget executed (Some e) = Some e
-stopped_at budget executed None = if executed == budget then Some (Stopped budget) else None
-
-abbrev pub counted : ℕ → Lane → Lane
-counted budget l = record l { executed = l.executed + 1; end = stopped_at budget (l.executed + 1) l.end }
+-- the end of a processor that has executed so many words, the last of them with this exit
+abbrev pub end_by : ℕ → ℕ → Option Exit → Option End
+end_by budget executed (Some e) = Some (Exited e)
+end_by budget executed None = if executed == budget then Some (Stopped budget) else None
 
 -- what a node runs: rewritten code of a program, at most so many words of it
 pub record Work : Type 0 where
@@ -146,6 +149,14 @@ pub record Work : Type 0 where
   pub image : List Cell
   pub budget : ℕ
 
+abbrev pub next_act : Work → Node → Acted
+next_act work n = act work.program work.image n.lane n.local
+
 -- the node after one word
 abbrev pub node_step : Work → Node → Node
-node_step work n = let a = act work.program work.image n in record a.node { lane = counted work.budget a.node.lane }
+node_step work n = record {
+  lane = (next_act work n).lane;
+  local = (next_act work n).local;
+  executed = n.executed + 1;
+  end = end_by work.budget (n.executed + 1) (next_act work n).exit;
+}

@@ -57,6 +57,51 @@ abbrev pub value_read : Access → Option ℕ
 value_read Nothing = None
 value_read (Reads address value) = Some value
 
+-- what the next step of a processor asks for: nothing of the memory, so that it becomes q; or that the byte of an
+-- address is printed
+pub data Asked : Type 0 where
+  Becomes : (q : Processor) → Asked
+  Prints : (address : ℕ) → Asked
+
+abbrev pub next_pc : ℕ → ℕ
+next_pc pc = (pc + 4) % 2 ^ 32
+
+abbrev pub ended : Processor → Exit → Processor
+ended q e = record q { exit = Some e }
+
+-- the register gets the value, and the next instruction follows
+abbrev pub set_register : Processor → ℕ → ℕ → Processor
+set_register q r value = record q { registers = put q.registers r value; pc = next_pc q.pc }
+
+-- a0 gets the result, and the call is done
+abbrev pub returned : Processor → ℕ → Processor
+returned q value = record q { registers = put q.registers 10 value; pc = next_pc q.pc; written = 0 }
+
+abbrev pub asked_by_call : Program → Processor → CallStep → Asked
+asked_by_call program q (Ends code) = Becomes (ended q (Code code))
+asked_by_call program q (Returns value) = Becomes (returned q value)
+asked_by_call program q (Puts a) = if is_mapped (class_at program a) then Prints a else Becomes (returned q (cut_short q.written))
+
+abbrev pub asked_by : Program → Processor → Demand → Asked
+asked_by program q (Sets r value) = Becomes (set_register q r value)
+asked_by program q Calls = asked_by_call program q (call_step q.registers q.written)
+asked_by program q Unsupported = Becomes q
+
+abbrev pub asked_at : Program → Processor → Option Instr → Asked
+asked_at program q None = Becomes (ended q (Fetch q.pc))
+asked_at program q (Some i) = asked_by program q (effect i q.registers q.pc)
+
+abbrev pub asked : Program → Processor → Asked
+asked program q = asked_at program q (program.code q.pc)
+
+-- the processor once its byte is printed
+abbrev pub after_print : Processor → Processor
+after_print q = record q { written = q.written + 1 }
+
+-- the byte of an address, as the processor sees it
+abbrev pub byte_at : Program → State → Processor → ℕ → ℕ
+byte_at program s q a = byte_by (class_at program a) (s.shared a) (program.first a) (q.private a)
+
 -- what a step leaves, what it accesses, and what it prints
 pub record Stepped : Type 0 where
   pub state : State
@@ -66,46 +111,17 @@ pub record Stepped : Type 0 where
 abbrev pub with_processor : State → ℕ → Processor → State
 with_processor s p q = record s { processors = λ i. if i == p then q else s.processors i }
 
--- processor p becomes q, and nothing else happens
-abbrev pub becomes : State → ℕ → Processor → Stepped
-becomes s p q = record { state = with_processor s p q; access = Nothing; printed = None }
-
-abbrev pub ended : State → ℕ → Processor → Exit → Stepped
-ended s p q e = becomes s p (record q { exit = Some e })
-
-abbrev pub next_pc : ℕ → ℕ
-next_pc pc = (pc + 4) % 2 ^ 32
-
--- a0 gets the result, and the call is done
-abbrev pub returned : State → ℕ → Processor → ℕ → Stepped
-returned s p q value = becomes s p (record q { registers = put q.registers 10 value; pc = next_pc q.pc; written = 0 })
-
-abbrev pub wrote : State → ℕ → Processor → ℕ → ℕ → Stepped
-wrote s p q address byte = record {
-  state = record (with_processor s p (record q { written = q.written + 1 })) { output = s.output ++ byte ∷ [] };
-  access = Reads address byte;
-  printed = Some byte;
+abbrev pub answered : Program → State → ℕ → Processor → Asked → Stepped
+answered program s p q (Becomes q') = record { state = with_processor s p q'; access = Nothing; printed = None }
+answered program s p q (Prints a) = record {
+  state = record (with_processor s p (after_print q)) { output = s.output ++ byte_at program s q a ∷ [] };
+  access = Reads a (byte_at program s q a);
+  printed = Some (byte_at program s q a);
 }
-
-abbrev pub called : Program → State → ℕ → Processor → CallStep → Stepped
-called program s p q (Ends code) = ended s p q (Code code)
-called program s p q (Returns value) = returned s p q value
-called program s p q (Puts a) =
-    if is_mapped (class_at program a) then wrote s p q a (byte_by (class_at program a) (s.shared a) (program.first a) (q.private a))
-    else returned s p q (cut_short q.written)
-
-abbrev pub performed : Program → State → ℕ → Processor → Demand → Stepped
-performed program s p q (Sets r value) = becomes s p (record q { registers = put q.registers r value; pc = next_pc q.pc })
-performed program s p q Calls = called program s p q (call_step q.registers q.written)
-performed program s p q Unsupported = becomes s p q
-
-abbrev pub stepped_at : Program → State → ℕ → Processor → Option Instr → Stepped
-stepped_at program s p q None = ended s p q (Fetch q.pc)
-stepped_at program s p q (Some i) = performed program s p q (effect i q.registers q.pc)
 
 -- one step of processor p
 abbrev pub step : Program → State → ℕ → Stepped
-step program s p = stepped_at program s p (s.processors p) (program.code (s.processors p).pc)
+step program s p = answered program s p (s.processors p) (asked program (s.processors p))
 
 -- what happens next on the one memory
 pub data Pick : Type 0 where

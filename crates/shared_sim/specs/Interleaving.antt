@@ -1,5 +1,5 @@
 -- A run of one node beside a run of the original on one memory.
-use Rattle.std.specs.Prelude.{◌≡◌, ℕ, zero, suc, ◌+◌, Bool, true, false, if◌then◌else◌, ◌==◌, List, [], ◌∷◌, ◌++◌, Option, Some, None, find, slice_get}
+use Rattle.std.specs.Prelude.{◌≡◌, ℕ, zero, suc, ◌+◌, Bool, true, false, if◌then◌else◌, ◌==◌, List, [], ◌∷◌, ◌++◌, Option, Some, None, find, slice_get, is_some, ◌||◌}
 use Rattle.std.specs.Option.{option_map_or, option_to_list}
 use Rattle.rv32_model.specs.declared.Exit.{Exit}
 use Rattle.rv32_model.specs.declared.End.{End}
@@ -9,12 +9,12 @@ use Rattle.rv32_model.specs.OneMemory.{State, Pick, Step, IsRun, run, values_rea
 use Rattle.rewriter.specs.declared.templates.Place.{Place}
 use Rattle.rewriter.specs.Sequences.{Entry, Item, Commit, Never, Always, items_of}
 use Rattle.rewriter.specs.Image.{Fetched, fetched}
-use Rattle.node_machine.specs.Node.{Work, Node, Acted, act, node_step}
+use Rattle.node_machine.specs.Node.{Work, Node, next_act, node_step}
 
 -- so many words may be executed one after another
 abbrev pub MayExecute : Work → ℕ → Node → Type 0
 MayExecute work zero n = Unit {0}
-MayExecute work (suc m) n = (n.lane.end ≡ None) × MayExecute work m (node_step work n)
+MayExecute work (suc m) n = (n.end ≡ None) × MayExecute work m (node_step work n)
 
 -- the node after so many words
 abbrev pub node_after : Work → ℕ → Node → Node
@@ -31,16 +31,10 @@ commit_at program plan None = Never
 commit_at program plan (Some p) =
     option_map_or (λ e. option_map_or (λ i. i.commit) (slice_get (items_of e (program.code p.address)) p.word) Never) (find (λ e. e.address == p.address) plan) Never
 
-abbrev pub has_exit : Option End → Bool
-has_exit (Some (Exited e)) = true
-has_exit (Some (Stopped b)) = false
-has_exit None = false
-
 -- the next word commits a step of the original: it is marked so, or it ends the processor by an exit
 abbrev pub commits : Work → List Entry → Node → Bool
 commits work plan n =
-    if has_exit (act work.program work.image n).node.lane.end then true
-    else commits_by (option_map_or (λ f. commit_at work.program plan f.place) (fetched work.image n.lane.at) Never)
+    is_some (next_act work n).exit || commits_by (option_map_or (λ f. commit_at work.program plan f.place) (fetched work.image n.lane.at) Never)
 
 -- the picks of the words that commit
 abbrev pub picks_of : Work → List Entry → ℕ → Node → List Pick
@@ -52,12 +46,12 @@ picks_of work plan (suc m) n =
 abbrev pub values_of : Work → List Entry → ℕ → Node → List ℕ
 values_of work plan zero n = []
 values_of work plan (suc m) n =
-    (if commits work plan n then option_to_list (value_read (act work.program work.image n).access) else []) ++ values_of work plan m (node_step work n)
+    (if commits work plan n then option_to_list (value_read (next_act work n).access) else []) ++ values_of work plan m (node_step work n)
 
 -- the bytes printed
 abbrev pub printed : Work → ℕ → Node → List ℕ
 printed work zero n = []
-printed work (suc m) n = option_to_list (act work.program work.image n).printed ++ printed work m (node_step work n)
+printed work (suc m) n = option_to_list (next_act work n).printed ++ printed work m (node_step work n)
 
 -- a node's end is that of a processor with this exit
 abbrev pub EndsAs : Option Exit → Option End → Type 0
@@ -70,4 +64,4 @@ pub record Interleaves (work : Work) (plan : List Entry) (m : ℕ) (n : Node) (s
   pub allowed : IsRun work.program s (picks_of work plan m n)
   pub values : values_read work.program 0 s (picks_of work plan m n) ≡ values_of work plan m n
   pub output : (run work.program s (picks_of work plan m n)).output ≡ s.output ++ printed work m n
-  pub end : EndsAs ((run work.program s (picks_of work plan m n)).processors 0).exit (node_after work m n).lane.end
+  pub end : EndsAs ((run work.program s (picks_of work plan m n)).processors 0).exit (node_after work m n).end

@@ -18,6 +18,6 @@ pub fn interleaving_law()
         → Interleaves work plan words (opening_node work.program work.image 0 1) (opening work.program 1) }
     // A node is stopped only where it has executed its whole budget.
     ensures stopped { (work : Work) (words budget : ℕ) → MayExecute work words (opening_node work.program work.image 0 1)
-        → (node_after work words (opening_node work.program work.image 0 1)).lane.end ≡ Some (Stopped budget)
+        → (node_after work words (opening_node work.program work.image 0 1)).end ≡ Some (Stopped budget)
         → (budget ≡ work.budget) × (words ≡ work.budget) }
 {}
