@@ -1,15 +1,13 @@
 -- Which rows can fit a word, by the fields that their masks cover.
-use Rattle.std.proofs.Common.{◌≡◌, ◌≢◌, ℕ, ◌+◌, ◌*◌, ◌-◌, ◌/◌, ◌%◌, ◌^◌, ◌<◌, Bool, true, false, cond, eqb, ltb, map, ◌++◌, List, [], ◌∷◌, refl, sym, ap, ◌∙◌, arith, inl, inr, ◌⊎◌, lit<}
-use Rattle.std.specs.Prelude.{bit_and, find, filter, ◌&&◌, Option, Some, None}
+use Rattle.std.proofs.Common.{◌≡◌, ℕ, ◌+◌, ◌*◌, ◌-◌, ◌/◌, ◌%◌, ◌^◌, ◌<◌, Bool, true, false, cond, eqb, List, [], ◌∷◌, refl, sym, ap, ◌∙◌, arith, inl, inr}
+use Rattle.std.specs.Prelude.{bit_and, find, filter, ◌&&◌, Some}
 use Rattle.std.specs.List.{list_all}
-use Rattle.std.specs.Option.{option_map}
 use Rattle.std.proofs.lemmas.Nat.{and_shr, and_mod, and_mask, and_block, shr_split, mod_below, pow_pos}
 use Rattle.std.proofs.Math.Nat.{mod-eq_of_lt}
-use Rattle.std.proofs.lemmas.Bool.{eqb-true, eq-eqb, ltb-true}
+use Rattle.std.proofs.lemmas.Bool.{eqb-true, eq-eqb}
 use Rattle.std.proofs.lemmas.Bool.Decides.{eqb_tells, nat_tests}
 use Rattle.rv32_decode.specs.Fields.{field}
 use Rattle.rv32_decode.specs.Rows.{Row, fits, row, opcode_row, funct3_row, funct7_row, funct5_row, word_row}
-use Rattle.rv32_decode.specs.Tables.{entry, entry_of_two}
 use Rattle.rv32_decode.specs.declared.Instr.{Instr}
 
 -- the mask covers a field
@@ -36,8 +34,8 @@ same_field w low width r c f =
 row_off : (w low width v : ℕ) (r : Row) → covers low width r ≡ true → field w low width ≡ v → has low width v r ≡ false → fits w r ≡ false
 row_off w low width v r c e h = elim (eqb_tells (bit_and w r.mask) r.match) [
   | inl f ↦
-    let bad : true ≡ false = sym (eq-eqb _ _ (sym (same_field w low width r c f.0) ∙ e)) ∙ h in
-    cc
+      let bad : true ≡ false = sym (eq-eqb _ _ (sym (same_field w low width r c f.0) ∙ e)) ∙ h in
+      cc
   | inr f ↦ f.0
 ]
 
@@ -65,7 +63,7 @@ and_funct3 w =
     let x = w % 2 ^ 12 in
     let split : w / 2 ^ 12 * 2 ^ 12 + x ≡ w = shr_split w 12 in
     let whole : bit_and (w / 2 ^ 12 * 2 ^ 12 + x) (7 * 2 ^ 12 + 0x7f) ≡ bit_and (w / 2 ^ 12) 7 * 2 ^ 12 + bit_and x 0x7f =
-        and_block 12 (w / 2 ^ 12) 7 x 0x7f (omega arith) (omega arith) in
+    and_block 12 (w / 2 ^ 12) 7 x 0x7f (omega arith) (omega arith) in
     let high = and_mask (w / 2 ^ 12) 3 in
     let low = and_mask x 7 in
     let op : x % 2 ^ 7 ≡ w / 2 ^ 0 % 2 ^ 7 = omega arith in
@@ -77,7 +75,7 @@ and_top w m =
     let x = w % 2 ^ 25 in
     let split : w / 2 ^ 25 * 2 ^ 25 + x ≡ w = shr_split w 25 in
     let whole : bit_and (w / 2 ^ 25 * 2 ^ 25 + x) (m * 2 ^ 25 + 0x707f) ≡ bit_and (w / 2 ^ 25) m * 2 ^ 25 + bit_and x 0x707f =
-        and_block 25 (w / 2 ^ 25) m x 0x707f (omega arith) (omega arith) in
+    and_block 25 (w / 2 ^ 25) m x 0x707f (omega arith) (omega arith) in
     let f3 : x / 2 ^ 12 % 2 ^ 3 ≡ w / 2 ^ 12 % 2 ^ 3 = omega arith in
     let op : x / 2 ^ 0 % 2 ^ 7 ≡ w / 2 ^ 0 % 2 ^ 7 = omega arith in
     ap (λ y. bit_and y (m * 2 ^ 25 + 0x707f)) (sym split) ∙ whole ∙ omega (arith, and_funct3 x, f3, op)
@@ -101,7 +99,7 @@ and_funct5 v =
     let x = v % 2 ^ 2 in
     let split : v / 2 ^ 2 * 2 ^ 2 + x ≡ v = shr_split v 2 in
     let whole : bit_and (v / 2 ^ 2 * 2 ^ 2 + x) (31 * 2 ^ 2 + 0) ≡ bit_and (v / 2 ^ 2) 31 * 2 ^ 2 + bit_and x 0 =
-        and_block 2 (v / 2 ^ 2) 31 x 0 (omega arith) (omega arith) in
+    and_block 2 (v / 2 ^ 2) 31 x 0 (omega arith) (omega arith) in
     let high = and_mask (v / 2 ^ 2) 5 in
     let low = and_mask x 0 in
     ap (λ y. bit_and y 0x7c) (sym split) ∙ whole ∙ omega (arith, high, low)
@@ -119,7 +117,7 @@ and_lr_high v =
     let x = v % 2 ^ 5 in
     let split : v / 2 ^ 5 * 2 ^ 5 + x ≡ v = shr_split v 5 in
     let whole : bit_and (v / 2 ^ 5 * 2 ^ 5 + x) (0x7c * 2 ^ 5 + 31) ≡ bit_and (v / 2 ^ 5) 0x7c * 2 ^ 5 + bit_and x 31 =
-        and_block 5 (v / 2 ^ 5) 0x7c x 31 (omega arith) (omega arith) in
+    and_block 5 (v / 2 ^ 5) 0x7c x 31 (omega arith) (omega arith) in
     let low = and_mask x 5 in
     ap (λ y. bit_and y 0xf9f) (sym split) ∙ whole ∙ omega (arith, low)
 
@@ -128,7 +126,7 @@ and_lr w =
     let x = w % 2 ^ 20 in
     let split : w / 2 ^ 20 * 2 ^ 20 + x ≡ w = shr_split w 20 in
     let whole : bit_and (w / 2 ^ 20 * 2 ^ 20 + x) (0xf9f * 2 ^ 20 + 0x707f) ≡ bit_and (w / 2 ^ 20) 0xf9f * 2 ^ 20 + bit_and x 0x707f =
-        and_block 20 (w / 2 ^ 20) 0xf9f x 0x707f (omega arith) (omega arith) in
+    and_block 20 (w / 2 ^ 20) 0xf9f x 0x707f (omega arith) (omega arith) in
     let high = and_lr_high (w / 2 ^ 20) in
     let five = and_funct5 (w / 2 ^ 20 / 2 ^ 5) in
     let f5 : field (w / 2 ^ 20 / 2 ^ 5) 2 5 ≡ field w 27 5 = omega arith in

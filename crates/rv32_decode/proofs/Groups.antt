@@ -1,19 +1,14 @@
 -- The instruction of a word, from the rows of its major opcode.
-use Rattle.std.proofs.Common.{◌≡◌, ◌≢◌, ℕ, ◌+◌, ◌*◌, ◌-◌, ◌/◌, ◌%◌, ◌^◌, ◌<◌, Bool, true, false, cond, eqb, ltb, map, ◌++◌, List, [], ◌∷◌, refl, sym, ap, ◌∙◌, arith, inl, inr, ◌⊎◌, lit<, ℤ}
-use Rattle.std.specs.Prelude.{bit_and, find, filter, ◌&&◌, ◌||◌, Option, Some, None}
+use Rattle.std.proofs.Common.{◌≡◌, ◌≢◌, ℕ, ◌^◌, ◌<◌, Bool, true, false, cond, eqb, ltb, map, ◌++◌, List, [], ◌∷◌, refl, sym, ap, ◌∙◌, arith, lit<}
+use Rattle.std.specs.Prelude.{find, filter, ◌&&◌, Option, Some, None}
 use Rattle.std.specs.List.{list_all, list_any}
 use Rattle.std.specs.Option.{option_map}
-use Rattle.std.proofs.lemmas.Bool.{eqb-true, eq-eqb, ltb-true}
-use Rattle.std.proofs.lemmas.Bool.Decides.{eqb_tells, nat_tests}
+use Rattle.std.proofs.lemmas.Bool.{ltb-true}
+use Rattle.std.proofs.lemmas.Bool.Decides.{nat_tests}
 use Rattle.rv32_decode.specs.Fields.{field, bit, imm_i, imm_s, imm_b, imm_j}
-use Rattle.rv32_decode.specs.Rows.{Row, fits, rows, row, instruction_of, opcode_row, funct3_row, funct7_row, funct5_row, word_row, branch_row, branch_table, load_row, load_table, store_row, store_table, imm_row, imm_table, shift_row, shift_table, op_row, op_table, amo_row, amo_table}
+use Rattle.rv32_decode.specs.Rows.{Row, fits, rows, row, instruction_of, funct3_row, funct7_row, funct5_row, word_row, branch_row, branch_table, load_row, load_table, store_row, store_table, imm_row, imm_table, shift_row, shift_table, op_row, op_table, amo_row, amo_table}
 use Rattle.rv32_decode.specs.Tables.{entry, entry_of_two}
-use Rattle.rv32_decode.specs.declared.Cond.{Cond}
-use Rattle.rv32_decode.specs.declared.LoadKind.{LoadKind}
-use Rattle.rv32_decode.specs.declared.Width.{Width}
-use Rattle.rv32_decode.specs.declared.Op.{Op as Operation}
 use Rattle.rv32_decode.specs.declared.ImmOp.{ImmOp}
-use Rattle.rv32_decode.specs.declared.ShiftOp.{ShiftOp}
 use Rattle.rv32_decode.specs.declared.AmoOp.{AmoOp}
 use Rattle.rv32_decode.specs.declared.IllegalWord.TheVariants.{Zeros, Ones, CycleWrite}
 use Rattle.rv32_decode.specs.declared.Instr.{Instr}
@@ -106,7 +101,7 @@ funct7_group w op make (t ∷ ts) e l all =
     let both = and_parts (two_below t) (list_all two_below ts) all in
     let below = and_parts (ltb t.0 128) (ltb t.1 8) both.0 in
     let here : fits w (funct7_row t.0 t.1 op (make t.2)) ≡ (eqb (field w 25 7) t.0 && eqb (field w 12 3) t.1) =
-        funct7_fits w op t.0 t.1 (make t.2) e l (ltb-true _ _ below.1) (ltb-true _ _ below.0) in
+    funct7_fits w op t.0 t.1 (make t.2) e l (ltb-true _ _ below.1) (ltb-true _ _ below.0) in
     funct7_step w op make t ts (eqb (field w 25 7) t.0 && eqb (field w 12 3) t.1) here refl (funct7_group w op make ts e l both.1)
 
 -- ---- the groups of one opcode
@@ -171,8 +166,8 @@ unfolding rows
 system_is w l e =
     of_opcode w 0x73 (word_row 0x73 Ecall ∷ word_row 0x100073 Ebreak ∷ word_row 0xc0001073 (Illegal CycleWrite) ∷ []) e refl
     ∙ word_step w 0x73 Ecall (word_row 0x100073 Ebreak ∷ word_row 0xc0001073 (Illegal CycleWrite) ∷ []) _ l
-        (word_step w 0x100073 Ebreak (word_row 0xc0001073 (Illegal CycleWrite) ∷ []) _ l
-            (word_step w 0xc0001073 (Illegal CycleWrite) [] None l refl))
+    (word_step w 0x100073 Ebreak (word_row 0xc0001073 (Illegal CycleWrite) ∷ []) _ l
+    (word_step w 0xc0001073 (Illegal CycleWrite) [] None l refl))
 
 pub zeros_is : (w : ℕ) → w < 2 ^ 32 → field w 0 7 ≡ 0 → instruction_of w ≡ cond (eqb w 0) (Some (Illegal Zeros)) None
 unfolding rows
@@ -186,15 +181,15 @@ ones_is w l e = of_opcode w 0x7f (word_row 0xffffffff (Illegal Ones) ∷ []) e r
 
 imm_first : (w : ℕ) → field w 0 7 ≡ 0x13
     → instruction_of w ≡ or_else (option_map (λ o. OpImm o (field w 7 5) (field w 15 5) (imm_i w)) (entry imm_table (field w 12 3)))
-        (option_map (λ s. ShiftImm s (field w 7 5) (field w 15 5) (field w 20 5)) (entry_of_two shift_table (field w 25 7) (field w 12 3)))
+    (option_map (λ s. ShiftImm s (field w 7 5) (field w 15 5) (field w 20 5)) (entry_of_two shift_table (field w 25 7) (field w 12 3)))
 unfolding rows
 imm_first w e =
     of_opcode w 0x13 (map imm_row imm_table ++ map shift_row shift_table) e refl
     ∙ chosen-append w (map imm_row imm_table) (map shift_row shift_table)
     ∙ ap (λ o. or_else o (chosen w (find (fits w) (map shift_row shift_table))))
-        (funct3_group w 0x13 (λ o w. OpImm o (field w 7 5) (field w 15 5) (imm_i w)) imm_table e (lit< tt) refl)
+    (funct3_group w 0x13 (λ o w. OpImm o (field w 7 5) (field w 15 5) (imm_i w)) imm_table e (lit< tt) refl)
     ∙ ap (or_else (option_map (λ o. OpImm o (field w 7 5) (field w 15 5) (imm_i w)) (entry imm_table (field w 12 3))))
-        (funct7_group w 0x13 (λ s w. ShiftImm s (field w 7 5) (field w 15 5) (field w 20 5)) shift_table e (lit< tt) refl)
+    (funct7_group w 0x13 (λ s w. ShiftImm s (field w 7 5) (field w 15 5) (field w 20 5)) shift_table e (lit< tt) refl)
 
 pub imm_is : (w : ℕ) (o : ImmOp) → field w 0 7 ≡ 0x13 → entry imm_table (field w 12 3) ≡ Some o
     → instruction_of w ≡ Some (OpImm o (field w 7 5) (field w 15 5) (imm_i w))
@@ -221,7 +216,7 @@ funct5_group w op make [] e l all = elim (eqb (field w 12 3) 2) as (λ b. ◌≡
 funct5_group w op make (t ∷ ts) e l all =
     let both = and_parts (ltb t.0 32) (list_all (λ t. ltb t.0 32) ts) all in
     let here : fits w (funct5_row t.0 2 op (make t.1)) ≡ (eqb (field w 27 5) t.0 && eqb (field w 12 3) 2) =
-        funct5_fits w op t.0 2 (make t.1) e l (lit< tt) (ltb-true _ _ both.0) in
+    funct5_fits w op t.0 2 (make t.1) e l (lit< tt) (ltb-true _ _ both.0) in
     funct5_step w op make t ts (eqb (field w 12 3) 2) (eqb (field w 27 5) t.0) here refl (funct5_group w op make ts e l both.1)
 
 abbrev load_reserved : ℕ → Instr
@@ -235,16 +230,16 @@ atomic o w = Amo o (field w 7 5) (field w 15 5) (field w 20 5) (bit w 26) (bit w
 
 amo_rows : (w : ℕ) → field w 0 7 ≡ 0x2f
     → instruction_of w ≡ or_else (cond (eqb (field w 27 5) 2 && (eqb (field w 12 3) 2 && eqb (field w 20 5) 0)) (Some (load_reserved w)) None)
-        (or_else (cond (eqb (field w 27 5) 3 && eqb (field w 12 3) 2) (Some (store_conditional w)) None)
-        (cond (eqb (field w 12 3) 2) (option_map (λ o. atomic o w) (entry amo_table (field w 27 5))) None))
+    (or_else (cond (eqb (field w 27 5) 3 && eqb (field w 12 3) 2) (Some (store_conditional w)) None)
+    (cond (eqb (field w 12 3) 2) (option_map (λ o. atomic o w) (entry amo_table (field w 27 5))) None))
 unfolding rows
 amo_rows w e =
     of_opcode w 0x2f (row 0xf9f0707f 0x1000202f load_reserved ∷ funct5_row 3 2 0x2f store_conditional ∷ map amo_row amo_table) e refl
     ∙ chosen-cons w (row 0xf9f0707f 0x1000202f load_reserved) (funct5_row 3 2 0x2f store_conditional ∷ map amo_row amo_table) _ (lr_fits w load_reserved e)
     ∙ ap (or_else (cond (eqb (field w 27 5) 2 && (eqb (field w 12 3) 2 && eqb (field w 20 5) 0)) (Some (load_reserved w)) None))
-        (chosen-cons w (funct5_row 3 2 0x2f store_conditional) (map amo_row amo_table) _ (funct5_fits w 0x2f 3 2 store_conditional e (lit< tt) (lit< tt) (lit< tt))
-        ∙ ap (or_else (cond (eqb (field w 27 5) 3 && eqb (field w 12 3) 2) (Some (store_conditional w)) None))
-            (funct5_group w 0x2f atomic amo_table e (lit< tt) refl))
+    (chosen-cons w (funct5_row 3 2 0x2f store_conditional) (map amo_row amo_table) _ (funct5_fits w 0x2f 3 2 store_conditional e (lit< tt) (lit< tt) (lit< tt))
+    ∙ ap (or_else (cond (eqb (field w 27 5) 3 && eqb (field w 12 3) 2) (Some (store_conditional w)) None))
+    (funct5_group w 0x2f atomic amo_table e (lit< tt) refl))
 
 pub amo_width_is : (w : ℕ) → field w 0 7 ≡ 0x2f → field w 12 3 ≢ 2 → instruction_of w ≡ None
 amo_width_is w e wide = amo_rows w e ∙ grind (arith, nat_tests)
@@ -257,7 +252,7 @@ sc_is w e wide f = amo_rows w e ∙ rw (wide, f) refl
 
 pub amo_is : (w : ℕ) → field w 0 7 ≡ 0x2f → field w 12 3 ≡ 2 → field w 27 5 ≢ 2 → field w 27 5 ≢ 3
     → instruction_of w ≡ option_map (λ o. atomic o w) (entry amo_table (field w 27 5))
-amo_is w e wide two three = 
+amo_is w e wide two three =
     let a : eqb (field w 27 5) 2 ≡ false = grind (arith, nat_tests) in
     let b : eqb (field w 27 5) 3 ≡ false = grind (arith, nat_tests) in
     amo_rows w e ∙ rw (wide, a, b) refl

@@ -1,6 +1,6 @@
 -- The instruction of a word, by what was read of it.
-use Rattle.std.proofs.Common.{◌≡◌, ◌≢◌, ℕ, ◌^◌, ◌<◌, cond, eqb, refl, sym, ap, ◌∙◌, arith, ◌⊎◌, inl, inr}
-use Rattle.std.specs.Prelude.{Option, Some, None}
+use Rattle.std.proofs.Common.{◌≡◌, ◌≢◌, ℕ, ◌^◌, ◌<◌, refl, sym, ◌∙◌, arith, ◌⊎◌, inl, inr}
+use Rattle.std.specs.Prelude.{Some, None}
 use Rattle.std.proofs.lemmas.Bool.Decides.{nat_tests}
 use Rattle.rv32_decode.specs.Fields.{field, bit, imm_i, imm_s, imm_b}
 use Rattle.rv32_decode.specs.Rows.{instruction_of, rows, branch_table, load_table, store_table, imm_table, shift_table, op_table, amo_table}
@@ -13,9 +13,8 @@ use Rattle.rv32_decode.specs.declared.ImmOp.{ImmOp}
 use Rattle.rv32_decode.specs.declared.ShiftOp.{ShiftOp}
 use Rattle.rv32_decode.specs.declared.AmoOp.{AmoOp}
 use Rattle.rv32_decode.specs.declared.IllegalWord.TheVariants.{Zeros, Ones, CycleWrite}
-use Rattle.rv32_decode.specs.declared.Instr.{Instr}
-use Rattle.rv32_decode.specs.declared.Instr.TheVariants.{Jalr, Branch, Load, Store, OpImm, ShiftImm, Op, Fence, Ecall, Ebreak, Lr, Sc, Amo, Illegal}
-use Rattle.rv32_decode.proofs.Groups.{jalr_is, branch_is, load_is, store_is, imm_is, shift_is, op_is, fence_is, amo_width_is, lr_is, sc_is, amo_is, system_is, zeros_is, ones_is}
+use Rattle.rv32_decode.specs.declared.Instr.TheVariants.{Jalr, Branch, Load, Store, OpImm, ShiftImm, Op, Fence, Ecall, Ebreak, Lr, Amo, Illegal}
+use Rattle.rv32_decode.proofs.Groups.{jalr_is, branch_is, load_is, store_is, imm_is, shift_is, op_is, fence_is, lr_is, amo_is, system_is, zeros_is, ones_is}
 
 pub jalr_some : (w : ℕ) → field w 0 7 ≡ 0x67 → field w 12 3 ≡ 0 → instruction_of w ≡ Some (Jalr (field w 7 5) (field w 15 5) (imm_i w))
 jalr_some w e f = jalr_is w e ∙ rw f refl

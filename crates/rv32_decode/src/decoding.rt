@@ -5,9 +5,8 @@ ghost use Rattle.rv32_decode.specs.Fields.{field, bit};
 ghost use Rattle.rv32_decode.specs.Rows.{instruction_of, branch_table, load_table, store_table, imm_table, shift_table, op_table, amo_table};
 ghost use Rattle.rv32_decode.specs.Tables.{entry, entry_of_two};
 
-use crate::opcodes;
 use crate::parts::{Amount, BranchOffset, FenceBits, Imm12, JumpOffset, Reg, Upper};
-use crate::{AmoOp, Cond, IllegalWord, ImmOp, Instr, LoadKind, Op, ShiftOp, Width};
+use crate::{AmoOp, Cond, IllegalWord, ImmOp, Instr, LoadKind, Op, ShiftOp, Width, opcodes};
 
 #[tactic(auto, using(crate::proofs::Groups::lui_is, crate::proofs::Groups::auipc_is, crate::proofs::Groups::jal_is, crate::proofs::Groups::no_opcode))]
 /// The instruction of a word; None exactly where no row of the instruction table fits the word.

@@ -194,7 +194,10 @@ impl BranchOffset {
     pub(crate) fn of(word: u32) -> BranchOffset
         ensures { result ≡ imm_b word }
     {
-        let number = ((word >> 31) << 12) + (((word >> 7) & 1) << 11) + (((word >> 25) & 0x3f) << 5) + (((word >> 8) & 0xf) << 1);
+        let number = ((word >> 31) << 12)
+            + (((word >> 7) & 1) << 11)
+            + (((word >> 25) & 0x3f) << 5)
+            + (((word >> 8) & 0xf) << 1);
         BranchOffset {
             value: extended(number, 1 << 12),
         }
@@ -245,7 +248,10 @@ impl JumpOffset {
     pub(crate) fn of(word: u32) -> JumpOffset
         ensures { result ≡ imm_j word }
     {
-        let number = ((word >> 31) << 20) + (((word >> 12) & 0xff) << 12) + (((word >> 20) & 1) << 11) + (((word >> 21) & 0x3ff) << 1);
+        let number = ((word >> 31) << 20)
+            + (((word >> 12) & 0xff) << 12)
+            + (((word >> 20) & 1) << 11)
+            + (((word >> 21) & 0x3ff) << 1);
         JumpOffset {
             value: extended(number, 1 << 20),
         }
