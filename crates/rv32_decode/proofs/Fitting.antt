@@ -26,10 +26,12 @@ field_whole w low width =
     and_mask (field w low width) width ∙ mod-eq_of_lt (mod_below (w / 2 ^ low) (2 ^ width) (pow_pos width))
 
 -- a row that fits has the word's field, where its mask covers it
+pub kept : (w mask match low width : ℕ) → field mask low width ≡ 2 ^ width - 1 → eqb (bit_and w mask) match ≡ true → field w low width ≡ field match low width
+kept w mask match low width whole f =
+    sym (ap (λ x. field x low width) (sym (eqb-true _ _ f)) ∙ field_and w mask low width ∙ ap (bit_and (field w low width)) whole ∙ field_whole w low width)
+
 pub same_field : (w low width : ℕ) (r : Row) → covers low width r ≡ true → fits w r ≡ true → field w low width ≡ field r.match low width
-same_field w low width r c f =
-    let whole : field r.mask low width ≡ 2 ^ width - 1 = eqb-true _ _ c in
-    sym (ap (λ x. field x low width) (sym (eqb-true _ _ f)) ∙ field_and w r.mask low width ∙ ap (bit_and (field w low width)) whole ∙ field_whole w low width)
+same_field w low width r c f = kept w r.mask r.match low width (eqb-true _ _ c) f
 
 row_off : (w low width v : ℕ) (r : Row) → covers low width r ≡ true → field w low width ≡ v → has low width v r ≡ false → fits w r ≡ false
 row_off w low width v r c e h = elim (eqb_tells (bit_and w r.mask) r.match) [
