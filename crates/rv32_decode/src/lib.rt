@@ -1,11 +1,11 @@
 #![tactic(auto)]
 //! Words and instructions of RV32IA.
 
-ghost use Rattle.std.specs.Prelude.{◌≡◌, ◌+◌, ◌-◌, ◌*◌, ◌/◌, ◌%◌, ◌^◌, ◌<◌, ◌≤◌, ℕ, Some, bit_and};
-ghost use Rattle.rv32_decode.specs.Rows.{instruction_of};
-
+mod decoding;
+mod opcodes;
 mod parts;
 
+pub use decoding::decode;
 pub use parts::{Amount, BranchOffset, FenceBits, Imm12, JumpOffset, Reg, Upper};
 
 /// The condition of a branch.
