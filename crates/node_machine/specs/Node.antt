@@ -18,7 +18,8 @@ use Rattle.rv32_model.specs.OneMemory.{Access, Nothing, Reads, byte_by, next_pc}
 use Rattle.rewriter.specs.declared.templates.RtWord.{RtWord}
 use Rattle.rewriter.specs.declared.templates.RtWord.TheVariants.{Native, Call, TrapFetch, TrapOff}
 use Rattle.rewriter.specs.declared.templates.Place.{Place}
-use Rattle.rewriter.specs.Image.{Cell, Fetched, fetched, new_of}
+use Rattle.rewriter.specs.declared.jump_map.Fetched.{Fetched}
+use Rattle.rewriter.specs.Image.{Cell, fetched, new_of}
 use Rattle.node_machine.specs.declared.NodeCounts.{NodeCounts}
 
 -- what is a processor's own

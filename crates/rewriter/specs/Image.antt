@@ -6,6 +6,7 @@ use Rattle.rv32_model.specs.Program.{Program}
 use Rattle.rewriter.specs.declared.templates.RtWord.{RtWord}
 use Rattle.rewriter.specs.declared.templates.RtWord.TheVariants.{TrapOff}
 use Rattle.rewriter.specs.declared.templates.Place.{Place}
+use Rattle.rewriter.specs.declared.jump_map.Fetched.{Fetched}
 use Rattle.rewriter.specs.Words.{reading_of}
 use Rattle.rewriter.specs.Sequences.{Entry, Item, items_of, IsAdmissible}
 
@@ -54,9 +55,16 @@ image_base = 0xa0000000
 abbrev pub address_of_word : ℕ → ℕ
 address_of_word k = image_base + 4 * k
 
--- the word at an address
+-- the number of the word at an address
+abbrev pub index_of : ℕ → Option ℕ
+index_of new = if nat_le image_base new && (new % 4 == 0) then Some ((new - image_base) / 4) else None
+
+-- the word at an address, with its place
 abbrev pub cell_at : List Cell → ℕ → Option Cell
-cell_at image new = if nat_le image_base new && (new % 4 == 0) then slice_get image ((new - image_base) / 4) else None
+cell_at image new = option_and_then (slice_get image) (index_of new)
+
+abbrev pub word_at : List Cell → ℕ → Option ℕ
+word_at image new = option_map (λ c. c.word) (cell_at image new)
 
 abbrev pub is_first_of : ℕ → Cell → Bool
 is_first_of a c = option_map_or (λ p. (p.address == a) && (p.word == 0)) c.place false
@@ -70,9 +78,5 @@ abbrev pub old_of : List Cell → ℕ → Option Place
 old_of image new = option_and_then (λ c. c.place) (cell_at image new)
 
 -- the word at an address, read
-pub record Fetched : Type 0 where
-  pub what : RtWord
-  pub place : Option Place
-
 abbrev pub fetched : List Cell → ℕ → Option Fetched
 fetched image new = option_and_then (λ c. option_map (λ w. record { what = w; place = c.place }) (reading_of c.word)) (cell_at image new)

@@ -1,4 +1,5 @@
 #![tactic(auto)]
 //! Rewrites a program: the words of each place's sequence, and the maps between old and new addresses.
 
+pub mod jump_map;
 pub mod templates;

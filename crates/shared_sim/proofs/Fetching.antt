@@ -14,7 +14,8 @@ use Rattle.rewriter.specs.declared.templates.RtWord.{RtWord}
 use Rattle.rewriter.specs.declared.templates.Place.{Place}
 use Rattle.rewriter.specs.Words.{reading_of}
 use Rattle.rewriter.specs.Sequences.{Entry, Item, Commit, Never, items_of, AscendsFrom, addresses, IsAdmissible}
-use Rattle.rewriter.specs.Image.{Cell, Planned, planned_at, sequence_of, planned, off_word, as_planned, most_words, IsRewriting, image_base, address_of_word, cell_at, is_first_of, new_of, Fetched, fetched}
+use Rattle.rewriter.specs.declared.jump_map.Fetched.{Fetched}
+use Rattle.rewriter.specs.Image.{Cell, Planned, planned_at, sequence_of, planned, off_word, as_planned, most_words, IsRewriting, image_base, address_of_word, cell_at, is_first_of, new_of, fetched}
 use Rattle.shared_sim.specs.Interleaving.{commit_at}
 use Rattle.shared_sim.proofs.Plans.{Found, AllBelow, below, Follows, found_by_address}
 

@@ -11,7 +11,8 @@ use Rattle.rv32_model.specs.declared.End.TheVariants.{Exited, Stopped}
 use Rattle.rv32_model.specs.Program.{Program, IsAccepted, class_at}
 use Rattle.rv32_model.specs.OneMemory.{Processor, State, opening, Access, Nothing, Reads, value_read, Asked, Becomes, Prints, asked, ended, after_print, byte_by, byte_at, Stepped, with_processor, answered, step, next_pc, Pick, Step, IsRun, run, values_read}
 use Rattle.rewriter.specs.Sequences.{Entry, Item, Commit, Never, Always, items_of, addresses, IsAdmissible}
-use Rattle.rewriter.specs.Image.{Cell, IsRewriting, Fetched, fetched, new_of}
+use Rattle.rewriter.specs.declared.jump_map.Fetched.{Fetched}
+use Rattle.rewriter.specs.Image.{Cell, IsRewriting, fetched, new_of}
 use Rattle.node_machine.specs.Node.{Lane, Local, Node, Acted, opening_node, worded, acted_at, act, end_by, Work, next_act, node_step}
 use Rattle.shared_sim.specs.Interleaving.{MayExecute, node_after, commits_by, commit_at, commits, picks_of, values_of, printed, EndsAs, Interleaves}
 use Rattle.shared_sim.proofs.Plans.{Found, found, Follows, follows}

@@ -8,7 +8,8 @@ use Rattle.rv32_model.specs.Program.{Program}
 use Rattle.rv32_model.specs.OneMemory.{State, Pick, Step, IsRun, run, values_read, value_read}
 use Rattle.rewriter.specs.declared.templates.Place.{Place}
 use Rattle.rewriter.specs.Sequences.{Entry, Item, Commit, Never, Always, items_of}
-use Rattle.rewriter.specs.Image.{Fetched, fetched}
+use Rattle.rewriter.specs.declared.jump_map.Fetched.{Fetched}
+use Rattle.rewriter.specs.Image.{fetched}
 use Rattle.node_machine.specs.Node.{Work, Node, next_act, node_step}
 
 -- so many words may be executed one after another
