@@ -48,6 +48,11 @@ pub record IsRewriting (program : Program) (plan : List Entry) (image : List Cel
   pub expansion : map as_planned image ≡ planned program plan
   pub few : length image ≤ most_words
 
+-- the image is a rewriting by some plan
+pub record HasRewriting (program : Program) (image : List Cell) : Type 0 where
+  pub plan : List Entry
+  pub rewriting : IsRewriting program plan image
+
 -- where the rewritten code begins
 abbrev pub image_base : ℕ
 image_base = 0xa0000000

@@ -24,6 +24,10 @@ IsPlace code a = IsSome (code a) ⊎ IsStop code a
 pub record Entry : Type 0 where
   pub address : ℕ
 
+-- the plan of places that need nothing more
+abbrev pub entries : List ℕ → List Entry
+entries places = map (λ a. record { address = a }) places
+
 -- the addresses ascend, from this one on
 abbrev pub AscendsFrom : ℕ → List Entry → Type 0
 AscendsFrom low [] = Unit {0}
@@ -51,8 +55,12 @@ pub record Item : Type 0 where
 abbrev pub committing : RtWord → List Item
 committing w = record { what = w; commit = Always } ∷ []
 
--- the sequence of a place: of a stop, of a call, and of an instruction that stands for itself
+-- the word that stands for an instruction: a call's, or the instruction itself
+abbrev pub word_for : Instr → RtWord
+word_for Ecall = Call
+word_for i = Native i
+
+-- the sequence of a place, which is a stop or a code word
 abbrev pub items_of : Entry → Option Instr → List Item
 items_of e None = committing TrapFetch
-items_of e (Some Ecall) = committing Call
-items_of e (Some i) = committing (Native i)
+items_of e (Some i) = committing (word_for i)
