@@ -1,5 +1,5 @@
 mod Fitting
 pub mod Groups
 pub mod Reading
-pub mod Words
-mod Rebuilt
+mod Whole
+pub mod Rebuilt

@@ -2,10 +2,12 @@
 //! Words and instructions of RV32IA.
 
 mod decoding;
+mod encoding;
 mod opcodes;
 mod parts;
 
 pub use decoding::decode;
+pub use encoding::encode;
 pub use parts::{Amount, BranchOffset, FenceBits, Imm12, JumpOffset, Reg, Upper};
 
 /// The condition of a branch.

@@ -1,40 +1,18 @@
--- The word that an instruction is written as.
+-- Words, their fields and the immediates in them.
 use Rattle.std.proofs.Common.{◌≡◌, ◌≢◌, ℕ, ◌+◌, ◌*◌, ◌-◌, ◌/◌, ◌%◌, ◌^◌, ◌<◌, Bool, true, false, cond, eqb, refl, sym, ap, ◌∙◌, arith, ℤ, pos, negsuc}
+use Rattle.std.specs.Prelude.{◌≤ℤ◌}
+use Rattle.std.proofs.lemmas.Int.{ints}
 use Rattle.std.specs.Prelude.{Option, Some, None}
 use Rattle.std.proofs.lemmas.Bool.Decides.{nat_tests}
 use Rattle.rv32_decode.specs.Fields.{field, bit, signed, unsigned, imm_i, imm_s, imm_b, imm_j}
 use Rattle.rv32_decode.specs.Formats.{r_word, i_word, s_word, b_word, u_word, j_word}
-use Rattle.rv32_decode.specs.Codes.{branch_code, load_code, store_code, imm_code, shift_codes, op_codes, amo_code, ordered}
-use Rattle.rv32_decode.specs.declared.IllegalWord.{IllegalWord}
-use Rattle.rv32_decode.specs.declared.IllegalWord.TheVariants.{Zeros, Ones, CycleWrite}
-use Rattle.rv32_decode.specs.declared.Instr.{Instr}
-use Rattle.rv32_decode.specs.declared.Instr.TheVariants.{Lui, Auipc, Jal, Jalr, Branch, Load, Store, OpImm, ShiftImm, Op, Fence, Ecall, Ebreak, Lr, Sc, Amo, Illegal}
-
-abbrev pub illegal_word : IllegalWord → ℕ
-illegal_word Zeros = 0
-illegal_word Ones = 0xffffffff
-illegal_word CycleWrite = 0xc0001073
-
-abbrev pub word_of : Instr → ℕ
-word_of (Lui rd upper) = u_word upper rd 0x37
-word_of (Auipc rd upper) = u_word upper rd 0x17
-word_of (Jal rd offset) = j_word (unsigned 21 offset) rd 0x6f
-word_of (Jalr rd rs1 imm) = i_word (unsigned 12 imm) rs1 0 rd 0x67
-word_of (Branch c rs1 rs2 offset) = b_word (unsigned 13 offset) rs2 rs1 (branch_code c) 0x63
-word_of (Load kind rd rs1 imm) = i_word (unsigned 12 imm) rs1 (load_code kind) rd 0x03
-word_of (Store width rs1 rs2 imm) = s_word (unsigned 12 imm) rs2 rs1 (store_code width) 0x23
-word_of (OpImm o rd rs1 imm) = i_word (unsigned 12 imm) rs1 (imm_code o) rd 0x13
-word_of (ShiftImm o rd rs1 amount) = r_word (shift_codes o).0 amount rs1 (shift_codes o).1 rd 0x13
-word_of (Op o rd rs1 rs2) = r_word (op_codes o).0 rs2 rs1 (op_codes o).1 rd 0x33
-word_of (Fence rd rs1 bits) = i_word bits rs1 0 rd 0x0f
-word_of Ecall = 0x73
-word_of Ebreak = 0x100073
-word_of (Lr rd rs1 aq rl) = r_word (ordered 2 aq rl) 0 rs1 2 rd 0x2f
-word_of (Sc rd rs1 rs2 aq rl) = r_word (ordered 3 aq rl) rs2 rs1 2 rd 0x2f
-word_of (Amo o rd rs1 rs2 aq rl) = r_word (ordered (amo_code o) aq rl) rs2 rs1 2 rd 0x2f
-word_of (Illegal word) = illegal_word word
+use Rattle.rv32_decode.specs.Codes.{ordered}
 
 -- ---- signed numbers of some bits
+
+pub signed_unsigned_12 : (z : ℤ) → negsuc 2047 ≤ℤ z → z ≤ℤ pos 2047 → signed 12 (unsigned 12 z) ≡ z
+signed_unsigned_12 (pos n) a b = grind (arith, ints, nat_tests)
+signed_unsigned_12 (negsuc n) a b = grind (arith, ints, nat_tests)
 
 pub unsigned_signed_12 : (n : ℕ) → n < 2 ^ 12 → unsigned 12 (signed 12 n) ≡ n
 unsigned_signed_12 n h = grind (arith, nat_tests)
