@@ -3,3 +3,4 @@ pub mod Groups
 pub mod Reading
 mod Whole
 pub mod Rebuilt
+pub mod Again

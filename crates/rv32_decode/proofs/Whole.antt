@@ -3,6 +3,7 @@ use Rattle.std.proofs.Common.{◌≡◌, ◌≢◌, ℕ, ◌+◌, ◌*◌, ◌-�
 use Rattle.std.specs.Prelude.{◌≤ℤ◌}
 use Rattle.std.proofs.lemmas.Int.{ints}
 use Rattle.std.specs.Prelude.{Option, Some, None}
+use Rattle.std.proofs.lemmas.Bool.{eq-eqb}
 use Rattle.std.proofs.lemmas.Bool.Decides.{nat_tests}
 use Rattle.rv32_decode.specs.Fields.{field, bit, signed, unsigned, imm_i, imm_s, imm_b, imm_j}
 use Rattle.rv32_decode.specs.Formats.{r_word, i_word, s_word, b_word, u_word, j_word}
@@ -78,3 +79,94 @@ j_whole w op l c =
 -- funct5, aq and rl, from funct7
 pub ordered_whole : (w f5 : ℕ) → field w 27 5 ≡ f5 → field w 25 7 ≡ ordered f5 (bit w 26) (bit w 25)
 ordered_whole w f5 e = grind (arith, nat_tests)
+
+pub signed_unsigned_13 : (z : ℤ) → negsuc 4095 ≤ℤ z → z ≤ℤ pos 4094 → signed 13 (unsigned 13 z) ≡ z
+signed_unsigned_13 (pos n) a b = grind (arith, ints, nat_tests)
+signed_unsigned_13 (negsuc n) a b = grind (arith, ints, nat_tests)
+
+pub signed_unsigned_21 : (z : ℤ) → negsuc 1048575 ≤ℤ z → z ≤ℤ pos 1048574 → signed 21 (unsigned 21 z) ≡ z
+signed_unsigned_21 (pos n) a b = grind (arith, ints, nat_tests)
+signed_unsigned_21 (negsuc n) a b = grind (arith, ints, nat_tests)
+
+pub unsigned_12_small : (z : ℤ) → negsuc 2047 ≤ℤ z → z ≤ℤ pos 2047 → unsigned 12 z < 2 ^ 12
+unsigned_12_small (pos n) a b = omega (arith, ints)
+unsigned_12_small (negsuc n) a b = omega (arith, ints)
+
+pub unsigned_13_small : (z : ℤ) → negsuc 4095 ≤ℤ z → z ≤ℤ pos 4094 → unsigned 32 z % 2 ≡ 0 → (unsigned 13 z < 2 ^ 13) × (unsigned 13 z % 2 ≡ 0)
+unsigned_13_small (pos n) a b even = (omega (arith, ints), omega (arith, ints))
+unsigned_13_small (negsuc n) a b even = (omega (arith, ints), omega (arith, ints))
+
+pub unsigned_21_small : (z : ℤ) → negsuc 1048575 ≤ℤ z → z ≤ℤ pos 1048574 → unsigned 32 z % 2 ≡ 0 → (unsigned 21 z < 2 ^ 21) × (unsigned 21 z % 2 ≡ 0)
+unsigned_21_small (pos n) a b even = (omega (arith, ints), omega (arith, ints))
+unsigned_21_small (negsuc n) a b even = (omega (arith, ints), omega (arith, ints))
+
+-- ---- the fields of a word of each format
+
+pub record RFields (w f7 r2 r1 f3 d op : ℕ) : Type 0 where
+  pub opcode : field w 0 7 ≡ op
+  pub rd : field w 7 5 ≡ d
+  pub funct3 : field w 12 3 ≡ f3
+  pub rs1 : field w 15 5 ≡ r1
+  pub rs2 : field w 20 5 ≡ r2
+  pub funct7 : field w 25 7 ≡ f7
+
+pub r_fields : (w f7 r2 r1 f3 d op : ℕ) → w ≡ r_word f7 r2 r1 f3 d op → f7 < 128 → r2 < 32 → r1 < 32 → f3 < 8 → d < 32 → op < 128
+    → RFields w f7 r2 r1 f3 d op
+r_fields w f7 r2 r1 f3 d op e l7 l2 l1 l3 ld lo =
+    record { opcode = omega arith; rd = omega arith; funct3 = omega arith; rs1 = omega arith; rs2 = omega arith; funct7 = omega arith }
+
+pub record IFields (w n r1 f3 d op : ℕ) : Type 0 where
+  pub opcode : field w 0 7 ≡ op
+  pub rd : field w 7 5 ≡ d
+  pub funct3 : field w 12 3 ≡ f3
+  pub rs1 : field w 15 5 ≡ r1
+  pub imm : field w 20 12 ≡ n
+
+pub i_fields : (w n r1 f3 d op : ℕ) → w ≡ i_word n r1 f3 d op → n < 2 ^ 12 → r1 < 32 → f3 < 8 → d < 32 → op < 128 → IFields w n r1 f3 d op
+i_fields w n r1 f3 d op e ln l1 l3 ld lo =
+    record { opcode = omega arith; rd = omega arith; funct3 = omega arith; rs1 = omega arith; imm = omega arith }
+
+pub u_fields : (w n d op : ℕ) → w ≡ u_word n d op → n < 2 ^ 20 → d < 32 → op < 128 → (field w 0 7 ≡ op) × (field w 7 5 ≡ d) × (field w 12 20 ≡ n)
+u_fields w n d op e ln ld lo = (omega arith, omega arith, omega arith)
+
+-- ---- the immediates of a word of each format
+
+pub s_imm : (w n : ℕ) → n < 2 ^ 12 → field w 7 5 ≡ field n 0 5 → field w 25 7 ≡ field n 5 7 → imm_s w ≡ signed 12 n
+s_imm w n l a b = let e : field w 25 7 * 2 ^ 5 + field w 7 5 ≡ n = omega arith in ap (signed 12) e
+
+pub b_imm : (w n : ℕ) → n < 2 ^ 13 → n % 2 ≡ 0 → field w 7 5 ≡ field n 1 4 * 2 + field n 11 1 → field w 25 7 ≡ field n 12 1 * 2 ^ 6 + field n 5 6
+    → imm_b w ≡ signed 13 n
+b_imm w n l even a b =
+    let one : field w 31 1 ≡ field n 12 1 = omega arith in
+    let two : field w 7 1 ≡ field n 11 1 = omega arith in
+    let three : field w 25 6 ≡ field n 5 6 = omega arith in
+    let four : field w 8 4 ≡ field n 1 4 = omega arith in
+    let e : field w 31 1 * 2 ^ 12 + field w 7 1 * 2 ^ 11 + field w 25 6 * 2 ^ 5 + field w 8 4 * 2 ≡ n = omega arith in
+    ap (signed 13) e
+
+pub j_imm : (w n : ℕ) → n < 2 ^ 21 → n % 2 ≡ 0 → field w 12 20 ≡ field n 20 1 * 2 ^ 19 + field n 1 10 * 2 ^ 9 + field n 11 1 * 2 ^ 8 + field n 12 8
+    → imm_j w ≡ signed 21 n
+j_imm w n l even a =
+    let one : field w 31 1 ≡ field n 20 1 = omega arith in
+    let two : field w 12 8 ≡ field n 12 8 = omega arith in
+    let three : field w 20 1 ≡ field n 11 1 = omega arith in
+    let four : field w 21 10 ≡ field n 1 10 = omega arith in
+    let e : field w 31 1 * 2 ^ 20 + field w 12 8 * 2 ^ 12 + field w 20 1 * 2 ^ 11 + field w 21 10 * 2 ≡ n = omega arith in
+    ap (signed 21) e
+
+off : (a b : ℕ) → a ≢ b → eqb a b ≡ false
+off a b h = grind (arith, nat_tests)
+
+-- funct5, aq and rl are read again
+pub ordered_fields : (w f5 : ℕ) (aq rl : Bool) → f5 < 32 → field w 25 7 ≡ ordered f5 aq rl
+    → (field w 27 5 ≡ f5) × (bit w 26 ≡ aq) × (bit w 25 ≡ rl)
+ordered_fields w f5 true true l e = (omega arith, eq-eqb _ _ (omega arith), eq-eqb _ _ (omega arith))
+ordered_fields w f5 true false l e = (omega arith, eq-eqb _ _ (omega arith), off _ 1 (omega arith))
+ordered_fields w f5 false true l e = (omega arith, off _ 1 (omega arith), eq-eqb _ _ (omega arith))
+ordered_fields w f5 false false l e = (omega arith, off _ 1 (omega arith), off _ 1 (omega arith))
+
+pub ordered_small : (f5 : ℕ) (aq rl : Bool) → f5 < 32 → ordered f5 aq rl < 128
+ordered_small f5 true true l = omega arith
+ordered_small f5 true false l = omega arith
+ordered_small f5 false true l = omega arith
+ordered_small f5 false false l = omega arith

@@ -10,6 +10,7 @@ use crate::opcodes;
 use crate::parts::{Reg, Upper};
 use crate::{AmoOp, Cond, IllegalWord, ImmOp, Instr, LoadKind, Op, ShiftOp, Width};
 
+#[tactic(auto, using(crate::proofs::Again::word_again, crate::proofs::Rebuilt::only_word))]
 /// The word of an instruction.
 pub fn encode(i: Instr) -> u32
     ensures again { instruction_of result ≡ Some i }
