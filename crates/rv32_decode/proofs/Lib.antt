@@ -4,3 +4,5 @@ pub mod Reading
 mod Whole
 pub mod Rebuilt
 pub mod Again
+pub mod Apart
+mod Members

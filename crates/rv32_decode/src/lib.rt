@@ -5,10 +5,12 @@ mod decoding;
 mod encoding;
 mod opcodes;
 mod parts;
+mod register_set;
 
-pub use decoding::decode;
+pub use decoding::{decode, rows_law};
 pub use encoding::encode;
 pub use parts::{Amount, BranchOffset, FenceBits, Imm12, JumpOffset, Reg, Upper};
+pub use register_set::RegSet;
 
 /// The condition of a branch.
 #[derive(Clone, Copy, Debug, PartialEq, Eq)]
