@@ -6,11 +6,13 @@ mod encoding;
 mod opcodes;
 mod parts;
 mod register_set;
+mod register_use;
 
 pub use decoding::{decode, rows_law};
 pub use encoding::encode;
 pub use parts::{Amount, BranchOffset, FenceBits, Imm12, JumpOffset, Reg, Upper};
 pub use register_set::RegSet;
+pub use register_use::{defs, uses};
 
 /// The condition of a branch.
 #[derive(Clone, Copy, Debug, PartialEq, Eq)]
