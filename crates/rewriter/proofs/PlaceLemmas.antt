@@ -170,7 +170,7 @@ past_stop e places from a all h next low ends =
 
 addresses_of : (places : List ℕ) → addresses (entries places) ≡ places
 addresses_of [] = refl
-addresses_of (a ∷ as) = ap (λ xs. a ∷ xs) (addresses_of as)
+addresses_of (a ∷ rest) = ap (λ xs. a ∷ xs) (addresses_of rest)
 
 is_code : (e : Elf) (a : ℕ) (i : Instr) → code_at e a ≡ Some i → is_code_word e a ≡ true
 is_code e a i h = go (is_code_word e a) refl

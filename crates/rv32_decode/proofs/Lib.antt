@@ -1,5 +1,8 @@
 mod Fitting
 pub mod Groups
 pub mod Reading
-pub mod Words
-mod Rebuilt
+mod Whole
+pub mod Rebuilt
+pub mod Again
+pub mod Apart
+mod Members

@@ -19,7 +19,8 @@ use Rattle.rv32_decode.specs.declared.IllegalWord.TheVariants.{Zeros, Ones, Cycl
 use Rattle.rv32_decode.specs.declared.Instr.{Instr}
 use Rattle.rv32_decode.specs.declared.Instr.TheVariants.{Lui, Auipc, Jal, Jalr, Branch, Load, Store, OpImm, ShiftImm, Op, Fence, Ecall, Ebreak, Lr, Sc, Amo, Illegal}
 use Rattle.rv32_decode.proofs.Fitting.{kept, and_parts, word_fits}
-use Rattle.rv32_decode.proofs.Words.{word_of, r_whole, i_whole, s_whole, b_whole, u_whole, j_whole, i_signed_whole, ordered_whole}
+use Rattle.rv32_decode.specs.Words.{word_of}
+use Rattle.rv32_decode.proofs.Whole.{r_whole, i_whole, s_whole, b_whole, u_whole, j_whole, i_signed_whole, ordered_whole}
 
 -- where the row fits, the word is that of the row's instruction
 abbrev IsRebuilt : ℕ → Row → Type 0

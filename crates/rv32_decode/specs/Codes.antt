@@ -14,6 +14,8 @@ use Rattle.rv32_decode.specs.declared.ShiftOp.{ShiftOp}
 use Rattle.rv32_decode.specs.declared.ShiftOp.TheVariants as shift_op
 use Rattle.rv32_decode.specs.declared.AmoOp.{AmoOp}
 use Rattle.rv32_decode.specs.declared.AmoOp.TheVariants as amo_op
+use Rattle.rv32_decode.specs.declared.IllegalWord.{IllegalWord}
+use Rattle.rv32_decode.specs.declared.IllegalWord.TheVariants.{Zeros, Ones, CycleWrite}
 
 -- funct3 of a condition
 abbrev pub branch_code : Cond → ℕ
@@ -81,3 +83,8 @@ amo_code amo_op.Maxu = 28
 -- funct5, aq and rl as one field
 abbrev pub ordered : ℕ → Bool → Bool → ℕ
 ordered funct5 aq rl = funct5 * 4 + cond aq 2 0 + cond rl 1 0
+
+abbrev pub illegal_word : IllegalWord → ℕ
+illegal_word Zeros = 0
+illegal_word Ones = 0xffffffff
+illegal_word CycleWrite = 0xc0001073

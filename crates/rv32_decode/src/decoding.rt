@@ -1,8 +1,8 @@
 //! From words to instructions, by the fields of a word.
 
-ghost use Rattle.std.specs.Prelude.{◌≡◌, ◌+◌, ◌-◌, ◌*◌, ◌/◌, ◌%◌, ◌^◌, ◌<◌, ◌≤◌, ℕ, ◌⊎◌, bit_and};
+ghost use Rattle.std.specs.Prelude.{◌≡◌, ◌+◌, ◌-◌, ◌*◌, ◌/◌, ◌%◌, ◌^◌, ◌<◌, ◌≤◌, ℕ, ◌⊎◌, count_by};
 ghost use Rattle.rv32_decode.specs.Fields.{field, bit};
-ghost use Rattle.rv32_decode.specs.Rows.{instruction_of, branch_table, load_table, store_table, imm_table, shift_table, op_table, amo_table};
+ghost use Rattle.rv32_decode.specs.Rows.{instruction_of, rows, fits, branch_table, load_table, store_table, imm_table, shift_table, op_table, amo_table};
 ghost use Rattle.rv32_decode.specs.Tables.{entry, entry_of_two};
 
 use crate::parts::{Amount, BranchOffset, FenceBits, Imm12, JumpOffset, Reg, Upper};
@@ -38,6 +38,13 @@ pub fn decode(word: u32) -> Option<Instr>
         0 | 0x7f => illegal(word),
         _ => None,
     }
+}
+
+#[tactic(auto, using(crate::proofs::Apart::one_row))]
+/// At most one row of the instruction table fits a word.
+pub fn rows_law()
+    ensures { (word : ℕ) → count_by (fits word) rows ≤ 1 }
+{
 }
 
 fn opcode(word: u32) -> u32

@@ -2,11 +2,17 @@
 //! Words and instructions of RV32IA.
 
 mod decoding;
+mod encoding;
 mod opcodes;
 mod parts;
+mod register_set;
+mod register_use;
 
-pub use decoding::decode;
+pub use decoding::{decode, rows_law};
+pub use encoding::encode;
 pub use parts::{Amount, BranchOffset, FenceBits, Imm12, JumpOffset, Reg, Upper};
+pub use register_set::RegSet;
+pub use register_use::{defs, uses};
 
 /// The condition of a branch.
 #[derive(Clone, Copy, Debug, PartialEq, Eq)]

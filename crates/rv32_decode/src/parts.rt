@@ -24,6 +24,9 @@ impl Model for Reg {
 }
 
 impl Reg {
+    /// x0, which reads 0.
+    pub const ZERO: Reg = Reg { number: 0 };
+
     /// x10, the first argument and the result of a call.
     pub const A0: Reg = Reg { number: 10 };
 
@@ -50,6 +53,15 @@ impl Reg {
         ensures small { result < 32 }
     {
         self.number
+    }
+
+    /// The register's number in the bits from a place on.
+    pub(crate) fn bits(self, low: u32) -> u32
+        requires { low < 26 }
+        ensures value { result ≡ self * 2 ^ low }
+        ensures small { self < 32 }
+    {
+        u32::from(self.number) << low
     }
 
     /// The register that a word names from a place on.
@@ -150,6 +162,15 @@ impl Imm12 {
         self.value.cast_unsigned()
     }
 
+    /// The number as 12 bits of two's complement.
+    pub(crate) fn bits(self) -> u32
+        ensures value { result ≡ unsigned 12 self }
+        ensures small { result < 2 ^ 12 }
+        ensures again { signed 12 result ≡ self }
+    {
+        self.value.cast_unsigned() & 0xfff
+    }
+
     /// The immediate of format I.
     pub(crate) fn of_load(word: u32) -> Imm12
         ensures { result ≡ imm_i word }
@@ -209,6 +230,16 @@ impl BranchOffset {
         self.value
     }
 
+    /// The number as 13 bits of two's complement.
+    pub(crate) fn bits(self) -> u32
+        ensures value { result ≡ unsigned 13 self }
+        ensures small { result < 2 ^ 13 }
+        ensures even { result % 2 ≡ 0 }
+        ensures again { signed 13 result ≡ self }
+    {
+        self.value.cast_unsigned() & 0x1fff
+    }
+
     /// The immediate of format B.
     pub(crate) fn of(word: u32) -> BranchOffset
         ensures { result ≡ imm_b word }
@@ -261,6 +292,16 @@ impl JumpOffset {
         ensures even { unsigned 32 result % 2 ≡ 0 }
     {
         self.value
+    }
+
+    /// The number as 21 bits of two's complement.
+    pub(crate) fn bits(self) -> u32
+        ensures value { result ≡ unsigned 21 self }
+        ensures small { result < 2 ^ 21 }
+        ensures even { result % 2 ≡ 0 }
+        ensures again { signed 21 result ≡ self }
+    {
+        self.value.cast_unsigned() & 0x1f_ffff
     }
 
     /// The immediate of format J.

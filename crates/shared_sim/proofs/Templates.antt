@@ -18,7 +18,8 @@ use Rattle.rv32_model.specs.declared.CallStep.TheVariants.{Ends, Returns, Puts}
 use Rattle.rv32_model.specs.Registers.{reg, put}
 use Rattle.rv32_model.specs.Effect.{effect, is_supported, call_step, cut_short}
 use Rattle.rv32_model.specs.Program.{Program, IsAccepted, class_at, is_mapped, line_of}
-use Rattle.rv32_model.specs.Liveness.{Live, uses, passes, destination, Next}
+use Rattle.rv32_model.specs.Liveness.{Live, uses, passes, Next}
+use Rattle.rv32_decode.specs.Registers.{destination}
 use Rattle.rv32_model.specs.OneMemory.{Processor, Asked, Becomes, Prints, asked, asked_at, asked_by, asked_by_call, set_register, returned, after_print, Reads, byte_by, next_pc}
 use Rattle.rewriter.specs.declared.templates.RtWord.TheVariants.{Native, Call, TrapFetch}
 use Rattle.rewriter.specs.Sequences.{Entry, Item, Always, committing, items_of}
@@ -131,7 +132,7 @@ module _ (program : Program) (accepted : IsAccepted program) where
 
   call_does : (a : ℕ) (q : Processor) (l : Lane) (n : Local) → program.code a ≡ Some Ecall → Suits program n → AtHead program a q l → Does program a 0 (committing Call) q l n
   call_does a q l n h suits at =
-      let same : (r : ℕ) → reg l.registers r ≡ reg q.registers r = λ r. at.agree r (uses Ecall h tt) in
+      let same : (r : ℕ) → reg l.registers r ≡ reg q.registers r = λ r. at.agree r (uses Ecall h (inl refl)) in
       let step_is : call_step q.registers q.written ≡ call_step l.registers l.written =
           sym (call_agrees l.registers q.registers q.written same) ∙ ap (call_step l.registers) (sym at.written) in
       called_does a q l n (call_step l.registers l.written) h (asked_is program a q (Some Ecall) at.place h ∙ ap (asked_by_call program q) step_is) same suits at
@@ -146,7 +147,7 @@ module _ (program : Program) (accepted : IsAccepted program) where
 
   immediate_does : (a rd rs1 : ℕ) (op : ImmOp) (imm : _) (q : Processor) (l : Lane) (n : Local) → program.code a ≡ Some (OpImm op rd rs1 imm) → AtHead program a q l → Does program a 0 (committing (Native (OpImm op rd rs1 imm))) q l n
   immediate_does a rd rs1 Add imm q l n h at =
-      let source : reg l.registers rs1 ≡ reg q.registers rs1 = at.agree rs1 (uses (OpImm Add rd rs1 imm) h refl) in
+      let source : reg l.registers rs1 ≡ reg q.registers rs1 = at.agree rs1 (uses (OpImm Add rd rs1 imm) h (inr (0, lit< tt, refl))) in
       plain_does a rd ((reg q.registers rs1 + unsigned 32 imm) % 2 ^ 32) (OpImm Add rd rs1 imm) q l n h (ap (λ x. Sets rd ((x + unsigned 32 imm) % 2 ^ 32)) source) refl (λ r ne d. ne (cc)) refl at
   immediate_does a rd rs1 Slt imm q l n h at = unsupported a (OpImm Slt rd rs1 imm) h refl
   immediate_does a rd rs1 Sltu imm q l n h at = unsupported a (OpImm Sltu rd rs1 imm) h refl
