@@ -1,6 +1,6 @@
 -- The plan of a program, as far as its code words have been gone through.
 use Rattle.std.proofs.Common.{◌≡◌, ◌≢◌, ℕ, zero, suc, ◌+◌, ◌*◌, ◌%◌, ◌<◌, ◌≤◌, ◌⊎◌, Bool, true, false, ◌&&◌, ◌==◌, cond, List, [], ◌∷◌, ◌++◌, length, map, Option, Some, None, refl, sym, ap, ◌∙◌, subst, inl, inr, arith, length-append}
-use Rattle.std.specs.Prelude.{Contains, IsSome}
+use Rattle.std.specs.Prelude.{Contains, IsSome, is_some}
 use Rattle.std.specs.Option.{option_map_or}
 use Rattle.std.proofs.lemmas.Bool.{cases_lt, false≢true}
 use Rattle.std.proofs.lemmas.Bool.Decides.{nat_tests}
@@ -11,7 +11,7 @@ use Rattle.rv32_decode.specs.Rows.{instruction_of}
 use Rattle.rv32_model.specs.Effect.{is_supported}
 use Rattle.rv32_model.specs.Liveness.{target_of}
 use Rattle.elf32_read.specs.Elf.{Elf}
-use Rattle.exec_map.specs.Contents.{is_code_word, word_of, code_at, is_supported_word, program_of, AllSupported, IsNextCode}
+use Rattle.exec_map.specs.Contents.{is_code_word, word_of, word_at, code_at, is_supported_word, program_of, AllSupported, IsNextCode}
 use Rattle.rewriter.specs.Sequences.{Entry, IsStop, IsPlace, entries, AscendsFrom, addresses, IsAdmissible}
 
 -- the places of the code words below an address, and of the stops behind them
@@ -76,8 +76,8 @@ with_word e places from a h next b c =
     elim (h.under b c) [
       | inl lt ↦ omega arith
       | inr same ↦
-        let apart : from ≢ a = λ f. false≢true (sym same.1 ∙ ap (is_code_word e) f ∙ next.code_word) in
-        let is = same.0 in omega arith
+          let apart : from ≢ a = λ f. false≢true (sym same.1 ∙ ap (is_code_word e) f ∙ next.code_word) in
+          let is = same.0 in omega arith
     ]
 
 -- a code word below the address behind the next one
@@ -228,5 +228,13 @@ whole e places from all h none = record {
         elim stop.leads [
           | inl is ↦ subst (Contains places) (sym is) (h.stops stop.from (under stop.from word) word (ap (is_code_word e) (sym is) ∙ no_word a stop.no_code))
           | inr target ↦ (let i = code_some e stop.from all word in let same : i.0 ≡ stop.instruction = (let both : Some i.0 ≡ Some stop.instruction = sym i.1 ∙ stop.there in cc) in
-            absurd (no_target stop.instruction stop.from a (ap is_supported (sym same) ∙ i.2) target))
+              absurd (no_target stop.instruction stop.from a (ap is_supported (sym same) ∙ i.2) target))
         ]
+
+-- the test that a word is there
+pub tells_word : (e : Elf) (a : ℕ) (b : Bool) → is_some (word_at e a) ≡ b → is_code_word e a ≡ b
+tells_word e a b h = go (is_code_word e a) refl
+  where
+    go : (t : Bool) → is_code_word e a ≡ t → is_code_word e a ≡ b
+    go true f = f ∙ ap (λ x. is_some (cond x (Some (word_of e a)) None)) (sym f) ∙ h
+    go false f = f ∙ ap (λ x. is_some (cond x (Some (word_of e a)) None)) (sym f) ∙ h
