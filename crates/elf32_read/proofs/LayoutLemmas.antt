@@ -1,9 +1,9 @@
 -- A file of code and data by its pieces.
-use Rattle.std.proofs.Common.{◌≡◌, ◌≢◌, ℕ, ◌+◌, ◌-◌, ◌<◌, ◌≤◌, ◌^◌, ◌/◌, ◌%◌, List, [], ◌∷◌, ◌++◌, length, take, drop, get_or, refl, sym, ap, subst, ◌∙◌, arith}
+use Rattle.std.proofs.Common.{◌≡◌, ◌≢◌, ℕ, ◌+◌, ◌-◌, ◌<◌, ◌≤◌, ◌%◌, List, ◌++◌, length, drop, refl, sym, ap, ◌∙◌, arith}
 use Rattle.std.specs.List.{flat_map, IsSplitAt}
 use Rattle.std.proofs.lemmas.List.{append-nil, append_cancel_left, drop_at, take-append-drop, length-append}
 use Rattle.elf32_read.specs.declared.layout.TheConstants.{FILE_HEADER}
-use Rattle.elf32_read.specs.Layout.{half, word, identification, file_header, header_fields, program_headers, headers_end, contents, file_of, placed, zeros}
+use Rattle.elf32_read.specs.Layout.{half, word, identification, file_header, program_headers, contents, file_of, placed, zeros}
 use Rattle.elf32_read.specs.FirstForm.{code_and_data}
 use Rattle.elf32_read.specs.Parts.{AreSizes, HasParts, header_words, body, data_offset}
 

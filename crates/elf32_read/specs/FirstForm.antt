@@ -1,6 +1,6 @@
 -- The one form of file that is read as yet: code at 0x00010000, and writable data at 0x00020000.
 use Rattle.std.specs.Prelude.{◌≡◌, ℕ, ◌%◌, ◌≤◌, List, [], ◌∷◌, length}
-use Rattle.elf32_read.specs.Elf.{Elf, Segment}
+use Rattle.elf32_read.specs.Elf.{Elf}
 use Rattle.elf32_read.specs.Layout.{file_of}
 
 -- flags: 5 is readable and executable, 6 is readable and writable

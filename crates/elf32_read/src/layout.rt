@@ -5,6 +5,52 @@ ghost use Rattle.std.specs.List.{flat_map};
 ghost use Rattle.elf32_read.specs.Layout.{word, zeros};
 ghost use Rattle.elf32_read.specs.Parts.{AreSizes, HasParts, IsRestAfter, header_words, body, data_offset};
 
+/// The address of the code.
+pub(crate) const CODE_ADDRESS: u32 = 0x10000;
+
+/// The code is readable and executable.
+pub(crate) const CODE_FLAGS: u32 = 5;
+
+/// The address of the data.
+pub(crate) const DATA_ADDRESS: u32 = 0x20000;
+
+/// The data is readable and writable.
+pub(crate) const DATA_FLAGS: u32 = 6;
+
+/// A segment's address and its offset in the file are equal modulo this number.
+const ALIGNMENT: u32 = 4096;
+
+/// How many bytes stand between the headers and the code.
+const GAP_AFTER_HEADERS: usize = 3980;
+
+/// The ELF header of each file of code and data.
+const FILE_HEADER: [u8; 52] = [
+    // e_ident
+    0x7f, b'E', b'L', b'F', 1, 1, 1, 0, 0, 0, 0, 0, 0, 0, 0, 0,
+    // e_type, e_machine, e_version
+    2, 0, 243, 0, 1, 0, 0, 0,
+    // e_entry, e_phoff, e_shoff, e_flags
+    0, 0, 1, 0, 52, 0, 0, 0, 0, 0, 0, 0, 0, 0, 0, 0,
+    // e_ehsize, e_phentsize, e_phnum, e_shentsize, e_shnum, e_shstrndx
+    52, 0, 32, 0, 2, 0, 0, 0, 0, 0, 0, 0,
+];
+
+/// The lengths of the code and of the data in the file, and the size of the data in memory.
+#[derive(Clone, Copy)]
+struct Sizes {
+    code_len: u32,
+    data_len: u32,
+    data_size: u32,
+}
+
+/// The code and the data of a file, and the size of the data in memory.
+#[derive(Clone, Copy)]
+pub(crate) struct Parts<'a> {
+    pub(crate) code: &'a [u8],
+    pub(crate) data: &'a [u8],
+    pub(crate) data_size: u32,
+}
+
 /// The rest of the file after `front`, or `None` where the file begins otherwise.
 fn after<'a>(file: &'a [u8], front: &[u8]) -> Option<&'a [u8]>
     ensures { IsRestAfter file.now front.now result }
@@ -42,50 +88,6 @@ fn word_at(file: &[u8], offset: usize) -> Option<u32>
 {
     let bytes = file.get(offset..)?.first_chunk::<4>()?;
     Some(u32::from_le_bytes(*bytes))
-}
-
-/// The address of the code, and its permissions: readable and executable.
-pub(crate) const CODE_ADDRESS: u32 = 0x10000;
-
-pub(crate) const CODE_FLAGS: u32 = 5;
-
-/// The address of the data, and its permissions: readable and writable.
-pub(crate) const DATA_ADDRESS: u32 = 0x20000;
-
-pub(crate) const DATA_FLAGS: u32 = 6;
-
-/// What segments' addresses and offsets in the file agree by.
-const ALIGNMENT: u32 = 4096;
-
-/// How many bytes stand between the headers and the code.
-const GAP_AFTER_HEADERS: usize = 3980;
-
-/// The ELF header of each file of code and data.
-const FILE_HEADER: [u8; 52] = [
-    // e_ident
-    0x7f, b'E', b'L', b'F', 1, 1, 1, 0, 0, 0, 0, 0, 0, 0, 0, 0,
-    // e_type, e_machine, e_version
-    2, 0, 243, 0, 1, 0, 0, 0,
-    // e_entry, e_phoff, e_shoff, e_flags
-    0, 0, 1, 0, 52, 0, 0, 0, 0, 0, 0, 0, 0, 0, 0, 0,
-    // e_ehsize, e_phentsize, e_phnum, e_shentsize, e_shnum, e_shstrndx
-    52, 0, 32, 0, 2, 0, 0, 0, 0, 0, 0, 0,
-];
-
-/// The lengths of the code and of the data in the file, and the size of the data in memory.
-#[derive(Clone, Copy)]
-struct Sizes {
-    code_len: u32,
-    data_len: u32,
-    data_size: u32,
-}
-
-/// The code and the data of a file, and the size of the data in memory.
-#[derive(Clone, Copy)]
-pub(crate) struct Parts<'a> {
-    pub(crate) code: &'a [u8],
-    pub(crate) data: &'a [u8],
-    pub(crate) data_size: u32,
 }
 
 /// The sizes that the program headers have in their places, where they are sizes that a file may have.

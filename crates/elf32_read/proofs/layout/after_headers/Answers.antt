@@ -1,5 +1,5 @@
 -- Each piece that is not there would be there in a body.
-use Rattle.std.proofs.Common.{◌≡◌, ℕ, ◌<◌, length, arith}
+use Rattle.std.proofs.Common.{arith}
 use Rattle.elf32_read.proofs.LayoutLemmas.{body_made, not_body_no_gap, not_body_short, not_body_gap, not_body_length}
 use Rattle.elf32_read.proofs.layout.after_headers.Goals as goal
 

@@ -1,8 +1,6 @@
 -- A file of code and data passes each comparison.
-use Rattle.std.proofs.Common.{◌≡◌, ◌++◌, ◌∙◌, ap, sym, refl, ℕ, length, Some}
+use Rattle.std.proofs.Common.{◌≡◌, ◌∙◌, ap, sym, refl, length}
 use Rattle.std.proofs.lemmas.Option.{same_Some}
-use Rattle.std.specs.List.{flat_map}
-use Rattle.elf32_read.specs.Layout.{word}
 use Rattle.elf32_read.specs.Parts.{header_words, body}
 use Rattle.elf32_read.specs.declared.layout.Sizes.{Sizes}
 use Rattle.elf32_read.proofs.LayoutLemmas.{pieces, pieces_rest, pieces_body, parts_made}

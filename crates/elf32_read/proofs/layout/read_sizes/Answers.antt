@@ -1,5 +1,5 @@
 -- Each size is the word that stands in its place.
-use Rattle.std.proofs.Common.{◌≡◌, ℕ, ◌<◌, ◌^◌, length, arith, Some}
+use Rattle.std.proofs.Common.{length, arith}
 use Rattle.std.proofs.lemmas.Option.{same_Some}
 use Rattle.elf32_read.specs.Parts.{AreSizes}
 use Rattle.elf32_read.proofs.LayoutLemmas.{AreSizes-same, code_len_stands, data_len_stands, data_size_stands}

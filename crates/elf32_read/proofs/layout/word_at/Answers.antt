@@ -1,5 +1,5 @@
 -- A word that stands there has four bytes, and they read as the word.
-use Rattle.std.proofs.Common.{◌≡◌, ◌∙◌, ap, ℕ, List, ◌+◌, ◌≤◌, length, drop, arith, length-drop, w32, Some}
+use Rattle.std.proofs.Common.{◌≡◌, ◌∙◌, ap, drop, arith, length-drop, w32, Some}
 use Rattle.std.specs.Int.{from_le_bytes}
 use Rattle.std.proofs.lemmas.List.{take_rest}
 use Rattle.elf32_read.proofs.WordLemmas.{word_fits, word_read}
