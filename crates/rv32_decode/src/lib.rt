@@ -1,12 +1,18 @@
 #![tactic(auto)]
 //! Words and instructions of RV32IA.
 
-ghost use Rattle.std.specs.Prelude.{◌≡◌, ◌+◌, ◌-◌, ◌*◌, ◌/◌, ◌%◌, ◌^◌, ◌<◌, ◌≤◌, ℕ, Some, bit_and};
-ghost use Rattle.rv32_decode.specs.Rows.{instruction_of};
-
+mod decoding;
+mod encoding;
+mod opcodes;
 mod parts;
+mod register_set;
+mod register_use;
 
+pub use decoding::{decode, rows_law};
+pub use encoding::encode;
 pub use parts::{Amount, BranchOffset, FenceBits, Imm12, JumpOffset, Reg, Upper};
+pub use register_set::RegSet;
+pub use register_use::{defs, uses};
 
 /// The condition of a branch.
 #[derive(Clone, Copy, Debug, PartialEq, Eq)]
@@ -183,11 +189,4 @@ pub enum Instr {
     Illegal {
         word: IllegalWord,
     },
-}
-
-/// The instruction of a word; None exactly where no row of the instruction table fits the word.
-pub fn decode(word: u32) -> Option<Instr>
-    ensures { result ≡ instruction_of word }
-{
-    None
 }

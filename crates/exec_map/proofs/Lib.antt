@@ -1,0 +1,3 @@
+mod Searches
+mod LeastLemmas
+mod Accepting

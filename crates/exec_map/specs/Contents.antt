@@ -1,0 +1,86 @@
+-- The program that an executable's segments hold (System V ABI, "Program Loading").
+use Rattle.std.specs.Prelude.{◌≡◌, ℕ, ◌+◌, ◌-◌, ◌*◌, ◌%◌, ◌^◌, ◌<◌, ◌≤◌, Bool, true, false, if◌then◌else◌, ◌&&◌, ◌==◌, nat_lt, nat_le, Option, Some, None, length, slice_index, find}
+use Rattle.std.specs.List.{list_any}
+use Rattle.std.specs.Option.{option_map_or}
+use Rattle.rv32_decode.specs.Fields.{bit}
+use Rattle.rv32_decode.specs.Rows.{instruction_of}
+use Rattle.rv32_decode.specs.declared.Instr.{Instr}
+use Rattle.elf32_read.specs.Elf.{Elf, Segment}
+use Rattle.rv32_model.specs.declared.Class.{Class}
+use Rattle.rv32_model.specs.declared.Class.TheVariants.{Shared, ReadOnly, Private, Unmapped}
+use Rattle.rv32_model.specs.Effect.{is_supported}
+use Rattle.rv32_model.specs.Program.{Program}
+
+-- PF_X and PF_W of a segment's permissions
+abbrev pub is_executable : Segment → Bool
+is_executable s = bit s.flags 0
+
+abbrev pub is_writable : Segment → Bool
+is_writable s = bit s.flags 1
+
+-- the segment has a byte in the line
+abbrev pub touches : ℕ → Segment → Bool
+touches line s = nat_lt 0 s.memsz && (nat_lt s.vaddr (64 * line + 64) && nat_lt (64 * line) (s.vaddr + s.memsz))
+
+-- the window 0x7fff0000 to 0x7fffffff
+abbrev pub is_private : ℕ → Bool
+is_private line = nat_le 0x1fffc00 line && nat_lt line 0x2000000
+
+abbrev pub segment_class : Option Segment → Class
+segment_class None = Unmapped
+segment_class (Some s) = if is_writable s then Shared else ReadOnly
+
+-- the class of a line
+abbrev pub class_of_line : Elf → ℕ → Class
+class_of_line e line = if is_private line then Private else segment_class (find (touches line) e.segments)
+
+-- the file has a byte of the segment for the address
+abbrev pub holds : ℕ → Segment → Bool
+holds a s = nat_le s.vaddr a && nat_lt a (s.vaddr + length s.bytes)
+
+-- the first content of an address
+abbrev pub first_byte : Elf → ℕ → ℕ
+first_byte e a = option_map_or (λ s. slice_index s.bytes (a - s.vaddr)) (find (holds a) e.segments) 0
+
+-- four bytes from the address on are file bytes of the segment, which is executable
+abbrev pub holds_word : ℕ → Segment → Bool
+holds_word a s = is_executable s && (nat_le s.vaddr a && nat_le (a + 4) (s.vaddr + length s.bytes))
+
+-- a code word stands at the address
+abbrev pub is_code_word : Elf → ℕ → Bool
+is_code_word e a = (a % 4 == 0) && list_any (holds_word a) e.segments
+
+-- the little-endian word of four addresses
+abbrev pub word_of : Elf → ℕ → ℕ
+word_of e a = first_byte e a + 2 ^ 8 * first_byte e (a + 1) + 2 ^ 16 * first_byte e (a + 2) + 2 ^ 24 * first_byte e (a + 3)
+
+abbrev pub word_at : Elf → ℕ → Option ℕ
+word_at e a = if is_code_word e a then Some (word_of e a) else None
+
+-- the instruction of the code word at an address
+abbrev pub code_at : Elf → ℕ → Option Instr
+code_at e a = if is_code_word e a then instruction_of (word_of e a) else None
+
+abbrev pub program_of : Elf → Program
+program_of e = record { class = class_of_line e; first = first_byte e; code = code_at e; entry = e.entry }
+
+-- the word has a row, and its instruction is executed by this version
+abbrev pub is_supported_word : ℕ → Bool
+is_supported_word word = option_map_or is_supported (instruction_of word) false
+
+-- every code word has a row, and its instruction is executed by this version
+pub record AllSupported (e : Elf) : Type 0 where
+  pub supported : (a : ℕ) → is_code_word e a ≡ true → is_supported_word (word_of e a) ≡ true
+
+-- the lowest code word that isn't supported
+pub record IsFirstUnsupported (e : Elf) (a word : ℕ) : Type 0 where
+  pub code_word : is_code_word e a ≡ true
+  pub reads : word ≡ word_of e a
+  pub unsupported : is_supported_word word ≡ false
+  pub lowest : (b : ℕ) → b < a → is_code_word e b ≡ true → is_supported_word (word_of e b) ≡ true
+
+-- the lowest code word at or above an address
+pub record IsNextCode (e : Elf) (from a : ℕ) : Type 0 where
+  pub at_least : from ≤ a
+  pub code_word : is_code_word e a ≡ true
+  pub lowest : (b : ℕ) → from ≤ b → b < a → is_code_word e b ≡ false

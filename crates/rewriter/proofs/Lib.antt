@@ -1,0 +1,4 @@
+mod ImageLemmas
+mod PlaceLemmas
+mod ReadingLemmas
+mod ExpansionLemmas

@@ -1,0 +1,4 @@
+pub mod Words
+pub mod Sequences
+pub mod Image
+pub mod Kept

@@ -1,0 +1,35 @@
+-- A program as the processors see it: the class of each line, the first content of each address, the instruction
+-- at each code word, and the entry.
+use Rattle.std.specs.Prelude.{◌≡◌, ℕ, ◌+◌, ◌/◌, ◌%◌, ◌≤◌, Bool, true, false, Option, Some}
+use Rattle.rv32_decode.specs.declared.Instr.{Instr}
+use Rattle.rv32_model.specs.declared.Class.{Class}
+use Rattle.rv32_model.specs.declared.Class.TheVariants.{Shared, ReadOnly, Private, Unmapped}
+use Rattle.rv32_model.specs.Effect.{is_supported}
+
+pub record Program : Type 0 where
+  pub class : ℕ → Class
+  pub first : ℕ → ℕ
+  pub code : ℕ → Option Instr
+  pub entry : ℕ
+
+-- the line of an address: 64 bytes
+abbrev pub line_of : ℕ → ℕ
+line_of a = a / 64
+
+-- the class of an address
+abbrev pub class_at : Program → ℕ → Class
+class_at program a = program.class (line_of a)
+
+abbrev pub is_mapped : Class → Bool
+is_mapped Unmapped = false
+is_mapped c = true
+
+-- what a program has to be before it is run
+pub record IsAccepted (program : Program) : Type 0 where
+  -- code words stand at multiples of four, below the private window
+  pub aligned : (a : ℕ) (i : Instr) → program.code a ≡ Some i → a % 4 ≡ 0
+  pub low : (a : ℕ) (i : Instr) → program.code a ≡ Some i → a + 4 ≤ 0x7fff0000
+  pub supported : (a : ℕ) (i : Instr) → program.code a ≡ Some i → is_supported i ≡ true
+  -- the entry is a code word
+  pub first_instruction : Instr
+  pub starts : program.code program.entry ≡ Some first_instruction

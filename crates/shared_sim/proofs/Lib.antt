@@ -1,0 +1,6 @@
+mod Plans
+mod Fetching
+mod Does
+mod Templates
+mod Follows
+mod Stops
