@@ -1,0 +1,3 @@
+pub mod Causes
+pub mod Pairs
+pub mod Schedule
