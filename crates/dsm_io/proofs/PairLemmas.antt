@@ -20,8 +20,8 @@ find-map : {X Y : Type 0} (p : Y → Bool) (f : X → Y) (xs : List X) → find 
 find-map p f [] = refl
 find-map p f (x ∷ xs) =
     elim (p (f x)) as (λ b. cond b (Some (f x)) (find p (map f xs)) ≡ option_map f (cond b (Some x) (find (λ x. p (f x)) xs))) [
-      true ↦ refl
-    | false ↦ find-map p f xs
+      | true ↦ refl
+      | false ↦ find-map p f xs
     ]
 
 -- a choice that gives nothing was not made
@@ -81,11 +81,11 @@ Writes-set f xs ys zs found i d y name bytes was is same view item named content
     let passes : bytes_eq (f y).0 name ≡ true = ap (λ n. bytes_eq n name) named ∙ ap (λ x. bytes_eq (f x).0 name) item ∙ at.1 in
     record {
       written =
-        ap (option_map (λ p. p.1)) (find-map (λ p. bytes_eq p.0 name) f (set xs i y) ∙ ap (option_map f) (find-set (λ x. bytes_eq (f x).0 name) xs i y (sym (place (λ x. bytes_eq (f x).0 name) xs i d e)) at.0 passes))
-        ∙ ap Some content;
+          ap (option_map (λ p. p.1)) (find-map (λ p. bytes_eq p.0 name) f (set xs i y) ∙ ap (option_map f) (find-set (λ x. bytes_eq (f x).0 name) xs i y (sym (place (λ x. bytes_eq (f x).0 name) xs i d e)) at.0 passes))
+          ∙ ap Some content;
       others = λ n ne.
-        ap (option_map (λ p. p.1)) (find-map (λ p. bytes_eq p.0 n) f (set xs i y) ∙ ap (option_map f) (find_past (λ x. bytes_eq (f x).0 n) xs i y d (differs (f (get_or xs i d)).0 name n at.1 ne) (differs (f y).0 name n passes ne)) ∙ sym (find-map (λ p. bytes_eq p.0 n) f xs))
-        ∙ ap (λ z. first_content z n) view
+          ap (option_map (λ p. p.1)) (find-map (λ p. bytes_eq p.0 n) f (set xs i y) ∙ ap (option_map f) (find_past (λ x. bytes_eq (f x).0 n) xs i y d (differs (f (get_or xs i d)).0 name n at.1 ne) (differs (f y).0 name n passes ne)) ∙ sym (find-map (λ p. bytes_eq p.0 n) f xs))
+          ∙ ap (λ z. first_content z n) view;
     }
 
 option_or-None : {X : Type 0} (o : Option X) → option_or o None ≡ o
@@ -99,11 +99,11 @@ Writes-push f xs ys ws zs found y name bytes was is same view pushed named conte
     let passes : bytes_eq (f y).0 name ≡ true = (bytes_eq-Decides (f y).0 name).1 named in
     record {
       written =
-        ap (λ s. first_content (map f s) name) pushed
-        ∙ ap (option_map (λ p. p.1)) (find-map (λ p. bytes_eq p.0 name) f (xs ++ y ∷ []) ∙ ap (option_map f) (find-append (λ x. bytes_eq (f x).0 name) xs (y ∷ []) ∙ ap (λ o. option_or o (cond (bytes_eq (f y).0 name) (Some y) None)) none ∙ ap (λ b. cond b (Some y) None) passes))
-        ∙ ap Some content;
+          ap (λ s. first_content (map f s) name) pushed
+          ∙ ap (option_map (λ p. p.1)) (find-map (λ p. bytes_eq p.0 name) f (xs ++ y ∷ []) ∙ ap (option_map f) (find-append (λ x. bytes_eq (f x).0 name) xs (y ∷ []) ∙ ap (λ o. option_or o (cond (bytes_eq (f y).0 name) (Some y) None)) none ∙ ap (λ b. cond b (Some y) None) passes))
+          ∙ ap Some content;
       others = λ n ne.
-        ap (λ s. first_content (map f s) n) pushed
-        ∙ ap (option_map (λ p. p.1)) (find-map (λ p. bytes_eq p.0 n) f (xs ++ y ∷ []) ∙ ap (option_map f) (find-append (λ x. bytes_eq (f x).0 n) xs (y ∷ []) ∙ ap (λ b. option_or (find (λ x. bytes_eq (f x).0 n) xs) (cond b (Some y) None)) (differs (f y).0 name n passes ne) ∙ option_or-None (find (λ x. bytes_eq (f x).0 n) xs)) ∙ sym (find-map (λ p. bytes_eq p.0 n) f xs))
-        ∙ ap (λ z. first_content z n) view
+          ap (λ s. first_content (map f s) n) pushed
+          ∙ ap (option_map (λ p. p.1)) (find-map (λ p. bytes_eq p.0 n) f (xs ++ y ∷ []) ∙ ap (option_map f) (find-append (λ x. bytes_eq (f x).0 n) xs (y ∷ []) ∙ ap (λ b. option_or (find (λ x. bytes_eq (f x).0 n) xs) (cond b (Some y) None)) (differs (f y).0 name n passes ne) ∙ option_or-None (find (λ x. bytes_eq (f x).0 n) xs)) ∙ sym (find-map (λ p. bytes_eq p.0 n) f xs))
+          ∙ ap (λ z. first_content z n) view;
     }

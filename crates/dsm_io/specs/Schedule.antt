@@ -8,16 +8,18 @@ pub record Schedule : Type 0 where
   pub calls : ℕ
   pub faults : ℕ
 
+-- these calls are to fail, and none was made yet
+abbrev pub schedule_of : List ℕ → Schedule
+schedule_of fails = record { fails = fails; calls = 0; faults = 0 }
+
 -- the next call is one of those that are to fail
 abbrev pub IsDue : Schedule → Type 0
 IsDue s = Contains s.fails (next_count s.calls)
 
--- files in memory
-pub record HeldFiles : Type 0 where
-  pub pairs : List (List ℕ × List ℕ)
-  pub schedule : Schedule
+-- the schedule after a call
+abbrev pub after_call : Schedule → Schedule
+after_call s = record { fails = s.fails; calls = next_count s.calls; faults = s.faults }
 
--- a sink in memory
-pub record TakenBytes : Type 0 where
-  pub taken : List ℕ
-  pub schedule : Schedule
+-- the schedule after a call that was a fault
+abbrev pub after_fault : Schedule → Schedule
+after_fault s = record { fails = s.fails; calls = next_count s.calls; faults = next_count s.faults }

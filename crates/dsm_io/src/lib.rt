@@ -16,6 +16,8 @@ mod real;
 mod schedule;
 mod store;
 mod sure;
+#[cfg(test)]
+mod tests;
 mod text;
 
 pub use memory::{MemFiles, MemSink};
@@ -80,19 +82,26 @@ pub trait Files {
     ///
     /// `TooLong` comes for a file that is longer, and `Failed` where it cannot be read.
     fn read(&mut self, alloc: Global, name: &str, limit: u64) -> Result<Vec<u8>, FileError>
-        ensures bytes { IfOk result (λ v. IfSome (held self.old name.now) (λ content. v.items ≡ content)) }
+        ensures bytes { IfOk result (λ v.
+            IfSome (held self.old name.now) (λ content. v.items ≡ content)) }
         ensures fits { IfOk result (λ v. length v.items ≤ limit) }
         ensures failed { IsErrOf result FileError.Failed →
             Rose (failed_reads self.old name.now) (failed_reads self.new name.now) }
 
         // Where the content is told, `TooLong` comes exactly where it is longer than the limit and
         // the read is not `Failed`; where it is untold, only where the count of failed reads rose.
-        ensures longer { IfSome (held self.old name.now) (λ content. limit < length content → IsErr result) }
+        ensures longer { IfSome (held self.old name.now) (λ content.
+            limit < length content → IsErr result) }
         ensures too_long { (l : ℕ) → IsErrOf result (FileError.TooLong l) →
             IfSome (held self.old name.now) (λ content. limit < length content) }
-        ensures untold { (l : ℕ) → IsErrOf result (FileError.TooLong l) → IfNone (held self.old name.now)
+        ensures untold { (l : ℕ) → IsErrOf result (FileError.TooLong l) →
+            IfNone (held self.old name.now)
             (Rose (failed_reads self.old name.now) (failed_reads self.new name.now)) }
         ensures same_limit { (l : ℕ) → IsErrOf result (FileError.TooLong l) → l ≡ limit }
+
+        ensures uncounted { IsErrOf result FileError.OutOfMemory → (n : List ℕ) →
+            (failed_reads self.new n ≡ failed_reads self.old n)
+            × (failed_writes self.new n ≡ failed_writes self.old n) }
 
         ensures contents { (n : List ℕ) → held self.new n ≡ held self.old n }
         ensures reads { (n : List ℕ) → failed_reads self.old n ≤ failed_reads self.new n }
@@ -102,12 +111,17 @@ pub trait Files {
     ///
     /// After `Failed` it may hold anything; after `OutOfMemory` it holds what it held.
     fn write(&mut self, name: &str, bytes: &[u8]) -> Result<(), FileError>
-        ensures written { OnOk result (IfSome (held self.new name.now) (λ content. content ≡ bytes.now)) }
+        ensures written { OnOk result
+            (IfSome (held self.new name.now) (λ content. content ≡ bytes.now)) }
         ensures told { IsSome (held self.new name.now) ↔ IsSome (held self.old name.now) }
         ensures failed { IsErrOf result FileError.Failed →
             Rose (failed_writes self.old name.now) (failed_writes self.new name.now) }
         ensures never_too_long { (l : ℕ) → IsErrOf result (FileError.TooLong l) → ⊥ }
-        ensures memory { IsErrOf result FileError.OutOfMemory → held self.new name.now ≡ held self.old name.now }
+        ensures memory { IsErrOf result FileError.OutOfMemory →
+            held self.new name.now ≡ held self.old name.now }
+        ensures uncounted { IsErrOf result FileError.OutOfMemory → (n : List ℕ) →
+            (failed_reads self.new n ≡ failed_reads self.old n)
+            × (failed_writes self.new n ≡ failed_writes self.old n) }
 
         ensures others { (n : List ℕ) → n ≢ name.now → held self.new n ≡ held self.old n }
         ensures reads { (n : List ℕ) → failed_reads self.old n ≤ failed_reads self.new n }
@@ -128,8 +142,10 @@ pub trait Sink {
     fn put(&mut self, piece: &[u8]) -> Result<(), SinkError>
         ensures took { OnOk result (Appends (taken self.old) (taken self.new) piece.now) }
         ensures failed { IsErrOf result SinkError.Failed → Rose (faults self.old) (faults self.new) }
-        ensures front { IsErrOf result SinkError.Failed → AppendsFront (taken self.old) (taken self.new) piece.now }
+        ensures front { IsErrOf result SinkError.Failed →
+            AppendsFront (taken self.old) (taken self.new) piece.now }
         ensures memory { IsErrOf result SinkError.OutOfMemory → taken self.new ≡ taken self.old }
+        ensures uncounted { IsErrOf result SinkError.OutOfMemory → faults self.new ≡ faults self.old }
         ensures counts { faults self.old ≤ faults self.new };
 }
 

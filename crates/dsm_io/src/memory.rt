@@ -1,5 +1,6 @@
-ghost use Rattle.std.specs.Prelude.{◌≡◌, [], map, option_copied};
-ghost use Rattle.dsm_io.specs.Pairs.{first_content};
+ghost use Rattle.std.specs.Prelude.{◌≡◌, ◌≢◌, ◌<◌, ◌≤◌, ◌↔◌, ◌⊎◌, ◌++◌, ℕ, List, [], map, length, option_copied, IfOk, IfSome, OnOk, OnErr, IsErr, IsErrOf};
+ghost use Rattle.dsm_io.specs.Pairs.{first_content, content_of, Writes};
+ghost use Rattle.dsm_io.specs.Schedule.{IsDue, schedule_of, after_call, after_fault};
 
 use crate::schedule::Schedule;
 use crate::store::Store;
@@ -18,7 +19,7 @@ pub struct MemFiles {
 }
 
 impl Model for MemFiles {
-    ghost use Rattle.dsm_io.specs.Schedule.{HeldFiles};
+    ghost use Rattle.dsm_io.specs.Memory.{HeldFiles};
 
     ghost Value = { HeldFiles };
 
@@ -29,8 +30,10 @@ impl MemFiles {
     /// Files of these names and contents, of which the first pair of a name counts, and the numbers
     /// of the calls that are to fail.
     pub fn new(alloc: Global, held: Vec<(Text, Vec<u8>)>, fails: Vec<u64>) -> MemFiles
-        ensures held { result.pairs ≡ map (λ p. (p.0, p.1.items)) held.items }
-        ensures fails { result.schedule ≡ record { fails = fails.items; calls = 0; faults = 0 } }
+        ensures held { (n : List ℕ) →
+            ⟦<MemFiles as Files>⟧.held result n ≡ Some (content_of result.pairs n) }
+        ensures pairs { result.pairs ≡ map (λ p. (p.0, p.1.items)) held.items }
+        ensures fails { result.schedule ≡ schedule_of fails.items }
     {
         MemFiles {
             store: Store::new(alloc, held),
@@ -40,7 +43,9 @@ impl MemFiles {
 
     /// What the name holds, or `None` where it has no file.
     pub fn held(&self, name: &str) -> Option<&[u8]>
-        ensures { option_copied result ≡ first_content self.now.pairs name.now }
+        ensures first { option_copied result ≡ first_content self.now.pairs name.now }
+        ensures held { IfSome result (λ bytes.
+            ⟦<MemFiles as Files>⟧.held self.now name.now ≡ Some bytes.now) }
     {
         self.store.content(name)
     }
@@ -56,7 +61,25 @@ impl Files for MemFiles {
 
     ghost failed_writes = { λ s _. s.schedule.faults };
 
-    fn read(&mut self, alloc: Global, name: &str, limit: u64) -> Result<Vec<u8>, FileError> {
+    fn read(&mut self, alloc: Global, name: &str, limit: u64) -> Result<Vec<u8>, FileError>
+        ensures bytes { IfOk result (λ v. first_content self.old.pairs name.now ≡ Some v.items) }
+        ensures fits { IfOk result (λ v. length v.items ≤ limit) }
+        ensures longer { IfSome (first_content self.old.pairs name.now) (λ content.
+            limit < length content → IsErr result) }
+        ensures too_long { (l : ℕ) → IsErrOf result (FileError.TooLong l) →
+            IfSome (first_content self.old.pairs name.now) (λ content. limit < length content) }
+        ensures same_limit { (l : ℕ) → IsErrOf result (FileError.TooLong l) → l ≡ limit }
+        ensures same_pairs { self.new.pairs ≡ self.old.pairs }
+
+        // It fails where the call is due, and where the name has no file.
+        ensures failed { IsErrOf result FileError.Failed ↔
+            (IsDue self.old.schedule ⊎ (first_content self.old.pairs name.now ≡ None)) }
+        ensures fault { IsErrOf result FileError.Failed →
+            self.new.schedule ≡ after_fault self.old.schedule }
+        ensures no_fault { result ≢ Err FileError.Failed →
+            self.new.schedule ≡ after_call self.old.schedule }
+        ensures counts { self.old.schedule.faults ≤ self.new.schedule.faults }
+    {
         if self.schedule.call() {
             return Err(FileError::Failed);
         }
@@ -71,7 +94,18 @@ impl Files for MemFiles {
         Ok(bytes)
     }
 
-    fn write(&mut self, name: &str, bytes: &[u8]) -> Result<(), FileError> {
+    fn write(&mut self, name: &str, bytes: &[u8]) -> Result<(), FileError>
+        ensures written { OnOk result (Writes self.old.pairs self.new.pairs name.now bytes.now) }
+        ensures kept { OnErr result (self.new.pairs ≡ self.old.pairs) }
+        ensures never_too_long { (l : ℕ) → IsErrOf result (FileError.TooLong l) → ⊥ }
+
+        ensures failed { IsErrOf result FileError.Failed ↔ IsDue self.old.schedule }
+        ensures fault { IsErrOf result FileError.Failed →
+            self.new.schedule ≡ after_fault self.old.schedule }
+        ensures no_fault { result ≢ Err FileError.Failed →
+            self.new.schedule ≡ after_call self.old.schedule }
+        ensures counts { self.old.schedule.faults ≤ self.new.schedule.faults }
+    {
         if self.schedule.call() {
             return Err(FileError::Failed);
         }
@@ -90,7 +124,7 @@ pub struct MemSink {
 }
 
 impl Model for MemSink {
-    ghost use Rattle.dsm_io.specs.Schedule.{TakenBytes};
+    ghost use Rattle.dsm_io.specs.Memory.{TakenBytes};
 
     ghost Value = { TakenBytes };
 
@@ -100,8 +134,8 @@ impl Model for MemSink {
 impl MemSink {
     /// A sink that has taken nothing, with the numbers of the calls that are to fail.
     pub fn new(alloc: Global, fails: Vec<u64>) -> MemSink
-        ensures taken { result.taken ≡ [] }
-        ensures fails { result.schedule ≡ record { fails = fails.items; calls = 0; faults = 0 } }
+        ensures taken { ⟦<MemSink as Sink>⟧.taken result ≡ Some [] }
+        ensures fails { result.schedule ≡ schedule_of fails.items }
     {
         MemSink {
             taken: Vec::new(alloc),
@@ -111,7 +145,7 @@ impl MemSink {
 
     /// The bytes taken so far.
     pub fn taken(&self) -> &[u8]
-        ensures { result.now ≡ self.now.taken }
+        ensures { ⟦<MemSink as Sink>⟧.taken self.now ≡ Some result.now }
     {
         &self.taken
     }
@@ -124,7 +158,16 @@ impl Sink for MemSink {
 
     ghost faults = { λ s. s.schedule.faults };
 
-    fn put(&mut self, piece: &[u8]) -> Result<(), SinkError> {
+    fn put(&mut self, piece: &[u8]) -> Result<(), SinkError>
+        ensures took { OnOk result (self.new.taken ≡ self.old.taken ++ piece.now) }
+        ensures kept { OnErr result (self.new.taken ≡ self.old.taken) }
+        ensures due { IsErrOf result SinkError.Failed ↔ IsDue self.old.schedule }
+        ensures fault { IsErrOf result SinkError.Failed →
+            self.new.schedule ≡ after_fault self.old.schedule }
+        ensures no_fault { result ≢ Err SinkError.Failed →
+            self.new.schedule ≡ after_call self.old.schedule }
+        ensures counts { self.old.schedule.faults ≤ self.new.schedule.faults }
+    {
         if self.schedule.call() {
             return Err(SinkError::Failed);
         }

@@ -1,4 +1,4 @@
-ghost use Rattle.std.specs.Prelude.{◌≡◌};
+ghost use Rattle.std.specs.Prelude.{◌≡◌, ℕ, List};
 
 use crate::{FileError, Files, Sink, SinkError};
 use std::alloc::Global;
@@ -15,7 +15,10 @@ pub struct RealFiles {
 
 impl RealFiles {
     /// The files that the runtime reaches.
-    pub fn new(rt: HostRuntime) -> RealFiles {
+    pub fn new(rt: HostRuntime) -> RealFiles
+        ensures reads { (n : List ℕ) → ⟦<RealFiles as Files>⟧.failed_reads result n ≡ 0 }
+        ensures writes { (n : List ℕ) → ⟦<RealFiles as Files>⟧.failed_writes result n ≡ 0 }
+    {
         RealFiles { rt, faults: 0 }
     }
 }
@@ -86,7 +89,9 @@ pub struct StdSink {
 
 impl StdSink {
     /// The standard output.
-    pub fn output(rt: HostRuntime) -> StdSink {
+    pub fn output(rt: HostRuntime) -> StdSink
+        ensures { ⟦<StdSink as Sink>⟧.faults result ≡ 0 }
+    {
         StdSink {
             rt,
             stream: Stream::Output,
@@ -95,7 +100,9 @@ impl StdSink {
     }
 
     /// The standard error.
-    pub fn errors(rt: HostRuntime) -> StdSink {
+    pub fn errors(rt: HostRuntime) -> StdSink
+        ensures { ⟦<StdSink as Sink>⟧.faults result ≡ 0 }
+    {
         StdSink {
             rt,
             stream: Stream::Errors,

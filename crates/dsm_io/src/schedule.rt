@@ -1,6 +1,6 @@
 ghost use Rattle.std.specs.Prelude.{◌≡◌, ◌≤◌, ◌↔◌, IsTrue, if◌then◌else◌};
 ghost use Rattle.dsm_io.specs.Causes.{next_count};
-ghost use Rattle.dsm_io.specs.Schedule.{IsDue};
+ghost use Rattle.dsm_io.specs.Schedule.{IsDue, schedule_of, after_call, after_fault};
 
 use std::marker::Model;
 
@@ -22,7 +22,7 @@ impl Model for Schedule {
 
 impl Schedule {
     pub(crate) fn new(fails: Vec<u64>) -> Schedule
-        ensures { result ≡ record { fails = fails.items; calls = 0; faults = 0 } }
+        ensures { result ≡ schedule_of fails.items }
     {
         Schedule {
             fails,
@@ -34,10 +34,8 @@ impl Schedule {
     /// Counts a call, and as a fault if it is one of those that are to fail. Tells which.
     pub(crate) fn call(&mut self) -> bool
         ensures due { IsTrue result ↔ IsDue self.old }
-        ensures calls { self.new.calls ≡ next_count self.old.calls }
-        ensures faults { self.new.faults ≡ (if result then next_count self.old.faults else self.old.faults) }
+        ensures counted { self.new ≡ (if result then after_fault self.old else after_call self.old) }
         ensures rises { self.old.faults ≤ self.new.faults }
-        ensures fails { self.new.fails ≡ self.old.fails }
     {
         self.calls = self.calls.saturating_add(1);
         let due = self.fails.contains(&self.calls);

@@ -1,5 +1,5 @@
-ghost use Rattle.std.specs.Prelude.{◌≡◌, [], option_copied};
-ghost use Rattle.dsm_io.specs.Pairs.{first_content};
+ghost use Rattle.std.specs.Prelude.{◌≡◌, ◌≢◌, ◌<◌, ◌≤◌, ◌++◌, ℕ, List, [], length, option_copied, IfOk, IfSome, IfErr, OnOk, OnErr, IsErr, IsErrOf};
+ghost use Rattle.dsm_io.specs.Pairs.{first_content, content_of, Writes};
 
 use crate::store::Store;
 use crate::{FileError, Files, Sink, SinkError};
@@ -25,7 +25,8 @@ impl Model for SureFiles {
 impl SureFiles {
     /// No files.
     pub fn new(alloc: Global) -> SureFiles
-        ensures { result ≡ [] }
+        ensures held { (n : List ℕ) → ⟦<SureFiles as Files>⟧.held result n ≡ Some [] }
+        ensures pairs { result ≡ [] }
     {
         SureFiles {
             store: Store::new(alloc, Vec::new(alloc)),
@@ -34,7 +35,9 @@ impl SureFiles {
 
     /// What was last written to the name, or `None` where nothing was.
     pub fn held(&self, name: &str) -> Option<&[u8]>
-        ensures { option_copied result ≡ first_content self.now name.now }
+        ensures first { option_copied result ≡ first_content self.now name.now }
+        ensures held { IfSome result (λ bytes.
+            ⟦<SureFiles as Files>⟧.held self.now name.now ≡ Some bytes.now) }
     {
         self.store.content(name)
     }
@@ -50,7 +53,16 @@ impl Files for SureFiles {
 
     ghost failed_writes = { λ _ _. 0 };
 
-    fn read(&mut self, alloc: Global, name: &str, limit: u64) -> Result<Vec<u8>, FileError> {
+    fn read(&mut self, alloc: Global, name: &str, limit: u64) -> Result<Vec<u8>, FileError>
+        ensures bytes { IfOk result (λ v. v.items ≡ content_of self.old name.now) }
+        ensures fits { IfOk result (λ v. length v.items ≤ limit) }
+        ensures longer { limit < length (content_of self.old name.now) → IsErr result }
+        ensures too_long { (l : ℕ) → IsErrOf result (FileError.TooLong l) →
+            limit < length (content_of self.old name.now) }
+        ensures same_limit { (l : ℕ) → IsErrOf result (FileError.TooLong l) → l ≡ limit }
+        ensures never_failed { result ≢ Err FileError.Failed }
+        ensures kept { self.new ≡ self.old }
+    {
         let Some(content) = self.store.content(name) else {
             return Ok(Vec::new(alloc));
         };
@@ -61,7 +73,11 @@ impl Files for SureFiles {
         Ok(bytes)
     }
 
-    fn write(&mut self, name: &str, bytes: &[u8]) -> Result<(), FileError> {
+    fn write(&mut self, name: &str, bytes: &[u8]) -> Result<(), FileError>
+        ensures written { OnOk result (Writes self.old self.new name.now bytes.now) }
+        ensures only_memory { IfErr result (λ e. e ≡ FileError.OutOfMemory) }
+        ensures kept { OnErr result (self.new ≡ self.old) }
+    {
         self.store.put(name, bytes)?;
         Ok(())
     }
@@ -84,7 +100,7 @@ impl Model for SureSink {
 impl SureSink {
     /// A sink that has taken nothing.
     pub fn new(alloc: Global) -> SureSink
-        ensures { result ≡ [] }
+        ensures { ⟦<SureSink as Sink>⟧.taken result ≡ Some [] }
     {
         SureSink {
             taken: Vec::new(alloc),
@@ -93,7 +109,7 @@ impl SureSink {
 
     /// The bytes taken so far.
     pub fn taken(&self) -> &[u8]
-        ensures { result.now ≡ self.now }
+        ensures { ⟦<SureSink as Sink>⟧.taken self.now ≡ Some result.now }
     {
         &self.taken
     }
@@ -106,7 +122,11 @@ impl Sink for SureSink {
 
     ghost faults = { λ _. 0 };
 
-    fn put(&mut self, piece: &[u8]) -> Result<(), SinkError> {
+    fn put(&mut self, piece: &[u8]) -> Result<(), SinkError>
+        ensures took { OnOk result (self.new ≡ self.old ++ piece.now) }
+        ensures only_memory { IfErr result (λ e. e ≡ SinkError.OutOfMemory) }
+        ensures kept { OnErr result (self.new ≡ self.old) }
+    {
         self.taken.extend_from_slice(piece)?;
         Ok(())
     }
