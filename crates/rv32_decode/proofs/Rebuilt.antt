@@ -18,6 +18,7 @@ use Rattle.rv32_decode.specs.declared.AmoOp.{AmoOp}
 use Rattle.rv32_decode.specs.declared.IllegalWord.TheVariants.{Zeros, Ones, CycleWrite}
 use Rattle.rv32_decode.specs.declared.Instr.{Instr}
 use Rattle.rv32_decode.specs.declared.Instr.TheVariants.{Lui, Auipc, Jal, Jalr, Branch, Load, Store, OpImm, ShiftImm, Op, Fence, Ecall, Ebreak, Lr, Sc, Amo, Illegal}
+use Rattle.rv32_decode.proofs.EachRow.{Each, Each-append, Each-map, found_row}
 use Rattle.rv32_decode.proofs.Fitting.{kept, and_parts, word_fits}
 use Rattle.rv32_decode.specs.Words.{word_of}
 use Rattle.rv32_decode.proofs.Whole.{r_whole, i_whole, s_whole, b_whole, u_whole, j_whole, i_signed_whole, ordered_whole}
@@ -25,20 +26,6 @@ use Rattle.rv32_decode.proofs.Whole.{r_whole, i_whole, s_whole, b_whole, u_whole
 -- where the row fits, the word is that of the row's instruction
 abbrev IsRebuilt : ℕ → Row → Type 0
 IsRebuilt w r = fits w r ≡ true → word_of (r.fields w) ≡ w
-
-abbrev Each : (Row → Type 0) → List Row → Type 0
-Each P [] = Unit {0}
-Each P (r ∷ rs) = P r × Each P rs
-
-Each-append : (P : Row → Type 0) (rs ts : List Row) → Each P rs → Each P ts → Each P (rs ++ ts)
-Each-append P [] ts a b = b
-Each-append P (r ∷ rs) ts a b = (a.0, Each-append P rs ts a.1 b)
-
-Each-map : {A : Type 0} (P : Row → Type 0) (ok : A → Bool) (f : A → Row) → ((t : A) → ok t ≡ true → P (f t)) → (ts : List A) → list_all ok ts ≡ true
-    → Each P (map f ts)
-Each-map P ok f each [] all = tt
-Each-map P ok f each (t ∷ ts) all =
-    let both = and_parts (ok t) (list_all ok ts) all in (each t both.0, Each-map P ok f each ts both.1)
 
 -- ---- the rows of one word of fields
 
@@ -202,19 +189,6 @@ each_rebuilt w l =
     (lui_back w l, (auipc_back w l, (jal_back w l, (jalr_back w l, (fence_back w l, (lr_back w l, (sc_back w l,
     (whole_word w 0x73 Ecall l refl, (whole_word w 0x100073 Ebreak l refl, (whole_word w 0 (Illegal Zeros) l refl,
     (whole_word w 0xffffffff (Illegal Ones) l refl, (whole_word w 0xc0001073 (Illegal CycleWrite) l refl, tables_rebuilt w l))))))))))))
-
--- what holds of each row holds of the row that is found
-found_case : (P : Row → Type 0) (test : Row → Bool) (s : Row) (rs : List Row) (r : Row) (b : Bool) → P s × Each P rs → test s ≡ b
-    → cond b (Some s) (find test rs) ≡ Some r → ((r : Row) → find test rs ≡ Some r → P r × (test r ≡ true)) → P r × (test r ≡ true)
-found_case P test s rs r true each passes found more =
-    let same : s ≡ r = cc in
-    let both : P s × (test s ≡ true) = (each.0, passes) in
-    subst (λ (x : Row). P x × (test x ≡ true)) same both
-found_case P test s rs r false each passes found more = more r found
-
-found_row : (P : Row → Type 0) (test : Row → Bool) (rs : List Row) (r : Row) → Each P rs → find test rs ≡ Some r → P r × (test r ≡ true)
-found_row P test [] r each found = cc
-found_row P test (s ∷ rs) r each found = found_case P test s rs r (test s) each refl found (λ r. found_row P test rs r each.1)
 
 only_case : (w : ℕ) (i : Instr) (o : Option Row) → w < 2 ^ 32 → find (fits w) rows ≡ o → option_map (λ r. r.fields w) o ≡ Some i → w ≡ word_of i
 only_case w i None l found e = cc
