@@ -7,6 +7,8 @@ mod opcodes;
 mod parts;
 mod register_set;
 mod register_use;
+#[cfg(test)]
+mod tests;
 
 pub use decoding::{decode, ranges_law, rows_law};
 pub use encoding::encode;
