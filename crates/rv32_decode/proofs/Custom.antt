@@ -8,9 +8,9 @@ use Rattle.rv32_decode.proofs.Groups.{no_opcode}
 pub custom_0-None : (w : ℕ) → field w 0 7 ≡ 0x0b → instruction_of w ≡ None
 custom_0-None w e =
     no_opcode w (omega arith) (omega arith) (omega arith) (omega arith) (omega arith) (omega arith) (omega arith) (omega arith) (omega arith)
-        (omega arith) (omega arith) (omega arith) (omega arith) (omega arith)
+    (omega arith) (omega arith) (omega arith) (omega arith) (omega arith)
 
 pub custom_1-None : (w : ℕ) → field w 0 7 ≡ 0x2b → instruction_of w ≡ None
 custom_1-None w e =
     no_opcode w (omega arith) (omega arith) (omega arith) (omega arith) (omega arith) (omega arith) (omega arith) (omega arith) (omega arith)
-        (omega arith) (omega arith) (omega arith) (omega arith) (omega arith)
+    (omega arith) (omega arith) (omega arith) (omega arith) (omega arith)

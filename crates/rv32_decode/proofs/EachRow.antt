@@ -31,4 +31,3 @@ found_case P test s rs r false each passes found more = more r found
 pub found_row : (P : Row → Type 0) (test : Row → Bool) (rs : List Row) (r : Row) → Each P rs → find test rs ≡ Some r → P r × (test r ≡ true)
 found_row P test [] r each found = cc
 found_row P test (s ∷ rs) r each found = found_case P test s rs r (test s) each refl found (λ r. found_row P test rs r each.1)
-

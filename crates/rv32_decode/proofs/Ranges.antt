@@ -44,7 +44,7 @@ five_bits w low = mod_below (w / 2 ^ low) 32 (lit< tt)
 
 tables_small : (w : ℕ)
     → Each (IsSmall w) (map branch_row branch_table ++ map load_row load_table ++ map store_row store_table ++ map imm_row imm_table
-        ++ map shift_row shift_table ++ map op_row op_table ++ map amo_row amo_table)
+    ++ map shift_row shift_table ++ map op_row op_table ++ map amo_row amo_table)
 tables_small w =
     let P = IsSmall w in
     let rd = five_bits w 7 in
@@ -76,9 +76,28 @@ each_small w =
     let upper : field w 12 20 < 2 ^ 20 = omega arith in
     let bits : field w 20 12 < 2 ^ 12 = omega arith in
     let i = imm_i_range w in
-    let j = imm_j_range w in
-    ((rd, upper), ((rd, upper), ((rd, j.0, j.1, j.2), ((rd, rs1, i.0, i.1), ((rd, rs1, bits), ((rd, rs1), ((rd, rs1, rs2),
-    (tt, (tt, (tt, (tt, (tt, tables_small w))))))))))))
+    let j = imm_j_range w in (
+      (rd, upper),
+      (
+        (rd, upper),
+        (
+          (rd, j.0, j.1, j.2),
+          (
+            (rd, rs1, i.0, i.1),
+            (
+              (rd, rs1, bits),
+              (
+                (rd, rs1),
+                (
+                  (rd, rs1, rs2),
+                  (tt, (tt, (tt, (tt, (tt, tables_small w))))),
+                ),
+              ),
+            ),
+          ),
+        ),
+      ),
+    )
 
 range_case : (w : ℕ) (i : Instr) (o : Option Row) → find (fits w) rows ≡ o → option_map (λ r. r.fields w) o ≡ Some i → IsInRange i
 range_case w i None found e = cc

@@ -126,8 +126,8 @@ shift_back w l t ok f =
     let three = kept w 0xfe00707f match 12 3 refl f in
     let opcode = kept w 0xfe00707f match 0 7 refl f in
     r_whole w (shift_codes t.2).0 (shift_codes t.2).1 0x13 l
-        (omega (arith, small_seven, small_three, code_seven, seven)) (omega (arith, small_seven, small_three, code_three, three))
-        (omega (arith, opcode))
+    (omega (arith, small_seven, small_three, code_seven, seven)) (omega (arith, small_seven, small_three, code_three, three))
+    (omega (arith, opcode))
 
 abbrev op_ok : ℕ × ℕ × Operation → Bool
 op_ok t = (ltb t.0 128 && ltb t.1 8) && (eqb (op_codes t.2).0 t.0 && eqb (op_codes t.2).1 t.1)
@@ -146,8 +146,8 @@ op_back w l t ok f =
     let three = kept w 0xfe00707f match 12 3 refl f in
     let opcode = kept w 0xfe00707f match 0 7 refl f in
     r_whole w (op_codes t.2).0 (op_codes t.2).1 0x33 l
-        (omega (arith, small_seven, small_three, code_seven, seven)) (omega (arith, small_seven, small_three, code_three, three))
-        (omega (arith, opcode))
+    (omega (arith, small_seven, small_three, code_seven, seven)) (omega (arith, small_seven, small_three, code_three, three))
+    (omega (arith, opcode))
 
 abbrev amo_ok : ℕ × AmoOp → Bool
 amo_ok t = ltb t.0 32 && eqb (amo_code t.1) t.0
@@ -166,7 +166,7 @@ amo_back w l t ok f =
 -- the rows of the tables, in their order
 tables_rebuilt : (w : ℕ) → w < 2 ^ 32
     → Each (IsRebuilt w) (map branch_row branch_table ++ map load_row load_table ++ map store_row store_table ++ map imm_row imm_table
-        ++ map shift_row shift_table ++ map op_row op_table ++ map amo_row amo_table)
+    ++ map shift_row shift_table ++ map op_row op_table ++ map amo_row amo_table)
 tables_rebuilt w l =
     let P = IsRebuilt w in
     let branches = map branch_row branch_table in
@@ -185,10 +185,37 @@ tables_rebuilt w l =
 
 each_rebuilt : (w : ℕ) → w < 2 ^ 32 → Each (IsRebuilt w) rows
 unfolding rows
-each_rebuilt w l =
-    (lui_back w l, (auipc_back w l, (jal_back w l, (jalr_back w l, (fence_back w l, (lr_back w l, (sc_back w l,
-    (whole_word w 0x73 Ecall l refl, (whole_word w 0x100073 Ebreak l refl, (whole_word w 0 (Illegal Zeros) l refl,
-    (whole_word w 0xffffffff (Illegal Ones) l refl, (whole_word w 0xc0001073 (Illegal CycleWrite) l refl, tables_rebuilt w l))))))))))))
+each_rebuilt w l = (
+  lui_back w l,
+  (
+    auipc_back w l,
+    (
+      jal_back w l,
+      (
+        jalr_back w l,
+        (
+          fence_back w l,
+          (
+            lr_back w l,
+            (
+              sc_back w l,
+              (
+                whole_word w 0x73 Ecall l refl,
+                (
+                  whole_word w 0x100073 Ebreak l refl,
+                  (
+                    whole_word w 0 (Illegal Zeros) l refl,
+                    (whole_word w 0xffffffff (Illegal Ones) l refl, (whole_word w 0xc0001073 (Illegal CycleWrite) l refl, tables_rebuilt w l)),
+                  ),
+                ),
+              ),
+            ),
+          ),
+        ),
+      ),
+    ),
+  ),
+)
 
 only_case : (w : ℕ) (i : Instr) (o : Option Row) → w < 2 ^ 32 → find (fits w) rows ≡ o → option_map (λ r. r.fields w) o ≡ Some i → w ≡ word_of i
 only_case w i None l found e = cc

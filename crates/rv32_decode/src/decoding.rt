@@ -45,14 +45,12 @@ pub fn decode(word: u32) -> Option<Instr>
 /// At most one row of the instruction table fits a word.
 pub fn rows_law()
     ensures { (word : ℕ) → count_by (fits word) rows ≤ 1 }
-{
-}
+{}
 
 /// The parts of the instruction of any word are within the ranges of their types.
 pub fn ranges_law()
     ensures { (word : ℕ) (i : Instr) → instruction_of word ≡ Some i → IsInRange i }
-{
-}
+{}
 
 fn opcode(word: u32) -> u32
     ensures { result ≡ field word 0 7 }
