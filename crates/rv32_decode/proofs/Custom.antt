@@ -1,5 +1,5 @@
 -- The opcodes custom-0 and custom-1 have no row, so their words are free for other uses.
-use Rattle.std.proofs.Common.{◌≡◌, ◌≢◌, ℕ, ◌∙◌, sym, arith}
+use Rattle.std.proofs.Common.{◌≡◌, ℕ, arith}
 use Rattle.std.specs.Prelude.{None}
 use Rattle.rv32_decode.specs.Fields.{field}
 use Rattle.rv32_decode.specs.Rows.{instruction_of}

@@ -1,6 +1,6 @@
 -- What holds of each row of a list.
 use Rattle.std.proofs.Common.{◌≡◌, Bool, true, false, cond, map, ◌++◌, List, [], ◌∷◌, refl, subst}
-use Rattle.std.specs.Prelude.{Option, Some, None, find, ◌&&◌}
+use Rattle.std.specs.Prelude.{Some, find}
 use Rattle.std.specs.List.{list_all}
 use Rattle.rv32_decode.specs.Rows.{Row}
 use Rattle.rv32_decode.proofs.Fitting.{and_parts}

@@ -1,13 +1,12 @@
 -- Each word that a row fits is the word of the row's instruction.
-use Rattle.std.proofs.Common.{◌≡◌, ◌≢◌, ℕ, ◌+◌, ◌*◌, ◌-◌, ◌/◌, ◌%◌, ◌^◌, ◌<◌, Bool, true, false, cond, eqb, ltb, map, ◌++◌, List, [], ◌∷◌, refl, sym, ap, ◌∙◌, arith, ℤ, subst}
+use Rattle.std.proofs.Common.{◌≡◌, ℕ, ◌+◌, ◌*◌, ◌^◌, ◌<◌, Bool, true, eqb, ltb, map, ◌++◌, refl, sym, ap, ◌∙◌, arith}
 use Rattle.std.specs.Prelude.{Option, Some, None, find, ◌&&◌}
-use Rattle.std.specs.List.{list_all}
 use Rattle.std.specs.Option.{option_map}
 use Rattle.std.proofs.lemmas.Bool.{eqb-true, ltb-true}
-use Rattle.rv32_decode.specs.Fields.{field, bit, signed, unsigned, imm_i, imm_s, imm_b, imm_j}
-use Rattle.rv32_decode.specs.Formats.{r_word, i_word, s_word, b_word, u_word, j_word}
+use Rattle.rv32_decode.specs.Fields.{field, bit, imm_i, imm_j}
+use Rattle.rv32_decode.specs.Formats.{r_word}
 use Rattle.rv32_decode.specs.Codes.{branch_code, load_code, store_code, imm_code, shift_codes, op_codes, amo_code, ordered}
-use Rattle.rv32_decode.specs.Rows.{Row, fits, rows, row, instruction_of, opcode_row, funct3_row, funct7_row, funct5_row, word_row, branch_row, branch_table, load_row, load_table, store_row, store_table, imm_row, imm_table, shift_row, shift_table, op_row, op_table, amo_row, amo_table}
+use Rattle.rv32_decode.specs.Rows.{Row, fits, rows, row, instruction_of, opcode_row, funct3_row, funct5_row, word_row, branch_row, branch_table, load_row, load_table, store_row, store_table, imm_row, imm_table, shift_row, shift_table, op_row, op_table, amo_row, amo_table}
 use Rattle.rv32_decode.specs.declared.Cond.{Cond}
 use Rattle.rv32_decode.specs.declared.LoadKind.{LoadKind}
 use Rattle.rv32_decode.specs.declared.Width.{Width}
@@ -17,7 +16,7 @@ use Rattle.rv32_decode.specs.declared.ShiftOp.{ShiftOp}
 use Rattle.rv32_decode.specs.declared.AmoOp.{AmoOp}
 use Rattle.rv32_decode.specs.declared.IllegalWord.TheVariants.{Zeros, Ones, CycleWrite}
 use Rattle.rv32_decode.specs.declared.Instr.{Instr}
-use Rattle.rv32_decode.specs.declared.Instr.TheVariants.{Lui, Auipc, Jal, Jalr, Branch, Load, Store, OpImm, ShiftImm, Op, Fence, Ecall, Ebreak, Lr, Sc, Amo, Illegal}
+use Rattle.rv32_decode.specs.declared.Instr.TheVariants.{Lui, Auipc, Jal, Jalr, Fence, Ecall, Ebreak, Lr, Sc, Illegal}
 use Rattle.rv32_decode.proofs.EachRow.{Each, Each-append, Each-map, found_row}
 use Rattle.rv32_decode.proofs.Fitting.{kept, and_parts, word_fits}
 use Rattle.rv32_decode.specs.Words.{word_of}
