@@ -1,2 +1,3 @@
 mod Searches
 mod LeastLemmas
+mod Accepting

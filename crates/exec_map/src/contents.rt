@@ -3,6 +3,7 @@
 ghost use Rattle.std.specs.Prelude.{◌≡◌, ◌+◌, ◌*◌, ◌^◌, ◌<◌, ◌≤◌, ℕ, Bool, true, false, ◌||◌, find, IfSome, IfNone};
 ghost use Rattle.std.specs.List.{list_any};
 ghost use Rattle.std.specs.Option.{option_copied};
+ghost use Rattle.elf32_read.specs.FirstForm.{IsCodeAndData};
 ghost use Rattle.elf32_read.specs.Segments.{segment_of};
 ghost use Rattle.exec_map.specs.Contents as model;
 ghost use Rattle.exec_map.specs.Least.{IsLeast};
@@ -93,6 +94,7 @@ pub fn next_code(elf: &Elf<'_>, from: u32) -> Option<u32>
     ensures some { IfSome result (λ a. model.IsNextCode elf.now from a) }
     ensures low { IfSome result (λ a. a + 4 ≤ 0x20000) }
     ensures none { IfNone result ((b : ℕ) → from ≤ b → model.is_code_word elf.now b ≡ false) }
+    ensures form { IsCodeAndData elf.now }
 {
     let mut lowest = None;
     for s in elf.segments() {
