@@ -9,7 +9,7 @@ use Rattle.elf32_read.specs.Elf.{Elf}
 use Rattle.elf32_read.specs.FirstForm.{IsCodeAndData, code_and_data}
 use Rattle.rv32_model.specs.Effect.{is_supported}
 use Rattle.rv32_model.specs.Program.{IsAccepted}
-use Rattle.exec_map.specs.Contents.{is_code_word, word_of, code_at, is_supported_word, program_of, IsNextCode}
+use Rattle.exec_map.specs.Contents.{is_code_word, word_of, code_at, is_supported_word, program_of, AllSupported, IsNextCode}
 
 -- every code word below an address is supported
 abbrev pub SupportedBelow : Elf → ℕ → Type 0
@@ -17,13 +17,15 @@ SupportedBelow e a = (b : ℕ) → b < a → is_code_word e b ≡ true → is_su
 
 -- every code word is supported that is below the next one to be looked at
 abbrev pub SupportedUpTo : Elf → Option ℕ → Type 0
-SupportedUpTo e None = (b : ℕ) → is_code_word e b ≡ true → is_supported_word (word_of e b) ≡ true
+SupportedUpTo e None = AllSupported e
 SupportedUpTo e (Some a) = (is_code_word e a ≡ true) × (a + 4 ≤ 0x20000) × SupportedBelow e a
 
 -- the next code word from an address on
 pub up_to_next : (e : Elf) (from : ℕ) (r : Option ℕ) → SupportedBelow e from → IfSome r (λ a. IsNextCode e from a) → IfSome r (λ a. a + 4 ≤ 0x20000) → IfNone r ((b : ℕ) → from ≤ b → is_code_word e b ≡ false) → SupportedUpTo e r
-up_to_next e from None below some low none = λ b word.
-    elim (cases_lt b from) [ inl lt ↦ below b lt word | inr le ↦ absurd (false≢true (sym (none b le) ∙ word)) ]
+up_to_next e from None below some low none = record {
+  supported = λ b word.
+    elim (cases_lt b from) [ inl lt ↦ below b lt word | inr le ↦ absurd (false≢true (sym (none b le) ∙ word)) ];
+}
 up_to_next e from (Some a) below some low none = (some.code_word, low, λ b lt_next word.
     elim (cases_lt b from) [ inl lt ↦ below b lt word | inr le ↦ absurd (false≢true (sym (some.lowest b le lt_next) ∙ word)) ])
 
@@ -65,14 +67,14 @@ instruction_in : (o : Option Instr) → option_map_or is_supported o false ≡ t
 instruction_in None h = absurd (false≢true h)
 instruction_in (Some i) h = (i, refl)
 
-pub accepted : (e : Elf) → IsCodeAndData e → SupportedUpTo e None → IsAccepted (program_of e)
+pub accepted : (e : Elf) → IsCodeAndData e → AllSupported e → IsAccepted (program_of e)
 accepted e form all =
     let starts = entry_word e form in
-    let first = instruction_in (instruction_of (word_of e e.entry)) (all e.entry starts) in
+    let first = instruction_in (instruction_of (word_of e e.entry)) (all.supported e.entry starts) in
     record {
       aligned = λ a i is. aligned (a % 4) _ (code_parts (is_code_word e a) _ i is).0;
       low = λ a i is. let h = low e a form (code_parts (is_code_word e a) _ i is).0 in omega arith;
-      supported = λ a i is. let parts = code_parts (is_code_word e a) _ i is in supported_in _ i parts.1 (all a parts.0);
+      supported = λ a i is. let parts = code_parts (is_code_word e a) _ i is in supported_in _ i parts.1 (all.supported a parts.0);
       first_instruction = first.0;
       starts = ap (λ b. cond b (instruction_of (word_of e e.entry)) None) starts ∙ first.1;
     }

@@ -68,6 +68,10 @@ program_of e = record { class = class_of_line e; first = first_byte e; code = co
 abbrev pub is_supported_word : ℕ → Bool
 is_supported_word word = option_map_or is_supported (instruction_of word) false
 
+-- every code word has a row, and its instruction is executed by this version
+pub record AllSupported (e : Elf) : Type 0 where
+  pub supported : (a : ℕ) → is_code_word e a ≡ true → is_supported_word (word_of e a) ≡ true
+
 -- the lowest code word that isn't supported
 pub record IsFirstUnsupported (e : Elf) (a word : ℕ) : Type 0 where
   pub code_word : is_code_word e a ≡ true

@@ -14,7 +14,6 @@ use elf32_read::{Elf, Segment};
 
 /// The class of a line of 64 bytes.
 pub fn class_of_line(elf: &Elf<'_>, line: u32) -> Class
-    requires { line < 2 ^ 26 }
     ensures { result ≡ model.class_of_line elf.now line }
 {
     if (0x1ff_fc00..0x200_0000).contains(&line) {

@@ -33,13 +33,13 @@ pub struct Program<'a> {
 impl<'a> Model for Program<'a> {
     ghost use Rattle.elf32_read.specs.Elf.{Elf as Fields};
     ghost use Rattle.rv32_model.specs.Program.{IsAccepted};
-    ghost use Rattle.exec_map.specs.Contents.{program_of};
+    ghost use Rattle.exec_map.specs.Contents.{AllSupported, program_of};
 
     ghost Value = { Fields };
 
     ghost view = { λ p. p.elf.now };
 
-    ghost invariant = { λ p. IsAccepted (program_of p.elf.now) };
+    ghost invariant = { λ p. IsAccepted (program_of p.elf.now) × AllSupported p.elf.now };
 }
 
 /// Accepts an executable whose code words are all instructions of this version.
@@ -48,6 +48,7 @@ impl<'a> Model for Program<'a> {
 pub fn accept<'a>(e: &'a Elf<'a>) -> Result<Program<'a>, ProgramRefused>
     ensures ok { IfOk result (λ p. p ≡ e.now) }
     ensures accepted { OnOk result (IsAccepted (model.program_of e.now)) }
+    ensures supported { OnOk result (model.AllSupported e.now) }
     ensures unsupported { (a w : ℕ) → IsErrOf result (ProgramRefused.Unsupported a w) → model.IsFirstUnsupported e.now a w }
 {
     let mut next = contents::next_code(e, 0);
@@ -102,6 +103,7 @@ impl<'a> Program<'a> {
     pub fn entry(&self) -> u32
         ensures value { result ≡ self.now.entry }
         ensures accepted { IsAccepted (model.program_of self.now) }
+        ensures supported { model.AllSupported self.now }
     {
         self.elf.entry()
     }

@@ -12,8 +12,12 @@ loop-next-preserved c =
 
 pub invariant_of-result : goal.invariant_of-result
 invariant_of-result c =
-    accepted _ c.next_code-next.ensures.form (subst (SupportedUpTo c.args.e.now) c.in_default.is c.loop-next.invariant)
+    let all = subst (SupportedUpTo c.args.e.now) c.in_default.is c.loop-next.invariant in
+    (accepted _ c.next_code-next.ensures.form all, all)
 
 pub returns-clause-accepted : goal.returns-clause-accepted
 returns-clause-accepted c =
     accepted _ c.next_code-next.ensures.form (subst (SupportedUpTo c.args.e.now) c.in_default.is c.loop-next.invariant)
+
+pub returns-clause-supported : goal.returns-clause-supported
+returns-clause-supported c = subst (SupportedUpTo c.args.e.now) c.in_default.is c.loop-next.invariant
