@@ -24,10 +24,14 @@ SupportedUpTo e (Some a) = (is_code_word e a ≡ true) × (a + 4 ≤ 0x20000) ×
 pub up_to_next : (e : Elf) (from : ℕ) (r : Option ℕ) → SupportedBelow e from → IfSome r (λ a. IsNextCode e from a) → IfSome r (λ a. a + 4 ≤ 0x20000) → IfNone r ((b : ℕ) → from ≤ b → is_code_word e b ≡ false) → SupportedUpTo e r
 up_to_next e from None below some low none = record {
   supported = λ b word.
-    elim (cases_lt b from) [ inl lt ↦ below b lt word | inr le ↦ absurd (false≢true (sym (none b le) ∙ word)) ];
+      elim (cases_lt b from) [ inl lt ↦ below b lt word | inr le ↦ absurd (false≢true (sym (none b le) ∙ word)) ];
 }
-up_to_next e from (Some a) below some low none = (some.code_word, low, λ b lt_next word.
-    elim (cases_lt b from) [ inl lt ↦ below b lt word | inr le ↦ absurd (false≢true (sym (some.lowest b le lt_next) ∙ word)) ])
+up_to_next e from (Some a) below some low none = (
+  some.code_word,
+  low,
+  λ b lt_next word.
+      elim (cases_lt b from) [ inl lt ↦ below b lt word | inr le ↦ absurd (false≢true (sym (some.lowest b le lt_next) ∙ word)) ],
+)
 
 aligned : (n : ℕ) (b : Bool) → ((n == 0) && b) ≡ true → n ≡ 0
 aligned n b h = grind (arith, nat_tests)
@@ -38,10 +42,10 @@ below_next e a below word supported = λ b lt_next here.
     elim (cases_lt b a) [
       | inl lt ↦ below b lt here
       | inr le ↦
-        let a_aligned = aligned (a % 4) _ word in
-        let b_aligned = aligned (b % 4) _ here in
-        let same : a ≡ b = omega arith in
-        subst (λ x. is_supported_word (word_of e x) ≡ true) same supported
+          let a_aligned = aligned (a % 4) _ word in
+          let b_aligned = aligned (b % 4) _ here in
+          let same : a ≡ b = omega arith in
+          subst (λ x. is_supported_word (word_of e x) ≡ true) same supported
     ]
 
 entry_in : (code bytes : List ℕ) (size : ℕ) → 4 ≤ length code → is_code_word (code_and_data code bytes size) 0x10000 ≡ true

@@ -8,8 +8,7 @@ ghost use Rattle.elf32_read.specs.Segments.{segment_of};
 ghost use Rattle.exec_map.specs.Contents as model;
 ghost use Rattle.exec_map.specs.Least.{IsLeast};
 
-use crate::Class;
-use crate::segment;
+use crate::{Class, segment};
 use elf32_read::{Elf, Segment};
 
 /// The class of a line of 64 bytes.

@@ -11,10 +11,9 @@ mod segment;
 use elf32_read::Elf;
 use rv32_decode::{Instr, decode};
 use rv32_model::is_supported;
+pub use rv32_model::{Class, End, Exit};
 use std::marker::Model;
 use thiserror::Error;
-
-pub use rv32_model::{Class, End, Exit};
 
 /// Why an executable is no program for this version.
 #[derive(Clone, Copy, Debug, PartialEq, Eq, Error)]

@@ -74,5 +74,5 @@ pub fn first_word(s: &Segment<'_>, from: u32) -> Option<u32>
     ensures { IsLeast (λ a. (a % 4 == 0) && model.holds_word a (segment_of s.now)) from result }
 {
     let first = from.max(s.vaddr).checked_next_multiple_of(4)?;
-    if holds_word(s, first) { Some(first) } else { None }
+    holds_word(s, first).then_some(first)
 }
