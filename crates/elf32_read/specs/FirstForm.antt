@@ -1,16 +1,16 @@
 -- The one form of file that is read as yet: code at 0x00010000, and writable data at 0x00020000.
 use Rattle.std.specs.Prelude.{◌≡◌, ℕ, ◌%◌, ◌≤◌, List, [], ◌∷◌, length}
-use Rattle.elf32_read.specs.Elf.{Elf, Segment}
+use Rattle.elf32_read.specs.Elf.{Elf}
 use Rattle.elf32_read.specs.Layout.{file_of}
 
 -- flags: 5 is readable and executable, 6 is readable and writable
 abbrev pub code_and_data : List ℕ → List ℕ → ℕ → Elf
-code_and_data code data size = record {
+code_and_data code bytes size = record {
   entry = 0x10000;
   flags = 0;
   segments =
-    record { flags = 5; vaddr = 0x10000; memsz = length code; bytes = code }
-    ∷ record { flags = 6; vaddr = 0x20000; memsz = size; bytes = data } ∷ [];
+      record { flags = 5; vaddr = 0x10000; memsz = length code; bytes = code }
+      ∷ record { flags = 6; vaddr = 0x20000; memsz = size; bytes = bytes } ∷ [];
 }
 
 -- the executable has 1 to 16,384 words of code, and 1 to 65,536 bytes of data memory
