@@ -44,7 +44,7 @@ impl<'a> Model for Program<'a> {
 /// Accepts an executable whose code words are all instructions of this version.
 ///
 /// Fails with the lowest code word that is none.
-pub fn accept<'a>(e: &'a Elf<'a>) -> Result<Program<'a>, ProgramRefused>
+pub fn accept<'a>(e: &'a Elf<'_>) -> Result<Program<'a>, ProgramRefused>
     ensures ok { IfOk result (λ p. p ≡ e.now) }
     ensures accepted { OnOk result (IsAccepted (model.program_of e.now)) }
     ensures supported { OnOk result (model.AllSupported e.now) }
@@ -114,5 +114,79 @@ impl<'a> Program<'a> {
         ensures none { IfNone result ((b : ℕ) → from ≤ b → model.is_code_word self.now b ≡ false) }
     {
         contents::next_code(self.elf, from)
+    }
+}
+
+#[cfg(test)]
+mod tests {
+    use super::*;
+    use elf32_read::read_elf;
+    use std::alloc::{AllocError, Global};
+    use std::test::Fail;
+
+    /// The headers of an executable with 32 bytes of code and 3 of data, as little-endian words.
+    const HEADERS: [u32; 29] = [
+        // e_ident, e_type and e_machine, e_version, e_entry, e_phoff, e_shoff, e_flags
+        0x464c457f, 0x00010101, 0, 0, 0x00f30002, 1, 0x10000, 52, 0, 0,
+        // e_ehsize and e_phentsize, e_phnum and e_shentsize, e_shnum and e_shstrndx
+        0x00200034, 2, 0,
+        // the code's program header
+        1, 0x1000, 0x10000, 0x10000, 32, 32, 5, 0x1000,
+        // the data's program header
+        1, 0x2000, 0x20000, 0x20000, 3, 3, 6, 0x1000,
+    ];
+
+    /// What follows the first word of a program that writes `hi` and ends.
+    const CODE: [u32; 7] = [
+        0x00100513, 0x00300613, 0x04000893, 0x00000073, 0x00000513, 0x05d00893, 0x00000073,
+    ];
+
+    fn push_words(bytes: &mut Vec<u8>, words: &[u32]) -> Result<(), AllocError> {
+        for word in words {
+            bytes.extend_from_slice(&word.to_le_bytes())?;
+        }
+        Ok(())
+    }
+
+    /// The file of a first word, `CODE` and the data `hi`, with a line's end.
+    fn example(alloc: Global, first: u32) -> Result<Vec<u8>, AllocError> {
+        let mut file = Vec::new(alloc);
+        push_words(&mut file, &HEADERS)?;
+        file.resize(0x1000, 0)?;
+        push_words(&mut file, &[first])?;
+        push_words(&mut file, &CODE)?;
+        file.resize(0x2000, 0)?;
+        file.extend_from_slice(b"hi\n")?;
+        Ok(file)
+    }
+
+    #[test]
+    fn maps_code_and_data(rt: HostRuntime) -> Result<(), Fail> {
+        let file = example(rt.alloc(), 0x000205b7)?;
+        let executable = read_elf(rt.alloc(), &file)?;
+        let program = accept(&executable)?;
+        assert_eq!(rt; program.entry(), 0x10000);
+        assert_eq!(rt; program.class(0x10000 / 64), Class::ReadOnly);
+        assert_eq!(rt; program.class(0x20000 / 64), Class::Shared);
+        assert_eq!(rt; program.class(0x7fff0000 / 64), Class::Private);
+        assert_eq!(rt; program.class(0), Class::Unmapped);
+        assert_eq!(rt; program.byte0(0x20001), b'i');
+        assert_eq!(rt; program.byte0(0x20003), 0);
+        assert_eq!(rt; program.word_at(0x10004), Some(0x00100513));
+        assert_eq!(rt; program.word_at(0x10005), None);
+        assert_eq!(rt; program.code_at(0x10010), Some(Instr::Ecall));
+        assert_eq!(rt; program.next_code(0), Some(0x10000));
+        assert_eq!(rt; program.next_code(0x1001d), None);
+        Ok(())
+    }
+
+    #[test]
+    fn refuses_an_unsupported_word(rt: HostRuntime) -> Result<(), Fail> {
+        let file = example(rt.alloc(), 0xc00022f3)?;
+        let executable = read_elf(rt.alloc(), &file)?;
+        let refused = accept(&executable).err().ok_or("accepted")?;
+        let text = format!(in rt.alloc(); "{refused}")?;
+        assert_eq!(rt; text.as_str(), "Unsupported 0x00010000 word 0xc00022f3");
+        Ok(())
     }
 }
