@@ -2,7 +2,7 @@
 use Rattle.std.specs.Prelude.{◌≡◌, ℕ, ◌<◌, ◌⊎◌, List, [], ◌∷◌, Option, Some, length, MatchOption, IfSome}
 use Rattle.elf32_read.specs.Elf.{Elf}
 use Rattle.elf32_read.specs.FirstForm.{HasFirstForm}
-use Rattle.exec_map.specs.Contents.{program_of, IsFirstUnsupported}
+use Rattle.exec_map.specs.Contents.{program_of, AllSupported, IsFirstUnsupported}
 use Rattle.rv32_model.specs.declared.End.{End}
 use Rattle.rv32_model.specs.declared.End.TheVariants.{Stopped}
 use Rattle.rv32_model.specs.Program.{Program, IsAccepted}
@@ -39,6 +39,7 @@ pub record IsWholeRun (work : Work) (plan : List Entry) (words : ℕ) (end : End
 pub record IsOutcomeOf (file : List ℕ) (outcome : Outcome) : Type 0 where
   pub elf : Elf
   pub form : HasFirstForm file elf
+  pub supported : AllSupported elf
   pub accepted : IsAccepted (program_of elf)
   pub work : Work
   pub program : work.program ≡ program_of elf

@@ -3,7 +3,7 @@
 ghost use Rattle.std.specs.Prelude.{◌≡◌, ◌≢◌, ◌≤◌, ◌<◌, ◌+◌, ◌^◌, ◌++◌, ℕ, List, [], Some, None, IfOk, OnOk, IfErr};
 ghost use Rattle.std.specs.Option.{option_to_list};
 ghost use Rattle.elf32_read.specs.FirstForm.{HasFirstForm};
-ghost use Rattle.exec_map.specs.Contents.{program_of};
+ghost use Rattle.exec_map.specs.Contents.{program_of, AllSupported};
 ghost use Rattle.rv32_model.specs.Program.{IsAccepted};
 ghost use Rattle.rewriter.specs.Image.{HasRewriting};
 ghost use Rattle.node_machine.specs.Node.{Work};
@@ -68,7 +68,7 @@ pub fn run_file(alloc: Global, file: &[u8]) -> Result<Report, Refused>
 
 /// Runs a program.
 fn run_program(alloc: Global, program: &Program<'_>) -> Result<Report, AllocError>
-    ensures report { IfOk result (λ r. (file : List ℕ) → IsAccepted (program_of program.now) → HasFirstForm file program.now → IsReport file r.text.items r.status) }
+    ensures report { IfOk result (λ r. (file : List ℕ) → IsAccepted (program_of program.now) → AllSupported program.now → HasFirstForm file program.now → IsReport file r.text.items r.status) }
 {
     interleaving_law();
     let image = Image::of(alloc, program)?;

@@ -16,7 +16,7 @@ text_with end counts output = text_of (outcome_with end counts output)
 
 pub returns : goal.returns
 returns c = record {
-  report = λ file accepted form.
+  report = λ file accepted supported form.
       let work : Work = record { program = program_of c.args.program.now; image = c.in_ok-image.image; budget = 100000000 } in
       let done = c.in_ok-done.ensures in
       let end = c.in_ok-done.done.end in
@@ -35,6 +35,7 @@ returns c = record {
         is = record {
           elf = c.args.program.now;
           form = form;
+          supported = supported;
           accepted = accepted;
           work = work;
           program = refl;
