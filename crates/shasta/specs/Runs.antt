@@ -1,5 +1,5 @@
 -- What the parts of a run give.
-use Rattle.std.specs.Prelude.{◌≡◌, ℕ, ◌+◌, List, ◌++◌, Option, Some}
+use Rattle.std.specs.Prelude.{◌≡◌, ℕ, ◌+◌, List, ◌++◌, Some}
 use Rattle.rv32_model.specs.declared.End.{End}
 use Rattle.node_machine.specs.declared.NodeCounts.{NodeCounts}
 use Rattle.node_machine.specs.Node.{Work, Node}

@@ -1,4 +1,4 @@
-use Rattle.std.proofs.Common.{◌≡◌, ◌+◌, ◌<◌, None, ap, ◌∙◌, sym, refl, arith, ◌++◌}
+use Rattle.std.proofs.Common.{◌≡◌, ◌+◌, ◌<◌, ap, ◌∙◌, sym, ◌++◌}
 use Rattle.std.specs.Option.{option_to_list}
 use Rattle.exec_map.specs.Contents.{program_of}
 use Rattle.node_machine.specs.Held.{node_of, work_of}

@@ -1,7 +1,5 @@
-use Rattle.std.proofs.Common.{◌≡◌, ℕ, ◌<◌, Option, None}
+use Rattle.std.proofs.Common.{◌≡◌, ℕ, ◌<◌, None}
 use Rattle.exec_map.specs.Contents.{program_of}
-use Rattle.rv32_model.specs.declared.End.{End}
-use Rattle.node_machine.specs.Node.{Work}
 use Rattle.node_machine.specs.Held.{node_of, work_of}
 use Rattle.shared_sim.specs.Interleaving.{MayExecute}
 use Rattle.shasta.specs.Runs.{Continues}

@@ -1,5 +1,5 @@
-use Rattle.std.proofs.Common.{◌≡◌, ℕ, List, ap, sym, subst, ◌∙◌, inl, Err}
-use Rattle.shasta.specs.Headline.{Tells, IsFault, Prints, PrintsFront}
+use Rattle.std.proofs.Common.{ℕ, List, ap, subst, ◌∙◌, inl, Err}
+use Rattle.shasta.specs.Headline.{Tells, IsFault}
 use Rattle.shasta.specs.Commands.{Asks}
 use Rattle.shasta.specs.Refusals.{refusal_line}
 use Rattle.shasta.proofs.RunLemmas.{same_name, content_is, prints, prints_front, refused_as}
