@@ -85,7 +85,7 @@ module _ (program : Program) where
       let in_sequence : slice_get (sequence_of program f.entry) k ≡ Some p = ap (λ xs. slice_get xs k) (sequence_is f) ∙ planned_get a 0 (items_at program f) k i h in
       let behind : slice_get (sequence_of program f.entry ++ flat_map (sequence_of program) f.after) k ≡ Some p = get_left (sequence_of program f.entry) (flat_map (sequence_of program) f.after) k p in_sequence in
       let in_plan : slice_get (planned program plan) (suc (words_in f.before + k)) ≡ Some p =
-          ap (λ xs. slice_get xs (words_in f.before + k)) (planned_split f) ∙ get_right (flat_map (sequence_of program) f.before) (sequence_of program f.entry ++ flat_map (sequence_of program) f.after) k ∙ behind in
+      ap (λ xs. slice_get xs (words_in f.before + k)) (planned_split f) ∙ get_right (flat_map (sequence_of program) f.before) (sequence_of program f.entry ++ flat_map (sequence_of program) f.after) k ∙ behind in
       let in_image = sym (slice_get-map as_planned image (suc (words_in f.before + k))) ∙ ap (λ xs. slice_get xs (suc (words_in f.before + k))) rewriting.expansion ∙ in_plan in
       let c = option_map_some as_planned (slice_get image (suc (words_in f.before + k))) p in_image in
       let number : 0 + k ≡ k = zero-add k in
@@ -172,10 +172,10 @@ module _ (program : Program) where
       let under : AllBelow f.before a = subst (AllBelow f.before) f.here (below 0 f.before f.entry f.after asc) in
       let behind = sequence_of program f.entry ++ flat_map (sequence_of program) f.after in
       let first : position_from (first_planned a) (1 + words_in f.before) behind ≡ Some (1 + words_in f.before) =
-          ap (λ xs. position_from (first_planned a) (1 + words_in f.before) (xs ++ flat_map (sequence_of program) f.after)) (sequence_is f)
-          ∙ first_is_here a (1 + words_in f.before) (items_at program f) (flat_map (sequence_of program) f.after) some in
+      ap (λ xs. position_from (first_planned a) (1 + words_in f.before) (xs ++ flat_map (sequence_of program) f.after)) (sequence_is f)
+      ∙ first_is_here a (1 + words_in f.before) (items_at program f) (flat_map (sequence_of program) f.after) some in
       let whole : position_from (is_first_of a) 0 image ≡ Some (1 + words_in f.before) =
-          position_planned a 0 image ∙ ap (position_from (first_planned a) 0) rewriting.expansion ∙ ap (position_from (first_planned a) 1) (planned_split f)
-          ∙ skips_entries a 1 f.before behind under ∙ first in
+      position_planned a 0 image ∙ ap (position_from (first_planned a) 0) rewriting.expansion ∙ ap (position_from (first_planned a) 1) (planned_split f)
+      ∙ skips_entries a 1 f.before behind under ∙ first in
       let z : 1 + words_in f.before ≡ suc (words_in f.before + 0) = omega arith in
       ap (option_map address_of_word) (position_from-zero (is_first_of a) image ∙ whole) ∙ ap (λ j. Some (address_of_word j)) z

@@ -183,8 +183,8 @@ module _ (program : Program) (plan : List Entry) (image : List Cell) (accepted :
         let r = word_of st in
         let acts_as : next_act work n ≡ r = acts (one s) n.lane n.local st in
         let mark_is : option_map_or (λ (f : Fetched). commit_at program plan f.place) (fetched image n.lane.at) Never ≡ st.item.commit =
-            ap (λ o. option_map_or (λ (f : Fetched). commit_at program plan f.place) o Never) (fetches (one s) n.lane n.local st)
-            ∙ mark program plan st.place (length st.before) st.item rewriting.admissible st.entry (item_there st) in
+        ap (λ o. option_map_or (λ (f : Fetched). commit_at program plan f.place) o Never) (fetches (one s) n.lane n.local st)
+        ∙ mark program plan st.place (length st.before) st.item rewriting.admissible st.entry (item_there st) in
         let flag : commits work plan n ≡ (is_some r.exit || commits_by st.item.commit) = λ t. is_some (acts_as t).exit || commits_by (mark_is t) in
         let led = leads_on budget (n.executed + 1) s n.lane n.local st going.0 m.copy m.suits r st.does.0 st.item.commit r.exit refl st.does.1 in
         (going.0, subst (λ b. Advances budget (n.executed + 1) s (next_act work n) b) (sym flag) (subst (λ x. Advances budget (n.executed + 1) s x (is_some r.exit || commits_by st.item.commit)) (sym acts_as) led))

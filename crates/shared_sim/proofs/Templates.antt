@@ -127,14 +127,14 @@ module _ (program : Program) (accepted : IsAccepted program) where
           subst (λ t. Good a q l n (put_result l n x t)) (sym (state_is ∙ e)) (refl, prints_does a x q l n h asks_byte at)
       go false e =
           let cut : asked program q ≡ Becomes (returned q (cut_short l.written)) =
-              asks ∙ ap (λ t. cond t (Prints x) (Becomes (returned q (cut_short q.written)))) e ∙ ap (λ w. Becomes (returned q (cut_short w))) (sym at.written) in
+          asks ∙ ap (λ t. cond t (Prints x) (Becomes (returned q (cut_short q.written)))) e ∙ ap (λ w. Becomes (returned q (cut_short w))) (sym at.written) in
           subst (λ t. Good a q l n (put_result l n x t)) (sym (state_is ∙ e)) (refl, returns_does a (cut_short l.written) q l n h cut same at)
 
   call_does : (a : ℕ) (q : Processor) (l : Lane) (n : Local) → program.code a ≡ Some Ecall → Suits program n → AtHead program a q l → Does program a 0 (committing Call) q l n
   call_does a q l n h suits at =
       let same : (r : ℕ) → reg l.registers r ≡ reg q.registers r = λ r. at.agree r (uses Ecall h (inl refl)) in
       let step_is : call_step q.registers q.written ≡ call_step l.registers l.written =
-          sym (call_agrees l.registers q.registers q.written same) ∙ ap (call_step l.registers) (sym at.written) in
+      sym (call_agrees l.registers q.registers q.written same) ∙ ap (call_step l.registers) (sym at.written) in
       called_does a q l n (call_step l.registers l.written) h (asked_is program a q (Some Ecall) at.place h ∙ ap (asked_by_call program q) step_is) same suits at
 
   stop_does : (a : ℕ) (q : Processor) (l : Lane) (n : Local) → program.code a ≡ None → AtHead program a q l → Does program a 0 (committing TrapFetch) q l n
