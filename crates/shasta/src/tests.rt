@@ -1,5 +1,7 @@
 //! The program's answers, byte by byte.
 
+ghost use Rattle.std.specs.Prelude.{◌≤◌, length};
+
 use crate::text::USAGE;
 use crate::top::shasta;
 use dsm_io::{MemFiles, MemSink, OpenGate, Text};
@@ -21,13 +23,16 @@ fn push_words(bytes: &mut Vec<u8>, words: &[u32]) -> Result<(), AllocError> {
     Ok(())
 }
 
-/// The executable of at most 1,024 words of code, and of data.
+/// The executable of this code and data.
 fn executable(
     alloc: Global,
     code: &[u32],
     data: &[u8],
     data_size: u32,
-) -> Result<Vec<u8>, AllocError> {
+) -> Result<Vec<u8>, AllocError>
+    requires code { length code.now ≤ 1024 }
+    requires data { length data.now ≤ 65536 }
+{
     let code_size = 4 * code.len() as u32;
     let mut file = Vec::new(alloc);
     // e_ident, e_type and e_machine, e_version, e_entry, e_phoff, e_shoff, e_flags
@@ -134,32 +139,43 @@ fn falls_off_its_code(rt: HostRuntime) -> Result<(), Fail> {
     Ok(())
 }
 
+/// Calls the program, and looks at its status and at what it told.
+fn expect_told(
+    rt: HostRuntime,
+    file: &[u8],
+    words: &[&str],
+    status: u8,
+    told: &str,
+) -> Result<(), Fail> {
+    let called = call(rt.alloc(), file, words, Vec::new(rt.alloc()))?;
+    assert_eq!(rt; called.status, status);
+    assert_eq!(rt; called.err.taken(), told.as_bytes());
+    assert_eq!(rt; called.out.taken(), b"".as_slice());
+    Ok(())
+}
+
 #[test]
-fn tells_what_is_wrong(rt: HostRuntime) -> Result<(), Fail> {
-    let alloc = rt.alloc();
-    let unsupported = executable(alloc, &[0xc00022f3], b"", 64)?;
-    let refused = "shasta: executable refused 18 Unsupported 0x00010000 word 0xc00022f3\n";
-    let short = [0; 10];
-    let cases: [(&[u8], &[&str], u8, &str); 7] = [
-        (&short, &["run", "a"], 3, "shasta: cannot read a\n"),
-        (
-            &short,
-            &["run", "IN"],
-            4,
-            "shasta: executable refused 90 NotYet\n",
-        ),
-        (&unsupported, &["run", "IN"], 4, refused),
-        (&short, &[], 2, USAGE),
-        (&short, &["run"], 2, USAGE),
-        (&short, &["run", "-x"], 2, USAGE),
-        (&short, &["run", "IN", "IN"], 2, USAGE),
-    ];
-    for (file, words, status, told) in cases {
-        let called = call(alloc, file, words, Vec::new(alloc))?;
-        assert_eq!(rt; called.status, status);
-        assert_eq!(rt; called.err.taken(), told.as_bytes());
-        assert_eq!(rt; called.out.taken(), b"".as_slice());
-    }
+fn tells_why_a_file_is_refused(rt: HostRuntime) -> Result<(), Fail> {
+    let file = executable(rt.alloc(), &[0xc00022f3], b"", 64)?;
+    let unsupported = "shasta: executable refused 18 Unsupported 0x00010000 word 0xc00022f3\n";
+    expect_told(rt, &file, &["run", "IN"], 4, unsupported)?;
+    expect_told(
+        rt,
+        &[0; 10],
+        &["run", "IN"],
+        4,
+        "shasta: executable refused 90 NotYet\n",
+    )?;
+    expect_told(rt, &[0; 10], &["run", "a"], 3, "shasta: cannot read a\n")?;
+    Ok(())
+}
+
+#[test]
+fn tells_its_use(rt: HostRuntime) -> Result<(), Fail> {
+    expect_told(rt, &[], &[], 2, USAGE)?;
+    expect_told(rt, &[], &["run"], 2, USAGE)?;
+    expect_told(rt, &[], &["run", "-x"], 2, USAGE)?;
+    expect_told(rt, &[], &["run", "IN", "IN"], 2, USAGE)?;
     Ok(())
 }
 
