@@ -1,6 +1,7 @@
 mod Plans
-mod Fetching
+mod RegisterLemmas
 mod Does
+mod Mids
+mod Checked
 mod Templates
-mod Follows
 mod Stops
