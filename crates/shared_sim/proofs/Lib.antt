@@ -1,4 +1,5 @@
 mod Plans
+mod Fetching
 mod RegisterLemmas
 mod Does
 mod Mids
