@@ -6,3 +6,5 @@ mod Mids
 mod Checked
 mod Templates
 mod Stops
+mod Follows
+mod Standing
