@@ -1,11 +1,6 @@
 #![tactic(auto)]
 //! One node, which executes rewritten code.
 
-mod lane;
-mod node;
-
-pub use node::{Node, Standing, Turn};
-
 /// What a node counts over its events.
 #[derive(Clone, Copy, Debug, PartialEq, Eq)]
 pub struct NodeCounts {

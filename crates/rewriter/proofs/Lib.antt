@@ -1,4 +1,1 @@
 mod ImageLemmas
-mod PlaceLemmas
-mod ReadingLemmas
-mod ExpansionLemmas
