@@ -1,17 +1,18 @@
 //! What all processors have in common.
 
-ghost use Rattle.std.specs.Prelude.{◌≡◌, ◌+◌, ◌*◌, ◌/◌, ◌^◌, ◌<◌, ◌≤◌, ◌∷◌, ◌++◌, [], ℕ, true, OnOk, OnErr};
+ghost use Rattle.std.specs.Prelude.{◌≡◌, ◌+◌, ◌*◌, ◌/◌, ◌^◌, ◌<◌, ◌≤◌, ◌∷◌, ◌++◌, [], ℕ, true, IfOk, OnOk, OnErr};
 ghost use Rattle.elf32_read.specs.Elf.{Elf};
 ghost use Rattle.exec_map.specs.Contents.{program_of, code_at, first_byte};
 ghost use Rattle.rv32_model.specs.Program.{class_at};
 ghost use Rattle.rv32_model.specs.Memory.{raw, stored, is_aligned};
 ghost use Rattle.byte_range.specs.Range.{memory_of};
+ghost use Rattle.one_memory.specs.Held.{HasSharedLines};
 
 use crate::code::Code;
 use byte_range::ByteRange;
 use exec_map::{Class, Program};
 use rv32_decode::{Instr, Width};
-use std::alloc::AllocError;
+use std::alloc::{AllocError, Global};
 use std::marker::Model;
 
 /// The program, the shared bytes and the output.
@@ -34,6 +35,20 @@ impl<'a> Model for Memory<'a> {
 }
 
 impl<'a> Memory<'a> {
+    /// A program's memory at the start.
+    pub fn first(alloc: Global, program: &'a Program<'a>) -> Result<Memory<'a>, AllocError>
+        ensures program { IfOk result (λ m. m.program ≡ program.now) }
+        ensures shared { IfOk result (λ m. memory_of m.shared (first_byte program.now) ≡ first_byte program.now) }
+        ensures output { IfOk result (λ m. m.output ≡ []) }
+    {
+        Ok(Memory {
+            program,
+            code: Code::read(alloc, program)?,
+            shared: shared_bytes(alloc, program)?,
+            output: Vec::new(alloc),
+        })
+    }
+
     /// The instruction of the code word at an address.
     pub fn code_at(&self, address: u32) -> Option<Instr>
         ensures { result ≡ code_at self.now.program address }
@@ -105,6 +120,13 @@ impl<'a> Memory<'a> {
         self.shared.store(width, address, value);
     }
 
+    /// The bytes printed so far.
+    pub fn output(&self) -> &[u8]
+        ensures { result.now ≡ self.now.output }
+    {
+        &self.output
+    }
+
     /// Appends a byte to the output.
     pub fn print(&mut self, byte: u8) -> Result<(), AllocError>
         ensures ok { OnOk result (self.new ≡ record self.old { output = self.old.output ++ byte ∷ [] }) }
@@ -113,4 +135,19 @@ impl<'a> Memory<'a> {
         self.output.push(byte)?;
         Ok(())
     }
+}
+
+/// The first bytes of the shared lines.
+fn shared_bytes(alloc: Global, program: &Program<'_>) -> Result<ByteRange, AllocError>
+    ensures bytes { IfOk result (λ r. memory_of r (first_byte program.now) ≡ first_byte program.now) }
+    ensures lines { IfOk result (λ r. HasSharedLines program.now r) }
+{
+    let lines = program.shared_lines();
+    let base = 64 * lines.first;
+    let len = 64 * lines.count;
+    let mut bytes = Vec::with_capacity(alloc, len as usize)?;
+    for place in 0..len {
+        bytes.push(program.byte0(base + place))?;
+    }
+    ByteRange::of(alloc, base, &bytes, len as usize)
 }

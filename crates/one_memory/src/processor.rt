@@ -1,6 +1,6 @@
 //! One processor, and what its next instruction does.
 
-ghost use Rattle.std.specs.Prelude.{◌≡◌, ◌+◌, ◌*◌, ◌/◌, ◌^◌, ◌<◌, ◌≤◌, ℕ, true, Some, None, IfOk, OnOk, OnErr};
+ghost use Rattle.std.specs.Prelude.{◌≡◌, ◌+◌, ◌*◌, ◌/◌, ◌^◌, ◌<◌, ◌≤◌, ℕ, true, Some, None, IfOk, OnOk, OnErr, length};
 ghost use Rattle.exec_map.specs.Contents.{program_of};
 ghost use Rattle.byte_range.specs.Range.{memory_of};
 ghost use Rattle.rv32_model.specs.Effect.{call_step as step_of_call};
@@ -46,6 +46,19 @@ impl Model for Processor {
 }
 
 impl Processor {
+    /// Processor `number` of `count` at the start, at the entry.
+    pub fn first(alloc: Global, number: u8, count: u8, entry: u32) -> Result<Processor, AllocError>
+        ensures { (program : AnyProgram) → program.entry ≡ entry → IfOk result (λ k. processor_of k ≡ model.first_processor program count number) }
+    {
+        Ok(Processor {
+            registers: Registers::first(number, count),
+            pc: entry,
+            private: zeros(alloc, WINDOW, WINDOW_SIZE)?,
+            written: 0,
+            exit: None,
+        })
+    }
+
     /// How the processor ended, where it has.
     pub fn exit(&self) -> Option<Exit>
         ensures { result ≡ self.now.exit }
@@ -282,6 +295,16 @@ impl Processor {
             Class::Unmapped => 0,
         }
     }
+}
+
+/// So many zero bytes from an address on.
+fn zeros(alloc: Global, base: u32, len: usize) -> Result<ByteRange, AllocError>
+    requires { base + len ≤ 2 ^ 32 }
+    ensures zero { IfOk result (λ r. memory_of r (λ _. 0) ≡ (λ _. 0)) }
+    ensures base { IfOk result (λ r. r.base ≡ base) }
+    ensures len { IfOk result (λ r. length r.bytes ≡ len) }
+{
+    ByteRange::zeros(alloc, base, len)
 }
 
 /// How wide the access of a load is.
