@@ -1,5 +1,5 @@
 -- One node: what belongs to its processor, what belongs to the node, and what executing one word does.
-use Rattle.std.specs.Prelude.{◌≡◌, ℕ, ◌+◌, ◌-◌, ◌*◌, ◌/◌, ◌%◌, ◌^◌, Bool, not, if◌then◌else◌, ◌==◌, ◌||◌, nat_lt, bit_and, List, Option, Some, None, unwrap_or}
+use Rattle.std.specs.Prelude.{ℕ, ◌+◌, ◌-◌, ◌*◌, ◌/◌, ◌%◌, ◌^◌, Bool, not, if◌then◌else◌, ◌==◌, ◌||◌, nat_lt, bit_and, List, Option, Some, None, unwrap_or}
 use Rattle.std.specs.Option.{option_map_or}
 use Rattle.rv32_model.specs.declared.Class.{Class}
 use Rattle.rv32_model.specs.declared.Class.TheVariants.{Shared, ReadOnly, Private, Unmapped}

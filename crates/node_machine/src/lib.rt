@@ -1,6 +1,14 @@
 #![tactic(auto)]
 //! One node, which executes rewritten code.
 
+mod access;
+mod lane;
+mod local;
+mod node;
+mod window;
+
+pub use node::{Node, Standing, Turn};
+
 /// What a node counts over its events.
 #[derive(Clone, Copy, Debug, PartialEq, Eq)]
 pub struct NodeCounts {
