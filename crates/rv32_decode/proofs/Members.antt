@@ -1,6 +1,6 @@
 -- The members of sets that are made of others.
-use Rattle.std.proofs.Common.{◌≡◌, ◌≢◌, ℕ, ◌*◌, ◌-◌, ◌%◌, ◌^◌, ◌<◌, ◌⊎◌, inl, inr, ◌↔◌, sym, ap, ◌∙◌, arith, w32}
-use Rattle.std.specs.Prelude.{bit_and, bit_or}
+use Rattle.std.proofs.Common.{◌≡◌, ◌≢◌, ℕ, ◌*◌, ◌-◌, ◌%◌, ◌^◌, ◌<◌, ◌⊎◌, inl, inr, ◌↔◌, sym, ap, ◌∙◌, arith, w32, lit<}
+use Rattle.std.specs.Prelude.{bit_and, bit_or, Contains, [], ◌∷◌}
 use Rattle.std.specs.Int.{bit_at}
 use Rattle.std.proofs.lemmas.Bool.Decides.{eqb_tells}
 use Rattle.std.proofs.lemmas.Nat.Bits.{bit_at_or, bit_at_and, bit_at_not, bit_at-lt, bit_at_set_same, bit_at_set_other}
@@ -27,3 +27,8 @@ with_member a k q l = elim (eqb_tells q k) [
       let set = bit_at_set_other w32 a k l q other.1 in
       (λ m. inl (sym set ∙ m), λ m. elim m [ inl h ↦ set ∙ h | inr h ↦ absurd (other.1 h) ])
 ]
+
+-- one of two, as an element of the list of both
+pub Contains-two : {M : Type 0} (a b q : ℕ) → M ↔ ((q ≢ 0) × ((q ≡ a) ⊎ (q ≡ b))) → M ↔ ((q ≢ 0) × Contains (a ∷ b ∷ []) q)
+Contains-two a b q m =
+    (λ h. let k = m.0 h in (k.0, elim k.1 [ inl e ↦ (0, lit< tt, sym e) | inr e ↦ (1, lit< tt, sym e) ]), λ h. m.1 (h.0, grind arith))

@@ -37,6 +37,7 @@ pub fn decode(word: u32) -> Option<Instr>
         opcodes::MISC_MEM => misc_mem(word),
         opcodes::AMO => amo(word),
         opcodes::SYSTEM => system(word),
+        // no major opcodes, but those of the words that are accepted as illegal
         0 | 0x7f => illegal(word),
         _ => None,
     }

@@ -6,8 +6,9 @@ ghost use Rattle.rv32_decode.specs.Formats.{r_word, i_word, s_word, b_word, u_wo
 ghost use Rattle.rv32_decode.specs.Rows.{instruction_of};
 ghost use Rattle.rv32_decode.specs.Words.{word_of, IsInRange};
 
-use crate::parts::{Reg, Upper};
-use crate::{AmoOp, Cond, IllegalWord, ImmOp, Instr, LoadKind, Op, ShiftOp, Width, opcodes};
+use crate::opcodes::{AMO, AUIPC, BRANCH, JAL, JALR, LOAD, LUI, MISC_MEM, OP, OP_IMM, STORE};
+use crate::parts::{Amount, Reg};
+use crate::{AmoOp, Cond, IllegalWord, ImmOp, Instr, LoadKind, Op, ShiftOp, Width};
 
 #[tactic(auto, using(crate::proofs::Again::word_again, crate::proofs::Rebuilt::only_word))]
 /// The word of an instruction.
@@ -24,70 +25,51 @@ fn formatted(i: Instr) -> u32
     ensures ranges { IsInRange i }
 {
     match i {
-        Instr::Lui { rd, upper } => format_u(upper.value(), rd, opcodes::LUI),
-        Instr::Auipc { rd, upper } => format_u(upper.value(), rd, opcodes::AUIPC),
-        Instr::Jal { rd, offset } => format_j(offset.bits(), rd, opcodes::JAL),
-        Instr::Jalr { rd, rs1, imm } => format_i(imm.bits(), rs1, 0, rd, opcodes::JALR),
+        Instr::Lui { rd, upper } => format_u(upper.value(), rd, LUI),
+        Instr::Auipc { rd, upper } => format_u(upper.value(), rd, AUIPC),
+        Instr::Jal { rd, offset } => format_j(offset.bits(), rd, JAL),
+        Instr::Jalr { rd, rs1, imm } => format_i(imm.bits(), rs1, 0, rd, JALR),
         Instr::Branch {
             cond,
             rs1,
             rs2,
             offset,
-        } => {
-            format_b(
-                offset.bits(),
-                rs2,
-                rs1,
-                condition_code(cond),
-                opcodes::BRANCH,
-            )
-        }
-        Instr::Load { kind, rd, rs1, imm } => {
-            format_i(imm.bits(), rs1, load_code(kind), rd, opcodes::LOAD)
-        }
+        } => format_b(offset.bits(), rs2, rs1, branch_code(cond), BRANCH),
+        Instr::Load { kind, rd, rs1, imm } => format_i(imm.bits(), rs1, load_code(kind), rd, LOAD),
         Instr::Store {
             width,
             rs1,
             rs2,
             imm,
-        } => { format_s(imm.bits(), rs2, rs1, store_code(width), opcodes::STORE) }
-        Instr::OpImm { op, rd, rs1, imm } => {
-            format_i(imm.bits(), rs1, immediate_code(op), rd, opcodes::OP_IMM)
-        }
+        } => format_s(imm.bits(), rs2, rs1, store_code(width), STORE),
+        Instr::OpImm { op, rd, rs1, imm } => format_i(
+            imm.bits(),
+            rs1,
+            immediate_code(op),
+            rd,
+            OP_IMM,
+        ),
         Instr::ShiftImm {
             op,
             rd,
             rs1,
             amount,
-        } => {
-            let (funct7, funct3) = shift_codes(op);
-            format_i(
-                (funct7 << 5) + u32::from(amount.value()),
-                rs1,
-                funct3,
-                rd,
-                opcodes::OP_IMM,
-            )
-        }
+        } => format_shift(op, amount, rs1, rd),
         Instr::Op { op, rd, rs1, rs2 } => {
             let (funct7, funct3) = operation_codes(op);
-            format_r(funct7, rs2, rs1, funct3, rd, opcodes::OP)
+            format_r(funct7, rs2, rs1, funct3, rd, OP)
         }
-        Instr::Fence { rd, rs1, bits } => {
-            format_i(u32::from(bits.value()), rs1, 0, rd, opcodes::MISC_MEM)
-        }
+        Instr::Fence { rd, rs1, bits } => format_i(u32::from(bits.value()), rs1, 0, rd, MISC_MEM),
         Instr::Ecall => 0x73,
         Instr::Ebreak => 0x10_0073,
-        Instr::Lr { rd, rs1, aq, rl } => {
-            format_r(ordered(2, aq, rl), Reg::ZERO, rs1, 2, rd, opcodes::AMO)
-        }
+        Instr::Lr { rd, rs1, aq, rl } => format_r(ordered(2, aq, rl), Reg::ZERO, rs1, 2, rd, AMO),
         Instr::Sc {
             rd,
             rs1,
             rs2,
             aq,
             rl,
-        } => { format_r(ordered(3, aq, rl), rs2, rs1, 2, rd, opcodes::AMO) }
+        } => format_r(ordered(3, aq, rl), rs2, rs1, 2, rd, AMO),
         Instr::Amo {
             op,
             rd,
@@ -95,16 +77,7 @@ fn formatted(i: Instr) -> u32
             rs2,
             aq,
             rl,
-        } => {
-            format_r(
-                ordered(atomic_code(op), aq, rl),
-                rs2,
-                rs1,
-                2,
-                rd,
-                opcodes::AMO,
-            )
-        }
+        } => format_r(ordered(atomic_code(op), aq, rl), rs2, rs1, 2, rd, AMO),
         Instr::Illegal { word } => illegal_word(word),
     }
 }
@@ -130,6 +103,18 @@ fn format_i(imm: u32, rs1: Reg, funct3: u32, rd: Reg, opcode: u32) -> u32
     ensures rd { rd < 32 }
 {
     (imm << 20) + rs1.bits(15) + (funct3 << 12) + rd.bits(7) + opcode
+}
+
+/// A shift by an immediate: funct7 stands above the amount, which has the place of rs2.
+fn format_shift(op: ShiftOp, amount: Amount, rs1: Reg, rd: Reg) -> u32
+    ensures word { result ≡ r_word (shift_codes op).0 amount rs1 (shift_codes op).1 rd 0x13 }
+    ensures amount { amount < 32 }
+    ensures rs1 { rs1 < 32 }
+    ensures rd { rd < 32 }
+{
+    let (funct7, funct3) = shift_codes(op);
+    let imm = (funct7 << 5) + u32::from(amount.value());
+    format_i(imm, rs1, funct3, rd, OP_IMM)
 }
 
 fn format_s(imm: u32, rs2: Reg, rs1: Reg, funct3: u32, opcode: u32) -> u32
@@ -192,7 +177,7 @@ fn ordered(funct5: u32, aq: bool, rl: bool) -> u32
     (funct5 << 2) + (u32::from(aq) << 1) + u32::from(rl)
 }
 
-fn condition_code(cond: Cond) -> u32
+fn branch_code(cond: Cond) -> u32
     ensures { result ≡ branch_code cond }
 {
     match cond {

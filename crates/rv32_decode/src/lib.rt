@@ -1,5 +1,11 @@
 #![tactic(auto)]
-//! Words and instructions of RV32IA.
+//! Words and instructions of RV32I and of the A extension.
+//!
+//! A table of rows (`specs/Rows.antt`) says which words are instructions, and which: each row has a mask, a match
+//! and the fields that it reads. [`decode`] and [`encode`] follow the table both ways, and at most one row fits a
+//! word ([`rows_law`]). The ranges of an instruction's parts are in their types.
+//!
+//! An instruction that is used more than once is passed from behind a reference, as `uses(*i)`.
 
 mod decoding;
 mod encoding;
@@ -104,7 +110,7 @@ pub enum IllegalWord {
     CycleWrite,
 }
 
-/// An instruction of RV32IA.
+/// An instruction of RV32I or of the A extension. `aq` and `rl` are bits 26 and 25 of an atomic instruction.
 #[derive(Clone, Copy, Debug, PartialEq, Eq)]
 pub enum Instr {
     Lui {
@@ -148,6 +154,7 @@ pub enum Instr {
         rs1: Reg,
         imm: Imm12,
     },
+    /// SLLI, SRLI or SRAI.
     ShiftImm {
         op: ShiftOp,
         rd: Reg,
@@ -160,6 +167,7 @@ pub enum Instr {
         rs1: Reg,
         rs2: Reg,
     },
+    /// FENCE, whose fields may hold anything.
     Fence {
         rd: Reg,
         rs1: Reg,
@@ -167,12 +175,14 @@ pub enum Instr {
     },
     Ecall,
     Ebreak,
+    /// LR.W
     Lr {
         rd: Reg,
         rs1: Reg,
         aq: bool,
         rl: bool,
     },
+    /// SC.W
     Sc {
         rd: Reg,
         rs1: Reg,
@@ -180,6 +190,7 @@ pub enum Instr {
         aq: bool,
         rl: bool,
     },
+    /// A read-modify-write of a word.
     Amo {
         op: AmoOp,
         rd: Reg,
@@ -188,6 +199,7 @@ pub enum Instr {
         aq: bool,
         rl: bool,
     },
+    /// A word that is accepted, and traps as an illegal instruction.
     Illegal {
         word: IllegalWord,
     },

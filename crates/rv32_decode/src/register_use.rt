@@ -12,19 +12,19 @@ pub fn uses(i: Instr) -> RegSet
     ensures { (r : ℕ) → r < 32 → (IsMember result r ↔ Reads i r) }
 {
     match i {
+        Instr::Jalr { rs1, .. }
+        | Instr::Load { rs1, .. }
+        | Instr::OpImm { rs1, .. }
+        | Instr::ShiftImm { rs1, .. }
+        | Instr::Lr { rs1, .. } => one(rs1),
+        Instr::Branch { rs1, rs2, .. }
+        | Instr::Store { rs1, rs2, .. }
+        | Instr::Op { rs1, rs2, .. }
+        | Instr::Sc { rs1, rs2, .. }
+        | Instr::Amo { rs1, rs2, .. } => two(rs1, rs2),
         Instr::Lui { .. } | Instr::Auipc { .. } | Instr::Jal { .. } => RegSet::empty(),
-        Instr::Jalr { rs1, .. } => one(rs1),
-        Instr::Branch { rs1, rs2, .. } => two(rs1, rs2),
-        Instr::Load { rs1, .. } => one(rs1),
-        Instr::Store { rs1, rs2, .. } => two(rs1, rs2),
-        Instr::OpImm { rs1, .. } => one(rs1),
-        Instr::ShiftImm { rs1, .. } => one(rs1),
-        Instr::Op { rs1, rs2, .. } => two(rs1, rs2),
-        Instr::Fence { .. } | Instr::Ecall | Instr::Ebreak => RegSet::empty(),
-        Instr::Lr { rs1, .. } => one(rs1),
-        Instr::Sc { rs1, rs2, .. } => two(rs1, rs2),
-        Instr::Amo { rs1, rs2, .. } => two(rs1, rs2),
-        Instr::Illegal { .. } => RegSet::empty(),
+        Instr::Fence { .. } | Instr::Ecall | Instr::Ebreak | Instr::Illegal { .. } =>
+            RegSet::empty(),
     }
 }
 
@@ -33,17 +33,17 @@ pub fn defs(i: Instr) -> RegSet
     ensures { (r : ℕ) → r < 32 → (IsMember result r ↔ Writes i r) }
 {
     match i {
-        Instr::Lui { rd, .. } => one(rd),
-        Instr::Auipc { rd, .. } => one(rd),
-        Instr::Jal { rd, .. } => one(rd),
-        Instr::Jalr { rd, .. } => one(rd),
-        Instr::Load { rd, .. } => one(rd),
-        Instr::OpImm { rd, .. } => one(rd),
-        Instr::ShiftImm { rd, .. } => one(rd),
-        Instr::Op { rd, .. } => one(rd),
-        Instr::Lr { rd, .. } => one(rd),
-        Instr::Sc { rd, .. } => one(rd),
-        Instr::Amo { rd, .. } => one(rd),
+        Instr::Lui { rd, .. }
+        | Instr::Auipc { rd, .. }
+        | Instr::Jal { rd, .. }
+        | Instr::Jalr { rd, .. }
+        | Instr::Load { rd, .. }
+        | Instr::OpImm { rd, .. }
+        | Instr::ShiftImm { rd, .. }
+        | Instr::Op { rd, .. }
+        | Instr::Lr { rd, .. }
+        | Instr::Sc { rd, .. }
+        | Instr::Amo { rd, .. } => one(rd),
         Instr::Branch { .. } | Instr::Store { .. } | Instr::Fence { .. } => RegSet::empty(),
         Instr::Ecall | Instr::Ebreak | Instr::Illegal { .. } => RegSet::empty(),
     }

@@ -1,14 +1,14 @@
 -- What the program promises of `run`.
-use Rattle.std.specs.Prelude.{◌≡◌, ℕ, ◌<◌, ◌⊎◌, List, [], ◌∷◌, Option, Some, length, MatchOption, IfSome}
+use Rattle.std.specs.Prelude.{◌≡◌, ℕ, ◌<◌, ◌⊎◌, List, [], ◌∷◌, Option, Some, length, MatchOption}
 use Rattle.elf32_read.specs.Elf.{Elf}
 use Rattle.elf32_read.specs.FirstForm.{HasFirstForm}
-use Rattle.exec_map.specs.Contents.{program_of, IsFirstUnsupported}
+use Rattle.exec_map.specs.Contents.{program_of, AllSupported, IsFirstUnsupported}
 use Rattle.rv32_model.specs.declared.End.{End}
 use Rattle.rv32_model.specs.declared.End.TheVariants.{Stopped}
-use Rattle.rv32_model.specs.Program.{Program, IsAccepted}
+use Rattle.rv32_model.specs.Program.{IsAccepted}
 use Rattle.rv32_model.specs.OneMemory.{opening, run}
 use Rattle.rewriter.specs.Sequences.{Entry}
-use Rattle.rewriter.specs.Image.{Cell, IsRewriting}
+use Rattle.rewriter.specs.Image.{IsRewriting}
 use Rattle.node_machine.specs.Node.{Work, Node, opening_node}
 use Rattle.shared_sim.specs.Interleaving.{MayExecute, node_after, picks_of, Interleaves}
 use Rattle.dsm_io.specs.Causes.{Rose, Appends, AppendsFront}
@@ -39,6 +39,7 @@ pub record IsWholeRun (work : Work) (plan : List Entry) (words : ℕ) (end : End
 pub record IsOutcomeOf (file : List ℕ) (outcome : Outcome) : Type 0 where
   pub elf : Elf
   pub form : HasFirstForm file elf
+  pub supported : AllSupported elf
   pub accepted : IsAccepted (program_of elf)
   pub work : Work
   pub program : work.program ≡ program_of elf

@@ -1,0 +1,99 @@
+-- A run of a node, from its start on.
+use Rattle.std.proofs.Common.{◌≡◌, ℕ, suc, ◌+◌, ◌<◌, cond, List, [], ◌∷◌, ◌++◌, length, get_or, Option, Some, None, refl, sym, ap, ◌∙◌, subst, arith, append-nil, append_assoc, inl, inr, IfSome}
+use Rattle.std.proofs.lemmas.Bool.Decides.{eqb_tells}
+use Rattle.std.specs.Option.{option_to_list}
+use Rattle.rv32_model.specs.declared.End.{End}
+use Rattle.rv32_model.specs.declared.End.TheVariants.{Stopped}
+use Rattle.rv32_model.specs.declared.Exit.{Exit}
+use Rattle.node_machine.specs.declared.NodeCounts.{NodeCounts}
+use Rattle.node_machine.specs.Node.{Work, Node, next_act, node_step, end_by}
+use Rattle.shared_sim.specs.Interleaving.{MayExecute, node_after, printed}
+use Rattle.shasta.specs.Headline.{begin, IsOutcomeOf, Prints, PrintsFront, IsRefused, has_other_form, has_unsupported}
+use Rattle.shasta.specs.Refusals.{IsRefusedProgram, IsRefusal, refusal_line}
+use Rattle.shasta.specs.declared.run.Refused.{Refused}
+use Rattle.shasta.specs.declared.run.Refused.TheVariants.{NotYet, Program, OutOfMemory}
+use Rattle.exec_map.specs.declared.ProgramRefused.{ProgramRefused}
+use Rattle.exec_map.specs.declared.ProgramRefused.TheVariants.{Unsupported}
+use Rattle.exec_map.specs.Contents.{IsFirstUnsupported}
+use Rattle.elf32_read.specs.Elf.{Elf}
+use Rattle.elf32_read.specs.FirstForm.{HasFirstForm}
+use Rattle.dsm_io.specs.Causes.{Appends, AppendsFront}
+use Rattle.shasta.specs.Runs.{IsFinished, Continues, IsReport}
+
+pub begins : (work : Work) (now : Node) (output : List ℕ) → now ≡ begin work → output ≡ [] → (k : ℕ) → MayExecute work k now → Continues work 0 k now output
+begins work now output is nil k may =
+    let at : k ≡ 0 + k = omega arith in
+    record {
+      may = subst (λ i. MayExecute work i (begin work)) at (subst (MayExecute work k) is may);
+      after = ap (λ i. node_after work i (begin work)) (sym at) ∙ ap (node_after work k) (sym is);
+      output_is = ap (λ i. printed work i (begin work)) (sym at) ∙ ap (printed work k) (sym is) ∙ ap (λ xs. xs ++ printed work k now) (sym nil);
+    }
+
+pub finished_at : (work : Work) (done : ℕ) (now : Node) (output : List ℕ) (e : End) (counts : NodeCounts) → ((k : ℕ) → MayExecute work k now → Continues work done k now output) → now.end ≡ Some e → counts ≡ now.local.counts → IsFinished work output e counts
+finished_at work done now output e counts on end same =
+    let c = on 0 tt in
+    record {
+      words = done + 0;
+      may = c.may;
+      ended = ap (λ (n : Node). n.end) c.after ∙ end;
+      output_is = sym (append-nil output) ∙ sym c.output_is;
+      counts_are = same ∙ ap (λ (n : Node). n.local.counts) (sym c.after);
+    }
+
+pub goes_on : (work : Work) (done : ℕ) (now next : Node) (output more : List ℕ) → ((k : ℕ) → MayExecute work k now → Continues work done k now output) → next ≡ node_step work now → now.end ≡ None → more ≡ output ++ option_to_list (next_act work now).printed → (k : ℕ) → MayExecute work k next → Continues work (done + 1) k next more
+goes_on work done now next output more on is end out k may =
+    let c = on (suc k) (end, subst (MayExecute work k) is may) in
+    let at : done + suc k ≡ done + 1 + k = omega arith in
+    let byte = option_to_list (next_act work now).printed in
+    let rest = printed work k (node_step work now) in
+    record {
+      may = subst (λ i. MayExecute work i (begin work)) at c.may;
+      after = ap (λ i. node_after work i (begin work)) (sym at) ∙ c.after ∙ ap (node_after work k) (sym is);
+      output_is = ap (λ i. printed work i (begin work)) (sym at) ∙ c.output_is ∙ sym (append_assoc output byte rest)
+          ∙ ap (λ xs. xs ++ rest) (sym out) ∙ ap (λ n. more ++ printed work k n) (sym is);
+    }
+
+-- a node that goes on has executed less than its budget
+pub still_below : (budget executed : ℕ) (exit : Option Exit) → executed < budget → end_by budget (executed + 1) exit ≡ None → executed + 1 < budget
+still_below budget executed (Some e) lt end = cc
+still_below budget executed None lt end = elim (eqb_tells (executed + 1) budget) [
+  | inl t ↦ let f : ◌≡◌ {A = Option End} (Some (Stopped budget)) None = ap (λ y. cond y (Some (Stopped budget)) None) (sym t.0) ∙ end in cc
+  | inr t ↦ omega (arith, t.1)
+]
+
+-- a list of two items
+pub pair_is : (ws : List (List ℕ)) (c n : List ℕ) → length ws ≡ 2 → c ≡ get_or ws 0 c → n ≡ get_or ws 1 n → ws ≡ c ∷ n ∷ []
+pair_is [] c n l p q = cc
+pair_is (a ∷ []) c n l p q = cc
+pair_is (a ∷ b ∷ []) c n l p q = cc
+pair_is (a ∷ b ∷ d ∷ ws) c n l p q = absurd (omega (arith, l))
+
+-- two lists of words that ask for the same command
+pub same_name : (words : List (List ℕ)) (first : List ℕ) (a b : List ℕ) → words ≡ first ∷ a ∷ [] → words ≡ first ∷ b ∷ [] → a ≡ b
+same_name words first a b p q = cc
+
+-- what was read is what the name holds
+pub content_is : (held : List ℕ → Option (List ℕ)) (read name file items : List ℕ) → IfSome (held read) (λ content. items ≡ content) → read ≡ name → held name ≡ Some file → items ≡ file
+content_is held read name file items h same is = subst (λ (o : Option (List ℕ)). IfSome o (λ content. items ≡ content)) (ap held same ∙ is) h
+
+pub prints : (read file text piece : List ℕ) (before now : Option (List ℕ)) (status : ℕ) → IsReport read text status → read ≡ file → piece ≡ text → Appends before now piece → Prints file before now status
+prints read file text piece before now status r same whole put = record {
+  outcome = r.outcome;
+  is = subst (λ f. IsOutcomeOf f r.outcome) same r.is;
+  status_is = r.status_is;
+  put = subst (Appends before now) (whole ∙ r.text_is) put;
+}
+
+pub prints_front : (read file text piece : List ℕ) (before now : Option (List ℕ)) (status : ℕ) → IsReport read text status → read ≡ file → piece ≡ text → AppendsFront before now piece → PrintsFront file before now
+prints_front read file text piece before now status r same whole put =
+    inr (r.outcome, subst (λ f. IsOutcomeOf f r.outcome) same r.is, subst (AppendsFront before now) (whole ∙ r.text_is) put)
+
+-- a refusal that was told is one of the file
+pub refused_as : (read file : List ℕ) (refused : Refused) (status : ℕ) → read ≡ file → IsRefusal read refused → (refused ≡ OutOfMemory → status ≡ 5) → status ≡ 4 → IsRefused file (refusal_line refused)
+refused_as read file NotYet status same is memory four = has_other_form (subst (λ f. (elf : Elf) → HasFirstForm f elf → ⊥) same is)
+refused_as read file (Program (Unsupported address word)) status same is memory four = has_unsupported is.0 address word (subst (λ f. HasFirstForm f is.0) same is.1) is.2
+refused_as read file OutOfMemory status same is memory four = absurd (omega (arith, memory refl, four))
+
+-- the clauses of `accept` for one refusal
+pub refused_program : (elf : Elf) (refused : ProgramRefused) → ((address word : ℕ) → refused ≡ Unsupported address word → IsFirstUnsupported elf address word) → IsRefusedProgram elf refused
+refused_program elf (Unsupported address word) h = h address word refl
