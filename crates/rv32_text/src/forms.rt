@@ -12,7 +12,7 @@ use rv32_decode::{Amount, Imm12, Reg, Upper};
 use std::alloc::AllocError;
 
 /// `lui xD, 0xH`
-pub(crate) fn push_upper_form(
+pub(crate) fn put_upper(
     out: &mut Vec<u8>,
     name: &[u8],
     rd: Reg,
@@ -27,7 +27,7 @@ pub(crate) fn push_upper_form(
 }
 
 /// `jal xD, 0xTTTTTTTT`
-pub(crate) fn push_jump_form(
+pub(crate) fn put_jump(
     out: &mut Vec<u8>,
     name: &[u8],
     rd: Reg,
@@ -43,7 +43,7 @@ pub(crate) fn push_jump_form(
 }
 
 /// `beq xA, xB, 0xTTTTTTTT`
-pub(crate) fn push_branch_form(
+pub(crate) fn put_branch(
     out: &mut Vec<u8>,
     name: &[u8],
     rs1: Reg,
@@ -61,7 +61,7 @@ pub(crate) fn push_branch_form(
 }
 
 /// `lw xD, I(xA)`
-pub(crate) fn push_indexed_form(
+pub(crate) fn put_indexed(
     out: &mut Vec<u8>,
     name: &[u8],
     first: Reg,
@@ -77,7 +77,7 @@ pub(crate) fn push_indexed_form(
 }
 
 /// `addi xD, xA, I`
-pub(crate) fn push_immediate_form(
+pub(crate) fn put_immediate(
     out: &mut Vec<u8>,
     name: &[u8],
     rd: Reg,
@@ -94,7 +94,7 @@ pub(crate) fn push_immediate_form(
 }
 
 /// `slli xD, xA, N`
-pub(crate) fn push_shift_form(
+pub(crate) fn put_shift(
     out: &mut Vec<u8>,
     name: &[u8],
     rd: Reg,
@@ -111,7 +111,7 @@ pub(crate) fn push_shift_form(
 }
 
 /// `add xD, xA, xB`
-pub(crate) fn push_register_form(
+pub(crate) fn put_register(
     out: &mut Vec<u8>,
     name: &[u8],
     rd: Reg,
@@ -128,7 +128,7 @@ pub(crate) fn push_register_form(
 }
 
 /// `lr.w xD, (xA)`, with what the order adds to the mnemonic.
-pub(crate) fn push_reserving_form(
+pub(crate) fn put_reserving(
     out: &mut Vec<u8>,
     name: &[u8],
     order: &[u8],
@@ -144,7 +144,7 @@ pub(crate) fn push_reserving_form(
 }
 
 /// `amoadd.w xD, xB, (xA)`, with what the order adds to the mnemonic.
-pub(crate) fn push_atomic_form(
+pub(crate) fn put_atomic(
     out: &mut Vec<u8>,
     name: &[u8],
     order: &[u8],

@@ -62,3 +62,6 @@ fn push_word_text(out: &mut Vec<u8>, address: u32, word: u32) -> Result<(), Allo
     }
     Ok(())
 }
+
+#[cfg(test)]
+mod tests;

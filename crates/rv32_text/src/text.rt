@@ -5,8 +5,8 @@ ghost use Rattle.rv32_text.specs.Growth.{Extends};
 ghost use Rattle.rv32_text.specs.Listing.{text_of};
 
 use crate::forms::{
-    push_atomic_form, push_branch_form, push_immediate_form, push_indexed_form, push_jump_form,
-    push_register_form, push_reserving_form, push_shift_form, push_upper_form,
+    put_atomic, put_branch, put_immediate, put_indexed, put_jump, put_register, put_reserving,
+    put_shift, put_upper,
 };
 use crate::mnemonics::{
     amo_name, branch_name, imm_name, load_name, op_name, order_suffix, shift_name, store_name,
@@ -20,41 +20,35 @@ pub(crate) fn push_text(out: &mut Vec<u8>, address: u32, i: Instr) -> Result<(),
     ensures err { OnErr result (Extends out.old.items out.new.items) }
 {
     match i {
-        Instr::Lui { rd, upper } => push_upper_form(out, b"lui", rd, upper)?,
-        Instr::Auipc { rd, upper } => push_upper_form(out, b"auipc", rd, upper)?,
-        Instr::Jal { rd, offset } => push_jump_form(out, b"jal", rd, address, offset.value())?,
-        Instr::Jalr { rd, rs1, imm } => push_indexed_form(out, b"jalr", rd, imm, rs1)?,
+        Instr::Lui { rd, upper } => put_upper(out, b"lui", rd, upper)?,
+        Instr::Auipc { rd, upper } => put_upper(out, b"auipc", rd, upper)?,
+        Instr::Jal { rd, offset } => put_jump(out, b"jal", rd, address, offset.value())?,
+        Instr::Jalr { rd, rs1, imm } => put_indexed(out, b"jalr", rd, imm, rs1)?,
         Instr::Branch {
             cond,
             rs1,
             rs2,
             offset,
-        } => push_branch_form(out, branch_name(cond), rs1, rs2, address, offset.value())?,
-        Instr::Load { kind, rd, rs1, imm } => push_indexed_form(
-            out,
-            load_name(kind),
-            rd,
-            imm,
-            rs1,
-        )?,
+        } => put_branch(out, branch_name(cond), rs1, rs2, address, offset.value())?,
+        Instr::Load { kind, rd, rs1, imm } => put_indexed(out, load_name(kind), rd, imm, rs1)?,
         Instr::Store {
             width,
             rs1,
             rs2,
             imm,
-        } => push_indexed_form(out, store_name(width), rs2, imm, rs1)?,
-        Instr::OpImm { op, rd, rs1, imm } => push_immediate_form(out, imm_name(op), rd, rs1, imm)?,
+        } => put_indexed(out, store_name(width), rs2, imm, rs1)?,
+        Instr::OpImm { op, rd, rs1, imm } => put_immediate(out, imm_name(op), rd, rs1, imm)?,
         Instr::ShiftImm {
             op,
             rd,
             rs1,
             amount,
-        } => push_shift_form(out, shift_name(op), rd, rs1, amount)?,
-        Instr::Op { op, rd, rs1, rs2 } => push_register_form(out, op_name(op), rd, rs1, rs2)?,
+        } => put_shift(out, shift_name(op), rd, rs1, amount)?,
+        Instr::Op { op, rd, rs1, rs2 } => put_register(out, op_name(op), rd, rs1, rs2)?,
         Instr::Fence { .. } => out.extend_from_slice(b"fence")?,
         Instr::Ecall => out.extend_from_slice(b"ecall")?,
         Instr::Ebreak => out.extend_from_slice(b"ebreak")?,
-        Instr::Lr { rd, rs1, aq, rl } => push_reserving_form(
+        Instr::Lr { rd, rs1, aq, rl } => put_reserving(
             out,
             b"lr.w",
             order_suffix(aq, rl),
@@ -67,7 +61,7 @@ pub(crate) fn push_text(out: &mut Vec<u8>, address: u32, i: Instr) -> Result<(),
             rs2,
             aq,
             rl,
-        } => push_atomic_form(out, b"sc.w", order_suffix(aq, rl), rd, rs2, rs1)?,
+        } => put_atomic(out, b"sc.w", order_suffix(aq, rl), rd, rs2, rs1)?,
         Instr::Amo {
             op,
             rd,
@@ -75,7 +69,7 @@ pub(crate) fn push_text(out: &mut Vec<u8>, address: u32, i: Instr) -> Result<(),
             rs2,
             aq,
             rl,
-        } => push_atomic_form(out, amo_name(op), order_suffix(aq, rl), rd, rs2, rs1)?,
+        } => put_atomic(out, amo_name(op), order_suffix(aq, rl), rd, rs2, rs1)?,
         Instr::Illegal { .. } => out.extend_from_slice(b"illegal")?,
     }
     Ok(())
