@@ -6,10 +6,12 @@ ghost use Rattle.rv32_text.specs.Growth.{Extends};
 ghost use Rattle.rv32_text.specs.Listing.{line_of, text_of_word, word_digits};
 
 mod forms;
+mod law;
 mod mnemonics;
 mod operands;
 mod text;
 
+pub use law::text_law;
 use operands::push_word;
 use rv32_decode::decode;
 use std::alloc::AllocError;
