@@ -11,10 +11,7 @@ use crate::forms::{
 use crate::mnemonics::{
     amo_name, branch_name, imm_name, load_name, op_name, order_suffix, shift_name, store_name,
 };
-use rv32_decode::Instr::{
-    self, Amo, Auipc, Branch, Ebreak, Ecall, Fence, Illegal, Jal, Jalr, Load, Lr, Lui, Op, OpImm,
-    Sc, ShiftImm, Store,
-};
+use rv32_decode::Instr;
 use std::alloc::AllocError;
 
 /// The text of an instruction at an address.
@@ -23,43 +20,49 @@ pub(crate) fn push_text(out: &mut Vec<u8>, address: u32, i: Instr) -> Result<(),
     ensures err { OnErr result (Extends out.old.items out.new.items) }
 {
     match i {
-        Lui { rd, upper } => put_upper(out, b"lui", rd, upper)?,
-        Auipc { rd, upper } => put_upper(out, b"auipc", rd, upper)?,
-        Jal { rd, offset } => put_jump(out, b"jal", rd, address, offset.value())?,
-        Jalr { rd, rs1, imm } => put_indexed(out, b"jalr", rd, imm, rs1)?,
-        Branch {
+        Instr::Lui { rd, upper } => put_upper(out, b"lui", rd, upper)?,
+        Instr::Auipc { rd, upper } => put_upper(out, b"auipc", rd, upper)?,
+        Instr::Jal { rd, offset } => put_jump(out, b"jal", rd, address, offset.value())?,
+        Instr::Jalr { rd, rs1, imm } => put_indexed(out, b"jalr", rd, imm, rs1)?,
+        Instr::Branch {
             cond,
             rs1,
             rs2,
             offset,
         } => put_branch(out, branch_name(cond), rs1, rs2, address, offset.value())?,
-        Load { kind, rd, rs1, imm } => put_indexed(out, load_name(kind), rd, imm, rs1)?,
-        Store {
+        Instr::Load { kind, rd, rs1, imm } => put_indexed(out, load_name(kind), rd, imm, rs1)?,
+        Instr::Store {
             width,
             rs1,
             rs2,
             imm,
         } => put_indexed(out, store_name(width), rs2, imm, rs1)?,
-        OpImm { op, rd, rs1, imm } => put_immediate(out, imm_name(op), rd, rs1, imm)?,
-        ShiftImm {
+        Instr::OpImm { op, rd, rs1, imm } => put_immediate(out, imm_name(op), rd, rs1, imm)?,
+        Instr::ShiftImm {
             op,
             rd,
             rs1,
             amount,
         } => put_shift(out, shift_name(op), rd, rs1, amount)?,
-        Op { op, rd, rs1, rs2 } => put_register(out, op_name(op), rd, rs1, rs2)?,
-        Fence { .. } => out.extend_from_slice(b"fence")?,
-        Ecall => out.extend_from_slice(b"ecall")?,
-        Ebreak => out.extend_from_slice(b"ebreak")?,
-        Lr { rd, rs1, aq, rl } => put_reserving(out, b"lr.w", order_suffix(aq, rl), rd, rs1)?,
-        Sc {
+        Instr::Op { op, rd, rs1, rs2 } => put_register(out, op_name(op), rd, rs1, rs2)?,
+        Instr::Fence { .. } => out.extend_from_slice(b"fence")?,
+        Instr::Ecall => out.extend_from_slice(b"ecall")?,
+        Instr::Ebreak => out.extend_from_slice(b"ebreak")?,
+        Instr::Lr { rd, rs1, aq, rl } => put_reserving(
+            out,
+            b"lr.w",
+            order_suffix(aq, rl),
+            rd,
+            rs1,
+        )?,
+        Instr::Sc {
             rd,
             rs1,
             rs2,
             aq,
             rl,
         } => put_atomic(out, b"sc.w", order_suffix(aq, rl), rd, rs2, rs1)?,
-        Amo {
+        Instr::Amo {
             op,
             rd,
             rs1,
@@ -67,7 +70,7 @@ pub(crate) fn push_text(out: &mut Vec<u8>, address: u32, i: Instr) -> Result<(),
             aq,
             rl,
         } => put_atomic(out, amo_name(op), order_suffix(aq, rl), rd, rs2, rs1)?,
-        Illegal { .. } => out.extend_from_slice(b"illegal")?,
+        Instr::Illegal { .. } => out.extend_from_slice(b"illegal")?,
     }
     Ok(())
 }
