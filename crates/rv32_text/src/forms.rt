@@ -18,7 +18,8 @@ pub(crate) fn put_upper(
     rd: Reg,
     upper: Upper,
 ) -> Result<(), AllocError>
-    ensures ok { OnOk result (out.new.items ≡ out.old.items ++ with_two name.now (register rd) (upper_digits upper)) }
+    ensures ok { OnOk result (out.new.items ≡ out.old.items
+        ++ with_two name.now (register rd) (upper_digits upper)) }
     ensures err { OnErr result (Extends out.old.items out.new.items) }
 {
     push_first(out, name, rd)?;
@@ -34,7 +35,8 @@ pub(crate) fn put_jump(
     address: u32,
     offset: i32,
 ) -> Result<(), AllocError>
-    ensures ok { OnOk result (out.new.items ≡ out.old.items ++ with_two name.now (register rd) (target address offset)) }
+    ensures ok { OnOk result (out.new.items ≡ out.old.items
+        ++ with_two name.now (register rd) (target address offset)) }
     ensures err { OnErr result (Extends out.old.items out.new.items) }
 {
     push_first(out, name, rd)?;
@@ -51,7 +53,8 @@ pub(crate) fn put_branch(
     address: u32,
     offset: i32,
 ) -> Result<(), AllocError>
-    ensures ok { OnOk result (out.new.items ≡ out.old.items ++ with_three name.now (register rs1) (register rs2) (target address offset)) }
+    ensures ok { OnOk result (out.new.items ≡ out.old.items
+        ++ with_three name.now (register rs1) (register rs2) (target address offset)) }
     ensures err { OnErr result (Extends out.old.items out.new.items) }
 {
     push_first(out, name, rs1)?;
@@ -68,7 +71,8 @@ pub(crate) fn put_indexed(
     imm: Imm12,
     rs1: Reg,
 ) -> Result<(), AllocError>
-    ensures ok { OnOk result (out.new.items ≡ out.old.items ++ with_two name.now (register first) (indexed imm rs1)) }
+    ensures ok { OnOk result (out.new.items ≡ out.old.items
+        ++ with_two name.now (register first) (indexed imm rs1)) }
     ensures err { OnErr result (Extends out.old.items out.new.items) }
 {
     push_first(out, name, first)?;
@@ -84,7 +88,8 @@ pub(crate) fn put_immediate(
     rs1: Reg,
     imm: Imm12,
 ) -> Result<(), AllocError>
-    ensures ok { OnOk result (out.new.items ≡ out.old.items ++ with_three name.now (register rd) (register rs1) (signed_decimal imm)) }
+    ensures ok { OnOk result (out.new.items ≡ out.old.items
+        ++ with_three name.now (register rd) (register rs1) (signed_decimal imm)) }
     ensures err { OnErr result (Extends out.old.items out.new.items) }
 {
     push_first(out, name, rd)?;
@@ -101,7 +106,8 @@ pub(crate) fn put_shift(
     rs1: Reg,
     amount: Amount,
 ) -> Result<(), AllocError>
-    ensures ok { OnOk result (out.new.items ≡ out.old.items ++ with_three name.now (register rd) (register rs1) (decimal amount)) }
+    ensures ok { OnOk result (out.new.items ≡ out.old.items
+        ++ with_three name.now (register rd) (register rs1) (decimal amount)) }
     ensures err { OnErr result (Extends out.old.items out.new.items) }
 {
     push_first(out, name, rd)?;
@@ -118,7 +124,8 @@ pub(crate) fn put_register(
     rs1: Reg,
     rs2: Reg,
 ) -> Result<(), AllocError>
-    ensures ok { OnOk result (out.new.items ≡ out.old.items ++ with_three name.now (register rd) (register rs1) (register rs2)) }
+    ensures ok { OnOk result (out.new.items ≡ out.old.items
+        ++ with_three name.now (register rd) (register rs1) (register rs2)) }
     ensures err { OnErr result (Extends out.old.items out.new.items) }
 {
     push_first(out, name, rd)?;
@@ -135,7 +142,8 @@ pub(crate) fn put_reserving(
     rd: Reg,
     rs1: Reg,
 ) -> Result<(), AllocError>
-    ensures ok { OnOk result (out.new.items ≡ out.old.items ++ with_two (name.now ++ order.now) (register rd) (base rs1)) }
+    ensures ok { OnOk result (out.new.items ≡ out.old.items
+        ++ with_two (name.now ++ order.now) (register rd) (base rs1)) }
     ensures err { OnErr result (Extends out.old.items out.new.items) }
 {
     push_ordered_first(out, name, order, rd)?;
@@ -152,7 +160,8 @@ pub(crate) fn put_atomic(
     rs2: Reg,
     rs1: Reg,
 ) -> Result<(), AllocError>
-    ensures ok { OnOk result (out.new.items ≡ out.old.items ++ with_three (name.now ++ order.now) (register rd) (register rs2) (base rs1)) }
+    ensures ok { OnOk result (out.new.items ≡ out.old.items
+        ++ with_three (name.now ++ order.now) (register rd) (register rs2) (base rs1)) }
     ensures err { OnErr result (Extends out.old.items out.new.items) }
 {
     push_ordered_first(out, name, order, rd)?;
@@ -168,7 +177,8 @@ fn push_ordered_first(
     order: &[u8],
     r: Reg,
 ) -> Result<(), AllocError>
-    ensures ok { OnOk result (out.new.items ≡ out.old.items ++ (name.now ++ order.now) ++ codes " " ++ register r ++ codes ", ") }
+    ensures ok { OnOk result (out.new.items ≡ out.old.items
+        ++ (name.now ++ order.now) ++ codes " " ++ register r ++ codes ", ") }
     ensures err { OnErr result (Extends out.old.items out.new.items) }
 {
     out.extend_from_slice(name)?;
