@@ -11,7 +11,7 @@ ghost use Rattle.elf32_read.specs.FirstForm.{HasFirstForm};
 
 mod layout;
 
-use std::alloc::{AllocError, AllocFailed, Global};
+use std::alloc::{AllocFailed, Global};
 use std::marker::Model;
 use thiserror::Error;
 
@@ -24,16 +24,6 @@ pub enum ElfRefused {
     /// There was no memory for the list of segments.
     #[error("out of memory")]
     OutOfMemory,
-}
-
-impl From<AllocError> for ElfRefused {
-    ghost use Rattle.elf32_read.specs.declared.ElfRefused.TheVariants.{OutOfMemory};
-
-    ghost from_gives = { λ _ e. e ≡ OutOfMemory };
-
-    fn from(_: AllocError) -> ElfRefused {
-        ElfRefused::OutOfMemory
-    }
 }
 
 impl<T: Drop> From<AllocFailed<T>> for ElfRefused {
@@ -139,6 +129,7 @@ pub fn read_elf(alloc: Global, file: &[u8]) -> Result<Elf<'_>, ElfRefused>
 #[cfg(test)]
 mod tests {
     use super::*;
+    use std::alloc::AllocError;
     use std::test::Fail;
 
     /// The headers of an executable with 32 bytes of code and 3 of data, as little-endian words.

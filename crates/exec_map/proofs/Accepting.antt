@@ -1,5 +1,5 @@
 -- Going through the code words in order.
-use Rattle.std.proofs.Common.{◌≡◌, ℕ, ◌+◌, ◌%◌, ◌<◌, ◌≤◌, Bool, true, false, ◌&&◌, ◌==◌, cond, ◌⊎◌, inl, inr, Option, Some, None, List, length, IfSome, IfNone, refl, sym, ap, subst, ◌∙◌, arith}
+use Rattle.std.proofs.Common.{◌≡◌, ℕ, ◌+◌, ◌%◌, ◌<◌, ◌≤◌, Bool, true, false, ◌&&◌, ◌==◌, cond, inl, inr, Option, Some, None, List, length, IfSome, IfNone, refl, sym, ap, subst, ◌∙◌, arith}
 use Rattle.std.proofs.lemmas.Bool.{cases_lt, false≢true}
 use Rattle.std.proofs.lemmas.Bool.Decides.{nat_tests}
 use Rattle.std.specs.Option.{option_map_or}
@@ -9,7 +9,7 @@ use Rattle.elf32_read.specs.Elf.{Elf}
 use Rattle.elf32_read.specs.FirstForm.{IsCodeAndData, code_and_data}
 use Rattle.rv32_model.specs.Effect.{is_supported}
 use Rattle.rv32_model.specs.Program.{IsAccepted}
-use Rattle.exec_map.specs.Contents.{is_code_word, word_of, code_at, is_supported_word, program_of, AllSupported, IsNextCode}
+use Rattle.exec_map.specs.Contents.{is_code_word, word_of, is_supported_word, program_of, AllSupported, IsNextCode}
 
 -- every code word below an address is supported
 abbrev pub SupportedBelow : Elf → ℕ → Type 0

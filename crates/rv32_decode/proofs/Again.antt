@@ -1,9 +1,8 @@
 -- The word that an instruction is written as is read as that instruction.
-use Rattle.std.proofs.Common.{◌≡◌, ◌≢◌, ℕ, ◌+◌, ◌*◌, ◌-◌, ◌/◌, ◌%◌, ◌^◌, ◌<◌, Bool, true, false, cond, refl, sym, ap, ◌∙◌, arith, ℤ, pos, negsuc, lit<}
-use Rattle.std.specs.Prelude.{Option, Some, None, ◌≤ℤ◌}
-use Rattle.rv32_decode.specs.Fields.{field, bit, signed, unsigned, imm_i, imm_s, imm_b, imm_j}
-use Rattle.rv32_decode.specs.Formats.{r_word, i_word, s_word, b_word, u_word, j_word}
-use Rattle.rv32_decode.specs.Codes.{branch_code, load_code, store_code, imm_code, shift_codes, op_codes, amo_code, illegal_word, ordered}
+use Rattle.std.proofs.Common.{◌≡◌, ◌≢◌, ℕ, ◌+◌, ◌*◌, ◌^◌, ◌<◌, Bool, refl, sym, ap, ◌∙◌, arith, ℤ, lit<}
+use Rattle.std.specs.Prelude.{Some, None}
+use Rattle.rv32_decode.specs.Fields.{field, signed, unsigned, imm_i, imm_s, imm_b, imm_j}
+use Rattle.rv32_decode.specs.Codes.{branch_code, load_code, store_code, imm_code, shift_codes, op_codes, amo_code, ordered}
 use Rattle.rv32_decode.specs.Tables.{entry, entry_of_two}
 use Rattle.rv32_decode.specs.Rows.{instruction_of, rows, branch_table, load_table, store_table, imm_table, shift_table, op_table, amo_table}
 use Rattle.rv32_decode.specs.Words.{word_of, IsInRange}
@@ -26,7 +25,7 @@ use Rattle.rv32_decode.specs.declared.Instr.{Instr}
 use Rattle.rv32_decode.specs.declared.Instr.TheVariants.{Lui, Auipc, Jal, Jalr, Branch, Load, Store, OpImm, ShiftImm, Op, Fence, Ecall, Ebreak, Lr, Sc, Amo, Illegal}
 use Rattle.rv32_decode.proofs.Groups.{lui_is, auipc_is, jal_is, sc_is}
 use Rattle.rv32_decode.proofs.Reading.{jalr_some, branch_some, load_some, store_some, imm_some, shift_some, op_some, fence_some, lr_some, amo_some}
-use Rattle.rv32_decode.proofs.Whole.{signed_unsigned_12, signed_unsigned_13, signed_unsigned_21, unsigned_12_small, unsigned_13_small, unsigned_21_small, RFields, r_fields, IFields, i_fields, u_fields, s_imm, b_imm, j_imm, ordered_fields, ordered_small}
+use Rattle.rv32_decode.proofs.Whole.{signed_unsigned_12, signed_unsigned_13, signed_unsigned_21, unsigned_12_small, unsigned_13_small, unsigned_21_small, r_fields, i_fields, u_fields, s_imm, b_imm, j_imm, ordered_fields, ordered_small}
 
 -- ---- each kind is found in its table
 

@@ -1,4 +1,5 @@
 mod Fitting
+mod EachRow
 pub mod Groups
 pub mod Reading
 mod Whole
@@ -6,3 +7,5 @@ pub mod Rebuilt
 pub mod Again
 pub mod Apart
 mod Members
+pub mod Custom
+pub mod Ranges

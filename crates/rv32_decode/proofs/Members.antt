@@ -1,5 +1,5 @@
 -- The members of sets that are made of others.
-use Rattle.std.proofs.Common.{◌≡◌, ◌≢◌, ℕ, ◌+◌, ◌*◌, ◌-◌, ◌/◌, ◌%◌, ◌^◌, ◌<◌, ◌⊎◌, inl, inr, ◌↔◌, refl, sym, ap, ◌∙◌, arith, w32}
+use Rattle.std.proofs.Common.{◌≡◌, ◌≢◌, ℕ, ◌*◌, ◌-◌, ◌%◌, ◌^◌, ◌<◌, ◌⊎◌, inl, inr, ◌↔◌, sym, ap, ◌∙◌, arith, w32}
 use Rattle.std.specs.Prelude.{bit_and, bit_or}
 use Rattle.std.specs.Int.{bit_at}
 use Rattle.std.proofs.lemmas.Bool.Decides.{eqb_tells}
@@ -21,9 +21,9 @@ difference_member a b q l k =
 pub with_member : (a k q : ℕ) → k < 32 → IsMember (bit_or a (1 * 2 ^ k % 2 ^ 32)) q ↔ (IsMember a q ⊎ (q ≡ k))
 with_member a k q l = elim (eqb_tells q k) [
   | inl same ↦
-    let set = bit_at_set_same w32 a k l in
-    (λ m. inr same.1, λ m. ap (bit_at (bit_or a (1 * 2 ^ k % 2 ^ 32))) same.1 ∙ set)
+      let set = bit_at_set_same w32 a k l in
+      (λ m. inr same.1, λ m. ap (bit_at (bit_or a (1 * 2 ^ k % 2 ^ 32))) same.1 ∙ set)
   | inr other ↦
-    let set = bit_at_set_other w32 a k l q other.1 in
-    (λ m. inl (sym set ∙ m), λ m. elim m [ inl h ↦ set ∙ h | inr h ↦ absurd (other.1 h) ])
+      let set = bit_at_set_other w32 a k l q other.1 in
+      (λ m. inl (sym set ∙ m), λ m. elim m [ inl h ↦ set ∙ h | inr h ↦ absurd (other.1 h) ])
 ]

@@ -1,13 +1,12 @@
 -- Each word that a row fits is the word of the row's instruction.
-use Rattle.std.proofs.Common.{◌≡◌, ◌≢◌, ℕ, ◌+◌, ◌*◌, ◌-◌, ◌/◌, ◌%◌, ◌^◌, ◌<◌, Bool, true, false, cond, eqb, ltb, map, ◌++◌, List, [], ◌∷◌, refl, sym, ap, ◌∙◌, arith, ℤ, subst}
+use Rattle.std.proofs.Common.{◌≡◌, ℕ, ◌+◌, ◌*◌, ◌^◌, ◌<◌, Bool, true, eqb, ltb, map, ◌++◌, refl, sym, ap, ◌∙◌, arith}
 use Rattle.std.specs.Prelude.{Option, Some, None, find, ◌&&◌}
-use Rattle.std.specs.List.{list_all}
 use Rattle.std.specs.Option.{option_map}
 use Rattle.std.proofs.lemmas.Bool.{eqb-true, ltb-true}
-use Rattle.rv32_decode.specs.Fields.{field, bit, signed, unsigned, imm_i, imm_s, imm_b, imm_j}
-use Rattle.rv32_decode.specs.Formats.{r_word, i_word, s_word, b_word, u_word, j_word}
+use Rattle.rv32_decode.specs.Fields.{field, bit, imm_i, imm_j}
+use Rattle.rv32_decode.specs.Formats.{r_word}
 use Rattle.rv32_decode.specs.Codes.{branch_code, load_code, store_code, imm_code, shift_codes, op_codes, amo_code, ordered}
-use Rattle.rv32_decode.specs.Rows.{Row, fits, rows, row, instruction_of, opcode_row, funct3_row, funct7_row, funct5_row, word_row, branch_row, branch_table, load_row, load_table, store_row, store_table, imm_row, imm_table, shift_row, shift_table, op_row, op_table, amo_row, amo_table}
+use Rattle.rv32_decode.specs.Rows.{Row, fits, rows, row, instruction_of, opcode_row, funct3_row, funct5_row, word_row, branch_row, branch_table, load_row, load_table, store_row, store_table, imm_row, imm_table, shift_row, shift_table, op_row, op_table, amo_row, amo_table}
 use Rattle.rv32_decode.specs.declared.Cond.{Cond}
 use Rattle.rv32_decode.specs.declared.LoadKind.{LoadKind}
 use Rattle.rv32_decode.specs.declared.Width.{Width}
@@ -17,7 +16,8 @@ use Rattle.rv32_decode.specs.declared.ShiftOp.{ShiftOp}
 use Rattle.rv32_decode.specs.declared.AmoOp.{AmoOp}
 use Rattle.rv32_decode.specs.declared.IllegalWord.TheVariants.{Zeros, Ones, CycleWrite}
 use Rattle.rv32_decode.specs.declared.Instr.{Instr}
-use Rattle.rv32_decode.specs.declared.Instr.TheVariants.{Lui, Auipc, Jal, Jalr, Branch, Load, Store, OpImm, ShiftImm, Op, Fence, Ecall, Ebreak, Lr, Sc, Amo, Illegal}
+use Rattle.rv32_decode.specs.declared.Instr.TheVariants.{Lui, Auipc, Jal, Jalr, Fence, Ecall, Ebreak, Lr, Sc, Illegal}
+use Rattle.rv32_decode.proofs.EachRow.{Each, Each-append, Each-map, found_row}
 use Rattle.rv32_decode.proofs.Fitting.{kept, and_parts, word_fits}
 use Rattle.rv32_decode.specs.Words.{word_of}
 use Rattle.rv32_decode.proofs.Whole.{r_whole, i_whole, s_whole, b_whole, u_whole, j_whole, i_signed_whole, ordered_whole}
@@ -25,20 +25,6 @@ use Rattle.rv32_decode.proofs.Whole.{r_whole, i_whole, s_whole, b_whole, u_whole
 -- where the row fits, the word is that of the row's instruction
 abbrev IsRebuilt : ℕ → Row → Type 0
 IsRebuilt w r = fits w r ≡ true → word_of (r.fields w) ≡ w
-
-abbrev Each : (Row → Type 0) → List Row → Type 0
-Each P [] = Unit {0}
-Each P (r ∷ rs) = P r × Each P rs
-
-Each-append : (P : Row → Type 0) (rs ts : List Row) → Each P rs → Each P ts → Each P (rs ++ ts)
-Each-append P [] ts a b = b
-Each-append P (r ∷ rs) ts a b = (a.0, Each-append P rs ts a.1 b)
-
-Each-map : {A : Type 0} (P : Row → Type 0) (ok : A → Bool) (f : A → Row) → ((t : A) → ok t ≡ true → P (f t)) → (ts : List A) → list_all ok ts ≡ true
-    → Each P (map f ts)
-Each-map P ok f each [] all = tt
-Each-map P ok f each (t ∷ ts) all =
-    let both = and_parts (ok t) (list_all ok ts) all in (each t both.0, Each-map P ok f each ts both.1)
 
 -- ---- the rows of one word of fields
 
@@ -139,8 +125,8 @@ shift_back w l t ok f =
     let three = kept w 0xfe00707f match 12 3 refl f in
     let opcode = kept w 0xfe00707f match 0 7 refl f in
     r_whole w (shift_codes t.2).0 (shift_codes t.2).1 0x13 l
-        (omega (arith, small_seven, small_three, code_seven, seven)) (omega (arith, small_seven, small_three, code_three, three))
-        (omega (arith, opcode))
+    (omega (arith, small_seven, small_three, code_seven, seven)) (omega (arith, small_seven, small_three, code_three, three))
+    (omega (arith, opcode))
 
 abbrev op_ok : ℕ × ℕ × Operation → Bool
 op_ok t = (ltb t.0 128 && ltb t.1 8) && (eqb (op_codes t.2).0 t.0 && eqb (op_codes t.2).1 t.1)
@@ -159,8 +145,8 @@ op_back w l t ok f =
     let three = kept w 0xfe00707f match 12 3 refl f in
     let opcode = kept w 0xfe00707f match 0 7 refl f in
     r_whole w (op_codes t.2).0 (op_codes t.2).1 0x33 l
-        (omega (arith, small_seven, small_three, code_seven, seven)) (omega (arith, small_seven, small_three, code_three, three))
-        (omega (arith, opcode))
+    (omega (arith, small_seven, small_three, code_seven, seven)) (omega (arith, small_seven, small_three, code_three, three))
+    (omega (arith, opcode))
 
 abbrev amo_ok : ℕ × AmoOp → Bool
 amo_ok t = ltb t.0 32 && eqb (amo_code t.1) t.0
@@ -179,7 +165,7 @@ amo_back w l t ok f =
 -- the rows of the tables, in their order
 tables_rebuilt : (w : ℕ) → w < 2 ^ 32
     → Each (IsRebuilt w) (map branch_row branch_table ++ map load_row load_table ++ map store_row store_table ++ map imm_row imm_table
-        ++ map shift_row shift_table ++ map op_row op_table ++ map amo_row amo_table)
+    ++ map shift_row shift_table ++ map op_row op_table ++ map amo_row amo_table)
 tables_rebuilt w l =
     let P = IsRebuilt w in
     let branches = map branch_row branch_table in
@@ -198,23 +184,37 @@ tables_rebuilt w l =
 
 each_rebuilt : (w : ℕ) → w < 2 ^ 32 → Each (IsRebuilt w) rows
 unfolding rows
-each_rebuilt w l =
-    (lui_back w l, (auipc_back w l, (jal_back w l, (jalr_back w l, (fence_back w l, (lr_back w l, (sc_back w l,
-    (whole_word w 0x73 Ecall l refl, (whole_word w 0x100073 Ebreak l refl, (whole_word w 0 (Illegal Zeros) l refl,
-    (whole_word w 0xffffffff (Illegal Ones) l refl, (whole_word w 0xc0001073 (Illegal CycleWrite) l refl, tables_rebuilt w l))))))))))))
-
--- what holds of each row holds of the row that is found
-found_case : (P : Row → Type 0) (test : Row → Bool) (s : Row) (rs : List Row) (r : Row) (b : Bool) → P s × Each P rs → test s ≡ b
-    → cond b (Some s) (find test rs) ≡ Some r → ((r : Row) → find test rs ≡ Some r → P r × (test r ≡ true)) → P r × (test r ≡ true)
-found_case P test s rs r true each passes found more =
-    let same : s ≡ r = cc in
-    let both : P s × (test s ≡ true) = (each.0, passes) in
-    subst (λ (x : Row). P x × (test x ≡ true)) same both
-found_case P test s rs r false each passes found more = more r found
-
-found_row : (P : Row → Type 0) (test : Row → Bool) (rs : List Row) (r : Row) → Each P rs → find test rs ≡ Some r → P r × (test r ≡ true)
-found_row P test [] r each found = cc
-found_row P test (s ∷ rs) r each found = found_case P test s rs r (test s) each refl found (λ r. found_row P test rs r each.1)
+each_rebuilt w l = (
+  lui_back w l,
+  (
+    auipc_back w l,
+    (
+      jal_back w l,
+      (
+        jalr_back w l,
+        (
+          fence_back w l,
+          (
+            lr_back w l,
+            (
+              sc_back w l,
+              (
+                whole_word w 0x73 Ecall l refl,
+                (
+                  whole_word w 0x100073 Ebreak l refl,
+                  (
+                    whole_word w 0 (Illegal Zeros) l refl,
+                    (whole_word w 0xffffffff (Illegal Ones) l refl, (whole_word w 0xc0001073 (Illegal CycleWrite) l refl, tables_rebuilt w l)),
+                  ),
+                ),
+              ),
+            ),
+          ),
+        ),
+      ),
+    ),
+  ),
+)
 
 only_case : (w : ℕ) (i : Instr) (o : Option Row) → w < 2 ^ 32 → find (fits w) rows ≡ o → option_map (λ r. r.fields w) o ≡ Some i → w ≡ word_of i
 only_case w i None l found e = cc

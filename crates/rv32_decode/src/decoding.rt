@@ -1,9 +1,11 @@
 //! From words to instructions, by the fields of a word.
 
-ghost use Rattle.std.specs.Prelude.{◌≡◌, ◌+◌, ◌-◌, ◌*◌, ◌/◌, ◌%◌, ◌^◌, ◌<◌, ◌≤◌, ℕ, ◌⊎◌, count_by};
+ghost use Rattle.std.specs.Prelude.{◌≡◌, ◌+◌, ◌-◌, ◌*◌, ◌/◌, ◌%◌, ◌^◌, ◌<◌, ◌≤◌, ℕ, ◌⊎◌, count_by, Some};
 ghost use Rattle.rv32_decode.specs.Fields.{field, bit};
 ghost use Rattle.rv32_decode.specs.Rows.{instruction_of, rows, fits, branch_table, load_table, store_table, imm_table, shift_table, op_table, amo_table};
 ghost use Rattle.rv32_decode.specs.Tables.{entry, entry_of_two};
+ghost use Rattle.rv32_decode.specs.Words.{IsInRange};
+ghost use Rattle.rv32_decode.specs.declared.Instr.{Instr};
 
 use crate::parts::{Amount, BranchOffset, FenceBits, Imm12, JumpOffset, Reg, Upper};
 use crate::{AmoOp, Cond, IllegalWord, ImmOp, Instr, LoadKind, Op, ShiftOp, Width, opcodes};
@@ -40,12 +42,15 @@ pub fn decode(word: u32) -> Option<Instr>
     }
 }
 
-#[tactic(auto, using(crate::proofs::Apart::one_row))]
 /// At most one row of the instruction table fits a word.
 pub fn rows_law()
     ensures { (word : ℕ) → count_by (fits word) rows ≤ 1 }
-{
-}
+{}
+
+/// The parts of the instruction of any word are within the ranges of their types.
+pub fn ranges_law()
+    ensures { (word : ℕ) (i : Instr) → instruction_of word ≡ Some i → IsInRange i }
+{}
 
 fn opcode(word: u32) -> u32
     ensures { result ≡ field word 0 7 }

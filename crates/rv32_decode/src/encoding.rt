@@ -6,9 +6,8 @@ ghost use Rattle.rv32_decode.specs.Formats.{r_word, i_word, s_word, b_word, u_wo
 ghost use Rattle.rv32_decode.specs.Rows.{instruction_of};
 ghost use Rattle.rv32_decode.specs.Words.{word_of, IsInRange};
 
-use crate::opcodes;
 use crate::parts::{Reg, Upper};
-use crate::{AmoOp, Cond, IllegalWord, ImmOp, Instr, LoadKind, Op, ShiftOp, Width};
+use crate::{AmoOp, Cond, IllegalWord, ImmOp, Instr, LoadKind, Op, ShiftOp, Width, opcodes};
 
 #[tactic(auto, using(crate::proofs::Again::word_again, crate::proofs::Rebuilt::only_word))]
 /// The word of an instruction.
@@ -29,21 +28,46 @@ fn formatted(i: Instr) -> u32
         Instr::Auipc { rd, upper } => format_u(upper.value(), rd, opcodes::AUIPC),
         Instr::Jal { rd, offset } => format_j(offset.bits(), rd, opcodes::JAL),
         Instr::Jalr { rd, rs1, imm } => format_i(imm.bits(), rs1, 0, rd, opcodes::JALR),
-        Instr::Branch { cond, rs1, rs2, offset } => {
-            format_b(offset.bits(), rs2, rs1, condition_code(cond), opcodes::BRANCH)
+        Instr::Branch {
+            cond,
+            rs1,
+            rs2,
+            offset,
+        } => {
+            format_b(
+                offset.bits(),
+                rs2,
+                rs1,
+                condition_code(cond),
+                opcodes::BRANCH,
+            )
         }
         Instr::Load { kind, rd, rs1, imm } => {
             format_i(imm.bits(), rs1, load_code(kind), rd, opcodes::LOAD)
         }
-        Instr::Store { width, rs1, rs2, imm } => {
-            format_s(imm.bits(), rs2, rs1, store_code(width), opcodes::STORE)
-        }
+        Instr::Store {
+            width,
+            rs1,
+            rs2,
+            imm,
+        } => { format_s(imm.bits(), rs2, rs1, store_code(width), opcodes::STORE) }
         Instr::OpImm { op, rd, rs1, imm } => {
             format_i(imm.bits(), rs1, immediate_code(op), rd, opcodes::OP_IMM)
         }
-        Instr::ShiftImm { op, rd, rs1, amount } => {
+        Instr::ShiftImm {
+            op,
+            rd,
+            rs1,
+            amount,
+        } => {
             let (funct7, funct3) = shift_codes(op);
-            format_i((funct7 << 5) + u32::from(amount.value()), rs1, funct3, rd, opcodes::OP_IMM)
+            format_i(
+                (funct7 << 5) + u32::from(amount.value()),
+                rs1,
+                funct3,
+                rd,
+                opcodes::OP_IMM,
+            )
         }
         Instr::Op { op, rd, rs1, rs2 } => {
             let (funct7, funct3) = operation_codes(op);
@@ -57,11 +81,29 @@ fn formatted(i: Instr) -> u32
         Instr::Lr { rd, rs1, aq, rl } => {
             format_r(ordered(2, aq, rl), Reg::ZERO, rs1, 2, rd, opcodes::AMO)
         }
-        Instr::Sc { rd, rs1, rs2, aq, rl } => {
-            format_r(ordered(3, aq, rl), rs2, rs1, 2, rd, opcodes::AMO)
-        }
-        Instr::Amo { op, rd, rs1, rs2, aq, rl } => {
-            format_r(ordered(atomic_code(op), aq, rl), rs2, rs1, 2, rd, opcodes::AMO)
+        Instr::Sc {
+            rd,
+            rs1,
+            rs2,
+            aq,
+            rl,
+        } => { format_r(ordered(3, aq, rl), rs2, rs1, 2, rd, opcodes::AMO) }
+        Instr::Amo {
+            op,
+            rd,
+            rs1,
+            rs2,
+            aq,
+            rl,
+        } => {
+            format_r(
+                ordered(atomic_code(op), aq, rl),
+                rs2,
+                rs1,
+                2,
+                rd,
+                opcodes::AMO,
+            )
         }
         Instr::Illegal { word } => illegal_word(word),
     }
@@ -98,12 +140,7 @@ fn format_s(imm: u32, rs2: Reg, rs1: Reg, funct3: u32, opcode: u32) -> u32
     ensures rs2 { rs2 < 32 }
     ensures rs1 { rs1 < 32 }
 {
-    ((imm >> 5) << 25)
-        + rs2.bits(20)
-        + rs1.bits(15)
-        + (funct3 << 12)
-        + ((imm & 0x1f) << 7)
-        + opcode
+    ((imm >> 5) << 25) + rs2.bits(20) + rs1.bits(15) + (funct3 << 12) + ((imm & 0x1f) << 7) + opcode
 }
 
 fn format_b(imm: u32, rs2: Reg, rs1: Reg, funct3: u32, opcode: u32) -> u32

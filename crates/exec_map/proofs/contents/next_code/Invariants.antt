@@ -1,4 +1,4 @@
-use Rattle.std.proofs.Common.{ℕ, ◌%◌, Bool, ◌&&◌, ◌==◌, take}
+use Rattle.std.proofs.Common.{◌%◌, ◌&&◌, ◌==◌, take}
 use Rattle.std.specs.List.{list_any}
 use Rattle.elf32_read.specs.Segments.{segment_of}
 use Rattle.exec_map.specs.Contents.{holds_word}

@@ -1,0 +1,4 @@
+pub mod Causes
+pub mod Memory
+pub mod Pairs
+pub mod Schedule

@@ -1,0 +1,4 @@
+pub mod Outcome
+pub mod Text
+pub mod Commands
+pub mod Headline
