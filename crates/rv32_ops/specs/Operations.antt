@@ -12,26 +12,27 @@ use Rattle.rv32_decode.specs.declared.AmoOp.TheVariants as amo_op
 use Rattle.rv32_decode.specs.declared.LoadKind.{LoadKind}
 use Rattle.rv32_decode.specs.declared.LoadKind.TheVariants as load_kind
 
--- a + b, of which the low 32 bits are kept
+-- ADD: the sum, of which the low 32 bits are kept
 abbrev pub word_sum : ℕ → ℕ → ℕ
 word_sum a b = (a + b) % 2 ^ 32
 
--- a - b, of which the low 32 bits are kept
+-- SUB: the difference, of which the low 32 bits are kept
 abbrev pub word_difference : ℕ → ℕ → ℕ
 word_difference a b = (a + (2 ^ 32 - b)) % 2 ^ 32
 
--- a shift takes the low five bits of b as its amount
+-- SLL: a shift has its amount in the low five bits of b
 abbrev pub left_shift : ℕ → ℕ → ℕ
 left_shift a b = a * 2 ^ (b % 32) % 2 ^ 32
 
+-- SRL: zeros are shifted in
 abbrev pub logical_right_shift : ℕ → ℕ → ℕ
 logical_right_shift a b = a / 2 ^ (b % 32)
 
--- the signed value divided by the power of two and rounded down
+-- SRA: the signed number divided by the power of two and rounded down, which shifts the sign in
 abbrev pub arithmetic_right_shift : ℕ → ℕ → ℕ
 arithmetic_right_shift a b = unsigned 32 (int_shr (signed 32 a) (b % 32))
 
--- a < b as signed numbers
+-- SLT, BLT: a < b as signed numbers
 abbrev pub is_signed_below : ℕ → ℕ → Bool
 is_signed_below a b = int_lt (signed 32 a) (signed 32 b)
 
@@ -49,7 +50,8 @@ alu op.Sra a b = arithmetic_right_shift a b
 alu op.Or a b = bit_or a b
 alu op.And a b = bit_and a b
 
--- whether a branch on two registers' words is taken ("Conditional Branches")
+-- whether a branch on two registers' words is taken ("Conditional Branches"):
+-- on equal or unequal words, or on a comparison of signed or of unsigned numbers
 unfoldable pub taken : Cond → ℕ → ℕ → Bool
 taken Eq a b = a == b
 taken Ne a b = not (a == b)
@@ -58,7 +60,8 @@ taken Ge a b = not (is_signed_below a b)
 taken Ltu a b = nat_lt a b
 taken Geu a b = not (nat_lt a b)
 
--- the word that an AMO stores, from the old word in memory and the register's word b ("Atomic Memory Operations")
+-- the word that an AMO stores, from the old word in memory and the register's word b ("Atomic Memory Operations"):
+-- MIN and MAX compare signed numbers, MINU and MAXU unsigned ones
 unfoldable pub amo : AmoOp → ℕ → ℕ → ℕ
 amo amo_op.Swap old b = b
 amo amo_op.Add old b = word_sum old b
