@@ -8,6 +8,7 @@ ghost use Rattle.exec_map.specs.Contents as model;
 mod contents;
 mod segment;
 
+pub use contents::{next_code, word_of};
 use elf32_read::Elf;
 use rv32_decode::{Instr, decode};
 use rv32_model::is_supported;
