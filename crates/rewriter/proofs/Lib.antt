@@ -1,2 +1,3 @@
 mod ImageLemmas
 mod ReadingLemmas
+mod PlaceLemmas

@@ -1,4 +1,5 @@
 pub mod Words
 pub mod Sequences
+pub mod Plans
 pub mod Image
 pub mod Kept

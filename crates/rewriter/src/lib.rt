@@ -2,4 +2,5 @@
 //! Rewrites a program: the words of each place's sequence, and the maps between old and new addresses.
 
 pub mod jump_map;
+mod places;
 pub mod templates;
