@@ -1,3 +1,4 @@
 mod ImageLemmas
 mod ReadingLemmas
 mod PlaceLemmas
+mod ScratchLemmas

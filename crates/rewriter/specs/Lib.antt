@@ -1,5 +1,6 @@
 pub mod Words
 pub mod Sequences
 pub mod Plans
+pub mod Drafts
 pub mod Image
 pub mod Kept

@@ -3,4 +3,5 @@
 
 pub mod jump_map;
 mod places;
+mod sequences;
 pub mod templates;

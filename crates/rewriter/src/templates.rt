@@ -157,11 +157,18 @@ fn register(word: u32, low: u32) -> Reg
 fn immediate(word: u32) -> Imm12
     ensures { result ≡ imm_i word }
 {
-    let number = word >> 20;
-    if number < 0x800 {
-        Imm12::new(number as i32)
+    imm_of_bits(word >> 20)
+}
+
+/// The number of 12 bits of two's complement.
+pub(crate) fn imm_of_bits(bits: u32) -> Imm12
+    requires { bits < 2 ^ 12 }
+    ensures { result ≡ signed 12 bits }
+{
+    if bits < 0x800 {
+        Imm12::new(bits as i32)
     } else {
-        Imm12::new(number as i32 - 0x1000)
+        Imm12::new(bits as i32 - 0x1000)
     }
 }
 
