@@ -2,3 +2,4 @@ mod ImageLemmas
 mod ReadingLemmas
 mod PlaceLemmas
 mod ScratchLemmas
+mod SequenceLemmas
