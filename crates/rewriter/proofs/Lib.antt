@@ -3,3 +3,5 @@ mod ReadingLemmas
 mod PlaceLemmas
 mod ScratchLemmas
 mod SequenceLemmas
+mod AdmissionLemmas
+mod LayoutLemmas

@@ -18,6 +18,8 @@ use Rattle.rewriter.specs.Plans.{aligned, aligned_target, leads_to, led, HasPlac
 pub record SoFar (e : Elf) (places : List ℕ) (from : ℕ) : Type 0 where
   pub complete : (b x : ℕ) → b < from → is_code_word e b ≡ true → Contains (led b (leads_to (code_at e) b)) x → Contains places x
   pub sound : (x : ℕ) → Contains places x → IsPlace (code_at e) x
+  pub few : 4 * length places ≤ 3 * from
+  pub low : from ≤ 0x20000
 
 -- an element of no list
 no_element : (b : ℕ) → Contains [] b → ⊥
@@ -35,6 +37,8 @@ pub begin : (e : Elf) → SoFar e [] 0
 begin e = record {
   complete = λ b x lt word c. absurd (omega arith);
   sound = λ b h. absurd (no_element b h);
+  few = omega arith;
+  low = omega arith;
 }
 
 aligned_and : (n : ℕ) (b : Bool) → ((n == 0) && b) ≡ true → n ≡ 0
@@ -122,9 +126,13 @@ sound_led e a x i all there m c = go (leads_to (code_at e) a) refl c
       ])
     ]
 
+led_few : (a : ℕ) (o : Option ℕ) → length (led a o) ≤ 3
+led_few a None = omega arith
+led_few a (Some t) = omega arith
+
 -- past the next code word
-pub past : (e : Elf) (places : List ℕ) (from a : ℕ) → AllSupported e → SoFar e places from → IsNextCode e from a → SoFar e (places ++ led a (leads_to (code_at e) a)) (a + 4)
-past e places from a all h next =
+pub past : (e : Elf) (places : List ℕ) (from a : ℕ) → AllSupported e → SoFar e places from → IsNextCode e from a → a + 4 ≤ 0x20000 → SoFar e (places ++ led a (leads_to (code_at e) a)) (a + 4)
+past e places from a all h next low =
     let i = code_some e a all next.code_word in
     let m = aligned_and (a % 4) _ next.code_word in
     record {
@@ -136,6 +144,8 @@ past e places from a all h next =
         | inl old ↦ h.sound x old
         | inr new ↦ sound_led e a x i.0 all i.1 m new
       ];
+      few = let few = h.few in let at_least = next.at_least in let count = length-append places (led a (leads_to (code_at e) a)) in let led = led_few a (leads_to (code_at e) a) in omega arith;
+      low = low;
     }
 
 led_own : (a : ℕ) (o : Option ℕ) → Contains (led a o) a

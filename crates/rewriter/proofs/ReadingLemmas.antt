@@ -32,7 +32,7 @@ pub reads_trap_ebreak : reading_of 0x302b ≡ Some TrapEbreak
 unfolding reading_of
 reads_trap_ebreak = refl
 
-unequal : (a b : ℕ) → a ≢ b → eqb a b ≡ false
+pub unequal : (a b : ℕ) → a ≢ b → eqb a b ≡ false
 unequal a b h = elim (eqb_tells a b) [ inl e ↦ absurd (h e.1) | inr e ↦ e.0 ]
 
 not_custom_0 : (w : ℕ) (i : Instr) → instruction_of w ≡ Some i → field w 0 7 ≢ 0x0b

@@ -1,6 +1,6 @@
 //! The places of a program: its code words, and the stops next to them and where direct jumps go.
 
-ghost use Rattle.std.specs.Prelude.{◌≡◌, ◌+◌, ◌*◌, ◌%◌, ◌^◌, ◌<◌, ◌≤◌, ◌++◌, true, IfOk, OnOk};
+ghost use Rattle.std.specs.Prelude.{◌≡◌, ◌+◌, ◌*◌, ◌%◌, ◌^◌, ◌<◌, ◌≤◌, ◌++◌, true, length, IfOk, OnOk};
 ghost use Rattle.std.specs.List.Sorted.{IsStrictlyIncreasing};
 ghost use Rattle.exec_map.specs.Contents.{code_at};
 ghost use Rattle.rewriter.specs.Plans.{aligned, aligned_target, leads_to, led, HasPlaces};
@@ -13,6 +13,7 @@ use std::alloc::{AllocError, Global};
 pub(crate) fn plan(alloc: Global, program: &Program<'_>) -> Result<Vec<u32>, AllocError>
     ensures ascending { IfOk result (λ v. IsStrictlyIncreasing v.items) }
     ensures places { IfOk result (λ v. HasPlaces (code_at program.now) v.items) }
+    ensures few { IfOk result (λ v. length v.items ≤ 0x18000) }
 {
     let mut places = candidates(alloc, program)?;
     places.sort()?;
@@ -23,6 +24,7 @@ pub(crate) fn plan(alloc: Global, program: &Program<'_>) -> Result<Vec<u32>, All
 /// The places of a program, in any order, some of them more than once.
 fn candidates(alloc: Global, program: &Program<'_>) -> Result<Vec<u32>, AllocError>
     ensures places { IfOk result (λ v. HasPlaces (code_at program.now) v.items) }
+    ensures few { IfOk result (λ v. length v.items ≤ 0x18000) }
 {
     let mut places = Vec::new(alloc);
     let mut from = 0;

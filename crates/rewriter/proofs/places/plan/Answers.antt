@@ -1,10 +1,10 @@
-use Rattle.std.proofs.Common.{◌≡◌, eqb, sym, subst}
+use Rattle.std.proofs.Common.{◌≡◌, ◌≤◌, eqb, length, sym, subst, arith}
 use Rattle.std.specs.Prelude.{Contains}
 use Rattle.std.specs.List.{dedup}
 use Rattle.std.specs.List.Sorted.{IsStrictlyIncreasing}
 use Rattle.std.proofs.lemmas.List.Filters.{dedup_is}
 use Rattle.std.proofs.lemmas.List.Kept.{Contains-dedup_nat, Contains-from_dedup}
-use Rattle.std.proofs.lemmas.List.Sorted.{Contains-permutation, IsPermutation-sym}
+use Rattle.std.proofs.lemmas.List.Sorted.{Contains-permutation, IsPermutation-sym, length_permutation}
 use Rattle.std.proofs.lemmas.Map.Keys.{IsStrictlyIncreasing-dedup}
 use Rattle.rewriter.proofs.places.plan.Goals as goal
 
@@ -21,4 +21,5 @@ returns c =
         complete = λ a h. subst (λ xs. Contains xs a) (sym is) (Contains-dedup_nat sorted a (Contains-permutation old sorted a c.in_ok-sort.ensures.permutation (places.complete a h)));
         sound = λ a h. places.sound a (Contains-permutation sorted old a (IsPermutation-sym old sorted c.in_ok-sort.ensures.permutation) (Contains-from_dedup eqb sorted a (subst (λ xs. Contains xs a) is h)));
       };
+      few = let few = c.in_ok-places.ensures.few in let long = length_permutation old sorted c.in_ok-sort.ensures.permutation in let bound = c.dedup.ensures.bound in omega arith;
     }
