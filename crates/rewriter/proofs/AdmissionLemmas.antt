@@ -44,9 +44,10 @@ tail_increases x xs h k lt = let e : suc k + 1 ≡ suc (k + 1) = omega arith in 
 
 pub ascends : (p : Program) (low : ℕ) (places : List ℕ) → (0 < length places → low ≤ slice_index places 0) → IsStrictlyIncreasing places → AscendsFrom low (spilled_plan p places)
 ascends p low [] le h = tt
-ascends p low (a ∷ rest) le h =
-    (subst (λ x. low ≤ x) (sym (entry_address a (p.code a))) (le (omega arith)),
-    subst (λ x. AscendsFrom (x + 1) (spilled_plan p rest)) (sym (entry_address a (p.code a))) (ascends p (a + 1) rest (λ some. let lt : a < slice_index rest 0 = h 0 (omega arith) in omega arith) (tail_increases a rest h)))
+ascends p low (a ∷ rest) le h = (
+  subst (λ x. low ≤ x) (sym (entry_address a (p.code a))) (le (omega arith)),
+  subst (λ x. AscendsFrom (x + 1) (spilled_plan p rest)) (sym (entry_address a (p.code a))) (ascends p (a + 1) rest (λ some. let lt : a < slice_index rest 0 = h 0 (omega arith) in omega arith) (tail_increases a rest h)),
+)
 
 element : (p : Program) (places : List ℕ) (e : Entry) (k : ℕ) → k < length (spilled_plan p places) → slice_index_or (spilled_plan p places) k e ≡ e → (a : ℕ) × (e ≡ spilled_entry a (p.code a))
 element p [] e k lt is = absurd (omega arith)

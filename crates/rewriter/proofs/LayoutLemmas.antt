@@ -92,10 +92,10 @@ found_at (p ∷ places) (h ∷ heads) total a (suc i) up long lt is =
     ∙ sym (ap (λ b. cond b h (head_in places heads total a)) (unequal p a apart))
 
 pub found_none : (places heads : List ℕ) (total a : ℕ) → ((k : ℕ) → k < length places → get_or places k 0 ≢ a) → total ≡ head_in places heads total a
-found_none [] heads total a no = refl
-found_none (p ∷ places) [] total a no = refl
-found_none (p ∷ places) (h ∷ heads) total a no =
-    found_none places heads total a (λ k lt. no (suc k) (omega arith)) ∙ sym (ap (λ b. cond b h (head_in places heads total a)) (unequal p a (no 0 (omega arith))))
+found_none [] heads total a other = refl
+found_none (p ∷ places) [] total a other = refl
+found_none (p ∷ places) (h ∷ heads) total a other =
+    found_none places heads total a (λ k lt. other (suc k) (omega arith)) ∙ sym (ap (λ b. cond b h (head_in places heads total a)) (unequal p a (other 0 (omega arith))))
 
 -- an increasing list doesn't fall
 pub rises : (xs : List ℕ) → IsStrictlyIncreasing xs → (i j : ℕ) → i ≤ j → j < length xs → get_or xs i 0 ≤ get_or xs j 0
@@ -111,7 +111,7 @@ searched_head places heads total a (Ok i) up long h =
     let s = searched places a (Ok i) h (rises places up) in found_at places heads total a i up long s.0 s.1
 searched_head places heads total a (Err i) up long h =
     let s = searched places a (Err i) h (rises places up) in
-    found_none places heads total a (λ k lt e. elim (cases_lt k i) [ | inl l ↦ (let below = s.1 k l in omega (arith, below, e)) | inr ge ↦ (let above = s.2 k ge lt in omega (arith, above, e)) ])
+    found_none places heads total a (λ k lt e. elim (cases_lt k i) [ inl l ↦ (let below = s.1 k l in omega (arith, below, e)) | inr ge ↦ (let above = s.2 k ge lt in omega (arith, above, e)) ])
 
 -- one step more
 pub laid_more : (head : ℕ → ℕ) (at a k i : ℕ) (steps : List Step) (d : Step) → i < length steps

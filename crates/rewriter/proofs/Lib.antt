@@ -5,3 +5,4 @@ mod ScratchLemmas
 mod SequenceLemmas
 mod AdmissionLemmas
 mod LayoutLemmas
+mod ExpansionLemmas

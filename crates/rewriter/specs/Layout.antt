@@ -1,5 +1,5 @@
 -- Where the words of a plan stand.
-use Rattle.std.specs.Prelude.{ℕ, ◌+◌, ◌-◌, ◌%◌, ◌^◌, ◌==◌, if◌then◌else◌, List, [], ◌∷◌, Option, Some, length}
+use Rattle.std.specs.Prelude.{ℕ, ◌++◌, ◌*◌, ◌+◌, ◌-◌, ◌%◌, ◌^◌, ◌==◌, if◌then◌else◌, List, [], ◌∷◌, Option, Some, length}
 use Rattle.rv32_decode.specs.Fields.{signed}
 use Rattle.rv32_decode.specs.declared.Instr.TheVariants.{Jal}
 use Rattle.rv32_model.specs.Program.{Program}
@@ -7,7 +7,7 @@ use Rattle.rewriter.specs.declared.templates.RtWord.{RtWord}
 use Rattle.rewriter.specs.declared.templates.RtWord.TheVariants.{Native}
 use Rattle.rewriter.specs.declared.sequences.Step.{Step}
 use Rattle.rewriter.specs.declared.sequences.Step.TheVariants as step
-use Rattle.rewriter.specs.Image.{Planned}
+use Rattle.rewriter.specs.Image.{Planned, address_of_word}
 use Rattle.rewriter.specs.Drafts.{spilled_steps}
 
 -- the number of words of a place's sequence
@@ -39,3 +39,12 @@ abbrev pub head_in : List ℕ → List ℕ → ℕ → ℕ → ℕ
 head_in [] heads total a = total
 head_in (p ∷ places) [] total a = total
 head_in (p ∷ places) (h ∷ heads) total a = if p == a then h else head_in places heads total a
+
+-- the words of places from an address on
+abbrev pub laid_all : Program → (ℕ → ℕ) → ℕ → List ℕ → List Planned
+laid_all program head at [] = []
+laid_all program head at (a ∷ rest) = laid head at a 0 (spilled_steps a (program.code a)) ++ laid_all program head (at + 4 * count_at program a) rest
+
+-- the address of the first word of a place's sequence, by the places and their numbers
+abbrev pub head_by : List ℕ → List ℕ → ℕ → ℕ → ℕ
+head_by places heads total a = address_of_word (head_in places heads total a)

@@ -10,7 +10,8 @@ ghost use Rattle.rewriter.specs.Image.{as_planned, address_of_word, most_words};
 use crate::jump_map::Image;
 use crate::sequences::Step;
 use crate::templates::{
-    CALL, Place, RtWord, TRAP_EBREAK, TRAP_FETCH, TRAP_ILLEGAL, TRAP_OFF, miss_r_word, miss_w_word, xjalr_word,
+    CALL, Place, RtWord, TRAP_EBREAK, TRAP_FETCH, TRAP_ILLEGAL, TRAP_OFF, miss_r_word, miss_w_word,
+    xjalr_word,
 };
 use rv32_decode::{Instr, JumpOffset, Reg, encode};
 use std::alloc::AllocError;
@@ -60,7 +61,14 @@ fn push_word(
         Step::Runs(what) => push_runs(image, place, what),
         Step::GoesTo(target) => {
             let offset = distance(head(places, heads, total, *target), image.len() as u32);
-            push_runs(image, place, &RtWord::Native(Instr::Jal { rd: Reg::new(0), offset }))
+            push_runs(
+                image,
+                place,
+                &RtWord::Native(Instr::Jal {
+                    rd: Reg::new(0),
+                    offset,
+                }),
+            )
         }
     }
 }
