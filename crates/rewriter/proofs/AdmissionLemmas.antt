@@ -1,5 +1,5 @@
 -- The plan that spills at each place is admissible.
-use Rattle.std.proofs.Common.{◌≡◌, ◌≢◌, ℕ, zero, suc, ◌+◌, ◌<◌, ◌≤◌, Bool, true, false, ◌==◌, eqb, cond, List, [], ◌∷◌, length, map, Option, Some, None, refl, sym, ap, ◌∙◌, subst, inl, inr, arith, nat_lt}
+use Rattle.std.proofs.Common.{◌≡◌, ℕ, zero, suc, ◌+◌, ◌<◌, ◌≤◌, Bool, true, false, ◌==◌, cond, List, [], ◌∷◌, length, Option, Some, None, refl, sym, ap, ◌∙◌, subst, inl, inr, arith}
 use Rattle.std.specs.Prelude.{Contains, not, ◌||◌, filter, slice_index, slice_index_or}
 use Rattle.std.specs.List.{list_any}
 use Rattle.std.specs.List.Sorted.{IsStrictlyIncreasing}
@@ -9,9 +9,9 @@ use Rattle.std.proofs.lemmas.List.Kept.{IsStrictlyIncreasing-filter}
 use Rattle.rv32_decode.specs.declared.Instr.{Instr}
 use Rattle.rv32_decode.specs.declared.Instr.TheVariants.{Lui, Auipc, Jal, Jalr, Branch, Load, Store, OpImm, ShiftImm, Op, Fence, Ecall, Ebreak, Lr, Sc, Amo, Illegal}
 use Rattle.rv32_decode.specs.Registers.{sources, destination}
-use Rattle.rv32_model.specs.Liveness.{Uses, leaves_code}
+use Rattle.rv32_model.specs.Liveness.{leaves_code}
 use Rattle.rv32_model.specs.Program.{Program}
-use Rattle.rewriter.specs.Sequences.{Entry, IsPlace, AscendsFrom, addresses, IsScratch, HasScratch, Admits, candidates, spilling_both, spilled_entry, SpillsAll, IsAdmissible}
+use Rattle.rewriter.specs.Sequences.{Entry, AscendsFrom, addresses, IsScratch, HasScratch, Admits, candidates, spilling_both, spilled_entry, SpillsAll, IsAdmissible}
 use Rattle.rewriter.specs.Plans.{HasPlaces, spilled_plan}
 use Rattle.rewriter.proofs.ScratchLemmas.{load_two, store_two}
 

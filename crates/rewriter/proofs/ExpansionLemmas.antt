@@ -1,12 +1,12 @@
 -- The words of a plan, place by place.
-use Rattle.std.proofs.Common.{◌≡◌, ℕ, zero, suc, ◌+◌, ◌*◌, ◌<◌, ◌≤◌, ◌==◌, Bool, true, false, cond, List, [], ◌∷◌, ◌++◌, length, get_or, drop, map, Option, Some, None, refl, sym, ap, ◌∙◌, arith, append_assoc, append-nil, length-append, subst}
+use Rattle.std.proofs.Common.{◌≡◌, ℕ, zero, suc, ◌+◌, ◌*◌, ◌<◌, ◌≤◌, ◌==◌, Bool, true, false, cond, List, [], ◌∷◌, ◌++◌, length, get_or, drop, map, Some, refl, sym, ap, ◌∙◌, arith, append_assoc, append-nil, length-append}
 use Rattle.std.proofs.lemmas.List.{length-map}
 use Rattle.rv32_model.specs.Program.{Program}
 use Rattle.rewriter.specs.declared.sequences.Step.{Step}
-use Rattle.rewriter.specs.Sequences.{Entry, Item, ItemWord, Runs, GoesTo, Commit, items_of, spilled_entry}
+use Rattle.rewriter.specs.Sequences.{Item, ItemWord, Runs, GoesTo, items_of, spilled_entry}
 use Rattle.rewriter.specs.Plans.{spilled_plan}
 use Rattle.rewriter.specs.Drafts.{stated, spilled_steps}
-use Rattle.rewriter.specs.Image.{Cell, Planned, as_planned, most_words, HasRewriting, HasTooManyWords, said, planned_at, planned_from, planned, off_word, words_before, sequence_items, head_of, address_of_word}
+use Rattle.rewriter.specs.Image.{Cell, Planned, as_planned, most_words, HasRewriting, HasTooManyWords, said, planned_at, planned_from, planned, off_word, words_before, head_of, address_of_word}
 use Rattle.rewriter.specs.Layout.{count_at, heads_from, total_from, said_step, laid, head_in, laid_all, head_by}
 use Rattle.std.specs.List.Sorted.{IsStrictlyIncreasing}
 use Rattle.rewriter.specs.Plans.{HasPlaces}

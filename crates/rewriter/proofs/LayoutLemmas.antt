@@ -1,5 +1,5 @@
 -- Where the words of a plan stand.
-use Rattle.std.proofs.Common.{◌≡◌, ◌≢◌, nat_cmp, cond, subst, inl, inr, ℕ, zero, suc, ◌+◌, ◌*◌, ◌<◌, ◌≤◌, Bool, true, false, List, [], ◌∷◌, ◌++◌, length, get_or, drop, map, Option, Some, None, refl, sym, ap, ◌∙◌, arith, append_assoc, append-nil, length-append}
+use Rattle.std.proofs.Common.{◌≡◌, ◌≢◌, nat_cmp, cond, subst, inl, inr, ℕ, zero, suc, ◌+◌, ◌<◌, ◌≤◌, Bool, true, false, List, [], ◌∷◌, ◌++◌, length, get_or, drop, map, Option, Some, None, refl, sym, ap, ◌∙◌, arith, append_assoc, append-nil, length-append}
 use Rattle.rv32_decode.specs.declared.Cond.{Cond}
 use Rattle.rv32_decode.specs.declared.Instr.{Instr}
 use Rattle.rv32_decode.specs.declared.Instr.TheVariants.{Lui, Auipc, Jal, Jalr, Branch, Load, Store, OpImm, ShiftImm, Op, Fence, Ecall, Ebreak, Lr, Sc, Amo, Illegal}
@@ -17,7 +17,7 @@ use Rattle.rewriter.specs.declared.templates.RtWord.{RtWord}
 use Rattle.rewriter.specs.declared.templates.Place.{Place}
 use Rattle.rewriter.specs.declared.sequences.Step.{Step}
 use Rattle.rewriter.specs.Words.{reading_of}
-use Rattle.rewriter.specs.Image.{Cell, Planned, as_planned}
+use Rattle.rewriter.specs.Image.{Cell, as_planned}
 use Rattle.rewriter.proofs.ReadingLemmas.{unequal}
 use Rattle.rewriter.proofs.AdmissionLemmas.{tail_increases}
 

@@ -1,16 +1,15 @@
 -- What the words of sequences read as.
-use Rattle.std.proofs.Common.{◌≡◌, ◌≢◌, ℕ, ℤ, eqb, true, false, cond, Option, Some, None, refl, sym, ap, ◌∙◌, inl, inr, arith}
+use Rattle.std.proofs.Common.{◌≡◌, ◌≢◌, ℕ, ℤ, eqb, false, cond, Option, Some, None, refl, sym, ap, ◌∙◌, inl, inr, arith}
 use Rattle.std.specs.Option.{option_map}
 use Rattle.std.proofs.lemmas.Bool.Decides.{eqb_tells}
 use Rattle.std.proofs.lemmas.Bool.{eq-eqb}
 use Rattle.rv32_decode.specs.Fields.{field, imm_i}
-use Rattle.rv32_decode.specs.Rows.{instruction_of, rows}
+use Rattle.rv32_decode.specs.Rows.{instruction_of}
 use Rattle.rv32_decode.specs.declared.Instr.{Instr}
 use Rattle.rv32_decode.specs.declared.Width.{Width}
 use Rattle.rv32_decode.proofs.Custom.{custom_0-None, custom_1-None}
-use Rattle.rewriter.specs.declared.templates.RtWord.{RtWord}
 use Rattle.rewriter.specs.declared.templates.RtWord.TheVariants.{Native, MissR, MissW, Xjalr, Call, TrapFetch, TrapOff, TrapIllegal, TrapEbreak}
-use Rattle.rewriter.specs.Words.{reading_of, custom_0, custom_1, width_of_log, miss_r_of}
+use Rattle.rewriter.specs.Words.{reading_of, custom_0, custom_1, width_of_log}
 
 pub reads_call : reading_of 0x300b ≡ Some Call
 unfolding reading_of

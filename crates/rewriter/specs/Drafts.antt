@@ -1,5 +1,5 @@
 -- The words of sequences as they are gathered, before jumps have their distances.
-use Rattle.std.specs.Prelude.{ℕ, ◌+◌, Bool, true, ◌==◌, ◌||◌, if◌then◌else◌, List, [], Option, map}
+use Rattle.std.specs.Prelude.{ℕ, ◌+◌, true, ◌==◌, ◌||◌, if◌then◌else◌, List, Option, map}
 use Rattle.rv32_decode.specs.declared.Instr.{Instr}
 use Rattle.rewriter.specs.declared.sequences.Step.{Step}
 use Rattle.rewriter.specs.declared.sequences.Step.TheVariants as step

@@ -1,5 +1,5 @@
 -- The places of a program, gathered from its code words, and the plan that spills at each.
-use Rattle.std.specs.Prelude.{◌≡◌, ℕ, ◌+◌, ◌%◌, Bool, ◌==◌, if◌then◌else◌, List, [], ◌∷◌, Option, Some, None, map, option_and_then, Contains}
+use Rattle.std.specs.Prelude.{ℕ, ◌+◌, ◌%◌, ◌==◌, if◌then◌else◌, List, [], ◌∷◌, Option, Some, None, map, option_and_then, Contains}
 use Rattle.rv32_decode.specs.declared.Instr.{Instr}
 use Rattle.rv32_model.specs.Liveness.{target_of}
 use Rattle.rv32_model.specs.Program.{Program}

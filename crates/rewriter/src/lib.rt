@@ -7,3 +7,5 @@ mod places;
 mod sequences;
 pub mod templates;
 mod words;
+
+pub use expand::ImageRefused;

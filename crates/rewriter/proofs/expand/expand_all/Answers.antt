@@ -1,4 +1,4 @@
-use Rattle.std.proofs.Common.{◌≡◌, ◌+◌, ◌<◌, ◌≤◌, ◌++◌, ◌∷◌, [], ℕ, None, length, get_or, drop, map, sym, ap, ◌∙◌, arith}
+use Rattle.std.proofs.Common.{◌≡◌, ◌+◌, ◌++◌, ◌∷◌, [], None, length, drop, map, sym, ap, ◌∙◌, arith}
 use Rattle.exec_map.specs.Contents.{program_of}
 use Rattle.rewriter.specs.declared.templates.RtWord.TheVariants.{TrapOff}
 use Rattle.rewriter.specs.Image.{Cell, as_planned, off_word, address_of_word, most_words}

@@ -1,4 +1,4 @@
-use Rattle.std.proofs.Common.{◌≡◌, ◌+◌, ◌*◌, ◌≤◌, ◌++◌, length, drop}
+use Rattle.std.proofs.Common.{◌≡◌, ◌+◌, ◌*◌, ◌≤◌, ◌++◌, drop}
 use Rattle.exec_map.specs.Contents.{program_of}
 use Rattle.rewriter.specs.Layout.{count_at, heads_from, total_from}
 use Rattle.rewriter.proofs.expand.lay_out.Given as goal

@@ -1,4 +1,4 @@
-use Rattle.std.proofs.Common.{◌≡◌, ◌+◌, ◌≤◌, sym, subst, arith}
+use Rattle.std.proofs.Common.{◌+◌, sym, subst, arith}
 use Rattle.rewriter.proofs.PlaceLemmas.{SoFar, past, whole}
 use Rattle.rewriter.proofs.places.candidates.Goals as goal
 

@@ -1,4 +1,3 @@
-use Rattle.std.proofs.Common.{◌≡◌, ◌++◌}
 use Rattle.rewriter.proofs.SequenceLemmas.{load_whole}
 use Rattle.rewriter.proofs.sequences.push_load.Goals as goal
 

@@ -1,5 +1,3 @@
-use Rattle.std.proofs.Common.{◌≡◌, Some}
-use Rattle.rewriter.specs.Words.{reading_of}
 use Rattle.rewriter.proofs.ReadingLemmas.{reads_miss_r}
 use Rattle.rewriter.proofs.templates.miss_r_word.Goals as goal
 

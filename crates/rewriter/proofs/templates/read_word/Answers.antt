@@ -1,5 +1,4 @@
-use Rattle.std.proofs.Common.{◌≡◌, refl, sym, ◌∙◌}
-use Rattle.rewriter.specs.Words.{reading_of}
+use Rattle.std.proofs.Common.{refl, sym, ◌∙◌}
 use Rattle.rewriter.proofs.ReadingLemmas.{reads_custom_0, reads_custom_1, reads_other}
 use Rattle.rewriter.proofs.templates.read_word.Goals as goal
 

@@ -1,5 +1,4 @@
-use Rattle.std.proofs.Common.{◌≡◌, Some, ◌∙◌}
-use Rattle.rewriter.specs.Words.{reading_of}
+use Rattle.std.proofs.Common.{◌∙◌}
 use Rattle.rewriter.proofs.ReadingLemmas.{reads_xjalr}
 use Rattle.rewriter.proofs.templates.xjalr_word.Goals as goal
 

@@ -1,5 +1,4 @@
-use Rattle.std.proofs.Common.{◌≡◌, Some, sym, ap, ◌∙◌}
-use Rattle.rewriter.specs.Words.{reading_of}
+use Rattle.std.proofs.Common.{Some, sym, ap, ◌∙◌}
 use Rattle.rewriter.proofs.ReadingLemmas.{reads_native, reads_call, reads_trap_fetch, reads_trap_off, reads_trap_illegal, reads_trap_ebreak}
 use Rattle.rewriter.proofs.words.encoded.Goals as goal
 

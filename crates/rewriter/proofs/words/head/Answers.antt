@@ -1,6 +1,4 @@
-use Rattle.std.proofs.Common.{◌≡◌}
 use Rattle.std.specs.Prelude.{Ok, Err}
-use Rattle.rewriter.specs.Layout.{head_in}
 use Rattle.rewriter.proofs.LayoutLemmas.{searched_head}
 use Rattle.rewriter.proofs.words.head.Goals as goal
 

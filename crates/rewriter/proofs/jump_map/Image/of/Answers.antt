@@ -1,8 +1,8 @@
-use Rattle.std.proofs.Common.{◌≡◌, ◌<◌, ◌≤◌, ℕ, length, map, sym, ap, ◌∙◌, arith}
+use Rattle.std.proofs.Common.{◌≡◌, sym, ap, ◌∙◌, arith}
 use Rattle.exec_map.specs.Contents.{program_of}
 use Rattle.rewriter.specs.Plans.{spilled_plan}
 use Rattle.rewriter.specs.Layout.{count_at, total_from}
-use Rattle.rewriter.specs.Image.{planned, HasRewriting, HasTooManyWords}
+use Rattle.rewriter.specs.Image.{planned}
 use Rattle.rewriter.proofs.ExpansionLemmas.{rewriting, too_many}
 use Rattle.rewriter.proofs.jump_map.Image.of.Goals as goal
 
