@@ -1,6 +1,5 @@
 -- Rewritten code: the words, and which word of which place's sequence each of them is.
 use Rattle.std.specs.Prelude.{◌≡◌, ℕ, ◌+◌, ◌-◌, ◌*◌, ◌/◌, ◌%◌, ◌^◌, ◌<◌, ◌≤◌, ◌++◌, Bool, false, ◌&&◌, ◌==◌, nat_le, if◌then◌else◌, List, [], ◌∷◌, Option, Some, None, map, length, slice_get, option_and_then, position}
-use Rattle.std.specs.List.{flat_map}
 use Rattle.std.specs.Option.{option_map, option_map_or}
 use Rattle.rv32_model.specs.Program.{Program}
 use Rattle.rewriter.specs.declared.templates.RtWord.{RtWord}

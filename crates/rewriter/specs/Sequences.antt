@@ -2,19 +2,19 @@
 use Rattle.std.specs.Prelude.{◌≡◌, ◌≢◌, ℕ, ℤ, pos, ◌+◌, ◌-◌, ◌*◌, ◌/◌, ◌%◌, ◌^◌, ◌<◌, ◌≤◌, ◌⊎◌, Bool, true, false, ◌==◌, not, ◌||◌, List, [], ◌∷◌, Option, Some, None, map, filter, slice_index, Contains, IsSome}
 use Rattle.std.specs.List.{list_any}
 use Rattle.std.specs.Option.{option_map_or}
-use Rattle.rv32_decode.specs.Fields.{signed, unsigned}
+use Rattle.rv32_decode.specs.Fields.{signed}
 use Rattle.rv32_decode.specs.Registers.{sources, destination}
 use Rattle.rv32_decode.specs.declared.Cond.{Cond}
 use Rattle.rv32_decode.specs.declared.Cond.TheVariants.{Eq, Ne, Lt, Ge, Ltu, Geu}
 use Rattle.rv32_decode.specs.declared.LoadKind.{LoadKind}
 use Rattle.rv32_decode.specs.declared.LoadKind.TheVariants as load_kind
 use Rattle.rv32_decode.specs.declared.Width.{Width}
-use Rattle.rv32_decode.specs.declared.Width.TheVariants.{Byte, Half, Word}
+use Rattle.rv32_decode.specs.declared.Width.TheVariants.{Word}
 use Rattle.rv32_decode.specs.declared.Op.TheVariants as op
 use Rattle.rv32_decode.specs.declared.ImmOp.TheVariants as imm_op
 use Rattle.rv32_decode.specs.declared.ShiftOp.TheVariants as shift_op
 use Rattle.rv32_decode.specs.declared.Instr.{Instr}
-use Rattle.rv32_decode.specs.declared.Instr.TheVariants.{Lui, Auipc, Jal, Jalr, Branch, Load, Store, OpImm, ShiftImm, Op, Fence, Ecall, Ebreak, Lr, Sc, Amo, Illegal}
+use Rattle.rv32_decode.specs.declared.Instr.TheVariants.{Lui, Auipc, Jal, Jalr, Branch, Load, Store, OpImm, ShiftImm, Op, Ecall, Ebreak, Illegal}
 use Rattle.rv32_model.specs.Effect.{displaced}
 use Rattle.rv32_model.specs.Memory.{width_of}
 use Rattle.rv32_model.specs.Program.{Program}

@@ -1,6 +1,6 @@
 -- The words of rewritten code: native instructions, and runtime words in the opcodes custom-0 and custom-1
 -- (RISC-V Unprivileged ISA, "RV32/64G Instruction Set Listings": RISC-V base opcode map).
-use Rattle.std.specs.Prelude.{ℕ, ◌==◌, ◌&&◌, if◌then◌else◌, Option, Some, None}
+use Rattle.std.specs.Prelude.{ℕ, ◌==◌, if◌then◌else◌, Option, Some, None}
 use Rattle.std.specs.Option.{option_map}
 use Rattle.rv32_decode.specs.Fields.{field, imm_i}
 use Rattle.rv32_decode.specs.Rows.{instruction_of}
