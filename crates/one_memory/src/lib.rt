@@ -114,3 +114,6 @@ impl<'a> OneMemory<'a> {
         self.processors[p as usize].exit()
     }
 }
+
+#[cfg(test)]
+mod tests;
