@@ -73,7 +73,7 @@ pub record IsOutcomeByOrder (file : List ℕ) (nodes order budget : ℕ) (outcom
 -- the addresses ascend
 abbrev pub AscendsFrom : ℕ → List ℕ → Type 0
 AscendsFrom low [] = Unit {0}
-AscendsFrom low (a ∷ as) = (low ≤ a) × AscendsFrom (a + 1) as
+AscendsFrom low (a ∷ rest) = (low ≤ a) × AscendsFrom (a + 1) rest
 
 -- a line for each code word, ascending
 pub record IsListing (elf : Elf) (text : List ℕ) : Type 0 where

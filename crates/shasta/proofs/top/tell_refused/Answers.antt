@@ -1,5 +1,5 @@
 use Rattle.std.proofs.Common.{sym, subst}
-use Rattle.shasta.specs.declared.run.Refused.{Refused}
+use Rattle.shasta.specs.declared.report.Refused.{Refused}
 use Rattle.shasta.specs.Headline.{Tells}
 use Rattle.shasta.specs.Refusals.{refusal_line}
 use Rattle.shasta.proofs.top.tell_refused.Goals as goal
