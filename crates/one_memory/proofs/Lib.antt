@@ -1,3 +1,5 @@
 mod ReadLemmas
 mod CodeLemmas
 mod StepLemmas
+mod StateLemmas
+mod RangeLemmas

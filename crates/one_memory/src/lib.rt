@@ -66,10 +66,10 @@ impl<'a> OneMemory<'a> {
         ensures program { IfOk result (λ m. program_in m ≡ program_of program.now) }
         ensures count { IfOk result (λ m. count_of m ≡ n) }
     {
-        let memory = Memory::first(alloc, program)?;
+        let memory = Memory::new(alloc, program)?;
         let mut processors = Vec::new(alloc);
         for p in 0..n {
-            processors.push(Processor::first(alloc, p, n, program.entry())?)?;
+            processors.push(Processor::new(alloc, p, n, program.entry())?)?;
         }
         Ok(OneMemory {
             memory,

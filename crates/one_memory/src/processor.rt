@@ -47,7 +47,7 @@ impl Model for Processor {
 
 impl Processor {
     /// Processor `number` of `count` at the start, at the entry.
-    pub fn first(alloc: Global, number: u8, count: u8, entry: u32) -> Result<Processor, AllocError>
+    pub fn new(alloc: Global, number: u8, count: u8, entry: u32) -> Result<Processor, AllocError>
         ensures { (program : AnyProgram) → program.entry ≡ entry → IfOk result (λ k. processor_of k ≡ model.first_processor program count number) }
     {
         Ok(Processor {
