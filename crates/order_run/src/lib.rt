@@ -51,7 +51,7 @@ pub fn run_by_order(
     let mut run = Run::new(alloc, program, nodes, budget)?;
     let mut order = order_of(order);
     let done = run.execute(&mut order);
-    // An order owns nothing.
+    // SAFETY: an order owns nothing, so that none need end it.
     let _order = unsafe { ManuallyDrop::new_unchecked(order) };
     done?;
     run.outcome(alloc)
@@ -99,7 +99,7 @@ impl<'a> Run<'a> {
         Ok(())
     }
 
-    /// Steps the processor in this place of those that go on; where it then has ended, it is no more of them.
+    /// Steps the processor in this place of those that go on, and takes it from them where it goes on no more.
     fn step(&mut self, place: usize) -> Result<(), AllocError>
         requires running { IsRunning self.old }
         requires among { place < length self.old.live.items }
