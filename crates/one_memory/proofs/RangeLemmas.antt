@@ -1,5 +1,5 @@
 -- Ranges at the start.
-use Rattle.std.proofs.Common.{◌≡◌, ◌≢◌, ℕ, ◌+◌, ◌-◌, ◌*◌, ◌<◌, ◌≤◌, ◌⊎◌, Bool, true, false, cond, leb, ltb, List, [], ◌++◌, length, get_or, replicate, refl, sym, ap, ◌∙◌, subst, arith, inl, inr}
+use Rattle.std.proofs.Common.{◌≡◌, ℕ, ◌+◌, ◌-◌, ◌*◌, ◌<◌, ◌≤◌, true, false, leb, ltb, List, ◌++◌, length, get_or, replicate, refl, sym, ap, ◌∙◌, subst, arith, inl, inr}
 use Rattle.std.specs.Prelude.{◌↔◌}
 use Rattle.std.proofs.Math.Path.{fun_ext}
 use Rattle.std.proofs.Math.ListN.{get_or-append}
@@ -52,8 +52,8 @@ pub first_bytes : (f : ℕ → ℕ) (r : Range) (base len : ℕ) (bs : List ℕ)
 first_bytes f r base len bs is all same =
     let z : Range = record { base = base; bytes = bs ++ replicate (len - length bs) 0 } in
     subst (λ (x : Range). memory_of x f ≡ f) (sym is) (same_bytes f z (λ k lt.
-        let short : k < length bs = omega (arith, length-append bs (replicate (len - length bs) 0), length-replicate {A = ℕ} (len - length bs) 0) in
-        get_or-append bs (replicate (len - length bs) 0) 0 k short ∙ same k (omega arith)))
+    let short : k < length bs = omega (arith, length-append bs (replicate (len - length bs) 0), length-replicate {A = ℕ} (len - length bs) 0) in
+    get_or-append bs (replicate (len - length bs) 0) 0 k short ∙ same k (omega arith)))
 
 -- the range of all shared lines
 pub has_lines : (e : Elf) (r : Range) (first count len base : ℕ) (bs : List ℕ) → r ≡ record { base = base; bytes = bs ++ replicate (len - length bs) 0 } → length bs ≡ len → base ≡ 64 * first → len ≡ 64 * count → ((line : ℕ) → (class_of_line e line ≡ Shared) ↔ ((first ≤ line) × (line < first + count))) → HasSharedLines e r

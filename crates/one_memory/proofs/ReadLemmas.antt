@@ -1,12 +1,11 @@
 -- What a processor reads in one line.
-use Rattle.std.proofs.Common.{◌≡◌, ℕ, ◌+◌, ◌*◌, ◌/◌, ◌%◌, ◌^◌, Bool, true, false, eqb, refl, sym, ap, ◌∙◌, arith}
+use Rattle.std.proofs.Common.{◌≡◌, ℕ, ◌+◌, ◌/◌, ◌%◌, true, refl, sym, ap, ◌∙◌, arith}
 use Rattle.std.proofs.lemmas.Bool.Decides.{nat_tests}
 use Rattle.rv32_decode.specs.declared.Width.{Width}
 use Rattle.rv32_decode.specs.declared.Width.TheVariants.{Byte, Half, Word}
 use Rattle.exec_map.specs.Contents.{program_of, first_byte}
 use Rattle.byte_range.specs.Range.{memory_of}
 use Rattle.rv32_model.specs.declared.Class.{Class}
-use Rattle.rv32_model.specs.declared.Class.TheVariants.{Shared, ReadOnly, Private, Unmapped}
 use Rattle.rv32_model.specs.Program.{class_at}
 use Rattle.rv32_model.specs.Memory.{raw, is_aligned, byte_by}
 use Rattle.one_memory.specs.Held.{HeldMemory, HeldProcessor, seen}

@@ -1,5 +1,5 @@
 -- The state that the parts stand for.
-use Rattle.std.proofs.Common.{◌≡◌, ◌≢◌, ℕ, zero, suc, ◌+◌, ◌-◌, ◌*◌, ◌<◌, ◌≤◌, ◌⊎◌, Bool, true, false, cond, eqb, List, [], ◌∷◌, ◌++◌, length, get_or, set, Option, Some, None, refl, sym, ap, ◌∙◌, subst, arith, inl, inr}
+use Rattle.std.proofs.Common.{◌≡◌, ◌≢◌, ℕ, zero, suc, ◌+◌, ◌<◌, Bool, false, List, [], ◌∷◌, ◌++◌, length, set, Option, Some, None, refl, sym, ap, ◌∙◌, subst, arith, inl, inr}
 use Rattle.std.specs.Prelude.{slice_get, is_some, IsSome}
 use Rattle.rv32_model.specs.declared.Exit.{Exit}
 use Rattle.std.specs.Option.{option_map_or}
@@ -7,12 +7,12 @@ use Rattle.std.proofs.Math.Path.{fun_ext}
 use Rattle.std.proofs.lemmas.Bool.{cases_lt}
 use Rattle.std.proofs.lemmas.Bool.Decides.{eqb_tells}
 use Rattle.std.proofs.lemmas.List.{length-append}
-use Rattle.std.proofs.lemmas.Option.{slice_get_past, slice_get-get_or}
+use Rattle.std.proofs.lemmas.Option.{slice_get_past}
 use Rattle.elf32_read.specs.Elf.{Elf}
 use Rattle.exec_map.specs.Contents.{program_of, first_byte}
 use Rattle.byte_range.specs.Range.{memory_of}
 use Rattle.rv32_model.specs.Program.{Program}
-use Rattle.rv32_model.specs.OneMemory.{Processor, State, first_processor, opening, answered, asked, step}
+use Rattle.rv32_model.specs.OneMemory.{Processor, first_processor, opening, answered, asked, step}
 use Rattle.one_memory.specs.Held.{Held, HeldMemory, HeldProcessor, processor_of, state_among, processors_of, state_of, replaced, program_in, Answers}
 use Rattle.one_memory.proofs.CodeLemmas.{get_push_before, get_push_last}
 

@@ -1,9 +1,9 @@
 -- What a processor gets where it asks for a load.
-use Rattle.std.proofs.Common.{◌≡◌, ℕ, Bool, true, false, Option, Some, None, refl, sym, ap, ◌∙◌}
+use Rattle.std.proofs.Common.{◌≡◌, ℕ, true, Some, refl, sym, ap, ◌∙◌}
 use Rattle.rv32_decode.specs.declared.Instr.{Instr}
 use Rattle.rv32_decode.specs.declared.LoadKind.{LoadKind}
 use Rattle.rv32_ops.specs.Operations.{extend}
-use Rattle.exec_map.specs.Contents.{program_of, code_at}
+use Rattle.exec_map.specs.Contents.{program_of}
 use Rattle.rv32_model.specs.declared.Class.{Class}
 use Rattle.rv32_model.specs.declared.Class.TheVariants.{Shared, ReadOnly, Private, Unmapped}
 use Rattle.rv32_model.specs.declared.Demand.{Demand}
@@ -11,8 +11,8 @@ use Rattle.rv32_model.specs.declared.Demand.TheVariants.{Loads}
 use Rattle.rv32_model.specs.Effect.{effect}
 use Rattle.rv32_model.specs.Program.{Program, class_at, is_mapped}
 use Rattle.rv32_model.specs.Memory.{raw, width_of, is_aligned}
-use Rattle.rv32_model.specs.OneMemory.{Processor, Asked, LoadsFrom, asked, asked_at, asked_for, answered, set_register, with_processor}
-use Rattle.one_memory.specs.Held.{HeldMemory, HeldProcessor, processor_of, state_among, replaced, seen, Answers}
+use Rattle.rv32_model.specs.OneMemory.{Processor, LoadsFrom, asked, asked_at, asked_for, answered, set_register, with_processor}
+use Rattle.one_memory.specs.Held.{HeldMemory, HeldProcessor, processor_of, state_among, seen, Answers}
 
 mapped : (c : Class) → (c ≡ Unmapped → ⊥) → is_mapped c ≡ true
 mapped Shared n = refl

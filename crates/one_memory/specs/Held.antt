@@ -1,5 +1,5 @@
 -- What the machine of the original processors keeps, and the state that it stands for.
-use Rattle.std.specs.Prelude.{◌≡◌, ℕ, ◌+◌, ◌*◌, ◌-◌, ◌/◌, ◌%◌, ◌<◌, ◌≤◌, ◌&&◌, ◌==◌, if◌then◌else◌, nat_le, length, List, Option, Some, None, slice_get}
+use Rattle.std.specs.Prelude.{◌≡◌, ℕ, ◌+◌, ◌*◌, ◌-◌, ◌/◌, ◌%◌, ◌≤◌, ◌&&◌, ◌==◌, if◌then◌else◌, nat_le, length, List, Option, None, slice_get}
 use Rattle.std.specs.Option.{option_map_or}
 use Rattle.rv32_decode.specs.declared.Instr.{Instr}
 use Rattle.elf32_read.specs.Elf.{Elf}

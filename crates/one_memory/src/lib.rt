@@ -59,7 +59,7 @@ impl<'a> Model for OneMemory<'a> {
 
 impl<'a> OneMemory<'a> {
     /// So many processors of a program at the start.
-    pub fn new(alloc: Global, program: &'a Program<'a>, n: u8) -> Result<OneMemory<'a>, AllocError>
+    pub fn new(alloc: Global, program: &'a Program<'_>, n: u8) -> Result<OneMemory<'a>, AllocError>
         requires some { 1 ≤ n }
         requires few { n ≤ 16 }
         ensures opening { IfOk result (λ m. state_of m ≡ opening (program_of program.now) n) }
@@ -114,3 +114,6 @@ impl<'a> OneMemory<'a> {
         self.processors[p as usize].exit()
     }
 }
+
+#[cfg(test)]
+mod tests;

@@ -36,7 +36,7 @@ impl<'a> Model for Memory<'a> {
 
 impl<'a> Memory<'a> {
     /// A program's memory at the start.
-    pub fn new(alloc: Global, program: &'a Program<'a>) -> Result<Memory<'a>, AllocError>
+    pub fn new(alloc: Global, program: &'a Program<'_>) -> Result<Memory<'a>, AllocError>
         ensures program { IfOk result (λ m. m.program ≡ program.now) }
         ensures shared { IfOk result (λ m. memory_of m.shared (first_byte program.now) ≡ first_byte program.now) }
         ensures output { IfOk result (λ m. m.output ≡ []) }

@@ -164,8 +164,9 @@ impl Processor {
     fn jump(&mut self, r: Reg, target: u32)
         ensures { (program : AnyProgram) → model.asked_for program (processor_of self.old) (Demand.Jumps r target) ≡ model.Becomes (processor_of self.new) }
     {
+        let link = self.pc.wrapping_add(4);
         if target % 4 == 0 {
-            self.registers.set(r, self.pc.wrapping_add(4));
+            self.registers.set(r, link);
             self.pc = target;
         } else {
             self.exit = Some(Exit::Misaligned(self.pc));

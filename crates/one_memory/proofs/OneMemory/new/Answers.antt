@@ -1,4 +1,4 @@
-use Rattle.std.proofs.Common.{◌≡◌, ◌+◌, ℕ, List, sym, subst, refl, arith}
+use Rattle.std.proofs.Common.{◌≡◌, ◌+◌, List, sym, subst, arith}
 use Rattle.exec_map.specs.Contents.{program_of}
 use Rattle.one_memory.specs.Held.{HeldProcessor}
 use Rattle.one_memory.proofs.StateLemmas.{AreFirst, one_more, opened}

@@ -1,4 +1,4 @@
-use Rattle.std.proofs.Common.{◌≡◌, ◌<◌, ℕ, length, ap, ◌∙◌, refl, arith, rules}
+use Rattle.std.proofs.Common.{◌<◌, length, ap, ◌∙◌, refl, arith}
 use Rattle.std.specs.Prelude.{is_some}
 use Rattle.std.proofs.lemmas.Option.{slice_get_read}
 use Rattle.one_memory.specs.Held.{Held}

@@ -6,5 +6,5 @@ abbrev pub invariant-loop-place : goal.invariant-loop-place
 invariant-loop-place l =
     record {
       len : length l.bytes.items ≡ l.place;
-      read : (k : ℕ) → k < l.place → get_or l.bytes.items k 0 ≡ first_byte l.program (l.base + k)
+      read : (k : ℕ) → k < l.place → get_or l.bytes.items k 0 ≡ first_byte l.program (l.base + k);
     }

@@ -1,4 +1,3 @@
-use Rattle.std.proofs.Common.{◌≡◌, ℕ}
 use Rattle.std.proofs.lemmas.Result.{IfOk-weaker}
 use Rattle.one_memory.proofs.RangeLemmas.{zero_memory}
 use Rattle.one_memory.proofs.processor.zeros.Goals as goal

@@ -1,6 +1,5 @@
-use Rattle.std.proofs.Common.{◌≡◌, ◌+◌, ◌-◌, ◌≤◌, ℕ, arith, sym, subst, List, Option}
+use Rattle.std.proofs.Common.{◌+◌, arith, sym, subst, List, Option}
 use Rattle.rv32_decode.specs.declared.Instr.{Instr}
-use Rattle.one_memory.specs.Held.{Code, IsCodeOf}
 use Rattle.one_memory.proofs.CodeLemmas.{IsReadUpTo, read_none, read_more, read_all, still_low, none_left}
 use Rattle.one_memory.proofs.code.Code.read.Goals as goal
 

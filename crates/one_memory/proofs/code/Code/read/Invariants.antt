@@ -1,5 +1,4 @@
-use Rattle.std.proofs.Common.{◌≡◌, ◌+◌, ◌*◌, ◌-◌, ◌<◌, ◌≤◌, ℕ, false, Some, length, vec_len}
-use Rattle.one_memory.specs.Held.{Code}
+use Rattle.std.proofs.Common.{◌-◌}
 use Rattle.one_memory.proofs.CodeLemmas.{IsReadUpTo}
 use Rattle.one_memory.proofs.code.Code.read.Given as goal
 

@@ -1,4 +1,4 @@
-use Rattle.std.proofs.Common.{◌≡◌, true, sym, ap, ◌∙◌, subst}
+use Rattle.std.proofs.Common.{◌≡◌, true, sym, ap, ◌∙◌}
 use Rattle.rv32_ops.specs.Operations.{extend}
 use Rattle.rv32_model.specs.Memory.{raw, is_aligned, width_of}
 use Rattle.one_memory.specs.Held.{seen}

@@ -1,4 +1,4 @@
-use Rattle.std.proofs.Common.{◌≡◌, sym, ◌∙◌}
+use Rattle.std.proofs.Common.{sym, ◌∙◌}
 use Rattle.rv32_model.specs.declared.Class.TheVariants.{Shared, ReadOnly, Private, Unmapped}
 use Rattle.one_memory.specs.Held.{HeldProcessor}
 use Rattle.one_memory.proofs.ReadLemmas.{read_at, read_nothing}
