@@ -1,1 +1,2 @@
 pub mod ByOrder
+pub mod Running
