@@ -42,14 +42,11 @@ const NOTHING: Given<'static> = Given {
 fn setting_of(word: &str) -> Option<Setting>
     ensures { MatchOption result ((s : model.Setting) → word.now ≢ option_word s) (λ s. word.now ≡ option_word (setting s)) }
 {
-    if word == "--nodes" {
-        Some(Setting::Nodes)
-    } else if word == "--order" {
-        Some(Setting::Order)
-    } else if word == "--budget" {
-        Some(Setting::Budget)
-    } else {
-        None
+    match word {
+        "--nodes" => Some(Setting::Nodes),
+        "--order" => Some(Setting::Order),
+        "--budget" => Some(Setting::Budget),
+        _ => None,
     }
 }
 

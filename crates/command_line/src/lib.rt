@@ -13,12 +13,18 @@ use number::number_set;
 
 mod arguments;
 mod number;
+#[cfg(test)]
+mod tests;
+
+const MOST_NODES: u64 = 16;
+const MOST_ORDER: u64 = u32::MAX as u64;
+const MOST_BUDGET: u64 = 1 << 32;
 
 /// The most words or steps, where no budget is given.
 const DEFAULT_BUDGET: u64 = 100_000_000;
 
 /// What the program is to do with the executable in a file.
-#[derive(Clone, Copy, Debug)]
+#[derive(Clone, Copy, Debug, PartialEq, Eq)]
 pub enum Command<'a> {
     /// Run its rewritten code, at most `budget` words of each processor.
     Run { file: &'a str, budget: u64 },
@@ -37,14 +43,14 @@ pub enum Command<'a> {
 fn is_file_name(word: &str) -> bool
     ensures { IsTrue result ↔ model.IsFileName word.now }
 {
-    !word.is_empty() && word.as_bytes()[0] != b'-'
+    !word.is_empty() && !word.starts_with('-')
 }
 
 /// The budget that was given, or the default.
 fn budget_of(given: &Given<'_>) -> Option<u64>
     ensures { MatchOption result ((n : ℕ) → model.IsBudget (told given.now).budgets n → ⊥) (λ n. model.IsBudget (told given.now).budgets n) }
 {
-    number_set(given.budget, 1, 1 << 32, DEFAULT_BUDGET)
+    number_set(given.budget, 1, MOST_BUDGET, DEFAULT_BUDGET)
 }
 
 /// The command `run`.
@@ -72,8 +78,8 @@ fn list_of<'a>(file: &'a str, given: &Given<'_>) -> Option<Command<'a>>
 fn one_of<'a>(file: &'a str, given: &Given<'_>) -> Option<Command<'a>>
     ensures { MatchOption result ((n o b : ℕ) → AsksOne (told given.now) n o b → ⊥) (λ c. (n : ℕ) × (o : ℕ) × (b : ℕ) × (asked c ≡ model.One file.now n o b) × AsksOne (told given.now) n o b) }
 {
-    let nodes = number_set(given.nodes, 1, 16, 1)?;
-    let order = number_set(given.order, 0, u64::from(u32::MAX), 0)?;
+    let nodes = number_set(given.nodes, 1, MOST_NODES, 1)?;
+    let order = number_set(given.order, 0, MOST_ORDER, 0)?;
     let budget = budget_of(given)?;
     Some(Command::One {
         file,
@@ -91,14 +97,11 @@ fn command_in<'a>(word: &str, given: Given<'a>) -> Option<Command<'a>>
     if !is_file_name(file) {
         return None;
     }
-    if word == "run" {
-        run_of(file, &given)
-    } else if word == "list" {
-        list_of(file, &given)
-    } else if word == "one" {
-        one_of(file, &given)
-    } else {
-        None
+    match word {
+        "run" => run_of(file, &given),
+        "list" => list_of(file, &given),
+        "one" => one_of(file, &given),
+        _ => None,
     }
 }
 

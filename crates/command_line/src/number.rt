@@ -16,7 +16,7 @@ pub fn number_of(text: &str) -> Option<u64>
     }
     let mut number = 0u64;
     for digit in digits {
-        if *digit < b'0' || *digit > b'9' {
+        if !digit.is_ascii_digit() {
             return None;
         }
         number = number * 10 + u64::from(*digit - b'0');
