@@ -1,10 +1,9 @@
 -- Words are read as arguments in one way.
-use Rattle.std.proofs.Common.{get_or, drop, ◌≡◌, ◌≢◌, ◌⊎◌, ℕ, ◌≤◌, List, [], ◌∷◌, ◌++◌, length, length-append, arith, refl, sym, ap, ◌∙◌, subst}
-use Rattle.std.specs.Prelude.{codes}
+use Rattle.std.proofs.Common.{get_or, drop, ◌≡◌, ◌≢◌, ℕ, List, [], ◌∷◌, ◌++◌, length-append, arith, refl, sym, ap, ◌∙◌, subst}
 use Rattle.std.specs.List.{flat_map}
 use Rattle.command_line.specs.Commands.{Setting, Nodes, Order, Budget, Argument, Name, Apart, Joined, option_word, words_of, name_in, value_in}
 use Rattle.command_line.specs.declared.arguments.Argument.{Argument as Read}
-use Rattle.command_line.specs.Given.{Told, IsSingle, and_then, IsReadAs, IsPlain, IsClear, AllClear, AreOf, BeginsWith, with_all, Tells}
+use Rattle.command_line.specs.Given.{Told, IsSingle, and_then, IsReadAs, IsClear, AllClear, AreOf, BeginsWith, with_all, Tells}
 
 other_letter : (i : ℕ) (v w : List ℕ) → v ≡ w → get_or v i 0 ≢ get_or w i 0 → ⊥
 other_letter i v w e h = h (ap (λ word. get_or word i 0) e)
@@ -75,9 +74,9 @@ step_forth t0 t1 t words rest r h g k = record {
   arguments = h.argument ∷ k.arguments;
   are_of = record {
     words_are = h.words_are ∙ ap (λ ws. words_of h.argument ++ ws) k.are_of.words_are;
-    clear = (h.clear, k.are_of.clear)
+    clear = (h.clear, k.are_of.clear);
   };
-  after_is = k.after_is ∙ ap (λ x. with_all x k.arguments) (g h.argument h.is_read)
+  after_is = k.after_is ∙ ap (λ x. with_all x k.arguments) (g h.argument h.is_read);
 }
 
 pub step_back : (t0 t1 t : Told) (words rest : List (List ℕ)) (r : Read) → BeginsWith words r rest → ((a : Argument) → IsReadAs r a → t1 ≡ and_then t0 a) → Tells t0 words t → Tells t1 rest t
@@ -86,7 +85,7 @@ step_back t0 t1 t words rest r h g k =
     record {
       arguments = b.more;
       are_of = b.are_of;
-      after_is = k.after_is ∙ ap (with_all t0) b.arguments_are ∙ ap (λ x. with_all x b.more) (sym (g h.argument h.is_read))
+      after_is = k.after_is ∙ ap (with_all t0) b.arguments_are ∙ ap (λ x. with_all x b.more) (sym (g h.argument h.is_read));
     }
 
 single_front : (t : Told) (arguments : List Argument) → IsSingle (with_all t arguments) → IsSingle t
@@ -97,7 +96,7 @@ single_front t (a ∷ more) h =
       names = omega (arith, k.names, length-append t.names (name_in a));
       nodes = omega (arith, k.nodes, length-append t.nodes (value_in Nodes a));
       orders = omega (arith, k.orders, length-append t.orders (value_in Order a));
-      budgets = omega (arith, k.budgets, length-append t.budgets (value_in Budget a))
+      budgets = omega (arith, k.budgets, length-append t.budgets (value_in Budget a));
     }
 
 pub step_refused : (t0 t : Told) (words rest : List (List ℕ)) (r : Read) → BeginsWith words r rest → ((a : Argument) → IsReadAs r a → IsSingle (and_then t0 a) → ⊥) → IsSingle t → Tells t0 words t → ⊥

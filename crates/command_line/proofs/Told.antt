@@ -1,9 +1,8 @@
 -- What was told behind the command's word is what the words ask for.
 use Rattle.std.proofs.Common.{◌≡◌, ℕ, List, [], ◌∷◌, ◌++◌, append_assoc, append-nil, ◌≤◌, get_or, length, Option, Some, None, MatchOption, refl, sym, ap, ◌∙◌, subst, arith}
 use Rattle.std.specs.Prelude.{codes}
-use Rattle.std.specs.List.{flat_map}
-use Rattle.command_line.specs.Commands.{Setting, Nodes, Order, Budget, Argument, Name, Apart, Joined, Command, Run, Listing, One, words_of, name_in, value_in, names_of, values_of, IsFileName, IsSet, IsNodes, IsOrder, IsBudget, IsNumber, Says, SaysRun, SaysOne, Asks, option_word}
-use Rattle.command_line.specs.Given.{Told, told_nothing, IsSingle, IsClear, AllClear, IsPlain, AreOf, with_all, and_then, Tells, AsksOf, AsksRun, AsksList, AsksOne, Wants}
+use Rattle.command_line.specs.Commands.{Setting, Nodes, Order, Budget, Argument, Name, Apart, Joined, Command, Run, Listing, One, name_in, value_in, names_of, values_of, IsFileName, IsSet, Says, Asks, option_word}
+use Rattle.command_line.specs.Given.{Told, told_nothing, IsSingle, AllClear, IsPlain, with_all, and_then, Tells, AsksOf, Wants}
 use Rattle.command_line.proofs.Reading.{same_told}
 
 -- all that the arguments tell, behind what was told before
@@ -50,13 +49,14 @@ clear_with_name (Joined s v ∷ xs) file e h = (tt, clear_with_name xs file e h)
 -- what all words of a command say is told behind its first word
 pub says_tells : (word : List ℕ) (words : List (List ℕ)) (command file : List ℕ) (nodes orders budgets : List (List ℕ)) → Says (word ∷ words) command file nodes orders budgets → (word ≡ command) × Tells told_nothing words (record { names = file ∷ []; nodes = nodes; orders = orders; budgets = budgets })
 says_tells word words command file nodes orders budgets s =
-    let t : Told = record { names = file ∷ []; nodes = nodes; orders = orders; budgets = budgets } in
-    (cc,
-     record {
-       arguments = s.arguments;
-       are_of = record { words_are = cc; clear = clear_with_name s.arguments file s.name s.is_name };
-       after_is = told_is t (all_of told_nothing s.arguments) (sym s.name) (sym s.nodes_are) (sym s.orders_are) (sym s.budgets_are) ∙ sym (with_all_is told_nothing s.arguments)
-     })
+    let t : Told = record { names = file ∷ []; nodes = nodes; orders = orders; budgets = budgets } in (
+      cc,
+      record {
+        arguments = s.arguments;
+        are_of = record { words_are = cc; clear = clear_with_name s.arguments file s.name s.is_name };
+        after_is = told_is t (all_of told_nothing s.arguments) (sym s.name) (sym s.nodes_are) (sym s.orders_are) (sym s.budgets_are) ∙ sym (with_all_is told_nothing s.arguments);
+      },
+    )
 
 pub tells_says : (word command file : List ℕ) (words : List (List ℕ)) (t : Told) → Tells told_nothing words t → AsksOf command word file t → Says (word ∷ words) command file t.nodes t.orders t.budgets
 tells_says word command file words t k a =
@@ -68,7 +68,7 @@ tells_says word command file words t k a =
       is_name = a.is_name;
       nodes_are = sym (ap (λ x. x.nodes) e);
       orders_are = sym (ap (λ x. x.orders) e);
-      budgets_are = sym (ap (λ x. x.budgets) e)
+      budgets_are = sym (ap (λ x. x.budgets) e);
     }
 
 set_single : (low high default : ℕ) (values : List (List ℕ)) (n : ℕ) → IsSet low high default values n → length values ≤ 1
@@ -95,7 +95,7 @@ heard word words (Run file n) a =
       said = _;
       tells = p.1;
       single = record { names = omega arith; nodes = omega arith; orders = omega arith; budgets = set_single _ _ _ a.budgets n a.is_budget };
-      wants = (record { word_is = p.0; name_is = refl; is_name = a.says.is_name }, record { no_nodes = refl; no_order = refl; is_budget = a.is_budget })
+      wants = (record { word_is = p.0; name_is = refl; is_name = a.says.is_name }, record { no_nodes = refl; no_order = refl; is_budget = a.is_budget });
     }
 heard word words (Listing file) a =
     let p = says_tells word words (codes "list") file [] [] [] a in
@@ -103,7 +103,7 @@ heard word words (Listing file) a =
       said = _;
       tells = p.1;
       single = record { names = omega arith; nodes = omega arith; orders = omega arith; budgets = omega arith };
-      wants = (record { word_is = p.0; name_is = refl; is_name = a.is_name }, record { no_nodes = refl; no_order = refl; no_budget = refl })
+      wants = (record { word_is = p.0; name_is = refl; is_name = a.is_name }, record { no_nodes = refl; no_order = refl; no_budget = refl });
     }
 heard word words (One file n o b) a =
     let p = says_tells word words (codes "one") file a.node_values a.order_values a.budget_values a.says in
@@ -111,7 +111,7 @@ heard word words (One file n o b) a =
       said = _;
       tells = p.1;
       single = record { names = omega arith; nodes = set_single _ _ _ a.node_values n a.is_nodes; orders = set_single _ _ _ a.order_values o a.is_order; budgets = set_single _ _ _ a.budget_values b a.is_budget };
-      wants = (record { word_is = p.0; name_is = refl; is_name = a.says.is_name }, record { is_nodes = a.is_nodes; is_order = a.is_order; is_budget = a.is_budget })
+      wants = (record { word_is = p.0; name_is = refl; is_name = a.says.is_name }, record { is_nodes = a.is_nodes; is_order = a.is_order; is_budget = a.is_budget });
     }
 
 told_asks : (word : List ℕ) (words : List (List ℕ)) (t : Told) (c : Command) → Tells told_nothing words t → Wants word t c → Asks (word ∷ words) c
@@ -120,7 +120,7 @@ told_asks word words t (Run file n) k w =
     record {
       budgets = t.budgets;
       says = subst (λ os. Says (word ∷ words) (codes "run") file [] os t.budgets) w.1.no_order (subst (λ ns. Says (word ∷ words) (codes "run") file ns t.orders t.budgets) w.1.no_nodes s);
-      is_budget = w.1.is_budget
+      is_budget = w.1.is_budget;
     }
 told_asks word words t (Listing file) k w =
     let s : Says (word ∷ words) (codes "list") file t.nodes t.orders t.budgets = tells_says word (codes "list") file words t k w.0 in
@@ -132,7 +132,7 @@ told_asks word words t (One file n o b) k w = record {
   says = tells_says word (codes "one") file words t k w.0;
   is_nodes = w.1.is_nodes;
   is_order = w.1.is_order;
-  is_budget = w.1.is_budget
+  is_budget = w.1.is_budget;
 }
 
 same_file : (e f word x y : List ℕ) (t : Told) → AsksOf e word x t → AsksOf f word y t → x ≡ y

@@ -2,14 +2,14 @@
 use Rattle.std.specs.Prelude.{codes, ◌≡◌, ◌≢◌, ◌⊎◌, ℕ, ◌≤◌, Option, Some, None, List, [], ◌∷◌, ◌++◌, length}
 use Rattle.std.specs.List.{flat_map}
 use denote.Ref.{Bor}
-use Rattle.command_line.specs.Commands.{Command, Run, Listing, One, IsFileName, IsNodes, IsOrder, IsBudget, Argument, Name, Apart, Joined, Setting, Nodes, Order, Budget, option_word, words_of, name_in, value_in, names_of, values_of, is_same}
-use Rattle.command_line.specs.declared.arguments.Setting.{Setting as Option_}
+use Rattle.command_line.specs.Commands.{Command, Run, Listing, One, IsFileName, IsNodes, IsOrder, IsBudget, Argument, Name, Apart, Joined, Setting, Nodes, Order, Budget, option_word, words_of, name_in, value_in}
+use Rattle.command_line.specs.declared.arguments.Setting.{Setting as ReadSetting}
 use Rattle.command_line.specs.declared.arguments.Setting.TheVariants as option
 use Rattle.command_line.specs.declared.arguments.Argument.{Argument as Read}
 use Rattle.command_line.specs.declared.arguments.Argument.TheVariants as read
 use Rattle.command_line.specs.declared.arguments.Given.{Given}
 
-abbrev pub setting : Option_ → Setting
+abbrev pub setting : ReadSetting → Setting
 setting option.Nodes = Nodes
 setting option.Order = Order
 setting option.Budget = Budget

@@ -6,9 +6,8 @@ ghost use Rattle.command_line.specs.Commands as model;
 ghost use Rattle.command_line.specs.Asked.{asked};
 ghost use Rattle.command_line.specs.Given.{told, AsksRun, AsksList, AsksOne, Wants};
 
-use dsm_io::Text;
-
 use arguments::{Given, given_in};
+use dsm_io::Text;
 use number::number_set;
 
 mod arguments;
@@ -17,7 +16,9 @@ mod number;
 mod tests;
 
 const MOST_NODES: u64 = 16;
+
 const MOST_ORDER: u64 = u32::MAX as u64;
+
 const MOST_BUDGET: u64 = 1 << 32;
 
 /// The most words or steps, where no budget is given.
@@ -27,9 +28,14 @@ const DEFAULT_BUDGET: u64 = 100_000_000;
 #[derive(Clone, Copy, Debug, PartialEq, Eq)]
 pub enum Command<'a> {
     /// Run its rewritten code, at most `budget` words of each processor.
-    Run { file: &'a str, budget: u64 },
+    Run {
+        file: &'a str,
+        budget: u64,
+    },
     /// List its code words.
-    List { file: &'a str },
+    List {
+        file: &'a str,
+    },
     /// Run `nodes` processors of the original on one memory by the order of a number, at most `budget` steps of each.
     One {
         file: &'a str,

@@ -37,7 +37,10 @@ fn reads_commands(rt: HostRuntime) -> Result<(), Fail> {
         ("list a", Command::List { file: "a" }),
         ("one a", one(1, 0, 100_000_000)),
         ("one a --nodes 2 --order 0 --budget 10", one(2, 0, 10)),
-        ("one --order=4294967295 --nodes=16 a", one(16, u32::MAX, 100_000_000)),
+        (
+            "one --order=4294967295 --nodes=16 a",
+            one(16, u32::MAX, 100_000_000),
+        ),
     ] {
         let words = words_of(rt.alloc(), line)?;
         assert_eq!(rt; command_of(words.as_slice()), Some(wanted), "at {line}");

@@ -1,4 +1,4 @@
-use Rattle.std.proofs.Common.{◌≡◌, ◌-◌, List, ℕ, ◌∷◌, length, take, drop, refl, sym, ap, ◌∙◌, arith}
+use Rattle.std.proofs.Common.{◌≡◌, ◌-◌, ◌∷◌, length, take, drop, ap, ◌∙◌, arith}
 use Rattle.command_line.specs.Asked.{asked}
 use Rattle.command_line.specs.Given.{told}
 use Rattle.command_line.proofs.Pieces.{first_and_rest}

@@ -1,7 +1,7 @@
-use Rattle.std.proofs.Common.{◌≡◌, ◌-◌, ◌<◌, List, ℕ, [], ◌∷◌, ◌++◌, length, take, drop, inl, inr, refl, sym, ap, ◌∙◌, subst, arith}
+use Rattle.std.proofs.Common.{◌≡◌, ◌-◌, [], ◌∷◌, ◌++◌, length, take, drop, inl, inr, refl, ap, ◌∙◌, subst, arith}
 use Rattle.command_line.specs.Commands as model
 use Rattle.command_line.specs.Commands.{option_word}
-use Rattle.command_line.specs.Given.{setting, AreOf, BeginsWith}
+use Rattle.command_line.specs.Given.{setting, AreOf}
 use Rattle.command_line.proofs.Pieces.{first_and_rest, no_more}
 use Rattle.command_line.proofs.Reading.{lacks_value}
 use Rattle.command_line.proofs.arguments.first_argument.Goals as goal
@@ -17,7 +17,7 @@ returns-in-Some c =
       argument = model.Joined s c.in-Some.value.now;
       is_read = inr refl;
       words_are = whole ∙ ap (λ w. w ∷ rest) word;
-      clear = tt
+      clear = tt;
     }
 
 pub returns-in-empty : goal.returns-in-empty
@@ -45,5 +45,5 @@ returns-in-len1-up-rest c =
       argument = model.Apart s c.as_str.result.now;
       is_read = inl refl;
       words_are = whole ∙ ap (λ w. w ∷ rest) word ∙ ap (λ ws. option_word s ∷ ws) behind ∙ ap (λ v. option_word s ∷ v ∷ last) value;
-      clear = tt
+      clear = tt;
     }

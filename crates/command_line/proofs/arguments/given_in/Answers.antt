@@ -1,5 +1,4 @@
-use Rattle.std.proofs.Common.{◌≡◌, refl, sym, ap, ◌∙◌, subst}
-use Rattle.command_line.specs.Given.{told, told_nothing, IsSingle, Told, Tells}
+use Rattle.command_line.specs.Given.{told, Tells}
 use Rattle.command_line.proofs.Reading.{step_forth, step_back, step_refused}
 use Rattle.command_line.proofs.arguments.given_in.Goals as goal
 
@@ -14,5 +13,5 @@ returns-in_err-given c =
 pub loop-rest-preserved : goal.loop-rest-preserved
 loop-rest-preserved c = record {
   forth = λ t tells. c.loop-rest.invariant.forth t (step_forth (told c.loop-rest.given) (told c.in_ok-given.given) t c.loop-rest.rest.now c.in_ok-argument.behind.now c.in_ok-argument.argument c.in_ok-argument.ensures c.in_ok-given.ensures tells);
-  back = λ t tells. step_back (told c.loop-rest.given) (told c.in_ok-given.given) t c.loop-rest.rest.now c.in_ok-argument.behind.now c.in_ok-argument.argument c.in_ok-argument.ensures c.in_ok-given.ensures (c.loop-rest.invariant.back t tells)
+  back = λ t tells. step_back (told c.loop-rest.given) (told c.in_ok-given.given) t c.loop-rest.rest.now c.in_ok-argument.behind.now c.in_ok-argument.argument c.in_ok-argument.ensures c.in_ok-given.ensures (c.loop-rest.invariant.back t tells);
 }

@@ -1,4 +1,4 @@
-use Rattle.std.proofs.Common.{◌≡◌, length}
+use Rattle.std.proofs.Common.{length}
 use Rattle.command_line.specs.Given.{told, told_nothing, Told, Tells}
 use Rattle.command_line.proofs.arguments.given_in.Given as goal
 
@@ -6,7 +6,7 @@ use Rattle.command_line.proofs.arguments.given_in.Given as goal
 abbrev pub invariant-loop-rest : goal.invariant-loop-rest
 invariant-loop-rest l = record {
   forth : (t : Told) → Tells (told l.given) l.rest t → Tells told_nothing l.words t;
-  back : (t : Told) → Tells told_nothing l.words t → Tells (told l.given) l.rest t
+  back : (t : Told) → Tells told_nothing l.words t → Tells (told l.given) l.rest t;
 }
 
 abbrev pub decreases-loop-rest : goal.decreases-loop-rest

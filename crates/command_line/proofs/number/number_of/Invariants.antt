@@ -7,5 +7,5 @@ abbrev pub invariant-loop-digit : goal.invariant-loop-digit
 invariant-loop-digit l = record {
   small : l.number < 10 ^ l.digit-index;
   digits_so_far : list_all is_digit (take l.digit-index l.digits) ≡ true;
-  value_so_far : number_behind 0 l.digits ≡ number_behind l.number (drop l.digit-index l.digits)
+  value_so_far : number_behind 0 l.digits ≡ number_behind l.number (drop l.digit-index l.digits);
 }
