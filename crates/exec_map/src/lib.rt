@@ -187,7 +187,13 @@ mod tests {
         assert_eq!(rt; program.class(0x20000 / 64), Class::Shared);
         assert_eq!(rt; program.class(0x7fff0000 / 64), Class::Private);
         assert_eq!(rt; program.class(0), Class::Unmapped);
-        assert_eq!(rt; program.shared_lines(), Lines { first: 0x800, count: 1 });
+        assert_eq!(rt;
+            program.shared_lines(),
+            Lines {
+                first: 0x800,
+                count: 1
+            }
+        );
         assert_eq!(rt; program.byte0(0x20001), b'i');
         assert_eq!(rt; program.byte0(0x20003), 0);
         assert_eq!(rt; program.word_at(0x10004), Some(0x00100513));

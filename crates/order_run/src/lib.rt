@@ -12,7 +12,6 @@ ghost use Rattle.order_run.specs.Running.{IsRunning, HasRun, made_by};
 use exec_map::{End, Exit, Program};
 use one_memory::{OneMemory, StepRefused};
 use std::alloc::{AllocError, Global};
-use std::mem::ManuallyDrop;
 use workload::{Order, order_of};
 
 /// What a run left: the bytes printed, and how each processor ended.
@@ -50,10 +49,7 @@ pub fn run_by_order(
 {
     let mut run = Run::new(alloc, program, nodes, budget)?;
     let mut order = order_of(order);
-    let done = run.execute(&mut order);
-    // SAFETY: an order owns nothing, so that none need end it.
-    let _order = unsafe { ManuallyDrop::new_unchecked(order) };
-    done?;
+    run.execute(&mut order)?;
     run.outcome(alloc)
 }
 

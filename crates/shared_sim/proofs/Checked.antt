@@ -124,7 +124,7 @@ module _ (program : Program) (accepted : IsAccepted program) where
       (λ j2 to2 l2 al2 m2. next j2 to2 l2 al2 (record { place = m2.place; running = m2.running; private = m2.private; written = m2.written; agree = λ r live. subst (λ z. Kept z r q l2) (order r) (m2.agree r live) })))
     where
       order : (r : ℕ) → hiding e.t_spilled 1 e.t (hiding e.s_spilled 0 e.s shown) r ≡ hiding e.s_spilled 0 e.s (hiding e.t_spilled 1 e.t shown) r
-      order r = elim (eqb_tells r e.s) [ | inl f ↦ rw (f.0, apart r e.t (λ z. st (sym f.1 ∙ z))) refl | inr f ↦ rw f.0 refl ]
+      order r = elim (eqb_tells r e.s) [ inl f ↦ rw (f.0, apart r e.t (λ z. st (sym f.1 ∙ z))) refl | inr f ↦ rw f.0 refl ]
 
   pub scratch_back : (a k at : ℕ) (i : Instr) (q : Processor) (l : Lane) (n : Local) (e : Entry) → program.code a ≡ Some i → e.s ≢ 0 → e.t ≢ 0 → e.s ≢ e.t → Mid program (hiding e.s_spilled 0 e.s (hiding e.t_spilled 1 e.t shown)) (a + 4) q l → Does program a k at (ending e) 0 q l n
   scratch_back a k at i q l n e c s0 t0 st m =
@@ -178,8 +178,10 @@ module _ (program : Program) (accepted : IsAccepted program) where
         where
           K : ℕ → Processor → Lane → Local → Type 0
           K = λ z. Does program a (j + 1) (next_pc at) (ending e) z
+
           acts : worded program a at (Native (Load k rd rs1 imm)) l n ≡ native program a at l n (Loads k rd load_address)
           acts = ap (λ z. native program a at l n (Loads k rd (displaced z imm))) (read_shown program a hides q l rs1 m base_shown live_base)
+
           go : (b : Bool) → is_aligned (width_of k) load_address ≡ b → Does program a j at (committing (Native (Load k rd rs1 imm)) (ending e)) 0 q l n
           go false f = leaves a j at K q l n (worded program a at (Native (Load k rd rs1 imm)) l n) Always (Misaligned a) (acts ∙ rw f refl)
               (load_refused a q k rd rs1 imm (Misaligned a) m.place c (rw f (ap (λ z. Some (Misaligned z)) m.place)))
@@ -188,13 +190,17 @@ module _ (program : Program) (accepted : IsAccepted program) where
               let value = value_loaded k q l n load_address f mapped m.private in
               let done : Acted = record { lane = with_reg l rd v; local = n; access = Reads k load_address v; printed = None; move = Next } in
               let is : worded program a at (Native (Load k rd rs1 imm)) l n ≡ done =
-                  acts ∙ rw (f, memory_at load_address (low_if_mapped load_address mapped)) (λ z. record { lane = with_reg l rd (value z); local = n; access = Reads k load_address (value z); printed = None; move = Next }) in
+              acts ∙ rw (f, memory_at load_address (low_if_mapped load_address mapped)) (λ z. record { lane = with_reg l rd (value z); local = n; access = Reads k load_address (value z); printed = None; move = Next }) in
               let may : judged (class_at program) q.pc (Loads k rd load_address) ≡ None = rw (f, mapped) refl in
               let ask : asked program q ≡ LoadsFrom k rd load_address = asks program a q (Load k rd rs1 imm) m.place c ∙ ap (asked_unless program q (Loads k rd load_address)) may in
               let mid = sets_both hides a q l (Load k rd rs1 imm) rd v c (λ r ne d. ne (cc)) refl destination_shown m in
               subst (λ (r : Acted). Leads program a j at K q n r Always r.move) (sym is)
-              (subst (Commits program (λ p. (x y : ℕ) → K 0 p (placed x y done.lane) n) q n done) (sym ask) (refl, refl, refl,
-              λ x y. scratch_back a (j + 1) (next_pc at) (Load k rd rs1 imm) (set_register q rd v) (placed x y (with_reg l rd v)) n e c s.nonzero t.nonzero st (mid_placed program (a + 4) hides (set_register q rd v) (with_reg l rd v) x y mid)))
+              (subst (Commits program (λ p. (x y : ℕ) → K 0 p (placed x y done.lane) n) q n done) (sym ask) (
+                refl,
+                refl,
+                refl,
+                λ x y. scratch_back a (j + 1) (next_pc at) (Load k rd rs1 imm) (set_register q rd v) (placed x y (with_reg l rd v)) n e c s.nonzero t.nonzero st (mid_placed program (a + 4) hides (set_register q rd v) (with_reg l rd v) x y mid),
+              ))
 
       -- the look before it, where its line isn't
       miss_word : (j at : ℕ) (l : Lane) (rest : List Item) → class_at program load_address ≡ Unmapped → Mid program hides a q l → Does program a j at (checking (MissR (width_of k) rs1 imm) rest) 0 q l n
@@ -202,12 +208,16 @@ module _ (program : Program) (accepted : IsAccepted program) where
         where
           K : ℕ → Processor → Lane → Local → Type 0
           K = λ z. Does program a (j + 1) (next_pc at) rest z
+
           acts : worded program a at (MissR (width_of k) rs1 imm) l n ≡ miss_r a l n (width_of k) load_address
           acts = ap (λ z. miss_r a l n (width_of k) (displaced z imm)) (read_shown program a hides q l rs1 m base_shown live_base)
+
           gone : is_mapped_state (n.state (line_of load_address)) ≡ false
           gone = ap is_mapped_state (state_is n load_address Unmapped suits unmapped)
+
           not_mapped : is_mapped (class_at program load_address) ≡ false
           not_mapped = ap is_mapped unmapped
+
           go : (b : Bool) → is_aligned (width_of k) load_address ≡ b → Does program a j at (checking (MissR (width_of k) rs1 imm) rest) 0 q l n
           go false f = leaves a j at K q l n (worded program a at (MissR (width_of k) rs1 imm) l n) Never (Misaligned a) (acts ∙ rw f refl)
               (load_refused a q k rd rs1 imm (Misaligned a) m.place c (rw f (ap (λ z. Some (Misaligned z)) m.place)))
@@ -223,6 +233,7 @@ module _ (program : Program) (accepted : IsAccepted program) where
           skips z mapped = own_skips program a j at (Branch Eq e.s 0 (pos 8)) (checking (MissR (width_of k) rs1 imm) (committing (Native (Load k rd rs1 imm)) (ending e))) q l n al
               (ap (λ b. branch_demand b (displaced at (pos 8))) (taken_zero (reg l.registers e.s) (reg l.registers 0) ∙ ap (eqb (reg l.registers e.s)) (reg_zero l.registers) ∙ z))
               (λ x y. load_word (j + 1 + 1) (next_pc (next_pc at)) (placed x y l) mapped (mid_placed program a hides q l x y m))
+
           go : (cl : Class) → class_at program load_address ≡ cl → reg l.registers e.s ≡ bit_and (first_state cl) 2 → Does program a j at (own (Branch Eq e.s 0 (pos 8)) (checking (MissR (width_of k) rs1 imm) (committing (Native (Load k rd rs1 imm)) (ending e)))) 0 q l n
           go Shared f g = skips (ap (λ z. eqb z 0) g) (ap is_mapped f)
           go ReadOnly f g = skips (ap (λ z. eqb z 0) g) (ap is_mapped f)
@@ -265,11 +276,14 @@ module _ (program : Program) (accepted : IsAccepted program) where
         where
           K : ℕ → Processor → Lane → Local → Type 0
           K = λ z. Does program a (j + 1) (next_pc at) (ending e) z
+
           v : ℕ
           v = reg q.registers rs2
+
           acts : worded program a at (Native (Store w rs1 rs2 imm)) l n ≡ native program a at l n (Stores w store_address v)
           acts = ap (λ z. native program a at l n (Stores w (displaced z imm) (reg l.registers rs2))) (read_shown program a hides q l rs1 m address_shown live_address)
               ∙ ap (λ z. native program a at l n (Stores w store_address z)) (read_shown program a hides q l rs2 m value_shown live_value)
+
           go : (b : Bool) → is_aligned w store_address ≡ b → Does program a j at (committing (Native (Store w rs1 rs2 imm)) (ending e)) 0 q l n
           go false f = leaves a j at K q l n (worded program a at (Native (Store w rs1 rs2 imm)) l n) Always (Misaligned a) (acts ∙ rw f refl)
               (store_refused a q w rs1 rs2 imm (Misaligned a) m.place c (rw f (ap (λ z. Some (Misaligned z)) m.place)))
@@ -288,8 +302,12 @@ module _ (program : Program) (accepted : IsAccepted program) where
                 written = m.written;
               } in
               subst (λ (r : Acted). Leads program a j at K q n r Always r.move) (sym is)
-              (subst (Commits program (λ p. (x y : ℕ) → K 0 p (placed x y lane) done.local) q n done) (sym ask) (refl, refl, refl,
-              λ x y. scratch_back a (j + 1) (next_pc at) (Store w rs1 rs2 imm) p (placed x y lane) done.local e c s.nonzero t.nonzero st (mid_placed program (a + 4) hides p lane x y mid)))
+              (subst (Commits program (λ p. (x y : ℕ) → K 0 p (placed x y lane) done.local) q n done) (sym ask) (
+                refl,
+                refl,
+                refl,
+                λ x y. scratch_back a (j + 1) (next_pc at) (Store w rs1 rs2 imm) p (placed x y lane) done.local e c s.nonzero t.nonzero st (mid_placed program (a + 4) hides p lane x y mid),
+              ))
 
       -- the look before it, where its line isn't
       store_miss : (j at : ℕ) (l : Lane) (rest : List Item) → is_writable (class_at program store_address) ≡ false → is_fixed_state (n.state (line_of store_address)) ≡ true → Mid program hides a q l → Does program a j at (checking (MissW w rs1 imm) rest) 0 q l n
@@ -297,8 +315,10 @@ module _ (program : Program) (accepted : IsAccepted program) where
         where
           K : ℕ → Processor → Lane → Local → Type 0
           K = λ z. Does program a (j + 1) (next_pc at) rest z
+
           acts : worded program a at (MissW w rs1 imm) l n ≡ miss_w a l n w store_address
           acts = ap (λ z. miss_w a l n w (displaced z imm)) (read_shown program a hides q l rs1 m address_shown live_address)
+
           go : (b : Bool) → is_aligned w store_address ≡ b → Does program a j at (checking (MissW w rs1 imm) rest) 0 q l n
           go false f = leaves a j at K q l n (worded program a at (MissW w rs1 imm) l n) Never (Misaligned a) (acts ∙ rw f refl)
               (store_refused a q w rs1 rs2 imm (Misaligned a) m.place c (rw f (ap (λ z. Some (Misaligned z)) m.place)))
@@ -312,14 +332,18 @@ module _ (program : Program) (accepted : IsAccepted program) where
         where
           rest : List Item
           rest = checking (MissW w rs1 imm) (committing (Native (Store w rs1 rs2 imm)) (ending e))
+
           tests : (v : ℕ) → reg l.registers e.s ≡ v → taken Eq (reg l.registers e.s) (reg l.registers 0) ≡ eqb v 0
           tests v g = taken_zero (reg l.registers e.s) (reg l.registers 0) ∙ ap (eqb (reg l.registers e.s)) (reg_zero l.registers) ∙ ap (λ z. eqb z 0) g
+
           skips : reg l.registers e.s ≡ 0 → is_writable (class_at program store_address) ≡ true → is_mapped (class_at program store_address) ≡ true → Does program a j at (own (Branch Eq e.s 0 (pos 8)) rest) 0 q l n
           skips g writable mapped = own_skips program a j at (Branch Eq e.s 0 (pos 8)) rest q l n al (ap (λ b. branch_demand b (displaced at (pos 8))) (tests 0 g))
               (λ x y. store_word (j + 1 + 1) (next_pc (next_pc at)) (placed x y l) writable mapped (mid_placed program a hides q l x y m))
+
           looked : (v : ℕ) → reg l.registers e.s ≡ v → eqb v 0 ≡ false → is_writable (class_at program store_address) ≡ false → is_fixed_state (n.state (line_of store_address)) ≡ true → Does program a j at (own (Branch Eq e.s 0 (pos 8)) rest) 0 q l n
           looked v g apart fixed st = own_next program a j at (Branch Eq e.s 0 (pos 8)) rest q l l n (ap (λ b. native program a at l n (branch_demand b (displaced at (pos 8)))) (tests v g ∙ apart))
               (λ x y. store_miss (j + 1) (next_pc at) (placed x y l) (committing (Native (Store w rs1 rs2 imm)) (ending e)) fixed st (mid_placed program a hides q l x y m))
+
           go : (cl : Class) → class_at program store_address ≡ cl → reg l.registers e.s ≡ first_state cl → Does program a j at (own (Branch Eq e.s 0 (pos 8)) rest) 0 q l n
           go Shared f g = skips g (ap is_writable f) (ap is_mapped f)
           go Private f g = skips g (ap is_writable f) (ap is_mapped f)

@@ -235,11 +235,11 @@ module _ (program : Program) where
       let items = sequence_items program f.entry in
       let apart = below_apart f.before a (all_below plan a rewriting.admissible f) in
       let first : position_from (first_planned a) (1 + words_in f.before) (planned_from program head at (f.entry ∷ f.after)) ≡ Some (1 + words_in f.before) =
-          ap (λ b. position_from (first_planned a) (1 + words_in f.before) (planned_at head at b 0 items ++ planned_from program head (at + 4 * length items) f.after)) f.here
-          ∙ first_is_here head a at (1 + words_in f.before) items (planned_from program head (at + 4 * length items) f.after) some in
+      ap (λ b. position_from (first_planned a) (1 + words_in f.before) (planned_at head at b 0 items ++ planned_from program head (at + 4 * length items) f.after)) f.here
+      ∙ first_is_here head a at (1 + words_in f.before) items (planned_from program head (at + 4 * length items) f.after) some in
       let whole : position_from (is_first_of a) 0 image ≡ Some (1 + words_in f.before) =
-          position_planned a 0 image ∙ ap (position_from (first_planned a) 0) rewriting.expansion ∙ ap (λ p. position_from (first_planned a) 1 (planned_from program head (address_of_word 1) p)) f.split
-          ∙ skips_entries head a (address_of_word 1) 1 f.before (f.entry ∷ f.after) apart ∙ first in
+      position_planned a 0 image ∙ ap (position_from (first_planned a) 0) rewriting.expansion ∙ ap (λ p. position_from (first_planned a) 1 (planned_from program head (address_of_word 1) p)) f.split
+      ∙ skips_entries head a (address_of_word 1) 1 f.before (f.entry ∷ f.after) apart ∙ first in
       let z : 1 + words_in f.before ≡ suc (words_in f.before + 0) = omega arith in
       ap (option_map address_of_word) (position_from-zero (is_first_of a) image ∙ whole) ∙ ap (λ j. Some (address_of_word j)) z
 
@@ -248,7 +248,7 @@ module _ (program : Program) where
   new_of_none plan image a rewriting apart =
       let head = head_of program plan in
       let none : position_from (first_planned a) 1 (planned_from program head (address_of_word 1) plan) ≡ None =
-          ap (λ p. position_from (first_planned a) 1 (planned_from program head (address_of_word 1) p)) (sym (Rattle.std.proofs.Common.append-nil plan)) ∙ skips_entries head a (address_of_word 1) 1 plan [] apart in
+      ap (λ p. position_from (first_planned a) 1 (planned_from program head (address_of_word 1) p)) (sym (Rattle.std.proofs.Common.append-nil plan)) ∙ skips_entries head a (address_of_word 1) 1 plan [] apart in
       let whole : position_from (is_first_of a) 0 image ≡ None = position_planned a 0 image ∙ ap (position_from (first_planned a) 0) rewriting.expansion ∙ none in
       ap (option_map address_of_word) (position_from-zero (is_first_of a) image ∙ whole)
 

@@ -164,7 +164,7 @@ module _ (program : Program) (plan : List Entry) (image : List Cell) (accepted :
           let value : load_value k (byte_seen program (one s) n) x ≡ load_value k (byte_at program s (one s)) x = ap (λ (f : ℕ → ℕ). load_value k f x) seen in
           record {
             matches = stands_on (answered program s 0 (one s) (LoadsFrom k d x)).state r (copy_after r.local h.2) (suits_after r.local h.2) none running
-              (onward (set_register (one s) d (load_value k (byte_at program s (one s)) x)) (suits_after r.local h.2) (subst (λ v. K (set_register (one s) d v)) value h.3));
+                (onward (set_register (one s) d (load_value k (byte_at program s (one s)) x)) (suits_after r.local h.2) (subst (λ v. K (set_register (one s) d v)) value h.3));
             access = h.0 ∙ ap (Reads k x) value;
             printed = h.1;
             output = sym (ap (λ o. s.output ++ option_to_list o) h.1 ∙ append-nil s.output);
@@ -173,7 +173,7 @@ module _ (program : Program) (plan : List Entry) (image : List Cell) (accepted :
           let suited : Suits program r.local = subst (Suits program) (sym h.2) (record { states = suits.states }) in
           record {
             matches = stands_on (answered program s 0 (one s) (StoresTo w x value)).state r (ap (λ (z : Local). z.copy) h.2 ∙ ap (λ f. shared_after (class_at program x) f (stored w f x value)) copy) suited none running
-              (onward (after_store program (one s) w x value) suited h.3);
+                (onward (after_store program (one s) w x value) suited h.3);
             access = h.0;
             printed = h.1;
             output = sym (ap (λ o. s.output ++ option_to_list o) h.1 ∙ append-nil s.output);
@@ -213,7 +213,7 @@ module _ (program : Program) (plan : List Entry) (image : List Cell) (accepted :
       -- a word of a sequence that is executed
       leads_on : (st : Stands program plan image accepted rewriting (one s) l n) (lane : Lane) (local : Local) (access : Access) (shown : Option ℕ) (v : Move) → lane.at ≡ l.at → (m : Commit)
           → Leads program st.place (length st.before) (At st) (Left st) (one s) n
-            (record { lane = lane; local = local; access = access; printed = shown; move = v }) m v
+          (record { lane = lane; local = local; access = access; printed = shown; move = v }) m v
           → Advances s (record { lane = lane; local = local; access = access; printed = shown; move = v }) (is_some (exit_of v) || commits_by m)
       leads_on st lane local access shown (Leaves e) same m h = leaves_on (record { lane = lane; local = local; access = access; printed = shown; move = Leaves e }) e refl h (commits_by m)
       leads_on st lane local access shown Next same m h =
@@ -242,7 +242,7 @@ module _ (program : Program) (plan : List Entry) (image : List Cell) (accepted :
           let is : worded program place at (said (head_of program plan) at (GoesTo b)) l n ≡ goes lane n (To target) = ap (λ z. native program place at l n (demand.Jumps 0 z)) reached ∙ rw aligned refl in
           subst (Quiet s) (sym is) (record {
             matches = stands_on s (goes lane n (To target)) copy suits refl running
-              (from_head program plan image accepted rewriting b (one s) (record lane { at = target }) n suits f there
+                (from_head program plan image accepted rewriting b (one s) (record lane { at = target }) n suits f there
                 (record { place = head.place; running = head.running; agree = λ r live. put_zero l.registers (next_pc at) r ∙ head.agree r live; private = head.private; written = head.written }));
             access = refl;
             printed = refl;
@@ -252,7 +252,7 @@ module _ (program : Program) (plan : List Entry) (image : List Cell) (accepted :
           → ItemLeads program st.place (length st.before) (At st) (Left st) m (one s) l n what
           → At st < 2 ^ 32
           → Advances s (worded program st.place (At st) (said (head_of program plan) (At st) what) l n)
-            (is_some (exit_of (worded program st.place (At st) (said (head_of program plan) (At st) what) l n).move) || commits_by m)
+          (is_some (exit_of (worded program st.place (At st) (said (head_of program plan) (At st) what) l n).move) || commits_by m)
       item_on st (Runs w) m h low =
           let r = worded program st.place (At st) w l n in
           leads_on st r.lane r.local r.access r.printed r.move (stays program st.place (At st) w l n) m h
@@ -288,16 +288,16 @@ module _ (program : Program) (plan : List Entry) (image : List Cell) (accepted :
         let f : Fetched = record { what = said (head_of program plan) at st.item.what; place = Some (record { address = st.place; word = length st.before }) } in
         let fetch_is : fetched image at ≡ Some f = fetch program plan image st.place (length st.before) st.item rewriting st.entry there in
         let acts_as : act program image l n ≡ worded program st.place at f.what l n =
-            ap (λ x. acted_at program (fetched image x) l n) st.at ∙ ap (λ o. acted_at program o l n) fetch_is ∙ ap (λ x. worded program st.place x f.what l n) st.at in
+        ap (λ x. acted_at program (fetched image x) l n) st.at ∙ ap (λ o. acted_at program o l n) fetch_is ∙ ap (λ x. worded program st.place x f.what l n) st.at in
         let mark_is : mark_at l.at ≡ st.item.commit = ap mark_at st.at ∙ ap (λ o. option_map_or (λ (g : Fetched). commit_at program plan g.place) o Never) fetch_is
-            ∙ mark program plan st.place (length st.before) st.item rewriting.admissible st.entry there in
+        ∙ mark program plan st.place (length st.before) st.item rewriting.admissible st.entry there in
         let low = in_range program plan image st.place (length st.before) st.item rewriting st.entry there in
         let led = item_on budget executed s l n copy suits running st st.item.what st.item.commit st.does (omega (arith, low)) in
         subst (λ (r : Acted). Advances budget executed s r (is_some (exit_of r.move) || commits_by (mark_at l.at))) (sym acts_as)
         (subst (λ m. Advances budget executed s (worded program st.place at f.what l n) (is_some (exit_of (worded program st.place at f.what l n).move) || commits_by m)) (sym mark_is) led)
     advance_standing executed s l n copy suits running (inr off) =
         let acts_as : act program image l n ≡ exits l n (Fetch l.off) =
-            ap (λ x. acted_at program (fetched image x) l n) off.at ∙ ap (λ o. acted_at program o l n) (fetch_off program plan image rewriting) in
+        ap (λ x. acted_at program (fetched image x) l n) off.at ∙ ap (λ o. acted_at program o l n) (fetch_off program plan image rewriting) in
         let ask : asked program (one s) ≡ Becomes (ended (one s) (Fetch l.off)) = ap (asked_at program (one s)) off.no_code ∙ ap (λ x. Becomes (ended (one s) (Fetch x))) (sym off.off) in
         subst (λ (r : Acted). Advances budget executed s r (is_some (exit_of r.move) || commits_by (mark_at l.at))) (sym acts_as)
         (leaves_on budget executed s l n copy suits running (exits l n (Fetch l.off)) (Fetch l.off) refl (ask, refl, refl, refl) (commits_by (mark_at l.at)))

@@ -191,7 +191,7 @@ module _ (program : Program) (b : ℕ) where
     running = m.running;
     agree = λ r live. elim (eqb_tells r s) [
       | inl e ↦ subst (λ y. Kept y r q (with_reg l s (l.spills k))) (sym (ap h e.1 ∙ sh))
-        (ap (reg (put l.registers s (l.spills k))) e.1 ∙ put_here l.registers s (l.spills k) s0 ∙ (rw e.0 at (m.agree r live)))
+          (ap (reg (put l.registers s (l.spills k))) e.1 ∙ put_here l.registers s (l.spills k) s0 ∙ (rw e.0 at (m.agree r live)))
       | inr e ↦ kept_put (h r) r s (l.spills k) q l e.1 (rw e.0 at (m.agree r live))
     ];
     private = m.private;
@@ -238,7 +238,7 @@ module _ (program : Program) (a : ℕ) where
   spills true j s k at h q l n rest i sh free dead m al go =
       let where_is : (reg l.registers 0 + unsigned 32 (spill_offset j)) % 2 ^ 32 ≡ i.address = ap (λ z. (z + unsigned 32 (spill_offset j)) % 2 ^ 32) (reg_zero l.registers) ∙ i.offset in
       let acts : worded program a at (Native (Store Word 0 s (spill_offset j))) l n ≡ goes (with_spill l j (reg l.registers s)) n Next =
-          ap (λ z. native program a at l n (Stores Word z (reg l.registers s))) where_is ∙ rw (i.aligns, i.is) refl in
+      ap (λ z. native program a at l n (Stores Word z (reg l.registers s))) where_is ∙ rw (i.aligns, i.is) refl in
       own_next k at (Store Word 0 s (spill_offset j)) rest q l (with_spill l j (reg l.registers s)) n acts
       (λ x y. go (k + 1) (next_pc at) _ (next_aligned at al) (mid_placed program a (hiding true j s h) q _ x y (hidden_in program a h j s q l sh free m)))
   spills false j s k at h q l n rest i sh free dead m al go = go k at l al (hidden_dead program a h j s q l (dead refl) m)
@@ -249,7 +249,7 @@ module _ (program : Program) (a : ℕ) where
   reloads true j s k at b h q l n rest i s0 sh m go =
       let where_is : (reg l.registers 0 + unsigned 32 (spill_offset j)) % 2 ^ 32 ≡ i.address = ap (λ z. (z + unsigned 32 (spill_offset j)) % 2 ^ 32) (reg_zero l.registers) ∙ i.offset in
       let acts : worded program a at (Native (Load load_kind.Word s 0 (spill_offset j))) l n ≡ goes (with_reg l s (l.spills j)) n Next =
-          ap (λ z. native program a at l n (Loads load_kind.Word s z)) where_is ∙ rw (i.aligns, i.is) refl in
+      ap (λ z. native program a at l n (Loads load_kind.Word s z)) where_is ∙ rw (i.aligns, i.is) refl in
       own_next k at (Load load_kind.Word s 0 (spill_offset j)) rest q l (with_reg l s (l.spills j)) n acts
       (λ x y. go (k + 1) (next_pc at) _ (mid_placed program b h q _ x y (shown_again program b h j s q l s0 sh m)))
   reloads false j s k at b h q l n rest i s0 sh m go = go k at l (shown_dead program b h j s q l m)
@@ -289,8 +289,8 @@ module _ (program : Program) (a : ℕ) where
       let v5 = n.state (x / 64) in
       let m5 = own_set program a h q l4 s v5 hs (mid_placed program a h q (with_reg l3 s v4) x4 y4 m4) in
       let byte : worded program a (next_pc (next_pc (next_pc (next_pc at)))) (Native (Load load_kind.ByteU s s (pos 0))) l4 n ≡ goes (with_reg l4 s v5) n Next =
-          ap (λ z. native program a (next_pc (next_pc (next_pc (next_pc at)))) l4 n (Loads load_kind.ByteU s ((z + 0) % 2 ^ 32))) s4
-          ∙ rw (aligned_byte ((v4 + 0) % 2 ^ 32)) (ap (loaded program l4 n load_kind.ByteU s ((v4 + 0) % 2 ^ 32)) (table_at x (omega arith))) in
+      ap (λ z. native program a (next_pc (next_pc (next_pc (next_pc at)))) l4 n (Loads load_kind.ByteU s ((z + 0) % 2 ^ 32))) s4
+      ∙ rw (aligned_byte ((v4 + 0) % 2 ^ 32)) (ap (loaded program l4 n load_kind.ByteU s ((v4 + 0) % 2 ^ 32)) (table_at x (omega arith))) in
       own_next (k + 1 + 1 + 1 + 1) (next_pc (next_pc (next_pc (next_pc at)))) (Load load_kind.ByteU s s (pos 0)) rest q l4 (with_reg l4 s v5) n byte (λ x5 y5.
       go (k + 1 + 1 + 1 + 1 + 1) (next_pc (next_pc (next_pc (next_pc (next_pc at))))) (placed x5 y5 (with_reg l4 s v5))
       (next_aligned _ (next_aligned _ (next_aligned _ (next_aligned _ (next_aligned at al)))))

@@ -111,12 +111,12 @@ module _ (program : Program) (plan : List Entry) (image : List Cell) (accepted :
   pub enters : (a : ℕ) (q : Processor) (l : Lane) (n : Local) → Suits program n → AtHead program a q l → Standing q (entered l a (new_of image a)) n
   enters a q l n suits head = elim (member program plan a) [
     | inl f ↦ (
-      let new : new_of image a ≡ Some (word_address program f 0) = new_of_place program plan image a rewriting f (some_items f.entry (program.code f.entry.address)) in
-      subst (λ o. Standing q (entered l a o) n) (sym new) (from_head a q (record l { at = word_address program f 0 }) n suits f refl
+        let new : new_of image a ≡ Some (word_address program f 0) = new_of_place program plan image a rewriting f (some_items f.entry (program.code f.entry.address)) in
+        subst (λ o. Standing q (entered l a o) n) (sym new) (from_head a q (record l { at = word_address program f 0 }) n suits f refl
         (record { place = head.place; running = head.running; agree = head.agree; private = head.private; written = head.written })))
     | inr apart ↦ (
-      let new : new_of image a ≡ None = new_of_none program plan image a rewriting apart in
-      subst (λ o. Standing q (entered l a o) n) (sym new) (inr (record { at = refl; off = sym head.place; no_code = ap program.code head.place ∙ no_code a apart (program.code a) refl })))
+        let new : new_of image a ≡ None = new_of_none program plan image a rewriting apart in
+        subst (λ o. Standing q (entered l a o) n) (sym new) (inr (record { at = refl; off = sym head.place; no_code = ap program.code head.place ∙ no_code a apart (program.code a) refl })))
   ]
     where
       no_code : (a : ℕ) → AllApart program plan a → (o : Option Instr) → program.code a ≡ o → program.code a ≡ None
@@ -138,7 +138,7 @@ module _ (program : Program) (plan : List Entry) (image : List Cell) (accepted :
       let there : slice_get (items_at program f) (length before) ≡ Some i = ap (λ xs. slice_get xs (length before)) e ∙ get_middle before i is in
       let count : length before + 1 ≡ length (before ++ i ∷ []) = sym (length-append before (i ∷ [])) in
       let word : next_pc (word_address program f (length before)) ≡ word_address program f (length (before ++ i ∷ [])) =
-          next_word program plan image a (length before) i rewriting f there ∙ ap (word_address program f) count in
+      next_word program plan image a (length before) i rewriting f there ∙ ap (word_address program f) count in
       lands s a q l n suits f (before ++ i ∷ []) is (e ∙ sym (append_assoc before (i ∷ []) is)) (at ∙ ap (skip_to s) word)
       (subst (λ k. Does program a k (word_address program f (length (before ++ i ∷ []))) is s q l n) count (subst (λ x. Does program a (length before + 1) x is s q l n) word does))
 

@@ -102,24 +102,30 @@ module _ (program : Program) (accepted : IsAccepted program) where
     plain_does rd v i at h here there only next =
         let ask : asked program q ≡ Becomes (set_register q rd v) = asks program a q i head.place h ∙ ap (asked_for program q) there in
         becomes 0 at (Native i) [] (set_register q rd v) (node.set_register l rd v) (ap (native program a at l n) here) ask head.running
-        (λ x y. ((i, h), record {
-          place = next_is program accepted a q i head.place h;
-          running = head.running;
-          agree = λ r live. put_both l.registers q.registers rd v r (λ ne. head.agree r (passes i (a + 4) h (only r ne) next live));
-          private = head.private;
-          written = head.written;
-        }))
+        (λ x y. (
+          (i, h),
+          record {
+            place = next_is program accepted a q i head.place h;
+            running = head.running;
+            agree = λ r live. put_both l.registers q.registers rd v r (λ ne. head.agree r (passes i (a + 4) h (only r ne) next live));
+            private = head.private;
+            written = head.written;
+          },
+        ))
 
     fence_does : (rd rs1 bits at : ℕ) → program.code a ≡ Some (Fence rd rs1 bits) → Does program a 0 at (committing (Native (Fence rd rs1 bits)) []) 0 q l n
     fence_does rd rs1 bits at h =
         becomes 0 at (Native (Fence rd rs1 bits)) [] (continued q) l refl (asks program a q (Fence rd rs1 bits) head.place h) head.running
-        (λ x y. ((Fence rd rs1 bits, h), record {
-          place = next_is program accepted a q (Fence rd rs1 bits) head.place h;
-          running = head.running;
-          agree = λ r live. head.agree r (passes (Fence rd rs1 bits) (a + 4) h (λ d. cc) refl live);
-          private = head.private;
-          written = head.written;
-        }))
+        (λ x y. (
+          (Fence rd rs1 bits, h),
+          record {
+            place = next_is program accepted a q (Fence rd rs1 bits) head.place h;
+            running = head.running;
+            agree = λ r live. head.agree r (passes (Fence rd rs1 bits) (a + 4) h (λ d. cc) refl live);
+            private = head.private;
+            written = head.written;
+          },
+        ))
 
     -- a number in a register by two words, of which the second commits
     constant_does : (k at rd c : ℕ) (rest : List Item) (q' : Processor) → c < 2 ^ 32 → asked program q ≡ Becomes q' → q'.exit ≡ None
@@ -131,23 +137,31 @@ module _ (program : Program) (accepted : IsAccepted program) where
         let v = (reg l1.registers rd + unsigned 32 (lower_part c)) % 2 ^ 32 in
         let l2 = node.set_register l1 rd v in
         let is : worded program a (next_pc at) (Native (OpImm imm_op.Add rd rd (lower_part c))) l1 n ≡ goes l2 n Next =
-            ap (λ z. native program a (next_pc at) l1 n (Sets rd z)) (alu_add (reg l1.registers rd) (unsigned 32 (lower_part c))) in
+        ap (λ z. native program a (next_pc at) l1 n (Sets rd z)) (alu_add (reg l1.registers rd) (unsigned 32 (lower_part c))) in
         subst (λ (r : Acted). Leads program a (k + 1) (next_pc at) (λ s. Does program a (k + 1 + 1) (next_pc (next_pc at)) rest s) q n r Always r.move) (sym is)
-        (subst (Commits program (λ p. (x y : ℕ) → Does program a (k + 1 + 1) (next_pc (next_pc at)) rest 0 p (placed x y l2) n) q n (goes l2 n Next)) (sym ask) (run, refl, refl, refl,
-        λ x2 y2. go x2 y2 l2 (λ r. put_twice l.registers rd (upper_part c * 2 ^ 12) v r ∙ number_in rd c l.registers small r) refl refl)))
+        (subst (Commits program (λ p. (x y : ℕ) → Does program a (k + 1 + 1) (next_pc (next_pc at)) rest 0 p (placed x y l2) n) q n (goes l2 n Next)) (sym ask) (
+          run,
+          refl,
+          refl,
+          refl,
+          λ x2 y2. go x2 y2 l2 (λ r. put_twice l.registers rd (upper_part c * 2 ^ 12) v r ∙ number_in rd c l.registers small r) refl refl,
+        )))
 
     -- an address of the program's counter in a register
     address_does : (rd upper at : ℕ) → program.code a ≡ Some (Auipc rd upper) → Does program a 0 at (constant rd ((a + upper * 2 ^ 12) % 2 ^ 32) []) 0 q l n
     address_does rd upper at h =
         let c = (a + upper * 2 ^ 12) % 2 ^ 32 in
         let ask : asked program q ≡ Becomes (set_register q rd c) = asks program a q (Auipc rd upper) head.place h ∙ ap (λ z. Becomes (set_register q rd ((z + upper * 2 ^ 12) % 2 ^ 32))) head.place in
-        constant_does 0 at rd c [] (set_register q rd c) (omega arith) ask head.running (λ x y l' same private written. ((Auipc rd upper, h), record {
-          place = next_is program accepted a q (Auipc rd upper) head.place h;
-          running = head.running;
-          agree = λ r live. same r ∙ put_both l.registers q.registers rd c r (λ ne. head.agree r (passes (Auipc rd upper) (a + 4) h (λ d. ne (cc)) refl live));
-          private = private ∙ head.private;
-          written = written ∙ head.written;
-        }))
+        constant_does 0 at rd c [] (set_register q rd c) (omega arith) ask head.running (λ x y l' same private written. (
+          (Auipc rd upper, h),
+          record {
+            place = next_is program accepted a q (Auipc rd upper) head.place h;
+            running = head.running;
+            agree = λ r live. same r ∙ put_both l.registers q.registers rd c r (λ ne. head.agree r (passes (Auipc rd upper) (a + 4) h (λ d. ne (cc)) refl live));
+            private = private ∙ head.private;
+            written = written ∙ head.written;
+          },
+        ))
 
     -- a taken branch or jump to an address that isn't a multiple of four ends the processor
     off_target : (at : ℕ) → at % 4 ≡ 0 → eqb (displaced at (pos 2) % 4) 0 ≡ false
@@ -159,21 +173,24 @@ module _ (program : Program) (accepted : IsAccepted program) where
         let t = displaced a offset in
         let four : t % 4 ≡ 0 = grind (arith, nat_tests) in
         let ask : asked program q ≡ Becomes (jumped q rd t) =
-            asks program a q (Jal rd offset) head.place h ∙ ap (λ z. asked_for program q (Jumps rd (displaced z offset))) head.place ∙ ap (λ b. asked_unless program q (Jumps rd t) (cond b None (Some (Misaligned q.pc)))) al in
+        asks program a q (Jal rd offset) head.place h ∙ ap (λ z. asked_for program q (Jumps rd (displaced z offset))) head.place ∙ ap (λ b. asked_unless program q (Jumps rd t) (cond b None (Some (Misaligned q.pc)))) al in
         let next : (a + 4) % 2 ^ 32 ≡ next_pc q.pc = ap next_pc (sym head.place) in
-        constant_does 0 at rd ((a + 4) % 2 ^ 32) (going_to t) (jumped q rd t) (omega arith) ask head.running (λ x y l' same private written.
-        (refl, aligned_place program a t (Jal rd offset) h refl four, record {
-          place = refl;
-          running = head.running;
-          agree = λ r live. same r ∙ put_both l.registers q.registers rd ((a + 4) % 2 ^ 32) r (λ ne. head.agree r (passes (Jal rd offset) t h (λ d. ne (cc)) (refl, four) live)) ∙ ap (λ z. reg (put q.registers rd z) r) next;
-          private = private ∙ head.private;
-          written = written ∙ head.written;
-        }))
+        constant_does 0 at rd ((a + 4) % 2 ^ 32) (going_to t) (jumped q rd t) (omega arith) ask head.running (λ x y l' same private written. (
+          refl,
+          aligned_place program a t (Jal rd offset) h refl four,
+          record {
+            place = refl;
+            running = head.running;
+            agree = λ r live. same r ∙ put_both l.registers q.registers rd ((a + 4) % 2 ^ 32) r (λ ne. head.agree r (passes (Jal rd offset) t h (λ d. ne (cc)) (refl, four) live)) ∙ ap (λ z. reg (put q.registers rd z) r) next;
+            private = private ∙ head.private;
+            written = written ∙ head.written;
+          },
+        ))
     jump_does rd offset at h m false al =
         let t = displaced a offset in
         let ask : asked program q ≡ Becomes (ended q (Misaligned a)) =
-            asks program a q (Jal rd offset) head.place h ∙ ap (λ z. asked_for program q (Jumps rd (displaced z offset))) head.place ∙ ap (λ b. asked_unless program q (Jumps rd t) (cond b None (Some (Misaligned q.pc)))) al
-            ∙ ap (λ z. Becomes (ended q (Misaligned z))) head.place in
+        asks program a q (Jal rd offset) head.place h ∙ ap (λ z. asked_for program q (Jumps rd (displaced z offset))) head.place ∙ ap (λ b. asked_unless program q (Jumps rd t) (cond b None (Some (Misaligned q.pc)))) al
+        ∙ ap (λ z. Becomes (ended q (Misaligned z))) head.place in
         ends_here 0 at (Native (Jal 0 (pos 2))) Always [] (Misaligned a) (rw (off_target at m) refl) ask
 
     module _ (c : Cond) (rs1 rs2 : ℕ) (offset : ℤ) (h : program.code a ≡ Some (Branch c rs1 rs2 offset)) where
@@ -207,27 +224,36 @@ module _ (program : Program) (accepted : IsAccepted program) where
         where
           t : ℕ
           t = displaced a offset
+
           four : t % 4 ≡ 0
           four = grind (arith, nat_tests)
+
           rest : List Item
           rest = going_to t
+
           K : ℕ → Processor → Lane → Local → Type 0
           K = λ s. Does program a (0 + 1) (next_pc at) rest s
+
           acts : (b : Bool) → is_taken ≡ b → worded program a at (Native (Branch (inverse c) rs1 rs2 (pos 8))) l n ≡ native program a at l n (branch_demand (not b) (displaced at (pos 8)))
           acts b e = ap (λ z. native program a at l n (branch_demand (taken (inverse c) z (reg l.registers rs2)) (displaced at (pos 8)))) same_1
               ∙ ap (λ z. native program a at l n (branch_demand (taken (inverse c) (reg q.registers rs1) z) (displaced at (pos 8)))) same_2
               ∙ ap (λ z. native program a at l n (branch_demand z (displaced at (pos 8)))) (inverse_taken c (reg q.registers rs1) (reg q.registers rs2) ∙ ap not e)
+
           go : (b : Bool) → is_taken ≡ b → Does program a 0 at (branch_sequence true c rs1 rs2 (displaced a offset)) 0 q l n
           go true e =
               let ask : asked program q ≡ Becomes (branched q t) = asks_branch true e ∙ ap (λ b. asked_unless program q (Branches t) (cond b None (Some (Misaligned q.pc)))) al in
               becomes 0 at (Native (Branch (inverse c) rs1 rs2 (pos 8))) rest (branched q t) l (acts true e) ask head.running
-              (λ x y. (refl, aligned_place program a t (Branch c rs1 rs2 offset) h refl four, record {
-                place = refl;
-                running = head.running;
-                agree = λ r live. head.agree r (passes (Branch c rs1 rs2 offset) t h (λ d. cc) (inr (refl, four)) live);
-                private = head.private;
-                written = head.written;
-              }))
+              (λ x y. (
+                refl,
+                aligned_place program a t (Branch c rs1 rs2 offset) h refl four,
+                record {
+                  place = refl;
+                  running = head.running;
+                  agree = λ r live. head.agree r (passes (Branch c rs1 rs2 offset) t h (λ d. cc) (inr (refl, four)) live);
+                  private = head.private;
+                  written = head.written;
+                },
+              ))
           go false e =
               let ask : asked program q ≡ Becomes (continued q) = asks_branch false e in
               let eight : displaced at (pos 8) % 4 ≡ 0 = omega arith in
@@ -241,14 +267,16 @@ module _ (program : Program) (accepted : IsAccepted program) where
         where
           t : ℕ
           t = displaced a offset
+
           acts : (b : Bool) → is_taken ≡ b → worded program a at (Native (Branch c rs1 rs2 (pos 2))) l n ≡ native program a at l n (branch_demand b (displaced at (pos 2)))
           acts b e = ap (λ z. native program a at l n (branch_demand (taken c z (reg l.registers rs2)) (displaced at (pos 2)))) same_1
               ∙ ap (λ z. native program a at l n (branch_demand (taken c (reg q.registers rs1) z) (displaced at (pos 2)))) same_2
               ∙ ap (λ z. native program a at l n (branch_demand z (displaced at (pos 2)))) e
+
           go : (b : Bool) → is_taken ≡ b → Does program a 0 at (branch_sequence false c rs1 rs2 (displaced a offset)) 0 q l n
           go true e =
               let ask : asked program q ≡ Becomes (ended q (Misaligned a)) =
-                  asks_branch true e ∙ ap (λ b. asked_unless program q (Branches t) (cond b None (Some (Misaligned q.pc)))) al ∙ ap (λ z. Becomes (ended q (Misaligned z))) head.place in
+              asks_branch true e ∙ ap (λ b. asked_unless program q (Branches t) (cond b None (Some (Misaligned q.pc)))) al ∙ ap (λ z. Becomes (ended q (Misaligned z))) head.place in
               ends_here 0 at (Native (Branch c rs1 rs2 (pos 2))) Always [] (Misaligned a) (acts true e ∙ rw (off_target at m) refl) ask
           go false e = becomes 0 at (Native (Branch c rs1 rs2 (pos 2))) [] (continued q) l (acts false e) (asks_branch false e) head.running (λ x y. ((Branch c rs1 rs2 offset, h), falls x y))
 
@@ -262,28 +290,38 @@ module _ (program : Program) (accepted : IsAccepted program) where
       where
         t : ℕ
         t = displaced (reg q.registers rs1) imm / 2 * 2
+
         same : (r : ℕ) → reg l.registers r ≡ reg q.registers r
         same r = head.agree r (uses (Jalr rd rs1 imm) h (inl refl))
+
         K : ℕ → Processor → Lane → Local → Type 0
         K = λ s. Does program a (0 + 1) (next_pc at) [] s
+
         acts : worded program a at (Xjalr rd rs1 imm) l n ≡ indirect a l n rd t
         acts = ap (λ z. indirect a l n rd (displaced z imm / 2 * 2)) (same rs1)
+
         go : (b : Bool) → eqb (t % 4) 0 ≡ b → Does program a 0 at (committing (Xjalr rd rs1 imm) []) 0 q l n
         go true e =
             let ask : asked program q ≡ Becomes (jumped q rd t) = asks program a q (Jalr rd rs1 imm) head.place h ∙ ap (λ b. asked_unless program q (Jumps rd t) (cond b None (Some (Misaligned q.pc)))) e in
             let l' = node.set_register l rd (next_pc a) in
             let is : worded program a at (Xjalr rd rs1 imm) l n ≡ goes l' n (Enters t) = acts ∙ rw e refl in
             subst (λ (r : Acted). Leads program a 0 at K q n r Always r.move) (sym is)
-            (subst (Commits program (λ p. AtHead program t p l') q n (goes l' n (Enters t))) (sym ask) (head.running, refl, refl, refl, record {
-              place = refl;
-              running = head.running;
-              agree = λ r live. put_both l.registers q.registers rd (next_pc a) r (λ ne. same r) ∙ ap (λ z. reg (put q.registers rd (next_pc z)) r) (sym head.place);
-              private = head.private;
-              written = head.written;
-            }))
+            (subst (Commits program (λ p. AtHead program t p l') q n (goes l' n (Enters t))) (sym ask) (
+              head.running,
+              refl,
+              refl,
+              refl,
+              record {
+                place = refl;
+                running = head.running;
+                agree = λ r live. put_both l.registers q.registers rd (next_pc a) r (λ ne. same r) ∙ ap (λ z. reg (put q.registers rd (next_pc z)) r) (sym head.place);
+                private = head.private;
+                written = head.written;
+              },
+            ))
         go false e =
             let ask : asked program q ≡ Becomes (ended q (Misaligned a)) =
-                asks program a q (Jalr rd rs1 imm) head.place h ∙ ap (λ b. asked_unless program q (Jumps rd t) (cond b None (Some (Misaligned q.pc)))) e ∙ ap (λ z. Becomes (ended q (Misaligned z))) head.place in
+            asks program a q (Jalr rd rs1 imm) head.place h ∙ ap (λ b. asked_unless program q (Jumps rd t) (cond b None (Some (Misaligned q.pc)))) e ∙ ap (λ z. Becomes (ended q (Misaligned z))) head.place in
             ends_here 0 at (Xjalr rd rs1 imm) Always [] (Misaligned a) (acts ∙ rw e refl) ask
 
     break_does : (at : ℕ) → program.code a ≡ Some Ebreak → Does program a 0 at (committing TrapEbreak []) 0 q l n
@@ -305,13 +343,22 @@ module _ (program : Program) (accepted : IsAccepted program) where
 
       returns_does : (v : ℕ) → asked program q ≡ Becomes (returned q v) → Good (goes (node.returned l v) n Next)
       returns_does v ask =
-          subst (Commits program (λ p. (x y : ℕ) → Does program a (0 + 1) (next_pc at) [] 0 p (placed x y (node.returned l v)) n) q n (goes (node.returned l v) n Next)) (sym ask) (head.running, refl, refl, refl, λ x y. ((Ecall, h), record {
-            place = next_is program accepted a q Ecall head.place h;
-            running = head.running;
-            agree = λ r live. put_both l.registers q.registers 10 v r (λ ne. same_all r);
-            private = head.private;
-            written = refl;
-          }))
+          subst (Commits program (λ p. (x y : ℕ) → Does program a (0 + 1) (next_pc at) [] 0 p (placed x y (node.returned l v)) n) q n (goes (node.returned l v) n Next)) (sym ask) (
+            head.running,
+            refl,
+            refl,
+            refl,
+            λ x y. (
+              (Ecall, h),
+              record {
+                place = next_is program accepted a q Ecall head.place h;
+                running = head.running;
+                agree = λ r live. put_both l.registers q.registers 10 v r (λ ne. same_all r);
+                private = head.private;
+                written = refl;
+              },
+            ),
+          )
 
       mapped_state : (c : Class) → is_mapped_state (first_state c) ≡ is_mapped c
       mapped_state Shared = refl
@@ -322,15 +369,21 @@ module _ (program : Program) (accepted : IsAccepted program) where
       prints_does : (x : ℕ) → is_mapped (class_at program x) ≡ true → asked program q ≡ Prints x → Good (node.printing l n x (byte_loaded program l n x))
       prints_does x mapped ask =
           let byte : byte_loaded program l n x ≡ byte_seen program q n x =
-              byte_mapped (class_at program x) (n.copy x) (program.first x) (l.private x) (flag_byte x) mapped ∙ ap (λ f. byte_by (class_at program x) (n.copy x) (program.first x) (f x) 0) head.private in
-          (refl, subst (Commits program (λ p. AtHead program a p (node.printing l n x (byte_loaded program l n x)).lane) q n (node.printing l n x (byte_loaded program l n x))) (sym ask)
-          (ap (Reads ByteU x) byte, ap (λ b. Some b) byte, refl, record {
-            place = head.place;
-            running = head.running;
-            agree = head.agree;
-            private = head.private;
-            written = ap (λ w. w + 1) head.written;
-          }))
+          byte_mapped (class_at program x) (n.copy x) (program.first x) (l.private x) (flag_byte x) mapped ∙ ap (λ f. byte_by (class_at program x) (n.copy x) (program.first x) (f x) 0) head.private in (
+            refl,
+            subst (Commits program (λ p. AtHead program a p (node.printing l n x (byte_loaded program l n x)).lane) q n (node.printing l n x (byte_loaded program l n x))) (sym ask) (
+              ap (Reads ByteU x) byte,
+              ap (λ b. Some b) byte,
+              refl,
+              record {
+                place = head.place;
+                running = head.running;
+                agree = head.agree;
+                private = head.private;
+                written = ap (λ w. w + 1) head.written;
+              },
+            ),
+          )
 
       abbrev put_result : ℕ → Bool → Acted
       put_result x b = cond b (node.printing l n x (byte_loaded program l n x)) (goes (node.returned l (cut_short l.written)) n Next)
@@ -342,13 +395,14 @@ module _ (program : Program) (accepted : IsAccepted program) where
         where
           state_is : is_mapped_state (n.state (line_of x)) ≡ is_mapped (class_at program x)
           state_is = ap is_mapped_state (suits.states (line_of x)) ∙ mapped_state (class_at program x)
+
           go : (b : Bool) → is_mapped (class_at program x) ≡ b → Good (called program l n (Puts x))
           go true e =
               let ask_byte : asked program q ≡ Prints x = ask ∙ ap (λ t. cond t (Prints x) (Becomes (returned q (cut_short q.written)))) e in
               subst (λ t. Good (put_result x t)) (sym (state_is ∙ e)) (prints_does x e ask_byte)
           go false e =
               let cut : asked program q ≡ Becomes (returned q (cut_short l.written)) =
-                  ask ∙ ap (λ t. cond t (Prints x) (Becomes (returned q (cut_short q.written)))) e ∙ ap (λ w. Becomes (returned q (cut_short w))) (sym head.written) in
+              ask ∙ ap (λ t. cond t (Prints x) (Becomes (returned q (cut_short q.written)))) e ∙ ap (λ w. Becomes (returned q (cut_short w))) (sym head.written) in
               subst (λ t. Good (put_result x t)) (sym (state_is ∙ e)) (returns_does (cut_short l.written) cut)
 
       call_does : Does program a 0 at (committing Call []) 0 q l n

@@ -47,8 +47,8 @@ pub struct Report {
 /// Does what a command asks for with the bytes of its file.
 pub fn report_of(alloc: Global, command: Command<'_>, file: &[u8]) -> Result<Report, Refused>
     requires { IsInRange (asked command) }
-    ensures ok { IfOk result (λ r. IsText (asked command) file.now r.text.items r.status) }
-    ensures refused { IfErr result (λ r. IsRefusal (asked command) file.now r) }
+    ensures ok { IfOk result (λ r. IsText (asked command.entry) file.now r.text.items r.status) }
+    ensures refused { IfErr result (λ r. IsRefusal (asked command.entry) file.now r) }
 {
     match command {
         Command::Run { file: _, budget } => run_file(alloc, file, budget),

@@ -1,7 +1,7 @@
 //! The top call.
 
 ghost use Rattle.std.specs.Prelude.{◌≡◌, ◌≢◌, ◌≤◌, ◌⊎◌, ℕ, List, Some, IfOk};
-ghost use Rattle.command_line.specs.Commands.{Command, Asks};
+ghost use Rattle.command_line.specs.Commands as model;
 ghost use Rattle.command_line.specs.Asked.{asked};
 ghost use Rattle.shasta.specs.Headline.{file_of, Prints, PrintsFront, IsRefused, Tells, IsFault};
 ghost use Rattle.shasta.specs.Text.{usage, cannot_read, too_long, too_many_words, cannot_write_output, out_of_memory};
@@ -31,23 +31,23 @@ pub fn shasta<F: Files, O: Sink, E: Sink, G: Gate + Sync>(
     ensures range { result ≤ 5 }
 
     // Status 2 is for exactly the words that ask for nothing; the usage text is told.
-    ensures faulty { result ≡ 2 → (c : Command) → Asks words.now c → ⊥ }
-    ensures asked { result ≢ 2 → (c : Command) × Asks words.now c }
+    ensures faulty { result ≡ 2 → (c : model.Command) → model.Asks words.now c → ⊥ }
+    ensures asked { result ≢ 2 → (c : model.Command) × model.Asks words.now c }
     ensures usage { result ≡ 2 → Tells (E.taken err.old) (E.taken err.new) (E.faults err.old) (E.faults err.new) usage }
 
     // With status 0 and 1 the text is what the command asks for: of `run`, that of a run of the original on one memory.
     // `err` took nothing.
-    ensures ran { (c : Command) (file : List ℕ) → Asks words.now c → F.held files.old (file_of c) ≡ Some file → result ≤ 1
+    ensures ran { (c : model.Command) (file : List ℕ) → model.Asks words.now c → F.held files.old (file_of c) ≡ Some file → result ≤ 1
         → Prints c file (O.taken out.old) (O.taken out.new) result }
     ensures quiet { result ≤ 1 → E.taken err.new ≡ E.taken err.old }
 
     // Status 4 is for a refused executable; the refusal is told.
-    ensures refused { (c : Command) (file : List ℕ) → Asks words.now c → F.held files.old (file_of c) ≡ Some file → result ≡ 4
+    ensures refused { (c : model.Command) (file : List ℕ) → model.Asks words.now c → F.held files.old (file_of c) ≡ Some file → result ≡ 4
         → (line : List ℕ) × IsRefused c file line × Tells (E.taken err.old) (E.taken err.new) (E.faults err.old) (E.faults err.new) line }
     ensures nothing { (result ≡ 2) ⊎ (result ≡ 4) → O.taken out.new ≡ O.taken out.old }
 
     // Status 3 comes only where a count of faults rose in this call, or the file is too long; its line names which.
-    ensures fault { (c : Command) → Asks words.now c → result ≡ 3
+    ensures fault { (c : model.Command) → model.Asks words.now c → result ≡ 3
         → IsFault (F.held files.old (file_of c)) (F.failed_reads files.old (file_of c)) (F.failed_reads files.new (file_of c)) (O.faults out.old) (O.faults out.new) (file_of c)
         (λ line. Tells (E.taken err.old) (E.taken err.new) (E.faults err.old) (E.faults err.new) line) }
 
@@ -55,7 +55,7 @@ pub fn shasta<F: Files, O: Sink, E: Sink, G: Gate + Sync>(
     ensures wanted { result ≡ 5 → Tells (E.taken err.old) (E.taken err.new) (E.faults err.old) (E.faults err.new) out_of_memory }
 
     // With status 3 and 5 a front of the text was put, or nothing.
-    ensures front { (c : Command) (file : List ℕ) → Asks words.now c → F.held files.old (file_of c) ≡ Some file → (result ≡ 3) ⊎ (result ≡ 5)
+    ensures front { (c : model.Command) (file : List ℕ) → model.Asks words.now c → F.held files.old (file_of c) ≡ Some file → (result ≡ 3) ⊎ (result ≡ 5)
         → PrintsFront c file (O.taken out.old) (O.taken out.new) }
 
     // No file changes.

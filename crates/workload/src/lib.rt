@@ -7,7 +7,7 @@ ghost use Rattle.workload.specs.Orders.{following, choice};
 use std::marker::Model;
 
 /// A sequence of choices. Contracts see its number.
-#[derive(Debug)]
+#[derive(Debug, Drop)]
 pub struct Order {
     number: u32,
 }
@@ -38,7 +38,10 @@ impl Order {
         ensures chooses { result ≡ choice count (following self.old) }
         ensures among { result < count }
     {
-        self.number = self.number.wrapping_mul(1_664_525).wrapping_add(1_013_904_223);
+        self.number = self
+            .number
+            .wrapping_mul(1_664_525)
+            .wrapping_add(1_013_904_223);
         (self.number >> 16) % count
     }
 }

@@ -10,9 +10,9 @@ pub returns : goal.returns
 returns c =
     let program = program_of c.args.program.now in
     let old = c.in_ok-run.run' in
-    let new = c.execute-done.new.self in
+    let new = c.execute.new.self in
     let run = c.in_ok-run.ensures in
-    let done = c.in_ok-done.ensures in
+    let done = c.in_ok-execute.ensures in
     let start : IsStart program c.args.nodes c.args.budget old = record { state = run.opening; made = run.made; program = run.program; nodes = run.nodes; budget = run.budget } in
     if_both c.outcome.result
     (λ (o : Outcome). o.output.items ≡ (state_of new.machine).output)
