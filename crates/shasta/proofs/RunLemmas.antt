@@ -1,5 +1,5 @@
 -- A run of a node, from its start on.
-use Rattle.std.proofs.Common.{◌≡◌, ℕ, suc, ◌+◌, ◌<◌, ◌≤◌, ◌^◌, cond, List, [], ◌∷◌, ◌++◌, length, get_or, Option, Some, None, refl, sym, ap, ◌∙◌, subst, arith, append-nil, append_assoc, inl, inr, IfSome}
+use Rattle.std.proofs.Common.{◌≡◌, ℕ, suc, ◌+◌, ◌<◌, ◌≤◌, ◌^◌, cond, List, [], ◌∷◌, ◌++◌, length, get_or, Option, Some, None, refl, sym, ap, ◌∙◌, subst, arith, append-nil, append_assoc, inl, inr, IfSome, IfNone, MatchOption}
 use Rattle.std.proofs.lemmas.Bool.Decides.{eqb_tells}
 use Rattle.std.specs.Option.{option_to_list}
 use Rattle.rv32_model.specs.declared.End.{End}
@@ -10,12 +10,15 @@ use Rattle.node_machine.specs.Node.{Work, Node, next_act, node_step, end_by}
 use Rattle.shared_sim.specs.Interleaving.{MayExecute, node_after, printed}
 use Rattle.command_line.specs.Commands.{Command, Asks, Run, Listing, One, IsSet}
 use Rattle.shasta.specs.Headline.{begin, IsText, Prints, PrintsFront, IsRefused, has_other_form, has_unsupported, has_many_words}
-use Rattle.shasta.specs.Refusals.{IsRefusedProgram, IsRefusal, IsInRange, refusal_line}
+use Rattle.shasta.specs.Refusals.{IsRefusedProgram, IsRefusal, IsInRange, refusal_line, refusal_of}
 use Rattle.shasta.specs.declared.report.Refused.{Refused}
 use Rattle.shasta.specs.declared.report.Refused.TheVariants.{NotYet, Program, TooManyWords, OutOfMemory}
 use Rattle.exec_map.specs.declared.ProgramRefused.{ProgramRefused}
 use Rattle.exec_map.specs.declared.ProgramRefused.TheVariants.{Unsupported}
-use Rattle.exec_map.specs.Contents.{IsFirstUnsupported}
+use Rattle.exec_map.specs.Contents.{program_of, IsFirstUnsupported}
+use Rattle.rewriter.specs.declared.expand.ImageRefused.{ImageRefused}
+use Rattle.rewriter.specs.declared.expand.ImageRefused.TheVariants as image_refused
+use Rattle.rewriter.specs.Image.{HasTooManyWords}
 use Rattle.elf32_read.specs.Elf.{Elf}
 use Rattle.elf32_read.specs.FirstForm.{HasFirstForm}
 use Rattle.dsm_io.specs.Causes.{Appends, AppendsFront}
@@ -102,3 +105,13 @@ in_range words (One file nodes order budget) says =
 -- the clauses of `accept` for one refusal
 pub refused_program : (elf : Elf) (refused : ProgramRefused) → ((address word : ℕ) → refused ≡ Unsupported address word → IsFirstUnsupported elf address word) → IsRefusedProgram elf refused
 refused_program elf (Unsupported address word) h = h address word refl
+
+-- a file that is too long, told or not
+pub too_long_is : (held : Option (List ℕ)) (R : Type 0) (limit : ℕ) → IfSome held (λ content. limit < length content) → IfNone held R → MatchOption held R (λ file. limit < length file)
+too_long_is None R limit some none = none
+too_long_is (Some content) R limit some none = some
+
+-- a program that isn't rewritten is refused for its words
+pub image_refusal : (name file : List ℕ) (budget : ℕ) (elf : Elf) (refused : ImageRefused) → HasFirstForm file elf → ((w : ℕ) → refused ≡ image_refused.CodeTooLarge w → HasTooManyWords (program_of elf) w) → IsRefusal (Run name budget) file (refusal_of refused)
+image_refusal name file budget elf (image_refused.CodeTooLarge words) form many = (tt, (elf, form, many words refl))
+image_refusal name file budget elf image_refused.OutOfMemory form many = tt

@@ -6,6 +6,8 @@ use Rattle.exec_map.specs.declared.ProgramRefused.{ProgramRefused}
 use Rattle.exec_map.specs.declared.ProgramRefused.TheVariants.{Unsupported}
 use Rattle.exec_map.specs.Contents.{program_of, IsFirstUnsupported}
 use Rattle.rewriter.specs.Image.{HasTooManyWords}
+use Rattle.rewriter.specs.declared.expand.ImageRefused.{ImageRefused}
+use Rattle.rewriter.specs.declared.expand.ImageRefused.TheVariants as image_refused
 use Rattle.command_line.specs.Commands.{Command, Run, Listing, One}
 use Rattle.shasta.specs.declared.report.Refused.{Refused}
 use Rattle.shasta.specs.declared.report.Refused.TheVariants.{NotYet, Program, TooManyWords, OutOfMemory}
@@ -36,3 +38,8 @@ abbrev pub IsInRange : Command → Type 0
 IsInRange (Run file budget) = (1 ≤ budget) × (budget ≤ 2 ^ 32)
 IsInRange (Listing file) = Unit {0}
 IsInRange (One file nodes order budget) = (1 ≤ nodes) × (nodes ≤ 16) × (1 ≤ budget) × (budget ≤ 2 ^ 32)
+
+-- why a program that isn't rewritten is refused
+abbrev pub refusal_of : ImageRefused → Refused
+refusal_of (image_refused.CodeTooLarge words) = TooManyWords words
+refusal_of image_refused.OutOfMemory = OutOfMemory

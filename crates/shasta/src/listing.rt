@@ -1,8 +1,8 @@
 //! Lists the code words of an executable.
 
-ghost use Rattle.std.specs.Prelude.{◌≡◌, List, ℕ, IfOk, IfErr};
+ghost use Rattle.std.specs.Prelude.{◌≡◌, ◌≤◌, List, ℕ, IfOk, IfErr};
 ghost use Rattle.command_line.specs.Commands.{Listing};
-ghost use Rattle.shasta.specs.Headline.{IsText, IsListing};
+ghost use Rattle.shasta.specs.Headline.{IsListing, IsListingOf};
 ghost use Rattle.shasta.specs.Refusals.{IsRefusal};
 
 use crate::report::{Refused, Report};
@@ -13,7 +13,8 @@ use std::alloc::{AllocError, Global};
 
 /// Lists the executable in a file.
 pub fn list_file(alloc: Global, file: &[u8]) -> Result<Report, Refused>
-    ensures ok { IfOk result (λ r. (name : List ℕ) → IsText (Listing name) file.now r.text.items r.status) }
+    ensures ok { IfOk result (λ r. IsListingOf file.now r.text.items × (r.status ≡ 0)) }
+    ensures low { IfOk result (λ r. r.status ≤ 1) }
     ensures refused { IfErr result (λ r. (name : List ℕ) → IsRefusal (Listing name) file.now r) }
 {
     let elf = match read_elf(alloc, file) {

@@ -1,6 +1,6 @@
 //! What a command prints of its file, or why it can't.
 
-ghost use Rattle.std.specs.Prelude.{◌≡◌, IfOk, IfErr};
+ghost use Rattle.std.specs.Prelude.{◌≡◌, ◌≤◌, IfOk, IfErr};
 ghost use Rattle.command_line.specs.Asked.{asked};
 ghost use Rattle.shasta.specs.Headline.{IsText};
 ghost use Rattle.shasta.specs.Refusals.{IsRefusal, IsInRange};
@@ -48,6 +48,7 @@ pub struct Report {
 pub fn report_of(alloc: Global, command: Command<'_>, file: &[u8]) -> Result<Report, Refused>
     requires { IsInRange (asked command) }
     ensures ok { IfOk result (λ r. IsText (asked command.entry) file.now r.text.items r.status) }
+    ensures low { IfOk result (λ r. r.status ≤ 1) }
     ensures refused { IfErr result (λ r. IsRefusal (asked command.entry) file.now r) }
 {
     match command {

@@ -2,11 +2,12 @@
 
 ghost use Rattle.std.specs.Prelude.{◌≡◌, ◌≤◌, ◌<◌, ◌^◌, ◌++◌, ℕ, List, IfOk, OnOk, IfErr};
 ghost use Rattle.std.specs.Option.{option_to_list};
+ghost use Rattle.elf32_read.specs.FirstForm.{HasFirstForm};
 ghost use Rattle.exec_map.specs.Contents.{program_of};
 ghost use Rattle.rewriter.specs.Image.{HasRewriting};
 ghost use Rattle.command_line.specs.Commands.{Run};
-ghost use Rattle.shasta.specs.Headline.{IsText, IsTextWith, IsProgramOf, IsOutcomeOf};
-ghost use Rattle.shasta.specs.Refusals.{IsRefusal};
+ghost use Rattle.shasta.specs.Headline.{IsTextWith, IsProgramOf, IsOutcomeOf};
+ghost use Rattle.shasta.specs.Refusals.{IsRefusal, refusal_of};
 ghost use Rattle.shasta.specs.Runs.{IsFinished};
 
 use crate::report::{Refused, Report};
@@ -31,7 +32,8 @@ struct Finished {
 pub fn run_file(alloc: Global, file: &[u8], budget: u64) -> Result<Report, Refused>
     requires some { 1 ≤ budget }
     requires few { budget ≤ 2 ^ 32 }
-    ensures ok { IfOk result (λ r. (name : List ℕ) → IsText (Run name budget) file.now r.text.items r.status) }
+    ensures ok { IfOk result (λ r. IsTextWith (IsOutcomeOf file.now budget) r.text.items r.status) }
+    ensures low { IfOk result (λ r. r.status ≤ 1) }
     ensures refused { IfErr result (λ r. (name : List ℕ) → IsRefusal (Run name budget) file.now r) }
 {
     let elf = match read_elf(alloc, file) {
@@ -43,13 +45,33 @@ pub fn run_file(alloc: Global, file: &[u8], budget: u64) -> Result<Report, Refus
         Ok(program) => program,
         Err(refused) => return Err(Refused::Program(refused)),
     };
-    let image = match Image::of(alloc, &program) {
+    run_program(alloc, &program, budget)
+}
+
+/// Rewrites a program, and runs it.
+fn run_program(alloc: Global, program: &Program<'_>, budget: u64) -> Result<Report, Refused>
+    requires some { 1 ≤ budget }
+    requires few { budget ≤ 2 ^ 32 }
+    ensures ok { IfOk result (λ r. (file : List ℕ) → IsProgramOf file program.now → IsTextWith (IsOutcomeOf file budget) r.text.items r.status) }
+    ensures low { IfOk result (λ r. r.status ≤ 1) }
+    ensures refused { IfErr result (λ r. (name file : List ℕ) → HasFirstForm file program.now → IsRefusal (Run name budget) file r) }
+{
+    let image = match Image::of(alloc, program) {
         Ok(image) => image,
-        Err(ImageRefused::CodeTooLarge(words)) => return Err(Refused::TooManyWords(words)),
-        Err(ImageRefused::OutOfMemory) => return Err(Refused::OutOfMemory),
+        Err(refused) => return Err(refusal_of(refused)),
     };
-    let report = run_image(alloc, &program, &image, budget)?;
+    let report = run_image(alloc, program, &image, budget)?;
     Ok(report)
+}
+
+/// Why a program that isn't rewritten is refused.
+fn refusal_of(refused: ImageRefused) -> Refused
+    ensures { result ≡ refusal_of refused }
+{
+    match refused {
+        ImageRefused::CodeTooLarge(words) => Refused::TooManyWords(words),
+        ImageRefused::OutOfMemory => Refused::OutOfMemory,
+    }
 }
 
 /// Runs the rewritten code of a program.
@@ -62,7 +84,8 @@ fn run_image(
     requires rewriting { HasRewriting (program_of program.now) image.now }
     requires some { 1 ≤ budget }
     requires few { budget ≤ 2 ^ 32 }
-    ensures { IfOk result (λ r. (file : List ℕ) → IsProgramOf file program.now → IsTextWith (IsOutcomeOf file budget) r.text.items r.status) }
+    ensures text { IfOk result (λ r. (file : List ℕ) → IsProgramOf file program.now → IsTextWith (IsOutcomeOf file budget) r.text.items r.status) }
+    ensures low { IfOk result (λ r. r.status ≤ 1) }
 {
     interleaving_law();
     let done = execute(alloc, program, image, budget)?;

@@ -38,6 +38,6 @@ loop-turn-init c = record {
   work = c.in_ok-node.ensures.work;
   count = ap (λ (n : Node). n.executed) c.in_ok-node.ensures.opening;
   room = λ none. c.requires.some;
-  so_far = begins (record { program = program_of c.args.program.now; image = c.args.image.now; budget = c.args.budget }) (node_of c.new-node.result) c.new-output.result.items
+  so_far = begins (record { program = program_of c.args.program.now; image = c.args.image.now; budget = c.args.budget }) (node_of c.in_ok-node.node) c.new-output.result.items
       c.in_ok-node.ensures.opening c.new-output.ensures.items;
 }

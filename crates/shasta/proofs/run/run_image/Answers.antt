@@ -14,8 +14,8 @@ outcome_with end counts output = record { output = output; ends = end ∷ []; co
 abbrev text_with : End → NodeCounts → List ℕ → List ℕ
 text_with end counts output = text_of (outcome_with end counts output)
 
-pub returns : goal.returns
-returns c = λ file executable.
+pub returns-clause-text : goal.returns-clause-text
+returns-clause-text c = λ file executable.
     let work : Work = record { program = program_of c.args.program.now; image = c.args.image.now; budget = c.args.budget } in
     let done = c.in_ok-done.ensures in
     let end = c.in_ok-done.done.end in
