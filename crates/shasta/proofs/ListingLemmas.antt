@@ -80,12 +80,13 @@ cons_rest e b rest code h = record {
         go : (k : ℕ) → k < length (b ∷ rest) → get_or (b ∷ rest) k a ≡ a → (b ≤ a) × (is_code_word e a ≡ true)
         go zero lt is = (let same : b ≡ a = is in (omega (arith, same), ap (is_code_word e) (sym same) ∙ code))
         go (suc k) lt is = (let m = (h.members a).0 (k, omega arith, is) in let low = m.0 in (omega (arith, low), m.1))
+
     out : (a : ℕ) → (b ≤ a) × (is_code_word e a ≡ true) → Contains (b ∷ rest) a
     out a m = elim (eqb_tells b a) [
       | inl t ↦ (0, omega arith, t.1)
       | inr t ↦ (
-        let x = aligned_word e a m.1 in let y = aligned_word e b code in let z = t.1 in let low = m.0 in
-        let c = (h.members a).1 (omega (arith, x, y, z, low), m.1) in let lt = c.1 in (suc c.0, omega (arith, lt), c.2))
+          let x = aligned_word e a m.1 in let y = aligned_word e b code in let z = t.1 in let low = m.0 in
+          let c = (h.members a).1 (omega (arith, x, y, z, low), m.1) in let lt = c.1 in (suc c.0, omega (arith, lt), c.2))
     ]
 
 -- before the first line

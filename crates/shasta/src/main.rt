@@ -5,6 +5,8 @@ mod listing;
 mod one;
 mod report;
 mod run;
+#[cfg(test)]
+mod tests;
 mod text;
 mod top;
 
