@@ -7,10 +7,10 @@ use Rattle.exec_map.specs.Contents.{program_of, AllSupported, IsFirstUnsupported
 use Rattle.rv32_text.specs.Listing.{line_of}
 use Rattle.rv32_model.specs.declared.End.{End}
 use Rattle.rv32_model.specs.declared.End.TheVariants.{Stopped}
-use Rattle.rv32_model.specs.Program.{Program, IsAccepted}
+use Rattle.rv32_model.specs.Program.{IsAccepted}
 use Rattle.rv32_model.specs.OneMemory.{opening, run}
 use Rattle.rewriter.specs.Sequences.{Entry}
-use Rattle.rewriter.specs.Image.{Cell, IsRewriting, HasTooManyWords}
+use Rattle.rewriter.specs.Image.{IsRewriting, HasTooManyWords}
 use Rattle.node_machine.specs.Node.{Work, Node, opening_node}
 use Rattle.shared_sim.specs.Interleaving.{MayExecute, node_after, picks_of, Interleaves}
 use Rattle.order_run.specs.ByOrder.{IsRunByOrder}

@@ -1,4 +1,4 @@
-use Rattle.std.proofs.Common.{sym, ap, subst, ◌∙◌, ◌++◌}
+use Rattle.std.proofs.Common.{ap, subst, ◌∙◌, ◌++◌}
 use Rattle.rv32_text.specs.Listing.{line_of}
 use Rattle.shasta.proofs.ListingLemmas.{Listed, listed_first, listed_more, listed_all}
 use Rattle.shasta.proofs.listing.lines.Goals as goal

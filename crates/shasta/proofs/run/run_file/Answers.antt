@@ -1,4 +1,4 @@
-use Rattle.std.proofs.Common.{List, ℕ, Result, Ok, Err, IfOk, IfErr, sym, subst}
+use Rattle.std.proofs.Common.{Result, Ok, Err, IfOk, IfErr, sym, subst}
 use Rattle.shasta.specs.Headline.{IsProgramOf}
 use Rattle.shasta.proofs.run.run_file.Goals as goal
 

@@ -1,4 +1,4 @@
-use Rattle.std.proofs.Common.{◌≡◌, ℕ, List, [], ◌∷◌, Some, ap, ◌∙◌, sym, refl}
+use Rattle.std.proofs.Common.{ℕ, List, [], ◌∷◌, Some, ap, ◌∙◌, sym, refl}
 use Rattle.exec_map.specs.Contents.{program_of}
 use Rattle.rv32_model.specs.declared.End.{End}
 use Rattle.node_machine.specs.declared.NodeCounts.{NodeCounts}

@@ -1,4 +1,4 @@
-use Rattle.std.proofs.Common.{ap, sym, subst, ◌∙◌, Err}
+use Rattle.std.proofs.Common.{ap, sym, subst, Err}
 use Rattle.shasta.specs.Refusals.{IsRefusal}
 use Rattle.command_line.specs.Commands.{Run}
 use Rattle.shasta.proofs.RunLemmas.{image_refusal}

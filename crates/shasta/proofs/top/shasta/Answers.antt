@@ -1,5 +1,4 @@
-use Rattle.std.proofs.Common.{◌≡◌, ℕ, List, ap, sym, subst, ◌∙◌, inl, inr, Err}
-use Rattle.command_line.specs.Commands.{Command}
+use Rattle.std.proofs.Common.{ℕ, List, ap, subst, ◌∙◌, inl, inr, Err}
 use Rattle.command_line.specs.Asked.{asked}
 use Rattle.shasta.specs.Headline.{file_of, Tells, IsFault}
 use Rattle.shasta.specs.Refusals.{refusal_line}
