@@ -7,6 +7,7 @@ use crate::top::shasta;
 use dsm_io::{MemFiles, MemSink, OpenGate, Text};
 use std::alloc::{AllocError, Global};
 use std::test::Fail;
+use workload::order_of;
 
 /// A program that writes its three bytes of data and exits with code 0.
 const HI: [u32; 8] = [
@@ -195,13 +196,32 @@ fn tells_that_the_output_failed(rt: HostRuntime) -> Result<(), Fail> {
     Ok(())
 }
 
+#[test]
+fn an_order_chooses(rt: HostRuntime) -> Result<(), Fail> {
+    let mut order = order_of(0);
+    assert_eq!(rt; order.next(65536), 0x3c6e);
+    assert_eq!(rt; order.next(65536), 0x4750);
+    assert_eq!(rt; order.next(65536), 0xd1cc);
+    assert_eq!(rt; order.next(65536), 0xaaf9);
+    let mut among_two = order_of(0);
+    assert_eq!(rt; among_two.next(2), 0);
+    assert_eq!(rt; among_two.next(2), 0);
+    assert_eq!(rt; among_two.next(2), 0);
+    assert_eq!(rt; among_two.next(2), 1);
+    Ok(())
+}
+
 /// A program of two words that ends otherwise than by a call, and the line of its processor.
 struct Ending {
     code: [u32; 2],
     line: &'static str,
 }
 
-const ENDINGS: [Ending; 5] = [
+const ENDINGS: [Ending; 6] = [
+    Ending {
+        code: [0x00100073, 0x00000013],
+        line: "output 0\n\nprocessor 0 ebreak 0x00010000\n",
+    },
     Ending {
         code: [0x800002b7, 0x0002a303],
         line: "output 0\n\nprocessor 0 access 0x00010004\n",
