@@ -1,5 +1,6 @@
 -- Going through the code words in order.
-use Rattle.std.proofs.Common.{◌≡◌, ℕ, ◌+◌, ◌%◌, ◌<◌, ◌≤◌, Bool, true, false, ◌&&◌, ◌==◌, cond, inl, inr, Option, Some, None, List, length, IfSome, IfNone, refl, sym, ap, subst, ◌∙◌, arith}
+use Rattle.std.proofs.Common.{◌≡◌, ℕ, ◌+◌, ◌*◌, ◌^◌, ◌%◌, ◌<◌, ◌≤◌, Bool, true, false, ◌&&◌, ◌==◌, cond, inl, inr, Option, Some, None, List, length, IfSome, IfNone, refl, sym, ap, subst, ◌∙◌, arith}
+use Rattle.std.specs.Prelude.{nat_lt}
 use Rattle.std.proofs.lemmas.Bool.{cases_lt, false≢true}
 use Rattle.std.proofs.lemmas.Bool.Decides.{nat_tests}
 use Rattle.std.specs.Option.{option_map_or}
@@ -8,8 +9,9 @@ use Rattle.rv32_decode.specs.Rows.{instruction_of}
 use Rattle.elf32_read.specs.Elf.{Elf}
 use Rattle.elf32_read.specs.FirstForm.{IsCodeAndData, code_and_data}
 use Rattle.rv32_model.specs.Effect.{is_supported}
+use Rattle.rv32_model.specs.declared.Class.TheVariants.{Unmapped}
 use Rattle.rv32_model.specs.Program.{IsAccepted}
-use Rattle.exec_map.specs.Contents.{is_code_word, word_of, is_supported_word, program_of, AllSupported, IsNextCode}
+use Rattle.exec_map.specs.Contents.{class_of_line, is_code_word, word_of, is_supported_word, program_of, AllSupported, IsNextCode}
 
 -- every code word below an address is supported
 abbrev pub SupportedBelow : Elf → ℕ → Type 0
@@ -71,6 +73,17 @@ instruction_in : (o : Option Instr) → option_map_or is_supported o false ≡ t
 instruction_in None h = absurd (false≢true h)
 instruction_in (Some i) h = (i, refl)
 
+unmapped : (code bytes : List ℕ) (size line : ℕ) → length code ≤ 65536 → size ≤ 65536 → 2 ^ 25 ≤ line → class_of_line (code_and_data code bytes size) line ≡ Unmapped
+unmapped code bytes size line few_code few_data high =
+    let window : nat_lt line 0x2000000 ≡ false = grind (arith, nat_tests) in
+    let first : nat_lt (64 * line) (0x10000 + length code) ≡ false = grind (arith, nat_tests) in
+    let second : nat_lt (64 * line) (0x20000 + size) ≡ false = grind (arith, nat_tests) in
+    grind (arith, nat_tests)
+
+-- the upper half has no class
+upper : (e : Elf) (line : ℕ) → IsCodeAndData e → 2 ^ 25 ≤ line → class_of_line e line ≡ Unmapped
+upper e line form high = ap (λ x. class_of_line x line) form.is ∙ unmapped form.code form.data_bytes form.size line form.few_code form.few_data high
+
 pub accepted : (e : Elf) → IsCodeAndData e → AllSupported e → IsAccepted (program_of e)
 accepted e form all =
     let starts = entry_word e form in
@@ -79,6 +92,7 @@ accepted e form all =
       aligned = λ a i is. aligned (a % 4) _ (code_parts (is_code_word e a) _ i is).0;
       low = λ a i is. let h = low e a form (code_parts (is_code_word e a) _ i is).0 in omega arith;
       supported = λ a i is. let parts = code_parts (is_code_word e a) _ i is in supported_in _ i parts.1 (all.supported a parts.0);
+      upper = λ line high. upper e line form high;
       first_instruction = first.0;
       starts = ap (λ b. cond b (instruction_of (word_of e e.entry)) None) starts ∙ first.1;
     }

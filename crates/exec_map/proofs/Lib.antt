@@ -1,3 +1,4 @@
 mod Searches
 mod LeastLemmas
 mod Accepting
+mod SharedLemmas

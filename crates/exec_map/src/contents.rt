@@ -1,6 +1,6 @@
 //! What the segments of an executable hold.
 
-ghost use Rattle.std.specs.Prelude.{◌≡◌, ◌+◌, ◌*◌, ◌^◌, ◌<◌, ◌≤◌, ℕ, Bool, true, false, ◌||◌, find, IfSome, IfNone};
+ghost use Rattle.std.specs.Prelude.{◌≡◌, ◌+◌, ◌*◌, ◌^◌, ◌<◌, ◌≤◌, ℕ, Bool, true, false, ◌↔◌, ◌||◌, find, IfSome, IfNone};
 ghost use Rattle.std.specs.List.{list_any};
 ghost use Rattle.std.specs.Option.{option_copied};
 ghost use Rattle.elf32_read.specs.FirstForm.{IsCodeAndData};
@@ -8,7 +8,7 @@ ghost use Rattle.elf32_read.specs.Segments.{segment_of};
 ghost use Rattle.exec_map.specs.Contents as model;
 ghost use Rattle.exec_map.specs.Least.{IsLeast};
 
-use crate::{Class, segment};
+use crate::{Class, Lines, segment};
 use elf32_read::{Elf, Segment};
 
 /// The class of a line of 64 bytes.
@@ -29,6 +29,27 @@ fn touching<'s, 'a>(segments: &'s [Segment<'a>], line: u32) -> Option<&'s Segmen
     ensures { option_copied result ≡ find (λ s. model.touches line (segment_of s)) segments.now }
 {
     segments.iter().find(|s| segment::touches(s, line))
+}
+
+/// The lines that the processors have in common: those of the writable segment.
+pub fn shared_lines(elf: &Elf<'_>) -> Lines
+    ensures exact { (line : ℕ) → (model.class_of_line elf.now line ≡ Class.Shared) ↔ ((result.first ≤ line) × (line < result.first + result.count)) }
+    ensures low { result.first + result.count ≤ 2 ^ 25 }
+{
+    match writable(elf.segments()) {
+        Some(s) => Lines {
+            first: s.vaddr / 64,
+            count: s.memsz.div_ceil(64),
+        },
+        None => Lines { first: 0, count: 0 },
+    }
+}
+
+/// The first segment that may be written.
+fn writable<'s, 'a>(segments: &'s [Segment<'a>]) -> Option<&'s Segment<'a>>
+    ensures { option_copied result ≡ find (λ s. model.is_writable (segment_of s)) segments.now }
+{
+    segments.iter().find(|s| segment::is_writable(s))
 }
 
 /// The byte that the file has for an address, or 0.

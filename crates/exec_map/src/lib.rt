@@ -1,13 +1,14 @@
 #![tactic(auto)]
 //! The program of an executable: the class of each line, the bytes that it starts with, and its code.
 
-ghost use Rattle.std.specs.Prelude.{◌≡◌, ◌+◌, ◌^◌, ◌<◌, ◌≤◌, ℕ, false, IfOk, OnOk, IsErrOf, IfSome, IfNone};
+ghost use Rattle.std.specs.Prelude.{◌≡◌, ◌+◌, ◌^◌, ◌<◌, ◌≤◌, ◌↔◌, ℕ, false, IfOk, OnOk, IsErrOf, IfSome, IfNone};
 ghost use Rattle.rv32_model.specs.Program.{IsAccepted};
 ghost use Rattle.exec_map.specs.Contents as model;
 
 mod contents;
 mod segment;
 
+pub use contents::{next_code, word_of};
 use elf32_read::Elf;
 use rv32_decode::{Instr, decode};
 use rv32_model::is_supported;
@@ -21,6 +22,13 @@ pub enum ProgramRefused {
     /// The word at the address is no instruction that is executed by this version.
     #[error("Unsupported 0x{address:08x} word 0x{word:08x}")]
     Unsupported { address: u32, word: u32 },
+}
+
+/// Lines of 64 bytes, one after another: the number of the first, and how many there are.
+#[derive(Clone, Copy, Debug, PartialEq, Eq)]
+pub struct Lines {
+    pub first: u32,
+    pub count: u32,
 }
 
 /// An accepted program. Contracts see the fields of its executable.
@@ -75,6 +83,14 @@ impl<'a> Program<'a> {
         ensures { result ≡ model.class_of_line self.now line }
     {
         contents::class_of_line(self.elf, line)
+    }
+
+    /// The lines that the processors have in common.
+    pub fn shared_lines(&self) -> Lines
+        ensures exact { (line : ℕ) → (model.class_of_line self.now line ≡ Class.Shared) ↔ ((result.first ≤ line) × (line < result.first + result.count)) }
+        ensures low { result.first + result.count ≤ 2 ^ 25 }
+    {
+        contents::shared_lines(self.elf)
     }
 
     /// The byte that an address starts with.
@@ -171,6 +187,13 @@ mod tests {
         assert_eq!(rt; program.class(0x20000 / 64), Class::Shared);
         assert_eq!(rt; program.class(0x7fff0000 / 64), Class::Private);
         assert_eq!(rt; program.class(0), Class::Unmapped);
+        assert_eq!(rt;
+            program.shared_lines(),
+            Lines {
+                first: 0x800,
+                count: 1
+            }
+        );
         assert_eq!(rt; program.byte0(0x20001), b'i');
         assert_eq!(rt; program.byte0(0x20003), 0);
         assert_eq!(rt; program.word_at(0x10004), Some(0x00100513));

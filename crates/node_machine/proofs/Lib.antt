@@ -1,1 +1,1 @@
-mod ActLemmas
+mod ByteLemmas

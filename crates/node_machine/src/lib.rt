@@ -1,8 +1,11 @@
 #![tactic(auto)]
 //! One node, which executes rewritten code.
 
+mod access;
 mod lane;
+mod local;
 mod node;
+mod window;
 
 pub use node::{Node, Standing, Turn};
 

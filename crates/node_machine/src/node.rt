@@ -1,16 +1,19 @@
-//! A node: its processor, its counts, and what it has executed.
+//! A node: its processor, what is the node's, and what it has executed.
 
-ghost use Rattle.std.specs.Prelude.{◌≡◌, ◌+◌, ◌*◌, ◌%◌, ◌^◌, ◌<◌, ◌≤◌, ◌↔◌, ℕ, Some, None, IsSome};
+ghost use Rattle.std.specs.Prelude.{◌≡◌, ◌+◌, ◌*◌, ◌%◌, ◌^◌, ◌<◌, ◌≤◌, ◌↔◌, ℕ, Some, None, IsSome, IfOk};
 ghost use Rattle.exec_map.specs.Contents.{program_of};
 ghost use Rattle.rewriter.specs.Image.{HasRewriting};
 ghost use Rattle.node_machine.specs.Node as model;
-ghost use Rattle.node_machine.specs.Held.{node_of, work_of};
+ghost use Rattle.node_machine.specs.Held.{node_of, work_of, move_of};
 
 use crate::NodeCounts;
-use crate::lane::Lane;
+use crate::lane::{Lane, Move};
+use crate::local::Local;
+use crate::window::Window;
 use exec_map::{End, Exit, Program};
 use rewriter::jump_map::Image;
 use rv32_model::Registers;
+use std::alloc::{AllocError, Global};
 use std::marker::Model;
 
 /// What a node did in one event.
@@ -32,13 +35,12 @@ pub enum Standing {
 /// A node that runs rewritten code of a program.
 #[derive(Drop)]
 pub struct Node<'a> {
-    program: &'a Program<'a>,
     image: &'a Image,
     budget: u64,
     lane: Lane,
+    local: Local<'a>,
     executed: u64,
     end: Option<End>,
-    counts: NodeCounts,
 }
 
 impl<'a> Model for Node<'a> {
@@ -48,16 +50,19 @@ impl<'a> Model for Node<'a> {
     ghost Value = { Held };
 
     ghost view = { λ n. record {
-      program = n.program.now;
+      program = n.local.program;
       image = n.image.now;
       budget = n.budget;
       registers = n.lane.registers;
       at = n.lane.at;
+      private = n.lane.private;
       written = n.lane.written;
       off = n.lane.off;
+      spills = n.lane.spills;
+      copy = n.local.copy;
       executed = n.executed;
       end = n.end;
-      counts = n.counts;
+      counts = n.local.counts;
     } };
 
     ghost invariant = { λ n. (n.budget ≤ 2 ^ 32) × IsTrue (is_some n.end || nat_lt n.executed n.budget) };
@@ -65,37 +70,39 @@ impl<'a> Model for Node<'a> {
 
 impl<'a> Node<'a> {
     /// Node number `me` of `n` at the start. It executes at most `budget` words.
-    pub fn new(image: &'a Image, program: &'a Program<'a>, me: u8, n: u8, budget: u64) -> Node<'a>
+    pub fn new(
+        alloc: Global,
+        image: &'a Image,
+        program: &'a Program<'a>,
+        me: u8,
+        n: u8,
+        budget: u64,
+    ) -> Result<Node<'a>, AllocError>
         requires rewriting { HasRewriting (program_of program.now) image.now }
         requires first { me ≡ 0 }
         requires alone { n ≡ 1 }
         requires some { 0 < budget }
         requires few { budget ≤ 2 ^ 32 }
-        ensures opening { node_of result ≡ model.opening_node (program_of program.now) image.now me n }
-        ensures work { work_of result ≡ record { program = program_of program.now; image = image.now; budget = budget } }
+        ensures opening { IfOk result (λ node. node_of node ≡ model.opening_node (program_of program.now) image.now me n) }
+        ensures work { IfOk result (λ node. work_of node ≡ record { program = program_of program.now; image = image.now; budget = budget }) }
     {
-        Node {
-            program,
+        let private = Window::zeros(alloc)?;
+        let local = Local::first(alloc, program)?;
+        Ok(Node {
             image,
             budget,
             lane: Lane {
                 registers: Registers::first(me, n),
                 at: image.new_of(program.entry()).unwrap_or(0),
+                private,
                 written: 0,
                 off: 0,
+                spills: [0; 3],
             },
+            local,
             executed: 0,
             end: None,
-            counts: NodeCounts {
-                read: 0,
-                exclusive: 0,
-                upgrade: 0,
-                falses: 0,
-                invalidations: 0,
-                fallbacks: 0,
-                messages: 0,
-            },
-        }
+        })
     }
 
     /// Whether the node may execute a word.
@@ -119,7 +126,7 @@ impl<'a> Node<'a> {
     pub fn counts(&self) -> NodeCounts
         ensures { result ≡ (node_of self.now).local.counts }
     {
-        self.counts
+        self.local.counts()
     }
 
     /// Executes one word.
@@ -130,12 +137,23 @@ impl<'a> Node<'a> {
         ensures work { work_of self.new ≡ work_of self.old }
         ensures room { (node_of self.old).executed < (work_of self.old).budget }
     {
-        let acted = self.lane.act(self.program, self.image);
+        let acted = self.lane.act(&mut self.local, self.image);
+        self.lane.go(self.image, acted.next);
         self.executed += 1;
-        self.end = end_by(self.budget, self.executed, acted.exit);
+        self.end = end_by(self.budget, self.executed, exit_of(acted.next));
         Turn {
             output: acted.output,
         }
+    }
+}
+
+/// The exit by which a processor leaves.
+fn exit_of(next: Move) -> Option<Exit>
+    ensures { result ≡ model.exit_of (move_of next) }
+{
+    match next {
+        Move::Leaves(exit) => Some(exit),
+        _ => None,
     }
 }
 

@@ -4,9 +4,7 @@ use Rattle.std.specs.Prelude.{slice_get, option_and_then, position}
 use Rattle.std.specs.List.{position_from}
 use Rattle.std.proofs.lemmas.Iterator.Adapters.{position_from-zero}
 use Rattle.std.specs.Option.{option_map}
-use Rattle.std.proofs.lemmas.Option.{slice_get-map, none-some, same_Some}
-use Rattle.rewriter.specs.declared.templates.RtWord.{RtWord}
-use Rattle.rewriter.specs.declared.jump_map.Fetched.{Fetched}
+use Rattle.std.proofs.lemmas.Option.{slice_get-map, same_Some}
 use Rattle.rewriter.specs.declared.jump_map.Cell as kept
 use Rattle.rewriter.specs.Words.{reading_of}
 use Rattle.rewriter.specs.Image.{Cell, index_of, cell_at, fetched, new_of, is_first_of, address_of_word}

@@ -1,4 +1,8 @@
 mod ImageLemmas
-mod PlaceLemmas
 mod ReadingLemmas
+mod PlaceLemmas
+mod ScratchLemmas
+mod SequenceLemmas
+mod AdmissionLemmas
+mod LayoutLemmas
 mod ExpansionLemmas

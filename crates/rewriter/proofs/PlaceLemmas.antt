@@ -1,65 +1,53 @@
--- The plan of a program, as far as its code words have been gone through.
-use Rattle.std.proofs.Common.{◌≡◌, ◌≢◌, ℕ, zero, suc, ◌+◌, ◌*◌, ◌%◌, ◌<◌, ◌≤◌, ◌⊎◌, Bool, true, false, ◌&&◌, ◌==◌, cond, List, [], ◌∷◌, ◌++◌, length, map, Option, Some, None, refl, sym, ap, ◌∙◌, subst, inl, inr, arith, length-append}
-use Rattle.std.specs.Prelude.{Contains, IsSome, is_some}
+-- The places of a program, as far as its code words have been gone through.
+use Rattle.std.proofs.Common.{◌≡◌, ℕ, zero, suc, ◌+◌, ◌*◌, ◌%◌, ◌<◌, ◌≤◌, ◌⊎◌, Bool, true, false, ◌&&◌, ◌==◌, cond, List, [], ◌∷◌, ◌++◌, length, Option, Some, None, refl, sym, ap, ◌∙◌, subst, inl, inr, arith, length-append}
+use Rattle.std.specs.Prelude.{Contains, IsSome, option_and_then, slice_index_or}
 use Rattle.std.specs.Option.{option_map_or}
-use Rattle.std.proofs.lemmas.Bool.{cases_lt, false≢true}
+use Rattle.std.proofs.lemmas.Bool.{cases_lt, false≢true, eqb-true, eq-eqb}
 use Rattle.std.proofs.lemmas.Bool.Decides.{nat_tests}
-use Rattle.std.proofs.lemmas.List.Elements.{Contains-push, Contains-append_left, Contains-append_cases}
+use Rattle.std.proofs.lemmas.List.Elements.{Contains-append_left, Contains-append_right, Contains-append_cases}
 use Rattle.rv32_decode.specs.declared.Instr.{Instr}
-use Rattle.rv32_decode.specs.declared.Instr.TheVariants.{Lui, Auipc, Jal, Jalr, Branch, Load, Store, OpImm, ShiftImm, Op, Fence, Ecall, Ebreak, Lr, Sc, Amo, Illegal}
 use Rattle.rv32_decode.specs.Rows.{instruction_of}
 use Rattle.rv32_model.specs.Effect.{is_supported}
 use Rattle.rv32_model.specs.Liveness.{target_of}
 use Rattle.elf32_read.specs.Elf.{Elf}
-use Rattle.exec_map.specs.Contents.{is_code_word, word_of, word_at, code_at, is_supported_word, program_of, AllSupported, IsNextCode}
-use Rattle.rewriter.specs.Sequences.{Entry, IsStop, IsPlace, entries, AscendsFrom, addresses, IsAdmissible}
+use Rattle.exec_map.specs.Contents.{is_code_word, word_of, code_at, AllSupported, IsNextCode}
+use Rattle.rewriter.specs.Sequences.{IsStop, IsPlace}
+use Rattle.rewriter.specs.Plans.{aligned, aligned_target, leads_to, led, HasPlaces}
 
--- the places of the code words below an address, and of the stops behind them
+-- the places that the code words below an address lead to
 pub record SoFar (e : Elf) (places : List ℕ) (from : ℕ) : Type 0 where
-  pub ascends : AscendsFrom 0 (entries places)
-  pub under : (b : ℕ) → Contains places b → (b < from) ⊎ ((b ≡ from) × (is_code_word e from ≡ false))
-  pub complete : (b : ℕ) → b < from → is_code_word e b ≡ true → Contains places b
-  pub stops : (b : ℕ) → b < from → is_code_word e b ≡ true → is_code_word e (b + 4) ≡ false → Contains places (b + 4)
-  pub sound : (b : ℕ) → Contains places b → IsPlace (code_at e) b
-  pub few : 2 * length places ≤ from
+  pub complete : (b x : ℕ) → b < from → is_code_word e b ≡ true → Contains (led b (leads_to (code_at e) b)) x → Contains places x
+  pub sound : (x : ℕ) → Contains places x → IsPlace (code_at e) x
+  pub few : 4 * length places ≤ 3 * from
   pub low : from ≤ 0x20000
 
 -- an element of no list
 no_element : (b : ℕ) → Contains [] b → ⊥
 no_element b h = let lt = h.1 in omega arith
 
-only_element : (y b : ℕ) → Contains (y ∷ []) b → b ≡ y
-only_element y b h = go h.0 h.1 h.2
+-- the first element, or one behind it
+first_or : (y b : ℕ) (ys : List ℕ) → Contains (y ∷ ys) b → (b ≡ y) ⊎ Contains ys b
+first_or y b ys h = go h.0 h.1 h.2
   where
-    go : (k : ℕ) → k < length (y ∷ []) → Rattle.std.specs.Prelude.slice_index_or (y ∷ []) k b ≡ b → b ≡ y
-    go zero lt is = sym is
-    go (suc k) lt is = absurd (omega arith)
+    go : (k : ℕ) → k < length (y ∷ ys) → slice_index_or (y ∷ ys) k b ≡ b → (b ≡ y) ⊎ Contains ys b
+    go zero lt is = inl (sym is)
+    go (suc k) lt is = inr (k, omega (arith, lt), is)
 
 pub begin : (e : Elf) → SoFar e [] 0
 begin e = record {
-  ascends = tt;
-  under = λ b h. absurd (no_element b h);
-  complete = λ b lt word. absurd (omega arith);
-  stops = λ b lt word stop. absurd (omega arith);
+  complete = λ b x lt word c. absurd (omega arith);
   sound = λ b h. absurd (no_element b h);
   few = omega arith;
   low = omega arith;
 }
 
-push_ascends : (low : ℕ) (xs : List ℕ) (y : ℕ) → AscendsFrom low (entries xs) → low ≤ y → ((b : ℕ) → Contains xs b → b < y) → AscendsFrom low (entries (xs ++ y ∷ []))
-push_ascends low [] y h le below = (le, tt)
-push_ascends low (x ∷ xs) y h le below =
-    let here = below x (0, omega arith, refl) in
-    (h.0, push_ascends (x + 1) xs y h.1 (omega (arith, here)) (λ b c. below b (suc c.0, omega (arith, c.1), c.2)))
-
-aligned : (n : ℕ) (b : Bool) → ((n == 0) && b) ≡ true → n ≡ 0
-aligned n b h = grind (arith, nat_tests)
+aligned_and : (n : ℕ) (b : Bool) → ((n == 0) && b) ≡ true → n ≡ 0
+aligned_and n b h = grind (arith, nat_tests)
 
 some_code : (o : Option Instr) → option_map_or is_supported o false ≡ true → (i : Instr) × (o ≡ Some i) × (is_supported i ≡ true)
 some_code None h = absurd (false≢true h)
 some_code (Some i) h = (i, refl, h)
 
--- a code word has an instruction
 pub code_some : (e : Elf) (a : ℕ) → AllSupported e → is_code_word e a ≡ true → (i : Instr) × (code_at e a ≡ Some i) × (is_supported i ≡ true)
 code_some e a all word =
     let i = some_code (instruction_of (word_of e a)) (all.supported a word) in
@@ -69,108 +57,15 @@ bool_cases : (b : Bool) → (b ≡ true) ⊎ (b ≡ false)
 bool_cases true = inl refl
 bool_cases false = inr refl
 
--- the next code word's place
-pub with_word : (e : Elf) (places : List ℕ) (from a : ℕ) → SoFar e places from → IsNextCode e from a → (b : ℕ) → Contains places b → b < a
-with_word e places from a h next b c =
-    let at_least = next.at_least in
-    elim (h.under b c) [
-      | inl lt ↦ omega arith
-      | inr same ↦
-          let apart : from ≢ a = λ f. false≢true (sym same.1 ∙ ap (is_code_word e) f ∙ next.code_word) in
-          let is = same.0 in omega arith
-    ]
-
--- a code word below the address behind the next one
 below_next : (e : Elf) (from a b : ℕ) → IsNextCode e from a → b < a + 4 → is_code_word e b ≡ true → (b < from) ⊎ (b ≡ a)
 below_next e from a b next lt word =
     elim (cases_lt b from) [
       | inl l ↦ inl l
       | inr le ↦ (elim (cases_lt b a) [
         | inl l ↦ absurd (false≢true (sym (next.lowest b le l) ∙ word))
-        | inr ge ↦ (let x = aligned (a % 4) _ next.code_word in let y = aligned (b % 4) _ word in inr (omega arith))
+        | inr ge ↦ (let x = aligned_and (a % 4) _ next.code_word in let y = aligned_and (b % 4) _ word in inr (omega arith))
       ])
     ]
-
--- past a code word that another one follows
-pub past_word : (e : Elf) (places : List ℕ) (from a : ℕ) → AllSupported e → SoFar e places from → IsNextCode e from a → a + 4 ≤ 0x20000 → is_code_word e (a + 4) ≡ true → SoFar e (places ++ a ∷ []) (a + 4)
-past_word e places from a all h next low follows =
-    let at_least = next.at_least in
-    let count = length-append places (a ∷ []) in
-    let few = h.few in
-    record {
-      ascends = push_ascends 0 places a h.ascends (omega arith) (with_word e places from a h next);
-      under = λ b c. elim (Contains-append_cases places (a ∷ []) b c) [
-        | inl old ↦ (let lt = with_word e places from a h next b old in inl (omega arith))
-        | inr new ↦ (let is = only_element a b new in inl (omega arith))
-      ];
-      complete = λ b lt word. elim (below_next e from a b next lt word) [
-        | inl l ↦ Contains-append_left places (a ∷ []) b (h.complete b l word)
-        | inr is ↦ subst (Contains (places ++ a ∷ [])) (sym is) (Contains-push places a)
-      ];
-      stops = λ b lt word stop. elim (below_next e from a b next lt word) [
-        | inl l ↦ Contains-append_left places (a ∷ []) (b + 4) (h.stops b l word stop)
-        | inr is ↦ absurd (false≢true (sym stop ∙ ap (λ x. is_code_word e (x + 4)) is ∙ follows))
-      ];
-      sound = λ b c. elim (Contains-append_cases places (a ∷ []) b c) [
-        | inl old ↦ h.sound b old
-        | inr new ↦ (let i = code_some e a all next.code_word in inl (subst (λ x. IsSome (code_at e x)) (sym (only_element a b new)) (subst IsSome (sym i.1) refl)))
-      ];
-      few = omega arith;
-      low = low;
-    }
-
--- past a code word that a stop follows
-pub past_stop : (e : Elf) (places : List ℕ) (from a : ℕ) → AllSupported e → SoFar e places from → IsNextCode e from a → a + 4 ≤ 0x20000 → is_code_word e (a + 4) ≡ false → SoFar e ((places ++ a ∷ []) ++ (a + 4) ∷ []) (a + 4)
-past_stop e places from a all h next low ends =
-    let at_least = next.at_least in
-    let count = length-append places (a ∷ []) in
-    let count_more = length-append (places ++ a ∷ []) ((a + 4) ∷ []) in
-    let few = h.few in
-    let below : (b : ℕ) → Contains (places ++ a ∷ []) b → b < a + 4 = λ b c. elim (Contains-append_cases places (a ∷ []) b c) [
-      | inl old ↦ (let lt = with_word e places from a h next b old in omega arith)
-      | inr new ↦ (let is = only_element a b new in omega arith)
-    ] in
-    record {
-      ascends = push_ascends 0 (places ++ a ∷ []) (a + 4) (push_ascends 0 places a h.ascends (omega arith) (with_word e places from a h next)) (omega arith) below;
-      under = λ b c. elim (Contains-append_cases (places ++ a ∷ []) ((a + 4) ∷ []) b c) [
-        | inl old ↦ inl (below b old)
-        | inr new ↦ inr (only_element (a + 4) b new, ends)
-      ];
-      complete = λ b lt word. elim (below_next e from a b next lt word) [
-        | inl l ↦ Contains-append_left (places ++ a ∷ []) ((a + 4) ∷ []) b (Contains-append_left places (a ∷ []) b (h.complete b l word))
-        | inr is ↦ Contains-append_left (places ++ a ∷ []) ((a + 4) ∷ []) b (subst (Contains (places ++ a ∷ [])) (sym is) (Contains-push places a))
-      ];
-      stops = λ b lt word stop. elim (below_next e from a b next lt word) [
-        | inl l ↦ Contains-append_left (places ++ a ∷ []) ((a + 4) ∷ []) (b + 4) (Contains-append_left places (a ∷ []) (b + 4) (h.stops b l word stop))
-        | inr is ↦ subst (λ x. Contains ((places ++ a ∷ []) ++ (a + 4) ∷ []) (x + 4)) (sym is) (Contains-push (places ++ a ∷ []) (a + 4))
-      ];
-      sound = λ b c. elim (Contains-append_cases (places ++ a ∷ []) ((a + 4) ∷ []) b c) [
-        | inl old ↦ (elim (Contains-append_cases places (a ∷ []) b old) [
-          | inl older ↦ h.sound b older
-          | inr new ↦ (let i = code_some e a all next.code_word in inl (subst (λ x. IsSome (code_at e x)) (sym (only_element a b new)) (subst IsSome (sym i.1) refl)))
-        ])
-        | inr new ↦ subst (IsPlace (code_at e)) (sym (only_element (a + 4) b new)) (inr (stop_behind e a all next.code_word ends))
-      ];
-      few = omega arith;
-      low = low;
-    }
-  where
-    stop_behind : (e : Elf) (a : ℕ) → AllSupported e → is_code_word e a ≡ true → is_code_word e (a + 4) ≡ false → IsStop (code_at e) (a + 4)
-    stop_behind e a all word ends =
-        let i = code_some e a all word in
-        let m = aligned (a % 4) _ word in
-        record {
-          aligned = omega arith;
-          no_code = ap (λ b. cond b (instruction_of (word_of e (a + 4))) None) ends;
-          from = a;
-          instruction = i.0;
-          there = i.1;
-          leads = inl refl;
-        }
-
-addresses_of : (places : List ℕ) → addresses (entries places) ≡ places
-addresses_of [] = refl
-addresses_of (a ∷ rest) = ap (λ xs. a ∷ xs) (addresses_of rest)
 
 is_code : (e : Elf) (a : ℕ) (i : Instr) → code_at e a ≡ Some i → is_code_word e a ≡ true
 is_code e a i h = go (is_code_word e a) refl
@@ -183,58 +78,109 @@ some_of : {X : Type 0} (o : Option X) → IsSome o → (x : X) × (o ≡ Some x)
 some_of None h = let never : false ≡ true = h in cc
 some_of (Some x) h = (x, refl)
 
-no_target : (i : Instr) (b a : ℕ) → is_supported i ≡ true → target_of i b ≡ Some a → ⊥
-no_target (Jal rd offset) b a s h = false≢true s
-no_target (Branch c rs1 rs2 offset) b a s h = false≢true s
-no_target (Lui rd upper) b a s h = cc
-no_target (Auipc rd upper) b a s h = cc
-no_target (Jalr rd rs1 imm) b a s h = cc
-no_target (Load k rd rs1 imm) b a s h = cc
-no_target (Store w rs1 rs2 imm) b a s h = cc
-no_target (OpImm op rd rs1 imm) b a s h = cc
-no_target (ShiftImm op rd rs1 amount) b a s h = cc
-no_target (Op op rd rs1 rs2) b a s h = cc
-no_target (Fence rd rs1 bits) b a s h = cc
-no_target Ecall b a s h = cc
-no_target Ebreak b a s h = cc
-no_target (Lr rd rs1 aq rl) b a s h = cc
-no_target (Sc rd rs1 rs2 aq rl) b a s h = cc
-no_target (Amo op rd rs1 rs2 aq rl) b a s h = cc
-no_target (Illegal word) b a s h = cc
+no_code : (e : Elf) (a : ℕ) → is_code_word e a ≡ false → code_at e a ≡ None
+no_code e a h = ap (λ b. cond b (instruction_of (word_of e a)) None) h
 
--- once no code word is left, the plan is whole
-pub whole : (e : Elf) (places : List ℕ) (from : ℕ) → AllSupported e → SoFar e places from → ((b : ℕ) → from ≤ b → is_code_word e b ≡ false) → IsAdmissible (program_of e) (entries places)
+-- an aligned address where a code word leads is a place
+place_led : (e : Elf) (a x : ℕ) (i : Instr) → AllSupported e → code_at e a ≡ Some i → x % 4 ≡ 0 → (x ≡ a + 4) ⊎ (target_of i a ≡ Some x) → IsPlace (code_at e) x
+place_led e a x i all there m leads = elim (bool_cases (is_code_word e x)) [
+  | inl t ↦ (let j = code_some e x all t in inl (subst IsSome (sym j.1) refl))
+  | inr f ↦ inr (record { aligned = m; no_code = no_code e x f; from = a; instruction = i; there = there; leads = leads })
+]
+
+pub aligned_is : (t x : ℕ) → aligned t ≡ Some x → (t ≡ x) × (x % 4 ≡ 0)
+aligned_is t x h = go (t % 4 == 0) refl
+  where
+    go : (b : Bool) → (t % 4 == 0) ≡ b → (t ≡ x) × (x % 4 ≡ 0)
+    go true f = let is : Some t ≡ Some x = ap (λ b. cond b (Some t) None) (sym f) ∙ h in let same : t ≡ x = cc in let m = eqb-true (t % 4) 0 f in (same, ap (λ n. n % 4) (sym same) ∙ m)
+    go false f = let bad : ◌≡◌ {A = Option ℕ} None (Some x) = ap (λ b. cond b (Some t) None) (sym f) ∙ h in cc
+
+target_is : (o : Option ℕ) (x : ℕ) → option_and_then aligned o ≡ Some x → (o ≡ Some x) × (x % 4 ≡ 0)
+target_is None x h = cc
+target_is (Some t) x h = let both = aligned_is t x h in (ap (λ n. Some n) both.0, both.1)
+
+-- every address that a code word leads to is a place
+sound_led : (e : Elf) (a x : ℕ) (i : Instr) → AllSupported e → code_at e a ≡ Some i → a % 4 ≡ 0 → Contains (led a (leads_to (code_at e) a)) x → IsPlace (code_at e) x
+sound_led e a x i all there m c = go (leads_to (code_at e) a) refl c
+  where
+    behind : IsPlace (code_at e) (a + 4)
+    behind = place_led e a (a + 4) i all there (omega (arith, m)) (inl refl)
+
+    go : (o : Option ℕ) → leads_to (code_at e) a ≡ o → Contains (led a o) x → IsPlace (code_at e) x
+    go None f c = elim (first_or a x ((a + 4) ∷ []) c) [
+      | inl is ↦ inl (subst (λ y. IsSome (code_at e y)) (sym is) (subst IsSome (sym there) refl))
+      | inr c2 ↦ (elim (first_or (a + 4) x [] c2) [
+        | inl is ↦ subst (IsPlace (code_at e)) (sym is) behind
+        | inr c3 ↦ absurd (no_element x c3)
+      ])
+    ]
+    go (Some t) f c = elim (first_or a x ((a + 4) ∷ t ∷ []) c) [
+      | inl is ↦ inl (subst (λ y. IsSome (code_at e y)) (sym is) (subst IsSome (sym there) refl))
+      | inr c2 ↦ (elim (first_or (a + 4) x (t ∷ []) c2) [
+        | inl is ↦ subst (IsPlace (code_at e)) (sym is) behind
+        | inr c3 ↦ (elim (first_or t x [] c3) [
+          | inl is ↦ (let both = target_is (target_of i a) t (ap (option_and_then (λ j. aligned_target j a)) (sym there) ∙ f) in
+              subst (IsPlace (code_at e)) (sym is) (place_led e a t i all there both.1 (inr both.0)))
+          | inr c4 ↦ absurd (no_element x c4)
+        ])
+      ])
+    ]
+
+led_few : (a : ℕ) (o : Option ℕ) → length (led a o) ≤ 3
+led_few a None = omega arith
+led_few a (Some t) = omega arith
+
+-- past the next code word
+pub past : (e : Elf) (places : List ℕ) (from a : ℕ) → AllSupported e → SoFar e places from → IsNextCode e from a → a + 4 ≤ 0x20000 → SoFar e (places ++ led a (leads_to (code_at e) a)) (a + 4)
+past e places from a all h next low =
+    let i = code_some e a all next.code_word in
+    let m = aligned_and (a % 4) _ next.code_word in
+    record {
+      complete = λ b x lt word c. elim (below_next e from a b next lt word) [
+        | inl l ↦ Contains-append_left places _ x (h.complete b x l word c)
+        | inr is ↦ Contains-append_right places _ x (subst (λ y. Contains (led y (leads_to (code_at e) y)) x) is c)
+      ];
+      sound = λ x c. elim (Contains-append_cases places _ x c) [
+        | inl old ↦ h.sound x old
+        | inr new ↦ sound_led e a x i.0 all i.1 m new
+      ];
+      few = let few = h.few in let at_least = next.at_least in let count = length-append places (led a (leads_to (code_at e) a)) in let led = led_few a (leads_to (code_at e) a) in omega arith;
+      low = low;
+    }
+
+led_own : (a : ℕ) (o : Option ℕ) → Contains (led a o) a
+led_own a None = (0, omega arith, refl)
+led_own a (Some t) = (0, omega arith, refl)
+
+led_behind : (a : ℕ) (o : Option ℕ) → Contains (led a o) (a + 4)
+led_behind a None = (1, omega arith, refl)
+led_behind a (Some t) = (1, omega arith, refl)
+
+aligned_some : (x : ℕ) → x % 4 ≡ 0 → aligned x ≡ Some x
+aligned_some x m = ap (λ b. cond b (Some x) None) (eq-eqb (x % 4) 0 m)
+
+led_target : (e : Elf) (a x : ℕ) (i : Instr) → code_at e a ≡ Some i → target_of i a ≡ Some x → x % 4 ≡ 0 → Contains (led a (leads_to (code_at e) a)) x
+led_target e a x i there target m =
+    let is : leads_to (code_at e) a ≡ Some x = ap (option_and_then (λ j. aligned_target j a)) there ∙ ap (option_and_then aligned) target ∙ aligned_some x m in
+    subst (λ o. Contains (led a o) x) (sym is) (2, omega arith, refl)
+
+-- once no code word is left, these are the places
+pub whole : (e : Elf) (places : List ℕ) (from : ℕ) → AllSupported e → SoFar e places from → ((b : ℕ) → from ≤ b → is_code_word e b ≡ false) → HasPlaces (code_at e) places
 whole e places from all h none = record {
-  ascends = h.ascends;
-  complete = λ a place. subst (λ xs. Contains xs a) (sym (addresses_of places)) (elim place [
-    | inl some ↦ (let i = some_of (code_at e a) some in let word = is_code e a i.0 i.1 in h.complete a (under a word) word)
+  complete = λ a place. elim place [
+    | inl some ↦ (let i = some_of (code_at e a) some in let word = is_code e a i.0 i.1 in h.complete a a (under a word) word (led_own a _))
     | inr stop ↦ stop_there a stop
-  ]);
-  sound = λ a c. h.sound a (subst (λ xs. Contains xs a) (addresses_of places) c);
+  ];
+  sound = h.sound;
 }
   where
     under : (b : ℕ) → is_code_word e b ≡ true → b < from
     under b word = elim (cases_lt b from) [ inl lt ↦ lt | inr le ↦ absurd (false≢true (sym (none b le) ∙ word)) ]
 
-    no_word : (a : ℕ) → code_at e a ≡ None → is_code_word e a ≡ false
-    no_word a h = elim (bool_cases (is_code_word e a)) [
-      | inl t ↦ (let i = code_some e a all t in let bad : ◌≡◌ {A = Option Instr} None (Some i.0) = sym h ∙ i.1 in cc)
-      | inr f ↦ f
-    ]
-
     stop_there : (a : ℕ) → IsStop (code_at e) a → Contains places a
     stop_there a stop =
         let word = is_code e stop.from stop.instruction stop.there in
-        elim stop.leads [
-          | inl is ↦ subst (Contains places) (sym is) (h.stops stop.from (under stop.from word) word (ap (is_code_word e) (sym is) ∙ no_word a stop.no_code))
-          | inr target ↦ (let i = code_some e stop.from all word in let same : i.0 ≡ stop.instruction = (let both : Some i.0 ≡ Some stop.instruction = sym i.1 ∙ stop.there in cc) in
-              absurd (no_target stop.instruction stop.from a (ap is_supported (sym same) ∙ i.2) target))
-        ]
-
--- the test that a word is there
-pub tells_word : (e : Elf) (a : ℕ) (b : Bool) → is_some (word_at e a) ≡ b → is_code_word e a ≡ b
-tells_word e a b h = go (is_code_word e a) refl
-  where
-    go : (t : Bool) → is_code_word e a ≡ t → is_code_word e a ≡ b
-    go true f = f ∙ ap (λ x. is_some (cond x (Some (word_of e a)) None)) (sym f) ∙ h
-    go false f = f ∙ ap (λ x. is_some (cond x (Some (word_of e a)) None)) (sym f) ∙ h
+        h.complete stop.from a (under stop.from word) word (elim stop.leads [
+          | inl is ↦ subst (Contains (led stop.from (leads_to (code_at e) stop.from))) (sym is) (led_behind stop.from _)
+          | inr target ↦ led_target e stop.from a stop.instruction stop.there target stop.aligned
+        ])

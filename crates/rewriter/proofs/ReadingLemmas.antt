@@ -1,14 +1,15 @@
 -- What the words of sequences read as.
-use Rattle.std.proofs.Common.{◌≡◌, ◌≢◌, ℕ, eqb, false, Option, Some, None, refl, sym, ap, ◌∙◌, inl, inr}
+use Rattle.std.proofs.Common.{◌≡◌, ◌≢◌, ℕ, ℤ, eqb, false, cond, Option, Some, None, refl, sym, ap, ◌∙◌, inl, inr, arith}
 use Rattle.std.specs.Option.{option_map}
 use Rattle.std.proofs.lemmas.Bool.Decides.{eqb_tells}
-use Rattle.rv32_decode.specs.Rows.{instruction_of, rows}
+use Rattle.std.proofs.lemmas.Bool.{eq-eqb}
+use Rattle.rv32_decode.specs.Fields.{field, imm_i}
+use Rattle.rv32_decode.specs.Rows.{instruction_of}
 use Rattle.rv32_decode.specs.declared.Instr.{Instr}
-use Rattle.rv32_decode.specs.declared.Instr.TheVariants.{Lui, Auipc, Jal, Jalr, Branch, Load, Store, OpImm, ShiftImm, Op, Fence, Ecall, Ebreak, Lr, Sc, Amo, Illegal}
-use Rattle.rewriter.specs.declared.templates.RtWord.{RtWord}
-use Rattle.rewriter.specs.declared.templates.RtWord.TheVariants.{Native, Call, TrapFetch, TrapOff}
-use Rattle.rewriter.specs.Words.{reading_of}
-use Rattle.rewriter.specs.Sequences.{word_for}
+use Rattle.rv32_decode.specs.declared.Width.{Width}
+use Rattle.rv32_decode.proofs.Custom.{custom_0-None, custom_1-None}
+use Rattle.rewriter.specs.declared.templates.RtWord.TheVariants.{Native, MissR, MissW, Xjalr, Call, TrapFetch, TrapOff, TrapIllegal, TrapEbreak}
+use Rattle.rewriter.specs.Words.{reading_of, custom_0, custom_1, width_of_log}
 
 pub reads_call : reading_of 0x300b ≡ Some Call
 unfolding reading_of
@@ -22,44 +23,56 @@ pub reads_trap_off : reading_of 0x102b ≡ Some TrapOff
 unfolding reading_of
 reads_trap_off = refl
 
-no_row_call : instruction_of 0x300b ≡ None
-unfolding instruction_of rows
-no_row_call = refl
+pub reads_trap_illegal : reading_of 0x202b ≡ Some TrapIllegal
+unfolding reading_of
+reads_trap_illegal = refl
 
-no_row_trap_fetch : instruction_of 0x2b ≡ None
-unfolding instruction_of rows
-no_row_trap_fetch = refl
+pub reads_trap_ebreak : reading_of 0x302b ≡ Some TrapEbreak
+unfolding reading_of
+reads_trap_ebreak = refl
 
-no_row_trap_off : instruction_of 0x102b ≡ None
-unfolding instruction_of rows
-no_row_trap_off = refl
+pub unequal : (a b : ℕ) → a ≢ b → eqb a b ≡ false
+unequal a b h = elim (eqb_tells a b) [ inl e ↦ absurd (h e.1) | inr e ↦ e.0 ]
 
-apart : (w n : ℕ) (i : Instr) → instruction_of n ≡ None → instruction_of w ≡ Some i → eqb w n ≡ false
-apart w n i without some = elim (eqb_tells w n) [
-  | inl e ↦ let bad : ◌≡◌ {A = Option Instr} None (Some i) = sym without ∙ ap instruction_of (sym e.1) ∙ some in cc
-  | inr e ↦ e.0
-]
+not_custom_0 : (w : ℕ) (i : Instr) → instruction_of w ≡ Some i → field w 0 7 ≢ 0x0b
+not_custom_0 w i h e = let bad : ◌≡◌ {A = Option Instr} None (Some i) = sym (custom_0-None w e) ∙ h in cc
+
+not_custom_1 : (w : ℕ) (i : Instr) → instruction_of w ≡ Some i → field w 0 7 ≢ 0x2b
+not_custom_1 w i h e = let bad : ◌≡◌ {A = Option Instr} None (Some i) = sym (custom_1-None w e) ∙ h in cc
+
+-- a word of another opcode reads as its instruction
+pub reads_other : (w : ℕ) → field w 0 7 ≢ 0x0b → field w 0 7 ≢ 0x2b → reading_of w ≡ option_map Native (instruction_of w)
+unfolding reading_of
+reads_other w e f = rw (unequal (field w 0 7) 0x0b e, unequal (field w 0 7) 0x2b f) refl
 
 -- an instruction's word reads as that instruction
 pub reads_native : (w : ℕ) (i : Instr) → instruction_of w ≡ Some i → reading_of w ≡ Some (Native i)
 unfolding reading_of
-reads_native w i h = rw (apart w 0x300b i no_row_call h, apart w 0x2b i no_row_trap_fetch h, apart w 0x102b i no_row_trap_off h) (ap (option_map Native) h)
+reads_native w i h = rw (unequal (field w 0 7) 0x0b (not_custom_0 w i h), unequal (field w 0 7) 0x2b (not_custom_1 w i h)) (ap (option_map Native) h)
 
-pub stands_for_itself : (i : Instr) → i ≢ Ecall → word_for i ≡ Native i
-stands_for_itself (Lui rd upper) n = refl
-stands_for_itself (Auipc rd upper) n = refl
-stands_for_itself (Jal rd offset) n = refl
-stands_for_itself (Jalr rd rs1 imm) n = refl
-stands_for_itself (Branch c rs1 rs2 offset) n = refl
-stands_for_itself (Load k rd rs1 imm) n = refl
-stands_for_itself (Store w rs1 rs2 imm) n = refl
-stands_for_itself (OpImm op rd rs1 imm) n = refl
-stands_for_itself (ShiftImm op rd rs1 amount) n = refl
-stands_for_itself (Op op rd rs1 rs2) n = refl
-stands_for_itself (Fence rd rs1 bits) n = refl
-stands_for_itself Ecall n = absurd (n refl)
-stands_for_itself Ebreak n = refl
-stands_for_itself (Lr rd rs1 aq rl) n = refl
-stands_for_itself (Sc rd rs1 rs2 aq rl) n = refl
-stands_for_itself (Amo op rd rs1 rs2 aq rl) n = refl
-stands_for_itself (Illegal word) n = refl
+-- a word of custom-0 reads by its funct3
+pub reads_custom_0 : (w funct3 : ℕ) → field w 0 7 ≡ 0x0b → field w 12 3 ≡ funct3 → reading_of w ≡ custom_0 w funct3
+unfolding reading_of
+reads_custom_0 w funct3 e f = rw (eq-eqb (field w 0 7) 0x0b e) (ap (custom_0 w) f)
+
+pub reads_custom_1 : (w : ℕ) → field w 0 7 ≡ 0x2b → reading_of w ≡ custom_1 w
+unfolding reading_of
+reads_custom_1 w e = rw (unequal (field w 0 7) 0x0b (omega (arith, e)), eq-eqb (field w 0 7) 0x2b e) refl
+
+pub reads_miss_r : (w rd rs1 : ℕ) (imm : ℤ) (width : Width) → field w 0 7 ≡ 0x0b → field w 12 3 ≡ 0 → field w 7 5 ≡ rd → field w 15 5 ≡ rs1 → imm_i w ≡ imm
+    → width_of_log rd ≡ Some width → reading_of w ≡ Some (MissR width rs1 imm)
+reads_miss_r w rd rs1 imm width e f d r i log =
+    reads_custom_0 w 0 e f ∙ ap (λ n. option_map (λ x. MissR x (field w 15 5) (imm_i w)) (width_of_log n)) d
+    ∙ ap (option_map (λ x. MissR x (field w 15 5) (imm_i w))) log ∙ ap (λ n. Some (MissR width n (imm_i w))) r ∙ ap (λ n. Some (MissR width rs1 n)) i
+
+pub reads_miss_w : (w rd rs1 : ℕ) (imm : ℤ) (width : Width) → field w 0 7 ≡ 0x0b → field w 12 3 ≡ 1 → field w 7 5 ≡ rd → field w 15 5 ≡ rs1 → imm_i w ≡ imm
+    → width_of_log rd ≡ Some width → reading_of w ≡ Some (MissW width rs1 imm)
+reads_miss_w w rd rs1 imm width e f d r i log =
+    reads_custom_0 w 1 e f ∙ ap (λ n. option_map (λ x. MissW x (field w 15 5) (imm_i w)) (width_of_log n)) d
+    ∙ ap (option_map (λ x. MissW x (field w 15 5) (imm_i w))) log ∙ ap (λ n. Some (MissW width n (imm_i w))) r ∙ ap (λ n. Some (MissW width rs1 n)) i
+
+pub reads_xjalr : (w rd rs1 : ℕ) (imm : ℤ) → field w 0 7 ≡ 0x0b → field w 12 3 ≡ 4 → field w 7 5 ≡ rd → field w 15 5 ≡ rs1 → imm_i w ≡ imm
+    → reading_of w ≡ Some (Xjalr rd rs1 imm)
+reads_xjalr w rd rs1 imm e f d r i =
+    reads_custom_0 w 4 e f ∙ ap (λ b. cond b (Some Call) (Some (Xjalr (field w 7 5) (field w 15 5) (imm_i w)))) (unequal w 0x300b (λ h. let g : field w 12 3 ≡ 3 = ap (λ x. field x 12 3) h in omega (arith, f, g)))
+    ∙ ap (λ n. Some (Xjalr n (field w 15 5) (imm_i w))) d ∙ ap (λ n. Some (Xjalr rd n (imm_i w))) r ∙ ap (λ n. Some (Xjalr rd rs1 n)) i

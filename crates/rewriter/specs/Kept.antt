@@ -1,5 +1,5 @@
 -- How an image keeps its words: each beside what it reads as.
-use Rattle.std.specs.Prelude.{ℕ, Option, Some}
+use Rattle.std.specs.Prelude.{Option, Some}
 use Rattle.rewriter.specs.declared.templates.RtWord.{RtWord}
 use Rattle.rewriter.specs.declared.jump_map.Cell as kept
 use Rattle.rewriter.specs.Words.{reading_of}

@@ -4,4 +4,8 @@
 mod expand;
 pub mod jump_map;
 mod places;
+mod sequences;
 pub mod templates;
+mod words;
+
+pub use expand::ImageRefused;

@@ -210,6 +210,13 @@ impl Model for BranchOffset {
 }
 
 impl BranchOffset {
+    /// The distance as a word of two's complement.
+    pub fn word(self) -> u32
+        ensures { result ≡ unsigned 32 self }
+    {
+        self.value.cast_unsigned()
+    }
+
     /// The even number from -4096 to 4094.
     pub fn new(value: i32) -> BranchOffset
         requires low { negsuc 4095 ≤ℤ value }
@@ -274,6 +281,13 @@ impl Model for JumpOffset {
 }
 
 impl JumpOffset {
+    /// The distance as a word of two's complement.
+    pub fn word(self) -> u32
+        ensures { result ≡ unsigned 32 self }
+    {
+        self.value.cast_unsigned()
+    }
+
     /// The even number from -1048576 to 1048574.
     pub fn new(value: i32) -> JumpOffset
         requires low { negsuc 1048575 ≤ℤ value }

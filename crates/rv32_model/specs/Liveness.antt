@@ -37,3 +37,8 @@ Next i a b = b ≡ a + 4
 pub data Live (code : ℕ → Option Instr) (r : ℕ) : ℕ → Type 0 where
   uses : {a : ℕ} (i : Instr) → code a ≡ Some i → Uses i r → Live code r a
   passes : {a : ℕ} (i : Instr) (b : ℕ) → code a ≡ Some i → (destination i ≡ Some r → ⊥) → Next i a b → Live code r b → Live code r a
+
+-- register r is dead after the instruction at a: it is live at no direct successor, and the instruction keeps to the code
+pub record IsDeadAfter (code : ℕ → Option Instr) (r a : ℕ) (i : Instr) : Type 0 where
+  pub keeps : IsTrue (leaves_code i) → ⊥
+  pub dead : (b : ℕ) → Next i a b → Live code r b → ⊥

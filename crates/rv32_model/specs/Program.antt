@@ -1,6 +1,6 @@
 -- A program as the processors see it: the class of each line, the first content of each address, the instruction
 -- at each code word, and the entry.
-use Rattle.std.specs.Prelude.{◌≡◌, ℕ, ◌+◌, ◌/◌, ◌%◌, ◌≤◌, Bool, true, false, Option, Some}
+use Rattle.std.specs.Prelude.{◌≡◌, ℕ, ◌+◌, ◌/◌, ◌%◌, ◌^◌, ◌≤◌, Bool, true, false, Option, Some}
 use Rattle.rv32_decode.specs.declared.Instr.{Instr}
 use Rattle.rv32_model.specs.declared.Class.{Class}
 use Rattle.rv32_model.specs.declared.Class.TheVariants.{Shared, ReadOnly, Private, Unmapped}
@@ -24,11 +24,19 @@ abbrev pub is_mapped : Class → Bool
 is_mapped Unmapped = false
 is_mapped c = true
 
+-- a store may change it
+abbrev pub is_writable : Class → Bool
+is_writable Shared = true
+is_writable Private = true
+is_writable c = false
+
 -- what a program has to be before it is run
 pub record IsAccepted (program : Program) : Type 0 where
   -- code words stand at multiples of four, below the private window
   pub aligned : (a : ℕ) (i : Instr) → program.code a ≡ Some i → a % 4 ≡ 0
   pub low : (a : ℕ) (i : Instr) → program.code a ≡ Some i → a + 4 ≤ 0x7fff0000
+  -- the lower half alone is mapped
+  pub upper : (line : ℕ) → 2 ^ 25 ≤ line → program.class line ≡ Unmapped
   pub supported : (a : ℕ) (i : Instr) → program.code a ≡ Some i → is_supported i ≡ true
   -- the entry is a code word
   pub first_instruction : Instr

@@ -47,8 +47,20 @@ pub enum End {
 pub enum Demand {
     /// The register gets the value, and the next instruction follows.
     Sets(Reg, u32),
+    /// Nothing but that the next instruction follows.
+    Continues,
+    /// The register gets the address of the next instruction, and the pc becomes the target.
+    Jumps(Reg, u32),
+    /// The pc becomes the target.
+    Branches(u32),
+    /// The register gets what the address holds, and the next instruction follows.
+    Loads(LoadKind, Reg, u32),
+    /// The address gets the low bits of the value, and the next instruction follows.
+    Stores(Width, u32, u32),
     /// One step of an environment call.
     Calls,
+    /// The processor ends.
+    Traps(Exit),
     /// The instruction isn't executed by this version; no accepted program has it.
     Unsupported,
 }
@@ -64,4 +76,4 @@ pub enum CallStep {
     Puts(u32),
 }
 
-use rv32_decode::Reg;
+use rv32_decode::{LoadKind, Reg, Width};

@@ -1,6 +1,10 @@
 mod Plans
 mod Fetching
+mod RegisterLemmas
 mod Does
+mod Mids
+mod Checked
 mod Templates
-mod Follows
 mod Stops
+mod Follows
+mod Standing

@@ -7,10 +7,10 @@ use Rattle.rv32_model.specs.declared.End.TheVariants.{Exited, Stopped}
 use Rattle.rv32_model.specs.Program.{Program}
 use Rattle.rv32_model.specs.OneMemory.{State, Pick, Step, IsRun, run, values_read, value_read}
 use Rattle.rewriter.specs.declared.templates.Place.{Place}
-use Rattle.rewriter.specs.Sequences.{Entry, Item, Commit, Never, Always, items_of}
+use Rattle.rewriter.specs.Sequences.{Entry, Item, Commit, Never, Always}
 use Rattle.rewriter.specs.declared.jump_map.Fetched.{Fetched}
-use Rattle.rewriter.specs.Image.{fetched}
-use Rattle.node_machine.specs.Node.{Work, Node, next_act, node_step}
+use Rattle.rewriter.specs.Image.{sequence_items, fetched}
+use Rattle.node_machine.specs.Node.{Work, Node, exit_of, next_act, node_step}
 
 -- so many words may be executed one after another
 abbrev pub MayExecute : Work → ℕ → Node → Type 0
@@ -30,12 +30,12 @@ commits_by Always = true
 abbrev pub commit_at : Program → List Entry → Option Place → Commit
 commit_at program plan None = Never
 commit_at program plan (Some p) =
-    option_map_or (λ e. option_map_or (λ i. i.commit) (slice_get (items_of e (program.code p.address)) p.word) Never) (find (λ e. e.address == p.address) plan) Never
+    option_map_or (λ e. option_map_or (λ i. i.commit) (slice_get (sequence_items program e) p.word) Never) (find (λ e. e.address == p.address) plan) Never
 
 -- the next word commits a step of the original: it is marked so, or it ends the processor by an exit
 abbrev pub commits : Work → List Entry → Node → Bool
 commits work plan n =
-    is_some (next_act work n).exit || commits_by (option_map_or (λ f. commit_at work.program plan f.place) (fetched work.image n.lane.at) Never)
+    is_some (exit_of (next_act work n).move) || commits_by (option_map_or (λ f. commit_at work.program plan f.place) (fetched work.image n.lane.at) Never)
 
 -- the picks of the words that commit
 abbrev pub picks_of : Work → List Entry → ℕ → Node → List Pick

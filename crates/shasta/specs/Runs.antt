@@ -4,9 +4,7 @@ use Rattle.rv32_model.specs.declared.End.{End}
 use Rattle.node_machine.specs.declared.NodeCounts.{NodeCounts}
 use Rattle.node_machine.specs.Node.{Work, Node}
 use Rattle.shared_sim.specs.Interleaving.{MayExecute, node_after, printed}
-use Rattle.shasta.specs.Outcome.{Outcome, status_of}
-use Rattle.shasta.specs.Text.{text_of}
-use Rattle.shasta.specs.Headline.{begin, IsOutcomeOf}
+use Rattle.shasta.specs.Headline.{begin}
 
 -- a whole run of a node, by its bytes, its end and its counts
 pub record IsFinished (work : Work) (output : List ℕ) (end : End) (counts : NodeCounts) : Type 0 where
@@ -21,10 +19,3 @@ pub record Continues (work : Work) (done k : ℕ) (now : Node) (output : List �
   pub may : MayExecute work (done + k) (begin work)
   pub after : node_after work (done + k) (begin work) ≡ node_after work k now
   pub output_is : printed work (done + k) (begin work) ≡ output ++ printed work k now
-
--- the text and the status of a run of the file
-pub record IsReport (file text : List ℕ) (status : ℕ) : Type 0 where
-  pub outcome : Outcome
-  pub is : IsOutcomeOf file outcome
-  pub status_is : status ≡ status_of outcome
-  pub text_is : text ≡ text_of outcome

@@ -76,3 +76,6 @@ not_yet = codes "shasta: executable refused 90 NotYet\n"
 
 abbrev pub unsupported : ℕ → ℕ → List ℕ
 unsupported address word = codes "shasta: executable refused 18 Unsupported " ++ (hex8 address ++ (codes " word " ++ (hex8 word ++ codes "\n")))
+
+abbrev pub too_many_words : ℕ → List ℕ
+too_many_words words = codes "shasta: executable refused 20 CodeTooLarge " ++ (decimal words ++ codes " words\n")

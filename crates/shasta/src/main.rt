@@ -1,7 +1,9 @@
 #![tactic(auto)]
-//! `shasta` runs RV32 executables' rewritten code.
+//! `shasta` lists RV32 executables, and runs their original and their rewritten code.
 
-mod commands;
+mod listing;
+mod one;
+mod report;
 mod run;
 #[cfg(test)]
 mod tests;

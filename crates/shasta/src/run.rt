@@ -1,42 +1,24 @@
 //! Runs an executable's rewritten code.
 
-ghost use Rattle.std.specs.Prelude.{◌≡◌, ◌≢◌, ◌≤◌, ◌<◌, ◌+◌, ◌^◌, ◌++◌, ℕ, List, [], Some, None, IfOk, OnOk, IfErr};
+ghost use Rattle.std.specs.Prelude.{◌≡◌, ◌≤◌, ◌<◌, ◌^◌, ◌++◌, ℕ, List, IfOk, OnOk, IfErr};
 ghost use Rattle.std.specs.Option.{option_to_list};
 ghost use Rattle.elf32_read.specs.FirstForm.{HasFirstForm};
-ghost use Rattle.exec_map.specs.Contents.{program_of, AllSupported};
-ghost use Rattle.rv32_model.specs.Program.{IsAccepted};
+ghost use Rattle.exec_map.specs.Contents.{program_of};
 ghost use Rattle.rewriter.specs.Image.{HasRewriting};
-ghost use Rattle.node_machine.specs.Node.{Work};
-ghost use Rattle.shasta.specs.Refusals.{IsRefusal};
-ghost use Rattle.shasta.specs.Runs.{IsFinished, IsReport};
+ghost use Rattle.command_line.specs.Commands.{Run};
+ghost use Rattle.shasta.specs.Headline.{IsTextWith, IsProgramOf, IsOutcomeOf};
+ghost use Rattle.shasta.specs.Refusals.{IsRefusal, refusal_of};
+ghost use Rattle.shasta.specs.Runs.{IsFinished};
 
+use crate::report::{Refused, Report};
 use crate::text;
 use elf32_read::{ElfRefused, read_elf};
-use exec_map::{End, Program, ProgramRefused, accept};
+use exec_map::{End, Program, accept};
 use node_machine::{Node, NodeCounts, Turn};
+use rewriter::ImageRefused;
 use rewriter::jump_map::Image;
 use shared_sim::interleaving_law;
 use std::alloc::{AllocError, Global};
-
-/// How many words a processor executes before it is stopped.
-const BUDGET: u64 = 100_000_000;
-
-/// Why a file was not run.
-#[derive(Debug, Drop)]
-pub enum Refused {
-    /// The executable has a form that is not read as yet.
-    NotYet,
-    /// The program is refused.
-    Program(ProgramRefused),
-    OutOfMemory,
-}
-
-/// What is to be printed of a run, and its status.
-#[derive(Debug, Drop)]
-pub struct Report {
-    pub text: Vec<u8>,
-    pub status: u8,
-}
 
 /// What a run left: the bytes printed, how the processor ended, and what the node counted.
 #[derive(Debug, Drop)]
@@ -46,10 +28,13 @@ struct Finished {
     counts: NodeCounts,
 }
 
-/// Runs the executable in a file.
-pub fn run_file(alloc: Global, file: &[u8]) -> Result<Report, Refused>
-    ensures ok { IfOk result (λ r. IsReport file.now r.text.items r.status) }
-    ensures refused { IfErr result (λ r. IsRefusal file.now r) }
+/// Runs the executable in a file, at most so many words of its processor.
+pub fn run_file(alloc: Global, file: &[u8], budget: u64) -> Result<Report, Refused>
+    requires some { 1 ≤ budget }
+    requires few { budget ≤ 2 ^ 32 }
+    ensures ok { IfOk result (λ r. IsTextWith (IsOutcomeOf file.now budget) r.text.items r.status) }
+    ensures low { IfOk result (λ r. r.status ≤ 1) }
+    ensures refused { IfErr result (λ r. (name : List ℕ) → IsRefusal (Run name budget) file.now r) }
 {
     let elf = match read_elf(alloc, file) {
         Ok(elf) => elf,
@@ -60,19 +45,50 @@ pub fn run_file(alloc: Global, file: &[u8]) -> Result<Report, Refused>
         Ok(program) => program,
         Err(refused) => return Err(Refused::Program(refused)),
     };
-    match run_program(alloc, &program) {
-        Ok(report) => Ok(report),
-        Err(_) => Err(Refused::OutOfMemory),
+    run_program(alloc, &program, budget)
+}
+
+/// Rewrites a program, and runs it.
+fn run_program(alloc: Global, program: &Program<'_>, budget: u64) -> Result<Report, Refused>
+    requires some { 1 ≤ budget }
+    requires few { budget ≤ 2 ^ 32 }
+    ensures ok { IfOk result (λ r. (file : List ℕ) → IsProgramOf file program.now → IsTextWith (IsOutcomeOf file budget) r.text.items r.status) }
+    ensures low { IfOk result (λ r. r.status ≤ 1) }
+    ensures refused { IfErr result (λ r. (name file : List ℕ) → HasFirstForm file program.now → IsRefusal (Run name budget) file r) }
+{
+    let image = match Image::of(alloc, program) {
+        Ok(image) => image,
+        Err(refused) => return Err(refusal_of(refused)),
+    };
+    let report = run_image(alloc, program, &image, budget)?;
+    Ok(report)
+}
+
+/// Why a program that isn't rewritten is refused.
+fn refusal_of(refused: ImageRefused) -> Refused
+    ensures { result ≡ refusal_of refused }
+{
+    match refused {
+        ImageRefused::CodeTooLarge(words) => Refused::TooManyWords(words),
+        ImageRefused::OutOfMemory => Refused::OutOfMemory,
     }
 }
 
-/// Runs a program.
-fn run_program(alloc: Global, program: &Program<'_>) -> Result<Report, AllocError>
-    ensures report { IfOk result (λ r. (file : List ℕ) → IsAccepted (program_of program.now) → AllSupported program.now → HasFirstForm file program.now → IsReport file r.text.items r.status) }
+/// Runs the rewritten code of a program.
+fn run_image(
+    alloc: Global,
+    program: &Program<'_>,
+    image: &Image,
+    budget: u64,
+) -> Result<Report, AllocError>
+    requires rewriting { HasRewriting (program_of program.now) image.now }
+    requires some { 1 ≤ budget }
+    requires few { budget ≤ 2 ^ 32 }
+    ensures text { IfOk result (λ r. (file : List ℕ) → IsProgramOf file program.now → IsTextWith (IsOutcomeOf file budget) r.text.items r.status) }
+    ensures low { IfOk result (λ r. r.status ≤ 1) }
 {
     interleaving_law();
-    let image = Image::of(alloc, program)?;
-    let done = execute(alloc, program, &image, BUDGET)?;
+    let done = execute(alloc, program, image, budget)?;
     let ends = [done.end];
     let text = text::outcome_text(alloc, &done.output, &ends, &[done.counts])?;
     let status = text::status(&ends);
@@ -91,7 +107,7 @@ fn execute(
     requires few { budget ≤ 2 ^ 32 }
     ensures { IfOk result (λ r. IsFinished (record { program = program_of program.now; image = image.now; budget = budget }) r.output.items r.end r.counts) }
 {
-    let mut node = Node::new(image, program, 0, 1, budget);
+    let mut node = Node::new(alloc, image, program, 0, 1, budget)?;
     let mut output = Vec::new(alloc);
     for _turn in 0..budget {
         if let Some(end) = node.end() {

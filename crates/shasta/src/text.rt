@@ -262,3 +262,14 @@ fn unsupported(alloc: Global, address: u32, word: u32) -> Result<Vec<u8>, AllocE
     line.extend_from_slice(b"\n")?;
     Ok(line)
 }
+
+/// The line that says how many words rewritten code would have.
+pub fn too_many_words(alloc: Global, words: u64) -> Result<Vec<u8>, AllocError>
+    ensures { IfOk result (λ line. line.items ≡ model.too_many_words words) }
+{
+    let mut line = Vec::new(alloc);
+    line.extend_from_slice(b"shasta: executable refused 20 CodeTooLarge ")?;
+    push_number(alloc, &mut line, words)?;
+    line.extend_from_slice(b" words\n")?;
+    Ok(line)
+}

@@ -1,14 +1,15 @@
 //! The top call.
 
 ghost use Rattle.std.specs.Prelude.{◌≡◌, ◌≢◌, ◌≤◌, ◌⊎◌, ℕ, List, Some, IfOk};
-ghost use Rattle.shasta.specs.Commands.{Command, Run, Asks};
-ghost use Rattle.shasta.specs.Headline.{Prints, PrintsFront, IsRefused, Tells, IsFault};
-ghost use Rattle.shasta.specs.Text.{usage, cannot_read, too_long, cannot_write_output, out_of_memory};
+ghost use Rattle.command_line.specs.Commands as model;
+ghost use Rattle.command_line.specs.Asked.{asked};
+ghost use Rattle.shasta.specs.Headline.{file_of, Prints, PrintsFront, IsRefused, Tells, IsFault};
+ghost use Rattle.shasta.specs.Text.{usage, cannot_read, too_long, too_many_words, cannot_write_output, out_of_memory};
 ghost use Rattle.shasta.specs.Refusals.{program_line, refusal_line};
 
-use crate::commands::command_of;
-use crate::run::{Refused, run_file};
+use crate::report::{Refused, report_of};
 use crate::text;
+use command_line::{Command, command_of};
 use dsm_io::{FileError, Files, Gate, Sink, SinkError, Text};
 use exec_map::ProgramRefused;
 use std::alloc::Global;
@@ -30,31 +31,32 @@ pub fn shasta<F: Files, O: Sink, E: Sink, G: Gate + Sync>(
     ensures range { result ≤ 5 }
 
     // Status 2 is for exactly the words that ask for nothing; the usage text is told.
-    ensures faulty { result ≡ 2 → (c : Command) → Asks words.now c → ⊥ }
-    ensures asked { result ≢ 2 → (c : Command) × Asks words.now c }
+    ensures faulty { result ≡ 2 → (c : model.Command) → model.Asks words.now c → ⊥ }
+    ensures asked { result ≢ 2 → (c : model.Command) × model.Asks words.now c }
     ensures usage { result ≡ 2 → Tells (E.taken err.old) (E.taken err.new) (E.faults err.old) (E.faults err.new) usage }
 
-    // With status 0 and 1 the text is that of a run of the original on one memory, and `err` took nothing.
-    ensures ran { (name file : List ℕ) → Asks words.now (Run name) → F.held files.old name ≡ Some file → result ≤ 1
-        → Prints file (O.taken out.old) (O.taken out.new) result }
+    // With status 0 and 1 the text is what the command asks for: of `run`, that of a run of the original on one memory.
+    // `err` took nothing.
+    ensures ran { (c : model.Command) (file : List ℕ) → model.Asks words.now c → F.held files.old (file_of c) ≡ Some file → result ≤ 1
+        → Prints c file (O.taken out.old) (O.taken out.new) result }
     ensures quiet { result ≤ 1 → E.taken err.new ≡ E.taken err.old }
 
     // Status 4 is for a refused executable; the refusal is told.
-    ensures refused { (name file : List ℕ) → Asks words.now (Run name) → F.held files.old name ≡ Some file → result ≡ 4
-        → (line : List ℕ) × IsRefused file line × Tells (E.taken err.old) (E.taken err.new) (E.faults err.old) (E.faults err.new) line }
+    ensures refused { (c : model.Command) (file : List ℕ) → model.Asks words.now c → F.held files.old (file_of c) ≡ Some file → result ≡ 4
+        → (line : List ℕ) × IsRefused c file line × Tells (E.taken err.old) (E.taken err.new) (E.faults err.old) (E.faults err.new) line }
     ensures nothing { (result ≡ 2) ⊎ (result ≡ 4) → O.taken out.new ≡ O.taken out.old }
 
     // Status 3 comes only where a count of faults rose in this call, or the file is too long; its line names which.
-    ensures fault { (name : List ℕ) → Asks words.now (Run name) → result ≡ 3
-        → IsFault (F.held files.old name) (F.failed_reads files.old name) (F.failed_reads files.new name) (O.faults out.old) (O.faults out.new) name
+    ensures fault { (c : model.Command) → model.Asks words.now c → result ≡ 3
+        → IsFault (F.held files.old (file_of c)) (F.failed_reads files.old (file_of c)) (F.failed_reads files.new (file_of c)) (O.faults out.old) (O.faults out.new) (file_of c)
         (λ line. Tells (E.taken err.old) (E.taken err.new) (E.faults err.old) (E.faults err.new) line) }
 
     // Status 5 is for want of memory, and says so.
     ensures wanted { result ≡ 5 → Tells (E.taken err.old) (E.taken err.new) (E.faults err.old) (E.faults err.new) out_of_memory }
 
-    // With status 3 and 5 a front of the text of a run was put, or nothing.
-    ensures front { (name file : List ℕ) → Asks words.now (Run name) → F.held files.old name ≡ Some file → (result ≡ 3) ⊎ (result ≡ 5)
-        → PrintsFront file (O.taken out.old) (O.taken out.new) }
+    // With status 3 and 5 a front of the text was put, or nothing.
+    ensures front { (c : model.Command) (file : List ℕ) → model.Asks words.now c → F.held files.old (file_of c) ≡ Some file → (result ≡ 3) ⊎ (result ≡ 5)
+        → PrintsFront c file (O.taken out.old) (O.taken out.new) }
 
     // No file changes.
     ensures files { (name : List ℕ) → F.held files.new name ≡ F.held files.old name }
@@ -62,14 +64,14 @@ pub fn shasta<F: Files, O: Sink, E: Sink, G: Gate + Sync>(
     let Some(command) = command_of(words) else {
         return tell_usage(err);
     };
-    let file = command.file();
+    let file = file_of(&command);
     let bytes = match files.read(alloc, file, FILE_LIMIT) {
         Ok(bytes) => bytes,
         Err(FileError::Failed) => return tell_unread(alloc, err, file),
         Err(FileError::TooLong { limit: _ }) => return tell_too_long(alloc, err, file),
         Err(FileError::OutOfMemory) => return tell_out_of_memory(err),
     };
-    let report = match run_file(alloc, &bytes) {
+    let report = match report_of(alloc, command, &bytes) {
         Ok(report) => report,
         Err(refused) => return tell_refused(alloc, err, refused),
     };
@@ -77,6 +79,22 @@ pub fn shasta<F: Files, O: Sink, E: Sink, G: Gate + Sync>(
         Ok(()) => report.status,
         Err(SinkError::Failed) => tell_unwritten(err),
         Err(SinkError::OutOfMemory) => tell_out_of_memory(err),
+    }
+}
+
+/// The name of the file that a command reads.
+fn file_of<'a>(command: &Command<'a>) -> &'a str
+    ensures { result.now ≡ file_of (asked command.now) }
+{
+    match command {
+        Command::Run { file, budget: _ } => file,
+        Command::List { file } => file,
+        Command::One {
+            file,
+            nodes: _,
+            order: _,
+            budget: _,
+        } => file,
     }
 }
 
@@ -132,6 +150,7 @@ fn tell_refused<E: Sink>(alloc: Global, err: &mut E, refused: Refused) -> u8
             4
         }
         Refused::Program(refused) => tell_program(alloc, err, refused),
+        Refused::TooManyWords(words) => tell_too_many_words(alloc, err, words),
         Refused::OutOfMemory => tell_out_of_memory(err),
     }
 }
@@ -143,6 +162,21 @@ fn tell_program<E: Sink>(alloc: Global, err: &mut E, refused: ProgramRefused) ->
     ensures wanted { result ≡ 5 → Tells (E.taken err.old) (E.taken err.new) (E.faults err.old) (E.faults err.new) out_of_memory }
 {
     match text::refused(alloc, refused) {
+        Ok(line) => {
+            tell(err, &line);
+            4
+        }
+        Err(_) => tell_out_of_memory(err),
+    }
+}
+
+/// Tells how many words rewritten code would have.
+fn tell_too_many_words<E: Sink>(alloc: Global, err: &mut E, words: u64) -> u8
+    ensures value { (result ≡ 4) ⊎ (result ≡ 5) }
+    ensures told { result ≡ 4 → Tells (E.taken err.old) (E.taken err.new) (E.faults err.old) (E.faults err.new) (too_many_words words) }
+    ensures wanted { result ≡ 5 → Tells (E.taken err.old) (E.taken err.new) (E.faults err.old) (E.faults err.new) out_of_memory }
+{
+    match text::too_many_words(alloc, words) {
         Ok(line) => {
             tell(err, &line);
             4

@@ -2,7 +2,7 @@ use Rattle.std.proofs.Common.{◌≡◌, ◌+◌, ◌<◌, ap, ◌∙◌, sym, �
 use Rattle.std.specs.Option.{option_to_list}
 use Rattle.exec_map.specs.Contents.{program_of}
 use Rattle.node_machine.specs.Held.{node_of, work_of}
-use Rattle.node_machine.specs.Node.{Work, Node, node_step, next_act, end_by}
+use Rattle.node_machine.specs.Node.{Work, Node, node_step, next_act, end_by, exit_of}
 use Rattle.shasta.proofs.RunLemmas.{begins, finished_at, goes_on, still_below}
 use Rattle.shasta.proofs.run.execute.Goals as goal
 
@@ -22,7 +22,7 @@ loop-turn-preserved c =
     record {
       work = c.exec-turn.ensures.work ∙ same;
       count = ap (λ (n : Node). n.executed) stepped ∙ ap (λ k. k + 1) c.loop-turn.invariant.count;
-      room = λ none. still_below c.args.budget c.loop-turn._turn (next_act w (node_of old)).exit room (ap (λ k. end_by c.args.budget (k + 1) (next_act w (node_of old)).exit) (sym c.loop-turn.invariant.count) ∙ sym (ap (λ (n : Node). n.end) stepped) ∙ none);
+      room = λ none. still_below c.args.budget c.loop-turn._turn (exit_of (next_act w (node_of old)).move) room (ap (λ k. end_by c.args.budget (k + 1) (exit_of (next_act w (node_of old)).move)) (sym c.loop-turn.invariant.count) ∙ sym (ap (λ (n : Node). n.end) stepped) ∙ none);
       so_far = goes_on w c.loop-turn._turn (node_of old) (node_of c.exec-turn.new.self) c.loop-turn.output.items c.keep.new.output.items
           c.loop-turn.invariant.so_far stepped running
           (c.in_ok-keep.ensures ∙ ap (λ o. c.loop-turn.output.items ++ option_to_list o) (c.exec-turn.ensures.output ∙ ap (λ x. (next_act x (node_of old)).printed) same));
@@ -35,9 +35,9 @@ returns c =
 
 pub loop-turn-init : goal.loop-turn-init
 loop-turn-init c = record {
-  work = c.new-node.ensures.work;
-  count = ap (λ (n : Node). n.executed) c.new-node.ensures.opening;
+  work = c.in_ok-node.ensures.work;
+  count = ap (λ (n : Node). n.executed) c.in_ok-node.ensures.opening;
   room = λ none. c.requires.some;
-  so_far = begins (record { program = program_of c.args.program.now; image = c.args.image.now; budget = c.args.budget }) (node_of c.new-node.result) c.new-output.result.items
-      c.new-node.ensures.opening c.new-output.ensures.items;
+  so_far = begins (record { program = program_of c.args.program.now; image = c.args.image.now; budget = c.args.budget }) (node_of c.in_ok-node.node) c.new-output.result.items
+      c.in_ok-node.ensures.opening c.new-output.ensures.items;
 }

@@ -1,54 +1,10 @@
-use Rattle.std.proofs.Common.{ℕ, List, [], ◌∷◌, Some, ap, ◌∙◌, sym, refl}
-use Rattle.exec_map.specs.Contents.{program_of}
-use Rattle.rv32_model.specs.declared.End.{End}
-use Rattle.node_machine.specs.declared.NodeCounts.{NodeCounts}
-use Rattle.node_machine.specs.Node.{Work}
-use Rattle.shasta.specs.Outcome.{Outcome}
-use Rattle.shasta.specs.Text.{text_of}
-use Rattle.shasta.specs.Headline.{IsWholeRun}
+use Rattle.std.proofs.Common.{ap, sym, subst, Err}
+use Rattle.shasta.specs.Refusals.{IsRefusal}
+use Rattle.command_line.specs.Commands.{Run}
+use Rattle.shasta.proofs.RunLemmas.{image_refusal}
 use Rattle.shasta.proofs.run.run_program.Goals as goal
 
-abbrev outcome_with : End → NodeCounts → List ℕ → Outcome
-outcome_with end counts output = record { output = output; ends = end ∷ []; counts = counts ∷ [] }
-
-abbrev text_with : End → NodeCounts → List ℕ → List ℕ
-text_with end counts output = text_of (outcome_with end counts output)
-
-pub returns : goal.returns
-returns c = record {
-  report = λ file accepted supported form.
-      let work : Work = record { program = program_of c.args.program.now; image = c.in_ok-image.image; budget = 100000000 } in
-      let done = c.in_ok-done.ensures in
-      let end = c.in_ok-done.done.end in
-      let plan = c.in_ok-image.ensures.plan in
-      let rewriting = c.in_ok-image.ensures.rewriting in
-      let same = c.interleaving_law.ensures.interleaves work plan done.words accepted rewriting done.may in
-      let whole : IsWholeRun work plan done.words end = record {
-        rewriting = rewriting;
-        may = done.may;
-        ended = done.ended;
-        stopped = λ b e. c.interleaving_law.ensures.stopped work done.words b done.may (done.ended ∙ ap Some e);
-        original = same;
-      } in
-      record {
-        outcome = outcome_with end c.in_ok-done.done.counts c.in_ok-done.done.output.items;
-        is = record {
-          elf = c.args.program.now;
-          form = form;
-          supported = supported;
-          accepted = accepted;
-          work = work;
-          program = refl;
-          limit = refl;
-          plan = plan;
-          words = done.words;
-          end = end;
-          whole = whole;
-          output = done.output_is ∙ sym same.output;
-          ends = refl;
-          counts = ap (λ (k : NodeCounts). k ∷ []) done.counts_are;
-        };
-        status_is = c.status-status.ensures.value c.in_ok-done.done.output.items (c.in_ok-done.done.counts ∷ []);
-        text_is = c.in_ok-text.ensures ∙ ap (text_with end c.in_ok-done.done.counts) c.deref.ensures.value;
-      };
-}
+pub returns-in-Err-clause-refused : goal.returns-in-Err-clause-refused
+returns-in-Err-clause-refused c = λ name file form.
+    subst (IsRefusal (Run name c.args.budget) file) (sym c.refusal_of.ensures)
+    (image_refusal name file c.args.budget c.args.program.now c.in-Err.refused form (λ w is. c.in-Err.ensures.too_large w (ap Err is)))

@@ -1,4 +1,4 @@
-use Rattle.std.proofs.Common.{◌≡◌, ap, ◌∙◌, Some, None}
+use Rattle.std.proofs.Common.{ap, ◌∙◌, Some, None}
 use Rattle.std.specs.Prelude.{position}
 use Rattle.rewriter.specs.Image.{is_first_of, new_of}
 use Rattle.rewriter.specs.Kept.{shown}

@@ -1,0 +1,5 @@
+mod ReadLemmas
+mod CodeLemmas
+mod StepLemmas
+mod StateLemmas
+mod RangeLemmas

@@ -1,0 +1,5 @@
+pub mod Hexadecimal
+pub mod KindOf
+pub mod OperandLaws
+pub mod Ranges
+pub mod Told

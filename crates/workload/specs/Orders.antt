@@ -1,0 +1,10 @@
+-- The choices of an order: a linear congruential sequence modulo 2^32, of whose numbers the upper half is used.
+use Rattle.std.specs.Prelude.{ℕ, ◌+◌, ◌*◌, ◌/◌, ◌%◌, ◌^◌}
+
+-- the number that follows a number
+abbrev pub following : ℕ → ℕ
+following number = (1664525 * number + 1013904223) % 2 ^ 32
+
+-- what a number chooses among so many
+abbrev pub choice : ℕ → ℕ → ℕ
+choice count number = number / 2 ^ 16 % count
