@@ -5,6 +5,9 @@ ghost use Rattle.std.specs.Prelude.{◌≤◌, length};
 use crate::text::USAGE;
 use crate::top::shasta;
 use dsm_io::{MemFiles, MemSink, OpenGate, Text};
+use elf32_read::read_elf;
+use exec_map::accept;
+use rewriter::jump_map::Image;
 use std::alloc::{AllocError, Global};
 use std::test::Fail;
 use workload::order_of;
@@ -106,6 +109,45 @@ fn runs_hi(rt: HostRuntime) -> Result<(), Fail> {
         b"output 3\nhi\n\nprocessor 0 exit 0\nnode 0 read 0 exclusive 0 upgrade 0 false 0 invalidations 0 fallbacks 0 messages 0\n";
     assert_eq!(rt; called.out.taken(), text.as_slice());
     assert_eq!(rt; called.err.taken(), b"".as_slice());
+    Ok(())
+}
+
+#[test]
+fn rewrites_hi(rt: HostRuntime) -> Result<(), Fail> {
+    let alloc = rt.alloc();
+    let file = executable(alloc, &HI, b"hi\n", 3)?;
+    let elf = read_elf(alloc, &file)?;
+    let program = accept(&elf)?;
+    let image = Image::of(alloc, &program)?;
+    let rewritten = [
+        0x0000102b, 0x000205b7, 0x00100513, 0x00300613, 0x04000893, 0x0000300b, 0x00000513,
+        0x05d00893, 0x0000300b, 0x0000002b,
+    ];
+    assert_eq!(rt; image.len(), rewritten.len());
+    for (k, word) in rewritten.iter().enumerate() {
+        assert_eq!(rt; image.word_at(0xa0000000 + 4 * k as u32), Some(*word));
+    }
+    assert_eq!(rt; image.new_of(0x00010000), Some(0xa0000004));
+    assert_eq!(rt; image.new_of(0x00010020), Some(0xa0000024));
+    Ok(())
+}
+
+#[test]
+fn rewrites_a_load(rt: HostRuntime) -> Result<(), Fail> {
+    let alloc = rt.alloc();
+    let code = [0x05d00893, 0x00020537, 0x00052503, 0x00000073];
+    let file = executable(alloc, &code, b"\x05", 64)?;
+    let elf = read_elf(alloc, &file)?;
+    let program = accept(&elf)?;
+    let image = Image::of(alloc, &program)?;
+    let sequence = [
+        0xfe102e23, 0xfe202c23, 0x00050093, 0x80000137, 0x0060d093, 0x002080b3, 0x0000c083,
+        0x0020f093, 0x00008463, 0x0005010b, 0x00052503, 0xffc02083, 0xff802103,
+    ];
+    assert_eq!(rt; image.new_of(0x00010008), Some(0xa000000c));
+    for (k, word) in sequence.iter().enumerate() {
+        assert_eq!(rt; image.word_at(0xa000000c + 4 * k as u32), Some(*word));
+    }
     Ok(())
 }
 
