@@ -4,14 +4,14 @@ ghost use Rattle.std.specs.Prelude.{◌≡◌, ◌+◌, ◌-◌, ◌*◌, ◌/�
 ghost use Rattle.rv32_decode.specs.Fields.{field, bit};
 ghost use Rattle.rv32_decode.specs.Rows.{instruction_of, rows, fits, branch_table, load_table, store_table, imm_table, shift_table, op_table, amo_table};
 ghost use Rattle.rv32_decode.specs.Tables.{entry, entry_of_two};
-ghost use Rattle.rv32_decode.specs.Words.{IsInRange};
+ghost use Rattle.rv32_decode.specs.Words.{IsInRange, word_of};
 ghost use Rattle.rv32_decode.specs.declared.Instr.{Instr};
 
 use crate::parts::{Amount, BranchOffset, FenceBits, Imm12, JumpOffset, Reg, Upper};
 use crate::{AmoOp, Cond, IllegalWord, ImmOp, Instr, LoadKind, Op, ShiftOp, Width, opcodes};
 
-#[tactic(auto, using(crate::proofs::Groups::lui_is, crate::proofs::Groups::auipc_is, crate::proofs::Groups::jal_is, crate::proofs::Groups::no_opcode))]
 /// The instruction of a word; None exactly where no row of the instruction table fits the word.
+#[tactic(auto, using(crate::proofs::Groups::lui_is, crate::proofs::Groups::auipc_is, crate::proofs::Groups::jal_is, crate::proofs::Groups::no_opcode))]
 pub fn decode(word: u32) -> Option<Instr>
     ensures { result ≡ instruction_of word }
 {
@@ -51,6 +51,12 @@ pub fn rows_law()
 /// The parts of the instruction of any word are within the ranges of their types.
 pub fn ranges_law()
     ensures { (word : ℕ) (i : Instr) → instruction_of word ≡ Some i → IsInRange i }
+{}
+
+/// A word that has an instruction is that instruction's word.
+pub fn words_law()
+    ensures words { (word : ℕ) (i : Instr) → word < 2 ^ 32 → instruction_of word ≡ Some i
+        → word ≡ word_of i }
 {}
 
 fn opcode(word: u32) -> u32

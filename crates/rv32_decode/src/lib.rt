@@ -13,10 +13,9 @@ mod opcodes;
 mod parts;
 mod register_set;
 mod register_use;
-#[cfg(test)]
-mod tests;
+mod widths;
 
-pub use decoding::{decode, ranges_law, rows_law};
+pub use decoding::{decode, ranges_law, rows_law, words_law};
 pub use encoding::encode;
 pub use parts::{Amount, BranchOffset, FenceBits, Imm12, JumpOffset, Reg, Upper};
 pub use register_set::RegSet;

@@ -1,5 +1,4 @@
 pub mod Hexadecimal
 pub mod KindOf
 pub mod OperandLaws
-pub mod Ranges
 pub mod Told

@@ -6,14 +6,12 @@ use Rattle.std.proofs.lemmas.List.{append_cancel_left}
 use Rattle.std.proofs.lemmas.Fmt.{decimal_injective}
 use Rattle.rv32_decode.specs.Rows.{instruction_of}
 use Rattle.rv32_decode.specs.Words.{IsInRange, word_of}
-use Rattle.rv32_decode.proofs.Rebuilt.{only_word}
 use Rattle.rv32_decode.specs.declared.Instr.{Instr}
 use Rattle.rv32_decode.specs.declared.Instr.TheVariants.{Lui, Auipc, Jal, Jalr, Branch, Load, Store, OpImm, ShiftImm, Op, Fence, Ecall, Ebreak, Lr, Sc, Amo, Illegal}
 use Rattle.rv32_text.specs.Listing.{text_of, text_of_word, text_of_decoded, register, base, indexed, upper_digits, target, branch_name, load_name, store_name, imm_name, shift_name, op_name, amo_name, order_suffix, with_two, with_three}
 use Rattle.rv32_text.specs.Telling.{ShowsAll}
 use Rattle.rv32_text.proofs.KindOf.{kind, kind_of, kind_of_text, kind_of_unknown}
 use Rattle.rv32_text.proofs.OperandLaws.{register_told, register_told_last, base_told, immediate_told, indexed_told, upper_told, target_told, branch_target_told}
-use Rattle.rv32_text.proofs.Ranges.{decoded_in_range}
 
 -- the operands of an instruction, whatever its kind
 record Operands : Type 0 where
@@ -213,16 +211,24 @@ instruction_told address i j p q s e =
     ap (text_of address) left ∙ e ∙ sym (ap (text_of address) right) in
     sym left ∙ operands_told address (kind i) (operands i) (operands j) (subst IsInRange (sym left) p) (subst IsInRange (sym right) q) shown texts ∙ right
 
-word_case : (address v w : ℕ) (a b : Option Instr) → instruction_of v ≡ a → instruction_of w ≡ b → v < 2 ^ 32 → w < 2 ^ 32 → IsSomeAnd a ShowsAll
+-- each word's instruction is within its ranges
+abbrev pub AllInRange : Type 0
+AllInRange = (word : ℕ) (i : Instr) → instruction_of word ≡ Some i → IsInRange i
+
+-- each word that has an instruction is that instruction's
+abbrev pub AllWords : Type 0
+AllWords = (word : ℕ) (i : Instr) → word < 2 ^ 32 → instruction_of word ≡ Some i → word ≡ word_of i
+
+word_case : (address v w : ℕ) (a b : Option Instr) → AllInRange → AllWords → instruction_of v ≡ a → instruction_of w ≡ b → v < 2 ^ 32 → w < 2 ^ 32 → IsSomeAnd a ShowsAll
     → text_of_decoded address a ≡ text_of_decoded address b → v ≡ w
-word_case address v w None b is at p q s e = absurd s
-word_case address v w (Some i) None is at p q s e =
+word_case address v w None b ranges words is at p q s e = absurd s
+word_case address v w (Some i) None ranges words is at p q s e =
     let found : Some (kind i) ≡ None = sym (kind_of_text address i) ∙ ap kind_of e ∙ kind_of_unknown address in
     cc
-word_case address v w (Some i) (Some j) is at p q s e =
-    let same = instruction_told address i j (decoded_in_range v i is) (decoded_in_range w j at) s e in
-    only_word v i p is ∙ ap word_of same ∙ sym (only_word w j q at)
+word_case address v w (Some i) (Some j) ranges words is at p q s e =
+    let same = instruction_told address i j (ranges v i is) (ranges w j at) s e in
+    words v i p is ∙ ap word_of same ∙ sym (words w j q at)
 
 -- the text tells the word
-pub word_told : (address v w : ℕ) → v < 2 ^ 32 → w < 2 ^ 32 → IsSomeAnd (instruction_of v) ShowsAll → text_of_word address v ≡ text_of_word address w → v ≡ w
-word_told address v w p q s e = word_case address v w (instruction_of v) (instruction_of w) refl refl p q s e
+pub word_told : AllInRange → AllWords → (address v w : ℕ) → v < 2 ^ 32 → w < 2 ^ 32 → IsSomeAnd (instruction_of v) ShowsAll → text_of_word address v ≡ text_of_word address w → v ≡ w
+word_told ranges words address v w p q s e = word_case address v w (instruction_of v) (instruction_of w) ranges words refl refl p q s e

@@ -12,7 +12,7 @@ mod operands;
 mod text;
 
 pub use law::text_law;
-use operands::push_word;
+pub use operands::push_word;
 use rv32_decode::decode;
 use std::alloc::AllocError;
 use text::push_text;
@@ -64,6 +64,3 @@ fn push_word_text(out: &mut Vec<u8>, address: u32, word: u32) -> Result<(), Allo
     }
     Ok(())
 }
-
-#[cfg(test)]
-mod tests;

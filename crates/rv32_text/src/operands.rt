@@ -107,7 +107,7 @@ fn digit_count(n: u32) -> usize
 }
 
 /// A word in eight hexadecimal digits.
-pub(crate) fn push_word(out: &mut Vec<u8>, word: u32) -> Result<(), AllocError>
+pub fn push_word(out: &mut Vec<u8>, word: u32) -> Result<(), AllocError>
     ensures ok { OnOk result (out.new.items ≡ out.old.items ++ word_digits word) }
     ensures err { OnErr result (Extends out.old.items out.new.items) }
 {

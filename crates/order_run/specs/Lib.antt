@@ -1,2 +1,0 @@
-pub mod ByOrder
-pub mod Running
