@@ -1,1 +1,4 @@
 mod RangeLemmas
+mod LineLemmas
+mod PieceLemmas
+mod ZeroLemmas

@@ -4,10 +4,10 @@ use Rattle.std.proofs.Math.Path.{fun_ext}
 use Rattle.std.proofs.lemmas.List.{get_or-set_same, get_or-set_other, get_or_default, length-set}
 use Rattle.std.proofs.lemmas.Bool.Decides.{eqb_tells, leb_tells, nat_tests}
 use Rattle.rv32_decode.specs.declared.Width.TheVariants.{Byte, Half, Word}
-use Rattle.rv32_model.specs.Memory.{raw, stored}
+use Rattle.byte_range.specs.Memory.{raw, stored}
 use Rattle.byte_range.specs.Range.{Range, memory_of}
 
-ltb_tells : (a b : ℕ) → ((ltb a b ≡ true) × (a < b)) ⊎ ((ltb a b ≡ false) × (b ≤ a))
+pub ltb_tells : (a b : ℕ) → ((ltb a b ≡ true) × (a < b)) ⊎ ((ltb a b ≡ false) × (b ≤ a))
 ltb_tells a b = elim (leb_tells b a) [
   | inl l ↦ (let t : ltb a b ≡ false = grind (arith, nat_tests) in inr (t, l.1))
   | inr l ↦ (let t : ltb a b ≡ true = grind (arith, nat_tests) in inl (t, l.1))

@@ -1,1 +1,5 @@
+pub mod Memory
 pub mod Range
+pub mod Window
+pub mod Lines
+pub mod Pieces

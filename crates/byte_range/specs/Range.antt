@@ -11,7 +11,8 @@ holds range a = nat_le range.base a && nat_lt a (range.base + length range.bytes
 
 -- the range's byte where it holds the address, and what is outside of it elsewhere
 abbrev pub byte_or : Range → (ℕ → ℕ) → ℕ → ℕ
-byte_or range outside a = if holds range a then slice_index range.bytes (a - range.base) else outside a
+byte_or range outside a =
+    if holds range a then slice_index range.bytes (a - range.base) else outside a
 
 -- a memory that is the range, with what is outside of it
 unfoldable pub memory_of : Range → (ℕ → ℕ) → ℕ → ℕ

@@ -1,8 +1,8 @@
 use Rattle.std.proofs.Common.{◌≡◌, ◌/◌, ◌%◌, ◌^◌, get_or, arith, refl}
 use Rattle.byte_range.specs.Range.{Range}
 use Rattle.byte_range.proofs.RangeLemmas.{store_byte, store_half, store_word}
-use Rattle.byte_range.proofs.ByteRange.store.Goals as goal
-use Rattle.byte_range.proofs.ByteRange.store.Goals.{in-Byte, in-Half, in-Word}
+use Rattle.byte_range.proofs.range.ByteRange.store.Goals as goal
+use Rattle.byte_range.proofs.range.ByteRange.store.Goals.{in-Byte, in-Half, in-Word}
 
 pub returns-clause-bytes : goal.returns-clause-bytes
 returns-clause-bytes c =

@@ -1,0 +1,2 @@
+pub mod Micro
+pub mod Kinds

@@ -1,0 +1,60 @@
+#![tactic(auto)]
+//! Micro-ops: instructions decoded flat, for machines that execute them many times.
+//!
+//! A micro-op has one kind, of which its machine makes one `match`, and the operands of that kind.
+//! Direct targets are indices of words, and LUI and AUIPC are constants.
+
+mod kinds;
+mod micro_op;
+
+pub use micro_op::MicroOp;
+
+/// What a micro-op does.
+#[derive(Clone, Copy, Debug, PartialEq, Eq)]
+pub enum MicroKind {
+    /// The path that serves every word serves this one.
+    Rare,
+    /// FENCE.
+    Nothing,
+    /// rd gets the immediate: LUI and AUIPC.
+    Constant,
+    /// JAL: rd gets the address of the next word, and the word with the immediate's index follows.
+    Jump,
+    /// JALR.
+    JumpBy,
+    /// An indirect jump of rewritten code that keeps no link.
+    EnterBy,
+    BranchEq,
+    BranchNe,
+    BranchLt,
+    BranchGe,
+    BranchLtu,
+    BranchGeu,
+    LoadByte,
+    LoadHalf,
+    LoadWord,
+    LoadByteU,
+    LoadHalfU,
+    StoreByte,
+    StoreHalf,
+    StoreWord,
+    AddImm,
+    SltImm,
+    SltuImm,
+    XorImm,
+    OrImm,
+    AndImm,
+    SllImm,
+    SrlImm,
+    SraImm,
+    Add,
+    Sub,
+    Sll,
+    Slt,
+    Sltu,
+    Xor,
+    Srl,
+    Sra,
+    Or,
+    And,
+}

@@ -1,0 +1,72 @@
+#![tactic(auto)]
+//! What a program is: classes of lines, code and the paths through it, calls, and how a processor
+//! ends.
+
+ghost use Rattle.std.specs.Prelude.{◌≡◌, ◌==◌, ℕ};
+ghost use Rattle.rv32_program.specs.Program as model;
+
+use rv32_decode::Instr;
+
+/// The class of a line of 64 bytes.
+#[derive(Clone, Copy, Debug, PartialEq, Eq)]
+pub enum Class {
+    /// In a writable segment: all processors have it in common.
+    Shared,
+    /// In another segment: it holds the original bytes.
+    ReadOnly,
+    /// In the window 0x7fff0000 to 0x7fffffff, of which each processor has its own.
+    Private,
+    Unmapped,
+}
+
+/// How a processor's run ended by itself. An address is that of the instruction, or the pc for `Fetch`.
+#[derive(Clone, Copy, Debug, PartialEq, Eq)]
+pub enum Exit {
+    /// The exit call, with the low 8 bits of a0.
+    Code(u8),
+    Ebreak(u32),
+    Illegal(u32),
+    Misaligned(u32),
+    Access(u32),
+    /// No code word at the pc.
+    Fetch(u32),
+}
+
+/// How a processor ended.
+#[derive(Clone, Copy, Debug, PartialEq, Eq)]
+pub enum End {
+    Exited(Exit),
+    /// It was stopped after so many words, without an exit.
+    Stopped(u64),
+}
+
+/// The call that a number names.
+#[derive(Clone, Copy, Debug, PartialEq, Eq)]
+pub enum CallKind {
+    /// Writes bytes to file 1 or 2.
+    Write,
+    /// Ends the processor.
+    Exit,
+    Unknown,
+}
+
+/// The call that a number in a7 names: exit is 93 and 94, write is 64.
+pub fn call_of(a7: u32) -> CallKind
+    ensures value { result ≡ model.call_of a7 }
+{
+    match a7 {
+        93 | 94 => CallKind::Exit,
+        64 => CallKind::Write,
+        _ => CallKind::Unknown,
+    }
+}
+
+/// Whether an instruction is executed by this version.
+pub fn is_supported(i: Instr) -> bool
+    ensures value { result ≡ model.is_supported i }
+{
+    match i {
+        Instr::Lr { .. } | Instr::Sc { .. } | Instr::Amo { .. } => false,
+        _ => true,
+    }
+}

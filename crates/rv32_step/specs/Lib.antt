@@ -1,0 +1,4 @@
+pub mod Registers
+pub mod Demands
+pub mod Memory
+pub mod OneMemory

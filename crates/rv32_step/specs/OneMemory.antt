@@ -1,0 +1,256 @@
+-- The original program's processors, interleaved instruction by instruction on one memory.
+use Rattle.std.specs.Prelude.{◌≡◌, ℕ, zero, suc, ◌+◌, ◌%◌, ◌^◌, ◌<◌, Bool, if◌then◌else◌, ◌==◌, List, [], ◌∷◌, ◌++◌, Option, Some, None}
+use Rattle.std.specs.Option.{option_map_or, option_to_list}
+use Rattle.rv32_decode.specs.Widths.{width_of, is_aligned}
+use Rattle.rv32_decode.specs.declared.Instr.{Instr}
+use Rattle.rv32_decode.specs.declared.LoadKind.{LoadKind}
+use Rattle.rv32_decode.specs.declared.LoadKind.TheVariants.{ByteU}
+use Rattle.rv32_decode.specs.declared.Width.{Width}
+use Rattle.byte_range.specs.Memory.{stored}
+use Rattle.rv32_program.specs.declared.Class.{Class}
+use Rattle.rv32_program.specs.declared.Exit.{Exit}
+use Rattle.rv32_program.specs.declared.Exit.TheVariants.{Code, Misaligned, Access as NoAccess, Fetch}
+use Rattle.rv32_program.specs.Program.{Program, class_at, is_mapped, is_writable}
+use Rattle.rv32_step.specs.declared.Demand.{Demand}
+use Rattle.rv32_step.specs.declared.Demand.TheVariants.{Sets, Continues, Jumps, Branches, Loads, Stores, Calls, Traps, Unsupported}
+use Rattle.rv32_step.specs.declared.CallStep.{CallStep}
+use Rattle.rv32_step.specs.declared.CallStep.TheVariants.{Ends, Returns, Puts}
+use Rattle.rv32_step.specs.Registers.{put, registers_of, first_values}
+use Rattle.rv32_step.specs.Demands.{demand_of, call_step, cut_short}
+use Rattle.rv32_step.specs.Memory.{load_value, byte_by, shared_after, private_after}
+
+-- what runs on the one memory: a program, on so many processors
+pub record Original : Type 0 where
+  pub program : Program
+  pub nodes : ℕ
+
+pub record Processor : Type 0 where
+  pub registers : ℕ → ℕ
+  pub pc : ℕ
+  -- the bytes of its own window
+  pub private : ℕ → ℕ
+  -- the bytes that a write in progress has written
+  pub written : ℕ
+  pub exit : Option Exit
+
+pub record State : Type 0 where
+  pub shared : ℕ → ℕ
+  pub processors : ℕ → Processor
+  pub output : List ℕ
+
+abbrev pub first_processor : Original → ℕ → Processor
+first_processor original p = record {
+  registers = registers_of (first_values p original.nodes);
+  pc = original.program.entry;
+  private = λ _. 0;
+  written = 0;
+  exit = None;
+}
+
+-- the processors at the start
+abbrev pub opening : Original → State
+opening original = record {
+  shared = original.program.first;
+  processors = first_processor original;
+  output = [];
+}
+
+-- what a step does in memory, as seen from outside; a write call's byte is read as by a load of an
+-- unsigned byte
+pub data Access : Type 0 where
+  Nothing : Access
+  Reads : (kind : LoadKind) (address value : ℕ) → Access
+  Writes : (width : Width) (address value : ℕ) → Access
+
+-- the value read by a step: a load's, or a write call's byte
+abbrev pub value_read : Access → Option ℕ
+value_read Nothing = None
+value_read (Reads kind address value) = Some value
+value_read (Writes width address value) = None
+
+-- an access at pc of this width, to a line that may be accessed so or not. Misaligned is judged
+-- before Access
+abbrev pub exit_of_access : ℕ → Bool → Bool → Option Exit
+exit_of_access pc aligned may =
+    if aligned then (if may then None else Some (NoAccess pc)) else Some (Misaligned pc)
+
+-- the exit by which a demand at pc ends the processor, where it may not be met
+abbrev pub exit_of_demand : (ℕ → Class) → ℕ → Demand → Option Exit
+exit_of_demand class pc (Loads k r a) =
+    exit_of_access pc (is_aligned (width_of k) a) (is_mapped (class a))
+exit_of_demand class pc (Stores w a value) =
+    exit_of_access pc (is_aligned w a) (is_writable (class a))
+exit_of_demand class pc (Jumps r target) =
+    if target % 4 == 0 then None else Some (Misaligned pc)
+exit_of_demand class pc (Branches target) =
+    if target % 4 == 0 then None else Some (Misaligned pc)
+exit_of_demand class pc (Traps e) = Some e
+exit_of_demand class pc d = None
+
+-- what the next step of a processor requests of the memory: nothing, so that it becomes q; or that
+-- the byte of an address is printed; or a load into a register; or a store
+pub data Request : Type 0 where
+  Becomes : (q : Processor) → Request
+  Prints : (address : ℕ) → Request
+  LoadsFrom : (kind : LoadKind) (r address : ℕ) → Request
+  StoresTo : (width : Width) (address value : ℕ) → Request
+
+abbrev pub next_pc : ℕ → ℕ
+next_pc pc = (pc + 4) % 2 ^ 32
+
+abbrev pub with_exit : Processor → Exit → Processor
+with_exit q e = record q { exit = Some e }
+
+-- the next instruction follows
+abbrev pub to_next : Processor → Processor
+to_next q = record q { pc = next_pc q.pc }
+
+-- the register gets the value, and the next instruction follows
+abbrev pub set_register : Processor → ℕ → ℕ → Processor
+set_register q r value =
+    record q { registers = put q.registers r value; pc = next_pc q.pc }
+
+-- the register gets the address of the next instruction, and the target follows
+abbrev pub after_jump : Processor → ℕ → ℕ → Processor
+after_jump q r target = record q { registers = put q.registers r (next_pc q.pc); pc = target }
+
+-- the target follows
+abbrev pub after_branch : Processor → ℕ → Processor
+after_branch q target = record q { pc = target }
+
+-- a0 gets the result, and the call is done
+abbrev pub after_call : Processor → ℕ → Processor
+after_call q value =
+    record q { registers = put q.registers 10 value; pc = next_pc q.pc; written = 0 }
+
+abbrev pub request_of_call : Program → Processor → CallStep → Request
+request_of_call program q (Ends code) = Becomes (with_exit q (Code code))
+request_of_call program q (Returns value) = Becomes (after_call q value)
+request_of_call program q (Puts a) =
+    if is_mapped (class_at program a) then Prints a
+    else Becomes (after_call q (cut_short q.written))
+
+-- a demand that may be met
+abbrev pub request_by : Program → Processor → Demand → Request
+request_by program q (Sets r value) = Becomes (set_register q r value)
+request_by program q Continues = Becomes (to_next q)
+request_by program q (Jumps r target) = Becomes (after_jump q r target)
+request_by program q (Branches target) = Becomes (after_branch q target)
+request_by program q (Loads k r a) = LoadsFrom k r a
+request_by program q (Stores w a value) = StoresTo w a value
+request_by program q Calls = request_of_call program q (call_step q.registers q.written)
+request_by program q (Traps e) = Becomes (with_exit q e)
+request_by program q Unsupported = Becomes q
+
+abbrev pub request_unless : Program → Processor → Demand → Option Exit → Request
+request_unless program q d (Some e) = Becomes (with_exit q e)
+request_unless program q d None = request_by program q d
+
+abbrev pub request_for : Program → Processor → Demand → Request
+request_for program q d =
+    request_unless program q d (exit_of_demand (class_at program) q.pc d)
+
+abbrev pub request_at : Program → Processor → Option Instr → Request
+request_at program q None = Becomes (with_exit q (Fetch q.pc))
+request_at program q (Some i) = request_for program q (demand_of i q.registers q.pc)
+
+abbrev pub request : Program → Processor → Request
+request program q = request_at program q (program.code q.pc)
+
+-- the processor once its byte is printed
+abbrev pub after_print : Processor → Processor
+after_print q = record q { written = q.written + 1 }
+
+-- the processor once its store is done
+abbrev pub after_store : Program → Processor → Width → ℕ → ℕ → Processor
+after_store program q w a value = record q {
+  private = private_after (class_at program a) q.private (stored w q.private a value);
+  pc = next_pc q.pc;
+}
+
+-- the byte of an address, as the processor sees it
+abbrev pub byte_at : Program → State → Processor → ℕ → ℕ
+byte_at program s q a =
+    byte_by (class_at program a) (s.shared a) (program.first a) (q.private a) 0
+
+-- what a step leaves, what it accesses, and what it prints
+pub record StepResult : Type 0 where
+  pub state : State
+  pub access : Access
+  pub printed : Option ℕ
+
+abbrev pub with_processor : State → ℕ → Processor → State
+with_processor s p q = record s { processors = λ i. if i == p then q else s.processors i }
+
+-- the shared bytes after a store
+abbrev pub shared_stored : Program → State → Width → ℕ → ℕ → ℕ → ℕ
+shared_stored program s w a value =
+    shared_after (class_at program a) s.shared (stored w s.shared a value)
+
+-- the memory's answer to a request of processor p, which is q
+abbrev pub answer : Original → State → ℕ → Processor → Request → StepResult
+answer original s p q (Becomes q') = record {
+  state = with_processor s p q';
+  access = Nothing;
+  printed = None;
+}
+answer original s p q (Prints a) = record {
+  state = record (with_processor s p (after_print q)) {
+    output = s.output ++ byte_at original.program s q a ∷ [];
+  };
+  access = Reads ByteU a (byte_at original.program s q a);
+  printed = Some (byte_at original.program s q a);
+}
+answer original s p q (LoadsFrom k r a) = record {
+  state = with_processor s p (set_register q r (load_value k (byte_at original.program s q) a));
+  access = Reads k a (load_value k (byte_at original.program s q) a);
+  printed = None;
+}
+answer original s p q (StoresTo w a value) = record {
+  state = record (with_processor s p (after_store original.program q w a value)) {
+    shared = shared_stored original.program s w a value;
+  };
+  access = Writes w a value;
+  printed = None;
+}
+
+-- one step of processor p
+abbrev pub step : Original → State → ℕ → StepResult
+step original s p =
+    answer original s p (s.processors p) (request original.program (s.processors p))
+
+-- what happens next on the one memory
+pub data Pick : Type 0 where
+  Step : (p : ℕ) → Pick
+
+-- a step is one of the processors', which has no exit
+abbrev pub Allowed : Original → State → Pick → Type 0
+Allowed original s (Step p) = (p < original.nodes) × ((s.processors p).exit ≡ None)
+
+abbrev pub pick_step : Original → State → Pick → StepResult
+pick_step original s (Step p) = step original s p
+
+-- the picks are an interleaved run from this state on
+abbrev pub IsRun : Original → State → List Pick → Type 0
+IsRun original s [] = Unit {0}
+IsRun original s (k ∷ ks) =
+    Allowed original s k × IsRun original (pick_step original s k).state ks
+
+-- the state after the picks
+abbrev pub run : Original → State → List Pick → State
+run original s [] = s
+run original s (k ∷ ks) = run original (pick_step original s k).state ks
+
+abbrev pub is_of : ℕ → Pick → Bool
+is_of p (Step q) = p == q
+
+-- the value that processor p reads in a pick
+abbrev pub value_of_pick : ℕ → Pick → StepResult → List ℕ
+value_of_pick p k result = if is_of p k then option_to_list (value_read result.access) else []
+
+-- the values that processor p reads, in order
+abbrev pub values_read : Original → ℕ → State → List Pick → List ℕ
+values_read original p s [] = []
+values_read original p s (k ∷ ks) =
+    value_of_pick p k (pick_step original s k)
+    ++ values_read original p (pick_step original s k).state ks

@@ -1,0 +1,49 @@
+#![tactic(auto)]
+//! What a step is: what an instruction and a call ask for, and the original processors on one
+//! memory.
+
+ghost use Rattle.std.specs.Prelude.{◌≡◌, ◌+◌, ◌*◌, ◌^◌, ◌<◌, ◌≤◌, ℕ};
+
+mod call;
+mod demands;
+mod registers;
+
+pub use call::{call_step, cut_short};
+pub use demands::demand_of;
+pub use registers::Registers;
+use rv32_decode::{LoadKind, Reg, Width};
+use rv32_program::Exit;
+
+/// What an instruction asks for, apart from any memory.
+#[derive(Clone, Copy, Debug, PartialEq, Eq)]
+pub enum Demand {
+    /// The register gets the value, and the next instruction follows.
+    Sets(Reg, u32),
+    /// Nothing but that the next instruction follows.
+    Continues,
+    /// The register gets the address of the next instruction, and the pc becomes the target.
+    Jumps(Reg, u32),
+    /// The pc becomes the target.
+    Branches(u32),
+    /// The register gets what the address holds, and the next instruction follows.
+    Loads(LoadKind, Reg, u32),
+    /// The address gets the low bits of the value, and the next instruction follows.
+    Stores(Width, u32, u32),
+    /// One step of an environment call.
+    Calls,
+    /// The processor ends.
+    Traps(Exit),
+    /// The instruction isn't executed by this version; no accepted program has it.
+    Unsupported,
+}
+
+/// One step of an environment call.
+#[derive(Clone, Copy, Debug, PartialEq, Eq)]
+pub enum CallStep {
+    /// The processor ends with this code.
+    Ends(u8),
+    /// a0 gets this value, and the call is done.
+    Returns(u32),
+    /// The byte at this address is printed, and the call goes on.
+    Puts(u32),
+}
