@@ -11,6 +11,7 @@ code_and_data code bytes size = record {
   segments =
       record { flags = 5; vaddr = 0x10000; memsz = length code; bytes = code }
       ∷ record { flags = 6; vaddr = 0x20000; memsz = size; bytes = bytes } ∷ [];
+  sections = [];
 }
 
 -- the executable has 1 to 16,384 words of code, and 1 to 65,536 bytes of data memory

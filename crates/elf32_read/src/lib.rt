@@ -4,9 +4,9 @@
 //! An executable is read where its file is laid out as the specification `HasFirstForm` says: code at 0x00010000
 //! and writable data at 0x00020000, each in a segment of its own.
 
-ghost use Rattle.std.specs.Prelude.{◌≡◌, List, map, IfOk, IsErrOf};
-ghost use Rattle.elf32_read.specs.Elf.{Elf as Fields};
-ghost use Rattle.elf32_read.specs.Segments.{segment_of};
+ghost use Rattle.std.specs.Prelude.{◌≡◌, List, true, map, IfOk, IsErrOf};
+ghost use Rattle.elf32_read.specs.Elf.{Elf as Fields, are_placed};
+ghost use Rattle.elf32_read.specs.Segments.{segment_of, section_of};
 ghost use Rattle.elf32_read.specs.FirstForm.{HasFirstForm};
 
 mod layout;
@@ -49,30 +49,49 @@ pub struct Segment<'a> {
     pub bytes: &'a [u8],
 }
 
-/// An executable, whose segments' bytes are those of a file.
+/// A section. Its name and its bytes are those of the file, and empty where it has none.
+#[derive(Clone, Copy, Debug)]
+pub struct Section<'a> {
+    pub name: &'a [u8],
+    /// The type (sh_type).
+    pub kind: u32,
+    /// Attributes: the sum of 1 (writable), 2 (in memory), 4 (executable) and others.
+    pub flags: u32,
+    /// The address of the first byte.
+    pub addr: u32,
+    /// How many bytes the section has.
+    pub size: u32,
+    /// The bytes that the file has for it.
+    pub bytes: &'a [u8],
+}
+
+/// An executable, whose segments' and sections' bytes are those of a file.
 #[derive(Debug, Drop)]
 pub struct Elf<'a> {
     entry: u32,
     flags: u32,
     segments: Vec<Segment<'a>>,
+    sections: Vec<Section<'a>>,
 }
 
 impl<'a> Model for Elf<'a> {
-    ghost use Rattle.std.specs.Prelude.{map};
-    ghost use Rattle.elf32_read.specs.Elf.{Elf as Fields};
-    ghost use Rattle.elf32_read.specs.FirstForm.{IsCodeAndData};
-    ghost use Rattle.elf32_read.specs.Segments.{segment_of};
+    ghost use Rattle.std.specs.Prelude.{◌≡◌, map, true};
+    ghost use Rattle.elf32_read.specs.Elf.{Elf as Fields, are_placed};
+    ghost use Rattle.elf32_read.specs.Segments.{segment_of, section_of};
 
     ghost Value = { Fields };
 
-    ghost view = { λ e. record { entry = e.entry; flags = e.flags; segments = map segment_of e.segments.items } };
+    ghost view = { λ e. record {
+      entry = e.entry;
+      flags = e.flags;
+      segments = map segment_of e.segments.items;
+      sections = map section_of e.sections.items;
+    } };
 
-    ghost invariant = { λ e. IsCodeAndData (record { entry = e.entry; flags = e.flags; segments = map segment_of e.segments.items }) };
+    ghost invariant = { λ e. are_placed (map segment_of e.segments.items) ≡ true };
 }
 
 impl<'a> Elf<'a> {
-    ghost use Rattle.elf32_read.specs.FirstForm.{IsCodeAndData};
-
     /// The address of the first instruction.
     pub fn entry(&self) -> u32
         ensures { result ≡ self.now.entry }
@@ -90,9 +109,16 @@ impl<'a> Elf<'a> {
     /// The segments, in the order of the program headers.
     pub fn segments(&self) -> &[Segment<'a>]
         ensures value { map segment_of result.now ≡ self.now.segments }
-        ensures form { IsCodeAndData self.now }
+        ensures placed { are_placed self.now.segments ≡ true }
     {
         &self.segments
+    }
+
+    /// The sections, in the order of the section headers, without the first and the names' own.
+    pub fn sections(&self) -> &[Section<'a>]
+        ensures value { map section_of result.now ≡ self.now.sections }
+    {
+        &self.sections
     }
 }
 
@@ -123,6 +149,7 @@ pub fn read_elf(alloc: Global, file: &[u8]) -> Result<Elf<'_>, ElfRefused>
         entry: layout::CODE_ADDRESS,
         flags: 0,
         segments,
+        sections: Vec::new(alloc),
     })
 }
 

@@ -1,4 +1,14 @@
-mod Searches
-mod LeastLemmas
+mod Halving
+mod Merging
+mod Looking
+mod FirstBytes
+mod Places
+mod Judging
 mod Accepting
-mod SharedLemmas
+mod Sharing
+mod Ordering
+mod Words
+mod LineCounts
+mod Overlaps
+mod Filtering
+mod Meeting

@@ -1,2 +1,3 @@
 pub mod Contents
-pub mod Least
+pub mod Refusals
+pub mod Index

@@ -1,18 +1,22 @@
 //! What one segment holds. Addresses are added as 64-bit numbers, which do not wrap.
 
-ghost use Rattle.std.specs.Prelude.{◌≡◌, ◌+◌, ◌-◌, ◌*◌, ◌%◌, ◌^◌, ◌<◌, ◌≤◌, ◌==◌, ◌&&◌, ℕ, Some, length};
-ghost use Rattle.elf32_read.specs.Segments.{segment_of};
+ghost use Rattle.std.specs.Prelude.{◌≡◌, ◌+◌, ◌*◌, ◌<◌, ◌≤◌, Some, length};
+ghost use Rattle.elf32_read.specs.Segments.{segment_of, section_of};
 ghost use Rattle.exec_map.specs.Contents as model;
-ghost use Rattle.exec_map.specs.Least.{IsLeast};
+ghost use Rattle.exec_map.specs.Index as index;
+ghost use Rattle.exec_map.specs.Refusals as rules;
 
 use crate::Class;
-use elf32_read::Segment;
+use elf32_read::{Section, Segment};
 
 /// PF_X of a segment's permissions.
 const EXECUTABLE: u32 = 1;
 
 /// PF_W of a segment's permissions.
 const WRITABLE: u32 = 2;
+
+/// Addresses from here on are no program's.
+const ADDRESS_LIMIT: u64 = 0x7fff_0000;
 
 /// Whether the segment's words may be executed.
 pub fn is_executable(s: &Segment<'_>) -> bool
@@ -28,6 +32,13 @@ pub fn is_writable(s: &Segment<'_>) -> bool
     s.flags & WRITABLE != 0
 }
 
+/// Whether the segment has memory.
+pub fn has_memory(s: &Segment<'_>) -> bool
+    ensures { result ≡ rules.has_memory (segment_of s.now) }
+{
+    s.memsz > 0
+}
+
 /// The class of the lines in which the segment is the first.
 pub fn class(s: &Segment<'_>) -> Class
     ensures { result ≡ model.segment_class (Some (segment_of s.now)) }
@@ -39,20 +50,27 @@ pub fn class(s: &Segment<'_>) -> Class
     }
 }
 
+/// Where the segment's memory ends.
+pub fn end(s: &Segment<'_>) -> u64
+    ensures { result ≡ s.now.vaddr + s.now.memsz }
+{
+    u64::from(s.vaddr) + u64::from(s.memsz)
+}
+
+/// The line after the last in which the segment has a byte.
+pub fn end_line(s: &Segment<'_>) -> u64
+    ensures { result ≡ index.end_line (segment_of s.now) }
+{
+    end(s).div_ceil(64)
+}
+
 /// Whether the segment has a byte in the line of 64 bytes.
 pub fn touches(s: &Segment<'_>, line: u32) -> bool
     ensures { result ≡ model.touches line (segment_of s.now) }
 {
     let first = u64::from(s.vaddr);
     let line_first = 64 * u64::from(line);
-    s.memsz > 0 && first < line_first + 64 && line_first < first + u64::from(s.memsz)
-}
-
-/// Whether the file has a byte of the segment for the address.
-pub fn holds(s: &Segment<'_>, address: u32) -> bool
-    ensures { result ≡ model.holds address (segment_of s.now) }
-{
-    s.vaddr <= address && u64::from(address) < end_of_bytes(s)
+    has_memory(s) && first < line_first + 64 && line_first < end(s)
 }
 
 /// Where the bytes that the file has for the segment end.
@@ -62,17 +80,60 @@ pub fn end_of_bytes(s: &Segment<'_>) -> u64
     u64::from(s.vaddr) + s.bytes.len() as u64
 }
 
-/// Whether four bytes of the file from the address on may be executed.
-pub fn holds_word(s: &Segment<'_>, address: u32) -> bool
-    ensures { result ≡ model.holds_word address (segment_of s.now) }
+/// Whether the file has a byte of the segment for the address.
+pub fn holds(s: &Segment<'_>, address: u32) -> bool
+    ensures { result ≡ model.holds address (segment_of s.now) }
 {
-    is_executable(s) && s.vaddr <= address && u64::from(address) + 4 <= end_of_bytes(s)
+    s.vaddr <= address && u64::from(address) < end_of_bytes(s)
 }
 
-/// The lowest multiple of four, at or above an address, at which the segment has an executable word.
-pub fn first_word(s: &Segment<'_>, from: u32) -> Option<u32>
-    ensures { IsLeast (λ a. (a % 4 == 0) && model.holds_word a (segment_of s.now)) from result }
+/// Whether the segment ends above the addresses that a program may have.
+pub fn is_too_high(s: &Segment<'_>) -> bool
+    ensures { result ≡ rules.is_too_high (segment_of s.now) }
 {
-    let first = from.max(s.vaddr).checked_next_multiple_of(4)?;
-    holds_word(s, first).then_some(first)
+    has_memory(s) && end(s) > ADDRESS_LIMIT
+}
+
+/// Whether the segment is writable and executable.
+pub fn is_writable_code(s: &Segment<'_>) -> bool
+    ensures { result ≡ rules.is_writable_code (segment_of s.now) }
+{
+    has_memory(s) && is_writable(s) && is_executable(s)
+}
+
+/// The number of lines in which the segment has a byte.
+pub fn lines(s: &Segment<'_>) -> u64
+    ensures value { result ≡ rules.lines_of (segment_of s.now) }
+    ensures few { result ≤ 0x8000000 }
+{
+    if has_memory(s) {
+        end_line(s) - u64::from(s.vaddr / 64)
+    } else {
+        0
+    }
+}
+
+/// SHF_ALLOC of a section's attributes.
+const ALLOCATED: u32 = 2;
+
+/// SHF_EXECINSTR of a section's attributes.
+const INSTRUCTIONS: u32 = 4;
+
+/// SHT_NOBITS: the type of a section of which the file has no bytes.
+const NO_BITS: u32 = 8;
+
+/// Whether the section is one of code.
+pub fn is_code_section(s: &Section<'_>) -> bool
+    ensures { result ≡ model.is_code_section (section_of s.now) }
+{
+    s.flags & ALLOCATED != 0 && s.flags & INSTRUCTIONS != 0 && s.kind != NO_BITS
+}
+
+/// Whether the segment is executable and the file has all bytes of the section for it.
+pub fn is_within(s: &Section<'_>, segment: &Segment<'_>) -> bool
+    ensures { result ≡ rules.is_within (section_of s.now) (segment_of segment.now) }
+{
+    is_executable(segment)
+        && segment.vaddr <= s.addr
+        && u64::from(s.addr) + u64::from(s.size) <= end_of_bytes(segment)
 }

@@ -1,0 +1,12 @@
+mod Passing
+mod Cuts
+mod Blocks
+mod Numbers
+mod Pieces
+mod Among
+mod Words
+mod Fields
+mod Spans
+mod TextLines
+mod Building
+mod Only
