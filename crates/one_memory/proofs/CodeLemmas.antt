@@ -1,22 +1,15 @@
 -- Decoding the code words in order.
-use Rattle.std.proofs.Common.{◌≡◌, ◌≢◌, ℕ, zero, suc, ◌+◌, ◌-◌, ◌*◌, ◌/◌, ◌%◌, ◌<◌, ◌≤◌, ◌⊎◌, Bool, true, false, ◌&&◌, eqb, leb, List, [], ◌∷◌, ◌++◌, length, Option, Some, None, refl, ap, ◌∙◌, arith, inl, inr, IfSome, IfNone}
-use Rattle.std.specs.Prelude.{slice_get, unwrap_or, is_some}
-use Rattle.std.specs.Option.{option_map_or}
+use Rattle.std.proofs.Common.{◌≡◌, ℕ, zero, suc, ◌+◌, ◌-◌, ◌%◌, ◌<◌, ◌≤◌, Bool, true, ◌&&◌, eqb, List, [], ◌∷◌, ◌++◌, length, Option, Some, None, refl, sym, ap, ◌∙◌, subst, arith, inl, inr, IfSome}
+use Rattle.std.specs.Prelude.{slice_get, unwrap_or}
 use Rattle.std.proofs.lemmas.Bool.{cases_lt}
-use Rattle.std.proofs.lemmas.Bool.Decides.{eqb_tells, leb_tells, nat_tests}
+use Rattle.std.proofs.lemmas.Bool.Decides.{eqb_tells, nat_tests}
 use Rattle.std.proofs.lemmas.List.{length-append}
 use Rattle.std.proofs.lemmas.Option.{slice_get_past}
-use Rattle.rv32_decode.specs.declared.Instr.{Instr}
 use Rattle.elf32_read.specs.Elf.{Elf}
-use Rattle.exec_map.specs.Contents.{is_code_word, code_at, IsNextCode}
-use Rattle.one_memory.specs.Held.{Code, instruction_at, IsCodeOf}
-
--- the code is decoded up to an address
-pub record IsReadUpTo (e : Elf) (code : Code) (next : ℕ) : Type 0 where
-  pub aligned : code.base % 4 ≡ 0
-  pub at : next ≡ code.base + 4 * length code.instructions
-  pub before : (a : ℕ) → a < code.base → is_code_word e a ≡ false
-  pub decoded : (k : ℕ) → k < length code.instructions → slice_get code.instructions k ≡ Some (code_at e (code.base + 4 * k))
+use Rattle.exec_map.specs.Contents.{IsNextCode}
+use Rattle.micro_op.specs.Micro.{index_address}
+use Rattle.micro_op.specs.declared.micro_op.MicroOp.{MicroOp}
+use Rattle.one_memory.specs.Machine.{Serves}
 
 pub get_push_before : {X : Type 0} (xs : List X) (y : X) (k : ℕ) → k < length xs → slice_get (xs ++ y ∷ []) k ≡ slice_get xs k
 get_push_before [] y k h = absurd (omega arith)
@@ -27,71 +20,60 @@ pub get_push_last : {X : Type 0} (xs : List X) (y : X) → slice_get (xs ++ y �
 get_push_last [] y = refl
 get_push_last (x ∷ xs) y = get_push_last xs y
 
--- one more word
-pub read_more : (e : Elf) (base : ℕ) (is : List (Option Instr)) (next : ℕ) (i : Option Instr) → IsReadUpTo e (record { base = base; instructions = is }) next → i ≡ code_at e next → IsReadUpTo e (record { base = base; instructions = is ++ i ∷ [] }) (next + 4)
-read_more e base is next i h here = record {
-  aligned = h.aligned;
-  at = omega (arith, h.at, length-append is (i ∷ []));
-  before = h.before;
-  decoded = λ k lt. elim (cases_lt k (length is)) [
-    | inl below ↦ get_push_before is i k below ∙ h.decoded k below
-    | inr above ↦ (let last : k ≡ length is = omega (arith, length-append is (i ∷ [])) in rw last (get_push_last is i ∙ ap Some (here ∙ ap (code_at e) h.at)))
-  ];
-}
+-- what holds of each place of a list holds of one more
+pub each_push : {X : Type 0} (P : ℕ → X → Type 0) (xs : List X) (y : X) → ((k : ℕ) (x : X) → slice_get xs k ≡ Some x → P k x) → P (length xs) y → (k : ℕ) (x : X) → slice_get (xs ++ y ∷ []) k ≡ Some x → P k x
+each_push P xs y each last k x is = elim (cases_lt k (length xs)) [
+  | inl below ↦ each k x (sym (get_push_before xs y k below) ∙ is)
+  | inr above ↦ elim (eqb_tells k (length xs)) [
+    | inl e ↦
+        let same : Some y ≡ Some x = sym (get_push_last xs y) ∙ (let at : length xs ≡ k = sym e.1 in ap (slice_get (xs ++ y ∷ [])) at) ∙ is in
+        let value : y ≡ x = cc in
+        subst (λ j. P j x) (sym e.1) (subst (P (length xs)) value last)
+    | inr e ↦
+        let ne = e.1 in
+        let past = slice_get_past (xs ++ y ∷ []) k (omega (arith, above, ne, length-append xs (y ∷ []))) in
+        absurd (cc)
+  ]
+]
 
-none_at : (e : Elf) (a : ℕ) → is_code_word e a ≡ false → None ≡ code_at e a
-none_at e a h = rw h refl
+-- the ops that are read from an index on
+abbrev pub AreOps : Elf → ℕ → List MicroOp → Type 0
+AreOps e first ops = (k : ℕ) (op : MicroOp) → slice_get ops k ≡ Some op → Serves e (index_address 0 (first + k)) op
 
-unaligned : (n : ℕ) (b : Bool) → n ≢ 0 → (eqb n 0 && b) ≡ false
-unaligned n b h = grind (arith, nat_tests)
+pub no_ops : (e : Elf) (first : ℕ) → AreOps e first []
+no_ops e first k op is = absurd (cc)
 
-looked_up : (code : Code) (a : ℕ) → leb code.base a ≡ true → eqb (a % 4) 0 ≡ true → instruction_at code a ≡ option_map_or (λ i. i) (slice_get code.instructions ((a - code.base) / 4)) None
-looked_up code a low aligned = rw (low, aligned) refl
+pub ops_push : (e : Elf) (first : ℕ) (ops : List MicroOp) (op : MicroOp) (end : ℕ) → AreOps e first ops → index_address 0 (first + length ops) ≡ end → Serves e end op → AreOps e first (ops ++ op ∷ [])
+ops_push e first ops op end are at serves =
+    each_push (λ k x. Serves e (index_address 0 (first + k)) x) ops op are (subst (λ a. Serves e a op) (sym at) serves)
 
--- all words
-pub read_all : (e : Elf) (base : ℕ) (is : List (Option Instr)) (next : ℕ) → IsReadUpTo e (record { base = base; instructions = is }) next → ((b : ℕ) → next ≤ b → is_code_word e b ≡ false) → IsCodeOf e (record { base = base; instructions = is })
-read_all e base is next h after = record { reads = λ a. go a (leb_tells base a) (eqb_tells (a % 4) 0) }
-  where
-    go : (a : ℕ) → ((leb base a ≡ true) × (base ≤ a)) ⊎ ((leb base a ≡ false) × (a < base)) → ((eqb (a % 4) 0 ≡ true) × (a % 4 ≡ 0)) ⊎ ((eqb (a % 4) 0 ≡ false) × (a % 4 ≢ 0)) → instruction_at (record { base = base; instructions = is }) a ≡ code_at e a
-    go a (inr low) t = rw low.0 (none_at e a (h.before a low.1))
-    go a (inl l) (inr t) = rw (l.0, t.0) refl
-    go a (inl l) (inl t) = looked_up (record { base = base; instructions = is }) a l.0 t.0 ∙ elim (cases_lt ((a - base) / 4) (length is)) [
-      | inl below ↦
-          let there = h.decoded ((a - base) / 4) below in
-          let same : base + 4 * ((a - base) / 4) ≡ a = omega (arith, h.aligned) in
-          ap (λ o. option_map_or (λ i. i) o None) there ∙ ap (code_at e) same
-      | inr above ↦
-          let past = slice_get_past is ((a - base) / 4) above in
-          let beyond : next ≤ a = omega (arith, h.at, h.aligned) in
-          ap (λ o. option_map_or (λ i. i) o None) past ∙ none_at e a (after a beyond)
-    ]
+-- a word that code begins or goes on with
+pub record IsWord (from a : ℕ) : Type 0 where
+  pub aligned : a % 4 ≡ 0
+  pub low : a + 4 ≤ 2147418112
+  pub at_least : from ≤ a
 
 aligned_word : (n : ℕ) (b : Bool) → (eqb n 0 && b) ≡ true → n ≡ 0
 aligned_word n b h = grind (arith, nat_tests)
 
--- no word yet, from the lowest code word on
-pub read_none : (e : Elf) (r : Option ℕ) (base : ℕ) (is : List (Option Instr)) → base ≡ unwrap_or r 0 → is ≡ [] → IfSome r (λ a. IsNextCode e 0 a) → IsReadUpTo e (record { base = base; instructions = is }) base
-read_none e None base is at none some = record {
-  aligned = rw at refl;
-  at = omega (arith, ap length none);
-  before = λ a lt. absurd (omega arith);
-  decoded = λ k lt. absurd (omega (arith, ap length none));
-}
-read_none e (Some a) base is at none some = record {
-  aligned = at_aligned;
-  at = omega (arith, ap length none);
-  before = λ b lt. some.lowest b (omega arith) (omega (arith, at));
-  decoded = λ k lt. absurd (omega (arith, ap length none));
-}
-  where
-    at_aligned : base % 4 ≡ 0
-    at_aligned = rw at (aligned_word (a % 4) _ some.code_word)
+pub next_word : (e : Elf) (from : ℕ) (r : Option ℕ) → IfSome r (λ a. IsNextCode e from a) → IfSome r (λ a. a + 4 ≤ 2147418112) → IfSome r (λ a. IsWord from a)
+next_word e from None next low = tt
+next_word e from (Some a) next low = record { aligned = aligned_word (a % 4) _ next.code_word; low = low; at_least = next.at_least }
 
--- a code word from an address on
-pub still_low : (e : Elf) (r : Option ℕ) (b : Bool) (next : ℕ) → b ≡ is_some r → b ≡ true → IfSome r (λ a. IsNextCode e next a) → IfSome r (λ a. a + 4 ≤ 0x20000) → next + 4 ≤ 0x20000
-still_low e None b next is t some low = absurd (cc)
-still_low e (Some a) b next is t some low = omega (arith, low, some.at_least)
+-- the first word, or address 0
+pub first_word : (r : Option ℕ) (a : ℕ) → IfSome r (λ x. IsWord 0 x) → a ≡ unwrap_or r 0 → IsWord 0 a
+first_word None a word is = rw is (record { aligned = refl; low = omega arith; at_least = omega arith })
+first_word (Some x) a word is = subst (IsWord 0) (sym is) word
 
-pub none_left : {A : Type 0} (r : Option ℕ) (b : Bool) → b ≡ is_some r → b ≡ false → IfNone r A → A
-none_left None b is f none = none
-none_left (Some a) b is f none = absurd (cc)
+-- the bytes that are left
+abbrev pub bytes_left : Option ℕ → ℕ
+bytes_left None = 0
+bytes_left (Some a) = 2147418112 - a
+
+pub fewer_left : (a end : ℕ) (r : Option ℕ) → a + 4 ≤ 2147418112 → a < end → IfSome r (λ x. IsWord end x) → bytes_left r < bytes_left (Some a)
+fewer_left a end None low more word = omega (arith, low)
+fewer_left a end (Some x) low more word = let from = word.at_least in omega (arith, low, more, from)
+
+pub from_start : (from : ℕ) (r : Option ℕ) → IfSome r (λ a. IsWord from a) → IfSome r (λ a. IsWord 0 a)
+from_start from None word = tt
+from_start from (Some a) word = record { aligned = word.aligned; low = word.low; at_least = omega arith }

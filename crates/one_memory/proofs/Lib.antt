@@ -1,5 +1,8 @@
+mod ServeLemmas
 mod ReadLemmas
-mod CodeLemmas
 mod StepLemmas
-mod StateLemmas
-mod RangeLemmas
+mod CodeLemmas
+mod TurnLemmas
+mod ListLemmas
+mod OrderLemmas
+mod LoneLemmas

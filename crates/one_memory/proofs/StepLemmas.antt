@@ -1,18 +1,25 @@
--- What a processor gets where it asks for a load.
-use Rattle.std.proofs.Common.{◌≡◌, ℕ, true, Some, refl, sym, ap, ◌∙◌}
+-- What a step gives.
+use Rattle.std.proofs.Common.{◌≡◌, ℕ, ◌+◌, ◌%◌, true, Some, refl, sym, ap, ◌∙◌, subst}
 use Rattle.rv32_decode.specs.declared.Instr.{Instr}
 use Rattle.rv32_decode.specs.declared.LoadKind.{LoadKind}
 use Rattle.rv32_ops.specs.Operations.{extend}
-use Rattle.exec_map.specs.Contents.{program_of}
-use Rattle.rv32_model.specs.declared.Class.{Class}
-use Rattle.rv32_model.specs.declared.Class.TheVariants.{Shared, ReadOnly, Private, Unmapped}
-use Rattle.rv32_model.specs.declared.Demand.{Demand}
-use Rattle.rv32_model.specs.declared.Demand.TheVariants.{Loads}
-use Rattle.rv32_model.specs.Effect.{effect}
-use Rattle.rv32_model.specs.Program.{Program, class_at, is_mapped}
-use Rattle.rv32_model.specs.Memory.{raw, width_of, is_aligned}
-use Rattle.rv32_model.specs.OneMemory.{Processor, LoadsFrom, asked, asked_at, asked_for, answered, set_register, with_processor}
-use Rattle.one_memory.specs.Held.{HeldMemory, HeldProcessor, processor_of, state_among, seen, Answers}
+use Rattle.elf32_read.specs.Elf.{Elf}
+use Rattle.exec_map.specs.Contents.{program_of, code_at}
+use Rattle.rv32_program.specs.declared.Class.{Class}
+use Rattle.rv32_program.specs.declared.Class.TheVariants.{Shared, ReadOnly, Private, Unmapped}
+use Rattle.rv32_program.specs.Program.{Program, class_at, is_mapped}
+use Rattle.rv32_step.specs.declared.Demand.{Demand}
+use Rattle.rv32_step.specs.declared.Demand.TheVariants.{Loads}
+use Rattle.rv32_step.specs.Demands.{demand_of}
+use Rattle.rv32_decode.specs.Widths.{width_of, is_aligned}
+use Rattle.rv32_step.specs.OneMemory.{Processor, LoadsFrom, request_at, request_for, answer, set_register, with_processor}
+use Rattle.micro_op.specs.Micro.{Meaning, Demands, meaning_of, index_address}
+use Rattle.micro_op.specs.declared.micro_op.MicroOp.{MicroOp}
+use Rattle.one_memory.specs.declared.processor.Body.{Body}
+use Rattle.one_memory.specs.declared.processor.Move.{Move}
+use Rattle.one_memory.specs.declared.processor.Move.TheVariants.{Next}
+use Rattle.one_memory.specs.Machine.{MemoryParts, Serves, Serving, IsDemandAt, Answers, Meets, Steps, processor_of, at_index, after_move, original_on, state_among}
+use Rattle.one_memory.proofs.ReadLemmas.{IsRead}
 
 mapped : (c : Class) → (c ≡ Unmapped → ⊥) → is_mapped c ≡ true
 mapped Shared n = refl
@@ -20,15 +27,30 @@ mapped ReadOnly n = refl
 mapped Private n = refl
 mapped Unmapped n = absurd (n refl)
 
-asks_for_load : (program : Program) (q : Processor) (kind : LoadKind) (r a : ℕ) → is_aligned (width_of kind) a ≡ true → is_mapped (class_at program a) ≡ true → asked_for program q (Loads kind r a) ≡ LoadsFrom kind r a
+asks_for_load : (program : Program) (q : Processor) (kind : LoadKind) (r a : ℕ) → is_aligned (width_of kind) a ≡ true → is_mapped (class_at program a) ≡ true → request_for program q (Loads kind r a) ≡ LoadsFrom kind r a
 asks_for_load program q kind r a aligned there = rw (aligned, there) refl
 
-pub loaded : (m : HeldMemory) (k k' : HeldProcessor) (kind : LoadKind) (r a v : ℕ) → is_aligned (width_of kind) a ≡ true → (class_at (program_of m.program) a ≡ Unmapped → ⊥) → v ≡ extend kind (raw (width_of kind) (seen m k) a) → processor_of k' ≡ set_register (processor_of k) r v → Answers (asked_for (program_of m.program) (processor_of k) (Loads kind r a)) m k m k'
-loaded m k k' kind r a v aligned there value now = λ all p.
-    let asks = asks_for_load (program_of m.program) (processor_of k) kind r a aligned (mapped _ there) in
-    ap (λ x. (answered (program_of m.program) (state_among all m) p (processor_of k) x).state) asks
-    ∙ ap (λ x. with_processor (state_among all m) p x) (ap (set_register (processor_of k) r) (sym value) ∙ sym now)
+-- a load of what is read
+pub loaded : (at : ℕ) (m : MemoryParts) (b b' : Body) (kind : LoadKind) (r a n : ℕ) → is_aligned (width_of kind) a ≡ true → IsRead m b (width_of kind) a n → processor_of (at_index ((at + 1) % 4294967296) b') ≡ set_register (processor_of (at_index at b)) r (extend kind n) → Meets (Loads kind r a) at m b m b' Next
+loaded at m b b' kind r a n aligned read now = λ nodes p all.
+    let q = processor_of (at_index at b) in
+    let asks = asks_for_load (program_of m.program) q kind r a aligned (mapped _ read.0) in
+    ap (λ x. (answer (original_on m nodes) (state_among all m) p q x).state) asks
+    ∙ ap (λ x. with_processor (state_among all m) p x) (ap (λ v. set_register q r (extend kind v)) (sym read.1) ∙ sym now)
 
--- what the instruction at the pc asks for
-pub asks : (program : Program) (q : Processor) (i : Instr) (d : Demand) → Some i ≡ program.code q.pc → d ≡ effect i q.registers q.pc → asked_for program q d ≡ asked program q
-asks program q i d here is = ap (asked_for program q) is ∙ ap (asked_at program q) here
+serves_at : (e : Elf) (q : Processor) (m : Meaning) (d : Demand) (P : Demand → Type 0) → m ≡ Demands d → Serving m P → P d
+serves_at e q m d P is serves = rw is at serves
+
+-- what the micro-op demands is what the word requests
+pub served : (at : ℕ) (m m' : MemoryParts) (b b' : Body) (op : MicroOp) (d : Demand) (move : Move) → Serves m.program (index_address 0 at) op → meaning_of 0 op (processor_of (at_index at b)).registers ≡ Demands d → Meets d at m b m' b' move → Steps at m b m' b' move
+served at m m' b b' op d move serves means met =
+    let q = processor_of (at_index at b) in
+    let same = serves_at m.program q (meaning_of 0 op q.registers) d (IsDemandAt m.program (index_address 0 at) q) means (serves.serves q) refl in
+    subst (λ r. Answers r m (at_index at b) m' (after_move move at b')) (sym same) met
+
+-- what the instruction demands is what the word requests
+pub demanded : (at : ℕ) (m m' : MemoryParts) (b b' : Body) (i : Instr) (d : Demand) (move : Move) → Some i ≡ code_at m.program (index_address 0 at) → d ≡ demand_of i (processor_of (at_index at b)).registers (index_address 0 at) → Meets d at m b m' b' move → Steps at m b m' b' move
+demanded at m m' b b' i d move here is met =
+    let q = processor_of (at_index at b) in
+    let same = ap (request_for (program_of m.program) q) is ∙ ap (request_at (program_of m.program) q) here in
+    subst (λ r. Answers r m (at_index at b) m' (after_move move at b')) same met

@@ -1,1 +1,4 @@
-pub mod Held
+pub mod ByOrder
+pub mod Machine
+pub mod Turns
+pub mod Running

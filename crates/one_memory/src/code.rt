@@ -1,51 +1,122 @@
 //! The code of a program, decoded once.
 
-ghost use Rattle.std.specs.Prelude.{◌≡◌, ◌+◌, ◌*◌, ◌^◌, ◌<◌, ◌≤◌, ℕ, IfOk};
-ghost use Rattle.one_memory.specs.Held.{instruction_at, IsCodeOf};
+ghost use Rattle.std.specs.Prelude.{◌≡◌, ◌+◌, ◌*◌, ◌%◌, ◌^◌, ◌<◌, ◌≤◌, ℕ, length, IfOk, IfSome};
+ghost use Rattle.elf32_read.specs.Elf.{Elf};
+ghost use Rattle.micro_op.specs.Micro.{index_address};
+ghost use Rattle.one_memory.specs.Machine.{IsCodeOf, IsStretchOf, Serves};
 
 use exec_map::Program;
-use rv32_decode::Instr;
+use micro_op::MicroOp;
 use std::alloc::{AllocError, Global};
-use std::marker::Model;
 
-/// The instructions of the words from the lowest code word to the highest.
+/// A stretch of words goes on over so many bytes that hold no code.
+const GAP: u32 = 4096;
+
+/// The micro-ops of words one behind the other. One that is rare may stand where there is no code.
 #[derive(Drop)]
-pub struct Code {
-    base: u32,
-    instructions: Vec<Option<Instr>>,
+pub struct Stretch {
+    /// The index of the first word, which is its address by four.
+    first: u32,
+    ops: Vec<MicroOp>,
 }
 
-impl Model for Code {
-    ghost use Rattle.one_memory.specs.Held.{Code as Table};
-
-    ghost Value = { Table };
-
-    ghost view = { λ c. record { base = c.base; instructions = c.instructions.items } };
+/// The micro-ops of all code words. Stretches that lie far apart are apart.
+#[derive(Drop)]
+pub struct Code {
+    near: Stretch,
+    /// The stretches behind the first, ascending.
+    far: Vec<Stretch>,
 }
 
 impl Code {
     /// Decodes the code words of a program.
     pub fn read(alloc: Global, program: &Program<'_>) -> Result<Code, AllocError>
-        ensures { IfOk result (λ c. IsCodeOf program.now c) }
+        ensures { IfOk result (IsCodeOf program.now) }
     {
-        let base = program.next_code(0).unwrap_or(0);
-        let mut instructions = Vec::new(alloc);
-        let mut next = base;
-        while program.next_code(next).is_some() {
-            instructions.push(program.code_at(next))?;
-            next += 4;
+        let near = Stretch::read(alloc, program, program.next_code(0).unwrap_or(0))?;
+        let mut far = Vec::new(alloc);
+        let mut next = program.next_code(near.end());
+        while let Some(address) = next {
+            let stretch = Stretch::read(alloc, program, address)?;
+            next = program.next_code(stretch.end());
+            far.push(stretch)?;
         }
-        Ok(Code { base, instructions })
+        Ok(Code { near, far })
     }
 
-    /// The instruction of the code word at an address.
-    pub fn at(&self, address: u32) -> Option<Instr>
-        ensures { result ≡ instruction_at self.now address }
+    /// The micro-op of the word with an index.
+    #[inline(always)]
+    pub fn fetch(&self, at: u32) -> MicroOp
+        ensures { (e : Elf) → IsCodeOf e self.now → Serves e (index_address 0 at) result }
     {
-        if address >= self.base && address % 4 == 0 {
-            *self.instructions.get(((address - self.base) / 4) as usize)?
-        } else {
-            None
+        match self.near.get(at) {
+            Some(op) => op,
+            None => self.fetch_far(at),
         }
+    }
+
+    /// The micro-op of a word that isn't in the first stretch.
+    #[inline(never)]
+    fn fetch_far(&self, at: u32) -> MicroOp
+        ensures { (e : Elf) → IsCodeOf e self.now → Serves e (index_address 0 at) result }
+    {
+        let behind = self.far.partition_point(|stretch| stretch.first <= at);
+        match behind.checked_sub(1) {
+            Some(last) => self.far[last].get(at).unwrap_or(MicroOp::RARE),
+            None => MicroOp::RARE,
+        }
+    }
+}
+
+impl Stretch {
+    /// Decodes the words from an address on, as far as code goes on without a wide gap.
+    fn read(alloc: Global, program: &Program<'_>, address: u32) -> Result<Stretch, AllocError>
+        requires aligned { address % 4 ≡ 0 }
+        requires low { address + 4 ≤ 0x7fff0000 }
+        ensures stretch { IfOk result (IsStretchOf program.now) }
+        ensures some { IfOk result (λ s. address < 4 * (s.first + length s.ops.items)) }
+        ensures low { IfOk result (λ s. 4 * (s.first + length s.ops.items) ≤ 0x7fff0000) }
+    {
+        let mut ops = Vec::new(alloc);
+        let mut end = address;
+        loop {
+            ops.push(micro_op(program, end))?;
+            end += 4;
+            match program.next_code(end) {
+                Some(next) if next - end <= GAP => {}
+                _ => break,
+            }
+        }
+        Ok(Stretch {
+            first: address / 4,
+            ops,
+        })
+    }
+
+    /// The address after the last word.
+    fn end(&self) -> u32
+        requires { 4 * (self.now.first + length self.now.ops.items) ≤ 0x7fff0000 }
+        ensures { result ≡ 4 * (self.now.first + length self.now.ops.items) }
+    {
+        4 * (self.first + self.ops.len() as u32)
+    }
+
+    /// The micro-op of the word with an index, where it is in the stretch.
+    #[inline(always)]
+    fn get(&self, at: u32) -> Option<MicroOp>
+        ensures { (e : Elf) → IsStretchOf e self.now
+            → IfSome result (Serves e (index_address 0 at)) }
+    {
+        self.ops.get(at.wrapping_sub(self.first) as usize).copied()
+    }
+}
+
+/// The micro-op of the word at an address; a rare one where no code stands.
+fn micro_op(program: &Program<'_>, address: u32) -> MicroOp
+    ensures { Serves program.now address result }
+{
+    match program.code_at(address) {
+        Some(i) => MicroOp::of(i, address, 0),
+        None => MicroOp::RARE,
     }
 }

@@ -1,18 +1,22 @@
 #![tactic(auto)]
 //! The original program's processors on one memory, interleaved instruction by instruction.
 
-ghost use Rattle.std.specs.Prelude.{◌≡◌, ◌<◌, ◌≤◌, ◌↔◌, ℕ, IfOk, OnOk, OnErr, IsErrOf, IsSome};
+ghost use Rattle.std.specs.Prelude.{◌≡◌, ◌<◌, ◌≤◌, ◌↔◌, ℕ, None, IfOk, OnOk, OnErr, IsErrOf, IsSome};
 ghost use Rattle.exec_map.specs.Contents.{program_of};
-ghost use Rattle.rv32_model.specs.OneMemory.{opening, step as stepped};
-ghost use Rattle.one_memory.specs.Held.{state_of, program_in, count_of};
+ghost use Rattle.rv32_step.specs.OneMemory.{Original, opening, step as model_step};
+ghost use Rattle.one_memory.specs.Machine.{state_of, original_of};
+ghost use Rattle.one_memory.specs.Turns.{AreTurns};
 
+mod by_order;
 mod code;
 mod memory;
 mod processor;
 
 use crate::memory::Memory;
 use crate::processor::Processor;
+pub use by_order::{Outcome, run_by_order};
 use exec_map::{Exit, Program};
+use run_limits::NodeCount;
 use std::alloc::{AllocError, Global};
 use std::marker::Model;
 use thiserror::Error;
@@ -42,54 +46,62 @@ impl From<AllocError> for StepRefused {
 #[derive(Drop)]
 pub struct OneMemory<'a> {
     memory: Memory<'a>,
-    count: u8,
+    nodes: NodeCount,
     processors: Vec<Processor>,
 }
 
 impl<'a> Model for OneMemory<'a> {
     ghost use Rattle.std.specs.Prelude.{◌≡◌, length};
-    ghost use Rattle.one_memory.specs.Held.{Held};
+    ghost use Rattle.one_memory.specs.Machine.{Parts};
 
-    ghost Value = { Held };
+    ghost Value = { Parts };
 
-    ghost view = { λ m. record { memory = m.memory; count = m.count; processors = m.processors.items } };
+    ghost view = { λ m. record {
+      memory = m.memory;
+      count = m.nodes;
+      processors = m.processors.items;
+    } };
 
-    ghost invariant = { λ m. length m.processors.items ≡ m.count };
+    ghost invariant = { λ m. length m.processors.items ≡ m.nodes };
 }
 
 impl<'a> OneMemory<'a> {
     /// So many processors of a program at the start.
-    pub fn new(alloc: Global, program: &'a Program<'_>, n: u8) -> Result<OneMemory<'a>, AllocError>
-        requires some { 1 ≤ n }
-        requires few { n ≤ 16 }
-        ensures opening { IfOk result (λ m. state_of m ≡ opening (program_of program.now) n) }
-        ensures program { IfOk result (λ m. program_in m ≡ program_of program.now) }
-        ensures count { IfOk result (λ m. count_of m ≡ n) }
+    pub fn new(
+        alloc: Global,
+        program: &'a Program<'_>,
+        nodes: NodeCount,
+    ) -> Result<OneMemory<'a>, AllocError>
+        ensures opening { IfOk result (λ m. state_of m ≡ opening (original_of m)) }
+        ensures program { IfOk result (λ m. (original_of m).program ≡ program_of program.now) }
+        ensures nodes { IfOk result (λ m. (original_of m).nodes ≡ nodes) }
     {
+        let entry = program.entry();
         let memory = Memory::new(alloc, program)?;
         let mut processors = Vec::new(alloc);
-        for p in 0..n {
-            processors.push(Processor::new(alloc, p, n, program.entry())?)?;
+        for p in 0..nodes.number() {
+            processors.push(Processor::new(alloc, p, nodes, entry)?)?;
         }
         Ok(OneMemory {
             memory,
-            count: n,
+            nodes,
             processors,
         })
     }
 
     /// Executes one instruction of processor `p`, or one step of its call.
     ///
-    /// Fails, with nothing changed, where the processor has an exit, or where there is no memory for a byte of
-    /// output.
+    /// Fails, with nothing changed, where the processor has an exit, or where there is no memory
+    /// for a byte of output.
     pub fn step(&mut self, p: u8) -> Result<(), StepRefused>
-        requires { p < count_of self.old }
-        ensures ok { OnOk result (state_of self.new ≡ (stepped (program_in self.old) (state_of self.old) p).state) }
-        ensures ended { IsErrOf result (StepRefused.Ended p) ↔ IsSome ((state_of self.old).processors p).exit }
+        requires { p < (original_of self.old).nodes }
+        ensures ok { OnOk result (state_of self.new
+            ≡ (model_step (original_of self.old) (state_of self.old) p).state) }
+        ensures ended { IsErrOf result (StepRefused.Ended p)
+            ↔ IsSome ((state_of self.old).processors p).exit }
         ensures names { (q : ℕ) → IsErrOf result (StepRefused.Ended q) → q ≡ p }
         ensures err { OnErr result (state_of self.new ≡ state_of self.old) }
-        ensures program { program_in self.new ≡ program_in self.old }
-        ensures count { count_of self.new ≡ count_of self.old }
+        ensures original { original_of self.new ≡ original_of self.old }
     {
         let processor = &mut self.processors[p as usize];
         if processor.exit().is_some() {
@@ -99,6 +111,21 @@ impl<'a> OneMemory<'a> {
         Ok(())
     }
 
+    /// Executes so many instructions and steps of calls of processor `p`, or fewer where it ends.
+    /// Gives how many.
+    fn run_alone(&mut self, p: u8, most: u64) -> Result<u64, AllocError>
+        requires node { p < (original_of self.old).nodes }
+        requires runs { ((state_of self.old).processors p).exit ≡ None }
+        ensures turns { IfOk result (λ n. AreTurns (original_of self.old) p n
+            (state_of self.old) (state_of self.new)) }
+        ensures all { IfOk result (λ n. n < most
+            → IsSome ((state_of self.new).processors p).exit) }
+        ensures most { IfOk result (λ n. n ≤ most) }
+        ensures original { original_of self.new ≡ original_of self.old }
+    {
+        self.processors[p as usize].run(&mut self.memory, most)
+    }
+
     /// The bytes printed so far.
     pub fn output(&self) -> &[u8]
         ensures { result.now ≡ (state_of self.now).output }
@@ -106,14 +133,18 @@ impl<'a> OneMemory<'a> {
         self.memory.output()
     }
 
-    /// How processor `p` ended by itself; None where it hasn't.
+    /// The bytes printed so far. Takes no memory.
+    fn into_output(self) -> Vec<u8>
+        ensures { result.items ≡ (state_of self.entry).output }
+    {
+        self.memory.into_output()
+    }
+
+    /// How processor `p` ended by itself; `None` where it hasn't.
     pub fn exit(&self, p: u8) -> Option<Exit>
-        requires { p < count_of self.now }
+        requires { p < (original_of self.now).nodes }
         ensures { result ≡ ((state_of self.now).processors p).exit }
     {
         self.processors[p as usize].exit()
     }
 }
-
-#[cfg(test)]
-mod tests;

@@ -1,16 +1,20 @@
 //! What all processors have in common.
 
-ghost use Rattle.std.specs.Prelude.{◌≡◌, ◌+◌, ◌*◌, ◌/◌, ◌^◌, ◌<◌, ◌≤◌, ◌∷◌, ◌++◌, [], ℕ, true, IfOk, OnOk, OnErr};
-ghost use Rattle.elf32_read.specs.Elf.{Elf};
-ghost use Rattle.exec_map.specs.Contents.{program_of, code_at, first_byte};
-ghost use Rattle.rv32_model.specs.Program.{class_at};
-ghost use Rattle.rv32_model.specs.Memory.{raw, stored, is_aligned};
-ghost use Rattle.byte_range.specs.Range.{memory_of};
-ghost use Rattle.one_memory.specs.Held.{HasSharedLines};
+ghost use Rattle.std.specs.Prelude.{◌≡◌, ◌+◌, ◌*◌, ◌/◌, ◌^◌, ◌<◌, ◌≤◌, ◌∷◌, ◌++◌, [], ℕ, Bool, true, Some, None, MatchOption, IfOk, IfSome, OnOk, OnErr, is_some, if◌then◌else◌};
+ghost use Rattle.exec_map.specs.Contents.{program_of, first_byte, is_shared};
+ghost use Rattle.rv32_program.specs.Program.{IsAccepted, class_at};
+ghost use Rattle.byte_range.specs.Memory.{raw, stored};
+ghost use Rattle.byte_range.specs.Lines.{lines_memory};
+ghost use Rattle.rv32_decode.specs.Widths.{is_aligned};
+ghost use Rattle.rv32_step.specs.OneMemory.{Processor as AnyProcessor};
+ghost use Rattle.micro_op.specs.Micro.{index_address};
+ghost use Rattle.one_memory.specs.Machine.{Serves};
 
 use crate::code::Code;
-use byte_range::ByteRange;
+use byte_range::LineMemory;
 use exec_map::{Class, Program};
+use first_memory::shared_memory;
+use micro_op::MicroOp;
 use rv32_decode::{Instr, Width};
 use std::alloc::{AllocError, Global};
 use std::marker::Model;
@@ -20,104 +24,114 @@ use std::marker::Model;
 pub struct Memory<'a> {
     program: &'a Program<'a>,
     code: Code,
-    shared: ByteRange,
+    shared: LineMemory,
     output: Vec<u8>,
 }
 
 impl<'a> Model for Memory<'a> {
-    ghost use Rattle.one_memory.specs.Held.{HeldMemory, IsCodeOf, HasSharedLines};
+    ghost use Rattle.first_memory.specs.SharedLines.{HasSharedLines};
+    ghost use Rattle.one_memory.specs.Machine.{MemoryParts, IsCodeOf};
 
-    ghost Value = { HeldMemory };
+    ghost Value = { MemoryParts };
 
-    ghost view = { λ m. record { program = m.program.now; shared = m.shared; output = m.output.items } };
+    ghost view = { λ m. record {
+      program = m.program.now;
+      shared = m.shared;
+      output = m.output.items;
+    } };
 
-    ghost invariant = { λ m. IsCodeOf m.program.now m.code × HasSharedLines m.program.now m.shared };
+    ghost invariant = { λ m. IsCodeOf m.program.now m.code
+        × HasSharedLines m.program.now m.shared };
 }
 
 impl<'a> Memory<'a> {
     /// A program's memory at the start.
     pub fn new(alloc: Global, program: &'a Program<'_>) -> Result<Memory<'a>, AllocError>
+        requires { IsAccepted (program_of program.now) }
         ensures program { IfOk result (λ m. m.program ≡ program.now) }
-        ensures shared { IfOk result (λ m. memory_of m.shared (first_byte program.now) ≡ first_byte program.now) }
+        ensures shared { IfOk result (λ m.
+            lines_memory m.shared (first_byte program.now) ≡ first_byte program.now) }
         ensures output { IfOk result (λ m. m.output ≡ []) }
     {
         Ok(Memory {
             program,
             code: Code::read(alloc, program)?,
-            shared: shared_bytes(alloc, program)?,
+            shared: shared_memory(alloc, program)?,
             output: Vec::new(alloc),
         })
     }
 
+    /// The micro-op of the word with an index.
+    #[inline(always)]
+    pub fn fetch(&self, at: u32) -> MicroOp
+        ensures { Serves self.now.program (index_address 0 at) result }
+    {
+        self.code.fetch(at)
+    }
+
     /// The instruction of the code word at an address.
     pub fn code_at(&self, address: u32) -> Option<Instr>
-        ensures { result ≡ code_at self.now.program address }
+        ensures { result ≡ (program_of self.now.program).code address }
     {
-        self.code.at(address)
+        self.program.code_at(address)
     }
 
-    /// The class of the line of an address.
-    pub fn class_at(&self, address: u32) -> Class
-        ensures { result ≡ class_at (program_of self.now.program) address }
-    {
-        self.program.class(address / 64)
-    }
-
-    /// The number that an aligned access reads of shared bytes.
-    pub fn shared(&self, width: Width, address: u32) -> u32
-        requires class { class_at (program_of self.now.program) address ≡ Class.Shared }
-        requires aligned { is_aligned width address ≡ true }
-        ensures { result ≡ raw width (memory_of self.now.shared (first_byte self.now.program)) address }
+    /// The number that an aligned access reads of shared bytes; `None` where the line isn't shared.
+    #[inline(always)]
+    pub fn load(&self, width: Width, address: u32) -> Option<u32>
+        requires { is_aligned width address ≡ true }
+        ensures found { is_some result
+            ≡ is_shared (class_at (program_of self.now.program) address) }
+        ensures value { IfSome result (λ n. n
+            ≡ raw width (lines_memory self.now.shared (first_byte self.now.program)) address) }
+        ensures byte { (n : ℕ) → result ≡ Some n → width ≡ Width.Byte → n < 2 ^ 8 }
     {
         self.shared.load(width, address)
     }
 
-    /// The shared byte of an address.
-    pub fn shared_byte(&self, address: u32) -> u8
-        requires { class_at (program_of self.now.program) address ≡ Class.Shared }
-        ensures { result ≡ memory_of self.now.shared (first_byte self.now.program) address }
+    /// The number that an aligned access reads in a read-only line; `None` in any other line.
+    #[inline(never)]
+    pub fn load_first(&self, width: Width, address: u32) -> Option<u32>
+        requires { is_aligned width address ≡ true }
+        ensures value { MatchOption result
+            (class_at (program_of self.now.program) address ≡ Class.ReadOnly → ⊥)
+            (λ n. (class_at (program_of self.now.program) address ≡ Class.ReadOnly)
+            × (n ≡ raw width (first_byte self.now.program) address)) }
     {
-        self.shared.byte(address)
-    }
-
-    /// The byte that an address starts with.
-    pub fn first_byte(&self, address: u32) -> u8
-        ensures { result ≡ first_byte self.now.program address }
-    {
-        self.program.byte0(address)
-    }
-
-    /// The number that an aligned access reads of the program's first bytes.
-    #[tactic(auto, unfolding(rv32_model::specs::Memory::raw))]
-    pub fn first(&self, width: Width, address: u32) -> u32
-        requires aligned { is_aligned width address ≡ true }
-        ensures { result ≡ raw width (first_byte self.now.program) address }
-    {
-        let program = self.program;
-        match width {
-            Width::Byte => u32::from(program.byte0(address)),
-            Width::Half => u32::from(u16::from_le_bytes([
-                program.byte0(address),
-                program.byte0(address + 1),
-            ])),
-            Width::Word => u32::from_le_bytes([
-                program.byte0(address),
-                program.byte0(address + 1),
-                program.byte0(address + 2),
-                program.byte0(address + 3),
-            ]),
+        match self.program.class(address / 64) {
+            Class::ReadOnly => Some(self.program.load0(width, address)),
+            Class::Shared | Class::Private | Class::Unmapped => None,
         }
     }
 
-    /// Puts the low bits of a value into shared bytes, by an aligned access.
-    pub fn store(&mut self, width: Width, address: u32, value: u32)
-        requires class { class_at (program_of self.old.program) address ≡ Class.Shared }
-        requires aligned { is_aligned width address ≡ true }
-        ensures shared { memory_of self.new.shared (first_byte self.old.program) ≡ stored width (memory_of self.old.shared (first_byte self.old.program)) address value }
+    /// The first byte of an address in a read-only line; `None` in any other line.
+    pub fn first_byte(&self, address: u32) -> Option<u8>
+        ensures value { MatchOption result
+            (class_at (program_of self.now.program) address ≡ Class.ReadOnly → ⊥)
+            (λ n. (class_at (program_of self.now.program) address ≡ Class.ReadOnly)
+            × (n ≡ first_byte self.now.program address)) }
+    {
+        match self.program.class(address / 64) {
+            Class::ReadOnly => Some(self.program.byte0(address)),
+            Class::Shared | Class::Private | Class::Unmapped => None,
+        }
+    }
+
+    /// Puts the low bits of a value into shared bytes, by an aligned access, and says whether the
+    /// line is shared; elsewhere nothing changes.
+    #[inline(always)]
+    pub fn store(&mut self, width: Width, address: u32, value: u32) -> bool
+        requires { is_aligned width address ≡ true }
+        ensures found { result ≡ is_shared (class_at (program_of self.old.program) address) }
+        ensures shared { lines_memory self.new.shared (first_byte self.old.program)
+            ≡ (if is_shared (class_at (program_of self.old.program) address)
+            then stored width (lines_memory self.old.shared (first_byte self.old.program))
+            address value
+            else lines_memory self.old.shared (first_byte self.old.program)) }
         ensures program { self.new.program ≡ self.old.program }
         ensures output { self.new.output ≡ self.old.output }
     {
-        self.shared.store(width, address, value);
+        self.shared.store(width, address, value)
     }
 
     /// The bytes printed so far.
@@ -127,27 +141,20 @@ impl<'a> Memory<'a> {
         &self.output
     }
 
+    /// The bytes printed so far. Takes no memory.
+    pub fn into_output(self) -> Vec<u8>
+        ensures { result.items ≡ self.entry.output }
+    {
+        self.output
+    }
+
     /// Appends a byte to the output.
     pub fn print(&mut self, byte: u8) -> Result<(), AllocError>
-        ensures ok { OnOk result (self.new ≡ record self.old { output = self.old.output ++ byte ∷ [] }) }
+        ensures ok { OnOk result
+            (self.new ≡ record self.old { output = self.old.output ++ byte ∷ [] }) }
         ensures err { OnErr result (self.new ≡ self.old) }
     {
         self.output.push(byte)?;
         Ok(())
     }
-}
-
-/// The first bytes of the shared lines.
-fn shared_bytes(alloc: Global, program: &Program<'_>) -> Result<ByteRange, AllocError>
-    ensures bytes { IfOk result (λ r. memory_of r (first_byte program.now) ≡ first_byte program.now) }
-    ensures lines { IfOk result (λ r. HasSharedLines program.now r) }
-{
-    let lines = program.shared_lines();
-    let base = 64 * lines.first;
-    let len = 64 * lines.count;
-    let mut bytes = Vec::with_capacity(alloc, len as usize)?;
-    for place in 0..len {
-        bytes.push(program.byte0(base + place))?;
-    }
-    ByteRange::of(alloc, base, &bytes, len as usize)
 }

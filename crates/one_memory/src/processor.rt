@@ -1,60 +1,76 @@
-//! One processor, and what its next instruction does.
+//! One processor, and what its next word does.
 
-ghost use Rattle.std.specs.Prelude.{◌≡◌, ◌+◌, ◌*◌, ◌/◌, ◌^◌, ◌<◌, ◌≤◌, ℕ, true, Some, None, IfOk, OnOk, OnErr, length};
+ghost use Rattle.std.specs.Prelude.{◌≡◌, ◌+◌, ◌*◌, ◌/◌, ◌%◌, ◌^◌, ◌<◌, ◌≤◌, ℕ, true, Some, None, MatchOption, IfOk, IfSome, IsSome, OnOk, OnErr};
 ghost use Rattle.exec_map.specs.Contents.{program_of};
-ghost use Rattle.byte_range.specs.Range.{memory_of};
-ghost use Rattle.rv32_model.specs.Effect.{call_step as step_of_call};
-ghost use Rattle.rv32_model.specs.Program.{Program as AnyProgram, class_at};
-ghost use Rattle.rv32_model.specs.Memory as bytes;
-ghost use Rattle.rv32_model.specs.OneMemory as model;
-ghost use Rattle.one_memory.specs.Held.{HeldProcessor, processor_of, seen, Answers};
+ghost use Rattle.byte_range.specs.Memory.{raw};
+ghost use Rattle.rv32_decode.specs.Widths.{is_aligned};
+ghost use Rattle.rv32_program.specs.Program.{class_at};
+ghost use Rattle.rv32_step.specs.Registers.{registers_of};
+ghost use Rattle.rv32_step.specs.OneMemory as model;
+ghost use Rattle.rv32_step.specs.Demands.{branch_demand};
+ghost use Rattle.rv32_program.specs.declared.Class.TheVariants.{Unmapped};
+ghost use Rattle.micro_op.specs.Micro.{Demands, meaning_of, index_address};
+ghost use Rattle.one_memory.specs.Machine.{MemoryParts, processor_of, at_index, after_move, byte_seen, Answers, Meets, Steps};
+ghost use Rattle.one_memory.specs.Turns.{Turns};
 
 use crate::memory::Memory;
-use byte_range::ByteRange;
-use exec_map::{Class, Exit};
-use rv32_decode::{LoadKind, Reg, Width};
-use rv32_model::{CallStep, Demand, Registers, call_step, cut_short, demand_of};
-use rv32_ops::extend;
+use byte_range::Window;
+use exec_map::Exit;
+use micro_op::{MicroKind, MicroOp};
+use run_limits::NodeCount;
+use rv32_decode::{Cond, LoadKind, Op, Reg, Width};
+use rv32_ops::{alu, extend, taken};
+use rv32_step::{CallStep, Demand, Registers, call_step, cut_short, demand_of};
 use std::alloc::{AllocError, Global};
-use std::marker::Model;
 
-/// The first address of the private window.
-const WINDOW: u32 = 0x7fff_0000;
+/// What words read and write of their processor: its registers, the bytes of its own window, and
+/// the bytes that a write in progress has written.
+#[derive(Drop)]
+pub struct Body {
+    registers: Registers,
+    window: Window,
+    written: u32,
+}
 
-/// How many bytes the private window has.
-const WINDOW_SIZE: usize = 0x1_0000;
-
-/// A processor: its registers, its place in the code, the bytes of its own window, the bytes that a write in
-/// progress has written, and its exit.
+/// A processor: the index of its next word, what words read and write of it, and its exit.
 #[derive(Drop)]
 pub struct Processor {
-    registers: Registers,
-    pc: u32,
-    private: ByteRange,
-    written: u32,
+    at: u32,
+    body: Body,
     exit: Option<Exit>,
 }
 
-impl Model for Processor {
-    ghost use Rattle.one_memory.specs.Held.{HeldProcessor, IsWindow};
-
-    ghost Value = { HeldProcessor };
-
-    ghost view = { λ p. record { registers = p.registers; pc = p.pc; private = p.private; written = p.written; exit = p.exit } };
-
-    ghost invariant = { λ p. IsWindow p.private };
+/// Where a step leads.
+#[derive(Clone, Copy)]
+pub enum Move {
+    /// To the next word.
+    Next,
+    /// To the word with this index.
+    To(u32),
+    /// The processor ends.
+    Ends(Exit),
 }
 
 impl Processor {
-    /// Processor `number` of `count` at the start, at the entry.
-    pub fn new(alloc: Global, number: u8, count: u8, entry: u32) -> Result<Processor, AllocError>
-        ensures { (program : AnyProgram) → program.entry ≡ entry → IfOk result (λ k. processor_of k ≡ model.first_processor program count number) }
+    /// Processor `number` of so many at the start, at the entry.
+    pub fn new(
+        alloc: Global,
+        number: u8,
+        nodes: NodeCount,
+        entry: u32,
+    ) -> Result<Processor, AllocError>
+        requires { entry % 4 ≡ 0 }
+        ensures { (original : model.Original) → original.program.entry ≡ entry
+            → original.nodes ≡ nodes
+            → IfOk result (λ k. processor_of k ≡ model.first_processor original number) }
     {
         Ok(Processor {
-            registers: Registers::first(number, count),
-            pc: entry,
-            private: zeros(alloc, WINDOW, WINDOW_SIZE)?,
-            written: 0,
+            at: entry / 4,
+            body: Body {
+                registers: Registers::first(number, nodes.number()),
+                window: Window::zeros(alloc)?,
+                written: 0,
+            },
             exit: None,
         })
     }
@@ -66,268 +82,328 @@ impl Processor {
         self.exit
     }
 
-    /// Executes the next instruction.
+    /// Executes the next word.
     ///
     /// Fails, with nothing changed, where there is no memory for a byte of output.
     pub fn step(&mut self, memory: &mut Memory<'_>) -> Result<(), AllocError>
-        ensures ok { OnOk result (Answers (model.asked (program_of memory.old.program) (processor_of self.old)) memory.old self.old memory.new self.new) }
+        requires { self.old.exit ≡ None }
+        ensures ok { OnOk result
+            (Answers (model.request (program_of memory.old.program) (processor_of self.old))
+            memory.old self.old memory.new self.new) }
         ensures program { memory.new.program ≡ memory.old.program }
         ensures err_processor { OnErr result (self.new ≡ self.old) }
         ensures err_memory { OnErr result (memory.new ≡ memory.old) }
     {
-        match memory.code_at(self.pc) {
-            Some(i) => {
-                let pc = self.pc;
-                let demand = demand_of(i, &self.registers, pc);
-                self.meet(demand, memory)
-            }
-            None => {
-                self.end(Exit::Fetch(self.pc));
-                Ok(())
-            }
+        match step(self.at, &mut self.body, memory)? {
+            Move::Next => self.at = self.at.wrapping_add(1),
+            Move::To(target) => self.at = target,
+            Move::Ends(exit) => self.exit = Some(exit),
         }
+        Ok(())
     }
 
-    /// Does what an instruction asks for.
-    fn meet(&mut self, d: Demand, memory: &mut Memory<'_>) -> Result<(), AllocError>
-        ensures ok { OnOk result (Answers (model.asked_for (program_of memory.old.program) (processor_of self.old) d) memory.old self.old memory.new self.new) }
-        ensures program { memory.new.program ≡ memory.old.program }
-        ensures err_processor { OnErr result (self.new ≡ self.old) }
-        ensures err_memory { OnErr result (memory.new ≡ memory.old) }
-    {
-        match d {
-            Demand::Sets(r, value) => {
-                self.set(r, value);
-                Ok(())
-            }
-            Demand::Continues => {
-                self.go_on();
-                Ok(())
-            }
-            Demand::Jumps(r, target) => {
-                self.jump(r, target);
-                Ok(())
-            }
-            Demand::Branches(target) => {
-                self.branch(target);
-                Ok(())
-            }
-            Demand::Loads(kind, r, address) => {
-                self.load(kind, r, address, memory);
-                Ok(())
-            }
-            Demand::Stores(width, address, value) => {
-                self.store(width, address, value, memory);
-                Ok(())
-            }
-            Demand::Calls => self.call(memory),
-            Demand::Traps(exit) => {
-                self.end(exit);
-                Ok(())
-            }
-            Demand::Unsupported => Ok(()),
-        }
-    }
-
-    /// Ends the processor.
-    fn end(&mut self, exit: Exit)
-        ensures { self.new ≡ record self.old { exit = Some exit } }
-    {
-        self.exit = Some(exit);
-    }
-
-    /// Goes to the next instruction.
-    fn go_on(&mut self)
-        ensures { processor_of self.new ≡ model.continued (processor_of self.old) }
-    {
-        self.pc = self.pc.wrapping_add(4);
-    }
-
-    /// Puts a value into a register, and goes to the next instruction.
-    fn set(&mut self, r: Reg, value: u32)
-        ensures { processor_of self.new ≡ model.set_register (processor_of self.old) r value }
-    {
-        self.registers.set(r, value);
-        self.pc = self.pc.wrapping_add(4);
-    }
-
-    /// Ends a call with a result.
-    fn return_with(&mut self, value: u32)
-        ensures { processor_of self.new ≡ model.returned (processor_of self.old) value }
-    {
-        self.registers.set(Reg::A0, value);
-        self.pc = self.pc.wrapping_add(4);
-        self.written = 0;
-    }
-
-    /// Goes to a target, with the address of the next instruction in a register.
-    fn jump(&mut self, r: Reg, target: u32)
-        ensures { (program : AnyProgram) → model.asked_for program (processor_of self.old) (Demand.Jumps r target) ≡ model.Becomes (processor_of self.new) }
-    {
-        let link = self.pc.wrapping_add(4);
-        if target % 4 == 0 {
-            self.registers.set(r, link);
-            self.pc = target;
-        } else {
-            self.exit = Some(Exit::Misaligned(self.pc));
-        }
-    }
-
-    /// Goes to a target.
-    fn branch(&mut self, target: u32)
-        ensures { (program : AnyProgram) → model.asked_for program (processor_of self.old) (Demand.Branches target) ≡ model.Becomes (processor_of self.new) }
-    {
-        if target % 4 == 0 {
-            self.pc = target;
-        } else {
-            self.exit = Some(Exit::Misaligned(self.pc));
-        }
-    }
-
-    /// Loads into a register, where the access may be made.
-    fn load(&mut self, kind: LoadKind, r: Reg, address: u32, memory: &Memory<'_>)
-        ensures { Answers (model.asked_for (program_of memory.now.program) (processor_of self.old) (Demand.Loads kind r address)) memory.now self.old memory.now self.new }
-    {
-        let width = width_of(kind);
-        if !is_aligned(width, address) {
-            self.end(Exit::Misaligned(self.pc));
-            return;
-        }
-        match memory.class_at(address) {
-            Class::Unmapped => self.end(Exit::Access(self.pc)),
-            class => self.set(r, extend(kind, self.read(class, width, address, memory))),
-        }
-    }
-
-    /// The number that an aligned access to a line of this class reads.
-    fn read(&self, class: Class, width: Width, address: u32, memory: &Memory<'_>) -> u32
-        requires class { class ≡ class_at (program_of memory.now.program) address }
-        requires aligned { bytes.is_aligned width address ≡ true }
-        ensures { result ≡ bytes.raw width (seen memory.now self.now) address }
-    {
-        match class {
-            Class::Shared => memory.shared(width, address),
-            Class::ReadOnly => memory.first(width, address),
-            Class::Private => self.private.load(width, address),
-            Class::Unmapped => 0,
-        }
-    }
-
-    /// Stores the low bits of a value, where the access may be made.
-    fn store(&mut self, width: Width, address: u32, value: u32, memory: &mut Memory<'_>)
-        ensures ok { Answers (model.asked_for (program_of memory.old.program) (processor_of self.old) (Demand.Stores width address value)) memory.old self.old memory.new self.new }
+    /// Executes so many words, or fewer where the processor ends. Gives how many.
+    pub fn run(&mut self, memory: &mut Memory<'_>, most: u64) -> Result<u64, AllocError>
+        requires { self.old.exit ≡ None }
+        ensures turns { IfOk result (λ n. Turns n memory.old self.old memory.new self.new) }
+        ensures all { IfOk result (λ n. n < most → IsSome self.new.exit) }
+        ensures most { IfOk result (λ n. n ≤ most) }
         ensures program { memory.new.program ≡ memory.old.program }
     {
-        if !is_aligned(width, address) {
-            self.end(Exit::Misaligned(self.pc));
-            return;
-        }
-        match memory.class_at(address) {
-            Class::Shared => {
-                memory.store(width, address, value);
-                self.go_on();
-            }
-            Class::Private => self.store_private(width, address, value, memory),
-            Class::ReadOnly => self.end(Exit::Access(self.pc)),
-            Class::Unmapped => self.end(Exit::Access(self.pc)),
-        }
-    }
-
-    /// Stores into the processor's own window, and goes to the next instruction.
-    fn store_private(&mut self, width: Width, address: u32, value: u32, memory: &Memory<'_>)
-        requires class { class_at (program_of memory.now.program) address ≡ Class.Private }
-        requires aligned { bytes.is_aligned width address ≡ true }
-        ensures { processor_of self.new ≡ model.after_store (program_of memory.now.program) (processor_of self.old) width address value }
-    {
-        self.private.store(width, address, value);
-        self.pc = self.pc.wrapping_add(4);
-    }
-
-    /// Makes one step of a call.
-    fn call(&mut self, memory: &mut Memory<'_>) -> Result<(), AllocError>
-        ensures ok { OnOk result (Answers (model.asked_by_call (program_of memory.old.program) (processor_of self.old) (step_of_call (processor_of self.old).registers self.old.written)) memory.old self.old memory.new self.new) }
-        ensures program { memory.new.program ≡ memory.old.program }
-        ensures err_processor { OnErr result (self.new ≡ self.old) }
-        ensures err_memory { OnErr result (memory.new ≡ memory.old) }
-    {
-        match call_step(&self.registers, self.written) {
-            CallStep::Ends(code) => {
-                self.end(Exit::Code(code));
-                Ok(())
-            }
-            CallStep::Returns(value) => {
-                self.return_with(value);
-                Ok(())
-            }
-            CallStep::Puts(address) => self.put(address, memory),
-        }
-    }
-
-    /// Prints the byte of an address, or ends the write where the address isn't mapped.
-    fn put(&mut self, address: u32, memory: &mut Memory<'_>) -> Result<(), AllocError>
-        requires { self.old.written + 1 < 2 ^ 32 }
-        ensures ok { OnOk result (Answers (model.asked_by_call (program_of memory.old.program) (processor_of self.old) (CallStep.Puts address)) memory.old self.old memory.new self.new) }
-        ensures program { memory.new.program ≡ memory.old.program }
-        ensures err_processor { OnErr result (self.new ≡ self.old) }
-        ensures err_memory { OnErr result (memory.new ≡ memory.old) }
-    {
-        match memory.class_at(address) {
-            Class::Unmapped => {
-                self.return_with(cut_short(self.written));
-                Ok(())
-            }
-            class => {
-                memory.print(self.byte(class, address, memory))?;
-                self.written += 1;
-                Ok(())
+        let mut at = self.at;
+        let mut steps = 0;
+        while steps < most {
+            let next = step(at, &mut self.body, memory)?;
+            steps += 1;
+            match next {
+                Move::Next => at = at.wrapping_add(1),
+                Move::To(target) => at = target,
+                Move::Ends(exit) => {
+                    self.exit = Some(exit);
+                    break;
+                }
             }
         }
+        self.at = at;
+        Ok(steps)
     }
+}
 
-    /// The byte of an address in a line of this class.
-    fn byte(&self, class: Class, address: u32, memory: &Memory<'_>) -> u8
-        requires { class ≡ class_at (program_of memory.now.program) address }
-        ensures { result ≡ seen memory.now self.now address }
-    {
-        match class {
-            Class::Shared => memory.shared_byte(address),
-            Class::ReadOnly => memory.first_byte(address),
-            Class::Private => self.private.byte(address),
-            Class::Unmapped => 0,
+/// Executes the word with an index.
+#[inline(always)]
+fn step(at: u32, body: &mut Body, memory: &mut Memory<'_>) -> Result<Move, AllocError>
+    ensures ok { IfOk result (Steps at memory.old body.old memory.new body.new) }
+    ensures program { memory.new.program ≡ memory.old.program }
+    ensures err_body { OnErr result (body.new ≡ body.old) }
+    ensures err_memory { OnErr result (memory.new ≡ memory.old) }
+{
+    match demand_by(memory.fetch(at), &body.registers) {
+        Some(demand) => meet(demand, at, body, memory),
+        None => step_rare(at, body, memory),
+    }
+}
+
+/// Executes the word with an index, whichever it is.
+#[inline(never)]
+fn step_rare(at: u32, body: &mut Body, memory: &mut Memory<'_>) -> Result<Move, AllocError>
+    ensures ok { IfOk result (Steps at memory.old body.old memory.new body.new) }
+    ensures program { memory.new.program ≡ memory.old.program }
+    ensures err_body { OnErr result (body.new ≡ body.old) }
+    ensures err_memory { OnErr result (memory.new ≡ memory.old) }
+{
+    let pc = address_of(at);
+    match memory.code_at(pc) {
+        Some(i) => meet(demand_of(i, &body.registers, pc), at, body, memory),
+        None => Ok(Move::Ends(Exit::Fetch(pc))),
+    }
+}
+
+/// The address of the word with an index.
+#[inline(always)]
+fn address_of(at: u32) -> u32
+    ensures { result ≡ index_address 0 at }
+{
+    at.wrapping_mul(4)
+}
+
+/// What a micro-op demands; `None` where it is left to the path that serves every word.
+#[inline(always)]
+fn demand_by(op: MicroOp, registers: &Registers) -> Option<Demand>
+    ensures { IfSome result (λ d. meaning_of 0 op (registers_of registers.now) ≡ Demands d) }
+{
+    let a = registers.get(op.rs1);
+    let b = registers.get(op.rs2);
+    let sum = a.wrapping_add(op.imm);
+    let demand = match op.kind {
+        MicroKind::Rare | MicroKind::EnterBy => return None,
+        MicroKind::Nothing => Demand::Continues,
+        MicroKind::Constant => Demand::Sets(op.rd, op.imm),
+        MicroKind::Jump => Demand::Jumps(op.rd, address_of(op.imm)),
+        MicroKind::JumpBy => Demand::Jumps(op.rd, sum / 2 * 2),
+        MicroKind::BranchEq => branch(taken(Cond::Eq, a, b), op.imm),
+        MicroKind::BranchNe => branch(taken(Cond::Ne, a, b), op.imm),
+        MicroKind::BranchLt => branch(taken(Cond::Lt, a, b), op.imm),
+        MicroKind::BranchGe => branch(taken(Cond::Ge, a, b), op.imm),
+        MicroKind::BranchLtu => branch(taken(Cond::Ltu, a, b), op.imm),
+        MicroKind::BranchGeu => branch(taken(Cond::Geu, a, b), op.imm),
+        MicroKind::LoadByte => Demand::Loads(LoadKind::Byte, op.rd, sum),
+        MicroKind::LoadHalf => Demand::Loads(LoadKind::Half, op.rd, sum),
+        MicroKind::LoadWord => Demand::Loads(LoadKind::Word, op.rd, sum),
+        MicroKind::LoadByteU => Demand::Loads(LoadKind::ByteU, op.rd, sum),
+        MicroKind::LoadHalfU => Demand::Loads(LoadKind::HalfU, op.rd, sum),
+        MicroKind::StoreByte => Demand::Stores(Width::Byte, sum, b),
+        MicroKind::StoreHalf => Demand::Stores(Width::Half, sum, b),
+        MicroKind::StoreWord => Demand::Stores(Width::Word, sum, b),
+        MicroKind::AddImm => Demand::Sets(op.rd, alu(Op::Add, a, op.imm)),
+        MicroKind::SltImm => Demand::Sets(op.rd, alu(Op::Slt, a, op.imm)),
+        MicroKind::SltuImm => Demand::Sets(op.rd, alu(Op::Sltu, a, op.imm)),
+        MicroKind::XorImm => Demand::Sets(op.rd, alu(Op::Xor, a, op.imm)),
+        MicroKind::OrImm => Demand::Sets(op.rd, alu(Op::Or, a, op.imm)),
+        MicroKind::AndImm => Demand::Sets(op.rd, alu(Op::And, a, op.imm)),
+        MicroKind::SllImm => Demand::Sets(op.rd, alu(Op::Sll, a, op.imm)),
+        MicroKind::SrlImm => Demand::Sets(op.rd, alu(Op::Srl, a, op.imm)),
+        MicroKind::SraImm => Demand::Sets(op.rd, alu(Op::Sra, a, op.imm)),
+        MicroKind::Add => Demand::Sets(op.rd, alu(Op::Add, a, b)),
+        MicroKind::Sub => Demand::Sets(op.rd, alu(Op::Sub, a, b)),
+        MicroKind::Sll => Demand::Sets(op.rd, alu(Op::Sll, a, b)),
+        MicroKind::Slt => Demand::Sets(op.rd, alu(Op::Slt, a, b)),
+        MicroKind::Sltu => Demand::Sets(op.rd, alu(Op::Sltu, a, b)),
+        MicroKind::Xor => Demand::Sets(op.rd, alu(Op::Xor, a, b)),
+        MicroKind::Srl => Demand::Sets(op.rd, alu(Op::Srl, a, b)),
+        MicroKind::Sra => Demand::Sets(op.rd, alu(Op::Sra, a, b)),
+        MicroKind::Or => Demand::Sets(op.rd, alu(Op::Or, a, b)),
+        MicroKind::And => Demand::Sets(op.rd, alu(Op::And, a, b)),
+    };
+    Some(demand)
+}
+
+/// A branch to the word with an index, where it is taken.
+#[inline(always)]
+fn branch(taken: bool, index: u32) -> Demand
+    ensures { result ≡ branch_demand taken (index_address 0 index) }
+{
+    if taken {
+        Demand::Branches(address_of(index))
+    } else {
+        Demand::Continues
+    }
+}
+
+/// Does what the word with an index demands.
+#[inline(always)]
+fn meet(d: Demand, at: u32, body: &mut Body, memory: &mut Memory<'_>) -> Result<Move, AllocError>
+    ensures ok { IfOk result (Meets d at memory.old body.old memory.new body.new) }
+    ensures program { memory.new.program ≡ memory.old.program }
+    ensures err_body { OnErr result (body.new ≡ body.old) }
+    ensures err_memory { OnErr result (memory.new ≡ memory.old) }
+{
+    match d {
+        Demand::Sets(r, value) => {
+            body.registers.set(r, value);
+            Ok(Move::Next)
+        }
+        Demand::Continues => Ok(Move::Next),
+        Demand::Jumps(r, target) => Ok(jump(r, target, at, body)),
+        Demand::Branches(target) => Ok(go_to(target, at)),
+        Demand::Loads(kind, r, address) => Ok(load(kind, r, address, at, body, memory)),
+        Demand::Stores(width, address, value) => {
+            Ok(store(width, address, value, at, body, memory))
+        }
+        Demand::Calls => call(at, body, memory),
+        Demand::Traps(exit) => Ok(Move::Ends(exit)),
+        Demand::Unsupported => Ok(Move::To(at)),
+    }
+}
+
+/// Goes to a target, with the address of the next word in a register.
+#[inline(always)]
+fn jump(r: Reg, target: u32, at: u32, body: &mut Body) -> Move
+    ensures { (m : MemoryParts) → Meets (Demand.Jumps r target) at m body.old m body.new result }
+{
+    if target % 4 == 0 {
+        body.registers.set(r, address_of(at.wrapping_add(1)));
+        Move::To(target / 4)
+    } else {
+        Move::Ends(Exit::Misaligned(address_of(at)))
+    }
+}
+
+/// Goes to a target.
+#[inline(always)]
+fn go_to(target: u32, at: u32) -> Move
+    ensures { (m : MemoryParts) (body : Body) →
+        Meets (Demand.Branches target) at m body m body result }
+{
+    if target % 4 == 0 {
+        Move::To(target / 4)
+    } else {
+        Move::Ends(Exit::Misaligned(address_of(at)))
+    }
+}
+
+/// Loads into a register, where the access may be made.
+#[inline(always)]
+fn load(kind: LoadKind, r: Reg, address: u32, at: u32, body: &mut Body, memory: &Memory<'_>) -> Move
+    ensures { Meets (Demand.Loads kind r address) at
+        memory.now body.old memory.now body.new result }
+{
+    let width = kind.width();
+    if !width.is_aligned(address) {
+        return Move::Ends(Exit::Misaligned(address_of(at)));
+    }
+    match read(width, address, body, memory) {
+        Some(number) => {
+            body.registers.set(r, extend(kind, number));
+            Move::Next
+        }
+        None => Move::Ends(Exit::Access(address_of(at))),
+    }
+}
+
+/// The number that an aligned access reads; `None` where the line isn't mapped.
+#[inline(always)]
+fn read(width: Width, address: u32, body: &Body, memory: &Memory<'_>) -> Option<u32>
+    requires { is_aligned width address ≡ true }
+    ensures { MatchOption result
+        (class_at (program_of memory.now.program) address ≡ Unmapped)
+        (λ n. (class_at (program_of memory.now.program) address ≡ Unmapped → ⊥)
+        × (n ≡ raw width (byte_seen memory.now body.now) address)) }
+{
+    match memory.load(width, address) {
+        Some(number) => Some(number),
+        None => match body.window.load(width, address) {
+            Some(number) => Some(number),
+            None => memory.load_first(width, address),
+        },
+    }
+}
+
+/// Stores the low bits of a value, where the access may be made.
+#[inline(always)]
+fn store(
+    width: Width,
+    address: u32,
+    value: u32,
+    at: u32,
+    body: &mut Body,
+    memory: &mut Memory<'_>,
+) -> Move
+    ensures ok { Meets (Demand.Stores width address value) at
+        memory.old body.old memory.new body.new result }
+    ensures program { memory.new.program ≡ memory.old.program }
+{
+    if !width.is_aligned(address) {
+        return Move::Ends(Exit::Misaligned(address_of(at)));
+    }
+    if memory.store(width, address, value) || body.window.store(width, address, value) {
+        Move::Next
+    } else {
+        Move::Ends(Exit::Access(address_of(at)))
+    }
+}
+
+/// Makes one step of a call.
+#[inline(never)]
+fn call(at: u32, body: &mut Body, memory: &mut Memory<'_>) -> Result<Move, AllocError>
+    ensures ok { IfOk result (Meets Demand.Calls at memory.old body.old memory.new body.new) }
+    ensures program { memory.new.program ≡ memory.old.program }
+    ensures err_body { OnErr result (body.new ≡ body.old) }
+    ensures err_memory { OnErr result (memory.new ≡ memory.old) }
+{
+    match call_step(&body.registers, body.written) {
+        CallStep::Ends(code) => Ok(Move::Ends(Exit::Code(code))),
+        CallStep::Returns(value) => Ok(return_with(value, body)),
+        CallStep::Puts(address) => put(address, at, body, memory),
+    }
+}
+
+/// Ends a call with a result.
+fn return_with(value: u32, body: &mut Body) -> Move
+    ensures next { result ≡ Move.Next }
+    ensures value { (at : ℕ) → processor_of (at_index ((at + 1) % 2 ^ 32) body.new)
+        ≡ model.after_call (processor_of (at_index at body.old)) value }
+{
+    body.registers.set(Reg::A0, value);
+    body.written = 0;
+    Move::Next
+}
+
+/// Prints the byte of an address, or ends the write where the address isn't mapped.
+fn put(address: u32, at: u32, body: &mut Body, memory: &mut Memory<'_>) -> Result<Move, AllocError>
+    requires { body.old.written + 1 < 2 ^ 32 }
+    ensures ok { IfOk result (λ move. Answers
+        (model.request_of_call (program_of memory.old.program) (processor_of (at_index at body.old))
+        (CallStep.Puts address))
+        memory.old (at_index at body.old) memory.new (after_move move at body.new)) }
+    ensures program { memory.new.program ≡ memory.old.program }
+    ensures err_body { OnErr result (body.new ≡ body.old) }
+    ensures err_memory { OnErr result (memory.new ≡ memory.old) }
+{
+    match read_byte(address, body, memory) {
+        Some(byte) => {
+            memory.print(byte)?;
+            body.written += 1;
+            Ok(Move::To(at))
+        }
+        None => {
+            let written = body.written;
+            Ok(return_with(cut_short(written), body))
         }
     }
 }
 
-/// So many zero bytes from an address on.
-fn zeros(alloc: Global, base: u32, len: usize) -> Result<ByteRange, AllocError>
-    requires { base + len ≤ 2 ^ 32 }
-    ensures zero { IfOk result (λ r. memory_of r (λ _. 0) ≡ (λ _. 0)) }
-    ensures base { IfOk result (λ r. r.base ≡ base) }
-    ensures len { IfOk result (λ r. length r.bytes ≡ len) }
+/// The byte of an address; `None` where the line isn't mapped.
+fn read_byte(address: u32, body: &Body, memory: &Memory<'_>) -> Option<u8>
+    ensures { MatchOption result
+        (class_at (program_of memory.now.program) address ≡ Unmapped)
+        (λ n. (class_at (program_of memory.now.program) address ≡ Unmapped → ⊥)
+        × (n ≡ byte_seen memory.now body.now address)) }
 {
-    ByteRange::zeros(alloc, base, len)
-}
-
-/// How wide the access of a load is.
-fn width_of(kind: LoadKind) -> Width
-    ensures { result ≡ bytes.width_of kind }
-{
-    match kind {
-        LoadKind::Byte => Width::Byte,
-        LoadKind::Half => Width::Half,
-        LoadKind::Word => Width::Word,
-        LoadKind::ByteU => Width::Byte,
-        LoadKind::HalfU => Width::Half,
-    }
-}
-
-/// Whether an address is a multiple of the access's size.
-fn is_aligned(width: Width, address: u32) -> bool
-    ensures { result ≡ bytes.is_aligned width address }
-{
-    match width {
-        Width::Byte => true,
-        Width::Half => address % 2 == 0,
-        Width::Word => address % 4 == 0,
+    match memory.load(Width::Byte, address) {
+        Some(number) => Some(number as u8),
+        None => match body.window.load(Width::Byte, address) {
+            Some(number) => Some(number as u8),
+            None => memory.first_byte(address),
+        },
     }
 }

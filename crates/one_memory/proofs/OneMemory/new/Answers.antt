@@ -1,18 +1,33 @@
-use Rattle.std.proofs.Common.{◌≡◌, ◌+◌, List, sym, subst, arith}
-use Rattle.exec_map.specs.Contents.{program_of}
-use Rattle.one_memory.specs.Held.{HeldProcessor}
-use Rattle.one_memory.proofs.StateLemmas.{AreFirst, one_more, opened}
+use Rattle.std.proofs.Common.{◌≡◌, ◌+◌, List, refl, sym, ◌∙◌, subst, arith}
+use Rattle.elf32_read.specs.Elf.{Elf}
+use Rattle.one_memory.specs.declared.processor.Processor.{Processor as ProcessorParts}
+use Rattle.one_memory.specs.Machine.{original_on}
+use Rattle.one_memory.proofs.TurnLemmas.{AreFirst, none_first, one_first, original_with, opened}
 use Rattle.one_memory.proofs.OneMemory.new.Goals as goal
+
+pub loop-p-init : goal.loop-p-init
+loop-p-init c =
+    let original = original_with c.args.nodes c.args.program.now in
+    subst (λ (ks : List ProcessorParts). AreFirst original ks 0) (sym c.new-processors.ensures.items) (none_first original)
 
 pub loop-p-preserved : goal.loop-p-preserved
 loop-p-preserved c =
-    let e = c.args.program.now in
-    let at = sym c.entry.ensures.value in
-    subst (λ (ks : List HeldProcessor). AreFirst (program_of e) c.args.n ks (c.loop-p.p + 1)) (sym c.in_ok-push.ensures.items)
-    (one_more (program_of e) c.args.n _ c.loop-p.p _ c.loop-p.invariant (c.in_ok-new.ensures (program_of e) at))
+    let original = original_with c.args.nodes c.args.program.now in
+    subst (λ (ks : List ProcessorParts). AreFirst original ks (c.loop-p.p + 1)) (sym c.in_ok-push.ensures.items)
+    (one_first original _ c.loop-p.p _ c.loop-p.invariant (c.in_ok-new.ensures original (sym c.entry-entry.ensures.value) refl))
+
+pub invariant_of-result : goal.invariant_of-result
+invariant_of-result c =
+    let all : c.loop-p.p ≡ c.args.nodes = omega (arith, c.number-p-end.ensures.value, c.loop-p-test.false, c.loop-p.auto.p-end) in
+    c.loop-p.invariant.len ∙ all
 
 pub returns-clause-opening : goal.returns-clause-opening
 returns-clause-opening c =
-    let m = c.in_ok-memory.ensures in
-    let all : c.loop-p.p ≡ c.args.n = omega arith in
-    opened c.args.program.now c.in_ok-memory.memory c.args.n _ m.program m.shared m.output (subst (AreFirst (program_of c.args.program.now) c.args.n c.loop-p.processors.items) all c.loop-p.invariant)
+    let m = c.in_ok-memory.memory in
+    let is = c.in_ok-memory.ensures in
+    let all : c.loop-p.p ≡ c.args.nodes = omega (arith, c.number-p-end.ensures.value, c.loop-p-test.false, c.loop-p.auto.p-end) in
+    let shared = rw (← is.program) at is.shared in
+    let first : AreFirst (original_on m c.args.nodes) c.loop-p.processors.items c.args.nodes =
+    subst (λ (e : Elf). AreFirst (original_with c.args.nodes e) c.loop-p.processors.items c.args.nodes) (sym is.program)
+    (subst (AreFirst (original_with c.args.nodes c.args.program.now) c.loop-p.processors.items) all c.loop-p.invariant) in
+    opened m c.args.nodes c.loop-p.processors.items shared is.output first

@@ -1,0 +1,48 @@
+-- What a micro-op serves.
+use Rattle.std.proofs.Common.{◌≡◌, ℕ, ◌+◌, Option, Some, None, refl, sym, ap, ◌∙◌, subst, List, length, get_or, ltb}
+use Rattle.std.specs.Prelude.{slice_get, unwrap_or, is_some, IfSome}
+use Rattle.std.specs.Option.{option_copied}
+use Rattle.std.proofs.lemmas.Bool.{ltb-true, ltb-false}
+use Rattle.std.proofs.lemmas.Option.{slice_get_past, slice_get_read}
+use denote.Bor.{Bor}
+use Rattle.rv32_decode.specs.declared.Instr.{Instr}
+use Rattle.elf32_read.specs.Elf.{Elf}
+use Rattle.exec_map.specs.Contents.{program_of, code_at}
+use Rattle.rv32_step.specs.Demands.{demand_of}
+use Rattle.rv32_step.specs.OneMemory.{Processor, request_at, request_for}
+use Rattle.micro_op.specs.Micro.{Meaning, Unserved, Demands, Enters, IsMicroOf, Meets as Does, meaning_of, index_address}
+use Rattle.micro_op.specs.declared.micro_op.MicroOp.{MicroOp}
+use Rattle.micro_op.specs.declared.MicroKind.TheVariants.{Rare}
+use Rattle.one_memory.specs.declared.code.Stretch.{Stretch}
+use Rattle.one_memory.specs.Machine.{Serving, IsDemandAt, Serves, IsStretchOf}
+
+serves_by : (e : Elf) (a : ℕ) (i : Instr) (q : Processor) (m : Meaning) → Some i ≡ code_at e a → Does m (demand_of i q.registers a) → Serving m (IsDemandAt e a q)
+serves_by e a i q Unserved here does = tt
+serves_by e a i q (Demands d) here does = λ at.
+    sym (ap (request_at (program_of e) q) (here ∙ ap (code_at e) (sym at)))
+    ∙ ap (λ x. request_for (program_of e) q (demand_of i q.registers x)) at
+    ∙ ap (request_for (program_of e) q) (sym does)
+serves_by e a i q (Enters original) here does = absurd does
+
+-- the micro-op of an instruction serves where that stands
+pub serves_instruction : (e : Elf) (a : ℕ) (i : Instr) (op : MicroOp) → Some i ≡ code_at e a → IsMicroOf 0 a i op → Serves e a op
+serves_instruction e a i op here is =
+    record { serves = λ q. serves_by e a i q (meaning_of 0 op q.registers) here (is.meets q.registers) }
+
+-- a rare one serves everywhere
+pub serves_rare : (e : Elf) (a : ℕ) (op : MicroOp) → op.kind ≡ Rare → Serves e a op
+serves_rare e a op is = record { serves = λ q. rw is tt }
+
+pub or_rare : (e : Elf) (a : ℕ) (r : Option MicroOp) (x op : MicroOp) → IfSome r (Serves e a) → x.kind ≡ Rare → op ≡ unwrap_or r x → Serves e a op
+or_rare e a None x op some rare is = subst (Serves e a) (sym is) (serves_rare e a x rare)
+or_rare e a (Some y) x op some rare is = subst (Serves e a) (sym is) some
+
+-- the micro-op that stands for an index
+pub get_serves : (e : Elf) (s : Stretch) (at k : ℕ) (r : Option MicroOp) → IsStretchOf e s → index_address 0 (s.first + k) ≡ index_address 0 at → r ≡ slice_get s.ops.items k → IfSome r (Serves e (index_address 0 at))
+get_serves e s at k None of same is = tt
+get_serves e s at k (Some op) of same is = subst (λ a. Serves e a op) same (of.serve k op (sym is))
+
+-- what is copied from a place of a list
+pub copied_from : {X : Type 0} (xs : List X) (k : ℕ) (g : Option (Bor X)) → is_some g ≡ ltb k (length xs) → IfSome g (λ x. x.now ≡ get_or xs k x.now) → option_copied g ≡ slice_get xs k
+copied_from xs k None is same = sym (slice_get_past xs k (ltb-false k (length xs) (sym is)))
+copied_from xs k (Some x) is same = sym (slice_get_read xs (length xs) k x.now refl (ltb-true k (length xs) (sym is)) same)

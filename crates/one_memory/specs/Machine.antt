@@ -1,0 +1,130 @@
+-- Helps the code alone: the parts of the machine, and the state that they stand for.
+use Rattle.std.specs.Prelude.{◌≡◌, ℕ, ◌+◌, ◌%◌, ◌^◌, ◌==◌, if◌then◌else◌, List, Some, None, slice_get}
+use Rattle.std.specs.Option.{option_map_or}
+use Rattle.elf32_read.specs.Elf.{Elf}
+use Rattle.exec_map.specs.Contents.{program_of, first_byte}
+use Rattle.byte_range.specs.Lines.{LineBytes, lines_memory}
+use Rattle.byte_range.specs.Window.{window_memory}
+use Rattle.rv32_program.specs.Program.{class_at}
+use Rattle.rv32_step.specs.Registers.{registers_of}
+use Rattle.rv32_step.specs.Memory.{byte_by}
+use Rattle.rv32_step.specs.declared.Demand.{Demand}
+use Rattle.rv32_step.specs.OneMemory.{Original, Processor, State, Request, first_processor, answer, request, request_for}
+use Rattle.micro_op.specs.Micro.{Meaning, Unserved, Demands, Enters, meaning_of, index_address}
+use Rattle.micro_op.specs.declared.micro_op.MicroOp.{MicroOp}
+use Rattle.one_memory.specs.declared.code.Code.{Code}
+use Rattle.one_memory.specs.declared.code.Stretch.{Stretch}
+use Rattle.one_memory.specs.declared.processor.Body.{Body}
+use Rattle.one_memory.specs.declared.processor.Processor.{Processor as ProcessorParts}
+use Rattle.one_memory.specs.declared.processor.Move.{Move}
+use Rattle.one_memory.specs.declared.processor.Move.TheVariants.{Next, To, Ends}
+
+-- what all processors have in common
+pub record MemoryParts : Type 0 where
+  pub program : Elf
+  pub shared : LineBytes
+  pub output : List ℕ
+
+pub record Parts : Type 0 where
+  pub memory : MemoryParts
+  pub count : ℕ
+  pub processors : List ProcessorParts
+
+-- a processor; its place is the index of a word, from address 0 on
+abbrev pub processor_of : ProcessorParts → Processor
+processor_of k = record {
+  registers = registers_of k.body.registers;
+  pc = index_address 0 k.at;
+  private = window_memory k.body.window;
+  written = k.body.written;
+  exit = k.exit;
+}
+
+-- the state of these processors on this memory
+abbrev pub state_among : (ℕ → Processor) → MemoryParts → State
+state_among all m = record {
+  shared = lines_memory m.shared (first_byte m.program);
+  processors = all;
+  output = m.output;
+}
+
+-- the program in this memory, on so many processors
+abbrev pub original_on : MemoryParts → ℕ → Original
+original_on m nodes = record { program = program_of m.program; nodes = nodes }
+
+-- what the machine executes
+abbrev pub original_of : Parts → Original
+original_of h = original_on h.memory h.count
+
+-- each processor; those beyond the number are as at the start
+abbrev pub processors_of : Parts → ℕ → Processor
+processors_of h p =
+    option_map_or processor_of (slice_get h.processors p) (first_processor (original_of h) p)
+
+-- the state that the machine stands for
+abbrev pub state_of : Parts → State
+state_of h = state_among (processors_of h) h.memory
+
+-- the byte of an address, as a processor sees it
+abbrev pub byte_seen : MemoryParts → Body → ℕ → ℕ
+byte_seen m body a =
+    byte_by (class_at (program_of m.program) a) (lines_memory m.shared (first_byte m.program) a)
+    (first_byte m.program a) (window_memory body.window a) 0
+
+-- what a micro-op does is of this kind, where it is served
+abbrev pub Serving : Meaning → (Demand → Type 0) → Type 0
+Serving Unserved P = Unit {0}
+Serving (Demands d) P = P d
+Serving (Enters original) P = ⊥
+
+-- the processor at an address requests what this demand makes of it
+abbrev pub IsDemandAt : Elf → ℕ → Processor → Demand → Type 0
+IsDemandAt e a q d =
+    q.pc ≡ a → request (program_of e) q ≡ request_for (program_of e) q d
+
+-- the micro-op does what the word at an address does, where it serves it
+pub record Serves (e : Elf) (a : ℕ) (op : MicroOp) : Type 0 where
+  pub serves : (q : Processor) → Serving (meaning_of 0 op q.registers) (IsDemandAt e a q)
+
+-- the micro-ops of the words from an index on
+pub record IsStretchOf (e : Elf) (s : Stretch) : Type 0 where
+  pub serve : (k : ℕ) (op : MicroOp) → slice_get s.ops.items k ≡ Some op
+      → Serves e (index_address 0 (s.first + k)) op
+
+-- the code of a program
+pub record IsCodeOf (e : Elf) (code : Code) : Type 0 where
+  pub near : IsStretchOf e code.near
+  pub far : (j : ℕ) (s : Stretch) → slice_get code.far.items j ≡ Some s → IsStretchOf e s
+
+-- a processor at the index of a word, that has no exit
+abbrev pub at_index : ℕ → Body → ProcessorParts
+at_index at body = record { at = at; body = body; exit = None }
+
+-- a processor after a move from the index of a word
+abbrev pub after_move : Move → ℕ → Body → ProcessorParts
+after_move Next at body = at_index ((at + 1) % 2 ^ 32) body
+after_move (To target) at body = at_index target body
+after_move (Ends e) at body = record { at = at; body = body; exit = Some e }
+
+-- all processors, where one of them is this
+abbrev pub with_one : (ℕ → Processor) → ℕ → Processor → ℕ → Processor
+with_one all p q i = if i == p then q else all i
+
+-- the request has been answered, whichever the processor is and whatever the others are
+abbrev pub Answers : Request → MemoryParts → ProcessorParts → MemoryParts → ProcessorParts → Type 0
+Answers r m k m' k' =
+    (nodes p : ℕ) (all : ℕ → Processor)
+    → (answer (original_on m nodes) (state_among all m) p (processor_of k) r).state
+    ≡ state_among (with_one all p (processor_of k')) m'
+
+-- the demand of the word at an index has been met
+abbrev pub Meets : Demand → ℕ → MemoryParts → Body → MemoryParts → Body → Move → Type 0
+Meets d at m body m' body' move =
+    Answers (request_for (program_of m.program) (processor_of (at_index at body)) d)
+    m (at_index at body) m' (after_move move at body')
+
+-- a step from the index of a word has been made
+abbrev pub Steps : ℕ → MemoryParts → Body → MemoryParts → Body → Move → Type 0
+Steps at m body m' body' move =
+    Answers (request (program_of m.program) (processor_of (at_index at body)))
+    m (at_index at body) m' (after_move move at body')
