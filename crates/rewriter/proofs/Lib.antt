@@ -1,8 +1,4 @@
-mod ImageLemmas
-mod ReadingLemmas
-mod PlaceLemmas
+mod CodeLemmas
 mod ScratchLemmas
-mod SequenceLemmas
-mod AdmissionLemmas
-mod LayoutLemmas
-mod ExpansionLemmas
+mod PlanLemmas
+mod OneLemmas

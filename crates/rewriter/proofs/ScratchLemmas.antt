@@ -1,9 +1,14 @@
 -- The scratch registers of loads and stores: the two lowest that aren't the instruction's own.
-use Rattle.std.proofs.Common.{◌≡◌, ℕ, ◌+◌, ◌≤◌, true, false, ◌==◌, eqb, [], ◌∷◌, length, subst, inl, inr, arith}
+use Rattle.std.proofs.Common.{◌≡◌, ℕ, ℤ, sym, ◌+◌, ◌≤◌, true, false, ◌==◌, eqb, [], ◌∷◌, length, subst, inl, inr, arith}
 use Rattle.std.specs.Prelude.{not, ◌||◌, filter, slice_index}
 use Rattle.std.proofs.lemmas.Bool.{eqb-true}
 use Rattle.std.proofs.lemmas.Bool.Decides.{nat_tests, eqb_tells}
-use Rattle.rewriter.specs.Drafts.{free_from}
+use Rattle.rv32_decode.specs.declared.LoadKind.{LoadKind}
+use Rattle.rv32_decode.specs.declared.Width.{Width}
+use Rattle.rv32_decode.specs.declared.Instr.TheVariants.{Load, Store}
+use Rattle.templates.specs.Plans.{no_scratch}
+use Rattle.rewriter.specs.SpillPlan.{spilled, spill_scratches}
+use Rattle.rewriter.specs.Spilling.{free_from, lowest_two}
 
 -- where rs1 and rd are taken
 pub load_two : (p q : ℕ) → 2 ≤ length (filter (λ r. not ((r == p || false) || r == q)) (1 ∷ 2 ∷ 3 ∷ 4 ∷ 5 ∷ []))
@@ -48,3 +53,10 @@ store_second p q = elim (eqb_tells 1 p) [
   | inl e ↦ store_second_p p q e.0
   | inr e ↦ (elim (eqb_tells 1 q) [ inl f ↦ store_second_q p q f.0 | inr f ↦ store_second_n p q e.0 f.0 ])
 ]
+
+-- the scratch registers of a load, and of a store
+pub load_scratches : (k : LoadKind) (rd rs1 : ℕ) (imm : ℤ) → lowest_two rs1 rd ≡ spill_scratches (Load k rd rs1 imm)
+load_scratches k rd rs1 imm = λ t. record { s = spilled (sym (load_first rs1 rd) t); t = spilled (sym (load_second rs1 rd) t); u = no_scratch }
+
+pub store_scratches : (w : Width) (rs1 rs2 : ℕ) (imm : ℤ) → lowest_two rs1 rs2 ≡ spill_scratches (Store w rs1 rs2 imm)
+store_scratches w rs1 rs2 imm = λ t. record { s = spilled (sym (store_first rs1 rs2) t); t = spilled (sym (store_second rs1 rs2) t); u = no_scratch }

@@ -1,7 +1,3 @@
-pub mod Words
-pub mod Sequences
-pub mod Plans
-pub mod Drafts
-pub mod Layout
-pub mod Image
-pub mod Kept
+pub mod SpillPlan
+pub mod Parts
+pub mod Spilling

@@ -1,11 +1,12 @@
 #![tactic(auto)]
-//! Rewrites a program: the words of each place's sequence, and the maps between old and new addresses.
+//! Rewrites a program: the plan of its places, and the image of that plan.
 
-mod expand;
-pub mod jump_map;
-mod places;
-mod sequences;
-pub mod templates;
-mod words;
+ghost use Rattle.std.specs.Prelude.{◌≡◌, ℕ};
 
-pub use expand::ImageRefused;
+mod code;
+mod laws;
+mod rewriting;
+mod spilling;
+
+pub use laws::spill_plan_law;
+pub use rewriting::{Rewritten, rewrite};

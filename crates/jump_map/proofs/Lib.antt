@@ -1,0 +1,7 @@
+mod SearchLemmas
+mod HeadLemmas
+mod CellLemmas
+mod LayingLemmas
+mod ExpansionLemmas
+mod StartLemmas
+mod MicroLemmas

@@ -1,0 +1,125 @@
+-- The first word of each place in the words of a plan.
+use Rattle.std.proofs.Common.{◌≡◌, ℕ, ◌+◌, ◌*◌, ◌≤◌, ◌==◌, Bool, true, false, cond, List, [], ◌∷◌, ◌++◌, length, map, Option, Some, None, refl, sym, ap, ◌∙◌, arith}
+use Rattle.std.specs.Prelude.{position, ◌&&◌}
+use Rattle.std.specs.List.{position_from}
+use Rattle.std.specs.Option.{option_map_or}
+use Rattle.std.proofs.lemmas.Iterator.Adapters.{position_from-zero}
+use Rattle.rv32_decode.specs.declared.Instr.{Instr}
+use Rattle.rv32_decode.specs.declared.Cond.{Cond}
+use Rattle.rv32_decode.specs.declared.Instr.TheVariants.{Lui, Auipc, Jal, Jalr, Branch, Load, Store, OpImm, ShiftImm, Op, Fence, Ecall, Ebreak, Lr, Sc, Amo, Illegal}
+use Rattle.rv32_program.specs.Program.{Program}
+use Rattle.rv32_program.specs.Targets.{offset_address}
+use Rattle.templates.specs.declared.places.Part.TheVariants.{Single}
+use Rattle.templates.specs.declared.plans.PlanEntry.{PlanEntry}
+use Rattle.templates.specs.Sequences.{SequenceItem, items_of, spill_by, jump_sequence, branch_sequence, is_multiple_of_four}
+use Rattle.jump_map.specs.Image.{Cell, ImageWord, PlacedItem, read_cell, placed_items, entry_items, plan_items, words_at, image_words, head_of, address_of_word}
+use Rattle.jump_map.specs.Maps.{is_first_of, begins_at}
+use Rattle.jump_map.specs.declared.heads.PlaceStart.{PlaceStart}
+use Rattle.jump_map.specs.Heads.{start_of, starts_from}
+use Rattle.jump_map.proofs.LayingLemmas.{placed_length}
+
+-- there is a first item
+record HasFirst (items : List SequenceItem) : Type 0 where
+  first : SequenceItem
+  rest : List SequenceItem
+  is : items ≡ first ∷ rest
+
+more_first : (i : SequenceItem) (rest : List SequenceItem) → HasFirst (i ∷ rest)
+more_first i rest = record { first = i; rest = rest; is = refl }
+
+spill_first : (b : Bool) (k r : ℕ) (items : List SequenceItem) → HasFirst items → HasFirst (spill_by b k r items)
+spill_first true k r items h = more_first _ items
+spill_first false k r items h = h
+
+jump_first : (b : Bool) (rd next target : ℕ) → HasFirst (jump_sequence b rd next target)
+jump_first true rd next target = more_first _ _
+jump_first false rd next target = more_first _ _
+
+branch_first : (b : Bool) (c : Cond) (rs1 rs2 target : ℕ) → HasFirst (branch_sequence b c rs1 rs2 target)
+branch_first true c rs1 rs2 target = more_first _ _
+branch_first false c rs1 rs2 target = more_first _ _
+
+has_first : (e : PlanEntry) (o : Option Instr) → HasFirst (items_of e o)
+has_first e None = more_first _ _
+has_first e (Some (Lui rd upper)) = more_first _ _
+has_first e (Some (Auipc rd upper)) = more_first _ _
+has_first e (Some (Jal rd offset)) = jump_first (is_multiple_of_four (offset_address e.address offset)) _ _ _
+has_first e (Some (Jalr rd rs1 imm)) = more_first _ _
+has_first e (Some (Branch c rs1 rs2 offset)) = branch_first (is_multiple_of_four (offset_address e.address offset)) _ _ _ _
+has_first e (Some (Load k rd rs1 imm)) =
+    spill_first e.single.s.spilled 0 e.single.s.register _ (spill_first e.single.t.spilled 1 e.single.t.register _ (more_first _ _))
+has_first e (Some (Store w rs1 rs2 imm)) =
+    spill_first e.single.s.spilled 0 e.single.s.register _ (spill_first e.single.t.spilled 1 e.single.t.register _ (more_first _ _))
+has_first e (Some (OpImm o rd rs1 imm)) = more_first _ _
+has_first e (Some (ShiftImm o rd rs1 amount)) = more_first _ _
+has_first e (Some (Op o rd rs1 rs2)) = more_first _ _
+has_first e (Some (Fence rd rs1 bits)) = more_first _ _
+has_first e (Some Ecall) = more_first _ _
+has_first e (Some Ebreak) = more_first _ _
+has_first e (Some (Lr rd rs1 aq rl)) = more_first _ _
+has_first e (Some (Sc rd rs1 rs2 aq rl)) = more_first _ _
+has_first e (Some (Amo o rd rs1 rs2 aq rl)) = more_first _ _
+has_first e (Some (Illegal word)) = more_first _ _
+
+-- the word is the first of the place's single sequence
+abbrev begins : ℕ → ImageWord → Bool
+begins a w = option_map_or (is_first_of a) w.place false
+
+-- words that begin no place are passed
+pass : (head : ℕ → ℕ) (a b at k n : ℕ) (items : List SequenceItem) (rest : List PlacedItem)
+    → ((j : ℕ) → k ≤ j → is_first_of a (record { address = b; part = Single; word = j }) ≡ false)
+    → position_from (begins a) n (words_at head at (placed_items b Single k items ++ rest))
+    ≡ position_from (begins a) (n + length items) (words_at head (at + 4 * length items) rest)
+pass head a b at k n [] rest h =
+    let count : n ≡ n + length {A = SequenceItem} [] = omega arith in
+    let place : at ≡ at + 4 * length {A = SequenceItem} [] = omega arith in
+    λ t. position_from (begins a) (count t) (words_at head (place t) rest)
+pass head a b at k n (i ∷ is) rest h =
+    let count : n + 1 + length is ≡ n + length (i ∷ is) = omega arith in
+    let place : at + 4 + 4 * length is ≡ at + 4 * length (i ∷ is) = omega arith in
+    ap (λ x. cond x (Some n) (position_from (begins a) (n + 1) (words_at head (at + 4) (placed_items b Single (k + 1) is ++ rest)))) (h k (omega arith))
+    ∙ pass head a b (at + 4) (k + 1) (n + 1) is rest (λ j le. h j (omega (arith, le)))
+    ∙ (λ t. position_from (begins a) (count t) (words_at head (place t) rest))
+
+-- the first word of an entry begins its place
+at_first : (head : ℕ → ℕ) (a b at n : ℕ) (items : List SequenceItem) (rest : List PlacedItem) → HasFirst items → (b == a) ≡ true
+    → position_from (begins a) n (words_at head at (placed_items b Single 0 items ++ rest)) ≡ Some n
+at_first head a b at n items rest h is =
+    ap (λ xs. position_from (begins a) n (words_at head at (placed_items b Single 0 xs ++ rest))) h.is
+    ∙ ap (λ x. cond (x && (true && true)) (Some n) (position_from (begins a) (n + 1) (words_at head (at + 4) (placed_items b Single 1 h.rest ++ rest)))) is
+
+-- the first word of a place, where it is one of the plan
+find_from : (p : Program) (head : ℕ → ℕ) (a n at : ℕ) (es : List PlanEntry)
+    → position_from (begins a) n (words_at head at (plan_items p es)) ≡ start_of (starts_from p n es) a
+find_from p head a n at [] = refl
+find_from p head a n at (e ∷ es) =
+    go (find_from p head a (n + length (entry_items p e)) (at + 4 * length (entry_items p e)) es) (e.address == a) refl
+  where
+    items : List SequenceItem
+    items = items_of e (p.code e.address)
+
+    go : position_from (begins a) (n + length (entry_items p e)) (words_at head (at + 4 * length (entry_items p e)) (plan_items p es)) ≡ start_of (starts_from p (n + length (entry_items p e)) es) a
+        → (b : Bool) → (e.address == a) ≡ b
+        → position_from (begins a) n (words_at head at (entry_items p e ++ plan_items p es)) ≡ cond b (Some n) (start_of (starts_from p (n + length (entry_items p e)) es) a)
+    go more true f = at_first head a e.address at n items (plan_items p es) (has_first e (p.code e.address)) f
+    go more false f =
+        pass head a e.address at 0 n items (plan_items p es) (λ j le. ap (λ x. x && (true && (j == 0))) f)
+        ∙ (λ t. position_from (begins a) (n + sym (placed_length e.address 0 items) t) (words_at head (at + 4 * sym (placed_length e.address 0 items) t) (plan_items p es)))
+        ∙ more
+
+position_from_shown : {X Y : Type 0} (f : X → Y) (q : Y → Bool) (i : ℕ) (xs : List X) → position_from q i (map f xs) ≡ position_from (λ x. q (f x)) i xs
+position_from_shown f q i [] = refl
+position_from_shown f q i (x ∷ xs) = ap (cond (q (f x)) (Some i)) (position_from_shown f q (i + 1) xs)
+
+-- the first place in a list, by what its elements are read as
+position_shown : {X Y : Type 0} (f : X → Y) (q : Y → Bool) (xs : List X) → position q (map f xs) ≡ position (λ x. q (f x)) xs
+position_shown f q xs = position_from-zero q (map f xs) ∙ position_from_shown f q 0 xs ∙ sym (position_from-zero (λ x. q (f x)) xs)
+
+-- the index has the first word of each place
+pub starts_found : (p : Program) (es : List PlanEntry) (cells : List Cell) (index : List PlaceStart)
+    → map read_cell cells ≡ image_words p es → index ≡ starts_from p 1 es
+    → (a : ℕ) → start_of index a ≡ position (begins_at a) cells
+starts_found p es cells index words is a =
+    ap (λ ss. start_of ss a) is ∙ sym (find_from p (head_of p es) a 1 (address_of_word 1) es)
+    ∙ sym (position_from-zero (begins a) (image_words p es)) ∙ ap (position (begins a)) (sym words)
+    ∙ position_shown read_cell (begins a) cells

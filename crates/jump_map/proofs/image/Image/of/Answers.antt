@@ -1,0 +1,21 @@
+use Rattle.std.proofs.Common.{◌≡◌, ap, Err}
+use Rattle.jump_map.specs.declared.image.ImageRefused.TheVariants.{CodeTooLarge}
+use Rattle.jump_map.specs.Heads.{program_with}
+use Rattle.jump_map.proofs.ExpansionLemmas.{expands, too_long}
+use Rattle.jump_map.proofs.StartLemmas.{starts_found}
+use Rattle.jump_map.proofs.image.Image.of.Goals as goal
+
+pub invariant_of-result : goal.invariant_of-result
+invariant_of-result c =
+    let h = c.in-Ok.ensures in
+    (starts_found (program_with c.args.code.now) c.args.plan.now c.in-Ok.cells c.in-Ok.index h.words h.starts, c.in_ok-micros-in-Ok.ensures.value)
+
+pub returns-in_ok-micros-in-Ok-clause-ok : goal.returns-in_ok-micros-in-Ok-clause-ok
+returns-in_ok-micros-in-Ok-clause-ok c =
+    let h = c.in-Ok.ensures in
+    expands c.args.code.now c.args.plan.now c.in-Ok.cells h.words h.few
+
+pub returns-in-Err-clause-too_large : goal.returns-in-Err-clause-too_large
+returns-in-Err-clause-too_large c = λ w is.
+    let same : c.in-Err.refused ≡ CodeTooLarge w = cc in
+    too_long c.args.code.now c.args.plan.now w (c.in-Err.ensures.too_large w (ap (λ e. Err e) same))

@@ -1,0 +1,50 @@
+-- Helps the code alone: an image while it is made.
+use Rattle.std.specs.Prelude.{◌≡◌, ℕ, ◌+◌, ◌<◌, ◌++◌, List, [], ◌∷◌, Option, map, length}
+use Rattle.std.specs.Option.{option_map}
+use Rattle.templates.specs.declared.runtime_words.RtWord.{RtWord}
+use Rattle.templates.specs.declared.code.CodeWord.{CodeWord}
+use Rattle.templates.specs.declared.places.Place.{Place}
+use Rattle.templates.specs.declared.plans.PlanEntry.{PlanEntry}
+use Rattle.templates.specs.declared.words.Item.{Item}
+use Rattle.templates.specs.Expansion.{reads}
+use Rattle.jump_map.specs.declared.heads.PlaceStart.{PlaceStart}
+use Rattle.jump_map.specs.Image.{Cell, read_cell, item_word, plan_items, image_words, address_of_word, most_words}
+use Rattle.jump_map.specs.HeadsValue.{HeadsValue}
+use Rattle.jump_map.specs.Heads.{program_with, starts_from, head_address}
+use Rattle.jump_map.specs.Laying.{laid_word, laid_words}
+
+-- the words of a plan, for this code
+abbrev pub HasWords : List CodeWord → List PlanEntry → List Cell → Type 0
+HasWords words plan cells = map read_cell cells ≡ image_words (program_with words) plan
+
+-- the number of words of a plan
+abbrev pub word_count : List CodeWord → List PlanEntry → ℕ
+word_count words plan = 1 + length (plan_items (program_with words) plan)
+
+-- where the words of each place of a plan begin
+abbrev pub HasStarts : List CodeWord → List PlanEntry → List PlaceStart → Type 0
+HasStarts words plan starts = starts ≡ starts_from (program_with words) 1 plan
+
+-- the plan has so many words, which are too many
+abbrev pub IsOverlong : List CodeWord → List PlanEntry → ℕ → Type 0
+IsOverlong words plan count =
+    (count ≡ length (image_words (program_with words) plan)) × (most_words < count)
+
+-- what an item reads as where it is the word of this number
+abbrev pub reads_at : HeadsValue → ℕ → Item → Option RtWord
+reads_at heads own item =
+    option_map (item_word (head_address heads) (address_of_word own)) (reads item)
+
+-- the word of an item was appended
+abbrev pub AddsItem : HeadsValue → Place → Item → List Cell → List Cell → Type 0
+AddsItem heads place item old new =
+    map read_cell new
+    ≡ map read_cell old
+    ++ laid_word (head_address heads) (address_of_word (length old)) place (reads item) ∷ []
+
+-- the words of a place's single sequence were appended
+abbrev pub AddsSequence : HeadsValue → ℕ → List Item → List Cell → List Cell → Type 0
+AddsSequence heads address items old new =
+    map read_cell new
+    ≡ map read_cell old
+    ++ laid_words (head_address heads) (address_of_word (length old)) address 0 (map reads items)

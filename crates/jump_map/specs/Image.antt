@@ -1,0 +1,121 @@
+-- Rewritten code: the words of a plan, in their order, and the place of each.
+use Rattle.std.specs.Prelude.{◌≡◌, ℕ, ◌+◌, ◌-◌, ◌*◌, ◌%◌, ◌^◌, ◌<◌, ◌≤◌, ◌++◌, ◌==◌, if◌then◌else◌, List, [], ◌∷◌, Option, Some, None, map, length}
+use Rattle.rv32_decode.specs.Fields.{signed}
+use Rattle.rv32_decode.specs.declared.Instr.TheVariants.{Jal}
+use Rattle.rv32_program.specs.Program.{Program}
+use Rattle.templates.specs.declared.runtime_words.RtWord.{RtWord}
+use Rattle.templates.specs.declared.runtime_words.RtWord.TheVariants.{Native, TrapOff}
+use Rattle.templates.specs.declared.places.Part.{Part}
+use Rattle.templates.specs.declared.places.Part.TheVariants.{Single}
+use Rattle.templates.specs.declared.places.Place.{Place}
+use Rattle.templates.specs.declared.plans.PlanEntry.{PlanEntry}
+use Rattle.templates.specs.RuntimeWords.{read_word}
+pub use Rattle.jump_map.specs.declared.image.ImageWord.{ImageWord}
+use Rattle.templates.specs.declared.code.CodeWord.{CodeWord}
+use Rattle.templates.specs.Code.{HasCode}
+use Rattle.templates.specs.Plans.{IsAdmissible}
+use Rattle.templates.specs.Sequences.{ItemWord, Runs, GoesTo, SequenceItem}
+use Rattle.templates.specs.Commits.{part_items}
+
+-- a word of an image, and its place; word 0 has none
+pub record Cell : Type 0 where
+  pub word : ℕ
+  pub place : Option Place
+
+-- a word of an image, read
+abbrev pub read_cell : Cell → ImageWord
+read_cell c = record { what = read_word c.word; place = c.place }
+
+-- where the rewritten code begins
+abbrev pub image_base : ℕ
+image_base = 0xa0000000
+
+abbrev pub address_of_word : ℕ → ℕ
+address_of_word k = image_base + 4 * k
+
+-- an item of a sequence, and its place
+pub record PlacedItem : Type 0 where
+  pub item : ItemWord
+  pub place : Place
+
+-- the items of a part, of which the first has number k
+abbrev pub placed_items : ℕ → Part → ℕ → List SequenceItem → List PlacedItem
+placed_items a part k [] = []
+placed_items a part k (i ∷ is) =
+    record { item = i.what; place = record { address = a; part = part; word = k } }
+    ∷ placed_items a part (k + 1) is
+
+-- the words of an entry's place. No entry has other parts than its single sequence as yet
+abbrev pub entry_items : Program → PlanEntry → List PlacedItem
+entry_items program e = placed_items e.address Single 0 (part_items program e Single)
+
+-- how many words stand before a place's, but for word 0
+abbrev pub words_before : Program → List PlanEntry → ℕ → ℕ
+words_before program [] a = 0
+words_before program (e ∷ es) a =
+    if e.address == a then 0
+    else length (entry_items program e) + words_before program es a
+
+-- the address of the first word of a place: the head of its sequences
+abbrev pub head_of : Program → List PlanEntry → ℕ → ℕ
+head_of program plan a = address_of_word (1 + words_before program plan a)
+
+-- the distance from one address to another, as a jump has it
+abbrev pub distance : ℕ → ℕ → ℕ
+distance at target = (target + (2 ^ 32 - at)) % 2 ^ 32
+
+-- the word of an item at its own address: a jump is a JAL that keeps no link
+abbrev pub item_word : (ℕ → ℕ) → ℕ → ItemWord → RtWord
+item_word head at (Runs w) = w
+item_word head at (GoesTo place to_head) = Native (Jal 0 (signed 32 (distance at (head place))))
+
+-- the words of items, of which the first stands at this address
+abbrev pub words_at : (ℕ → ℕ) → ℕ → List PlacedItem → List ImageWord
+words_at head at [] = []
+words_at head at (i ∷ is) =
+    record { what = Some (item_word head at i.item); place = Some i.place }
+    ∷ words_at head (at + 4) is
+
+-- the items of all entries, in their order
+abbrev pub plan_items : Program → List PlanEntry → List PlacedItem
+plan_items program [] = []
+plan_items program (e ∷ es) = entry_items program e ++ plan_items program es
+
+-- word 0: where a processor goes whose pc is no place
+abbrev pub off_word : ImageWord
+off_word = record { what = Some TrapOff; place = None }
+
+-- all words of a plan, in their order
+abbrev pub image_words : Program → List PlanEntry → List ImageWord
+image_words program plan =
+    off_word ∷ words_at (head_of program plan) (address_of_word 1) (plan_items program plan)
+
+abbrev pub most_words : ℕ
+most_words = 262143
+
+-- the image has the words of this plan
+pub record IsExpansion (program : Program) (plan : List PlanEntry) (image : List Cell) : Type 0
+  where
+    pub words : map read_cell image ≡ image_words program plan
+    pub few : length image ≤ most_words
+
+-- the image has the words of this plan, in every program that has this code
+abbrev pub Expands : List CodeWord → List PlanEntry → List Cell → Type 0
+Expands words plan image =
+    (program : Program) → HasCode program words → IsExpansion program plan image
+
+-- the image is a rewriting of the program: it has the words of an admissible plan
+pub record IsRewriting (program : Program) (plan : List PlanEntry) (image : List Cell) : Type 0
+  where
+    pub admissible : IsAdmissible program plan
+    pub expansion : IsExpansion program plan image
+
+-- the plan has this many words, which are more than an image may have
+pub record HasTooManyWords (program : Program) (plan : List PlanEntry) (words : ℕ) : Type 0 where
+  pub count : words ≡ length (image_words program plan)
+  pub many : most_words < words
+
+-- the plan has this many words in every program that has this code
+abbrev pub IsTooLong : List CodeWord → List PlanEntry → ℕ → Type 0
+IsTooLong words plan count =
+    (program : Program) → HasCode program words → HasTooManyWords program plan count

@@ -1,0 +1,9 @@
+pub mod Image
+pub mod Maps
+pub mod Micro
+pub mod Decoding
+pub mod Storage
+pub mod HeadsValue
+pub mod Heads
+pub mod Laying
+pub mod Building

@@ -1,0 +1,28 @@
+-- The micro-ops of rewritten code: each of its words decoded flat, once, for machines that execute
+-- it many times.
+use Rattle.std.specs.Prelude.{◌≡◌, ℕ, List, Option, Some, None, MatchOption, slice_get}
+use Rattle.rv32_decode.specs.Fields.{unsigned}
+use Rattle.templates.specs.declared.runtime_words.RtWord.{RtWord}
+use Rattle.templates.specs.declared.runtime_words.RtWord.TheVariants.{Native, Xjalr}
+use Rattle.micro_op.specs.declared.micro_op.MicroOp.{MicroOp}
+use Rattle.micro_op.specs.declared.MicroKind.TheVariants.{Rare}
+use Rattle.micro_op.specs.Micro.{IsMicroOf, IsEntryOf}
+use Rattle.jump_map.specs.Image.{Cell, image_base, address_of_word, read_cell}
+
+-- the micro-op is that of a word at an address: of a native instruction, or of an indirect jump;
+-- every other word is rare
+abbrev pub IsMicroWord : ℕ → Option RtWord → MicroOp → Type 0
+IsMicroWord address (Some (Native i)) m = IsMicroOf image_base address i m
+IsMicroWord address (Some (Xjalr rd rs1 imm)) m =
+    IsEntryOf image_base rd rs1 (unsigned 32 imm) m
+IsMicroWord address word m = m.kind ≡ Rare
+
+-- the micro-op is that of the image's word of this number
+pub record IsMicroAt (image : List Cell) (k : ℕ) (m : MicroOp) : Type 0 where
+  pub cell : Cell
+  pub there : slice_get image k ≡ Some cell
+  pub micro : IsMicroWord (address_of_word k) (read_cell cell).what m
+
+-- there is one exactly where the image has a word of this number
+abbrev pub IsMicroAnswer : List Cell → ℕ → Option MicroOp → Type 0
+IsMicroAnswer image k answer = MatchOption answer (slice_get image k ≡ None) (IsMicroAt image k)

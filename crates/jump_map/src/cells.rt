@@ -1,0 +1,109 @@
+//! The words of an image, each beside what it reads as.
+
+ghost use Rattle.std.specs.Prelude.{◌≡◌, ◌<◌, ◌≤◌, ◌++◌, ◌∷◌, [], length, slice_get, option_and_then, OnOk, OnErr};
+ghost use Rattle.std.specs.Option.{option_map};
+ghost use Rattle.jump_map.specs.Image.{read_cell, most_words};
+ghost use Rattle.jump_map.specs.Storage.{cell};
+
+use crate::image::ImageWord;
+use std::alloc::{AllocError, Global};
+use std::marker::Model;
+use templates::{Place, RtWord, read_word};
+
+/// A word, what it reads as, and its place.
+#[derive(Clone, Copy, Debug)]
+struct StoredCell {
+    word: u32,
+    what: Option<RtWord>,
+    place: Option<Place>,
+}
+
+/// The words of an image. Contracts see each with its place.
+#[derive(Drop)]
+pub(crate) struct Cells {
+    cells: Vec<StoredCell>,
+}
+
+impl Model for Cells {
+    ghost use Rattle.std.specs.Prelude.{List, ◌≡◌, ◌≤◌, map, length};
+    ghost use Rattle.jump_map.specs.Image.{Cell};
+
+    ghost Value = { List Cell };
+
+    ghost use Rattle.jump_map.specs.Image.{most_words};
+    ghost use Rattle.jump_map.specs.Storage.{shown, reading, stored};
+
+    ghost view = { λ c. map shown c.cells.items };
+
+    ghost invariant = { λ c.
+        (map reading c.cells.items ≡ map stored c.cells.items)
+        × (length c.cells.items ≤ most_words) };
+}
+
+impl Cells {
+    /// No word as yet.
+    pub(crate) fn new(alloc: Global) -> Cells
+        ensures value { result ≡ [] }
+    {
+        Cells {
+            cells: Vec::new(alloc),
+        }
+    }
+
+    /// Appends a word.
+    pub(crate) fn push(&mut self, word: u32, place: Option<Place>) -> Result<(), AllocError>
+        requires room { length self.old < most_words }
+        ensures ok { OnOk result (self.new ≡ self.old ++ cell word place ∷ []) }
+        ensures err { OnErr result (self.new ≡ self.old) }
+    {
+        self.cells.push(StoredCell {
+            word,
+            what: read_word(word),
+            place,
+        })?;
+        Ok(())
+    }
+
+    /// The number of words.
+    pub(crate) fn len(&self) -> usize
+        ensures value { result ≡ length self.now }
+        ensures few { result ≤ most_words }
+    {
+        self.cells.len()
+    }
+
+    /// The word of a number.
+    pub(crate) fn word(&self, k: usize) -> Option<u32>
+        ensures value { result ≡ option_map (λ c. c.word) (slice_get self.now k) }
+    {
+        match self.cells.get(k) {
+            Some(cell) => Some(cell.word),
+            None => None,
+        }
+    }
+
+    /// The place of the word of a number.
+    pub(crate) fn place(&self, k: usize) -> Option<Place>
+        ensures value { result ≡ option_and_then (λ c. c.place) (slice_get self.now k) }
+    {
+        match self.cells.get(k) {
+            Some(cell) => cell.place,
+            None => None,
+        }
+    }
+
+    /// The word of a number, read.
+    pub(crate) fn read(&self, k: usize) -> Option<ImageWord>
+        ensures value { result ≡ option_map read_cell (slice_get self.now k) }
+    {
+        match self.cells.get(k) {
+            Some(cell) => {
+                Some(ImageWord {
+                    what: cell.what,
+                    place: cell.place,
+                })
+            }
+            None => None,
+        }
+    }
+}

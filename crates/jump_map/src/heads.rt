@@ -1,0 +1,115 @@
+//! Where the words of each place begin, by halving.
+
+ghost use Rattle.std.specs.Prelude.{◌≡◌, ◌+◌, ◌<◌, ◌≤◌, ◌++◌, ◌∷◌, [], length, OnOk, OnErr, IfSome};
+ghost use Rattle.jump_map.specs.Heads.{start, start_of, end_of, head_number};
+ghost use Rattle.jump_map.specs.Image.{most_words};
+
+use std::alloc::{AllocError, Global};
+use std::marker::Model;
+
+/// Where the words of a place begin: the number of the first.
+#[derive(Clone, Copy, Debug)]
+pub(crate) struct PlaceStart {
+    address: u32,
+    word: u32,
+}
+
+/// Where the words of each place begin. Contracts see the list of the places.
+#[derive(Drop)]
+pub(crate) struct PlaceIndex {
+    starts: Vec<PlaceStart>,
+}
+
+impl Model for PlaceIndex {
+    ghost use Rattle.std.specs.Prelude.{List};
+    ghost use Rattle.jump_map.specs.declared.heads.PlaceStart.{PlaceStart};
+
+    ghost Value = { List PlaceStart };
+
+    ghost use Rattle.jump_map.specs.Heads.{Ascends};
+
+    ghost view = { λ i. i.starts.items };
+
+    ghost invariant = { λ i. Ascends 0 i.starts.items };
+}
+
+impl PlaceIndex {
+    /// No place as yet.
+    pub(crate) fn new(alloc: Global) -> PlaceIndex
+        ensures value { result ≡ [] }
+    {
+        PlaceIndex {
+            starts: Vec::new(alloc),
+        }
+    }
+
+    /// Appends a place, which is above the last one.
+    pub(crate) fn push(&mut self, address: u32, word: u32) -> Result<(), AllocError>
+        requires above { end_of self.old ≤ address }
+        requires low { word ≤ most_words }
+        ensures ok { OnOk result (self.new ≡ self.old ++ start address word ∷ []) }
+        ensures err { OnErr result (self.new ≡ self.old) }
+    {
+        self.starts.push(PlaceStart { address, word })?;
+        Ok(())
+    }
+
+    /// The number of the first word of a place; None where the address is no place.
+    pub(crate) fn find(&self, address: u32) -> Option<u32>
+        ensures value { result ≡ start_of self.now address }
+        ensures low { IfSome result (λ k. k ≤ most_words) }
+    {
+        match self.starts.binary_search_by_key(&address, |s| s.address) {
+            Ok(k) => Some(self.starts[k].word),
+            Err(_) => None,
+        }
+    }
+}
+
+/// Where the words of each place begin, and how many words there are.
+#[derive(Drop)]
+pub(crate) struct Heads {
+    index: PlaceIndex,
+    total: u32,
+}
+
+impl Model for Heads {
+    ghost use Rattle.std.specs.Prelude.{◌≤◌};
+    ghost use Rattle.jump_map.specs.HeadsValue.{HeadsValue};
+
+    ghost Value = { HeadsValue };
+
+    ghost use Rattle.jump_map.specs.Image.{most_words};
+
+    ghost view = { λ h. record { starts = h.index; total = h.total } };
+
+    ghost invariant = { λ h. h.total ≤ most_words };
+}
+
+impl Heads {
+    /// The places of a plan of so many words.
+    pub(crate) fn new(index: PlaceIndex, total: u32) -> Heads
+        requires few { total ≤ most_words }
+        ensures value { result ≡ record { starts = index; total = total } }
+    {
+        Heads { index, total }
+    }
+
+    /// The number of the first word of a place; of an address that is none, that of all words.
+    pub(crate) fn number(&self, address: u32) -> u32
+        ensures value { result ≡ head_number self.now address }
+        ensures few { result ≤ most_words }
+    {
+        match self.index.find(address) {
+            Some(word) => word,
+            None => self.total,
+        }
+    }
+
+    /// The places alone.
+    pub(crate) fn into_index(self) -> PlaceIndex
+        ensures value { result ≡ self.starts }
+    {
+        self.index
+    }
+}

@@ -1,0 +1,12 @@
+#![tactic(auto)]
+//! Rewritten code, and the maps between original and rewritten addresses.
+
+ghost use Rattle.std.specs.Prelude.{◌≡◌, ℕ};
+
+mod building;
+mod cells;
+mod heads;
+pub mod image;
+mod micros;
+
+pub use image::{IMAGE_BASE, Image, ImageRefused, ImageWord};

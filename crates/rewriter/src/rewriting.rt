@@ -1,0 +1,72 @@
+//! Rewritten programs.
+
+ghost use Rattle.std.specs.Prelude.{◌≡◌, ℕ, IfOk, IsErrOf};
+ghost use Rattle.rv32_program.specs.Program.{Program as Model, IsAccepted};
+ghost use Rattle.exec_map.specs.Contents.{program_of};
+ghost use Rattle.jump_map.specs.Image.{IsRewriting};
+ghost use Rattle.jump_map.specs.declared.image.ImageRefused.TheVariants as refused;
+ghost use Rattle.rewriter.specs.SpillPlan.{IsSpillPlan, IsTooLarge};
+
+use crate::code::collect_code;
+use crate::spilling::spill_plan;
+use exec_map::Program;
+use jump_map::{Image, ImageRefused};
+use std::alloc::Global;
+use std::marker::Model;
+use templates::Plan;
+
+/// A rewritten program: its image, and the plan of which that is the image.
+#[derive(Drop)]
+pub struct Rewritten {
+    image: Image,
+    plan: Plan,
+}
+
+impl Model for Rewritten {
+    ghost use Rattle.rewriter.specs.Parts.{Parts};
+
+    ghost Value = { Parts };
+
+    ghost view = { λ r. record { image = r.image; plan = r.plan } };
+}
+
+impl Rewritten {
+    /// The words of the plan.
+    pub fn image(&self) -> &Image
+        ensures value { result.now ≡ self.now.image }
+    {
+        &self.image
+    }
+
+    /// The plan.
+    pub fn plan(&self) -> &Plan
+        ensures value { result.now ≡ self.now.plan }
+    {
+        &self.plan
+    }
+}
+
+/// Rewrites a program by the plan that spills each scratch register.
+///
+/// Fails with the number of words where that plan has more than an image may have.
+pub fn rewrite(alloc: Global, program: &Program<'_>) -> Result<Rewritten, ImageRefused>
+    ensures plan { IfOk result (λ r. IsSpillPlan (program_of program.now).code r.plan) }
+    ensures rewriting { IfOk result (λ r. IsRewriting (program_of program.now) r.plan r.image) }
+    ensures too_large { (w : ℕ) →
+        IsErrOf result (refused.CodeTooLarge w) → IsTooLarge (program_of program.now) w }
+{
+    accepted_law(program);
+    let code = collect_code(alloc, program)?;
+    let plan = spill_plan(alloc, &code)?;
+    match Image::of(alloc, &code, &plan) {
+        Ok(image) => Ok(Rewritten { image, plan }),
+        Err(refused) => Err(refused),
+    }
+}
+
+/// A program is accepted.
+fn accepted_law(program: &Program<'_>)
+    ensures { IsAccepted (program_of program.now) }
+{
+    let _entry = program.entry();
+}

@@ -1,0 +1,100 @@
+-- The one word of each sequence that commits.
+use Rattle.std.proofs.Common.{◌≡◌, ℕ, ℤ, zero, suc, ◌+◌, Bool, true, false, ◌==◌, cond, List, [], ◌∷◌, refl, ◌∙◌, subst, arith}
+use Rattle.std.specs.Prelude.{if◌then◌else◌}
+use Rattle.std.proofs.lemmas.Bool.Decides.{nat_tests}
+use Rattle.rv32_decode.specs.declared.Cond.{Cond}
+use Rattle.rv32_decode.specs.declared.LoadKind.{LoadKind}
+use Rattle.rv32_decode.specs.declared.Width.{Width}
+use Rattle.templates.specs.declared.commits.CommitKind.{CommitKind}
+use Rattle.templates.specs.declared.commits.CommitKind.TheVariants.{Never, Always}
+use Rattle.templates.specs.declared.plans.Scratches.{Scratches}
+use Rattle.templates.specs.Sequences.{ItemWord, SequenceItem, spill_by, reload_by, reloads, load_sequence, store_sequence, branch_sequence, jump_sequence}
+use Rattle.templates.specs.Counting.{spilled_count}
+use Rattle.templates.specs.Committing.{kind_at, CommitsAt}
+
+-- no word commits
+record Quiet (items : List SequenceItem) : Type 0 where
+  each : (k : ℕ) → kind_at items k ≡ Never
+
+at_zero : (k : ℕ) (kind : CommitKind) → Never ≡ (if suc k == 0 then kind else Never)
+at_zero k kind = grind (arith, nat_tests)
+
+past_zero : (n m : ℕ) (kind : CommitKind) → m ≡ n + 1 → Never ≡ (if 0 == m then kind else Never)
+past_zero n m kind e = grind (arith, nat_tests)
+
+shift : (k n m : ℕ) (kind : CommitKind) → m ≡ n + 1
+    → (if k == n then kind else Never) ≡ (if suc k == m then kind else Never)
+shift k n m kind e = grind (arith, nat_tests)
+
+first : {w : ItemWord} {kind : CommitKind} {rest : List SequenceItem} → Quiet rest
+    → CommitsAt (record { what = w; commit = kind } ∷ rest) 0 kind
+first {w} {kind} {rest} quiet = record { each = go }
+  where
+    go : (k : ℕ) → kind_at (record { what = w; commit = kind } ∷ rest) k ≡ (if k == 0 then kind else Never)
+    go zero = refl
+    go (suc k) = quiet.each k ∙ at_zero k kind
+
+behind : {w : ItemWord} {rest : List SequenceItem} {n : ℕ} {kind : CommitKind} → CommitsAt rest n kind
+    → CommitsAt (record { what = w; commit = Never } ∷ rest) (n + 1) kind
+behind {w} {rest} {n} {kind} h = record { each = go }
+  where
+    go : (k : ℕ) → kind_at (record { what = w; commit = Never } ∷ rest) k ≡ (if k == n + 1 then kind else Never)
+    go zero = past_zero n (n + 1) kind refl
+    go (suc k) = h.each k ∙ shift k n (n + 1) kind refl
+
+quiet_none : Quiet []
+quiet_none = record { each = λ k. refl }
+
+quiet_more : {w : ItemWord} {rest : List SequenceItem} → Quiet rest → Quiet (record { what = w; commit = Never } ∷ rest)
+quiet_more {w} {rest} h = record { each = go }
+  where
+    go : (k : ℕ) → kind_at (record { what = w; commit = Never } ∷ rest) k ≡ Never
+    go zero = refl
+    go (suc k) = h.each k
+
+quiet_reload : (b : Bool) (n r : ℕ) (rest : List SequenceItem) → Quiet rest → Quiet (reload_by b n r rest)
+quiet_reload true n r rest h = quiet_more h
+quiet_reload false n r rest h = h
+
+quiet_reloads : (x : Scratches) → Quiet (reloads x)
+quiet_reloads x = quiet_reload x.s.spilled 0 x.s.register _ (quiet_reload x.t.spilled 1 x.t.register [] quiet_none)
+
+spill_before : (b : Bool) (i r : ℕ) (rest : List SequenceItem) (n : ℕ) (kind : CommitKind)
+    → CommitsAt rest n kind → CommitsAt (spill_by b i r rest) (n + cond b 1 0) kind
+spill_before true i r rest n kind h = behind h
+spill_before false i r rest n kind h = subst (λ m. CommitsAt rest m kind) (omega arith) h
+
+-- behind the spills of two registers
+spills_before : (x : Scratches) (rest : List SequenceItem) (n : ℕ) → CommitsAt rest n Always
+    → CommitsAt (spill_by x.s.spilled 0 x.s.register (spill_by x.t.spilled 1 x.t.register rest)) (n + spilled_count x) Always
+spills_before x rest n h =
+    subst (λ m. CommitsAt (spill_by x.s.spilled 0 x.s.register (spill_by x.t.spilled 1 x.t.register rest)) m Always)
+    {x = n + cond x.t.spilled 1 0 + cond x.s.spilled 1 0} (omega arith)
+    (spill_before x.s.spilled 0 x.s.register _ (n + cond x.t.spilled 1 0) Always (spill_before x.t.spilled 1 x.t.register rest n Always h))
+
+pub load_commits : (x : Scratches) (kind : LoadKind) (rd rs1 : ℕ) (imm : ℤ)
+    → CommitsAt (load_sequence x kind rd rs1 imm) (8 + spilled_count x) Always
+load_commits x kind rd rs1 imm =
+    spills_before x _ 8 (behind (behind (behind (behind (behind (behind (behind (behind (first (quiet_reloads x))))))))))
+
+pub store_commits : (x : Scratches) (w : Width) (rs1 rs2 : ℕ) (imm : ℤ)
+    → CommitsAt (store_sequence x w rs1 rs2 imm) (7 + spilled_count x) Always
+store_commits x w rs1 rs2 imm =
+    spills_before x _ 7 (behind (behind (behind (behind (behind (behind (behind (first (quiet_reloads x)))))))))
+
+pub one_commits : (w : ItemWord) (kind : CommitKind) → CommitsAt (record { what = w; commit = kind } ∷ []) 0 kind
+one_commits w kind = first quiet_none
+
+pub second_commits : (w v : ItemWord)
+    → CommitsAt (record { what = w; commit = Never } ∷ record { what = v; commit = Always } ∷ []) 1 Always
+second_commits w v = behind (first quiet_none)
+
+pub jump_commits : (b : Bool) (rd next target : ℕ) → CommitsAt (jump_sequence b rd next target) (cond b 1 0) Always
+jump_commits true rd next target = behind (first (quiet_more quiet_none))
+jump_commits false rd next target = one_commits _ Always
+
+pub branch_commits : (b : Bool) (c : Cond) (rs1 rs2 target : ℕ) → CommitsAt (branch_sequence b c rs1 rs2 target) 0 Always
+branch_commits true c rs1 rs2 target = first (quiet_more quiet_none)
+branch_commits false c rs1 rs2 target = one_commits _ Always
+
+pub ruleset all_commits = (load_commits, store_commits, one_commits, second_commits, jump_commits, branch_commits)

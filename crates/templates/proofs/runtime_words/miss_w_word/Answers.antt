@@ -1,0 +1,7 @@
+use Rattle.templates.proofs.ReadingLemmas.{reads_miss_w}
+use Rattle.templates.proofs.runtime_words.miss_w_word.Goals as goal
+
+pub returns : goal.returns
+returns c =
+    let h = c.custom_0_word.ensures in
+    reads_miss_w c.custom_0_word.result c.logarithm.result c.args.rs1 c.args.imm c.args.width h.opcode h.funct3 h.rd h.rs1 h.imm c.logarithm.ensures.value

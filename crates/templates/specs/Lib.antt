@@ -1,0 +1,11 @@
+pub mod RuntimeWords
+pub mod Code
+pub mod Places
+pub mod Plans
+pub mod Sequences
+pub mod Expansion
+pub mod Commits
+pub mod Writing
+pub mod Committing
+pub mod Counting
+pub mod Candidates

@@ -1,0 +1,50 @@
+-- The words of rewritten code: native instructions, and runtime words in the opcodes custom-0 and
+-- custom-1 (RISC-V Unprivileged ISA, "RV32/64G Instruction Set Listings": RISC-V base opcode map).
+use Rattle.std.specs.Prelude.{ℕ, ◌==◌, if◌then◌else◌, Option, Some, None}
+use Rattle.std.specs.Option.{option_map}
+use Rattle.rv32_decode.specs.Fields.{field, imm_i}
+use Rattle.rv32_decode.specs.Rows.{instruction_of}
+use Rattle.rv32_decode.specs.declared.Width.{Width}
+use Rattle.rv32_decode.specs.declared.Width.TheVariants.{Byte, Half, Word}
+use Rattle.templates.specs.declared.runtime_words.RtWord.{RtWord}
+use Rattle.templates.specs.declared.runtime_words.RtWord.TheVariants.{Native, MissR, MissW, Call, Xjalr, TrapFetch, TrapOff, TrapIllegal, TrapEbreak}
+
+-- the width of which this is the logarithm
+abbrev pub width_of_log : ℕ → Option Width
+width_of_log n =
+    if n == 0 then Some Byte
+    else (if n == 1 then Some Half else (if n == 2 then Some Word else None))
+
+-- miss.r and miss.w have format I, with the logarithm of the width in the place of rd
+abbrev pub miss_r_of : ℕ → Option RtWord
+miss_r_of word =
+    option_map (λ w. MissR w (field word 15 5) (imm_i word)) (width_of_log (field word 7 5))
+
+abbrev pub miss_w_of : ℕ → Option RtWord
+miss_w_of word =
+    option_map (λ w. MissW w (field word 15 5) (imm_i word)) (width_of_log (field word 7 5))
+
+-- the runtime words of custom-0, by funct3: miss.r 0, miss.w 1, call 3, xjalr 4
+abbrev pub custom_0 : ℕ → ℕ → Option RtWord
+custom_0 word funct3 =
+    if funct3 == 0 then miss_r_of word
+    else (if funct3 == 1 then miss_w_of word
+    else (if word == 0x300b then Some Call
+    else (if funct3 == 4
+    then Some (Xjalr (field word 7 5) (field word 15 5) (imm_i word))
+    else None)))
+
+-- the runtime words of custom-1, whose other fields are zero
+abbrev pub custom_1 : ℕ → Option RtWord
+custom_1 word =
+    if word == 0x2b then Some TrapFetch
+    else (if word == 0x102b then Some TrapOff
+    else (if word == 0x202b then Some TrapIllegal
+    else (if word == 0x302b then Some TrapEbreak else None)))
+
+-- what a word is in rewritten code; None where it is no word of it
+unfoldable pub read_word : ℕ → Option RtWord
+read_word word =
+    if field word 0 7 == 0x0b then custom_0 word (field word 12 3)
+    else (if field word 0 7 == 0x2b then custom_1 word
+    else option_map Native (instruction_of word))

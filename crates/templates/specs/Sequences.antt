@@ -1,0 +1,165 @@
+-- The templates: the sequence of words that stands for each place.
+use Rattle.std.specs.Prelude.{ℕ, ℤ, pos, ◌+◌, ◌-◌, ◌*◌, ◌/◌, ◌%◌, ◌^◌, Bool, true, false, ◌==◌, List, [], ◌∷◌, Option, Some, None}
+use Rattle.rv32_decode.specs.Fields.{signed}
+use Rattle.rv32_decode.specs.Widths.{width_of}
+use Rattle.rv32_decode.specs.declared.Cond.{Cond}
+use Rattle.rv32_decode.specs.declared.Cond.TheVariants.{Eq, Ne, Lt, Ge, Ltu, Geu}
+use Rattle.rv32_decode.specs.declared.LoadKind.{LoadKind}
+use Rattle.rv32_decode.specs.declared.LoadKind.TheVariants as load_kind
+use Rattle.rv32_decode.specs.declared.Width.{Width}
+use Rattle.rv32_decode.specs.declared.Width.TheVariants.{Word}
+use Rattle.rv32_decode.specs.declared.Op.TheVariants as op
+use Rattle.rv32_decode.specs.declared.ImmOp.TheVariants as imm_op
+use Rattle.rv32_decode.specs.declared.ShiftOp.TheVariants as shift_op
+use Rattle.rv32_decode.specs.declared.Instr.{Instr}
+use Rattle.rv32_decode.specs.declared.Instr.TheVariants.{Lui, Auipc, Jal, Jalr, Branch, Load, Store, OpImm, ShiftImm, Op, Ecall, Ebreak, Illegal}
+use Rattle.rv32_program.specs.Targets.{offset_address}
+use Rattle.templates.specs.declared.runtime_words.RtWord.{RtWord}
+use Rattle.templates.specs.declared.runtime_words.RtWord.TheVariants.{Native, MissR, MissW, Call, Xjalr, TrapFetch, TrapIllegal, TrapEbreak}
+use Rattle.templates.specs.declared.commits.CommitKind.{CommitKind}
+use Rattle.templates.specs.declared.commits.CommitKind.TheVariants.{Never, Always, IfNoWait}
+use Rattle.templates.specs.declared.plans.Scratch.{Scratch}
+use Rattle.templates.specs.declared.plans.Scratches.{Scratches}
+use Rattle.templates.specs.declared.plans.PlanEntry.{PlanEntry}
+
+-- a word of a sequence: a word that is executed, or a jump to a place, there to the head of its
+-- sequences or to its single sequence
+pub data ItemWord : Type 0 where
+  Runs : (what : RtWord) → ItemWord
+  GoesTo : (place : ℕ) (head : Bool) → ItemWord
+
+-- a word of a sequence, and when it commits a step of the original
+pub record SequenceItem : Type 0 where
+  pub what : ItemWord
+  pub commit : CommitKind
+
+-- a word of this kind of commit, before the rest
+abbrev pub with_word : CommitKind → RtWord → List SequenceItem → List SequenceItem
+with_word kind w rest = record { what = Runs w; commit = kind } ∷ rest
+
+-- a word that commits
+abbrev pub committing : RtWord → List SequenceItem → List SequenceItem
+committing w rest = with_word Always w rest
+
+-- a runtime word that doesn't commit
+abbrev pub checking : RtWord → List SequenceItem → List SequenceItem
+checking w rest = with_word Never w rest
+
+-- a native word that doesn't commit
+abbrev pub own : Instr → List SequenceItem → List SequenceItem
+own i rest = checking (Native i) rest
+
+-- a jump to the head of a place
+abbrev pub to_head : ℕ → List SequenceItem
+to_head place = record { what = GoesTo place true; commit = Never } ∷ []
+
+-- the two instructions that put a number into a register
+abbrev pub upper_part : ℕ → ℕ
+upper_part number = (number + 0x800) / 2 ^ 12 % 2 ^ 20
+
+abbrev pub lower_part : ℕ → ℤ
+lower_part number = signed 12 (number % 2 ^ 12)
+
+abbrev pub constant : ℕ → ℕ → List SequenceItem → List SequenceItem
+constant rd number rest =
+    own (Lui rd (upper_part number))
+    (committing (Native (OpImm imm_op.Add rd rd (lower_part number))) rest)
+
+abbrev pub inverse : Cond → Cond
+inverse Eq = Ne
+inverse Ne = Eq
+inverse Lt = Ge
+inverse Ge = Lt
+inverse Ltu = Geu
+inverse Geu = Ltu
+
+-- the spill words, at -4, -8 and -12
+abbrev pub spill_offset : ℕ → ℤ
+spill_offset k = signed 12 (2 ^ 12 - 4 - 4 * k)
+
+-- a spilled register goes to spill word k
+abbrev pub spill_by : Bool → ℕ → ℕ → List SequenceItem → List SequenceItem
+spill_by true k r rest = own (Store Word 0 r (spill_offset k)) rest
+spill_by false k r rest = rest
+
+abbrev pub spill : ℕ → Scratch → List SequenceItem → List SequenceItem
+spill k x rest = spill_by x.spilled k x.register rest
+
+-- and comes back
+abbrev pub reload_by : Bool → ℕ → ℕ → List SequenceItem → List SequenceItem
+reload_by true k r rest = own (Load load_kind.Word r 0 (spill_offset k)) rest
+reload_by false k r rest = rest
+
+abbrev pub reload : ℕ → Scratch → List SequenceItem → List SequenceItem
+reload k x rest = reload_by x.spilled k x.register rest
+
+-- the registers s and t are spilled first, and come back last
+abbrev pub spills : Scratches → List SequenceItem → List SequenceItem
+spills x rest = spill 0 x.s (spill 1 x.t rest)
+
+abbrev pub reloads : Scratches → List SequenceItem
+reloads x = reload 0 x.s (reload 1 x.t [])
+
+-- the state byte of the line of an address, in s: the state table is at 0x80000000, a byte for each
+-- line of 64 bytes
+abbrev pub state_look : Scratches → ℕ → ℤ → List SequenceItem → List SequenceItem
+state_look x rs1 imm rest =
+    own (OpImm imm_op.Add x.s.register rs1 imm)
+    (own (Lui x.t.register 0x80000)
+    (own (ShiftImm shift_op.Srl x.s.register x.s.register 6)
+    (own (Op op.Add x.s.register x.s.register x.t.register)
+    (own (Load load_kind.ByteU x.s.register x.s.register (pos 0)) rest))))
+
+-- a load whose line's state is tested: the second bit of the state byte is set where the line isn't
+-- readable
+abbrev pub load_sequence : Scratches → LoadKind → ℕ → ℕ → ℤ → List SequenceItem
+load_sequence x k rd rs1 imm =
+    spills x (state_look x rs1 imm
+    (own (OpImm imm_op.And x.s.register x.s.register (pos 2))
+    (own (Branch Eq x.s.register 0 (pos 8))
+    (checking (MissR (width_of k) rs1 imm)
+    (committing (Native (Load k rd rs1 imm)) (reloads x))))))
+
+-- a store whose line's state is tested: the state byte is 0 where the line is writable
+abbrev pub store_sequence : Scratches → Width → ℕ → ℕ → ℤ → List SequenceItem
+store_sequence x w rs1 rs2 imm =
+    spills x (state_look x rs1 imm
+    (own (Branch Eq x.s.register 0 (pos 8))
+    (checking (MissW w rs1 imm)
+    (committing (Native (Store w rs1 rs2 imm)) (reloads x)))))
+
+-- a branch past the jump where the original isn't taken; or one that ends the processor where it is
+abbrev pub branch_sequence : Bool → Cond → ℕ → ℕ → ℕ → List SequenceItem
+branch_sequence true c rs1 rs2 target =
+    committing (Native (Branch (inverse c) rs1 rs2 (pos 8))) (to_head target)
+branch_sequence false c rs1 rs2 target = committing (Native (Branch c rs1 rs2 (pos 2))) []
+
+-- the register gets the next original address; or the processor is ended
+abbrev pub jump_sequence : Bool → ℕ → ℕ → ℕ → List SequenceItem
+jump_sequence true rd next target = constant rd next (to_head target)
+jump_sequence false rd next target = committing (Native (Jal 0 (pos 2))) []
+
+abbrev pub is_multiple_of_four : ℕ → Bool
+is_multiple_of_four a = a % 4 == 0
+
+-- the single sequence of an instruction at a, with these scratch registers
+abbrev pub instruction_items : ℕ → Scratches → Instr → List SequenceItem
+instruction_items a x (Auipc rd upper) = constant rd ((a + upper * 2 ^ 12) % 2 ^ 32) []
+instruction_items a x (Jal rd offset) =
+    jump_sequence (is_multiple_of_four (offset_address a offset)) rd ((a + 4) % 2 ^ 32)
+    (offset_address a offset)
+instruction_items a x (Jalr rd rs1 imm) = committing (Xjalr rd rs1 imm) []
+instruction_items a x (Branch c rs1 rs2 offset) =
+    branch_sequence (is_multiple_of_four (offset_address a offset)) c rs1 rs2
+    (offset_address a offset)
+instruction_items a x (Load k rd rs1 imm) = load_sequence x k rd rs1 imm
+instruction_items a x (Store w rs1 rs2 imm) = store_sequence x w rs1 rs2 imm
+instruction_items a x Ecall = with_word IfNoWait Call []
+instruction_items a x Ebreak = committing TrapEbreak []
+instruction_items a x (Illegal word) = committing TrapIllegal []
+instruction_items a x i = committing (Native i) []
+
+-- the single sequence of a place: of a stop, or of a code word's instruction
+abbrev pub items_of : PlanEntry → Option Instr → List SequenceItem
+items_of e None = committing TrapFetch []
+items_of e (Some i) = instruction_items e.address e.single i

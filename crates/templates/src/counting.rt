@@ -1,0 +1,58 @@
+//! How many words a sequence has.
+
+ghost use Rattle.std.specs.Prelude.{◌≡◌, ◌+◌, ◌%◌, ◌≤◌, ℕ, length};
+ghost use Rattle.templates.specs.Counting.{spilled_count, IsJumpLength, IsBranchLength};
+ghost use Rattle.templates.specs.Sequences.{items_of, instruction_items};
+
+use crate::plans::{PlanEntry, Scratches};
+use rv32_decode::Instr;
+
+/// The number of words of a place's single sequence.
+pub fn sequence_length(entry: &PlanEntry, code: Option<Instr>) -> u8
+    ensures value { result ≡ length (items_of entry.now code) }
+    ensures small { result ≤ 13 }
+{
+    match code {
+        None => 1,
+        Some(i) => instruction_length(entry.address, &entry.single, &i),
+    }
+}
+
+/// The number of words of an instruction's sequence.
+fn instruction_length(address: u32, scratches: &Scratches, i: &Instr) -> u8
+    ensures value { result ≡ length (instruction_items address scratches.now i.now) }
+    ensures small { result ≤ 13 }
+{
+    match i {
+        Instr::Auipc { .. } => 2,
+        Instr::Jal { offset, .. } => jump_length(address.wrapping_add(offset.word())),
+        Instr::Branch { offset, .. } => branch_length(address.wrapping_add(offset.word())),
+        Instr::Load { .. } => 9 + 2 * spilled_count(scratches),
+        Instr::Store { .. } => 8 + 2 * spilled_count(scratches),
+        _ => 1,
+    }
+}
+
+/// The number of words of a jump's sequence.
+fn jump_length(target: u32) -> u8
+    ensures value { IsJumpLength target result }
+    ensures small { result ≤ 3 }
+{
+    if target % 4 == 0 { 3 } else { 1 }
+}
+
+/// The number of words of a branch's sequence.
+fn branch_length(target: u32) -> u8
+    ensures value { IsBranchLength target result }
+    ensures small { result ≤ 2 }
+{
+    if target % 4 == 0 { 2 } else { 1 }
+}
+
+/// How many of the registers are spilled.
+pub(crate) fn spilled_count(scratches: &Scratches) -> u8
+    ensures value { result ≡ spilled_count scratches.now }
+    ensures small { result ≤ 2 }
+{
+    u8::from(scratches.s.spilled) + u8::from(scratches.t.spilled)
+}

@@ -1,0 +1,22 @@
+#![tactic(auto)]
+//! The templates of rewritten code: runtime words, places, plans, and the sequence of each place.
+
+ghost use Rattle.std.specs.Prelude.{◌≡◌, ℕ};
+
+pub mod code;
+pub mod commits;
+pub mod counting;
+pub mod places;
+pub mod plans;
+pub mod runtime_words;
+pub mod sequences;
+pub mod words;
+
+pub use code::{Code, CodeWord};
+pub use commits::{CommitKind, commit_at};
+pub use counting::sequence_length;
+pub use places::{Part, Place, list_places};
+pub use plans::{Plan, PlanEntry, Scratch, Scratches, Template, template_of};
+pub use runtime_words::{RtWord, read_word};
+pub use sequences::expand;
+pub use words::{Item, Words, encode_word};

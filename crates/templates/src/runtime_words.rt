@@ -1,0 +1,215 @@
+//! The words of rewritten code: native instructions, and runtime words.
+
+ghost use Rattle.std.specs.Prelude.{◌≡◌, ◌^◌, ◌<◌, ℕ, Some};
+ghost use Rattle.std.specs.Option.{option_map};
+ghost use Rattle.rv32_decode.specs.Rows.{instruction_of};
+ghost use Rattle.rv32_decode.specs.Fields.{field, imm_i, signed};
+ghost use Rattle.templates.specs.RuntimeWords.{read_word, custom_0, custom_1, width_of_log};
+
+use rv32_decode::{Imm12, Instr, Reg, Width, decode};
+
+/// The major opcode custom-0.
+const CUSTOM_0: u32 = 0x0b;
+
+/// The major opcode custom-1.
+const CUSTOM_1: u32 = 0x2b;
+
+/// The word of `Call`.
+pub(crate) const CALL: u32 = 0x300b;
+
+/// The word of `TrapFetch`.
+pub(crate) const TRAP_FETCH: u32 = 0x2b;
+
+/// The word of `TrapOff`.
+pub(crate) const TRAP_OFF: u32 = 0x102b;
+
+/// The word of `TrapIllegal`.
+pub(crate) const TRAP_ILLEGAL: u32 = 0x202b;
+
+/// The word of `TrapEbreak`.
+pub(crate) const TRAP_EBREAK: u32 = 0x302b;
+
+/// A word of rewritten code.
+#[derive(Clone, Copy, Debug, PartialEq, Eq)]
+pub enum RtWord {
+    /// An instruction of the original machine.
+    Native(Instr),
+    /// Looks whether the line of rs1 + imm may be read.
+    MissR { width: Width, rs1: Reg, imm: Imm12 },
+    /// Looks whether the line of rs1 + imm may be written.
+    MissW { width: Width, rs1: Reg, imm: Imm12 },
+    /// One step of an environment call.
+    Call,
+    /// An indirect jump: to rewritten code, with the next original address in rd.
+    Xjalr { rd: Reg, rs1: Reg, imm: Imm12 },
+    /// Ends the processor with `Fetch` at the word's place.
+    TrapFetch,
+    /// Ends the processor with `Fetch` at the address, no place, that it went to.
+    TrapOff,
+    /// Ends the processor with `Illegal` at the word's place.
+    TrapIllegal,
+    /// Ends the processor with `Ebreak` at the word's place.
+    TrapEbreak,
+}
+
+/// What a word is in rewritten code; None where it is no word of it.
+pub fn read_word(word: u32) -> Option<RtWord>
+    ensures { result ≡ read_word word }
+{
+    let opcode = opcode(word);
+    if opcode == CUSTOM_0 {
+        read_custom_0(word)
+    } else if opcode == CUSTOM_1 {
+        read_custom_1(word)
+    } else {
+        read_native(word)
+    }
+}
+
+/// The word of `MissR`.
+pub(crate) fn miss_r_word(width: Width, rs1: Reg, imm: Imm12) -> u32
+    ensures { read_word result ≡ Some (RtWord.MissR width rs1 imm) }
+{
+    custom_0_word(0, logarithm(width), rs1, imm)
+}
+
+/// The word of `MissW`.
+pub(crate) fn miss_w_word(width: Width, rs1: Reg, imm: Imm12) -> u32
+    ensures { read_word result ≡ Some (RtWord.MissW width rs1 imm) }
+{
+    custom_0_word(1, logarithm(width), rs1, imm)
+}
+
+/// The word of `Xjalr`.
+pub(crate) fn xjalr_word(rd: Reg, rs1: Reg, imm: Imm12) -> u32
+    ensures { read_word result ≡ Some (RtWord.Xjalr rd rs1 imm) }
+{
+    custom_0_word(4, u32::from(rd.number()), rs1, imm)
+}
+
+/// The major opcode of a word.
+fn opcode(word: u32) -> u32
+    ensures { result ≡ field word 0 7 }
+{
+    word & 0x7f
+}
+
+/// The instruction of a word.
+fn read_native(word: u32) -> Option<RtWord>
+    ensures { result ≡ option_map RtWord.Native (instruction_of word) }
+{
+    Some(RtWord::Native(decode(word)?))
+}
+
+/// What a word of custom-0 is.
+fn read_custom_0(word: u32) -> Option<RtWord>
+    ensures { result ≡ custom_0 word (field word 12 3) }
+{
+    let rd = register(word, 7);
+    let rs1 = register(word, 15);
+    let imm = immediate(word);
+    match (word >> 12) & 7 {
+        0 => Some(RtWord::MissR {
+            width: width_of(rd.number())?,
+            rs1,
+            imm,
+        }),
+        1 => Some(RtWord::MissW {
+            width: width_of(rd.number())?,
+            rs1,
+            imm,
+        }),
+        _ if word == CALL => Some(RtWord::Call),
+        4 => Some(RtWord::Xjalr { rd, rs1, imm }),
+        _ => None,
+    }
+}
+
+/// What a word of custom-1 is.
+fn read_custom_1(word: u32) -> Option<RtWord>
+    ensures { result ≡ custom_1 word }
+{
+    match word {
+        TRAP_FETCH => Some(RtWord::TrapFetch),
+        TRAP_OFF => Some(RtWord::TrapOff),
+        TRAP_ILLEGAL => Some(RtWord::TrapIllegal),
+        TRAP_EBREAK => Some(RtWord::TrapEbreak),
+        _ => None,
+    }
+}
+
+/// The register that a word names from a place on.
+fn register(word: u32, low: u32) -> Reg
+    requires { low < 28 }
+    ensures { result ≡ field word low 5 }
+{
+    Reg::new(((word >> low) & 0x1f) as u8)
+}
+
+/// The immediate of format I.
+fn immediate(word: u32) -> Imm12
+    ensures { result ≡ imm_i word }
+{
+    imm_of_bits(word >> 20)
+}
+
+/// The number of 12 bits of two's complement.
+pub(crate) fn imm_of_bits(bits: u32) -> Imm12
+    requires { bits < 2 ^ 12 }
+    ensures { result ≡ signed 12 bits }
+{
+    if bits < 0x800 {
+        Imm12::new(bits as i32)
+    } else {
+        Imm12::new(bits as i32 - 0x1000)
+    }
+}
+
+/// The width of which this is the logarithm.
+fn width_of(logarithm: u8) -> Option<Width>
+    ensures { result ≡ width_of_log logarithm }
+{
+    match logarithm {
+        0 => Some(Width::Byte),
+        1 => Some(Width::Half),
+        2 => Some(Width::Word),
+        _ => None,
+    }
+}
+
+/// The logarithm of a width.
+fn logarithm(width: Width) -> u32
+    ensures value { width_of_log result ≡ Some width }
+    ensures small { result < 32 }
+{
+    match width {
+        Width::Byte => 0,
+        Width::Half => 1,
+        Width::Word => 2,
+    }
+}
+
+/// The word of custom-0 with these fields.
+fn custom_0_word(funct3: u32, rd: u32, rs1: Reg, imm: Imm12) -> u32
+    requires funct3 { funct3 < 8 }
+    requires rd { rd < 32 }
+    ensures opcode { field result 0 7 ≡ 0x0b }
+    ensures rd { field result 7 5 ≡ rd }
+    ensures funct3 { field result 12 3 ≡ funct3 }
+    ensures rs1 { field result 15 5 ≡ rs1 }
+    ensures imm { imm_i result ≡ imm }
+{
+    (immediate_bits(imm) << 20)
+        + (u32::from(rs1.number()) << 15)
+        + (funct3 << 12)
+        + (rd << 7)
+        + CUSTOM_0
+}
+
+/// The immediate as 12 bits of two's complement.
+fn immediate_bits(imm: Imm12) -> u32
+    ensures small { result < 2 ^ 12 }
+    ensures again { signed 12 result ≡ imm }
+{
+    imm.value().cast_unsigned() & 0xfff
+}

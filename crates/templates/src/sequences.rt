@@ -1,0 +1,435 @@
+//! The templates: the sequence of each place.
+
+ghost use Rattle.std.specs.Prelude.{◌≡◌, ◌+◌, ◌*◌, ◌%◌, ◌^◌, ◌<◌, ◌≤◌, ◌++◌, ◌∷◌, [], Some, map, length, OnOk, OnErr, pos};
+ghost use Rattle.arrayvec.specs.ArrayVec.{array_vec_len};
+ghost use Rattle.templates.specs.Sequences.{upper_part, lower_part, constant, to_head, spill, spills, reload, reloads, state_look, load_sequence, store_sequence, branch_sequence, jump_sequence, is_multiple_of_four, checking, own, inverse, spill_offset, items_of, instruction_items};
+ghost use Rattle.templates.specs.Expansion.{Appends};
+ghost use Rattle.templates.specs.Writing.{IsWritten, IsLonger, jump_items, branch_items};
+
+use crate::plans::{PlanEntry, Scratch, Scratches};
+use crate::runtime_words::{RtWord, imm_of_bits};
+use crate::words::{Item, Words, encode_word};
+use arrayvec::ArrayVec;
+use rv32_decode::{
+    Amount, BranchOffset, Cond, Imm12, ImmOp, Instr, JumpOffset, LoadKind, Op, Reg, ShiftOp, Upper,
+    Width,
+};
+use std::alloc::AllocError;
+
+/// Appends the single sequence of a place: of a stop, or of a code word's instruction.
+///
+/// Where memory is lacking, `out` is as before.
+pub fn expand(entry: &PlanEntry, code: Option<Instr>, out: &mut Words) -> Result<(), AllocError>
+    ensures ok { OnOk result (Appends out.old out.new (items_of entry.now code)) }
+    ensures err { OnErr result (out.new ≡ out.old) }
+    ensures short { length (items_of entry.now code) ≤ 13 }
+{
+    let mut sequence = ArrayVec::new();
+    push_sequence(&mut sequence, entry, code);
+    out.extend(sequence.as_slice())?;
+    Ok(())
+}
+
+/// Appends the sequence of a place to an empty one.
+fn push_sequence(sequence: &mut ArrayVec<Item, 13>, entry: &PlanEntry, code: Option<Instr>)
+    requires empty { sequence.old.items ≡ [] }
+    ensures words { IsWritten sequence.new.items (items_of entry.now code) }
+{
+    match code {
+        None => push(sequence, RtWord::TrapFetch),
+        Some(i) => push_instruction(sequence, entry.address, &entry.single, &i),
+    }
+}
+
+/// Appends the sequence of an instruction to an empty one.
+fn push_instruction(
+    sequence: &mut ArrayVec<Item, 13>,
+    address: u32,
+    scratches: &Scratches,
+    i: &Instr,
+)
+    requires empty { sequence.old.items ≡ [] }
+    ensures words { IsWritten sequence.new.items (instruction_items address scratches.now i.now) }
+{
+    match i {
+        Instr::Auipc { rd, upper } => {
+            push_constant(sequence, *rd, address.wrapping_add(upper.value() << 12));
+        }
+        Instr::Jal { rd, offset } => {
+            push_jump(
+                sequence,
+                *rd,
+                address.wrapping_add(4),
+                address.wrapping_add(offset.word()),
+            );
+        }
+        Instr::Jalr { rd, rs1, imm } => {
+            push(
+                sequence,
+                RtWord::Xjalr {
+                    rd: *rd,
+                    rs1: *rs1,
+                    imm: *imm,
+                },
+            );
+        }
+        Instr::Branch {
+            cond,
+            rs1,
+            rs2,
+            offset,
+        } => {
+            push_branch(
+                sequence,
+                *cond,
+                *rs1,
+                *rs2,
+                address.wrapping_add(offset.word()),
+            );
+        }
+        Instr::Load { kind, rd, rs1, imm } => {
+            push_load(sequence, scratches, *kind, *rd, *rs1, *imm);
+        }
+        Instr::Store {
+            width,
+            rs1,
+            rs2,
+            imm,
+        } => push_store(sequence, scratches, *width, *rs1, *rs2, *imm),
+        Instr::Ecall => push(sequence, RtWord::Call),
+        Instr::Ebreak => push(sequence, RtWord::TrapEbreak),
+        Instr::Illegal { .. } => push(sequence, RtWord::TrapIllegal),
+        Instr::Lui { .. }
+        | Instr::OpImm { .. }
+        | Instr::ShiftImm { .. }
+        | Instr::Op { .. }
+        | Instr::Fence { .. }
+        | Instr::Lr { .. }
+        | Instr::Sc { .. }
+        | Instr::Amo { .. } => push_native(sequence, *i),
+    }
+}
+
+/// Appends a load whose line's state is tested.
+fn push_load(
+    sequence: &mut ArrayVec<Item, 13>,
+    scratches: &Scratches,
+    kind: LoadKind,
+    rd: Reg,
+    rs1: Reg,
+    imm: Imm12,
+)
+    requires empty { sequence.old.items ≡ [] }
+    ensures words { IsWritten sequence.new.items (load_sequence scratches.now kind rd rs1 imm) }
+{
+    let s = scratches.s.register;
+    push_spills(sequence, scratches);
+    push_state_look(sequence, scratches, rs1, imm);
+    push_native(
+        sequence,
+        Instr::OpImm {
+            op: ImmOp::And,
+            rd: s,
+            rs1: s,
+            imm: Imm12::new(2),
+        },
+    );
+    push_native(sequence, branch_past_miss(s));
+    push(
+        sequence,
+        RtWord::MissR {
+            width: kind.width(),
+            rs1,
+            imm,
+        },
+    );
+    push_native(sequence, Instr::Load { kind, rd, rs1, imm });
+    push_reloads(sequence, scratches);
+}
+
+/// Appends a store whose line's state is tested.
+fn push_store(
+    sequence: &mut ArrayVec<Item, 13>,
+    scratches: &Scratches,
+    width: Width,
+    rs1: Reg,
+    rs2: Reg,
+    imm: Imm12,
+)
+    requires empty { sequence.old.items ≡ [] }
+    ensures words { IsWritten sequence.new.items (store_sequence scratches.now width rs1 rs2 imm) }
+{
+    push_spills(sequence, scratches);
+    push_state_look(sequence, scratches, rs1, imm);
+    push_native(sequence, branch_past_miss(scratches.s.register));
+    push(sequence, RtWord::MissW { width, rs1, imm });
+    push_native(
+        sequence,
+        Instr::Store {
+            width,
+            rs1,
+            rs2,
+            imm,
+        },
+    );
+    push_reloads(sequence, scratches);
+}
+
+/// Appends the spills of s and t.
+fn push_spills(sequence: &mut ArrayVec<Item, 13>, scratches: &Scratches)
+    requires room { array_vec_len sequence.old ≤ 11 }
+    ensures words { IsLonger sequence.old.items sequence.new.items (spills scratches.now []) }
+    ensures count { array_vec_len sequence.new ≤ array_vec_len sequence.old + 2 }
+{
+    push_spill(sequence, 0, scratches.s);
+    push_spill(sequence, 1, scratches.t);
+}
+
+/// Appends the reloads of s and t.
+fn push_reloads(sequence: &mut ArrayVec<Item, 13>, scratches: &Scratches)
+    requires room { array_vec_len sequence.old ≤ 11 }
+    ensures words { IsLonger sequence.old.items sequence.new.items (reloads scratches.now) }
+{
+    push_reload(sequence, 0, scratches.s);
+    push_reload(sequence, 1, scratches.t);
+}
+
+/// Appends the spill of a register to a spill word, where it is spilled.
+fn push_spill(sequence: &mut ArrayVec<Item, 13>, word: u8, scratch: Scratch)
+    requires room { array_vec_len sequence.old < 13 }
+    requires word { word < 3 }
+    ensures words { IsLonger sequence.old.items sequence.new.items (spill word scratch []) }
+    ensures count { array_vec_len sequence.new ≤ array_vec_len sequence.old + 1 }
+{
+    if scratch.spilled {
+        push_native(
+            sequence,
+            Instr::Store {
+                width: Width::Word,
+                rs1: Reg::ZERO,
+                rs2: scratch.register,
+                imm: spill_offset(word),
+            },
+        );
+    }
+}
+
+/// Appends the reload of a register from a spill word, where it is spilled.
+fn push_reload(sequence: &mut ArrayVec<Item, 13>, word: u8, scratch: Scratch)
+    requires room { array_vec_len sequence.old < 13 }
+    requires word { word < 3 }
+    ensures words { IsLonger sequence.old.items sequence.new.items (reload word scratch []) }
+    ensures count { array_vec_len sequence.new ≤ array_vec_len sequence.old + 1 }
+{
+    if scratch.spilled {
+        push_native(
+            sequence,
+            Instr::Load {
+                kind: LoadKind::Word,
+                rd: scratch.register,
+                rs1: Reg::ZERO,
+                imm: spill_offset(word),
+            },
+        );
+    }
+}
+
+/// Where a spill word stands: -4, -8 or -12.
+fn spill_offset(word: u8) -> Imm12
+    requires small { word < 3 }
+    ensures value { result ≡ spill_offset word }
+{
+    Imm12::new(-4 - 4 * i32::from(word))
+}
+
+/// Appends what reads the state byte of an address's line into s.
+fn push_state_look(sequence: &mut ArrayVec<Item, 13>, scratches: &Scratches, rs1: Reg, imm: Imm12)
+    requires room { array_vec_len sequence.old ≤ 8 }
+    ensures words { let x = scratches.now in
+        IsLonger sequence.old.items sequence.new.items (state_look x rs1 imm []) }
+    ensures count { array_vec_len sequence.new ≡ array_vec_len sequence.old + 5 }
+{
+    let s = scratches.s.register;
+    let t = scratches.t.register;
+    push_native(
+        sequence,
+        Instr::OpImm {
+            op: ImmOp::Add,
+            rd: s,
+            rs1,
+            imm,
+        },
+    );
+    push_native(
+        sequence,
+        Instr::Lui {
+            rd: t,
+            upper: Upper::new(0x8_0000),
+        },
+    );
+    push_native(
+        sequence,
+        Instr::ShiftImm {
+            op: ShiftOp::Srl,
+            rd: s,
+            rs1: s,
+            amount: Amount::new(6),
+        },
+    );
+    push_native(
+        sequence,
+        Instr::Op {
+            op: Op::Add,
+            rd: s,
+            rs1: s,
+            rs2: t,
+        },
+    );
+    push_native(
+        sequence,
+        Instr::Load {
+            kind: LoadKind::ByteU,
+            rd: s,
+            rs1: s,
+            imm: Imm12::new(0),
+        },
+    );
+}
+
+/// Appends the two instructions that put a number into a register.
+fn push_constant(sequence: &mut ArrayVec<Item, 13>, rd: Reg, number: u32)
+    requires empty { sequence.old.items ≡ [] }
+    ensures words { IsWritten sequence.new.items (constant rd number []) }
+    ensures count { array_vec_len sequence.new ≡ 2 }
+{
+    push_native(
+        sequence,
+        Instr::Lui {
+            rd,
+            upper: upper_part(number),
+        },
+    );
+    push_native(
+        sequence,
+        Instr::OpImm {
+            op: ImmOp::Add,
+            rd,
+            rs1: rd,
+            imm: lower_part(number),
+        },
+    );
+}
+
+/// Appends a jump that puts the next original address into rd, or one that ends the processor.
+fn push_jump(sequence: &mut ArrayVec<Item, 13>, rd: Reg, next: u32, target: u32)
+    requires empty { sequence.old.items ≡ [] }
+    ensures words { IsWritten sequence.new.items (jump_items rd next target) }
+{
+    if target % 4 == 0 {
+        push_constant(sequence, rd, next);
+        push_to_head(sequence, target);
+    } else {
+        push_native(
+            sequence,
+            Instr::Jal {
+                rd: Reg::ZERO,
+                offset: JumpOffset::new(2),
+            },
+        );
+    }
+}
+
+/// Appends a branch past a jump where the original isn't taken, or one that ends the processor.
+fn push_branch(sequence: &mut ArrayVec<Item, 13>, cond: Cond, rs1: Reg, rs2: Reg, target: u32)
+    requires empty { sequence.old.items ≡ [] }
+    ensures words { IsWritten sequence.new.items (branch_items cond rs1 rs2 target) }
+{
+    if target % 4 == 0 {
+        push_native(
+            sequence,
+            Instr::Branch {
+                cond: inverse(cond),
+                rs1,
+                rs2,
+                offset: BranchOffset::new(8),
+            },
+        );
+        push_to_head(sequence, target);
+    } else {
+        push_native(
+            sequence,
+            Instr::Branch {
+                cond,
+                rs1,
+                rs2,
+                offset: BranchOffset::new(2),
+            },
+        );
+    }
+}
+
+/// Appends an instruction of the original machine.
+fn push_native(sequence: &mut ArrayVec<Item, 13>, i: Instr)
+    requires room { array_vec_len sequence.old < 13 }
+    ensures words { IsLonger sequence.old.items sequence.new.items (own i []) }
+    ensures count { array_vec_len sequence.new ≡ array_vec_len sequence.old + 1 }
+{
+    push(sequence, RtWord::Native(i));
+}
+
+/// Appends a word that is executed.
+fn push(sequence: &mut ArrayVec<Item, 13>, what: RtWord)
+    requires room { array_vec_len sequence.old < 13 }
+    ensures words { IsLonger sequence.old.items sequence.new.items (checking what []) }
+    ensures count { array_vec_len sequence.new ≡ array_vec_len sequence.old + 1 }
+{
+    sequence.push(Item::Fixed(encode_word(what)));
+}
+
+/// Appends a jump to the head of a place.
+fn push_to_head(sequence: &mut ArrayVec<Item, 13>, place: u32)
+    requires room { array_vec_len sequence.old < 13 }
+    ensures words { IsLonger sequence.old.items sequence.new.items (to_head place) }
+{
+    sequence.push(Item::Jump { place, head: true });
+}
+
+/// Branches past the next word where s is 0.
+fn branch_past_miss(s: Reg) -> Instr
+    ensures { result ≡ Instr.Branch Cond.Eq s 0 (pos 8) }
+{
+    Instr::Branch {
+        cond: Cond::Eq,
+        rs1: s,
+        rs2: Reg::ZERO,
+        offset: BranchOffset::new(8),
+    }
+}
+
+/// The condition that holds where this one doesn't.
+fn inverse(cond: Cond) -> Cond
+    ensures { result ≡ inverse cond }
+{
+    match cond {
+        Cond::Eq => Cond::Ne,
+        Cond::Ne => Cond::Eq,
+        Cond::Lt => Cond::Ge,
+        Cond::Ge => Cond::Lt,
+        Cond::Ltu => Cond::Geu,
+        Cond::Geu => Cond::Ltu,
+    }
+}
+
+/// The upper 20 bits of a number, for a lower part that is added.
+fn upper_part(number: u32) -> Upper
+    ensures { result ≡ upper_part number }
+{
+    Upper::new(((u64::from(number) + 0x800) / 0x1000 % 0x10_0000) as u32)
+}
+
+/// The lower 12 bits of a number, as two's complement.
+fn lower_part(number: u32) -> Imm12
+    ensures { result ≡ lower_part number }
+{
+    imm_of_bits(number % 0x1000)
+}

@@ -1,0 +1,110 @@
+//! The words of sequences before jumps have their distances.
+
+ghost use Rattle.std.specs.Prelude.{◌≡◌, ◌<◌, ◌≤◌, ◌++◌, ◌∷◌, [], length, slice_get, Some, OnOk, OnErr};
+ghost use Rattle.templates.specs.RuntimeWords.{read_word};
+
+use crate::runtime_words::{
+    CALL, RtWord, TRAP_EBREAK, TRAP_FETCH, TRAP_ILLEGAL, TRAP_OFF, miss_r_word, miss_w_word,
+    xjalr_word,
+};
+use rv32_decode::{Instr, encode};
+use std::alloc::{AllocError, Global};
+use std::marker::Model;
+
+/// A word of a sequence.
+#[derive(Clone, Copy, Debug, PartialEq, Eq)]
+pub enum Item {
+    /// A word as it stands in the image.
+    Fixed(u32),
+    /// A jump to a place: to the head of its sequences, or to its single sequence.
+    Jump { place: u32, head: bool },
+}
+
+impl Default for Item {
+    fn default() -> Item
+        ensures value { result ≡ Item.Fixed 0 }
+    {
+        Item::Fixed(0)
+    }
+}
+
+/// The words of sequences, one behind another. Contracts see their list.
+#[derive(Drop)]
+pub struct Words {
+    items: Vec<Item>,
+}
+
+impl Model for Words {
+    ghost use Rattle.std.specs.Prelude.{List};
+    ghost use Rattle.templates.specs.declared.words.Item.{Item};
+
+    ghost Value = { List Item };
+
+    ghost view = { λ w. w.items.items };
+}
+
+impl Words {
+    /// No word as yet.
+    pub fn new(alloc: Global) -> Words
+        ensures value { result ≡ [] }
+    {
+        Words {
+            items: Vec::new(alloc),
+        }
+    }
+
+    /// The number of words.
+    pub fn len(&self) -> usize
+        ensures value { result ≡ length self.now }
+    {
+        self.items.len()
+    }
+
+    /// The word of a number.
+    pub fn get(&self, k: usize) -> Item
+        requires within { k < length self.now }
+        ensures value { slice_get self.now k ≡ Some result }
+    {
+        self.items[k]
+    }
+
+    /// The words, in order.
+    pub fn items(&self) -> &[Item]
+        ensures value { result.now ≡ self.now }
+    {
+        &self.items
+    }
+
+    /// Drops all words, and keeps their memory.
+    pub fn clear(&mut self)
+        ensures value { self.new ≡ [] }
+    {
+        self.items.clear();
+    }
+
+    /// Appends words.
+    pub(crate) fn extend(&mut self, items: &[Item]) -> Result<(), AllocError>
+        ensures ok { OnOk result (self.new ≡ self.old ++ items.now) }
+        ensures err { OnErr result (self.new ≡ self.old) }
+    {
+        self.items.extend_from_slice(items)?;
+        Ok(())
+    }
+}
+
+/// The word that reads as this one.
+pub fn encode_word(what: RtWord) -> u32
+    ensures again { read_word result ≡ Some what }
+{
+    match what {
+        RtWord::Native(i) => encode(i),
+        RtWord::MissR { width, rs1, imm } => miss_r_word(width, rs1, imm),
+        RtWord::MissW { width, rs1, imm } => miss_w_word(width, rs1, imm),
+        RtWord::Call => CALL,
+        RtWord::Xjalr { rd, rs1, imm } => xjalr_word(rd, rs1, imm),
+        RtWord::TrapFetch => TRAP_FETCH,
+        RtWord::TrapOff => TRAP_OFF,
+        RtWord::TrapIllegal => TRAP_ILLEGAL,
+        RtWord::TrapEbreak => TRAP_EBREAK,
+    }
+}
