@@ -1,1 +1,3 @@
-mod ByteLemmas
+mod StepLemmas
+mod MemoryLemmas
+pub mod NodeLemmas

@@ -1,29 +1,36 @@
--- One node: what belongs to its processor, what belongs to the node, and what executing one word does.
-use Rattle.std.specs.Prelude.{ℕ, ◌+◌, ◌-◌, ◌*◌, ◌/◌, ◌%◌, ◌^◌, Bool, not, if◌then◌else◌, ◌==◌, ◌||◌, nat_lt, bit_and, List, Option, Some, None, unwrap_or}
+-- One node: what belongs to its processor, what the words see of the node, and what executing one
+-- word does.
+use Rattle.std.specs.Prelude.{ℕ, ◌+◌, ◌-◌, ◌*◌, ◌/◌, ◌%◌, ◌^◌, Bool, true, false, not, if◌then◌else◌, ◌==◌, ◌||◌, nat_lt, bit_and, List, [], Option, Some, None, unwrap_or}
 use Rattle.std.specs.Option.{option_map_or}
-use Rattle.rv32_model.specs.declared.Class.{Class}
-use Rattle.rv32_model.specs.declared.Class.TheVariants.{Shared, ReadOnly, Private, Unmapped}
-use Rattle.rv32_model.specs.declared.Exit.{Exit}
-use Rattle.rv32_model.specs.declared.Exit.TheVariants.{Code, Ebreak, Illegal, Misaligned, Access as NoAccess, Fetch}
-use Rattle.rv32_model.specs.declared.End.{End}
-use Rattle.rv32_model.specs.declared.End.TheVariants.{Exited, Stopped}
-use Rattle.rv32_model.specs.declared.Demand.{Demand}
-use Rattle.rv32_model.specs.declared.Demand.TheVariants.{Sets, Continues, Jumps, Branches, Loads, Stores, Calls, Traps, Unsupported}
-use Rattle.rv32_model.specs.declared.CallStep.{CallStep}
-use Rattle.rv32_model.specs.declared.CallStep.TheVariants.{Ends, Returns, Puts}
+use Rattle.rv32_decode.specs.Widths.{width_of, is_aligned}
 use Rattle.rv32_decode.specs.declared.LoadKind.{LoadKind}
 use Rattle.rv32_decode.specs.declared.LoadKind.TheVariants.{ByteU}
 use Rattle.rv32_decode.specs.declared.Width.{Width}
-use Rattle.rv32_model.specs.Registers.{reg, put, registers_of, first_values}
-use Rattle.rv32_model.specs.Effect.{effect, displaced, call_step, cut_short}
-use Rattle.rv32_model.specs.Memory.{width_of, is_aligned, load_value, stored, byte_by, shared_after, private_after}
-use Rattle.rv32_model.specs.Program.{Program, line_of, class_at}
-use Rattle.rv32_model.specs.OneMemory.{Access, Nothing, Reads, Writes, next_pc}
-use Rattle.rewriter.specs.declared.templates.RtWord.{RtWord}
-use Rattle.rewriter.specs.declared.templates.RtWord.TheVariants.{Native, MissR, MissW, Call, Xjalr, TrapFetch, TrapOff, TrapIllegal, TrapEbreak}
-use Rattle.rewriter.specs.declared.templates.Place.{Place}
-use Rattle.rewriter.specs.declared.jump_map.Fetched.{Fetched}
-use Rattle.rewriter.specs.Image.{Cell, fetched, new_of, image_base}
+use Rattle.byte_range.specs.Memory.{stored}
+use Rattle.rv32_program.specs.declared.Class.{Class}
+use Rattle.rv32_program.specs.declared.Class.TheVariants.{Shared, ReadOnly, Private, Unmapped}
+use Rattle.rv32_program.specs.declared.Exit.{Exit}
+use Rattle.rv32_program.specs.declared.Exit.TheVariants.{Code, Ebreak, Illegal, Misaligned, Access as NoAccess, Fetch}
+use Rattle.rv32_program.specs.declared.End.{End}
+use Rattle.rv32_program.specs.declared.End.TheVariants.{Exited, Stopped}
+use Rattle.rv32_program.specs.Program.{Program, line_of, class_at}
+use Rattle.rv32_program.specs.Targets.{offset_address}
+use Rattle.rv32_step.specs.declared.Demand.{Demand}
+use Rattle.rv32_step.specs.declared.Demand.TheVariants.{Sets, Continues, Jumps, Branches, Loads, Stores, Calls, Traps, Unsupported}
+use Rattle.rv32_step.specs.declared.CallStep.{CallStep}
+use Rattle.rv32_step.specs.declared.CallStep.TheVariants.{Ends, Returns, Puts}
+use Rattle.rv32_step.specs.Registers.{reg, put, registers_of, first_values}
+use Rattle.rv32_step.specs.Demands.{demand_of, call_step, cut_short}
+use Rattle.rv32_step.specs.Memory.{load_value, byte_by, shared_after, private_after}
+use Rattle.rv32_step.specs.OneMemory.{Access, Nothing, Reads, Writes, next_pc}
+use Rattle.templates.specs.declared.runtime_words.RtWord.{RtWord}
+use Rattle.templates.specs.declared.runtime_words.RtWord.TheVariants.{Native, MissR, MissW, Call, Xjalr, TrapFetch, TrapOff, TrapIllegal, TrapEbreak}
+use Rattle.templates.specs.declared.places.Place.{Place}
+use Rattle.jump_map.specs.declared.image.ImageWord.{ImageWord}
+use Rattle.jump_map.specs.Image.{Cell, image_base}
+use Rattle.jump_map.specs.Maps.{fetch, new_of}
+use Rattle.node_machine.specs.declared.Need.{Need}
+use Rattle.node_machine.specs.declared.Need.TheVariants.{Read, Write}
 use Rattle.node_machine.specs.declared.NodeCounts.{NodeCounts}
 
 -- what is a processor's own
@@ -40,239 +47,377 @@ pub record Lane : Type 0 where
   -- the three words in which sequences keep registers
   pub spills : ℕ → ℕ
 
--- what is the node's: its copy of the shared bytes, the state byte of each line, and its counts
+-- what words see of their node: its copy of the shared bytes, and the state byte of each line
 pub record Local : Type 0 where
   pub copy : ℕ → ℕ
   pub state : ℕ → ℕ
-  pub counts : NodeCounts
 
--- a node whose processor has executed so many words
-pub record Node : Type 0 where
-  pub lane : Lane
-  pub local : Local
-  pub executed : ℕ
-  pub end : Option End
-
--- the state byte of a line of this class: writable, read-only, or not mapped
+-- the state byte of a line of this class, where the node alone has the shared lines: writable,
+-- read-only, or not mapped
 abbrev pub first_state : Class → ℕ
 first_state Shared = 0
 first_state ReadOnly = 5
 first_state Private = 0
 first_state Unmapped = 7
 
-abbrev pub no_counts : NodeCounts
-no_counts = record { read = 0; exclusive = 0; upgrade = 0; falses = 0; invalidations = 0; fallbacks = 0; messages = 0 }
+-- the state byte says that the line is mapped
+abbrev pub is_mapped_state : ℕ → Bool
+is_mapped_state state = not (state == 7)
 
--- node number me of n at the start
-abbrev pub opening_node : Program → List Cell → ℕ → ℕ → Node
-opening_node program image me n = record {
-  lane = record {
-    registers = registers_of (first_values me n);
-    at = unwrap_or (new_of image program.entry) 0;
-    private = λ _. 0;
-    written = 0;
-    off = 0;
-    spills = λ _. 0;
-  };
-  local = record { copy = program.first; state = λ line. first_state (program.class line); counts = no_counts };
-  executed = 0;
-  end = None;
-}
+-- that it may be read: the second bit is clear
+abbrev pub is_readable_state : ℕ → Bool
+is_readable_state state = bit_and state 2 == 0
 
--- where a processor goes after a word: to the next word, to the same word again, to a word's address, to the sequence
--- of an original address; or it is ended
+-- that it may not be written by anyone
+abbrev pub is_fixed_state : ℕ → Bool
+is_fixed_state state = (state == 5) || (state == 7)
+
+-- that it may be written
+abbrev pub is_writable_state : ℕ → Bool
+is_writable_state state = state == 0
+
+-- what is wanted: that the line of an address may be read, or written
+pub record Want : Type 0 where
+  pub at : ℕ
+  pub need : Need
+
+-- where a processor goes on once it has what its word wanted: behind the word, or at the word again
+pub data Resume : Type 0 where
+  PastWord : Resume
+  SameWord : Resume
+
+-- where a processor goes after a word: to the next word, to the same word again, to a word's
+-- address, to the sequence of an original address; or it waits for blocks; or it is ended
 pub data Move : Type 0 where
   Next : Move
   Again : Move
   To : (address : ℕ) → Move
   Enters : (original : ℕ) → Move
+  Waits : (resume : Resume) (want : Want) (more : List Want) → Move
   Leaves : (exit : Exit) → Move
 
--- what a word leaves, what it accesses, what it prints, and where the processor goes
-pub record Acted : Type 0 where
+-- what a word counts
+pub data Tally : Type 0 where
+  Nothing_counted : Tally
+  FalseMiss : Tally
+
+-- what a word leaves, what it accesses, prints and counts, and where the processor goes
+pub record Outcome : Type 0 where
   pub lane : Lane
   pub local : Local
   pub access : Access
   pub printed : Option ℕ
+  pub tally : Tally
   pub move : Move
 
 -- the processor goes on so, and nothing else happens
-abbrev pub goes : Lane → Local → Move → Acted
-goes l n m = record { lane = l; local = n; access = Nothing; printed = None; move = m }
+abbrev pub go_on : Lane → Local → Move → Outcome
+go_on l n m = record {
+  lane = l;
+  local = n;
+  access = Nothing;
+  printed = None;
+  tally = Nothing_counted;
+  move = m;
+}
 
-abbrev pub exits : Lane → Local → Exit → Acted
-exits l n e = goes l n (Leaves e)
+abbrev pub exit_by : Lane → Local → Exit → Outcome
+exit_by l n e = go_on l n (Leaves e)
 
 abbrev pub set_register : Lane → ℕ → ℕ → Lane
 set_register l r value = record l { registers = put l.registers r value }
 
 -- where an address of the node lies: below the state table, in it, in a spill word, or elsewhere
-pub data Where : Type 0 where
-  Memory : Where
-  StateOf : (line : ℕ) → Where
-  Spill : (k : ℕ) → Where
-  Elsewhere : Where
+pub data Region : Type 0 where
+  Memory : Region
+  StateOf : (line : ℕ) → Region
+  Spill : (k : ℕ) → Region
+  Elsewhere : Region
 
-abbrev pub where_of : ℕ → Where
-where_of a =
+abbrev pub region_of : ℕ → Region
+region_of a =
     if nat_lt a (2 ^ 31) then Memory
     else (if nat_lt a (2 ^ 31 + 2 ^ 26) then StateOf (a - 2 ^ 31)
     else (if a == 2 ^ 32 - 4 then Spill 0
     else (if a == 2 ^ 32 - 8 then Spill 1
     else (if a == 2 ^ 32 - 12 then Spill 2 else Elsewhere))))
 
--- the bytes of the flag word 0xffffff03, which a load of an unmapped line gives
+-- the flag word, which a load of an unmapped line gives, and its bytes
+abbrev pub flag_word : ℕ
+flag_word = 0xffffff03
+
 abbrev pub flag_byte : ℕ → ℕ
 flag_byte a = if a % 4 == 0 then 3 else 255
 
 -- the byte that a load of an address below the state table gives
-abbrev pub byte_loaded : Program → Lane → Local → ℕ → ℕ
-byte_loaded program l n a = byte_by (class_at program a) (n.copy a) (program.first a) (l.private a) (flag_byte a)
+abbrev pub byte_at : Program → Lane → Local → ℕ → ℕ
+byte_at program l n a =
+    byte_by (class_at program a) (n.copy a) (program.first a) (l.private a) (flag_byte a)
 
 -- a load: from memory, or the state byte, or the spill word, or zero
-abbrev pub loaded : Program → Lane → Local → LoadKind → ℕ → ℕ → Where → Acted
-loaded program l n k r a Memory = record {
-  lane = set_register l r (load_value k (byte_loaded program l n) a);
+abbrev pub load : Program → Lane → Local → LoadKind → ℕ → ℕ → Region → Outcome
+load program l n k r a Memory = record {
+  lane = set_register l r (load_value k (byte_at program l n) a);
   local = n;
-  access = Reads k a (load_value k (byte_loaded program l n) a);
+  access = Reads k a (load_value k (byte_at program l n) a);
   printed = None;
+  tally = Nothing_counted;
   move = Next;
 }
-loaded program l n k r a (StateOf line) = goes (set_register l r (n.state line)) n Next
-loaded program l n k r a (Spill j) = goes (set_register l r (l.spills j)) n Next
-loaded program l n k r a Elsewhere = goes (set_register l r 0) n Next
+load program l n k r a (StateOf line) = go_on (set_register l r (n.state line)) n Next
+load program l n k r a (Spill j) = go_on (set_register l r (l.spills j)) n Next
+load program l n k r a Elsewhere = go_on (set_register l r 0) n Next
+
+-- the private bytes, and the copy, after a store
+abbrev pub lane_stored : Program → Lane → Width → ℕ → ℕ → Lane
+lane_stored program l w a value = record l {
+  private = private_after (class_at program a) l.private (stored w l.private a value);
+}
+
+abbrev pub local_stored : Program → Local → Width → ℕ → ℕ → Local
+local_stored program n w a value = record n {
+  copy = shared_after (class_at program a) n.copy (stored w n.copy a value);
+}
 
 -- a store: into the copy, the private bytes or a spill word, and nowhere else
-abbrev pub kept : Program → Lane → Local → Width → ℕ → ℕ → Where → Acted
-kept program l n w a value Memory = record {
-  lane = record l { private = private_after (class_at program a) l.private (stored w l.private a value) };
-  local = record n { copy = shared_after (class_at program a) n.copy (stored w n.copy a value) };
+abbrev pub store : Program → Lane → Local → Width → ℕ → ℕ → Region → Outcome
+store program l n w a value Memory = record {
+  lane = lane_stored program l w a value;
+  local = local_stored program n w a value;
   access = Writes w a value;
   printed = None;
+  tally = Nothing_counted;
   move = Next;
 }
-kept program l n w a value (Spill j) = goes (record l { spills = λ i. if i == j then value else l.spills i }) n Next
-kept program l n w a value (StateOf line) = goes l n Next
-kept program l n w a value Elsewhere = goes l n Next
+store program l n w a value (Spill j) =
+    go_on (record l { spills = λ i. if i == j then value else l.spills i }) n Next
+store program l n w a value (StateOf line) = go_on l n Next
+store program l n w a value Elsewhere = go_on l n Next
 
--- the state byte says that the line is mapped
-abbrev pub is_mapped_state : ℕ → Bool
-is_mapped_state state = not (state == 7)
-
--- or that it may be read: the second bit is clear
-abbrev pub is_readable_state : ℕ → Bool
-is_readable_state state = bit_and state 2 == 0
-
--- or that it may not be written by anyone
-abbrev pub is_fixed_state : ℕ → Bool
-is_fixed_state state = (state == 5) || (state == 7)
-
--- a0 gets the result, and the next word follows
-abbrev pub returned : Lane → ℕ → Lane
-returned l value = record l { registers = put l.registers 10 value; written = 0 }
+-- a0 gets the result of a call
+abbrev pub lane_after_call : Lane → ℕ → Lane
+lane_after_call l value = record l { registers = put l.registers 10 value; written = 0 }
 
 -- the byte is printed, and the word is executed again
-abbrev pub printing : Lane → Local → ℕ → ℕ → Acted
-printing l n address byte =
-    record { lane = record l { written = l.written + 1 }; local = n; access = Reads ByteU address byte; printed = Some byte; move = Again }
+abbrev pub print_byte : Lane → Local → ℕ → ℕ → Outcome
+print_byte l n address byte = record {
+  lane = record l { written = l.written + 1 };
+  local = n;
+  access = Reads ByteU address byte;
+  printed = Some byte;
+  tally = Nothing_counted;
+  move = Again;
+}
+
+-- the byte of a write call, by the state of its line: printed, waited for, or not there
+abbrev pub put_byte : Program → Lane → Local → ℕ → ℕ → Outcome
+put_byte program l n a state =
+    if is_mapped_state state then
+    (if is_readable_state state then print_byte l n a (byte_at program l n a)
+    else go_on l n (Waits SameWord (record { at = a; need = Read }) []))
+    else go_on (lane_after_call l (cut_short l.written)) n Next
 
 -- one step of a call
-abbrev pub called : Program → Lane → Local → CallStep → Acted
-called program l n (Ends code) = exits l n (Code code)
-called program l n (Returns value) = goes (returned l value) n Next
-called program l n (Puts a) =
-    if is_mapped_state (n.state (line_of a)) then printing l n a (byte_loaded program l n a) else goes (returned l (cut_short l.written)) n Next
+abbrev pub make_call : Program → Lane → Local → CallStep → Outcome
+make_call program l n (Ends code) = exit_by l n (Code code)
+make_call program l n (Returns value) = go_on (lane_after_call l value) n Next
+make_call program l n (Puts a) = put_byte program l n a (n.state (line_of a))
 
--- a native instruction at an address of a place's sequence. No sequence has one that calls, traps or isn't supported
-abbrev pub native : Program → ℕ → ℕ → Lane → Local → Demand → Acted
-native program place at l n (Sets r value) = goes (set_register l r value) n Next
-native program place at l n Continues = goes l n Next
+-- a native instruction at an address of a place's sequence. No sequence has one that calls, traps or
+-- isn't supported
+abbrev pub native : Program → ℕ → ℕ → Lane → Local → Demand → Outcome
+native program place at l n (Sets r value) = go_on (set_register l r value) n Next
+native program place at l n Continues = go_on l n Next
 native program place at l n (Jumps r target) =
-    if target % 4 == 0 then goes (set_register l r (next_pc at)) n (To target) else exits l n (Misaligned place)
-native program place at l n (Branches target) = if target % 4 == 0 then goes l n (To target) else exits l n (Misaligned place)
+    if target % 4 == 0 then go_on (set_register l r (next_pc at)) n (To target)
+    else exit_by l n (Misaligned place)
+native program place at l n (Branches target) =
+    if target % 4 == 0 then go_on l n (To target) else exit_by l n (Misaligned place)
 native program place at l n (Loads k r a) =
-    if is_aligned (width_of k) a then loaded program l n k r a (where_of a) else exits l n (Misaligned place)
+    if is_aligned (width_of k) a then load program l n k r a (region_of a)
+    else exit_by l n (Misaligned place)
 native program place at l n (Stores w a value) =
-    if is_aligned w a then kept program l n w a value (where_of a) else exits l n (Misaligned place)
-native program place at l n Calls = exits l n (Fetch at)
-native program place at l n (Traps e) = exits l n (Fetch at)
-native program place at l n Unsupported = exits l n (Fetch at)
+    if is_aligned w a then store program l n w a value (region_of a)
+    else exit_by l n (Misaligned place)
+native program place at l n Calls = exit_by l n (Fetch at)
+native program place at l n (Traps e) = exit_by l n (Fetch at)
+native program place at l n Unsupported = exit_by l n (Fetch at)
 
--- a look before a load, and before a store
-abbrev pub miss_r : ℕ → Lane → Local → Width → ℕ → Acted
+-- a miss check for reading, by the line's state: not mapped, readable after all, or to be waited for
+abbrev pub miss_r_by : ℕ → ℕ → Lane → Local → ℕ → Outcome
+miss_r_by state place l n a =
+    if is_mapped_state state then
+    (if is_readable_state state then record (go_on l n Next) { tally = FalseMiss }
+    else go_on l n (Waits PastWord (record { at = a; need = Read }) []))
+    else exit_by l n (NoAccess place)
+
+abbrev pub miss_r : ℕ → Lane → Local → Width → ℕ → Outcome
 miss_r place l n w a =
-    if is_aligned w a then (if is_mapped_state (n.state (line_of a)) then goes l n Next else exits l n (NoAccess place))
-    else exits l n (Misaligned place)
+    if is_aligned w a then miss_r_by (n.state (line_of a)) place l n a
+    else exit_by l n (Misaligned place)
 
-abbrev pub miss_w : ℕ → Lane → Local → Width → ℕ → Acted
+-- a miss check for writing: not to be written by anyone, writable, or to be waited for
+abbrev pub miss_w_by : ℕ → ℕ → Lane → Local → ℕ → Outcome
+miss_w_by state place l n a =
+    if is_fixed_state state then exit_by l n (NoAccess place)
+    else (if is_writable_state state then go_on l n Next
+    else go_on l n (Waits PastWord (record { at = a; need = Write }) []))
+
+abbrev pub miss_w : ℕ → Lane → Local → Width → ℕ → Outcome
 miss_w place l n w a =
-    if is_aligned w a then (if is_fixed_state (n.state (line_of a)) then exits l n (NoAccess place) else goes l n Next)
-    else exits l n (Misaligned place)
+    if is_aligned w a then miss_w_by (n.state (line_of a)) place l n a
+    else exit_by l n (Misaligned place)
 
 -- an indirect jump at a place: the register gets the next original address
-abbrev pub indirect : ℕ → Lane → Local → ℕ → ℕ → Acted
+abbrev pub indirect : ℕ → Lane → Local → ℕ → ℕ → Outcome
 indirect place l n rd target =
-    if target % 4 == 0 then goes (set_register l rd (next_pc place)) n (Enters target) else exits l n (Misaligned place)
+    if target % 4 == 0 then go_on (set_register l rd (next_pc place)) n (Enters target)
+    else exit_by l n (Misaligned place)
 
 abbrev pub place_address : Option Place → ℕ
 place_address place = option_map_or (λ p. p.address) place 0
 
 -- what executing a word of a place, which stands at this address, does
-abbrev pub worded : Program → ℕ → ℕ → RtWord → Lane → Local → Acted
-worded program place at (Native i) l n = native program place at l n (effect i l.registers at)
-worded program place at (MissR w rs1 imm) l n = miss_r place l n w (displaced (reg l.registers rs1) imm)
-worded program place at (MissW w rs1 imm) l n = miss_w place l n w (displaced (reg l.registers rs1) imm)
-worded program place at Call l n = called program l n (call_step l.registers l.written)
-worded program place at (Xjalr rd rs1 imm) l n = indirect place l n rd (displaced (reg l.registers rs1) imm / 2 * 2)
-worded program place at TrapFetch l n = exits l n (Fetch place)
-worded program place at TrapOff l n = exits l n (Fetch l.off)
-worded program place at TrapIllegal l n = exits l n (Illegal place)
-worded program place at TrapEbreak l n = exits l n (Ebreak place)
+abbrev pub execute : Program → ℕ → ℕ → RtWord → Lane → Local → Outcome
+execute program place at (Native i) l n =
+    native program place at l n (demand_of i l.registers at)
+execute program place at (MissR w rs1 imm) l n =
+    miss_r place l n w (offset_address (reg l.registers rs1) imm)
+execute program place at (MissW w rs1 imm) l n =
+    miss_w place l n w (offset_address (reg l.registers rs1) imm)
+execute program place at Call l n = make_call program l n (call_step l.registers l.written)
+execute program place at (Xjalr rd rs1 imm) l n =
+    indirect place l n rd (offset_address (reg l.registers rs1) imm / 2 * 2)
+execute program place at TrapFetch l n = exit_by l n (Fetch place)
+execute program place at TrapOff l n = exit_by l n (Fetch l.off)
+execute program place at TrapIllegal l n = exit_by l n (Illegal place)
+execute program place at TrapEbreak l n = exit_by l n (Ebreak place)
 
-abbrev pub acted_at : Program → Option Fetched → Lane → Local → Acted
-acted_at program None l n = exits l n (Fetch l.at)
-acted_at program (Some f) l n = worded program (place_address f.place) l.at f.what l n
+-- a word that isn't there, or isn't one of rewritten code, ends the processor
+abbrev pub execute_read : Program → Option Place → Option RtWord → Lane → Local → Outcome
+execute_read program place None l n = exit_by l n (Fetch l.at)
+execute_read program place (Some w) l n = execute program (place_address place) l.at w l n
+
+abbrev pub execute_at : Program → Option ImageWord → Lane → Local → Outcome
+execute_at program None l n = exit_by l n (Fetch l.at)
+execute_at program (Some w) l n = execute_read program w.place w.what l n
 
 -- what the next word does
-abbrev pub act : Program → List Cell → Lane → Local → Acted
-act program image l n = acted_at program (fetched image l.at) l n
+abbrev pub next_outcome : Program → List Cell → Lane → Local → Outcome
+next_outcome program image l n = execute_at program (fetch image l.at) l n
 
--- an original address is entered at its sequence; where it is no place it is kept, and word 0 follows
-abbrev pub entered : Lane → ℕ → Option ℕ → Lane
-entered l original (Some new) = record l { at = new }
-entered l original None = record l { at = image_base; off = original }
+-- an original address is entered at its sequence; where it is no place it is kept, and word 0
+-- follows
+abbrev pub enter : Lane → ℕ → Option ℕ → Lane
+enter l original (Some new) = record l { at = new }
+enter l original None = record l { at = image_base; off = original }
+
+-- the processor at the word that follows a wait
+abbrev pub lane_resumed : Lane → Resume → Lane
+lane_resumed l PastWord = record l { at = next_pc l.at }
+lane_resumed l SameWord = l
 
 -- the processor at the word that follows
-abbrev pub moved : List Cell → Lane → Move → Lane
-moved image l Next = record l { at = next_pc l.at }
-moved image l Again = l
-moved image l (To address) = record l { at = address }
-moved image l (Enters original) = entered l original (new_of image original)
-moved image l (Leaves e) = l
+abbrev pub lane_after : List Cell → Lane → Move → Lane
+lane_after image l Next = record l { at = next_pc l.at }
+lane_after image l Again = l
+lane_after image l (To address) = record l { at = address }
+lane_after image l (Enters original) = enter l original (new_of image original)
+lane_after image l (Waits resume want more) = lane_resumed l resume
+lane_after image l (Leaves e) = l
 
-abbrev pub exit_of : Move → Option Exit
-exit_of (Leaves e) = Some e
-exit_of m = None
+-- whether a processor runs, waits for blocks, or has ended
+pub data Phase : Type 0 where
+  Running : Phase
+  Waiting : (want : Want) (more : List Want) → Phase
+  Ended : (end : End) → Phase
 
--- the end of a processor that has executed so many words, the last of them with this exit
-abbrev pub end_by : ℕ → ℕ → Option Exit → Option End
-end_by budget executed (Some e) = Some (Exited e)
-end_by budget executed None = if executed == budget then Some (Stopped budget) else None
+-- a processor that has executed so many words, its budget, with nothing pending, is stopped
+abbrev pub stop_at : ℕ → ℕ → Phase
+stop_at budget executed = if executed == budget then Ended (Stopped budget) else Running
 
--- what a node runs: rewritten code of a program, at most so many words of it
+-- the phase of a processor that has executed so many words, after the last one's move
+abbrev pub phase_after : ℕ → ℕ → Move → Phase
+phase_after budget executed (Leaves e) = Ended (Exited e)
+phase_after budget executed (Waits resume want more) = Waiting want more
+phase_after budget executed move = stop_at budget executed
+
+abbrev pub end_of : Phase → Option End
+end_of (Ended e) = Some e
+end_of phase = None
+
+abbrev pub can_execute : Phase → Bool
+can_execute Running = true
+can_execute phase = false
+
+abbrev pub no_counts : NodeCounts
+no_counts = record {
+  read = 0;
+  exclusive = 0;
+  upgrade = 0;
+  falses = 0;
+  invalidations = 0;
+  fallbacks = 0;
+  messages = 0;
+}
+
+-- the counts after a word
+abbrev pub counts_after : Tally → NodeCounts → NodeCounts
+counts_after Nothing_counted c = c
+counts_after FalseMiss c = record c { falses = c.falses + 1 }
+
+-- a node: its processor's part, what words see of it, what it counts, how many words its processor
+-- has executed, and whether it goes on
+pub record Node : Type 0 where
+  pub lane : Lane
+  pub local : Local
+  pub counts : NodeCounts
+  pub executed : ℕ
+  pub phase : Phase
+
+-- what the nodes run: rewritten code of a program, on so many nodes, at most so many words on each
 pub record Work : Type 0 where
   pub program : Program
   pub image : List Cell
+  pub nodes : ℕ
   pub budget : ℕ
 
-abbrev pub next_act : Work → Node → Acted
-next_act work n = act work.program work.image n.lane n.local
+abbrev pub first_lane : Work → ℕ → Lane
+first_lane work me = record {
+  registers = registers_of (first_values me work.nodes);
+  at = unwrap_or (new_of work.image work.program.entry) 0;
+  private = λ _. 0;
+  written = 0;
+  off = 0;
+  spills = λ _. 0;
+}
 
--- the node after one word
-abbrev pub node_step : Work → Node → Node
-node_step work n = record {
-  lane = moved work.image (next_act work n).lane (next_act work n).move;
-  local = (next_act work n).local;
+abbrev pub first_local : Program → Local
+first_local program = record {
+  copy = program.first;
+  state = λ line. first_state (program.class line);
+}
+
+-- node number me at the start
+abbrev pub opening_node : Work → ℕ → Node
+opening_node work me = record {
+  lane = first_lane work me;
+  local = first_local work.program;
+  counts = no_counts;
+  executed = 0;
+  phase = Running;
+}
+
+-- what a node's next word does
+abbrev pub word_outcome : Work → Node → Outcome
+word_outcome work n = next_outcome work.program work.image n.lane n.local
+
+-- the node after its next word, before what the word wants is asked for
+abbrev pub word_step : Work → Node → Node
+word_step work n = record {
+  lane = lane_after work.image (word_outcome work n).lane (word_outcome work n).move;
+  local = (word_outcome work n).local;
+  counts = counts_after (word_outcome work n).tally n.counts;
   executed = n.executed + 1;
-  end = end_by work.budget (n.executed + 1) (exit_of (next_act work n).move);
+  phase = phase_after work.budget (n.executed + 1) (word_outcome work n).move;
 }

@@ -1,13 +1,25 @@
 #![tactic(auto)]
 //! One node, which executes rewritten code.
 
-mod access;
+mod body;
+mod hot;
 mod lane;
 mod local;
 mod node;
-mod window;
+mod rare;
+mod region;
+mod serve;
 
 pub use node::{Node, Standing, Turn};
+
+/// What is wanted of a block.
+#[derive(Clone, Copy, Debug, PartialEq, Eq)]
+pub enum Need {
+    /// To read it.
+    Read,
+    /// To write it.
+    Write,
+}
 
 /// What a node counts over its events.
 #[derive(Clone, Copy, Debug, PartialEq, Eq)]

@@ -1,18 +1,19 @@
-//! A node: its processor, what is the node's, and what it has executed.
+//! A node: its processor, what words see of it, and how many words it has executed.
 
-ghost use Rattle.std.specs.Prelude.{◌≡◌, ◌+◌, ◌*◌, ◌%◌, ◌^◌, ◌<◌, ◌≤◌, ◌↔◌, ℕ, Some, None, IsSome, IfOk};
+ghost use Rattle.std.specs.Prelude.{◌≡◌, ◌+◌, ◌*◌, ◌%◌, ◌^◌, ◌<◌, ◌≤◌, ◌↔◌, ℕ, true, None, IfOk};
 ghost use Rattle.exec_map.specs.Contents.{program_of};
-ghost use Rattle.rewriter.specs.Image.{HasRewriting};
 ghost use Rattle.node_machine.specs.Node as model;
-ghost use Rattle.node_machine.specs.Held.{node_of, work_of, move_of};
+ghost use Rattle.node_machine.specs.Kept.{node_of, work_of};
 
 use crate::NodeCounts;
-use crate::lane::{Lane, Move};
+use crate::body::Body;
+use crate::lane::{Lane, index_of};
 use crate::local::Local;
-use crate::window::Window;
-use exec_map::{End, Exit, Program};
-use rewriter::jump_map::Image;
-use rv32_model::Registers;
+use byte_range::Window;
+use exec_map::{End, Program};
+use jump_map::Image;
+use run_limits::{Budget, NodeCount};
+use rv32_step::Registers;
 use std::alloc::{AllocError, Global};
 use std::marker::Model;
 
@@ -33,73 +34,80 @@ pub enum Standing {
 }
 
 /// A node that runs rewritten code of a program.
+///
+/// What words change is in a box of its own, so that the position and the count of words can stay in
+/// registers of the machine while words are executed.
 #[derive(Drop)]
 pub struct Node<'a> {
     image: &'a Image,
-    budget: u64,
-    lane: Lane,
-    local: Local<'a>,
+    nodes: NodeCount,
+    budget: Budget,
+    body: Box<Body<'a>>,
+    /// The index of its next word.
+    at: u32,
     executed: u64,
     end: Option<End>,
 }
 
 impl<'a> Model for Node<'a> {
-    ghost use Rattle.std.specs.Prelude.{◌≤◌, ◌^◌, ◌||◌, is_some, nat_lt, IsTrue};
-    ghost use Rattle.node_machine.specs.Held.{Held};
+    ghost use Rattle.node_machine.specs.Kept.{NodeView, IsNode};
 
-    ghost Value = { Held };
+    ghost Value = { NodeView };
 
     ghost view = { λ n. record {
-      program = n.local.program;
+      program = n.body.value.local.program;
       image = n.image.now;
+      nodes = n.nodes;
       budget = n.budget;
-      registers = n.lane.registers;
-      at = n.lane.at;
-      private = n.lane.private;
-      written = n.lane.written;
-      off = n.lane.off;
-      spills = n.lane.spills;
-      copy = n.local.copy;
+      lane = n.body.value.lane;
+      shelf = n.body.value.local;
+      counts = n.body.value.counts;
+      at = n.at;
       executed = n.executed;
       end = n.end;
-      counts = n.local.counts;
     } };
 
-    ghost invariant = { λ n. (n.budget ≤ 2 ^ 32) × IsTrue (is_some n.end || nat_lt n.executed n.budget) };
+    ghost invariant = { λ n. IsNode n.image.now n.budget n.executed n.body.value.counts.falses n.end };
 }
 
 impl<'a> Node<'a> {
-    /// Node number `me` of `n` at the start. It executes at most `budget` words.
+    /// Node number `me` of so many at the start. It executes at most `budget` words.
+    ///
+    /// As yet a node has all shared lines to itself.
     pub fn new(
         alloc: Global,
         image: &'a Image,
         program: &'a Program<'a>,
         me: u8,
-        n: u8,
-        budget: u64,
+        nodes: NodeCount,
+        budget: Budget,
     ) -> Result<Node<'a>, AllocError>
-        requires rewriting { HasRewriting (program_of program.now) image.now }
-        requires first { me ≡ 0 }
-        requires alone { n ≡ 1 }
-        requires some { 0 < budget }
-        requires few { budget ≤ 2 ^ 32 }
-        ensures opening { IfOk result (λ node. node_of node ≡ model.opening_node (program_of program.now) image.now me n) }
-        ensures work { IfOk result (λ node. work_of node ≡ record { program = program_of program.now; image = image.now; budget = budget }) }
+        ensures opening { IfOk result (λ node. node_of node ≡ model.opening_node (work_of node) me) }
+        ensures work { IfOk result (λ node. work_of node ≡ record {
+          program = program_of program.now;
+          image = image.now;
+          nodes = nodes;
+          budget = budget;
+        }) }
     {
-        let private = Window::zeros(alloc)?;
-        let local = Local::first(alloc, program)?;
-        Ok(Node {
-            image,
-            budget,
+        let _ = image.len();
+        let body = Body {
             lane: Lane {
-                registers: Registers::first(me, n),
-                at: image.new_of(program.entry()).unwrap_or(0),
-                private,
+                registers: Registers::first(me, nodes.number()),
+                private: Window::zeros(alloc)?,
                 written: 0,
                 off: 0,
                 spills: [0; 3],
             },
-            local,
+            local: Local::first(alloc, program)?,
+            counts: NO_COUNTS,
+        };
+        Ok(Node {
+            image,
+            nodes,
+            budget,
+            body: Box::new(alloc, body)?,
+            at: index_of(image.new_of(program.entry()).unwrap_or(0)),
             executed: 0,
             end: None,
         })
@@ -107,7 +115,8 @@ impl<'a> Node<'a> {
 
     /// Whether the node may execute a word.
     pub fn standing(&self) -> Standing
-        ensures running { (result ≡ Standing.Running) ↔ ((node_of self.now).end ≡ None) }
+        ensures running { (result ≡ Standing.Running)
+            ↔ (model.can_execute (node_of self.now).phase ≡ true) }
     {
         match self.end {
             None => Standing::Running,
@@ -115,55 +124,64 @@ impl<'a> Node<'a> {
         }
     }
 
-    /// How the processor ended; None exactly where it hasn't yet.
+    /// How the processor ended; `None` exactly where it hasn't yet: then it may execute a word, for
+    /// as yet no node waits.
     pub fn end(&self) -> Option<End>
-        ensures { result ≡ (node_of self.now).end }
+        ensures value { result ≡ model.end_of (node_of self.now).phase }
+        ensures runs { (result ≡ None) → ((node_of self.now).phase ≡ model.Running) }
     {
         self.end
     }
 
     /// What the node has counted.
     pub fn counts(&self) -> NodeCounts
-        ensures { result ≡ (node_of self.now).local.counts }
+        ensures value { result ≡ (node_of self.now).counts }
     {
-        self.local.counts()
+        self.body.counts
     }
 
     /// Executes one word.
+    #[inline(always)]
     pub fn exec(&mut self) -> Turn
-        requires { (node_of self.old).end ≡ None }
-        ensures node { node_of self.new ≡ model.node_step (work_of self.old) (node_of self.old) }
-        ensures output { result.output ≡ (model.next_act (work_of self.old) (node_of self.old)).printed }
+        requires { model.can_execute (node_of self.old).phase ≡ true }
+        ensures node { node_of self.new ≡ model.word_step (work_of self.old) (node_of self.old) }
+        ensures output { result.output ≡
+            (model.word_outcome (work_of self.old) (node_of self.old)).printed }
         ensures work { work_of self.new ≡ work_of self.old }
-        ensures room { (node_of self.old).executed < (work_of self.old).budget }
     {
-        let acted = self.lane.act(&mut self.local, self.image);
-        self.lane.go(self.image, acted.next);
-        self.executed += 1;
-        self.end = end_by(self.budget, self.executed, exit_of(acted.next));
-        Turn {
-            output: acted.output,
+        match self.body.step_at(self.image, self.at) {
+            Some(at) => {
+                self.at = at;
+                self.executed += 1;
+                if self.executed == self.budget.number() {
+                    self.end = Some(End::Stopped(self.executed));
+                }
+                Turn { output: None }
+            }
+            None => {
+                let served = self.body.serve(self.image, self.at);
+                self.at = served.at;
+                self.executed += 1;
+                if let Some(exit) = served.exit {
+                    self.end = Some(End::Exited(exit));
+                } else if self.executed == self.budget.number() {
+                    self.end = Some(End::Stopped(self.executed));
+                }
+                Turn {
+                    output: served.output,
+                }
+            }
         }
     }
 }
 
-/// The exit by which a processor leaves.
-fn exit_of(next: Move) -> Option<Exit>
-    ensures { result ≡ model.exit_of (move_of next) }
-{
-    match next {
-        Move::Leaves(exit) => Some(exit),
-        _ => None,
-    }
-}
-
-/// The end of a processor that has executed so many words, the last of them with this exit.
-fn end_by(budget: u64, executed: u64, exit: Option<Exit>) -> Option<End>
-    ensures { result ≡ model.end_by budget executed exit }
-{
-    match exit {
-        Some(exit) => Some(End::Exited(exit)),
-        None if executed == budget => Some(End::Stopped(budget)),
-        None => None,
-    }
-}
+/// The counts of the start.
+const NO_COUNTS: NodeCounts = NodeCounts {
+    read: 0,
+    exclusive: 0,
+    upgrade: 0,
+    falses: 0,
+    invalidations: 0,
+    fallbacks: 0,
+    messages: 0,
+};

@@ -1,21 +1,23 @@
 -- What the words of a place's sequence do, beside the processor whose next step they make.
-use Rattle.std.proofs.Common.{◌≡◌, ℕ, zero, suc, ◌+◌, ◌⊎◌, List, [], ◌∷◌, Option, Some, None}
+use Rattle.std.proofs.Common.{◌≡◌, ℕ, zero, suc, ◌+◌, Bool, true, false, List, [], ◌∷◌, Some, None}
 use Rattle.rv32_decode.specs.declared.Instr.{Instr}
-use Rattle.rv32_decode.specs.declared.LoadKind.{LoadKind}
 use Rattle.rv32_decode.specs.declared.LoadKind.TheVariants.{ByteU}
-use Rattle.rv32_decode.specs.declared.Width.{Width}
-use Rattle.rv32_model.specs.declared.Exit.{Exit}
-use Rattle.rv32_model.specs.Registers.{reg}
-use Rattle.rv32_model.specs.Program.{Program, class_at}
-use Rattle.rv32_model.specs.Memory.{load_value, stored, byte_by, shared_after}
-use Rattle.rv32_model.specs.Liveness.{Live}
-use Rattle.rv32_model.specs.OneMemory.{Processor, Access, Nothing, Reads, Writes, Asked, Becomes, Prints, LoadsFrom, StoresTo, asked, ended, after_print, after_store, set_register, next_pc}
-use Rattle.rewriter.specs.declared.templates.RtWord.{RtWord}
-use Rattle.rewriter.specs.Sequences.{IsPlace, Item, ItemWord, Runs, GoesTo, Commit, Never, Always}
-use Rattle.node_machine.specs.Node.{Lane, Local, Move, Next, Again, To, Enters, Leaves, Acted, first_state, worded}
+use Rattle.rv32_program.specs.Program.{Program, class_at, line_of}
+use Rattle.rv32_program.specs.Liveness.{Live}
+use Rattle.rv32_step.specs.Registers.{reg}
+use Rattle.rv32_step.specs.Memory.{load_value, byte_by}
+use Rattle.rv32_step.specs.OneMemory.{Processor, Nothing, Reads, Writes, Request, Becomes, Prints, LoadsFrom, StoresTo, request, with_exit, after_print, after_store, set_register, next_pc}
+use Rattle.templates.specs.declared.commits.CommitKind.{CommitKind}
+use Rattle.templates.specs.declared.commits.CommitKind.TheVariants.{Never}
+use Rattle.templates.specs.Places.{IsPlace}
+use Rattle.templates.specs.Sequences.{SequenceItem, ItemWord, Runs, GoesTo}
+use Rattle.node_machine.specs.declared.Need.{Need}
+use Rattle.node_machine.specs.declared.Need.TheVariants.{Read, Write}
+use Rattle.node_machine.specs.Node.{Lane, Local, Want, Resume, PastWord, SameWord, Move, Next, Again, To, Enters, Waits, Leaves, Outcome, first_state, is_readable_state, is_writable_state, local_stored, execute}
+use Rattle.shared_sim.specs.CoreRun.{commits_by}
 
--- the node stands at the head of a place, where its registers agree wherever they are live. This is the only fact
--- that two sequences share
+-- the node stands at the head of a place, where its registers agree wherever they are live. This is
+-- the only fact that two sequences share
 pub record AtHead (program : Program) (a : ℕ) (q : Processor) (l : Lane) : Type 0 where
   pub place : q.pc ≡ a
   pub running : q.exit ≡ None
@@ -23,60 +25,97 @@ pub record AtHead (program : Program) (a : ℕ) (q : Processor) (l : Lane) : Typ
   pub private : l.private ≡ q.private
   pub written : l.written ≡ q.written
 
--- the state bytes fit the classes of the lines
+-- the state bytes fit the classes of the lines, where one node has all shared lines
 pub record Suits (program : Program) (n : Local) : Type 0 where
   pub states : (line : ℕ) → n.state line ≡ first_state (program.class line)
 
 -- the byte of an address, as the processor would see it in the node's copy
 abbrev pub byte_seen : Program → Processor → Local → ℕ → ℕ
-byte_seen program q n a = byte_by (class_at program a) (n.copy a) (program.first a) (q.private a) 0
-
--- the node after a store
-abbrev pub stored_local : Program → Local → Width → ℕ → ℕ → Local
-stored_local program n w a value = record n { copy = shared_after (class_at program a) n.copy (stored w n.copy a value) }
+byte_seen program q n a =
+    byte_by (class_at program a) (n.copy a) (program.first a) (q.private a) 0
 
 -- the lane at another word
-abbrev pub placed : ℕ → ℕ → Lane → Lane
-placed at off l = record l { at = at; off = off }
+abbrev pub lane_at : ℕ → ℕ → Lane → Lane
+lane_at at off l = record l { at = at; off = off }
 
 -- the address of the word behind so many words
 abbrev pub skip_to : ℕ → ℕ → ℕ
 skip_to zero at = at
 skip_to (suc s) at = skip_to s (next_pc at)
 
+-- a state byte that grants what was wanted
+abbrev pub grants : Need → ℕ → Bool
+grants Read state = is_readable_state state
+grants Write state = is_writable_state state
+
+-- the node may do all that was wanted
+abbrev pub Grants : Want → List Want → Local → Type 0
+Grants w [] n = grants w.need (n.state (line_of w.at)) ≡ true
+Grants w (v ∷ vs) n = (grants w.need (n.state (line_of w.at)) ≡ true) × Grants v vs n
+
 -- the word does what the processor asks for, and goes on well with the processor after its step
-abbrev pub Commits : Program → (Processor → Type 0) → Processor → Local → Acted → Asked → Type 0
-Commits program K q n r (Becomes q') = (q'.exit ≡ None) × (r.access ≡ Nothing) × (r.printed ≡ None) × (r.local ≡ n) × K q'
+abbrev pub Commits : Program → (Processor → Type 0) → Processor → Local → Outcome → Request → Type 0
+Commits program K q n r (Becomes q') =
+    (q'.exit ≡ None) × (r.access ≡ Nothing) × (r.printed ≡ None) × (r.local ≡ n) × K q'
 Commits program K q n r (Prints x) =
-    (r.access ≡ Reads ByteU x (byte_seen program q n x)) × (r.printed ≡ Some (byte_seen program q n x)) × (r.local ≡ n) × K (after_print q)
+    (r.access ≡ Reads ByteU x (byte_seen program q n x))
+    × (r.printed ≡ Some (byte_seen program q n x)) × (r.local ≡ n) × K (after_print q)
 Commits program K q n r (LoadsFrom k d x) =
-    (r.access ≡ Reads k x (load_value k (byte_seen program q n) x)) × (r.printed ≡ None) × (r.local ≡ n) × K (set_register q d (load_value k (byte_seen program q n) x))
+    (r.access ≡ Reads k x (load_value k (byte_seen program q n) x)) × (r.printed ≡ None)
+    × (r.local ≡ n) × K (set_register q d (load_value k (byte_seen program q n) x))
 Commits program K q n r (StoresTo w x value) =
-    (r.access ≡ Writes w x value) × (r.printed ≡ None) × (r.local ≡ stored_local program n w x value) × K (after_store program q w x value)
+    (r.access ≡ Writes w x value) × (r.printed ≡ None)
+    × (r.local ≡ local_stored program n w x value) × K (after_store program q w x value)
 
--- the word does nothing that the original sees, or it commits
-abbrev pub Continues : Program → (Processor → Type 0) → Processor → Local → Acted → Commit → Type 0
-Continues program K q n r Never = (r.access ≡ Nothing) × (r.printed ≡ None) × (r.local ≡ n) × K q
-Continues program K q n r Always = Commits program K q n r (asked program q)
+-- the word commits, or it does nothing that the original sees
+abbrev pub Continues : Program → (Processor → Type 0) → Processor → Local → Outcome → Bool → Type 0
+Continues program K q n r true = Commits program K q n r (request program q)
+Continues program K q n r false = (r.access ≡ Nothing) × (r.printed ≡ None) × (r.local ≡ n) × K q
 
--- what a word of a place leads to: an exit, which is the processor's; a word behind it; its sequence's head again; or
--- the head of another place
-abbrev pub Leads : Program → ℕ → ℕ → ℕ → (ℕ → Processor → Lane → Local → Type 0) → Processor → Local → Acted → Commit → Move → Type 0
-Leads program a k at K q n r m (Leaves e) = (asked program q ≡ Becomes (ended q e)) × (r.access ≡ Nothing) × (r.printed ≡ None) × (r.local ≡ n)
-Leads program a k at K q n r m Next = Continues program (λ p. (x y : ℕ) → K 0 p (placed x y r.lane) r.local) q n r m
-Leads program a k at K q n r m Again = (k ≡ 0) × Continues program (λ p. AtHead program a p r.lane) q n r m
+-- what holds of the words behind one, once so many more are skipped
+abbrev pub Rest : Type 1
+Rest = ℕ → Processor → Lane → Local → Type 0
+
+-- what holds once a wait is over, with the node's bytes and states then: of the words behind, or
+-- that the node stands at its place's head
+abbrev pub Resumes : Program → ℕ → ℕ → Rest → Processor → Lane → Resume → Local → Type 0
+Resumes program a k K q l PastWord n = (x y : ℕ) → K 0 q (lane_at x y l) n
+Resumes program a k K q l SameWord n = (k ≡ 0) × AtHead program a q l
+
+-- what a word of a place leads to: an exit, which is the processor's; a word behind it; its
+-- sequence's head again; the head of another place; or a wait
+abbrev pub Leads : Program → ℕ → ℕ → ℕ → Rest → Processor → Local → Outcome → CommitKind → Move
+    → Type 0
+Leads program a k at K q n r m (Leaves e) =
+    (request program q ≡ Becomes (with_exit q e)) × (r.access ≡ Nothing) × (r.printed ≡ None)
+    × (r.local ≡ n)
+Leads program a k at K q n r m Next =
+    Continues program (λ p. (x y : ℕ) → K 0 p (lane_at x y r.lane) r.local) q n r (commits_by m r)
+Leads program a k at K q n r m Again =
+    (k ≡ 0) × Continues program (λ p. AtHead program a p r.lane) q n r (commits_by m r)
 Leads program a k at K q n r m (To target) =
-    (s : ℕ) × (target ≡ skip_to s (next_pc at)) × Continues program (λ p. (x y : ℕ) → K s p (placed x y r.lane) r.local) q n r m
-Leads program a k at K q n r m (Enters target) = Continues program (λ p. AtHead program target p r.lane) q n r m
+    (s : ℕ) × (target ≡ skip_to s (next_pc at))
+    × Continues program (λ p. (x y : ℕ) → K s p (lane_at x y r.lane) r.local) q n r (commits_by m r)
+Leads program a k at K q n r m (Enters target) =
+    Continues program (λ p. AtHead program target p r.lane) q n r (commits_by m r)
+Leads program a k at K q n r m (Waits resume want more) =
+    (commits_by m r ≡ false) × (r.printed ≡ None) × (r.local ≡ n)
+    × ((n' : Local) → Suits program n' → Grants want more n'
+    → Resumes program a k K q r.lane resume n')
 
-abbrev pub ItemLeads : Program → ℕ → ℕ → ℕ → (ℕ → Processor → Lane → Local → Type 0) → Commit → Processor → Lane → Local → ItemWord → Type 0
-ItemLeads program a k at K m q l n (GoesTo place) = (m ≡ Never) × IsPlace program.code place × AtHead program place q l
-ItemLeads program a k at K m q l n (Runs w) = Leads program a k at K q n (worded program a at w l n) m (worded program a at w l n).move
+abbrev pub ItemLeads : Program → ℕ → ℕ → ℕ → Rest → CommitKind → Processor → Lane → Local → ItemWord
+    → Type 0
+ItemLeads program a k at K m q l n (GoesTo place to_head) =
+    (m ≡ Never) × IsPlace program.code place × AtHead program place q l
+ItemLeads program a k at K m q l n (Runs w) =
+    Leads program a k at K q n (execute program a at w l n) m (execute program a at w l n).move
 
--- the words that are left of a place, of which the first has number k and stands at this address, make the processor's
--- next step, once so many of them are skipped
-abbrev pub Does : Program → ℕ → ℕ → ℕ → List Item → ℕ → Processor → Lane → Local → Type 0
-Does program a k at [] zero q l n = ((i : Instr) × (program.code a ≡ Some i)) × AtHead program (a + 4) q l
+-- the words that are left of a place, of which the first has number k and stands at this address,
+-- make the processor's next step, once so many of them are skipped
+abbrev pub Does : Program → ℕ → ℕ → ℕ → List SequenceItem → Rest
+Does program a k at [] zero q l n =
+    ((i : Instr) × (program.code a ≡ Some i)) × AtHead program (a + 4) q l
 Does program a k at [] (suc s) q l n = ⊥
 Does program a k at (i ∷ is) (suc s) q l n = Does program a (k + 1) (next_pc at) is s q l n
-Does program a k at (i ∷ is) zero q l n = ItemLeads program a k at (λ s. Does program a (k + 1) (next_pc at) is s) i.commit q l n i.what
+Does program a k at (i ∷ is) zero q l n =
+    ItemLeads program a k at (Does program a (k + 1) (next_pc at) is) i.commit q l n i.what

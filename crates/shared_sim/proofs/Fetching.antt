@@ -1,259 +1,357 @@
 -- The words of a place's sequence, as they are fetched from an image.
-use Rattle.std.proofs.Common.{◌≡◌, ◌≢◌, ℕ, zero, suc, ◌+◌, ◌-◌, ◌*◌, ◌/◌, ◌%◌, ◌^◌, ◌<◌, ◌≤◌, ◌⊎◌, Bool, true, false, cond, eqb, leb, ltb, List, [], ◌∷◌, ◌++◌, length, map, Option, Some, None, refl, sym, ap, ◌∙◌, subst, inl, inr, arith, append_assoc, zero-add, add_assoc, length-append}
-use Rattle.std.specs.Prelude.{slice_get, option_and_then, find, Contains, position, ◌&&◌}
+use Rattle.std.proofs.Common.{◌≡◌, ◌≢◌, ℕ, zero, suc, ◌+◌, ◌-◌, ◌*◌, ◌/◌, ◌%◌, ◌^◌, ◌<◌, ◌⊎◌, Bool, true, false, cond, eqb, leb, List, [], ◌∷◌, ◌++◌, length, map, get_or, Option, Some, None, refl, sym, ap, ◌∙◌, subst, inl, inr, arith, append_assoc, append-nil, zero-add, add_assoc}
+use Rattle.std.specs.Prelude.{slice_get, option_and_then}
 use Rattle.std.specs.List.{position_from}
 use Rattle.std.specs.Option.{option_map, option_map_or}
 use Rattle.std.proofs.lemmas.Option.{slice_get-map, slice_get_within, none-some, same_Some}
 use Rattle.std.proofs.lemmas.Iterator.Adapters.{position_from-zero}
 use Rattle.std.proofs.lemmas.Bool.Decides.{eqb_tells, nat_tests}
-use Rattle.rv32_decode.specs.declared.Instr.{Instr}
-use Rattle.rv32_model.specs.Program.{Program, IsAccepted}
-use Rattle.rv32_model.specs.OneMemory.{next_pc}
-use Rattle.rewriter.specs.declared.templates.RtWord.{RtWord}
-use Rattle.rewriter.specs.declared.templates.RtWord.TheVariants.{TrapOff}
-use Rattle.rewriter.specs.declared.templates.Place.{Place}
-use Rattle.rewriter.specs.declared.jump_map.Fetched.{Fetched}
-use Rattle.rewriter.specs.Words.{reading_of}
-use Rattle.rewriter.specs.Sequences.{Entry, Item, Commit, Never, AscendsFrom, addresses, IsAdmissible}
-use Rattle.rewriter.specs.Image.{Cell, Planned, sequence_items, words_before, head_of, said, planned_at, planned_from, planned, off_word, as_planned, most_words, IsRewriting, image_base, address_of_word, cell_at, is_first_of, new_of, fetched}
-use Rattle.shared_sim.specs.Interleaving.{commit_at}
-use Rattle.shared_sim.proofs.Plans.{Found, AllBelow, below, Follows, found_by_address}
+use Rattle.rv32_program.specs.Program.{Program}
+use Rattle.rv32_step.specs.OneMemory.{next_pc}
+use Rattle.templates.specs.declared.runtime_words.RtWord.TheVariants.{TrapOff}
+use Rattle.templates.specs.declared.commits.CommitKind.TheVariants.{Never}
+use Rattle.templates.specs.declared.places.Part.TheVariants.{Single}
+use Rattle.templates.specs.declared.plans.PlanEntry.{PlanEntry}
+use Rattle.templates.specs.Plans.{AscendsFrom, addresses, IsAdmissible}
+use Rattle.templates.specs.Sequences.{SequenceItem}
+use Rattle.templates.specs.Commits.{part_items, commit_at}
+use Rattle.jump_map.specs.declared.image.ImageWord.{ImageWord}
+use Rattle.jump_map.specs.Image.{Cell, PlacedItem, read_cell, placed_items, entry_items, words_before, head_of, item_word, words_at, plan_items, image_words, off_word, image_base, address_of_word, IsRewriting}
+use Rattle.jump_map.specs.Maps.{cell_at, is_first_of, begins_at, new_of, old_of, fetch}
+use Rattle.shared_sim.proofs.Plans.{EntrySplit, AllBelow, below, Follows, entry_at_is}
 
-get_left : {X : Type 0} (xs ys : List X) (k : ℕ) (x : X) → slice_get xs k ≡ Some x → slice_get (xs ++ ys) k ≡ Some x
+get_left : {X : Type 0} (xs ys : List X) (k : ℕ) (x : X) → slice_get xs k ≡ Some x
+    → slice_get (xs ++ ys) k ≡ Some x
 get_left [] ys k x h = cc
 get_left (y ∷ xs) ys zero x h = h
 get_left (y ∷ xs) ys (suc k) x h = get_left xs ys k x h
 
-get_right : {X : Type 0} (xs ys : List X) (k : ℕ) → slice_get (xs ++ ys) (length xs + k) ≡ slice_get ys k
+get_right : {X : Type 0} (xs ys : List X) (k : ℕ)
+    → slice_get (xs ++ ys) (length xs + k) ≡ slice_get ys k
 get_right [] ys k = ap (slice_get ys) (zero-add k)
-get_right {X = X} (x ∷ xs) ys k = let e : length (x ∷ xs) + k ≡ suc (length xs + k) = omega arith in ap (slice_get (x ∷ xs ++ ys)) e ∙ get_right xs ys k
+get_right (x ∷ xs) ys k =
+    let e : length (x ∷ xs) + k ≡ suc (length xs + k) = omega arith in
+    ap (slice_get (x ∷ xs ++ ys)) e ∙ get_right xs ys k
 
-pub option_map_some : {A B : Type 0} (f : A → B) (o : Option A) (y : B) → option_map f o ≡ Some y → (x : A) × (o ≡ Some x) × (f x ≡ y)
+pub option_map_some : {A B : Type 0} (f : A → B) (o : Option A) (y : B) → option_map f o ≡ Some y
+    → (x : A) × (o ≡ Some x) × (f x ≡ y)
 option_map_some f None y h = absurd (none-some y h)
 option_map_some f (Some x) y h = (x, refl, same_Some (f x) y h)
 
-cell_read : (image : List Cell) (i at : ℕ) (c : Cell) → at ≡ address_of_word i → slice_get image i ≡ Some c → cell_at image at ≡ Some c
-cell_read image i at c e h =
+cell_here : (image : List Cell) (i : ℕ) (c : Cell) → slice_get image i ≡ Some c
+    → cell_at image (address_of_word i) ≡ Some c
+cell_here image i c h =
+    let at = address_of_word i in
     let low : leb image_base at ≡ true = grind (arith, nat_tests) in
     let aligned : at % 4 ≡ 0 = omega arith in
     let place : (at - image_base) / 4 ≡ i = omega arith in
     rw (low, aligned, place) h
 
--- a word that is planned for an address
-abbrev pub plan_of : (ℕ → ℕ) → ℕ → ℕ → ℕ → Item → Planned
-plan_of head at a k i = record { what = Some (said head at i.what); place = Some (record { address = a; word = k }) }
+-- the word of an item at an address
+abbrev pub word_of : (ℕ → ℕ) → ℕ → PlacedItem → ImageWord
+word_of head at i = record { what = Some (item_word head at i.item); place = Some i.place }
 
-planned_get : (head : ℕ → ℕ) (at a j : ℕ) (is : List Item) (k : ℕ) (i : Item) → slice_get is k ≡ Some i → slice_get (planned_at head at a j is) k ≡ Some (plan_of head (at + 4 * k) a (j + k) i)
-planned_get head at a j [] k i h = cc
-planned_get head at a j (x ∷ is) zero i h =
+-- an item of the sequence of a place
+abbrev pub placed_item : ℕ → ℕ → SequenceItem → PlacedItem
+placed_item a k i =
+    record { item = i.what; place = record { address = a; part = Single; word = k } }
+
+get_word : (head : ℕ → ℕ) (at : ℕ) (is : List PlacedItem) (k : ℕ) (i : PlacedItem)
+    → slice_get is k ≡ Some i
+    → slice_get (words_at head at is) k ≡ Some (word_of head (at + 4 * k) i)
+get_word head at [] k i h = cc
+get_word head at (x ∷ is) zero i h =
+    let same : x ≡ i = cc in
+    let y : at ≡ at + 4 * 0 = omega arith in
+    λ t. Some (word_of head (y t) (same t))
+get_word head at (x ∷ is) (suc k) i h =
+    let y : at + 4 + 4 * k ≡ at + 4 * suc k = omega arith in
+    get_word head (at + 4) is k i h ∙ (λ t. Some (word_of head (y t) i))
+
+get_item : (a j : ℕ) (is : List SequenceItem) (k : ℕ) (i : SequenceItem) → slice_get is k ≡ Some i
+    → slice_get (placed_items a Single j is) k ≡ Some (placed_item a (j + k) i)
+get_item a j [] k i h = cc
+get_item a j (x ∷ is) zero i h =
     let same : x ≡ i = cc in
     let z : j ≡ j + 0 = omega arith in
-    let y : at ≡ at + 4 * 0 = omega arith in
-    λ t. Some (plan_of head (y t) a (z t) (same t))
-planned_get head at a j (x ∷ is) (suc k) i h =
-    let e : j + 1 + k ≡ j + suc k = omega arith in
-    let y : at + 4 + 4 * k ≡ at + 4 * suc k = omega arith in
-    planned_get head (at + 4) a (j + 1) is k i h ∙ (λ t. Some (plan_of head (y t) a (e t) i))
+    λ t. Some (placed_item a (z t) (same t))
+get_item a j (x ∷ is) (suc k) i h =
+    let z : j + 1 + k ≡ j + suc k = omega arith in
+    get_item a (j + 1) is k i h ∙ (λ t. Some (placed_item a (z t) i))
 
-planned_length : (head : ℕ → ℕ) (at a j : ℕ) (is : List Item) → length (planned_at head at a j is) ≡ length is
-planned_length head at a j [] = refl
-planned_length head at a j (i ∷ is) = ap suc (planned_length head (at + 4) a (j + 1) is)
+items_length : (a j : ℕ) (is : List SequenceItem) → length (placed_items a Single j is) ≡ length is
+items_length a j [] = refl
+items_length a j (i ∷ is) = ap suc (items_length a (j + 1) is)
 
 -- the sequence of the place
-abbrev pub items_at : Program → {plan : List Entry} {a : ℕ} → Found plan a → List Item
-items_at program f = sequence_items program f.entry
+abbrev pub items_at : Program → {plan : List PlanEntry} {a : ℕ} → EntrySplit plan a
+    → List SequenceItem
+items_at program f = part_items program f.entry Single
+
+-- the first word of a place's sequence, among words and among items
+abbrev is_first : ℕ → ImageWord → Bool
+is_first a w = option_map_or (is_first_of a) w.place false
+
+abbrev is_first_item : ℕ → PlacedItem → Bool
+is_first_item a i = is_first_of a i.place
+
+position_cells : (a i : ℕ) (image : List Cell)
+    → position_from (begins_at a) i image ≡ position_from (is_first a) i (map read_cell image)
+position_cells a i [] = refl
+position_cells a i (c ∷ cs) =
+    ap (cond (begins_at a c) (Some i)) (position_cells a (i + 1) cs)
+
+position_words : (head : ℕ → ℕ) (at a i : ℕ) (is : List PlacedItem)
+    → position_from (is_first a) i (words_at head at is) ≡ position_from (is_first_item a) i is
+position_words head at a i [] = refl
+position_words head at a i (x ∷ is) =
+    ap (cond (is_first_item a x) (Some i)) (position_words head (at + 4) a (i + 1) is)
+
+skip_items : (a b i k : ℕ) (is : List SequenceItem) (ys : List PlacedItem) → b ≢ a
+    → position_from (is_first_item a) i (placed_items b Single k is ++ ys)
+    ≡ position_from (is_first_item a) (i + length (placed_items b Single k is)) ys
+skip_items a b i k [] ys n =
+    let z : i ≡ i + 0 = omega arith in ap (λ j. position_from (is_first_item a) j ys) z
+skip_items a b i k (x ∷ is) ys n =
+    let t : eqb b a ≡ false = grind (arith, nat_tests) in
+    let z : i + 1 + length (placed_items b Single (k + 1) is)
+    ≡ i + suc (length (placed_items b Single (k + 1) is)) = omega arith in
+    rw t (skip_items a b (i + 1) (k + 1) is ys n
+    ∙ ap (λ j. position_from (is_first_item a) j ys) z)
+
+first_is_here : (a i : ℕ) (is : List SequenceItem) (ys : List PlacedItem) → 0 < length is
+    → position_from (is_first_item a) i (placed_items a Single 0 is ++ ys) ≡ Some i
+first_is_here a i [] ys h = absurd (omega arith)
+first_is_here a i (x ∷ is) ys h =
+    let t : eqb a a ≡ true = grind (arith, nat_tests) in rw t refl
+
+-- no entry of the address
+abbrev pub AllApart : List PlanEntry → ℕ → Type 0
+AllApart [] a = Unit {0}
+AllApart (x ∷ xs) a = (x.address ≢ a) × AllApart xs a
+
+below_apart : (xs : List PlanEntry) (a : ℕ) → AllBelow xs a → AllApart xs a
+below_apart [] a h = tt
+below_apart (x ∷ xs) a h = let lt = h.0 in (omega arith, below_apart xs a h.1)
+
+-- the entry of an address, or none
+pub member : (plan : List PlanEntry) (a : ℕ) → EntrySplit plan a ⊎ AllApart plan a
+member [] a = inr tt
+member (e ∷ es) a = elim (eqb_tells e.address a) [
+  | inl t ↦ inl (record { before = []; entry = e; after = es; split = refl; here = t.1 })
+  | inr t ↦ (elim (member es a) [
+    | inl f ↦ inl (record {
+      before = e ∷ f.before;
+      entry = f.entry;
+      after = f.after;
+      split = ap (λ xs. e ∷ xs) f.split;
+      here = f.here;
+    })
+    | inr none ↦ inr (t.1, none)
+  ])
+]
+
+-- an address with no entry isn't a place
+pub absent : (plan : List PlanEntry) (a k : ℕ) → AllApart plan a → k < length (addresses plan)
+    → get_or (addresses plan) k a ≡ a → ⊥
+absent [] a k h lt is = omega arith
+absent (e ∷ es) a zero h lt is = h.0 is
+absent (e ∷ es) a (suc k) h lt is = absent es a k h.1 (omega arith) is
 
 module _ (program : Program) where
-  -- how many words stand before the entries
-  abbrev pub words_in : List Entry → ℕ
+  -- how many words the entries have
+  abbrev pub words_in : List PlanEntry → ℕ
   words_in [] = 0
-  words_in (e ∷ es) = length (sequence_items program e) + words_in es
+  words_in (e ∷ es) = length (entry_items program e) + words_in es
 
-  words_in_append : (xs ys : List Entry) → words_in (xs ++ ys) ≡ words_in xs + words_in ys
+  words_in_append : (xs ys : List PlanEntry) → words_in (xs ++ ys) ≡ words_in xs + words_in ys
   words_in_append [] ys = sym (zero-add (words_in ys))
-  words_in_append (x ∷ xs) ys = ap (λ z. length (sequence_items program x) + z) (words_in_append xs ys) ∙ sym (add_assoc (length (sequence_items program x)) (words_in xs) (words_in ys))
+  words_in_append (x ∷ xs) ys =
+      ap (λ z. length (entry_items program x) + z) (words_in_append xs ys)
+      ∙ sym (add_assoc (length (entry_items program x)) (words_in xs) (words_in ys))
 
   -- the address of a word of the place's sequence
-  abbrev pub word_address : {plan : List Entry} {a : ℕ} → Found plan a → ℕ → ℕ
+  abbrev pub word_address : {plan : List PlanEntry} {a : ℕ} → EntrySplit plan a → ℕ → ℕ
   word_address f k = address_of_word (suc (words_in f.before + k))
 
-  -- the words of an entry, among those of a plan
-  get_planned : (head : ℕ → ℕ) (at : ℕ) (before : List Entry) (e : Entry) (after : List Entry) (k : ℕ) (i : Item) → slice_get (sequence_items program e) k ≡ Some i
-      → slice_get (planned_from program head at (before ++ e ∷ after)) (words_in before + k) ≡ Some (plan_of head (at + 4 * (words_in before + k)) e.address k i)
-  get_planned head at [] e after k i h =
-      let z : 0 + k ≡ k = zero-add k in
-      let here = get_left (planned_at head at e.address 0 (sequence_items program e)) (planned_from program head (at + 4 * length (sequence_items program e)) after) k _ (planned_get head at e.address 0 (sequence_items program e) k i h) in
-      ap (slice_get (planned_from program head at (e ∷ after))) z ∙ here ∙ (λ t. Some (plan_of head (at + 4 * (sym z t)) e.address (z t) i))
-  get_planned head at (x ∷ xs) e after k i h =
-      let n = length (sequence_items program x) in
-      let first = planned_at head at x.address 0 (sequence_items program x) in
-      let rest = planned_from program head (at + 4 * n) (xs ++ e ∷ after) in
-      let count : length first ≡ n = planned_length head at x.address 0 (sequence_items program x) in
-      let where_is : n + words_in xs + k ≡ length first + (words_in xs + k) = omega (arith, count) in
-      let y : at + 4 * n + 4 * (words_in xs + k) ≡ at + 4 * (n + words_in xs + k) = omega arith in
-      ap (slice_get (first ++ rest)) where_is ∙ get_right first rest (words_in xs + k) ∙ get_planned head (at + 4 * n) xs e after k i h ∙ (λ t. Some (plan_of head (y t) e.address k i))
+  -- the items of an entry, among those of a plan
+  get_entry_item : (before : List PlanEntry) (e : PlanEntry) (after : List PlanEntry) (k : ℕ)
+      (i : PlacedItem) → slice_get (entry_items program e) k ≡ Some i
+      → slice_get (plan_items program (before ++ e ∷ after)) (words_in before + k) ≡ Some i
+  get_entry_item [] e after k i h =
+      ap (slice_get (plan_items program (e ∷ after))) (zero-add k)
+      ∙ get_left (entry_items program e) (plan_items program after) k i h
+  get_entry_item (x ∷ xs) e after k i h =
+      let first = entry_items program x in
+      let rest = plan_items program (xs ++ e ∷ after) in
+      ap (slice_get (first ++ rest)) (add_assoc (length first) (words_in xs) k)
+      ∙ get_right first rest (words_in xs + k) ∙ get_entry_item xs e after k i h
 
   -- the place of an entry, among those of a plan
-  words_before_is : (a : ℕ) (before : List Entry) (e : Entry) (after : List Entry) → AllBelow before a → e.address ≡ a → words_before program (before ++ e ∷ after) a ≡ words_in before
-  words_before_is a [] e after low here = let t : eqb e.address a ≡ true = grind (arith, nat_tests) in rw t refl
+  words_before_is : (a : ℕ) (before : List PlanEntry) (e : PlanEntry) (after : List PlanEntry)
+      → AllBelow before a → e.address ≡ a
+      → words_before program (before ++ e ∷ after) a ≡ words_in before
+  words_before_is a [] e after low here =
+      let t : eqb e.address a ≡ true = grind (arith, nat_tests) in rw t refl
   words_before_is a (x ∷ xs) e after low here =
       let lt = low.0 in
       let t : eqb x.address a ≡ false = grind (arith, nat_tests) in
-      rw t (ap (λ z. length (sequence_items program x) + z) (words_before_is a xs e after low.1 here))
+      rw t (ap (λ z. length (entry_items program x) + z)
+      (words_before_is a xs e after low.1 here))
 
-  all_below : (plan : List Entry) (a : ℕ) → IsAdmissible program plan → (f : Found plan a) → AllBelow f.before a
-  all_below plan a adm f = subst (AllBelow f.before) f.here (below 0 f.before f.entry f.after (subst (AscendsFrom 0) f.split adm.ascends))
+  skip_entries : (a i : ℕ) (before after : List PlanEntry) → AllApart before a
+      → position_from (is_first_item a) i (plan_items program (before ++ after))
+      ≡ position_from (is_first_item a) (i + words_in before) (plan_items program after)
+  skip_entries a i [] after h =
+      let z : i ≡ i + 0 = omega arith in
+      ap (λ j. position_from (is_first_item a) j (plan_items program after)) z
+  skip_entries a i (x ∷ xs) after h =
+      let n = length (entry_items program x) in
+      skip_items a x.address i 0 (part_items program x Single) (plan_items program (xs ++ after))
+      h.0
+      ∙ skip_entries a (i + n) xs after h.1
+      ∙ ap (λ j. position_from (is_first_item a) j (plan_items program after))
+      (add_assoc i n (words_in xs))
 
-  pub head_is : (plan : List Entry) (a : ℕ) → IsAdmissible program plan → (f : Found plan a) → head_of program plan a ≡ word_address f 0
-  head_is plan a adm f =
-      let count = ap (λ p. words_before program p a) f.split ∙ words_before_is a f.before f.entry f.after (all_below plan a adm f) f.here in
-      omega (arith, count)
+  module _ (plan : List PlanEntry) where
+    all_below : (a : ℕ) → IsAdmissible program plan → (f : EntrySplit plan a) → AllBelow f.before a
+    all_below a adm f =
+        subst (AllBelow f.before) f.here
+        (below 0 f.before f.entry f.after (subst (AscendsFrom 0) f.split adm.ascends))
 
-  -- a word of an image, where it stands
-  pub record Stored (image : List Cell) (k : ℕ) (p : Planned) : Type 0 where
-    pub cell : Cell
-    pub there : slice_get image k ≡ Some cell
-    pub is : as_planned cell ≡ p
+    pub head_is : (a : ℕ) → IsAdmissible program plan → (f : EntrySplit plan a)
+        → head_of program plan a ≡ word_address f 0
+    head_is a adm f =
+        let count = ap (λ p. words_before program p a) f.split
+        ∙ words_before_is a f.before f.entry f.after (all_below a adm f) f.here in
+        omega (arith, count)
 
-  stored_at : (plan : List Entry) (image : List Cell) (k : ℕ) (p : Planned) → IsRewriting program plan image → slice_get (planned program plan) k ≡ Some p → Stored image k p
-  stored_at plan image k p rewriting h =
-      let in_image = sym (slice_get-map as_planned image k) ∙ ap (λ xs. slice_get xs k) rewriting.expansion ∙ h in
-      let c = option_map_some as_planned (slice_get image k) p in_image in
-      record { cell = c.0; there = c.1; is = c.2 }
+    -- behind a code word's sequence comes that of the next address
+    pub record NextSplit (a : ℕ) (f : EntrySplit plan a) : Type 0 where
+      pub next : EntrySplit plan (a + 4)
+      pub starts : word_address next 0 ≡ word_address f (length (items_at program f))
 
-  stored : (plan : List Entry) (image : List Cell) (a k : ℕ) (i : Item) → IsRewriting program plan image → (f : Found plan a) → slice_get (items_at program f) k ≡ Some i
-      → Stored image (suc (words_in f.before + k)) (plan_of (head_of program plan) (word_address f k) a k i)
-  stored plan image a k i rewriting f h =
-      let head = head_of program plan in
-      let y : address_of_word 1 + 4 * (words_in f.before + k) ≡ word_address f k = omega arith in
-      let here = f.here in
-      stored_at plan image (suc (words_in f.before + k)) (plan_of head (word_address f k) a k i) rewriting
-      (ap (λ p. slice_get (planned_from program head (address_of_word 1) p) (words_in f.before + k)) f.split ∙ get_planned head (address_of_word 1) f.before f.entry f.after k i h
-      ∙ (λ t. Some (plan_of head (y t) (here t) k i)))
+    pub next_split : (a : ℕ) (f : EntrySplit plan a) → Follows plan a f → NextSplit a f
+    next_split a f g =
+        let whole : plan ≡ (f.before ++ f.entry ∷ []) ++ g.next ∷ g.rest =
+        f.split ∙ ap (λ xs. f.before ++ f.entry ∷ xs) g.after
+        ∙ sym (append_assoc f.before (f.entry ∷ []) (g.next ∷ g.rest)) in
+        let next : EntrySplit plan (a + 4) = record {
+          before = f.before ++ f.entry ∷ [];
+          entry = g.next;
+          after = g.rest;
+          split = whole;
+          here = g.here;
+        } in
+        let words = words_in_append f.before (f.entry ∷ []) in
+        let count = items_length f.entry.address 0 (items_at program f) in
+        record { next = next; starts = omega (arith, words, count) }
 
-  read_stored : (image : List Cell) (at j : ℕ) (what : RtWord) (place : Option Place) → at ≡ address_of_word j → Stored image j (record { what = Some what; place = place }) → fetched image at ≡ Some (record { what = what; place = place })
-  read_stored image at j what place e s =
-      let found = cell_read image j at s.cell e s.there in
-      let reads : reading_of s.cell.word ≡ Some what = ap (λ (p : Planned). p.what) s.is in
-      let where_is : s.cell.place ≡ place = ap (λ (p : Planned). p.place) s.is in
-      ap (option_and_then (λ (c : Cell). option_map (λ w. record { what = w; place = c.place }) (reading_of c.word))) found
-      ∙ ap (option_map (λ w. record { what = w; place = s.cell.place })) reads ∙ ap (λ x. Some (record { what = what; place = x })) where_is
+    module _ (image : List Cell) (rewriting : IsRewriting program plan image) where
+      -- a word of an image, where it stands
+      pub record HasWord (k : ℕ) (w : ImageWord) : Type 0 where
+        pub cell : Cell
+        pub there : slice_get image k ≡ Some cell
+        pub is : read_cell cell ≡ w
 
-  -- fetching the word of this number of a place's sequence
-  pub fetch : (plan : List Entry) (image : List Cell) (a k : ℕ) (i : Item) → IsRewriting program plan image → (f : Found plan a) → slice_get (items_at program f) k ≡ Some i
-      → fetched image (word_address f k) ≡ Some (record { what = said (head_of program plan) (word_address f k) i.what; place = Some (record { address = a; word = k }) })
-  fetch plan image a k i rewriting f h =
-      read_stored image (word_address f k) (suc (words_in f.before + k)) (said (head_of program plan) (word_address f k) i.what) (Some (record { address = a; word = k })) refl (stored plan image a k i rewriting f h)
+      has_word : (k : ℕ) (w : ImageWord) → slice_get (image_words program plan) k ≡ Some w
+          → HasWord k w
+      has_word k w h =
+          let in_image = sym (slice_get-map read_cell image k)
+          ∙ ap (λ xs. slice_get xs k) rewriting.expansion.words ∙ h in
+          let c = option_map_some read_cell (slice_get image k) w in_image in
+          record { cell = c.0; there = c.1; is = c.2 }
 
-  -- fetching word 0
-  pub fetch_off : (plan : List Entry) (image : List Cell) → IsRewriting program plan image → fetched image image_base ≡ Some (record { what = TrapOff; place = None })
-  fetch_off plan image rewriting = read_stored image image_base 0 TrapOff None refl (stored_at plan image 0 off_word rewriting refl)
+      fetch_is : (k : ℕ) (w : ImageWord) → HasWord k w → fetch image (address_of_word k) ≡ Some w
+      fetch_is k w c =
+          ap (option_map read_cell) (cell_here image k c.cell c.there) ∙ ap (λ x. Some x) c.is
 
-  -- a word's address is below 2^32, and has room for the next
-  pub in_range : (plan : List Entry) (image : List Cell) (a k : ℕ) (i : Item) → IsRewriting program plan image → (f : Found plan a) → slice_get (items_at program f) k ≡ Some i → word_address f k < 2 ^ 31 + 2 ^ 30
-  in_range plan image a k i rewriting f h =
-      let s = stored plan image a k i rewriting f h in
-      let within = slice_get_within image (suc (words_in f.before + k)) s.cell s.there in
-      let few = rewriting.few in
-      omega arith
+      -- fetching word 0
+      pub fetch_off : fetch image image_base ≡ Some (record { what = Some TrapOff; place = None })
+      fetch_off = fetch_is 0 off_word (has_word 0 off_word refl)
 
-  pub next_word : (plan : List Entry) (image : List Cell) (a k : ℕ) (i : Item) → IsRewriting program plan image → (f : Found plan a) → slice_get (items_at program f) k ≡ Some i → next_pc (word_address f k) ≡ word_address f (k + 1)
-  next_word plan image a k i rewriting f h = let range = in_range plan image a k i rewriting f h in omega arith
+      module _ (a k : ℕ) (i : SequenceItem) (f : EntrySplit plan a)
+          (h : slice_get (items_at program f) k ≡ Some i) where
+        abbrev pub here : PlacedItem
+        here = placed_item a k i
 
-  -- the mark of that word
-  pub mark : (plan : List Entry) (a k : ℕ) (i : Item) → IsAdmissible program plan → (f : Found plan a) → slice_get (items_at program f) k ≡ Some i
-      → commit_at program plan (Some (record { address = a; word = k })) ≡ i.commit
-  mark plan a k i adm f h =
-      ap (λ o. option_map_or (λ e. option_map_or (λ j. j.commit) (slice_get (sequence_items program e) k) Never) o Never) (found_by_address program plan a adm f)
-      ∙ ap (λ o. option_map_or (λ j. j.commit) o Never) h
+        item_word_there : HasWord (suc (words_in f.before + k))
+            (word_of (head_of program plan) (word_address f k) here)
+        item_word_there =
+            let head = head_of program plan in
+            let y : address_of_word 1 + 4 * (words_in f.before + k) ≡ word_address f k =
+            omega arith in
+            let entry_here = f.here in
+            let in_entry = get_item f.entry.address 0 (items_at program f) k i h in
+            let in_plan : slice_get (plan_items program plan) (words_in f.before + k) ≡ Some here =
+            ap (λ p. slice_get (plan_items program p) (words_in f.before + k)) f.split
+            ∙ get_entry_item f.before f.entry f.after k _ in_entry
+            ∙ (λ t. Some (placed_item (entry_here t) (zero-add k t) i)) in
+            has_word (suc (words_in f.before + k)) (word_of head (word_address f k) here)
+            (get_word head (address_of_word 1) (plan_items program plan) _ here in_plan
+            ∙ (λ t. Some (word_of head (y t) here)))
 
-  -- behind a code word's sequence comes that of the next address
-  pub record NextFound (plan : List Entry) (a : ℕ) (f : Found plan a) : Type 0 where
-    pub next : Found plan (a + 4)
-    pub starts : word_address next 0 ≡ word_address f (length (items_at program f))
+        -- fetching the word of this number of a place's sequence
+        pub fetch_word : fetch image (word_address f k)
+            ≡ Some (word_of (head_of program plan) (word_address f k) here)
+        fetch_word = fetch_is (suc (words_in f.before + k)) _ item_word_there
 
-  pub next_found : (plan : List Entry) (a : ℕ) (f : Found plan a) → Follows plan a f → NextFound plan a f
-  next_found plan a f g =
-      let whole : plan ≡ (f.before ++ f.entry ∷ []) ++ g.next ∷ g.rest = f.split ∙ ap (λ xs. f.before ++ f.entry ∷ xs) g.after ∙ sym (append_assoc f.before (f.entry ∷ []) (g.next ∷ g.rest)) in
-      let next : Found plan (a + 4) = record { before = f.before ++ f.entry ∷ []; entry = g.next; after = g.rest; split = whole; here = g.here } in
-      let words = words_in_append f.before (f.entry ∷ []) in
-      record { next = next; starts = omega (arith, words) }
+        -- the kind of commit of that word
+        pub commit_of_word : commit_at program plan (old_of image (word_address f k)) ≡ i.commit
+        commit_of_word =
+            let c = item_word_there in
+            let place : old_of image (word_address f k) ≡ Some here.place =
+            ap (option_and_then (λ (x : Cell). x.place)) (cell_here image _ c.cell c.there)
+            ∙ ap (λ (w : ImageWord). w.place) c.is in
+            ap (commit_at program plan) place
+            ∙ ap (λ o. option_map_or (λ (j : SequenceItem). j.commit)
+            (option_and_then (λ e. slice_get (part_items program e Single) k) o) Never)
+            (entry_at_is program plan a rewriting.admissible f)
+            ∙ ap (λ o. option_map_or (λ (j : SequenceItem). j.commit) o Never) h
 
-  -- the words of an image, as a plan has them
-  abbrev first_planned : ℕ → Planned → Bool
-  first_planned a p = option_map_or (λ x. eqb x.address a && eqb x.word 0) p.place false
+        -- a word's address is below 2^32, and has room for the next
+        pub in_range : word_address f k < 2 ^ 31 + 2 ^ 30
+        in_range =
+            let c = item_word_there in
+            let within = slice_get_within image (suc (words_in f.before + k)) c.cell c.there in
+            let few = rewriting.expansion.few in
+            omega arith
 
-  position_planned : (a i : ℕ) (image : List Cell) → position_from (is_first_of a) i image ≡ position_from (first_planned a) i (map as_planned image)
-  position_planned a i [] = refl
-  position_planned a i (c ∷ cs) = ap (cond (is_first_of a c) (Some i)) (position_planned a (i + 1) cs)
+        pub next_word : next_pc (word_address f k) ≡ word_address f (k + 1)
+        next_word = let range = in_range in omega arith
 
-  skips_items : (head : ℕ → ℕ) (a at b i k : ℕ) (is : List Item) (ys : List Planned) → b ≢ a → position_from (first_planned a) i (planned_at head at b k is ++ ys) ≡ position_from (first_planned a) (i + length is) ys
-  skips_items head a at b i k [] ys n = let z : i ≡ i + 0 = omega arith in ap (λ j. position_from (first_planned a) j ys) z
-  skips_items head a at b i k (x ∷ is) ys n =
-      let t : eqb b a ≡ false = grind (arith, nat_tests) in
-      let z : i + 1 + length is ≡ i + suc (length is) = omega arith in
-      rw t (skips_items head a (at + 4) b (i + 1) (k + 1) is ys n ∙ ap (λ j. position_from (first_planned a) j ys) z)
+      position_in_image : (a : ℕ) → position_from (begins_at a) 0 image
+          ≡ position_from (is_first_item a) 1 (plan_items program plan)
+      position_in_image a =
+          position_cells a 0 image ∙ ap (position_from (is_first a) 0) rewriting.expansion.words
+          ∙ position_words (head_of program plan) (address_of_word 1) a 1 (plan_items program plan)
 
-  -- no entry of the address
-  abbrev pub AllApart : List Entry → ℕ → Type 0
-  AllApart [] a = Unit {0}
-  AllApart (x ∷ xs) a = (x.address ≢ a) × AllApart xs a
+      new_by : (a : ℕ) (o : Option ℕ)
+          → position_from (is_first_item a) 1 (plan_items program plan) ≡ o
+          → new_of image a ≡ option_map address_of_word o
+      new_by a o h =
+          ap (option_map address_of_word)
+          (position_from-zero (begins_at a) image ∙ position_in_image a ∙ h)
 
-  below_apart : (xs : List Entry) (a : ℕ) → AllBelow xs a → AllApart xs a
-  below_apart [] a h = tt
-  below_apart (x ∷ xs) a h = let lt = h.0 in (omega arith, below_apart xs a h.1)
+      -- the map sends a place to the first word of its sequence
+      pub new_of_place : (a : ℕ) (f : EntrySplit plan a) → 0 < length (items_at program f)
+          → new_of image a ≡ Some (word_address f 0)
+      new_of_place a f some =
+          let items = items_at program f in
+          let apart = below_apart f.before a (all_below a rewriting.admissible f) in
+          let rest = plan_items program f.after in
+          let first : position_from (is_first_item a) 1 (plan_items program plan)
+          ≡ Some (1 + words_in f.before) =
+          ap (λ p. position_from (is_first_item a) 1 (plan_items program p)) f.split
+          ∙ skip_entries a 1 f.before (f.entry ∷ f.after) apart
+          ∙ ap (λ b. position_from (is_first_item a) (1 + words_in f.before)
+          (placed_items b Single 0 items ++ rest)) f.here
+          ∙ first_is_here a (1 + words_in f.before) items rest some in
+          let z : 1 + words_in f.before ≡ suc (words_in f.before + 0) = omega arith in
+          new_by a (Some (1 + words_in f.before)) first ∙ ap (λ j. Some (address_of_word j)) z
 
-  -- the entry of an address, or none
-  pub member : (plan : List Entry) (a : ℕ) → Found plan a ⊎ AllApart plan a
-  member [] a = inr tt
-  member (e ∷ es) a = elim (eqb_tells e.address a) [
-    | inl t ↦ inl (record { before = []; entry = e; after = es; split = refl; here = t.1 })
-    | inr t ↦ (elim (member es a) [
-      | inl f ↦ inl (record { before = e ∷ f.before; entry = f.entry; after = f.after; split = ap (λ xs. e ∷ xs) f.split; here = f.here })
-      | inr none ↦ inr (t.1, none)
-    ])
-  ]
-
-  skips_entries : (head : ℕ → ℕ) (a at i : ℕ) (before after : List Entry) → AllApart before a → position_from (first_planned a) i (planned_from program head at (before ++ after)) ≡ position_from (first_planned a) (i + words_in before) (planned_from program head (at + 4 * words_in before) after)
-  skips_entries head a at i [] after h = let z : i ≡ i + 0 = omega arith in let y : at ≡ at + 4 * 0 = omega arith in λ t. position_from (first_planned a) (z t) (planned_from program head (y t) after)
-  skips_entries head a at i (x ∷ xs) after h =
-      let is = sequence_items program x in
-      let n = length is in
-      let z : i + n + words_in xs ≡ i + (n + words_in xs) = omega arith in
-      let y : at + 4 * n + 4 * words_in xs ≡ at + 4 * (n + words_in xs) = omega arith in
-      skips_items head a at x.address i 0 is (planned_from program head (at + 4 * n) (xs ++ after)) h.0 ∙ skips_entries head a (at + 4 * n) (i + n) xs after h.1 ∙ (λ t. position_from (first_planned a) (z t) (planned_from program head (y t) after))
-
-  first_is_here : (head : ℕ → ℕ) (a at i : ℕ) (is : List Item) (ys : List Planned) → 0 < length is → position_from (first_planned a) i (planned_at head at a 0 is ++ ys) ≡ Some i
-  first_is_here head a at i [] ys h = absurd (omega arith)
-  first_is_here head a at i (x ∷ is) ys h = let t : eqb a a ≡ true = grind (arith, nat_tests) in rw t refl
-
-  -- the map sends a place to the first word of its sequence
-  pub new_of_place : (plan : List Entry) (image : List Cell) (a : ℕ) → IsRewriting program plan image → (f : Found plan a) → 0 < length (items_at program f) → new_of image a ≡ Some (word_address f 0)
-  new_of_place plan image a rewriting f some =
-      let head = head_of program plan in
-      let at = address_of_word 1 + 4 * words_in f.before in
-      let items = sequence_items program f.entry in
-      let apart = below_apart f.before a (all_below plan a rewriting.admissible f) in
-      let first : position_from (first_planned a) (1 + words_in f.before) (planned_from program head at (f.entry ∷ f.after)) ≡ Some (1 + words_in f.before) =
-      ap (λ b. position_from (first_planned a) (1 + words_in f.before) (planned_at head at b 0 items ++ planned_from program head (at + 4 * length items) f.after)) f.here
-      ∙ first_is_here head a at (1 + words_in f.before) items (planned_from program head (at + 4 * length items) f.after) some in
-      let whole : position_from (is_first_of a) 0 image ≡ Some (1 + words_in f.before) =
-      position_planned a 0 image ∙ ap (position_from (first_planned a) 0) rewriting.expansion ∙ ap (λ p. position_from (first_planned a) 1 (planned_from program head (address_of_word 1) p)) f.split
-      ∙ skips_entries head a (address_of_word 1) 1 f.before (f.entry ∷ f.after) apart ∙ first in
-      let z : 1 + words_in f.before ≡ suc (words_in f.before + 0) = omega arith in
-      ap (option_map address_of_word) (position_from-zero (is_first_of a) image ∙ whole) ∙ ap (λ j. Some (address_of_word j)) z
-
-  -- and knows no other address
-  pub new_of_none : (plan : List Entry) (image : List Cell) (a : ℕ) → IsRewriting program plan image → AllApart plan a → new_of image a ≡ None
-  new_of_none plan image a rewriting apart =
-      let head = head_of program plan in
-      let none : position_from (first_planned a) 1 (planned_from program head (address_of_word 1) plan) ≡ None =
-      ap (λ p. position_from (first_planned a) 1 (planned_from program head (address_of_word 1) p)) (sym (Rattle.std.proofs.Common.append-nil plan)) ∙ skips_entries head a (address_of_word 1) 1 plan [] apart in
-      let whole : position_from (is_first_of a) 0 image ≡ None = position_planned a 0 image ∙ ap (position_from (first_planned a) 0) rewriting.expansion ∙ none in
-      ap (option_map address_of_word) (position_from-zero (is_first_of a) image ∙ whole)
-
-  -- an address with no entry isn't a place
-  pub absent : (plan : List Entry) (a k : ℕ) → AllApart plan a → k < length (addresses plan) → Rattle.std.proofs.Common.get_or (addresses plan) k a ≡ a → ⊥
-  absent [] a k h lt is = omega arith
-  absent (e ∷ es) a zero h lt is = h.0 is
-  absent (e ∷ es) a (suc k) h lt is = absent es a k h.1 (omega arith) is
+      -- and knows no other address
+      pub new_of_none : (a : ℕ) → AllApart plan a → new_of image a ≡ None
+      new_of_none a apart =
+          new_by a None (ap (λ p. position_from (is_first_item a) 1 (plan_items program p))
+          (sym (append-nil plan)) ∙ skip_entries a 1 plan [] apart)

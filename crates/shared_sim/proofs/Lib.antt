@@ -1,10 +1,11 @@
-mod Plans
-mod Fetching
 mod RegisterLemmas
 mod Does
+mod Plans
 mod Mids
 mod Checked
 mod Templates
+mod Fetching
+mod Standing
+mod Words
 mod Stops
 mod Follows
-mod Standing

@@ -1,19 +1,130 @@
-use Rattle.std.proofs.Common.{◌≡◌, ◌+◌, ap, ◌∙◌, subst}
-use Rattle.node_machine.specs.Node.{Node, moved, exit_of, end_by, node_step, next_act}
-use Rattle.node_machine.specs.Bytes.{local_of}
-use Rattle.node_machine.specs.Held.{Held, lane_of, node_of, work_of}
+use Rattle.std.proofs.Common.{◌≡◌, ◌+◌, ℕ, List, refl, sym, ap, ◌∙◌, subst, true, Option, Some, None}
+use Rattle.rv32_program.specs.declared.End.{End}
+use Rattle.rv32_program.specs.declared.End.TheVariants.{Exited, Stopped}
+use Rattle.jump_map.specs.Image.{Cell}
+use Rattle.node_machine.specs.declared.body.Body.{Body}
+use Rattle.node_machine.specs.Node as model
+use Rattle.node_machine.specs.Kept.{NodeView, node_of, work_of, phase_by}
+use Rattle.node_machine.proofs.NodeLemmas.{hot_node, cold_node, running, stops, runs_on}
 use Rattle.node_machine.proofs.node.Node.exec.Goals as goal
 
-pub returns-clause-node : goal.returns-clause-node
-returns-clause-node c =
-    let inside = c.self.inside in
-    let did = c.act-acted.ensures in
-    let lane = c.go.ensures ∙ (λ t. moved inside.image.now (did.lane t) (did.move t)) in
-    let end = c.end_by-self-inside.ensures ∙ ap (end_by inside.budget (inside.executed + 1)) c.exit_of.ensures ∙ (λ t. end_by inside.budget (inside.executed + 1) (exit_of (did.move t))) in
-    let now : Node = record { lane = lane_of c.go.new.self; local = local_of c.act-acted.new.local; executed = inside.executed + 1; end = c.end_by-self-inside.result } in
-    subst (λ (h : Held). now ≡ node_step (work_of h) (node_of h)) c.self.view_is
-    (λ t. record { lane = lane t; local = did.local t; executed = inside.executed + 1; end = end t })
+abbrev view_by : List Cell → ℕ → ℕ → ℕ → ℕ → Option End → Body → NodeView
+view_by image nodes budget at executed end b = record {
+  program = b.local.program;
+  image = image;
+  nodes = nodes;
+  budget = budget;
+  lane = b.lane;
+  shelf = b.local;
+  counts = b.counts;
+  at = at;
+  executed = executed;
+  end = end;
+}
 
-pub returns-clause-output : goal.returns-clause-output
-returns-clause-output c =
-    subst (λ (h : Held). c.act-acted.result.output ≡ (next_act (work_of h) (node_of h)).printed) c.self.view_is c.act-acted.ensures.output
+-- the node after a word, of which the view was this
+abbrev Steps : NodeView → NodeView → Type 0
+Steps after v = node_of after ≡ model.word_step (work_of v) (node_of v)
+
+-- the word printed this
+abbrev Prints : Option ℕ → NodeView → Type 0
+Prints output v = output ≡ (model.word_outcome (work_of v) (node_of v)).printed
+
+pub returns-then-self-number-clause-node : goal.returns-then-self-number-clause-node
+returns-then-self-number-clause-node c =
+    let i = c.self.inside in
+    let view : Body → NodeView = view_by i.image.now i.nodes i.budget i.at i.executed i.end in
+    let b = c.step_at.new.self in
+    let after = view_by i.image.now i.nodes i.budget c.in-Some.at (i.executed + 1) (Some (Stopped (i.executed + 1))) b in
+    let ends = stops i.budget (i.executed + 1) (c.if-self-number.true ∙ c.number.ensures.value) in
+    let hot = hot_node (view c.deref_mut.result.now) b.lane b.local b.counts c.in-Some.at (Some (Stopped (i.executed + 1))) refl c.in-Some.ensures.steps c.step_at.ensures.counts ends in
+    let there = subst (λ (x : Body). Steps after (view x)) c.deref_mut.ensures.value hot in
+    subst (Steps after) c.self.view_is there
+
+pub returns-then-self-number-clause-output : goal.returns-then-self-number-clause-output
+returns-then-self-number-clause-output c =
+    let i = c.self.inside in
+    let view : Body → NodeView = view_by i.image.now i.nodes i.budget i.at i.executed i.end in
+    let there = subst (λ (x : Body). Prints None (view x)) c.deref_mut.ensures.value (sym c.in-Some.ensures.steps.output) in
+    subst (Prints None) c.self.view_is there
+
+pub returns-else-self-number-clause-node : goal.returns-else-self-number-clause-node
+returns-else-self-number-clause-node c =
+    let i = c.self.inside in
+    let view : Body → NodeView = view_by i.image.now i.nodes i.budget i.at i.executed i.end in
+    let b = c.step_at.new.self in
+    let after = view_by i.image.now i.nodes i.budget c.in-Some.at (i.executed + 1) (i.end) b in
+    let ends = running i.end (subst (λ (v : NodeView). model.can_execute (node_of v).phase ≡ true) (sym c.self.view_is) c.requires) ∙ runs_on i.budget (i.executed + 1) (λ e. c.if-self-number.false (e ∙ sym c.number.ensures.value)) in
+    let hot = hot_node (view c.deref_mut.result.now) b.lane b.local b.counts c.in-Some.at (i.end) refl c.in-Some.ensures.steps c.step_at.ensures.counts ends in
+    let there = subst (λ (x : Body). Steps after (view x)) c.deref_mut.ensures.value hot in
+    subst (Steps after) c.self.view_is there
+
+pub returns-else-self-number-clause-output : goal.returns-else-self-number-clause-output
+returns-else-self-number-clause-output c =
+    let i = c.self.inside in
+    let view : Body → NodeView = view_by i.image.now i.nodes i.budget i.at i.executed i.end in
+    let there = subst (λ (x : Body). Prints None (view x)) c.deref_mut.ensures.value (sym c.in-Some.ensures.steps.output) in
+    subst (Prints None) c.self.view_is there
+
+pub returns-in-Some-exit-clause-node : goal.returns-in-Some-exit-clause-node
+returns-in-Some-exit-clause-node c =
+    let i = c.self.inside in
+    let view : Body → NodeView = view_by i.image.now i.nodes i.budget i.at i.executed i.end in
+    let b = c.serve-served.new.self in
+    let done = c.serve-served.result in
+    let after = view_by i.image.now i.nodes i.budget done.at (i.executed + 1) (Some (Exited c.in-Some-exit.exit)) b in
+    let same : c.step_at.new.self ≡ c.deref_mut.result.now = λ t. record { lane = c.in-None.ensures.steps.0 t; local = c.in-None.ensures.steps.1 t; counts = c.step_at.ensures.counts t } in
+    let ends = sym (ap (phase_by i.budget (i.executed + 1)) c.in-Some-exit.is) in
+    let cold = cold_node (view c.deref_mut-in-None.result.now) b.lane b.local b.counts done (Some (Exited c.in-Some-exit.exit)) refl c.serve-served.ensures ends in
+    let there = subst (λ (x : Body). Steps after (view x)) (c.deref_mut-in-None.ensures.value ∙ same ∙ c.deref_mut.ensures.value) cold in
+    subst (Steps after) c.self.view_is there
+
+pub returns-in-Some-exit-clause-output : goal.returns-in-Some-exit-clause-output
+returns-in-Some-exit-clause-output c =
+    let i = c.self.inside in
+    let view : Body → NodeView = view_by i.image.now i.nodes i.budget i.at i.executed i.end in
+    let same : c.step_at.new.self ≡ c.deref_mut.result.now = λ t. record { lane = c.in-None.ensures.steps.0 t; local = c.in-None.ensures.steps.1 t; counts = c.step_at.ensures.counts t } in
+    let there = subst (λ (x : Body). Prints c.serve-served.result.output (view x)) (c.deref_mut-in-None.ensures.value ∙ same ∙ c.deref_mut.ensures.value) c.serve-served.ensures.output in
+    subst (Prints c.serve-served.result.output) c.self.view_is there
+
+pub returns-then-self-number-2-clause-node : goal.returns-then-self-number-2-clause-node
+returns-then-self-number-2-clause-node c =
+    let i = c.self.inside in
+    let view : Body → NodeView = view_by i.image.now i.nodes i.budget i.at i.executed i.end in
+    let b = c.serve-served.new.self in
+    let done = c.serve-served.result in
+    let after = view_by i.image.now i.nodes i.budget done.at (i.executed + 1) (Some (Stopped (i.executed + 1))) b in
+    let same : c.step_at.new.self ≡ c.deref_mut.result.now = λ t. record { lane = c.in-None.ensures.steps.0 t; local = c.in-None.ensures.steps.1 t; counts = c.step_at.ensures.counts t } in
+    let ends = stops i.budget (i.executed + 1) (c.if-self-number-2.true ∙ c.number-in_default.ensures.value) ∙ sym (ap (phase_by i.budget (i.executed + 1)) c.in_default.is) in
+    let cold = cold_node (view c.deref_mut-in-None.result.now) b.lane b.local b.counts done (Some (Stopped (i.executed + 1))) refl c.serve-served.ensures ends in
+    let there = subst (λ (x : Body). Steps after (view x)) (c.deref_mut-in-None.ensures.value ∙ same ∙ c.deref_mut.ensures.value) cold in
+    subst (Steps after) c.self.view_is there
+
+pub returns-then-self-number-2-clause-output : goal.returns-then-self-number-2-clause-output
+returns-then-self-number-2-clause-output c =
+    let i = c.self.inside in
+    let view : Body → NodeView = view_by i.image.now i.nodes i.budget i.at i.executed i.end in
+    let same : c.step_at.new.self ≡ c.deref_mut.result.now = λ t. record { lane = c.in-None.ensures.steps.0 t; local = c.in-None.ensures.steps.1 t; counts = c.step_at.ensures.counts t } in
+    let there = subst (λ (x : Body). Prints c.serve-served.result.output (view x)) (c.deref_mut-in-None.ensures.value ∙ same ∙ c.deref_mut.ensures.value) c.serve-served.ensures.output in
+    subst (Prints c.serve-served.result.output) c.self.view_is there
+
+pub returns-else-self-number-2-clause-node : goal.returns-else-self-number-2-clause-node
+returns-else-self-number-2-clause-node c =
+    let i = c.self.inside in
+    let view : Body → NodeView = view_by i.image.now i.nodes i.budget i.at i.executed i.end in
+    let b = c.serve-served.new.self in
+    let done = c.serve-served.result in
+    let after = view_by i.image.now i.nodes i.budget done.at (i.executed + 1) (i.end) b in
+    let same : c.step_at.new.self ≡ c.deref_mut.result.now = λ t. record { lane = c.in-None.ensures.steps.0 t; local = c.in-None.ensures.steps.1 t; counts = c.step_at.ensures.counts t } in
+    let ends = running i.end (subst (λ (v : NodeView). model.can_execute (node_of v).phase ≡ true) (sym c.self.view_is) c.requires) ∙ runs_on i.budget (i.executed + 1) (λ e. c.if-self-number-2.false (e ∙ sym c.number-in_default.ensures.value)) ∙ sym (ap (phase_by i.budget (i.executed + 1)) c.in_default.is) in
+    let cold = cold_node (view c.deref_mut-in-None.result.now) b.lane b.local b.counts done (i.end) refl c.serve-served.ensures ends in
+    let there = subst (λ (x : Body). Steps after (view x)) (c.deref_mut-in-None.ensures.value ∙ same ∙ c.deref_mut.ensures.value) cold in
+    subst (Steps after) c.self.view_is there
+
+pub returns-else-self-number-2-clause-output : goal.returns-else-self-number-2-clause-output
+returns-else-self-number-2-clause-output c =
+    let i = c.self.inside in
+    let view : Body → NodeView = view_by i.image.now i.nodes i.budget i.at i.executed i.end in
+    let same : c.step_at.new.self ≡ c.deref_mut.result.now = λ t. record { lane = c.in-None.ensures.steps.0 t; local = c.in-None.ensures.steps.1 t; counts = c.step_at.ensures.counts t } in
+    let there = subst (λ (x : Body). Prints c.serve-served.result.output (view x)) (c.deref_mut-in-None.ensures.value ∙ same ∙ c.deref_mut.ensures.value) c.serve-served.ensures.output in
+    subst (Prints c.serve-served.result.output) c.self.view_is there

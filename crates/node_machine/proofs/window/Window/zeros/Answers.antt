@@ -1,5 +1,0 @@
-use Rattle.node_machine.proofs.ByteLemmas.{memory_of-zeros}
-use Rattle.node_machine.proofs.window.Window.zeros.Goals as goal
-
-pub returns : goal.returns
-returns c = memory_of-zeros c.in_ok-zeros.field-0 0x7fff0000 0x10000 c.in_ok-zeros.ensures
