@@ -1,3 +1,3 @@
-pub mod Reading
-pub mod Pieces
-pub mod Told
+pub mod Words
+pub mod Cuts
+pub mod Rows

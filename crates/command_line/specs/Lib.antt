@@ -1,3 +1,4 @@
+pub mod Asks
 pub mod Commands
-pub mod Asked
-pub mod Given
+pub mod Meaning
+pub mod Reading

@@ -1,129 +1,166 @@
 //! The arguments behind the command's word.
 
-ghost use Rattle.std.specs.Prelude.{◌≡◌, ◌≢◌, ◌<◌, ◌++◌, [], ◌∷◌, ℕ, List, length, MatchOption};
-ghost use Rattle.command_line.specs.Commands as model;
-ghost use Rattle.command_line.specs.Commands.{option_word};
-ghost use Rattle.command_line.specs.Given.{setting, given_list, told, told_nothing, and_then, IsSingle, IsReadAs, AreOf, BeginsWith, Told, Tells};
+ghost use Rattle.std.specs.Prelude.{◌≡◌, ◌≢◌, ◌<◌, ◌≤◌, ◌++◌, ◌==◌, ◌↔◌, [], ◌∷◌, ℕ, List, length, IsTrue, false, MatchOption};
+ghost use Rattle.std.specs.List.{list_any};
+ghost use Rattle.command_line.specs.Asks.{IsPlain};
+ghost use Rattle.command_line.specs.Asks as rule;
+ghost use Rattle.command_line.specs.Reading.{IsOf, is_role, word_given, IsCut, BeginsWith, BeginsSeparately, list_of, Gives};
 
+use crate::table::{Setting, option_of};
 use dsm_io::Text;
 
-/// What an option sets.
+/// What an argument is for.
 #[derive(Clone, Copy)]
-pub enum Setting {
-    Nodes,
-    Order,
-    Budget,
+pub(crate) enum Role {
+    /// The next place of the command.
+    Place,
+    /// An option.
+    Option(Setting),
 }
 
-/// The name of a file, or the value of an option.
+/// One argument. The word of a flag is empty.
 #[derive(Clone, Copy)]
-pub enum Argument<'a> {
-    Name(&'a str),
-    Value(Setting, &'a str),
+pub(crate) struct Argument<'a> {
+    pub(crate) role: Role,
+    pub(crate) word: &'a str,
 }
 
-/// What was given so far, each at most once.
+/// The words that were given for one role.
 #[derive(Clone, Copy)]
-pub struct Given<'a> {
-    pub name: Option<&'a str>,
-    pub nodes: Option<&'a str>,
-    pub order: Option<&'a str>,
-    pub budget: Option<&'a str>,
+pub(crate) enum Given<'a> {
+    Nothing,
+    One(&'a str),
+    Two(&'a str, &'a str),
 }
 
-const NOTHING: Given<'static> = Given {
-    name: None,
-    nodes: None,
-    order: None,
-    budget: None,
-};
-
-/// The setting that an option's word names.
-fn setting_of(word: &str) -> Option<Setting>
-    ensures { MatchOption result ((s : model.Setting) → word.now ≢ option_word s) (λ s. word.now ≡ option_word (setting s)) }
+/// Whether a word may stand by itself: as the name of a file, or as a value.
+fn is_plain(word: &str) -> bool
+    ensures { IsTrue result ↔ IsPlain word.now }
 {
-    match word {
-        "--nodes" => Some(Setting::Nodes),
-        "--order" => Some(Setting::Order),
-        "--budget" => Some(Setting::Budget),
-        _ => None,
+    !word.is_empty() && !word.starts_with('-')
+}
+
+/// The two parts of a word with an equals sign, before the first and behind it.
+fn assignment(word: &str) -> Option<(&str, &str)>
+    ensures { MatchOption result
+        ((name value : List ℕ) → word.now ≢ name ++ (61 ∷ value))
+        (λ r. (word.now ≡ r.0.now ++ (61 ∷ r.1.now))
+        × (list_any (λ c. c == 61) r.0.now ≡ false)) }
+{
+    word.split_once('=')
+}
+
+impl Role {
+    /// Whether it is the other role.
+    fn is_same(self, other: Role) -> bool
+        ensures { result ≡ is_role self other }
+    {
+        match (self, other) {
+            (Role::Place, Role::Place) => true,
+            (Role::Option(one), Role::Option(other)) => one.word() == other.word(),
+            _ => false,
+        }
     }
 }
 
-/// The option and its value, where they are joined by `=` in one word.
-fn joined(word: &str) -> Option<(Setting, &str)>
-    ensures { MatchOption result ((s : model.Setting) (value : List ℕ) → word.now ≢ option_word s ++ (61 ∷ value)) (λ r. word.now ≡ option_word (setting r.0) ++ (61 ∷ r.1.now)) }
-{
-    let (name, value) = word.split_once('=')?;
-    Some((setting_of(name)?, value))
+impl<'a> Given<'a> {
+    /// One word more. None where there were two.
+    fn and(self, word: &'a str) -> Option<Given<'a>>
+        ensures { MatchOption result (length (list_of self.entry) ≡ 2)
+            (λ g. list_of g ≡ list_of self.entry ++ (word.now ∷ [])) }
+    {
+        match self {
+            Given::Nothing => Some(Given::One(word)),
+            Given::One(first) => Some(Given::Two(first, word)),
+            Given::Two(_, _) => None,
+        }
+    }
+
+    /// What the argument gives the role beside. None where that makes more than two words.
+    fn with(self, argument: Argument<'a>, role: Role) -> Option<Given<'a>>
+        ensures { MatchOption result
+            (2 < length (list_of self.entry ++ word_given argument.entry role))
+            (λ g. list_of g ≡ list_of self.entry ++ word_given argument.entry role) }
+    {
+        if argument.role.is_same(role) {
+            self.and(argument.word)
+        } else {
+            Some(self)
+        }
+    }
 }
 
-/// The first argument, and the words behind it. None where an option lacks its value.
-fn first_argument(words: &[Text]) -> Option<(Argument<'_>, &[Text])>
+/// An option whose word stands alone, and its value in the next word where it takes one; with the
+/// words behind.
+fn separate<'a>(
+    settings: &[Setting],
+    word: &str,
+    rest: &'a [Text],
+) -> Option<(Argument<'a>, &'a [Text])>
+    ensures { MatchOption result
+        ((a : rule.Argument) (behind : List (List ℕ)) →
+        BeginsSeparately settings.now word.now rest.now a behind → ⊥)
+        (λ r. (a : rule.Argument) × IsOf r.0 a
+        × BeginsSeparately settings.now word.now rest.now a r.1.now) }
+{
+    let setting = option_of(settings, word)?;
+    let role = Role::Option(setting);
+    if !setting.takes_value() {
+        return Some((Argument { role, word: "" }, rest));
+    }
+    let [value, rest @ ..] = rest else {
+        return None;
+    };
+    let word = value.as_str();
+    if !is_plain(word) {
+        return None;
+    }
+    Some((Argument { role, word }, rest))
+}
+
+/// The first argument of words of which there is one at least, and the words behind it. None where
+/// they begin with none that a command with these options has.
+fn first_argument<'a>(settings: &[Setting], words: &'a [Text]) -> Option<(Argument<'a>, &'a [Text])>
     requires { 0 < length words.now }
-    ensures { MatchOption result ((arguments : List model.Argument) → AreOf words.now arguments → ⊥) (λ r. BeginsWith words.now r.0 r.1.now) }
+    ensures { MatchOption result
+        ((arguments : List rule.Argument) → IsCut settings.now words.now arguments → ⊥)
+        (λ r. BeginsWith settings.now words.now r.0 r.1.now) }
 {
     let [word, rest @ ..] = words else {
         return None;
     };
     let word = word.as_str();
-    if let Some((setting, value)) = joined(word) {
-        return Some((Argument::Value(setting, value), rest));
+    if is_plain(word) {
+        let role = Role::Place;
+        return Some((Argument { role, word }, rest));
     }
-    match setting_of(word) {
-        Some(setting) => match rest {
-            [value, rest @ ..] => Some((Argument::Value(setting, value.as_str()), rest)),
-            [] => None,
-        },
-        None => Some((Argument::Name(word), rest)),
+    let Some((name, word)) = assignment(word) else {
+        return separate(settings, word, rest);
+    };
+    let setting = option_of(settings, name)?;
+    if !setting.takes_value() {
+        return None;
     }
+    let role = Role::Option(setting);
+    Some((Argument { role, word }, rest))
 }
 
-/// The word, where none was given before.
-fn once<'a>(before: Option<&'a str>, word: &'a str) -> Option<&'a str>
-    ensures { MatchOption result (length (given_list before.entry) ≡ 1) (λ w. (w.now ≡ word.now) × (given_list before.entry ≡ [])) }
+/// The words that are given for a role. None where the words are no arguments of a command with
+/// these options, or give the role more than two.
+pub(crate) fn given_for<'a>(
+    settings: &[Setting],
+    words: &'a [Text],
+    role: Role,
+) -> Option<Given<'a>>
+    ensures { MatchOption result
+        ((all : List (List ℕ)) → length all ≤ 2 → Gives settings.now role [] words.now all → ⊥)
+        (λ g. Gives settings.now role [] words.now (list_of g)) }
 {
-    match before {
-        None => Some(word),
-        Some(_) => None,
-    }
-}
-
-impl<'a> Given<'a> {
-    /// One argument more. None where it was given before.
-    fn and(self, argument: Argument<'a>) -> Option<Given<'a>>
-        ensures { MatchOption result ((a : model.Argument) → IsReadAs argument.entry a → IsSingle (and_then (told self.entry) a) → ⊥) (λ g. (a : model.Argument) → IsReadAs argument.entry a → told g ≡ and_then (told self.entry) a) }
-    {
-        match argument {
-            Argument::Name(word) => Some(Given {
-                name: Some(once(self.name, word)?),
-                ..self
-            }),
-            Argument::Value(Setting::Nodes, value) => Some(Given {
-                nodes: Some(once(self.nodes, value)?),
-                ..self
-            }),
-            Argument::Value(Setting::Order, value) => Some(Given {
-                order: Some(once(self.order, value)?),
-                ..self
-            }),
-            Argument::Value(Setting::Budget, value) => Some(Given {
-                budget: Some(once(self.budget, value)?),
-                ..self
-            }),
-        }
-    }
-}
-
-/// What the words give. None where they are no arguments, or give one twice.
-pub fn given_in(words: &[Text]) -> Option<Given<'_>>
-    ensures { MatchOption result ((t : Told) → IsSingle t → Tells told_nothing words.now t → ⊥) (λ g. Tells told_nothing words.now (told g)) }
-{
-    let mut given = NOTHING;
+    let mut given = Given::Nothing;
     let mut rest = words;
     while !rest.is_empty() {
-        let (argument, behind) = first_argument(rest)?;
-        given = given.and(argument)?;
+        let (argument, behind) = first_argument(settings, rest)?;
+        given = given.with(argument, role)?;
         rest = behind;
     }
     Some(given)

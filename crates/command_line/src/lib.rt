@@ -1,28 +1,23 @@
 #![tactic(auto)]
 //! The words of the command line, and what they ask for.
 
-ghost use Rattle.std.specs.Prelude.{◌≡◌, ◌<◌, ◌≤◌, ◌^◌, ℕ, MatchOption, IsTrue, ◌↔◌};
+ghost use Rattle.std.specs.Prelude.{◌≡◌, ℕ, List, [], ◌∷◌, codes, MatchOption};
 ghost use Rattle.command_line.specs.Commands as model;
-ghost use Rattle.command_line.specs.Asked.{asked};
-ghost use Rattle.command_line.specs.Given.{told, AsksRun, AsksList, AsksOne, Wants};
+ghost use Rattle.command_line.specs.Asks.{Asks};
+ghost use Rattle.command_line.specs.Meaning.{meaning_of};
+ghost use Rattle.command_line.specs.Reading.{Gives, SaysNumber, Completes};
 
-use arguments::{Given, given_in};
+use arguments::{Given, Role, given_for};
 use dsm_io::Text;
-use number::number_set;
+use number::number_of;
+use run_limits::{Budget, NodeCount};
+use table::{Kind, LIST, ONE, RUN, Setting};
 
 mod arguments;
 mod number;
+mod table;
 #[cfg(test)]
 mod tests;
-
-const MOST_NODES: u64 = 16;
-
-const MOST_ORDER: u64 = u32::MAX as u64;
-
-const MOST_BUDGET: u64 = 1 << 32;
-
-/// The most words or steps, where no budget is given.
-const DEFAULT_BUDGET: u64 = 100_000_000;
 
 /// What the program is to do with the executable in a file.
 #[derive(Clone, Copy, Debug, PartialEq, Eq)]
@@ -30,94 +25,147 @@ pub enum Command<'a> {
     /// Run its rewritten code, at most `budget` words of each processor.
     Run {
         file: &'a str,
-        budget: u64,
+        budget: Budget,
     },
     /// List its code words.
     List {
         file: &'a str,
     },
-    /// Run `nodes` processors of the original on one memory by the order of a number, at most `budget` steps of each.
+    /// Run `nodes` processors of the original on one memory by the order of a number, at most
+    /// `budget` steps of each.
     One {
         file: &'a str,
-        nodes: u8,
+        nodes: NodeCount,
         order: u32,
-        budget: u64,
+        budget: Budget,
     },
 }
 
-/// Whether a word is the name of a file.
-fn is_file_name(word: &str) -> bool
-    ensures { IsTrue result ↔ model.IsFileName word.now }
+/// The one name of a file in a command's places.
+fn file_in<'a>(settings: &[Setting], words: &'a [Text]) -> Option<&'a str>
+    ensures { MatchOption result
+        ((f : List ℕ) → Gives settings.now Role.Place [] words.now (f ∷ []) → ⊥)
+        (λ f. Gives settings.now Role.Place [] words.now (f.now ∷ [])) }
 {
-    !word.is_empty() && !word.starts_with('-')
+    match given_for(settings, words, Role::Place)? {
+        Given::One(file) => Some(file),
+        Given::Nothing | Given::Two(_, _) => None,
+    }
 }
 
-/// The budget that was given, or the default.
-fn budget_of(given: &Given<'_>) -> Option<u64>
-    ensures { MatchOption result ((n : ℕ) → model.IsBudget (told given.now).budgets n → ⊥) (λ n. model.IsBudget (told given.now).budgets n) }
+/// The number of an option that has one.
+fn number_in(settings: &[Setting], words: &[Text], setting: Setting) -> Option<u64>
+    ensures { MatchOption result
+        ((n : ℕ) → SaysNumber settings.now words.now setting n → ⊥)
+        (λ n. SaysNumber settings.now words.now setting n) }
 {
-    number_set(given.budget, 1, MOST_BUDGET, DEFAULT_BUDGET)
+    let given = given_for(settings, words, Role::Option(setting))?;
+    let Kind::Number { low, high, default } = setting.kind() else {
+        return None;
+    };
+    match given {
+        Given::Nothing => Some(default),
+        Given::One(word) => number_of(word, low, high),
+        Given::Two(_, _) => None,
+    }
+}
+
+/// The budget.
+fn budget_in(settings: &[Setting], words: &[Text]) -> Option<Budget>
+    ensures { MatchOption result
+        ((n : ℕ) → SaysNumber settings.now words.now Setting.Budget n → ⊥)
+        (λ b. SaysNumber settings.now words.now Setting.Budget b) }
+{
+    let number = number_in(settings, words, Setting::Budget)?;
+    let budget = Budget::of(number)?;
+    Some(budget)
+}
+
+/// The count of nodes.
+fn nodes_in(settings: &[Setting], words: &[Text]) -> Option<NodeCount>
+    ensures { MatchOption result
+        ((n : ℕ) → SaysNumber settings.now words.now Setting.Nodes n → ⊥)
+        (λ c. SaysNumber settings.now words.now Setting.Nodes c) }
+{
+    let number = number_in(settings, words, Setting::Nodes)?;
+    let nodes = NodeCount::of(number)?;
+    Some(nodes)
+}
+
+/// The number that makes an order.
+fn order_in(settings: &[Setting], words: &[Text]) -> Option<u32>
+    ensures { MatchOption result
+        ((n : ℕ) → SaysNumber settings.now words.now Setting.Order n → ⊥)
+        (λ o. SaysNumber settings.now words.now Setting.Order o) }
+{
+    let number = number_in(settings, words, Setting::Order)?;
+    match u32::try_from(number) {
+        Ok(order) => Some(order),
+        Err(_) => None,
+    }
 }
 
 /// The command `run`.
-fn run_of<'a>(file: &'a str, given: &Given<'_>) -> Option<Command<'a>>
-    ensures { MatchOption result ((n : ℕ) → AsksRun (told given.now) n → ⊥) (λ c. (n : ℕ) × (asked c ≡ model.Run file.now n) × AsksRun (told given.now) n) }
+fn run_of(words: &[Text]) -> Option<Command<'_>>
+    ensures { MatchOption result
+        ((c : model.Command) → Completes (codes "run") words.now c → ⊥)
+        (λ c. Completes (codes "run") words.now (meaning_of c)) }
 {
-    if given.nodes.is_some() || given.order.is_some() {
-        return None;
-    }
-    let budget = budget_of(given)?;
+    let file = file_in(&RUN, words)?;
+    let budget = budget_in(&RUN, words)?;
     Some(Command::Run { file, budget })
 }
 
 /// The command `list`.
-fn list_of<'a>(file: &'a str, given: &Given<'_>) -> Option<Command<'a>>
-    ensures { MatchOption result (AsksList (told given.now) → ⊥) (λ c. (asked c ≡ model.Listing file.now) × AsksList (told given.now)) }
+fn list_of(words: &[Text]) -> Option<Command<'_>>
+    ensures { MatchOption result
+        ((c : model.Command) → Completes (codes "list") words.now c → ⊥)
+        (λ c. Completes (codes "list") words.now (meaning_of c)) }
 {
-    if given.nodes.is_some() || given.order.is_some() || given.budget.is_some() {
-        return None;
-    }
+    let file = file_in(&LIST, words)?;
     Some(Command::List { file })
 }
 
 /// The command `one`.
-fn one_of<'a>(file: &'a str, given: &Given<'_>) -> Option<Command<'a>>
-    ensures { MatchOption result ((n o b : ℕ) → AsksOne (told given.now) n o b → ⊥) (λ c. (n : ℕ) × (o : ℕ) × (b : ℕ) × (asked c ≡ model.One file.now n o b) × AsksOne (told given.now) n o b) }
+fn one_of(words: &[Text]) -> Option<Command<'_>>
+    ensures { MatchOption result
+        ((c : model.Command) → Completes (codes "one") words.now c → ⊥)
+        (λ c. Completes (codes "one") words.now (meaning_of c)) }
 {
-    let nodes = number_set(given.nodes, 1, MOST_NODES, 1)?;
-    let order = number_set(given.order, 0, MOST_ORDER, 0)?;
-    let budget = budget_of(given)?;
+    let file = file_in(&ONE, words)?;
+    let nodes = nodes_in(&ONE, words)?;
+    let order = order_in(&ONE, words)?;
+    let budget = budget_in(&ONE, words)?;
     Some(Command::One {
         file,
-        nodes: nodes as u8,
-        order: order as u32,
+        nodes,
+        order,
         budget,
     })
 }
 
-/// The command that a word and what was given behind it ask for.
-fn command_in<'a>(word: &str, given: Given<'a>) -> Option<Command<'a>>
-    ensures { MatchOption result ((c : model.Command) → Wants word.now (told given.entry) c → ⊥) (λ c. Wants word.now (told given.entry) (asked c)) }
+/// The command that a word and the words behind it ask for.
+fn command_in<'a>(word: &str, words: &'a [Text]) -> Option<Command<'a>>
+    ensures { MatchOption result
+        ((c : model.Command) → Completes word.now words.now c → ⊥)
+        (λ c. Completes word.now words.now (meaning_of c)) }
 {
-    let file = given.name?;
-    if !is_file_name(file) {
-        return None;
-    }
     match word {
-        "run" => run_of(file, &given),
-        "list" => list_of(file, &given),
-        "one" => one_of(file, &given),
+        "run" => run_of(words),
+        "list" => list_of(words),
+        "one" => one_of(words),
         _ => None,
     }
 }
 
-/// Reads the words after the program's name. None exactly where they ask for nothing.
+/// Reads the words after the program's name. None exactly where they ask for no command.
 pub fn command_of(words: &[Text]) -> Option<Command<'_>>
-    ensures asked { MatchOption result ((c : model.Command) → model.Asks words.now c → ⊥) (λ c. model.Asks words.now (asked c)) }
-    ensures only { (c d : model.Command) → model.Asks words.now c → model.Asks words.now d → c ≡ d }
+    ensures asks { MatchOption result ((c : model.Command) → Asks words.now c → ⊥)
+        (λ c. Asks words.now (meaning_of c)) }
+    ensures only { (c d : model.Command) → Asks words.now c → Asks words.now d → c ≡ d }
 {
     let [word, arguments @ ..] = words else {
         return None;
     };
-    command_in(word.as_str(), given_in(arguments)?)
+    command_in(word.as_str(), arguments)
 }

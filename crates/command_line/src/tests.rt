@@ -1,3 +1,5 @@
+//! Lines that are commands, and lines that are not.
+
 use crate::{Command, command_of};
 use dsm_io::Text;
 use std::alloc::Global;
@@ -6,70 +8,69 @@ use std::test::Fail;
 /// The words of a line.
 fn words_of(alloc: Global, line: &str) -> Result<Vec<Text>, Fail> {
     let mut words = Vec::new(alloc);
-    for word in line.split_whitespace() {
+    for word in line.split(' ') {
         words.push(Text::of(String::from_str(alloc, word)?))?;
     }
     Ok(words)
 }
 
-/// The command `run` of the file `a`.
-fn run(budget: u64) -> Command<'static> {
-    Command::Run { file: "a", budget }
+/// The count of nodes, the order and the budget of a command, 0 for what it lacks, with its file.
+fn parts_of(command: Command<'_>) -> (&str, u8, u32, u64) {
+    match command {
+        Command::Run { file, budget } => (file, 0, 0, budget.number()),
+        Command::List { file } => (file, 0, 0, 0),
+        Command::One {
+            file,
+            nodes,
+            order,
+            budget,
+        } => (file, nodes.number(), order, budget.number()),
+    }
 }
 
-/// The command `one` of the file `a`.
-fn one(nodes: u8, order: u32, budget: u64) -> Command<'static> {
-    Command::One {
-        file: "a",
-        nodes,
-        order,
-        budget,
+/// The same of the command on the file `a` that words ask for.
+fn asked_of(words: &[Text]) -> Option<(u8, u32, u64)> {
+    match command_of(words) {
+        Some(command) => match parts_of(command) {
+            ("a", nodes, order, budget) => Some((nodes, order, budget)),
+            _ => None,
+        },
+        None => None,
     }
 }
 
 #[test]
-fn reads_commands(rt: HostRuntime) -> Result<(), Fail> {
+fn reads_the_words_that_are_commands(rt: HostRuntime) -> Result<(), Fail> {
     for (line, wanted) in [
-        ("run a", run(100_000_000)),
-        ("run a --budget 5", run(5)),
-        ("run --budget=5 a", run(5)),
-        ("run a --budget 4294967296", run(4_294_967_296)),
-        ("list a", Command::List { file: "a" }),
-        ("one a", one(1, 0, 100_000_000)),
-        ("one a --nodes 2 --order 0 --budget 10", one(2, 0, 10)),
+        ("run a", Some((0, 0, 100_000_000))),
+        ("run --budget=0000000005 a", Some((0, 0, 5))),
+        ("run a --budget 4294967296", Some((0, 0, 4_294_967_296))),
+        ("list a", Some((0, 0, 0))),
+        ("one a", Some((1, 0, 100_000_000))),
+        ("one a --nodes 2 --order 0 --budget 5", Some((2, 0, 5))),
         (
             "one --order=4294967295 --nodes=16 a",
-            one(16, u32::MAX, 100_000_000),
+            Some((16, u32::MAX, 100_000_000)),
         ),
+        ("", None),
+        ("run", None),
+        ("run  a", None),
+        ("run -", None),
+        ("run a --", None),
+        ("run a --budget", None),
+        ("run a --budget=", None),
+        ("run a --budget 0", None),
+        ("run a --budget +5", None),
+        ("run a --budget 5 --budget=5", None),
+        ("run a --budget 4294967297", None),
+        ("run a --nodes 1", None),
+        ("one a --nodes 17", None),
+        ("one a --order 00000000000", None),
+        ("one a --order --nodes 1", None),
+        ("list a a", None),
     ] {
         let words = words_of(rt.alloc(), line)?;
-        assert_eq!(rt; command_of(words.as_slice()), Some(wanted), "at {line}");
-    }
-    Ok(())
-}
-
-#[test]
-fn refuses_other_words(rt: HostRuntime) -> Result<(), Fail> {
-    for line in [
-        "",
-        "a",
-        "run",
-        "run -",
-        "run --",
-        "run a --budget",
-        "run a --budget=",
-        "run a --budget 0",
-        "run a --budget 5 --budget 5",
-        "run a --budget 4294967297",
-        "run a --nodes 1",
-        "run a --nodes 17",
-        "one a --nodes 17",
-        "one a --order 00000000000",
-        "list a a",
-        "list a --budget 5",
-    ] {
-        let words = words_of(rt.alloc(), line)?;
-        assert!(rt; command_of(words.as_slice()).is_none(), "at {line}");
+        assert_eq!(rt; asked_of(words.as_slice()), wanted, "at {line}");
     }
     Ok(())
 }

@@ -6,14 +6,14 @@ use Rattle.std.specs.Option.{option_map}
 abbrev pub next_count : ℕ → ℕ
 next_count n = min (n + 1) (2 ^ 64 - 1)
 
--- a count of faults rose, or it stands at its end
+-- a count rose, or it stands at the end of its 64 bits
 abbrev pub Rose : ℕ → ℕ → Type 0
 Rose before now = next_count before ≤ now
 
--- the whole piece was taken; what was untold still is
+-- the whole piece was taken; what was hidden still is
 abbrev pub Appends : Option (List ℕ) → Option (List ℕ) → List ℕ → Type 0
 Appends before now piece = now ≡ option_map (λ taken. taken ++ piece) before
 
--- a front of the piece was taken
-abbrev pub AppendsFront : Option (List ℕ) → Option (List ℕ) → List ℕ → Type 0
-AppendsFront before now piece = (k : ℕ) × Appends before now (take k piece)
+-- a prefix of the piece was taken
+abbrev pub AppendsPrefix : Option (List ℕ) → Option (List ℕ) → List ℕ → Type 0
+AppendsPrefix before now piece = (k : ℕ) × Appends before now (take k piece)

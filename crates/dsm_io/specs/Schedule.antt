@@ -2,7 +2,8 @@
 use Rattle.std.specs.Prelude.{ℕ, List, Contains}
 use Rattle.dsm_io.specs.Causes.{next_count}
 
--- the numbers of the calls that are to fail, how many calls were made, and how many faults there were
+-- the numbers of the calls that are to fail, how many calls were made, and how many faults there
+-- were
 pub record Schedule : Type 0 where
   pub fails : List ℕ
   pub calls : ℕ

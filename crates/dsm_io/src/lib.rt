@@ -6,7 +6,7 @@
 //! implementation over the real system tells no contents, since no contract can know them.
 
 ghost use Rattle.std.specs.Prelude.{◌≡◌, ◌≢◌, ◌≤◌, ◌<◌, ◌↔◌, ℕ, List, Option, length, IfOk, OnOk, IfSome, IfNone, IsErr, IsErrOf, IsSome};
-ghost use Rattle.dsm_io.specs.Causes.{Rose, Appends, AppendsFront};
+ghost use Rattle.dsm_io.specs.Causes.{Rose, Appends, AppendsPrefix};
 
 use std::alloc::{AllocError, Global};
 use thiserror::Error;
@@ -69,7 +69,7 @@ impl From<AllocError> for SinkError {
 
 /// Files, each under its name.
 pub trait Files {
-    /// The bytes that a name holds, or `None` where that is not told.
+    /// The bytes that a name holds, or `None` where that is hidden.
     ghost held: { Self → List ℕ → Option (List ℕ) };
 
     /// How many reads of a name have failed.
@@ -85,21 +85,21 @@ pub trait Files {
         ensures bytes { IfOk result (λ v.
             IfSome (held self.old name.now) (λ content. v.items ≡ content)) }
         ensures fits { IfOk result (λ v. length v.items ≤ limit) }
-        ensures failed { IsErrOf result FileError.Failed →
+        ensures fault { IsErrOf result FileError.Failed →
             Rose (failed_reads self.old name.now) (failed_reads self.new name.now) }
 
-        // Where the content is told, `TooLong` comes exactly where it is longer than the limit and
-        // the read is not `Failed`; where it is untold, only where the count of failed reads rose.
+        // Where the content is known, `TooLong` comes exactly where it is longer than the limit and
+        // the read is not `Failed`; where it is hidden, only where the count of failed reads rose.
         ensures longer { IfSome (held self.old name.now) (λ content.
             limit < length content → IsErr result) }
         ensures too_long { (l : ℕ) → IsErrOf result (FileError.TooLong l) →
             IfSome (held self.old name.now) (λ content. limit < length content) }
-        ensures untold { (l : ℕ) → IsErrOf result (FileError.TooLong l) →
+        ensures hidden { (l : ℕ) → IsErrOf result (FileError.TooLong l) →
             IfNone (held self.old name.now)
             (Rose (failed_reads self.old name.now) (failed_reads self.new name.now)) }
         ensures same_limit { (l : ℕ) → IsErrOf result (FileError.TooLong l) → l ≡ limit }
 
-        ensures uncounted { IsErrOf result FileError.OutOfMemory → (n : List ℕ) →
+        ensures same_counts { IsErrOf result FileError.OutOfMemory → (n : List ℕ) →
             (failed_reads self.new n ≡ failed_reads self.old n)
             × (failed_writes self.new n ≡ failed_writes self.old n) }
 
@@ -111,15 +111,15 @@ pub trait Files {
     ///
     /// After `Failed` it may hold anything; after `OutOfMemory` it holds what it held.
     fn write(&mut self, name: &str, bytes: &[u8]) -> Result<(), FileError>
-        ensures written { OnOk result
+        ensures holds { OnOk result
             (IfSome (held self.new name.now) (λ content. content ≡ bytes.now)) }
-        ensures told { IsSome (held self.new name.now) ↔ IsSome (held self.old name.now) }
-        ensures failed { IsErrOf result FileError.Failed →
+        ensures same_kind { IsSome (held self.new name.now) ↔ IsSome (held self.old name.now) }
+        ensures fault { IsErrOf result FileError.Failed →
             Rose (failed_writes self.old name.now) (failed_writes self.new name.now) }
         ensures never_too_long { (l : ℕ) → IsErrOf result (FileError.TooLong l) → ⊥ }
-        ensures memory { IsErrOf result FileError.OutOfMemory →
+        ensures unchanged { IsErrOf result FileError.OutOfMemory →
             held self.new name.now ≡ held self.old name.now }
-        ensures uncounted { IsErrOf result FileError.OutOfMemory → (n : List ℕ) →
+        ensures same_counts { IsErrOf result FileError.OutOfMemory → (n : List ℕ) →
             (failed_reads self.new n ≡ failed_reads self.old n)
             × (failed_writes self.new n ≡ failed_writes self.old n) }
 
@@ -130,23 +130,36 @@ pub trait Files {
 
 /// What takes bytes, as an output does.
 pub trait Sink {
-    /// The bytes taken so far, or `None` where they are not told.
+    /// The bytes taken so far, or `None` where they are hidden.
     ghost taken: { Self → Option (List ℕ) };
 
     /// How often it has failed.
     ghost faults: { Self → ℕ };
 
+    /// How many puts were refused because it was out of memory.
+    ghost refusals: { Self → ℕ };
+
     /// Appends the whole piece.
     ///
-    /// A piece that is not empty and of which nothing is taken is a fault.
+    /// A piece that is not empty and of which nothing is taken is a fault. After `OutOfMemory`
+    /// nothing of it is taken.
     fn put(&mut self, piece: &[u8]) -> Result<(), SinkError>
-        ensures took { OnOk result (Appends (taken self.old) (taken self.new) piece.now) }
-        ensures failed { IsErrOf result SinkError.Failed → Rose (faults self.old) (faults self.new) }
-        ensures front { IsErrOf result SinkError.Failed →
-            AppendsFront (taken self.old) (taken self.new) piece.now }
-        ensures memory { IsErrOf result SinkError.OutOfMemory → taken self.new ≡ taken self.old }
-        ensures uncounted { IsErrOf result SinkError.OutOfMemory → faults self.new ≡ faults self.old }
-        ensures counts { faults self.old ≤ faults self.new };
+        ensures takes { OnOk result (Appends (taken self.old) (taken self.new) piece.now) }
+        ensures fault { IsErrOf result SinkError.Failed →
+            Rose (faults self.old) (faults self.new) }
+        ensures prefix { IsErrOf result SinkError.Failed →
+            AppendsPrefix (taken self.old) (taken self.new) piece.now }
+        ensures refusal { IsErrOf result SinkError.OutOfMemory →
+            Rose (refusals self.old) (refusals self.new) }
+        ensures nothing { IsErrOf result SinkError.OutOfMemory →
+            taken self.new ≡ taken self.old }
+
+        // Each count rises with its own error alone, and never falls.
+        ensures same_faults { result ≢ Err SinkError.Failed → faults self.new ≡ faults self.old }
+        ensures same_refusals { result ≢ Err SinkError.OutOfMemory →
+            refusals self.new ≡ refusals self.old }
+        ensures more_faults { faults self.old ≤ faults self.new }
+        ensures more_refusals { refusals self.old ≤ refusals self.new };
 }
 
 /// What a worker passes before each of its events.

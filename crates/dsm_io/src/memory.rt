@@ -1,3 +1,5 @@
+//! Files and a sink in memory, of whose calls some are to fail.
+
 ghost use Rattle.std.specs.Prelude.{◌≡◌, ◌≢◌, ◌<◌, ◌≤◌, ◌↔◌, ◌⊎◌, ◌++◌, ℕ, List, [], map, length, option_copied, IfOk, IfSome, OnOk, OnErr, IsErr, IsErrOf};
 ghost use Rattle.dsm_io.specs.Pairs.{first_content, content_of, Writes};
 ghost use Rattle.dsm_io.specs.Schedule.{IsDue, schedule_of, after_call, after_fault};
@@ -72,7 +74,7 @@ impl Files for MemFiles {
         ensures same_pairs { self.new.pairs ≡ self.old.pairs }
 
         // It fails where the call is due, and where the name has no file.
-        ensures failed { IsErrOf result FileError.Failed ↔
+        ensures due { IsErrOf result FileError.Failed ↔
             (IsDue self.old.schedule ⊎ (first_content self.old.pairs name.now ≡ None)) }
         ensures fault { IsErrOf result FileError.Failed →
             self.new.schedule ≡ after_fault self.old.schedule }
@@ -95,11 +97,11 @@ impl Files for MemFiles {
     }
 
     fn write(&mut self, name: &str, bytes: &[u8]) -> Result<(), FileError>
-        ensures written { OnOk result (Writes self.old.pairs self.new.pairs name.now bytes.now) }
-        ensures kept { OnErr result (self.new.pairs ≡ self.old.pairs) }
+        ensures writes { OnOk result (Writes self.old.pairs self.new.pairs name.now bytes.now) }
+        ensures unchanged { OnErr result (self.new.pairs ≡ self.old.pairs) }
         ensures never_too_long { (l : ℕ) → IsErrOf result (FileError.TooLong l) → ⊥ }
 
-        ensures failed { IsErrOf result FileError.Failed ↔ IsDue self.old.schedule }
+        ensures due { IsErrOf result FileError.Failed ↔ IsDue self.old.schedule }
         ensures fault { IsErrOf result FileError.Failed →
             self.new.schedule ≡ after_fault self.old.schedule }
         ensures no_fault { result ≢ Err FileError.Failed →
@@ -114,13 +116,16 @@ impl Files for MemFiles {
     }
 }
 
-/// A sink in memory, of whose calls those with given numbers fail.
+/// A sink in memory, of whose calls those with given numbers fail, or are refused as if it were out
+/// of memory.
 ///
-/// The calls are numbered from 1, and one that fails takes nothing of its piece.
+/// The calls are numbered from 1, and those that don't fail are numbered among themselves for the
+/// refusals. A call that fails or is refused takes nothing of its piece.
 #[derive(Drop)]
 pub struct MemSink {
     taken: Vec<u8>,
     schedule: Schedule,
+    memory: Schedule,
 }
 
 impl Model for MemSink {
@@ -128,7 +133,11 @@ impl Model for MemSink {
 
     ghost Value = { TakenBytes };
 
-    ghost view = { λ s. record { taken = s.taken.items; schedule = s.schedule } };
+    ghost view = { λ s. record {
+      taken = s.taken.items;
+      schedule = s.schedule;
+      memory = s.memory;
+    } };
 }
 
 impl MemSink {
@@ -136,10 +145,22 @@ impl MemSink {
     pub fn new(alloc: Global, fails: Vec<u64>) -> MemSink
         ensures taken { ⟦<MemSink as Sink>⟧.taken result ≡ Some [] }
         ensures fails { result.schedule ≡ schedule_of fails.items }
+        ensures no_refusals { result.memory ≡ schedule_of [] }
+    {
+        MemSink::with_refusals(alloc, fails, Vec::new(alloc))
+    }
+
+    /// A sink that has taken nothing, with the numbers of the calls that are to fail, and those of
+    /// the calls that are to be refused, among the calls that don't fail.
+    pub fn with_refusals(alloc: Global, fails: Vec<u64>, refusals: Vec<u64>) -> MemSink
+        ensures taken { ⟦<MemSink as Sink>⟧.taken result ≡ Some [] }
+        ensures fails { result.schedule ≡ schedule_of fails.items }
+        ensures refusals { result.memory ≡ schedule_of refusals.items }
     {
         MemSink {
             taken: Vec::new(alloc),
             schedule: Schedule::new(fails),
+            memory: Schedule::new(refusals),
         }
     }
 
@@ -158,20 +179,40 @@ impl Sink for MemSink {
 
     ghost faults = { λ s. s.schedule.faults };
 
+    ghost refusals = { λ s. s.memory.faults };
+
     fn put(&mut self, piece: &[u8]) -> Result<(), SinkError>
-        ensures took { OnOk result (self.new.taken ≡ self.old.taken ++ piece.now) }
-        ensures kept { OnErr result (self.new.taken ≡ self.old.taken) }
+        ensures takes { OnOk result (self.new.taken ≡ self.old.taken ++ piece.now) }
+        ensures unchanged { OnErr result (self.new.taken ≡ self.old.taken) }
+
+        // It fails exactly where the call is due to.
         ensures due { IsErrOf result SinkError.Failed ↔ IsDue self.old.schedule }
         ensures fault { IsErrOf result SinkError.Failed →
             self.new.schedule ≡ after_fault self.old.schedule }
         ensures no_fault { result ≢ Err SinkError.Failed →
             self.new.schedule ≡ after_call self.old.schedule }
-        ensures counts { self.old.schedule.faults ≤ self.new.schedule.faults }
+        ensures more_faults { self.old.schedule.faults ≤ self.new.schedule.faults }
+
+        // It is refused where the call is due to be, and wherever the allocator refuses.
+        ensures undue { OnOk result (IsDue self.old.memory → ⊥) }
+        ensures refusal { IsErrOf result SinkError.OutOfMemory →
+            self.new.memory ≡ after_fault self.old.memory }
+        ensures no_refusal { OnOk result (self.new.memory ≡ after_call self.old.memory) }
+        ensures same_memory { IsErrOf result SinkError.Failed → self.new.memory ≡ self.old.memory }
+        ensures more_refusals { self.old.memory.faults ≤ self.new.memory.faults }
     {
         if self.schedule.call() {
             return Err(SinkError::Failed);
         }
-        self.taken.extend_from_slice(piece)?;
-        Ok(())
+        if self.memory.call() {
+            return Err(SinkError::OutOfMemory);
+        }
+        match self.taken.extend_from_slice(piece) {
+            Ok(()) => Ok(()),
+            Err(_) => {
+                self.memory.fault();
+                Err(SinkError::OutOfMemory)
+            }
+        }
     }
 }

@@ -1,3 +1,5 @@
+//! The adapters of the real files and the two outputs of a program.
+
 ghost use Rattle.std.specs.Prelude.{◌≡◌, ℕ, List};
 
 use crate::{FileError, Files, Sink, SinkError};
@@ -6,7 +8,7 @@ use std::fs::File;
 use std::io;
 use std::io::{ErrorKind, Read, Write};
 
-/// The files of the system, whose contents are not told.
+/// The files of the system, whose contents are hidden.
 #[derive(Drop)]
 pub struct RealFiles {
     rt: HostRuntime,
@@ -79,7 +81,8 @@ enum Stream {
     Errors,
 }
 
-/// The standard output or the standard error, whose bytes are not told.
+/// The standard output or the standard error, whose bytes are hidden. It takes no memory, so its
+/// count of refusals is 0.
 #[derive(Drop)]
 pub struct StdSink {
     rt: HostRuntime,
@@ -117,6 +120,8 @@ impl Sink for StdSink {
     ghost taken = { λ _. None };
 
     ghost faults = { λ s. s.faults };
+
+    ghost refusals = { λ _. 0 };
 
     fn put(&mut self, piece: &[u8]) -> Result<(), SinkError> {
         let written = match self.stream {

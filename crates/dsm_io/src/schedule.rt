@@ -1,3 +1,5 @@
+//! Which calls are to fail.
+
 ghost use Rattle.std.specs.Prelude.{◌≡◌, ◌≤◌, ◌↔◌, IsTrue, if◌then◌else◌};
 ghost use Rattle.dsm_io.specs.Causes.{next_count};
 ghost use Rattle.dsm_io.specs.Schedule.{IsDue, schedule_of, after_call, after_fault};
@@ -34,7 +36,7 @@ impl Schedule {
     /// Counts a call, and as a fault if it is one of those that are to fail. Tells which.
     pub(crate) fn call(&mut self) -> bool
         ensures due { IsTrue result ↔ IsDue self.old }
-        ensures counted { self.new ≡ (if result then after_fault self.old else after_call self.old) }
+        ensures counts { self.new ≡ (if result then after_fault self.old else after_call self.old) }
         ensures rises { self.old.faults ≤ self.new.faults }
     {
         self.calls = self.calls.saturating_add(1);
@@ -47,7 +49,7 @@ impl Schedule {
 
     /// Counts a fault of another cause.
     pub(crate) fn fault(&mut self)
-        ensures counted { self.new ≡ record self.old { faults = next_count self.old.faults } }
+        ensures counts { self.new ≡ record self.old { faults = next_count self.old.faults } }
         ensures rises { self.old.faults ≤ self.new.faults }
     {
         self.faults = self.faults.saturating_add(1);

@@ -1,3 +1,5 @@
+//! Names with their contents.
+
 ghost use Rattle.std.specs.Prelude.{◌≡◌, map, position, bytes_eq, option_copied, OnOk, OnErr};
 ghost use Rattle.dsm_io.specs.Pairs.{first_content, Writes};
 

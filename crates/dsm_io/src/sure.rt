@@ -1,4 +1,7 @@
+//! Files and a sink in memory that never fail.
+
 ghost use Rattle.std.specs.Prelude.{◌≡◌, ◌≢◌, ◌<◌, ◌≤◌, ◌++◌, ℕ, List, [], length, option_copied, IfOk, IfSome, IfErr, OnOk, OnErr, IsErr, IsErrOf};
+ghost use Rattle.dsm_io.specs.Causes.{next_count};
 ghost use Rattle.dsm_io.specs.Pairs.{first_content, content_of, Writes};
 
 use crate::store::Store;
@@ -45,6 +48,7 @@ impl SureFiles {
 
 impl Files for SureFiles {
     ghost use Rattle.std.specs.Prelude.{Some};
+    ghost use Rattle.dsm_io.specs.Causes.{next_count};
     ghost use Rattle.dsm_io.specs.Pairs.{content_of};
 
     ghost held = { λ s n. Some (content_of s n) };
@@ -61,7 +65,7 @@ impl Files for SureFiles {
             limit < length (content_of self.old name.now) }
         ensures same_limit { (l : ℕ) → IsErrOf result (FileError.TooLong l) → l ≡ limit }
         ensures never_failed { result ≢ Err FileError.Failed }
-        ensures kept { self.new ≡ self.old }
+        ensures unchanged { self.new ≡ self.old }
     {
         let Some(content) = self.store.content(name) else {
             return Ok(Vec::new(alloc));
@@ -74,9 +78,9 @@ impl Files for SureFiles {
     }
 
     fn write(&mut self, name: &str, bytes: &[u8]) -> Result<(), FileError>
-        ensures written { OnOk result (Writes self.old self.new name.now bytes.now) }
+        ensures writes { OnOk result (Writes self.old self.new name.now bytes.now) }
         ensures only_memory { IfErr result (λ e. e ≡ FileError.OutOfMemory) }
-        ensures kept { OnErr result (self.new ≡ self.old) }
+        ensures unchanged { OnErr result (self.new ≡ self.old) }
     {
         self.store.put(name, bytes)?;
         Ok(())
@@ -87,23 +91,26 @@ impl Files for SureFiles {
 #[derive(Drop)]
 pub struct SureSink {
     taken: Vec<u8>,
+    refusals: u64,
 }
 
 impl Model for SureSink {
-    ghost use Rattle.std.specs.Prelude.{List, ℕ};
+    ghost use Rattle.dsm_io.specs.Memory.{SureBytes};
 
-    ghost Value = { List ℕ };
+    ghost Value = { SureBytes };
 
-    ghost view = { λ s. s.taken.items };
+    ghost view = { λ s. record { taken = s.taken.items; refusals = s.refusals } };
 }
 
 impl SureSink {
     /// A sink that has taken nothing.
     pub fn new(alloc: Global) -> SureSink
-        ensures { ⟦<SureSink as Sink>⟧.taken result ≡ Some [] }
+        ensures taken { ⟦<SureSink as Sink>⟧.taken result ≡ Some [] }
+        ensures refusals { ⟦<SureSink as Sink>⟧.refusals result ≡ 0 }
     {
         SureSink {
             taken: Vec::new(alloc),
+            refusals: 0,
         }
     }
 
@@ -118,16 +125,26 @@ impl SureSink {
 impl Sink for SureSink {
     ghost use Rattle.std.specs.Prelude.{Some};
 
-    ghost taken = { λ s. Some s };
+    ghost taken = { λ s. Some s.taken };
 
     ghost faults = { λ _. 0 };
 
+    ghost refusals = { λ s. s.refusals };
+
     fn put(&mut self, piece: &[u8]) -> Result<(), SinkError>
-        ensures took { OnOk result (self.new ≡ self.old ++ piece.now) }
+        ensures takes { OnOk result (self.new.taken ≡ self.old.taken ++ piece.now) }
         ensures only_memory { IfErr result (λ e. e ≡ SinkError.OutOfMemory) }
-        ensures kept { OnErr result (self.new ≡ self.old) }
+        ensures unchanged { OnErr result (self.new.taken ≡ self.old.taken) }
+        ensures refusal { OnErr result (self.new.refusals ≡ next_count self.old.refusals) }
+        ensures no_refusal { OnOk result (self.new.refusals ≡ self.old.refusals) }
+        ensures more_refusals { self.old.refusals ≤ self.new.refusals }
     {
-        self.taken.extend_from_slice(piece)?;
-        Ok(())
+        match self.taken.extend_from_slice(piece) {
+            Ok(()) => Ok(()),
+            Err(_) => {
+                self.refusals = self.refusals.saturating_add(1);
+                Err(SinkError::OutOfMemory)
+            }
+        }
     }
 }

@@ -1,3 +1,5 @@
+//! The words of a command line.
+
 ghost use Rattle.std.specs.Prelude.{◌≡◌, string_bytes};
 
 use std::marker::Model;

@@ -1,0 +1,148 @@
+-- The words of options.
+use Rattle.std.proofs.Common.{◌≡◌, ◌≢◌, ℕ, Bool, true, false, ◌==◌, ◌||◌, ◌<◌, List, length, take, get_or, get_or-take, Option, Some, None, MatchOption, Bor, eqb-true, cond, bytes_eq, drop, ◌-◌, length-take, [], ◌∷◌, ◌++◌, slice_index, refl, sym, ap, ◌∙◌, arith}
+use Rattle.std.specs.List.{list_any, position_or_len, before_first, after_first}
+use Rattle.std.proofs.lemmas.List.Folds.{list_any_none}
+use Rattle.std.proofs.lemmas.List.Sums.{fails_before_first, passes_at_first, split_at_first}
+use Rattle.std.proofs.lemmas.Slice.Eq.{bytes_eq-Decides}
+use Rattle.std.proofs.lemmas.Grind.{common_steps}
+use Rattle.command_line.specs.declared.table.Setting.{Setting}
+use Rattle.command_line.specs.declared.table.Setting.TheVariants.{Nodes, Order, Budget}
+use Rattle.command_line.specs.Commands.{option_word, kind_of}
+use Rattle.command_line.specs.Asks.{option_of, HasOption, IsPlain, takes_value}
+
+abbrev pub has_equals : List ℕ → Bool
+has_equals word = list_any (λ c. c == 61) word
+
+pub no_equals : (s : Setting) → has_equals (option_word s) ≡ false
+no_equals Nodes = refl
+no_equals Order = refl
+no_equals Budget = refl
+
+dash_first : (s : Setting) (v : List ℕ) → slice_index (option_word s ++ v) 0 ≡ 45
+dash_first Nodes v = refl
+dash_first Order v = refl
+dash_first Budget v = refl
+
+pub not_plain : (s : Setting) (w : List ℕ) → w ≡ option_word s → IsPlain w → ⊥
+not_plain Nodes w e p = p.no_dash (ap (λ x. slice_index x 0) e)
+not_plain Order w e p = p.no_dash (ap (λ x. slice_index x 0) e)
+not_plain Budget w e p = p.no_dash (ap (λ x. slice_index x 0) e)
+
+pub not_plain_joined : (s : Setting) (v w : List ℕ) → w ≡ option_word s ++ (61 ∷ v) → IsPlain w → ⊥
+not_plain_joined s v w e p = p.no_dash (ap (λ x. slice_index x 0) e ∙ dash_first s (61 ∷ v))
+
+pub equals_inside : (xs ys : List ℕ) → has_equals (xs ++ (61 ∷ ys)) ≡ true
+equals_inside [] ys = refl
+equals_inside (x ∷ xs) ys =
+    rw (equals_inside xs ys)
+    (elim (x == 61) as (λ b. (b || true) ≡ true) [ true ↦ refl | false ↦ refl ])
+
+different : (xs ys : List ℕ) → has_equals xs ≡ false → has_equals ys ≡ true → xs ≡ ys → ⊥
+different xs ys e f g =
+    let h : false ≡ true = sym e ∙ ap has_equals g ∙ f in absurd (cc)
+
+pub not_assigned : (s : Setting) (name v : List ℕ) → option_word s ≡ name ++ (61 ∷ v) → ⊥
+not_assigned s name v e =
+    different (option_word s) (name ++ (61 ∷ v)) (no_equals s) (equals_inside name v) e
+
+pub not_joined : (s t : Setting) (v : List ℕ) → option_word s ≡ option_word t ++ (61 ∷ v) → ⊥
+not_joined s t v e = not_assigned s (option_word t) v e
+
+or_false : (a b : Bool) → (a || b) ≡ false → b ≡ false
+or_false true b e = absurd (cc)
+or_false false b e = e
+
+-- a word is cut at its first equals sign in one way
+pub same_parts :
+    (xs ys vs ws : List ℕ) →
+    has_equals xs ≡ false → has_equals ys ≡ false → xs ++ (61 ∷ vs) ≡ ys ++ (61 ∷ ws) →
+    (xs ≡ ys) × (vs ≡ ws)
+same_parts [] [] vs ws p q e = (refl, cc)
+same_parts [] (y ∷ ys) vs ws p q e =
+    let same : 61 ≡ y = cc in
+    let at : (z : ℕ) → 61 ≡ z → has_equals (z ∷ ys) ≡ true = λ z f. rw (sym f) refl in
+    let h : false ≡ true = sym q ∙ at y same in
+    absurd (cc)
+same_parts (x ∷ xs) [] vs ws p q e =
+    let same : 61 ≡ x = cc in
+    let at : (z : ℕ) → 61 ≡ z → has_equals (z ∷ xs) ≡ true = λ z f. rw (sym f) refl in
+    let h : false ≡ true = sym p ∙ at x same in
+    absurd (cc)
+same_parts (x ∷ xs) (y ∷ ys) vs ws p q e =
+    let h : x ≡ y = cc in
+    let k = same_parts xs ys vs ws (rest x xs p) (rest y ys q) (cc) in
+    (ap (λ z. z ∷ xs) h ∙ ap (λ zs. y ∷ zs) k.0, k.1)
+  where
+    rest : (z : ℕ) (zs : List ℕ) → has_equals (z ∷ zs) ≡ false → has_equals zs ≡ false
+    rest z zs f = or_false (z == 61) (has_equals zs) f
+
+-- options of one word are one option
+pub same_option :
+    (settings : List Setting) (s t : Setting) (a b : Bool) →
+    HasOption settings s a → HasOption settings t b → option_word s ≡ option_word t → s ≡ t
+same_option settings s t a b h k e =
+    let same : Some s ≡ Some t = sym h.there ∙ ap (option_of settings) e ∙ k.there in
+    cc
+
+no_equals_before : (w : List ℕ) → has_equals (before_first (λ b. b == 61) w) ≡ false
+no_equals_before w =
+    list_any_none (λ b. b == 61) (take (position_or_len (λ b. b == 61) w) w) (λ k d h.
+    let low : k < position_or_len (λ b. b == 61) w =
+    omega (arith, h, length-take (position_or_len (λ b. b == 61) w) w) in
+    ap (λ x. x == 61) (get_or-take (position_or_len (λ b. b == 61) w) w k d low)
+    ∙ fails_before_first (λ b. b == 61) w k d low)
+
+-- the parts of a word round its first equals sign
+pub parts_of :
+    (w : List ℕ) (r : Option (Bor (List ℕ) × Bor (List ℕ))) →
+    MatchOption r (position_or_len (λ b. b == 61) w ≡ length w) (λ x.
+    (x.0.now ≡ before_first (λ b. b == 61) w) × (x.1.now ≡ after_first (λ b. b == 61) w)
+    × (position_or_len (λ b. b == 61) w < length w)) →
+    MatchOption r ((name value : List ℕ) → w ≢ name ++ (61 ∷ value)) (λ x.
+    (w ≡ x.0.now ++ (61 ∷ x.1.now)) × (has_equals x.0.now ≡ false))
+parts_of w None e = λ name value f.
+    let none : has_equals w ≡ false =
+    list_any_none (λ b. b == 61) w
+    (λ k d h. fails_before_first (λ b. b == 61) w k d (omega (arith, e, h))) in
+    let some : false ≡ true = sym none ∙ ap has_equals f ∙ equals_inside name value in
+    absurd (cc)
+parts_of w (Some x) h =
+    let is : get_or w (position_or_len (λ b. b == 61) w) 0 ≡ 61 =
+    eqb-true _ 61 (passes_at_first (λ b. b == 61) w 0 h.2) in (
+      split_at_first (λ b. b == 61) w 0 h.2
+          ∙ ap (λ c. before_first (λ b. b == 61) w ++ (c ∷ after_first (λ b. b == 61) w)) is
+          ∙ ap (λ y. y ++ (61 ∷ after_first (λ b. b == 61) w)) (sym h.0)
+          ∙ ap (λ y. x.0.now ++ (61 ∷ y)) (sym h.1),
+      ap has_equals h.0 ∙ no_equals_before w,
+    )
+
+-- the option that is found has the word
+pub word_found : (settings : List Setting) (w : List ℕ) (s : Setting) →
+    option_of settings w ≡ Some s → option_word s ≡ w
+word_found [] w s e = absurd (cc)
+word_found (t ∷ settings) w s e =
+    found (bytes_eq (option_word t) w) refl e (word_found settings w s)
+  where
+    found : (b : Bool) → bytes_eq (option_word t) w ≡ b →
+        cond b (Some t) (option_of settings w) ≡ Some s →
+        (option_of settings w ≡ Some s → option_word s ≡ w) → option_word s ≡ w
+    found true h f more = let same : t ≡ s = cc in ap option_word (sym same)
+        ∙ (bytes_eq-Decides (option_word t) w).0 h
+    found false h f more = more f
+
+pub has_option : (settings : List Setting) (w : List ℕ) (s : Setting) (valued : Bool) →
+    option_of settings w ≡ Some s → takes_value (kind_of s) ≡ valued → HasOption settings s valued
+has_option settings w s valued e k = record {
+  there = ap (option_of settings) (word_found settings w s e) ∙ e;
+  kind = k;
+}
+
+all_taken : (xs : List (List ℕ)) (n : ℕ) → n ≡ length xs → take n xs ≡ xs
+all_taken xs n e = grind (arith, common_steps)
+
+-- a list is its first item and the rest
+pub first_and_rest : (xs : List (List ℕ)) (x : List ℕ) → 0 < length xs → x ≡ get_or xs 0 x →
+    xs ≡ x ∷ take (length xs - 1) (drop 1 xs)
+first_and_rest [] x h e = absurd (omega arith)
+first_and_rest (y ∷ ys) x h e = ap (λ z. z ∷ ys) (sym e)
+    ∙ ap (λ zs. x ∷ zs) (sym (all_taken ys (length (y ∷ ys) - 1) (omega arith)))
