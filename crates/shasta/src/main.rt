@@ -1,21 +1,12 @@
 #![tactic(auto)]
 //! `shasta` lists RV32 executables, and runs their original and their rewritten code.
 
-mod listing;
-mod one;
-mod report;
-mod run;
-#[cfg(test)]
-mod tests;
-mod text;
-mod top;
-
+use commands::{shasta, tell_out_of_memory};
 use dsm_io::{OpenGate, RealFiles, StdSink, Text};
 use std::alloc::AllocError;
 use std::env;
 use std::io::ErrorKind;
 use std::process::ExitCode;
-use top::{shasta, tell_out_of_memory};
 
 fn main(rt: HostRuntime) -> ExitCode {
     let mut files = RealFiles::new(rt);

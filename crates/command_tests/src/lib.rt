@@ -1,0 +1,13 @@
+#![tactic(auto)]
+//! The commands on small programs, byte by byte, and the adapters of the real system.
+
+#[cfg(test)]
+mod adapters;
+#[cfg(test)]
+mod calls;
+#[cfg(test)]
+mod faults;
+#[cfg(test)]
+mod instructions;
+#[cfg(test)]
+mod programs;

@@ -1,0 +1,4 @@
+pub mod Pieces
+pub mod ListingLemmas
+pub mod AnswerLemmas
+pub mod RunLemmas

@@ -1,0 +1,64 @@
+-- Why a command answers as it does, and what `err` is told.
+use Rattle.std.specs.Prelude.{◌≡◌, ℕ, ◌<◌, ◌⊎◌, List, Option, length, Contains, MatchOption}
+use Rattle.dsm_io.specs.Causes.{Rose, Appends, AppendsPrefix}
+use Rattle.command_line.specs.Commands.{Command, reads}
+use Rattle.commands.specs.Headline.{AreTold, PrintsPrefix}
+use Rattle.commands.specs.Text.{cannot_read, too_long, cannot_write_output}
+
+-- the longest file that is read, in bytes
+abbrev pub file_limit : ℕ
+file_limit = 33554432
+
+-- what contracts see of a sink: the bytes taken, where they are told; how often it failed; and how
+-- often it refused a put because it was out of memory
+pub record SinkState : Type 0 where
+  pub taken : Option (List ℕ)
+  pub faults : ℕ
+  pub refusals : ℕ
+
+abbrev pub sink_of : Option (List ℕ) → ℕ → ℕ → SinkState
+sink_of taken faults refusals = record { taken = taken; faults = faults; refusals = refusals }
+
+-- the sink took the line; or a prefix of it, where it failed; or nothing, where it was out of memory
+abbrev pub Tells : SinkState → SinkState → List ℕ → Type 0
+Tells before now line =
+    Appends before.taken now.taken line
+    ⊎ ((AppendsPrefix before.taken now.taken line × Rose before.faults now.faults)
+    ⊎ ((now.taken ≡ before.taken) × Rose before.refusals now.refusals))
+
+-- what contracts see of files: what each name holds, where that is told, and how many reads of it
+-- failed
+pub record FilesState : Type 0 where
+  pub held : List ℕ → Option (List ℕ)
+  pub failed_reads : List ℕ → ℕ
+
+abbrev pub files_of : (List ℕ → Option (List ℕ)) → (List ℕ → ℕ) → FilesState
+files_of held failed_reads = record { held = held; failed_reads = failed_reads }
+
+-- the file is longer than the limit; where its content isn't told, a read of it failed
+abbrev pub IsTooLong : FilesState → FilesState → List ℕ → Type 0
+IsTooLong before now name =
+    MatchOption (before.held name) (Rose (before.failed_reads name) (now.failed_reads name))
+    (λ file. file_limit < length file)
+
+-- a file that the command reads couldn't be read, or is too long, and the line says so
+abbrev pub IsReadFault : Command → FilesState → FilesState → (List ℕ → Type 0) → Type 0
+IsReadFault command before now Told =
+    (name : List ℕ) × Contains (reads command) name
+    × ((Rose (before.failed_reads name) (now.failed_reads name) × Told (cannot_read name))
+    ⊎ (IsTooLong before now name × Told (too_long name)))
+
+-- the output failed where a text that the command asks for was being put
+abbrev pub IsPutFault : Command → FilesState → SinkState → SinkState → Type 0
+IsPutFault command files before now =
+    Rose before.faults now.faults
+    × ((contents : List ℕ → List ℕ) → AreTold command files.held contents
+    → PrintsPrefix command contents before.taken now.taken)
+
+-- why a command answers a fault, and the line that is told: a file failed, and nothing was put; or
+-- the output failed
+abbrev pub IsFault : Command → FilesState → FilesState → SinkState → SinkState
+    → (List ℕ → Type 0) → Type 0
+IsFault command before now out_before out Told =
+    ((out.taken ≡ out_before.taken) × IsReadFault command before now Told)
+    ⊎ (IsPutFault command before out_before out × Told cannot_write_output)

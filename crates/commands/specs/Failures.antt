@@ -1,0 +1,118 @@
+-- Helps the code alone: failures of commands, and what each says of the files and the output.
+use Rattle.std.specs.Prelude.{◌≡◌, ℕ, ◌≤◌, ◌⊎◌, List, Option, Some}
+use Rattle.rv32_program.specs.declared.End.{End}
+use Rattle.node_machine.specs.declared.NodeCounts.{NodeCounts}
+use Rattle.node_machine.specs.Node.{Work, end_of}
+use Rattle.shared_sim.specs.CoreRun.{Event, IsCoreRun, opening_core, after, printed_by}
+use Rattle.dsm_io.specs.Causes.{Rose, Appends, AppendsPrefix}
+use Rattle.commands.specs.declared.failure.Failure.{Failure}
+use Rattle.commands.specs.declared.failure.Failure.TheVariants.{Input, Refused, Output, OutOfMemory}
+use Rattle.commands.specs.Text.{text_of, cannot_read, too_long, cannot_write_output, out_of_memory}
+use Rattle.commands.specs.Outcomes.{Outcome}
+use Rattle.commands.specs.Outcomes as outcomes
+use Rattle.command_line.specs.Commands.{Command}
+use Rattle.commands.specs.Answers.{SinkState, FilesState, IsTooLong, IsReadFault, IsPutFault}
+use Rattle.commands.specs.Executables.{IsRefused}
+use Rattle.commands.specs.Headline.{AreTold, Prints, PrintsPrefix, input_of}
+
+-- the status and the line of a failure
+abbrev pub status_of : Failure → ℕ
+status_of (Input line) = 3
+status_of (Refused line) = 4
+status_of Output = 3
+status_of OutOfMemory = 5
+
+abbrev pub line_of : Failure → List ℕ
+line_of (Input line) = line.items
+line_of (Refused line) = line.items
+line_of Output = cannot_write_output
+line_of OutOfMemory = out_of_memory
+
+-- why a file wasn't read
+abbrev pub IsReadFailure : FilesState → FilesState → List ℕ → Failure → Type 0
+IsReadFailure before now name (Input line) =
+    (Rose (before.failed_reads name) (now.failed_reads name) × (line.items ≡ cannot_read name))
+    ⊎ (IsTooLong before now name × (line.items ≡ too_long name))
+IsReadFailure before now name (Refused line) = ⊥
+IsReadFailure before now name Output = ⊥
+IsReadFailure before now name OutOfMemory = Unit {0}
+
+-- a failure for this reason, which a line tells, or because it is out of memory
+abbrev pub IsRefusal : (List ℕ → Type 0) → Failure → Type 0
+IsRefusal Reason (Input line) = ⊥
+IsRefusal Reason (Refused line) = Reason line.items
+IsRefusal Reason Output = ⊥
+IsRefusal Reason OutOfMemory = Unit {0}
+
+-- why a piece wasn't put whole
+abbrev pub IsPutFailure : SinkState → SinkState → List ℕ → Failure → Type 0
+IsPutFailure before now piece (Input line) = ⊥
+IsPutFailure before now piece (Refused line) = ⊥
+IsPutFailure before now piece Output =
+    Rose before.faults now.faults × AppendsPrefix before.taken now.taken piece
+IsPutFailure before now piece OutOfMemory = now.taken ≡ before.taken
+
+-- a prefix of a text with this status was put
+abbrev pub PutsPrefix : (List ℕ → ℕ → Type 0) → Option (List ℕ) → Option (List ℕ) → Type 0
+PutsPrefix IsTextFor before now =
+    (text : List ℕ) × (status : ℕ) × IsTextFor text status × AppendsPrefix before now text
+
+-- how a command fails whose texts and refusals are these
+abbrev pub FailsAs : (List ℕ → ℕ → Type 0) → (List ℕ → Type 0) → SinkState → SinkState
+    → Failure → Type 0
+FailsAs IsTextFor Reason before now (Input line) = ⊥
+FailsAs IsTextFor Reason before now (Refused line) =
+    Reason line.items × (now.taken ≡ before.taken)
+FailsAs IsTextFor Reason before now Output =
+    Rose before.faults now.faults × PutsPrefix IsTextFor before.taken now.taken
+FailsAs IsTextFor Reason before now OutOfMemory =
+    (now.taken ≡ before.taken) ⊎ PutsPrefix IsTextFor before.taken now.taken
+
+-- the whole of a text with this status was put
+abbrev pub Puts : (List ℕ → ℕ → Type 0) → ℕ → Option (List ℕ) → Option (List ℕ) → Type 0
+Puts IsTextFor status before now =
+    (text : List ℕ) × IsTextFor text status × Appends before now text
+
+-- one text, with any status; and no reason at all
+abbrev pub IsLike : List ℕ → List ℕ → ℕ → Type 0
+IsLike one text status = text ≡ one
+
+abbrev pub IsNever : List ℕ → Type 0
+IsNever line = ⊥
+
+-- the text and the status of an outcome
+abbrev pub IsTextOfOutcome : Outcome → List ℕ → ℕ → Type 0
+IsTextOfOutcome o text status = (text ≡ text_of o) × (status ≡ outcomes.status_of o)
+
+-- a whole run of the node of this work, by its bytes, its end and its counts
+pub record IsFinished (work : Work) (output : List ℕ) (end : End) (counts : NodeCounts) : Type 0
+  where
+    pub events : List Event
+    pub run : IsCoreRun work (opening_core work) events
+    pub end_is : end_of ((after work (opening_core work) events).nodes 0).phase ≡ Some end
+    pub output_is : output ≡ printed_by work (opening_core work) events
+    pub counts_are : counts ≡ ((after work (opening_core work) events).nodes 0).counts
+
+-- how a command fails, with its file read by it
+abbrev pub IsFailure : Command → FilesState → FilesState → SinkState → SinkState → Failure → Type 0
+IsFailure command files files_now before now (Input line) =
+    (now.taken ≡ before.taken) × IsReadFault command files files_now (λ l. line.items ≡ l)
+IsFailure command files files_now before now (Refused line) =
+    (now.taken ≡ before.taken)
+    × ((contents : List ℕ → List ℕ) → AreTold command files.held contents
+    → IsRefused command (contents (input_of command)) line.items)
+IsFailure command files files_now before now Output = IsPutFault command files before now
+IsFailure command files files_now before now OutOfMemory =
+    (contents : List ℕ → List ℕ) → AreTold command files.held contents
+    → (now.taken ≡ before.taken) ⊎ PrintsPrefix command contents before.taken now.taken
+
+-- how a command succeeds: its whole text was put
+pub record IsSuccess (command : Command) (files : FilesState) (before now : SinkState) (status : ℕ) : Type 0
+  where
+    pub low : status ≤ 1
+    pub prints : (contents : List ℕ → List ℕ) → AreTold command files.held contents
+        → Prints command contents before.taken now.taken status
+
+-- a failure that isn't a refusal
+abbrev pub IsNoRefusal : Failure → Type 0
+IsNoRefusal f = (status_of f ≡ 3) ⊎ (status_of f ≡ 5)

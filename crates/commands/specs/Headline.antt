@@ -1,0 +1,101 @@
+-- What the program promises of each command.
+use Rattle.std.specs.Prelude.{◌≡◌, ℕ, ◌^◌, List, [], Option, Some, Contains, filter}
+use Rattle.std.specs.List.{flat_map, range_with_len}
+use Rattle.elf32_read.specs.Elf.{Elf}
+use Rattle.exec_map.specs.Contents.{program_of, is_code_word, word_of}
+use Rattle.rv32_text.specs.Listing.{line_of}
+use Rattle.templates.specs.declared.plans.PlanEntry.{PlanEntry}
+use Rattle.jump_map.specs.Image.{IsRewriting}
+use Rattle.rewriter.specs.SpillPlan.{IsSpillPlan}
+use Rattle.node_machine.specs.Node.{Work}
+use Rattle.shared_sim.specs.CoreRun.{Event}
+use Rattle.one_memory.specs.ByOrder.{IsRunByOrder}
+use Rattle.command_line.specs.Commands.{Command, Run, Listing, One, reads}
+use Rattle.dsm_io.specs.Causes.{Appends, AppendsPrefix}
+use Rattle.commands.specs.Executables.{IsProgramOf}
+use Rattle.commands.specs.Outcomes.{Outcome, status_of, IsWholeRun}
+use Rattle.commands.specs.Text.{text_of}
+
+-- the outcome of a run of the file's rewritten code on one node: the code is the rewriting by the
+-- plan of the program
+pub record IsOutcomeOf (file : List ℕ) (budget : ℕ) (outcome : Outcome) : Type 0 where
+  pub elf : Elf
+  pub executable : IsProgramOf file elf
+  pub work : Work
+  pub program : work.program ≡ program_of elf
+  pub alone : work.nodes ≡ 1
+  pub limit : work.budget ≡ budget
+  pub plan : List PlanEntry
+  pub the_plan : IsSpillPlan work.program.code plan
+  pub rewriting : IsRewriting work.program plan work.image
+  pub events : List Event
+  pub whole : IsWholeRun work plan events outcome
+
+-- the outcome of the original's processors on one memory, by the order of a number; no node counts
+-- anything
+pub record IsOutcomeByOrder (file : List ℕ) (nodes order budget : ℕ) (outcome : Outcome) : Type 0
+  where
+    pub elf : Elf
+    pub executable : IsProgramOf file elf
+    pub ordered : IsRunByOrder (record { program = program_of elf; nodes = nodes }) budget order
+        outcome.output outcome.ends
+    pub counts : outcome.counts ≡ []
+
+-- the lines of the code words below an address, ascending
+unfoldable pub listing_below : Elf → ℕ → List ℕ
+listing_below elf n =
+    flat_map (λ a. line_of a (word_of elf a)) (filter (is_code_word elf) (range_with_len 0 n))
+
+-- the lines of all code words
+abbrev pub listing : Elf → List ℕ
+listing elf = listing_below elf (2 ^ 32)
+
+-- the listing of the executable in a file
+pub record IsListingOf (file text : List ℕ) : Type 0 where
+  pub elf : Elf
+  pub executable : IsProgramOf file elf
+  pub lines : text ≡ listing elf
+
+abbrev pub IsListingText : List ℕ → List ℕ → ℕ → Type 0
+IsListingText file text status = IsListingOf file text × (status ≡ 0)
+
+-- the text of an outcome with these facts, and its status
+pub record IsTextWith (Is : Outcome → Type 0) (text : List ℕ) (status : ℕ) : Type 0 where
+  pub outcome : Outcome
+  pub is : Is outcome
+  pub text_is : text ≡ text_of outcome
+  pub status_is : status ≡ status_of outcome
+
+-- the text that a command asks for, where the files have these contents, and the status
+abbrev pub IsText : Command → (List ℕ → List ℕ) → List ℕ → ℕ → Type 0
+IsText (Run name budget) contents text status =
+    IsTextWith (IsOutcomeOf (contents name) budget) text status
+IsText (One name nodes order budget) contents text status =
+    IsTextWith (IsOutcomeByOrder (contents name) nodes order budget) text status
+IsText (Listing name) contents text status = IsListingText (contents name) text status
+
+-- each file that the command reads is told to have its content
+abbrev pub AreTold : Command → (List ℕ → Option (List ℕ)) → (List ℕ → List ℕ) → Type 0
+AreTold command held contents =
+    (name : List ℕ) → Contains (reads command) name → held name ≡ Some (contents name)
+
+-- the whole text was put
+pub record Prints (command : Command) (contents : List ℕ → List ℕ)
+    (before now : Option (List ℕ)) (status : ℕ) : Type 0 where
+  pub text : List ℕ
+  pub is : IsText command contents text status
+  pub put : Appends before now text
+
+-- a prefix of the text was put
+pub record PrintsPrefix (command : Command) (contents : List ℕ → List ℕ)
+    (before now : Option (List ℕ)) : Type 0 where
+  pub text : List ℕ
+  pub status : ℕ
+  pub is : IsText command contents text status
+  pub put : AppendsPrefix before now text
+
+-- the file that a command reads as an executable
+abbrev pub input_of : Command → List ℕ
+input_of (Run file budget) = file
+input_of (Listing file) = file
+input_of (One file nodes order budget) = file

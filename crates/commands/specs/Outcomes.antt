@@ -1,0 +1,51 @@
+-- What a run gives: the bytes printed, how each processor ended, and what each node counted.
+use Rattle.std.specs.Prelude.{◌≡◌, ℕ, ◌<◌, Bool, false, if◌then◌else◌, ◌==◌, List, Option, Some, map}
+use Rattle.std.specs.List.{list_all, range_with_len}
+use Rattle.rv32_program.specs.declared.Exit.TheVariants.{Code}
+use Rattle.rv32_program.specs.declared.End.{End}
+use Rattle.rv32_program.specs.declared.End.TheVariants.{Exited, Stopped}
+use Rattle.templates.specs.declared.plans.PlanEntry.{PlanEntry}
+use Rattle.node_machine.specs.declared.NodeCounts.{NodeCounts}
+use Rattle.node_machine.specs.Node.{Work, Ended, end_of}
+use Rattle.shared_sim.specs.CoreRun.{Event, IsCoreRun, opening_core, after}
+use Rattle.shared_sim.specs.Interleaving.{Interleaves, original_after}
+
+pub record Outcome : Type 0 where
+  pub output : List ℕ
+  pub ends : List End
+  pub counts : List NodeCounts
+
+-- the processor ended by itself, with code 0
+abbrev pub is_success : End → Bool
+is_success (Exited (Code c)) = c == 0
+is_success e = false
+
+-- 0 where every processor ended so, else 1
+abbrev pub status_of : Outcome → ℕ
+status_of o = if list_all is_success o.ends then 0 else 1
+
+-- the ends of the nodes after the events
+abbrev pub ends_after : Work → List Event → List (Option End)
+ends_after work events =
+    map (λ i. end_of ((after work (opening_core work) events).nodes i).phase)
+    (range_with_len 0 work.nodes)
+
+abbrev pub counts_after : Work → List Event → List NodeCounts
+counts_after work events =
+    map (λ i. ((after work (opening_core work) events).nodes i).counts)
+    (range_with_len 0 work.nodes)
+
+-- the events are a whole run of the nodes, from the start until each has ended, with this outcome
+pub record IsWholeRun (work : Work) (plan : List PlanEntry) (events : List Event) (o : Outcome) : Type 0 where
+  pub run : IsCoreRun work (opening_core work) events
+  pub ends : ends_after work events ≡ map (λ e. Some e) o.ends
+  pub counts : o.counts ≡ counts_after work events
+  -- by the words that commit, it is a run of the original processors on one memory: with the same
+  -- values read, the same bytes printed, and the same exits
+  pub original : Interleaves work plan events
+  pub output : o.output ≡ (original_after work plan events).output
+  -- a processor is stopped only where it has executed the whole budget
+  pub stopped : (i b : ℕ) → i < work.nodes
+      → ((after work (opening_core work) events).nodes i).phase ≡ Ended (Stopped b)
+      → (b ≡ work.budget)
+      × (((after work (opening_core work) events).nodes i).executed ≡ work.budget)

@@ -1,0 +1,121 @@
+-- The texts that are printed.
+use Rattle.std.specs.Prelude.{ℕ, ◌+◌, List, [], ◌∷◌, ◌++◌, length, codes}
+use Rattle.std.specs.Fmt.{decimal}
+use Rattle.rv32_text.specs.Listing.{word_digits}
+use Rattle.rv32_program.specs.declared.Exit.{Exit}
+use Rattle.rv32_program.specs.declared.Exit.TheVariants.{Code, Ebreak, Illegal, Misaligned, Access, Fetch}
+use Rattle.rv32_program.specs.declared.End.{End}
+use Rattle.rv32_program.specs.declared.End.TheVariants.{Exited, Stopped}
+use Rattle.node_machine.specs.declared.NodeCounts.{NodeCounts}
+use Rattle.exec_map.specs.Refusals.{number_of}
+use Rattle.exec_map.specs.declared.refused.ProgramRule.{ProgramRule}
+use Rattle.exec_map.specs.declared.refused.ProgramRule.TheVariants.{TooHigh, Overlap, WritableCode, NoCode, TooMuch, EntryNotCode, Unsupported, CodeAlign, TooManySegments}
+use Rattle.rv32_program.specs.declared.Class.{Class}
+use Rattle.rv32_program.specs.declared.Class.TheVariants.{Shared}
+use Rattle.commands.specs.Outcomes.{Outcome}
+
+-- a word in eight hexadecimal digits, behind 0x
+abbrev pub hex8 : ℕ → List ℕ
+hex8 n = codes "0x" ++ word_digits n
+
+abbrev pub exit_text : Exit → List ℕ
+exit_text (Code c) = codes "exit " ++ decimal c
+exit_text (Ebreak a) = codes "ebreak " ++ hex8 a
+exit_text (Illegal a) = codes "illegal " ++ hex8 a
+exit_text (Misaligned a) = codes "misaligned " ++ hex8 a
+exit_text (Access a) = codes "access " ++ hex8 a
+exit_text (Fetch a) = codes "fetch " ++ hex8 a
+
+abbrev pub end_text : End → List ℕ
+end_text (Exited e) = exit_text e
+end_text (Stopped budget) = codes "stopped " ++ decimal budget
+
+-- a line for each processor, from this number on
+abbrev pub processor_lines : ℕ → List End → List ℕ
+processor_lines p [] = []
+processor_lines p (e ∷ es) =
+    codes "processor " ++ (decimal p ++ (codes " " ++ (end_text e
+    ++ (codes "\n" ++ processor_lines (p + 1) es))))
+
+abbrev pub counts_text : NodeCounts → List ℕ
+counts_text c =
+    codes "read " ++ (decimal c.read ++ (codes " exclusive " ++ (decimal c.exclusive
+    ++ (codes " upgrade " ++ (decimal c.upgrade ++ (codes " false " ++ (decimal c.falses
+    ++ (codes " invalidations " ++ (decimal c.invalidations ++ (codes " fallbacks "
+    ++ (decimal c.fallbacks ++ (codes " messages " ++ decimal c.messages))))))))))))
+
+-- a line for each node, from this number on
+abbrev pub node_lines : ℕ → List NodeCounts → List ℕ
+node_lines i [] = []
+node_lines i (c ∷ cs) =
+    codes "node " ++ (decimal i ++ (codes " " ++ (counts_text c
+    ++ (codes "\n" ++ node_lines (i + 1) cs))))
+
+-- what stands before the bytes printed: how many there are
+abbrev pub outcome_head : ℕ → List ℕ
+outcome_head n = codes "output " ++ (decimal n ++ codes "\n")
+
+-- what stands behind them: how each processor ended, and what each node counted
+abbrev pub outcome_tail : List End → List NodeCounts → List ℕ
+outcome_tail ends counts = codes "\n" ++ (processor_lines 0 ends ++ node_lines 0 counts)
+
+-- the text of an outcome
+abbrev pub text_of : Outcome → List ℕ
+text_of o = outcome_head (length o.output) ++ (o.output ++ outcome_tail o.ends o.counts)
+
+-- the lines that errors have
+
+unfoldable pub usage : List ℕ
+usage =
+    codes "usage: shasta rewrite IN OUT [--no-batch]\n" ++ (codes "       shasta list IN\n"
+    ++ (codes "       shasta one IN [--nodes N] [--order K] [--budget B] [--layout FILE]\n"
+    ++ (codes "       shasta sim IN [--nodes N] [--order K] [--budget B] [--layout FILE] [--code FILE] [--no-batch] [--brief]\n"
+    ++ (codes "       shasta run IN [--nodes N] [--record FILE] [--budget B] [--layout FILE] [--code FILE] [--no-batch] [--brief]\n"
+    ++ (codes "       shasta replay IN RECORD [--brief]\n" ++ codes "       shasta gen NUMBER OUT\n")))))
+
+abbrev pub cannot_read : List ℕ → List ℕ
+cannot_read name = codes "shasta: cannot read " ++ (name ++ codes "\n")
+
+abbrev pub too_long : List ℕ → List ℕ
+too_long name = codes "shasta: " ++ (name ++ codes " is longer than 33554432 bytes\n")
+
+abbrev pub cannot_write_output : List ℕ
+cannot_write_output = codes "shasta: cannot write output\n"
+
+abbrev pub out_of_memory : List ℕ
+out_of_memory = codes "shasta: out of memory\n"
+
+-- the line of a refusal, by its number and its text
+abbrev pub refusal_head : ℕ → List ℕ
+refusal_head number = codes "shasta: executable refused " ++ (decimal number ++ codes " ")
+
+abbrev pub refusal : ℕ → List ℕ → List ℕ
+refusal number text = refusal_head number ++ (text ++ codes "\n")
+
+abbrev pub class_name : Class → List ℕ
+class_name Shared = codes "shared"
+class_name c = codes "read-only"
+
+-- a rule that refuses a program: its name, and what it names
+abbrev pub rule_text : ProgramRule → List ℕ
+rule_text (TooHigh segment) = codes "TooHigh segment " ++ decimal segment
+rule_text (Overlap first second) =
+    codes "Overlap segments " ++ (decimal first ++ (codes " " ++ decimal second))
+rule_text (WritableCode segment) = codes "WritableCode segment " ++ decimal segment
+rule_text NoCode = codes "NoCode"
+rule_text (TooMuch class) = codes "TooMuch " ++ class_name class
+rule_text (EntryNotCode address) = codes "EntryNotCode " ++ hex8 address
+rule_text (Unsupported address word) =
+    codes "Unsupported " ++ (hex8 address ++ (codes " word " ++ hex8 word))
+rule_text (CodeAlign section) = codes "CodeAlign section " ++ decimal section
+rule_text (TooManySegments count) =
+    codes "TooManySegments " ++ (decimal count ++ codes " segments")
+
+abbrev pub program_line : ProgramRule → List ℕ
+program_line rule = refusal (number_of rule) (rule_text rule)
+
+abbrev pub too_many_words : ℕ → List ℕ
+too_many_words words = refusal 20 (codes "CodeTooLarge " ++ (decimal words ++ codes " words"))
+
+abbrev pub not_yet : List ℕ
+not_yet = refusal 90 (codes "NotYet")

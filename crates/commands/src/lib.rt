@@ -1,0 +1,15 @@
+#![tactic(auto)]
+//! The commands of the program, and the top call, [`shasta`], which does what the words ask for.
+
+mod failure;
+mod input;
+mod list;
+mod one;
+mod outcome;
+mod output;
+mod refusal;
+mod run;
+mod text;
+mod top;
+
+pub use top::{shasta, tell_out_of_memory};

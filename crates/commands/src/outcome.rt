@@ -1,0 +1,62 @@
+//! The text of an outcome, and its status.
+
+ghost use Rattle.std.specs.Prelude.{◌≡◌, ◌≤◌, ℕ, IfOk, IfErr};
+ghost use Rattle.std.specs.List.{list_all};
+ghost use Rattle.commands.specs.Answers.{sink_of};
+ghost use Rattle.commands.specs.Outcomes.{is_success, status_of};
+ghost use Rattle.commands.specs.Failures.{Puts, FailsAs, IsTextOfOutcome, IsNever};
+
+use crate::failure::Failure;
+use crate::output::put;
+use crate::text::{outcome_head, outcome_tail};
+use dsm_io::Sink;
+use exec_map::{End, Exit};
+use node_machine::NodeCounts;
+use std::alloc::Global;
+
+/// Puts the text of an outcome, and gives its status.
+pub fn put_outcome<O: Sink>(
+    alloc: Global,
+    output: &[u8],
+    ends: &[End],
+    counts: &[NodeCounts],
+    out: &mut O,
+) -> Result<u8, Failure>
+    ensures ok { IfOk result (λ status.
+        Puts (IsTextOfOutcome (record { output = output.now; ends = ends.now; counts = counts.now }))
+        status (O.taken out.old) (O.taken out.new)) }
+    ensures failure { IfErr result (FailsAs
+        (IsTextOfOutcome (record { output = output.now; ends = ends.now; counts = counts.now })) IsNever
+        (sink_of (O.taken out.old) (O.faults out.old) (O.refusals out.old))
+        (sink_of (O.taken out.new) (O.faults out.new) (O.refusals out.new))) }
+{
+    let head = outcome_head(alloc, output)?;
+    let tail = outcome_tail(alloc, ends, counts)?;
+    put(out, &head)?;
+    put(out, output)?;
+    put(out, &tail)?;
+    Ok(status(ends))
+}
+
+/// 0 where every processor ended by itself with code 0, else 1.
+fn status(ends: &[End]) -> u8
+    ensures value { (output : _) (counts : _) → result ≡ status_of (record { output = output; ends = ends.now; counts = counts }) }
+    ensures range { result ≤ 1 }
+{
+    if all_succeeded(ends) { 0 } else { 1 }
+}
+
+fn all_succeeded(ends: &[End]) -> bool
+    ensures { result ≡ list_all is_success ends.now }
+{
+    ends.iter().all(|end| is_success(*end))
+}
+
+fn is_success(end: End) -> bool
+    ensures { result ≡ is_success end }
+{
+    match end {
+        End::Exited(Exit::Code(code)) => code == 0,
+        End::Exited(_) | End::Stopped(_) => false,
+    }
+}

@@ -1,0 +1,116 @@
+//! The lines that say why an executable is refused.
+
+ghost use Rattle.std.specs.Prelude.{◌≡◌, ◌++◌, IfOk, OnOk};
+ghost use Rattle.std.specs.Fmt.{decimal};
+ghost use Rattle.commands.specs.Text as model;
+
+use crate::text::{push_address, push_number};
+use exec_map::{Class, ProgramRule};
+use std::alloc::{AllocError, Global};
+
+/// The line of a file that has another form than is read as yet.
+pub fn not_yet(alloc: Global) -> Result<Vec<u8>, AllocError>
+    ensures { IfOk result (λ line. line.items ≡ model.not_yet) }
+{
+    let mut line = begin(alloc, 90)?;
+    line.extend_from_slice(b"NotYet\n")?;
+    Ok(line)
+}
+
+/// The line of a rule that refuses a program.
+pub fn program_line(alloc: Global, rule: ProgramRule) -> Result<Vec<u8>, AllocError>
+    ensures { IfOk result (λ line. line.items ≡ model.program_line rule) }
+{
+    let mut line = begin(alloc, rule.number())?;
+    push_rule(&mut line, rule)?;
+    line.extend_from_slice(b"\n")?;
+    Ok(line)
+}
+
+/// The line that says how many words rewritten code would have.
+pub fn too_many_words(alloc: Global, words: u64) -> Result<Vec<u8>, AllocError>
+    ensures { IfOk result (λ line. line.items ≡ model.too_many_words words) }
+{
+    let mut line = begin(alloc, 20)?;
+    line.extend_from_slice(b"CodeTooLarge ")?;
+    push_number(&mut line, words)?;
+    line.extend_from_slice(b" words\n")?;
+    Ok(line)
+}
+
+/// What each line begins with: that the executable is refused, and the number.
+fn begin(alloc: Global, number: u8) -> Result<Vec<u8>, AllocError>
+    ensures { IfOk result (λ line. line.items ≡ model.refusal_head number) }
+{
+    let mut line = Vec::new(alloc);
+    line.extend_from_slice(b"shasta: executable refused ")?;
+    push_number(&mut line, u64::from(number))?;
+    line.extend_from_slice(b" ")?;
+    Ok(line)
+}
+
+/// Appends a rule's name, and what it names.
+fn push_rule(line: &mut Vec<u8>, rule: ProgramRule) -> Result<(), AllocError>
+    ensures { OnOk result (line.new.items ≡ line.old.items ++ model.rule_text rule) }
+{
+    match rule {
+        ProgramRule::TooHigh { segment } => push_index(line, b"TooHigh segment ", segment),
+        ProgramRule::Overlap { first, second } => {
+            push_index(line, b"Overlap segments ", first)?;
+            push_index(line, b" ", second)?;
+            Ok(())
+        }
+        ProgramRule::WritableCode { segment } => {
+            push_index(line, b"WritableCode segment ", segment)
+        }
+        ProgramRule::NoCode => {
+            line.extend_from_slice(b"NoCode")?;
+            Ok(())
+        }
+        ProgramRule::TooMuch { class } => {
+            line.extend_from_slice(b"TooMuch ")?;
+            line.extend_from_slice(class_name(class))?;
+            Ok(())
+        }
+        ProgramRule::EntryNotCode { address } => push_place(line, b"EntryNotCode ", address),
+        ProgramRule::Unsupported { address, word } => {
+            push_place(line, b"Unsupported ", address)?;
+            push_place(line, b" word ", word)?;
+            Ok(())
+        }
+        ProgramRule::CodeAlign { section } => push_index(line, b"CodeAlign section ", section),
+        ProgramRule::TooManySegments { count } => {
+            push_index(line, b"TooManySegments ", count)?;
+            line.extend_from_slice(b" segments")?;
+            Ok(())
+        }
+    }
+}
+
+/// Appends a name and a number.
+fn push_index(line: &mut Vec<u8>, name: &[u8], index: usize) -> Result<(), AllocError>
+    ensures { OnOk result (line.new.items ≡ line.old.items ++ (name.now ++ decimal index)) }
+{
+    line.extend_from_slice(name)?;
+    push_number(line, index as u64)?;
+    Ok(())
+}
+
+/// Appends a name and a word in hexadecimal digits.
+fn push_place(line: &mut Vec<u8>, name: &[u8], word: u32) -> Result<(), AllocError>
+    ensures { OnOk result (line.new.items ≡ line.old.items ++ (name.now ++ model.hex8 word)) }
+{
+    line.extend_from_slice(name)?;
+    push_address(line, word)?;
+    Ok(())
+}
+
+/// The name of a class of which there is too much.
+fn class_name(class: Class) -> &'static [u8]
+    ensures { result.now ≡ model.class_name class }
+{
+    match class {
+        Class::Shared => b"shared",
+        Class::ReadOnly | Class::Private | Class::Unmapped => b"read-only",
+    }
+}

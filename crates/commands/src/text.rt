@@ -1,0 +1,170 @@
+//! The texts that are printed.
+
+ghost use Rattle.std.specs.Prelude.{◌≡◌, ◌+◌, ◌++◌, ◌∷◌, [], ◌<◌, ◌≤◌, length, IfOk, OnOk};
+ghost use Rattle.std.specs.Fmt.{decimal};
+ghost use Rattle.commands.specs.Text as model;
+
+use exec_map::{End, Exit};
+use itoa::Buffer;
+use node_machine::NodeCounts;
+use rv32_text::push_word;
+use std::alloc::{AllocError, Global};
+
+/// How the program is called.
+pub const USAGE: &str = concat!(
+    "usage: shasta rewrite IN OUT [--no-batch]\n",
+    "       shasta list IN\n",
+    "       shasta one IN [--nodes N] [--order K] [--budget B] [--layout FILE]\n",
+    "       shasta sim IN [--nodes N] [--order K] [--budget B] [--layout FILE] [--code FILE] [--no-batch] [--brief]\n",
+    "       shasta run IN [--nodes N] [--record FILE] [--budget B] [--layout FILE] [--code FILE] [--no-batch] [--brief]\n",
+    "       shasta replay IN RECORD [--brief]\n",
+    "       shasta gen NUMBER OUT\n",
+);
+
+/// What stands before the bytes that were printed: how many there are.
+pub fn outcome_head(alloc: Global, output: &[u8]) -> Result<Vec<u8>, AllocError>
+    ensures { IfOk result (λ text. text.items ≡ model.outcome_head (length output.now)) }
+{
+    let mut text = Vec::new(alloc);
+    text.extend_from_slice(b"output ")?;
+    push_number(&mut text, output.len() as u64)?;
+    text.extend_from_slice(b"\n")?;
+    Ok(text)
+}
+
+/// What stands behind the bytes that were printed: how each processor ended, and what each node
+/// counted.
+pub fn outcome_tail(
+    alloc: Global,
+    ends: &[End],
+    counts: &[NodeCounts],
+) -> Result<Vec<u8>, AllocError>
+    ensures { IfOk result (λ text. text.items ≡ model.outcome_tail ends.now counts.now) }
+{
+    let mut text = Vec::new(alloc);
+    text.extend_from_slice(b"\n")?;
+    push_processors(&mut text, ends)?;
+    push_nodes(&mut text, counts)?;
+    Ok(text)
+}
+
+/// Appends a line for each processor.
+fn push_processors(text: &mut Vec<u8>, ends: &[End]) -> Result<(), AllocError>
+    ensures { OnOk result (text.new.items ≡ text.old.items ++ model.processor_lines 0 ends.now) }
+{
+    for (processor, end) in ends.iter().enumerate() {
+        push_processor(text, processor as u64, *end)?;
+    }
+    Ok(())
+}
+
+/// Appends the line of a processor.
+fn push_processor(text: &mut Vec<u8>, processor: u64, end: End) -> Result<(), AllocError>
+    ensures { OnOk result (text.new.items ≡ text.old.items ++ model.processor_lines processor (end ∷ [])) }
+{
+    text.extend_from_slice(b"processor ")?;
+    push_number(text, processor)?;
+    text.extend_from_slice(b" ")?;
+    push_end(text, end)?;
+    text.extend_from_slice(b"\n")?;
+    Ok(())
+}
+
+fn push_end(text: &mut Vec<u8>, end: End) -> Result<(), AllocError>
+    ensures { OnOk result (text.new.items ≡ text.old.items ++ model.end_text end) }
+{
+    match end {
+        End::Exited(exit) => push_exit(text, exit),
+        End::Stopped(budget) => {
+            text.extend_from_slice(b"stopped ")?;
+            push_number(text, budget)?;
+            Ok(())
+        }
+    }
+}
+
+fn push_exit(text: &mut Vec<u8>, exit: Exit) -> Result<(), AllocError>
+    ensures { OnOk result (text.new.items ≡ text.old.items ++ model.exit_text exit) }
+{
+    match exit {
+        Exit::Code(code) => {
+            text.extend_from_slice(b"exit ")?;
+            push_number(text, u64::from(code))?;
+            Ok(())
+        }
+        Exit::Ebreak(address) => push_place(text, b"ebreak ", address),
+        Exit::Illegal(address) => push_place(text, b"illegal ", address),
+        Exit::Misaligned(address) => push_place(text, b"misaligned ", address),
+        Exit::Access(address) => push_place(text, b"access ", address),
+        Exit::Fetch(address) => push_place(text, b"fetch ", address),
+    }
+}
+
+/// Appends a word and an address.
+fn push_place(text: &mut Vec<u8>, name: &[u8], address: u32) -> Result<(), AllocError>
+    ensures { OnOk result (text.new.items ≡ text.old.items ++ (name.now ++ model.hex8 address)) }
+{
+    text.extend_from_slice(name)?;
+    push_address(text, address)?;
+    Ok(())
+}
+
+/// Appends a line for each node.
+fn push_nodes(text: &mut Vec<u8>, counts: &[NodeCounts]) -> Result<(), AllocError>
+    ensures { OnOk result (text.new.items ≡ text.old.items ++ model.node_lines 0 counts.now) }
+{
+    for (node, counts) in counts.iter().enumerate() {
+        push_node(text, node as u64, counts)?;
+    }
+    Ok(())
+}
+
+/// Appends the line of a node.
+fn push_node(text: &mut Vec<u8>, node: u64, counts: &NodeCounts) -> Result<(), AllocError>
+    ensures { OnOk result (text.new.items ≡ text.old.items ++ model.node_lines node (counts.now ∷ [])) }
+{
+    push_count(text, b"node ", node)?;
+    text.extend_from_slice(b" ")?;
+    push_counts(text, counts)?;
+    text.extend_from_slice(b"\n")?;
+    Ok(())
+}
+
+fn push_counts(text: &mut Vec<u8>, counts: &NodeCounts) -> Result<(), AllocError>
+    ensures { OnOk result (text.new.items ≡ text.old.items ++ model.counts_text counts.now) }
+{
+    push_count(text, b"read ", counts.read)?;
+    push_count(text, b" exclusive ", counts.exclusive)?;
+    push_count(text, b" upgrade ", counts.upgrade)?;
+    push_count(text, b" false ", counts.falses)?;
+    push_count(text, b" invalidations ", counts.invalidations)?;
+    push_count(text, b" fallbacks ", counts.fallbacks)?;
+    push_count(text, b" messages ", counts.messages)?;
+    Ok(())
+}
+
+/// Appends a name and a number.
+fn push_count(text: &mut Vec<u8>, name: &[u8], count: u64) -> Result<(), AllocError>
+    ensures { OnOk result (text.new.items ≡ text.old.items ++ (name.now ++ decimal count)) }
+{
+    text.extend_from_slice(name)?;
+    push_number(text, count)?;
+    Ok(())
+}
+
+pub fn push_number(text: &mut Vec<u8>, n: u64) -> Result<(), AllocError>
+    ensures { OnOk result (text.new.items ≡ text.old.items ++ decimal n) }
+{
+    let mut buffer = Buffer::new();
+    text.extend_from_slice(buffer.format(n).as_bytes())?;
+    Ok(())
+}
+
+/// Appends an address: eight hexadecimal digits behind `0x`.
+pub fn push_address(text: &mut Vec<u8>, address: u32) -> Result<(), AllocError>
+    ensures { OnOk result (text.new.items ≡ text.old.items ++ model.hex8 address) }
+{
+    text.extend_from_slice(b"0x")?;
+    push_word(text, address)?;
+    Ok(())
+}

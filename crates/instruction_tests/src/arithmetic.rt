@@ -1,0 +1,77 @@
+//! What instructions compute, at the ends of their ranges.
+
+use rv32_decode::{AmoOp, Cond, LoadKind, Op};
+use rv32_ops::{alu, amo, extend, taken};
+
+#[test]
+fn operations(rt: HostRuntime) {
+    for (op, a, b, want) in [
+        (Op::Add, 0xffff_ffff, 1, 0),
+        (Op::Add, 0x7fff_ffff, 1, 0x8000_0000),
+        (Op::Sub, 0, 1, 0xffff_ffff),
+        (Op::Sub, 0, 0x8000_0000, 0x8000_0000),
+        (Op::Sll, 1, 31, 0x8000_0000),
+        (Op::Sll, 3, 0xffff_ffe0, 3),
+        (Op::Slt, 0x8000_0000, 0x7fff_ffff, 1),
+        (Op::Slt, 0, 0xffff_ffff, 0),
+        (Op::Sltu, 0x8000_0000, 0x7fff_ffff, 0),
+        (Op::Sltu, 0, 0xffff_ffff, 1),
+        (Op::Xor, 0xffff_0000, 0xffff_ffff, 0x0000_ffff),
+        (Op::Srl, 0x8000_0000, 31, 1),
+        (Op::Srl, 0xffff_ffff, 33, 0x7fff_ffff),
+        (Op::Sra, 0x8000_0000, 31, 0xffff_ffff),
+        (Op::Sra, 0x8000_0000, 32, 0x8000_0000),
+        (Op::Sra, 0x7fff_ffff, 30, 1),
+        (Op::Or, 0x8000_0000, 1, 0x8000_0001),
+        (Op::And, 0xffff_ffff, 0x8000_0001, 0x8000_0001),
+    ] {
+        assert_eq!(rt; alu(op, a, b), want, "{op:?} of {a} and {b}");
+    }
+}
+
+#[test]
+fn branches(rt: HostRuntime) {
+    for (c, a, b, want) in [
+        (Cond::Eq, 0x8000_0000, 0, false),
+        (Cond::Ne, 0x8000_0000, 0, true),
+        (Cond::Lt, 0xffff_ffff, 0, true),
+        (Cond::Ge, 0x8000_0000, 0x8000_0000, true),
+        (Cond::Ge, 0x8000_0000, 0x7fff_ffff, false),
+        (Cond::Ltu, 0xffff_ffff, 0, false),
+        (Cond::Geu, 0x8000_0000, 0x7fff_ffff, true),
+    ] {
+        assert_eq!(rt; taken(c, a, b), want, "{c:?} of {a} and {b}");
+    }
+}
+
+#[test]
+fn atomic_operations(rt: HostRuntime) {
+    for (op, old, b, want) in [
+        (AmoOp::Swap, 1, 0x8000_0000, 0x8000_0000),
+        (AmoOp::Add, 0xffff_ffff, 2, 1),
+        (AmoOp::Xor, 0xffff_ffff, 0x8000_0000, 0x7fff_ffff),
+        (AmoOp::And, 0xffff_ffff, 0x8000_0000, 0x8000_0000),
+        (AmoOp::Or, 0x7fff_ffff, 0x8000_0000, 0xffff_ffff),
+        (AmoOp::Min, 0x7fff_ffff, 0x8000_0000, 0x8000_0000),
+        (AmoOp::Max, 0xffff_ffff, 0, 0),
+        (AmoOp::Minu, 0x7fff_ffff, 0x8000_0000, 0x7fff_ffff),
+        (AmoOp::Maxu, 0xffff_ffff, 0, 0xffff_ffff),
+    ] {
+        assert_eq!(rt; amo(op, old, b), want, "{op:?} of {old} and {b}");
+    }
+}
+
+#[test]
+fn loads(rt: HostRuntime) {
+    for (load, raw, want) in [
+        (LoadKind::Byte, 0x1234_5680, 0xffff_ff80),
+        (LoadKind::Byte, 0xffff_ff7f, 0x7f),
+        (LoadKind::Half, 0x1234_8000, 0xffff_8000),
+        (LoadKind::Half, 0xffff_7fff, 0x7fff),
+        (LoadKind::Word, 0x8000_0000, 0x8000_0000),
+        (LoadKind::ByteU, 0xffff_ffff, 0xff),
+        (LoadKind::HalfU, 0xffff_ffff, 0xffff),
+    ] {
+        assert_eq!(rt; extend(load, raw), want, "{load:?} of {raw}");
+    }
+}

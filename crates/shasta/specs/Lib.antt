@@ -1,5 +1,0 @@
-pub mod Outcome
-pub mod Text
-pub mod Headline
-pub mod Refusals
-pub mod Runs
