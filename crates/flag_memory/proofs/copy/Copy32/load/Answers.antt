@@ -1,0 +1,43 @@
+use Rattle.std.proofs.Common.{◌≡◌, ℕ, ◌+◌, ◌*◌, ◌/◌, ◌%◌, ◌≤◌, ◌∙◌, sym, ap, subst, true, false, arith, is_some, List}
+use Rattle.std.specs.Prelude.{slice_index}
+use Rattle.block_layout.specs.Layout.{is_shared, shared_before}
+use Rattle.rv32_decode.specs.Widths.{size_of}
+use Rattle.byte_range.specs.Memory.{raw}
+use Rattle.flag_memory.specs.Copy.{Copy, memory, place}
+use Rattle.flag_memory.proofs.Places.{Laws, laws, place_some, place_none, place_low, aligned_room}
+use Rattle.flag_memory.proofs.Words.{copy_with, raw_is}
+use Rattle.flag_memory.proofs.copy.Copy32.load.Goals as goal
+
+pub load_at-requires : goal.load_at-requires
+load_at-requires c =
+    let i = c.self.inside in
+    let s = i.layout in
+    let law = c.layout_law.ensures in
+    let l : Laws s = laws s c.self.invariant.valid law.within law.apart law.found law.has law.ends law.shared law.place law.count in
+    let there : (is_shared s (c.args.address / 64) ≡ true) × (c.in-Some.place ≡ shared_before s (c.args.address / 64)) = place_some s (c.args.address / 64) c.in-Some.place (sym c.place_of.ensures ∙ c.in-Some.is) in
+    let shared = there.0 in
+    let room : c.args.address % 64 + size_of c.args.width ≤ 64 = aligned_room c.args.width c.args.address c.requires.aligned in
+    omega (arith, place_low s c.args.address l shared, there.1, c.self.invariant.len, c.deref.ensures.len, c.deref.ensures.value, room)
+
+pub returns : goal.returns
+returns c =
+    let i = c.self.inside in
+    let s = i.layout in
+    let law = c.layout_law.ensures in
+    let l : Laws s = laws s c.self.invariant.valid law.within law.apart law.found law.has law.ends law.shared law.place law.count in
+    let there : (is_shared s (c.args.address / 64) ≡ true) × (c.in-Some.place ≡ shared_before s (c.args.address / 64)) = place_some s (c.args.address / 64) c.in-Some.place (sym c.place_of.ensures ∙ c.in-Some.is) in
+    let shared = there.0 in
+    let room : c.args.address % 64 + size_of c.args.width ≤ 64 = aligned_room c.args.width c.args.address c.requires.aligned in
+    let at : 64 * c.in-Some.place + c.args.address % 64 ≡ place s c.args.address = ap (λ n. 64 * n + c.args.address % 64) there.1 in
+    subst (λ (h : Copy). c.load_at.result ≡ raw c.args.width (memory h) c.args.address) c.self.view_is
+    (c.load_at.ensures
+    ∙ ap (λ (xs : List ℕ). raw c.args.width (slice_index xs) (64 * c.in-Some.place + c.args.address % 64)) c.deref.ensures.value
+    ∙ ap (raw c.args.width (slice_index i.bytes.items)) at
+    ∙ raw_is (copy_with s i.bytes.items) c.args.width c.args.address shared room)
+
+pub unreachable-requires : goal.unreachable-requires
+unreachable-requires c =
+    let off = place_none c.self.inside.layout (c.args.address / 64) (sym c.place_of.ensures ∙ c.in-None.is) in
+    let on = subst (λ (h : Copy). is_shared h.layout (c.args.address / 64) ≡ true) (sym c.self.view_is) c.requires.shared in
+    let e : true ≡ false = sym on ∙ off in
+    cc

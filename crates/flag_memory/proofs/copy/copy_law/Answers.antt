@@ -1,0 +1,18 @@
+use Rattle.std.proofs.Common.{◌≡◌, ℕ, ◌+◌, ◌*◌, ◌<◌, subst}
+use Rattle.std.specs.Prelude.{slice_index}
+use Rattle.block_layout.specs.Layout.{blocks, lines, first_line}
+use Rattle.flag_memory.specs.Copy.{Copy, memory, bytes_of}
+use Rattle.flag_memory.proofs.Places.{Laws, laws}
+use Rattle.flag_memory.proofs.Blocks.{block_byte}
+use Rattle.flag_memory.proofs.copy.copy_law.Goals as goal
+
+abbrev AreThose : Copy → Type 0
+AreThose h = (b k : ℕ) → b < blocks h.layout → k < 64 * lines h.layout b
+    → slice_index (bytes_of h b) k ≡ memory h (64 * first_line h.layout b + k)
+
+pub returns-clause-bytes : goal.returns-clause-bytes
+returns-clause-bytes c =
+    let s = c.copy.inside.layout in
+    let law = c.layout_law.ensures in
+    let l : Laws s = laws s c.copy.invariant.valid law.within law.apart law.found law.has law.ends law.shared law.place law.count in
+    subst AreThose c.copy.view_is (λ b k below within. block_byte s c.copy.inside.bytes.items b k l c.copy.invariant.len below within)

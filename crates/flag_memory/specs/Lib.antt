@@ -1,0 +1,5 @@
+pub mod Flag
+pub mod FirstBytes
+pub mod Ranges
+pub mod Copy
+pub mod Bytes

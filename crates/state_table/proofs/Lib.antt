@@ -1,0 +1,2 @@
+pub mod LineSearch
+pub mod Blocks

@@ -1,0 +1,4 @@
+pub mod StateByte
+pub mod LineClasses
+pub mod States
+pub mod Fill
