@@ -1,0 +1,76 @@
+-- What a home keeps of a block (Shasta, section 2: the directory of a block's home).
+use Rattle.std.specs.Prelude.{ℕ, ◌+◌, zero, suc, Bool, true, false, not, if◌then◌else◌, ◌==◌, ◌&&◌, ◌||◌, List, [], ◌∷◌, ◌++◌, Option, Some, None}
+use Rattle.block_layout.specs.Update.{changed}
+use Rattle.home_directory.specs.declared.messages.Need.{Need}
+use Rattle.home_directory.specs.declared.messages.Need.TheVariants.{Read as reading, Write as writing}
+use Rattle.home_directory.specs.declared.messages.Message.{Message}
+use Rattle.home_directory.specs.declared.messages.Message.TheVariants.{Inval}
+use Rattle.home_directory.specs.declared.messages.Post.{Post}
+use Rattle.home_directory.specs.declared.directory.Busy.{Busy}
+use Rattle.home_directory.specs.declared.directory.Request.{Request}
+
+-- a block's entry: the owner, the nodes that share the block, the owner among them, and the request
+-- that the home is busy with
+pub record Entry : Type 0 where
+  pub owner : ℕ
+  pub sharers : ℕ → Bool
+  pub busy : Option Busy
+
+-- what the rows of a block see at its home: the entry, and all requests that wait there, in order
+-- of arrival
+pub record Home : Type 0 where
+  pub entry : Entry
+  pub waiting : List Request
+
+-- the set of one node
+abbrev pub alone : ℕ → ℕ → Bool
+alone r i = i == r
+
+-- the set without one node
+abbrev pub others : (ℕ → Bool) → ℕ → ℕ → Bool
+others sharers r i = sharers i && not (i == r)
+
+-- how many of the first n nodes are in the set
+abbrev pub count_of : (ℕ → Bool) → ℕ → ℕ
+count_of set zero = 0
+count_of set (suc n) = if set n then count_of set n + 1 else count_of set n
+
+-- the entry at the start: the home is the owner
+abbrev pub first_entry : ℕ → Entry
+first_entry me = record { owner = me; sharers = alone me; busy = None }
+
+-- the entry once the home is busy with a request of r
+abbrev pub busy_with : Entry → Need → ℕ → Entry
+busy_with e need r = record {
+  owner = e.owner;
+  sharers = e.sharers;
+  busy = Some (record { need = need; node = r });
+}
+
+-- the entry once a request of r is done
+abbrev pub done_with : Entry → Need → ℕ → Entry
+done_with e reading r = record { owner = e.owner; sharers = changed e.sharers r true; busy = None }
+done_with e writing r = record { owner = r; sharers = alone r; busy = None }
+
+abbrev pub post : ℕ → Message → Post
+post to message = record { to = to; message = message }
+
+-- an Inval for each of the first n nodes that is in the set, ascending
+abbrev pub invals : (ℕ → Bool) → (b r n : ℕ) → List Post
+invals set b r zero = []
+invals set b r (suc n) = invals set b r n ++ (if set n then post n (Inval b r) ∷ [] else [])
+
+-- a request of r for b waits
+abbrev pub waits : List Request → (b r : ℕ) → Bool
+waits [] b r = false
+waits (q ∷ qs) b r = (q.block == b && q.from == r) || waits qs b r
+
+-- the first request for b that waits
+abbrev pub first_for : ℕ → List Request → Option Request
+first_for b [] = None
+first_for b (q ∷ qs) = if q.block == b then Some q else first_for b qs
+
+-- the requests without the first for b
+abbrev pub without_first : ℕ → List Request → List Request
+without_first b [] = []
+without_first b (q ∷ qs) = if q.block == b then qs else q ∷ without_first b qs

@@ -1,0 +1,345 @@
+//! What a home keeps of its blocks.
+
+ghost use Rattle.std.specs.Prelude.{◌≡◌, ◌<◌, ◌≤◌, ℕ, [], IfOk, length};
+ghost use Rattle.std.specs.Vec.{vec_capacity};
+ghost use Rattle.block_layout.specs.Layout.{blocks};
+ghost use Rattle.home_directory.specs.Home.{count_of, invals, waits, first_for, without_first, done_with, first_entry};
+ghost use Rattle.home_directory.specs.Effects.{entry_of, entries_of, is_home, ask_effect, done_effect};
+ghost use Rattle.home_directory.specs.Search.{IsFirstFor};
+ghost use Rattle.home_directory.specs.Rows.{home_of, start_of, next_of, sharers_but, after_ask, after_done};
+
+use crate::messages::{Message, Need, Post, Sends};
+use block_layout::{Block, Layout};
+use buf_pool::Buf;
+use std::alloc::{AllocError, Global};
+use std::marker::Model;
+
+/// The request that a home is busy with.
+#[derive(Clone, Copy)]
+pub struct Busy {
+    /// What the node wants.
+    pub need: Need,
+    /// The node.
+    pub node: u8,
+}
+
+/// The entry of a block, as it is stored.
+#[derive(Clone, Copy)]
+pub struct Entry {
+    owner: u8,
+    sharers: [bool; 16],
+    busy: Option<Busy>,
+}
+
+/// A request that waits at the home.
+#[derive(Drop)]
+pub struct Request {
+    block: Block,
+    from: u8,
+    need: Need,
+    buf: Buf,
+}
+
+/// The entries of a layout's blocks at a node, which is the home of some of them, and the requests
+/// that wait there.
+#[derive(Drop)]
+pub struct Directory {
+    layout: Layout,
+    me: u8,
+    entries: Vec<Entry>,
+    waiting: Vec<Request>,
+}
+
+impl Model for Directory {
+    ghost use Rattle.std.specs.Prelude.{◌≡◌, ◌≤◌, ◌<◌, length};
+    ghost use Rattle.std.specs.Vec.{vec_capacity};
+    ghost use Rattle.block_layout.specs.Layout.{blocks};
+    ghost use Rattle.home_directory.specs.Effects.{Directory as Seen};
+
+    ghost Value = { Seen };
+
+    ghost view = { λ d. record {
+      layout = d.layout;
+      me = d.me;
+      entries = d.entries.items;
+      waiting = d.waiting.items;
+    } };
+
+    ghost invariant = { λ d. (length d.entries.items ≡ blocks d.layout)
+        × (32 ≤ vec_capacity d.waiting)
+        × (d.layout.nodes ≤ 16) };
+}
+
+impl Directory {
+    /// The directory of node `me` of `n` at the start: it is the owner of each block.
+    ///
+    /// Only the blocks that are homed at the node are ever looked at.
+    pub fn new(alloc: Global, layout: &Layout, me: u8, n: u8) -> Result<Directory, AllocError>
+        requires nodes { n ≡ layout.now.nodes }
+        requires node { me < n }
+        ensures layout { IfOk result (λ d. d.layout ≡ layout.now) }
+        ensures me { IfOk result (λ d. d.me ≡ me) }
+        ensures entries { IfOk result (λ d. (b : ℕ) → b < blocks layout.now →
+            (entries_of d).entry b ≡ first_entry me) }
+        ensures waiting { IfOk result (λ d. d.waiting ≡ []) }
+    {
+        let _nodes = layout.nodes();
+        let mut sharers = [false; 16];
+        sharers[me as usize] = true;
+        let first = Entry {
+            owner: me,
+            sharers,
+            busy: None,
+        };
+        let mut entries = Vec::new(alloc);
+        entries.resize(layout.blocks() as usize, first)?;
+        Ok(Directory {
+            layout: layout.copy(alloc)?,
+            me,
+            entries,
+            waiting: Vec::with_capacity(alloc, 32)?,
+        })
+    }
+
+    /// Whether this node is the block's home.
+    fn is_home(&self, block: Block) -> bool
+        ensures { result ≡ is_home self.now block }
+    {
+        block < self.layout.blocks() && self.layout.home(block) == self.me
+    }
+
+    /// Read or Write from a node: the row that the table has for it, or none.
+    pub fn ask(&mut self, from: u8, block: Block, need: Need, buf: Buf) -> Sends
+        ensures entries { entries_of self.new ≡ (ask_effect self.old from block need buf).entries }
+        ensures sends { result.items ≡ (ask_effect self.old from block need buf).sends }
+        ensures layout { self.new.layout ≡ self.old.layout }
+        ensures me { self.new.me ≡ self.old.me }
+    {
+        let nodes = self.layout.nodes();
+        if !self.is_home(block) {
+            return Sends::new();
+        }
+        let entry = &mut self.entries[block as usize];
+        ask_at(entry, &mut self.waiting, nodes, block, from, need, buf)
+    }
+
+    /// Done from a node: the row that the table has for it, or none.
+    pub fn done(&mut self, from: u8, block: Block) -> Sends
+        ensures entries { entries_of self.new ≡ (done_effect self.old from block).entries }
+        ensures sends { result.items ≡ (done_effect self.old from block).sends }
+        ensures layout { self.new.layout ≡ self.old.layout }
+        ensures me { self.new.me ≡ self.old.me }
+    {
+        let nodes = self.layout.nodes();
+        if !self.is_home(block) {
+            return Sends::new();
+        }
+        let entry = &mut self.entries[block as usize];
+        done_at(entry, &mut self.waiting, nodes, block, from)
+    }
+}
+
+/// Read or Write from a node, at the entry of the block.
+fn ask_at(
+    entry: &mut Entry,
+    waiting: &mut Vec<Request>,
+    nodes: u8,
+    block: Block,
+    from: u8,
+    need: Need,
+    buf: Buf,
+) -> Sends
+    requires few { nodes ≤ 16 }
+    requires room { 32 ≤ vec_capacity waiting.old }
+    ensures entry { let home = home_of entry.old waiting.old.items in
+        entry_of entry.new ≡ (after_ask nodes home block from need buf).home.entry }
+    ensures waiting { let home = home_of entry.old waiting.old.items in
+        waiting.new.items ≡ (after_ask nodes home block from need buf).home.waiting }
+    ensures sends { let home = home_of entry.old waiting.old.items in
+        result.items ≡ (after_ask nodes home block from need buf).sends }
+    ensures capacity { vec_capacity waiting.new ≡ vec_capacity waiting.old }
+{
+    if from >= nodes {
+        return Sends::new();
+    }
+    match entry.busy {
+        None => start(entry, nodes, block, from, need, buf),
+        Some(busy) => {
+            if busy.node != from && !waits(waiting, block, from) && waiting.len() < 32 {
+                waiting.push_reserved(Request {
+                    block,
+                    from,
+                    need,
+                    buf,
+                });
+            }
+            Sends::new()
+        }
+    }
+}
+
+/// Done from a node, at the entry of the block.
+fn done_at(
+    entry: &mut Entry,
+    waiting: &mut Vec<Request>,
+    nodes: u8,
+    block: Block,
+    from: u8,
+) -> Sends
+    requires few { nodes ≤ 16 }
+    ensures entry { let home = home_of entry.old waiting.old.items in
+        entry_of entry.new ≡ (after_done nodes home block from).home.entry }
+    ensures waiting { let home = home_of entry.old waiting.old.items in
+        waiting.new.items ≡ (after_done nodes home block from).home.waiting }
+    ensures sends { let home = home_of entry.old waiting.old.items in
+        result.items ≡ (after_done nodes home block from).sends }
+    ensures capacity { vec_capacity waiting.new ≡ vec_capacity waiting.old }
+{
+    if from >= nodes {
+        return Sends::new();
+    }
+    match entry.busy {
+        Some(busy) if busy.node == from => {
+            end_request(entry, busy.need, from);
+            start_next(entry, waiting, nodes, block)
+        }
+        _ => Sends::new(),
+    }
+}
+
+/// Begins a request at a block that isn't busy, where it meets a row.
+fn start(entry: &mut Entry, nodes: u8, block: Block, from: u8, need: Need, buf: Buf) -> Sends
+    requires few { nodes ≤ 16 }
+    requires node { from < nodes }
+    ensures entry { entry_of entry.new ≡ (start_of nodes entry.old block from need buf).entry }
+    ensures sends { result.items ≡ (start_of nodes entry.old block from need buf).sends }
+{
+    let mut sends = Sends::new();
+    let sharer = entry.sharers[from as usize];
+    match need {
+        Need::Read => {
+            if !sharer {
+                entry.busy = Some(Busy { need, node: from });
+                sends.push(Post {
+                    to: entry.owner,
+                    message: Message::FwdRead {
+                        block,
+                        requester: from,
+                        buf,
+                    },
+                });
+            }
+        }
+        Need::Write => {
+            entry.busy = Some(Busy { need, node: from });
+            if sharer {
+                let acks = invalidate(&mut sends, *entry, from, nodes, block, from);
+                sends.push(Post {
+                    to: from,
+                    message: Message::Grant { block, acks, buf },
+                });
+            } else {
+                let acks = invalidate(&mut sends, *entry, entry.owner, nodes, block, from);
+                sends.push(Post {
+                    to: entry.owner,
+                    message: Message::FwdWrite {
+                        block,
+                        requester: from,
+                        acks,
+                        buf,
+                    },
+                });
+            }
+        }
+    }
+    sends
+}
+
+/// Sends an Inval to each sharer but one, ascending, and gives their number.
+fn invalidate(
+    sends: &mut Sends,
+    entry: Entry,
+    but: u8,
+    nodes: u8,
+    block: Block,
+    requester: u8,
+) -> u8
+    requires few { nodes ≤ 16 }
+    requires none { sends.old.items ≡ [] }
+    ensures sends { sends.new.items ≡ invals (sharers_but entry but) block requester nodes }
+    ensures count { result ≡ count_of (sharers_but entry but) nodes }
+    ensures len { length sends.new.items ≤ 16 }
+{
+    let mut acks = 0;
+    for node in 0..nodes {
+        if entry.sharers[node as usize] && node != but {
+            sends.push(Post {
+                to: node,
+                message: Message::Inval { block, requester },
+            });
+            acks += 1;
+        }
+    }
+    acks
+}
+
+/// Begins the first request that waits for a block.
+fn start_next(entry: &mut Entry, waiting: &mut Vec<Request>, nodes: u8, block: Block) -> Sends
+    requires few { nodes ≤ 16 }
+    ensures entry { entry_of entry.new ≡ (next_of nodes entry.old block waiting.old.items).entry }
+    ensures waiting { waiting.new.items ≡ without_first block waiting.old.items }
+    ensures sends { result.items ≡ (next_of nodes entry.old block waiting.old.items).sends }
+    ensures capacity { vec_capacity waiting.new ≡ vec_capacity waiting.old }
+{
+    match first_for(waiting, block) {
+        Some(k) => {
+            let request = waiting.remove(k);
+            if request.from >= nodes {
+                return Sends::new();
+            }
+            start(entry, nodes, block, request.from, request.need, request.buf)
+        }
+        None => Sends::new(),
+    }
+}
+
+/// Whether a request of a node for a block waits.
+fn waits(waiting: &[Request], block: Block, from: u8) -> bool
+    ensures { result ≡ waits waiting.now block from }
+{
+    for request in waiting {
+        if request.block == block && request.from == from {
+            return true;
+        }
+    }
+    false
+}
+
+/// Where the first request for a block stands.
+fn first_for(waiting: &[Request], block: Block) -> Option<usize>
+    ensures { IsFirstFor block waiting.now result }
+{
+    for (k, request) in waiting.iter().enumerate() {
+        if request.block == block {
+            return Some(k);
+        }
+    }
+    None
+}
+
+/// The entry once a request is done.
+#[tactic(auto, using(crate::proofs::Members::members_set, crate::proofs::Members::members_alone))]
+fn end_request(entry: &mut Entry, need: Need, node: u8)
+    requires { node < 16 }
+    ensures { entry_of entry.new ≡ done_with (entry_of entry.old) need node }
+{
+    entry.busy = None;
+    match need {
+        Need::Read => entry.sharers[node as usize] = true,
+        Need::Write => {
+            entry.owner = node;
+            entry.sharers = [false; 16];
+            entry.sharers[node as usize] = true;
+        }
+    }
+}

@@ -1,0 +1,92 @@
+//! Messages between nodes.
+
+use arrayvec::ArrayVec;
+use block_layout::Block;
+use buf_pool::Buf;
+
+/// What a node wants of a block.
+#[derive(Clone, Copy, PartialEq, Eq)]
+pub enum Need {
+    /// To read it.
+    Read,
+    /// To read and write it.
+    Write,
+}
+
+/// A message about a block, or the last of a node. A buffer is the requester's own, and comes back
+/// to it with the answer.
+#[derive(Default, Drop)]
+pub enum Message {
+    /// To the home: the sender wants to read.
+    Read {
+        block: Block,
+        buf: Buf,
+    },
+    /// To the home: the sender wants to write.
+    Write {
+        block: Block,
+        buf: Buf,
+    },
+    /// From the home to the owner: send the requester the block's bytes.
+    FwdRead {
+        block: Block,
+        requester: u8,
+        buf: Buf,
+    },
+    /// From the home to the owner: give the block up to the requester, who gets so many Acks.
+    FwdWrite {
+        block: Block,
+        requester: u8,
+        acks: u8,
+        buf: Buf,
+    },
+    /// From the home to a sharer: give the block up, and tell the requester.
+    Inval {
+        block: Block,
+        requester: u8,
+    },
+    /// To the requester: the block's bytes. So many Acks come.
+    Data {
+        block: Block,
+        acks: u8,
+        buf: Buf,
+    },
+    /// From the home to the requester: its own bytes are good. So many Acks come.
+    Grant {
+        block: Block,
+        acks: u8,
+        buf: Buf,
+    },
+    /// To the requester: the sender has given the block up.
+    Ack {
+        block: Block,
+    },
+    /// From the requester to the home: it has what it wanted.
+    Done {
+        block: Block,
+    },
+    /// The sender has ended.
+    #[default]
+    Bye,
+}
+
+/// A message to a node.
+#[derive(Default, Drop)]
+pub struct Post {
+    /// The number of the node.
+    pub to: u8,
+    /// The message.
+    pub message: Message,
+}
+
+/// A message on its way.
+#[derive(Default, Drop)]
+pub struct Wire {
+    /// The stamp of the event that sent it.
+    pub stamp: u64,
+    /// The message.
+    pub message: Message,
+}
+
+/// What one event sends, in order.
+pub type Sends = ArrayVec<Post, 18>;

@@ -1,0 +1,32 @@
+use Rattle.std.proofs.Common.{◌≡◌, ◌<◌, ◌≤◌, ◌*◌, ℕ, ap, ◌∙◌, sym, true, Some, List, length, refl, arith}
+use Rattle.block_layout.specs.Layout.{blocks, lines}
+use Rattle.home_directory.specs.declared.messages.Message.TheVariants.{Data}
+use Rattle.home_directory.specs.declared.wait.Wait.{Wait}
+use Rattle.home_directory.specs.declared.wait.Answer.TheVariants.{ByData}
+use Rattle.miss_handlers.specs.Search.{takes_data}
+use Rattle.miss_handlers.specs.declared.Waiting.{Waiting}
+use Rattle.miss_handlers.specs.Waits.{NodeWaits, wait_of, wait_in}
+use Rattle.miss_handlers.specs.Effects.{NodeBlocks, node_blocks, message_effect}
+use Rattle.miss_handlers.proofs.Rows.{completion_done, data_effect}
+use Rattle.miss_handlers.proofs.Waits.data.Goals as goal
+
+pub returns-clause-effect : goal.returns-clause-effect
+returns-clause-effect c =
+    let inside = c.self.inside in
+    let block = c.args.block in
+    let now = c.args.self.now in
+    let d : NodeWaits = record { layout = inside.layout; waits = inside.waits.items } in
+    let view : d ≡ now = c.self.view_is in
+    let m : NodeBlocks = node_blocks now c.args.states.now c.args.copy.now c.args.held.now in
+    let after : NodeBlocks = node_blocks c.go_on.new.self c.go_on.new.states c.go_on.new.copy c.args.held.now in
+    let same_blocks : blocks inside.layout ≡ blocks now.layout = ap (λ (h : NodeWaits). blocks h.layout) view in
+    let within : block < blocks now.layout = omega arith in
+    let old : Wait = c.in-Some.wait in
+    let found : wait_of now block ≡ Some old = sym c.take_out.ensures.found ∙ c.in-Some.is in
+    let is_open : takes_data (wait_of now block) ≡ true = sym (c.takes_data.ensures ∙ ap (λ (ws : List Waiting). takes_data (wait_in ws block)) c.deref.ensures.value ∙ ap (λ (h : NodeWaits). takes_data (wait_of h block)) view) ∙ c.if-not-takes_data.false in
+    let new : Wait = record { need = old.need; answer = Some (ByData c.args.acks c.args.buf); counted = old.counted } in
+    let room : 4096 ≤ c.args.buf.room = omega arith in
+    let len : length c.args.buf.bytes ≡ 64 * lines now.layout block = ap length (sym c.bytes.ensures) ∙ c.if-bytes-lines.false ∙ ap (λ (n : ℕ). 64 * n) c.lines.ensures.lines ∙ ap (λ (h : NodeWaits). 64 * lines h.layout block) view in
+    completion_done now.layout c.take_out.new.self.layout m after block new c.go_on.result.items (wait_of c.take_out.new.self) (message_effect now.layout m c.args.from (Data block c.args.acks c.args.buf)) c.take_out.ensures.layout
+    (data_effect now.layout m c.args.from block c.args.acks c.args.buf old within found is_open room len)
+    c.take_out.ensures.rest c.go_on.ensures.states c.go_on.ensures.bytes c.go_on.ensures.wait refl c.go_on.ensures.sends

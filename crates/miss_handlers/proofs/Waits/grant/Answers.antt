@@ -1,0 +1,34 @@
+use Rattle.std.proofs.Common.{◌≡◌, ◌<◌, ◌≤◌, ap, ◌∙◌, sym, true, Some, List, refl, arith}
+use Rattle.block_layout.specs.Layout.{blocks, home}
+use Rattle.home_directory.specs.declared.messages.Message.TheVariants.{Grant}
+use Rattle.home_directory.specs.declared.wait.Wait.{Wait}
+use Rattle.home_directory.specs.declared.wait.Answer.TheVariants.{ByGrant}
+use Rattle.home_directory.specs.Table.{is_shared}
+use Rattle.miss_handlers.specs.Search.{takes_grant}
+use Rattle.miss_handlers.specs.declared.Waiting.{Waiting}
+use Rattle.miss_handlers.specs.Waits.{NodeWaits, wait_of, wait_in}
+use Rattle.miss_handlers.specs.Effects.{NodeBlocks, node_blocks, message_effect}
+use Rattle.miss_handlers.proofs.Rows.{completion_done, grant_effect}
+use Rattle.miss_handlers.proofs.Waits.grant.Goals as goal
+
+pub returns-clause-effect : goal.returns-clause-effect
+returns-clause-effect c =
+    let inside = c.self.inside in
+    let block = c.args.block in
+    let now = c.args.self.now in
+    let d : NodeWaits = record { layout = inside.layout; waits = inside.waits.items } in
+    let view : d ≡ now = c.self.view_is in
+    let m : NodeBlocks = node_blocks now c.args.states.now c.args.copy.now c.args.held.now in
+    let after : NodeBlocks = node_blocks c.go_on.new.self c.go_on.new.states c.go_on.new.copy c.args.held.now in
+    let same_blocks : blocks inside.layout ≡ blocks now.layout = ap (λ (h : NodeWaits). blocks h.layout) view in
+    let within : block < blocks now.layout = omega arith in
+    let old : Wait = c.in-Some.wait in
+    let found : wait_of now block ≡ Some old = sym c.take_out.ensures.found ∙ c.in-Some.is in
+    let is_open : takes_grant (wait_of now block) ≡ true = sym (c.takes_grant.ensures ∙ ap (λ (ws : List Waiting). takes_grant (wait_in ws block)) c.deref.ensures.value ∙ ap (λ (h : NodeWaits). takes_grant (wait_of h block)) view) ∙ c.if-not-takes_grant.false in
+    let new : Wait = record { need = old.need; answer = Some (ByGrant c.args.acks c.args.buf); counted = old.counted } in
+    let room : 4096 ≤ c.args.buf.room = omega arith in
+    let at : c.args.from ≡ home now.layout block = c.if-from-home.false ∙ c.home.ensures.home ∙ ap (λ (h : NodeWaits). home h.layout block) view in
+    let shared : is_shared (m.state block) ≡ true = ap is_shared (sym c.state.ensures) ∙ sym c.is_shared.ensures ∙ c.if-not-is_shared.false in
+    completion_done now.layout c.take_out.new.self.layout m after block new c.go_on.result.items (wait_of c.take_out.new.self) (message_effect now.layout m c.args.from (Grant block c.args.acks c.args.buf)) c.take_out.ensures.layout
+    (grant_effect now.layout m c.args.from block c.args.acks c.args.buf old within found is_open room at shared)
+    c.take_out.ensures.rest c.go_on.ensures.states c.go_on.ensures.bytes c.go_on.ensures.wait refl c.go_on.ensures.sends

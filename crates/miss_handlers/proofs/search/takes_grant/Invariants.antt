@@ -1,0 +1,6 @@
+use Rattle.std.proofs.Common.{◌≡◌, drop}
+use Rattle.miss_handlers.specs.Waits.{wait_in}
+use Rattle.miss_handlers.proofs.search.takes_grant.Given as goal
+
+abbrev pub invariant-loop-waiting : goal.invariant-loop-waiting
+invariant-loop-waiting l = wait_in (drop l.waiting-index l.waits) l.block ≡ wait_in l.waits l.block

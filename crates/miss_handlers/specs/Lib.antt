@@ -1,0 +1,4 @@
+pub mod Waits
+pub mod Effects
+pub mod Search
+pub mod Completion

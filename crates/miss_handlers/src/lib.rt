@@ -1,0 +1,157 @@
+#![tactic(auto)]
+//! A node's waits, and its replies to messages.
+//!
+//! A node that misses a block waits for it: [`Waits::want`]. [`Waits::on`] has the rows of the
+//! table of messages for the node that has a block or waits for it, and completes the waits.
+
+ghost use Rattle.std.specs.Prelude.{◌≡◌, ◌+◌, ◌<◌, ◌≤◌, [], ◌∷◌, None, IfOk, is_some, length};
+ghost use Rattle.block_layout.specs.Layout.{blocks};
+ghost use Rattle.state_table.specs.States.{state_of};
+ghost use Rattle.home_directory.specs.Table.{meets, state_in_wait, request};
+ghost use Rattle.home_directory.specs.Home.{post};
+ghost use Rattle.miss_handlers.specs.Waits.{AreWaits, wait_of};
+ghost use Rattle.miss_handlers.specs.Effects.{miss_of, states_after, waits_after, pool_after_miss, post_of, buffers};
+
+mod replies;
+mod search;
+
+use block_layout::{Block, Layout};
+use buf_pool::{Buf, Pool};
+use home_directory::{Message, Need, Post, Sends, Wait};
+use state_table::{State, States};
+use std::alloc::{AllocError, Global};
+use std::marker::Model;
+
+/// A wait, and the block that it is for.
+#[derive(Drop)]
+pub struct Waiting {
+    block: Block,
+    wait: Wait,
+}
+
+/// The waits of a node: at most two, of different blocks. Contracts see the layout that they were
+/// made with, and the list of the waits.
+#[derive(Drop)]
+pub struct Waits {
+    layout: Layout,
+    waits: Vec<Waiting>,
+}
+
+impl Model for Waits {
+    ghost use Rattle.std.specs.Prelude.{◌≤◌, length};
+    ghost use Rattle.std.specs.Vec.{vec_capacity};
+    ghost use Rattle.miss_handlers.specs.Waits.{NodeWaits, AreWaits};
+
+    ghost Value = { NodeWaits };
+
+    ghost view = { λ w. record { layout = w.layout; waits = w.waits.items } };
+
+    ghost invariant = { λ w. (2 ≤ vec_capacity w.waits)
+        × (length w.waits.items ≤ 2)
+        × AreWaits w.layout w.waits.items };
+}
+
+impl Waits {
+    /// No wait.
+    pub fn new(alloc: Global, layout: &Layout) -> Result<Waits, AllocError>
+        ensures { IfOk result (λ w. w ≡ record { layout = layout.now; waits = [] }) }
+    {
+        Ok(Waits {
+            layout: layout.copy(alloc)?,
+            waits: Vec::with_capacity(alloc, 2)?,
+        })
+    }
+
+    /// The number of waits.
+    pub fn pending(&self) -> u8
+        ensures count { result ≡ length self.now.waits }
+        ensures few { result ≤ 2 }
+        ensures waits { AreWaits self.now.layout self.now.waits }
+    {
+        self.waits.len() as u8
+    }
+
+    /// Begins a wait, and gives the message to the home. None exactly where the block meets the
+    /// need as it is; then nothing changes.
+    #[tactic(auto, using(crate::proofs::Lists::add_is, crate::proofs::Lists::add_good))]
+    pub fn want(
+        &mut self,
+        block: Block,
+        need: Need,
+        states: &mut States,
+        pool: &mut Pool,
+    ) -> Option<Post>
+        requires block { block < blocks self.old.layout }
+        requires none { wait_of self.old block ≡ None }
+        requires few { length self.old.waits < 2 }
+        requires buffer { 0 < pool.old.free }
+        requires states { states.old.layout ≡ self.old.layout }
+        ensures post { result ≡ post_of (miss_of self.old states.old pool.old block need) }
+        ensures state { let miss = miss_of self.old states.old pool.old block need in
+            state_of states.new ≡ states_after (state_of states.old) block miss }
+        ensures wait { let miss = miss_of self.old states.old pool.old block need in
+            wait_of self.new ≡ waits_after (wait_of self.old) block miss }
+        ensures pool { let miss = miss_of self.old states.old pool.old block need in
+            pool.new ≡ pool_after_miss pool.old miss }
+        ensures count { buffers pool.new self.new ≡ buffers pool.old self.old }
+        ensures layout { self.new.layout ≡ self.old.layout }
+        ensures states_layout { states.new.layout ≡ states.old.layout }
+        ensures program { states.new.program ≡ states.old.program }
+    {
+        let state = states.state(block);
+        if meets(need, state) {
+            return None;
+        }
+        let buf = pool.take();
+        let wait = Wait {
+            need,
+            answer: None,
+            counted: 0,
+        };
+        self.add(block, wait);
+        states.set(block, state_in_wait(state));
+        Some(Post {
+            to: self.layout.home(block),
+            message: request(need, block, buf),
+        })
+    }
+}
+
+/// Whether a state meets a need.
+fn meets(need: Need, state: State) -> bool
+    ensures { result ≡ meets need state }
+{
+    match need {
+        Need::Read => state.can_read(),
+        Need::Write => state.can_write(),
+    }
+}
+
+/// The state of a block that is waited for.
+fn state_in_wait(state: State) -> State
+    ensures { result ≡ state_in_wait state }
+{
+    match state {
+        State::Invalid => State::Pending,
+        state => state,
+    }
+}
+
+/// The message that asks the home for a block.
+fn request(need: Need, block: Block, buf: Buf) -> Message
+    ensures { result ≡ request need block buf }
+{
+    match need {
+        Need::Read => Message::Read { block, buf },
+        Need::Write => Message::Write { block, buf },
+    }
+}
+
+/// One message to send.
+fn one(to: u8, message: Message) -> Sends
+    ensures { result.items ≡ post to message ∷ [] }
+{
+    let mut sends = Sends::new();
+    sends.push(Post { to, message });
+    sends
+}
