@@ -1,0 +1,11 @@
+pub mod World
+pub mod Abstraction
+pub mod Sound
+pub mod Events
+pub mod Memory
+pub mod Promises
+pub mod Queue
+pub mod Nodes
+pub mod Opening
+pub mod Want
+pub mod CopyLaws
