@@ -1,0 +1,66 @@
+//! Executables of code and data.
+
+ghost use Rattle.std.specs.Prelude.{◌≤◌, length};
+
+use std::alloc::{AllocError, Global};
+
+/// A program that writes its three bytes of data and exits with code 0:
+/// `lui x11, 0x20; addi x10, x0, 1; addi x12, x0, 3; addi x17, x0, 64; ecall;
+/// addi x10, x0, 0; addi x17, x0, 93; ecall`.
+pub const HI: [u32; 8] = [
+    0x000205b7, 0x00100513, 0x00300613, 0x04000893, 0x00000073, 0x00000513, 0x05d00893, 0x00000073,
+];
+
+fn push_words(bytes: &mut Vec<u8>, words: &[u32]) -> Result<(), AllocError> {
+    for word in words {
+        bytes.extend_from_slice(&word.to_le_bytes())?;
+    }
+    Ok(())
+}
+
+/// The executable of this code and data, of which the data's memory has so many bytes.
+pub fn executable(
+    alloc: Global,
+    code: &[u32],
+    data: &[u8],
+    data_size: u32,
+) -> Result<Vec<u8>, AllocError>
+    requires code { length code.now ≤ 1024 }
+    requires data { length data.now ≤ 65536 }
+{
+    let code_size = 4 * code.len() as u32;
+    let mut file = Vec::new(alloc);
+    // e_ident, e_type and e_machine, e_version, e_entry, e_phoff, e_shoff, e_flags
+    push_words(
+        &mut file,
+        &[
+            0x464c457f, 0x00010101, 0, 0, 0x00f30002, 1, 0x10000, 52, 0, 0,
+        ],
+    )?;
+    // e_ehsize and e_phentsize, e_phnum and e_shentsize, e_shnum and e_shstrndx
+    push_words(&mut file, &[0x00200034, 2, 0])?;
+    // the code's program header
+    push_words(
+        &mut file,
+        &[1, 0x1000, 0x10000, 0x10000, code_size, code_size, 5, 0x1000],
+    )?;
+    // the data's program header
+    push_words(
+        &mut file,
+        &[
+            1,
+            0x2000,
+            0x20000,
+            0x20000,
+            data.len() as u32,
+            data_size,
+            6,
+            0x1000,
+        ],
+    )?;
+    file.resize(0x1000, 0)?;
+    push_words(&mut file, code)?;
+    file.resize(0x2000, 0)?;
+    file.extend_from_slice(data)?;
+    Ok(file)
+}

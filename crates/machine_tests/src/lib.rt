@@ -1,0 +1,9 @@
+#![tactic(auto)]
+//! What the layers below the commands give for small programs: rewritten words, orders, steps.
+
+#[cfg(test)]
+mod files;
+#[cfg(test)]
+mod images;
+#[cfg(test)]
+mod machines;
