@@ -6,6 +6,6 @@ mod Whole
 pub mod Rebuilt
 pub mod Again
 pub mod Apart
-mod Members
+pub mod Members
 pub mod Custom
 pub mod Ranges

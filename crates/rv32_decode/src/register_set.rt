@@ -32,6 +32,27 @@ impl RegSet {
         RegSet { bits: 0 }
     }
 
+    /// The set of all registers.
+    pub fn all() -> RegSet
+        ensures { (r : ℕ) → r < 32 → IsMember result r }
+    {
+        RegSet { bits: u32::MAX }
+    }
+
+    /// The set of a number: its bit `r` says whether register `r` is a member.
+    pub fn of_bits(bits: u32) -> RegSet
+        ensures value { result ≡ bits }
+    {
+        RegSet { bits }
+    }
+
+    /// The set as a number.
+    pub fn bits(self) -> u32
+        ensures value { result ≡ self }
+    {
+        self.bits
+    }
+
     /// Whether the register is a member.
     pub fn has(self, r: Reg) -> bool
         ensures { IsTrue result ↔ IsMember self r }

@@ -46,3 +46,9 @@ pub data Live (code : ℕ → Option Instr) (r : ℕ) : ℕ → Type 0 where
 pub record IsDeadAfter (code : ℕ → Option Instr) (r a : ℕ) (i : Instr) : Type 0 where
   pub stays : IsTrue (leaves_code i) → ⊥
   pub dead : (b : ℕ) → Next i a b → Live code r b → ⊥
+
+-- register r is dead at the instruction at a: the instruction doesn't use it, and defines it or it
+-- is dead after; so none is dead where every register is used
+pub record IsDeadAt (code : ℕ → Option Instr) (r a : ℕ) (i : Instr) : Type 0 where
+  pub unused : Uses i r → ⊥
+  pub dead : (destination i ≡ Some r) ⊎ IsDeadAfter code r a i

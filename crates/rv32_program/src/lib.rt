@@ -4,6 +4,7 @@
 
 ghost use Rattle.std.specs.Prelude.{◌≡◌, ◌==◌, ℕ};
 ghost use Rattle.rv32_program.specs.Program as model;
+ghost use Rattle.rv32_program.specs.Targets.{aligned, aligned_target};
 
 use rv32_decode::Instr;
 
@@ -68,5 +69,27 @@ pub fn is_supported(i: Instr) -> bool
     match i {
         Instr::Lr { .. } | Instr::Sc { .. } | Instr::Amo { .. } => false,
         _ => true,
+    }
+}
+
+/// Where a direct jump or branch at an address goes, where that is a multiple of four.
+pub fn aligned_target(i: &Instr, address: u32) -> Option<u32>
+    ensures value { result ≡ aligned_target i.now address }
+{
+    match i {
+        Instr::Jal { offset, .. } => aligned(address.wrapping_add(offset.word())),
+        Instr::Branch { offset, .. } => aligned(address.wrapping_add(offset.word())),
+        _ => None,
+    }
+}
+
+/// The address, where it is a multiple of four.
+fn aligned(address: u32) -> Option<u32>
+    ensures value { result ≡ aligned address }
+{
+    if address % 4 == 0 {
+        Some(address)
+    } else {
+        None
     }
 }
