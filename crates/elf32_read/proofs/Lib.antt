@@ -1,2 +1,4 @@
-pub mod WordLemmas
-pub mod LayoutLemmas
+pub mod HeaderSearch
+pub mod Judging
+pub mod ContentsLemmas
+pub mod LimitsLemmas

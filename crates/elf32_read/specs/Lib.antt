@@ -1,5 +1,6 @@
 pub mod Elf
-pub mod Layout
-pub mod FirstForm
-pub mod Parts
+pub mod Fields
+pub mod Reading
+pub mod Refusals
 pub mod Segments
+pub mod Judging

@@ -1,5 +1,6 @@
 -- The values that the segments and sections of the code stand for.
-use Rattle.elf32_read.specs.Elf.{Segment, Section}
+use Rattle.std.specs.Prelude.{ℕ, List, map}
+use Rattle.elf32_read.specs.Elf.{Elf, Segment, Section}
 use Rattle.elf32_read.specs.declared.Segment as declared
 use Rattle.elf32_read.specs.declared.Section as declared_section
 
@@ -14,4 +15,13 @@ section_of s = record {
   addr = s.addr;
   size = s.size;
   bytes = s.bytes.now;
+}
+
+-- the executable of these parts
+abbrev pub elf_with : ℕ → ℕ → List declared.Segment → List declared_section.Section → Elf
+elf_with entry flags segments sections = record {
+  entry = entry;
+  flags = flags;
+  segments = map segment_of segments;
+  sections = map section_of sections;
 }

@@ -1,40 +1,22 @@
 #![tactic(auto)]
 //! Reads ELF32 executables.
-//!
-//! An executable is read where its file is laid out as the specification `HasFirstForm` says: code at 0x00010000
-//! and writable data at 0x00020000, each in a segment of its own.
 
-ghost use Rattle.std.specs.Prelude.{◌≡◌, List, true, map, IfOk, IsErrOf};
-ghost use Rattle.elf32_read.specs.Elf.{Elf as Fields, are_placed};
-ghost use Rattle.elf32_read.specs.Segments.{segment_of, section_of};
-ghost use Rattle.elf32_read.specs.FirstForm.{HasFirstForm};
+ghost use Rattle.std.specs.Prelude.{◌≡◌, ℕ, List, true, map, is_some, IfSome, IfOk, OnOk, IsErrOf};
+ghost use Rattle.elf32_read.specs.Elf.{are_placed, is_in_limits};
+ghost use Rattle.elf32_read.specs.Segments.{segment_of, section_of, elf_with};
+ghost use Rattle.elf32_read.specs.Reading.{elf_of};
+ghost use Rattle.elf32_read.specs.Refusals.{IsReadable, IsRefusedBy};
 
-mod layout;
+mod contents;
+mod fields;
+mod headers;
+mod limits;
+mod refused;
+mod rules;
 
-use std::alloc::{AllocFailed, Global};
+pub use refused::{ElfRefused, FileRule};
+use std::alloc::Global;
 use std::marker::Model;
-use thiserror::Error;
-
-/// Why a file was not read.
-#[derive(Debug, Drop, Error)]
-pub enum ElfRefused {
-    /// The file has a form that is not read as yet.
-    #[error("NotYet")]
-    NotYet,
-    /// There was no memory for the list of segments.
-    #[error("out of memory")]
-    OutOfMemory,
-}
-
-impl<T: Drop> From<AllocFailed<T>> for ElfRefused {
-    ghost use Rattle.elf32_read.specs.declared.ElfRefused.TheVariants.{OutOfMemory};
-
-    ghost from_gives = { λ _ e. e ≡ OutOfMemory };
-
-    fn from(_: AllocFailed<T>) -> ElfRefused {
-        ElfRefused::OutOfMemory
-    }
-}
 
 /// A loadable segment. Its bytes are those of the file; the rest of its memory is zero.
 #[derive(Clone, Copy, Debug)]
@@ -92,6 +74,40 @@ impl<'a> Model for Elf<'a> {
 }
 
 impl<'a> Elf<'a> {
+    /// The executable of these parts.
+    ///
+    /// `None` exactly where they are not in the limits: 1 to 1,000 segments, each with no more
+    /// bytes than memory and an end of at most 2^32; at most 1,000 sections; no flag but 0x10; at
+    /// most 2^30 bytes in all segments and sections.
+    pub fn make(
+        entry: u32,
+        flags: u32,
+        segments: Vec<Segment<'a>>,
+        sections: Vec<Section<'a>>,
+    ) -> Option<Elf<'a>>
+        ensures value { IfSome result (λ e.
+            e ≡ elf_with entry flags segments.entry.items sections.entry.items) }
+        ensures limits { is_some result
+            ≡ is_in_limits (elf_with entry flags segments.entry.items sections.entry.items) }
+    {
+        if !limits::are_in_limits(flags, &segments, &sections) {
+            return None;
+        }
+        Some(Elf {
+            entry,
+            flags,
+            segments,
+            sections,
+        })
+    }
+
+    /// Whether `make` would accept it. A file may have more segments and sections.
+    pub fn is_in_limits(&self) -> bool
+        ensures value { result ≡ is_in_limits self.now }
+    {
+        limits::are_in_limits(self.flags, &self.segments, &self.sections)
+    }
+
     /// The address of the first instruction.
     pub fn entry(&self) -> u32
         ensures { result ≡ self.now.entry }
@@ -122,117 +138,33 @@ impl<'a> Elf<'a> {
     }
 }
 
-/// Reads a file. The segments borrow its bytes.
+/// Reads a file. The segments and sections borrow its bytes.
 ///
-/// Fails with `NotYet` exactly where the file is not laid out as `HasFirstForm` says.
+/// Fails with the first rule that fits the file, in the order of their numbers, and with the least
+/// program header of that rule. Takes time in proportion to the headers and the lengths of the
+/// sections' names.
 pub fn read_elf(alloc: Global, file: &[u8]) -> Result<Elf<'_>, ElfRefused>
-    ensures ok { IfOk result (λ e. HasFirstForm file.now e) }
-    ensures not_yet { IsErrOf result ElfRefused.NotYet → (e : Fields) → HasFirstForm file.now e → ⊥ }
+    ensures ok { IfOk result (λ e. e ≡ elf_of file.now) }
+    ensures readable { OnOk result (IsReadable file.now) }
+    ensures refused { (r : FileRule)
+        → IsErrOf result (ElfRefused.Broken r) → IsRefusedBy file.now r }
 {
-    let Some(parts) = layout::read_parts(file) else {
-        return Err(ElfRefused::NotYet);
-    };
-    let mut segments = Vec::new(alloc);
-    segments.push(Segment {
-        flags: layout::CODE_FLAGS,
-        vaddr: layout::CODE_ADDRESS,
-        memsz: parts.code.len() as u32,
-        bytes: parts.code,
-    })?;
-    segments.push(Segment {
-        flags: layout::DATA_FLAGS,
-        vaddr: layout::DATA_ADDRESS,
-        memsz: parts.data_size,
-        bytes: parts.data,
-    })?;
+    if let Some(rule) = rules::first_broken(file) {
+        return Err(ElfRefused::Broken(rule));
+    }
+    let header = headers::file_header(file);
     Ok(Elf {
-        entry: layout::CODE_ADDRESS,
-        flags: 0,
-        segments,
-        sections: Vec::new(alloc),
+        entry: header.e_entry,
+        flags: header.e_flags,
+        segments: contents::segments(alloc, file, header)?,
+        sections: contents::sections(alloc, file, header)?,
     })
 }
 
-#[cfg(test)]
-mod tests {
-    use super::*;
-    use std::alloc::AllocError;
-    use std::test::Fail;
-
-    /// The headers of an executable with 32 bytes of code and 3 of data, as little-endian words.
-    const HEADERS: [u32; 29] = [
-        // e_ident, e_type and e_machine, e_version, e_entry, e_phoff, e_shoff, e_flags
-        0x464c457f, 0x00010101, 0, 0, 0x00f30002, 1, 0x10000, 52, 0, 0,
-        // e_ehsize and e_phentsize, e_phnum and e_shentsize, e_shnum and e_shstrndx
-        0x00200034, 2, 0,
-        // the code's program header
-        1, 0x1000, 0x10000, 0x10000, 32, 32, 5, 0x1000,
-        // the data's program header
-        1, 0x2000, 0x20000, 0x20000, 3, 3, 6, 0x1000,
-    ];
-
-    /// The code of a program that writes `hi` and ends.
-    const CODE: [u32; 8] = [
-        0x000205b7, 0x00100513, 0x00300613, 0x04000893, 0x00000073, 0x00000513, 0x05d00893,
-        0x00000073,
-    ];
-
-    fn push_words(bytes: &mut Vec<u8>, words: &[u32]) -> Result<(), AllocError> {
-        for word in words {
-            bytes.extend_from_slice(&word.to_le_bytes())?;
-        }
-        Ok(())
-    }
-
-    /// The file of `CODE` and the data `hi`, with a line's end.
-    fn example(alloc: Global) -> Result<Vec<u8>, AllocError> {
-        let mut file = Vec::new(alloc);
-        push_words(&mut file, &HEADERS)?;
-        file.resize(0x1000, 0)?;
-        push_words(&mut file, &CODE)?;
-        file.resize(0x2000, 0)?;
-        file.extend_from_slice(b"hi\n")?;
-        Ok(file)
-    }
-
-    fn is_not_yet(alloc: Global, file: &[u8]) -> bool {
-        matches!(read_elf(alloc, file), Err(ElfRefused::NotYet))
-    }
-
-    #[test]
-    fn reads_code_and_data(rt: HostRuntime) -> Result<(), Fail> {
-        let file = example(rt.alloc())?;
-        assert_eq!(rt; file.len(), 8195);
-        let executable = read_elf(rt.alloc(), &file)?;
-        assert_eq!(rt; executable.entry(), 0x10000);
-        assert_eq!(rt; executable.flags(), 0);
-        let segments = executable.segments();
-        assert_eq!(rt; segments.len(), 2);
-        let code = segments[0];
-        assert_eq!(rt; (code.flags, code.vaddr, code.memsz), (5, 0x10000, 32));
-        assert_eq!(rt; code.bytes, &file[4096..4128]);
-        let data = segments[1];
-        assert_eq!(rt; (data.flags, data.vaddr, data.memsz), (6, 0x20000, 3));
-        assert_eq!(rt; data.bytes, b"hi\n".as_slice());
-        Ok(())
-    }
-
-    #[test]
-    fn refuses_other_files(rt: HostRuntime) -> Result<(), Fail> {
-        let mut file = example(rt.alloc())?;
-        assert!(rt; is_not_yet(rt.alloc(), &[]));
-        for place in [0, 40, 116, 4095, 4128, 8191] {
-            let mut changed = example(rt.alloc())?;
-            if let Some(byte) = changed.get_mut(place) {
-                *byte ^= 1;
-            }
-            assert!(rt; is_not_yet(rt.alloc(), &changed), "changed at {place}");
-        }
-        assert!(rt; read_elf(rt.alloc(), &file).is_ok());
-        file.push(0)?;
-        assert!(rt; is_not_yet(rt.alloc(), &file), "one byte long");
-        file.truncate(8194);
-        assert!(rt; is_not_yet(rt.alloc(), &file), "one byte short");
-        Ok(())
-    }
-}
+/// At most one rule refuses a file first, and a file that one refuses is not readable.
+pub fn refusal_law()
+    ensures one_rule { (file : List ℕ) (r q : FileRule)
+        → IsRefusedBy file r → IsRefusedBy file q → r ≡ q }
+    ensures unreadable { (file : List ℕ) (r : FileRule)
+        → IsRefusedBy file r → IsReadable file → ⊥ }
+{}

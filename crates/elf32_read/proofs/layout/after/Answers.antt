@@ -1,7 +1,0 @@
--- `strip_prefix` compares bytes, and equal bytes are one.
-use Rattle.std.proofs.lemmas.Bool.Decides.{Decides-eqb}
-use Rattle.std.proofs.lemmas.Slice.Eq.{strip_prefix_is}
-use Rattle.elf32_read.proofs.layout.after.Goals as goal
-
-pub returns : goal.returns
-returns c = strip_prefix_is Decides-eqb _ _ _ c.strip_prefix.ensures.cases
