@@ -10,9 +10,9 @@ use Rattle.std.proofs.lemmas.Bool.Decides.{nat_tests}
 use Rattle.std.proofs.lemmas.List.Elements.{All-nil, All-cons, All-head, All-tail}
 use Rattle.elf32_read.specs.Elf.{Segment, is_placed}
 use Rattle.exec_map.specs.declared.stretches.Stretch.{Stretch}
-use Rattle.exec_map.specs.Contents.{is_writable, touches}
+use Rattle.exec_map.specs.Contents.{touches}
 use Rattle.exec_map.specs.Refusals.{has_memory}
-use Rattle.exec_map.specs.Index.{AreStretches, AreSearchable, IsSome, has, have, end_line, shares, lines_of_writable}
+use Rattle.exec_map.specs.Index.{AreStretches, AreSearchable, IsSome, has, have, end_line, is_of_kind, has_line, lines_of_kind}
 
 or_skip : (b : Bool) (c : Bool) → b ≡ false → (b || c) ≡ c
 or_skip b c e = rw e refl
@@ -96,11 +96,11 @@ touch_test s line some =
     let b : nat_lt line (end_line s) ≡ nat_lt (64 * line) (s.vaddr + s.memsz) = to_test (s.vaddr + s.memsz) line in
     rw (a, b, some) refl
 
-line_is : (s : Segment) (r : Stretch) → lines_of_writable s ≡ Some r → (r.first ≡ s.vaddr / 64) × (r.end ≡ end_line s)
-line_is s r h =
-    elim (cases_Bool (is_writable s)) [
+line_is : (kind : Bool) (s : Segment) (r : Stretch) → lines_of_kind kind s ≡ Some r → (r.first ≡ s.vaddr / 64) × (r.end ≡ end_line s)
+line_is kind s r h =
+    elim (cases_Bool (is_of_kind kind s)) [
       | inl here ↦ same_stretch s r (sym (cond-true _ _ _ here) ∙ h)
-      | inr out ↦ absurd (none_some (sym (cond-false (is_writable s) (Some (record { first = s.vaddr / 64; end = end_line s })) None out) ∙ h))
+      | inr out ↦ absurd (none_some (sym (cond-false (is_of_kind kind s) (Some (record { first = s.vaddr / 64; end = end_line s })) None out) ∙ h))
     ]
 
 line_some : (s : Segment) (r : Stretch) → has_memory s ≡ true → (r.first ≡ s.vaddr / 64) × (r.end ≡ end_line s) → IsSome r
@@ -116,9 +116,9 @@ line_low s r placed is =
 lines_ascend : (s t : Segment) (r q : Stretch) → end_line s ≤ t.vaddr / 64 → (r.first ≡ s.vaddr / 64) × (r.end ≡ end_line s) → (q.first ≡ t.vaddr / 64) × (q.end ≡ end_line t) → r.end ≤ q.first
 lines_ascend s t r q far one other = omega (arith, one.1, other.0)
 
-line_has : (s : Segment) (line : ℕ) → has_memory s ≡ true → option_map_or (has line) (lines_of_writable s) false ≡ shares line s
-line_has s line some =
-    elim (cases_Bool (is_writable s)) [
+line_has : (kind : Bool) (s : Segment) (line : ℕ) → has_memory s ≡ true → option_map_or (has line) (lines_of_kind kind s) false ≡ has_line kind line s
+line_has kind s line some =
+    elim (cases_Bool (is_of_kind kind s)) [
       | inl here ↦ ap (λ o. option_map_or (has line) o false) (cond-true _ _ _ here) ∙ touch_test s line some ∙ ap (λ b. b && touches line s) (sym here)
       | inr out ↦ ap (λ o. option_map_or (has line) o false) (cond-false _ _ _ out) ∙ ap (λ b. b && touches line s) (sym out)
     ]
@@ -128,15 +128,15 @@ agree_where m p q h [] all = refl
 agree_where m p q h (x ∷ xs) all =
     ap (λ b. b || list_any p xs) (h x (and_parts _ _ all).0) ∙ ap (λ b. q x || b) (agree_where m p q h xs (and_parts _ _ all).1)
 
--- the lines of the writable segments
-pub lines_stretches : (xs : List Segment) → AreSearchable xs → AreStretches (filter_map lines_of_writable xs)
-lines_stretches xs h = record {
-  some = All_filter_map IsSome (λ s. has_memory s ≡ true) lines_of_writable (λ s r some is. line_some s r some (line_is s r is)) xs (AllPass-from_list_all has_memory xs h.memory);
-  ascending = pairs_filter_map (λ r q. r.end ≤ q.first) (λ s t. end_line s ≤ t.vaddr / 64) lines_of_writable (λ s t r q far r_is q_is. lines_ascend s t r q far (line_is s r r_is) (line_is t q q_is)) xs h.apart;
+-- the lines of the segments of a kind
+pub lines_stretches : (kind : Bool) (xs : List Segment) → AreSearchable xs → AreStretches (filter_map (lines_of_kind kind) xs)
+lines_stretches kind xs h = record {
+  some = All_filter_map IsSome (λ s. has_memory s ≡ true) (lines_of_kind kind) (λ s r some is. line_some s r some (line_is kind s r is)) xs (AllPass-from_list_all has_memory xs h.memory);
+  ascending = pairs_filter_map (λ r q. r.end ≤ q.first) (λ s t. end_line s ≤ t.vaddr / 64) (lines_of_kind kind) (λ s t r q far r_is q_is. lines_ascend s t r q far (line_is kind s r r_is) (line_is kind t q q_is)) xs h.apart;
 }
 
-pub lines_low : (xs : List Segment) → AreSearchable xs → All (λ r. r.end ≤ 2 ^ 26) (filter_map lines_of_writable xs)
-lines_low xs h = All_filter_map (λ r. r.end ≤ 2 ^ 26) (λ s. is_placed s ≡ true) lines_of_writable (λ s r placed is. line_low s r placed (line_is s r is)) xs (AllPass-from_list_all is_placed xs h.placed)
+pub lines_low : (kind : Bool) (xs : List Segment) → AreSearchable xs → All (λ r. r.end ≤ 2 ^ 26) (filter_map (lines_of_kind kind) xs)
+lines_low kind xs h = All_filter_map (λ r. r.end ≤ 2 ^ 26) (λ s. is_placed s ≡ true) (lines_of_kind kind) (λ s r placed is. line_low s r placed (line_is kind s r is)) xs (AllPass-from_list_all is_placed xs h.placed)
 
-pub lines_have : (xs : List Segment) (line : ℕ) → list_all has_memory xs ≡ true → have (filter_map lines_of_writable xs) line ≡ list_any (shares line) xs
-lines_have xs line memory = have_filter_map lines_of_writable line xs ∙ agree_where has_memory (λ s. option_map_or (has line) (lines_of_writable s) false) (shares line) (λ s some. line_has s line some) xs memory
+pub lines_have : (kind : Bool) (xs : List Segment) (line : ℕ) → list_all has_memory xs ≡ true → have (filter_map (lines_of_kind kind) xs) line ≡ list_any (has_line kind line) xs
+lines_have kind xs line memory = have_filter_map (lines_of_kind kind) line xs ∙ agree_where has_memory (λ s. option_map_or (has line) (lines_of_kind kind s) false) (has_line kind line) (λ s some. line_has kind s line some) xs memory

@@ -44,6 +44,10 @@ abbrev pub is_shared : Class → Bool
 is_shared Shared = true
 is_shared c = false
 
+abbrev pub is_read_only : Class → Bool
+is_read_only ReadOnly = true
+is_read_only c = false
+
 -- the file has a byte of the segment for the address
 abbrev pub holds : ℕ → Segment → Bool
 holds a s = nat_le s.vaddr a && nat_lt a (s.vaddr + length s.bytes)
@@ -121,7 +125,15 @@ pub record IsNextCode (e : Elf) (from a : ℕ) : Type 0 where
   pub code_word : is_code_word e a ≡ true
   pub lowest : (b : ℕ) → from ≤ b → b < a → is_code_word e b ≡ false
 
--- the maximal ranges of shared lines
-pub record AreSharedRanges (e : Elf) (ranges : List Lines) : Type 0 where
-  pub lines : (line : ℕ) → is_in ranges line ≡ is_shared (class_of_line e line)
+-- the maximal ranges of the lines of some classes
+pub record AreRangesOf (classes : Class → Bool) (e : Elf) (ranges : List Lines) : Type 0 where
+  pub lines : (line : ℕ) → is_in ranges line ≡ classes (class_of_line e line)
   pub apart : AllPairs (λ r q. r.first + r.lines < q.first) ranges
+
+-- the maximal ranges of shared lines
+abbrev pub AreSharedRanges : Elf → List Lines → Type 0
+AreSharedRanges e ranges = AreRangesOf is_shared e ranges
+
+-- the maximal ranges of read-only lines
+abbrev pub AreReadOnlyRanges : Elf → List Lines → Type 0
+AreReadOnlyRanges e ranges = AreRangesOf is_read_only e ranges

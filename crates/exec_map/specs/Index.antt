@@ -72,10 +72,16 @@ words_of_segment s =
 abbrev pub words_of_section : Section → Option Stretch
 words_of_section s = if is_code_section s then words_within s.addr (s.addr + s.size) else None
 
--- the lines in which a writable segment has a byte
-abbrev pub lines_of_writable : Segment → Option Stretch
-lines_of_writable s =
-    if is_writable s then Some (record { first = s.vaddr / 64; end = end_line s }) else None
+-- the segment is writable, or it isn't
+abbrev pub is_of_kind : Bool → Segment → Bool
+is_of_kind true s = is_writable s
+is_of_kind false s = not (is_writable s)
+
+-- the lines in which a segment of this kind has a byte
+abbrev pub lines_of_kind : Bool → Segment → Option Stretch
+lines_of_kind writable s =
+    if is_of_kind writable s then Some (record { first = s.vaddr / 64; end = end_line s })
+    else None
 
 -- a stretch of lines by its length
 abbrev pub lines_of_stretch : Stretch → Lines
@@ -94,15 +100,10 @@ pub record IsIndex (e : Elf) (segments : List Segment) (code : List Stretch) : T
   pub searchable : AreSearchable segments
   pub words : AreCode e code
 
--- the segment is writable, and has a byte in the line
-abbrev pub shares : ℕ → Segment → Bool
-shares line s = is_writable s && touches line s
+-- the segment is of this kind, and has a byte in the line
+abbrev pub has_line : Bool → ℕ → Segment → Bool
+has_line writable line s = is_of_kind writable s && touches line s
 
 -- no rule below this number fits
 abbrev pub NoRuleBelow : Elf → ℕ → Type 0
 NoRuleBelow e n = (r : ProgramRule) → Fits e r → n ≤ number_of r
-
--- the segment is writable, or it isn't
-abbrev pub is_of_kind : Bool → Segment → Bool
-is_of_kind true s = is_writable s
-is_of_kind false s = not (is_writable s)

@@ -103,9 +103,16 @@ impl<'a> Program<'a> {
 
     /// The maximal ranges of the lines that the processors have in common, ascending.
     pub fn shared_ranges(&self, alloc: Global) -> Result<Ranges, AllocError>
-        ensures { IfOk result (model.AreSharedRanges self.now) }
+        ensures ranges { IfOk result (model.AreSharedRanges self.now) }
     {
-        Ok(Ranges::new(segments::shared_ranges(alloc, &self.segments)?))
+        Ok(Ranges::new(segments::ranges_of(alloc, &self.segments, true)?))
+    }
+
+    /// The maximal ranges of the lines that no processor may write, ascending.
+    pub fn read_only_ranges(&self, alloc: Global) -> Result<Ranges, AllocError>
+        ensures ranges { IfOk result (model.AreReadOnlyRanges self.now) }
+    {
+        Ok(Ranges::new(segments::ranges_of(alloc, &self.segments, false)?))
     }
 
     /// The byte that an address starts with.

@@ -10,7 +10,7 @@ ghost use Rattle.elf32_read.specs.Elf.{are_placed};
 ghost use Rattle.elf32_read.specs.Segments.{segment_of};
 ghost use Rattle.exec_map.specs.Contents as model;
 ghost use Rattle.exec_map.specs.Index as index;
-ghost use Rattle.exec_map.specs.Index.{AreSorted, AreApart, AreSearchable, IsSome, end_line, shares};
+ghost use Rattle.exec_map.specs.Index.{AreSorted, AreApart, AreSearchable, IsSome, end_line, has_line};
 ghost use Rattle.exec_map.specs.Refusals.{has_memory};
 
 use crate::stretches::{self, Stretch};
@@ -130,15 +130,20 @@ fn word(sorted: &[Segment<'_>], address: u32) -> u32
     ])
 }
 
-/// The maximal ranges of lines in which a writable segment has a byte.
-pub fn shared_ranges(alloc: Global, sorted: &[Segment<'_>]) -> Result<Vec<Lines>, AllocError>
+/// The maximal ranges of the lines in which a writable segment has a byte, or one that isn't.
+pub fn ranges_of(
+    alloc: Global,
+    sorted: &[Segment<'_>],
+    writable: bool,
+) -> Result<Vec<Lines>, AllocError>
     requires { AreSearchable (map segment_of sorted.now) }
     ensures ranges { IfOk result (λ v. AreRanges v.items) }
-    ensures lines { (line : ℕ) → IfOk result (λ v. is_in v.items line ≡ list_any (shares line) (map segment_of sorted.now)) }
+    ensures lines { (line : ℕ) → IfOk result (λ v.
+        is_in v.items line ≡ list_any (has_line writable line) (map segment_of sorted.now)) }
     ensures apart { IfOk result (λ v. AllPairs (λ r q. r.first + r.lines < q.first) v.items) }
 {
-    let writable = lines_of_writable(alloc, sorted)?;
-    let merged = stretches::merged(alloc, &writable)?;
+    let of_kind = lines_of_kind(alloc, sorted, writable)?;
+    let merged = stretches::merged(alloc, &of_kind)?;
     let ranges = lengths(alloc, &merged)?;
     Ok(ranges)
 }
@@ -158,18 +163,26 @@ fn lengths(alloc: Global, stretches: &[Stretch]) -> Result<Vec<Lines>, AllocErro
     Ok(ranges)
 }
 
-/// The lines in which the writable segments have bytes.
-fn lines_of_writable(alloc: Global, sorted: &[Segment<'_>]) -> Result<Vec<Stretch>, AllocError>
-    ensures { IfOk result (λ v. v.items ≡ filter_map (λ s. index.lines_of_writable (segment_of s)) sorted.now) }
+/// The lines in which the segments of a kind have bytes.
+fn lines_of_kind(
+    alloc: Global,
+    sorted: &[Segment<'_>],
+    writable: bool,
+) -> Result<Vec<Stretch>, AllocError>
+    ensures { IfOk result (λ v. v.items
+        ≡ filter_map (λ s. index.lines_of_kind writable (segment_of s)) sorted.now) }
 {
-    sorted.iter().filter_map(|s| lines_of(s)).collect(alloc)
+    sorted
+        .iter()
+        .filter_map(|s| lines_of(s, writable))
+        .collect(alloc)
 }
 
-/// The lines in which a segment has a byte, where it is writable.
-fn lines_of(s: &Segment<'_>) -> Option<Stretch>
-    ensures { result ≡ index.lines_of_writable (segment_of s.now) }
+/// The lines in which a segment has a byte, where it is of this kind.
+fn lines_of(s: &Segment<'_>, writable: bool) -> Option<Stretch>
+    ensures { result ≡ index.lines_of_kind writable (segment_of s.now) }
 {
-    if segment::is_writable(s) {
+    if segment::is_writable(s) == writable {
         Some(Stretch {
             first: s.vaddr / 64,
             end: segment::end_line(s) as u32,

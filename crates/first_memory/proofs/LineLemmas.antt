@@ -1,5 +1,5 @@
--- The bytes of the shared lines at the start.
-use Rattle.std.proofs.Common.{◌≡◌, ℕ, zero, suc, ◌+◌, ◌-◌, ◌*◌, ◌/◌, ◌%◌, ◌<◌, ◌≤◌, ◌⊎◌, Bool, true, List, [], ◌∷◌, ◌++◌, length, map, take, get_or, Option, Some, None, Result, Ok, Err, IfOk, refl, sym, ap, ◌∙◌, arith, inl, inr}
+-- The bytes of the lines of some classes at the start.
+use Rattle.std.proofs.Common.{◌≡◌, ℕ, zero, suc, ◌+◌, ◌-◌, ◌*◌, ◌/◌, ◌%◌, ◌<◌, ◌≤◌, ◌⊎◌, Bool, true, false, List, [], ◌∷◌, ◌++◌, length, map, take, get_or, Option, Some, None, Result, Ok, Err, IfOk, refl, sym, ap, ◌∙◌, arith, inl, inr}
 use Rattle.std.specs.Prelude.{is_some, slice_index, All, AllPairs}
 use Rattle.std.specs.List.{list_any}
 use Rattle.std.specs.Option.{option_map}
@@ -8,17 +8,15 @@ use Rattle.std.proofs.lemmas.Bool.{cases_Bool, cases_lt}
 use Rattle.std.proofs.lemmas.Bool.Decides.{nat_tests}
 use Rattle.std.proofs.lemmas.List.{length-append, get_or_append_left, get_or-append_right}
 use Rattle.elf32_read.specs.Elf.{Elf}
-use Rattle.exec_map.specs.Contents.{program_of, class_of_line, first_byte, first_bytes, is_shared, AreSharedRanges}
+use Rattle.exec_map.specs.Contents.{program_of, class_of_line, first_byte, first_bytes, AreRangesOf}
+use Rattle.first_memory.specs.Ranges.{line_range}
 use Rattle.block_layout.specs.Layout.{AreRanges, is_in, is_among}
 use Rattle.block_layout.specs.declared.ranges.Lines.{Lines}
 use Rattle.byte_range.specs.Lines.{LineBytes, lines_memory, place_of, line_count, has_line, byte_of_place, Ascend}
 use Rattle.byte_range.specs.declared.lines.LineRange.{LineRange}
 use Rattle.rv32_program.specs.declared.Class.{Class}
-use Rattle.rv32_program.specs.declared.Class.TheVariants.{Shared, ReadOnly, Private, Unmapped}
+use Rattle.rv32_program.specs.declared.Class.TheVariants.{Unmapped}
 use Rattle.rv32_program.specs.Program.{IsAccepted}
-
-abbrev pub line_range : Lines → LineRange
-line_range r = record { first = r.first; count = r.lines }
 
 -- the first bytes of the lines of ranges
 abbrev pub bytes_of : Elf → List Lines → List ℕ
@@ -117,15 +115,12 @@ found (r ∷ rs) line = elim (cases_Bool (is_among line r)) [
   | inr e ↦ rw e (is_some_map (λ k. r.lines + k) (place_of (map line_range rs) line) ∙ found rs line)
 ]
 
-pub shared_lines : (e : Elf) (rs : List Lines) (m : LineBytes) → AreSharedRanges e rs → m.ranges ≡ map line_range rs → (line : ℕ) → is_some (place_of m.ranges line) ≡ is_shared (class_of_line e line)
-shared_lines e rs m are ranges line =
+pub lines_of : (classes : Class → Bool) (e : Elf) (rs : List Lines) (m : LineBytes) → AreRangesOf classes e rs → m.ranges ≡ map line_range rs → (line : ℕ) → is_some (place_of m.ranges line) ≡ classes (class_of_line e line)
+lines_of classes e rs m are ranges line =
     ap (λ (qs : List LineRange). is_some (place_of qs line)) ranges ∙ found rs line ∙ are.lines line
 
-not_shared : (c : Class) → c ≡ Unmapped → is_shared c ≡ true → ⊥
-not_shared Shared is shared = absurd (cc)
-not_shared ReadOnly is shared = absurd (cc)
-not_shared Private is shared = absurd (cc)
-not_shared Unmapped is shared = absurd (cc)
+not_unmapped : (classes : Class → Bool) (c : Class) → classes Unmapped ≡ false → c ≡ Unmapped → classes c ≡ true → ⊥
+not_unmapped classes c off is on = let same : classes c ≡ classes Unmapped = ap classes is in absurd (cc)
 
 -- every line of the ranges is in the lower half
 abbrev pub AreLow : List Lines → Type 0
@@ -142,15 +137,15 @@ any_from p (r ∷ rs) (suc k) d lt is = elim (cases_Bool (p r)) [
 is_last : (r : Lines) → 0 < r.lines → is_among (r.first + r.lines - 1) r ≡ true
 is_last r some = grind (arith, nat_tests)
 
-pub are_low : (e : Elf) (rs : List Lines) → IsAccepted (program_of e) → AreRanges rs → AreSharedRanges e rs → AreLow rs
-are_low e rs accepted are shared k d lt =
+are_low : (classes : Class → Bool) (e : Elf) (rs : List Lines) → classes Unmapped ≡ false → IsAccepted (program_of e) → AreRanges rs → AreRangesOf classes e rs → AreLow rs
+are_low classes e rs off accepted are ranges k d lt =
     let r = get_or rs k d in
     let some = are.some k d lt in
     let line = r.first + r.lines - 1 in
     let there : is_in rs line ≡ true = any_from (is_among line) rs k d lt (is_last r some) in
     elim (cases_below line) [
       | inl low ↦ omega (arith, low, some)
-      | inr high ↦ absurd (not_shared (class_of_line e line) (accepted.upper line high) (sym (shared.lines line) ∙ there))
+      | inr high ↦ absurd (not_unmapped classes (class_of_line e line) off (accepted.upper line high) (sym (ranges.lines line) ∙ there))
     ]
   where
     cases_below : (n : ℕ) → (n < 33554432) ⊎ (33554432 ≤ n)
@@ -164,9 +159,9 @@ ascend_from low (r ∷ rs) from lows pairs is = (
       (λ i j d lt within. pairs (suc i) (suc j) d (omega (arith, lt)) (omega (arith, within))) (lows zero r (omega arith)),
 )
 
-pub ascend : (e : Elf) (rs : List Lines) → IsAccepted (program_of e) → AreRanges rs → AreSharedRanges e rs → Ascend 0 (map line_range rs)
-ascend e rs accepted are shared =
-    ascend_from 0 rs (λ k d lt. omega arith) (are_low e rs accepted are shared) are.ascending (omega arith)
+pub ascend : (classes : Class → Bool) (e : Elf) (rs : List Lines) → classes Unmapped ≡ false → IsAccepted (program_of e) → AreRanges rs → AreRangesOf classes e rs → Ascend 0 (map line_range rs)
+ascend classes e rs off accepted are ranges =
+    ascend_from 0 rs (λ k d lt. omega arith) (are_low classes e rs off accepted are ranges) are.ascending (omega arith)
 
 -- two facts of a result give a third
 pub if_ok_both : {A E : Type 0} (result : Result A E) (P Q R : A → Type 0) → ((x : A) → P x → Q x → R x) → IfOk result P → IfOk result Q → IfOk result R

@@ -1,1 +1,2 @@
 pub mod SharedLines
+pub mod Ranges

@@ -1,63 +1,21 @@
-use Rattle.std.proofs.Common.{◌≡◌, ℕ, ◌*◌, length, List, ◌++◌, ◌∷◌, [], map, take, get_or, sym, ap, ◌∙◌, subst, arith}
-use Rattle.std.proofs.lemmas.List.{take_more}
+use Rattle.std.proofs.Common.{refl, sym, subst}
 use Rattle.std.proofs.lemmas.Result.{IfOk-weaker}
-use Rattle.exec_map.specs.Contents.{first_bytes, AreSharedRanges}
+use Rattle.exec_map.specs.Contents.{is_shared, AreRangesOf}
 use Rattle.block_layout.specs.Layout.{AreRanges}
-use Rattle.block_layout.specs.declared.ranges.Lines.{Lines}
-use Rattle.byte_range.specs.Lines.{line_count, Ascend}
-use Rattle.byte_range.specs.declared.lines.LineRange.{LineRange}
-use Rattle.first_memory.proofs.LineLemmas.{line_range, bytes_of, bytes_push, ranges_push, bytes_len, take_whole, ascend, first_memory, shared_lines, if_ok_both, AreFirst}
+use Rattle.first_memory.proofs.LineLemmas.{ascend, lines_of}
 use Rattle.first_memory.proofs.shared_memory.Goals as goal
 
-abbrev no_lines : Lines
-no_lines = record { first = 0; lines = 0 }
-
-pub loop-lines-preserved : goal.loop-lines-preserved
-loop-lines-preserved c =
+pub memory_of-requires : goal.memory_of-requires
+memory_of-requires c =
     let e = c.args.program.now in
-    let rs = c.as_slice-lines-items.result.now in
-    let i = c.loop-lines.lines-index in
-    let more = take_more rs i no_lines (omega (arith, c.loop-lines-test.true)) in
-    let r = get_or rs i no_lines in
+    let are : AreRangesOf is_shared e c.as_slice.result.now = subst (AreRangesOf is_shared e) (sym c.as_slice.ensures.value) c.in_ok-ranges.ensures.ranges in
     record {
-      ranges = rw (more, ranges_push (take i rs) r) (c.in_ok-push.ensures.items ∙ ap (λ (qs : List LineRange). qs ++ line_range r ∷ []) c.loop-lines.invariant.ranges);
-      bytes = rw (more, bytes_push e (take i rs) r) (c.in_ok-bytes0.ensures ∙ ap (λ (bs : List ℕ). bs ++ first_bytes e (64 * r.first) (64 * r.lines)) c.loop-lines.invariant.bytes);
+      some = subst AreRanges (sym c.as_slice.ensures.value) c.as_slice.ensures.ranges;
+      ascend = ascend is_shared e c.as_slice.result.now refl c.entry.ensures.accepted (subst AreRanges (sym c.as_slice.ensures.value) c.as_slice.ensures.ranges) are;
     }
-
-pub of-requires-clause-ascend : goal.of-requires-clause-ascend
-of-requires-clause-ascend c =
-    let e = c.args.program.now in
-    let rs = c.as_slice-lines-items.result.now in
-    let whole = take_whole rs c.loop-lines.lines-index c.loop-lines-test.false in
-    let ranges : c.deref.result.now ≡ map line_range rs = c.deref.ensures.value ∙ c.loop-lines.invariant.ranges ∙ ap (λ (qs : List Lines). map line_range qs) whole in
-    let are : AreRanges rs = subst AreRanges (sym c.as_slice-lines-items.ensures.value) c.as_slice-lines-items.ensures.ranges in
-    let shared : AreSharedRanges e rs = subst (AreSharedRanges e) (sym c.as_slice-lines-items.ensures.value) c.in_ok-shared.ensures in
-    subst (Ascend 0) (sym ranges) (ascend e rs c.entry.ensures.accepted are shared)
-
-pub of-requires-clause-whole : goal.of-requires-clause-whole
-of-requires-clause-whole c =
-    let e = c.args.program.now in
-    let rs = c.as_slice-lines-items.result.now in
-    let whole = take_whole rs c.loop-lines.lines-index c.loop-lines-test.false in
-    let ranges : c.deref.result.now ≡ map line_range rs = c.deref.ensures.value ∙ c.loop-lines.invariant.ranges ∙ ap (λ (qs : List Lines). map line_range qs) whole in
-    let first : AreFirst e = record { len = c.first_bytes_law.ensures.len e; each = c.first_bytes_law.ensures.each e } in
-    ap length (c.loop-lines.invariant.bytes ∙ ap (bytes_of e) whole) ∙ bytes_len e first rs ∙ sym (ap (λ (qs : List LineRange). 64 * line_count qs) ranges)
-
-pub returns-clause-bytes : goal.returns-clause-bytes
-returns-clause-bytes c =
-    let e = c.args.program.now in
-    let rs = c.as_slice-lines-items.result.now in
-    let whole = take_whole rs c.loop-lines.lines-index c.loop-lines-test.false in
-    let ranges : c.deref.result.now ≡ map line_range rs = c.deref.ensures.value ∙ c.loop-lines.invariant.ranges ∙ ap (λ (qs : List Lines). map line_range qs) whole in
-    let bytes : c.loop-lines.bytes.items ≡ bytes_of e rs = c.loop-lines.invariant.bytes ∙ ap (bytes_of e) whole in
-    let first : AreFirst e = record { len = c.first_bytes_law.ensures.len e; each = c.first_bytes_law.ensures.each e } in
-    if_ok_both c.of.result _ _ _ (λ m r b. first_memory e first rs m (r ∙ ranges) (b ∙ bytes)) c.of.ensures.ranges c.of.ensures.bytes
 
 pub returns-clause-lines : goal.returns-clause-lines
 returns-clause-lines c =
     let e = c.args.program.now in
-    let rs = c.as_slice-lines-items.result.now in
-    let whole = take_whole rs c.loop-lines.lines-index c.loop-lines-test.false in
-    let ranges : c.deref.result.now ≡ map line_range rs = c.deref.ensures.value ∙ c.loop-lines.invariant.ranges ∙ ap (λ (qs : List Lines). map line_range qs) whole in
-    let shared : AreSharedRanges e rs = subst (AreSharedRanges e) (sym c.as_slice-lines-items.ensures.value) c.in_ok-shared.ensures in
-    IfOk-weaker c.of.result _ _ (λ m is. shared_lines e rs m shared (is ∙ ranges)) c.of.ensures.ranges
+    let are : AreRangesOf is_shared e c.as_slice.result.now = subst (AreRangesOf is_shared e) (sym c.as_slice.ensures.value) c.in_ok-ranges.ensures.ranges in
+    IfOk-weaker c.memory_of.result _ _ (λ m is. lines_of is_shared e c.as_slice.result.now m are is) c.memory_of.ensures.ranges

@@ -1,15 +1,17 @@
-use Rattle.std.proofs.Common.{map, ap, ◌∙◌, subst}
+use Rattle.std.proofs.Common.{true, map, ap, ◌∙◌, subst}
 use Rattle.std.specs.List.{list_any}
 use Rattle.elf32_read.specs.Segments.{segment_of}
 use Rattle.exec_map.specs.Contents.{AreSharedRanges}
-use Rattle.exec_map.specs.Index.{IsIndex, shares}
-use Rattle.exec_map.proofs.Sharing.{shared_ranges_are}
+use Rattle.exec_map.specs.Index.{IsIndex, has_line}
+use Rattle.exec_map.proofs.Sharing.{ranges_are}
 use Rattle.exec_map.proofs.Program.shared_ranges.Goals as goal
 
 pub returns : goal.returns
 returns c =
     let h : IsIndex c.self.inside.elf.now (map segment_of c.self.inside.segments.items) c.self.inside.code.items = c.self.invariant.0 in
-    rw c.new.ensures
-    (subst (λ e. AreSharedRanges e c.in_ok-shared_ranges.field-0.items) c.self.view_is
-    (shared_ranges_are c.self.inside.elf.now (map segment_of c.self.inside.segments.items) c.in_ok-shared_ranges.field-0.items h.placed h.permutation h.searchable c.self.invariant.1
-    (λ line. c.in_ok-shared_ranges.ensures.lines line ∙ ap (λ xs. list_any (shares line) (map segment_of xs)) c.deref.ensures.value) c.in_ok-shared_ranges.ensures.apart))
+    record {
+      ranges = rw c.new.ensures
+          (subst (λ e. AreSharedRanges e c.in_ok-ranges_of.field-0.items) c.self.view_is
+          (ranges_are true c.self.inside.elf.now (map segment_of c.self.inside.segments.items) c.in_ok-ranges_of.field-0.items h.placed h.permutation h.searchable c.self.invariant.1
+          (λ line. c.in_ok-ranges_of.ensures.lines line ∙ ap (λ xs. list_any (has_line true line) (map segment_of xs)) c.deref.ensures.value) c.in_ok-ranges_of.ensures.apart));
+    }
