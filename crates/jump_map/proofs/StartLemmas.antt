@@ -1,17 +1,20 @@
 -- The first word of each place in the words of a plan.
-use Rattle.std.proofs.Common.{◌≡◌, ℕ, ◌+◌, ◌*◌, ◌≤◌, ◌==◌, Bool, true, false, cond, List, [], ◌∷◌, ◌++◌, length, map, Option, Some, None, refl, sym, ap, ◌∙◌, arith}
+use Rattle.std.proofs.Common.{◌≡◌, ℕ, ℤ, ◌+◌, ◌*◌, ◌≤◌, ◌==◌, Bool, true, false, cond, List, [], ◌∷◌, ◌++◌, length, map, Option, Some, None, refl, sym, ap, ◌∙◌, arith}
 use Rattle.std.specs.Prelude.{position, ◌&&◌}
 use Rattle.std.specs.List.{position_from}
 use Rattle.std.specs.Option.{option_map_or}
 use Rattle.std.proofs.lemmas.Iterator.Adapters.{position_from-zero}
 use Rattle.rv32_decode.specs.declared.Instr.{Instr}
 use Rattle.rv32_decode.specs.declared.Cond.{Cond}
+use Rattle.rv32_decode.specs.declared.LoadKind.{LoadKind}
 use Rattle.rv32_decode.specs.declared.Instr.TheVariants.{Lui, Auipc, Jal, Jalr, Branch, Load, Store, OpImm, ShiftImm, Op, Fence, Ecall, Ebreak, Lr, Sc, Amo, Illegal}
 use Rattle.rv32_program.specs.Program.{Program}
 use Rattle.rv32_program.specs.Targets.{offset_address}
 use Rattle.templates.specs.declared.places.Part.TheVariants.{Single}
 use Rattle.templates.specs.declared.plans.PlanEntry.{PlanEntry}
-use Rattle.templates.specs.Sequences.{SequenceItem, items_of, spill_by, jump_sequence, branch_sequence, is_multiple_of_four}
+use Rattle.templates.specs.declared.plans.Scratches.{Scratches}
+use Rattle.templates.specs.Plans.{looks_at_value}
+use Rattle.templates.specs.Sequences.{SequenceItem, items_of, place_items, poll_first, load_sequence, spill_by, jump_sequence, branch_sequence, is_multiple_of_four}
 use Rattle.jump_map.specs.Image.{Cell, ImageWord, PlacedItem, read_cell, placed_items, entry_items, plan_items, words_at, image_words, head_of, address_of_word}
 use Rattle.jump_map.specs.Maps.{is_first_of, begins_at}
 use Rattle.jump_map.specs.declared.heads.PlaceStart.{PlaceStart}
@@ -39,27 +42,37 @@ branch_first : (b : Bool) (c : Cond) (rs1 rs2 target : ℕ) → HasFirst (branch
 branch_first true c rs1 rs2 target = more_first _ _
 branch_first false c rs1 rs2 target = more_first _ _
 
+load_first : (by_value : Bool) (x : Scratches) (k : LoadKind) (rd rs1 : ℕ) (imm : ℤ) → HasFirst (load_sequence by_value x k rd rs1 imm)
+load_first true x k rd rs1 imm = spill_first x.s.spilled 0 x.s.register _ (more_first _ _)
+load_first false x k rd rs1 imm = spill_first x.s.spilled 0 x.s.register _ (spill_first x.t.spilled 1 x.t.register _ (more_first _ _))
+
+place_first : (a : ℕ) (x : Scratches) (o : Option Instr) → HasFirst (place_items a x o)
+place_first a x None = more_first _ _
+place_first a x (Some (Lui rd upper)) = more_first _ _
+place_first a x (Some (Auipc rd upper)) = more_first _ _
+place_first a x (Some (Jal rd offset)) = jump_first (is_multiple_of_four (offset_address a offset)) _ _ _
+place_first a x (Some (Jalr rd rs1 imm)) = more_first _ _
+place_first a x (Some (Branch c rs1 rs2 offset)) = branch_first (is_multiple_of_four (offset_address a offset)) _ _ _ _
+place_first a x (Some (Load k rd rs1 imm)) = load_first (looks_at_value k rd rs1) x k rd rs1 imm
+place_first a x (Some (Store w rs1 rs2 imm)) =
+    spill_first x.s.spilled 0 x.s.register _ (spill_first x.t.spilled 1 x.t.register _ (more_first _ _))
+place_first a x (Some (OpImm o rd rs1 imm)) = more_first _ _
+place_first a x (Some (ShiftImm o rd rs1 amount)) = more_first _ _
+place_first a x (Some (Op o rd rs1 rs2)) = more_first _ _
+place_first a x (Some (Fence rd rs1 bits)) = more_first _ _
+place_first a x (Some Ecall) = more_first _ _
+place_first a x (Some Ebreak) = more_first _ _
+place_first a x (Some (Lr rd rs1 aq rl)) = more_first _ _
+place_first a x (Some (Sc rd rs1 rs2 aq rl)) = more_first _ _
+place_first a x (Some (Amo o rd rs1 rs2 aq rl)) = more_first _ _
+place_first a x (Some (Illegal word)) = more_first _ _
+
+poll_first_first : (b : Bool) (items : List SequenceItem) → HasFirst items → HasFirst (poll_first b items)
+poll_first_first true items h = more_first _ items
+poll_first_first false items h = h
+
 has_first : (e : PlanEntry) (o : Option Instr) → HasFirst (items_of e o)
-has_first e None = more_first _ _
-has_first e (Some (Lui rd upper)) = more_first _ _
-has_first e (Some (Auipc rd upper)) = more_first _ _
-has_first e (Some (Jal rd offset)) = jump_first (is_multiple_of_four (offset_address e.address offset)) _ _ _
-has_first e (Some (Jalr rd rs1 imm)) = more_first _ _
-has_first e (Some (Branch c rs1 rs2 offset)) = branch_first (is_multiple_of_four (offset_address e.address offset)) _ _ _ _
-has_first e (Some (Load k rd rs1 imm)) =
-    spill_first e.single.s.spilled 0 e.single.s.register _ (spill_first e.single.t.spilled 1 e.single.t.register _ (more_first _ _))
-has_first e (Some (Store w rs1 rs2 imm)) =
-    spill_first e.single.s.spilled 0 e.single.s.register _ (spill_first e.single.t.spilled 1 e.single.t.register _ (more_first _ _))
-has_first e (Some (OpImm o rd rs1 imm)) = more_first _ _
-has_first e (Some (ShiftImm o rd rs1 amount)) = more_first _ _
-has_first e (Some (Op o rd rs1 rs2)) = more_first _ _
-has_first e (Some (Fence rd rs1 bits)) = more_first _ _
-has_first e (Some Ecall) = more_first _ _
-has_first e (Some Ebreak) = more_first _ _
-has_first e (Some (Lr rd rs1 aq rl)) = more_first _ _
-has_first e (Some (Sc rd rs1 rs2 aq rl)) = more_first _ _
-has_first e (Some (Amo o rd rs1 rs2 aq rl)) = more_first _ _
-has_first e (Some (Illegal word)) = more_first _ _
+has_first e o = poll_first_first e.polls (place_items e.address e.single o) (place_first e.address e.single o)
 
 -- the word is the first of the place's single sequence
 abbrev begins : ℕ → ImageWord → Bool

@@ -3,16 +3,19 @@
 use Rattle.std.specs.Prelude.{◌≡◌, ℕ, List, Option, Some, None, MatchOption, slice_get}
 use Rattle.rv32_decode.specs.Fields.{unsigned}
 use Rattle.templates.specs.declared.runtime_words.RtWord.{RtWord}
-use Rattle.templates.specs.declared.runtime_words.RtWord.TheVariants.{Native, Xjalr}
+use Rattle.templates.specs.declared.runtime_words.RtWord.TheVariants.{Native, Poll, Xjalr}
 use Rattle.micro_op.specs.declared.micro_op.MicroOp.{MicroOp}
 use Rattle.micro_op.specs.declared.MicroKind.TheVariants.{Rare}
-use Rattle.micro_op.specs.Micro.{IsMicroOf, IsEntryOf}
+use Rattle.rv32_step.specs.declared.Demand.TheVariants.{Continues}
+use Rattle.micro_op.specs.Micro.{IsMicroOf, IsEntryOf, Meets, meaning_of}
 use Rattle.jump_map.specs.Image.{Cell, image_base, address_of_word, read_cell}
 
--- the micro-op is that of a word at an address: of a native instruction, or of an indirect jump;
--- every other word is rare
+-- the micro-op is that of a word at an address: of a native instruction, of a poll, which does
+-- nothing, or of an indirect jump; every other word is rare
 abbrev pub IsMicroWord : ℕ → Option RtWord → MicroOp → Type 0
 IsMicroWord address (Some (Native i)) m = IsMicroOf image_base address i m
+IsMicroWord address (Some Poll) m =
+    (registers : ℕ → ℕ) → Meets (meaning_of image_base m registers) Continues
 IsMicroWord address (Some (Xjalr rd rs1 imm)) m =
     IsEntryOf image_base rd rs1 (unsigned 32 imm) m
 IsMicroWord address word m = m.kind ≡ Rare

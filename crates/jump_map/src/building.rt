@@ -104,7 +104,7 @@ fn write_sequence(
     items: &[Item],
     heads: &Heads,
 ) -> Result<(), AllocError>
-    requires short { length items.now ≤ 13 }
+    requires short { length items.now ≤ 14 }
     requires room { length cells.old + length items.now ≤ most_words }
     ensures words { OnOk result (AddsSequence heads.now address items.now cells.old cells.new) }
     ensures count { OnOk result (length cells.new ≡ length cells.old + length items.now) }

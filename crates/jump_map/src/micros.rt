@@ -7,9 +7,19 @@ ghost use Rattle.jump_map.specs.Decoding.{HasMicros};
 
 use crate::cells::Cells;
 use crate::image::IMAGE_BASE;
-use micro_op::MicroOp;
+use micro_op::{MicroKind, MicroOp};
+use rv32_decode::Reg;
 use std::alloc::{AllocError, Global};
 use templates::RtWord;
+
+/// What a poll does.
+const NOTHING: MicroOp = MicroOp {
+    kind: MicroKind::Nothing,
+    rd: Reg::ZERO,
+    rs1: Reg::ZERO,
+    rs2: Reg::ZERO,
+    imm: 0,
+};
 
 /// The micro-op of each word.
 pub(crate) fn decode_cells(alloc: Global, cells: &Cells) -> Result<Vec<MicroOp>, AllocError>
@@ -50,6 +60,7 @@ fn micro_of_word(word: &RtWord, address: u32) -> MicroOp
 {
     match word {
         RtWord::Native(i) => MicroOp::of(*i, address, IMAGE_BASE),
+        RtWord::Poll => NOTHING,
         RtWord::Xjalr { rd, rs1, imm } => MicroOp::entry(*rd, *rs1, *imm),
         _ => MicroOp::RARE,
     }

@@ -6,11 +6,11 @@ use Rattle.rv32_decode.specs.declared.Cond.{Cond}
 use Rattle.rv32_decode.specs.declared.LoadKind.{LoadKind}
 use Rattle.rv32_decode.specs.declared.Width.{Width}
 use Rattle.templates.specs.declared.commits.CommitKind.{CommitKind}
-use Rattle.templates.specs.declared.commits.CommitKind.TheVariants.{Never, Always}
+use Rattle.templates.specs.declared.commits.CommitKind.TheVariants.{Never, Always, IfNotFlag}
 use Rattle.templates.specs.declared.plans.Scratches.{Scratches}
-use Rattle.templates.specs.Sequences.{ItemWord, SequenceItem, spill_by, reload_by, reloads, load_sequence, store_sequence, branch_sequence, jump_sequence}
+use Rattle.templates.specs.Sequences.{ItemWord, SequenceItem, spill_by, reload_by, reloads, flag_load_sequence, state_load_sequence, store_sequence, branch_sequence, jump_sequence}
 use Rattle.templates.specs.Counting.{spilled_count}
-use Rattle.templates.specs.Committing.{kind_at, CommitsAt}
+use Rattle.templates.specs.Committing.{kind_at, CommitsAt, CommitsTwice}
 
 -- no word commits
 record Quiet (items : List SequenceItem) : Type 0 where
@@ -73,7 +73,7 @@ spills_before x rest n h =
     (spill_before x.s.spilled 0 x.s.register _ (n + cond x.t.spilled 1 0) Always (spill_before x.t.spilled 1 x.t.register rest n Always h))
 
 pub load_commits : (x : Scratches) (kind : LoadKind) (rd rs1 : ℕ) (imm : ℤ)
-    → CommitsAt (load_sequence x kind rd rs1 imm) (8 + spilled_count x) Always
+    → CommitsAt (state_load_sequence x kind rd rs1 imm) (8 + spilled_count x) Always
 load_commits x kind rd rs1 imm =
     spills_before x _ 8 (behind (behind (behind (behind (behind (behind (behind (behind (first (quiet_reloads x))))))))))
 
@@ -81,6 +81,48 @@ pub store_commits : (x : Scratches) (w : Width) (rs1 rs2 : ℕ) (imm : ℤ)
     → CommitsAt (store_sequence x w rs1 rs2 imm) (7 + spilled_count x) Always
 store_commits x w rs1 rs2 imm =
     spills_before x _ 7 (behind (behind (behind (behind (behind (behind (behind (first (quiet_reloads x)))))))))
+
+-- two words that commit, the first where its value isn't the flag
+later : (k n : ℕ) → (if k == n then Always else Never)
+    ≡ (if suc k == 0 then IfNotFlag else (if suc k == n + 1 then Always else Never))
+later k n = grind (arith, nat_tests)
+
+past_both : (n m : ℕ) → Never ≡ (if 0 == n + 1 then IfNotFlag else (if 0 == m + 1 then Always else Never))
+past_both n m = grind (arith, nat_tests)
+
+shift_both : (k n m : ℕ) → (if k == n then IfNotFlag else (if k == m then Always else Never))
+    ≡ (if suc k == n + 1 then IfNotFlag else (if suc k == m + 1 then Always else Never))
+shift_both k n m = grind (arith, nat_tests)
+
+first_of_two : {w : ItemWord} {rest : List SequenceItem} {n : ℕ} → CommitsAt rest n Always
+    → CommitsTwice (record { what = w; commit = IfNotFlag } ∷ rest) 0 (n + 1)
+first_of_two {w} {rest} {n} h = record { each = go }
+  where
+    go : (k : ℕ) → kind_at (record { what = w; commit = IfNotFlag } ∷ rest) k ≡ (if k == 0 then IfNotFlag else (if k == n + 1 then Always else Never))
+    go zero = refl
+    go (suc k) = h.each k ∙ later k n
+
+behind_two : {w : ItemWord} {rest : List SequenceItem} {n m : ℕ} → CommitsTwice rest n m
+    → CommitsTwice (record { what = w; commit = Never } ∷ rest) (n + 1) (m + 1)
+behind_two {w} {rest} {n} {m} h = record { each = go }
+  where
+    go : (k : ℕ) → kind_at (record { what = w; commit = Never } ∷ rest) k ≡ (if k == n + 1 then IfNotFlag else (if k == m + 1 then Always else Never))
+    go zero = past_both n m
+    go (suc k) = h.each k ∙ shift_both k n m
+
+spill_before_two : (b : Bool) (i r : ℕ) (rest : List SequenceItem) (n m : ℕ)
+    → CommitsTwice rest n m → CommitsTwice (spill_by b i r rest) (n + cond b 1 0) (m + cond b 1 0)
+spill_before_two true i r rest n m h = behind_two h
+spill_before_two false i r rest n m h =
+    let e : n ≡ n + 0 = omega arith in
+    let f : m ≡ m + 0 = omega arith in
+    subst (λ i. CommitsTwice rest i (m + 0)) e (subst (λ j. CommitsTwice rest n j) f h)
+
+pub flag_load_commits : (x : Scratches) (rd rs1 : ℕ) (imm : ℤ)
+    → CommitsTwice (flag_load_sequence x rd rs1 imm) (2 + cond x.s.spilled 1 0) (6 + cond x.s.spilled 1 0)
+flag_load_commits x rd rs1 imm =
+    spill_before_two x.s.spilled 0 x.s.register _ 2 6
+    (behind_two (behind_two (first_of_two (behind (behind (behind (first (quiet_reload x.s.spilled 0 x.s.register [] quiet_none))))))))
 
 pub one_commits : (w : ItemWord) (kind : CommitKind) → CommitsAt (record { what = w; commit = kind } ∷ []) 0 kind
 one_commits w kind = first quiet_none

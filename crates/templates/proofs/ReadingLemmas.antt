@@ -8,8 +8,12 @@ use Rattle.rv32_decode.specs.Rows.{instruction_of}
 use Rattle.rv32_decode.specs.declared.Instr.{Instr}
 use Rattle.rv32_decode.specs.declared.Width.{Width}
 use Rattle.rv32_decode.proofs.Custom.{custom_0-None, custom_1-None}
-use Rattle.templates.specs.declared.runtime_words.RtWord.TheVariants.{Native, MissR, MissW, Xjalr, Call, TrapFetch, TrapOff, TrapIllegal, TrapEbreak}
+use Rattle.templates.specs.declared.runtime_words.RtWord.TheVariants.{Native, MissR, MissW, Xjalr, Poll, Call, TrapFetch, TrapOff, TrapIllegal, TrapEbreak}
 use Rattle.templates.specs.RuntimeWords.{read_word, custom_0, custom_1, width_of_log}
+
+pub reads_poll : read_word 0x200b ≡ Some Poll
+unfolding read_word
+reads_poll = refl
 
 pub reads_call : read_word 0x300b ≡ Some Call
 unfolding read_word
@@ -74,5 +78,7 @@ reads_miss_w w rd rs1 imm width e f d r i log =
 pub reads_xjalr : (w rd rs1 : ℕ) (imm : ℤ) → field w 0 7 ≡ 0x0b → field w 12 3 ≡ 4 → field w 7 5 ≡ rd → field w 15 5 ≡ rs1 → imm_i w ≡ imm
     → read_word w ≡ Some (Xjalr rd rs1 imm)
 reads_xjalr w rd rs1 imm e f d r i =
-    reads_custom_0 w 4 e f ∙ ap (λ b. cond b (Some Call) (Some (Xjalr (field w 7 5) (field w 15 5) (imm_i w)))) (unequal w 0x300b (λ h. let g : field w 12 3 ≡ 3 = ap (λ x. field x 12 3) h in omega (arith, f, g)))
+    reads_custom_0 w 4 e f
+    ∙ ap (λ b. cond b (Some Poll) (cond (eqb w 0x300b) (Some Call) (Some (Xjalr (field w 7 5) (field w 15 5) (imm_i w))))) (unequal w 0x200b (λ h. let g : field w 12 3 ≡ 2 = ap (λ x. field x 12 3) h in omega (arith, f, g)))
+    ∙ ap (λ b. cond b (Some Call) (Some (Xjalr (field w 7 5) (field w 15 5) (imm_i w)))) (unequal w 0x300b (λ h. let g : field w 12 3 ≡ 3 = ap (λ x. field x 12 3) h in omega (arith, f, g)))
     ∙ ap (λ n. Some (Xjalr n (field w 15 5) (imm_i w))) d ∙ ap (λ n. Some (Xjalr rd n (imm_i w))) r ∙ ap (λ n. Some (Xjalr rd rs1 n)) i

@@ -9,3 +9,4 @@ pub mod Writing
 pub mod Committing
 pub mod Counting
 pub mod Candidates
+pub mod Numbers

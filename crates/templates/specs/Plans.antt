@@ -1,14 +1,17 @@
 -- A plan says of each place which template serves it, and which scratch registers its sequences
 -- take; an admissible one is what rewritten code may rest on.
-use Rattle.std.specs.Prelude.{◌≡◌, ◌≢◌, ℕ, ◌+◌, ◌<◌, ◌≤◌, false, if◌then◌else◌, is_some, List, [], ◌∷◌, Option, Some, None, map, Contains}
+use Rattle.std.specs.Prelude.{◌≡◌, ◌≢◌, ℕ, zero, suc, ◌+◌, ◌<◌, ◌≤◌, Bool, true, false, not, ◌||◌, ◌==◌, nat_le, IsTrue, if◌then◌else◌, is_some, List, [], ◌∷◌, Option, Some, None, map, Contains}
+use Rattle.std.specs.Option.{option_map_or}
 use Rattle.rv32_decode.specs.Registers.{destination}
+use Rattle.rv32_decode.specs.declared.LoadKind.{LoadKind}
+use Rattle.rv32_decode.specs.declared.LoadKind.TheVariants.{Word}
 use Rattle.rv32_decode.specs.declared.Instr.{Instr}
 use Rattle.rv32_decode.specs.declared.Instr.TheVariants.{Lui, Auipc, Jal, Jalr, Branch as BranchTo, Load, Store as StoreTo, OpImm, ShiftImm, Op, Fence, Ecall, Ebreak, Lr, Sc, Amo, Illegal}
 use Rattle.rv32_program.specs.Program.{Program}
 use Rattle.rv32_program.specs.Targets.{aligned_target}
 use Rattle.rv32_program.specs.Liveness.{Uses, IsDeadAfter}
 use Rattle.templates.specs.declared.plans.Template.{Template}
-use Rattle.templates.specs.declared.plans.Template.TheVariants.{Plain, Const, Branch, BranchBad, Jump, JumpBad, Indirect, Call, Trap, Stop, StateLoad, Store, StoreCond}
+use Rattle.templates.specs.declared.plans.Template.TheVariants.{Plain, Const, Branch, BranchBad, Jump, JumpBad, Indirect, Call, Trap, Stop, FlagLoad, StateLoad, Store, StoreCond}
 use Rattle.templates.specs.declared.plans.Scratch.{Scratch}
 use Rattle.templates.specs.declared.plans.Scratches.{Scratches}
 use Rattle.templates.specs.declared.plans.PlanEntry.{PlanEntry}
@@ -18,6 +21,11 @@ use Rattle.templates.specs.Places.{IsPlace}
 abbrev pub by_target : Instr → ℕ → Template → Template → Template
 by_target i a good bad = if is_some (aligned_target i a) then good else bad
 
+-- a load looks at its value where that is a word in a register of its own: neither x0 nor the base
+abbrev pub looks_at_value : LoadKind → ℕ → ℕ → Bool
+looks_at_value Word rd rs1 = not ((rd == 0) || (rd == rs1))
+looks_at_value k rd rs1 = false
+
 -- the template of an instruction at a
 abbrev pub template_of : Instr → ℕ → Template
 template_of (Lui rd upper) a = Plain
@@ -26,7 +34,7 @@ template_of (Jal rd offset) a = by_target (Jal rd offset) a Jump JumpBad
 template_of (Jalr rd rs1 imm) a = Indirect
 template_of (BranchTo c rs1 rs2 offset) a =
     by_target (BranchTo c rs1 rs2 offset) a Branch BranchBad
-template_of (Load k rd rs1 imm) a = StateLoad
+template_of (Load k rd rs1 imm) a = if looks_at_value k rd rs1 then FlagLoad else StateLoad
 template_of (StoreTo w rs1 rs2 imm) a = Store
 template_of (OpImm o rd rs1 imm) a = Plain
 template_of (ShiftImm o rd rs1 amount) a = Plain
@@ -59,6 +67,20 @@ pub record IsScratch (code : ℕ → Option Instr) (a : ℕ) (i : Instr) (x : Sc
   pub undefined : destination i ≡ Some x.register → ⊥
   pub dead : x.spilled ≡ false → IsDeadAfter code x.register a i
 
+-- how many scratch registers the single sequence of a template takes
+abbrev pub scratch_count : Template → ℕ
+scratch_count FlagLoad = 1
+scratch_count StateLoad = 2
+scratch_count Store = 2
+scratch_count template = 0
+
+-- one scratch register, s
+pub record HasOneScratch (code : ℕ → Option Instr) (a : ℕ) (i : Instr) (x : Scratches) : Type 0
+  where
+    pub s : IsScratch code a i x.s
+    pub t : x.t ≡ no_scratch
+    pub u : x.u ≡ no_scratch
+
 -- two scratch registers, s and t
 pub record HasTwoScratches (code : ℕ → Option Instr) (a : ℕ) (i : Instr) (x : Scratches) : Type 0
   where
@@ -67,21 +89,43 @@ pub record HasTwoScratches (code : ℕ → Option Instr) (a : ℕ) (i : Instr) (
     pub apart : x.s.register ≢ x.t.register
     pub u : x.u ≡ no_scratch
 
+-- so many scratch registers of the instruction at a, and no more
+abbrev pub HasSoMany : ℕ → (ℕ → Option Instr) → ℕ → Instr → Scratches → Type 0
+HasSoMany zero code a i x = x ≡ no_scratches
+HasSoMany (suc zero) code a i x = HasOneScratch code a i x
+HasSoMany (suc (suc n)) code a i x = HasTwoScratches code a i x
+
 -- what the template of an instruction at a asks of the scratch registers of its single sequence
 abbrev pub HasScratches : Template → (ℕ → Option Instr) → ℕ → Instr → Scratches → Type 0
-HasScratches StateLoad code a i x = HasTwoScratches code a i x
-HasScratches Store code a i x = HasTwoScratches code a i x
-HasScratches template code a i x = x ≡ no_scratches
+HasScratches template code a i x = HasSoMany (scratch_count template) code a i x
 
 abbrev pub HasScratchesAt : Template → (ℕ → Option Instr) → ℕ → Option Instr → Scratches → Type 0
 HasScratchesAt template code a None x = x ≡ no_scratches
 HasScratchesAt template code a (Some i) x = HasScratches template code a i x
 
--- the entry serves its place. No place polls and no run starts anywhere as yet
+-- a sequence of this template may begin with a poll
+abbrev pub may_poll : Template → Bool
+may_poll Branch = true
+may_poll Jump = true
+may_poll Indirect = true
+may_poll template = false
+
+-- an instruction at a that may close a loop, which has to poll: an indirect jump, or a direct one
+-- that doesn't go forward
+abbrev pub closes_loop : Instr → ℕ → Bool
+closes_loop (Jalr rd rs1 imm) a = true
+closes_loop i a = option_map_or (λ target. nat_le target a) (aligned_target i a) false
+
+abbrev pub closes_loop_at : ℕ → Option Instr → Bool
+closes_loop_at a None = false
+closes_loop_at a (Some i) = closes_loop i a
+
+-- the entry serves its place. No run starts anywhere as yet
 pub record Serves (code : ℕ → Option Instr) (e : PlanEntry) : Type 0 where
   pub template : e.template ≡ template_at e.address (code e.address)
   pub single : HasScratchesAt e.template code e.address (code e.address) e.single
-  pub polls : e.polls ≡ false
+  pub may_poll : IsTrue e.polls → IsTrue (may_poll e.template)
+  pub polls : IsTrue (closes_loop_at e.address (code e.address)) → IsTrue e.polls
   pub run : e.run ≡ 0
   pub batch : e.batch ≡ no_scratches
 

@@ -7,7 +7,7 @@ use Rattle.rv32_decode.specs.Rows.{instruction_of}
 use Rattle.rv32_decode.specs.declared.Width.{Width}
 use Rattle.rv32_decode.specs.declared.Width.TheVariants.{Byte, Half, Word}
 use Rattle.templates.specs.declared.runtime_words.RtWord.{RtWord}
-use Rattle.templates.specs.declared.runtime_words.RtWord.TheVariants.{Native, MissR, MissW, Call, Xjalr, TrapFetch, TrapOff, TrapIllegal, TrapEbreak}
+use Rattle.templates.specs.declared.runtime_words.RtWord.TheVariants.{Native, MissR, MissW, Poll, Call, Xjalr, TrapFetch, TrapOff, TrapIllegal, TrapEbreak}
 
 -- the width of which this is the logarithm
 abbrev pub width_of_log : ℕ → Option Width
@@ -24,15 +24,16 @@ abbrev pub miss_w_of : ℕ → Option RtWord
 miss_w_of word =
     option_map (λ w. MissW w (field word 15 5) (imm_i word)) (width_of_log (field word 7 5))
 
--- the runtime words of custom-0, by funct3: miss.r 0, miss.w 1, call 3, xjalr 4
+-- the runtime words of custom-0, by funct3: miss.r 0, miss.w 1, poll 2, call 3, xjalr 4
 abbrev pub custom_0 : ℕ → ℕ → Option RtWord
 custom_0 word funct3 =
     if funct3 == 0 then miss_r_of word
     else (if funct3 == 1 then miss_w_of word
+    else (if word == 0x200b then Some Poll
     else (if word == 0x300b then Some Call
     else (if funct3 == 4
     then Some (Xjalr (field word 7 5) (field word 15 5) (imm_i word))
-    else None)))
+    else None))))
 
 -- the runtime words of custom-1, whose other fields are zero
 abbrev pub custom_1 : ℕ → Option RtWord

@@ -15,12 +15,13 @@ use Rattle.rv32_decode.specs.declared.Instr.{Instr}
 use Rattle.rv32_decode.specs.declared.Instr.TheVariants.{Lui, Auipc, Jal, Jalr, Branch, Load, Store, OpImm, ShiftImm, Op, Ecall, Ebreak, Illegal}
 use Rattle.rv32_program.specs.Targets.{offset_address}
 use Rattle.templates.specs.declared.runtime_words.RtWord.{RtWord}
-use Rattle.templates.specs.declared.runtime_words.RtWord.TheVariants.{Native, MissR, MissW, Call, Xjalr, TrapFetch, TrapIllegal, TrapEbreak}
+use Rattle.templates.specs.declared.runtime_words.RtWord.TheVariants.{Native, MissR, MissW, Poll, Call, Xjalr, TrapFetch, TrapIllegal, TrapEbreak}
 use Rattle.templates.specs.declared.commits.CommitKind.{CommitKind}
-use Rattle.templates.specs.declared.commits.CommitKind.TheVariants.{Never, Always, IfNoWait}
+use Rattle.templates.specs.declared.commits.CommitKind.TheVariants.{Never, Always, IfNotFlag, IfNoWait}
 use Rattle.templates.specs.declared.plans.Scratch.{Scratch}
 use Rattle.templates.specs.declared.plans.Scratches.{Scratches}
 use Rattle.templates.specs.declared.plans.PlanEntry.{PlanEntry}
+use Rattle.templates.specs.Plans.{looks_at_value}
 
 -- a word of a sequence: a word that is executed, or a jump to a place, there to the head of its
 -- sequences or to its single sequence
@@ -110,15 +111,39 @@ state_look x rs1 imm rest =
     (own (Op op.Add x.s.register x.s.register x.t.register)
     (own (Load load_kind.ByteU x.s.register x.s.register (pos 0)) rest))))
 
+-- the flag word, which a node's copy holds wherever it may not be read
+abbrev pub flag_word : ℕ
+flag_word = 0xffffff03
+
+-- the flag check of Shasta (Scales, Gharachorloo and Thekkath, ASPLOS 1996): a load that looks at its
+-- value, which is the flag word where the line may not be read. Only then, and for an address of the
+-- upper half, the line's state is looked at, and the word loaded again
+abbrev pub flag_load_sequence : Scratches → ℕ → ℕ → ℤ → List SequenceItem
+flag_load_sequence x rd rs1 imm =
+    spill 0 x.s
+    (own (OpImm imm_op.Add x.s.register rs1 imm)
+    (own (Branch Lt x.s.register 0 (pos 16))
+    (with_word IfNotFlag (Native (Load load_kind.Word rd rs1 imm))
+    (own (OpImm imm_op.Add x.s.register 0 (lower_part flag_word))
+    (own (Branch Ne rd x.s.register (pos 12))
+    (checking (MissR Word rs1 imm)
+    (committing (Native (Load load_kind.Word rd rs1 imm))
+    (reload 0 x.s []))))))))
+
 -- a load whose line's state is tested: the second bit of the state byte is set where the line isn't
 -- readable
-abbrev pub load_sequence : Scratches → LoadKind → ℕ → ℕ → ℤ → List SequenceItem
-load_sequence x k rd rs1 imm =
+abbrev pub state_load_sequence : Scratches → LoadKind → ℕ → ℕ → ℤ → List SequenceItem
+state_load_sequence x k rd rs1 imm =
     spills x (state_look x rs1 imm
     (own (OpImm imm_op.And x.s.register x.s.register (pos 2))
     (own (Branch Eq x.s.register 0 (pos 8))
     (checking (MissR (width_of k) rs1 imm)
     (committing (Native (Load k rd rs1 imm)) (reloads x))))))
+
+-- a load, by its value or its line's state
+abbrev pub load_sequence : Bool → Scratches → LoadKind → ℕ → ℕ → ℤ → List SequenceItem
+load_sequence true x k rd rs1 imm = flag_load_sequence x rd rs1 imm
+load_sequence false x k rd rs1 imm = state_load_sequence x k rd rs1 imm
 
 -- a store whose line's state is tested: the state byte is 0 where the line is writable
 abbrev pub store_sequence : Scratches → Width → ℕ → ℕ → ℤ → List SequenceItem
@@ -152,14 +177,24 @@ instruction_items a x (Jalr rd rs1 imm) = committing (Xjalr rd rs1 imm) []
 instruction_items a x (Branch c rs1 rs2 offset) =
     branch_sequence (is_multiple_of_four (offset_address a offset)) c rs1 rs2
     (offset_address a offset)
-instruction_items a x (Load k rd rs1 imm) = load_sequence x k rd rs1 imm
+instruction_items a x (Load k rd rs1 imm) =
+    load_sequence (looks_at_value k rd rs1) x k rd rs1 imm
 instruction_items a x (Store w rs1 rs2 imm) = store_sequence x w rs1 rs2 imm
 instruction_items a x Ecall = with_word IfNoWait Call []
 instruction_items a x Ebreak = committing TrapEbreak []
 instruction_items a x (Illegal word) = committing TrapIllegal []
 instruction_items a x i = committing (Native i) []
 
--- the single sequence of a place: of a stop, or of a code word's instruction
+-- that of a place: of a stop, or of a code word's instruction
+abbrev pub place_items : ℕ → Scratches → Option Instr → List SequenceItem
+place_items a x None = committing TrapFetch []
+place_items a x (Some i) = instruction_items a x i
+
+-- a poll first, where there is one
+abbrev pub poll_first : Bool → List SequenceItem → List SequenceItem
+poll_first true rest = checking Poll rest
+poll_first false rest = rest
+
+-- the single sequence of a place, by its plan's entry
 abbrev pub items_of : PlanEntry → Option Instr → List SequenceItem
-items_of e None = committing TrapFetch []
-items_of e (Some i) = instruction_items e.address e.single i
+items_of e code = poll_first e.polls (place_items e.address e.single code)

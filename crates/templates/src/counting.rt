@@ -1,20 +1,29 @@
 //! How many words a sequence has.
 
 ghost use Rattle.std.specs.Prelude.{◌≡◌, ◌+◌, ◌%◌, ◌≤◌, ℕ, length};
-ghost use Rattle.templates.specs.Counting.{spilled_count, IsJumpLength, IsBranchLength};
-ghost use Rattle.templates.specs.Sequences.{items_of, instruction_items};
+ghost use Rattle.templates.specs.Counting.{spilled_count, IsLoadLength, IsJumpLength, IsBranchLength};
+ghost use Rattle.templates.specs.Sequences.{items_of, place_items, instruction_items};
 
-use crate::plans::{PlanEntry, Scratches};
-use rv32_decode::Instr;
+use crate::plans::{PlanEntry, Scratches, looks_at_value};
+use rv32_decode::{Instr, LoadKind, Reg};
 
 /// The number of words of a place's single sequence.
 pub fn sequence_length(entry: &PlanEntry, code: Option<Instr>) -> u8
     ensures value { result ≡ length (items_of entry.now code) }
+    ensures small { result ≤ 14 }
+{
+    let length = place_length(entry.address, &entry.single, code);
+    if entry.polls { 1 + length } else { length }
+}
+
+/// The number of words of a place's single sequence, but for the poll.
+fn place_length(address: u32, scratches: &Scratches, code: Option<Instr>) -> u8
+    ensures value { result ≡ length (place_items address scratches.now code) }
     ensures small { result ≤ 13 }
 {
     match code {
         None => 1,
-        Some(i) => instruction_length(entry.address, &entry.single, &i),
+        Some(i) => instruction_length(address, scratches, &i),
     }
 }
 
@@ -27,9 +36,21 @@ fn instruction_length(address: u32, scratches: &Scratches, i: &Instr) -> u8
         Instr::Auipc { .. } => 2,
         Instr::Jal { offset, .. } => jump_length(address.wrapping_add(offset.word())),
         Instr::Branch { offset, .. } => branch_length(address.wrapping_add(offset.word())),
-        Instr::Load { .. } => 9 + 2 * spilled_count(scratches),
+        Instr::Load { kind, rd, rs1, .. } => load_length(scratches, *kind, *rd, *rs1),
         Instr::Store { .. } => 8 + 2 * spilled_count(scratches),
         _ => 1,
+    }
+}
+
+/// The number of words of a load's sequence.
+fn load_length(scratches: &Scratches, kind: LoadKind, rd: Reg, rs1: Reg) -> u8
+    ensures value { IsLoadLength scratches.now kind rd rs1 result }
+    ensures small { result ≤ 13 }
+{
+    if looks_at_value(kind, rd, rs1) {
+        7 + 2 * u8::from(scratches.s.spilled)
+    } else {
+        9 + 2 * spilled_count(scratches)
     }
 }
 

@@ -6,7 +6,8 @@ ghost use Rattle.std.specs.Prelude.{◌≡◌, ℕ};
 pub mod code;
 pub mod commits;
 pub mod counting;
-pub mod places;
+pub mod numbers;
+mod places;
 pub mod plans;
 pub mod runtime_words;
 pub mod sequences;
@@ -16,7 +17,9 @@ pub use code::{Code, CodeWord};
 pub use commits::{CommitKind, commit_at};
 pub use counting::sequence_length;
 pub use places::{Part, Place, list_places};
-pub use plans::{Plan, PlanEntry, Scratch, Scratches, Template, template_of};
+pub use plans::{
+    Plan, PlanEntry, Scratch, Scratches, Template, closes_loop, looks_at_value, template_of,
+};
 pub use runtime_words::{RtWord, read_word};
 pub use sequences::expand;
 pub use words::{Item, Words, encode_word};

@@ -1,10 +1,10 @@
 //! Plans: which template serves each place, and with which scratch registers.
 
-ghost use Rattle.templates.specs.Plans.{template_of, by_target};
-ghost use Rattle.std.specs.Prelude.{◌≡◌, ◌-◌, ◌^◌, ◌<◌, ◌≤◌, ◌++◌, ◌∷◌, [], length, set, slice_get, Some, OnOk, OnErr};
+ghost use Rattle.templates.specs.Plans.{template_of, by_target, looks_at_value, closes_loop};
+ghost use Rattle.std.specs.Prelude.{◌≡◌, ◌-◌, ◌^◌, ◌<◌, ◌≤◌, ◌++◌, ◌∷◌, [], length, set, slice_get, Some, OnOk, OnErr, if◌then◌else◌};
 
 use crate::places::aligned_target;
-use rv32_decode::{Instr, Reg};
+use rv32_decode::{Instr, LoadKind, Reg};
 use std::alloc::{AllocError, Global};
 use std::marker::Model;
 
@@ -150,7 +150,8 @@ pub fn template_of(i: &Instr, address: u32) -> Template
         Instr::Jal { .. } => jump_template(i, address),
         Instr::Jalr { .. } => Template::Indirect,
         Instr::Branch { .. } => branch_template(i, address),
-        Instr::Load { .. } | Instr::Lr { .. } => Template::StateLoad,
+        Instr::Load { kind, rd, rs1, .. } => load_template(*kind, *rd, *rs1),
+        Instr::Lr { .. } => Template::StateLoad,
         Instr::Store { .. } | Instr::Amo { .. } => Template::Store,
         Instr::Sc { .. } => Template::StoreCond,
         Instr::Ecall => Template::Call,
@@ -160,6 +161,40 @@ pub fn template_of(i: &Instr, address: u32) -> Template
         | Instr::ShiftImm { .. }
         | Instr::Op { .. }
         | Instr::Fence { .. } => Template::Plain,
+    }
+}
+
+/// Whether an instruction at an address may close a loop, and so has to poll: an indirect jump, or a
+/// direct one that doesn't go forward.
+pub fn closes_loop(i: &Instr, address: u32) -> bool
+    ensures value { result ≡ closes_loop i.now address }
+{
+    match i {
+        Instr::Jalr { .. } => true,
+        _ => aligned_target(i, address).is_some_and(|target| target <= address),
+    }
+}
+
+/// Whether a load looks at its value before the state byte: it loads a word, into a register that is
+/// neither x0 nor its base.
+pub fn looks_at_value(kind: LoadKind, rd: Reg, rs1: Reg) -> bool
+    ensures value { result ≡ looks_at_value kind rd rs1 }
+{
+    match kind {
+        LoadKind::Word => rd != Reg::ZERO && rd != rs1,
+        _ => false,
+    }
+}
+
+/// The template of a load.
+fn load_template(kind: LoadKind, rd: Reg, rs1: Reg) -> Template
+    ensures value { result ≡
+        (if looks_at_value kind rd rs1 then Template.FlagLoad else Template.StateLoad) }
+{
+    if looks_at_value(kind, rd, rs1) {
+        Template::FlagLoad
+    } else {
+        Template::StateLoad
     }
 }
 

@@ -14,6 +14,9 @@ const CUSTOM_0: u32 = 0x0b;
 /// The major opcode custom-1.
 const CUSTOM_1: u32 = 0x2b;
 
+/// The word of `Poll`.
+pub(crate) const POLL: u32 = 0x200b;
+
 /// The word of `Call`.
 pub(crate) const CALL: u32 = 0x300b;
 
@@ -38,6 +41,8 @@ pub enum RtWord {
     MissR { width: Width, rs1: Reg, imm: Imm12 },
     /// Looks whether the line of rs1 + imm may be written.
     MissW { width: Width, rs1: Reg, imm: Imm12 },
+    /// Does nothing: a place where messages may be taken.
+    Poll,
     /// One step of an environment call.
     Call,
     /// An indirect jump: to rewritten code, with the next original address in rd.
@@ -119,6 +124,7 @@ fn read_custom_0(word: u32) -> Option<RtWord>
             rs1,
             imm,
         }),
+        _ if word == POLL => Some(RtWord::Poll),
         _ if word == CALL => Some(RtWord::Call),
         4 => Some(RtWord::Xjalr { rd, rs1, imm }),
         _ => None,

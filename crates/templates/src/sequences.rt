@@ -2,11 +2,12 @@
 
 ghost use Rattle.std.specs.Prelude.{◌≡◌, ◌+◌, ◌*◌, ◌%◌, ◌^◌, ◌<◌, ◌≤◌, ◌++◌, ◌∷◌, [], Some, map, length, OnOk, OnErr, pos};
 ghost use Rattle.arrayvec.specs.ArrayVec.{array_vec_len};
-ghost use Rattle.templates.specs.Sequences.{upper_part, lower_part, constant, to_head, spill, spills, reload, reloads, state_look, load_sequence, store_sequence, branch_sequence, jump_sequence, is_multiple_of_four, checking, own, inverse, spill_offset, items_of, instruction_items};
+ghost use Rattle.templates.specs.Sequences.{upper_part, lower_part, constant, to_head, spill, spills, reload, reloads, state_look, flag_word, flag_load_sequence, state_load_sequence, load_sequence, store_sequence, branch_sequence, jump_sequence, is_multiple_of_four, checking, own, inverse, spill_offset, items_of, place_items, poll_first, instruction_items};
+ghost use Rattle.templates.specs.Plans.{looks_at_value};
 ghost use Rattle.templates.specs.Expansion.{Appends};
 ghost use Rattle.templates.specs.Writing.{IsWritten, IsLonger, jump_items, branch_items};
 
-use crate::plans::{PlanEntry, Scratch, Scratches};
+use crate::plans::{PlanEntry, Scratch, Scratches, looks_at_value};
 use crate::runtime_words::{RtWord, imm_of_bits};
 use crate::words::{Item, Words, encode_word};
 use arrayvec::ArrayVec;
@@ -16,13 +17,16 @@ use rv32_decode::{
 };
 use std::alloc::AllocError;
 
+/// The flag word, which a node's copy holds wherever it may not be read.
+const FLAG_WORD: u32 = 0xffff_ff03;
+
 /// Appends the single sequence of a place: of a stop, or of a code word's instruction.
 ///
 /// Where memory is lacking, `out` is as before.
 pub fn expand(entry: &PlanEntry, code: Option<Instr>, out: &mut Words) -> Result<(), AllocError>
     ensures ok { OnOk result (Appends out.old out.new (items_of entry.now code)) }
     ensures err { OnErr result (out.new ≡ out.old) }
-    ensures short { length (items_of entry.now code) ≤ 13 }
+    ensures short { length (items_of entry.now code) ≤ 14 }
 {
     let mut sequence = ArrayVec::new();
     push_sequence(&mut sequence, entry, code);
@@ -31,25 +35,29 @@ pub fn expand(entry: &PlanEntry, code: Option<Instr>, out: &mut Words) -> Result
 }
 
 /// Appends the sequence of a place to an empty one.
-fn push_sequence(sequence: &mut ArrayVec<Item, 13>, entry: &PlanEntry, code: Option<Instr>)
+fn push_sequence(sequence: &mut ArrayVec<Item, 14>, entry: &PlanEntry, code: Option<Instr>)
     requires empty { sequence.old.items ≡ [] }
     ensures words { IsWritten sequence.new.items (items_of entry.now code) }
 {
+    if entry.polls {
+        push(sequence, RtWord::Poll);
+    }
     match code {
         None => push(sequence, RtWord::TrapFetch),
         Some(i) => push_instruction(sequence, entry.address, &entry.single, &i),
     }
 }
 
-/// Appends the sequence of an instruction to an empty one.
+/// Appends the sequence of an instruction.
 fn push_instruction(
-    sequence: &mut ArrayVec<Item, 13>,
+    sequence: &mut ArrayVec<Item, 14>,
     address: u32,
     scratches: &Scratches,
     i: &Instr,
 )
-    requires empty { sequence.old.items ≡ [] }
-    ensures words { IsWritten sequence.new.items (instruction_items address scratches.now i.now) }
+    requires room { array_vec_len sequence.old ≤ 1 }
+    ensures words { let items = instruction_items address scratches.now i.now in
+        IsLonger sequence.old.items sequence.new.items items }
 {
     match i {
         Instr::Auipc { rd, upper } => {
@@ -110,17 +118,70 @@ fn push_instruction(
     }
 }
 
-/// Appends a load whose line's state is tested.
+/// Appends a load, by its value or its line's state.
 fn push_load(
-    sequence: &mut ArrayVec<Item, 13>,
+    sequence: &mut ArrayVec<Item, 14>,
     scratches: &Scratches,
     kind: LoadKind,
     rd: Reg,
     rs1: Reg,
     imm: Imm12,
 )
-    requires empty { sequence.old.items ≡ [] }
-    ensures words { IsWritten sequence.new.items (load_sequence scratches.now kind rd rs1 imm) }
+    requires room { array_vec_len sequence.old ≤ 1 }
+    ensures words { let by_value = looks_at_value kind rd rs1 in
+        let items = load_sequence by_value scratches.now kind rd rs1 imm in
+        IsLonger sequence.old.items sequence.new.items items }
+{
+    if looks_at_value(kind, rd, rs1) {
+        push_flag_load(sequence, scratches, rd, rs1, imm);
+    } else {
+        push_state_load(sequence, scratches, kind, rd, rs1, imm);
+    }
+}
+
+/// Appends a load that looks at its value.
+fn push_flag_load(
+    sequence: &mut ArrayVec<Item, 14>,
+    scratches: &Scratches,
+    rd: Reg,
+    rs1: Reg,
+    imm: Imm12,
+)
+    requires room { array_vec_len sequence.old ≤ 1 }
+    ensures words { let items = flag_load_sequence scratches.now rd rs1 imm in
+        IsLonger sequence.old.items sequence.new.items items }
+{
+    let s = scratches.s.register;
+    push_spill(sequence, 0, scratches.s);
+    push_native(sequence, add_immediate(s, rs1, imm));
+    push_native(sequence, branch_by(Cond::Lt, s, Reg::ZERO, 16));
+    push_native(sequence, load_word(rd, rs1, imm));
+    push_native(sequence, add_immediate(s, Reg::ZERO, lower_part(FLAG_WORD)));
+    push_native(sequence, branch_by(Cond::Ne, rd, s, 12));
+    push(
+        sequence,
+        RtWord::MissR {
+            width: Width::Word,
+            rs1,
+            imm,
+        },
+    );
+    push_native(sequence, load_word(rd, rs1, imm));
+    push_reload(sequence, 0, scratches.s);
+}
+
+/// Appends a load whose line's state is tested.
+fn push_state_load(
+    sequence: &mut ArrayVec<Item, 14>,
+    scratches: &Scratches,
+    kind: LoadKind,
+    rd: Reg,
+    rs1: Reg,
+    imm: Imm12,
+)
+    requires room { array_vec_len sequence.old ≤ 1 }
+    ensures words { let items = state_load_sequence scratches.now kind rd rs1 imm in
+        IsLonger sequence.old.items sequence.new.items items }
 {
     let s = scratches.s.register;
     push_spills(sequence, scratches);
@@ -134,7 +195,7 @@ fn push_load(
             imm: Imm12::new(2),
         },
     );
-    push_native(sequence, branch_past_miss(s));
+    push_native(sequence, branch_by(Cond::Eq, s, Reg::ZERO, 8));
     push(
         sequence,
         RtWord::MissR {
@@ -149,19 +210,23 @@ fn push_load(
 
 /// Appends a store whose line's state is tested.
 fn push_store(
-    sequence: &mut ArrayVec<Item, 13>,
+    sequence: &mut ArrayVec<Item, 14>,
     scratches: &Scratches,
     width: Width,
     rs1: Reg,
     rs2: Reg,
     imm: Imm12,
 )
-    requires empty { sequence.old.items ≡ [] }
-    ensures words { IsWritten sequence.new.items (store_sequence scratches.now width rs1 rs2 imm) }
+    requires room { array_vec_len sequence.old ≤ 1 }
+    ensures words { let items = store_sequence scratches.now width rs1 rs2 imm in
+        IsLonger sequence.old.items sequence.new.items items }
 {
     push_spills(sequence, scratches);
     push_state_look(sequence, scratches, rs1, imm);
-    push_native(sequence, branch_past_miss(scratches.s.register));
+    push_native(
+        sequence,
+        branch_by(Cond::Eq, scratches.s.register, Reg::ZERO, 8),
+    );
     push(sequence, RtWord::MissW { width, rs1, imm });
     push_native(
         sequence,
@@ -176,8 +241,8 @@ fn push_store(
 }
 
 /// Appends the spills of s and t.
-fn push_spills(sequence: &mut ArrayVec<Item, 13>, scratches: &Scratches)
-    requires room { array_vec_len sequence.old ≤ 11 }
+fn push_spills(sequence: &mut ArrayVec<Item, 14>, scratches: &Scratches)
+    requires room { array_vec_len sequence.old ≤ 12 }
     ensures words { IsLonger sequence.old.items sequence.new.items (spills scratches.now []) }
     ensures count { array_vec_len sequence.new ≤ array_vec_len sequence.old + 2 }
 {
@@ -186,8 +251,8 @@ fn push_spills(sequence: &mut ArrayVec<Item, 13>, scratches: &Scratches)
 }
 
 /// Appends the reloads of s and t.
-fn push_reloads(sequence: &mut ArrayVec<Item, 13>, scratches: &Scratches)
-    requires room { array_vec_len sequence.old ≤ 11 }
+fn push_reloads(sequence: &mut ArrayVec<Item, 14>, scratches: &Scratches)
+    requires room { array_vec_len sequence.old ≤ 12 }
     ensures words { IsLonger sequence.old.items sequence.new.items (reloads scratches.now) }
 {
     push_reload(sequence, 0, scratches.s);
@@ -195,8 +260,8 @@ fn push_reloads(sequence: &mut ArrayVec<Item, 13>, scratches: &Scratches)
 }
 
 /// Appends the spill of a register to a spill word, where it is spilled.
-fn push_spill(sequence: &mut ArrayVec<Item, 13>, word: u8, scratch: Scratch)
-    requires room { array_vec_len sequence.old < 13 }
+fn push_spill(sequence: &mut ArrayVec<Item, 14>, word: u8, scratch: Scratch)
+    requires room { array_vec_len sequence.old < 14 }
     requires word { word < 3 }
     ensures words { IsLonger sequence.old.items sequence.new.items (spill word scratch []) }
     ensures count { array_vec_len sequence.new ≤ array_vec_len sequence.old + 1 }
@@ -215,22 +280,15 @@ fn push_spill(sequence: &mut ArrayVec<Item, 13>, word: u8, scratch: Scratch)
 }
 
 /// Appends the reload of a register from a spill word, where it is spilled.
-fn push_reload(sequence: &mut ArrayVec<Item, 13>, word: u8, scratch: Scratch)
-    requires room { array_vec_len sequence.old < 13 }
+fn push_reload(sequence: &mut ArrayVec<Item, 14>, word: u8, scratch: Scratch)
+    requires room { array_vec_len sequence.old < 14 }
     requires word { word < 3 }
     ensures words { IsLonger sequence.old.items sequence.new.items (reload word scratch []) }
     ensures count { array_vec_len sequence.new ≤ array_vec_len sequence.old + 1 }
 {
     if scratch.spilled {
-        push_native(
-            sequence,
-            Instr::Load {
-                kind: LoadKind::Word,
-                rd: scratch.register,
-                rs1: Reg::ZERO,
-                imm: spill_offset(word),
-            },
-        );
+        let reload = load_word(scratch.register, Reg::ZERO, spill_offset(word));
+        push_native(sequence, reload);
     }
 }
 
@@ -243,23 +301,15 @@ fn spill_offset(word: u8) -> Imm12
 }
 
 /// Appends what reads the state byte of an address's line into s.
-fn push_state_look(sequence: &mut ArrayVec<Item, 13>, scratches: &Scratches, rs1: Reg, imm: Imm12)
-    requires room { array_vec_len sequence.old ≤ 8 }
+fn push_state_look(sequence: &mut ArrayVec<Item, 14>, scratches: &Scratches, rs1: Reg, imm: Imm12)
+    requires room { array_vec_len sequence.old ≤ 9 }
     ensures words { let x = scratches.now in
         IsLonger sequence.old.items sequence.new.items (state_look x rs1 imm []) }
     ensures count { array_vec_len sequence.new ≡ array_vec_len sequence.old + 5 }
 {
     let s = scratches.s.register;
     let t = scratches.t.register;
-    push_native(
-        sequence,
-        Instr::OpImm {
-            op: ImmOp::Add,
-            rd: s,
-            rs1,
-            imm,
-        },
-    );
+    push_native(sequence, add_immediate(s, rs1, imm));
     push_native(
         sequence,
         Instr::Lui {
@@ -297,10 +347,10 @@ fn push_state_look(sequence: &mut ArrayVec<Item, 13>, scratches: &Scratches, rs1
 }
 
 /// Appends the two instructions that put a number into a register.
-fn push_constant(sequence: &mut ArrayVec<Item, 13>, rd: Reg, number: u32)
-    requires empty { sequence.old.items ≡ [] }
-    ensures words { IsWritten sequence.new.items (constant rd number []) }
-    ensures count { array_vec_len sequence.new ≡ 2 }
+fn push_constant(sequence: &mut ArrayVec<Item, 14>, rd: Reg, number: u32)
+    requires room { array_vec_len sequence.old ≤ 1 }
+    ensures words { IsLonger sequence.old.items sequence.new.items (constant rd number []) }
+    ensures count { array_vec_len sequence.new ≡ array_vec_len sequence.old + 2 }
 {
     push_native(
         sequence,
@@ -309,21 +359,13 @@ fn push_constant(sequence: &mut ArrayVec<Item, 13>, rd: Reg, number: u32)
             upper: upper_part(number),
         },
     );
-    push_native(
-        sequence,
-        Instr::OpImm {
-            op: ImmOp::Add,
-            rd,
-            rs1: rd,
-            imm: lower_part(number),
-        },
-    );
+    push_native(sequence, add_immediate(rd, rd, lower_part(number)));
 }
 
 /// Appends a jump that puts the next original address into rd, or one that ends the processor.
-fn push_jump(sequence: &mut ArrayVec<Item, 13>, rd: Reg, next: u32, target: u32)
-    requires empty { sequence.old.items ≡ [] }
-    ensures words { IsWritten sequence.new.items (jump_items rd next target) }
+fn push_jump(sequence: &mut ArrayVec<Item, 14>, rd: Reg, next: u32, target: u32)
+    requires room { array_vec_len sequence.old ≤ 1 }
+    ensures words { IsLonger sequence.old.items sequence.new.items (jump_items rd next target) }
 {
     if target % 4 == 0 {
         push_constant(sequence, rd, next);
@@ -340,37 +382,22 @@ fn push_jump(sequence: &mut ArrayVec<Item, 13>, rd: Reg, next: u32, target: u32)
 }
 
 /// Appends a branch past a jump where the original isn't taken, or one that ends the processor.
-fn push_branch(sequence: &mut ArrayVec<Item, 13>, cond: Cond, rs1: Reg, rs2: Reg, target: u32)
-    requires empty { sequence.old.items ≡ [] }
-    ensures words { IsWritten sequence.new.items (branch_items cond rs1 rs2 target) }
+fn push_branch(sequence: &mut ArrayVec<Item, 14>, cond: Cond, rs1: Reg, rs2: Reg, target: u32)
+    requires room { array_vec_len sequence.old ≤ 1 }
+    ensures words { let items = branch_items cond rs1 rs2 target in
+        IsLonger sequence.old.items sequence.new.items items }
 {
     if target % 4 == 0 {
-        push_native(
-            sequence,
-            Instr::Branch {
-                cond: inverse(cond),
-                rs1,
-                rs2,
-                offset: BranchOffset::new(8),
-            },
-        );
+        push_native(sequence, branch_by(inverse(cond), rs1, rs2, 8));
         push_to_head(sequence, target);
     } else {
-        push_native(
-            sequence,
-            Instr::Branch {
-                cond,
-                rs1,
-                rs2,
-                offset: BranchOffset::new(2),
-            },
-        );
+        push_native(sequence, branch_by(cond, rs1, rs2, 2));
     }
 }
 
 /// Appends an instruction of the original machine.
-fn push_native(sequence: &mut ArrayVec<Item, 13>, i: Instr)
-    requires room { array_vec_len sequence.old < 13 }
+fn push_native(sequence: &mut ArrayVec<Item, 14>, i: Instr)
+    requires room { array_vec_len sequence.old < 14 }
     ensures words { IsLonger sequence.old.items sequence.new.items (own i []) }
     ensures count { array_vec_len sequence.new ≡ array_vec_len sequence.old + 1 }
 {
@@ -378,8 +405,8 @@ fn push_native(sequence: &mut ArrayVec<Item, 13>, i: Instr)
 }
 
 /// Appends a word that is executed.
-fn push(sequence: &mut ArrayVec<Item, 13>, what: RtWord)
-    requires room { array_vec_len sequence.old < 13 }
+fn push(sequence: &mut ArrayVec<Item, 14>, what: RtWord)
+    requires room { array_vec_len sequence.old < 14 }
     ensures words { IsLonger sequence.old.items sequence.new.items (checking what []) }
     ensures count { array_vec_len sequence.new ≡ array_vec_len sequence.old + 1 }
 {
@@ -387,22 +414,47 @@ fn push(sequence: &mut ArrayVec<Item, 13>, what: RtWord)
 }
 
 /// Appends a jump to the head of a place.
-fn push_to_head(sequence: &mut ArrayVec<Item, 13>, place: u32)
-    requires room { array_vec_len sequence.old < 13 }
+fn push_to_head(sequence: &mut ArrayVec<Item, 14>, place: u32)
+    requires room { array_vec_len sequence.old < 14 }
     ensures words { IsLonger sequence.old.items sequence.new.items (to_head place) }
 {
     sequence.push(Item::Jump { place, head: true });
 }
 
-/// Branches past the next word where s is 0.
-fn branch_past_miss(s: Reg) -> Instr
-    ensures { result ≡ Instr.Branch Cond.Eq s 0 (pos 8) }
+/// Adds an immediate to a register.
+fn add_immediate(rd: Reg, rs1: Reg, imm: Imm12) -> Instr
+    ensures { result ≡ Instr.OpImm ImmOp.Add rd rs1 imm }
+{
+    Instr::OpImm {
+        op: ImmOp::Add,
+        rd,
+        rs1,
+        imm,
+    }
+}
+
+/// Loads a word.
+fn load_word(rd: Reg, rs1: Reg, imm: Imm12) -> Instr
+    ensures { result ≡ Instr.Load LoadKind.Word rd rs1 imm }
+{
+    Instr::Load {
+        kind: LoadKind::Word,
+        rd,
+        rs1,
+        imm,
+    }
+}
+
+/// Branches so many bytes on.
+fn branch_by(cond: Cond, rs1: Reg, rs2: Reg, offset: u8) -> Instr
+    requires even { offset % 2 ≡ 0 }
+    ensures { result ≡ Instr.Branch cond rs1 rs2 (pos offset) }
 {
     Instr::Branch {
-        cond: Cond::Eq,
-        rs1: s,
-        rs2: Reg::ZERO,
-        offset: BranchOffset::new(8),
+        cond,
+        rs1,
+        rs2,
+        offset: BranchOffset::new(i32::from(offset)),
     }
 }
 

@@ -4,7 +4,7 @@ ghost use Rattle.std.specs.Prelude.{◌≡◌, ◌<◌, ◌≤◌, ◌++◌, ◌
 ghost use Rattle.templates.specs.RuntimeWords.{read_word};
 
 use crate::runtime_words::{
-    CALL, RtWord, TRAP_EBREAK, TRAP_FETCH, TRAP_ILLEGAL, TRAP_OFF, miss_r_word, miss_w_word,
+    CALL, POLL, RtWord, TRAP_EBREAK, TRAP_FETCH, TRAP_ILLEGAL, TRAP_OFF, miss_r_word, miss_w_word,
     xjalr_word,
 };
 use rv32_decode::{Instr, encode};
@@ -100,6 +100,7 @@ pub fn encode_word(what: RtWord) -> u32
         RtWord::Native(i) => encode(i),
         RtWord::MissR { width, rs1, imm } => miss_r_word(width, rs1, imm),
         RtWord::MissW { width, rs1, imm } => miss_w_word(width, rs1, imm),
+        RtWord::Poll => POLL,
         RtWord::Call => CALL,
         RtWord::Xjalr { rd, rs1, imm } => xjalr_word(rd, rs1, imm),
         RtWord::TrapFetch => TRAP_FETCH,

@@ -31,6 +31,12 @@ write_sequence-requires-clause-room c =
     let few = c.requires.few in
     omega (arith, whole, few)
 
+pub write_sequence-requires-clause-short : goal.write_sequence-requires-clause-short
+write_sequence-requires-clause-short c =
+    let items = written_length c.clear.new.self c.expand.new.out c.items.result.now (items_of c.entry-item.result c.at.result) c.clear.ensures.value c.in_ok-expand.ensures.ok c.items.ensures.value in
+    let short = c.expand.ensures.short in
+    omega (arith, items, short)
+
 pub loop-entry-preserved : goal.loop-entry-preserved
 loop-entry-preserved c =
     let ws = c.args.code.now in

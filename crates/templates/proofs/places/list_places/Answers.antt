@@ -1,4 +1,4 @@
-use Rattle.std.proofs.Common.{◌≡◌, ◌∙◌, eqb, sym, ap, subst, length, ◌≤◌, ◌*◌, ◌^◌, arith}
+use Rattle.std.proofs.Common.{◌≡◌, ◌∙◌, eqb, sym, ap, subst, length, arith}
 use Rattle.std.specs.Prelude.{Contains}
 use Rattle.std.specs.List.{dedup}
 use Rattle.std.specs.List.Sorted.{IsStrictlyIncreasing}

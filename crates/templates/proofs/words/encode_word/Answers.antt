@@ -1,9 +1,12 @@
 use Rattle.std.proofs.Common.{Some, sym, ap, ◌∙◌}
-use Rattle.templates.proofs.ReadingLemmas.{reads_native, reads_call, reads_trap_fetch, reads_trap_off, reads_trap_illegal, reads_trap_ebreak}
+use Rattle.templates.proofs.ReadingLemmas.{reads_native, reads_poll, reads_call, reads_trap_fetch, reads_trap_off, reads_trap_illegal, reads_trap_ebreak}
 use Rattle.templates.proofs.words.encode_word.Goals as goal
 
 pub returns-in-Native : goal.returns-in-Native
 returns-in-Native c = record { again = reads_native c.encode.result c.in-Native.i c.encode.ensures.again ∙ ap (λ w. Some w) (sym c.in-Native.is) }
+
+pub returns-in-Poll : goal.returns-in-Poll
+returns-in-Poll c = record { again = reads_poll ∙ ap (λ w. Some w) (sym c.in-Poll.is) }
 
 pub returns-in-Call : goal.returns-in-Call
 returns-in-Call c = record { again = reads_call ∙ ap (λ w. Some w) (sym c.in-Call.is) }
