@@ -1,0 +1,4 @@
+pub mod MarksLemmas
+pub mod SetLemmas
+pub mod ChainLemmas
+pub mod TieLemmas

@@ -1,0 +1,4 @@
+pub mod Marks
+pub mod Chains
+pub mod Nodes
+pub mod Leads

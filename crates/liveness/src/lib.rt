@@ -1,0 +1,12 @@
+#![tactic(auto)]
+//! Registers that are live, and dead, at each code word of a program, by paths.
+
+ghost use Rattle.std.specs.Prelude.{◌≡◌, ℕ};
+
+mod back;
+mod live;
+mod node;
+mod sets;
+mod work;
+
+pub use live::Live;

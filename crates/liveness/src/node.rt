@@ -1,0 +1,68 @@
+//! Code words as nodes of a graph, by their numbers.
+
+ghost use Rattle.std.specs.Prelude.{◌≡◌, ◌≢◌, ◌<◌, ◌↔◌, ℕ, List, IfOk, Some};
+ghost use Rattle.rv32_decode.specs.Registers.{IsMember, destination};
+ghost use Rattle.rv32_program.specs.Liveness.{Uses, uses_all};
+ghost use Rattle.templates.specs.declared.code.CodeWord.{CodeWord as TheWord};
+ghost use Rattle.flow_graph.specs.Edges.{edges_of};
+ghost use Rattle.liveness.specs.Nodes.{IsNode, AreNodes};
+
+use flow_graph::{Edges, Graph};
+use rv32_decode::{Instr, RegSet, defs, uses};
+use std::alloc::{AllocError, Global};
+
+/// One code word: the registers that it uses and defines, as sets of bits, and the numbers of the
+/// code words where it leads.
+#[derive(Clone, Copy, Debug)]
+pub struct Node {
+    pub uses: u32,
+    pub defs: u32,
+    pub first: Option<u32>,
+    pub second: Option<u32>,
+}
+
+/// The nodes of the code words.
+pub fn nodes_of(alloc: Global, graph: &Graph) -> Result<Vec<Node>, AllocError>
+    ensures value { IfOk result (λ nodes. AreNodes graph.now nodes.items) }
+{
+    let words = graph.code().words();
+    let mut nodes = Vec::with_capacity(alloc, words.len())?;
+    for k in 0..words.len() as u32 {
+        nodes.push(node_of(&words[k as usize].instruction, graph.edges(k)))?;
+    }
+    Ok(nodes)
+}
+
+/// The node of a code word with these edges.
+fn node_of(i: &Instr, edges: Edges) -> Node
+    ensures value { (words : List TheWord) (w : TheWord) → w.instruction ≡ i.now
+        → edges ≡ edges_of words w → IsNode words w result }
+{
+    Node {
+        uses: used_registers(i),
+        defs: defs(*i).bits(),
+        first: edges.first,
+        second: edges.second,
+    }
+}
+
+/// The registers that an instruction uses.
+fn used_registers(i: &Instr) -> u32
+    ensures value { (r : ℕ) → r ≢ 0 → r < 32 → (IsMember result r ↔ Uses i.now r) }
+{
+    if uses_all(i) {
+        RegSet::all().bits()
+    } else {
+        uses(*i).bits()
+    }
+}
+
+/// Whether what follows may use every register.
+fn uses_all(i: &Instr) -> bool
+    ensures value { result ≡ uses_all i.now }
+{
+    match i {
+        Instr::Jalr { .. } | Instr::Ecall | Instr::Ebreak | Instr::Illegal { .. } => true,
+        _ => false,
+    }
+}
