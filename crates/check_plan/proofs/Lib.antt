@@ -1,0 +1,5 @@
+mod ListLemmas
+mod ChoiceLemmas
+mod OneLemmas
+mod MemberLemmas
+mod PlanLemmas

@@ -1,0 +1,80 @@
+-- Code has at most one plan of its checks.
+use Rattle.std.proofs.Common.{◌≡◌, ℕ, ◌+◌, ◌<◌, ◌≤◌, List, [], ◌∷◌, ◌++◌, Option, Some, None, refl, sym, ap, ◌∙◌, subst, inl, inr, arith}
+use Rattle.std.specs.Prelude.{Contains, not, map, take, filter}
+use Rattle.rv32_decode.specs.declared.Instr.{Instr}
+use Rattle.templates.specs.declared.plans.Scratches.{Scratches}
+use Rattle.templates.specs.declared.plans.PlanEntry.{PlanEntry}
+use Rattle.templates.specs.Plans.{AscendsFrom, addresses, template_at, closes_loop_at}
+use Rattle.check_plan.specs.CheckPlan.{candidates, unspilled, spilled, in_order, scratches_of, IsChoice, IsSingle, IsCheckEntry, IsCheckPlan}
+use Rattle.check_plan.proofs.ListLemmas.{first_or, behind, in_front, no_element, same_test, agree}
+
+-- there is one choice
+one_choice : (code : ℕ → Option Instr) (a : ℕ) (i : Instr) (count : ℕ) (x y : Scratches) → IsChoice code a i count x → IsChoice code a i count y → x ≡ y
+one_choice code a i count x y h g =
+    let tests : (r : ℕ) → Contains (candidates i) r → h.dead r ≡ g.dead r =
+    λ r c. same_test (h.dead r) (g.dead r) (λ t. (g.dead_is r c).1 ((h.dead_is r c).0 t)) (λ t. (h.dead_is r c).1 ((g.dead_is r c).0 t)) in
+    let dead = agree h.dead g.dead (candidates i) tests in
+    let other = agree (λ r. not (h.dead r)) (λ r. not (g.dead r)) (candidates i) (λ r c. ap not (tests r c)) in
+    let order : in_order h.dead i ≡ in_order g.dead i = ap (λ xs. map unspilled xs ++ map spilled (filter (λ r. not (h.dead r)) (candidates i))) dead ∙ ap (λ xs. map unspilled (filter g.dead (candidates i)) ++ map spilled xs) other in
+    h.chosen ∙ ap (λ xs. scratches_of (take count xs)) order ∙ sym g.chosen
+
+one_single : (code : ℕ → Option Instr) (a : ℕ) (o : Option Instr) (x y : Scratches) → IsSingle code a o x → IsSingle code a o y → x ≡ y
+one_single code a None x y h g = h ∙ sym g
+one_single code a (Some i) x y h g = one_choice code a i _ x y h g
+
+-- there is one entry of a place
+one_entry : (code : ℕ → Option Instr) (e f : PlanEntry) → IsCheckEntry code e → IsCheckEntry code f → e.address ≡ f.address → e ≡ f
+one_entry code e f h g same = λ t. record {
+  address = same t;
+  template = (h.template ∙ ap (λ a. template_at a (code a)) same ∙ sym g.template) t;
+  polls = (h.polls ∙ ap (λ a. closes_loop_at a (code a)) same ∙ sym g.polls) t;
+  single = one_single code f.address (code f.address) e.single f.single (subst (λ a. IsSingle code a (code a) e.single) same h.single) g.single t;
+  run = (h.run ∙ sym g.run) t;
+  batch = (h.batch ∙ sym g.batch) t;
+}
+
+-- an address of ascending entries isn't below the bound
+above : (low : ℕ) (es : List PlanEntry) (a : ℕ) → AscendsFrom low es → Contains (addresses es) a → low ≤ a
+above low [] a up h = absurd (no_element a h)
+above low (e ∷ es) a up h = elim (first_or e.address a (addresses es) h) [
+  | inl is ↦ (let le = up.0 in omega (arith, is, le))
+  | inr rest ↦ (let more = above (e.address + 1) es a up.1 rest in let le = up.0 in omega (arith, more, le))
+]
+
+-- ascending entries with the same addresses are the same
+same : (code : ℕ → Option Instr) (low : ℕ) (p q : List PlanEntry) → AscendsFrom low p → AscendsFrom low q
+    → ((a : ℕ) → Contains (addresses p) a → Contains (addresses q) a)
+    → ((a : ℕ) → Contains (addresses q) a → Contains (addresses p) a)
+    → ((e : PlanEntry) → Contains p e → IsCheckEntry code e)
+    → ((e : PlanEntry) → Contains q e → IsCheckEntry code e) → p ≡ q
+same code low [] [] up vp to from sp sq = refl
+same code low [] (f ∷ fs) up vp to from sp sq = absurd (no_element f.address (from f.address (in_front f.address (addresses fs))))
+same code low (e ∷ es) [] up vp to from sp sq = absurd (no_element e.address (to e.address (in_front e.address (addresses es))))
+same code low (e ∷ es) (f ∷ fs) up vp to from sp sq =
+    let above_f : f.address ≤ e.address = least f fs e.address vp.1 (to e.address (in_front e.address (addresses es))) in
+    let above_e : e.address ≤ f.address = least e es f.address up.1 (from f.address (in_front f.address (addresses fs))) in
+    let address : e.address ≡ f.address = omega (arith, above_f, above_e) in
+    let first : e ≡ f = one_entry code e f (sp e (in_front e es)) (sq f (in_front f fs)) address in
+    let rest : es ≡ fs = same code (e.address + 1) es fs up.1 (subst (λ a. AscendsFrom (a + 1) fs) (sym address) vp.1)
+    (λ a h. past f a fs (to a (behind e.address a (addresses es) h)) (let le = above (e.address + 1) es a up.1 h in omega (arith, le, address)))
+    (λ a h. past e a es (from a (behind f.address a (addresses fs) h)) (let le = above (f.address + 1) fs a vp.1 h in omega (arith, le, address)))
+    (λ x h. sp x (behind e x es h))
+    (λ x h. sq x (behind f x fs h)) in
+    λ t. first t ∷ rest t
+  where
+    least : (g : PlanEntry) (gs : List PlanEntry) (a : ℕ) → AscendsFrom (g.address + 1) gs → Contains (addresses (g ∷ gs)) a → g.address ≤ a
+    least g gs a up h = elim (first_or g.address a (addresses gs) h) [
+      | inl is ↦ omega (arith, is)
+      | inr rest ↦ (let more = above (g.address + 1) gs a up rest in omega (arith, more))
+    ]
+
+    past : (g : PlanEntry) (a : ℕ) (gs : List PlanEntry) → Contains (addresses (g ∷ gs)) a → g.address < a → Contains (addresses gs) a
+    past g a gs h lt = elim (first_or g.address a (addresses gs) h) [
+      | inl is ↦ absurd (omega (arith, is, lt))
+      | inr rest ↦ rest
+    ]
+
+pub one_plan : (code : ℕ → Option Instr) (p q : List PlanEntry) → IsCheckPlan code p → IsCheckPlan code q → p ≡ q
+one_plan code p q hp hq =
+    same code 0 p q hp.ascends hq.ascends
+    (λ a h. hq.places.complete a (hp.places.sound a h)) (λ a h. hp.places.complete a (hq.places.sound a h)) hp.each hq.each

@@ -1,0 +1,2 @@
+pub mod CheckPlan
+pub mod Members

@@ -1,0 +1,11 @@
+#![tactic(auto)]
+//! The plan of a program: templates, and scratch registers that are dead where they can be.
+
+ghost use Rattle.std.specs.Prelude.{◌≡◌, ℕ};
+
+mod laws;
+mod planning;
+mod scratches;
+
+pub use laws::check_plan_law;
+pub use planning::plan_checks;
