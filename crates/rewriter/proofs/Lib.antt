@@ -1,4 +1,1 @@
-mod CodeLemmas
-mod ScratchLemmas
-mod PlanLemmas
-mod OneLemmas
+pub mod FileLemmas

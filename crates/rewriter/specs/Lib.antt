@@ -1,3 +1,3 @@
-pub mod SpillPlan
 pub mod Parts
-pub mod Spilling
+pub mod RewrittenFile
+pub mod TooLarge

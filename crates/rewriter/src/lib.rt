@@ -3,10 +3,10 @@
 
 ghost use Rattle.std.specs.Prelude.{◌≡◌, ℕ};
 
-mod code;
-mod laws;
+mod comparing;
+mod file;
+mod file_bytes;
 mod rewriting;
-mod spilling;
 
-pub use laws::spill_plan_law;
+pub use file::{CodeRefused, Part};
 pub use rewriting::{Rewritten, rewrite};

@@ -1,16 +1,17 @@
 //! Rewritten programs.
 
 ghost use Rattle.std.specs.Prelude.{◌≡◌, ℕ, IfOk, IsErrOf};
-ghost use Rattle.rv32_program.specs.Program.{Program as Model, IsAccepted};
 ghost use Rattle.exec_map.specs.Contents.{program_of};
 ghost use Rattle.jump_map.specs.Image.{IsRewriting};
 ghost use Rattle.jump_map.specs.declared.image.ImageRefused.TheVariants as refused;
-ghost use Rattle.rewriter.specs.SpillPlan.{IsSpillPlan, IsTooLarge};
+ghost use Rattle.check_plan.specs.CheckPlan.{IsCheckPlan};
+ghost use Rattle.rewriter.specs.TooLarge.{IsTooLarge};
 
-use crate::code::collect_code;
-use crate::spilling::spill_plan;
+use check_plan::{check_plan_law, plan_checks};
 use exec_map::Program;
+use flow_graph::Graph;
 use jump_map::{Image, ImageRefused};
+use liveness::Live;
 use std::alloc::Global;
 use std::marker::Model;
 use templates::Plan;
@@ -46,27 +47,21 @@ impl Rewritten {
     }
 }
 
-/// Rewrites a program by the plan that spills each scratch register.
+/// Rewrites a program by its plan.
 ///
-/// Fails with the number of words where that plan has more than an image may have.
+/// Fails with the number of words where the plan has more than an image may have.
 pub fn rewrite(alloc: Global, program: &Program<'_>) -> Result<Rewritten, ImageRefused>
-    ensures plan { IfOk result (λ r. IsSpillPlan (program_of program.now).code r.plan) }
+    ensures plan { IfOk result (λ r. IsCheckPlan (program_of program.now).code r.plan) }
     ensures rewriting { IfOk result (λ r. IsRewriting (program_of program.now) r.plan r.image) }
     ensures too_large { (w : ℕ) →
         IsErrOf result (refused.CodeTooLarge w) → IsTooLarge (program_of program.now) w }
 {
-    accepted_law(program);
-    let code = collect_code(alloc, program)?;
-    let plan = spill_plan(alloc, &code)?;
-    match Image::of(alloc, &code, &plan) {
+    check_plan_law();
+    let graph = Graph::of(alloc, program)?;
+    let live = Live::of(alloc, &graph)?;
+    let plan = plan_checks(alloc, &live)?;
+    match Image::of(alloc, graph.code(), &plan) {
         Ok(image) => Ok(Rewritten { image, plan }),
         Err(refused) => Err(refused),
     }
-}
-
-/// A program is accepted.
-fn accepted_law(program: &Program<'_>)
-    ensures { IsAccepted (program_of program.now) }
-{
-    let _entry = program.entry();
 }

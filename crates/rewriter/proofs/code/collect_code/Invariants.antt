@@ -1,9 +1,0 @@
-use Rattle.std.proofs.Common.{◌-◌}
-use Rattle.rewriter.proofs.CodeLemmas.{IsCollected}
-use Rattle.rewriter.proofs.code.collect_code.Given as goal
-
-abbrev pub invariant-loop-address : goal.invariant-loop-address
-invariant-loop-address l = IsCollected l.program l.code l.from
-
-abbrev pub decreases-loop-address : goal.decreases-loop-address
-decreases-loop-address l = 0x80000000 - l.from
