@@ -1,3 +1,4 @@
 mod StepLemmas
 mod MemoryLemmas
 pub mod NodeLemmas
+pub mod GoingLemmas

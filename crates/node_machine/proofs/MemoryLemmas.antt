@@ -1,23 +1,23 @@
 -- Bytes of lines by their class.
-use Rattle.std.proofs.Common.{◌≡◌, ℕ, ◌+◌, ◌/◌, ◌%◌, ◌^◌, ◌<◌, ◌≤◌, Bool, true, false, cond, leb, ltb, Option, Some, None, refl, ap, sym, ◌∙◌, arith, inl, inr}
-use Rattle.std.proofs.lemmas.Bool.Decides.{nat_tests}
-use Rattle.std.specs.Prelude.{find}
+use Rattle.std.proofs.Common.{◌≡◌, ℕ, ◌+◌, ◌-◌, ◌/◌, ◌%◌, ◌^◌, ◌<◌, ◌≤◌, Bool, true, false, cond, leb, ltb, Option, Some, None, refl, ap, sym, ◌∙◌, arith, inl, inr}
+use Rattle.std.proofs.lemmas.Bool.Decides.{eqb_tells, nat_tests}
+use Rattle.std.specs.Prelude.{find, is_some}
 use Rattle.elf32_read.specs.Elf.{Elf, Segment}
 use Rattle.rv32_decode.specs.declared.Width.{Width}
 use Rattle.rv32_decode.specs.declared.Width.TheVariants.{Byte, Half, Word}
 use Rattle.rv32_decode.specs.Widths.{is_aligned}
 use Rattle.rv32_program.specs.declared.Class.{Class}
 use Rattle.rv32_program.specs.declared.Class.TheVariants.{Shared, ReadOnly, Private, Unmapped}
-use Rattle.exec_map.specs.Contents.{program_of, class_of_line, is_private, is_shared, segment_class, is_writable, touches}
+use Rattle.exec_map.specs.Contents.{program_of, class_of_line, first_byte, is_private, is_shared, is_read_only, segment_class, is_writable, touches}
 use Rattle.rv32_program.specs.Program.{IsAccepted}
-use Rattle.first_memory.specs.SharedLines.{HasSharedLines}
-use Rattle.node_machine.specs.Kept.{HasLines}
+use Rattle.first_memory.specs.SharedLines.{HasSharedLines, HasReadOnlyLines}
+use Rattle.node_machine.specs.Kept.{HasLines, HasFixed}
 use Rattle.byte_range.specs.Memory.{raw}
 use Rattle.byte_range.specs.Window.{is_in_window}
 use Rattle.rv32_step.specs.Memory.{byte_by}
 use Rattle.std.proofs.lemmas.Bool.{cases_lt}
-use Rattle.byte_range.specs.Lines.{LineBytes}
-use Rattle.node_machine.specs.Node.{Memory, region_of}
+use Rattle.byte_range.specs.Lines.{LineBytes, lines_memory, place_of}
+use Rattle.node_machine.specs.Node.{Memory, Spill, region_of}
 
 -- an aligned access stays in one line
 pub raw_in_line : (w : Width) (class : ℕ → Class) (c : Class) (f g h i : ℕ → ℕ) (a : ℕ) → is_aligned w a ≡ true → class (a / 64) ≡ c → raw w (λ x. byte_by c (f x) (g x) (h x) (i x)) a ≡ raw w (λ x. byte_by (class (x / 64)) (f x) (g x) (h x) (i x)) a
@@ -80,6 +80,18 @@ unmapped Unmapped s r p = refl
 pub memory_region : (a : ℕ) → a < 2 ^ 31 → region_of a ≡ Memory
 memory_region a below = let t : ltb a 2147483648 ≡ true = grind (arith, nat_tests) in rw t refl
 
+-- the words that registers are kept in are the three highest
+pub spill_region : (a k : ℕ) → 2 ^ 32 - 12 ≤ a → a < 2 ^ 32 → k ≡ (2 ^ 32 - 1 - a) / 4 → is_aligned Word a ≡ true → region_of a ≡ Spill k
+spill_region a k high low is aligned =
+    let four : a % 4 ≡ 0 = grind (arith, nat_tests) in
+    elim (eqb_tells a (2 ^ 32 - 4)) [
+      | inl e ↦ let at : k ≡ 0 = omega (arith, e.1) in rw (e.1, at) refl
+      | inr n ↦ elim (eqb_tells a (2 ^ 32 - 8)) [
+        | inl e ↦ let at : k ≡ 1 = omega (arith, e.1) in rw (e.1, at) refl
+        | inr m ↦ let last : a ≡ 2 ^ 32 - 12 = omega (arith, n.1, m.1, four) in let at : k ≡ 2 = omega (arith, last) in rw (last, at) refl
+      ]
+    ]
+
 is_shared_tells : (c : Class) → is_shared c ≡ true → c ≡ Shared
 is_shared_tells Shared e = refl
 is_shared_tells ReadOnly e = cc
@@ -101,3 +113,34 @@ shelf_lines e m accepted has = record {
   where
     unmapped_not_shared : Unmapped ≡ Shared → ⊥
     unmapped_not_shared e = cc
+
+read_only_tells : (c : Class) → is_read_only c ≡ true → c ≡ ReadOnly
+read_only_tells Shared e = cc
+read_only_tells ReadOnly e = refl
+read_only_tells Private e = cc
+read_only_tells Unmapped e = cc
+
+-- a memory of the read-only lines of an accepted program serves a node
+pub fixed_lines : (e : Elf) (m : LineBytes) → IsAccepted (program_of e) → HasReadOnlyLines e m → lines_memory m (first_byte e) ≡ first_byte e → HasFixed e m
+fixed_lines e m accepted has bytes = record {
+  lines = has;
+  low = λ line is. elim (cases_lt line (2 ^ 25)) [
+    | inl low ↦ low
+    | inr high ↦ absurd (unmapped_not_fixed (sym (accepted.upper line high) ∙ is))
+  ];
+  bytes = bytes;
+}
+  where
+    unmapped_not_fixed : Unmapped ≡ ReadOnly → ⊥
+    unmapped_not_fixed e = cc
+
+-- a line that has a place is read-only, and one that has none isn't
+pub fixed_place : (e : Elf) (m : LineBytes) (line : ℕ) → HasFixed e m → is_some (place_of m.ranges line) ≡ true → class_of_line e line ≡ ReadOnly
+fixed_place e m line fixed there = read_only_tells (class_of_line e line) (sym (fixed.lines line) ∙ there)
+
+pub not_fixed_place : (e : Elf) (m : LineBytes) (line : ℕ) → HasFixed e m → is_some (place_of m.ranges line) ≡ false → class_of_line e line ≡ ReadOnly → ⊥
+not_fixed_place e m line fixed none is = let both : true ≡ false = sym (ap is_read_only is) ∙ sym (fixed.lines line) ∙ none in absurd (cc)
+
+-- what is read of a read-only line is what the program begins with
+pub fixed_raw : (e : Elf) (m : LineBytes) (w : Width) (a n : ℕ) → HasFixed e m → n ≡ raw w (lines_memory m (first_byte e)) a → n ≡ raw w (first_byte e) a
+fixed_raw e m w a n fixed is = is ∙ ap (λ (f : ℕ → ℕ). raw w f a) fixed.bytes

@@ -23,11 +23,12 @@ use Rattle.std.proofs.Common.{◌-◌, [], ◌∷◌, leb, length, zero, suc}
 use Rattle.std.specs.Prelude.{slice_get}
 use Rattle.rv32_decode.specs.Fields.{unsigned}
 use Rattle.rv32_step.specs.declared.Demand.{Demand}
+use Rattle.rv32_step.specs.declared.Demand.TheVariants.{Continues}
 use Rattle.rv32_step.specs.Registers.{reg}
 use Rattle.micro_op.specs.declared.MicroKind.TheVariants.{Rare}
 use Rattle.micro_op.specs.Micro.{Unserved, Demands, Enters as EntersBy, Meets, EntersAt}
 use Rattle.templates.specs.declared.runtime_words.RtWord.{RtWord}
-use Rattle.templates.specs.declared.runtime_words.RtWord.TheVariants.{Native, Xjalr}
+use Rattle.templates.specs.declared.runtime_words.RtWord.TheVariants.{Native, Poll, Xjalr}
 use Rattle.templates.specs.declared.places.Place.{Place}
 use Rattle.templates.specs.RuntimeWords.{read_word}
 use Rattle.exec_map.specs.Contents.{program_of}
@@ -125,6 +126,7 @@ rare_steps image op at k l s l' s' is steps = subst (λ (q : MicroKind). StepsTo
 micro_served : (image : List Cell) (word : Option RtWord) (place : Option Place) (op : MicroOp) (at k : ℕ) (l : kept.Lane) (s : Shelf) (l' : kept.Lane) (s' : Shelf) → IsMicroWord (word_address at) word op → StepsTo image (meaning_of image_base op (registers_of l.registers)) at l s l' s' (Some k) → Follows image (execute_read (program_of s.program) place word (lane_of l (word_address at)) (local_of s)) s.program (word_address k) l' s'
 micro_served image None place op at k l s l' s' is steps = absurd (rare_steps image op at k l s l' s' is steps)
 micro_served image (Some (Native i)) place op at k l s l' s' is steps = native_steps image _ _ at k (place_address place) l s l' s' (is.meets (registers_of l.registers)) steps
+micro_served image (Some Poll) place op at k l s l' s' is steps = native_steps image _ Continues at k (place_address place) l s l' s' (is (registers_of l.registers)) steps
 micro_served image (Some (Xjalr rd rs1 imm)) place op at k l s l' s' is steps = entry_steps image _ rd ((reg (registers_of l.registers) rs1 + unsigned 32 imm) % 4294967296 / 2 * 2) at k (place_address place) l s l' s' (is.enters (registers_of l.registers)) steps
 micro_served image (Some w) place op at k l s l' s' is steps = absurd (rare_steps image op at k l s l' s' is steps)
 

@@ -3,8 +3,9 @@ use Rattle.std.specs.Prelude.{◌≡◌, ℕ, ◌^◌, ◌<◌, ◌≤◌, ◌�
 use Rattle.elf32_read.specs.Elf.{Elf}
 use Rattle.byte_range.specs.Lines.{LineBytes, lines_memory, place_of}
 use Rattle.byte_range.specs.Window.{window_memory}
+use Rattle.first_memory.specs.SharedLines.{HasReadOnlyLines}
 use Rattle.exec_map.specs.Contents.{program_of, class_of_line, first_byte}
-use Rattle.rv32_program.specs.declared.Class.TheVariants.{Shared}
+use Rattle.rv32_program.specs.declared.Class.TheVariants.{Shared, ReadOnly}
 use Rattle.rv32_program.specs.declared.End.{End}
 use Rattle.rv32_program.specs.declared.End.TheVariants.{Exited}
 use Rattle.rv32_program.specs.declared.Exit.{Exit}
@@ -33,6 +34,12 @@ pub record Shelf : Type 0 where
 pub record HasLines (e : Elf) (shared : LineBytes) : Type 0 where
   pub lines : (line : ℕ) → (class_of_line e line ≡ Shared) ↔ IsSome (place_of shared.ranges line)
   pub low : (line : ℕ) → class_of_line e line ≡ Shared → line < 2 ^ 25
+
+-- the bytes of the read-only lines are those that the program begins with
+pub record HasFixed (e : Elf) (fixed : LineBytes) : Type 0 where
+  pub lines : HasReadOnlyLines e fixed
+  pub low : (line : ℕ) → class_of_line e line ≡ ReadOnly → line < 2 ^ 25
+  pub bytes : lines_memory fixed (first_byte e) ≡ first_byte e
 
 -- outside of the shared lines is what the program begins with; the state bytes are those of the
 -- start as yet

@@ -1,6 +1,6 @@
 -- One node: what belongs to its processor, what the words see of the node, and what executing one
 -- word does.
-use Rattle.std.specs.Prelude.{ℕ, ◌+◌, ◌-◌, ◌*◌, ◌/◌, ◌%◌, ◌^◌, Bool, true, false, not, if◌then◌else◌, ◌==◌, ◌||◌, nat_lt, bit_and, List, [], Option, Some, None, unwrap_or}
+use Rattle.std.specs.Prelude.{ℕ, ◌+◌, ◌-◌, ◌*◌, ◌/◌, ◌%◌, ◌^◌, Bool, true, false, not, if◌then◌else◌, ◌==◌, ◌||◌, nat_lt, bit_and, List, [], Option, Some, None, unwrap_or, option_and_then}
 use Rattle.std.specs.Option.{option_map_or}
 use Rattle.rv32_decode.specs.Widths.{width_of, is_aligned}
 use Rattle.rv32_decode.specs.declared.LoadKind.{LoadKind}
@@ -24,7 +24,7 @@ use Rattle.rv32_step.specs.Demands.{demand_of, call_step, cut_short}
 use Rattle.rv32_step.specs.Memory.{load_value, byte_by, shared_after, private_after}
 use Rattle.rv32_step.specs.OneMemory.{Access, Nothing, Reads, Writes, next_pc}
 use Rattle.templates.specs.declared.runtime_words.RtWord.{RtWord}
-use Rattle.templates.specs.declared.runtime_words.RtWord.TheVariants.{Native, MissR, MissW, Call, Xjalr, TrapFetch, TrapOff, TrapIllegal, TrapEbreak}
+use Rattle.templates.specs.declared.runtime_words.RtWord.TheVariants.{Native, MissR, MissW, Poll, Call, Xjalr, TrapFetch, TrapOff, TrapIllegal, TrapEbreak}
 use Rattle.templates.specs.declared.places.Place.{Place}
 use Rattle.jump_map.specs.declared.image.ImageWord.{ImageWord}
 use Rattle.jump_map.specs.Image.{Cell, image_base}
@@ -32,6 +32,8 @@ use Rattle.jump_map.specs.Maps.{fetch, new_of}
 use Rattle.node_machine.specs.declared.Need.{Need}
 use Rattle.node_machine.specs.declared.Need.TheVariants.{Read, Write}
 use Rattle.node_machine.specs.declared.NodeCounts.{NodeCounts}
+use Rattle.node_machine.specs.declared.node.Standing.{Standing}
+use Rattle.node_machine.specs.declared.node.Standing.TheVariants as standing
 
 -- what is a processor's own
 pub record Lane : Type 0 where
@@ -142,10 +144,7 @@ region_of a =
     else (if a == 2 ^ 32 - 8 then Spill 1
     else (if a == 2 ^ 32 - 12 then Spill 2 else Elsewhere))))
 
--- the flag word, which a load of an unmapped line gives, and its bytes
-abbrev pub flag_word : ℕ
-flag_word = 0xffffff03
-
+-- the bytes of the flag word, 0xffffff03, which a load of an unmapped line gives
 abbrev pub flag_byte : ℕ → ℕ
 flag_byte a = if a % 4 == 0 then 3 else 255
 
@@ -285,6 +284,7 @@ execute program place at (MissR w rs1 imm) l n =
     miss_r place l n w (offset_address (reg l.registers rs1) imm)
 execute program place at (MissW w rs1 imm) l n =
     miss_w place l n w (offset_address (reg l.registers rs1) imm)
+execute program place at Poll l n = go_on l n Next
 execute program place at Call l n = make_call program l n (call_step l.registers l.written)
 execute program place at (Xjalr rd rs1 imm) l n =
     indirect place l n rd (offset_address (reg l.registers rs1) imm / 2 * 2)
@@ -411,6 +411,21 @@ opening_node work me = record {
 -- what a node's next word does
 abbrev pub word_outcome : Work → Node → Outcome
 word_outcome work n = next_outcome work.program work.image n.lane n.local
+
+-- a word at which a node may take messages: a poll, or a call
+abbrev pub takes_messages : Option RtWord → Bool
+takes_messages (Some Poll) = true
+takes_messages (Some Call) = true
+takes_messages word = false
+
+-- what a node may do next: a node that runs may execute a word, and take a message before where the
+-- word lets it
+abbrev pub standing_of : Work → Node → Standing
+standing_of work n =
+    if can_execute n.phase then
+    (if takes_messages (option_and_then (λ w. w.what) (fetch work.image n.lane.at))
+    then standing.AtPoll else standing.Running)
+    else standing.Over
 
 -- the node after its next word, before what the word wants is asked for
 abbrev pub word_step : Work → Node → Node

@@ -13,7 +13,6 @@ use crate::NodeCounts;
 use crate::lane::Lane;
 use crate::local::Local;
 use crate::region::{Region, region_of};
-use exec_map::Class;
 use rv32_decode::{LoadKind, Reg, Width};
 use rv32_ops::extend;
 
@@ -36,9 +35,17 @@ impl<'a> Body<'a> {
             self.old.local.program at self.new.lane self.new.local }
         ensures counts { self.new.counts ≡ self.old.counts }
     {
-        match self.local.load(kind.width(), address) {
-            Some(raw) => self.lane.registers.set(rd, extend(kind, raw)),
-            None => self.load_elsewhere(kind, rd, address),
+        let width = kind.width();
+        if address >= SPILLS && width == Width::Word {
+            self.lane
+                .registers
+                .set(rd, self.lane.spills[spill_of(address)]);
+        } else if let Some(raw) = self.local.load(width, address) {
+            self.lane.registers.set(rd, extend(kind, raw));
+        } else if let Some(raw) = self.local.load_fixed(width, address) {
+            self.lane.registers.set(rd, extend(kind, raw));
+        } else {
+            self.load_elsewhere(kind, rd, address);
         }
     }
 
@@ -61,7 +68,7 @@ impl<'a> Body<'a> {
         self.lane.registers.set(rd, value);
     }
 
-    /// Loads an unsigned byte, most often the state byte of a shared line.
+    /// Loads an unsigned byte, most often the state byte of a line.
     #[inline(always)]
     pub fn load_byte(&mut self, rd: Reg, address: u32)
         ensures leaves { (at : ℕ) → LeavesBehind
@@ -72,7 +79,7 @@ impl<'a> Body<'a> {
     {
         let line = address.wrapping_sub(STATE_TABLE);
         if line < STATE_LINES
-            && let Some(state) = self.local.shared_state(line)
+            && let Some(state) = self.local.state_at_hand(line)
         {
             self.lane.registers.set(rd, u32::from(state));
         } else {
@@ -94,9 +101,9 @@ impl<'a> Body<'a> {
         if let Some(raw) = self.lane.private.load(width, address) {
             return raw;
         }
-        match self.local.class(address) {
-            Class::ReadOnly => self.local.first_load(width, address),
-            _ => flag(width, address),
+        match self.local.load_fixed(width, address) {
+            Some(raw) => raw,
+            None => flag(width, address),
         }
     }
 
@@ -110,7 +117,9 @@ impl<'a> Body<'a> {
             self.old.local.program at self.new.lane self.new.local }
         ensures counts { self.new.counts ≡ self.old.counts }
     {
-        if !self.local.store(width, address, value) {
+        if address >= SPILLS && width == Width::Word {
+            self.lane.spills[spill_of(address)] = value;
+        } else if !self.local.store(width, address, value) {
             self.store_elsewhere(width, address, value);
         }
     }
@@ -141,6 +150,20 @@ const STATE_TABLE: u32 = 0x8000_0000;
 
 /// How many state bytes there are.
 const STATE_LINES: u32 = 0x0400_0000;
+
+/// The lowest address of a word in which sequences keep a register.
+const SPILLS: u32 = 0xffff_fff4;
+
+/// Which of those words is at an address.
+#[inline(always)]
+fn spill_of(address: u32) -> usize
+    requires { 0xfffffff4 ≤ address }
+    ensures few { result < 3 }
+    ensures region { is_aligned Width.Word address ≡ true →
+        model.region_of address ≡ model.Spill result }
+{
+    ((u32::MAX - address) / 4) as usize
+}
 
 /// The byte of the flag word that an address has.
 fn flag_byte(address: u32) -> u8

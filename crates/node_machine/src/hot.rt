@@ -21,9 +21,9 @@ impl<'a> Body<'a> {
     /// Executes a micro-op at an index, and gives the index of the word that follows. `None` where
     /// the path that serves every word has to; then nothing changed.
     #[inline(always)]
-    pub fn step(&mut self, image: &Image, op: MicroOp, at: u32) -> Option<u32>
+    pub fn step(&mut self, image: &Image, op: &MicroOp, at: u32) -> Option<u32>
         ensures steps { StepsTo image.now
-            (meaning_of image_base op (registers_of self.old.lane.registers)) at
+            (meaning_of image_base op.now (registers_of self.old.lane.registers)) at
             self.old.lane self.old.local self.new.lane self.new.local result }
         ensures counts { self.new.counts ≡ self.old.counts }
     {

@@ -1,39 +1,39 @@
 //! What words see of their node: its copy of the shared bytes, and the state of each line.
 
-ghost use Rattle.std.specs.Prelude.{◌≡◌, ◌+◌, ◌*◌, ◌/◌, ◌%◌, ◌^◌, ◌<◌, ◌≤◌, ℕ, true, false, IfOk, MatchOption, ⊤};
+ghost use Rattle.std.specs.Prelude.{◌≡◌, ◌+◌, ◌*◌, ◌/◌, ◌%◌, ◌^◌, ◌<◌, ◌≤◌, ℕ, true, false, Some, IfOk, IfSome, MatchOption};
 ghost use Rattle.exec_map.specs.Contents.{program_of, first_byte};
-ghost use Rattle.rv32_program.specs.declared.Class.TheVariants.{Shared};
+ghost use Rattle.rv32_program.specs.declared.Class.TheVariants.{Shared, ReadOnly};
 ghost use Rattle.rv32_program.specs.Program.{class_at};
-ghost use Rattle.rv32_decode.specs.Widths.{is_aligned, size_of};
+ghost use Rattle.rv32_decode.specs.Widths.{is_aligned};
 ghost use Rattle.byte_range.specs.Memory.{raw, stored};
 ghost use Rattle.node_machine.specs.Node as model;
 ghost use Rattle.node_machine.specs.Kept.{local_of};
 
 use byte_range::LineMemory;
 use exec_map::{Class, Program};
-use first_memory::shared_memory;
+use first_memory::{read_only_memory, shared_memory};
 use rv32_decode::Width;
 use std::alloc::{AllocError, Global};
 use std::marker::Model;
-
-/// The bytes of a line.
-const LINE_BYTES: u32 = 64;
 
 /// What words see of their node. State bytes are those of the start.
 #[derive(Drop)]
 pub struct Local<'a> {
     program: &'a Program<'a>,
     shared: LineMemory,
+    /// The read-only lines.
+    fixed: LineMemory,
 }
 
 impl<'a> Model for Local<'a> {
-    ghost use Rattle.node_machine.specs.Kept.{Shelf, HasLines};
+    ghost use Rattle.node_machine.specs.Kept.{Shelf, HasLines, HasFixed};
 
     ghost Value = { Shelf };
 
     ghost view = { λ l. record { program = l.program.now; shared = l.shared } };
 
-    ghost invariant = { λ l. HasLines l.program.now l.shared };
+    ghost invariant = { λ l. HasLines l.program.now l.shared
+        × HasFixed l.program.now l.fixed };
 }
 
 impl<'a> Local<'a> {
@@ -46,14 +46,8 @@ impl<'a> Local<'a> {
         Ok(Local {
             program,
             shared: shared_memory(alloc, program)?,
+            fixed: read_only_memory(alloc, program)?,
         })
-    }
-
-    /// The class of an address.
-    pub fn class(&self, address: u32) -> Class
-        ensures { result ≡ class_at (program_of self.now.program) address }
-    {
-        self.program.class(address / LINE_BYTES)
     }
 
     /// The state byte of a line.
@@ -65,18 +59,27 @@ impl<'a> Local<'a> {
         ensures writable { model.is_fixed_state result ≡ false
             → model.is_writable_state result ≡ true }
     {
-        first_state(self.program.class(line))
+        match self.state_at_hand(line) {
+            Some(state) => state,
+            None => first_state(self.program.class(line)),
+        }
     }
 
-    /// The state byte of a shared line; `None` where the line isn't shared.
+    /// The state byte of a line that is shared or read-only; `None` where it is neither.
     #[inline(always)]
-    pub fn shared_state(&self, line: u32) -> Option<u8>
+    pub fn state_at_hand(&self, line: u32) -> Option<u8>
         requires { line < 2 ^ 26 }
-        ensures { MatchOption result ⊤ (λ state. state ≡ (local_of self.now).state line) }
+        ensures value { IfSome result (λ state. state ≡ (local_of self.now).state line) }
+        ensures readable { IfSome result (λ state. model.is_readable_state state ≡ true) }
+        ensures writable { IfSome result (λ state. model.is_fixed_state state ≡ false
+            → model.is_writable_state state ≡ true) }
     {
-        match self.shared.place(line) {
-            Some(_) => Some(0),
-            None => None,
+        if self.shared.place(line).is_some() {
+            Some(WRITABLE)
+        } else if self.fixed.place(line).is_some() {
+            Some(READ_ONLY)
+        } else {
+            None
         }
     }
 
@@ -110,19 +113,29 @@ impl<'a> Local<'a> {
         self.shared.store(width, address, value)
     }
 
-    /// The number that the bytes from an address on make, with which the program begins.
-    #[tactic(auto, unfolding(byte_range::specs::Memory::raw))]
-    pub fn first_load(&self, width: Width, address: u32) -> u32
-        requires { address + size_of width ≤ 2 ^ 32 }
-        ensures value { result ≡ raw width (first_byte self.now.program) address }
-        ensures byte { width ≡ Width.Byte → result < 2 ^ 8 }
+    /// The number that the bytes of a read-only line from an address on make. `None` exactly where
+    /// the line isn't read-only.
+    #[inline(always)]
+    pub fn load_fixed(&self, width: Width, address: u32) -> Option<u32>
+        requires { is_aligned width address ≡ true }
+        ensures value { MatchOption result
+            (class_at (program_of self.now.program) address ≡ ReadOnly → ⊥)
+            (λ n. (class_at (program_of self.now.program) address ≡ ReadOnly) × (address < 2 ^ 31)
+            × (n ≡ raw width (first_byte self.now.program) address)) }
+        ensures byte { (n : ℕ) → result ≡ Some n → width ≡ Width.Byte → n < 2 ^ 8 }
     {
-        match width {
-            Width::Byte => u32::from(self.program.byte0(address)),
-            _ => self.program.load0(width, address),
-        }
+        self.fixed.load(width, address)
     }
 }
+
+/// The state byte of a line that may be written.
+const WRITABLE: u8 = 0;
+
+/// The state byte of read-only lines.
+pub const READ_ONLY: u8 = 5;
+
+/// The state byte of lines that aren't mapped.
+pub const UNMAPPED: u8 = 7;
 
 /// The state byte of a line of this class at the start: writable, read-only, or not mapped.
 fn first_state(class: Class) -> u8
@@ -131,8 +144,8 @@ fn first_state(class: Class) -> u8
     ensures writable { model.is_fixed_state result ≡ false → model.is_writable_state result ≡ true }
 {
     match class {
-        Class::Shared | Class::Private => 0,
-        Class::ReadOnly => 5,
-        Class::Unmapped => 7,
+        Class::Shared | Class::Private => WRITABLE,
+        Class::ReadOnly => READ_ONLY,
+        Class::Unmapped => UNMAPPED,
     }
 }

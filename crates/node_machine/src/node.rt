@@ -1,21 +1,24 @@
 //! A node: its processor, what words see of it, and how many words it has executed.
 
-ghost use Rattle.std.specs.Prelude.{◌≡◌, ◌+◌, ◌*◌, ◌%◌, ◌^◌, ◌<◌, ◌≤◌, ◌↔◌, ℕ, true, None, IfOk};
+ghost use Rattle.std.specs.Prelude.{◌≡◌, ◌+◌, ◌*◌, ◌%◌, ◌^◌, ◌<◌, ◌≤◌, ℕ, true, None, IfOk, if◌then◌else◌, option_and_then};
+ghost use Rattle.jump_map.specs.declared.image.ImageWord.{ImageWord};
 ghost use Rattle.exec_map.specs.Contents.{program_of};
 ghost use Rattle.node_machine.specs.Node as model;
 ghost use Rattle.node_machine.specs.Kept.{node_of, work_of};
+ghost use Rattle.node_machine.specs.Runs.{HasExecuted};
 
 use crate::NodeCounts;
 use crate::body::Body;
-use crate::lane::{Lane, index_of};
+use crate::lane::{Lane, address_of, index_of};
 use crate::local::Local;
 use byte_range::Window;
 use exec_map::{End, Program};
-use jump_map::Image;
+use jump_map::{Image, ImageWord};
 use run_limits::{Budget, NodeCount};
 use rv32_step::Registers;
 use std::alloc::{AllocError, Global};
 use std::marker::Model;
+use templates::RtWord;
 
 /// What a node did in one event.
 #[derive(Clone, Copy, Debug, PartialEq, Eq)]
@@ -29,6 +32,8 @@ pub struct Turn {
 pub enum Standing {
     /// It may execute a word.
     Running,
+    /// It may execute a word, or take a message: the word is a poll or a call.
+    AtPoll,
     /// It has ended.
     Over,
 }
@@ -113,13 +118,12 @@ impl<'a> Node<'a> {
         })
     }
 
-    /// Whether the node may execute a word.
+    /// What the node may do next.
     pub fn standing(&self) -> Standing
-        ensures running { (result ≡ Standing.Running)
-            ↔ (model.can_execute (node_of self.now).phase ≡ true) }
+        ensures value { result ≡ model.standing_of (work_of self.now) (node_of self.now) }
     {
         match self.end {
-            None => Standing::Running,
+            None => standing_at(self.image.fetch(address_of(self.at))),
             Some(_) => Standing::Over,
         }
     }
@@ -129,6 +133,7 @@ impl<'a> Node<'a> {
     pub fn end(&self) -> Option<End>
         ensures value { result ≡ model.end_of (node_of self.now).phase }
         ensures runs { (result ≡ None) → ((node_of self.now).phase ≡ model.Running) }
+        ensures left { (result ≡ None) → (node_of self.now).executed < (work_of self.now).budget }
     {
         self.end
     }
@@ -140,8 +145,22 @@ impl<'a> Node<'a> {
         self.body.counts
     }
 
+    /// Executes words, of which none but the last prints a byte or ends the node: as many as their
+    /// micro-ops serve, and one more.
+    pub fn exec_on(&mut self) -> Turn
+        requires { model.can_execute (node_of self.old).phase ≡ true }
+        ensures ran { HasExecuted (work_of self.old) (node_of self.old) (node_of self.new)
+            result.output }
+        ensures work { work_of self.new ≡ work_of self.old }
+    {
+        let most = self.budget.number() - self.executed - 1;
+        let stretch = self.body.run(self.image, self.at, most);
+        self.at = stretch.at;
+        self.executed += stretch.words;
+        self.serve_word()
+    }
+
     /// Executes one word.
-    #[inline(always)]
     pub fn exec(&mut self) -> Turn
         requires { model.can_execute (node_of self.old).phase ≡ true }
         ensures node { node_of self.new ≡ model.word_step (work_of self.old) (node_of self.old) }
@@ -158,21 +177,48 @@ impl<'a> Node<'a> {
                 }
                 Turn { output: None }
             }
-            None => {
-                let served = self.body.serve(self.image, self.at);
-                self.at = served.at;
-                self.executed += 1;
-                if let Some(exit) = served.exit {
-                    self.end = Some(End::Exited(exit));
-                } else if self.executed == self.budget.number() {
-                    self.end = Some(End::Stopped(self.executed));
-                }
-                Turn {
-                    output: served.output,
-                }
-            }
+            None => self.serve_word(),
         }
     }
+
+    /// Executes one word by the path that serves every word.
+    fn serve_word(&mut self) -> Turn
+        requires { model.can_execute (node_of self.old).phase ≡ true }
+        ensures node { node_of self.new ≡ model.word_step (work_of self.old) (node_of self.old) }
+        ensures output { result.output ≡
+            (model.word_outcome (work_of self.old) (node_of self.old)).printed }
+        ensures work { work_of self.new ≡ work_of self.old }
+    {
+        let served = self.body.serve(self.image, self.at);
+        self.at = served.at;
+        self.executed += 1;
+        if let Some(exit) = served.exit {
+            self.end = Some(End::Exited(exit));
+        } else if self.executed == self.budget.number() {
+            self.end = Some(End::Stopped(self.executed));
+        }
+        Turn {
+            output: served.output,
+        }
+    }
+}
+
+/// What a node that runs may do next, by its next word.
+fn standing_at(next: Option<ImageWord>) -> Standing
+    ensures { result ≡ (if model.takes_messages (option_and_then (λ (w : ImageWord). w.what) next)
+        then Standing.AtPoll else Standing.Running) }
+{
+    match next {
+        Some(word) if takes_messages(word.what) => Standing::AtPoll,
+        _ => Standing::Running,
+    }
+}
+
+/// Whether a node may take messages at a word.
+fn takes_messages(what: Option<RtWord>) -> bool
+    ensures { result ≡ model.takes_messages what }
+{
+    matches!(what, Some(RtWord::Poll | RtWord::Call))
 }
 
 /// The counts of the start.

@@ -14,6 +14,7 @@ ghost use Rattle.node_machine.specs.declared.lane.Lane.{Lane};
 
 use crate::body::Body;
 use crate::lane::{Move, Outcome, exit_by, go_on, index_of};
+use crate::local::{READ_ONLY, UNMAPPED};
 use exec_map::Exit;
 use jump_map::{Image, ImageWord};
 use rv32_decode::{Imm12, Instr, LoadKind, Reg, Width};
@@ -59,6 +60,7 @@ impl<'a> Body<'a> {
             RtWord::Native(i) => self.native(place, i, at),
             RtWord::MissR { width, rs1, imm } => self.miss_r(place, width, self.sum(rs1, imm)),
             RtWord::MissW { width, rs1, imm } => self.miss_w(place, width, self.sum(rs1, imm)),
+            RtWord::Poll => go_on(Move::Next),
             RtWord::Call => self.call(),
             RtWord::Xjalr { rd, rs1, imm } => self.indirect(place, rd, self.sum(rs1, imm)),
             RtWord::TrapFetch => exit_by(Exit::Fetch(place)),
@@ -269,12 +271,6 @@ impl<'a> Body<'a> {
         self.memory(Width::Byte, address) as u8
     }
 }
-
-/// The state byte of read-only lines.
-const READ_ONLY: u8 = 5;
-
-/// The state byte of lines that aren't mapped.
-const UNMAPPED: u8 = 7;
 
 /// Takes a branch.
 fn branch_to(place: u32, target: u32) -> Outcome

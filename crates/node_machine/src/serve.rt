@@ -6,6 +6,7 @@ ghost use Rattle.jump_map.specs.Image.{most_words};
 ghost use Rattle.node_machine.specs.Node as model;
 ghost use Rattle.node_machine.specs.Address.{word_address};
 ghost use Rattle.node_machine.specs.Kept.{StepsOr, Serves, local_of, lane_of, move_of, tally_of, phase_by};
+ghost use Rattle.node_machine.specs.GoingOn.{BodyGoesOn};
 
 use crate::NodeCounts;
 use crate::body::Body;
@@ -24,6 +25,13 @@ pub struct Served {
     pub output: Option<u8>,
 }
 
+/// How many words were executed one after another, and the index of the word that follows.
+#[derive(Clone, Copy, Debug, PartialEq, Eq)]
+pub struct Stretch {
+    pub at: u32,
+    pub words: u64,
+}
+
 impl<'a> Body<'a> {
     /// Executes the word with an index by its micro-op, and gives the index of the word that
     /// follows. `None` where the path that serves every word has to; then nothing changed.
@@ -36,9 +44,31 @@ impl<'a> Body<'a> {
         ensures counts { self.new.counts ≡ self.old.counts }
     {
         match image.micro(at) {
-            Some(op) => self.step(image, *op, at),
+            Some(op) => self.step(image, op, at),
             None => None,
         }
+    }
+
+    /// Executes words from an index on by their micro-ops, as long as those serve them, and at most
+    /// so many.
+    #[inline(never)]
+    pub fn run(&mut self, image: &Image, from: u32, most: u64) -> Stretch
+        requires { length image.now ≤ most_words }
+        ensures words { BodyGoesOn image.now most from self.old result.words result.at self.new }
+        ensures most { result.words ≤ most }
+        ensures program { self.new.local.program ≡ self.old.local.program }
+        ensures counts { self.new.counts ≡ self.old.counts }
+    {
+        let mut at = from;
+        let mut words = 0;
+        while words < most {
+            match self.step_at(image, at) {
+                Some(next) => at = next,
+                None => break,
+            }
+            words += 1;
+        }
+        Stretch { at, words }
     }
 
     /// Executes the word with an index, whichever it is.

@@ -32,10 +32,11 @@ use Rattle.templates.specs.declared.commits.CommitKind.TheVariants.{Never, Alway
 use Rattle.templates.specs.declared.plans.Scratch.{Scratch}
 use Rattle.templates.specs.declared.plans.Scratches.{Scratches}
 use Rattle.templates.specs.Plans.{IsScratch, HasTwoScratches}
-use Rattle.templates.specs.Sequences.{SequenceItem, committing, own, checking, state_look, spills, reloads, spill, reload, load_sequence, store_sequence}
-use Rattle.node_machine.specs.Node.{Lane, Local, Outcome, Next, Nothing_counted, exit_by, Memory, region_of, flag_byte, byte_at, first_state, is_mapped_state, is_fixed_state, local_stored, lane_stored, native, miss_r, miss_w, execute}
+use Rattle.templates.specs.Sequences.{SequenceItem, committing, own, checking, state_look, spills, reloads, spill, reload, state_load_sequence, store_sequence, with_word}
+use Rattle.node_machine.specs.Node.{Lane, Local, Outcome, Next, Nothing_counted, FalseMiss, go_on, exit_by, Memory, region_of, flag_byte, byte_at, first_state, is_mapped_state, is_readable_state, is_fixed_state, local_stored, lane_stored, native, miss_r, miss_w, execute}
 use Rattle.shared_sim.proofs.RegisterLemmas.{apart, equal, reg_zero, put_here, put_other, put_both}
-use Rattle.shared_sim.proofs.Does.{AtHead, Suits, Rest, byte_seen, lane_at, Commits, Leads, Does}
+use Rattle.shared_sim.specs.CoreRun.{commits_by}
+use Rattle.shared_sim.proofs.Does.{AtHead, Suits, Rest, byte_seen, lane_at, Commits, Continues, Leads, Does}
 use Rattle.shared_sim.proofs.Mids.{Hide, Shown, Dead, In, Holds, IsHidden, hide, shown, hiding, Free, Mid, with_reg, hide_hidden, alu_and, taken_zero, spill_0, spill_1, next_aligned, mid_at, own_set, read_shown, own_next, own_sets, own_skips, spill_does, reload_does, look_does}
 
 -- what the processor asks for at a place
@@ -48,7 +49,7 @@ memory_at : (x : ℕ) → x < 2 ^ 31 → region_of x ≡ Memory
 memory_at x h = let f : ltb x (2 ^ 31) ≡ true = grind (arith, nat_tests) in rw f refl
 
 -- what a load gives depends on its own line alone
-value_same : (w : Width) (f g : ℕ → ℕ) (x : ℕ) → is_aligned w x ≡ true
+pub value_same : (w : Width) (f g : ℕ → ℕ) (x : ℕ) → is_aligned w x ≡ true
     → ((y : ℕ) → y / 64 ≡ x / 64 → f y ≡ g y) → raw w f x ≡ raw w g x
 unfolding raw
 value_same Byte f g x al h = h x refl
@@ -257,18 +258,154 @@ module _ (program : Program) (accepted : IsAccepted program) where
       → n.state (line_of x) ≡ first_state c
   state_is n x c suits e = suits.states (line_of x) ∙ ap first_state e
 
+  -- a load from memory, inside a sequence in which its base is shown
+  module _ (a : ℕ) (q : Processor) (n : Local) (h : ℕ → Hide) (k : LoadKind) (rd rs1 : ℕ) (imm : ℤ)
+      (c : program.code a ≡ Some (Load k rd rs1 imm)) (base : h rs1 ≡ Shown) where
+    abbrev pub load_address : ℕ
+    load_address = offset_address (reg q.registers rs1) imm
+
+    abbrev pub seen_value : ℕ
+    seen_value = load_value k (byte_seen program q n) load_address
+
+    live_base : Live program.code rs1 a
+    live_base = uses (Load k rd rs1 imm) c (inr (0, lit< tt, refl))
+
+    pub same_base : (l : Lane) → Mid program h a q l → reg l.registers rs1 ≡ reg q.registers rs1
+    same_base l m = read_shown program a h q l rs1 m base live_base
+
+    load_acts : (at : ℕ) (l : Lane) → Mid program h a q l
+        → execute program a at (Native (Load k rd rs1 imm)) l n
+        ≡ native program a at l n (Loads k rd load_address)
+    load_acts at l m = ap (λ z. native program a at l n (Loads k rd (offset_address z imm)))
+        (same_base l m)
+
+    -- one whose address isn't aligned ends the processor
+    pub load_misaligned : (j at : ℕ) (l : Lane) (kind : CommitKind) (rest : List SequenceItem)
+        → is_aligned (width_of k) load_address ≡ false → Mid program h a q l
+        → Does program a j at (with_word kind (Native (Load k rd rs1 imm)) rest) 0 q l n
+    load_misaligned j at l kind rest f m =
+        leaves a j at (λ z. Does program a (j + 1) (next_pc at) rest z) q l n
+        (execute program a at (Native (Load k rd rs1 imm)) l n) kind (Misaligned a)
+        (load_acts at l m ∙ rw f refl)
+        (load_refused a q k rd rs1 imm (Misaligned a) m.place c
+        (rw f (ap (λ z. Some (Misaligned z)) m.place)))
+
+    -- one from below the state table gives what the node has there
+    pub load_gives : (at : ℕ) (l : Lane) → is_aligned (width_of k) load_address ≡ true
+        → load_address < 2 ^ 31 → Mid program h a q l
+        → execute program a at (Native (Load k rd rs1 imm)) l n
+        ≡ load_outcome l n k rd load_address (load_value k (byte_at program l n) load_address)
+    load_gives at l f low m = load_acts at l m ∙ rw (f, memory_at load_address low) refl
+
+    -- where its line is mapped that is what the processor would see
+    pub load_sees : (at : ℕ) (l : Lane) → is_aligned (width_of k) load_address ≡ true
+        → is_mapped (class_at program load_address) ≡ true → Mid program h a q l
+        → execute program a at (Native (Load k rd rs1 imm)) l n
+        ≡ load_outcome l n k rd load_address seen_value
+    load_sees at l f mapped m =
+        load_gives at l f (low_if_mapped load_address mapped) m
+        ∙ ap (load_outcome l n k rd load_address)
+        (value_same_as k q l n load_address f mapped m.private)
+
+    -- and where the word commits, that is the processor's step
+    pub load_commits : (j at : ℕ) (l : Lane) (kind : CommitKind) (rest : List SequenceItem)
+        → h rd ≡ Shown → is_aligned (width_of k) load_address ≡ true
+        → is_mapped (class_at program load_address) ≡ true
+        → commits_by kind (load_outcome l n k rd load_address seen_value) ≡ true
+        → Mid program h a q l
+        → ((x y : ℕ) → Mid program h (a + 4) (set_register q rd seen_value)
+        (lane_at x y (with_reg l rd seen_value))
+        → Does program a (j + 1) (next_pc at) rest 0 (set_register q rd seen_value)
+        (lane_at x y (with_reg l rd seen_value)) n)
+        → Does program a j at (with_word kind (Native (Load k rd rs1 imm)) rest) 0 q l n
+    load_commits j at l kind rest shows f mapped commits m go =
+        let K : Rest = λ z. Does program a (j + 1) (next_pc at) rest z in
+        let done = load_outcome l n k rd load_address seen_value in
+        let may : exit_of_demand (class_at program) q.pc (Loads k rd load_address) ≡ None =
+        rw (f, mapped) refl in
+        let ask : request program q ≡ LoadsFrom k rd load_address =
+        asks program a q (Load k rd rs1 imm) m.place c
+        ∙ ap (request_unless program q (Loads k rd load_address)) may in
+        let mid = sets_both h a q l (Load k rd rs1 imm) rd seen_value c (λ r ne d. ne (cc)) refl
+        shows m in
+        subst (λ (r : Outcome). Leads program a j at K q n r kind r.move)
+        (sym (load_sees at l f mapped m))
+        (subst (Continues program (λ p. (x y : ℕ) → K 0 p (lane_at x y done.lane) n) q n done)
+        (sym commits)
+        (subst (Commits program (λ p. (x y : ℕ) → K 0 p (lane_at x y done.lane) n) q n done)
+        (sym ask) (
+          refl,
+          refl,
+          refl,
+          λ x y. go x y (mid_at program (a + 4) h (set_register q rd seen_value)
+              (with_reg l rd seen_value) x y mid),
+        )))
+
+    miss_acts : (at : ℕ) (l : Lane) → Mid program h a q l
+        → execute program a at (MissR (width_of k) rs1 imm) l n
+        ≡ miss_r a l n (width_of k) load_address
+    miss_acts at l m = ap (λ z. miss_r a l n (width_of k) (offset_address z imm)) (same_base l m)
+
+    miss_misaligned : (j at : ℕ) (l : Lane) (rest : List SequenceItem)
+        → is_aligned (width_of k) load_address ≡ false → Mid program h a q l
+        → Does program a j at (checking (MissR (width_of k) rs1 imm) rest) 0 q l n
+    miss_misaligned j at l rest f m =
+        leaves a j at (λ z. Does program a (j + 1) (next_pc at) rest z) q l n
+        (execute program a at (MissR (width_of k) rs1 imm) l n) Never (Misaligned a)
+        (miss_acts at l m ∙ rw f refl)
+        (load_refused a q k rd rs1 imm (Misaligned a) m.place c
+        (rw f (ap (λ z. Some (Misaligned z)) m.place)))
+
+    -- the look at its line's state: it isn't mapped
+    pub miss_refused : (j at : ℕ) (l : Lane) (rest : List SequenceItem)
+        → class_at program load_address ≡ Unmapped → Suits program n → Mid program h a q l
+        → Does program a j at (checking (MissR (width_of k) rs1 imm) rest) 0 q l n
+    miss_refused j at l rest unmapped suits m = go (is_aligned (width_of k) load_address) refl
+      where
+        gone : is_mapped_state (n.state (line_of load_address)) ≡ false
+        gone = ap is_mapped_state (state_is n load_address Unmapped suits unmapped)
+
+        not_mapped : is_mapped (class_at program load_address) ≡ false
+        not_mapped = ap is_mapped unmapped
+
+        go : (b : Bool) → is_aligned (width_of k) load_address ≡ b
+            → Does program a j at (checking (MissR (width_of k) rs1 imm) rest) 0 q l n
+        go false f = miss_misaligned j at l rest f m
+        go true f =
+            leaves a j at (λ z. Does program a (j + 1) (next_pc at) rest z) q l n
+            (execute program a at (MissR (width_of k) rs1 imm) l n) Never (NoAccess a)
+            (miss_acts at l m ∙ rw (f, gone) refl)
+            (load_refused a q k rd rs1 imm (NoAccess a) m.place c
+            (rw (f, not_mapped) (ap (λ z. Some (NoAccess z)) m.place)))
+
+    -- or it may be read after all
+    pub miss_passes : (j at : ℕ) (l : Lane) (rest : List SequenceItem)
+        → is_mapped_state (n.state (line_of load_address)) ≡ true
+        → is_readable_state (n.state (line_of load_address)) ≡ true → Mid program h a q l
+        → (is_aligned (width_of k) load_address ≡ true → (x y : ℕ)
+        → Does program a (j + 1) (next_pc at) rest 0 q (lane_at x y l) n)
+        → Does program a j at (checking (MissR (width_of k) rs1 imm) rest) 0 q l n
+    miss_passes j at l rest mapped readable m next = go (is_aligned (width_of k) load_address) refl
+      where
+        passed : Outcome
+        passed = record (go_on l n Next) { tally = FalseMiss }
+
+        go : (b : Bool) → is_aligned (width_of k) load_address ≡ b
+            → Does program a j at (checking (MissR (width_of k) rs1 imm) rest) 0 q l n
+        go false f = miss_misaligned j at l rest f m
+        go true f =
+            let is : execute program a at (MissR (width_of k) rs1 imm) l n ≡ passed =
+            miss_acts at l m ∙ rw (f, mapped, readable) refl in
+            subst (λ (r : Outcome). Leads program a j at
+            (λ z. Does program a (j + 1) (next_pc at) rest z) q n r Never r.move) (sym is)
+            (refl, refl, next f)
+
   module _ (a : ℕ) (q : Processor) (n : Local) (suits : Suits program n) (regs : Scratches) where
     abbrev hides : ℕ → Hide
     hides = hides_of regs
 
     module _ (k : LoadKind) (rd rs1 : ℕ) (imm : ℤ) (c : program.code a ≡ Some (Load k rd rs1 imm))
         (two : HasTwoScratches program.code a (Load k rd rs1 imm) regs) where
-      abbrev load_address : ℕ
-      load_address = offset_address (reg q.registers rs1) imm
-
-      live_base : Live program.code rs1 a
-      live_base = uses (Load k rd rs1 imm) c (inr (0, lit< tt, refl))
-
       base_shown : hides rs1 ≡ Shown
       base_shown = shown_in regs rs1 (λ z. two.s.unused (inr (0, lit< tt, z)))
           (λ z. two.t.unused (inr (0, lit< tt, z)))
@@ -277,81 +414,25 @@ module _ (program : Program) (accepted : IsAccepted program) where
       destination_shown = shown_in regs rd (λ z. two.s.undefined (ap (λ r. Some r) z))
           (λ z. two.t.undefined (ap (λ r. Some r) z))
 
+      abbrev access : ℕ
+      access = load_address a q n hides k rd rs1 imm c base_shown
+
       -- the original load, where its line is mapped
-      load_word : (j at : ℕ) (l : Lane) → is_mapped (class_at program load_address) ≡ true
+      load_word : (j at : ℕ) (l : Lane) → is_mapped (class_at program access) ≡ true
           → Mid program hides a q l → Does program a j at
           (committing (Native (Load k rd rs1 imm)) (reloads regs)) 0 q l n
-      load_word j at l mapped m = go (is_aligned (width_of k) load_address) refl
+      load_word j at l mapped m = go (is_aligned (width_of k) access) refl
         where
-          K : Rest
-          K = λ z. Does program a (j + 1) (next_pc at) (reloads regs) z
-
-          acts : execute program a at (Native (Load k rd rs1 imm)) l n
-              ≡ native program a at l n (Loads k rd load_address)
-          acts = ap (λ z. native program a at l n (Loads k rd (offset_address z imm)))
-              (read_shown program a hides q l rs1 m base_shown live_base)
-
-          go : (b : Bool) → is_aligned (width_of k) load_address ≡ b
+          go : (b : Bool) → is_aligned (width_of k) access ≡ b
               → Does program a j at (committing (Native (Load k rd rs1 imm)) (reloads regs)) 0 q l n
-          go false f = leaves a j at K q l n (execute program a at (Native (Load k rd rs1 imm)) l n)
-              Always (Misaligned a) (acts ∙ rw f refl)
-              (load_refused a q k rd rs1 imm (Misaligned a) m.place c
-              (rw f (ap (λ z. Some (Misaligned z)) m.place)))
+          go false f = load_misaligned a q n hides k rd rs1 imm c base_shown j at l Always
+              (reloads regs) f m
           go true f =
-              let v = load_value k (byte_seen program q n) load_address in
-              let value = value_same_as k q l n load_address f mapped m.private in
-              let done = load_outcome l n k rd load_address v in
-              let is : execute program a at (Native (Load k rd rs1 imm)) l n ≡ done =
-              acts ∙ rw (f, memory_at load_address (low_if_mapped load_address mapped))
-              (ap (load_outcome l n k rd load_address) value) in
-              let may : exit_of_demand (class_at program) q.pc (Loads k rd load_address) ≡ None =
-              rw (f, mapped) refl in
-              let ask : request program q ≡ LoadsFrom k rd load_address =
-              asks program a q (Load k rd rs1 imm) m.place c
-              ∙ ap (request_unless program q (Loads k rd load_address)) may in
-              let mid = sets_both hides a q l (Load k rd rs1 imm) rd v c (λ r ne d. ne (cc)) refl
-              destination_shown m in
-              subst (λ (r : Outcome). Leads program a j at K q n r Always r.move) (sym is)
-              (subst (Commits program (λ p. (x y : ℕ) → K 0 p (lane_at x y done.lane) n) q n done)
-              (sym ask) (
-                refl,
-                refl,
-                refl,
-                λ x y. scratch_back a (j + 1) (next_pc at) (Load k rd rs1 imm) (set_register q rd v)
-                    (lane_at x y (with_reg l rd v)) n regs c two
-                    (mid_at program (a + 4) hides (set_register q rd v) (with_reg l rd v) x y mid),
-              ))
-
-      -- the look before it, where its line isn't
-      miss_word : (j at : ℕ) (l : Lane) (rest : List SequenceItem)
-          → class_at program load_address ≡ Unmapped → Mid program hides a q l
-          → Does program a j at (checking (MissR (width_of k) rs1 imm) rest) 0 q l n
-      miss_word j at l rest unmapped m = go (is_aligned (width_of k) load_address) refl
-        where
-          K : Rest
-          K = λ z. Does program a (j + 1) (next_pc at) rest z
-
-          acts : execute program a at (MissR (width_of k) rs1 imm) l n
-              ≡ miss_r a l n (width_of k) load_address
-          acts = ap (λ z. miss_r a l n (width_of k) (offset_address z imm))
-              (read_shown program a hides q l rs1 m base_shown live_base)
-
-          gone : is_mapped_state (n.state (line_of load_address)) ≡ false
-          gone = ap is_mapped_state (state_is n load_address Unmapped suits unmapped)
-
-          not_mapped : is_mapped (class_at program load_address) ≡ false
-          not_mapped = ap is_mapped unmapped
-
-          go : (b : Bool) → is_aligned (width_of k) load_address ≡ b
-              → Does program a j at (checking (MissR (width_of k) rs1 imm) rest) 0 q l n
-          go false f = leaves a j at K q l n (execute program a at (MissR (width_of k) rs1 imm) l n)
-              Never (Misaligned a) (acts ∙ rw f refl)
-              (load_refused a q k rd rs1 imm (Misaligned a) m.place c
-              (rw f (ap (λ z. Some (Misaligned z)) m.place)))
-          go true f = leaves a j at K q l n (execute program a at (MissR (width_of k) rs1 imm) l n)
-              Never (NoAccess a) (acts ∙ rw (f, gone) refl)
-              (load_refused a q k rd rs1 imm (NoAccess a) m.place c
-              (rw (f, not_mapped) (ap (λ z. Some (NoAccess z)) m.place)))
+              load_commits a q n hides k rd rs1 imm c base_shown j at l Always (reloads regs)
+              destination_shown f mapped refl m (λ x y mid.
+              let v = seen_value a q n hides k rd rs1 imm c base_shown in
+              scratch_back a (j + 1) (next_pc at) (Load k rd rs1 imm) (set_register q rd v)
+              (lane_at x y (with_reg l rd v)) n regs c two mid)
 
       -- the words behind the branch
       abbrev load_rest : List SequenceItem
@@ -360,7 +441,7 @@ module _ (program : Program) (accepted : IsAccepted program) where
           (committing (Native (Load k rd rs1 imm)) (reloads regs))
 
       -- the branch past the look
-      load_branch : (j at : ℕ) (l : Lane) (cl : Class) → class_at program load_address ≡ cl
+      load_branch : (j at : ℕ) (l : Lane) (cl : Class) → class_at program access ≡ cl
           → at % 4 ≡ 0 → reg l.registers regs.s.register ≡ bit_and (first_state cl) 2
           → Mid program hides a q l
           → Does program a j at (own (Branch Eq regs.s.register 0 (pos 8)) load_rest) 0 q l n
@@ -373,7 +454,7 @@ module _ (program : Program) (accepted : IsAccepted program) where
           tests b z =
               taken_zero value (reg l.registers 0) ∙ ap (eqb value) (reg_zero l.registers) ∙ z
 
-          skips : eqb value 0 ≡ true → is_mapped (class_at program load_address) ≡ true
+          skips : eqb value 0 ≡ true → is_mapped (class_at program access) ≡ true
               → Does program a j at (own (Branch Eq regs.s.register 0 (pos 8)) load_rest) 0 q l n
           skips z mapped =
               own_skips program a j at (Branch Eq regs.s.register 0 (pos 8)) load_rest q l n al
@@ -381,7 +462,7 @@ module _ (program : Program) (accepted : IsAccepted program) where
               (λ x y. load_word (j + 1 + 1) (next_pc (next_pc at)) (lane_at x y l) mapped
               (mid_at program a hides q l x y m))
 
-          go : (cl : Class) → class_at program load_address ≡ cl
+          go : (cl : Class) → class_at program access ≡ cl
               → value ≡ bit_and (first_state cl) 2
               → Does program a j at (own (Branch Eq regs.s.register 0 (pos 8)) load_rest) 0 q l n
           go Shared f g = skips (ap (λ z. eqb z 0) g) (ap is_mapped f)
@@ -391,28 +472,29 @@ module _ (program : Program) (accepted : IsAccepted program) where
               own_next program a j at (Branch Eq regs.s.register 0 (pos 8)) load_rest q l l n
               (ap (λ b. native program a at l n (branch_demand b (offset_address at (pos 8))))
               (tests false (ap (λ z. eqb z 0) g)))
-              (λ x y. miss_word (j + 1) (next_pc at) (lane_at x y l)
-              (committing (Native (Load k rd rs1 imm)) (reloads regs)) f
+              (λ x y. miss_refused a q n hides k rd rs1 imm c base_shown (j + 1) (next_pc at)
+              (lane_at x y l) (committing (Native (Load k rd rs1 imm)) (reloads regs)) f suits
               (mid_at program a hides q l x y m))
 
-      pub load_does : (at : ℕ) (l : Lane) → AtHead program a q l → at % 4 ≡ 0
-          → Does program a 0 at (load_sequence regs k rd rs1 imm) 0 q l n
-      load_does at l head al =
+      pub state_load_does : (at : ℕ) (l : Lane) → AtHead program a q l → at % 4 ≡ 0
+          → Does program a 0 at (state_load_sequence regs k rd rs1 imm) 0 q l n
+      state_load_does at l head al =
           let rest2 = own (Branch Eq regs.s.register 0 (pos 8)) load_rest in
           let rest1 = own (OpImm imm_op.And regs.s.register regs.s.register (pos 2)) rest2 in
           with_scratch a 0 at q l n (Load k rd rs1 imm) regs (state_look regs rs1 imm rest1) c two
           head al (λ j to l1 al1 m1.
           look_does program a regs rs1 imm j to hides q l1 n rest1 two.s.nonzero two.t.nonzero
-          two.apart (hidden_s regs) (hidden_t regs two.apart) base_shown live_base m1 al1
+          two.apart (hidden_s regs) (hidden_t regs two.apart) base_shown
+          (live_base a q n hides k rd rs1 imm c base_shown) m1 al1
           (λ j2 to2 l2 al2 m2 state.
-          let v = bit_and (first_state (class_at program load_address)) 2 in
+          let v = bit_and (first_state (class_at program access)) 2 in
           let now : alu op.And (reg l2.registers regs.s.register) 2 ≡ v =
           alu_and (reg l2.registers regs.s.register) 2
-          ∙ ap (λ z. bit_and z 2) (state ∙ suits.states (line_of load_address)) in
+          ∙ ap (λ z. bit_and z 2) (state ∙ suits.states (line_of access)) in
           own_sets program a j2 to2 (OpImm imm_op.And regs.s.register regs.s.register (pos 2)) rest2
           q l2 n regs.s.register v (ap (Sets regs.s.register) now) (λ x y.
           load_branch (j2 + 1) (next_pc to2) (lane_at x y (with_reg l2 regs.s.register v))
-          (class_at program load_address) refl (next_aligned to2 al2)
+          (class_at program access) refl (next_aligned to2 al2)
           (put_here l2.registers regs.s.register v two.s.nonzero)
           (mid_at program a hides q (with_reg l2 regs.s.register v) x y
           (own_set program a hides q l2 regs.s.register v (hidden_s regs) m2)))))

@@ -70,7 +70,7 @@ Commits program K q n r (StoresTo w x value) =
 -- the word commits, or it does nothing that the original sees
 abbrev pub Continues : Program → (Processor → Type 0) → Processor → Local → Outcome → Bool → Type 0
 Continues program K q n r true = Commits program K q n r (request program q)
-Continues program K q n r false = (r.access ≡ Nothing) × (r.printed ≡ None) × (r.local ≡ n) × K q
+Continues program K q n r false = (r.printed ≡ None) × (r.local ≡ n) × K q
 
 -- what holds of the words behind one, once so many more are skipped
 abbrev pub Rest : Type 1

@@ -3,6 +3,7 @@ mod Does
 mod Plans
 mod Mids
 mod Checked
+mod Flagged
 mod Templates
 mod Fetching
 mod Standing

@@ -172,6 +172,20 @@ module _ (program : Program) (a : ℕ) where
     written = m.written;
   }
 
+  -- a register that isn't live may be set
+  pub own_set_unused : (h : ℕ → Hide) (q : Processor) (l : Lane) (s v : ℕ)
+      → (Live program.code s a → ⊥) → Mid program h a q l → Mid program h a q (with_reg l s v)
+  own_set_unused h q l s v dead m = record {
+    place = m.place;
+    running = m.running;
+    agree = λ r live. elim (eqb_tells r s) [
+      | inl e ↦ absurd (dead (subst (λ x. Live program.code x a) e.1 live))
+      | inr e ↦ holds_put (h r) r s v q l e.1 (m.agree r live)
+    ];
+    private = m.private;
+    written = m.written;
+  }
+
   pub read_shown : (h : ℕ → Hide) (q : Processor) (l : Lane) (r : ℕ) → Mid program h a q l
       → h r ≡ Shown → Live program.code r a → reg l.registers r ≡ reg q.registers r
   read_shown h q l r m e live = subst (λ x. Holds x r q l) e (m.agree r live)
@@ -243,7 +257,7 @@ module _ (program : Program) (a : ℕ) where
       → Does program a k at (own i rest) 0 q l n
   own_next k at i rest q l l' n e go =
       subst (λ (r : Outcome). Leads program a k at (λ s. Does program a (k + 1) (next_pc at) rest s)
-      q n r Never r.move) (sym e) (refl, refl, refl, go)
+      q n r Never r.move) (sym e) (refl, refl, go)
 
   -- one that sets a register
   pub own_sets : (k at : ℕ) (i : Instr) (rest : List SequenceItem) (q : Processor) (l : Lane)
@@ -253,19 +267,25 @@ module _ (program : Program) (a : ℕ) where
   own_sets k at i rest q l n r v e go = own_next k at i rest q l (with_reg l r v) n
       (ap (native program a at l n) e) go
 
+  -- a branch past so many words
+  pub own_jumps : (s k at to : ℕ) (i : Instr) (rest : List SequenceItem) (q : Processor) (l : Lane)
+      (n : Local) → to % 4 ≡ 0 → to ≡ skip_to s (next_pc at)
+      → demand_of i l.registers at ≡ Branches to
+      → ((x y : ℕ) → Does program a (k + 1) (next_pc at) rest s q (lane_at x y l) n)
+      → Does program a k at (own i rest) 0 q l n
+  own_jumps s k at to i rest q l n four there e go =
+      let acts : execute program a at (Native i) l n ≡ go_on l n (To to) =
+      ap (native program a at l n) e ∙ rw (equal (to % 4) 0 four) refl in
+      subst (λ (r : Outcome). Leads program a k at (λ s. Does program a (k + 1) (next_pc at) rest s)
+      q n r Never r.move) (sym acts) (s, there, (refl, refl, go))
+
   -- a branch past the next word
   pub own_skips : (k at : ℕ) (i : Instr) (rest : List SequenceItem) (q : Processor) (l : Lane)
       (n : Local) → at % 4 ≡ 0 → demand_of i l.registers at ≡ Branches (offset_address at (pos 8))
       → ((x y : ℕ) → Does program a (k + 1) (next_pc at) rest 1 q (lane_at x y l) n)
       → Does program a k at (own i rest) 0 q l n
   own_skips k at i rest q l n m e go =
-      let to = offset_address at (pos 8) in
-      let four : to % 4 ≡ 0 = omega arith in
-      let acts : execute program a at (Native i) l n ≡ go_on l n (To to) =
-      ap (native program a at l n) e ∙ rw (equal (to % 4) 0 four) refl in
-      let there : to ≡ skip_to 1 (next_pc at) = omega arith in
-      subst (λ (r : Outcome). Leads program a k at (λ s. Does program a (k + 1) (next_pc at) rest s)
-      q n r Never r.move) (sym acts) (1, there, (refl, refl, refl, go))
+      own_jumps 1 k at (offset_address at (pos 8)) i rest q l n (omega arith) (omega arith) e go
 
   -- the spill of a scratch register, or nothing
   pub spill_does : (spilled : Bool) (j s k at : ℕ) (h : ℕ → Hide) (q : Processor) (l : Lane)

@@ -1,9 +1,10 @@
 -- Where a node stands between two words, beside the processor that it follows.
 use Rattle.std.proofs.Common.{◌≡◌, ℕ, zero, suc, ◌+◌, ◌%◌, ◌^◌, ◌<◌, ◌⊎◌, Bool, true, false, List, [], ◌∷◌, ◌++◌, length, Option, Some, None, refl, sym, ap, ◌∙◌, subst, inl, inr, arith, append-nil, append_assoc, length-append}
-use Rattle.std.specs.Prelude.{slice_get, Contains, IsSome}
+use Rattle.std.specs.Prelude.{ℤ, slice_get, Contains, IsSome, IsTrue}
 use Rattle.std.proofs.lemmas.Bool.Decides.{leb_tells}
 use Rattle.rv32_decode.specs.Fields.{signed}
 use Rattle.rv32_decode.specs.declared.Cond.{Cond}
+use Rattle.rv32_decode.specs.declared.LoadKind.{LoadKind}
 use Rattle.rv32_decode.specs.declared.Instr.{Instr}
 use Rattle.rv32_decode.specs.declared.Instr.TheVariants.{Lui, Auipc, Jal, Jalr, Branch, Load, Store, OpImm, ShiftImm, Op, Fence, Ecall, Ebreak, Lr, Sc, Amo, Illegal}
 use Rattle.rv32_program.specs.Targets.{offset_address}
@@ -11,8 +12,8 @@ use Rattle.rv32_program.specs.Program.{Program, IsAccepted}
 use Rattle.rv32_step.specs.OneMemory.{Processor, next_pc}
 use Rattle.templates.specs.declared.plans.PlanEntry.{PlanEntry}
 use Rattle.templates.specs.declared.plans.Scratches.{Scratches}
-use Rattle.templates.specs.Plans.{HasScratchesAt, template_at}
-use Rattle.templates.specs.Sequences.{SequenceItem, instruction_items, items_of, spills, spill, spill_by, branch_sequence, jump_sequence, is_multiple_of_four}
+use Rattle.templates.specs.Plans.{looks_at_value, may_poll, HasScratchesAt, template_at}
+use Rattle.templates.specs.Sequences.{SequenceItem, instruction_items, place_items, poll_first, items_of, spills, spill, spill_by, load_sequence, branch_sequence, jump_sequence, is_multiple_of_four}
 use Rattle.jump_map.specs.Image.{Cell, IsRewriting, image_base, distance}
 use Rattle.jump_map.specs.Maps.{new_of}
 use Rattle.node_machine.specs.Node.{Lane, Local, enter}
@@ -44,6 +45,11 @@ some_spills regs rest h =
     some_spill regs.s.spilled 0 regs.s.register (spill 1 regs.t rest)
     (some_spill regs.t.spilled 1 regs.t.register rest h)
 
+some_load : (by_value : Bool) (regs : Scratches) (k : LoadKind) (rd rs1 : ℕ) (imm : ℤ)
+    → 0 < length (load_sequence by_value regs k rd rs1 imm)
+some_load true regs k rd rs1 imm = some_spill regs.s.spilled 0 regs.s.register _ (omega arith)
+some_load false regs k rd rs1 imm = some_spills regs _ (omega arith)
+
 some_branch : (b : Bool) (c : Cond) (rs1 rs2 target : ℕ)
     → 0 < length (branch_sequence b c rs1 rs2 target)
 some_branch true c rs1 rs2 target = omega arith
@@ -63,7 +69,8 @@ some_instruction_items a regs (Jal rd offset) =
 some_instruction_items a regs (Jalr rd rs1 imm) = omega arith
 some_instruction_items a regs (Branch c rs1 rs2 offset) =
     some_branch (is_multiple_of_four (offset_address a offset)) c rs1 rs2 (offset_address a offset)
-some_instruction_items a regs (Load k rd rs1 imm) = some_spills regs _ (omega arith)
+some_instruction_items a regs (Load k rd rs1 imm) =
+    some_load (looks_at_value k rd rs1) regs k rd rs1 imm
 some_instruction_items a regs (Store w rs1 rs2 imm) = some_spills regs _ (omega arith)
 some_instruction_items a regs (OpImm o rd rs1 imm) = omega arith
 some_instruction_items a regs (ShiftImm o rd rs1 amount) = omega arith
@@ -76,9 +83,18 @@ some_instruction_items a regs (Sc rd rs1 rs2 aq rl) = omega arith
 some_instruction_items a regs (Amo o rd rs1 rs2 aq rl) = omega arith
 some_instruction_items a regs (Illegal word) = omega arith
 
+some_place_items : (a : ℕ) (regs : Scratches) (o : Option Instr) → 0 < length (place_items a regs o)
+some_place_items a regs None = omega arith
+some_place_items a regs (Some i) = some_instruction_items a regs i
+
+some_poll : (b : Bool) (items : List SequenceItem) → 0 < length items
+    → 0 < length (poll_first b items)
+some_poll true items h = omega arith
+some_poll false items h = h
+
 pub some_items : (e : PlanEntry) (o : Option Instr) → 0 < length (items_of e o)
-some_items e None = omega arith
-some_items e (Some i) = some_instruction_items e.address e.single i
+some_items e o =
+    some_poll e.polls (place_items e.address e.single o) (some_place_items e.address e.single o)
 
 -- a jump reaches the address that it is made for
 pub reaches : (at target : ℕ) → at < 2 ^ 32 → target < 2 ^ 32
@@ -147,7 +163,9 @@ module _ (program : Program) (plan : List PlanEntry) (image : List Cell)
       let scratches : HasScratchesAt (template_at e.address o) program.code e.address o e.single =
       subst (λ t. HasScratchesAt t program.code e.address o e.single) serves.template
       serves.single in
-      let does = entry_does program accepted e q l n head_at o refl scratches suits
+      let polls : IsTrue e.polls → IsTrue (may_poll (template_at e.address o)) =
+      λ h. subst (λ t. IsTrue (may_poll t)) serves.template (serves.may_poll h) in
+      let does = entry_does program accepted e q l n head_at o refl scratches polls suits
       (subst (λ z. AtHead program z q l) (sym here) head) (omega arith) in
       head_stands a q l n f (items_at program f) refl (some_items e o) at
       (subst (λ z. Does program z 0 head_at (items_at program f) 0 q l n) here does)

@@ -1,6 +1,6 @@
 -- Each template by itself: from the head of its place to its commit, and on to the next head.
 use Rattle.std.proofs.Common.{◌≡◌, ◌≢◌, ℕ, suc, ◌+◌, ◌*◌, ◌/◌, ◌%◌, ◌^◌, ◌<◌, Bool, true, false, cond, eqb, List, [], Option, Some, None, refl, sym, ap, ◌∙◌, subst, inl, inr, arith, lit<}
-use Rattle.std.specs.Prelude.{ℤ, pos, not, int_lt, nat_lt}
+use Rattle.std.specs.Prelude.{ℤ, pos, not, int_lt, nat_lt, IsTrue}
 use Rattle.std.proofs.lemmas.Bool.Decides.{eqb_tells, leb_tells, nat_tests}
 use Rattle.rv32_decode.specs.Fields.{unsigned}
 use Rattle.rv32_decode.specs.Registers.{destination}
@@ -9,7 +9,8 @@ use Rattle.rv32_decode.specs.declared.Instr.TheVariants.{Lui, Auipc, Jal, Jalr, 
 use Rattle.rv32_decode.specs.declared.Cond.{Cond}
 use Rattle.rv32_decode.specs.declared.Cond.TheVariants.{Eq, Ne, Lt, Ge, Ltu, Geu}
 use Rattle.rv32_decode.specs.declared.ImmOp.TheVariants as imm_op
-use Rattle.rv32_decode.specs.declared.LoadKind.TheVariants.{ByteU}
+use Rattle.rv32_decode.specs.declared.LoadKind.{LoadKind}
+use Rattle.rv32_decode.specs.declared.LoadKind.TheVariants.{Byte, Half, Word, ByteU, HalfU}
 use Rattle.rv32_ops.specs.Operations.{alu, taken, is_signed_below}
 use Rattle.rv32_program.specs.declared.Class.{Class}
 use Rattle.rv32_program.specs.declared.Class.TheVariants.{Shared, ReadOnly, Private, Unmapped}
@@ -33,15 +34,17 @@ use Rattle.templates.specs.declared.commits.CommitKind.{CommitKind}
 use Rattle.templates.specs.declared.commits.CommitKind.TheVariants.{Always, IfNoWait}
 use Rattle.templates.specs.declared.plans.PlanEntry.{PlanEntry}
 use Rattle.templates.specs.declared.plans.Scratches.{Scratches}
+use Rattle.templates.specs.declared.plans.Template.TheVariants as template
 use Rattle.templates.specs.Places.{IsPlace}
-use Rattle.templates.specs.Plans.{HasScratchesAt, template_at}
-use Rattle.templates.specs.Sequences.{SequenceItem, committing, with_word, to_head, constant, upper_part, lower_part, inverse, branch_sequence, jump_sequence, is_multiple_of_four, instruction_items, items_of}
+use Rattle.templates.specs.Plans.{looks_at_value, may_poll, HasScratches, HasScratchesAt, template_at}
+use Rattle.templates.specs.Sequences.{SequenceItem, committing, with_word, to_head, constant, upper_part, lower_part, inverse, load_sequence, branch_sequence, jump_sequence, is_multiple_of_four, instruction_items, place_items, poll_first, items_of}
 use Rattle.node_machine.specs.Node as node
 use Rattle.node_machine.specs.Node.{Lane, Local, Outcome, Next, Again, To, Enters, Leaves, go_on, exit_by, first_state, is_mapped_state, is_readable_state, byte_at, flag_byte, native, make_call, put_byte, print_byte, lane_after_call, indirect, execute}
 use Rattle.shared_sim.proofs.RegisterLemmas.{apart, equal, put_here, put_both, put_twice, put_zero}
 use Rattle.shared_sim.proofs.Does.{AtHead, Suits, byte_seen, lane_at, skip_to, Commits, Leads, Does}
-use Rattle.shared_sim.proofs.Mids.{alu_add, own_sets}
-use Rattle.shared_sim.proofs.Checked.{asks, next_is, load_does, store_does, byte_mapped, leaves}
+use Rattle.shared_sim.proofs.Mids.{alu_add, next_aligned, own_sets}
+use Rattle.shared_sim.proofs.Checked.{asks, next_is, state_load_does, store_does, byte_mapped, leaves}
+use Rattle.shared_sim.proofs.Flagged.{flag_load_does}
 
 -- where a code word go_on, a place is
 aligned_place : (program : Program) (a b : ℕ) (i : Instr) → program.code a ≡ Some i
@@ -223,11 +226,11 @@ module _ (program : Program) (accepted : IsAccepted program) where
     off_target at m = let ne : offset_address at (pos 2) % 4 ≢ 0 = omega arith in
         apart (offset_address at (pos 2) % 4) 0 ne
 
-    jump_does : (rd : ℕ) (offset : ℤ) (at : ℕ) → program.code a ≡ Some (Jal rd offset) → at % 4 ≡ 0
+    jump_does : (j rd : ℕ) (offset : ℤ) (at : ℕ) → program.code a ≡ Some (Jal rd offset) → at % 4 ≡ 0
         → (b : Bool) → is_multiple_of_four (offset_address a offset) ≡ b
-        → Does program a 0 at (jump_sequence b rd ((a + 4) % 2 ^ 32) (offset_address a offset)) 0 q
+        → Does program a j at (jump_sequence b rd ((a + 4) % 2 ^ 32) (offset_address a offset)) 0 q
         l n
-    jump_does rd offset at h m true al =
+    jump_does j rd offset at h m true al =
         let t = offset_address a offset in
         let four : t % 4 ≡ 0 = grind (arith, nat_tests) in
         let ask : request program q ≡ Becomes (after_jump q rd t) =
@@ -236,7 +239,7 @@ module _ (program : Program) (accepted : IsAccepted program) where
         ∙ ap (λ b. request_unless program q (Jumps rd t) (cond b None (Some (Misaligned q.pc))))
         al in
         let next : (a + 4) % 2 ^ 32 ≡ next_pc q.pc = ap next_pc (sym head.place) in
-        constant_does 0 at rd ((a + 4) % 2 ^ 32) (to_head t) (after_jump q rd t) (omega arith) ask
+        constant_does j at rd ((a + 4) % 2 ^ 32) (to_head t) (after_jump q rd t) (omega arith) ask
         head.running (λ x y l' same private written. (
           refl,
           aligned_place program a t (Jal rd offset) h refl four,
@@ -251,7 +254,7 @@ module _ (program : Program) (accepted : IsAccepted program) where
             written = written ∙ head.written;
           },
         ))
-    jump_does rd offset at h m false al =
+    jump_does j rd offset at h m false al =
         let t = offset_address a offset in
         let ask : request program q ≡ Becomes (with_exit q (Misaligned a)) =
         asks program a q (Jal rd offset) head.place h
@@ -259,10 +262,10 @@ module _ (program : Program) (accepted : IsAccepted program) where
         ∙ ap (λ b. request_unless program q (Jumps rd t) (cond b None (Some (Misaligned q.pc))))
         al
         ∙ ap (λ z. Becomes (with_exit q (Misaligned z))) head.place in
-        ends_here 0 at (Native (Jal 0 (pos 2))) Always [] (Misaligned a) (rw (off_target at m) refl)
+        ends_here j at (Native (Jal 0 (pos 2))) Always [] (Misaligned a) (rw (off_target at m) refl)
         ask
 
-    module _ (c : Cond) (rs1 rs2 : ℕ) (offset : ℤ)
+    module _ (j : ℕ) (c : Cond) (rs1 rs2 : ℕ) (offset : ℤ)
         (h : program.code a ≡ Some (Branch c rs1 rs2 offset)) where
       abbrev is_taken : Bool
       is_taken = taken c (reg q.registers rs1) (reg q.registers rs2)
@@ -295,7 +298,7 @@ module _ (program : Program) (accepted : IsAccepted program) where
       }
 
       good_branch : (at : ℕ) → at % 4 ≡ 0 → is_multiple_of_four (offset_address a offset) ≡ true
-          → (b : Bool) → is_taken ≡ b → Does program a 0 at
+          → (b : Bool) → is_taken ≡ b → Does program a j at
           (branch_sequence true c rs1 rs2 (offset_address a offset)) 0 q l n
       good_branch at m al b e = go b e
         where
@@ -309,7 +312,7 @@ module _ (program : Program) (accepted : IsAccepted program) where
           rest = to_head t
 
           K : ℕ → Processor → Lane → Local → Type 0
-          K = λ s. Does program a (0 + 1) (next_pc at) rest s
+          K = λ s. Does program a (j + 1) (next_pc at) rest s
 
           acts : (b : Bool) → is_taken ≡ b → execute program a at
               (Native (Branch (inverse c) rs1 rs2 (pos 8))) l n
@@ -322,13 +325,13 @@ module _ (program : Program) (accepted : IsAccepted program) where
               ∙ ap (λ z. native program a at l n (branch_demand z (offset_address at (pos 8))))
               (inverse_taken c (reg q.registers rs1) (reg q.registers rs2) ∙ ap not e)
 
-          go : (b : Bool) → is_taken ≡ b → Does program a 0 at
+          go : (b : Bool) → is_taken ≡ b → Does program a j at
               (branch_sequence true c rs1 rs2 (offset_address a offset)) 0 q l n
           go true e =
               let ask : request program q ≡ Becomes (after_branch q t) = asks_branch true e
               ∙ ap (λ b. request_unless program q (Branches t)
               (cond b None (Some (Misaligned q.pc)))) al in
-              becomes 0 at (Native (Branch (inverse c) rs1 rs2 (pos 8))) rest (after_branch q t) l
+              becomes j at (Native (Branch (inverse c) rs1 rs2 (pos 8))) rest (after_branch q t) l
               (acts true e) ask head.running
               (λ x y. (
                 refl,
@@ -349,7 +352,7 @@ module _ (program : Program) (accepted : IsAccepted program) where
               ≡ go_on l n (To (offset_address at (pos 8))) = acts false e
               ∙ rw (equal (offset_address at (pos 8) % 4) 0 eight) refl in
               let there : offset_address at (pos 8) ≡ skip_to 1 (next_pc at) = omega arith in
-              subst (λ (r : Outcome). Leads program a 0 at K q n r Always r.move) (sym is) (
+              subst (λ (r : Outcome). Leads program a j at K q n r Always r.move) (sym is) (
                 1,
                 there,
                 subst (Commits program (λ p. (x y : ℕ) → K 1 p (lane_at x y l) n) q n
@@ -363,7 +366,7 @@ module _ (program : Program) (accepted : IsAccepted program) where
               )
 
       bad_branch : (at : ℕ) → at % 4 ≡ 0 → is_multiple_of_four (offset_address a offset) ≡ false
-          → (b : Bool) → is_taken ≡ b → Does program a 0 at
+          → (b : Bool) → is_taken ≡ b → Does program a j at
           (branch_sequence false c rs1 rs2 (offset_address a offset)) 0 q l n
       bad_branch at m al b e = go b e
         where
@@ -379,29 +382,29 @@ module _ (program : Program) (accepted : IsAccepted program) where
               (offset_address at (pos 2)))) same_2
               ∙ ap (λ z. native program a at l n (branch_demand z (offset_address at (pos 2)))) e
 
-          go : (b : Bool) → is_taken ≡ b → Does program a 0 at
+          go : (b : Bool) → is_taken ≡ b → Does program a j at
               (branch_sequence false c rs1 rs2 (offset_address a offset)) 0 q l n
           go true e =
               let ask : request program q ≡ Becomes (with_exit q (Misaligned a)) =
               asks_branch true e ∙ ap (λ b. request_unless program q (Branches t)
               (cond b None (Some (Misaligned q.pc)))) al
               ∙ ap (λ z. Becomes (with_exit q (Misaligned z))) head.place in
-              ends_here 0 at (Native (Branch c rs1 rs2 (pos 2))) Always [] (Misaligned a)
+              ends_here j at (Native (Branch c rs1 rs2 (pos 2))) Always [] (Misaligned a)
               (acts true e ∙ rw (off_target at m) refl) ask
-          go false e = becomes 0 at (Native (Branch c rs1 rs2 (pos 2))) [] (to_next q) l
+          go false e = becomes j at (Native (Branch c rs1 rs2 (pos 2))) [] (to_next q) l
               (acts false e) (asks_branch false e) head.running
               (λ x y. ((Branch c rs1 rs2 offset, h), falls x y))
 
       branch_does : (at : ℕ) → at % 4 ≡ 0 → (b : Bool)
           → is_multiple_of_four (offset_address a offset) ≡ b
-          → Does program a 0 at (branch_sequence b c rs1 rs2 (offset_address a offset)) 0 q l n
+          → Does program a j at (branch_sequence b c rs1 rs2 (offset_address a offset)) 0 q l n
       branch_does at m true al = good_branch at m al is_taken refl
       branch_does at m false al = bad_branch at m al is_taken refl
 
     -- an indirect jump, at which every register is live
-    indirect_does : (rd rs1 : ℕ) (imm : ℤ) (at : ℕ) → program.code a ≡ Some (Jalr rd rs1 imm)
-        → Does program a 0 at (committing (Xjalr rd rs1 imm) []) 0 q l n
-    indirect_does rd rs1 imm at h = go (eqb (t % 4) 0) refl
+    indirect_does : (j rd rs1 : ℕ) (imm : ℤ) (at : ℕ) → program.code a ≡ Some (Jalr rd rs1 imm)
+        → Does program a j at (committing (Xjalr rd rs1 imm) []) 0 q l n
+    indirect_does j rd rs1 imm at h = go (eqb (t % 4) 0) refl
       where
         t : ℕ
         t = offset_address (reg q.registers rs1) imm / 2 * 2
@@ -410,12 +413,12 @@ module _ (program : Program) (accepted : IsAccepted program) where
         same r = head.agree r (uses (Jalr rd rs1 imm) h (inl refl))
 
         K : ℕ → Processor → Lane → Local → Type 0
-        K = λ s. Does program a (0 + 1) (next_pc at) [] s
+        K = λ s. Does program a (j + 1) (next_pc at) [] s
 
         acts : execute program a at (Xjalr rd rs1 imm) l n ≡ indirect a l n rd t
         acts = ap (λ z. indirect a l n rd (offset_address z imm / 2 * 2)) (same rs1)
 
-        go : (b : Bool) → eqb (t % 4) 0 ≡ b → Does program a 0 at (committing (Xjalr rd rs1 imm) [])
+        go : (b : Bool) → eqb (t % 4) 0 ≡ b → Does program a j at (committing (Xjalr rd rs1 imm) [])
             0 q l n
         go true e =
             let ask : request program q ≡ Becomes (after_jump q rd t) =
@@ -425,7 +428,7 @@ module _ (program : Program) (accepted : IsAccepted program) where
             let l' = node.set_register l rd (next_pc a) in
             let is : execute program a at (Xjalr rd rs1 imm) l n ≡ go_on l' n (Enters t) = acts
             ∙ rw e refl in
-            subst (λ (r : Outcome). Leads program a 0 at K q n r Always r.move) (sym is)
+            subst (λ (r : Outcome). Leads program a j at K q n r Always r.move) (sym is)
             (subst (Commits program (λ p. AtHead program t p l') q n (go_on l' n (Enters t)))
             (sym ask) (
               head.running,
@@ -447,7 +450,7 @@ module _ (program : Program) (accepted : IsAccepted program) where
             ∙ ap (λ b. request_unless program q (Jumps rd t)
             (cond b None (Some (Misaligned q.pc)))) e
             ∙ ap (λ z. Becomes (with_exit q (Misaligned z))) head.place in
-            ends_here 0 at (Xjalr rd rs1 imm) Always [] (Misaligned a) (acts ∙ rw e refl) ask
+            ends_here j at (Xjalr rd rs1 imm) Always [] (Misaligned a) (acts ∙ rw e refl) ask
 
     break_does : (at : ℕ) → program.code a ≡ Some Ebreak
         → Does program a 0 at (committing TrapEbreak []) 0 q l n
@@ -573,6 +576,27 @@ module _ (program : Program) (accepted : IsAccepted program) where
   unsupported a i h without = let with = accepted.supported a i h in let b : true ≡ false = sym with
       ∙ without in cc
 
+  -- a load, by its value or its line's state
+  load_does : (a : ℕ) (regs : Scratches) (q : Processor) (l : Lane) (n : Local) (at : ℕ)
+      (k : LoadKind) (rd rs1 : ℕ) (imm : ℤ) → program.code a ≡ Some (Load k rd rs1 imm)
+      → Suits program n → AtHead program a q l → at % 4 ≡ 0 → (by_value : Bool)
+      → looks_at_value k rd rs1 ≡ by_value
+      → HasScratches (cond by_value template.FlagLoad template.StateLoad) program.code a
+      (Load k rd rs1 imm) regs
+      → Does program a 0 at (load_sequence by_value regs k rd rs1 imm) 0 q l n
+  load_does a regs q l n at Word rd rs1 imm h suits head m true is one =
+      flag_load_does program accepted a q n suits regs rd rs1 imm h is one at l head m
+  load_does a regs q l n at k rd rs1 imm h suits head m false is two =
+      state_load_does program accepted a q n suits regs k rd rs1 imm h two at l head m
+  load_does a regs q l n at Byte rd rs1 imm h suits head m true is one =
+      let bad : false ≡ true = is in cc
+  load_does a regs q l n at Half rd rs1 imm h suits head m true is one =
+      let bad : false ≡ true = is in cc
+  load_does a regs q l n at ByteU rd rs1 imm h suits head m true is one =
+      let bad : false ≡ true = is in cc
+  load_does a regs q l n at HalfU rd rs1 imm h suits head m true is one =
+      let bad : false ≡ true = is in cc
+
   -- from the head of the place of an instruction, with any admissible scratch registers
   place_does : (a : ℕ) (regs : Scratches) (q : Processor) (l : Lane) (n : Local) (at : ℕ)
       (i : Instr) → program.code a ≡ Some i
@@ -604,14 +628,14 @@ module _ (program : Program) (accepted : IsAccepted program) where
   place_does a regs q l n at (Auipc rd upper) h two suits head m =
       address_does a q l n head rd upper at h
   place_does a regs q l n at (Jal rd offset) h two suits head m =
-      jump_does a q l n head rd offset at h m (is_multiple_of_four (offset_address a offset)) refl
+      jump_does a q l n head 0 rd offset at h m (is_multiple_of_four (offset_address a offset)) refl
   place_does a regs q l n at (Jalr rd rs1 imm) h two suits head m =
-      indirect_does a q l n head rd rs1 imm at h
+      indirect_does a q l n head 0 rd rs1 imm at h
   place_does a regs q l n at (Branch c rs1 rs2 offset) h two suits head m =
-      branch_does a q l n head c rs1 rs2 offset h at m
+      branch_does a q l n head 0 c rs1 rs2 offset h at m
       (is_multiple_of_four (offset_address a offset)) refl
-  place_does a regs q l n at (Load k rd rs1 imm) h two suits head m =
-      load_does program accepted a q n suits regs k rd rs1 imm h two at l head m
+  place_does a regs q l n at (Load k rd rs1 imm) h scratches suits head m =
+      load_does a regs q l n at k rd rs1 imm h suits head m (looks_at_value k rd rs1) refl scratches
   place_does a regs q l n at (Store w rs1 rs2 imm) h two suits head m =
       store_does program accepted a q n suits regs w rs1 rs2 imm h two at l head m
   place_does a regs q l n at Ebreak h two suits head m = break_does a q l n head at h
@@ -623,12 +647,71 @@ module _ (program : Program) (accepted : IsAccepted program) where
   place_does a regs q l n at (Amo o rd rs1 rs2 aq rl) h two suits head m =
       unsupported a (Amo o rd rs1 rs2 aq rl) h refl
 
+  -- behind a poll, which only a branch or a jump has
+  behind_poll : (a : ℕ) (regs : Scratches) (q : Processor) (l : Lane) (n : Local) (at : ℕ)
+      (o : Option Instr) → program.code a ≡ o → IsTrue (may_poll (template_at a o))
+      → AtHead program a q l → at % 4 ≡ 0 → Does program a 1 at (place_items a regs o) 0 q l n
+  behind_poll a regs q l n at (Some (Jal rd offset)) h may head m =
+      jump_does a q l n head 1 rd offset at h m (is_multiple_of_four (offset_address a offset)) refl
+  behind_poll a regs q l n at (Some (Jalr rd rs1 imm)) h may head m =
+      indirect_does a q l n head 1 rd rs1 imm at h
+  behind_poll a regs q l n at (Some (Branch c rs1 rs2 offset)) h may head m =
+      branch_does a q l n head 1 c rs1 rs2 offset h at m
+      (is_multiple_of_four (offset_address a offset)) refl
+  behind_poll a regs q l n at (Some (Load k rd rs1 imm)) h may head m =
+      absurd (no_poll (looks_at_value k rd rs1) may)
+    where
+      no_poll : (b : Bool) → may_poll (cond b template.FlagLoad template.StateLoad) ≡ true → ⊥
+      no_poll true e = let bad : false ≡ true = e in cc
+      no_poll false e = let bad : false ≡ true = e in cc
+  behind_poll a regs q l n at None h may head m = let bad : false ≡ true = may in cc
+  behind_poll a regs q l n at (Some (Lui rd upper)) h may head m =
+      let bad : false ≡ true = may in cc
+  behind_poll a regs q l n at (Some (Auipc rd upper)) h may head m =
+      let bad : false ≡ true = may in cc
+  behind_poll a regs q l n at (Some (Store w rs1 rs2 imm)) h may head m =
+      let bad : false ≡ true = may in cc
+  behind_poll a regs q l n at (Some (OpImm o rd rs1 imm)) h may head m =
+      let bad : false ≡ true = may in cc
+  behind_poll a regs q l n at (Some (ShiftImm o rd rs1 amount)) h may head m =
+      let bad : false ≡ true = may in cc
+  behind_poll a regs q l n at (Some (Op o rd rs1 rs2)) h may head m =
+      let bad : false ≡ true = may in cc
+  behind_poll a regs q l n at (Some (Fence rd rs1 bits)) h may head m =
+      let bad : false ≡ true = may in cc
+  behind_poll a regs q l n at (Some Ecall) h may head m = let bad : false ≡ true = may in cc
+  behind_poll a regs q l n at (Some Ebreak) h may head m = let bad : false ≡ true = may in cc
+  behind_poll a regs q l n at (Some (Lr rd rs1 aq rl)) h may head m =
+      let bad : false ≡ true = may in cc
+  behind_poll a regs q l n at (Some (Sc rd rs1 rs2 aq rl)) h may head m =
+      let bad : false ≡ true = may in cc
+  behind_poll a regs q l n at (Some (Amo o rd rs1 rs2 aq rl)) h may head m =
+      let bad : false ≡ true = may in cc
+  behind_poll a regs q l n at (Some (Illegal word)) h may head m =
+      let bad : false ≡ true = may in cc
+
   -- from the head of any place
   pub entry_does : (e : PlanEntry) (q : Processor) (l : Lane) (n : Local) (at : ℕ)
       (o : Option Instr) → program.code e.address ≡ o
       → HasScratchesAt (template_at e.address o) program.code e.address o e.single
+      → (IsTrue e.polls → IsTrue (may_poll (template_at e.address o)))
       → Suits program n → AtHead program e.address q l → at % 4 ≡ 0
       → Does program e.address 0 at (items_of e o) 0 q l n
-  entry_does e q l n at None h two suits head m = stop_does e.address q l n head at h
-  entry_does e q l n at (Some i) h two suits head m =
-      place_does e.address e.single q l n at i h two suits head m
+  entry_does e q l n at o h scratches polls suits head m = go e.polls refl
+    where
+      single : (o : Option Instr) → program.code e.address ≡ o
+          → HasScratchesAt (template_at e.address o) program.code e.address o e.single
+          → Does program e.address 0 at (place_items e.address e.single o) 0 q l n
+      single None h scratches = stop_does e.address q l n head at h
+      single (Some i) h scratches =
+          place_does e.address e.single q l n at i h scratches suits head m
+
+      go : (b : Bool) → e.polls ≡ b
+          → Does program e.address 0 at (poll_first b (place_items e.address e.single o)) 0 q l n
+      go false is = single o h scratches
+      go true is = (
+        refl,
+        refl,
+        λ x y. behind_poll e.address e.single q (lane_at x y l) n (next_pc at) o h (polls is)
+            (head_at program e.address q l x y head) (next_aligned at m),
+      )

@@ -22,7 +22,7 @@ use Rattle.rv32_step.specs.Demands.{demand_of, call_step}
 use Rattle.rv32_step.specs.Memory.{load_value, byte_by, shared_after}
 use Rattle.rv32_step.specs.OneMemory.{Processor, State, Access, Nothing, Reads, Request, Becomes, Prints, LoadsFrom, StoresTo, request, request_at, with_exit, after_print, after_store, set_register, byte_at, StepResult, with_processor, answer, step, next_pc}
 use Rattle.templates.specs.declared.runtime_words.RtWord.{RtWord}
-use Rattle.templates.specs.declared.runtime_words.RtWord.TheVariants.{Native, MissR, MissW, Call, Xjalr, TrapFetch, TrapOff, TrapIllegal, TrapEbreak}
+use Rattle.templates.specs.declared.runtime_words.RtWord.TheVariants.{Native, MissR, MissW, Poll, Call, Xjalr, TrapFetch, TrapOff, TrapIllegal, TrapEbreak}
 use Rattle.templates.specs.declared.commits.CommitKind.{CommitKind}
 use Rattle.templates.specs.declared.plans.PlanEntry.{PlanEntry}
 use Rattle.templates.specs.Places.{IsPlace}
@@ -94,6 +94,7 @@ module _ (work : Work) (l : Lane) (n : Local) where
         let state = n.state (line_of a) in
         either_at (is_aligned w a) _ _ l.at (either_at (is_fixed_state state) _ _ l.at refl
         (either_at (is_writable_state state) _ _ l.at refl refl)) refl
+    word_at Poll = refl
     word_at Call = call_at (call_step l.registers l.written)
     word_at (Xjalr rd rs1 imm) =
         let target = offset_address (reg l.registers rs1) imm / 2 * 2 in
@@ -241,9 +242,9 @@ module _ (work : Work) (plan : List PlanEntry) (accepted : IsAccepted work.progr
     word_advances : (r : Outcome) (K : Processor → Type 0) → IsToWord r → Onward r K → (b : Bool)
         → Continues work.program K (one s) n r b → Advances executed s r b
     word_advances r K to_word onward false h = record {
-      matches = go_matches s r (copy_still r.local h.2) (suits_still r.local h.2) to_word running
-          (onward (one s) (suits_still r.local h.2) h.3);
-      printed = h.1;
+      matches = go_matches s r (copy_still r.local h.1) (suits_still r.local h.1) to_word running
+          (onward (one s) (suits_still r.local h.1) h.2);
+      printed = h.0;
     }
     word_advances r K to_word onward true h =
         commit_steps r K to_word onward (request work.program (one s)) h

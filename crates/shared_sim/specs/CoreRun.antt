@@ -6,9 +6,10 @@ use Rattle.rv32_step.specs.OneMemory.{Pick, Step, value_read}
 use Rattle.templates.specs.declared.commits.CommitKind.{CommitKind}
 use Rattle.templates.specs.declared.commits.CommitKind.TheVariants.{Never, Always, IfNotFlag, IfNoWait}
 use Rattle.templates.specs.declared.plans.PlanEntry.{PlanEntry}
+use Rattle.templates.specs.Sequences.{flag_word}
 use Rattle.templates.specs.Commits.{commit_at}
 use Rattle.jump_map.specs.Maps.{old_of}
-use Rattle.node_machine.specs.Node.{Work, Node, Outcome, Move, Leaves, Waits, can_execute, flag_word, opening_node, word_outcome, word_step}
+use Rattle.node_machine.specs.Node.{Work, Node, Outcome, Move, Leaves, Waits, can_execute, opening_node, word_outcome, word_step}
 
 -- what happens on the nodes: a node executes a word
 pub data Event : Type 0 where

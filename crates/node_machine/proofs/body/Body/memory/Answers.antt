@@ -21,16 +21,16 @@ returns-in-Some-load-clause-value c at =
     let w = in_window (is_in_window c.args.address) c.in-Some-load.raw (raw c.args.width (window_memory b.lane.private) c.args.address) c.in-Some-load.ensures.value in
     w.1 ∙ raw_in_line c.args.width (class_of_line p) Private (local_of b.local).copy (first_byte p) (window_memory b.lane.private) flag_byte c.args.address c.requires (window_is_private p c.args.address w.0)
 
-pub returns-in-ReadOnly-clause-value : goal.returns-in-ReadOnly-clause-value
-returns-in-ReadOnly-clause-value c at =
+pub returns-in-Some-load_fixed-clause-value : goal.returns-in-Some-load_fixed-clause-value
+returns-in-Some-load_fixed-clause-value c at =
     let b = c.args.self.now in
     let p = b.local.program in
-    c.first_load.ensures.value ∙ raw_in_line c.args.width (class_of_line p) ReadOnly (local_of b.local).copy (first_byte p) (window_memory b.lane.private) flag_byte c.args.address c.requires (sym c.in-ReadOnly.ensures)
+    c.in-Some-load_fixed.ensures.value.2 ∙ raw_in_line c.args.width (class_of_line p) ReadOnly (local_of b.local).copy (first_byte p) (window_memory b.lane.private) flag_byte c.args.address c.requires c.in-Some-load_fixed.ensures.value.0
 
-pub returns-in_default-class-clause-value : goal.returns-in_default-class-clause-value
-returns-in_default-class-clause-value c at =
+pub returns-in-None-clause-value : goal.returns-in-None-clause-value
+returns-in-None-clause-value c at =
     let b = c.args.self.now in
     let p = b.local.program in
     let outside = not_in_window (is_in_window c.args.address) (raw c.args.width (window_memory b.lane.private) c.args.address) c.in_default-load.ensures.value in
-    let is = unmapped (class_of_line p (c.args.address / 64)) c.in_default.ensures.value (λ e. c.in_default-class.not-ReadOnly (c.class.ensures ∙ e)) (λ e. let both : true ≡ false = sym (private_in_window p c.args.address e) ∙ outside in cc) in
+    let is = unmapped (class_of_line p (c.args.address / 64)) c.in_default.ensures.value c.in-None.ensures.value (λ e. let both : true ≡ false = sym (private_in_window p c.args.address e) ∙ outside in cc) in
     c.flag.ensures.value ∙ raw_in_line c.args.width (class_of_line p) Unmapped (local_of b.local).copy (first_byte p) (window_memory b.lane.private) flag_byte c.args.address c.requires is

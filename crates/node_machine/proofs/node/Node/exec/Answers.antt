@@ -1,11 +1,11 @@
-use Rattle.std.proofs.Common.{◌≡◌, ◌+◌, ℕ, List, refl, sym, ap, ◌∙◌, subst, true, Option, Some, None}
+use Rattle.std.proofs.Common.{◌≡◌, ◌+◌, ℕ, List, refl, sym, ◌∙◌, subst, true, Option, Some, None}
 use Rattle.rv32_program.specs.declared.End.{End}
-use Rattle.rv32_program.specs.declared.End.TheVariants.{Exited, Stopped}
+use Rattle.rv32_program.specs.declared.End.TheVariants.{Stopped}
 use Rattle.jump_map.specs.Image.{Cell}
 use Rattle.node_machine.specs.declared.body.Body.{Body}
 use Rattle.node_machine.specs.Node as model
-use Rattle.node_machine.specs.Kept.{NodeView, node_of, work_of, phase_by}
-use Rattle.node_machine.proofs.NodeLemmas.{hot_node, cold_node, running, stops, runs_on}
+use Rattle.node_machine.specs.Kept.{NodeView, node_of, work_of}
+use Rattle.node_machine.proofs.NodeLemmas.{hot_node, running, stops, runs_on}
 use Rattle.node_machine.proofs.node.Node.exec.Goals as goal
 
 abbrev view_by : List Cell → ℕ → ℕ → ℕ → ℕ → Option End → Body → NodeView
@@ -66,65 +66,18 @@ returns-else-self-number-clause-output c =
     let there = subst (λ (x : Body). Prints None (view x)) c.deref_mut.ensures.value (sym c.in-Some.ensures.steps.output) in
     subst (Prints None) c.self.view_is there
 
-pub returns-in-Some-exit-clause-node : goal.returns-in-Some-exit-clause-node
-returns-in-Some-exit-clause-node c =
+pub returns-in-None-clause-node : goal.returns-in-None-clause-node
+returns-in-None-clause-node c =
     let i = c.self.inside in
     let view : Body → NodeView = view_by i.image.now i.nodes i.budget i.at i.executed i.end in
-    let b = c.serve-served.new.self in
-    let done = c.serve-served.result in
-    let after = view_by i.image.now i.nodes i.budget done.at (i.executed + 1) (Some (Exited c.in-Some-exit.exit)) b in
     let same : c.step_at.new.self ≡ c.deref_mut.result.now = λ t. record { lane = c.in-None.ensures.steps.0 t; local = c.in-None.ensures.steps.1 t; counts = c.step_at.ensures.counts t } in
-    let ends = sym (ap (phase_by i.budget (i.executed + 1)) c.in-Some-exit.is) in
-    let cold = cold_node (view c.deref_mut-in-None.result.now) b.lane b.local b.counts done (Some (Exited c.in-Some-exit.exit)) refl c.serve-served.ensures ends in
-    let there = subst (λ (x : Body). Steps after (view x)) (c.deref_mut-in-None.ensures.value ∙ same ∙ c.deref_mut.ensures.value) cold in
-    subst (Steps after) c.self.view_is there
+    let there = subst (λ (x : Body). Steps c.serve_word.new.self (view x)) (same ∙ c.deref_mut.ensures.value) c.serve_word.ensures.node in
+    subst (Steps c.serve_word.new.self) c.self.view_is there
 
-pub returns-in-Some-exit-clause-output : goal.returns-in-Some-exit-clause-output
-returns-in-Some-exit-clause-output c =
+pub returns-in-None-clause-output : goal.returns-in-None-clause-output
+returns-in-None-clause-output c =
     let i = c.self.inside in
     let view : Body → NodeView = view_by i.image.now i.nodes i.budget i.at i.executed i.end in
     let same : c.step_at.new.self ≡ c.deref_mut.result.now = λ t. record { lane = c.in-None.ensures.steps.0 t; local = c.in-None.ensures.steps.1 t; counts = c.step_at.ensures.counts t } in
-    let there = subst (λ (x : Body). Prints c.serve-served.result.output (view x)) (c.deref_mut-in-None.ensures.value ∙ same ∙ c.deref_mut.ensures.value) c.serve-served.ensures.output in
-    subst (Prints c.serve-served.result.output) c.self.view_is there
-
-pub returns-then-self-number-2-clause-node : goal.returns-then-self-number-2-clause-node
-returns-then-self-number-2-clause-node c =
-    let i = c.self.inside in
-    let view : Body → NodeView = view_by i.image.now i.nodes i.budget i.at i.executed i.end in
-    let b = c.serve-served.new.self in
-    let done = c.serve-served.result in
-    let after = view_by i.image.now i.nodes i.budget done.at (i.executed + 1) (Some (Stopped (i.executed + 1))) b in
-    let same : c.step_at.new.self ≡ c.deref_mut.result.now = λ t. record { lane = c.in-None.ensures.steps.0 t; local = c.in-None.ensures.steps.1 t; counts = c.step_at.ensures.counts t } in
-    let ends = stops i.budget (i.executed + 1) (c.if-self-number-2.true ∙ c.number-in_default.ensures.value) ∙ sym (ap (phase_by i.budget (i.executed + 1)) c.in_default.is) in
-    let cold = cold_node (view c.deref_mut-in-None.result.now) b.lane b.local b.counts done (Some (Stopped (i.executed + 1))) refl c.serve-served.ensures ends in
-    let there = subst (λ (x : Body). Steps after (view x)) (c.deref_mut-in-None.ensures.value ∙ same ∙ c.deref_mut.ensures.value) cold in
-    subst (Steps after) c.self.view_is there
-
-pub returns-then-self-number-2-clause-output : goal.returns-then-self-number-2-clause-output
-returns-then-self-number-2-clause-output c =
-    let i = c.self.inside in
-    let view : Body → NodeView = view_by i.image.now i.nodes i.budget i.at i.executed i.end in
-    let same : c.step_at.new.self ≡ c.deref_mut.result.now = λ t. record { lane = c.in-None.ensures.steps.0 t; local = c.in-None.ensures.steps.1 t; counts = c.step_at.ensures.counts t } in
-    let there = subst (λ (x : Body). Prints c.serve-served.result.output (view x)) (c.deref_mut-in-None.ensures.value ∙ same ∙ c.deref_mut.ensures.value) c.serve-served.ensures.output in
-    subst (Prints c.serve-served.result.output) c.self.view_is there
-
-pub returns-else-self-number-2-clause-node : goal.returns-else-self-number-2-clause-node
-returns-else-self-number-2-clause-node c =
-    let i = c.self.inside in
-    let view : Body → NodeView = view_by i.image.now i.nodes i.budget i.at i.executed i.end in
-    let b = c.serve-served.new.self in
-    let done = c.serve-served.result in
-    let after = view_by i.image.now i.nodes i.budget done.at (i.executed + 1) (i.end) b in
-    let same : c.step_at.new.self ≡ c.deref_mut.result.now = λ t. record { lane = c.in-None.ensures.steps.0 t; local = c.in-None.ensures.steps.1 t; counts = c.step_at.ensures.counts t } in
-    let ends = running i.end (subst (λ (v : NodeView). model.can_execute (node_of v).phase ≡ true) (sym c.self.view_is) c.requires) ∙ runs_on i.budget (i.executed + 1) (λ e. c.if-self-number-2.false (e ∙ sym c.number-in_default.ensures.value)) ∙ sym (ap (phase_by i.budget (i.executed + 1)) c.in_default.is) in
-    let cold = cold_node (view c.deref_mut-in-None.result.now) b.lane b.local b.counts done (i.end) refl c.serve-served.ensures ends in
-    let there = subst (λ (x : Body). Steps after (view x)) (c.deref_mut-in-None.ensures.value ∙ same ∙ c.deref_mut.ensures.value) cold in
-    subst (Steps after) c.self.view_is there
-
-pub returns-else-self-number-2-clause-output : goal.returns-else-self-number-2-clause-output
-returns-else-self-number-2-clause-output c =
-    let i = c.self.inside in
-    let view : Body → NodeView = view_by i.image.now i.nodes i.budget i.at i.executed i.end in
-    let same : c.step_at.new.self ≡ c.deref_mut.result.now = λ t. record { lane = c.in-None.ensures.steps.0 t; local = c.in-None.ensures.steps.1 t; counts = c.step_at.ensures.counts t } in
-    let there = subst (λ (x : Body). Prints c.serve-served.result.output (view x)) (c.deref_mut-in-None.ensures.value ∙ same ∙ c.deref_mut.ensures.value) c.serve-served.ensures.output in
-    subst (Prints c.serve-served.result.output) c.self.view_is there
+    let there = subst (λ (x : Body). Prints c.serve_word.result.output (view x)) (same ∙ c.deref_mut.ensures.value) c.serve_word.ensures.output in
+    subst (Prints c.serve_word.result.output) c.self.view_is there

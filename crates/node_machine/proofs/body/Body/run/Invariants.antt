@@ -1,0 +1,14 @@
+use Rattle.std.proofs.Common.{◌≡◌, ◌-◌, ◌≤◌}
+use Rattle.node_machine.specs.GoingOn.{BodyGoesOn}
+use Rattle.node_machine.proofs.body.Body.run.Given as goal
+
+abbrev pub invariant-loop-words : goal.invariant-loop-words
+invariant-loop-words l = record {
+  words : BodyGoesOn l.image l.most l.from l.initial.self l.words l.at l.self;
+  most : l.words ≤ l.most;
+  program : l.self.local.program ≡ l.initial.self.local.program;
+  counts : l.self.counts ≡ l.initial.self.counts;
+}
+
+abbrev pub decreases-loop-words : goal.decreases-loop-words
+decreases-loop-words l = l.most - l.words
