@@ -1,9 +1,8 @@
 -- What a micro-op serves.
-use Rattle.std.proofs.Common.{◌≡◌, ℕ, ◌+◌, Option, Some, None, refl, sym, ap, ◌∙◌, subst, List, length, get_or, ltb}
-use Rattle.std.specs.Prelude.{slice_get, unwrap_or, is_some, IfSome}
-use Rattle.std.specs.Option.{option_copied}
-use Rattle.std.proofs.lemmas.Bool.{ltb-true, ltb-false}
-use Rattle.std.proofs.lemmas.Option.{slice_get_past, slice_get_read}
+use Rattle.std.proofs.Common.{◌≡◌, ℕ, ◌+◌, Option, Some, None, refl, sym, ap, ◌∙◌, subst, length, get_or, ltb}
+use Rattle.std.specs.Prelude.{slice_get, is_some, IfSome}
+use Rattle.std.proofs.lemmas.Bool.{ltb-true}
+use Rattle.std.proofs.lemmas.Option.{slice_get_read}
 use denote.Bor.{Bor}
 use Rattle.rv32_decode.specs.declared.Instr.{Instr}
 use Rattle.elf32_read.specs.Elf.{Elf}
@@ -33,16 +32,13 @@ serves_instruction e a i op here is =
 pub serves_rare : (e : Elf) (a : ℕ) (op : MicroOp) → op.kind ≡ Rare → Serves e a op
 serves_rare e a op is = record { serves = λ q. rw is tt }
 
-pub or_rare : (e : Elf) (a : ℕ) (r : Option MicroOp) (x op : MicroOp) → IfSome r (Serves e a) → x.kind ≡ Rare → op ≡ unwrap_or r x → Serves e a op
-or_rare e a None x op some rare is = subst (Serves e a) (sym is) (serves_rare e a x rare)
-or_rare e a (Some y) x op some rare is = subst (Serves e a) (sym is) some
-
 -- the micro-op that stands for an index
 pub get_serves : (e : Elf) (s : Stretch) (at k : ℕ) (r : Option MicroOp) → IsStretchOf e s → index_address 0 (s.first + k) ≡ index_address 0 at → r ≡ slice_get s.ops.items k → IfSome r (Serves e (index_address 0 at))
 get_serves e s at k None of same is = tt
 get_serves e s at k (Some op) of same is = subst (λ a. Serves e a op) same (of.serve k op (sym is))
 
--- what is copied from a place of a list
-pub copied_from : {X : Type 0} (xs : List X) (k : ℕ) (g : Option (Bor X)) → is_some g ≡ ltb k (length xs) → IfSome g (λ x. x.now ≡ get_or xs k x.now) → option_copied g ≡ slice_get xs k
-copied_from xs k None is same = sym (slice_get_past xs k (ltb-false k (length xs) (sym is)))
-copied_from xs k (Some x) is same = sym (slice_get_read xs (length xs) k x.now refl (ltb-true k (length xs) (sym is)) same)
+-- the one that is got at a place
+pub got_serves : (e : Elf) (s : Stretch) (at k : ℕ) (g : Option (Bor MicroOp)) → IsStretchOf e s → index_address 0 (s.first + k) ≡ index_address 0 at → is_some g ≡ ltb k (length s.ops.items) → IfSome g (λ x. x.now ≡ get_or s.ops.items k x.now) → IfSome g (λ x. Serves e (index_address 0 at) x.now)
+got_serves e s at k None of same is there = tt
+got_serves e s at k (Some x) of same is there =
+    get_serves e s at k (Some x.now) of same (sym (slice_get_read s.ops.items (length s.ops.items) k x.now refl (ltb-true k (length s.ops.items) (sym is)) there))

@@ -5,6 +5,7 @@ use Rattle.elf32_read.specs.Elf.{Elf}
 use Rattle.exec_map.specs.Contents.{program_of, first_byte}
 use Rattle.byte_range.specs.Lines.{LineBytes, lines_memory}
 use Rattle.byte_range.specs.Window.{window_memory}
+use Rattle.first_memory.specs.SharedLines.{HasReadOnlyLines}
 use Rattle.rv32_program.specs.Program.{class_at}
 use Rattle.rv32_step.specs.Registers.{registers_of}
 use Rattle.rv32_step.specs.Memory.{byte_by}
@@ -24,6 +25,11 @@ pub record MemoryParts : Type 0 where
   pub program : Elf
   pub shared : LineBytes
   pub output : List ℕ
+
+-- the lines are the read-only ones, with the bytes that the program begins with
+pub record HasFixed (e : Elf) (fixed : LineBytes) : Type 0 where
+  pub lines : HasReadOnlyLines e fixed
+  pub bytes : lines_memory fixed (first_byte e) ≡ first_byte e
 
 pub record Parts : Type 0 where
   pub memory : MemoryParts

@@ -44,26 +44,28 @@ impl Code {
         Ok(Code { near, far })
     }
 
-    /// The micro-op of the word with an index.
+    /// The micro-op of the word with an index; `None` where no code stands.
     #[inline(always)]
-    pub fn fetch(&self, at: u32) -> MicroOp
-        ensures { (e : Elf) → IsCodeOf e self.now → Serves e (index_address 0 at) result }
+    pub fn fetch(&self, at: u32) -> Option<&MicroOp>
+        ensures serves { (e : Elf) → IsCodeOf e self.now
+            → IfSome result (λ op. Serves e (index_address 0 at) op.now) }
     {
         match self.near.get(at) {
-            Some(op) => op,
+            Some(op) => Some(op),
             None => self.fetch_far(at),
         }
     }
 
     /// The micro-op of a word that isn't in the first stretch.
     #[inline(never)]
-    fn fetch_far(&self, at: u32) -> MicroOp
-        ensures { (e : Elf) → IsCodeOf e self.now → Serves e (index_address 0 at) result }
+    fn fetch_far(&self, at: u32) -> Option<&MicroOp>
+        ensures serves { (e : Elf) → IsCodeOf e self.now
+            → IfSome result (λ op. Serves e (index_address 0 at) op.now) }
     {
         let behind = self.far.partition_point(|stretch| stretch.first <= at);
         match behind.checked_sub(1) {
-            Some(last) => self.far[last].get(at).unwrap_or(MicroOp::RARE),
-            None => MicroOp::RARE,
+            Some(last) => self.far[last].get(at),
+            None => None,
         }
     }
 }
@@ -103,11 +105,11 @@ impl Stretch {
 
     /// The micro-op of the word with an index, where it is in the stretch.
     #[inline(always)]
-    fn get(&self, at: u32) -> Option<MicroOp>
-        ensures { (e : Elf) → IsStretchOf e self.now
-            → IfSome result (Serves e (index_address 0 at)) }
+    fn get(&self, at: u32) -> Option<&MicroOp>
+        ensures serves { (e : Elf) → IsStretchOf e self.now
+            → IfSome result (λ op. Serves e (index_address 0 at) op.now) }
     {
-        self.ops.get(at.wrapping_sub(self.first) as usize).copied()
+        self.ops.get(at.wrapping_sub(self.first) as usize)
     }
 }
 

@@ -3,6 +3,7 @@
 ghost use Rattle.std.specs.Prelude.{◌≡◌, ◌+◌, ◌*◌, ◌/◌, ◌^◌, ◌<◌, ◌≤◌, ◌∷◌, ◌++◌, [], ℕ, Bool, true, Some, None, MatchOption, IfOk, IfSome, OnOk, OnErr, is_some, if◌then◌else◌};
 ghost use Rattle.exec_map.specs.Contents.{program_of, first_byte, is_shared};
 ghost use Rattle.rv32_program.specs.Program.{IsAccepted, class_at};
+ghost use Rattle.rv32_program.specs.declared.Class.TheVariants.{ReadOnly};
 ghost use Rattle.byte_range.specs.Memory.{raw, stored};
 ghost use Rattle.byte_range.specs.Lines.{lines_memory};
 ghost use Rattle.rv32_decode.specs.Widths.{is_aligned};
@@ -12,8 +13,8 @@ ghost use Rattle.one_memory.specs.Machine.{Serves};
 
 use crate::code::Code;
 use byte_range::LineMemory;
-use exec_map::{Class, Program};
-use first_memory::shared_memory;
+use exec_map::Program;
+use first_memory::{read_only_memory, shared_memory};
 use micro_op::MicroOp;
 use rv32_decode::{Instr, Width};
 use std::alloc::{AllocError, Global};
@@ -25,12 +26,14 @@ pub struct Memory<'a> {
     program: &'a Program<'a>,
     code: Code,
     shared: LineMemory,
+    /// The read-only lines.
+    fixed: LineMemory,
     output: Vec<u8>,
 }
 
 impl<'a> Model for Memory<'a> {
     ghost use Rattle.first_memory.specs.SharedLines.{HasSharedLines};
-    ghost use Rattle.one_memory.specs.Machine.{MemoryParts, IsCodeOf};
+    ghost use Rattle.one_memory.specs.Machine.{MemoryParts, IsCodeOf, HasFixed};
 
     ghost Value = { MemoryParts };
 
@@ -41,7 +44,8 @@ impl<'a> Model for Memory<'a> {
     } };
 
     ghost invariant = { λ m. IsCodeOf m.program.now m.code
-        × HasSharedLines m.program.now m.shared };
+        × HasSharedLines m.program.now m.shared
+        × HasFixed m.program.now m.fixed };
 }
 
 impl<'a> Memory<'a> {
@@ -57,14 +61,16 @@ impl<'a> Memory<'a> {
             program,
             code: Code::read(alloc, program)?,
             shared: shared_memory(alloc, program)?,
+            fixed: read_only_memory(alloc, program)?,
             output: Vec::new(alloc),
         })
     }
 
     /// The micro-op of the word with an index.
     #[inline(always)]
-    pub fn fetch(&self, at: u32) -> MicroOp
-        ensures { Serves self.now.program (index_address 0 at) result }
+    pub fn fetch(&self, at: u32) -> Option<&MicroOp>
+        ensures serves { IfSome result (λ op.
+            Serves self.now.program (index_address 0 at) op.now) }
     {
         self.code.fetch(at)
     }
@@ -90,30 +96,29 @@ impl<'a> Memory<'a> {
     }
 
     /// The number that an aligned access reads in a read-only line; `None` in any other line.
-    #[inline(never)]
+    #[inline(always)]
     pub fn load_first(&self, width: Width, address: u32) -> Option<u32>
         requires { is_aligned width address ≡ true }
         ensures value { MatchOption result
-            (class_at (program_of self.now.program) address ≡ Class.ReadOnly → ⊥)
-            (λ n. (class_at (program_of self.now.program) address ≡ Class.ReadOnly)
+            (class_at (program_of self.now.program) address ≡ ReadOnly → ⊥)
+            (λ n. (class_at (program_of self.now.program) address ≡ ReadOnly)
             × (n ≡ raw width (first_byte self.now.program) address)) }
+        ensures byte { (n : ℕ) → result ≡ Some n → width ≡ Width.Byte → n < 2 ^ 8 }
     {
-        match self.program.class(address / 64) {
-            Class::ReadOnly => Some(self.program.load0(width, address)),
-            Class::Shared | Class::Private | Class::Unmapped => None,
-        }
+        self.fixed.load(width, address)
     }
 
     /// The first byte of an address in a read-only line; `None` in any other line.
+    #[tactic(auto, unfolding(byte_range::specs::Memory::raw))]
     pub fn first_byte(&self, address: u32) -> Option<u8>
         ensures value { MatchOption result
-            (class_at (program_of self.now.program) address ≡ Class.ReadOnly → ⊥)
-            (λ n. (class_at (program_of self.now.program) address ≡ Class.ReadOnly)
+            (class_at (program_of self.now.program) address ≡ ReadOnly → ⊥)
+            (λ n. (class_at (program_of self.now.program) address ≡ ReadOnly)
             × (n ≡ first_byte self.now.program address)) }
     {
-        match self.program.class(address / 64) {
-            Class::ReadOnly => Some(self.program.byte0(address)),
-            Class::Shared | Class::Private | Class::Unmapped => None,
+        match self.load_first(Width::Byte, address) {
+            Some(number) => Some(number as u8),
+            None => None,
         }
     }
 

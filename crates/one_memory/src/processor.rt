@@ -137,9 +137,12 @@ fn step(at: u32, body: &mut Body, memory: &mut Memory<'_>) -> Result<Move, Alloc
     ensures err_body { OnErr result (body.new ≡ body.old) }
     ensures err_memory { OnErr result (memory.new ≡ memory.old) }
 {
-    match demand_by(memory.fetch(at), &body.registers) {
-        Some(demand) => meet(demand, at, body, memory),
-        None => step_rare(at, body, memory),
+    if let Some(op) = memory.fetch(at)
+        && let Some(demand) = demand_by(op, &body.registers)
+    {
+        meet(demand, at, body, memory)
+    } else {
+        step_rare(at, body, memory)
     }
 }
 
@@ -168,8 +171,8 @@ fn address_of(at: u32) -> u32
 
 /// What a micro-op demands; `None` where it is left to the path that serves every word.
 #[inline(always)]
-fn demand_by(op: MicroOp, registers: &Registers) -> Option<Demand>
-    ensures { IfSome result (λ d. meaning_of 0 op (registers_of registers.now) ≡ Demands d) }
+fn demand_by(op: &MicroOp, registers: &Registers) -> Option<Demand>
+    ensures { IfSome result (λ d. meaning_of 0 op.now (registers_of registers.now) ≡ Demands d) }
 {
     let a = registers.get(op.rs1);
     let b = registers.get(op.rs2);

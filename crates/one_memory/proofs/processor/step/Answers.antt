@@ -2,8 +2,8 @@ use Rattle.std.proofs.lemmas.Result.{IfOk-weaker}
 use Rattle.one_memory.proofs.StepLemmas.{served}
 use Rattle.one_memory.proofs.processor.step.Goals as goal
 
-pub returns-in-Some-clause-ok : goal.returns-in-Some-clause-ok
-returns-in-Some-clause-ok c =
+pub returns-in-Some-demand_by-clause-ok : goal.returns-in-Some-demand_by-clause-ok
+returns-in-Some-demand_by-clause-ok c =
     let m = c.args.memory.now in
     let b = c.args.body.now in
-    IfOk-weaker c.meet.result _ _ (λ move met. served c.args.at m c.meet.new.memory b c.meet.new.body c.fetch.result c.in-Some.demand move c.fetch.ensures c.in-Some.ensures met) c.meet.ensures.ok
+    IfOk-weaker c.meet.result _ _ (λ move met. served c.args.at m c.meet.new.memory b c.meet.new.body c.in-Some.op.now c.in-Some-demand_by.demand move c.in-Some.ensures.serves c.in-Some-demand_by.ensures met) c.meet.ensures.ok

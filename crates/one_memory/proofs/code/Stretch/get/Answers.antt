@@ -1,11 +1,14 @@
-use Rattle.std.proofs.Common.{◌≡◌, ◌+◌, ◌-◌, ◌%◌, ◌∙◌, arith}
+use Rattle.std.proofs.Common.{◌≡◌, ◌+◌, ◌-◌, ◌%◌, arith}
 use Rattle.micro_op.specs.Micro.{index_address}
-use Rattle.one_memory.proofs.ServeLemmas.{get_serves, copied_from}
+use Rattle.one_memory.proofs.ServeLemmas.{got_serves}
 use Rattle.one_memory.proofs.code.Stretch.get.Goals as goal
 
 pub returns : goal.returns
-returns c e of =
-    let s = c.args.self.now in
-    let k = (c.args.at + (4294967296 - s.first)) % 4294967296 in
-    let same : index_address 0 (s.first + k) ≡ index_address 0 c.args.at = omega arith in
-    get_serves e s c.args.at k c.copied.result of same (c.copied.ensures ∙ copied_from s.ops.items k c.get.result (rw c.deref.ensures.value at c.get.ensures.lookup).0 (rw c.deref.ensures.value at c.get.ensures.lookup).1)
+returns c = record {
+  serves = λ e of.
+      let s = c.args.self.now in
+      let k = (c.args.at + (4294967296 - s.first)) % 4294967296 in
+      let same : index_address 0 (s.first + k) ≡ index_address 0 c.args.at = omega arith in
+      let there = rw c.deref.ensures.value at c.get.ensures.lookup in
+      got_serves e s c.args.at k c.get.result of same there.0 there.1;
+}
