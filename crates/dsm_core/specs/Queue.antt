@@ -1,5 +1,6 @@
 -- The lists of messages between nodes, as they are stored.
-use Rattle.std.specs.Prelude.{◌≡◌, ℕ, ◌+◌, ◌*◌, ◌<◌, ◌≤◌, ◌&&◌, nat_lt, if◌then◌else◌, List, [], ◌∷◌, length, slice_index_or}
+use Rattle.std.specs.Prelude.{◌≡◌, ℕ, ◌+◌, ◌*◌, ◌<◌, ◌≤◌, ◌&&◌, nat_lt, if◌then◌else◌, List, [], ◌∷◌, length, slice_index_or, Option, MatchOption}
+use Rattle.std.specs.Borrow.{Bor}
 use Rattle.home_directory.specs.declared.messages.Message.{Message}
 use Rattle.home_directory.specs.declared.messages.Post.{Post}
 use Rattle.dsm_core.specs.World.{with_list, with_sends}
@@ -19,6 +20,11 @@ queue_at queues n j i = slice_index_or queues (j * n + i) no_queue
 -- the messages from j to i; beyond n nodes there are none
 abbrev pub list_of : List Queue → ℕ → (j i : ℕ) → List Message
 list_of queues n j i = if nat_lt j n && nat_lt i n then (queue_at queues n j i).messages else []
+
+-- the first of these messages, or none where there are none
+abbrev pub IsFirstOf : List Message → Option (Bor Message) → Type 0
+IsFirstOf messages first =
+    MatchOption first (messages ≡ []) (λ m. (rest : List Message) × (messages ≡ m.now ∷ rest))
 
 -- a queue for each pair of up to 16 nodes
 pub record AreQueues (queues : List Queue) (n : ℕ) : Type 0 where

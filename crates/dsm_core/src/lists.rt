@@ -1,7 +1,7 @@
 //! The n × n lists of messages between n nodes: the list from j to i stands at place j × n + i.
 
 ghost use Rattle.std.specs.Prelude.{◌≡◌, ◌≢◌, ◌+◌, ◌*◌, ◌<◌, ◌≤◌, ℕ, [], OnOk, IfOk, length};
-ghost use Rattle.dsm_core.specs.Queue.{AreQueues, SameMessages, HasRoom, IsSent, IsTaken, list_of};
+ghost use Rattle.dsm_core.specs.Queue.{AreQueues, IsFirstOf, SameMessages, HasRoom, IsSent, IsTaken, list_of};
 
 use crate::queue::Queue;
 use home_directory::{Message, Post, Sends};
@@ -36,6 +36,16 @@ pub(crate) fn reserve_from(queues: &mut Vec<Queue>, nodes: u8, from: u8) -> Resu
         queues[from as usize * nodes as usize + to as usize].reserve(ROOM)?;
     }
     Ok(())
+}
+
+/// The first message from one node to another, where there is one.
+pub(crate) fn first_message(queues: &[Queue], nodes: u8, from: u8, to: u8) -> Option<&Message>
+    requires queues { AreQueues queues.now nodes }
+    requires from { from < nodes }
+    requires to { to < nodes }
+    ensures value { IsFirstOf (list_of queues.now nodes from to) result }
+{
+    queues[from as usize * nodes as usize + to as usize].first()
 }
 
 /// Takes the first message from one node to another.

@@ -1,6 +1,6 @@
 //! n nodes without code and the n × n lists of messages between them.
 
-ghost use Rattle.std.specs.Prelude.{◌≡◌, ◌≢◌, ◌+◌, ◌≤◌, ◌<◌, ◌/◌, ℕ, List, [], ◌∷◌, ◌++◌, length, None, Some, not, true, IfOk, OnOk, OnErr};
+ghost use Rattle.std.specs.Prelude.{◌≡◌, ◌≢◌, ◌+◌, ◌≤◌, ◌<◌, ◌/◌, ℕ, List, [], ◌∷◌, ◌++◌, length, None, Some, not, true, is_some, IfOk, OnOk, OnErr};
 ghost use Rattle.block_layout.specs.Layout.{Shape, blocks, block_of, IsValid};
 ghost use Rattle.coherence.specs.Machine.{Event, Store, Take, Want, after};
 ghost use Rattle.home_directory.specs.Table.{meets};
@@ -11,17 +11,19 @@ ghost use Rattle.rv32_decode.specs.Widths.{is_aligned};
 ghost use Rattle.byte_range.specs.Memory.{raw};
 ghost use Rattle.dsm_core.specs.Memory.{memory_at, may_read, may_write, store_in};
 ghost use Rattle.dsm_core.specs.Promises.{ReadsMemory, OneWriter, Flagged, RowsCome, NeverStuck};
+ghost use Rattle.dsm_core.specs.Queue.{IsFirstOf};
 ghost use Rattle.dsm_core.specs.Nodes.{Nodes, parts, world_of, AreReached};
 
-use crate::lists::{empty_lists, reserve_from, send, take_first};
+use crate::lists::{empty_lists, first_message, reserve_from, send, take_first};
 use crate::nodes::{BareNode, store, treat, want};
 use crate::opening::open_nodes;
 use crate::queue::Queue;
 use block_layout::{Block, Layout, layout_law};
 use coherence::coherence_law;
 use flag_memory::{FirstBytes, copy_law};
-use home_directory::Need;
+use home_directory::{Message, Need};
 use rv32_decode::Width;
+use state_table::State;
 use std::alloc::{AllocError, Global};
 use std::marker::Model;
 
@@ -171,6 +173,42 @@ impl Protocol {
     {
         let _nodes = self.layout.nodes();
         self.nodes[node as usize].waits.pending()
+    }
+
+    /// The layout, whose number of nodes is that of the protocol's.
+    pub fn layout(&self) -> &Layout
+        ensures value { result.now ≡ self.now.layout }
+    {
+        &self.layout
+    }
+
+    /// Whether a node waits for a block.
+    pub fn waits_for(&self, node: u8, block: Block) -> bool
+        requires { node < self.now.layout.nodes }
+        ensures value { result ≡ is_some ((world_of self.now).wait node block) }
+    {
+        let _nodes = self.layout.nodes();
+        self.nodes[node as usize].waits.waits_for(block)
+    }
+
+    /// The state of a block at a node.
+    pub fn state(&self, node: u8, block: Block) -> State
+        requires node { node < self.now.layout.nodes }
+        requires block { block < blocks self.now.layout }
+        ensures value { result ≡ (world_of self.now).state node block }
+    {
+        let _nodes = self.layout.nodes();
+        self.nodes[node as usize].states.state(block)
+    }
+
+    /// The first message of the list from another node, where there is one.
+    pub fn first(&self, node: u8, from: u8) -> Option<&Message>
+        requires node { node < self.now.layout.nodes }
+        requires from { from < self.now.layout.nodes }
+        ensures value { IsFirstOf ((world_of self.now).list from node) result }
+    {
+        let nodes = self.layout.nodes();
+        first_message(&self.queues, nodes, from, node)
     }
 
     /// A node takes the first message of the list from another.

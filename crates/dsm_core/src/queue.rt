@@ -1,6 +1,7 @@
 //! The messages on their way from one node to another.
 
 ghost use Rattle.std.specs.Prelude.{◌≡◌, ◌≢◌, ◌+◌, ◌<◌, ◌≤◌, ◌∷◌, ◌++◌, [], OnOk};
+ghost use Rattle.dsm_core.specs.Queue.{IsFirstOf};
 
 use home_directory::Message;
 use std::alloc::{AllocError, Global};
@@ -51,6 +52,13 @@ impl Queue {
         ensures room { self.old.room ≡ self.new.room + 1 }
     {
         self.messages.push_back_reserved(message);
+    }
+
+    /// The first message, where there is one.
+    pub(crate) fn first(&self) -> Option<&Message>
+        ensures value { IsFirstOf self.now.messages result }
+    {
+        self.messages.front()
     }
 
     /// Takes the first message.

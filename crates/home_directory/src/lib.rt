@@ -6,8 +6,6 @@
 
 mod directory;
 mod messages;
-#[cfg(test)]
-mod tests;
 mod wait;
 
 pub use directory::{Busy, Directory, Entry, Request};

@@ -405,8 +405,8 @@ impl Waits {
     }
 
     /// Whether there is a wait for a block.
-    fn waits_for(&self, block: Block) -> bool
-        ensures { result ≡ is_some (wait_of self.now block) }
+    pub fn waits_for(&self, block: Block) -> bool
+        ensures value { result ≡ is_some (wait_of self.now block) }
     {
         is_waited_for(&self.waits, block)
     }
