@@ -1,3 +1,6 @@
 pub mod Words
 pub mod Cuts
+pub mod Told
+pub mod Walking
+pub mod Gives
 pub mod Rows

@@ -1,27 +1,35 @@
--- The words that are of a row give its places and its options what the row says, and nothing else.
-use Rattle.std.proofs.Common.{◌≡◌, ◌≢◌, ◌≤◌, ℕ, List, [], ◌∷◌, length, codes, get_or, refl, sym, ap, ◌∙◌, subst, arith, Option, Some, None, MatchOption}
-use Rattle.command_line.specs.declared.table.Access.TheVariants.{Read}
+-- What is given says of a command's row one command, and nothing else.
+use Rattle.std.proofs.Common.{◌≡◌, ◌≢◌, ℕ, Bool, true, false, ◌<◌, length, MatchOption, List, [], ◌∷◌, map, codes, get_or, refl, sym, ap, ◌∙◌, subst, arith, Option, Some, None, Bor, option_map, unwrap_or}
+use Rattle.clap.specs.declared.parser.matches.ArgMatches.{ArgMatches}
+use Rattle.clap.specs.Words.{found_of, matched_of, raw_values}
+use Rattle.clap.proofs.WalkLemmas.{raw_values-rows}
+use Rattle.command_line.specs.declared.table.Access.TheVariants.{Read, Write}
 use Rattle.command_line.specs.declared.table.Kind.{Kind}
 use Rattle.command_line.specs.declared.table.Kind.TheVariants.{Number, File, Flag}
 use Rattle.command_line.specs.declared.table.Setting.{Setting}
-use Rattle.command_line.specs.declared.table.Setting.TheVariants.{Nodes, Order, Budget}
-use Rattle.command_line.specs.declared.arguments.Role.TheVariants as role
-use Rattle.command_line.specs.Commands.{Command, Run, Listing, One, Named, Value, Amount, Name, Row, row_of, kind_of, settings_in}
-use Rattle.command_line.specs.Asks.{Argument, IsNumber, ArePlaced, IsSet, AreOfRow, Asks, operands_of, values_of}
-use Rattle.command_line.specs.Reading.{IsCut, Gives, SaysNumber, Completes}
-use Rattle.command_line.proofs.Cuts.{at_cut, same_all}
+use Rattle.command_line.specs.declared.table.Setting.TheVariants.{Nodes, Order, Budget, Layout}
+use Rattle.command_line.specs.declared.table.Role.{Role}
+use Rattle.command_line.specs.declared.table.Role.TheVariants as role
+use Rattle.command_line.specs.declared.table.CommandWord.{CommandWord}
+use Rattle.command_line.specs.declared.table.CommandWord.TheVariants as word
+use Rattle.command_line.specs.Commands.{Command, Rewrite, Run, Listing, One, Named, Value, Amount, Name, Switch, name_or_none, Row, row_of, kind_of, settings_in}
+use Rattle.command_line.specs.Asks.{Argument, IsNumber, ArePlaced, IsSet, AreSet, AreOfRow, Asks}
+use Rattle.command_line.specs.declared.Command.{Command as OfCode}
+use Rattle.command_line.specs.Meaning.{meaning_of}
+use Rattle.command_line.specs.Reading.{IsCut, Reads, IsOfRow, AreGiven, SaysNumber, SaysName, Completes, given_by, id_of, words_for, settings_of, text_of}
+use Rattle.command_line.proofs.Cuts.{same_cut}
 
--- an option is given at most one value
-set_few : (kind : Kind) (values : List (List ℕ)) (value : Value) → IsSet kind values value →
-    length values ≤ 2
-set_few kind [] value h = omega arith
-set_few kind (x ∷ []) value h = omega arith
-set_few kind (x ∷ y ∷ more) value h = absurd h
+abbrev Given : Type 0
+Given = Role → List (List ℕ)
 
-pub says_few :
-    (settings : List Setting) (words : List (List ℕ)) (s : Setting) (n : ℕ)
-    (h : SaysNumber settings words s n) → length h.values ≤ 2
-says_few settings words s n h = set_few (kind_of s) h.values (Amount n) h.is_set
+-- what the code reads of a role is what it is given
+pub given_raw : (m : ArgMatches) (r : Role) (id : List ℕ) (o : Option (Bor (List (Bor (List ℕ))))) →
+    id ≡ id_of r →
+    option_map (λ s. map (λ v. v.now) s.now) o ≡ option_map raw_values (matched_of (found_of m) id) →
+    given_by m r ≡ unwrap_or (option_map (λ s. map (λ v. v.now) s.now) o) []
+given_raw m r id o f e =
+    sym (ap (λ x. unwrap_or x []) (e ∙ ap (λ i. option_map raw_values (matched_of (found_of m) i)) f
+    ∙ raw_values-rows (found_of m) (id_of r)))
 
 same_amount : (n m : ℕ) → Amount n ≡ Amount m → n ≡ m
 same_amount n m e = cc
@@ -44,161 +52,256 @@ set_one Flag [] n m h k = same_amount n m (h ∙ sym k)
 set_one Flag (x ∷ []) n m h k = same_amount n m (h ∙ sym k)
 set_one Flag (x ∷ y ∷ more) n m h k = absurd h
 
-pub says_one : (settings : List Setting) (words : List (List ℕ)) (s : Setting) (n m : ℕ) →
-    SaysNumber settings words s n → SaysNumber settings words s m → n ≡ m
-says_one settings words s n m h k =
-    let same : h.values ≡ k.values =
-    same_all settings (role.Option s) words h.values k.values h.gives k.gives in
-    set_one (kind_of s) k.values n m (subst (λ vs. IsSet (kind_of s) vs (Amount n)) same h.is_set)
-    k.is_set
+-- an option that is given one value, and none
+pub says_by : (g : Given) (s : Setting) (values : List (List ℕ)) (kind : Kind) (n : ℕ) →
+    g (role.Option s) ≡ values → kind_of s ≡ kind → IsSet kind values (Amount n) → SaysNumber g s n
+says_by g s values kind n e k h =
+    subst (λ vs. IsSet (kind_of s) vs (Amount n)) (sym e)
+    (subst (λ x. IsSet x values (Amount n)) (sym k) h)
 
--- the values of the option are these, by which it says a number
-pub set_by : (settings : List Setting) (words values : List (List ℕ)) (s : Setting) (kind : Kind)
-    (n : ℕ) → Gives settings (role.Option s) [] words values → kind_of s ≡ kind →
-    SaysNumber settings words s n → IsSet kind values (Amount n)
-set_by settings words values s kind n g e h =
-    let same : h.values ≡ values =
-    same_all settings (role.Option s) words h.values values h.gives g in
-    subst (λ k. IsSet k values (Amount n)) e
-    (subst (λ vs. IsSet (kind_of s) vs (Amount n)) same h.is_set)
+pub set_by : (g : Given) (s : Setting) (values : List (List ℕ)) (kind : Kind) (n : ℕ) →
+    g (role.Option s) ≡ values → kind_of s ≡ kind → SaysNumber g s n → IsSet kind values (Amount n)
+set_by g s values kind n e k h =
+    subst (λ x. IsSet x values (Amount n)) k (subst (λ vs. IsSet (kind_of s) vs (Amount n)) e h)
 
-pub says_by :
-    (settings : List Setting) (words values : List (List ℕ)) (s : Setting) (kind : Kind) (n : ℕ) →
-    Gives settings (role.Option s) [] words values → kind_of s ≡ kind →
-    IsSet kind values (Amount n) → SaysNumber settings words s n
-says_by settings words values s kind n g e h = record {
-  values = values;
-  gives = g;
-  is_set = subst (λ k. IsSet k values (Amount n)) (sym e) h;
-}
-
--- a number is read from the one value
-pub says_read :
-    (settings : List Setting) (words : List (List ℕ)) (word : List ℕ) (s : Setting)
-    (low high default : ℕ) (r : Option ℕ) → Gives settings (role.Option s) [] words (word ∷ []) →
-    kind_of s ≡ Number low high default →
+pub says_read : (g : Given) (s : Setting) (word : List ℕ) (low high default : ℕ) (r : Option ℕ) →
+    g (role.Option s) ≡ word ∷ [] → kind_of s ≡ Number low high default →
     MatchOption r ((n : ℕ) → IsNumber low high word n → ⊥) (λ n. IsNumber low high word n) →
-    MatchOption r ((n : ℕ) → SaysNumber settings words s n → ⊥) (λ n. SaysNumber settings words s n)
-says_read settings words word s low high default None g e h = λ n k.
+    MatchOption r ((n : ℕ) → SaysNumber g s n → ⊥) (λ n. SaysNumber g s n)
+says_read g s word low high default None e k h = λ n says.
     let given : IsSet (Number low high default) (word ∷ []) (Amount n) =
-    set_by settings words (word ∷ []) s (Number low high default) n g e k in
+    set_by g s (word ∷ []) (Number low high default) n e k says in
     h given.0 given.1
-says_read settings words word s low high default (Some n) g e h =
-    says_by settings words (word ∷ []) s (Number low high default) n g e (n, h, refl)
+says_read g s word low high default (Some n) e k h =
+    says_by g s (word ∷ []) (Number low high default) n e k (n, h, refl)
 
--- one file stands in the place
-one_file : (f : List ℕ) (words : List (List ℕ)) → ArePlaced ((Named Read, Name f) ∷ []) words →
-    words ≡ f ∷ []
+set_few : (kind : Kind) (values : List (List ℕ)) (value : Value) → IsSet kind values value →
+    1 < length values → ⊥
+set_few kind [] value h lt = omega (arith, lt)
+set_few kind (x ∷ []) value h lt = omega (arith, lt)
+set_few kind (x ∷ y ∷ more) value h lt = h
+
+pub says_few : (g : Given) (s : Setting) (n : ℕ) → 1 < length (g (role.Option s)) →
+    SaysNumber g s n → ⊥
+says_few g s n lt h = set_few (kind_of s) (g (role.Option s)) (Amount n) h lt
+
+-- an option names one file, or none
+same_named : (n m : Option (List ℕ)) → name_or_none n ≡ name_or_none m → n ≡ m
+same_named None None e = refl
+same_named None (Some y) e = absurd (cc)
+same_named (Some x) None e = absurd (cc)
+same_named (Some x) (Some y) e = ap Some (same_name x y e)
+
+no_amount : (n : Option (List ℕ)) (k : ℕ) → name_or_none n ≡ Amount k → ⊥
+no_amount None k e = absurd (cc)
+no_amount (Some x) k e = absurd (cc)
+
+no_switch : (n : Option (List ℕ)) (b : Bool) → name_or_none n ≡ Switch b → ⊥
+no_switch None b e = absurd (cc)
+no_switch (Some x) b e = absurd (cc)
+
+name_one : (kind : Kind) (values : List (List ℕ)) (n m : Option (List ℕ)) →
+    IsSet kind values (name_or_none n) → IsSet kind values (name_or_none m) → n ≡ m
+name_one (Number low high default) [] n m h k = absurd (no_amount n _ h)
+name_one (Number low high default) (x ∷ []) n m h k = absurd (no_amount n h.0 h.2)
+name_one (Number low high default) (x ∷ y ∷ more) n m h k = absurd h
+name_one (File access) [] n m h k = same_named n m (h ∙ sym k)
+name_one (File access) (x ∷ []) n m h k = same_named n m (h.1 ∙ sym k.1)
+name_one (File access) (x ∷ y ∷ more) n m h k = absurd h
+name_one Flag [] n m h k = absurd (no_switch n false h)
+name_one Flag (x ∷ []) n m h k = absurd (no_switch n true h)
+name_one Flag (x ∷ y ∷ more) n m h k = absurd h
+
+names_one : (g : Given) (s : Setting) (n m : Option (List ℕ)) → SaysName g s n → SaysName g s m → n ≡ m
+names_one g s n m h k = name_one (kind_of s) (g (role.Option s)) n m h k
+
+pub nothing : (xs : List (Bor (List ℕ))) → length xs ≡ 0 → map (λ v. v.now) xs ≡ []
+nothing [] e = refl
+nothing (x ∷ xs) e = absurd (omega (arith, e))
+
+pub singleton : (xs : List (Bor (List ℕ))) (d : Bor (List ℕ)) → length xs ≡ 1 →
+    map (λ v. v.now) xs ≡ (get_or xs 0 d).now ∷ []
+singleton [] d e = absurd (omega (arith, e))
+singleton (x ∷ []) d e = refl
+singleton (x ∷ y ∷ more) d e = absurd (omega (arith, e))
+
+pub pair : (xs : List (Bor (List ℕ))) (d : Bor (List ℕ)) → length xs ≡ 2 →
+    map (λ v. v.now) xs ≡ (get_or xs 0 d).now ∷ (get_or xs 1 d).now ∷ []
+pair [] d e = absurd (omega (arith, e))
+pair (x ∷ []) d e = absurd (omega (arith, e))
+pair (x ∷ y ∷ []) d e = refl
+pair (x ∷ y ∷ z ∷ more) d e = absurd (omega (arith, e))
+
+pub one_file : (f : List ℕ) (words : List (List ℕ)) →
+    ArePlaced ((Named Read, Name f) ∷ []) words → words ≡ f ∷ []
 one_file f [] h = absurd h
 one_file f (w ∷ []) h = ap (λ x. x ∷ []) (sym (same_name f w h.0))
 one_file f (w ∷ x ∷ more) h = absurd h.1
 
-cut_of : (row : Row) (words : List (List ℕ)) (r : AreOfRow row words) →
-    IsCut (settings_in row.options) words r.arguments
-cut_of row words r = record { words_are = r.words_are; are_arguments = r.are_arguments }
+pub placed_file : (f : List ℕ) (words : List (List ℕ)) → words ≡ f ∷ [] →
+    ArePlaced ((Named Read, Name f) ∷ []) words
+placed_file f words e = subst (ArePlaced ((Named Read, Name f) ∷ [])) (sym e) (refl, tt)
 
-pub gives_file : (row : Row) (words : List (List ℕ)) (f : List ℕ) (r : AreOfRow row words) →
-    row.places ≡ (Named Read, Name f) ∷ [] →
-    Gives (settings_in row.options) role.Place [] words (f ∷ [])
-gives_file row words f r e = record {
-  arguments = r.arguments;
-  is_cut = cut_of row words r;
-  all_are = sym
-      (one_file f (operands_of r.arguments)
-      (subst (λ places. ArePlaced places (operands_of r.arguments)) e r.places));
-}
+pub two_files : (x y : List ℕ) (words : List (List ℕ)) →
+    ArePlaced ((Named Read, Name x) ∷ (Named Write, Name y) ∷ []) words → words ≡ x ∷ y ∷ []
+two_files x y [] h = absurd h
+two_files x y (w ∷ []) h = absurd h.1
+two_files x y (w ∷ v ∷ []) h =
+    let one = same_name x w h.0 in
+    let other = same_name y v h.1.0 in
+    cc
+two_files x y (w ∷ v ∷ u ∷ more) h = absurd h.1.1
 
-pub says_of : (row : Row) (words : List (List ℕ)) (r : AreOfRow row words) (s : Setting) (n : ℕ) →
-    IsSet (kind_of s) (values_of s r.arguments) (Amount n) →
-    SaysNumber (settings_in row.options) words s n
-says_of row words r s n h = record {
-  values = values_of s r.arguments;
-  gives = record { arguments = r.arguments; is_cut = cut_of row words r; all_are = refl };
-  is_set = h;
-}
+pub placed_files : (x y : List ℕ) (words : List (List ℕ)) → words ≡ x ∷ y ∷ [] →
+    ArePlaced ((Named Read, Name x) ∷ (Named Write, Name y) ∷ []) words
+placed_files x y words e =
+    subst (ArePlaced ((Named Read, Name x) ∷ (Named Write, Name y) ∷ [])) (sym e) (refl, (refl, tt))
 
-pub placed_at :
-    (settings : List Setting) (words : List (List ℕ)) (f : List ℕ) (arguments : List Argument) →
-    Gives settings role.Place [] words (f ∷ []) → IsCut settings words arguments →
-    ArePlaced ((Named Read, Name f) ∷ []) (operands_of arguments)
-placed_at settings words f arguments g cut =
-    subst (ArePlaced ((Named Read, Name f) ∷ []))
-    (at_cut settings role.Place words (f ∷ []) arguments g cut) (refl, tt)
-
-pub set_at : (settings : List Setting) (words : List (List ℕ)) (s : Setting) (n : ℕ)
-    (arguments : List Argument) → SaysNumber settings words s n → IsCut settings words arguments →
-    IsSet (kind_of s) (values_of s arguments) (Amount n)
-set_at settings words s n arguments h cut =
-    subst (λ vs. IsSet (kind_of s) vs (Amount n))
-    (at_cut settings (role.Option s) words h.values arguments h.gives cut) h.is_set
+same_files : (x y v w : List ℕ) (words : List (List ℕ)) →
+    ArePlaced ((Named Read, Name x) ∷ (Named Write, Name y) ∷ []) words →
+    ArePlaced ((Named Read, Name v) ∷ (Named Write, Name w) ∷ []) words → (x ≡ v) × (y ≡ w)
+same_files x y v w words h k =
+    let e = sym (two_files x y words h) ∙ two_files v w words k in
+    (ap (λ xs. get_or xs 0 []) e, ap (λ xs. get_or xs 1 []) e)
 
 -- commands of one word are of one kind
 other_first : (v w : List ℕ) → v ≡ w → get_or v 0 0 ≢ get_or w 0 0 → ⊥
 other_first v w e h = h (ap (λ x. get_or x 0 0) e)
 
-pub as_run : (words : List (List ℕ)) (c : Command) → Completes (codes "run") words c → (f : List ℕ)
-    × (b : ℕ) × AreOfRow (row_of (Run f b)) words
-as_run words (Run f b) h = (f, b, h.of_row)
-as_run words (Listing f) h = absurd (other_first _ _ h.word_is (omega arith))
-as_run words (One f n o b) h = absurd (other_first _ _ h.word_is (omega arith))
+-- `rewrite` and `run` differ in their second letter
+other_second : (v w : List ℕ) → v ≡ w → get_or v 1 0 ≢ get_or w 1 0 → ⊥
+other_second v w e h = h (ap (λ x. get_or x 1 0) e)
 
-pub as_list : (words : List (List ℕ)) (c : Command) → Completes (codes "list") words c →
-    (f : List ℕ) × AreOfRow (row_of (Listing f)) words
-as_list words (Run f b) h = absurd (other_first _ _ h.word_is (omega arith))
-as_list words (Listing f) h = (f, h.of_row)
-as_list words (One f n o b) h = absurd (other_first _ _ h.word_is (omega arith))
+pub as_rewrite : (g : Given) (c : Command) → Completes (codes "rewrite") g c → (x : List ℕ)
+    × (y : List ℕ) × IsOfRow (row_of (Rewrite x y)) g
+as_rewrite g (Rewrite x y) h = (x, y, h.of_row)
+as_rewrite g (Run f b l) h = absurd (other_second _ _ h.word_is (omega arith))
+as_rewrite g (Listing f) h = absurd (other_first _ _ h.word_is (omega arith))
+as_rewrite g (One f n o b) h = absurd (other_first _ _ h.word_is (omega arith))
 
-pub as_one : (words : List (List ℕ)) (c : Command) → Completes (codes "one") words c → (f : List ℕ)
-    × (n : ℕ) × (o : ℕ) × (b : ℕ) × AreOfRow (row_of (One f n o b)) words
-as_one words (Run f b) h = absurd (other_first _ _ h.word_is (omega arith))
-as_one words (Listing f) h = absurd (other_first _ _ h.word_is (omega arith))
-as_one words (One f n o b) h = (f, n, o, b, h.of_row)
+pub as_run : (g : Given) (c : Command) → Completes (codes "run") g c → (f : List ℕ)
+    × (b : ℕ) × (l : Option (List ℕ)) × IsOfRow (row_of (Run f b l)) g
+as_run g (Rewrite f o) h = absurd (other_second _ _ h.word_is (omega arith))
+as_run g (Run f b l) h = (f, b, l, h.of_row)
+as_run g (Listing f) h = absurd (other_first _ _ h.word_is (omega arith))
+as_run g (One f n o b) h = absurd (other_first _ _ h.word_is (omega arith))
 
--- words that are of two rows with the same options and one file each name one file
-same_file : (settings : List Setting) (words : List (List ℕ)) (x y : List ℕ) →
-    Gives settings role.Place [] words (x ∷ []) → Gives settings role.Place [] words (y ∷ []) →
-    x ≡ y
-same_file settings words x y g h =
-    ap (λ xs. get_or xs 0 []) (same_all settings role.Place words (x ∷ []) (y ∷ []) g h)
+pub as_list : (g : Given) (c : Command) → Completes (codes "list") g c →
+    (f : List ℕ) × IsOfRow (row_of (Listing f)) g
+as_list g (Rewrite f o) h = absurd (other_first _ _ h.word_is (omega arith))
+as_list g (Run f b l) h = absurd (other_first _ _ h.word_is (omega arith))
+as_list g (Listing f) h = (f, h.of_row)
+as_list g (One f n o b) h = absurd (other_first _ _ h.word_is (omega arith))
 
-one_row : (words : List (List ℕ)) (c d : Command) → AreOfRow (row_of c) words →
-    AreOfRow (row_of d) words → (row_of c).word ≡ (row_of d).word → c ≡ d
-one_row words (Run x n) (Run y m) p q e =
-    let file : x ≡ y =
-    same_file (Budget ∷ []) words x y (gives_file (row_of (Run x n)) words x p refl)
-    (gives_file (row_of (Run y m)) words y q refl) in
-    let budget : n ≡ m =
-    says_one (Budget ∷ []) words Budget n m
-    (says_of (row_of (Run x n)) words p Budget n p.options.0)
-    (says_of (row_of (Run y m)) words q Budget m q.options.0) in
+pub as_one : (g : Given) (c : Command) → Completes (codes "one") g c → (f : List ℕ)
+    × (n : ℕ) × (o : ℕ) × (b : ℕ) × IsOfRow (row_of (One f n o b)) g
+as_one g (Rewrite f o) h = absurd (other_first _ _ h.word_is (omega arith))
+as_one g (Run f b l) h = absurd (other_first _ _ h.word_is (omega arith))
+as_one g (Listing f) h = absurd (other_first _ _ h.word_is (omega arith))
+as_one g (One f n o b) h = (f, n, o, b, h.of_row)
+
+same_file : (x y : List ℕ) (words : List (List ℕ)) → ArePlaced ((Named Read, Name x) ∷ []) words →
+    ArePlaced ((Named Read, Name y) ∷ []) words → x ≡ y
+same_file x y words h k =
+    ap (λ xs. get_or xs 0 []) (sym (one_file x words h) ∙ one_file y words k)
+
+says_one : (g : Given) (s : Setting) (n m : ℕ) → SaysNumber g s n → SaysNumber g s m → n ≡ m
+says_one g s n m h k = set_one (kind_of s) (g (role.Option s)) n m h k
+
+one_row : (g : Given) (c d : Command) → IsOfRow (row_of c) g → IsOfRow (row_of d) g →
+    (row_of c).word ≡ (row_of d).word → c ≡ d
+one_row g (Rewrite x y) (Rewrite v w) p q e =
+    let same = same_files x y v w _ p.places q.places in
+    ap (λ f. Rewrite f y) same.0 ∙ ap (λ f. Rewrite v f) same.1
+one_row g (Rewrite x y) (Run v n l) p q e = absurd (other_second _ _ e (omega arith))
+one_row g (Rewrite x y) (Listing v) p q e = absurd (other_first _ _ e (omega arith))
+one_row g (Rewrite x y) (One v n o b) p q e = absurd (other_first _ _ e (omega arith))
+one_row g (Run v n l) (Rewrite x y) p q e = absurd (other_second _ _ e (omega arith))
+one_row g (Listing v) (Rewrite x y) p q e = absurd (other_first _ _ e (omega arith))
+one_row g (One v n o b) (Rewrite x y) p q e = absurd (other_first _ _ e (omega arith))
+one_row g (Run x n k) (Run y m l) p q e =
+    let file = same_file x y _ p.places q.places in
+    let budget = says_one g Budget n m p.options.0 q.options.0 in
+    let layout = names_one g Layout k l p.options.1.0 q.options.1.0 in
     cc
-one_row words (Listing x) (Listing y) p q e =
-    ap Listing (same_file [] words x y (gives_file (row_of (Listing x)) words x p refl)
-    (gives_file (row_of (Listing y)) words y q refl))
-one_row words (One x n o b) (One y m r d) p q e =
-    let file : x ≡ y =
-    same_file (Nodes ∷ Order ∷ Budget ∷ []) words x y
-    (gives_file (row_of (One x n o b)) words x p refl)
-    (gives_file (row_of (One y m r d)) words y q refl) in
-    let nodes : n ≡ m =
-    says_one (Nodes ∷ Order ∷ Budget ∷ []) words Nodes n m
-    (says_of (row_of (One x n o b)) words p Nodes n p.options.0)
-    (says_of (row_of (One y m r d)) words q Nodes m q.options.0) in
-    let order : o ≡ r =
-    says_one (Nodes ∷ Order ∷ Budget ∷ []) words Order o r
-    (says_of (row_of (One x n o b)) words p Order o p.options.1.0)
-    (says_of (row_of (One y m r d)) words q Order r q.options.1.0) in
-    let budget : b ≡ d =
-    says_one (Nodes ∷ Order ∷ Budget ∷ []) words Budget b d
-    (says_of (row_of (One x n o b)) words p Budget b p.options.1.1.0)
-    (says_of (row_of (One y m r d)) words q Budget d q.options.1.1.0) in
+one_row g (Listing x) (Listing y) p q e = ap Listing (same_file x y _ p.places q.places)
+one_row g (One x n o b) (One y m r d) p q e =
+    let file = same_file x y _ p.places q.places in
+    let nodes = says_one g Nodes n m p.options.0 q.options.0 in
+    let order = says_one g Order o r p.options.1.0 q.options.1.0 in
+    let budget = says_one g Budget b d p.options.1.1.0 q.options.1.1.0 in
     cc
-one_row words (Run x n) (Listing y) p q e = absurd (other_first _ _ e (omega arith))
-one_row words (Run x n) (One y m r d) p q e = absurd (other_first _ _ e (omega arith))
-one_row words (Listing x) (Run y m) p q e = absurd (other_first _ _ e (omega arith))
-one_row words (Listing x) (One y m r d) p q e = absurd (other_first _ _ e (omega arith))
-one_row words (One x n o b) (Run y m) p q e = absurd (other_first _ _ e (omega arith))
-one_row words (One x n o b) (Listing y) p q e = absurd (other_first _ _ e (omega arith))
+one_row g (Run x n k) (Listing y) p q e = absurd (other_first _ _ e (omega arith))
+one_row g (Run x n k) (One y m r d) p q e = absurd (other_first _ _ e (omega arith))
+one_row g (Listing x) (Run y m l) p q e = absurd (other_first _ _ e (omega arith))
+one_row g (Listing x) (One y m r d) p q e = absurd (other_first _ _ e (omega arith))
+one_row g (One x n o b) (Run y m l) p q e = absurd (other_first _ _ e (omega arith))
+one_row g (One x n o b) (Listing y) p q e = absurd (other_first _ _ e (omega arith))
+
+-- ---- words of a row, and what they give
+
+cut_of : (row : Row) (words : List (List ℕ)) (r : AreOfRow row words) →
+    IsCut (settings_in row.options) words r.arguments
+cut_of row words r = record { words_are = r.words_are; are_arguments = r.are_arguments }
+
+abbrev of : List Argument → Given
+of arguments r = words_for r arguments
+
+set_given : (g : Given) (options : List (Setting × Value)) (arguments : List Argument) →
+    ((r : Role) → g r ≡ words_for r arguments) → AreSet options arguments → AreGiven options g
+set_given g [] arguments e h = tt
+set_given g (option ∷ options) arguments e h = (
+  subst (λ vs. IsSet (kind_of option.0) vs option.1) (sym (e (role.Option option.0))) h.0,
+  set_given g options arguments e h.1,
+)
+
+given_set : (g : Given) (options : List (Setting × Value)) (arguments : List Argument) →
+    ((r : Role) → g r ≡ words_for r arguments) → AreGiven options g → AreSet options arguments
+given_set g [] arguments e h = tt
+given_set g (option ∷ options) arguments e h = (
+  subst (λ vs. IsSet (kind_of option.0) vs option.1) (e (role.Option option.0)) h.0,
+  given_set g options arguments e h.1,
+)
+
+row_given : (row : Row) (words : List (List ℕ)) (r : AreOfRow row words) → (g : Given) →
+    ((x : Role) → g x ≡ words_for x r.arguments) → IsOfRow row g
+row_given row words r g e = record {
+  places = subst (ArePlaced row.places) (sym (e role.Operand)) r.places;
+  options = set_given g row.options r.arguments e r.options;
+}
+
+-- the word of a command, with its options
+pub command_word : Command → CommandWord
+command_word (Rewrite x y) = word.Rewrite
+command_word (Run f b l) = word.Run
+command_word (Listing f) = word.List
+command_word (One f n o b) = word.One
+
+pub word_is : (c : Command) → text_of (command_word c) ≡ (row_of c).word
+unfolding command_word
+word_is (Rewrite x y) = refl
+word_is (Run f b l) = refl
+word_is (Listing f) = refl
+word_is (One f n o b) = refl
+
+word_settings : (w : CommandWord) (c : Command) → text_of w ≡ (row_of c).word →
+    settings_in (row_of c).options ≡ settings_of w
+word_settings word.Rewrite (Rewrite x y) e = refl
+word_settings word.Run (Run f b l) e = refl
+word_settings word.List (Listing f) e = refl
+word_settings word.One (One f n o b) e = refl
+word_settings word.Rewrite (Run f b l) e = absurd (other_second _ _ e (omega arith))
+word_settings word.Rewrite (Listing f) e = absurd (other_first _ _ e (omega arith))
+word_settings word.Rewrite (One f n o b) e = absurd (other_first _ _ e (omega arith))
+word_settings word.Run (Rewrite x y) e = absurd (other_second _ _ e (omega arith))
+word_settings word.List (Rewrite x y) e = absurd (other_first _ _ e (omega arith))
+word_settings word.One (Rewrite x y) e = absurd (other_first _ _ e (omega arith))
+word_settings word.Run (Listing f) e = absurd (other_first _ _ e (omega arith))
+word_settings word.Run (One f n o b) e = absurd (other_first _ _ e (omega arith))
+word_settings word.List (Run f b l) e = absurd (other_first _ _ e (omega arith))
+word_settings word.List (One f n o b) e = absurd (other_first _ _ e (omega arith))
+word_settings word.One (Run f b l) e = absurd (other_first _ _ e (omega arith))
+word_settings word.One (Listing f) e = absurd (other_first _ _ e (omega arith))
 
 same_head : (v w : List ℕ) (vs ws : List (List ℕ)) → v ∷ vs ≡ w ∷ ws → v ≡ w
 same_head v w vs ws e = cc
@@ -206,8 +309,80 @@ same_head v w vs ws e = cc
 same_tail : (v w : List ℕ) (vs ws : List (List ℕ)) → v ∷ vs ≡ w ∷ ws → vs ≡ ws
 same_tail v w vs ws e = cc
 
+-- what is asked by a word and the words behind it
+pub record Behind (w : CommandWord) (words : List (List ℕ)) (c : Command) : Type 0 where
+  pub word_is : (row_of c).word ≡ text_of w
+  pub of_row : AreOfRow (row_of c) words
+
+pub behind : (first : List ℕ) (rest words : List (List ℕ)) (w : CommandWord) (c : Command) →
+    words ≡ first ∷ rest → text_of w ≡ first → Asks words c → Behind w rest c
+behind first rest words w c e f h =
+    let g = sym h.words_are ∙ e in
+    record {
+      word_is = same_head _ _ _ _ g ∙ sym f;
+      of_row = subst (AreOfRow (row_of c)) (same_tail _ _ _ _ g) h.of_row;
+    }
+
+-- the words behind are arguments of the command's options
+pub behind_cut : (w : CommandWord) (words : List (List ℕ)) (c : Command) (h : Behind w words c) →
+    IsCut (settings_of w) words h.of_row.arguments
+behind_cut w words c h =
+    subst (λ ss. IsCut ss words h.of_row.arguments) (word_settings w c (sym h.word_is))
+    (cut_of (row_of c) words h.of_row)
+
+pub completed : (w : CommandWord) (words : List (List ℕ)) (c : Command) (m : ArgMatches) →
+    Reads (settings_of w) words m → Behind w words c → Completes (text_of w) (given_by m) c
+completed w words c m r h =
+    let same = same_cut (settings_of w) words r.arguments h.of_row.arguments r.is_cut (behind_cut w words c h) in
+    record {
+      word_is = h.word_is;
+      of_row = row_given (row_of c) words h.of_row (given_by m) (λ x. r.gives x ∙ ap (words_for x) same);
+    }
+
+pub asked : (first : List ℕ) (rest words : List (List ℕ)) (w : CommandWord) (c : Command) (m : ArgMatches) →
+    words ≡ first ∷ rest → text_of w ≡ first → Reads (settings_of w) rest m →
+    Completes (text_of w) (given_by m) c → Asks words c
+asked first rest words w c m e f r h = record {
+  behind = rest;
+  words_are = e ∙ ap (λ v. v ∷ rest) (sym f ∙ sym h.word_is);
+  of_row = record {
+    arguments = r.arguments;
+    words_are = r.is_cut.words_are;
+    are_arguments = (subst (λ ss. IsCut ss rest r.arguments) (sym (word_settings w c (sym h.word_is))) r.is_cut).are_arguments;
+    places = subst (ArePlaced (row_of c).places) (r.gives role.Operand) h.of_row.places;
+    options = given_set (given_by m) (row_of c).options r.arguments r.gives h.of_row.options;
+  };
+}
+
 pub only_one : (words : List (List ℕ)) (c d : Command) → Asks words c → Asks words d → c ≡ d
 only_one words c d p q =
     let e = sym p.words_are ∙ q.words_are in
-    let same : q.behind ≡ p.behind = sym (same_tail _ _ _ _ e) in
-    one_row p.behind c d p.of_row (subst (AreOfRow (row_of d)) same q.of_row) (same_head _ _ _ _ e)
+    let row = subst (AreOfRow (row_of d)) (sym (same_tail _ _ _ _ e)) q.of_row in
+    let w = command_word c in
+    let b : Behind w p.behind c = record { word_is = sym (word_is c); of_row = p.of_row } in
+    let k : Behind w p.behind d =
+    record { word_is = sym (same_head _ _ _ _ e) ∙ sym (word_is c); of_row = row } in
+    let same = same_cut (settings_of w) p.behind p.of_row.arguments row.arguments
+    (behind_cut w p.behind c b) (behind_cut w p.behind d k) in
+    one_row (of p.of_row.arguments) c d
+    (row_given (row_of c) p.behind p.of_row (of p.of_row.arguments) (λ x. refl))
+    (row_given (row_of d) p.behind row (of p.of_row.arguments) (λ x. ap (words_for x) same))
+    (same_head _ _ _ _ e)
+
+pub answers : (first : List ℕ) (rest words : List (List ℕ)) (w : CommandWord) (m : ArgMatches)
+    (r : Option OfCode) → words ≡ first ∷ rest → text_of w ≡ first → Reads (settings_of w) rest m →
+    MatchOption r ((c : Command) → Completes (text_of w) (given_by m) c → ⊥)
+    (λ c. Completes (text_of w) (given_by m) (meaning_of c)) →
+    MatchOption r ((c : Command) → Asks words c → ⊥) (λ c. Asks words (meaning_of c))
+answers first rest words w m None e f reads h = λ c k.
+    h c (completed w rest c m reads (behind first rest words w c e f k))
+answers first rest words w m (Some x) e f reads h =
+    asked first rest words w (meaning_of x) m e f reads h
+
+pub answers_none : (first : List ℕ) (rest words : List (List ℕ)) (w : CommandWord) →
+    words ≡ first ∷ rest → text_of w ≡ first →
+    ((arguments : List Argument) → IsCut (settings_of w) rest arguments → ⊥) →
+    (c : Command) → Asks words c → ⊥
+answers_none first rest words w e f none c h =
+    let b = behind first rest words w c e f h in
+    none b.of_row.arguments (behind_cut w rest c b)

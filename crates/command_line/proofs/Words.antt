@@ -1,32 +1,41 @@
 -- The words of options.
-use Rattle.std.proofs.Common.{◌≡◌, ◌≢◌, ℕ, Bool, true, false, ◌==◌, ◌||◌, ◌<◌, List, length, take, get_or, get_or-take, Option, Some, None, MatchOption, Bor, eqb-true, cond, bytes_eq, drop, ◌-◌, length-take, [], ◌∷◌, ◌++◌, slice_index, refl, sym, ap, ◌∙◌, arith}
+use Rattle.std.proofs.Common.{◌≡◌, ℕ, suc, Bool, true, false, ◌==◌, ◌||◌, ◌+◌, ◌<◌, List, length, take, get_or, Some, eqb-true, cond, bytes_eq, [], ◌∷◌, ◌++◌, slice_index, refl, sym, ap, ◌∙◌, arith}
 use Rattle.std.specs.List.{list_any, position_or_len, before_first, after_first}
-use Rattle.std.proofs.lemmas.List.Folds.{list_any_none}
-use Rattle.std.proofs.lemmas.List.Sums.{fails_before_first, passes_at_first, split_at_first}
+use Rattle.std.proofs.lemmas.List.Sums.{passes_at_first, split_at_first}
 use Rattle.std.proofs.lemmas.Slice.Eq.{bytes_eq-Decides}
-use Rattle.std.proofs.lemmas.Grind.{common_steps}
 use Rattle.command_line.specs.declared.table.Setting.{Setting}
-use Rattle.command_line.specs.declared.table.Setting.TheVariants.{Nodes, Order, Budget}
+use Rattle.command_line.specs.declared.table.Setting.TheVariants.{Nodes, Order, Budget, Layout}
 use Rattle.command_line.specs.Commands.{option_word, kind_of}
 use Rattle.command_line.specs.Asks.{option_of, HasOption, IsPlain, takes_value}
+use Rattle.command_line.specs.Reading.{name_of}
 
 abbrev pub has_equals : List ℕ → Bool
 has_equals word = list_any (λ c. c == 61) word
+
+-- an option's word is two dashes and its name
+pub dashed : (s : Setting) → option_word s ≡ 45 ∷ 45 ∷ name_of s
+dashed Nodes = refl
+dashed Order = refl
+dashed Budget = refl
+dashed Layout = refl
 
 pub no_equals : (s : Setting) → has_equals (option_word s) ≡ false
 no_equals Nodes = refl
 no_equals Order = refl
 no_equals Budget = refl
+no_equals Layout = refl
 
 dash_first : (s : Setting) (v : List ℕ) → slice_index (option_word s ++ v) 0 ≡ 45
 dash_first Nodes v = refl
 dash_first Order v = refl
 dash_first Budget v = refl
+dash_first Layout v = refl
 
 pub not_plain : (s : Setting) (w : List ℕ) → w ≡ option_word s → IsPlain w → ⊥
 not_plain Nodes w e p = p.no_dash (ap (λ x. slice_index x 0) e)
 not_plain Order w e p = p.no_dash (ap (λ x. slice_index x 0) e)
 not_plain Budget w e p = p.no_dash (ap (λ x. slice_index x 0) e)
+not_plain Layout w e p = p.no_dash (ap (λ x. slice_index x 0) e)
 
 pub not_plain_joined : (s : Setting) (v w : List ℕ) → w ≡ option_word s ++ (61 ∷ v) → IsPlain w → ⊥
 not_plain_joined s v w e p = p.no_dash (ap (λ x. slice_index x 0) e ∙ dash_first s (61 ∷ v))
@@ -84,38 +93,6 @@ same_option settings s t a b h k e =
     let same : Some s ≡ Some t = sym h.there ∙ ap (option_of settings) e ∙ k.there in
     cc
 
-no_equals_before : (w : List ℕ) → has_equals (before_first (λ b. b == 61) w) ≡ false
-no_equals_before w =
-    list_any_none (λ b. b == 61) (take (position_or_len (λ b. b == 61) w) w) (λ k d h.
-    let low : k < position_or_len (λ b. b == 61) w =
-    omega (arith, h, length-take (position_or_len (λ b. b == 61) w) w) in
-    ap (λ x. x == 61) (get_or-take (position_or_len (λ b. b == 61) w) w k d low)
-    ∙ fails_before_first (λ b. b == 61) w k d low)
-
--- the parts of a word round its first equals sign
-pub parts_of :
-    (w : List ℕ) (r : Option (Bor (List ℕ) × Bor (List ℕ))) →
-    MatchOption r (position_or_len (λ b. b == 61) w ≡ length w) (λ x.
-    (x.0.now ≡ before_first (λ b. b == 61) w) × (x.1.now ≡ after_first (λ b. b == 61) w)
-    × (position_or_len (λ b. b == 61) w < length w)) →
-    MatchOption r ((name value : List ℕ) → w ≢ name ++ (61 ∷ value)) (λ x.
-    (w ≡ x.0.now ++ (61 ∷ x.1.now)) × (has_equals x.0.now ≡ false))
-parts_of w None e = λ name value f.
-    let none : has_equals w ≡ false =
-    list_any_none (λ b. b == 61) w
-    (λ k d h. fails_before_first (λ b. b == 61) w k d (omega (arith, e, h))) in
-    let some : false ≡ true = sym none ∙ ap has_equals f ∙ equals_inside name value in
-    absurd (cc)
-parts_of w (Some x) h =
-    let is : get_or w (position_or_len (λ b. b == 61) w) 0 ≡ 61 =
-    eqb-true _ 61 (passes_at_first (λ b. b == 61) w 0 h.2) in (
-      split_at_first (λ b. b == 61) w 0 h.2
-          ∙ ap (λ c. before_first (λ b. b == 61) w ++ (c ∷ after_first (λ b. b == 61) w)) is
-          ∙ ap (λ y. y ++ (61 ∷ after_first (λ b. b == 61) w)) (sym h.0)
-          ∙ ap (λ y. x.0.now ++ (61 ∷ y)) (sym h.1),
-      ap has_equals h.0 ∙ no_equals_before w,
-    )
-
 -- the option that is found has the word
 pub word_found : (settings : List Setting) (w : List ℕ) (s : Setting) →
     option_of settings w ≡ Some s → option_word s ≡ w
@@ -137,12 +114,37 @@ has_option settings w s valued e k = record {
   kind = k;
 }
 
-all_taken : (xs : List (List ℕ)) (n : ℕ) → n ≡ length xs → take n xs ≡ xs
-all_taken xs n e = grind (arith, common_steps)
+equals_place : (xs : List ℕ) → has_equals xs ≡ true →
+    position_or_len (λ c. c == 61) xs < length xs
+equals_place [] e = absurd (cc)
+equals_place (x ∷ xs) e = go (x == 61) refl e (equals_place xs)
+  where
+    go : (b : Bool) → (x == 61) ≡ b → (b || has_equals xs) ≡ true →
+        (has_equals xs ≡ true → position_or_len (λ c. c == 61) xs < length xs) →
+        position_or_len (λ c. c == 61) (x ∷ xs) < length (x ∷ xs)
+    go true h f more = rw h (omega arith)
+    go false h f more = let k = more f in rw h (omega (arith, k))
 
--- a list is its first item and the rest
-pub first_and_rest : (xs : List (List ℕ)) (x : List ℕ) → 0 < length xs → x ≡ get_or xs 0 x →
-    xs ≡ x ∷ take (length xs - 1) (drop 1 xs)
-first_and_rest [] x h e = absurd (omega arith)
-first_and_rest (y ∷ ys) x h e = ap (λ z. z ∷ ys) (sym e)
-    ∙ ap (λ zs. x ∷ zs) (sym (all_taken ys (length (y ∷ ys) - 1) (omega arith)))
+-- a word with an equals sign, round the first one
+pub cut_at : (w : List ℕ) → has_equals w ≡ true →
+    w ≡ before_first (λ c. c == 61) w ++ (61 ∷ after_first (λ c. c == 61) w)
+cut_at w e =
+    let here = equals_place w e in
+    let is : get_or w (position_or_len (λ b. b == 61) w) 0 ≡ 61 =
+    eqb-true _ 61 (passes_at_first (λ b. b == 61) w 0 here) in
+    split_at_first (λ b. b == 61) w 0 here
+    ∙ ap (λ c. before_first (λ b. b == 61) w ++ (c ∷ after_first (λ b. b == 61) w)) is
+
+-- a word without one is before it whole
+pub uncut : (w : List ℕ) → has_equals w ≡ false → before_first (λ c. c == 61) w ≡ w
+uncut [] e = refl
+uncut (x ∷ xs) e = go (x == 61) refl e (uncut xs)
+  where
+    go : (b : Bool) → (x == 61) ≡ b → (b || has_equals xs) ≡ false →
+        (has_equals xs ≡ false → before_first (λ c. c == 61) xs ≡ xs) →
+        before_first (λ c. c == 61) (x ∷ xs) ≡ x ∷ xs
+    go true h f more = absurd (cc)
+    go false h f more =
+        let k : 1 + position_or_len (λ c. c == 61) xs ≡ suc (position_or_len (λ c. c == 61) xs) =
+        omega arith in
+        rw h (ap (λ n. take n (x ∷ xs)) k ∙ ap (λ ys. x ∷ ys) (more f))

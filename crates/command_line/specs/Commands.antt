@@ -1,17 +1,20 @@
 -- The commands of the program, in one table: of each its word, what stands in its places, and its
 -- options.
-use Rattle.std.specs.Prelude.{ℕ, ◌-◌, ◌^◌, Bool, List, [], ◌∷◌, ◌++◌, codes}
+use Rattle.std.specs.Prelude.{ℕ, ◌-◌, ◌^◌, Bool, List, [], ◌∷◌, ◌++◌, Option, None, Some, codes}
 use Rattle.std.specs.List.{flat_map}
 use Rattle.command_line.specs.declared.table.Access.{Access}
 use Rattle.command_line.specs.declared.table.Access.TheVariants.{Read, Write}
 use Rattle.command_line.specs.declared.table.Kind.{Kind}
 use Rattle.command_line.specs.declared.table.Kind.TheVariants.{Number, File}
 use Rattle.command_line.specs.declared.table.Setting.{Setting}
-use Rattle.command_line.specs.declared.table.Setting.TheVariants.{Nodes, Order, Budget}
+use Rattle.command_line.specs.declared.table.Setting.TheVariants.{Nodes, Order, Budget, Layout}
 
 pub data Command : Type 0 where
-  -- run the rewritten code of the executable in a file, at most so many words of each processor
-  Run : (file : List ℕ) (budget : ℕ) → Command
+  -- write the rewritten executable of the one in a file into another
+  Rewrite : (input output : List ℕ) → Command
+  -- run the rewritten code of the executable in a file, at most so many words of each processor,
+  -- with the blocks of the layout in a file, where one is named
+  Run : (file : List ℕ) (budget : ℕ) (layout : Option (List ℕ)) → Command
   -- list its code words
   Listing : (file : List ℕ) → Command
   -- run so many processors of the original on one memory, by the order of a number, at most so
@@ -23,12 +26,14 @@ abbrev pub option_word : Setting → List ℕ
 option_word Nodes = codes "--nodes"
 option_word Order = codes "--order"
 option_word Budget = codes "--budget"
+option_word Layout = codes "--layout"
 
 -- what an option is given
 abbrev pub kind_of : Setting → Kind
 kind_of Nodes = Number 1 16 1
 kind_of Order = Number 0 (2 ^ 32 - 1) 0
 kind_of Budget = Number 1 (2 ^ 32) 100000000
+kind_of Layout = File Read
 
 -- the place of an operand, which stands behind the command's word without an option: the name of
 -- a file, or a number
@@ -43,6 +48,11 @@ pub data Value : Type 0 where
   NoName : Value
   Switch : Bool → Value
 
+-- the name of a file that may be left out
+abbrev pub name_or_none : Option (List ℕ) → Value
+name_or_none None = NoName
+name_or_none (Some name) = Name name
+
 -- a row of the table: the command's word, its places and its options, with what each says
 pub record Row : Type 0 where
   pub word : List ℕ
@@ -51,10 +61,15 @@ pub record Row : Type 0 where
 
 -- the table
 abbrev pub row_of : Command → Row
-row_of (Run file budget) = record {
+row_of (Rewrite input output) = record {
+  word = codes "rewrite";
+  places = (Named Read, Name input) ∷ (Named Write, Name output) ∷ [];
+  options = [];
+}
+row_of (Run file budget layout) = record {
   word = codes "run";
   places = (Named Read, Name file) ∷ [];
-  options = (Budget, Amount budget) ∷ [];
+  options = (Budget, Amount budget) ∷ (Layout, name_or_none layout) ∷ [];
 }
 row_of (Listing file) = record {
   word = codes "list";

@@ -1,39 +1,86 @@
--- Helps the code alone: how it reads the arguments, one after another.
-use Rattle.std.specs.Prelude.{◌≡◌, ℕ, Bool, true, false, if◌then◌else◌, List, [], ◌∷◌, ◌++◌}
+-- Helps the code alone: what `clap` is told of a command's arguments, and what it gives of the words.
+use Rattle.std.specs.Prelude.{◌≡◌, ◌⊎◌, ℕ, ◌<◌, length, slice_index, Bool, true, false, List, [], ◌∷◌, codes, map, drop, Some, unwrap_or, Option}
 use Rattle.std.specs.List.{flat_map}
+use Rattle.clap.specs.declared.builder.action.ArgAction.TheVariants.{Append}
+use Rattle.clap.specs.declared.parser.matches.ArgMatches.{ArgMatches}
+use Rattle.clap.specs.Words.{App, Rule, all_of, found_of, new_rule, rows_of}
+use Rattle.clap.specs.Simple.{new_shape}
 use Rattle.command_line.specs.declared.table.Setting.{Setting}
-use Rattle.command_line.specs.declared.arguments.Role.{Role}
-use Rattle.command_line.specs.declared.arguments.Role.TheVariants as role
-use Rattle.command_line.specs.declared.arguments.Argument.{Argument as OfCode}
-use Rattle.command_line.specs.declared.arguments.Given.{Given}
-use Rattle.command_line.specs.declared.arguments.Given.TheVariants as given
-use Rattle.command_line.specs.Commands.{Command, Amount, kind_of, row_of}
-use Rattle.command_line.specs.Asks.{IsSet, AreOfRow, Argument, Operand, Apart, Joined, Bare, words_of, IsArgument, AreArguments, is_same, operand_in, value_in}
+use Rattle.command_line.specs.declared.table.Setting.TheVariants.{Nodes, Order, Budget, Layout}
+use Rattle.command_line.specs.declared.table.CommandWord.{CommandWord}
+use Rattle.command_line.specs.declared.table.CommandWord.TheVariants as word
+use Rattle.command_line.specs.declared.table.Role.{Role}
+use Rattle.command_line.specs.declared.table.Role.TheVariants as role
+use Rattle.command_line.specs.declared.parsing.Given.{Given}
+use Rattle.command_line.specs.declared.parsing.Given.TheVariants as are
+use Rattle.command_line.specs.Commands.{Command, Value, Row, Amount, name_or_none, option_word, kind_of, row_of}
+use Rattle.command_line.specs.Asks.{IsPlain, IsSet, ArePlaced, Argument, words_of, AreArguments, operands_of, values_of, takes_value}
 
--- the words that an argument gives a role
-abbrev pub word_for : Role → Argument → List (List ℕ)
-word_for role.Place argument = operand_in argument
-word_for (role.Option setting) argument = value_in setting argument
+-- the text of a command's word, and the command's options
+abbrev pub text_of : CommandWord → List ℕ
+text_of word.Rewrite = codes "rewrite"
+text_of word.Run = codes "run"
+text_of word.List = codes "list"
+text_of word.One = codes "one"
 
+abbrev pub settings_of : CommandWord → List Setting
+settings_of word.Rewrite = []
+settings_of word.Run = Budget ∷ Layout ∷ []
+settings_of word.List = []
+settings_of word.One = Nodes ∷ Order ∷ Budget ∷ []
+
+-- the name of an option, without its dashes
+abbrev pub name_of : Setting → List ℕ
+name_of setting = drop 2 (option_word setting)
+
+-- the name under which `clap` keeps what a role is given
+abbrev pub id_of : Role → List ℕ
+id_of role.Operand = codes "operand"
+id_of (role.Option setting) = name_of setting
+
+-- an option with a value, and one without, whose use counts as an empty text
+abbrev pub rule_by : Bool → List ℕ → Rule
+rule_by true name = record (new_rule name) { long = Some name; action = Some Append }
+rule_by false name = record (new_rule name) {
+  long = Some name;
+  action = Some Append;
+  range = Some (record { start_inclusive = 0; end_inclusive = 0 });
+  missing = [] ∷ [];
+}
+
+abbrev pub rule_for : Setting → Rule
+rule_for setting = rule_by (takes_value (kind_of setting)) (name_of setting)
+
+abbrev pub operand_rule : Rule
+operand_rule = record (new_rule (codes "operand")) { action = Some Append }
+
+-- the command that `clap` is told of
+abbrev pub app_for : List Setting → App
+app_for settings = record {
+  top = record (new_shape (codes "shasta")) {
+    no_binary_name = true;
+    disable_help_flag = true;
+    disable_version_flag = true;
+    rules = operand_rule ∷ map rule_for settings;
+  };
+  subs = [];
+}
+
+-- what `clap` gives a role
+abbrev pub given_by : ArgMatches → Role → List (List ℕ)
+given_by matches r = unwrap_or (all_of (id_of r) (rows_of (found_of matches))) []
+
+-- how the code has what a role is given
+abbrev pub IsGivenAs : List (List ℕ) → Given → Type 0
+IsGivenAs words are.Nothing = words ≡ []
+IsGivenAs words (are.One word) = words ≡ word.now ∷ []
+IsGivenAs words (are.Two one other) = words ≡ one.now ∷ other.now ∷ []
+IsGivenAs words are.More = 2 < length words
+
+-- the words of a role among the arguments
 abbrev pub words_for : Role → List Argument → List (List ℕ)
-words_for r arguments = flat_map (word_for r) arguments
-
--- two roles are the same
-abbrev pub is_role : Role → Role → Bool
-is_role role.Place role.Place = true
-is_role (role.Option one) (role.Option other) = is_same one other
-is_role one other = false
-
--- the code's argument is this one
-abbrev pub IsOf : OfCode → Argument → Type 0
-IsOf a (Operand word) = (a.role ≡ role.Place) × (a.word.now ≡ word)
-IsOf a (Apart setting value) = (a.role ≡ role.Option setting) × (a.word.now ≡ value)
-IsOf a (Joined setting value) = (a.role ≡ role.Option setting) × (a.word.now ≡ value)
-IsOf a (Bare setting) = (a.role ≡ role.Option setting) × (a.word.now ≡ [])
-
--- what the code's argument gives a role
-abbrev pub word_given : OfCode → Role → List (List ℕ)
-word_given a r = if is_role a.role r then a.word.now ∷ [] else []
+words_for role.Operand arguments = operands_of arguments
+words_for (role.Option setting) arguments = values_of setting arguments
 
 -- the words are these arguments'
 pub record IsCut (settings : List Setting) (words : List (List ℕ)) (arguments : List Argument) :
@@ -41,48 +88,49 @@ pub record IsCut (settings : List Setting) (words : List (List ℕ)) (arguments 
   pub words_are : words ≡ flat_map words_of arguments
   pub are_arguments : AreArguments settings arguments
 
--- the argument begins with a word that is an option's own
-abbrev pub IsSeparate : Argument → Type 0
-IsSeparate (Operand word) = ⊥
-IsSeparate (Apart setting value) = Unit {0}
-IsSeparate (Joined setting value) = ⊥
-IsSeparate (Bare setting) = Unit {0}
+-- the words are arguments, of which `clap` gives each role its words
+pub record Reads (settings : List Setting) (words : List (List ℕ)) (matches : ArgMatches) : Type 0
+  where
+    pub arguments : List Argument
+    pub is_cut : IsCut settings words arguments
+    pub gives : (r : Role) → given_by matches r ≡ words_for r arguments
 
--- the word and the rest begin with such an argument
-pub record BeginsSeparately (settings : List Setting) (word : List ℕ) (rest : List (List ℕ))
-    (argument : Argument) (behind : List (List ℕ)) : Type 0 where
-  pub words_are : word ∷ rest ≡ words_of argument ++ behind
-  pub is_separate : IsSeparate argument
-  pub is_argument : IsArgument settings argument
+-- what each role is given says what the row says
+abbrev pub AreGiven : List (Setting × Value) → (Role → List (List ℕ)) → Type 0
+AreGiven [] given = Unit {0}
+AreGiven (option ∷ options) given =
+    IsSet (kind_of option.0) (given (role.Option option.0)) option.1 × AreGiven options given
 
--- the words begin with the code's argument, and the rest is behind it
-pub record BeginsWith (settings : List Setting) (words : List (List ℕ)) (a : OfCode)
-    (rest : List (List ℕ)) : Type 0 where
-  pub argument : Argument
-  pub is_of : IsOf a argument
-  pub words_are : words ≡ words_of argument ++ rest
-  pub is_argument : IsArgument settings argument
+pub record IsOfRow (row : Row) (given : Role → List (List ℕ)) : Type 0 where
+  pub places : ArePlaced row.places (given role.Operand)
+  pub options : AreGiven row.options given
 
-abbrev pub list_of : Given → List (List ℕ)
-list_of given.Nothing = []
-list_of (given.One word) = word.now ∷ []
-list_of (given.Two first second) = first.now ∷ second.now ∷ []
+-- what is given says this number of the option
+abbrev pub SaysNumber : (Role → List (List ℕ)) → Setting → ℕ → Type 0
+SaysNumber given setting number =
+    IsSet (kind_of setting) (given (role.Option setting)) (Amount number)
 
--- behind what was given before, the words give the role all this
-pub record Gives (settings : List Setting) (r : Role) (before : List (List ℕ))
-    (words all : List (List ℕ)) : Type 0 where
-  pub arguments : List Argument
-  pub is_cut : IsCut settings words arguments
-  pub all_are : all ≡ before ++ words_for r arguments
+-- what is given says this name of the option, or none
+abbrev pub SaysName : (Role → List (List ℕ)) → Setting → Option (List ℕ) → Type 0
+SaysName given setting name =
+    IsSet (kind_of setting) (given (role.Option setting)) (name_or_none name)
 
--- the words say this number of the option
-pub record SaysNumber (settings : List Setting) (words : List (List ℕ)) (setting : Setting)
-    (number : ℕ) : Type 0 where
-  pub values : List (List ℕ)
-  pub gives : Gives settings (role.Option setting) [] words values
-  pub is_set : IsSet (kind_of setting) values (Amount number)
+-- a command's word, and what is given, are of the command's row
+pub record Completes (word : List ℕ) (given : Role → List (List ℕ)) (command : Command) : Type 0
+  where
+    pub word_is : (row_of command).word ≡ word
+    pub of_row : IsOfRow (row_of command) given
 
--- the words behind a command's word are of the command's row
-pub record Completes (word : List ℕ) (words : List (List ℕ)) (command : Command) : Type 0 where
-  pub word_is : (row_of command).word ≡ word
-  pub of_row : AreOfRow (row_of command) words
+-- two dashes and more behind them
+pub record IsLong (word : List ℕ) : Type 0 where
+  pub more : 2 < length word
+  pub first : slice_index word 0 ≡ 45
+  pub second : slice_index word 1 ≡ 45
+
+-- a word that may be an argument, or a value
+abbrev pub IsReadable : List ℕ → Type 0
+IsReadable word = IsPlain word ⊎ IsLong word
+
+abbrev pub AreReadable : List (List ℕ) → Type 0
+AreReadable [] = Unit {0}
+AreReadable (word ∷ words) = IsReadable word × AreReadable words

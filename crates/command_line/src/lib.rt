@@ -1,20 +1,22 @@
 #![tactic(auto)]
 //! The words of the command line, and what they ask for.
 
-ghost use Rattle.std.specs.Prelude.{◌≡◌, ℕ, List, [], ◌∷◌, codes, MatchOption};
+ghost use Rattle.std.specs.Prelude.{◌≡◌, ℕ, List, [], ◌∷◌, codes, Option, option_map, IfOk, MatchOption};
 ghost use Rattle.command_line.specs.Commands as model;
 ghost use Rattle.command_line.specs.Asks.{Asks};
 ghost use Rattle.command_line.specs.Meaning.{meaning_of};
-ghost use Rattle.command_line.specs.Reading.{Gives, SaysNumber, Completes};
+ghost use Rattle.command_line.specs.Reading.{Completes, SaysName, SaysNumber, given_by, text_of};
 
-use arguments::{Given, Role, given_for};
+use clap::ArgMatches;
 use dsm_io::Text;
 use number::number_of;
+use parsing::{Given, arguments_in, given_for};
 use run_limits::{Budget, NodeCount};
-use table::{Kind, LIST, ONE, RUN, Setting};
+use std::alloc::{AllocError, Global};
+use table::{CommandWord, Kind, Role, Setting};
 
-mod arguments;
 mod number;
+mod parsing;
 mod table;
 #[cfg(test)]
 mod tests;
@@ -22,10 +24,17 @@ mod tests;
 /// What the program is to do with the executable in a file.
 #[derive(Clone, Copy, Debug, PartialEq, Eq)]
 pub enum Command<'a> {
-    /// Run its rewritten code, at most `budget` words of each processor.
+    /// Write its rewritten executable into the file `output`.
+    Rewrite {
+        input: &'a str,
+        output: &'a str,
+    },
+    /// Run its rewritten code, at most `budget` words of each processor, with the blocks of the
+    /// layout in a file.
     Run {
         file: &'a str,
         budget: Budget,
+        layout: Option<&'a str>,
     },
     /// List its code words.
     List {
@@ -41,101 +50,151 @@ pub enum Command<'a> {
     },
 }
 
-/// The one name of a file in a command's places.
-fn file_in<'a>(settings: &[Setting], words: &'a [Text]) -> Option<&'a str>
+/// The one operand, the name of a file.
+fn file_in<'a>(matches: &ArgMatches<'a>) -> Option<&'a str>
     ensures { MatchOption result
-        ((f : List ℕ) → Gives settings.now Role.Place [] words.now (f ∷ []) → ⊥)
-        (λ f. Gives settings.now Role.Place [] words.now (f.now ∷ [])) }
+        ((f : List ℕ) → given_by matches.now Role.Operand ≡ f ∷ [] → ⊥)
+        (λ f. given_by matches.now Role.Operand ≡ f.now ∷ []) }
 {
-    match given_for(settings, words, Role::Place)? {
+    match given_for(matches, Role::Operand) {
         Given::One(file) => Some(file),
-        Given::Nothing | Given::Two(_, _) => None,
+        Given::Nothing | Given::Two(_, _) | Given::More => None,
+    }
+}
+
+/// The two operands, each the name of a file.
+fn two_files_in<'a>(matches: &ArgMatches<'a>) -> Option<(&'a str, &'a str)>
+    ensures { MatchOption result
+        ((f g : List ℕ) → given_by matches.now Role.Operand ≡ f ∷ g ∷ [] → ⊥)
+        (λ p. given_by matches.now Role.Operand ≡ p.0.now ∷ p.1.now ∷ []) }
+{
+    match given_for(matches, Role::Operand) {
+        Given::Two(one, other) => Some((one, other)),
+        Given::Nothing | Given::One(_) | Given::More => None,
     }
 }
 
 /// The number of an option that has one.
-fn number_in(settings: &[Setting], words: &[Text], setting: Setting) -> Option<u64>
+fn number_in(matches: &ArgMatches<'_>, setting: Setting) -> Option<u64>
     ensures { MatchOption result
-        ((n : ℕ) → SaysNumber settings.now words.now setting n → ⊥)
-        (λ n. SaysNumber settings.now words.now setting n) }
+        ((n : ℕ) → SaysNumber (given_by matches.now) setting n → ⊥)
+        (λ n. SaysNumber (given_by matches.now) setting n) }
 {
-    let given = given_for(settings, words, Role::Option(setting))?;
     let Kind::Number { low, high, default } = setting.kind() else {
         return None;
     };
-    match given {
+    match given_for(matches, Role::Option(setting)) {
         Given::Nothing => Some(default),
         Given::One(word) => number_of(word, low, high),
         Given::Two(_, _) => None,
+        Given::More => None,
+    }
+}
+
+/// The name of the file of an option that has one. None in it where the option is not there.
+fn name_in<'a>(matches: &ArgMatches<'a>, setting: Setting) -> Option<Option<&'a str>>
+    ensures { MatchOption result
+        ((n : Option (List ℕ)) → SaysName (given_by matches.now) setting n → ⊥)
+        (λ n. SaysName (given_by matches.now) setting (option_map (λ name. name.now) n)) }
+{
+    let Kind::File(_) = setting.kind() else {
+        return None;
+    };
+    match given_for(matches, Role::Option(setting)) {
+        Given::Nothing => Some(None),
+        Given::One(word) => {
+            if word.is_empty() {
+                None
+            } else {
+                Some(Some(word))
+            }
+        }
+        Given::Two(_, _) => None,
+        Given::More => None,
     }
 }
 
 /// The budget.
-fn budget_in(settings: &[Setting], words: &[Text]) -> Option<Budget>
+fn budget_in(matches: &ArgMatches<'_>) -> Option<Budget>
     ensures { MatchOption result
-        ((n : ℕ) → SaysNumber settings.now words.now Setting.Budget n → ⊥)
-        (λ b. SaysNumber settings.now words.now Setting.Budget b) }
+        ((n : ℕ) → SaysNumber (given_by matches.now) Setting.Budget n → ⊥)
+        (λ b. SaysNumber (given_by matches.now) Setting.Budget b) }
 {
-    let number = number_in(settings, words, Setting::Budget)?;
+    let number = number_in(matches, Setting::Budget)?;
     let budget = Budget::of(number)?;
     Some(budget)
 }
 
 /// The count of nodes.
-fn nodes_in(settings: &[Setting], words: &[Text]) -> Option<NodeCount>
+fn nodes_in(matches: &ArgMatches<'_>) -> Option<NodeCount>
     ensures { MatchOption result
-        ((n : ℕ) → SaysNumber settings.now words.now Setting.Nodes n → ⊥)
-        (λ c. SaysNumber settings.now words.now Setting.Nodes c) }
+        ((n : ℕ) → SaysNumber (given_by matches.now) Setting.Nodes n → ⊥)
+        (λ c. SaysNumber (given_by matches.now) Setting.Nodes c) }
 {
-    let number = number_in(settings, words, Setting::Nodes)?;
+    let number = number_in(matches, Setting::Nodes)?;
     let nodes = NodeCount::of(number)?;
     Some(nodes)
 }
 
 /// The number that makes an order.
-fn order_in(settings: &[Setting], words: &[Text]) -> Option<u32>
+fn order_in(matches: &ArgMatches<'_>) -> Option<u32>
     ensures { MatchOption result
-        ((n : ℕ) → SaysNumber settings.now words.now Setting.Order n → ⊥)
-        (λ o. SaysNumber settings.now words.now Setting.Order o) }
+        ((n : ℕ) → SaysNumber (given_by matches.now) Setting.Order n → ⊥)
+        (λ o. SaysNumber (given_by matches.now) Setting.Order o) }
 {
-    let number = number_in(settings, words, Setting::Order)?;
+    let number = number_in(matches, Setting::Order)?;
     match u32::try_from(number) {
         Ok(order) => Some(order),
         Err(_) => None,
     }
 }
 
-/// The command `run`.
-fn run_of(words: &[Text]) -> Option<Command<'_>>
+/// The command `rewrite`.
+fn rewrite_of<'a>(matches: &ArgMatches<'a>) -> Option<Command<'a>>
     ensures { MatchOption result
-        ((c : model.Command) → Completes (codes "run") words.now c → ⊥)
-        (λ c. Completes (codes "run") words.now (meaning_of c)) }
+        ((c : model.Command) → Completes (codes "rewrite") (given_by matches.now) c → ⊥)
+        (λ c. Completes (codes "rewrite") (given_by matches.now) (meaning_of c)) }
 {
-    let file = file_in(&RUN, words)?;
-    let budget = budget_in(&RUN, words)?;
-    Some(Command::Run { file, budget })
+    let (input, output) = two_files_in(matches)?;
+    Some(Command::Rewrite { input, output })
+}
+
+/// The command `run`.
+fn run_of<'a>(matches: &ArgMatches<'a>) -> Option<Command<'a>>
+    ensures { MatchOption result
+        ((c : model.Command) → Completes (codes "run") (given_by matches.now) c → ⊥)
+        (λ c. Completes (codes "run") (given_by matches.now) (meaning_of c)) }
+{
+    let file = file_in(matches)?;
+    let budget = budget_in(matches)?;
+    let layout = name_in(matches, Setting::Layout)?;
+    Some(Command::Run {
+        file,
+        budget,
+        layout,
+    })
 }
 
 /// The command `list`.
-fn list_of(words: &[Text]) -> Option<Command<'_>>
+fn list_of<'a>(matches: &ArgMatches<'a>) -> Option<Command<'a>>
     ensures { MatchOption result
-        ((c : model.Command) → Completes (codes "list") words.now c → ⊥)
-        (λ c. Completes (codes "list") words.now (meaning_of c)) }
+        ((c : model.Command) → Completes (codes "list") (given_by matches.now) c → ⊥)
+        (λ c. Completes (codes "list") (given_by matches.now) (meaning_of c)) }
 {
-    let file = file_in(&LIST, words)?;
+    let file = file_in(matches)?;
     Some(Command::List { file })
 }
 
 /// The command `one`.
-fn one_of(words: &[Text]) -> Option<Command<'_>>
+fn one_of<'a>(matches: &ArgMatches<'a>) -> Option<Command<'a>>
     ensures { MatchOption result
-        ((c : model.Command) → Completes (codes "one") words.now c → ⊥)
-        (λ c. Completes (codes "one") words.now (meaning_of c)) }
+        ((c : model.Command) → Completes (codes "one") (given_by matches.now) c → ⊥)
+        (λ c. Completes (codes "one") (given_by matches.now) (meaning_of c)) }
 {
-    let file = file_in(&ONE, words)?;
-    let nodes = nodes_in(&ONE, words)?;
-    let order = order_in(&ONE, words)?;
-    let budget = budget_in(&ONE, words)?;
+    let file = file_in(matches)?;
+    let nodes = nodes_in(matches)?;
+    let order = order_in(matches)?;
+    let budget = budget_in(matches)?;
     Some(Command::One {
         file,
         nodes,
@@ -144,28 +203,34 @@ fn one_of(words: &[Text]) -> Option<Command<'_>>
     })
 }
 
-/// The command that a word and the words behind it ask for.
-fn command_in<'a>(word: &str, words: &'a [Text]) -> Option<Command<'a>>
+/// The command of a word that is a command's, with these arguments.
+fn command_in<'a>(word: CommandWord, matches: &ArgMatches<'a>) -> Option<Command<'a>>
     ensures { MatchOption result
-        ((c : model.Command) → Completes word.now words.now c → ⊥)
-        (λ c. Completes word.now words.now (meaning_of c)) }
+        ((c : model.Command) → Completes (text_of word) (given_by matches.now) c → ⊥)
+        (λ c. Completes (text_of word) (given_by matches.now) (meaning_of c)) }
 {
     match word {
-        "run" => run_of(words),
-        "list" => list_of(words),
-        "one" => one_of(words),
-        _ => None,
+        CommandWord::Rewrite => rewrite_of(matches),
+        CommandWord::Run => run_of(matches),
+        CommandWord::List => list_of(matches),
+        CommandWord::One => one_of(matches),
     }
 }
 
 /// Reads the words after the program's name. None exactly where they ask for no command.
-pub fn command_of(words: &[Text]) -> Option<Command<'_>>
-    ensures asks { MatchOption result ((c : model.Command) → Asks words.now c → ⊥)
-        (λ c. Asks words.now (meaning_of c)) }
+pub fn command_of(alloc: Global, words: &[Text]) -> Result<Option<Command<'_>>, AllocError>
+    ensures asks { IfOk result (λ r. MatchOption r ((c : model.Command) → Asks words.now c → ⊥)
+        (λ c. Asks words.now (meaning_of c))) }
     ensures only { (c d : model.Command) → Asks words.now c → Asks words.now d → c ≡ d }
 {
-    let [word, arguments @ ..] = words else {
-        return None;
+    let Some((word, arguments)) = words.split_first() else {
+        return Ok(None);
     };
-    command_in(word.as_str(), arguments)
+    let Some(word) = CommandWord::of(word.as_str()) else {
+        return Ok(None);
+    };
+    match arguments_in(alloc, word.settings(), arguments)? {
+        Some(matches) => Ok(command_in(word, &matches)),
+        None => Ok(None),
+    }
 }

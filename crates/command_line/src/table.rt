@@ -1,8 +1,9 @@
 //! The options of the commands.
 
-ghost use Rattle.std.specs.Prelude.{◌≡◌};
+ghost use Rattle.std.specs.Prelude.{◌≡◌, ◌≢◌, MatchOption};
 ghost use Rattle.command_line.specs.Commands as model;
 ghost use Rattle.command_line.specs.Asks as rule;
+ghost use Rattle.command_line.specs.Reading.{id_of, name_of, settings_of, text_of};
 
 /// How a command uses a file.
 #[derive(Clone, Copy)]
@@ -28,26 +29,63 @@ pub(crate) enum Setting {
     Nodes,
     Order,
     Budget,
+    Layout,
 }
 
-/// The options of `run`.
-pub(crate) const RUN: [Setting; 1] = [Setting::Budget];
+/// What an argument is for.
+#[derive(Clone, Copy)]
+pub(crate) enum Role {
+    /// A place of the command.
+    Operand,
+    Option(Setting),
+}
 
-/// The options of `list`.
-pub(crate) const LIST: [Setting; 0] = [];
+/// The word of a command.
+#[derive(Clone, Copy)]
+pub(crate) enum CommandWord {
+    Rewrite,
+    Run,
+    List,
+    One,
+}
 
-/// The options of `one`.
-pub(crate) const ONE: [Setting; 3] = [Setting::Nodes, Setting::Order, Setting::Budget];
+impl CommandWord {
+    /// The command's word that a word is.
+    pub(crate) fn of(word: &str) -> Option<CommandWord>
+        ensures { MatchOption result ((w : CommandWord) → text_of w ≢ word.now)
+            (λ w. text_of w ≡ word.now) }
+    {
+        match word {
+            "rewrite" => Some(CommandWord::Rewrite),
+            "run" => Some(CommandWord::Run),
+            "list" => Some(CommandWord::List),
+            "one" => Some(CommandWord::One),
+            _ => None,
+        }
+    }
 
-impl Setting {
-    /// Its word on the command line.
-    pub(crate) fn word(self) -> &'static str
-        ensures { result.now ≡ model.option_word self }
+    /// The options of the command.
+    pub(crate) fn settings(self) -> &'static [Setting]
+        ensures { result.now ≡ settings_of self }
     {
         match self {
-            Setting::Nodes => "--nodes",
-            Setting::Order => "--order",
-            Setting::Budget => "--budget",
+            CommandWord::Run => &[Setting::Budget, Setting::Layout],
+            CommandWord::Rewrite | CommandWord::List => &[],
+            CommandWord::One => &[Setting::Nodes, Setting::Order, Setting::Budget],
+        }
+    }
+}
+
+impl Setting {
+    /// Its name, which is its word on the command line without the two dashes.
+    pub(crate) fn name<'a>(self) -> &'a str
+        ensures { result.now ≡ name_of self }
+    {
+        match self {
+            Setting::Nodes => "nodes",
+            Setting::Order => "order",
+            Setting::Budget => "budget",
+            Setting::Layout => "layout",
         }
     }
 
@@ -71,6 +109,7 @@ impl Setting {
                 high: 1 << 32,
                 default: 100_000_000,
             },
+            Setting::Layout => Kind::File(Access::Read),
         }
     }
 
@@ -85,12 +124,14 @@ impl Setting {
     }
 }
 
-/// The option of a word, among those of a command.
-pub(crate) fn option_of(settings: &[Setting], word: &str) -> Option<Setting>
-    ensures { result ≡ rule.option_of settings.now word.now }
-{
-    settings
-        .iter()
-        .copied()
-        .find(|setting| setting.word() == word)
+impl Role {
+    /// The name under which its words are kept.
+    pub(crate) fn id<'a>(self) -> &'a str
+        ensures { result.now ≡ id_of self }
+    {
+        match self {
+            Role::Operand => "operand",
+            Role::Option(setting) => setting.name(),
+        }
+    }
 }

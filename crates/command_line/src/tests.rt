@@ -2,7 +2,7 @@
 
 use crate::{Command, command_of};
 use dsm_io::Text;
-use std::alloc::Global;
+use std::alloc::{AllocError, Global};
 use std::test::Fail;
 
 /// The words of a line.
@@ -17,7 +17,12 @@ fn words_of(alloc: Global, line: &str) -> Result<Vec<Text>, Fail> {
 /// The count of nodes, the order and the budget of a command, 0 for what it lacks, with its file.
 fn parts_of(command: Command<'_>) -> (&str, u8, u32, u64) {
     match command {
-        Command::Run { file, budget } => (file, 0, 0, budget.number()),
+        Command::Rewrite { input, output: _ } => (input, 0, 0, 0),
+        Command::Run {
+            file,
+            budget,
+            layout: _,
+        } => (file, 0, 0, budget.number()),
         Command::List { file } => (file, 0, 0, 0),
         Command::One {
             file,
@@ -29,19 +34,23 @@ fn parts_of(command: Command<'_>) -> (&str, u8, u32, u64) {
 }
 
 /// The same of the command on the file `a` that words ask for.
-fn asked_of(words: &[Text]) -> Option<(u8, u32, u64)> {
-    match command_of(words) {
-        Some(command) => match parts_of(command) {
-            ("a", nodes, order, budget) => Some((nodes, order, budget)),
-            _ => None,
+fn asked_of(alloc: Global, words: &[Text]) -> Result<Option<(u8, u32, u64)>, AllocError> {
+    match command_of(alloc, words) {
+        Ok(Some(command)) => match parts_of(command) {
+            ("a", nodes, order, budget) => Ok(Some((nodes, order, budget))),
+            _ => Ok(None),
         },
-        None => None,
+        Ok(None) => Ok(None),
+        Err(error) => Err(error),
     }
 }
 
 #[test]
 fn reads_the_words_that_are_commands(rt: HostRuntime) -> Result<(), Fail> {
     for (line, wanted) in [
+        ("rewrite a b", Some((0, 0, 0))),
+        ("rewrite a", None),
+        ("rewrite a b c", None),
         ("run a", Some((0, 0, 100_000_000))),
         ("run --budget=0000000005 a", Some((0, 0, 5))),
         ("run a --budget 4294967296", Some((0, 0, 4_294_967_296))),
@@ -57,6 +66,8 @@ fn reads_the_words_that_are_commands(rt: HostRuntime) -> Result<(), Fail> {
         ("run  a", None),
         ("run -", None),
         ("run a --", None),
+        ("run -a", None),
+        ("run --budget", None),
         ("run a --budget", None),
         ("run a --budget=", None),
         ("run a --budget 0", None),
@@ -64,13 +75,25 @@ fn reads_the_words_that_are_commands(rt: HostRuntime) -> Result<(), Fail> {
         ("run a --budget 5 --budget=5", None),
         ("run a --budget 4294967297", None),
         ("run a --nodes 1", None),
+        ("run a --layout=-x", Some((0, 0, 100_000_000))),
+        ("run --layout x --budget 5 a", Some((0, 0, 5))),
+        ("run a --layout -x", None),
+        ("run a --layout=", None),
+        ("run a --layout x --layout x", None),
+        ("one a --layout x", None),
         ("one a --nodes 17", None),
         ("one a --order 00000000000", None),
         ("one a --order --nodes 1", None),
+        ("one --help", None),
+        ("list a --version", None),
         ("list a a", None),
     ] {
         let words = words_of(rt.alloc(), line)?;
-        assert_eq!(rt; asked_of(words.as_slice()), wanted, "at {line}");
+        assert_eq!(rt;
+            asked_of(rt.alloc(), words.as_slice())?,
+            wanted,
+            "at {line}"
+        );
     }
     Ok(())
 }

@@ -2,6 +2,7 @@
 
 ghost use Rattle.std.specs.Prelude.{◌≡◌, string_bytes};
 
+use std::convert::AsStr;
 use std::marker::Model;
 
 /// One word of the command line, which contracts see as its UTF-8 bytes.
@@ -31,5 +32,13 @@ impl Text {
         ensures { result.now ≡ self.now }
     {
         self.word.as_str()
+    }
+}
+
+impl AsStr for Text {
+    ghost text = { λ word. word };
+
+    fn as_str(&self) -> &str {
+        Text::as_str(self)
     }
 }

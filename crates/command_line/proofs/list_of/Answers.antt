@@ -1,10 +1,16 @@
 use Rattle.std.proofs.Common.{refl}
-use Rattle.command_line.specs.Commands.{Listing, row_of}
-use Rattle.command_line.proofs.Rows.{as_list, gives_file}
+use Rattle.command_line.specs.Reading.{given_by}
+use Rattle.command_line.proofs.Rows.{as_list, one_file, placed_file}
 use Rattle.command_line.proofs.list_of.Goals as goal
 
 pub returns-in_err-file : goal.returns-in_err-file
 returns-in_err-file c =
     rw c.from_residual.ensures (λ d h.
-    let r = as_list c.args.words.now d h in
-    c.in_err-file.ensures r.0 (gives_file (row_of (Listing r.0)) c.args.words.now r.0 r.1 refl))
+    let r = as_list (given_by c.args.matches.now) d h in
+    c.in_err-file.ensures r.0 (one_file r.0 _ r.1.places))
+
+pub returns : goal.returns
+returns c = record {
+  word_is = refl;
+  of_row = record { places = placed_file c.in_ok-file.file.now _ c.in_ok-file.ensures; options = tt };
+}
