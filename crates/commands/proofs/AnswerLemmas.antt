@@ -1,32 +1,81 @@
 -- What the answer of a command says of the whole.
-use Rattle.std.proofs.Common.{◌≡◌, ◌⊎◌, ℕ, ◌<◌, ◌≤◌, Bool, true, false, List, [], ◌∷◌, ◌++◌, length, Option, Some, None, refl, sym, ap, ◌∙◌, subst, inl, inr, arith}
-use Rattle.std.specs.Prelude.{Contains, IfSome, IfOk, IfErr, Result, Ok, Err, if◌then◌else◌}
-use Rattle.command_line.specs.Commands.{Command, Run, Listing, One, reads}
+use Rattle.std.proofs.Common.{◌≡◌, ◌⊎◌, ℕ, zero, suc, ◌<◌, ◌≤◌, Bool, true, false, List, [], ◌∷◌, ◌++◌, length, Option, Some, None, append-nil, option_map, refl, sym, ap, ◌∙◌, subst, inl, inr, arith}
+use Rattle.std.specs.Prelude.{Contains, IfSome, IfOk, IfErr, MatchOption, Result, Ok, Err, if◌then◌else◌}
+use Rattle.dsm_io.specs.Causes.{Rose}
+use Rattle.command_line.specs.Commands.{Command, Rewrite, Run, Listing, One, reads, writes}
+use Rattle.command_line.specs.declared.Command.{Command as OfCode}
+use Rattle.command_line.specs.Asks.{Asks}
+use Rattle.command_line.specs.Meaning.{meaning_of}
 use Rattle.commands.specs.declared.failure.Failure.{Failure}
-use Rattle.commands.specs.declared.failure.Failure.TheVariants.{Input, Refused, Output, OutOfMemory}
-use Rattle.commands.specs.Answers.{SinkState, FilesState, IsFault}
-use Rattle.commands.specs.Executables.{IsRefused}
-use Rattle.commands.specs.Failures.{status_of, line_of, IsReadFailure, FailsAs, Puts, IsFailure, IsSuccess, IsNoRefusal}
-use Rattle.commands.specs.Headline.{AreTold, IsText, PrintsPrefix, input_of}
+use Rattle.commands.specs.declared.failure.Failure.TheVariants.{Input, NotWritten, Refused, Layout, Output, OutOfMemory}
+use Rattle.commands.specs.Answers.{SinkState, FilesState, IsFault, IsLeft, IsTooLong, file_limit}
+use Rattle.commands.specs.Executables.{IsRefused, IsUnrewritten}
+use Rattle.commands.specs.Failures.{status_of, line_of, IsReadFailure, FailsAs, Puts, IsFailure, IsPerformFailure, IsRewriteFailure, IsSuccess, IsNoRefusal, IsRunFailure, IsLayoutFailure, IsInputFailure, AreInputs, AreKept, AreLeft, AreWritten}
+use Rattle.commands.specs.Headline.{AreTold, IsText, IsTextWith, IsOutcomeOf, IsRewrittenFile, IsRewrittenText, PrintsPrefix}
+use Rattle.commands.specs.Inputs.{Inputs, input_of, layout_of, inputs_of}
+use Rattle.commands.specs.Layouts.{IsFaultyLayout, IsBadLayout, IsLayoutRefused}
+use Rattle.elf32_read.specs.Elf.{Elf}
+
+-- what the words ask for, and where they ask for nothing
+pub asked_as : (words : List (List ℕ)) (r : Option OfCode) (x : OfCode)
+    → r ≡ Some x → MatchOption r ((c : Command) → Asks words c → ⊥) (λ c. Asks words (meaning_of c))
+    → Asks words (meaning_of x)
+asked_as words r x e h =
+    subst (λ o. MatchOption o ((c : Command) → Asks words c → ⊥) (λ c. Asks words (meaning_of c))) e h
+
+pub none_as : (words : List (List ℕ)) (r : Option OfCode) → r ≡ None
+    → MatchOption r ((c : Command) → Asks words c → ⊥) (λ c. Asks words (meaning_of c))
+    → (c : Command) → Asks words c → ⊥
+none_as words r e h =
+    subst (λ o. MatchOption o ((c : Command) → Asks words c → ⊥) (λ c. Asks words (meaning_of c))) e h
 
 pub reads_input : (c : Command) → Contains (reads c) (input_of c)
-reads_input (Run file budget) = (0, omega arith, refl)
+reads_input (Rewrite input output) = (0, omega arith, refl)
+reads_input (Run file budget layout) = (0, omega arith, refl)
 reads_input (Listing file) = (0, omega arith, refl)
 reads_input (One file nodes order budget) = (0, omega arith, refl)
 
 only_zero : (k : ℕ) → k < 1 → k ≡ 0
 only_zero k h = omega arith
 
--- a command reads one file
+same_inside : (x y : List ℕ) → Some x ≡ Some y → x ≡ y
+same_inside x y e = cc
+
+pub reads_layout : (c : Command) (name : List ℕ) → layout_of c ≡ Some name → Contains (reads c) name
+reads_layout (Rewrite input output) name e = absurd (cc)
+reads_layout (Run file budget None) name e = absurd (cc)
+reads_layout (Run file budget (Some layout)) name e = (1, omega arith, same_inside layout name e)
+reads_layout (Listing file) name e = absurd (cc)
+reads_layout (One file nodes order budget) name e = absurd (cc)
+
+-- a list of one name
 only_of : (file name : List ℕ) → Contains (file ∷ []) name → name ≡ file
 only_of file name h =
     let zero = only_zero h.0 h.1 in
     sym (subst (λ k. Rattle.std.proofs.Common.get_or (file ∷ []) k name ≡ name) zero h.2)
 
-pub reads_only : (c : Command) (name : List ℕ) → Contains (reads c) name → name ≡ input_of c
-reads_only (Run file budget) name h = only_of file name h
-reads_only (Listing file) name h = only_of file name h
-reads_only (One file nodes order budget) name h = only_of file name h
+-- a list of two names
+two_of : (one other name : List ℕ) → Contains (one ∷ other ∷ []) name
+    → (name ≡ one) ⊎ (name ≡ other)
+two_of one other name h = go h.0 h.1 h.2
+  where
+    go : (k : ℕ) → k < 2 → Rattle.std.proofs.Common.get_or (one ∷ other ∷ []) k name ≡ name
+        → (name ≡ one) ⊎ (name ≡ other)
+    go zero low e = inl (sym e)
+    go (suc zero) low e = inr (sym e)
+    go (suc (suc k)) low e = absurd (omega (arith, low))
+
+-- a command reads its executable, and its layout where it names one
+pub reads_only : (c : Command) (name : List ℕ) → Contains (reads c) name
+    → (name ≡ input_of c) ⊎ (layout_of c ≡ Some name)
+reads_only (Rewrite input output) name h = inl (only_of input name h)
+reads_only (Run file budget None) name h = inl (only_of file name h)
+reads_only (Run file budget (Some layout)) name h = elim (two_of file layout name h) [
+  | inl e ↦ inl e
+  | inr e ↦ inr (ap Some (sym e))
+]
+reads_only (Listing file) name h = inl (only_of file name h)
+reads_only (One file nodes order budget) name h = inl (only_of file name h)
 
 pub content_is : (o : Option (List ℕ)) (bytes content : List ℕ)
     → IfSome o (λ c. bytes ≡ c) → o ≡ Some content → bytes ≡ content
@@ -37,104 +86,151 @@ low_status : (b : Bool) → (if b then 0 else 1) ≤ 1
 low_status true = omega arith
 low_status false = omega arith
 
-pub is_low : (c : Command) (contents : List ℕ → List ℕ) (text : List ℕ) (status : ℕ)
-    → IsText c contents text status → status ≤ 1
-is_low (Run file budget) contents text status h = subst (λ s. s ≤ 1) (sym h.status_is) (low_status _)
-is_low (One file nodes order budget) contents text status h =
+pub is_low : (c : Command) (inputs : Inputs) (text : List ℕ) (status : ℕ)
+    → IsText c inputs text status → status ≤ 1
+is_low (Rewrite input output) inputs text status h = let zero = h.status_is in omega (arith, zero)
+is_low (Run file budget layout) inputs text status h = subst (λ s. s ≤ 1) (sym h.status_is) (low_status _)
+is_low (One file nodes order budget) inputs text status h =
     subst (λ s. s ≤ 1) (sym h.status_is) (low_status _)
-is_low (Listing file) contents text status h = let zero = h.1 in omega (arith, zero)
+is_low (Listing file) inputs text status h = let zero = h.1 in omega (arith, zero)
 
-pub text_of_file : (c : Command) (bytes : List ℕ) (contents : List ℕ → List ℕ) (text : List ℕ)
-    (status : ℕ) → bytes ≡ contents (input_of c) → IsText c (λ name. bytes) text status
-    → IsText c contents text status
-text_of_file (Run file budget) bytes contents text status same h =
-    subst (λ b. IsText (Run file budget) (λ name. b) text status) same h
-text_of_file (One file nodes order budget) bytes contents text status same h =
-    subst (λ b. IsText (One file nodes order budget) (λ name. b) text status) same h
-text_of_file (Listing file) bytes contents text status same h =
-    subst (λ b. IsText (Listing file) (λ name. b) text status) same h
-
--- the bytes that were read are the content, where that is told
-same_content : (c : Command) (held : List ℕ → Option (List ℕ)) (contents : List ℕ → List ℕ)
+-- what was read is what the files are told to have, where both have been read
+pub same_executable : (c : Command) (held : List ℕ → Option (List ℕ)) (contents : List ℕ → List ℕ)
     (bytes : List ℕ) → IfSome (held (input_of c)) (λ x. bytes ≡ x) → AreTold c held contents
     → bytes ≡ contents (input_of c)
-same_content c held contents bytes h told =
+same_executable c held contents bytes h told =
     content_is (held (input_of c)) bytes (contents (input_of c)) h (told (input_of c) (reads_input c))
 
-pub succeeds : (c : Command) (files : FilesState) (before now : SinkState) (bytes : List ℕ)
-    (status : ℕ) → IfSome (files.held (input_of c)) (λ x. bytes ≡ x)
-    → Puts (IsText c (λ name. bytes)) status before.taken now.taken
+abbrev inputs : List ℕ → Option (List ℕ) → Inputs
+inputs b l = record { executable = b; layout = l }
+
+pub reads_alone : (c : Command) (held : List ℕ → Option (List ℕ)) (bytes : List ℕ)
+    → IfSome (held (input_of c)) (λ x. bytes ≡ x) → layout_of c ≡ None
+    → AreInputs c held (record { executable = bytes; layout = None })
+reads_alone c held bytes h none contents told =
+    let same = same_executable c held contents bytes h told in
+    ap (λ b. inputs b None) same ∙ ap (λ l. inputs (contents (input_of c)) (option_map contents l)) (sym none)
+
+pub reads_both : (c : Command) (held between : List ℕ → Option (List ℕ)) (bytes text name : List ℕ)
+    → IfSome (held (input_of c)) (λ x. bytes ≡ x) → layout_of c ≡ Some name
+    → between name ≡ held name → IfSome (between name) (λ x. text ≡ x)
+    → AreInputs c held (record { executable = bytes; layout = Some text })
+reads_both c held between bytes text name h some same k contents told =
+    let one = same_executable c held contents bytes h told in
+    let other = content_is (between name) text (contents name) k (same ∙ told name (reads_layout c name some)) in
+    ap (λ b. inputs b (Some text)) one ∙ ap (λ t. inputs (contents (input_of c)) (Some t)) other
+    ∙ ap (λ l. inputs (contents (input_of c)) (option_map contents l)) (sym some)
+
+pub succeeds : (c : Command) (files : FilesState) (before now : SinkState) (inputs : Inputs)
+    (status : ℕ) → AreInputs c files.held inputs → Puts (IsText c inputs) status before.taken now.taken
     → IsSuccess c files before now status
-succeeds c files before now bytes status read put = record {
-  low = is_low c (λ name. bytes) put.0 status put.1;
+succeeds c files before now inputs status read put = record {
+  low = is_low c inputs put.0 status put.1;
   prints = λ contents told. record {
     text = put.0;
-    is = text_of_file c bytes contents put.0 status
-        (same_content c files.held contents bytes read told) put.1;
+    is = subst (λ i. IsText c i put.0 status) (read contents told) put.1;
     put = put.2;
   };
 }
 
-prefix_as : (c : Command) (files : FilesState) (bytes : List ℕ) (before now : SinkState)
-    → IfSome (files.held (input_of c)) (λ x. bytes ≡ x)
-    → Rattle.commands.specs.Failures.PutsPrefix (IsText c (λ name. bytes)) before.taken now.taken
+prefix_as : (c : Command) (files : FilesState) (inputs : Inputs) (before now : SinkState)
+    → AreInputs c files.held inputs
+    → Rattle.commands.specs.Failures.PutsPrefix (IsText c inputs) before.taken now.taken
     → (contents : List ℕ → List ℕ) → AreTold c files.held contents
     → PrintsPrefix c contents before.taken now.taken
-prefix_as c files bytes before now read put contents told = record {
+prefix_as c files inputs before now read put contents told = record {
   text = put.0;
   status = put.1;
-  is = text_of_file c bytes contents put.0 put.1
-      (same_content c files.held contents bytes read told) put.2;
+  is = subst (λ i. IsText c i put.0 put.1) (read contents told) put.2;
   put = put.3;
 }
 
-pub fails_with : (c : Command) (files files_now : FilesState) (before now : SinkState)
-    (bytes : List ℕ) (f : Failure) → IfSome (files.held (input_of c)) (λ x. bytes ≡ x)
-    → FailsAs (IsText c (λ name. bytes)) (IsRefused c bytes) before now f
+rose_before : (a b c : ℕ) → a ≤ b → Rose b c → Rose a c
+rose_before a b c low rose = omega (arith, low, rose)
+
+-- the files were read before the command was done
+pub fails_with : (c : Command) (files read_files files_now : FilesState) (before now : SinkState)
+    (inputs : Inputs) (f : Failure) → AreInputs c files.held inputs
+    → ((n : List ℕ) → files.failed_writes n ≤ read_files.failed_writes n)
+    → IsPerformFailure c inputs read_files files_now before now f
     → IsFailure c files files_now before now f
-fails_with c files files_now before now bytes (Input line) read h = absurd h
-fails_with c files files_now before now bytes (Refused line) read h = (
+fails_with c files read_files files_now before now inputs (Input line) read low h = absurd h
+fails_with c files read_files files_now before now inputs (NotWritten line) read low h =
+    (h.0, (h.1.0, h.1.1, rose_before _ _ _ (low h.1.0) h.1.2, h.1.3))
+fails_with c files read_files files_now before now inputs (Refused line) read low h = (
   h.1,
-  λ contents told. subst (λ b. IsRefused c b line.items)
-      (same_content c files.held contents bytes read told) h.0,
+  λ contents told. subst (λ i. IsRefused c i line.items) (read contents told) h.0,
 )
-fails_with c files files_now before now bytes Output read h =
-    (h.0, prefix_as c files bytes before now read h.1)
-fails_with c files files_now before now bytes OutOfMemory read h = λ contents told.
+fails_with c files read_files files_now before now inputs (Layout line) read low h = (
+  h.1,
+  λ contents told. subst (λ i. IsLayoutRefused c i line.items) (read contents told) h.0,
+)
+fails_with c files read_files files_now before now inputs Output read low h =
+    (h.0, prefix_as c files inputs before now read h.1)
+fails_with c files read_files files_now before now inputs OutOfMemory read low h = λ contents told.
     elim h [
       | inl same ↦ inl same
-      | inr part ↦ inr (prefix_as c files bytes before now read part contents told)
+      | inr part ↦ inr (prefix_as c files inputs before now read part contents told)
     ]
 
+-- a file is read after others
+too_long_before : (files between now : FilesState) (name : List ℕ)
+    → between.held name ≡ files.held name
+    → files.failed_reads name ≤ between.failed_reads name
+    → IsTooLong between now name → IsTooLong files now name
+too_long_before files between now name same low h =
+    go (files.held name) (subst (λ o. MatchOption o (Rose (between.failed_reads name) (now.failed_reads name))
+    (λ file. file_limit < length file)) same h)
+  where
+    go : (o : Option (List ℕ))
+        → MatchOption o (Rose (between.failed_reads name) (now.failed_reads name)) (λ file. file_limit < length file)
+        → MatchOption o (Rose (files.failed_reads name) (now.failed_reads name)) (λ file. file_limit < length file)
+    go None k = rose_before _ _ _ low k
+    go (Some file) k = k
+
+pub later_read : (files between now : FilesState) (name : List ℕ) (f : Failure)
+    → between.held name ≡ files.held name
+    → files.failed_reads name ≤ between.failed_reads name
+    → IsReadFailure between now name f → IsReadFailure files now name f
+later_read files between now name (Input line) same low h = elim h [
+  | inl failed ↦ inl (rose_before _ _ _ low failed.0, failed.1)
+  | inr long ↦ inr (too_long_before files between now name same low long.0, long.1)
+]
+later_read files between now name (NotWritten line) same low h = h
+later_read files between now name (Refused line) same low h = h
+later_read files between now name (Layout line) same low h = h
+later_read files between now name Output same low h = h
+later_read files between now name OutOfMemory same low h = h
+
 pub fails_to_read : (c : Command) (files files_now : FilesState) (state : SinkState) (f : Failure)
-    → IsReadFailure files files_now (input_of c) f → IsFailure c files files_now state state f
-fails_to_read c files files_now state (Input line) h = (
-  refl,
-  (
-    input_of c,
-    reads_input c,
-    elim h [
-      | inl failed ↦ inl (failed.0, failed.1)
-      | inr long ↦ inr (long.0, long.1)
-    ],
-  ),
-)
-fails_to_read c files files_now state (Refused line) h = absurd h
-fails_to_read c files files_now state Output h = absurd h
+    → IsInputFailure c files files_now f → IsFailure c files files_now state state f
+fails_to_read c files files_now state (Input line) h = (refl, (h.0, h.1, h.2))
+fails_to_read c files files_now state (NotWritten line) h = absurd h.2
+fails_to_read c files files_now state (Refused line) h = absurd h.2
+fails_to_read c files files_now state (Layout line) h = absurd h.2
+fails_to_read c files files_now state Output h = absurd h.2
 fails_to_read c files files_now state OutOfMemory h = λ contents told. inl refl
 
-pub no_refusal : (c : Command) (files files_now : FilesState) (f : Failure)
-    → IsReadFailure files files_now (input_of c) f → IsNoRefusal f
-no_refusal c files files_now (Input line) h = inl refl
-no_refusal c files files_now (Refused line) h = absurd h
-no_refusal c files files_now Output h = absurd h
-no_refusal c files files_now OutOfMemory h = inr refl
+pub no_refusal : (files files_now : FilesState) (name : List ℕ) (f : Failure)
+    → IsReadFailure files files_now name f → IsNoRefusal f
+no_refusal files files_now name (Input line) h = inl refl
+no_refusal files files_now name (NotWritten line) h = absurd h
+no_refusal files files_now name (Refused line) h = absurd h
+no_refusal files files_now name (Layout line) h = absurd h
+no_refusal files files_now name Output h = absurd h
+no_refusal files files_now name OutOfMemory h = inr refl
+
+pub kept_unread : (c : Command) (files files_now : FilesState) (f : Failure)
+    → IsInputFailure c files files_now f → IsNoRefusal f
+kept_unread c files files_now f h = no_refusal files files_now h.0 f h.2
 
 -- what the status of a failure says
 
-pub failure_range : (f : Failure) → (3 ≤ status_of f) × (status_of f ≤ 5)
+pub failure_range : (f : Failure) → (3 ≤ status_of f) × (status_of f ≤ 6)
 failure_range (Input line) = (omega arith, omega arith)
+failure_range (NotWritten line) = (omega arith, omega arith)
 failure_range (Refused line) = (omega arith, omega arith)
+failure_range (Layout line) = (omega arith, omega arith)
 failure_range Output = (omega arith, omega arith)
 failure_range OutOfMemory = (omega arith, omega arith)
 
@@ -145,7 +241,7 @@ fault_of c files files_now before now (Input line) Told h told three =
     let fault = h.1 in
     inl (
       h.0,
-      (
+      inl (
         fault.0,
         fault.1,
         elim fault.2 [
@@ -154,36 +250,57 @@ fault_of c files files_now before now (Input line) Told h told three =
         ],
       ),
     )
+fault_of c files files_now before now (NotWritten line) Told h told three =
+    let fault = h.1 in
+    inl (h.0, inr (fault.0, fault.1, fault.2, subst Told fault.3 told))
 fault_of c files files_now before now (Refused line) Told h told three = absurd (omega (arith, three))
+fault_of c files files_now before now (Layout line) Told h told three = absurd (omega (arith, three))
 fault_of c files files_now before now Output Told h told three = inr (h, told)
 fault_of c files files_now before now OutOfMemory Told h told three = absurd (omega (arith, three))
 
 pub refusal_of : (c : Command) (files files_now : FilesState) (before now : SinkState) (f : Failure)
     (Told : List ℕ → Type 0) → IsFailure c files files_now before now f → Told (line_of f)
     → status_of f ≡ 4 → (contents : List ℕ → List ℕ) → AreTold c files.held contents
-    → (line : List ℕ) × IsRefused c (contents (input_of c)) line × Told line
+    → (line : List ℕ) × IsRefused c (inputs_of c contents) line × Told line
 refusal_of c files files_now before now (Input line) Told h told four contents known =
+    absurd (omega (arith, four))
+refusal_of c files files_now before now (NotWritten line) Told h told four contents known =
     absurd (omega (arith, four))
 refusal_of c files files_now before now (Refused line) Told h told four contents known =
     (line.items, h.1 contents known, told)
+refusal_of c files files_now before now (Layout line) Told h told four contents known =
+    absurd (omega (arith, four))
 refusal_of c files files_now before now Output Told h told four contents known =
     absurd (omega (arith, four))
 refusal_of c files files_now before now OutOfMemory Told h told four contents known =
     absurd (omega (arith, four))
 
+pub layout_refusal_of : (c : Command) (files files_now : FilesState) (before now : SinkState)
+    (f : Failure) (Told : List ℕ → Type 0) → IsFailure c files files_now before now f → Told (line_of f)
+    → status_of f ≡ 6 → (contents : List ℕ → List ℕ) → AreTold c files.held contents
+    → (line : List ℕ) × IsLayoutRefused c (inputs_of c contents) line × Told line
+layout_refusal_of c files files_now before now (Input line) Told h told six contents known =
+    absurd (omega (arith, six))
+layout_refusal_of c files files_now before now (NotWritten line) Told h told six contents known =
+    absurd (omega (arith, six))
+layout_refusal_of c files files_now before now (Refused line) Told h told six contents known =
+    absurd (omega (arith, six))
+layout_refusal_of c files files_now before now (Layout line) Told h told six contents known =
+    (line.items, h.1 contents known, told)
+layout_refusal_of c files files_now before now Output Told h told six contents known =
+    absurd (omega (arith, six))
+layout_refusal_of c files files_now before now OutOfMemory Told h told six contents known =
+    absurd (omega (arith, six))
+
 pub nothing_of : (c : Command) (files files_now : FilesState) (before now : SinkState) (f : Failure)
-    → IsFailure c files files_now before now f → (status_of f ≡ 2) ⊎ (status_of f ≡ 4)
-    → now.taken ≡ before.taken
+    → IsFailure c files files_now before now f
+    → (status_of f ≡ 2) ⊎ ((status_of f ≡ 4) ⊎ (status_of f ≡ 6)) → now.taken ≡ before.taken
 nothing_of c files files_now before now (Input line) h s = h.0
+nothing_of c files files_now before now (NotWritten line) h s = h.0
 nothing_of c files files_now before now (Refused line) h s = h.0
-nothing_of c files files_now before now Output h s = elim s [
-  | inl two ↦ absurd (omega (arith, two))
-  | inr four ↦ absurd (omega (arith, four))
-]
-nothing_of c files files_now before now OutOfMemory h s = elim s [
-  | inl two ↦ absurd (omega (arith, two))
-  | inr four ↦ absurd (omega (arith, four))
-]
+nothing_of c files files_now before now (Layout line) h s = h.0
+nothing_of c files files_now before now Output h s = absurd (omega (arith, s))
+nothing_of c files files_now before now OutOfMemory h s = absurd (omega (arith, s))
 
 pub prefix_of_failure : (c : Command) (files files_now : FilesState) (before now : SinkState)
     (f : Failure) → IsFailure c files files_now before now f → status_of f ≡ 5
@@ -191,7 +308,11 @@ pub prefix_of_failure : (c : Command) (files files_now : FilesState) (before now
     → (now.taken ≡ before.taken) ⊎ PrintsPrefix c contents before.taken now.taken
 prefix_of_failure c files files_now before now (Input line) h five contents told =
     absurd (omega (arith, five))
+prefix_of_failure c files files_now before now (NotWritten line) h five contents told =
+    absurd (omega (arith, five))
 prefix_of_failure c files files_now before now (Refused line) h five contents told =
+    absurd (omega (arith, five))
+prefix_of_failure c files files_now before now (Layout line) h five contents told =
     absurd (omega (arith, five))
 prefix_of_failure c files files_now before now Output h five contents told =
     absurd (omega (arith, five))
@@ -199,7 +320,9 @@ prefix_of_failure c files files_now before now OutOfMemory h five contents told 
 
 pub line_five : (f : Failure) → status_of f ≡ 5 → line_of f ≡ Rattle.commands.specs.Text.out_of_memory
 line_five (Input line) five = absurd (omega (arith, five))
+line_five (NotWritten line) five = absurd (omega (arith, five))
 line_five (Refused line) five = absurd (omega (arith, five))
+line_five (Layout line) five = absurd (omega (arith, five))
 line_five Output five = absurd (omega (arith, five))
 line_five OutOfMemory five = refl
 
@@ -212,3 +335,163 @@ pub err_as : {T E : Type 0} (P Q : E → Type 0) (r : Result T E) → ((e : E) �
     → IfErr r P → IfErr r Q
 err_as P Q (Ok x) f h = tt
 err_as P Q (Err e) f h = f e h
+
+-- ---- the files that commands write
+
+-- a command that writes no file
+pub none_written : (c : Command) → writes c ≡ [] → (inputs : Inputs)
+    (before now : FilesState) → AreWritten c inputs now × AreLeft c inputs before now
+none_written c none inputs before now = (
+  λ name h. absurd (nothing_in name (subst (λ ns. Contains ns name) none h)),
+  λ name h. absurd (nothing_in name (subst (λ ns. Contains ns name) none h)),
+)
+  where
+    nothing_in : (name : List ℕ) → Contains [] name → ⊥
+    nothing_in name h = omega (arith, h.1)
+
+pub only_output : (input output name : List ℕ) → Contains (writes (Rewrite input output)) name
+    → name ≡ output
+only_output input output name h = only_of output name h
+
+pub has_output : (input output : List ℕ) → Contains (writes (Rewrite input output)) output
+has_output input output = (0, omega arith, refl)
+
+pub rewritten_written : (input output : List ℕ) (inputs : Inputs) (now : FilesState)
+    → IfSome (now.held output) (IsRewrittenFile inputs.executable)
+    → AreWritten (Rewrite input output) inputs now
+rewritten_written input output inputs now h name there =
+    subst (λ n. IfSome (now.held n) (IsRewrittenFile inputs.executable)) (sym (only_output input output name there)) h
+
+left_at : (input output : List ℕ) (inputs : Inputs) (before now : FilesState)
+    → (now.held output ≡ before.held output)
+    ⊎ Rose (before.failed_writes output) (now.failed_writes output)
+    → AreLeft (Rewrite input output) inputs before now
+left_at input output inputs before now h name there =
+    subst (IsLeft (Rewrite input output) inputs before now) (sym (only_output input output name there))
+    (elim h [ inl same ↦ inl same | inr rose ↦ inr (inr rose) ])
+
+pub rewrite_left : (input output : List ℕ) (inputs : Inputs) (before now : FilesState) (f : Failure)
+    → IsRewriteFailure inputs.executable before now output f
+    → AreLeft (Rewrite input output) inputs before now
+rewrite_left input output inputs before now (Input line) h = absurd h
+rewrite_left input output inputs before now (NotWritten line) h =
+    left_at input output inputs before now (inr h.0)
+rewrite_left input output inputs before now (Refused line) h =
+    left_at input output inputs before now (inl (h.1 output))
+rewrite_left input output inputs before now (Layout line) h = absurd h
+rewrite_left input output inputs before now Output h = absurd h
+rewrite_left input output inputs before now OutOfMemory h = left_at input output inputs before now h
+
+pub rewrite_kept : (output file : List ℕ) (before now : FilesState) (f : Failure)
+    → IsRewriteFailure file before now output f → AreKept before now f
+rewrite_kept output file before now (Input line) h four = absurd h
+rewrite_kept output file before now (NotWritten line) h four = absurd (omega (arith, four))
+rewrite_kept output file before now (Refused line) h four = h.1
+rewrite_kept output file before now (Layout line) h four = absurd h
+rewrite_kept output file before now Output h four = absurd h
+rewrite_kept output file before now OutOfMemory h four = absurd (omega (arith, four))
+
+pub rewrite_fails : (input output : List ℕ) (inputs : Inputs) (before now : FilesState) (state : SinkState)
+    (f : Failure) → IsRewriteFailure inputs.executable before now output f
+    → IsPerformFailure (Rewrite input output) inputs before now state state f
+rewrite_fails input output inputs before now state (Input line) h = absurd h
+rewrite_fails input output inputs before now state (NotWritten line) h =
+    (refl, (output, has_output input output, h.0, h.1))
+rewrite_fails input output inputs before now state (Refused line) h = (h.0, refl)
+rewrite_fails input output inputs before now state (Layout line) h = absurd h
+rewrite_fails input output inputs before now state Output h = absurd h
+rewrite_fails input output inputs before now state OutOfMemory h = inl refl
+
+pub same_taken : (o : Option (List ℕ)) → o ≡ option_map (λ t. t ++ []) o
+same_taken None = refl
+same_taken (Some t) = ap Some (sym (append-nil t))
+
+-- a failure of a command that writes no file, and reads no layout
+pub plain_fails : (c : Command) (inputs : Inputs) (fb fn : FilesState) (before now : SinkState)
+    (f : Failure) → FailsAs (IsText c inputs) (IsRefused c inputs) before now f
+    → IsPerformFailure c inputs fb fn before now f
+plain_fails c inputs fb fn before now (Input line) h = h
+plain_fails c inputs fb fn before now (NotWritten line) h = absurd h
+plain_fails c inputs fb fn before now (Refused line) h = h
+plain_fails c inputs fb fn before now (Layout line) h = absurd h
+plain_fails c inputs fb fn before now Output h = h
+plain_fails c inputs fb fn before now OutOfMemory h = h
+
+-- a failure of a run
+abbrev pub IsRun : Command → ℕ → Type 0
+IsRun (Run file n layout) budget = n ≡ budget
+IsRun command budget = ⊥
+
+run_fails_by : (file : List ℕ) (budget : ℕ) (layout : Option (List ℕ)) (inputs : Inputs)
+    (fb fn : FilesState) (before now : SinkState) (f : Failure)
+    → IsRunFailure inputs budget before now f
+    → IsPerformFailure (Run file budget layout) inputs fb fn before now f
+run_fails_by file budget layout inputs fb fn before now (Input line) h = h
+run_fails_by file budget layout inputs fb fn before now (NotWritten line) h = absurd h
+run_fails_by file budget layout inputs fb fn before now (Refused line) h = h
+run_fails_by file budget layout inputs fb fn before now (Layout line) h = h
+run_fails_by file budget layout inputs fb fn before now Output h = h
+run_fails_by file budget layout inputs fb fn before now OutOfMemory h = h
+
+pub run_fails : (c : Command) (budget : ℕ) (inputs : Inputs) (fb fn : FilesState)
+    (before now : SinkState) (f : Failure) → IsRun c budget → IsRunFailure inputs budget before now f
+    → IsPerformFailure c inputs fb fn before now f
+run_fails (Run file n layout) budget inputs fb fn before now f same h =
+    run_fails_by file n layout inputs fb fn before now f
+    (subst (λ b. IsRunFailure inputs b before now f) (sym same) h)
+run_fails (Rewrite input output) budget inputs fb fn before now f same h = absurd same
+run_fails (Listing file) budget inputs fb fn before now f same h = absurd same
+run_fails (One file nodes order n) budget inputs fb fn before now f same h = absurd same
+
+-- a failure of a run that isn't its layout's
+pub run_fails_as : (inputs : Inputs) (budget : ℕ) (before now : SinkState) (f : Failure)
+    → FailsAs (IsTextWith (IsOutcomeOf inputs.executable inputs.layout budget))
+    (IsUnrewritten inputs.executable) before now f
+    → IsRunFailure inputs budget before now f
+run_fails_as inputs budget before now (Input line) h = h
+run_fails_as inputs budget before now (NotWritten line) h = h
+run_fails_as inputs budget before now (Refused line) h = h
+run_fails_as inputs budget before now (Layout line) h = absurd h
+run_fails_as inputs budget before now Output h = h
+run_fails_as inputs budget before now OutOfMemory h = h
+
+pub layout_fails : (inputs : Inputs) (budget : ℕ) (elf : Elf) (state : SinkState) (f : Failure)
+    → ((line : List ℕ) → IsFaultyLayout elf inputs.layout line → IsBadLayout inputs line)
+    → IsLayoutFailure elf inputs.layout f → IsRunFailure inputs budget state state f
+layout_fails inputs budget elf state (Input line) bad h = h
+layout_fails inputs budget elf state (NotWritten line) bad h = h
+layout_fails inputs budget elf state (Refused line) bad h = absurd h
+layout_fails inputs budget elf state (Layout line) bad h = (bad line.items h, refl)
+layout_fails inputs budget elf state Output bad h = absurd h
+layout_fails inputs budget elf state OutOfMemory bad h = inl refl
+
+-- what is left is left also from before the file was read
+pub left_before : (c : Command) (inputs : Inputs) (before between now : FilesState)
+    → ((n : List ℕ) → between.held n ≡ before.held n)
+    → ((n : List ℕ) → before.failed_writes n ≤ between.failed_writes n)
+    → AreLeft c inputs between now → AreLeft c inputs before now
+left_before c inputs before between now same low h name there = elim (h name there) [
+  | inl kept ↦ inl (kept ∙ same name)
+  | inr (inl written) ↦ inr (inl written)
+  | inr (inr rose) ↦ inr (inr (rose_before _ _ _ (low name) rose))
+]
+
+pub kept_before : (before between now : FilesState) (f : Failure)
+    → ((n : List ℕ) → between.held n ≡ before.held n)
+    → AreKept between now f → AreKept before now f
+kept_before before between now f same h four name = h four name ∙ same name
+
+pub plain_failure : (c : Command) (inputs : Inputs) (fb fn : FilesState) (before now : SinkState)
+    (r : Result ℕ Failure) → IfErr r (FailsAs (IsText c inputs) (IsRefused c inputs) before now)
+    → IfErr r (IsPerformFailure c inputs fb fn before now)
+plain_failure c inputs fb fn before now r h =
+    err_as (FailsAs (IsText c inputs) (IsRefused c inputs) before now)
+    (IsPerformFailure c inputs fb fn before now) r (plain_fails c inputs fb fn before now) h
+
+pub puts_nothing : (c : Command) (inputs : Inputs) (t : Option (List ℕ)) (r : Result ℕ Failure)
+    → ((status : ℕ) → IsRewrittenText inputs.executable [] status → IsText c inputs [] status)
+    → IfOk r (IsRewrittenText inputs.executable [])
+    → IfOk r (λ status. Puts (IsText c inputs) status t t)
+puts_nothing c inputs t r is h =
+    ok_as (IsRewrittenText inputs.executable []) (λ status. Puts (IsText c inputs) status t t) r
+    (λ status k. ([], is status k, same_taken t)) h

@@ -4,7 +4,7 @@ use Rattle.std.proofs.Math.Seq.{take-append_seam}
 use Rattle.std.proofs.lemmas.List.{take-append-drop}
 use Rattle.dsm_io.specs.Causes.{Rose, Appends, AppendsPrefix}
 use Rattle.commands.specs.declared.failure.Failure.{Failure}
-use Rattle.commands.specs.declared.failure.Failure.TheVariants.{Input, Refused, Output, OutOfMemory}
+use Rattle.commands.specs.declared.failure.Failure.TheVariants.{Input, NotWritten, Refused, Layout, Output, OutOfMemory}
 use Rattle.commands.specs.Answers.{SinkState}
 use Rattle.commands.specs.Outcomes.{Outcome}
 use Rattle.commands.specs.Headline.{IsTextWith}
@@ -55,8 +55,10 @@ pub put_fails : (IsTextFor : List ℕ → ℕ → Type 0) (Reason : List ℕ →
     → before.faults ≡ start.faults → IsPutFailure before now q f
     → FailsAs IsTextFor Reason start now f
 put_fails IsTextFor Reason text status start before now p q rest (Input line) is text_is one same h = h
+put_fails IsTextFor Reason text status start before now p q rest (NotWritten line) is text_is one same h = h
 put_fails IsTextFor Reason text status start before now p q rest (Refused line) is text_is one same h =
     absurd h
+put_fails IsTextFor Reason text status start before now p q rest (Layout line) is text_is one same h = h
 put_fails IsTextFor Reason text status start before now p q rest Output is text_is one same h = (
   subst (λ n. Rose n now.faults) same h.0,
   (text, status, is, prefix_then start.taken before.taken now.taken p q rest text text_is one h.1),
@@ -86,8 +88,10 @@ pub fails_too : (IsOne IsOther : List ℕ → ℕ → Type 0) (Reason Why : List
     → ((line : List ℕ) → Reason line → Why line)
     → FailsAs IsOne Reason before now f → FailsAs IsOther Why before now f
 fails_too IsOne IsOther Reason Why before now (Input line) texts reasons h = h
+fails_too IsOne IsOther Reason Why before now (NotWritten line) texts reasons h = h
 fails_too IsOne IsOther Reason Why before now (Refused line) texts reasons h =
     (reasons line.items h.0, h.1)
+fails_too IsOne IsOther Reason Why before now (Layout line) texts reasons h = h
 fails_too IsOne IsOther Reason Why before now Output texts reasons h =
     let t = texts h.1.0 h.1.1 h.1.2 in (h.0, (h.1.0, t.0, t.1, h.1.3))
 fails_too IsOne IsOther Reason Why before now OutOfMemory texts reasons h =
@@ -101,7 +105,9 @@ pub refused_first : (IsTextFor : List ℕ → ℕ → Type 0) (Reason Why : List
     (state : SinkState) (f : Failure) → ((line : List ℕ) → Reason line → Why line)
     → Rattle.commands.specs.Failures.IsRefusal Reason f → FailsAs IsTextFor Why state state f
 refused_first IsTextFor Reason Why state (Input line) reasons h = h
+refused_first IsTextFor Reason Why state (NotWritten line) reasons h = h
 refused_first IsTextFor Reason Why state (Refused line) reasons h = (reasons line.items h, refl)
+refused_first IsTextFor Reason Why state (Layout line) reasons h = h
 refused_first IsTextFor Reason Why state Output reasons h = absurd h
 refused_first IsTextFor Reason Why state OutOfMemory reasons h = inl refl
 

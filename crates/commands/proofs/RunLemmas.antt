@@ -1,19 +1,20 @@
 -- A run of a node, a word at a time.
-use Rattle.std.proofs.Common.{◌≡◌, ℕ, ◌+◌, ◌<◌, true, cond, List, [], ◌∷◌, ◌++◌, Some, refl, sym, ap, ◌∙◌, inl, inr, arith, append-nil, append_assoc}
-use Rattle.std.proofs.lemmas.Bool.Decides.{eqb_tells}
+use Rattle.std.proofs.Common.{◌≡◌, ℕ, zero, suc, ◌+◌, ◌<◌, ◌≤◌, true, List, [], ◌∷◌, ◌++◌, Option, Some, refl, sym, ap, ◌∙◌, subst, arith, append-nil, append_assoc}
 use Rattle.std.specs.Option.{option_to_list}
 use Rattle.rv32_program.specs.declared.End.{End}
 use Rattle.rv32_program.specs.declared.End.TheVariants.{Stopped}
 use Rattle.node_machine.specs.declared.NodeCounts.{NodeCounts}
-use Rattle.node_machine.specs.Node.{Work, Node, Phase, Running, Ended, Move, Next, Again, To, Enters, Waits, Leaves, opening_node, end_of, can_execute, phase_after, stop_at, word_step, word_outcome}
+use Rattle.node_machine.specs.Runs.{GoesOnBy, HasExecuted}
+use Rattle.node_machine.specs.Node.{Work, Node, Ended, opening_node, end_of, can_execute, word_step, word_outcome}
 use Rattle.elf32_read.specs.Elf.{Elf}
 use Rattle.exec_map.specs.Contents.{program_of}
 use Rattle.rv32_program.specs.Program.{IsAccepted}
 use Rattle.templates.specs.declared.plans.PlanEntry.{PlanEntry}
 use Rattle.jump_map.specs.Image.{Cell, IsRewriting}
-use Rattle.rewriter.specs.SpillPlan.{IsSpillPlan}
+use Rattle.check_plan.specs.CheckPlan.{IsCheckPlan}
 use Rattle.shared_sim.specs.Interleaving.{Interleaves}
 use Rattle.commands.specs.Executables.{IsProgramOf}
+use Rattle.commands.specs.Layouts.{HasLayout}
 use Rattle.commands.specs.Headline.{IsOutcomeOf}
 use Rattle.commands.specs.Failures.{IsFinished}
 use Rattle.shared_sim.specs.CoreRun.{Event, Exec, Core, May, IsCoreRun, opening_core, event_step, after, printed_at, printed_by}
@@ -45,13 +46,13 @@ printed_more work c (x ∷ es) e =
     (printed_at work (after work (event_step work c x) es) e))
 
 pub starts : (work : Work) (node : Node) (output : List ℕ) → node ≡ opening_node work 0
-    → output ≡ [] → IsSoFar work node output 0
+    → output ≡ [] → IsSoFar work node output node.executed
 starts work node output opening nil = record {
   events = [];
   run = tt;
   node_is = opening;
   output_is = nil;
-  count = ap (λ (n : Node). n.executed) opening;
+  count = refl;
 }
 
 -- a word more
@@ -86,32 +87,52 @@ finishes work node output words end counts s ended same = record {
   counts_are = same ∙ ap (λ (n : Node). n.counts) s.node_is;
 }
 
-below_stop : (budget executed : ℕ) → executed < budget → stop_at budget (executed + 1) ≡ Running
-    → executed + 1 < budget
-below_stop budget executed lt runs = elim (eqb_tells (executed + 1) budget) [
-  | inl t ↦ (let f : ◌≡◌ {A = Phase} (Ended (Stopped budget)) Running =
-      ap (λ y. cond y (Ended (Stopped budget)) Running) (sym t.0) ∙ runs in absurd (cc))
-  | inr t ↦ omega (arith, t.1)
-]
+-- words more, none of which prints
+goes_on : (work : Work) (k : ℕ) (node next : Node) (output : List ℕ) → work.nodes ≡ 1
+    → IsSoFar work node output node.executed → GoesOnBy work k node next
+    → IsSoFar work next output next.executed
+goes_on work zero node next output alone s is =
+    subst (λ (n : Node). IsSoFar work n output n.executed) is s
+goes_on work (suc k) node next output alone s on =
+    goes_on work k (word_step work node) next output alone
+    (steps work node (word_step work node) output output node.executed alone s on.0 refl
+    (sym (append-nil output) ∙ ap (λ o. output ++ option_to_list o) (sym on.1)))
+    on.2
 
--- a node that runs on after a word has words left
-pub has_room : (budget executed : ℕ) (move : Move) → executed < budget
-    → phase_after budget (executed + 1) move ≡ Running → executed + 1 < budget
-has_room budget executed Next lt runs = below_stop budget executed lt runs
-has_room budget executed Again lt runs = below_stop budget executed lt runs
-has_room budget executed (To a) lt runs = below_stop budget executed lt runs
-has_room budget executed (Enters a) lt runs = below_stop budget executed lt runs
-has_room budget executed (Waits resume want more) lt runs = absurd (cc)
-has_room budget executed (Leaves e) lt runs = absurd (cc)
+went_on : (work : Work) (k : ℕ) (node next : Node) → GoesOnBy work k node next
+    → node.executed ≤ next.executed
+went_on work zero node next is = let same = ap (λ (n : Node). n.executed) is in omega (arith, same)
+went_on work (suc k) node next on =
+    let rest = went_on work k (word_step work node) next on.2 in
+    omega (arith, rest)
+
+-- the words of a turn
+pub turns : (work : Work) (node next : Node) (output more : List ℕ) (printed : Option ℕ)
+    → work.nodes ≡ 1 → IsSoFar work node output node.executed
+    → HasExecuted work node next printed → more ≡ output ++ option_to_list printed
+    → IsSoFar work next more next.executed
+turns work node next output more printed alone s h print =
+    let before = goes_on work h.words node h.last output alone s h.goes_on in
+    let one = steps work h.last next output more h.last.executed alone before h.may h.step
+    (print ∙ ap (λ o. output ++ option_to_list o) h.prints) in
+    subst (λ (k : ℕ). IsSoFar work next more k) (sym one.count) one
+
+-- a turn has a word or more
+pub turned : (work : Work) (node next : Node) (printed : Option ℕ)
+    → HasExecuted work node next printed → node.executed + 1 ≤ next.executed
+turned work node next printed h =
+    let before = went_on work h.words node h.last h.goes_on in
+    let step = ap (λ (n : Node). n.executed) h.step in
+    omega (arith, before, step)
 
 abbrev pub work_for : Elf → List Cell → ℕ → Work
 work_for elf image budget =
     record { program = program_of elf; image = image; nodes = 1; budget = budget }
 
 -- a whole run of one node gives the outcome, by the law of rewriting
-pub outcome_of_run : (file : List ℕ) (budget : ℕ) (elf : Elf) (image : List Cell)
+pub outcome_of_run : (file : List ℕ) (layout : Option (List ℕ)) (budget : ℕ) (elf : Elf) (image : List Cell)
     (plan : List PlanEntry) (output : List ℕ) (end : End) (counts : NodeCounts)
-    → IsProgramOf file elf → IsAccepted (program_of elf) → IsSpillPlan (program_of elf).code plan
+    → HasLayout elf layout → IsProgramOf file elf → IsAccepted (program_of elf) → IsCheckPlan (program_of elf).code plan
     → IsRewriting (program_of elf) plan image
     → ((work : Work) (plan : List PlanEntry) (events : List Event) → work.nodes ≡ 1
     → IsAccepted work.program → IsRewriting work.program plan work.image
@@ -120,8 +141,8 @@ pub outcome_of_run : (file : List ℕ) (budget : ℕ) (elf : Elf) (image : List 
     → ((after work (opening_core work) events).nodes i).phase ≡ Ended (Stopped budget)
     → (budget ≡ work.budget) × (((after work (opening_core work) events).nodes i).executed ≡ work.budget))
     → IsFinished (work_for elf image budget) output end counts
-    → IsOutcomeOf file budget (record { output = output; ends = end ∷ []; counts = counts ∷ [] })
-outcome_of_run file budget elf image plan output end counts executable accepted the_plan rewriting law stopped done =
+    → IsOutcomeOf file layout budget (record { output = output; ends = end ∷ []; counts = counts ∷ [] })
+outcome_of_run file layout budget elf image plan output end counts laid_out executable accepted the_plan rewriting law stopped done =
     let work : Work = work_for elf image budget in
     let same : Interleaves work plan done.events =
     law work plan done.events refl accepted rewriting done.run in
@@ -144,4 +165,5 @@ outcome_of_run file budget elf image plan output end counts executable accepted 
         output = done.output_is ∙ sym same.output;
         stopped = λ i b low phase. stopped work done.events i b done.run phase;
       };
+      laid_out = laid_out;
     }

@@ -1,9 +1,10 @@
 -- Why a command answers as it does, and what `err` is told.
-use Rattle.std.specs.Prelude.{◌≡◌, ℕ, ◌<◌, ◌⊎◌, List, Option, length, Contains, MatchOption}
+use Rattle.std.specs.Prelude.{◌≡◌, ℕ, ◌<◌, ◌⊎◌, List, Option, length, Contains, IfSome, MatchOption}
 use Rattle.dsm_io.specs.Causes.{Rose, Appends, AppendsPrefix}
-use Rattle.command_line.specs.Commands.{Command, reads}
-use Rattle.commands.specs.Headline.{AreTold, PrintsPrefix}
-use Rattle.commands.specs.Text.{cannot_read, too_long, cannot_write_output}
+use Rattle.command_line.specs.Commands.{Command, reads, writes}
+use Rattle.commands.specs.Inputs.{Inputs}
+use Rattle.commands.specs.Headline.{AreTold, IsWritten, PrintsPrefix}
+use Rattle.commands.specs.Text.{cannot_read, cannot_write, too_long, cannot_write_output}
 
 -- the longest file that is read, in bytes
 abbrev pub file_limit : ℕ
@@ -26,14 +27,19 @@ Tells before now line =
     ⊎ ((AppendsPrefix before.taken now.taken line × Rose before.faults now.faults)
     ⊎ ((now.taken ≡ before.taken) × Rose before.refusals now.refusals))
 
--- what contracts see of files: what each name holds, where that is told, and how many reads of it
--- failed
+-- what contracts see of files: what each name holds, where that is told, and how many reads and
+-- writes of it failed
 pub record FilesState : Type 0 where
   pub held : List ℕ → Option (List ℕ)
   pub failed_reads : List ℕ → ℕ
+  pub failed_writes : List ℕ → ℕ
 
-abbrev pub files_of : (List ℕ → Option (List ℕ)) → (List ℕ → ℕ) → FilesState
-files_of held failed_reads = record { held = held; failed_reads = failed_reads }
+abbrev pub files_of : (List ℕ → Option (List ℕ)) → (List ℕ → ℕ) → (List ℕ → ℕ) → FilesState
+files_of held failed_reads failed_writes = record {
+  held = held;
+  failed_reads = failed_reads;
+  failed_writes = failed_writes;
+}
 
 -- the file is longer than the limit; where its content isn't told, a read of it failed
 abbrev pub IsTooLong : FilesState → FilesState → List ℕ → Type 0
@@ -48,6 +54,20 @@ IsReadFault command before now Told =
     × ((Rose (before.failed_reads name) (now.failed_reads name) × Told (cannot_read name))
     ⊎ (IsTooLong before now name × Told (too_long name)))
 
+-- the file that the command writes couldn't be written, and the line says so
+abbrev pub IsWriteFault : Command → FilesState → FilesState → (List ℕ → Type 0) → Type 0
+IsWriteFault command before now Told =
+    (name : List ℕ) × Contains (writes command) name
+    × Rose (before.failed_writes name) (now.failed_writes name) × Told (cannot_write name)
+
+-- a file that the command writes holds what it held before, or what the command writes; or it
+-- couldn't be written
+abbrev pub IsLeft : Command → Inputs → FilesState → FilesState → List ℕ → Type 0
+IsLeft command inputs before now name =
+    (now.held name ≡ before.held name)
+    ⊎ (IfSome (now.held name) (IsWritten command inputs)
+    ⊎ Rose (before.failed_writes name) (now.failed_writes name))
+
 -- the output failed where a text that the command asks for was being put
 abbrev pub IsPutFault : Command → FilesState → SinkState → SinkState → Type 0
 IsPutFault command files before now =
@@ -60,5 +80,6 @@ IsPutFault command files before now =
 abbrev pub IsFault : Command → FilesState → FilesState → SinkState → SinkState
     → (List ℕ → Type 0) → Type 0
 IsFault command before now out_before out Told =
-    ((out.taken ≡ out_before.taken) × IsReadFault command before now Told)
+    ((out.taken ≡ out_before.taken)
+    × (IsReadFault command before now Told ⊎ IsWriteFault command before now Told))
     ⊎ (IsPutFault command before out_before out × Told cannot_write_output)

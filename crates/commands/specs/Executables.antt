@@ -1,21 +1,26 @@
--- The executable in a file, and how a file is refused. The form of a file is spoken of here alone.
+-- The executable in a file, and how a file is refused.
 use Rattle.std.specs.Prelude.{◌≡◌, ℕ, ◌⊎◌, List}
 use Rattle.elf32_read.specs.Elf.{Elf}
-use Rattle.elf32_read.specs.FirstForm.{HasFirstForm}
+use Rattle.elf32_read.specs.Reading.{elf_of}
+use Rattle.elf32_read.specs.Refusals.{IsReadable}
+use Rattle.elf32_read.specs.Refusals as files
+use Rattle.elf32_read.specs.declared.refused.FileRule.{FileRule}
 use Rattle.exec_map.specs.Contents.{program_of}
 use Rattle.exec_map.specs.Refusals.{IsAcceptable, IsRefusedBy}
 use Rattle.exec_map.specs.declared.refused.ProgramRule.{ProgramRule}
-use Rattle.rewriter.specs.SpillPlan.{IsTooLarge}
-use Rattle.command_line.specs.Commands.{Command, Run, Listing, One}
-use Rattle.commands.specs.Text.{not_yet, program_line, too_many_words}
+use Rattle.rewriter.specs.TooLarge.{IsTooLarge}
+use Rattle.command_line.specs.Commands.{Command, Rewrite, Run, Listing, One}
+use Rattle.commands.specs.Inputs.{Inputs}
+use Rattle.commands.specs.Text.{file_line, program_line, too_many_words}
 
 -- the file is read as this executable
 abbrev pub ReadsAs : List ℕ → Elf → Type 0
-ReadsAs file elf = HasFirstForm file elf
+ReadsAs file elf = IsReadable file × (elf ≡ elf_of file)
 
--- the file is read as no executable, for this reason
-abbrev pub IsUnread : List ℕ → Type 0
-IsUnread file = (elf : Elf) → HasFirstForm file elf → ⊥
+-- the file is read as no executable, and this line says why
+abbrev pub IsUnread : List ℕ → List ℕ → Type 0
+IsUnread file line =
+    (rule : FileRule) × files.IsRefusedBy file rule × (line ≡ file_line rule)
 
 -- the file is read as this executable, and the executable is accepted
 pub record IsProgramOf (file : List ℕ) (elf : Elf) : Type 0 where
@@ -30,7 +35,7 @@ IsRejection elf line =
 -- the file is read as no executable, or its executable isn't accepted, and this line says why
 abbrev pub IsUnaccepted : List ℕ → List ℕ → Type 0
 IsUnaccepted file line =
-    (IsUnread file × (line ≡ not_yet)) ⊎ ((elf : Elf) × ReadsAs file elf × IsRejection elf line)
+    IsUnread file line ⊎ ((elf : Elf) × ReadsAs file elf × IsRejection elf line)
 
 -- or it is accepted, and the rewritten code is too large
 abbrev pub IsUnrewritten : List ℕ → List ℕ → Type 0
@@ -39,8 +44,9 @@ IsUnrewritten file line =
     ⊎ ((elf : Elf) × (words : ℕ) × IsProgramOf file elf × IsTooLarge (program_of elf) words
     × (line ≡ too_many_words words))
 
--- a command's file is refused first with this line
-abbrev pub IsRefused : Command → List ℕ → List ℕ → Type 0
-IsRefused (Run name budget) file line = IsUnrewritten file line
-IsRefused (Listing name) file line = IsUnaccepted file line
-IsRefused (One name nodes order budget) file line = IsUnaccepted file line
+-- a command's executable is refused first with this line
+abbrev pub IsRefused : Command → Inputs → List ℕ → Type 0
+IsRefused (Rewrite input output) inputs line = IsUnrewritten inputs.executable line
+IsRefused (Run name budget layout) inputs line = IsUnrewritten inputs.executable line
+IsRefused (Listing name) inputs line = IsUnaccepted inputs.executable line
+IsRefused (One name nodes order budget) inputs line = IsUnaccepted inputs.executable line

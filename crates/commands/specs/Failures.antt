@@ -1,30 +1,37 @@
 -- Helps the code alone: failures of commands, and what each says of the files and the output.
-use Rattle.std.specs.Prelude.{◌≡◌, ℕ, ◌≤◌, ◌⊎◌, List, Option, Some}
+use Rattle.std.specs.Prelude.{◌≡◌, ℕ, ◌≤◌, ◌⊎◌, List, Option, Some, Contains, IfSome}
 use Rattle.rv32_program.specs.declared.End.{End}
 use Rattle.node_machine.specs.declared.NodeCounts.{NodeCounts}
 use Rattle.node_machine.specs.Node.{Work, end_of}
 use Rattle.shared_sim.specs.CoreRun.{Event, IsCoreRun, opening_core, after, printed_by}
 use Rattle.dsm_io.specs.Causes.{Rose, Appends, AppendsPrefix}
 use Rattle.commands.specs.declared.failure.Failure.{Failure}
-use Rattle.commands.specs.declared.failure.Failure.TheVariants.{Input, Refused, Output, OutOfMemory}
-use Rattle.commands.specs.Text.{text_of, cannot_read, too_long, cannot_write_output, out_of_memory}
+use Rattle.commands.specs.declared.failure.Failure.TheVariants.{Input, NotWritten, Refused, Layout, Output, OutOfMemory}
+use Rattle.commands.specs.Text.{text_of, cannot_read, cannot_write, too_long, cannot_write_output, out_of_memory}
 use Rattle.commands.specs.Outcomes.{Outcome}
 use Rattle.commands.specs.Outcomes as outcomes
-use Rattle.command_line.specs.Commands.{Command}
-use Rattle.commands.specs.Answers.{SinkState, FilesState, IsTooLong, IsReadFault, IsPutFault}
-use Rattle.commands.specs.Executables.{IsRefused}
-use Rattle.commands.specs.Headline.{AreTold, Prints, PrintsPrefix, input_of}
+use Rattle.command_line.specs.Commands.{Command, reads, writes}
+use Rattle.commands.specs.Answers.{SinkState, FilesState, IsTooLong, IsReadFault, IsWriteFault, IsPutFault, IsLeft}
+use Rattle.commands.specs.Executables.{IsRefused, IsUnrewritten}
+use Rattle.commands.specs.Headline.{AreTold, IsText, IsOutcomeOf, IsTextWith, IsWritten, Prints, PrintsPrefix}
+use Rattle.commands.specs.Inputs.{Inputs, inputs_of}
+use Rattle.commands.specs.Layouts.{IsFaultyLayout, IsBadLayout, IsLayoutRefused}
+use Rattle.elf32_read.specs.Elf.{Elf}
 
 -- the status and the line of a failure
 abbrev pub status_of : Failure → ℕ
 status_of (Input line) = 3
+status_of (NotWritten line) = 3
 status_of (Refused line) = 4
+status_of (Layout line) = 6
 status_of Output = 3
 status_of OutOfMemory = 5
 
 abbrev pub line_of : Failure → List ℕ
 line_of (Input line) = line.items
+line_of (NotWritten line) = line.items
 line_of (Refused line) = line.items
+line_of (Layout line) = line.items
 line_of Output = cannot_write_output
 line_of OutOfMemory = out_of_memory
 
@@ -33,21 +40,33 @@ abbrev pub IsReadFailure : FilesState → FilesState → List ℕ → Failure �
 IsReadFailure before now name (Input line) =
     (Rose (before.failed_reads name) (now.failed_reads name) × (line.items ≡ cannot_read name))
     ⊎ (IsTooLong before now name × (line.items ≡ too_long name))
+IsReadFailure before now name (NotWritten line) = ⊥
 IsReadFailure before now name (Refused line) = ⊥
+IsReadFailure before now name (Layout line) = ⊥
 IsReadFailure before now name Output = ⊥
 IsReadFailure before now name OutOfMemory = Unit {0}
 
 -- a failure for this reason, which a line tells, or because it is out of memory
 abbrev pub IsRefusal : (List ℕ → Type 0) → Failure → Type 0
 IsRefusal Reason (Input line) = ⊥
+IsRefusal Reason (NotWritten line) = ⊥
 IsRefusal Reason (Refused line) = Reason line.items
+IsRefusal Reason (Layout line) = ⊥
 IsRefusal Reason Output = ⊥
 IsRefusal Reason OutOfMemory = Unit {0}
+
+-- why a layout isn't used
+abbrev pub IsLayoutFailure : Elf → Option (List ℕ) → Failure → Type 0
+IsLayoutFailure elf layout (Layout line) = IsFaultyLayout elf layout line.items
+IsLayoutFailure elf layout OutOfMemory = Unit {0}
+IsLayoutFailure elf layout f = ⊥
 
 -- why a piece wasn't put whole
 abbrev pub IsPutFailure : SinkState → SinkState → List ℕ → Failure → Type 0
 IsPutFailure before now piece (Input line) = ⊥
+IsPutFailure before now piece (NotWritten line) = ⊥
 IsPutFailure before now piece (Refused line) = ⊥
+IsPutFailure before now piece (Layout line) = ⊥
 IsPutFailure before now piece Output =
     Rose before.faults now.faults × AppendsPrefix before.taken now.taken piece
 IsPutFailure before now piece OutOfMemory = now.taken ≡ before.taken
@@ -61,8 +80,10 @@ PutsPrefix IsTextFor before now =
 abbrev pub FailsAs : (List ℕ → ℕ → Type 0) → (List ℕ → Type 0) → SinkState → SinkState
     → Failure → Type 0
 FailsAs IsTextFor Reason before now (Input line) = ⊥
+FailsAs IsTextFor Reason before now (NotWritten line) = ⊥
 FailsAs IsTextFor Reason before now (Refused line) =
     Reason line.items × (now.taken ≡ before.taken)
+FailsAs IsTextFor Reason before now (Layout line) = ⊥
 FailsAs IsTextFor Reason before now Output =
     Rose before.faults now.faults × PutsPrefix IsTextFor before.taken now.taken
 FailsAs IsTextFor Reason before now OutOfMemory =
@@ -97,10 +118,16 @@ pub record IsFinished (work : Work) (output : List ℕ) (end : End) (counts : No
 abbrev pub IsFailure : Command → FilesState → FilesState → SinkState → SinkState → Failure → Type 0
 IsFailure command files files_now before now (Input line) =
     (now.taken ≡ before.taken) × IsReadFault command files files_now (λ l. line.items ≡ l)
+IsFailure command files files_now before now (NotWritten line) =
+    (now.taken ≡ before.taken) × IsWriteFault command files files_now (λ l. line.items ≡ l)
 IsFailure command files files_now before now (Refused line) =
     (now.taken ≡ before.taken)
     × ((contents : List ℕ → List ℕ) → AreTold command files.held contents
-    → IsRefused command (contents (input_of command)) line.items)
+    → IsRefused command (inputs_of command contents) line.items)
+IsFailure command files files_now before now (Layout line) =
+    (now.taken ≡ before.taken)
+    × ((contents : List ℕ → List ℕ) → AreTold command files.held contents
+    → IsLayoutRefused command (inputs_of command contents) line.items)
 IsFailure command files files_now before now Output = IsPutFault command files before now
 IsFailure command files files_now before now OutOfMemory =
     (contents : List ℕ → List ℕ) → AreTold command files.held contents
@@ -116,3 +143,62 @@ pub record IsSuccess (command : Command) (files : FilesState) (before now : Sink
 -- a failure that isn't a refusal
 abbrev pub IsNoRefusal : Failure → Type 0
 IsNoRefusal f = (status_of f ≡ 3) ⊎ (status_of f ≡ 5)
+
+-- why a file wasn't written, and what it holds then
+abbrev pub IsWriteFailure : FilesState → FilesState → List ℕ → Failure → Type 0
+IsWriteFailure before now name (NotWritten line) =
+    Rose (before.failed_writes name) (now.failed_writes name) × (line.items ≡ cannot_write name)
+IsWriteFailure before now name OutOfMemory =
+    (now.held name ≡ before.held name)
+    ⊎ Rose (before.failed_writes name) (now.failed_writes name)
+IsWriteFailure before now name f = ⊥
+
+-- why a rewritten file wasn't written
+abbrev pub IsRewriteFailure : List ℕ → FilesState → FilesState → List ℕ → Failure → Type 0
+IsRewriteFailure file before now name (Refused line) =
+    IsUnrewritten file line.items × ((n : List ℕ) → now.held n ≡ before.held n)
+IsRewriteFailure file before now name f = IsWriteFailure before now name f
+
+-- how a run fails
+abbrev pub IsRunFailure : Inputs → ℕ → SinkState → SinkState → Failure → Type 0
+IsRunFailure inputs budget before now (Layout line) =
+    IsBadLayout inputs line.items × (now.taken ≡ before.taken)
+IsRunFailure inputs budget before now f =
+    FailsAs (IsTextWith (IsOutcomeOf inputs.executable inputs.layout budget))
+    (IsUnrewritten inputs.executable) before now f
+
+-- how a command fails that reads these files
+abbrev pub IsPerformFailure : Command → Inputs → FilesState → FilesState → SinkState → SinkState
+    → Failure → Type 0
+IsPerformFailure command inputs files files_now before now (NotWritten line) =
+    (now.taken ≡ before.taken) × IsWriteFault command files files_now (λ l. line.items ≡ l)
+IsPerformFailure command inputs files files_now before now (Layout line) =
+    IsLayoutRefused command inputs line.items × (now.taken ≡ before.taken)
+IsPerformFailure command inputs files files_now before now f =
+    FailsAs (IsText command inputs) (IsRefused command inputs) before now f
+
+-- a file that a command reads wasn't read
+abbrev pub IsInputFailure : Command → FilesState → FilesState → Failure → Type 0
+IsInputFailure command before now f =
+    (name : List ℕ) × Contains (reads command) name × IsReadFailure before now name f
+
+-- what was read is what the files are told to have
+abbrev pub AreInputs : Command → (List ℕ → Option (List ℕ)) → Inputs → Type 0
+AreInputs command held inputs =
+    (contents : List ℕ → List ℕ) → AreTold command held contents
+    → inputs ≡ inputs_of command contents
+
+-- the files that a command writes hold what it writes
+abbrev pub AreWritten : Command → Inputs → FilesState → Type 0
+AreWritten command inputs now =
+    (name : List ℕ) → Contains (writes command) name
+    → IfSome (now.held name) (IsWritten command inputs)
+
+abbrev pub AreLeft : Command → Inputs → FilesState → FilesState → Type 0
+AreLeft command inputs before now =
+    (name : List ℕ) → Contains (writes command) name → IsLeft command inputs before now name
+
+-- where a command is refused, no file changes
+abbrev pub AreKept : FilesState → FilesState → Failure → Type 0
+AreKept before now f =
+    (status_of f ≡ 4) ⊎ (status_of f ≡ 6) → (name : List ℕ) → now.held name ≡ before.held name

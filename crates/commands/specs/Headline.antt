@@ -5,20 +5,25 @@ use Rattle.elf32_read.specs.Elf.{Elf}
 use Rattle.exec_map.specs.Contents.{program_of, is_code_word, word_of}
 use Rattle.rv32_text.specs.Listing.{line_of}
 use Rattle.templates.specs.declared.plans.PlanEntry.{PlanEntry}
-use Rattle.jump_map.specs.Image.{IsRewriting}
-use Rattle.rewriter.specs.SpillPlan.{IsSpillPlan}
+use Rattle.check_plan.specs.CheckPlan.{IsCheckPlan}
+use Rattle.jump_map.specs.Image.{Cell, IsRewriting}
+use Rattle.elf32_write.specs.Layout.{file_of}
+use Rattle.rewriter.specs.RewrittenFile.{rewritten_elf}
 use Rattle.node_machine.specs.Node.{Work}
 use Rattle.shared_sim.specs.CoreRun.{Event}
 use Rattle.one_memory.specs.ByOrder.{IsRunByOrder}
-use Rattle.command_line.specs.Commands.{Command, Run, Listing, One, reads}
+use Rattle.command_line.specs.Commands.{Command, Rewrite, Run, Listing, One, reads}
 use Rattle.dsm_io.specs.Causes.{Appends, AppendsPrefix}
 use Rattle.commands.specs.Executables.{IsProgramOf}
+use Rattle.commands.specs.Inputs.{Inputs, inputs_of}
+use Rattle.commands.specs.Layouts.{HasLayout}
 use Rattle.commands.specs.Outcomes.{Outcome, status_of, IsWholeRun}
 use Rattle.commands.specs.Text.{text_of}
 
 -- the outcome of a run of the file's rewritten code on one node: the code is the rewriting by the
--- plan of the program
-pub record IsOutcomeOf (file : List ℕ) (budget : ℕ) (outcome : Outcome) : Type 0 where
+-- plan of the program; and a layout that is given is one for the executable
+pub record IsOutcomeOf (file : List ℕ) (layout : Option (List ℕ)) (budget : ℕ) (outcome : Outcome) :
+    Type 0 where
   pub elf : Elf
   pub executable : IsProgramOf file elf
   pub work : Work
@@ -26,10 +31,11 @@ pub record IsOutcomeOf (file : List ℕ) (budget : ℕ) (outcome : Outcome) : Ty
   pub alone : work.nodes ≡ 1
   pub limit : work.budget ≡ budget
   pub plan : List PlanEntry
-  pub the_plan : IsSpillPlan work.program.code plan
+  pub the_plan : IsCheckPlan work.program.code plan
   pub rewriting : IsRewriting work.program plan work.image
   pub events : List Event
   pub whole : IsWholeRun work plan events outcome
+  pub laid_out : HasLayout elf layout
 
 -- the outcome of the original's processors on one memory, by the order of a number; no node counts
 -- anything
@@ -59,6 +65,23 @@ pub record IsListingOf (file text : List ℕ) : Type 0 where
 abbrev pub IsListingText : List ℕ → List ℕ → ℕ → Type 0
 IsListingText file text status = IsListingOf file text × (status ≡ 0)
 
+-- the bytes are the file of the rewritten program of the executable in a file
+pub record IsRewrittenFile (file bytes : List ℕ) : Type 0 where
+  pub elf : Elf
+  pub executable : IsProgramOf file elf
+  pub plan : List PlanEntry
+  pub the_plan : IsCheckPlan (program_of elf).code plan
+  pub image : List Cell
+  pub rewriting : IsRewriting (program_of elf) plan image
+  pub bytes_are : bytes ≡ file_of (rewritten_elf elf image plan)
+
+-- nothing is printed beside the file
+pub record IsRewrittenText (file text : List ℕ) (status : ℕ) : Type 0 where
+  pub bytes : List ℕ
+  pub is : IsRewrittenFile file bytes
+  pub text_is : text ≡ []
+  pub status_is : status ≡ 0
+
 -- the text of an outcome with these facts, and its status
 pub record IsTextWith (Is : Outcome → Type 0) (text : List ℕ) (status : ℕ) : Type 0 where
   pub outcome : Outcome
@@ -66,13 +89,15 @@ pub record IsTextWith (Is : Outcome → Type 0) (text : List ℕ) (status : ℕ)
   pub text_is : text ≡ text_of outcome
   pub status_is : status ≡ status_of outcome
 
--- the text that a command asks for, where the files have these contents, and the status
-abbrev pub IsText : Command → (List ℕ → List ℕ) → List ℕ → ℕ → Type 0
-IsText (Run name budget) contents text status =
-    IsTextWith (IsOutcomeOf (contents name) budget) text status
-IsText (One name nodes order budget) contents text status =
-    IsTextWith (IsOutcomeByOrder (contents name) nodes order budget) text status
-IsText (Listing name) contents text status = IsListingText (contents name) text status
+-- the text that a command asks for, where it reads these files, and the status
+abbrev pub IsText : Command → Inputs → List ℕ → ℕ → Type 0
+IsText (Rewrite input output) inputs text status =
+    IsRewrittenText inputs.executable text status
+IsText (Run name budget layout) inputs text status =
+    IsTextWith (IsOutcomeOf inputs.executable inputs.layout budget) text status
+IsText (One name nodes order budget) inputs text status =
+    IsTextWith (IsOutcomeByOrder inputs.executable nodes order budget) text status
+IsText (Listing name) inputs text status = IsListingText inputs.executable text status
 
 -- each file that the command reads is told to have its content
 abbrev pub AreTold : Command → (List ℕ → Option (List ℕ)) → (List ℕ → List ℕ) → Type 0
@@ -83,7 +108,7 @@ AreTold command held contents =
 pub record Prints (command : Command) (contents : List ℕ → List ℕ)
     (before now : Option (List ℕ)) (status : ℕ) : Type 0 where
   pub text : List ℕ
-  pub is : IsText command contents text status
+  pub is : IsText command (inputs_of command contents) text status
   pub put : Appends before now text
 
 -- a prefix of the text was put
@@ -91,11 +116,10 @@ pub record PrintsPrefix (command : Command) (contents : List ℕ → List ℕ)
     (before now : Option (List ℕ)) : Type 0 where
   pub text : List ℕ
   pub status : ℕ
-  pub is : IsText command contents text status
+  pub is : IsText command (inputs_of command contents) text status
   pub put : AppendsPrefix before now text
 
--- the file that a command reads as an executable
-abbrev pub input_of : Command → List ℕ
-input_of (Run file budget) = file
-input_of (Listing file) = file
-input_of (One file nodes order budget) = file
+-- the bytes that a command writes into its file
+abbrev pub IsWritten : Command → Inputs → List ℕ → Type 0
+IsWritten (Rewrite input output) inputs bytes = IsRewrittenFile inputs.executable bytes
+IsWritten command inputs bytes = ⊥

@@ -1,4 +1,7 @@
 pub mod Text
+pub mod Inputs
+pub mod Layouts
+pub mod Given
 pub mod Outcomes
 pub mod Executables
 pub mod Headline

@@ -7,11 +7,16 @@ use Rattle.rv32_program.specs.declared.Exit.TheVariants.{Code, Ebreak, Illegal, 
 use Rattle.rv32_program.specs.declared.End.{End}
 use Rattle.rv32_program.specs.declared.End.TheVariants.{Exited, Stopped}
 use Rattle.node_machine.specs.declared.NodeCounts.{NodeCounts}
+use Rattle.elf32_read.specs.Refusals as files
+use Rattle.elf32_read.specs.declared.refused.FileRule.{FileRule}
+use Rattle.elf32_read.specs.declared.refused.FileRule.TheVariants.{Short, NotElf, NotElf32, NotExec, NotRiscv, Flags, ProgramTable, SectionTable, Dynamic, SegmentOutside, SegmentSizes}
 use Rattle.exec_map.specs.Refusals.{number_of}
 use Rattle.exec_map.specs.declared.refused.ProgramRule.{ProgramRule}
 use Rattle.exec_map.specs.declared.refused.ProgramRule.TheVariants.{TooHigh, Overlap, WritableCode, NoCode, TooMuch, EntryNotCode, Unsupported, CodeAlign, TooManySegments}
 use Rattle.rv32_program.specs.declared.Class.{Class}
 use Rattle.rv32_program.specs.declared.Class.TheVariants.{Shared}
+use Rattle.block_layout.specs.Text as layouts
+use Rattle.block_layout.specs.declared.refused.Rule.{Rule}
 use Rattle.commands.specs.Outcomes.{Outcome}
 
 -- a word in eight hexadecimal digits, behind 0x
@@ -79,6 +84,9 @@ cannot_read name = codes "shasta: cannot read " ++ (name ++ codes "\n")
 abbrev pub too_long : List ℕ → List ℕ
 too_long name = codes "shasta: " ++ (name ++ codes " is longer than 33554432 bytes\n")
 
+abbrev pub cannot_write : List ℕ → List ℕ
+cannot_write name = codes "shasta: cannot write " ++ (name ++ codes "\n")
+
 abbrev pub cannot_write_output : List ℕ
 cannot_write_output = codes "shasta: cannot write output\n"
 
@@ -95,6 +103,23 @@ refusal number text = refusal_head number ++ (text ++ codes "\n")
 abbrev pub class_name : Class → List ℕ
 class_name Shared = codes "shared"
 class_name c = codes "read-only"
+
+-- a rule that refuses a file: its name, and what it names
+abbrev pub file_rule_text : FileRule → List ℕ
+file_rule_text Short = codes "Short"
+file_rule_text NotElf = codes "NotElf"
+file_rule_text NotElf32 = codes "NotElf32"
+file_rule_text (NotExec kind) = codes "NotExec type " ++ decimal kind
+file_rule_text (NotRiscv machine) = codes "NotRiscv machine " ++ decimal machine
+file_rule_text (Flags value) = codes "Flags " ++ hex8 value
+file_rule_text ProgramTable = codes "ProgramTable"
+file_rule_text SectionTable = codes "SectionTable"
+file_rule_text (Dynamic header) = codes "Dynamic header " ++ decimal header
+file_rule_text (SegmentOutside header) = codes "SegmentOutside header " ++ decimal header
+file_rule_text (SegmentSizes header) = codes "SegmentSizes header " ++ decimal header
+
+abbrev pub file_line : FileRule → List ℕ
+file_line rule = refusal (files.number_of rule) (file_rule_text rule)
 
 -- a rule that refuses a program: its name, and what it names
 abbrev pub rule_text : ProgramRule → List ℕ
@@ -117,5 +142,8 @@ program_line rule = refusal (number_of rule) (rule_text rule)
 abbrev pub too_many_words : ℕ → List ℕ
 too_many_words words = refusal 20 (codes "CodeTooLarge " ++ (decimal words ++ codes " words"))
 
-abbrev pub not_yet : List ℕ
-not_yet = refusal 90 (codes "NotYet")
+-- the line of a rule that refuses a layout, and of the line that breaks it
+abbrev pub layout_line : Rule → ℕ → List ℕ
+layout_line rule line =
+    codes "shasta: layout refused " ++ (decimal (layouts.number_of rule)
+    ++ (codes " at line " ++ (decimal line ++ codes "\n")))

@@ -10,8 +10,12 @@ use std::alloc::AllocError;
 pub enum Failure {
     /// A file couldn't be read, or is too long; the line names it.
     Input(Vec<u8>),
+    /// A file couldn't be written; the line names it.
+    NotWritten(Vec<u8>),
     /// The executable is refused; the line says why.
     Refused(Vec<u8>),
+    /// The layout is refused; the line says where.
+    Layout(Vec<u8>),
     /// The output failed.
     Output,
     OutOfMemory,
@@ -34,9 +38,10 @@ impl Failure {
         ensures value { result ≡ status_of self.now }
     {
         match self {
-            Failure::Input(_) | Failure::Output => 3,
+            Failure::Input(_) | Failure::NotWritten(_) | Failure::Output => 3,
             Failure::Refused(_) => 4,
             Failure::OutOfMemory => 5,
+            Failure::Layout(_) => 6,
         }
     }
 
@@ -45,7 +50,10 @@ impl Failure {
         ensures value { result.now ≡ line_of self.now }
     {
         match self {
-            Failure::Input(line) | Failure::Refused(line) => line,
+            Failure::Input(line)
+            | Failure::NotWritten(line)
+            | Failure::Refused(line)
+            | Failure::Layout(line) => line,
             Failure::Output => b"shasta: cannot write output\n",
             Failure::OutOfMemory => b"shasta: out of memory\n",
         }

@@ -1,33 +1,130 @@
 //! Files that commands read.
 
-ghost use Rattle.std.specs.Prelude.{◌≡◌, ◌⊎◌, ◌<◌, ◌≤◌, ℕ, List, length, IfOk, OnOk, IfErr, IfSome};
+ghost use Rattle.std.specs.Prelude.{◌≡◌, ◌⊎◌, ◌<◌, ◌≤◌, ℕ, List, length, Option, Some, Contains, option_map, IfOk, OnOk, IfErr, IfSome, MatchResult};
+ghost use Rattle.command_line.specs.Commands.{reads};
+ghost use Rattle.command_line.specs.Meaning.{meaning_of};
+ghost use Rattle.commands.specs.Inputs.{input_of as model_input_of, layout_of as model_layout_of};
+ghost use Rattle.commands.specs.Given.{bytes_of, contents_of};
 ghost use Rattle.commands.specs.Text as model;
 ghost use Rattle.commands.specs.Answers.{FilesState, file_limit, files_of};
 ghost use Rattle.commands.specs.Executables.{ReadsAs, IsUnread, IsRejection};
-ghost use Rattle.commands.specs.Failures.{IsReadFailure, IsRefusal};
+ghost use Rattle.commands.specs.Failures.{AreInputs, IsInputFailure, IsNoRefusal, IsReadFailure, IsRefusal};
 ghost use Rattle.exec_map.specs.Contents.{program_of as model_program_of};
 ghost use Rattle.exec_map.specs.Refusals.{IsAcceptable};
 ghost use Rattle.rv32_program.specs.Program.{IsAccepted};
 
 use crate::failure::Failure;
-use crate::refusal::{not_yet, program_line};
+use crate::refusal::{file_line, program_line};
+use command_line::Command;
 use dsm_io::{FileError, Files};
 use elf32_read::{Elf, ElfRefused, read_elf};
 use exec_map::{Program, ProgramRefused, accept};
 use std::alloc::{AllocError, Global};
 
+/// The files that a command reads.
+#[derive(Drop)]
+pub struct InputFiles {
+    executable: Vec<u8>,
+    layout: Option<Vec<u8>>,
+}
+
+/// The bytes of the files that a command reads.
+#[derive(Clone, Copy)]
+pub struct Inputs<'a> {
+    pub executable: &'a [u8],
+    /// None where the command names no layout.
+    pub layout: Option<&'a [u8]>,
+}
+
+impl InputFiles {
+    /// Their bytes.
+    pub fn lend(&self) -> Inputs<'_>
+        ensures value { bytes_of result ≡ contents_of self.now }
+    {
+        Inputs {
+            executable: &self.executable,
+            layout: match &self.layout {
+                Some(text) => Some(text),
+                None => None,
+            },
+        }
+    }
+}
+
+/// The name of the file that a command reads as an executable.
+fn input_of<'a>(command: &Command<'a>) -> &'a str
+    ensures { result.now ≡ model_input_of (meaning_of command.now) }
+{
+    match command {
+        Command::Rewrite { input, output: _ } => input,
+        Command::Run {
+            file,
+            budget: _,
+            layout: _,
+        } => file,
+        Command::List { file } => file,
+        Command::One {
+            file,
+            nodes: _,
+            order: _,
+            budget: _,
+        } => file,
+    }
+}
+
+/// The name of the file that a command reads as a layout.
+fn layout_of<'a>(command: &Command<'a>) -> Option<&'a str>
+    ensures { option_map (λ name. name.now) result ≡ model_layout_of (meaning_of command.now) }
+{
+    match command {
+        Command::Run {
+            file: _,
+            budget: _,
+            layout,
+        } => *layout,
+        Command::Rewrite { .. } | Command::List { .. } | Command::One { .. } => None,
+    }
+}
+
+/// Reads the files of a command, the executable first.
+pub fn read_inputs<F: Files>(
+    alloc: Global,
+    command: &Command<'_>,
+    files: &mut F,
+) -> Result<InputFiles, Failure>
+    ensures ok { IfOk result (λ r.
+        AreInputs (meaning_of command.now) (F.held files.old) (contents_of r)) }
+    ensures failure { IfErr result (IsInputFailure (meaning_of command.now)
+        (files_of (F.held files.old) (F.failed_reads files.old) (F.failed_writes files.old))
+        (files_of (F.held files.new) (F.failed_reads files.new) (F.failed_writes files.new))) }
+    ensures longer { (name content : List ℕ) → Contains (reads (meaning_of command.now)) name
+        → F.held files.old name ≡ Some content → file_limit < length content
+        → MatchResult result (λ r. ⊥) IsNoRefusal }
+    ensures contents { (n : List ℕ) → F.held files.new n ≡ F.held files.old n }
+    ensures writes { (n : List ℕ) → F.failed_writes files.old n ≤ F.failed_writes files.new n }
+{
+    let executable = read_file(alloc, files, input_of(command))?;
+    let layout = match layout_of(command) {
+        Some(name) => Some(read_file(alloc, files, name)?),
+        None => None,
+    };
+    Ok(InputFiles { executable, layout })
+}
+
 /// The longest file that is read, in bytes.
 const FILE_LIMIT: u64 = 33_554_432;
 
 /// The bytes of a file.
-pub fn read_file<F: Files>(alloc: Global, files: &mut F, name: &str) -> Result<Vec<u8>, Failure>
+fn read_file<F: Files>(alloc: Global, files: &mut F, name: &str) -> Result<Vec<u8>, Failure>
     ensures ok { IfOk result (λ bytes.
         IfSome (F.held files.old name.now) (λ content. bytes.items ≡ content)) }
     ensures fits { IfOk result (λ bytes. length bytes.items ≤ file_limit) }
     ensures failure { IfErr result (λ f. IsReadFailure
-        (files_of (F.held files.old) (F.failed_reads files.old))
-        (files_of (F.held files.new) (F.failed_reads files.new)) name.now f) }
+        (files_of (F.held files.old) (F.failed_reads files.old) (F.failed_writes files.old))
+        (files_of (F.held files.new) (F.failed_reads files.new) (F.failed_writes files.new)) name.now f) }
     ensures contents { (n : List ℕ) → F.held files.new n ≡ F.held files.old n }
+    ensures reads { (n : List ℕ) → F.failed_reads files.old n ≤ F.failed_reads files.new n }
+    ensures writes { (n : List ℕ) → F.failed_writes files.old n ≤ F.failed_writes files.new n }
 {
     match files.read(alloc, name, FILE_LIMIT) {
         Ok(bytes) => Ok(bytes),
@@ -62,12 +159,11 @@ fn too_long(alloc: Global, name: &str) -> Result<Vec<u8>, AllocError>
 /// The executable in a file.
 pub fn elf_of(alloc: Global, file: &[u8]) -> Result<Elf<'_>, Failure>
     ensures ok { IfOk result (λ elf. ReadsAs file.now elf) }
-    ensures refused { IfErr result
-        (IsRefusal (λ line. (line ≡ model.not_yet) × IsUnread file.now)) }
+    ensures refused { IfErr result (IsRefusal (IsUnread file.now)) }
 {
     match read_elf(alloc, file) {
         Ok(elf) => Ok(elf),
-        Err(ElfRefused::NotYet) => Err(Failure::Refused(not_yet(alloc)?)),
+        Err(ElfRefused::Broken(rule)) => Err(Failure::Refused(file_line(alloc, rule)?)),
         Err(ElfRefused::OutOfMemory) => Err(Failure::OutOfMemory),
     }
 }

@@ -8,6 +8,7 @@ mod one;
 mod outcome;
 mod output;
 mod refusal;
+mod rewrite;
 mod run;
 mod text;
 mod top;

@@ -1,19 +1,22 @@
-//! The lines that say why an executable is refused.
+//! The lines that say why an executable or a layout is refused.
 
 ghost use Rattle.std.specs.Prelude.{◌≡◌, ◌++◌, IfOk, OnOk};
 ghost use Rattle.std.specs.Fmt.{decimal};
 ghost use Rattle.commands.specs.Text as model;
 
 use crate::text::{push_address, push_number};
+use block_layout::Rule;
+use elf32_read::FileRule;
 use exec_map::{Class, ProgramRule};
 use std::alloc::{AllocError, Global};
 
-/// The line of a file that has another form than is read as yet.
-pub fn not_yet(alloc: Global) -> Result<Vec<u8>, AllocError>
-    ensures { IfOk result (λ line. line.items ≡ model.not_yet) }
+/// The line of a rule that refuses a file.
+pub fn file_line(alloc: Global, rule: FileRule) -> Result<Vec<u8>, AllocError>
+    ensures { IfOk result (λ line. line.items ≡ model.file_line rule) }
 {
-    let mut line = begin(alloc, 90)?;
-    line.extend_from_slice(b"NotYet\n")?;
+    let mut line = begin(alloc, rule.number())?;
+    push_file_rule(&mut line, rule)?;
+    line.extend_from_slice(b"\n")?;
     Ok(line)
 }
 
@@ -38,6 +41,19 @@ pub fn too_many_words(alloc: Global, words: u64) -> Result<Vec<u8>, AllocError>
     Ok(line)
 }
 
+/// The line of a rule that refuses a layout, and of the line that breaks it.
+pub fn layout_line(alloc: Global, rule: Rule, number: usize) -> Result<Vec<u8>, AllocError>
+    ensures { IfOk result (λ line. line.items ≡ model.layout_line rule number) }
+{
+    let mut line = Vec::new(alloc);
+    line.extend_from_slice(b"shasta: layout refused ")?;
+    push_number(&mut line, u64::from(rule.number()))?;
+    line.extend_from_slice(b" at line ")?;
+    push_number(&mut line, number as u64)?;
+    line.extend_from_slice(b"\n")?;
+    Ok(line)
+}
+
 /// What each line begins with: that the executable is refused, and the number.
 fn begin(alloc: Global, number: u8) -> Result<Vec<u8>, AllocError>
     ensures { IfOk result (λ line. line.items ≡ model.refusal_head number) }
@@ -49,7 +65,32 @@ fn begin(alloc: Global, number: u8) -> Result<Vec<u8>, AllocError>
     Ok(line)
 }
 
-/// Appends a rule's name, and what it names.
+/// Appends the name of a rule that refuses a file, and what it names.
+fn push_file_rule(line: &mut Vec<u8>, rule: FileRule) -> Result<(), AllocError>
+    ensures { OnOk result (line.new.items ≡ line.old.items ++ model.file_rule_text rule) }
+{
+    match rule {
+        FileRule::Short => push_name(line, b"Short"),
+        FileRule::NotElf => push_name(line, b"NotElf"),
+        FileRule::NotElf32 => push_name(line, b"NotElf32"),
+        FileRule::NotExec { kind } => push_index(line, b"NotExec type ", usize::from(kind)),
+        FileRule::NotRiscv { machine } => {
+            push_index(line, b"NotRiscv machine ", usize::from(machine))
+        }
+        FileRule::Flags { value } => push_place(line, b"Flags ", value),
+        FileRule::ProgramTable => push_name(line, b"ProgramTable"),
+        FileRule::SectionTable => push_name(line, b"SectionTable"),
+        FileRule::Dynamic { header } => push_index(line, b"Dynamic header ", usize::from(header)),
+        FileRule::SegmentOutside { header } => {
+            push_index(line, b"SegmentOutside header ", usize::from(header))
+        }
+        FileRule::SegmentSizes { header } => {
+            push_index(line, b"SegmentSizes header ", usize::from(header))
+        }
+    }
+}
+
+/// Appends the name of a rule that refuses a program, and what it names.
 fn push_rule(line: &mut Vec<u8>, rule: ProgramRule) -> Result<(), AllocError>
     ensures { OnOk result (line.new.items ≡ line.old.items ++ model.rule_text rule) }
 {
@@ -63,10 +104,7 @@ fn push_rule(line: &mut Vec<u8>, rule: ProgramRule) -> Result<(), AllocError>
         ProgramRule::WritableCode { segment } => {
             push_index(line, b"WritableCode segment ", segment)
         }
-        ProgramRule::NoCode => {
-            line.extend_from_slice(b"NoCode")?;
-            Ok(())
-        }
+        ProgramRule::NoCode => push_name(line, b"NoCode"),
         ProgramRule::TooMuch { class } => {
             line.extend_from_slice(b"TooMuch ")?;
             line.extend_from_slice(class_name(class))?;
@@ -85,6 +123,14 @@ fn push_rule(line: &mut Vec<u8>, rule: ProgramRule) -> Result<(), AllocError>
             Ok(())
         }
     }
+}
+
+/// Appends a name.
+fn push_name(line: &mut Vec<u8>, name: &[u8]) -> Result<(), AllocError>
+    ensures { OnOk result (line.new.items ≡ line.old.items ++ name.now) }
+{
+    line.extend_from_slice(name)?;
+    Ok(())
 }
 
 /// Appends a name and a number.

@@ -1,17 +1,19 @@
 //! `run`: the executable's rewritten code on one node.
 
-ghost use Rattle.std.specs.Prelude.{◌≡◌, ◌<◌, ◌≤◌, ◌++◌, ℕ, IfOk, IfErr, OnOk};
+ghost use Rattle.std.specs.Prelude.{◌≡◌, ◌<◌, ◌≤◌, ◌++◌, ℕ, option_map, IfOk, IfErr, OnOk};
 ghost use Rattle.std.specs.Option.{option_to_list};
 ghost use Rattle.exec_map.specs.Contents.{program_of as meaning_of};
 ghost use Rattle.commands.specs.Answers.{sink_of};
 ghost use Rattle.commands.specs.Headline.{IsTextWith, IsOutcomeOf};
-ghost use Rattle.commands.specs.Executables.{IsUnrewritten};
-ghost use Rattle.commands.specs.Failures.{Puts, FailsAs, IsFinished};
+ghost use Rattle.commands.specs.Failures.{Puts, IsFinished, IsLayoutFailure, IsRunFailure};
+ghost use Rattle.commands.specs.Given.{bytes_of};
+ghost use Rattle.commands.specs.Layouts.{HasLayout};
 
 use crate::failure::Failure;
-use crate::input::{elf_of, program_of};
+use crate::input::{Inputs, elf_of, program_of};
 use crate::outcome::put_outcome;
-use crate::refusal::too_many_words;
+use crate::refusal::{layout_line, too_many_words};
+use block_layout::{LayoutRefused, read_layout};
 use dsm_io::Sink;
 use exec_map::{End, Program};
 use jump_map::{Image, ImageRefused};
@@ -29,16 +31,21 @@ struct Finished {
     counts: NodeCounts,
 }
 
-/// Runs the rewritten code of the executable in a file, and puts the text of the outcome.
-pub fn run<O: Sink>(alloc: Global, file: &[u8], budget: Budget, out: &mut O) -> Result<u8, Failure>
-    ensures ok { IfOk result (λ status.
-        Puts (IsTextWith (IsOutcomeOf file.now budget)) status (O.taken out.old) (O.taken out.new)) }
-    ensures failure { IfErr result (FailsAs (IsTextWith (IsOutcomeOf file.now budget))
-        (IsUnrewritten file.now)
+/// Runs the rewritten code of the executable among these files, and puts the text of the outcome.
+pub fn run<O: Sink>(
+    alloc: Global,
+    inputs: &Inputs<'_>,
+    budget: Budget,
+    out: &mut O,
+) -> Result<u8, Failure>
+    ensures ok { IfOk result (λ status. Puts (IsTextWith
+        (IsOutcomeOf (bytes_of inputs.now).executable (bytes_of inputs.now).layout budget))
+        status (O.taken out.old) (O.taken out.new)) }
+    ensures failure { IfErr result (IsRunFailure (bytes_of inputs.now) budget
         (sink_of (O.taken out.old) (O.faults out.old) (O.refusals out.old))
         (sink_of (O.taken out.new) (O.faults out.new) (O.refusals out.new))) }
 {
-    let elf = elf_of(alloc, file)?;
+    let elf = elf_of(alloc, inputs.executable)?;
     let program = program_of(alloc, &elf)?;
     let rewritten = match rewrite(alloc, &program) {
         Ok(rewritten) => rewritten,
@@ -47,6 +54,7 @@ pub fn run<O: Sink>(alloc: Global, file: &[u8], budget: Budget, out: &mut O) -> 
         }
         Err(ImageRefused::OutOfMemory) => return Err(Failure::OutOfMemory),
     };
+    judge_layout(alloc, &program, inputs.layout)?;
     interleaving_law();
     let finished = execute(alloc, &program, rewritten.image(), budget)?;
     put_outcome(
@@ -56,6 +64,25 @@ pub fn run<O: Sink>(alloc: Global, file: &[u8], budget: Budget, out: &mut O) -> 
         &[finished.counts],
         out,
     )
+}
+
+/// Judges the text of the layout for one node, where there is one.
+fn judge_layout(alloc: Global, program: &Program<'_>, layout: Option<&[u8]>) -> Result<(), Failure>
+    ensures ok { OnOk result (HasLayout program.now (option_map (λ text. text.now) layout.entry)) }
+    ensures failure { IfErr result
+        (IsLayoutFailure program.now (option_map (λ text. text.now) layout.entry)) }
+{
+    let Some(text) = layout else {
+        return Ok(());
+    };
+    let ranges = program.shared_ranges(alloc)?;
+    match read_layout(alloc, text, &ranges, 1) {
+        Ok(_) => Ok(()),
+        Err(LayoutRefused::Broken { rule, line }) => {
+            Err(Failure::Layout(layout_line(alloc, rule, line)?))
+        }
+        Err(LayoutRefused::OutOfMemory) => Err(Failure::OutOfMemory),
+    }
 }
 
 /// Executes an image to its end.
@@ -80,7 +107,7 @@ fn execute(
                 counts,
             });
         }
-        let turn = node.exec();
+        let turn = node.exec_on();
         push_printed(&mut output, turn)?;
     }
     let counts = node.counts();

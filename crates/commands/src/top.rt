@@ -1,19 +1,23 @@
 //! The top call.
 
 ghost use Rattle.std.specs.Prelude.{◌≡◌, ◌≢◌, ◌≤◌, ◌⊎◌, ◌<◌, ℕ, List, Option, Some, length, Contains, IfOk, IfErr, MatchResult};
-ghost use Rattle.command_line.specs.Commands.{Command as Asked, reads};
+ghost use Rattle.command_line.specs.Commands.{Command as Asked, reads, writes};
 ghost use Rattle.command_line.specs.Asks.{Asks};
 ghost use Rattle.command_line.specs.Meaning.{meaning_of};
-ghost use Rattle.commands.specs.Headline.{AreTold, IsText, Prints, PrintsPrefix, input_of};
-ghost use Rattle.commands.specs.Failures.{IsSuccess, IsFailure, IsNoRefusal, Puts, FailsAs};
+ghost use Rattle.commands.specs.Headline.{AreTold, IsText, Prints, PrintsPrefix};
+ghost use Rattle.commands.specs.Inputs.{inputs_of};
+ghost use Rattle.commands.specs.Given.{bytes_of};
+ghost use Rattle.commands.specs.Layouts.{IsLayoutRefused};
+ghost use Rattle.commands.specs.Failures.{IsSuccess, IsFailure, IsPerformFailure, IsNoRefusal, Puts, AreKept, AreLeft, AreWritten};
 ghost use Rattle.commands.specs.Executables.{IsRefused};
 ghost use Rattle.commands.specs.Answers.{Tells, IsFault, file_limit, files_of, sink_of};
 ghost use Rattle.commands.specs.Text.{usage, out_of_memory};
 
 use crate::failure::Failure;
-use crate::input::read_file;
+use crate::input::{Inputs, read_inputs};
 use crate::list::list;
 use crate::one::one;
+use crate::rewrite::rewrite_into;
 use crate::run::run;
 use crate::text::USAGE;
 use command_line::{Command, command_of};
@@ -22,7 +26,8 @@ use std::alloc::Global;
 
 /// Does what the words ask for, and answers the status: 0 where every processor ended by itself with
 /// code 0, or none runs; 1 where some processor ended otherwise; 2 for a faulty command line; 3 where
-/// a file or the output failed; 4 where the executable is refused; 5 where it was out of memory.
+/// a file or the output failed; 4 where the executable is refused; 5 where it was out of memory; 6
+/// where the layout is refused.
 pub fn shasta<F: Files, O: Sink, E: Sink, G: Gate + Sync>(
     alloc: Global,
     words: &[Text],
@@ -31,11 +36,12 @@ pub fn shasta<F: Files, O: Sink, E: Sink, G: Gate + Sync>(
     err: &mut E,
     _gate: &G,
 ) -> u8
-    ensures range { result ≤ 5 }
+    ensures range { result ≤ 6 }
 
-    // Status 2 is for exactly the words that ask for nothing; the usage text is told.
+    // Status 2 is for words that ask for nothing, and where there is memory for exactly those; the
+    // usage text is told.
     ensures faulty { result ≡ 2 → (c : Asked) → Asks words.now c → ⊥ }
-    ensures asked { result ≢ 2 → (c : Asked) × Asks words.now c }
+    ensures asked { result ≢ 2 → result ≢ 5 → (c : Asked) × Asks words.now c }
     ensures usage { result ≡ 2 → Tells
         (sink_of (E.taken err.old) (E.faults err.old) (E.refusals err.old))
         (sink_of (E.taken err.new) (E.faults err.new) (E.refusals err.new))
@@ -51,18 +57,27 @@ pub fn shasta<F: Files, O: Sink, E: Sink, G: Gate + Sync>(
     // Status 4 is for a refused executable; the refusal is told.
     ensures refused { (c : Asked) (contents : List ℕ → List ℕ) → Asks words.now c
         → AreTold c (F.held files.old) contents → result ≡ 4
-        → (line : List ℕ) × IsRefused c (contents (input_of c)) line × Tells
+        → (line : List ℕ) × IsRefused c (inputs_of c contents) line × Tells
         (sink_of (E.taken err.old) (E.faults err.old) (E.refusals err.old))
         (sink_of (E.taken err.new) (E.faults err.new) (E.refusals err.new))
         line }
-    ensures nothing { (result ≡ 2) ⊎ (result ≡ 4) → O.taken out.new ≡ O.taken out.old }
+    ensures nothing { (result ≡ 2) ⊎ ((result ≡ 4) ⊎ (result ≡ 6))
+        → O.taken out.new ≡ O.taken out.old }
+
+    // Status 6 is for a refused layout of an executable that isn't refused; the refusal is told.
+    ensures layout { (c : Asked) (contents : List ℕ → List ℕ) → Asks words.now c
+        → AreTold c (F.held files.old) contents → result ≡ 6
+        → (line : List ℕ) × IsLayoutRefused c (inputs_of c contents) line × Tells
+        (sink_of (E.taken err.old) (E.faults err.old) (E.refusals err.old))
+        (sink_of (E.taken err.new) (E.faults err.new) (E.refusals err.new))
+        line }
 
     // Status 3 comes only where a count of faults rose in this call, or a file is too long; its line
     // names which. A fault of a file comes before anything is put, one of the output only where a
     // text that the command asks for is being put. A file that is too long is never run.
     ensures fault { (c : Asked) → Asks words.now c → result ≡ 3 → IsFault c
-        (files_of (F.held files.old) (F.failed_reads files.old))
-        (files_of (F.held files.new) (F.failed_reads files.new))
+        (files_of (F.held files.old) (F.failed_reads files.old) (F.failed_writes files.old))
+        (files_of (F.held files.new) (F.failed_reads files.new) (F.failed_writes files.new))
         (sink_of (O.taken out.old) (O.faults out.old) (O.refusals out.old))
         (sink_of (O.taken out.new) (O.faults out.new) (O.refusals out.new))
         (Tells
@@ -82,12 +97,28 @@ pub fn shasta<F: Files, O: Sink, E: Sink, G: Gate + Sync>(
         → (O.taken out.new ≡ O.taken out.old)
         ⊎ PrintsPrefix c contents (O.taken out.old) (O.taken out.new) }
 
-    // No file changes.
-    ensures files { (name : List ℕ) → F.held files.new name ≡ F.held files.old name }
+    // No file changes but one that the command writes; and that one does only with status 0, 3 or 5.
+    ensures files { (name : List ℕ)
+        → ((c : Asked) → Asks words.now c → Contains (writes c) name → ⊥)
+        → F.held files.new name ≡ F.held files.old name }
+    ensures kept { (result ≡ 2) ⊎ ((result ≡ 4) ⊎ (result ≡ 6))
+        → (name : List ℕ) → F.held files.new name ≡ F.held files.old name }
+    ensures written { (c : Asked) (contents : List ℕ → List ℕ) → Asks words.now c
+        → AreTold c (F.held files.old) contents → result ≤ 1 → AreWritten c (inputs_of c contents)
+        (files_of (F.held files.new) (F.failed_reads files.new) (F.failed_writes files.new)) }
+    ensures left { (c : Asked) (contents : List ℕ → List ℕ) → Asks words.now c
+        → AreTold c (F.held files.old) contents → (result ≡ 3) ⊎ (result ≡ 5)
+        → AreLeft c (inputs_of c contents)
+        (files_of (F.held files.old) (F.failed_reads files.old) (F.failed_writes files.old))
+        (files_of (F.held files.new) (F.failed_reads files.new) (F.failed_writes files.new)) }
 {
-    let Some(command) = command_of(words) else {
-        tell(err, USAGE.as_bytes());
-        return 2;
+    let command = match command_of(alloc, words) {
+        Ok(Some(command)) => command,
+        Ok(None) => {
+            tell(err, USAGE.as_bytes());
+            return 2;
+        }
+        Err(_) => return tell_out_of_memory(err),
     };
     match answer(alloc, &command, files, out) {
         Ok(status) => status,
@@ -98,23 +129,7 @@ pub fn shasta<F: Files, O: Sink, E: Sink, G: Gate + Sync>(
     }
 }
 
-/// The name of the file that a command reads.
-fn input_of<'a>(command: &Command<'a>) -> &'a str
-    ensures { result.now ≡ input_of (meaning_of command.now) }
-{
-    match command {
-        Command::Run { file, budget: _ } => file,
-        Command::List { file } => file,
-        Command::One {
-            file,
-            nodes: _,
-            order: _,
-            budget: _,
-        } => file,
-    }
-}
-
-/// Reads the file of a command, and does what the command asks for.
+/// Reads the files of a command, and does what the command asks for.
 fn answer<F: Files, O: Sink>(
     alloc: Global,
     command: &Command<'_>,
@@ -122,39 +137,70 @@ fn answer<F: Files, O: Sink>(
     out: &mut O,
 ) -> Result<u8, Failure>
     ensures ok { IfOk result (IsSuccess (meaning_of command.now)
-        (files_of (F.held files.old) (F.failed_reads files.old))
+        (files_of (F.held files.old) (F.failed_reads files.old) (F.failed_writes files.old))
         (sink_of (O.taken out.old) (O.faults out.old) (O.refusals out.old))
         (sink_of (O.taken out.new) (O.faults out.new) (O.refusals out.new))) }
     ensures failure { IfErr result (IsFailure (meaning_of command.now)
-        (files_of (F.held files.old) (F.failed_reads files.old))
-        (files_of (F.held files.new) (F.failed_reads files.new))
+        (files_of (F.held files.old) (F.failed_reads files.old) (F.failed_writes files.old))
+        (files_of (F.held files.new) (F.failed_reads files.new) (F.failed_writes files.new))
         (sink_of (O.taken out.old) (O.faults out.old) (O.refusals out.old))
         (sink_of (O.taken out.new) (O.faults out.new) (O.refusals out.new))) }
     ensures longer { (name content : List ℕ) → Contains (reads (meaning_of command.now)) name
         → F.held files.old name ≡ Some content → file_limit < length content
         → MatchResult result (λ status. ⊥) IsNoRefusal }
-    ensures contents { (name : List ℕ) → F.held files.new name ≡ F.held files.old name }
+    ensures others { (name : List ℕ) → (Contains (writes (meaning_of command.now)) name → ⊥)
+        → F.held files.new name ≡ F.held files.old name }
+    ensures kept { IfErr result (AreKept
+        (files_of (F.held files.old) (F.failed_reads files.old) (F.failed_writes files.old))
+        (files_of (F.held files.new) (F.failed_reads files.new) (F.failed_writes files.new))) }
+    ensures written { IfOk result (λ status. (contents : List ℕ → List ℕ)
+        → AreTold (meaning_of command.now) (F.held files.old) contents
+        → AreWritten (meaning_of command.now) (inputs_of (meaning_of command.now) contents)
+        (files_of (F.held files.new) (F.failed_reads files.new) (F.failed_writes files.new))) }
+    ensures left { IfErr result (λ f. (contents : List ℕ → List ℕ)
+        → AreTold (meaning_of command.now) (F.held files.old) contents
+        → AreLeft (meaning_of command.now) (inputs_of (meaning_of command.now) contents)
+        (files_of (F.held files.old) (F.failed_reads files.old) (F.failed_writes files.old))
+        (files_of (F.held files.new) (F.failed_reads files.new) (F.failed_writes files.new))) }
 {
-    let file = read_file(alloc, files, input_of(command))?;
-    perform(alloc, command, &file, out)
+    let inputs = read_inputs(alloc, command, files)?;
+    perform(alloc, command, &inputs.lend(), files, out)
 }
 
-/// Does what a command asks for, with the file that it reads.
-fn perform<O: Sink>(
+/// Does what a command asks for, with the files that it reads.
+fn perform<F: Files, O: Sink>(
     alloc: Global,
     command: &Command<'_>,
-    file: &[u8],
+    inputs: &Inputs<'_>,
+    files: &mut F,
     out: &mut O,
 ) -> Result<u8, Failure>
-    ensures ok { IfOk result (λ status. Puts (IsText (meaning_of command.now) (λ name. file.now))
+    ensures ok { IfOk result (λ status. Puts (IsText (meaning_of command.now) (bytes_of inputs.now))
         status (O.taken out.old) (O.taken out.new)) }
-    ensures failure { IfErr result (FailsAs (IsText (meaning_of command.now) (λ name. file.now))
-        (IsRefused (meaning_of command.now) file.now)
+    ensures failure { IfErr result (IsPerformFailure (meaning_of command.now) (bytes_of inputs.now)
+        (files_of (F.held files.old) (F.failed_reads files.old) (F.failed_writes files.old))
+        (files_of (F.held files.new) (F.failed_reads files.new) (F.failed_writes files.new))
         (sink_of (O.taken out.old) (O.faults out.old) (O.refusals out.old))
         (sink_of (O.taken out.new) (O.faults out.new) (O.refusals out.new))) }
+    ensures others { (name : List ℕ) → (Contains (writes (meaning_of command.now)) name → ⊥)
+        → F.held files.new name ≡ F.held files.old name }
+    ensures kept { IfErr result (AreKept
+        (files_of (F.held files.old) (F.failed_reads files.old) (F.failed_writes files.old))
+        (files_of (F.held files.new) (F.failed_reads files.new) (F.failed_writes files.new))) }
+    ensures written { IfOk result (λ status. AreWritten (meaning_of command.now) (bytes_of inputs.now)
+        (files_of (F.held files.new) (F.failed_reads files.new) (F.failed_writes files.new))) }
+    ensures left { IfErr result (λ f. AreLeft (meaning_of command.now) (bytes_of inputs.now)
+        (files_of (F.held files.old) (F.failed_reads files.old) (F.failed_writes files.old))
+        (files_of (F.held files.new) (F.failed_reads files.new) (F.failed_writes files.new))) }
 {
+    let file = inputs.executable;
     match command {
-        Command::Run { file: _, budget } => run(alloc, file, *budget, out),
+        Command::Rewrite { input: _, output } => rewrite_into(alloc, file, output, files),
+        Command::Run {
+            file: _,
+            budget,
+            layout: _,
+        } => run(alloc, inputs, *budget, out),
         Command::List { file: _ } => list(alloc, file, out),
         Command::One {
             file: _,

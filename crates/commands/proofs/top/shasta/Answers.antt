@@ -1,96 +1,143 @@
-use Rattle.std.proofs.Common.{◌≡◌, sym, ◌∙◌, subst, inl, inr}
+use Rattle.std.proofs.Common.{◌≡◌, ℕ, List, sym, ◌∙◌, subst, inl, inr, rules}
 use Rattle.std.specs.Prelude.{Contains}
 use Rattle.command_line.specs.Commands.{reads}
 use Rattle.command_line.specs.Meaning.{meaning_of}
 use Rattle.commands.specs.Answers.{SinkState, FilesState, Tells}
-use Rattle.commands.specs.Failures.{IsFailure, IsSuccess, line_of}
+use Rattle.commands.specs.Failures.{IsFailure, IsSuccess, AreLeft, AreWritten, line_of}
+use Rattle.commands.specs.Headline.{AreTold}
+use Rattle.commands.specs.Inputs.{inputs_of}
 use Rattle.commands.specs.Text.{usage}
-use Rattle.commands.proofs.AnswerLemmas.{fault_of, refusal_of, prefix_of_failure}
+use Rattle.commands.proofs.AnswerLemmas.{fault_of, refusal_of, layout_refusal_of, prefix_of_failure, asked_as, none_as}
 use Rattle.commands.proofs.top.shasta.Goals as goal
 
-pub returns-in_default-clause-usage : goal.returns-in_default-clause-usage
+pub returns-in-Ok-None-clause-usage : goal.returns-in-Ok-None-clause-usage
 unfolding usage
-returns-in_default-clause-usage g c = λ two.
+returns-in-Ok-None-clause-usage g c = λ two.
     let before : SinkState = record { taken = g.E.Sink.taken c.args.err.now; faults = g.E.Sink.faults c.args.err.now; refusals = g.E.Sink.refusals c.args.err.now } in
     let now : SinkState = record { taken = g.E.Sink.taken c.tell.new.err; faults = g.E.Sink.faults c.tell.new.err; refusals = g.E.Sink.refusals c.tell.new.err } in
     subst (Tells before now) c.as_bytes.ensures.value c.tell.ensures
 
-pub returns-in_default-clause-longer : goal.returns-in_default-clause-longer
-returns-in_default-clause-longer g c = λ d name content asks among holds long.
-    absurd (c.in_default.ensures.asks d asks)
+pub returns-in-Ok-None-clause-longer : goal.returns-in-Ok-None-clause-longer
+returns-in-Ok-None-clause-longer g c = λ d name content asks among holds long.
+    absurd (none_as c.args.words.now _ (search rules) c.in-Ok-None.ensures.asks d asks)
 
 pub returns-in-Ok-clause-prints : goal.returns-in-Ok-clause-prints
 returns-in-Ok-clause-prints g c = λ d contents asks told low.
-    let cmd = meaning_of c.in-Some.command in
-    let same : cmd ≡ d = c.in-Some.ensures.only cmd d c.in-Some.ensures.asks asks in
+    let cmd = meaning_of c.in-Ok-Some.command in
+    let same : cmd ≡ d = c.in-Ok-Some.ensures.only cmd d
+    (asked_as c.args.words.now _ c.in-Ok-Some.command (search rules) c.in-Ok-Some.ensures.asks) asks in
     let before : SinkState = record { taken = g.O.Sink.taken c.args.out.now; faults = g.O.Sink.faults c.args.out.now; refusals = g.O.Sink.refusals c.args.out.now } in
     let now : SinkState = record { taken = g.O.Sink.taken c.answer.new.out; faults = g.O.Sink.faults c.answer.new.out; refusals = g.O.Sink.refusals c.answer.new.out } in
-    let files : FilesState = record { held = g.F.Files.held c.args.files.now; failed_reads = g.F.Files.failed_reads c.args.files.now } in
+    let files : FilesState = record { held = g.F.Files.held c.args.files.now; failed_reads = g.F.Files.failed_reads c.args.files.now; failed_writes = g.F.Files.failed_writes c.args.files.now } in
     let success : IsSuccess d files before now c.in-Ok.status =
     subst (λ x. IsSuccess x files before now c.in-Ok.status) same c.in-Ok.ensures.ok in
     success.prints contents told
 
 pub returns-in-Ok-clause-longer : goal.returns-in-Ok-clause-longer
 returns-in-Ok-clause-longer g c = λ d name content asks among holds long.
-    let cmd = meaning_of c.in-Some.command in
-    let same : cmd ≡ d = c.in-Some.ensures.only cmd d c.in-Some.ensures.asks asks in
+    let cmd = meaning_of c.in-Ok-Some.command in
+    let same : cmd ≡ d = c.in-Ok-Some.ensures.only cmd d
+    (asked_as c.args.words.now _ c.in-Ok-Some.command (search rules) c.in-Ok-Some.ensures.asks) asks in
     absurd (c.in-Ok.ensures.longer name content
     (subst (λ x. Contains (reads x) name) (sym same) among) holds long)
 
-pub returns-in-Err-clause-refused : goal.returns-in-Err-clause-refused
-returns-in-Err-clause-refused g c = λ d contents asks known four.
-    let cmd = meaning_of c.in-Some.command in
-    let same : cmd ≡ d = c.in-Some.ensures.only cmd d c.in-Some.ensures.asks asks in
+pub returns-in-Err-answer-clause-refused : goal.returns-in-Err-answer-clause-refused
+returns-in-Err-answer-clause-refused g c = λ d contents asks known four.
+    let cmd = meaning_of c.in-Ok-Some.command in
+    let same : cmd ≡ d = c.in-Ok-Some.ensures.only cmd d
+    (asked_as c.args.words.now _ c.in-Ok-Some.command (search rules) c.in-Ok-Some.ensures.asks) asks in
     let before : SinkState = record { taken = g.O.Sink.taken c.args.out.now; faults = g.O.Sink.faults c.args.out.now; refusals = g.O.Sink.refusals c.args.out.now } in
     let now : SinkState = record { taken = g.O.Sink.taken c.answer.new.out; faults = g.O.Sink.faults c.answer.new.out; refusals = g.O.Sink.refusals c.answer.new.out } in
-    let files : FilesState = record { held = g.F.Files.held c.args.files.now; failed_reads = g.F.Files.failed_reads c.args.files.now } in
-    let files_now : FilesState = record { held = g.F.Files.held c.answer.new.files; failed_reads = g.F.Files.failed_reads c.answer.new.files } in
-    let failure : IsFailure d files files_now before now c.in-Err.failure =
-    subst (λ x. IsFailure x files files_now before now c.in-Err.failure) same c.in-Err.ensures.failure in
+    let files : FilesState = record { held = g.F.Files.held c.args.files.now; failed_reads = g.F.Files.failed_reads c.args.files.now; failed_writes = g.F.Files.failed_writes c.args.files.now } in
+    let files_now : FilesState = record { held = g.F.Files.held c.answer.new.files; failed_reads = g.F.Files.failed_reads c.answer.new.files; failed_writes = g.F.Files.failed_writes c.answer.new.files } in
+    let failure : IsFailure d files files_now before now c.in-Err-answer.failure =
+    subst (λ x. IsFailure x files files_now before now c.in-Err-answer.failure) same c.in-Err-answer.ensures.failure in
     let err_before : SinkState = record { taken = g.E.Sink.taken c.args.err.now; faults = g.E.Sink.faults c.args.err.now; refusals = g.E.Sink.refusals c.args.err.now } in
-    let err_now : SinkState = record { taken = g.E.Sink.taken c.tell-in-Err.new.err; faults = g.E.Sink.faults c.tell-in-Err.new.err; refusals = g.E.Sink.refusals c.tell-in-Err.new.err } in
-    let told : Tells err_before err_now (line_of c.in-Err.failure) =
-    subst (Tells err_before err_now) c.line.ensures.value c.tell-in-Err.ensures in
-    refusal_of d files files_now before now c.in-Err.failure (Tells err_before err_now) failure told
+    let err_now : SinkState = record { taken = g.E.Sink.taken c.tell-in-Err-answer.new.err; faults = g.E.Sink.faults c.tell-in-Err-answer.new.err; refusals = g.E.Sink.refusals c.tell-in-Err-answer.new.err } in
+    let told : Tells err_before err_now (line_of c.in-Err-answer.failure) =
+    subst (Tells err_before err_now) c.line.ensures.value c.tell-in-Err-answer.ensures in
+    refusal_of d files files_now before now c.in-Err-answer.failure (Tells err_before err_now) failure told
     (sym c.status.ensures.value ∙ four) contents known
 
-pub returns-in-Err-clause-fault : goal.returns-in-Err-clause-fault
-returns-in-Err-clause-fault g c = λ d asks three.
-    let cmd = meaning_of c.in-Some.command in
-    let same : cmd ≡ d = c.in-Some.ensures.only cmd d c.in-Some.ensures.asks asks in
+pub returns-in-Err-answer-clause-layout : goal.returns-in-Err-answer-clause-layout
+returns-in-Err-answer-clause-layout g c = λ d contents asks known six.
+    let cmd = meaning_of c.in-Ok-Some.command in
+    let same : cmd ≡ d = c.in-Ok-Some.ensures.only cmd d
+    (asked_as c.args.words.now _ c.in-Ok-Some.command (search rules) c.in-Ok-Some.ensures.asks) asks in
     let before : SinkState = record { taken = g.O.Sink.taken c.args.out.now; faults = g.O.Sink.faults c.args.out.now; refusals = g.O.Sink.refusals c.args.out.now } in
     let now : SinkState = record { taken = g.O.Sink.taken c.answer.new.out; faults = g.O.Sink.faults c.answer.new.out; refusals = g.O.Sink.refusals c.answer.new.out } in
-    let files : FilesState = record { held = g.F.Files.held c.args.files.now; failed_reads = g.F.Files.failed_reads c.args.files.now } in
-    let files_now : FilesState = record { held = g.F.Files.held c.answer.new.files; failed_reads = g.F.Files.failed_reads c.answer.new.files } in
-    let failure : IsFailure d files files_now before now c.in-Err.failure =
-    subst (λ x. IsFailure x files files_now before now c.in-Err.failure) same c.in-Err.ensures.failure in
+    let files : FilesState = record { held = g.F.Files.held c.args.files.now; failed_reads = g.F.Files.failed_reads c.args.files.now; failed_writes = g.F.Files.failed_writes c.args.files.now } in
+    let files_now : FilesState = record { held = g.F.Files.held c.answer.new.files; failed_reads = g.F.Files.failed_reads c.answer.new.files; failed_writes = g.F.Files.failed_writes c.answer.new.files } in
+    let failure : IsFailure d files files_now before now c.in-Err-answer.failure =
+    subst (λ x. IsFailure x files files_now before now c.in-Err-answer.failure) same c.in-Err-answer.ensures.failure in
     let err_before : SinkState = record { taken = g.E.Sink.taken c.args.err.now; faults = g.E.Sink.faults c.args.err.now; refusals = g.E.Sink.refusals c.args.err.now } in
-    let err_now : SinkState = record { taken = g.E.Sink.taken c.tell-in-Err.new.err; faults = g.E.Sink.faults c.tell-in-Err.new.err; refusals = g.E.Sink.refusals c.tell-in-Err.new.err } in
-    let told : Tells err_before err_now (line_of c.in-Err.failure) =
-    subst (Tells err_before err_now) c.line.ensures.value c.tell-in-Err.ensures in
-    fault_of d files files_now before now c.in-Err.failure (Tells err_before err_now) failure told
+    let err_now : SinkState = record { taken = g.E.Sink.taken c.tell-in-Err-answer.new.err; faults = g.E.Sink.faults c.tell-in-Err-answer.new.err; refusals = g.E.Sink.refusals c.tell-in-Err-answer.new.err } in
+    let told : Tells err_before err_now (line_of c.in-Err-answer.failure) =
+    subst (Tells err_before err_now) c.line.ensures.value c.tell-in-Err-answer.ensures in
+    layout_refusal_of d files files_now before now c.in-Err-answer.failure (Tells err_before err_now) failure told
+    (sym c.status.ensures.value ∙ six) contents known
+
+pub returns-in-Err-answer-clause-fault : goal.returns-in-Err-answer-clause-fault
+returns-in-Err-answer-clause-fault g c = λ d asks three.
+    let cmd = meaning_of c.in-Ok-Some.command in
+    let same : cmd ≡ d = c.in-Ok-Some.ensures.only cmd d
+    (asked_as c.args.words.now _ c.in-Ok-Some.command (search rules) c.in-Ok-Some.ensures.asks) asks in
+    let before : SinkState = record { taken = g.O.Sink.taken c.args.out.now; faults = g.O.Sink.faults c.args.out.now; refusals = g.O.Sink.refusals c.args.out.now } in
+    let now : SinkState = record { taken = g.O.Sink.taken c.answer.new.out; faults = g.O.Sink.faults c.answer.new.out; refusals = g.O.Sink.refusals c.answer.new.out } in
+    let files : FilesState = record { held = g.F.Files.held c.args.files.now; failed_reads = g.F.Files.failed_reads c.args.files.now; failed_writes = g.F.Files.failed_writes c.args.files.now } in
+    let files_now : FilesState = record { held = g.F.Files.held c.answer.new.files; failed_reads = g.F.Files.failed_reads c.answer.new.files; failed_writes = g.F.Files.failed_writes c.answer.new.files } in
+    let failure : IsFailure d files files_now before now c.in-Err-answer.failure =
+    subst (λ x. IsFailure x files files_now before now c.in-Err-answer.failure) same c.in-Err-answer.ensures.failure in
+    let err_before : SinkState = record { taken = g.E.Sink.taken c.args.err.now; faults = g.E.Sink.faults c.args.err.now; refusals = g.E.Sink.refusals c.args.err.now } in
+    let err_now : SinkState = record { taken = g.E.Sink.taken c.tell-in-Err-answer.new.err; faults = g.E.Sink.faults c.tell-in-Err-answer.new.err; refusals = g.E.Sink.refusals c.tell-in-Err-answer.new.err } in
+    let told : Tells err_before err_now (line_of c.in-Err-answer.failure) =
+    subst (Tells err_before err_now) c.line.ensures.value c.tell-in-Err-answer.ensures in
+    fault_of d files files_now before now c.in-Err-answer.failure (Tells err_before err_now) failure told
     (sym c.status.ensures.value ∙ three)
 
-pub returns-in-Err-clause-longer : goal.returns-in-Err-clause-longer
-returns-in-Err-clause-longer g c = λ d name content asks among holds long.
-    let cmd = meaning_of c.in-Some.command in
-    let same : cmd ≡ d = c.in-Some.ensures.only cmd d c.in-Some.ensures.asks asks in
+pub returns-in-Err-answer-clause-longer : goal.returns-in-Err-answer-clause-longer
+returns-in-Err-answer-clause-longer g c = λ d name content asks among holds long.
+    let cmd = meaning_of c.in-Ok-Some.command in
+    let same : cmd ≡ d = c.in-Ok-Some.ensures.only cmd d
+    (asked_as c.args.words.now _ c.in-Ok-Some.command (search rules) c.in-Ok-Some.ensures.asks) asks in
     let status = c.status.ensures.value in
-    elim (c.in-Err.ensures.longer name content
+    elim (c.in-Err-answer.ensures.longer name content
     (subst (λ x. Contains (reads x) name) (sym same) among) holds long) [
       | inl three ↦ inl (status ∙ three)
       | inr five ↦ inr (status ∙ five)
     ]
 
-pub returns-in-Err-clause-prefix : goal.returns-in-Err-clause-prefix
-returns-in-Err-clause-prefix g c = λ d contents asks known five.
-    let cmd = meaning_of c.in-Some.command in
-    let same : cmd ≡ d = c.in-Some.ensures.only cmd d c.in-Some.ensures.asks asks in
+pub returns-in-Err-answer-clause-prefix : goal.returns-in-Err-answer-clause-prefix
+returns-in-Err-answer-clause-prefix g c = λ d contents asks known five.
+    let cmd = meaning_of c.in-Ok-Some.command in
+    let same : cmd ≡ d = c.in-Ok-Some.ensures.only cmd d
+    (asked_as c.args.words.now _ c.in-Ok-Some.command (search rules) c.in-Ok-Some.ensures.asks) asks in
     let before : SinkState = record { taken = g.O.Sink.taken c.args.out.now; faults = g.O.Sink.faults c.args.out.now; refusals = g.O.Sink.refusals c.args.out.now } in
     let now : SinkState = record { taken = g.O.Sink.taken c.answer.new.out; faults = g.O.Sink.faults c.answer.new.out; refusals = g.O.Sink.refusals c.answer.new.out } in
-    let files : FilesState = record { held = g.F.Files.held c.args.files.now; failed_reads = g.F.Files.failed_reads c.args.files.now } in
-    let files_now : FilesState = record { held = g.F.Files.held c.answer.new.files; failed_reads = g.F.Files.failed_reads c.answer.new.files } in
-    let failure : IsFailure d files files_now before now c.in-Err.failure =
-    subst (λ x. IsFailure x files files_now before now c.in-Err.failure) same c.in-Err.ensures.failure in
-    prefix_of_failure d files files_now before now c.in-Err.failure failure
+    let files : FilesState = record { held = g.F.Files.held c.args.files.now; failed_reads = g.F.Files.failed_reads c.args.files.now; failed_writes = g.F.Files.failed_writes c.args.files.now } in
+    let files_now : FilesState = record { held = g.F.Files.held c.answer.new.files; failed_reads = g.F.Files.failed_reads c.answer.new.files; failed_writes = g.F.Files.failed_writes c.answer.new.files } in
+    let failure : IsFailure d files files_now before now c.in-Err-answer.failure =
+    subst (λ x. IsFailure x files files_now before now c.in-Err-answer.failure) same c.in-Err-answer.ensures.failure in
+    prefix_of_failure d files files_now before now c.in-Err-answer.failure failure
     (sym c.status.ensures.value ∙ five) contents known
+
+pub returns-in-Ok-clause-written : goal.returns-in-Ok-clause-written
+returns-in-Ok-clause-written g c = λ d contents asks told low.
+    let cmd = meaning_of c.in-Ok-Some.command in
+    let same : cmd ≡ d = c.in-Ok-Some.ensures.only cmd d
+    (asked_as c.args.words.now _ c.in-Ok-Some.command (search rules) c.in-Ok-Some.ensures.asks) asks in
+    let held = g.F.Files.held c.args.files.now in
+    let files_now : FilesState = record { held = g.F.Files.held c.answer.new.files; failed_reads = g.F.Files.failed_reads c.answer.new.files; failed_writes = g.F.Files.failed_writes c.answer.new.files } in
+    subst (λ x. (k : List ℕ → List ℕ) → AreTold x held k → AreWritten x (inputs_of x k) files_now) same
+    c.in-Ok.ensures.written contents told
+
+pub returns-in-Err-answer-clause-left : goal.returns-in-Err-answer-clause-left
+returns-in-Err-answer-clause-left g c = λ d contents asks told failed.
+    let cmd = meaning_of c.in-Ok-Some.command in
+    let same : cmd ≡ d = c.in-Ok-Some.ensures.only cmd d
+    (asked_as c.args.words.now _ c.in-Ok-Some.command (search rules) c.in-Ok-Some.ensures.asks) asks in
+    let held = g.F.Files.held c.args.files.now in
+    let files : FilesState = record { held = g.F.Files.held c.args.files.now; failed_reads = g.F.Files.failed_reads c.args.files.now; failed_writes = g.F.Files.failed_writes c.args.files.now } in
+    let files_now : FilesState = record { held = g.F.Files.held c.answer.new.files; failed_reads = g.F.Files.failed_reads c.answer.new.files; failed_writes = g.F.Files.failed_writes c.answer.new.files } in
+    subst (λ x. (k : List ℕ → List ℕ) → AreTold x held k → AreLeft x (inputs_of x k) files files_now) same
+    c.in-Err-answer.ensures.left contents told
