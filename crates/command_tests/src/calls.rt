@@ -1,7 +1,5 @@
 //! Calls of the program on a file in memory.
 
-ghost use Rattle.std.specs.Prelude.{◌≤◌, length};
-
 use commands::shasta;
 use dsm_io::{MemFiles, MemSink, OpenGate, Text};
 use std::alloc::{AllocError, Global};
@@ -18,17 +16,19 @@ fn push_words(bytes: &mut Vec<u8>, words: &[u32]) -> Result<(), AllocError> {
     Ok(())
 }
 
+/// A number as a word; the largest word where it is larger.
+fn word_of(number: usize) -> u32 {
+    u32::try_from(number).unwrap_or(u32::MAX)
+}
+
 /// The executable of this code and data, of which the data's memory has so many bytes.
 pub fn executable(
     alloc: Global,
     code: &[u32],
     data: &[u8],
     data_size: u32,
-) -> Result<Vec<u8>, AllocError>
-    requires code { length code.now ≤ 1024 }
-    requires data { length data.now ≤ 65536 }
-{
-    let code_size = 4 * code.len() as u32;
+) -> Result<Vec<u8>, AllocError> {
+    let code_size = word_of(code.len()).wrapping_mul(4);
     let mut file = Vec::new(alloc);
     // e_ident, e_type and e_machine, e_version, e_entry, e_phoff, e_shoff, e_flags
     push_words(
@@ -52,7 +52,7 @@ pub fn executable(
             0x2000,
             0x20000,
             0x20000,
-            data.len() as u32,
+            word_of(data.len()),
             data_size,
             6,
             0x1000,

@@ -21,6 +21,8 @@ fn tells_its_use(rt: HostRuntime) -> Result<(), Fail> {
     let alloc = rt.alloc();
     for words in [
         ["run"].as_slice(),
+        &["run", "IN", "--layout", "-x"],
+        &["run", "IN", "--layout="],
         &[],
         &["list", "IN", "IN"],
         &["one", "IN", "--nodes", "17"],
@@ -72,7 +74,7 @@ fn tells_what_is_wrong_with_a_file(rt: HostRuntime) -> Result<(), Fail> {
         assert_eq!(rt; other.status, 4);
         assert_eq!(rt;
             other.err.taken(),
-            b"shasta: executable refused 90 NotYet\n".as_slice()
+            b"shasta: executable refused 1 Short\n".as_slice()
         );
         let absent = call(alloc, b"", &[command, "a"])?;
         assert_eq!(rt; absent.status, 3);

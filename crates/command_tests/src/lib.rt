@@ -10,4 +10,10 @@ mod faults;
 #[cfg(test)]
 mod instructions;
 #[cfg(test)]
+mod layouts;
+#[cfg(test)]
 mod programs;
+#[cfg(test)]
+mod refusals;
+#[cfg(test)]
+mod rewriting;

@@ -27,24 +27,64 @@ fn rewrites_a_program_that_writes(rt: HostRuntime) -> Result<(), Fail> {
     Ok(())
 }
 
-/// Where no register is dead, a load spills two, and tests the readable bit of the state byte.
+/// A program, and the words of the sequences of a place of it and of what follows.
+struct Sequence {
+    code: &'static [u32],
+    place: u32,
+    at: u32,
+    words: &'static [u32],
+}
+
+const SEQUENCES: [Sequence; 3] = [
+    // addi x17, x0, 93; lui x10, 0x20; lw x10, 0(x10); ecall: the load spills two registers, and tests
+    // the readable bit of the state byte
+    Sequence {
+        code: &[0x05d00893, 0x00020537, 0x00052503, 0x00000073],
+        place: 0x00010008,
+        at: 0xa000000c,
+        words: &[
+            0xfe102e23, 0xfe202c23, 0x00050093, 0x80000137, 0x0060d093, 0x002080b3, 0x0000c083,
+            0x0020f093, 0x00008463, 0x0005010b, 0x00052503, 0xffc02083, 0xff802103, 0x0000300b,
+        ],
+    },
+    // lui x5, 0x20; lw x6, 0(x5); ecall: the load spills one register, and looks at its value
+    Sequence {
+        code: &[0x000202b7, 0x0002a303, 0x00000073],
+        place: 0x00010004,
+        at: 0xa0000008,
+        words: &[
+            0xfe102e23, 0x00028093, 0x0000c863, 0x0002a303, 0xf0300093, 0x00131663, 0x0002810b,
+            0x0002a303, 0xffc02083, 0x0000300b,
+        ],
+    },
+    // jal x0, 4; beq x0, x0, 0; jalr x0, 0(x0): the last two may close a loop, and poll
+    Sequence {
+        code: &[0x0040006f, 0x00000063, 0x00000067],
+        place: 0x00010000,
+        at: 0xa0000004,
+        words: &[
+            0x00010037, 0x00400013, 0x0040006f, 0x0000200b, 0x00001463, 0xff9ff06f, 0x0000200b,
+            0x0000400b, 0x0000002b,
+        ],
+    },
+];
+
 #[test]
-fn rewrites_a_load(rt: HostRuntime) -> Result<(), Fail> {
+fn rewrites_places(rt: HostRuntime) -> Result<(), Fail> {
     let alloc = rt.alloc();
-    // addi x17, x0, 93; lui x10, 0x20; lw x10, 0(x10); ecall
-    let code = [0x05d00893, 0x00020537, 0x00052503, 0x00000073];
-    let file = executable(alloc, &code, b"\x05", 64)?;
-    let elf = read_elf(alloc, &file)?;
-    let program = accept(alloc, &elf)?;
-    let rewritten = rewrite(alloc, &program)?;
-    let image = rewritten.image();
-    let sequence = [
-        0xfe102e23, 0xfe202c23, 0x00050093, 0x80000137, 0x0060d093, 0x002080b3, 0x0000c083,
-        0x0020f093, 0x00008463, 0x0005010b, 0x00052503, 0xffc02083, 0xff802103,
-    ];
-    assert_eq!(rt; image.new_of(0x00010008), Some(0xa000000c));
-    for (k, word) in sequence.iter().enumerate() {
-        assert_eq!(rt; image.word_at(0xa000000c + 4 * k as u32), Some(*word));
+    for sequence in &SEQUENCES {
+        let file = executable(alloc, sequence.code, b"\x05", 64)?;
+        let elf = read_elf(alloc, &file)?;
+        let program = accept(alloc, &elf)?;
+        let rewritten = rewrite(alloc, &program)?;
+        let image = rewritten.image();
+        assert_eq!(rt; image.new_of(sequence.place), Some(sequence.at));
+        for (k, word) in sequence.words.iter().enumerate() {
+            assert_eq!(rt;
+                image.word_at(sequence.at.wrapping_add(4 * k as u32)),
+                Some(*word)
+            );
+        }
     }
     Ok(())
 }

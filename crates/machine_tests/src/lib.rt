@@ -7,3 +7,7 @@ mod files;
 mod images;
 #[cfg(test)]
 mod machines;
+#[cfg(test)]
+mod plans;
+#[cfg(test)]
+mod rewritten_files;
