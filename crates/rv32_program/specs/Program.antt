@@ -2,7 +2,6 @@
 -- the instruction at each code word, and the entry.
 use Rattle.std.specs.Prelude.{◌≡◌, ℕ, ◌+◌, ◌/◌, ◌%◌, ◌^◌, ◌≤◌, Bool, true, false, ◌||◌, ◌==◌, if◌then◌else◌, Option, Some}
 use Rattle.rv32_decode.specs.declared.Instr.{Instr}
-use Rattle.rv32_decode.specs.declared.Instr.TheVariants.{Lr, Sc, Amo}
 use Rattle.rv32_program.specs.declared.Class.{Class}
 use Rattle.rv32_program.specs.declared.Class.TheVariants.{Shared, ReadOnly, Private, Unmapped}
 use Rattle.rv32_program.specs.declared.CallKind.{CallKind}
@@ -32,13 +31,6 @@ is_writable Shared = true
 is_writable Private = true
 is_writable c = false
 
--- the instructions that are executed as yet: all but those of the A extension
-abbrev pub is_supported : Instr → Bool
-is_supported (Lr rd rs1 aq rl) = false
-is_supported (Sc rd rs1 rs2 aq rl) = false
-is_supported (Amo o rd rs1 rs2 aq rl) = false
-is_supported i = true
-
 -- the call that a number in a7 names: exit is 93 and 94, write is 64
 abbrev pub call_of : ℕ → CallKind
 call_of number =
@@ -51,7 +43,6 @@ pub record IsAccepted (program : Program) : Type 0 where
   pub low : (a : ℕ) (i : Instr) → program.code a ≡ Some i → a + 4 ≤ 0x7fff0000
   -- the lower half alone is mapped
   pub upper : (line : ℕ) → 2 ^ 25 ≤ line → program.class line ≡ Unmapped
-  pub supported : (a : ℕ) (i : Instr) → program.code a ≡ Some i → is_supported i ≡ true
   -- the entry is a code word
   pub first_instruction : Instr
   pub starts : program.code program.entry ≡ Some first_instruction

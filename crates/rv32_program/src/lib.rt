@@ -62,16 +62,6 @@ pub fn call_of(a7: u32) -> CallKind
     }
 }
 
-/// Whether an instruction is executed by this version.
-pub fn is_supported(i: Instr) -> bool
-    ensures value { result ≡ model.is_supported i }
-{
-    match i {
-        Instr::Lr { .. } | Instr::Sc { .. } | Instr::Amo { .. } => false,
-        _ => true,
-    }
-}
-
 /// Where a direct jump or branch at an address goes, where that is a multiple of four.
 pub fn aligned_target(i: &Instr, address: u32) -> Option<u32>
     ensures value { result ≡ aligned_target i.now address }

@@ -1,6 +1,6 @@
 -- What an instruction asks for, apart from any memory: one meaning, which every machine cites
--- (RISC-V Unprivileged ISA, "RV32I Base Integer Instruction Set").
-use Rattle.std.specs.Prelude.{ℕ, ℤ, ◌+◌, ◌-◌, ◌*◌, ◌/◌, ◌%◌, ◌^◌, Bool, true, false, if◌then◌else◌, ◌||◌, ◌==◌, nat_lt}
+-- (RISC-V Unprivileged ISA, "RV32I Base Integer Instruction Set" and "A" for atomic instructions).
+use Rattle.std.specs.Prelude.{ℕ, pos, ◌+◌, ◌-◌, ◌*◌, ◌/◌, ◌%◌, ◌^◌, Bool, true, false, if◌then◌else◌, ◌||◌, ◌==◌, nat_lt}
 use Rattle.rv32_decode.specs.Fields.{unsigned}
 use Rattle.rv32_decode.specs.declared.Instr.{Instr}
 use Rattle.rv32_decode.specs.declared.Instr.TheVariants.{Lui, Auipc, Jal, Jalr, Branch, Load, Store, OpImm, ShiftImm, Op, Fence, Ecall, Ebreak, Lr, Sc, Amo, Illegal as IllegalWord}
@@ -18,7 +18,7 @@ use Rattle.rv32_program.specs.Targets.{offset_address}
 use Rattle.rv32_step.specs.Registers.{reg}
 use Rattle.rv32_program.specs.declared.Exit.TheVariants.{Ebreak as EbreakExit, Illegal as IllegalExit}
 use Rattle.rv32_step.specs.declared.Demand.{Demand}
-use Rattle.rv32_step.specs.declared.Demand.TheVariants.{Sets, Continues, Jumps, Branches, Loads, Stores, Calls, Traps, Unsupported}
+use Rattle.rv32_step.specs.declared.Demand.TheVariants.{Sets, Continues, Jumps, Branches, Loads, Stores, Calls, Traps, Reserves, StoresIf, Updates}
 use Rattle.rv32_step.specs.declared.CallStep.{CallStep}
 use Rattle.rv32_step.specs.declared.CallStep.TheVariants.{Ends, Returns, Puts}
 
@@ -64,7 +64,11 @@ demand_of (Fence rd rs1 bits) registers pc = Continues
 demand_of Ecall registers pc = Calls
 demand_of Ebreak registers pc = Traps (EbreakExit pc)
 demand_of (IllegalWord word) registers pc = Traps (IllegalExit pc)
-demand_of i registers pc = Unsupported
+demand_of (Lr rd rs1 aq rl) registers pc = Reserves rd (offset_address (reg registers rs1) (pos 0))
+demand_of (Sc rd rs1 rs2 aq rl) registers pc =
+    StoresIf rd (offset_address (reg registers rs1) (pos 0)) (reg registers rs2)
+demand_of (Amo o rd rs1 rs2 aq rl) registers pc =
+    Updates o rd (offset_address (reg registers rs1) (pos 0)) (reg registers rs2)
 
 -- a negative result of a call, as a word
 abbrev pub failure : ℕ → ℕ

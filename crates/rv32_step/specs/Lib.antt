@@ -1,4 +1,6 @@
 pub mod Registers
 pub mod Demands
 pub mod Memory
+pub mod Reservations
+pub mod Breaks
 pub mod OneMemory

@@ -1,27 +1,36 @@
 -- The original program's processors, interleaved instruction by instruction on one memory.
-use Rattle.std.specs.Prelude.{◌≡◌, ℕ, zero, suc, ◌+◌, ◌%◌, ◌^◌, ◌<◌, Bool, if◌then◌else◌, ◌==◌, List, [], ◌∷◌, ◌++◌, Option, Some, None}
-use Rattle.std.specs.Option.{option_map_or, option_to_list}
+use Rattle.std.specs.Prelude.{◌≡◌, ℕ, ◌+◌, ◌%◌, ◌^◌, ◌<◌, Bool, true, false, if◌then◌else◌, ◌==◌, List, [], ◌∷◌, ◌++◌, Option, Some, None, ◌⊎◌}
+use Rattle.std.specs.Option.{option_to_list}
 use Rattle.rv32_decode.specs.Widths.{width_of, is_aligned}
 use Rattle.rv32_decode.specs.declared.Instr.{Instr}
 use Rattle.rv32_decode.specs.declared.LoadKind.{LoadKind}
-use Rattle.rv32_decode.specs.declared.LoadKind.TheVariants.{ByteU}
+use Rattle.rv32_decode.specs.declared.LoadKind.TheVariants.{ByteU, Word as WordLoad}
+use Rattle.rv32_decode.specs.declared.AmoOp.{AmoOp}
 use Rattle.rv32_decode.specs.declared.Width.{Width}
+use Rattle.rv32_decode.specs.declared.Width.TheVariants.{Word}
+use Rattle.rv32_ops.specs.Operations.{amo}
+use Rattle.block_layout.specs.Layout.{Shape, block_of}
+use Rattle.llsc.specs.Reservation.{holds}
 use Rattle.byte_range.specs.Memory.{stored}
 use Rattle.rv32_program.specs.declared.Class.{Class}
 use Rattle.rv32_program.specs.declared.Exit.{Exit}
 use Rattle.rv32_program.specs.declared.Exit.TheVariants.{Code, Misaligned, Access as NoAccess, Fetch}
-use Rattle.rv32_program.specs.Program.{Program, class_at, is_mapped, is_writable}
+use Rattle.rv32_program.specs.Program.{Program, line_of, class_at, is_mapped, is_writable}
 use Rattle.rv32_step.specs.declared.Demand.{Demand}
-use Rattle.rv32_step.specs.declared.Demand.TheVariants.{Sets, Continues, Jumps, Branches, Loads, Stores, Calls, Traps, Unsupported}
+use Rattle.rv32_step.specs.declared.Demand.TheVariants.{Sets, Continues, Jumps, Branches, Loads, Stores, Calls, Traps, Reserves, StoresIf, Updates}
 use Rattle.rv32_step.specs.declared.CallStep.{CallStep}
 use Rattle.rv32_step.specs.declared.CallStep.TheVariants.{Ends, Returns, Puts}
 use Rattle.rv32_step.specs.Registers.{put, registers_of, first_values}
 use Rattle.rv32_step.specs.Demands.{demand_of, call_step, cut_short}
 use Rattle.rv32_step.specs.Memory.{load_value, byte_by, shared_after, private_after}
+use Rattle.rv32_step.specs.Reservations.{with_reservation, after_store_by}
+use Rattle.rv32_step.specs.Breaks.{stands_at_store, RunsToStore}
 
--- what runs on the one memory: a program, on so many processors
+-- what runs on the one memory: a program, whose shared lines have these blocks, on so many
+-- processors
 pub record Original : Type 0 where
   pub program : Program
+  pub layout : Shape
   pub nodes : ℕ
 
 pub record Processor : Type 0 where
@@ -36,6 +45,8 @@ pub record Processor : Type 0 where
 pub record State : Type 0 where
   pub shared : ℕ → ℕ
   pub processors : ℕ → Processor
+  -- the address that each processor has reserved, or none
+  pub reservations : ℕ → Option ℕ
   pub output : List ℕ
 
 abbrev pub first_processor : Original → ℕ → Processor
@@ -52,6 +63,7 @@ abbrev pub opening : Original → State
 opening original = record {
   shared = original.program.first;
   processors = first_processor original;
+  reservations = λ _. None;
   output = [];
 }
 
@@ -61,12 +73,18 @@ pub data Access : Type 0 where
   Nothing : Access
   Reads : (kind : LoadKind) (address value : ℕ) → Access
   Writes : (width : Width) (address value : ℕ) → Access
+  -- a word is written where its address was reserved
+  WritesIf : (address value : ℕ) (reserved : Bool) → Access
+  -- a word is read, and written anew
+  Exchanges : (address old new : ℕ) → Access
 
--- the value read by a step: a load's, or a write call's byte
+-- the value read by a step: a load's, an LR's or an AMO's old word, or a write call's byte
 abbrev pub value_read : Access → Option ℕ
 value_read Nothing = None
 value_read (Reads kind address value) = Some value
 value_read (Writes width address value) = None
+value_read (WritesIf address value reserved) = None
+value_read (Exchanges address old new) = Some old
 
 -- an access at pc of this width, to a line that may be accessed so or not. Misaligned is judged
 -- before Access
@@ -84,16 +102,27 @@ exit_of_demand class pc (Jumps r target) =
     if target % 4 == 0 then None else Some (Misaligned pc)
 exit_of_demand class pc (Branches target) =
     if target % 4 == 0 then None else Some (Misaligned pc)
+exit_of_demand class pc (Reserves r a) =
+    exit_of_access pc (is_aligned Word a) (is_mapped (class a))
+exit_of_demand class pc (StoresIf r a value) =
+    exit_of_access pc (is_aligned Word a) (is_writable (class a))
+exit_of_demand class pc (Updates o r a value) =
+    exit_of_access pc (is_aligned Word a) (is_writable (class a))
 exit_of_demand class pc (Traps e) = Some e
 exit_of_demand class pc d = None
 
 -- what the next step of a processor requests of the memory: nothing, so that it becomes q; or that
--- the byte of an address is printed; or a load into a register; or a store
+-- the byte of an address is printed; or a load into a register; or a store; or a load that reserves
+-- its address; or a store where the address is reserved; or a store of what an operation makes of
+-- the word that is there
 pub data Request : Type 0 where
   Becomes : (q : Processor) → Request
   Prints : (address : ℕ) → Request
   LoadsFrom : (kind : LoadKind) (r address : ℕ) → Request
   StoresTo : (width : Width) (address value : ℕ) → Request
+  ReservesAt : (r address : ℕ) → Request
+  StoresWhere : (r address value : ℕ) → Request
+  UpdatesAt : (o : AmoOp) (r address value : ℕ) → Request
 
 abbrev pub next_pc : ℕ → ℕ
 next_pc pc = (pc + 4) % 2 ^ 32
@@ -140,7 +169,9 @@ request_by program q (Loads k r a) = LoadsFrom k r a
 request_by program q (Stores w a value) = StoresTo w a value
 request_by program q Calls = request_of_call program q (call_step q.registers q.written)
 request_by program q (Traps e) = Becomes (with_exit q e)
-request_by program q Unsupported = Becomes q
+request_by program q (Reserves r a) = ReservesAt r a
+request_by program q (StoresIf r a value) = StoresWhere r a value
+request_by program q (Updates o r a value) = UpdatesAt o r a value
 
 abbrev pub request_unless : Program → Processor → Demand → Option Exit → Request
 request_unless program q d (Some e) = Becomes (with_exit q e)
@@ -168,6 +199,19 @@ after_store program q w a value = record q {
   pc = next_pc q.pc;
 }
 
+-- the processor once its store is done, and a register has a value
+abbrev pub after_exchange : Program → Processor → ℕ → ℕ → ℕ → ℕ → Processor
+after_exchange program q a value r result = record q {
+  registers = put q.registers r result;
+  private = private_after (class_at program a) q.private (stored Word q.private a value);
+  pc = next_pc q.pc;
+}
+
+-- the processor once its conditional store is done, or wasn't
+abbrev pub after_conditional : Program → Processor → ℕ → ℕ → ℕ → Bool → Processor
+after_conditional program q r a value reserved =
+    if reserved then after_exchange program q a value r 0 else set_register q r 1
+
 -- the byte of an address, as the processor sees it
 abbrev pub byte_at : Program → State → Processor → ℕ → ℕ
 byte_at program s q a =
@@ -186,6 +230,28 @@ with_processor s p q = record s { processors = λ i. if i == p then q else s.pro
 abbrev pub shared_stored : Program → State → Width → ℕ → ℕ → ℕ → ℕ
 shared_stored program s w a value =
     shared_after (class_at program a) s.shared (stored w s.shared a value)
+
+-- the state after a store of processor p, which becomes q
+abbrev pub with_store : Original → State → ℕ → Processor → Width → ℕ → ℕ → State
+with_store original s p q w a value = record (with_processor s p q) {
+  shared = shared_stored original.program s w a value;
+  reservations = after_store_by original.layout p a s.reservations;
+}
+
+-- the state where processor p becomes q, and has this reservation
+abbrev pub with_reserved : State → ℕ → Processor → Option ℕ → State
+with_reserved s p q reserved = record (with_processor s p q) {
+  reservations = with_reservation s.reservations p reserved;
+}
+
+-- the state after a conditional store of processor p, which becomes q: no reservation is left to it
+abbrev pub with_conditional : Original → State → ℕ → Processor → ℕ → ℕ → Bool → State
+with_conditional original s p q a value reserved =
+    with_reserved (if reserved then with_store original s p q Word a value else s) p q None
+
+-- the word of an address, as the processor sees it
+abbrev pub word_at : Program → State → Processor → ℕ → ℕ
+word_at program s q a = load_value WordLoad (byte_at program s q) a
 
 -- the memory's answer to a request of processor p, which is q
 abbrev pub answer : Original → State → ℕ → Processor → Request → StepResult
@@ -207,10 +273,29 @@ answer original s p q (LoadsFrom k r a) = record {
   printed = None;
 }
 answer original s p q (StoresTo w a value) = record {
-  state = record (with_processor s p (after_store original.program q w a value)) {
-    shared = shared_stored original.program s w a value;
-  };
+  state = with_store original s p (after_store original.program q w a value) w a value;
   access = Writes w a value;
+  printed = None;
+}
+answer original s p q (ReservesAt r a) = record {
+  state = with_reserved s p (set_register q r (word_at original.program s q a)) (Some a);
+  access = Reads WordLoad a (word_at original.program s q a);
+  printed = None;
+}
+answer original s p q (StoresWhere r a value) = record {
+  state = with_conditional original s p
+      (after_conditional original.program q r a value (holds (s.reservations p) a)) a value
+      (holds (s.reservations p) a);
+  access = WritesIf a value (holds (s.reservations p) a);
+  printed = None;
+}
+answer original s p q (UpdatesAt o r a value) = record {
+  state = with_store original s p
+      (after_exchange original.program q a (amo o (word_at original.program s q a) value) r
+      (word_at original.program s q a))
+      Word a (amo o (word_at original.program s q a) value);
+  access = Exchanges a (word_at original.program s q a)
+      (amo o (word_at original.program s q a) value);
   printed = None;
 }
 
@@ -219,16 +304,43 @@ abbrev pub step : Original → State → ℕ → StepResult
 step original s p =
     answer original s p (s.processors p) (request original.program (s.processors p))
 
--- what happens next on the one memory
+-- what happens next on the one memory: a processor makes a step; or the reservation of p is broken
+-- by q
 pub data Pick : Type 0 where
   Step : (p : ℕ) → Pick
+  Break : (p q : ℕ) → Pick
+
+-- the reservation of processor p may be broken by another one, q, which has no exit: it stands at a
+-- store into the reserved block, or at the start of a stretch that stores
+pub record MayBreak (original : Original) (s : State) (p q : ℕ) : Type 0 where
+  pub other : (p == q) ≡ false
+  pub among : (p < original.nodes) × (q < original.nodes)
+  pub runs : (s.processors q).exit ≡ None
+  pub reserved : ℕ
+  pub has : s.reservations p ≡ Some reserved
+  pub block : ℕ
+  pub lies : block_of original.layout (line_of reserved) ≡ Some block
+  pub stores : (stands_at_store original.program original.layout block
+      (s.processors q).registers (s.processors q).pc ≡ true)
+      ⊎ RunsToStore original.program original.layout block (s.processors q).registers
+      (s.processors q).pc
 
 -- a step is one of the processors', which has no exit
 abbrev pub Allowed : Original → State → Pick → Type 0
 Allowed original s (Step p) = (p < original.nodes) × ((s.processors p).exit ≡ None)
+Allowed original s (Break p q) = MayBreak original s p q
+
+-- a break ends the reservation of p
+abbrev pub broken : State → ℕ → StepResult
+broken s p = record {
+  state = record s { reservations = with_reservation s.reservations p None };
+  access = Nothing;
+  printed = None;
+}
 
 abbrev pub pick_step : Original → State → Pick → StepResult
 pick_step original s (Step p) = step original s p
+pick_step original s (Break p q) = broken s p
 
 -- the picks are an interleaved run from this state on
 abbrev pub IsRun : Original → State → List Pick → Type 0
@@ -243,6 +355,7 @@ run original s (k ∷ ks) = run original (pick_step original s k).state ks
 
 abbrev pub is_of : ℕ → Pick → Bool
 is_of p (Step q) = p == q
+is_of p (Break r q) = false
 
 -- the value that processor p reads in a pick
 abbrev pub value_of_pick : ℕ → Pick → StepResult → List ℕ

@@ -1,6 +1,6 @@
 -- The 32 registers, where x0 is hardwired to zero
 -- (RISC-V Unprivileged ISA, "Programmers' Model for Base Integer ISA").
-use Rattle.std.specs.Prelude.{ℕ, Bool, if◌then◌else◌, ◌==◌, ◌&&◌, nat_lt, List, slice_index, slice_set, replicate}
+use Rattle.std.specs.Prelude.{ℕ, if◌then◌else◌, ◌==◌, ◌&&◌, nat_lt, List, slice_index, slice_set, replicate}
 
 -- the value that an instruction reads from register r
 unfoldable pub reg : (ℕ → ℕ) → ℕ → ℕ

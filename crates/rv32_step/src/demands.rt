@@ -66,7 +66,17 @@ pub fn demand_of(i: Instr, registers: &Registers, pc: u32) -> Demand
         Instr::Ecall => Demand::Calls,
         Instr::Ebreak => Demand::Traps(Exit::Ebreak(pc)),
         Instr::Illegal { .. } => Demand::Traps(Exit::Illegal(pc)),
-        Instr::Lr { .. } | Instr::Sc { .. } | Instr::Amo { .. } => Demand::Unsupported,
+        Instr::Lr { rd, rs1, .. } => Demand::Reserves(rd, registers.get(rs1)),
+        Instr::Sc { rd, rs1, rs2, .. } => {
+            Demand::StoresIf(rd, registers.get(rs1), registers.get(rs2))
+        }
+        Instr::Amo {
+            op,
+            rd,
+            rs1,
+            rs2,
+            ..
+        } => Demand::Updates(op, rd, registers.get(rs1), registers.get(rs2)),
     }
 }
 

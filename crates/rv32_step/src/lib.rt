@@ -11,7 +11,7 @@ mod registers;
 pub use call::{call_step, cut_short};
 pub use demands::demand_of;
 pub use registers::Registers;
-use rv32_decode::{LoadKind, Reg, Width};
+use rv32_decode::{AmoOp, LoadKind, Reg, Width};
 use rv32_program::Exit;
 
 /// What an instruction asks for, apart from any memory.
@@ -33,8 +33,15 @@ pub enum Demand {
     Calls,
     /// The processor ends.
     Traps(Exit),
-    /// The instruction isn't executed by this version; no accepted program has it.
-    Unsupported,
+    /// The register gets the word at the address, which is reserved, and the next instruction
+    /// follows.
+    Reserves(Reg, u32),
+    /// The address gets the value and the register 0, where the address is reserved; else the
+    /// register gets 1. No reservation is left, and the next instruction follows.
+    StoresIf(Reg, u32, u32),
+    /// The register gets the word at the address, the address what the operation makes of that word
+    /// and the value, and the next instruction follows.
+    Updates(AmoOp, Reg, u32, u32),
 }
 
 /// One step of an environment call.
