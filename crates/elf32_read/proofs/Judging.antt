@@ -5,6 +5,7 @@ use Rattle.std.proofs.lemmas.Bool.{cases_lt, cases_eq, and_parts, or_cases, eqb-
 use Rattle.elf32_read.specs.declared.headers.FileHeader.{FileHeader}
 use Rattle.elf32_read.specs.declared.refused.FileRule.{FileRule}
 use Rattle.elf32_read.specs.declared.refused.FileRule.TheVariants.{Short, NotElf, NotElf32, NotExec, NotRiscv, Flags, ProgramTable, SectionTable, Dynamic, SegmentOutside, SegmentSizes}
+use Rattle.elf32_read.specs.Elf.{are_known_flags}
 use Rattle.elf32_read.specs.Fields.{file_header, program_headers}
 use Rattle.elf32_read.specs.Refusals.{Fits, number_of, IsRefusedBy, IsReadable, is_dynamic, is_outside, has_wrong_sizes, has_program_table, has_section_table}
 use Rattle.elf32_read.specs.Judging.{HasTables, NoRuleBelow}
@@ -178,3 +179,13 @@ readable_long file r =
 pub readable_tables : (file : List ℕ) → IsReadable file → HasTables file (file_header file)
 readable_tables file r =
     tables file (file_header file) refl (holds _ (r.no_rule ProgramTable)) (holds _ (r.no_rule SectionTable))
+
+-- a readable file has known flags
+pub readable_flags : (file : List ℕ) → IsReadable file
+    → are_known_flags (file_header file).e_flags ≡ true
+readable_flags file r = go (are_known_flags (file_header file).e_flags) refl
+  where
+    go : (b : Bool) → are_known_flags (file_header file).e_flags ≡ b
+        → are_known_flags (file_header file).e_flags ≡ true
+    go true e = e
+    go false e = absurd (r.no_rule (Flags (file_header file).e_flags) (refl, e))

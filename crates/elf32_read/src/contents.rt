@@ -1,12 +1,13 @@
 //! The segments and sections of a file that no rule refuses.
 
-ghost use Rattle.std.specs.Prelude.{◌≡◌, ◌+◌, ◌≤◌, ◌==◌, true, length, map, drop, position, IfOk};
+ghost use Rattle.std.specs.Prelude.{◌≡◌, ◌+◌, ◌^◌, ◌<◌, ◌≤◌, true, length, map, IfOk};
 ghost use Rattle.elf32_read.specs.Elf.{are_placed};
 ghost use Rattle.elf32_read.specs.Fields as fields;
 ghost use Rattle.elf32_read.specs.Reading as model;
 ghost use Rattle.elf32_read.specs.Segments.{segment_of, section_of};
 ghost use Rattle.elf32_read.specs.Refusals.{IsReadable};
 ghost use Rattle.elf32_read.specs.Judging.{HasTables};
+ghost use Rattle.elf32_read.specs.NameEnds.{AreEnds};
 
 use crate::headers::{FileHeader, ProgramHeader, SectionHeader, program_header, section_header};
 use crate::rules::{has_range, is_load};
@@ -64,24 +65,26 @@ pub fn sections(
         map section_of all.items ≡ (model.elf_of file.now).sections) }
 {
     let names = section_names(file, header);
+    let ends = name_ends(alloc, names)?;
     let mut all = Vec::new(alloc);
     for index in 1..header.e_shnum {
         if index == header.e_shstrndx {
             continue;
         }
         let h = section_header(file, header, index);
-        all.push(section(file, names, h))?;
+        all.push(section(file, names, &ends, h))?;
     }
     Ok(all)
 }
 
 /// The section of a header.
-fn section<'a>(file: &'a [u8], names: &'a [u8], h: SectionHeader) -> Section<'a>
-    requires { names.now ≡ model.section_names file.now }
+fn section<'a>(file: &'a [u8], names: &'a [u8], ends: &[u32], h: SectionHeader) -> Section<'a>
+    requires names { names.now ≡ model.section_names file.now }
+    requires ends { AreEnds names.now ends.now }
     ensures { section_of result ≡ model.section_in file.now h }
 {
     Section {
-        name: name_at(names, h.sh_name),
+        name: name_at(names, ends, h.sh_name),
         kind: h.sh_type,
         flags: h.sh_flags,
         addr: h.sh_addr,
@@ -93,7 +96,8 @@ fn section<'a>(file: &'a [u8], names: &'a [u8], h: SectionHeader) -> Section<'a>
 /// The bytes of the section that has the names.
 fn section_names(file: &[u8], header: FileHeader) -> &[u8]
     requires { HasTables file.now header }
-    ensures { result.now ≡ model.section_names file.now }
+    ensures names { result.now ≡ model.section_names file.now }
+    ensures short { length result.now < 2 ^ 32 }
 {
     if header.e_shstrndx < header.e_shnum {
         section_bytes(file, section_header(file, header, header.e_shstrndx))
@@ -104,7 +108,8 @@ fn section_names(file: &[u8], header: FileHeader) -> &[u8]
 
 /// The bytes that the file has for a section.
 fn section_bytes(file: &[u8], h: SectionHeader) -> &[u8]
-    ensures { result.now ≡ model.section_bytes file.now h }
+    ensures bytes { result.now ≡ model.section_bytes file.now h }
+    ensures short { length result.now < 2 ^ 32 }
 {
     if h.sh_type == NO_BITS || !has_range(file, h.sh_offset, h.sh_size) {
         &[]
@@ -114,31 +119,28 @@ fn section_bytes(file: &[u8], h: SectionHeader) -> &[u8]
     }
 }
 
+/// For each offset in the names up to the last zero byte, where the first zero byte is from there on.
+fn name_ends(alloc: Global, names: &[u8]) -> Result<Vec<u32>, AllocError>
+    requires short { length names.now < 2 ^ 32 }
+    ensures { IfOk result (λ ends. AreEnds names.now ends.items) }
+{
+    let mut ends = Vec::new(alloc);
+    for index in 0..names.len() {
+        if names[index] == 0 {
+            ends.resize(index + 1, index as u32)?;
+        }
+    }
+    Ok(ends)
+}
+
 /// The name at an offset in the names: the bytes up to the first that is zero.
-fn name_at(names: &[u8], offset: u32) -> &[u8]
+fn name_at<'a>(names: &'a [u8], ends: &[u32], offset: u32) -> &'a [u8]
+    requires { AreEnds names.now ends.now }
     ensures { result.now ≡ model.name_at names.now offset }
 {
-    let rest = names_from(names, offset as usize);
-    match first_zero(rest) {
-        Some(end) => &rest[..end],
+    let start = offset as usize;
+    match ends.get(start) {
+        Some(end) => &names[start..*end as usize],
         None => &[],
     }
-}
-
-/// The names from an offset on.
-fn names_from(names: &[u8], offset: usize) -> &[u8]
-    ensures { result.now ≡ drop offset names.now }
-{
-    if offset < names.len() {
-        &names[offset..]
-    } else {
-        &[]
-    }
-}
-
-/// Where the first byte is that is zero.
-fn first_zero(bytes: &[u8]) -> Option<usize>
-    ensures { result ≡ position (λ b. b == 0) bytes.now }
-{
-    bytes.iter().position(|byte| *byte == 0)
 }

@@ -2,7 +2,7 @@
 //! Reads ELF32 executables.
 
 ghost use Rattle.std.specs.Prelude.{◌≡◌, ℕ, List, true, map, is_some, IfSome, IfOk, OnOk, IsErrOf};
-ghost use Rattle.elf32_read.specs.Elf.{are_placed, is_in_limits};
+ghost use Rattle.elf32_read.specs.Elf.{are_placed, is_in_limits, are_known_flags};
 ghost use Rattle.elf32_read.specs.Segments.{segment_of, section_of, elf_with};
 ghost use Rattle.elf32_read.specs.Reading.{elf_of};
 ghost use Rattle.elf32_read.specs.Refusals.{IsReadable, IsRefusedBy};
@@ -58,7 +58,7 @@ pub struct Elf<'a> {
 
 impl<'a> Model for Elf<'a> {
     ghost use Rattle.std.specs.Prelude.{◌≡◌, map, true};
-    ghost use Rattle.elf32_read.specs.Elf.{Elf as Fields, are_placed};
+    ghost use Rattle.elf32_read.specs.Elf.{Elf as Fields, are_placed, are_known_flags};
     ghost use Rattle.elf32_read.specs.Segments.{segment_of, section_of};
 
     ghost Value = { Fields };
@@ -70,7 +70,8 @@ impl<'a> Model for Elf<'a> {
       sections = map section_of e.sections.items;
     } };
 
-    ghost invariant = { λ e. are_placed (map segment_of e.segments.items) ≡ true };
+    ghost invariant = { λ e. (are_placed (map segment_of e.segments.items) ≡ true)
+        × (are_known_flags e.flags ≡ true) };
 }
 
 impl<'a> Elf<'a> {
@@ -117,7 +118,8 @@ impl<'a> Elf<'a> {
 
     /// The processor's flags (e_flags).
     pub fn flags(&self) -> u32
-        ensures { result ≡ self.now.flags }
+        ensures value { result ≡ self.now.flags }
+        ensures known { are_known_flags self.now.flags ≡ true }
     {
         self.flags
     }
@@ -141,8 +143,7 @@ impl<'a> Elf<'a> {
 /// Reads a file. The segments and sections borrow its bytes.
 ///
 /// Fails with the first rule that fits the file, in the order of their numbers, and with the least
-/// program header of that rule. Takes time in proportion to the headers and the lengths of the
-/// sections' names.
+/// program header of that rule. Takes time in proportion to the headers and the section of names.
 pub fn read_elf(alloc: Global, file: &[u8]) -> Result<Elf<'_>, ElfRefused>
     ensures ok { IfOk result (λ e. e ≡ elf_of file.now) }
     ensures readable { OnOk result (IsReadable file.now) }

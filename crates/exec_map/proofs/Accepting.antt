@@ -1,10 +1,9 @@
 -- Going through the code words in order, and what an accepted program is.
 use Rattle.std.proofs.Common.{◌≡◌, ℕ, ◌+◌, ◌*◌, ◌^◌, ◌%◌, ◌<◌, ◌≤◌, Bool, true, false, ◌&&◌, ◌==◌, cond, inl, inr, Option, Some, None, List, [], length, get_or, IfSome, IfNone, refl, sym, ap, subst, ◌∙◌, arith}
-use Rattle.std.specs.Prelude.{nat_lt, nat_le, find}
+use Rattle.std.specs.Prelude.{nat_lt, nat_le, find, is_some}
 use Rattle.std.specs.List.{list_any}
 use Rattle.std.proofs.lemmas.Bool.{cases_lt, cases_Bool, false≢true, and_parts, and_left, and_right, true_from_ne_false, le-ltb, leb-true, cond-false}
 use Rattle.std.proofs.lemmas.Bool.Decides.{nat_tests}
-use Rattle.std.specs.Option.{option_map_or}
 use Rattle.std.proofs.lemmas.List.Folds.{Any-from_list_any}
 use Rattle.std.proofs.lemmas.List.Sums.{AllPass-from_list_all}
 use Rattle.std.proofs.lemmas.List.Recursion.{found_nowhere}
@@ -15,7 +14,7 @@ use Rattle.rv32_program.specs.declared.Class.TheVariants.{Unmapped}
 use Rattle.exec_map.specs.declared.refused.ProgramRule.TheVariants.{EntryNotCode}
 use Rattle.exec_map.specs.Refusals.{IsAcceptable, has_memory, is_too_high}
 use Rattle.exec_map.proofs.Words.{high_end, not_high, no_word}
-use Rattle.rv32_program.specs.Program.{IsAccepted, is_supported}
+use Rattle.rv32_program.specs.Program.{IsAccepted}
 use Rattle.exec_map.specs.declared.stretches.Stretch.{Stretch}
 use Rattle.exec_map.specs.Index.{AreCode, NoRuleBelow, have}
 use Rattle.exec_map.specs.Contents.{is_executable, is_private, segment_class, class_of_line, touches, holds_word, is_code_word, word_of, is_supported_word, program_of, AllSupported}
@@ -110,10 +109,7 @@ code_parts : (b : Bool) (o : Option Instr) (i : Instr) → cond b o None ≡ Som
 code_parts true o i h = (refl, h)
 code_parts false o i h = absurd (cc)
 
-supported_in : (o : Option Instr) (i : Instr) → o ≡ Some i → option_map_or is_supported o false ≡ true → is_supported i ≡ true
-supported_in o i is supported = subst (λ x. option_map_or is_supported x false ≡ true) is supported
-
-instruction_in : (o : Option Instr) → option_map_or is_supported o false ≡ true → (i : Instr) × (o ≡ Some i)
+instruction_in : (o : Option Instr) → is_some o ≡ true → (i : Instr) × (o ≡ Some i)
 instruction_in None h = absurd (false≢true h)
 instruction_in (Some i) h = (i, refl)
 
@@ -127,7 +123,6 @@ accepted e placed h all =
     record {
       aligned = λ a i is. aligned (a % 4) _ (code_parts (is_code_word e a) _ i is).0;
       low = λ a i is. word_low e placed (none_below e h) a (code_parts (is_code_word e a) _ i is).0;
-      supported = λ a i is. let parts = code_parts (is_code_word e a) _ i is in supported_in _ i parts.1 (all.supported a parts.0);
       upper = λ line high. upper e (none_below e h) line high;
       first_instruction = first.0;
       starts = ap (λ b. cond b (instruction_of (word_of e e.entry)) None) starts ∙ first.1;

@@ -1,6 +1,6 @@
 -- The program that an executable's segments and sections hold
 -- (System V ABI, "Object Files": Section Header; "Program Loading": Program Header).
-use Rattle.std.specs.Prelude.{◌≡◌, ℕ, zero, suc, ◌+◌, ◌-◌, ◌*◌, ◌%◌, ◌<◌, ◌≤◌, Bool, true, false, not, if◌then◌else◌, ◌&&◌, ◌==◌, nat_lt, nat_le, List, [], ◌∷◌, Option, Some, None, length, slice_index, find, AllPairs}
+use Rattle.std.specs.Prelude.{◌≡◌, ℕ, zero, suc, ◌+◌, ◌-◌, ◌*◌, ◌%◌, ◌<◌, ◌≤◌, Bool, true, false, not, if◌then◌else◌, ◌&&◌, ◌==◌, nat_lt, nat_le, List, [], ◌∷◌, Option, Some, None, length, slice_index, find, is_some, AllPairs}
 use Rattle.std.specs.List.{list_any}
 use Rattle.std.specs.Option.{option_map_or}
 use Rattle.rv32_decode.specs.Fields.{bit}
@@ -13,7 +13,7 @@ use Rattle.block_layout.specs.declared.ranges.Lines.{Lines}
 use Rattle.elf32_read.specs.Elf.{Elf, Segment, Section}
 use Rattle.rv32_program.specs.declared.Class.{Class}
 use Rattle.rv32_program.specs.declared.Class.TheVariants.{Shared, ReadOnly, Private, Unmapped}
-use Rattle.rv32_program.specs.Program.{Program, is_supported}
+use Rattle.rv32_program.specs.Program.{Program}
 
 -- PF_X and PF_W of a segment's permissions
 abbrev pub is_executable : Segment → Bool
@@ -111,11 +111,11 @@ program_of e = record {
   entry = e.entry;
 }
 
--- the word has a row, and its instruction is executed by this version
+-- the word has a row
 abbrev pub is_supported_word : ℕ → Bool
-is_supported_word word = option_map_or is_supported (instruction_of word) false
+is_supported_word word = is_some (instruction_of word)
 
--- every code word has a row, and its instruction is executed by this version
+-- every code word has a row
 pub record AllSupported (e : Elf) : Type 0 where
   pub supported : (a : ℕ) → is_code_word e a ≡ true → is_supported_word (word_of e a) ≡ true
 

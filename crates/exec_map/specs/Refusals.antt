@@ -56,7 +56,7 @@ IsTooMuch segments ReadOnly =
     × (line_limit < lines_of_all (λ s. not (is_writable s)) segments)
 IsTooMuch segments c = ⊥
 
--- the lowest code word that isn't supported
+-- the lowest code word that has no row
 pub record IsFirstUnsupported (e : Elf) (a word : ℕ) : Type 0 where
   pub code_word : is_code_word e a ≡ true
   pub reads : word ≡ word_of e a

@@ -27,7 +27,8 @@ pub fn ranges<'a>(
     e: &Elf<'a>,
     segments: &[Segment<'a>],
 ) -> Result<Vec<Stretch>, AllocError>
-    requires permutation { IsPermutation (filter has_memory e.now.segments) (map segment_of segments.now) }
+    requires permutation { IsPermutation (filter has_memory e.now.segments)
+        (map segment_of segments.now) }
     requires searchable { AreSearchable (map segment_of segments.now) }
     requires placed { are_placed e.now.segments ≡ true }
     requires low { NoRuleBelow e.now 15 }
@@ -44,7 +45,8 @@ pub fn ranges<'a>(
 
 /// The words that the file has for the executable segments.
 fn of_segments(alloc: Global, segments: &[Segment<'_>]) -> Result<Vec<Stretch>, AllocError>
-    ensures { IfOk result (λ v. v.items ≡ filter_map (λ s. words_of_segment (segment_of s)) segments.now) }
+    ensures { IfOk result (λ v.
+        v.items ≡ filter_map (λ s. words_of_segment (segment_of s)) segments.now) }
 {
     segments.iter().filter_map(|s| of_segment(s)).collect(alloc)
 }
@@ -64,7 +66,8 @@ fn of_segment(s: &Segment<'_>) -> Option<Stretch>
 fn of_sections(alloc: Global, sections: &[Section<'_>]) -> Result<Vec<Stretch>, AllocError>
     ensures stretches { IfOk result (λ v. AreStretches v.items) }
     ensures whole { IfOk result (λ v. All IsOfWords v.items) }
-    ensures words { (a : ℕ) → IfOk result (λ v. have v.items a ≡ have (filter_map (λ s. words_of_section (section_of s)) sections.now) a) }
+    ensures words { (a : ℕ) → IfOk result (λ v. have v.items a ≡
+        have (filter_map (λ s. words_of_section (section_of s)) sections.now) a) }
 {
     let mut all = section_words(alloc, sections)?;
     all.sort_unstable_by_key(|r| r.first);
@@ -74,7 +77,8 @@ fn of_sections(alloc: Global, sections: &[Section<'_>]) -> Result<Vec<Stretch>, 
 
 /// The words of each section of code, in the order of the sections.
 fn section_words(alloc: Global, sections: &[Section<'_>]) -> Result<Vec<Stretch>, AllocError>
-    ensures { IfOk result (λ v. v.items ≡ filter_map (λ s. words_of_section (section_of s)) sections.now) }
+    ensures { IfOk result (λ v.
+        v.items ≡ filter_map (λ s. words_of_section (section_of s)) sections.now) }
 {
     sections.iter().filter_map(|s| of_section(s)).collect(alloc)
 }
@@ -122,7 +126,8 @@ pub fn next_word(code: &[Stretch], from: u32) -> Option<u32>
     requires low { All (λ r. r.end ≤ 2 ^ 31) code.now }
     ensures from { IfSome result (λ a. from ≤ a) }
     ensures some { IfSome result (λ a. ((a % 4 == 0) && have code.now a) ≡ true) }
-    ensures least { IfSome result (λ a. (b : ℕ) → from ≤ b → b < a → ((b % 4 == 0) && have code.now b) ≡ false) }
+    ensures least { IfSome result (λ a. (b : ℕ) → from ≤ b → b < a
+        → ((b % 4 == 0) && have code.now b) ≡ false) }
     ensures none { IfNone result ((b : ℕ) → from ≤ b → ((b % 4 == 0) && have code.now b) ≡ false) }
     ensures low { IfSome result (λ a. a + 4 ≤ 2 ^ 31) }
 {

@@ -24,7 +24,7 @@ pub enum ProgramRule {
     TooMuch { class: Class },
     /// The entry is not the address of a code word.
     EntryNotCode { address: u32 },
-    /// The word at the address is no instruction that is executed by this version.
+    /// The word at the address is no instruction.
     Unsupported { address: u32, word: u32 },
     /// The section of code has an address or a size that is not a multiple of four, or no
     /// executable segment's file bytes have all of it.

@@ -11,7 +11,6 @@ use crate::stretches::Stretch;
 use crate::{Class, ProgramRule, code, segment, segments};
 use elf32_read::{Elf, Section, Segment};
 use rv32_decode::{Width, decode};
-use rv32_program::is_supported;
 
 /// More lines of a class than these are refused: 16 MiB.
 const LINE_LIMIT: u64 = 262_144;
@@ -66,7 +65,8 @@ fn first_writable_code(all: &[Segment<'_>]) -> Option<usize>
 /// The first segment that has a line in common with a later one, and the first of those.
 fn first_overlap(all: &[Segment<'_>]) -> Option<(usize, usize)>
     ensures some { IfSome result (λ p. model.IsFirstOverlap (map segment_of all.now) p.0 p.1) }
-    ensures none { IfNone result ((k l : ℕ) → model.AreOverlapping (map segment_of all.now) k l → ⊥) }
+    ensures none { IfNone result ((k l : ℕ) →
+        model.AreOverlapping (map segment_of all.now) k l → ⊥) }
 {
     for first in 0..all.len() {
         for second in first + 1..all.len() {
@@ -122,7 +122,8 @@ pub fn broken_by_code(e: &Elf<'_>, sorted: &[Segment<'_>], code: &[Stretch]) -> 
 /// The class of which there are too many lines.
 fn class_of_too_much(all: &[Segment<'_>]) -> Option<Class>
     ensures some { IfSome result (model.IsTooMuch (map segment_of all.now)) }
-    ensures none { IfNone result ((class : Class) → model.IsTooMuch (map segment_of all.now) class → ⊥) }
+    ensures none { IfNone result ((class : Class) →
+        model.IsTooMuch (map segment_of all.now) class → ⊥) }
 {
     if is_too_much(all, true) {
         Some(Class::Shared)
@@ -135,7 +136,8 @@ fn class_of_too_much(all: &[Segment<'_>]) -> Option<Class>
 
 /// Whether there are too many lines of segments that are writable, or that are not.
 fn is_too_much(all: &[Segment<'_>], writable: bool) -> bool
-    ensures { result ≡ nat_lt model.line_limit (model.lines_of_all (is_of_kind writable) (map segment_of all.now)) }
+    ensures { result ≡ nat_lt model.line_limit
+        (model.lines_of_all (is_of_kind writable) (map segment_of all.now)) }
 {
     let mut lines = 0;
     for s in all {
@@ -149,7 +151,7 @@ fn is_too_much(all: &[Segment<'_>], writable: bool) -> bool
     false
 }
 
-/// The lowest code word that is no instruction of this version, with its address.
+/// The lowest code word that is no instruction, with its address.
 fn first_unsupported(e: &Elf<'_>, sorted: &[Segment<'_>], code: &[Stretch]) -> Option<(u32, u32)>
     requires index { IsIndex e.now (map segment_of sorted.now) code.now }
     requires before { NoRuleBelow e.now 15 }
@@ -167,17 +169,18 @@ fn first_unsupported(e: &Elf<'_>, sorted: &[Segment<'_>], code: &[Stretch]) -> O
     None
 }
 
-/// Whether a word is an instruction of this version.
+/// Whether a word is an instruction.
 fn is_supported_word(word: u32) -> bool
     ensures { result ≡ contents.is_supported_word word }
 {
-    decode(word).is_some_and(|i| is_supported(i))
+    decode(word).is_some()
 }
 
 /// The first section of code that is not whole words of an executable segment's file bytes.
 fn first_broken_section(sections: &[Section<'_>], sorted: &[Segment<'_>]) -> Option<usize>
     requires { AreSearchable (map segment_of sorted.now) }
-    ensures { result ≡ position (model.is_broken_code (map segment_of sorted.now)) (map section_of sections.now) }
+    ensures { result ≡ position (model.is_broken_code (map segment_of sorted.now))
+        (map section_of sections.now) }
 {
     for place in 0..sections.len() {
         if is_broken_code(&sections[place], sorted) {

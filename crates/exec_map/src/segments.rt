@@ -56,7 +56,8 @@ pub fn are_apart(sorted: &[Segment<'_>]) -> bool
 /// The segment that has a byte in the line.
 pub fn at_line<'s, 'a>(sorted: &'s [Segment<'a>], line: u32) -> Option<&'s Segment<'a>>
     requires { AreSearchable (map segment_of sorted.now) }
-    ensures { option_map segment_of (option_copied result) ≡ find (model.touches line) (map segment_of sorted.now) }
+    ensures { option_map segment_of (option_copied result) ≡
+        find (model.touches line) (map segment_of sorted.now) }
 {
     let s = sorted.get(passed(sorted, line))?;
     if segment::touches(s, line) {
@@ -70,7 +71,8 @@ pub fn at_line<'s, 'a>(sorted: &'s [Segment<'a>], line: u32) -> Option<&'s Segme
 fn passed(sorted: &[Segment<'_>], line: u32) -> usize
     requires { AreSearchable (map segment_of sorted.now) }
     ensures passed { AllWithin (λ s. end_line s ≤ line) (map segment_of sorted.now) 0 result }
-    ensures ahead { AllWithin (λ s. line < end_line s) (map segment_of sorted.now) result (length sorted.now) }
+    ensures ahead { AllWithin (λ s. line < end_line s) (map segment_of sorted.now)
+        result (length sorted.now) }
 {
     sorted.partition_point(|s| segment::end_line(s) <= u64::from(line))
 }
@@ -78,7 +80,8 @@ fn passed(sorted: &[Segment<'_>], line: u32) -> usize
 /// The segment for which the file has a byte of the address.
 fn at<'s, 'a>(sorted: &'s [Segment<'a>], address: u32) -> Option<&'s Segment<'a>>
     requires { AreSearchable (map segment_of sorted.now) }
-    ensures value { option_map segment_of (option_copied result) ≡ find (model.holds address) (map segment_of sorted.now) }
+    ensures value { option_map segment_of (option_copied result) ≡
+        find (model.holds address) (map segment_of sorted.now) }
     ensures holds { IfSome result (λ s. model.holds address (segment_of s.now) ≡ true) }
 {
     let s = at_line(sorted, address / 64)?;

@@ -88,8 +88,10 @@ pub fn common(
     requires left { AreStretches left.now }
     requires right { AreStretches right.now }
     ensures stretches { IfOk result (λ v. AreStretches v.items) }
-    ensures whole { All IsOfWords left.now → All IsOfWords right.now → IfOk result (λ v. All IsOfWords v.items) }
-    ensures numbers { (n : ℕ) → IfOk result (λ v. have v.items n ≡ have left.now n && have right.now n) }
+    ensures whole { All IsOfWords left.now → All IsOfWords right.now
+        → IfOk result (λ v. All IsOfWords v.items) }
+    ensures numbers { (n : ℕ) → IfOk result (λ v.
+        have v.items n ≡ have left.now n && have right.now n) }
 {
     let mut common = Vec::new(alloc);
     let mut i = 0;

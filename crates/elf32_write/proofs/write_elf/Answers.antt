@@ -82,7 +82,7 @@ written_file c =
     file_written c.args.e.now ss ts c.args.out.now.items c.push_file_header.new.out.items c.push_program_table.new.out.items
     c.push_segment_bytes.new.out.items c.push_section_part.new.out.items c.table_of-table.result c.entry.result c.flags.result
     (length c.segments-segments.result.now) c.segments_end-end.result (vec_len c.push_program_table.new.out) (vec_len c.push_segment_bytes.new.out)
-    c.segments-segments.ensures.value c.sections-sections.ensures.value c.entry.ensures c.flags.ensures count
+    c.segments-segments.ensures.value c.sections-sections.ensures.value c.entry.ensures c.flags.ensures.value count
     c.segments_end-end.ensures c.table_of-table.ensures start end c.requires.empty c.in_ok-push_file_header.ensures.items
     c.in_ok-push_program_table.ensures.items c.in_ok-push_segment_bytes.ensures.items c.in_ok-push_section_part.ensures.items
 
