@@ -1,8 +1,13 @@
 mod ServeLemmas
 mod ReadLemmas
+mod ReservedLemmas
 mod StepLemmas
+mod StoreLemmas
+mod BreakLemmas
 mod CodeLemmas
 mod TurnLemmas
 mod ListLemmas
 mod OrderLemmas
 mod LoneLemmas
+mod MayBreakLemmas
+mod ReservingLemmas

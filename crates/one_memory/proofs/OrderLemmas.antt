@@ -1,6 +1,6 @@
 -- A step of one of the processors that go on.
 use Rattle.std.proofs.Common.{◌≡◌, ◌≢◌, ℕ, zero, suc, ◌+◌, ◌-◌, ◌<◌, ◌≤◌, ◌&&◌, not, Bool, true, false, List, [], ◌∷◌, ◌++◌, length, get_or, set, replicate, map, Option, Some, None, refl, sym, ap, ◌∙◌, subst, arith, inl, inr, Result, Ok, Err, IfOk}
-use Rattle.std.specs.Prelude.{is_some, nat_lt, slice_index}
+use Rattle.std.specs.Prelude.{is_some, nat_lt, slice_index, if◌then◌else◌}
 use Rattle.std.specs.List.{range_with_len, remove}
 use Rattle.std.proofs.Math.Path.{fun_ext}
 use Rattle.std.proofs.lemmas.Bool.{ltb-true, lt-ltb}
@@ -9,7 +9,9 @@ use Rattle.std.proofs.lemmas.List.{get_or-set_same, get_or-set_other, get_or_rea
 use Rattle.std.proofs.lemmas.List.FromFn.{map-range_with_len_more}
 use Rattle.rv32_program.specs.declared.End.{End}
 use Rattle.rv32_program.specs.declared.Exit.{Exit}
-use Rattle.rv32_step.specs.OneMemory.{Original, Processor, State, Step, run, Request, Becomes, Prints, LoadsFrom, StoresTo, opening, answer, request, step, with_processor}
+use Rattle.rv32_step.specs.OneMemory.{Original, Processor, State, Step, run, Request, Becomes, Prints, LoadsFrom, StoresTo, ReservesAt, StoresWhere, UpdatesAt, opening, answer, request, step, with_processor, with_store, after_conditional}
+use Rattle.rv32_decode.specs.declared.Width.TheVariants.{Word}
+use Rattle.llsc.specs.Reservation.{holds}
 use Rattle.workload.specs.Orders.{following, choice}
 use Rattle.one_memory.specs.ByOrder.{one_more, goes_on, live, FollowsOrder, state_after, end_by, ends_by, IsRunByOrder}
 use Rattle.one_memory.specs.Machine.{state_of, original_of}
@@ -25,11 +27,21 @@ pub record IsStep (o : Original) (p : ℕ) (steps : ℕ → ℕ) (s : State) (st
 other_unless : (s : State) (p : ℕ) (x : Processor) (q : ℕ) → q ≢ p → (with_processor s p x).processors q ≡ s.processors q
 other_unless s p x q ne = elim (eqb_tells q p) [ inl e ↦ absurd (ne e.1) | inr e ↦ rw e.0 refl ]
 
+other_conditional : (o : Original) (s : State) (p : ℕ) (x : Processor) (a v : ℕ) (reserved : Bool) (q : ℕ) → q ≢ p → (if reserved then with_store o s p x Word a v else s).processors q ≡ s.processors q
+other_conditional o s p x a v true q ne = other_unless s p x q ne
+other_conditional o s p x a v false q ne = refl
+
 other_answered : (o : Original) (s : State) (p : ℕ) (x : Processor) (a : Request) (q : ℕ) → q ≢ p → (answer o s p x a).state.processors q ≡ s.processors q
 other_answered o s p x (Becomes y) q ne = other_unless s p y q ne
 other_answered o s p x (Prints a) q ne = other_unless s p _ q ne
 other_answered o s p x (LoadsFrom k r a) q ne = other_unless s p _ q ne
 other_answered o s p x (StoresTo w a v) q ne = other_unless s p _ q ne
+other_answered o s p x (ReservesAt r a) q ne = other_unless s p _ q ne
+other_answered o s p x (StoresWhere r a v) q ne =
+    let reserved = holds (s.reservations p) a in
+    let y = after_conditional o.program x r a v reserved in
+    other_unless (if reserved then with_store o s p y Word a v else s) p y q ne ∙ other_conditional o s p y a v reserved q ne
+other_answered o s p x (UpdatesAt f r a v) q ne = other_unless s p _ q ne
 
 other_steps : (steps : ℕ → ℕ) (p q : ℕ) → q ≢ p → one_more steps p q ≡ steps q
 other_steps steps p q ne = elim (eqb_tells q p) [ inl e ↦ absurd (ne e.1) | inr e ↦ rw e.0 refl ]

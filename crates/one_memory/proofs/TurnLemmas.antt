@@ -9,40 +9,49 @@ use Rattle.std.proofs.lemmas.List.{length-append}
 use Rattle.std.proofs.lemmas.Option.{slice_get_past}
 use Rattle.elf32_read.specs.Elf.{Elf}
 use Rattle.exec_map.specs.Contents.{program_of, first_byte}
+use Rattle.block_layout.specs.Layout.{Shape}
 use Rattle.byte_range.specs.Lines.{lines_memory}
 use Rattle.rv32_program.specs.declared.Exit.{Exit}
 use Rattle.rv32_step.specs.OneMemory.{Original, Processor, State, first_processor, opening, answer, request, step}
 use Rattle.one_memory.specs.declared.processor.Processor.{Processor as ProcessorParts}
-use Rattle.one_memory.specs.Machine.{MemoryParts, Parts, processor_of, state_among, original_on, original_of, processors_of, state_of, with_one, Answers}
+use Rattle.one_memory.specs.Machine.{MemoryParts, Parts, processor_of, state_among, original_on, original_of, processors_of, state_of, with_one, reserved_in, Answers}
 use Rattle.one_memory.specs.Turns.{after_steps, AreTurns, Turns}
 use Rattle.one_memory.proofs.CodeLemmas.{get_push_before, get_push_last}
 
 one_here : (all : ℕ → Processor) (p : ℕ) (q : Processor) → with_one all p q p ≡ q
 one_here all p q = elim (eqb_tells p p) [ inl e ↦ rw e.0 refl | inr e ↦ absurd (e.1 refl) ]
 
-one_over : (all : ℕ → Processor) (p : ℕ) (q q' : Processor) → with_one (with_one all p q) p q' ≡ with_one all p q'
+pub one_over : (all : ℕ → Processor) (p : ℕ) (q q' : Processor) → with_one (with_one all p q) p q' ≡ with_one all p q'
 one_over all p q q' = fun_ext (λ i. elim (eqb_tells i p) [ inl e ↦ rw e.0 refl | inr e ↦ rw e.0 refl ])
 
-abbrev pub original_with : ℕ → Elf → Original
-original_with nodes e = record { program = program_of e; nodes = nodes }
+abbrev pub original_with : ℕ → Shape → Elf → Original
+original_with nodes layout e = record { program = program_of e; layout = layout; nodes = nodes }
 
 -- no step
-pub no_turns : (m : MemoryParts) (k : ProcessorParts) → Turns 0 m k m k
-no_turns m k = λ nodes p all. record { state = refl; runs = λ j lt. absurd (omega (arith, lt)) }
+pub no_turns : (p : ℕ) (m : MemoryParts) (k : ProcessorParts) → Turns p 0 m k m k
+no_turns p m k = λ nodes all. record { state = refl; runs = λ j lt. absurd (omega (arith, lt)) }
+
+-- the same program and layout
+pub record IsSameCode (m m' : MemoryParts) : Type 0 where
+  pub program : m'.program ≡ m.program
+  pub layout : m'.layout ≡ m.layout
+
+pub same_original : (m m' : MemoryParts) (nodes : ℕ) → IsSameCode m m' → original_on m' nodes ≡ original_on m nodes
+same_original m m' nodes h = λ t. record { program = program_of (h.program t); layout = h.layout t; nodes = nodes }
 
 -- one step more, from one that has no exit
-pub turn_more : (n : ℕ) (m m1 m2 : MemoryParts) (k k1 k2 : ProcessorParts) → m1.program ≡ m.program → k1.exit ≡ None → Turns n m k m1 k1 → Answers (request (program_of m1.program) (processor_of k1)) m1 k1 m2 k2 → Turns (n + 1) m k m2 k2
-turn_more n m m1 m2 k k1 k2 program runs turns answers = λ nodes p all.
+pub turn_more : (p n : ℕ) (m m1 m2 : MemoryParts) (k k1 k2 : ProcessorParts) → IsSameCode m m1 → k1.exit ≡ None → Turns p n m k m1 k1 → Answers p (request (program_of m1.program) (processor_of k1)) m1 k1 m2 k2 → Turns p (n + 1) m k m2 k2
+turn_more p n m m1 m2 k k1 k2 code runs turns answers = λ nodes all.
     let original = original_on m nodes in
     let s = state_among (with_one all p (processor_of k)) m in
     let s1 = state_among (with_one all p (processor_of k1)) m1 in
     let s2 = state_among (with_one all p (processor_of k2)) m2 in
-    let so_far = turns nodes p all in
-    let same : original_on m1 nodes ≡ original = ap (original_with nodes) program in
+    let so_far = turns nodes all in
+    let same : original_on m1 nodes ≡ original = same_original m m1 nodes code in
     let here = one_here all p (processor_of k1) in
     let stepped : s2 ≡ (step original s1 p).state =
     ap (λ a. state_among a m2) (sym (one_over all p (processor_of k1) (processor_of k2)))
-    ∙ sym (answers nodes p (with_one all p (processor_of k1)))
+    ∙ sym (answers nodes (with_one all p (processor_of k1)))
     ∙ ap (λ (o : Original). (answer o s1 p (processor_of k1) (request o.program (processor_of k1))).state) same
     ∙ sym (ap (λ q. (answer original s1 p q (request original.program q)).state) here) in
     let last : n + 1 ≡ suc n = omega arith in
@@ -76,8 +85,8 @@ one_first original ks count k h here = record {
 }
 
 -- the parts at the start
-pub opened : (m : MemoryParts) (n : ℕ) (ks : List ProcessorParts) → lines_memory m.shared (first_byte m.program) ≡ first_byte m.program → m.output ≡ [] → AreFirst (original_on m n) ks n → state_of (record { memory = m; count = n; processors = ks }) ≡ opening (original_on m n)
-opened m n ks shared output first =
+pub opened : (m : MemoryParts) (n : ℕ) (ks : List ProcessorParts) → lines_memory m.shared (first_byte m.program) ≡ first_byte m.program → m.output ≡ [] → reserved_in m.reserved ≡ (λ _. None) → AreFirst (original_on m n) ks n → state_of (record { memory = m; count = n; processors = ks }) ≡ opening (original_on m n)
+opened m n ks shared output none first =
     let h : Parts = record { memory = m; count = n; processors = ks } in
     let all : processors_of h ≡ first_processor (original_on m n) = fun_ext (λ p. elim (cases_lt p n) [
       | inl below ↦ first.each p (first_processor (original_on m n) p) below
@@ -85,7 +94,7 @@ opened m n ks shared output first =
           let past = slice_get_past ks p (omega (arith, first.len)) in
           ap (λ o. option_map_or processor_of o (first_processor (original_on m n) p)) past
     ]) in
-    λ t. record { shared = shared t; processors = all t; output = output t }
+    λ t. record { shared = shared t; processors = all t; reservations = none t; output = output t }
 
 get_set_same : {X : Type 0} (xs : List X) (i : ℕ) (y : X) → i < length xs → slice_get (set xs i y) i ≡ Some y
 get_set_same [] i y h = absurd (omega arith)
@@ -107,10 +116,10 @@ here h p k is = ap (λ o. option_map_or processor_of o (first_processor (origina
 abbrev pub parts_with : Parts → MemoryParts → ℕ → ProcessorParts → Parts
 parts_with h m p k = record { memory = m; count = h.count; processors = set h.processors p k }
 
-one_replaced : (h : Parts) (m : MemoryParts) (p : ℕ) (k : ProcessorParts) → p < length h.processors → m.program ≡ h.memory.program → processors_of (parts_with h m p k) ≡ with_one (processors_of h) p (processor_of k)
+one_replaced : (h : Parts) (m : MemoryParts) (p : ℕ) (k : ProcessorParts) → p < length h.processors → IsSameCode h.memory m → processors_of (parts_with h m p k) ≡ with_one (processors_of h) p (processor_of k)
 one_replaced h m p k within same = fun_ext (λ j. elim (eqb_tells j p) [
   | inl e ↦ rw (e.0, e.1, get_set_same h.processors p k within) refl
-  | inr e ↦ rw (e.0, get_set_other h.processors p j k e.1) (ap (λ (x : Elf). option_map_or processor_of (slice_get h.processors j) (first_processor (original_with h.count x) j)) same)
+  | inr e ↦ rw (e.0, get_set_other h.processors p j k e.1) (ap (λ (o : Original). option_map_or processor_of (slice_get h.processors j) (first_processor o j)) (same_original h.memory m h.count same))
 ])
 
 one_same : (h : Parts) (p : ℕ) (k : ProcessorParts) → slice_get h.processors p ≡ Some k → with_one (processors_of h) p (processor_of k) ≡ processors_of h
@@ -120,19 +129,19 @@ one_same h p k is = fun_ext (λ j. elim (eqb_tells j p) [
 ])
 
 -- the parts after a step
-pub stepped : (h : Parts) (m : MemoryParts) (p : ℕ) (k k' : ProcessorParts) → p < length h.processors → slice_get h.processors p ≡ Some k → m.program ≡ h.memory.program → Answers (request (original_of h).program (processor_of k)) h.memory k m k' → state_of (parts_with h m p k') ≡ (step (original_of h) (state_of h) p).state
+pub stepped : (h : Parts) (m : MemoryParts) (p : ℕ) (k k' : ProcessorParts) → p < length h.processors → slice_get h.processors p ≡ Some k → IsSameCode h.memory m → Answers p (request (original_of h).program (processor_of k)) h.memory k m k' → state_of (parts_with h m p k') ≡ (step (original_of h) (state_of h) p).state
 stepped h m p k k' within is same answers =
     ap (λ all. state_among all m) (one_replaced h m p k' within same)
-    ∙ sym (answers h.count p (processors_of h))
+    ∙ sym (answers h.count (processors_of h))
     ∙ sym (ap (λ q. (answer (original_of h) (state_of h) p q (request (original_of h).program q)).state) (here h p k is))
 
 -- the parts after the steps of one
-pub turned : (h : Parts) (m : MemoryParts) (p n : ℕ) (k k' : ProcessorParts) → p < length h.processors → slice_get h.processors p ≡ Some k → m.program ≡ h.memory.program → Turns n h.memory k m k' → AreTurns (original_of h) p n (state_of h) (state_of (parts_with h m p k'))
+pub turned : (h : Parts) (m : MemoryParts) (p n : ℕ) (k k' : ProcessorParts) → p < length h.processors → slice_get h.processors p ≡ Some k → IsSameCode h.memory m → Turns p n h.memory k m k' → AreTurns (original_of h) p n (state_of h) (state_of (parts_with h m p k'))
 turned h m p n k k' within is same turns =
     let from : state_among (with_one (processors_of h) p (processor_of k)) h.memory ≡ state_of h = ap (λ all. state_among all h.memory) (one_same h p k is) in
     let to : state_among (with_one (processors_of h) p (processor_of k')) m ≡ state_of (parts_with h m p k') = ap (λ all. state_among all m) (sym (one_replaced h m p k' within same)) in
     subst (λ (s : State). AreTurns (original_of h) p n s (state_of (parts_with h m p k'))) from
-    (subst (λ (t : State). AreTurns (original_of h) p n (state_among (with_one (processors_of h) p (processor_of k)) h.memory) t) to (turns h.count p (processors_of h)))
+    (subst (λ (t : State). AreTurns (original_of h) p n (state_among (with_one (processors_of h) p (processor_of k)) h.memory) t) to (turns h.count (processors_of h)))
 
 -- a processor of the list that has no exit
 pub not_ended : (h : Parts) (p : ℕ) (k : ProcessorParts) (b : Bool) → slice_get h.processors p ≡ Some k → b ≡ is_some k.exit → b ≡ false → IsSome (processors_of h p).exit → ⊥

@@ -1,4 +1,6 @@
 pub mod ByOrder
 pub mod Machine
 pub mod Turns
+pub mod Stretches
+pub mod Reserving
 pub mod Running

@@ -1,14 +1,18 @@
 -- Helps the code alone: the parts of the machine, and the state that they stand for.
-use Rattle.std.specs.Prelude.{◌≡◌, ℕ, ◌+◌, ◌%◌, ◌^◌, ◌==◌, if◌then◌else◌, List, Some, None, slice_get}
+use Rattle.std.specs.Prelude.{◌≡◌, ℕ, ◌+◌, ◌%◌, ◌^◌, ◌==◌, if◌then◌else◌, List, Option, Some, None, slice_get, slice_index_or}
 use Rattle.std.specs.Option.{option_map_or}
 use Rattle.elf32_read.specs.Elf.{Elf}
 use Rattle.exec_map.specs.Contents.{program_of, first_byte}
+use Rattle.block_layout.specs.Layout.{Shape}
 use Rattle.byte_range.specs.Lines.{LineBytes, lines_memory}
 use Rattle.byte_range.specs.Window.{window_memory}
 use Rattle.first_memory.specs.SharedLines.{HasReadOnlyLines}
 use Rattle.rv32_program.specs.Program.{class_at}
 use Rattle.rv32_step.specs.Registers.{registers_of}
-use Rattle.rv32_step.specs.Memory.{byte_by}
+use Rattle.rv32_step.specs.Memory.{byte_by, shared_after, private_after}
+use Rattle.rv32_step.specs.Reservations.{after_store_by}
+use Rattle.byte_range.specs.Memory.{stored}
+use Rattle.rv32_decode.specs.declared.Width.{Width}
 use Rattle.rv32_step.specs.declared.Demand.{Demand}
 use Rattle.rv32_step.specs.OneMemory.{Original, Processor, State, Request, first_processor, answer, request, request_for}
 use Rattle.micro_op.specs.Micro.{Meaning, Unserved, Demands, Enters, meaning_of, index_address}
@@ -23,8 +27,15 @@ use Rattle.one_memory.specs.declared.processor.Move.TheVariants.{Next, To, Ends}
 -- what all processors have in common
 pub record MemoryParts : Type 0 where
   pub program : Elf
+  pub layout : Shape
   pub shared : LineBytes
+  -- the address that each processor has reserved
+  pub reserved : List (Option ℕ)
   pub output : List ℕ
+
+-- the reservation of each processor; those beyond the list have none
+abbrev pub reserved_in : List (Option ℕ) → ℕ → Option ℕ
+reserved_in each p = slice_index_or each p None
 
 -- the lines are the read-only ones, with the bytes that the program begins with
 pub record HasFixed (e : Elf) (fixed : LineBytes) : Type 0 where
@@ -51,12 +62,17 @@ abbrev pub state_among : (ℕ → Processor) → MemoryParts → State
 state_among all m = record {
   shared = lines_memory m.shared (first_byte m.program);
   processors = all;
+  reservations = reserved_in m.reserved;
   output = m.output;
 }
 
 -- the program in this memory, on so many processors
 abbrev pub original_on : MemoryParts → ℕ → Original
-original_on m nodes = record { program = program_of m.program; nodes = nodes }
+original_on m nodes = record {
+  program = program_of m.program;
+  layout = m.layout;
+  nodes = nodes;
+}
 
 -- what the machine executes
 abbrev pub original_of : Parts → Original
@@ -116,21 +132,48 @@ after_move (Ends e) at body = record { at = at; body = body; exit = Some e }
 abbrev pub with_one : (ℕ → Processor) → ℕ → Processor → ℕ → Processor
 with_one all p q i = if i == p then q else all i
 
--- the request has been answered, whichever the processor is and whatever the others are
-abbrev pub Answers : Request → MemoryParts → ProcessorParts → MemoryParts → ProcessorParts → Type 0
-Answers r m k m' k' =
-    (nodes p : ℕ) (all : ℕ → Processor)
+-- what a processor sees has these bytes and reservations, and else is as it was
+pub record IsPut (shared private : ℕ → ℕ) (reserved : ℕ → Option ℕ) (m : MemoryParts) (b : Body)
+    (m' : MemoryParts) (b' : Body) : Type 0 where
+  pub shared_is : lines_memory m'.shared (first_byte m'.program) ≡ shared
+  pub private_is : window_memory b'.window ≡ private
+  pub reserved_is : reserved_in m'.reserved ≡ reserved
+  pub output : m'.output ≡ m.output
+  pub registers : b'.registers ≡ b.registers
+  pub written : b'.written ≡ b.written
+
+-- processor p has stored
+abbrev pub IsStored : ℕ → Width → ℕ → ℕ → MemoryParts → Body → MemoryParts → Body → Type 0
+IsStored p w a value m b m' b' =
+    IsPut
+    (shared_after (class_at (program_of m.program) a)
+    (lines_memory m.shared (first_byte m.program))
+    (stored w (lines_memory m.shared (first_byte m.program)) a value))
+    (private_after (class_at (program_of m.program) a) (window_memory b.window)
+    (stored w (window_memory b.window) a value))
+    (after_store_by m.layout p a (reserved_in m.reserved)) m b m' b'
+
+-- nothing was stored
+abbrev pub IsKept : MemoryParts → Body → MemoryParts → Body → Type 0
+IsKept m b m' b' =
+    IsPut (lines_memory m.shared (first_byte m.program)) (window_memory b.window)
+    (reserved_in m.reserved) m b m' b'
+
+-- the request of processor p has been answered, whatever the others are
+abbrev pub Answers : ℕ → Request → MemoryParts → ProcessorParts → MemoryParts → ProcessorParts → Type 0
+Answers p r m k m' k' =
+    (nodes : ℕ) (all : ℕ → Processor)
     → (answer (original_on m nodes) (state_among all m) p (processor_of k) r).state
     ≡ state_among (with_one all p (processor_of k')) m'
 
--- the demand of the word at an index has been met
-abbrev pub Meets : Demand → ℕ → MemoryParts → Body → MemoryParts → Body → Move → Type 0
-Meets d at m body m' body' move =
-    Answers (request_for (program_of m.program) (processor_of (at_index at body)) d)
+-- the demand of the word at an index has been met, for processor p
+abbrev pub Meets : ℕ → Demand → ℕ → MemoryParts → Body → MemoryParts → Body → Move → Type 0
+Meets p d at m body m' body' move =
+    Answers p (request_for (program_of m.program) (processor_of (at_index at body)) d)
     m (at_index at body) m' (after_move move at body')
 
--- a step from the index of a word has been made
-abbrev pub Steps : ℕ → MemoryParts → Body → MemoryParts → Body → Move → Type 0
-Steps at m body m' body' move =
-    Answers (request (program_of m.program) (processor_of (at_index at body)))
+-- a step from the index of a word has been made, by processor p
+abbrev pub Steps : ℕ → ℕ → MemoryParts → Body → MemoryParts → Body → Move → Type 0
+Steps p at m body m' body' move =
+    Answers p (request (program_of m.program) (processor_of (at_index at body)))
     m (at_index at body) m' (after_move move at body')

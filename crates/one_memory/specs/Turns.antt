@@ -14,9 +14,9 @@ pub record AreTurns (original : Original) (p n : ℕ) (s t : State) : Type 0 whe
   pub state : t ≡ after_steps original p n s
   pub runs : (k : ℕ) → k < n → ((after_steps original p k s).processors p).exit ≡ None
 
--- the processor has made so many steps, whichever it is and whatever the others are
-abbrev pub Turns : ℕ → MemoryParts → ProcessorParts → MemoryParts → ProcessorParts → Type 0
-Turns n m k m' k' =
-    (nodes p : ℕ) (all : ℕ → Processor)
+-- processor p has made so many steps, whatever the others are
+abbrev pub Turns : ℕ → ℕ → MemoryParts → ProcessorParts → MemoryParts → ProcessorParts → Type 0
+Turns p n m k m' k' =
+    (nodes : ℕ) (all : ℕ → Processor)
     → AreTurns (original_on m nodes) p n (state_among (with_one all p (processor_of k)) m)
     (state_among (with_one all p (processor_of k')) m')

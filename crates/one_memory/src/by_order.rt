@@ -8,6 +8,7 @@ ghost use Rattle.one_memory.specs.ByOrder.{IsRunByOrder, end_by, one_more, goes_
 ghost use Rattle.one_memory.specs.Running.{IsRunning, HasRun, steps_of};
 
 use crate::{OneMemory, StepRefused};
+use block_layout::Layout;
 use exec_map::{End, Exit, Program};
 use run_limits::{Budget, NodeCount};
 use std::alloc::{AllocError, Global};
@@ -32,29 +33,33 @@ struct Run<'a> {
     live: Vec<u8>,
 }
 
-/// Runs so many processors of a program to their ends: by themselves, or after so many steps.
+/// Runs so many processors of a program, whose shared lines have these blocks, to their ends: by
+/// themselves, or after so many steps.
 pub fn run_by_order(
     alloc: Global,
     program: &Program<'_>,
+    layout: &Layout,
     nodes: NodeCount,
     order: u32,
     budget: Budget,
 ) -> Result<Outcome, AllocError>
     ensures { IfOk result (λ r. IsRunByOrder
-        (record { program = program_of program.now; nodes = nodes }) budget order
+        (record { program = program_of program.now; layout = layout.now; nodes = nodes })
+        budget order
         r.output.items r.ends.items) }
 {
-    let mut run = Run::new(alloc, program, nodes, budget)?;
+    let mut run = Run::new(alloc, program, layout, nodes, budget)?;
     let mut order = order_of(order);
     run.execute(&mut order)?;
     run.outcome(alloc)
 }
 
 impl<'a> Run<'a> {
-    /// So many processors of a program at the start.
+    /// So many processors of a program, whose shared lines have these blocks, at the start.
     fn new(
         alloc: Global,
         program: &'a Program<'a>,
+        layout: &'a Layout,
         nodes: NodeCount,
         budget: Budget,
     ) -> Result<Run<'a>, AllocError>
@@ -63,11 +68,12 @@ impl<'a> Run<'a> {
         ensures steps { IfOk result (λ r. steps_of r ≡ (λ p. 0)) }
         ensures program { IfOk result (λ r.
             (original_of r.machine).program ≡ program_of program.now) }
+        ensures layout { IfOk result (λ r. (original_of r.machine).layout ≡ layout.now) }
         ensures nodes { IfOk result (λ r. r.nodes ≡ nodes) }
         ensures budget { IfOk result (λ r. r.budget ≡ budget) }
     {
         Ok(Run {
-            machine: OneMemory::new(alloc, program, nodes)?,
+            machine: OneMemory::new(alloc, program, layout, nodes)?,
             nodes,
             budget: budget.number(),
             steps: vec![in alloc; 0; nodes.number() as usize]?,

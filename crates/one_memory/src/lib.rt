@@ -1,21 +1,26 @@
 #![tactic(auto)]
 //! The original program's processors on one memory, interleaved instruction by instruction.
 
-ghost use Rattle.std.specs.Prelude.{◌≡◌, ◌<◌, ◌≤◌, ◌↔◌, ℕ, None, IfOk, OnOk, OnErr, IsErrOf, IsSome};
+ghost use Rattle.std.specs.Prelude.{◌≡◌, ◌<◌, ◌≤◌, ◌↔◌, ℕ, true, false, None, IfOk, OnOk, OnErr, IsErrOf, IsSome};
 ghost use Rattle.exec_map.specs.Contents.{program_of};
-ghost use Rattle.rv32_step.specs.OneMemory.{Original, opening, step as model_step};
+ghost use Rattle.rv32_step.specs.OneMemory.{Original, Break, MayBreak, Allowed, opening, pick_step, step as model_step};
 ghost use Rattle.one_memory.specs.Machine.{state_of, original_of};
 ghost use Rattle.one_memory.specs.Turns.{AreTurns};
 
+mod breaks;
 mod by_order;
 mod code;
+mod law;
 mod memory;
 mod processor;
+mod reservations;
 
 use crate::memory::Memory;
 use crate::processor::Processor;
+use block_layout::Layout;
 pub use by_order::{Outcome, run_by_order};
 use exec_map::{Exit, Program};
+pub use law::reservation_law;
 use run_limits::NodeCount;
 use std::alloc::{AllocError, Global};
 use std::marker::Model;
@@ -42,6 +47,11 @@ impl From<AllocError> for StepRefused {
     }
 }
 
+/// The rule on breaks doesn't allow it.
+#[derive(Clone, Copy, Debug, PartialEq, Eq, Error)]
+#[error("no reservation that may be broken")]
+pub struct NotAllowed;
+
 /// The processors of a program, 1 to 16 of them, on one memory.
 #[derive(Drop)]
 pub struct OneMemory<'a> {
@@ -51,7 +61,7 @@ pub struct OneMemory<'a> {
 }
 
 impl<'a> Model for OneMemory<'a> {
-    ghost use Rattle.std.specs.Prelude.{◌≡◌, length};
+    ghost use Rattle.std.specs.Prelude.{◌≡◌, ◌≤◌, length};
     ghost use Rattle.one_memory.specs.Machine.{Parts};
 
     ghost Value = { Parts };
@@ -62,22 +72,24 @@ impl<'a> Model for OneMemory<'a> {
       processors = m.processors.items;
     } };
 
-    ghost invariant = { λ m. length m.processors.items ≡ m.nodes };
+    ghost invariant = { λ m. (length m.processors.items ≡ m.nodes) × (m.nodes ≤ 16) };
 }
 
 impl<'a> OneMemory<'a> {
-    /// So many processors of a program at the start.
+    /// So many processors of a program, whose shared lines have these blocks, at the start.
     pub fn new(
         alloc: Global,
         program: &'a Program<'_>,
+        layout: &'a Layout,
         nodes: NodeCount,
     ) -> Result<OneMemory<'a>, AllocError>
         ensures opening { IfOk result (λ m. state_of m ≡ opening (original_of m)) }
         ensures program { IfOk result (λ m. (original_of m).program ≡ program_of program.now) }
+        ensures layout { IfOk result (λ m. (original_of m).layout ≡ layout.now) }
         ensures nodes { IfOk result (λ m. (original_of m).nodes ≡ nodes) }
     {
         let entry = program.entry();
-        let memory = Memory::new(alloc, program)?;
+        let memory = Memory::new(alloc, program, layout)?;
         let mut processors = Vec::new(alloc);
         for p in 0..nodes.number() {
             processors.push(Processor::new(alloc, p, nodes, entry)?)?;
@@ -107,8 +119,51 @@ impl<'a> OneMemory<'a> {
         if processor.exit().is_some() {
             return Err(StepRefused::Ended(p));
         }
-        processor.step(&mut self.memory)?;
+        processor.step(p, &mut self.memory)?;
         Ok(())
+    }
+
+    /// Ends the reservation of processor `p`, where processor `q` is about to store into the block.
+    ///
+    /// Fails, with nothing changed, exactly where the rule on breaks doesn't allow it.
+    pub fn break_reservation(&mut self, p: u8, q: u8) -> Result<(), NotAllowed>
+        requires own { p < (original_of self.old).nodes }
+        requires other { q < (original_of self.old).nodes }
+        ensures ok { OnOk result (state_of self.new
+            ≡ (pick_step (original_of self.old) (state_of self.old) (Break p q)).state) }
+        ensures allowed { OnOk result
+            (Allowed (original_of self.old) (state_of self.old) (Break p q)) }
+        ensures refused { OnErr result
+            (Allowed (original_of self.old) (state_of self.old) (Break p q) → ⊥) }
+        ensures err { OnErr result (state_of self.new ≡ state_of self.old) }
+        ensures original { original_of self.new ≡ original_of self.old }
+    {
+        if self.may_break(p, q) {
+            self.memory.reserve(p, None);
+            Ok(())
+        } else {
+            Err(NotAllowed)
+        }
+    }
+
+    /// Whether processor `q` may break the reservation of processor `p`.
+    fn may_break(&self, p: u8, q: u8) -> bool
+        requires own { p < (original_of self.now).nodes }
+        requires other { q < (original_of self.now).nodes }
+        ensures yes { result ≡ true → MayBreak (original_of self.now) (state_of self.now) p q }
+        ensures no { result ≡ false
+            → MayBreak (original_of self.now) (state_of self.now) p q → ⊥ }
+    {
+        if p == q {
+            return false;
+        }
+        let Some(reserved) = self.memory.reservation(p) else {
+            return false;
+        };
+        let Some(block) = self.memory.block_of(reserved) else {
+            return false;
+        };
+        self.processors[q as usize].is_storing(&self.memory, block)
     }
 
     /// Executes so many instructions and steps of calls of processor `p`, or fewer where it ends.
@@ -123,7 +178,7 @@ impl<'a> OneMemory<'a> {
         ensures most { IfOk result (λ n. n ≤ most) }
         ensures original { original_of self.new ≡ original_of self.old }
     {
-        self.processors[p as usize].run(&mut self.memory, most)
+        self.processors[p as usize].run(p, &mut self.memory, most)
     }
 
     /// The bytes printed so far.

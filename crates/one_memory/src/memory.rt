@@ -2,21 +2,29 @@
 
 ghost use Rattle.std.specs.Prelude.{◌≡◌, ◌+◌, ◌*◌, ◌/◌, ◌^◌, ◌<◌, ◌≤◌, ◌∷◌, ◌++◌, [], ℕ, Bool, true, Some, None, MatchOption, IfOk, IfSome, OnOk, OnErr, is_some, if◌then◌else◌};
 ghost use Rattle.exec_map.specs.Contents.{program_of, first_byte, is_shared};
-ghost use Rattle.rv32_program.specs.Program.{IsAccepted, class_at};
+ghost use Rattle.rv32_program.specs.Program.{IsAccepted, class_at, is_writable};
 ghost use Rattle.rv32_program.specs.declared.Class.TheVariants.{ReadOnly};
 ghost use Rattle.byte_range.specs.Memory.{raw, stored};
 ghost use Rattle.byte_range.specs.Lines.{lines_memory};
 ghost use Rattle.rv32_decode.specs.Widths.{is_aligned};
 ghost use Rattle.rv32_step.specs.OneMemory.{Processor as AnyProcessor};
 ghost use Rattle.micro_op.specs.Micro.{index_address};
-ghost use Rattle.one_memory.specs.Machine.{Serves};
+ghost use Rattle.block_layout.specs.Layout.{block_of as model_block_of};
+ghost use Rattle.rv32_step.specs.Registers.{registers_of};
+ghost use Rattle.rv32_step.specs.Reservations as model;
+ghost use Rattle.one_memory.specs.Stretches.{reaches_or_stands};
+ghost use Rattle.one_memory.specs.Machine.{Serves, reserved_in};
 
+use crate::breaks::BlockOf;
 use crate::code::Code;
+use crate::reservations::Reservations;
+use block_layout::{Block, Layout};
 use byte_range::LineMemory;
-use exec_map::Program;
+use exec_map::{Class, Program};
 use first_memory::{read_only_memory, shared_memory};
 use micro_op::MicroOp;
 use rv32_decode::{Instr, Width};
+use rv32_step::Registers;
 use std::alloc::{AllocError, Global};
 use std::marker::Model;
 
@@ -24,8 +32,10 @@ use std::marker::Model;
 #[derive(Drop)]
 pub struct Memory<'a> {
     program: &'a Program<'a>,
+    layout: &'a Layout,
     code: Code,
     shared: LineMemory,
+    reservations: Reservations,
     /// The read-only lines.
     fixed: LineMemory,
     output: Vec<u8>,
@@ -39,7 +49,9 @@ impl<'a> Model for Memory<'a> {
 
     ghost view = { λ m. record {
       program = m.program.now;
+      layout = m.layout.now;
       shared = m.shared;
+      reserved = m.reservations;
       output = m.output.items;
     } };
 
@@ -50,15 +62,23 @@ impl<'a> Model for Memory<'a> {
 
 impl<'a> Memory<'a> {
     /// A program's memory at the start.
-    pub fn new(alloc: Global, program: &'a Program<'_>) -> Result<Memory<'a>, AllocError>
+    pub fn new(
+        alloc: Global,
+        program: &'a Program<'_>,
+        layout: &'a Layout,
+    ) -> Result<Memory<'a>, AllocError>
         requires { IsAccepted (program_of program.now) }
         ensures program { IfOk result (λ m. m.program ≡ program.now) }
         ensures shared { IfOk result (λ m.
             lines_memory m.shared (first_byte program.now) ≡ first_byte program.now) }
+        ensures layout { IfOk result (λ m. m.layout ≡ layout.now) }
+        ensures reserved { IfOk result (λ m. reserved_in m.reserved ≡ (λ p. None)) }
         ensures output { IfOk result (λ m. m.output ≡ []) }
     {
         Ok(Memory {
             program,
+            layout,
+            reservations: Reservations::new(),
             code: Code::read(alloc, program)?,
             shared: shared_memory(alloc, program)?,
             fixed: read_only_memory(alloc, program)?,
@@ -134,9 +154,70 @@ impl<'a> Memory<'a> {
             address value
             else lines_memory self.old.shared (first_byte self.old.program)) }
         ensures program { self.new.program ≡ self.old.program }
+        ensures layout { self.new.layout ≡ self.old.layout }
+        ensures reserved { self.new.reserved ≡ self.old.reserved }
         ensures output { self.new.output ≡ self.old.output }
     {
         self.shared.store(width, address, value)
+    }
+
+    /// Whether a store to an address may be made.
+    pub fn may_store(&self, address: u32) -> bool
+        ensures { result ≡ is_writable (class_at (program_of self.now.program) address) }
+    {
+        match self.program.class(address / 64) {
+            Class::Shared | Class::Private => true,
+            Class::ReadOnly | Class::Unmapped => false,
+        }
+    }
+
+    /// The block of an address; `None` where it isn't shared.
+    pub fn block_of(&self, address: u32) -> Option<Block>
+        ensures { result ≡ model_block_of self.now.layout (address / 64) }
+    {
+        self.layout.block_of(address / 64)
+    }
+
+    /// Whether a processor with these registers is about to store into a block.
+    pub fn is_reached(&self, block: Block, registers: &Registers, pc: u32) -> bool
+        ensures { result ≡ reaches_or_stands (program_of self.now.program) self.now.layout block
+            (registers_of registers.now) pc }
+    {
+        let target = BlockOf {
+            program: self.program,
+            layout: self.layout,
+            block,
+        };
+        target.is_reached(registers, pc)
+    }
+
+    /// The address that processor `p` has reserved.
+    pub fn reservation(&self, p: u8) -> Option<u32>
+        requires { p < 16 }
+        ensures { result ≡ reserved_in self.now.reserved p }
+    {
+        self.reservations.get(p)
+    }
+
+    /// Gives processor `p` another reservation, or none.
+    pub fn reserve(&mut self, p: u8, reserved: Option<u32>)
+        requires { p < 16 }
+        ensures reserved { reserved_in self.new.reserved
+            ≡ model.with_reservation (reserved_in self.old.reserved) p reserved }
+        ensures rest { self.new ≡ record self.old { reserved = self.new.reserved } }
+    {
+        self.reservations.set(p, reserved);
+    }
+
+    /// Ends what the others have reserved in the block of an address, to which processor `p` has
+    /// stored.
+    #[inline(always)]
+    pub fn end_others(&mut self, p: u8, address: u32)
+        ensures reserved { reserved_in self.new.reserved
+            ≡ model.after_store_by self.old.layout p address (reserved_in self.old.reserved) }
+        ensures rest { self.new ≡ record self.old { reserved = self.new.reserved } }
+    {
+        self.reservations.end_others(self.layout, p, address);
     }
 
     /// The bytes printed so far.

@@ -1,25 +1,28 @@
 //! One processor, and what its next word does.
 
-ghost use Rattle.std.specs.Prelude.{◌≡◌, ◌+◌, ◌*◌, ◌/◌, ◌%◌, ◌^◌, ◌<◌, ◌≤◌, ℕ, true, Some, None, MatchOption, IfOk, IfSome, IsSome, OnOk, OnErr};
+ghost use Rattle.std.specs.Prelude.{◌≡◌, ◌+◌, ◌*◌, ◌/◌, ◌%◌, ◌^◌, ◌<◌, ◌≤◌, ◌&&◌, not, is_some, ℕ, true, false, Some, None, MatchOption, IfOk, IfSome, IsSome, OnOk, OnErr};
 ghost use Rattle.exec_map.specs.Contents.{program_of};
 ghost use Rattle.byte_range.specs.Memory.{raw};
 ghost use Rattle.rv32_decode.specs.Widths.{is_aligned};
-ghost use Rattle.rv32_program.specs.Program.{class_at};
+ghost use Rattle.rv32_program.specs.Program.{class_at, is_writable};
 ghost use Rattle.rv32_step.specs.Registers.{registers_of};
 ghost use Rattle.rv32_step.specs.OneMemory as model;
 ghost use Rattle.rv32_step.specs.Demands.{branch_demand};
+ghost use Rattle.llsc.specs.Reservation.{holds as model_holds};
 ghost use Rattle.rv32_program.specs.declared.Class.TheVariants.{Unmapped};
 ghost use Rattle.micro_op.specs.Micro.{Demands, meaning_of, index_address};
-ghost use Rattle.one_memory.specs.Machine.{MemoryParts, processor_of, at_index, after_move, byte_seen, Answers, Meets, Steps};
+ghost use Rattle.one_memory.specs.Machine.{MemoryParts, processor_of, at_index, after_move, byte_seen, IsStored, IsKept, Answers, Meets, Steps};
+ghost use Rattle.one_memory.specs.Stretches.{reaches_or_stands};
 ghost use Rattle.one_memory.specs.Turns.{Turns};
 
 use crate::memory::Memory;
+use block_layout::Block;
 use byte_range::Window;
 use exec_map::Exit;
 use micro_op::{MicroKind, MicroOp};
 use run_limits::NodeCount;
-use rv32_decode::{Cond, LoadKind, Op, Reg, Width};
-use rv32_ops::{alu, extend, taken};
+use rv32_decode::{AmoOp, Cond, LoadKind, Op, Reg, Width};
+use rv32_ops::{alu, amo, extend, taken};
 use rv32_step::{CallStep, Demand, Registers, call_step, cut_short, demand_of};
 use std::alloc::{AllocError, Global};
 
@@ -82,19 +85,33 @@ impl Processor {
         self.exit
     }
 
-    /// Executes the next word.
+    /// Whether it has no exit, and is about to store into a block.
+    pub fn is_storing(&self, memory: &Memory<'_>, block: Block) -> bool
+        ensures { result ≡ (not (is_some self.now.exit)
+            && reaches_or_stands (program_of memory.now.program) memory.now.layout block
+            (registers_of self.now.body.registers) (index_address 0 self.now.at)) }
+    {
+        if self.exit.is_some() {
+            return false;
+        }
+        memory.is_reached(block, &self.body.registers, address_of(self.at))
+    }
+
+    /// Executes the next word, as processor `p`.
     ///
     /// Fails, with nothing changed, where there is no memory for a byte of output.
-    pub fn step(&mut self, memory: &mut Memory<'_>) -> Result<(), AllocError>
-        requires { self.old.exit ≡ None }
+    pub fn step(&mut self, p: u8, memory: &mut Memory<'_>) -> Result<(), AllocError>
+        requires number { p < 16 }
+        requires runs { self.old.exit ≡ None }
         ensures ok { OnOk result
-            (Answers (model.request (program_of memory.old.program) (processor_of self.old))
+            (Answers p (model.request (program_of memory.old.program) (processor_of self.old))
             memory.old self.old memory.new self.new) }
         ensures program { memory.new.program ≡ memory.old.program }
+        ensures layout { memory.new.layout ≡ memory.old.layout }
         ensures err_processor { OnErr result (self.new ≡ self.old) }
         ensures err_memory { OnErr result (memory.new ≡ memory.old) }
     {
-        match step(self.at, &mut self.body, memory)? {
+        match step(p, self.at, &mut self.body, memory)? {
             Move::Next => self.at = self.at.wrapping_add(1),
             Move::To(target) => self.at = target,
             Move::Ends(exit) => self.exit = Some(exit),
@@ -102,18 +119,20 @@ impl Processor {
         Ok(())
     }
 
-    /// Executes so many words, or fewer where the processor ends. Gives how many.
-    pub fn run(&mut self, memory: &mut Memory<'_>, most: u64) -> Result<u64, AllocError>
-        requires { self.old.exit ≡ None }
-        ensures turns { IfOk result (λ n. Turns n memory.old self.old memory.new self.new) }
+    /// Executes so many words, as processor `p`, or fewer where it ends. Gives how many.
+    pub fn run(&mut self, p: u8, memory: &mut Memory<'_>, most: u64) -> Result<u64, AllocError>
+        requires number { p < 16 }
+        requires runs { self.old.exit ≡ None }
+        ensures turns { IfOk result (λ n. Turns p n memory.old self.old memory.new self.new) }
         ensures all { IfOk result (λ n. n < most → IsSome self.new.exit) }
         ensures most { IfOk result (λ n. n ≤ most) }
         ensures program { memory.new.program ≡ memory.old.program }
+        ensures layout { memory.new.layout ≡ memory.old.layout }
     {
         let mut at = self.at;
         let mut steps = 0;
         while steps < most {
-            let next = step(at, &mut self.body, memory)?;
+            let next = step(p, at, &mut self.body, memory)?;
             steps += 1;
             match next {
                 Move::Next => at = at.wrapping_add(1),
@@ -131,32 +150,36 @@ impl Processor {
 
 /// Executes the word with an index.
 #[inline(always)]
-fn step(at: u32, body: &mut Body, memory: &mut Memory<'_>) -> Result<Move, AllocError>
-    ensures ok { IfOk result (Steps at memory.old body.old memory.new body.new) }
+fn step(p: u8, at: u32, body: &mut Body, memory: &mut Memory<'_>) -> Result<Move, AllocError>
+    requires { p < 16 }
+    ensures ok { IfOk result (Steps p at memory.old body.old memory.new body.new) }
     ensures program { memory.new.program ≡ memory.old.program }
+    ensures layout { memory.new.layout ≡ memory.old.layout }
     ensures err_body { OnErr result (body.new ≡ body.old) }
     ensures err_memory { OnErr result (memory.new ≡ memory.old) }
 {
     if let Some(op) = memory.fetch(at)
         && let Some(demand) = demand_by(op, &body.registers)
     {
-        meet(demand, at, body, memory)
+        meet(demand, p, at, body, memory)
     } else {
-        step_rare(at, body, memory)
+        step_rare(p, at, body, memory)
     }
 }
 
 /// Executes the word with an index, whichever it is.
 #[inline(never)]
-fn step_rare(at: u32, body: &mut Body, memory: &mut Memory<'_>) -> Result<Move, AllocError>
-    ensures ok { IfOk result (Steps at memory.old body.old memory.new body.new) }
+fn step_rare(p: u8, at: u32, body: &mut Body, memory: &mut Memory<'_>) -> Result<Move, AllocError>
+    requires { p < 16 }
+    ensures ok { IfOk result (Steps p at memory.old body.old memory.new body.new) }
     ensures program { memory.new.program ≡ memory.old.program }
+    ensures layout { memory.new.layout ≡ memory.old.layout }
     ensures err_body { OnErr result (body.new ≡ body.old) }
     ensures err_memory { OnErr result (memory.new ≡ memory.old) }
 {
     let pc = address_of(at);
     match memory.code_at(pc) {
-        Some(i) => meet(demand_of(i, &body.registers, pc), at, body, memory),
+        Some(i) => meet(demand_of(i, &body.registers, pc), p, at, body, memory),
         None => Ok(Move::Ends(Exit::Fetch(pc))),
     }
 }
@@ -234,9 +257,17 @@ fn branch(taken: bool, index: u32) -> Demand
 
 /// Does what the word with an index demands.
 #[inline(always)]
-fn meet(d: Demand, at: u32, body: &mut Body, memory: &mut Memory<'_>) -> Result<Move, AllocError>
-    ensures ok { IfOk result (Meets d at memory.old body.old memory.new body.new) }
+fn meet(
+    d: Demand,
+    p: u8,
+    at: u32,
+    body: &mut Body,
+    memory: &mut Memory<'_>,
+) -> Result<Move, AllocError>
+    requires { p < 16 }
+    ensures ok { IfOk result (Meets p d at memory.old body.old memory.new body.new) }
     ensures program { memory.new.program ≡ memory.old.program }
+    ensures layout { memory.new.layout ≡ memory.old.layout }
     ensures err_body { OnErr result (body.new ≡ body.old) }
     ensures err_memory { OnErr result (memory.new ≡ memory.old) }
 {
@@ -250,18 +281,24 @@ fn meet(d: Demand, at: u32, body: &mut Body, memory: &mut Memory<'_>) -> Result<
         Demand::Branches(target) => Ok(go_to(target, at)),
         Demand::Loads(kind, r, address) => Ok(load(kind, r, address, at, body, memory)),
         Demand::Stores(width, address, value) => {
-            Ok(store(width, address, value, at, body, memory))
+            Ok(store(width, address, value, p, at, body, memory))
         }
         Demand::Calls => call(at, body, memory),
         Demand::Traps(exit) => Ok(Move::Ends(exit)),
-        Demand::Unsupported => Ok(Move::To(at)),
+        Demand::Reserves(r, address) => Ok(load_reserved(r, address, p, at, body, memory)),
+        Demand::StoresIf(r, address, value) => {
+            Ok(store_conditional(r, address, value, p, at, body, memory))
+        }
+        Demand::Updates(op, r, address, value) => {
+            Ok(update(op, r, address, value, p, at, body, memory))
+        }
     }
 }
 
 /// Goes to a target, with the address of the next word in a register.
 #[inline(always)]
 fn jump(r: Reg, target: u32, at: u32, body: &mut Body) -> Move
-    ensures { (m : MemoryParts) → Meets (Demand.Jumps r target) at m body.old m body.new result }
+    ensures { (p : ℕ) (m : MemoryParts) → Meets p (Demand.Jumps r target) at m body.old m body.new result }
 {
     if target % 4 == 0 {
         body.registers.set(r, address_of(at.wrapping_add(1)));
@@ -274,8 +311,8 @@ fn jump(r: Reg, target: u32, at: u32, body: &mut Body) -> Move
 /// Goes to a target.
 #[inline(always)]
 fn go_to(target: u32, at: u32) -> Move
-    ensures { (m : MemoryParts) (body : Body) →
-        Meets (Demand.Branches target) at m body m body result }
+    ensures { (p : ℕ) (m : MemoryParts) (body : Body) →
+        Meets p (Demand.Branches target) at m body m body result }
 {
     if target % 4 == 0 {
         Move::To(target / 4)
@@ -287,7 +324,7 @@ fn go_to(target: u32, at: u32) -> Move
 /// Loads into a register, where the access may be made.
 #[inline(always)]
 fn load(kind: LoadKind, r: Reg, address: u32, at: u32, body: &mut Body, memory: &Memory<'_>) -> Move
-    ensures { Meets (Demand.Loads kind r address) at
+    ensures { (p : ℕ) → Meets p (Demand.Loads kind r address) at
         memory.now body.old memory.now body.new result }
 {
     let width = kind.width();
@@ -327,18 +364,155 @@ fn store(
     width: Width,
     address: u32,
     value: u32,
+    p: u8,
     at: u32,
     body: &mut Body,
     memory: &mut Memory<'_>,
 ) -> Move
-    ensures ok { Meets (Demand.Stores width address value) at
+    ensures ok { Meets p (Demand.Stores width address value) at
         memory.old body.old memory.new body.new result }
     ensures program { memory.new.program ≡ memory.old.program }
+    ensures layout { memory.new.layout ≡ memory.old.layout }
 {
     if !width.is_aligned(address) {
         return Move::Ends(Exit::Misaligned(address_of(at)));
     }
-    if memory.store(width, address, value) || body.window.store(width, address, value) {
+    if put_at(width, address, value, p, body, memory) {
+        Move::Next
+    } else {
+        Move::Ends(Exit::Access(address_of(at)))
+    }
+}
+
+/// Puts the low bits of a value at an address, as processor `p`, and ends what the others have
+/// reserved there. Gives whether that may be done; else nothing changes.
+#[inline(always)]
+fn put_at(
+    width: Width,
+    address: u32,
+    value: u32,
+    p: u8,
+    body: &mut Body,
+    memory: &mut Memory<'_>,
+) -> bool
+    requires { is_aligned width address ≡ true }
+    ensures may { result ≡ is_writable (class_at (program_of memory.old.program) address) }
+    ensures stored { result ≡ true →
+        IsStored p width address value memory.old body.old memory.new body.new }
+    ensures kept { result ≡ false → IsKept memory.old body.old memory.new body.new }
+    ensures program { memory.new.program ≡ memory.old.program }
+    ensures layout { memory.new.layout ≡ memory.old.layout }
+{
+    if memory.store(width, address, value) {
+        memory.end_others(p, address);
+        return true;
+    }
+    if body.window.store(width, address, value) {
+        memory.end_others(p, address);
+        return true;
+    }
+    false
+}
+
+/// Loads the word of an address into a register, and reserves the address.
+#[inline(never)]
+fn load_reserved(
+    r: Reg,
+    address: u32,
+    p: u8,
+    at: u32,
+    body: &mut Body,
+    memory: &mut Memory<'_>,
+) -> Move
+    requires { p < 16 }
+    ensures ok { Meets p (Demand.Reserves r address) at
+        memory.old body.old memory.new body.new result }
+    ensures program { memory.new.program ≡ memory.old.program }
+    ensures layout { memory.new.layout ≡ memory.old.layout }
+{
+    if !Width::Word.is_aligned(address) {
+        return Move::Ends(Exit::Misaligned(address_of(at)));
+    }
+    match read(Width::Word, address, body, memory) {
+        Some(word) => {
+            body.registers.set(r, word);
+            memory.reserve(p, Some(address));
+            Move::Next
+        }
+        None => Move::Ends(Exit::Access(address_of(at))),
+    }
+}
+
+/// Stores a word where its address is reserved; a register gets 0 then, and else 1.
+#[inline(never)]
+fn store_conditional(
+    r: Reg,
+    address: u32,
+    value: u32,
+    p: u8,
+    at: u32,
+    body: &mut Body,
+    memory: &mut Memory<'_>,
+) -> Move
+    requires { p < 16 }
+    ensures ok { Meets p (Demand.StoresIf r address value) at
+        memory.old body.old memory.new body.new result }
+    ensures program { memory.new.program ≡ memory.old.program }
+    ensures layout { memory.new.layout ≡ memory.old.layout }
+{
+    if !Width::Word.is_aligned(address) {
+        return Move::Ends(Exit::Misaligned(address_of(at)));
+    }
+    if !memory.may_store(address) {
+        return Move::Ends(Exit::Access(address_of(at)));
+    }
+    if !holds(memory.reservation(p), address) {
+        body.registers.set(r, 1);
+        memory.reserve(p, None);
+        return Move::Next;
+    }
+    put_at(Width::Word, address, value, p, body, memory);
+    body.registers.set(r, 0);
+    memory.reserve(p, None);
+    Move::Next
+}
+
+/// Whether this address is reserved.
+fn holds(reserved: Option<u32>, address: u32) -> bool
+    ensures { result ≡ model_holds reserved address }
+{
+    match reserved {
+        Some(own) => own == address,
+        None => false,
+    }
+}
+
+/// Puts what an operation makes of a word in the word's place, and the word into a register.
+#[inline(never)]
+fn update(
+    op: AmoOp,
+    r: Reg,
+    address: u32,
+    value: u32,
+    p: u8,
+    at: u32,
+    body: &mut Body,
+    memory: &mut Memory<'_>,
+) -> Move
+    ensures ok { Meets p (Demand.Updates op r address value) at
+        memory.old body.old memory.new body.new result }
+    ensures program { memory.new.program ≡ memory.old.program }
+    ensures layout { memory.new.layout ≡ memory.old.layout }
+{
+    if !Width::Word.is_aligned(address) {
+        return Move::Ends(Exit::Misaligned(address_of(at)));
+    }
+    let Some(old) = read(Width::Word, address, body, memory) else {
+        return Move::Ends(Exit::Access(address_of(at)));
+    };
+    let new = amo(op, old, value);
+    if put_at(Width::Word, address, new, p, body, memory) {
+        body.registers.set(r, old);
         Move::Next
     } else {
         Move::Ends(Exit::Access(address_of(at)))
@@ -348,8 +522,10 @@ fn store(
 /// Makes one step of a call.
 #[inline(never)]
 fn call(at: u32, body: &mut Body, memory: &mut Memory<'_>) -> Result<Move, AllocError>
-    ensures ok { IfOk result (Meets Demand.Calls at memory.old body.old memory.new body.new) }
+    ensures ok { (p : ℕ) → IfOk result
+        (Meets p Demand.Calls at memory.old body.old memory.new body.new) }
     ensures program { memory.new.program ≡ memory.old.program }
+    ensures layout { memory.new.layout ≡ memory.old.layout }
     ensures err_body { OnErr result (body.new ≡ body.old) }
     ensures err_memory { OnErr result (memory.new ≡ memory.old) }
 {
@@ -374,11 +550,12 @@ fn return_with(value: u32, body: &mut Body) -> Move
 /// Prints the byte of an address, or ends the write where the address isn't mapped.
 fn put(address: u32, at: u32, body: &mut Body, memory: &mut Memory<'_>) -> Result<Move, AllocError>
     requires { body.old.written + 1 < 2 ^ 32 }
-    ensures ok { IfOk result (λ move. Answers
+    ensures ok { (p : ℕ) → IfOk result (λ move. Answers p
         (model.request_of_call (program_of memory.old.program) (processor_of (at_index at body.old))
         (CallStep.Puts address))
         memory.old (at_index at body.old) memory.new (after_move move at body.new)) }
     ensures program { memory.new.program ≡ memory.old.program }
+    ensures layout { memory.new.layout ≡ memory.old.layout }
     ensures err_body { OnErr result (body.new ≡ body.old) }
     ensures err_memory { OnErr result (memory.new ≡ memory.old) }
 {

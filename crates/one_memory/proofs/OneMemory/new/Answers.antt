@@ -1,4 +1,5 @@
 use Rattle.std.proofs.Common.{◌≡◌, ◌+◌, List, refl, sym, ◌∙◌, subst, arith}
+use Rattle.block_layout.specs.Layout.{Shape}
 use Rattle.elf32_read.specs.Elf.{Elf}
 use Rattle.one_memory.specs.declared.processor.Processor.{Processor as ProcessorParts}
 use Rattle.one_memory.specs.Machine.{original_on}
@@ -7,19 +8,20 @@ use Rattle.one_memory.proofs.OneMemory.new.Goals as goal
 
 pub loop-p-init : goal.loop-p-init
 loop-p-init c =
-    let original = original_with c.args.nodes c.args.program.now in
+    let original = original_with c.args.nodes c.args.layout.now c.args.program.now in
     subst (λ (ks : List ProcessorParts). AreFirst original ks 0) (sym c.new-processors.ensures.items) (none_first original)
 
 pub loop-p-preserved : goal.loop-p-preserved
 loop-p-preserved c =
-    let original = original_with c.args.nodes c.args.program.now in
+    let original = original_with c.args.nodes c.args.layout.now c.args.program.now in
     subst (λ (ks : List ProcessorParts). AreFirst original ks (c.loop-p.p + 1)) (sym c.in_ok-push.ensures.items)
     (one_first original _ c.loop-p.p _ c.loop-p.invariant (c.in_ok-new.ensures original (sym c.entry-entry.ensures.value) refl))
 
 pub invariant_of-result : goal.invariant_of-result
 invariant_of-result c =
+    let range = c.number-p-end.ensures.range in
     let all : c.loop-p.p ≡ c.args.nodes = omega (arith, c.number-p-end.ensures.value, c.loop-p-test.false, c.loop-p.auto.p-end) in
-    c.loop-p.invariant.len ∙ all
+    (c.loop-p.invariant.len ∙ all, omega (arith, range.1, c.number-p-end.ensures.value))
 
 pub returns-clause-opening : goal.returns-clause-opening
 returns-clause-opening c =
@@ -28,6 +30,7 @@ returns-clause-opening c =
     let all : c.loop-p.p ≡ c.args.nodes = omega (arith, c.number-p-end.ensures.value, c.loop-p-test.false, c.loop-p.auto.p-end) in
     let shared = rw (← is.program) at is.shared in
     let first : AreFirst (original_on m c.args.nodes) c.loop-p.processors.items c.args.nodes =
-    subst (λ (e : Elf). AreFirst (original_with c.args.nodes e) c.loop-p.processors.items c.args.nodes) (sym is.program)
-    (subst (AreFirst (original_with c.args.nodes c.args.program.now) c.loop-p.processors.items) all c.loop-p.invariant) in
-    opened m c.args.nodes c.loop-p.processors.items shared is.output first
+    subst (λ (e : Elf). AreFirst (original_with c.args.nodes m.layout e) c.loop-p.processors.items c.args.nodes) (sym is.program)
+    (subst (λ (s : Shape). AreFirst (original_with c.args.nodes s c.args.program.now) c.loop-p.processors.items c.args.nodes) (sym is.layout)
+    (subst (AreFirst (original_with c.args.nodes c.args.layout.now c.args.program.now) c.loop-p.processors.items) all c.loop-p.invariant)) in
+    opened m c.args.nodes c.loop-p.processors.items shared is.output is.reserved first

@@ -11,9 +11,9 @@ returns-clause-turns c =
     let p = c.args.p in
     let h : Parts = record { memory = i.memory; count = i.nodes; processors = i.processors.items } in
     let few : p < i.nodes = rw (← c.self.view_is) at c.requires.node in
-    let within : p < length i.processors.items = omega (arith, few, c.self.invariant) in
+    let within : p < length i.processors.items = omega (arith, few, c.self.invariant.0) in
     let get = slice_get_read i.processors.items (length i.processors.items) p _ refl within c.index_mut.ensures.value in
-    rw (← c.self.view_is) (IfOk-weaker c.run.result _ _ (λ n turns. turned h c.run.new.memory p n _ c.run.new.self within get c.run.ensures.program turns) c.run.ensures.turns)
+    rw (← c.self.view_is) (IfOk-weaker c.run.result _ _ (λ n turns. turned h c.run.new.memory p n _ c.run.new.self within get (record { program = c.run.ensures.program; layout = c.run.ensures.layout }) turns) c.run.ensures.turns)
 
 pub returns-clause-all : goal.returns-clause-all
 returns-clause-all c =
@@ -21,5 +21,5 @@ returns-clause-all c =
     let p = c.args.p in
     let h : Parts = record { memory = i.memory; count = i.nodes; processors = i.processors.items } in
     let few : p < i.nodes = rw (← c.self.view_is) at c.requires.node in
-    let within : p < length i.processors.items = omega (arith, few, c.self.invariant) in
+    let within : p < length i.processors.items = omega (arith, few, c.self.invariant.0) in
     IfOk-weaker c.run.result _ _ (λ n all lt. ended_one h c.run.new.memory p c.run.new.self within (all lt)) c.run.ensures.all

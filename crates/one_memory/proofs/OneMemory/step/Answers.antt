@@ -11,9 +11,9 @@ returns-clause-ok c =
     let p = c.args.p in
     let h : Parts = record { memory = i.memory; count = i.nodes; processors = i.processors.items } in
     let few : p < i.nodes = rw (← c.self.view_is) at c.requires in
-    let within : p < length i.processors.items = omega (arith, few, c.self.invariant) in
+    let within : p < length i.processors.items = omega (arith, few, c.self.invariant.0) in
     let get = slice_get_read i.processors.items (length i.processors.items) p _ refl within c.index_mut-processor.ensures.value in
-    rw (← c.self.view_is) (stepped h c.step.new.memory p _ c.step.new.self within get c.step.ensures.program c.in_ok-step.ensures.ok)
+    rw (← c.self.view_is) (stepped h c.step.new.memory p _ c.step.new.self within get (record { program = c.step.ensures.program; layout = c.step.ensures.layout }) c.in_ok-step.ensures.ok)
 
 pub returns-clause-ended : goal.returns-clause-ended
 returns-clause-ended c =
@@ -21,6 +21,6 @@ returns-clause-ended c =
     let p = c.args.p in
     let h : Parts = record { memory = i.memory; count = i.nodes; processors = i.processors.items } in
     let few : p < i.nodes = rw (← c.self.view_is) at c.requires in
-    let within : p < length i.processors.items = omega (arith, few, c.self.invariant) in
+    let within : p < length i.processors.items = omega (arith, few, c.self.invariant.0) in
     let get = slice_get_read i.processors.items (length i.processors.items) p _ refl within c.index_mut-processor.ensures.value in
     rw (← c.self.view_is) (λ e. absurd (cc), λ with_exit. absurd (not_ended h p _ _ get (c.is_some.ensures ∙ ap is_some c.exit.ensures) c.if-is_some.false with_exit))

@@ -10,12 +10,12 @@ use Rattle.one_memory.proofs.by_order.run_by_order.Goals as goal
 
 pub returns : goal.returns
 returns c =
-    let o : Original = record { program = program_of c.args.program.now; nodes = c.args.nodes } in
+    let o : Original = record { program = program_of c.args.program.now; layout = c.args.layout.now; nodes = c.args.nodes } in
     let old = c.in_ok-run.run' in
     let new = c.execute.new.self in
     let run = c.in_ok-run.ensures in
     let done = c.in_ok-execute.ensures in
-    let same : original_of old.machine ≡ o = λ t. record { program = run.program t; nodes = (run.running.nodes ∙ run.nodes) t } in
+    let same : original_of old.machine ≡ o = λ t. record { program = run.program t; layout = run.layout t; nodes = (run.running.nodes ∙ run.nodes) t } in
     let start : IsStart o c.args.budget old = record { state = run.opening ∙ ap opening same; steps = run.steps; original = same; budget = run.budget } in
     let whole = subst (λ n. HasRun old n (state_of new.machine)) c.order_of-order.ensures done.run in
     let nodes : new.nodes ≡ o.nodes = done.nodes ∙ run.nodes in

@@ -6,4 +6,4 @@ pub returns-in-Some-demand_by-clause-ok : goal.returns-in-Some-demand_by-clause-
 returns-in-Some-demand_by-clause-ok c =
     let m = c.args.memory.now in
     let b = c.args.body.now in
-    IfOk-weaker c.meet.result _ _ (λ move met. served c.args.at m c.meet.new.memory b c.meet.new.body c.in-Some.op.now c.in-Some-demand_by.demand move c.in-Some.ensures.serves c.in-Some-demand_by.ensures met) c.meet.ensures.ok
+    IfOk-weaker c.meet.result _ _ (λ move met. served c.args.p c.args.at m c.meet.new.memory b c.meet.new.body c.in-Some.op.now c.in-Some-demand_by.demand move c.in-Some.ensures.serves c.in-Some-demand_by.ensures met) c.meet.ensures.ok

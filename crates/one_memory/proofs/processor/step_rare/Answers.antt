@@ -13,4 +13,4 @@ returns-in-Some-clause-ok c =
     let pc = c.address_of-pc.ensures in
     let here = c.in-Some.ensures ∙ ap (code_at m.program) pc in
     let demand = c.demand_of.ensures.value ∙ ap (demand_of c.in-Some.i (registers_of b.registers)) pc in
-    IfOk-weaker c.meet.result _ _ (λ move met. demanded c.args.at m c.meet.new.memory b c.meet.new.body c.in-Some.i c.demand_of.result move here demand met) c.meet.ensures.ok
+    IfOk-weaker c.meet.result _ _ (λ move met. demanded c.args.p c.args.at m c.meet.new.memory b c.meet.new.body c.in-Some.i c.demand_of.result move here demand met) c.meet.ensures.ok
