@@ -20,7 +20,7 @@ use Rattle.templates.specs.declared.plans.Scratches.{Scratches}
 use Rattle.templates.specs.declared.plans.PlanEntry.{PlanEntry}
 use Rattle.templates.specs.declared.plans.Template.TheVariants as template
 use Rattle.templates.specs.Plans.{may_poll, closes_loop, closes_loop_at, IsScratch, HasSoMany, HasScratchesAt, Serves, IsAdmissible, template_of, template_at, looks_at_value, scratch_count, no_scratch}
-use Rattle.check_plan.specs.CheckPlan.{is_own, candidates, unspilled, spilled, in_order, scratches_of, IsChoice, IsSingle, IsCheckEntry, IsCheckPlan}
+use Rattle.templates.specs.WholePlan.{is_own, candidates, unspilled, spilled, in_order, scratches_of, IsChoice, IsSingle, IsEntry, IsPlanOf}
 use Rattle.check_plan.proofs.ListLemmas.{passed, was_there, range_within, range_increases, once, either, nothing, among_few, any_of}
 
 own_destination : (o : Option ℕ) → length (filter (λ r. option_map_or (λ q. r == q) o false) (range_with_len 1 31)) ≤ 1
@@ -224,7 +224,7 @@ polls_there : (a : ℕ) (o : Option Instr) → closes_loop_at a o ≡ true → m
 polls_there a None h = absurd (false≢true h)
 polls_there a (Some i) h = closing_polls i a h
 
-serves : (code : ℕ → Option Instr) (e : PlanEntry) → IsCheckEntry code e → Serves code e
+serves : (code : ℕ → Option Instr) (e : PlanEntry) → IsEntry code (closes_loop_at e.address (code e.address)) e → Serves code e
 serves code e h = record {
   template = h.template;
   single = subst (λ t. HasScratchesAt t code e.address (code e.address) e.single) (sym h.template) (single code e.address (code e.address) e.single h.single);
@@ -235,7 +235,7 @@ serves code e h = record {
 }
 
 -- the plan of a program is admissible
-pub admissible : (p : Program) (plan : List PlanEntry) → IsCheckPlan p.code plan → IsAdmissible p plan
+pub admissible : (p : Program) (plan : List PlanEntry) → IsPlanOf p.code plan → IsAdmissible p plan
 admissible p plan h = record {
   ascends = h.ascends;
   complete = h.places.complete;

@@ -11,7 +11,7 @@ use Rattle.rv32_decode.specs.Fields.{field, bit}
 use Rattle.rv32_decode.specs.Registers.{IsMember, Reads, Writes, sources, destination}
 use Rattle.templates.specs.declared.plans.Scratch.{Scratch}
 use Rattle.templates.specs.Plans.{no_scratch}
-use Rattle.check_plan.specs.CheckPlan.{is_own, candidates, unspilled, spilled, in_order}
+use Rattle.templates.specs.WholePlan.{is_own, candidates, unspilled, spilled, in_order}
 use Rattle.check_plan.specs.Members.{members, both, IsPassed}
 use Rattle.check_plan.proofs.ListLemmas.{same_test, two_tests, range_within, any_of, of_any}
 

@@ -1,11 +1,11 @@
--- Code has at most one plan of its checks.
-use Rattle.std.proofs.Common.{◌≡◌, ℕ, ◌+◌, ◌<◌, ◌≤◌, List, [], ◌∷◌, ◌++◌, Option, Some, None, refl, sym, ap, ◌∙◌, subst, inl, inr, arith}
+-- Code has at most one plan.
+use Rattle.std.proofs.Common.{◌≡◌, ℕ, ◌+◌, ◌<◌, ◌≤◌, Bool, List, [], ◌∷◌, ◌++◌, Option, Some, None, refl, sym, ap, ◌∙◌, subst, inl, inr, arith}
 use Rattle.std.specs.Prelude.{Contains, not, map, take, filter}
 use Rattle.rv32_decode.specs.declared.Instr.{Instr}
 use Rattle.templates.specs.declared.plans.Scratches.{Scratches}
 use Rattle.templates.specs.declared.plans.PlanEntry.{PlanEntry}
-use Rattle.templates.specs.Plans.{AscendsFrom, addresses, template_at, closes_loop_at}
-use Rattle.check_plan.specs.CheckPlan.{candidates, unspilled, spilled, in_order, scratches_of, IsChoice, IsSingle, IsCheckEntry, IsCheckPlan}
+use Rattle.templates.specs.Plans.{AscendsFrom, addresses, template_at}
+use Rattle.templates.specs.WholePlan.{candidates, unspilled, spilled, in_order, scratches_of, IsChoice, IsSingle, IsEntry, HasEntries}
 use Rattle.check_plan.proofs.ListLemmas.{first_or, behind, in_front, no_element, same_test, agree}
 
 -- there is one choice
@@ -23,11 +23,11 @@ one_single code a None x y h g = h ∙ sym g
 one_single code a (Some i) x y h g = one_choice code a i _ x y h g
 
 -- there is one entry of a place
-one_entry : (code : ℕ → Option Instr) (e f : PlanEntry) → IsCheckEntry code e → IsCheckEntry code f → e.address ≡ f.address → e ≡ f
-one_entry code e f h g same = λ t. record {
+one_entry : (code : ℕ → Option Instr) (polling : ℕ → Bool) (e f : PlanEntry) → IsEntry code (polling e.address) e → IsEntry code (polling f.address) f → e.address ≡ f.address → e ≡ f
+one_entry code polling e f h g same = λ t. record {
   address = same t;
   template = (h.template ∙ ap (λ a. template_at a (code a)) same ∙ sym g.template) t;
-  polls = (h.polls ∙ ap (λ a. closes_loop_at a (code a)) same ∙ sym g.polls) t;
+  polls = (h.polls ∙ ap polling same ∙ sym g.polls) t;
   single = one_single code f.address (code f.address) e.single f.single (subst (λ a. IsSingle code a (code a) e.single) same h.single) g.single t;
   run = (h.run ∙ sym g.run) t;
   batch = (h.batch ∙ sym g.batch) t;
@@ -42,20 +42,20 @@ above low (e ∷ es) a up h = elim (first_or e.address a (addresses es) h) [
 ]
 
 -- ascending entries with the same addresses are the same
-same : (code : ℕ → Option Instr) (low : ℕ) (p q : List PlanEntry) → AscendsFrom low p → AscendsFrom low q
+same : (code : ℕ → Option Instr) (polling : ℕ → Bool) (low : ℕ) (p q : List PlanEntry) → AscendsFrom low p → AscendsFrom low q
     → ((a : ℕ) → Contains (addresses p) a → Contains (addresses q) a)
     → ((a : ℕ) → Contains (addresses q) a → Contains (addresses p) a)
-    → ((e : PlanEntry) → Contains p e → IsCheckEntry code e)
-    → ((e : PlanEntry) → Contains q e → IsCheckEntry code e) → p ≡ q
-same code low [] [] up vp to from sp sq = refl
-same code low [] (f ∷ fs) up vp to from sp sq = absurd (no_element f.address (from f.address (in_front f.address (addresses fs))))
-same code low (e ∷ es) [] up vp to from sp sq = absurd (no_element e.address (to e.address (in_front e.address (addresses es))))
-same code low (e ∷ es) (f ∷ fs) up vp to from sp sq =
+    → ((e : PlanEntry) → Contains p e → IsEntry code (polling e.address) e)
+    → ((e : PlanEntry) → Contains q e → IsEntry code (polling e.address) e) → p ≡ q
+same code polling low [] [] up vp to from sp sq = refl
+same code polling low [] (f ∷ fs) up vp to from sp sq = absurd (no_element f.address (from f.address (in_front f.address (addresses fs))))
+same code polling low (e ∷ es) [] up vp to from sp sq = absurd (no_element e.address (to e.address (in_front e.address (addresses es))))
+same code polling low (e ∷ es) (f ∷ fs) up vp to from sp sq =
     let above_f : f.address ≤ e.address = least f fs e.address vp.1 (to e.address (in_front e.address (addresses es))) in
     let above_e : e.address ≤ f.address = least e es f.address up.1 (from f.address (in_front f.address (addresses fs))) in
     let address : e.address ≡ f.address = omega (arith, above_f, above_e) in
-    let first : e ≡ f = one_entry code e f (sp e (in_front e es)) (sq f (in_front f fs)) address in
-    let rest : es ≡ fs = same code (e.address + 1) es fs up.1 (subst (λ a. AscendsFrom (a + 1) fs) (sym address) vp.1)
+    let first : e ≡ f = one_entry code polling e f (sp e (in_front e es)) (sq f (in_front f fs)) address in
+    let rest : es ≡ fs = same code polling (e.address + 1) es fs up.1 (subst (λ a. AscendsFrom (a + 1) fs) (sym address) vp.1)
     (λ a h. past f a fs (to a (behind e.address a (addresses es) h)) (let le = above (e.address + 1) es a up.1 h in omega (arith, le, address)))
     (λ a h. past e a es (from a (behind f.address a (addresses fs) h)) (let le = above (f.address + 1) fs a vp.1 h in omega (arith, le, address)))
     (λ x h. sp x (behind e x es h))
@@ -74,7 +74,7 @@ same code low (e ∷ es) (f ∷ fs) up vp to from sp sq =
       | inr rest ↦ rest
     ]
 
-pub one_plan : (code : ℕ → Option Instr) (p q : List PlanEntry) → IsCheckPlan code p → IsCheckPlan code q → p ≡ q
-one_plan code p q hp hq =
-    same code 0 p q hp.ascends hq.ascends
+pub one_plan : (code : ℕ → Option Instr) (polling : ℕ → Bool) (p q : List PlanEntry) → HasEntries code polling p → HasEntries code polling q → p ≡ q
+one_plan code polling p q hp hq =
+    same code polling 0 p q hp.ascends hq.ascends
     (λ a h. hq.places.complete a (hp.places.sound a h)) (λ a h. hp.places.complete a (hq.places.sound a h)) hp.each hq.each

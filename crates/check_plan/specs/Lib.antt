@@ -1,2 +1,1 @@
-pub mod CheckPlan
 pub mod Members

@@ -3,7 +3,7 @@ use Rattle.std.specs.Prelude.{◌≡◌, ℕ, ◌+◌, List, ◌++◌, length, m
 use Rattle.std.specs.List.{range_with_len}
 use Rattle.rv32_decode.specs.Fields.{bit}
 use Rattle.templates.specs.declared.plans.Scratch.{Scratch}
-use Rattle.check_plan.specs.CheckPlan.{unspilled, spilled}
+use Rattle.templates.specs.WholePlan.{unspilled, spilled}
 
 -- the members of a set but x0, ascending
 unfoldable pub members : ℕ → List ℕ

@@ -7,5 +7,5 @@ mod laws;
 mod planning;
 mod scratches;
 
-pub use laws::check_plan_law;
+pub use laws::plan_law;
 pub use planning::plan_checks;

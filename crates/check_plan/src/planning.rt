@@ -1,17 +1,18 @@
 //! The plan of a program's checks.
 
-ghost use Rattle.std.specs.Prelude.{◌≡◌, ◌*◌, ◌^◌, ◌≤◌, length, IfOk, Contains};
+ghost use Rattle.std.specs.Prelude.{◌≡◌, ◌*◌, ◌^◌, ◌≤◌, length, false, IfOk, Contains};
 ghost use Rattle.templates.specs.declared.plans.PlanEntry.{PlanEntry as Entry};
 ghost use Rattle.templates.specs.Code.{code_of};
 ghost use Rattle.templates.specs.Plans.{addresses, scratch_count, no_scratches};
-ghost use Rattle.check_plan.specs.CheckPlan.{IsCheckPlan, IsCheckEntry};
+ghost use Rattle.templates.specs.WholePlan.{IsCheckPlan, IsEntry};
 
 use crate::scratches::{NO_SCRATCHES, choose};
 use liveness::Live;
 use std::alloc::{AllocError, Global};
-use templates::{Plan, PlanEntry, Scratches, Template, closes_loop, list_places, template_of};
+use templates::{Plan, PlanEntry, Scratches, Template, list_places, template_of};
 
-/// The plan of the code of which `live` was made: the template and scratch registers of each place.
+/// The plan of the checks of the code of which `live` was made: the template and the scratch
+/// registers of each place. No place polls as yet.
 pub fn plan_checks(alloc: Global, live: &Live<'_>) -> Result<Plan, AllocError>
     ensures value { IfOk result (λ plan. IsCheckPlan (code_of live.now) plan) }
 {
@@ -25,7 +26,7 @@ fn plan_of_places(alloc: Global, live: &Live<'_>, places: &[u32]) -> Result<Plan
     requires few { length places.now ≤ 3 * 2 ^ 30 }
     ensures places { IfOk result (λ plan. addresses plan ≡ places.now) }
     ensures each { IfOk result (λ plan. (e : Entry) → Contains plan e
-        → IsCheckEntry (code_of live.now) e) }
+        → IsEntry (code_of live.now) false e) }
 {
     let mut plan = Plan::new(alloc);
     for address in places {
@@ -37,36 +38,32 @@ fn plan_of_places(alloc: Global, live: &Live<'_>, places: &[u32]) -> Result<Plan
 /// The entry of a place.
 fn check_entry(live: &Live<'_>, address: u32) -> PlanEntry
     ensures address { result.address ≡ address }
-    ensures entry { IsCheckEntry (code_of live.now) result }
+    ensures entry { IsEntry (code_of live.now) false result }
 {
     match live.graph().code().at(address) {
-        None => entry(address, Template::Stop, false, NO_SCRATCHES),
+        None => entry(address, Template::Stop, NO_SCRATCHES),
         Some(i) => {
             let template = template_of(&i, address);
             let dead = live.all_dead(address);
-            entry(
-                address,
-                template,
-                closes_loop(&i, address),
-                choose(&i, scratch_count(template), dead),
-            )
+            let single = choose(&i, scratch_count(template), dead);
+            entry(address, template, single)
         }
     }
 }
 
-/// An entry of a template with these scratch registers, that begins no run.
-fn entry(address: u32, template: Template, polls: bool, single: Scratches) -> PlanEntry
+/// An entry of a template with these scratch registers, that doesn't poll and begins no run.
+fn entry(address: u32, template: Template, single: Scratches) -> PlanEntry
     ensures address { result.address ≡ address }
     ensures template { result.template ≡ template }
     ensures single { result.single ≡ single }
-    ensures polls { result.polls ≡ polls }
+    ensures polls { result.polls ≡ false }
     ensures run { result.run ≡ 0 }
     ensures batch { result.batch ≡ no_scratches }
 {
     PlanEntry {
         address,
         template,
-        polls,
+        polls: false,
         single,
         run: 0,
         batch: NO_SCRATCHES,

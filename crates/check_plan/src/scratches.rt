@@ -3,7 +3,7 @@
 ghost use Rattle.std.specs.Prelude.{◌≡◌, ◌<◌, ◌≤◌, Some, IfOk, IfErr, slice_get, slice_index_or, take};
 ghost use Rattle.rv32_decode.specs.Fields.{bit};
 ghost use Rattle.templates.specs.Plans.{no_scratch};
-ghost use Rattle.check_plan.specs.CheckPlan.{in_order, scratches_of};
+ghost use Rattle.templates.specs.WholePlan.{in_order, scratches_of};
 ghost use Rattle.check_plan.specs.Members.{members, both, IsPassed};
 
 use rv32_decode::{Instr, Reg, RegSet, defs, uses};

@@ -1,5 +1,5 @@
 -- The first word of each place in the words of a plan.
-use Rattle.std.proofs.Common.{◌≡◌, ℕ, ℤ, ◌+◌, ◌*◌, ◌≤◌, ◌==◌, Bool, true, false, cond, List, [], ◌∷◌, ◌++◌, length, map, Option, Some, None, refl, sym, ap, ◌∙◌, arith}
+use Rattle.std.proofs.Common.{◌≡◌, ℕ, ℤ, ◌+◌, ◌*◌, ◌≤◌, ◌==◌, Bool, true, false, cond, List, [], ◌∷◌, ◌++◌, length, length-append, map, Option, Some, None, refl, sym, ap, ◌∙◌, arith}
 use Rattle.std.specs.Prelude.{position, ◌&&◌}
 use Rattle.std.specs.List.{position_from}
 use Rattle.std.specs.Option.{option_map_or}
@@ -62,9 +62,11 @@ place_first a x (Some (Op o rd rs1 rs2)) = more_first _ _
 place_first a x (Some (Fence rd rs1 bits)) = more_first _ _
 place_first a x (Some Ecall) = more_first _ _
 place_first a x (Some Ebreak) = more_first _ _
-place_first a x (Some (Lr rd rs1 aq rl)) = more_first _ _
+place_first a x (Some (Lr rd rs1 aq rl)) =
+    spill_first x.s.spilled 0 x.s.register _ (spill_first x.t.spilled 1 x.t.register _ (more_first _ _))
 place_first a x (Some (Sc rd rs1 rs2 aq rl)) = more_first _ _
-place_first a x (Some (Amo o rd rs1 rs2 aq rl)) = more_first _ _
+place_first a x (Some (Amo o rd rs1 rs2 aq rl)) =
+    spill_first x.s.spilled 0 x.s.register _ (spill_first x.t.spilled 1 x.t.register _ (more_first _ _))
 place_first a x (Some (Illegal word)) = more_first _ _
 
 poll_first_first : (b : Bool) (items : List SequenceItem) → HasFirst items → HasFirst (poll_first b items)
@@ -73,6 +75,16 @@ poll_first_first false items h = h
 
 has_first : (e : PlanEntry) (o : Option Instr) → HasFirst (items_of e o)
 has_first e o = poll_first_first e.polls (place_items e.address e.single o) (place_first e.address e.single o)
+
+-- each entry has an item or more
+pub items_many : (p : Program) (plan : List PlanEntry) → length plan ≤ length (plan_items p plan)
+items_many p [] = omega arith
+items_many p (e ∷ es) =
+    let first = has_first e (p.code e.address) in
+    let one = ap length first.is in
+    let placed = placed_length e.address 0 (items_of e (p.code e.address)) in
+    let more = items_many p es in
+    omega (arith, one, placed, more, length-append (entry_items p e) (plan_items p es))
 
 -- the word is the first of the place's single sequence
 abbrev begins : ℕ → ImageWord → Bool

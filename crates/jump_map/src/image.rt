@@ -77,12 +77,13 @@ impl Model for Image {
 }
 
 impl Image {
-    /// The words of a plan, whose entries ascend.
+    /// The words of a plan, whose entries ascend. Each entry has a word or more.
     ///
     /// Fails with the number of words where they are more than rewritten code may have.
     pub fn of(alloc: Global, code: &Code, plan: &Plan) -> Result<Image, ImageRefused>
         requires ascends { AscendsFrom 0 plan.now }
         ensures ok { IfOk result (λ image. Expands code.now plan.now image) }
+        ensures entries { IfOk result (λ image. length plan.now ≤ length image) }
         ensures too_large { (w : ℕ) →
             IsErrOf result (ImageRefused.CodeTooLarge w) → IsTooLong code.now plan.now w }
     {

@@ -2,13 +2,14 @@
 use Rattle.std.proofs.Common.{◌≡◌, ℕ, ℤ, zero, suc, ◌+◌, Bool, true, false, ◌==◌, cond, List, [], ◌∷◌, refl, ◌∙◌, subst, arith}
 use Rattle.std.specs.Prelude.{if◌then◌else◌}
 use Rattle.std.proofs.lemmas.Bool.Decides.{nat_tests}
+use Rattle.rv32_decode.specs.declared.Instr.{Instr}
 use Rattle.rv32_decode.specs.declared.Cond.{Cond}
 use Rattle.rv32_decode.specs.declared.LoadKind.{LoadKind}
 use Rattle.rv32_decode.specs.declared.Width.{Width}
 use Rattle.templates.specs.declared.commits.CommitKind.{CommitKind}
 use Rattle.templates.specs.declared.commits.CommitKind.TheVariants.{Never, Always, IfNotFlag}
 use Rattle.templates.specs.declared.plans.Scratches.{Scratches}
-use Rattle.templates.specs.Sequences.{ItemWord, SequenceItem, spill_by, reload_by, reloads, flag_load_sequence, state_load_sequence, store_sequence, branch_sequence, jump_sequence}
+use Rattle.templates.specs.Sequences.{ItemWord, SequenceItem, spill_by, reload_by, reloads, flag_load_sequence, state_load_sequence, read_sequence, write_sequence, store_sequence, branch_sequence, jump_sequence}
 use Rattle.templates.specs.Counting.{spilled_count}
 use Rattle.templates.specs.Committing.{kind_at, CommitsAt, CommitsTwice}
 
@@ -71,6 +72,16 @@ spills_before x rest n h =
     subst (λ m. CommitsAt (spill_by x.s.spilled 0 x.s.register (spill_by x.t.spilled 1 x.t.register rest)) m Always)
     {x = n + cond x.t.spilled 1 0 + cond x.s.spilled 1 0} (omega arith)
     (spill_before x.s.spilled 0 x.s.register _ (n + cond x.t.spilled 1 0) Always (spill_before x.t.spilled 1 x.t.register rest n Always h))
+
+pub read_commits : (x : Scratches) (w : Width) (rs1 : ℕ) (imm : ℤ) (i : Instr)
+    → CommitsAt (read_sequence x w rs1 imm i) (8 + spilled_count x) Always
+read_commits x w rs1 imm i =
+    spills_before x _ 8 (behind (behind (behind (behind (behind (behind (behind (behind (first (quiet_reloads x))))))))))
+
+pub write_commits : (x : Scratches) (w : Width) (rs1 : ℕ) (imm : ℤ) (i : Instr)
+    → CommitsAt (write_sequence x w rs1 imm i) (7 + spilled_count x) Always
+write_commits x w rs1 imm i =
+    spills_before x _ 7 (behind (behind (behind (behind (behind (behind (behind (first (quiet_reloads x)))))))))
 
 pub load_commits : (x : Scratches) (kind : LoadKind) (rd rs1 : ℕ) (imm : ℤ)
     → CommitsAt (state_load_sequence x kind rd rs1 imm) (8 + spilled_count x) Always
@@ -139,4 +150,4 @@ pub branch_commits : (b : Bool) (c : Cond) (rs1 rs2 target : ℕ) → CommitsAt 
 branch_commits true c rs1 rs2 target = first (quiet_more quiet_none)
 branch_commits false c rs1 rs2 target = one_commits _ Always
 
-pub ruleset all_commits = (load_commits, store_commits, one_commits, second_commits, jump_commits, branch_commits)
+pub ruleset all_commits = (load_commits, store_commits, read_commits, write_commits, one_commits, second_commits, jump_commits, branch_commits)

@@ -1,5 +1,5 @@
 -- What the words of sequences read as.
-use Rattle.std.proofs.Common.{◌≡◌, ◌≢◌, ℕ, ℤ, eqb, false, cond, Option, Some, None, refl, sym, ap, ◌∙◌, inl, inr, arith}
+use Rattle.std.proofs.Common.{◌≡◌, ◌≢◌, ℕ, ℤ, ◌+◌, ◌*◌, ◌^◌, ◌<◌, eqb, false, cond, Option, Some, None, refl, sym, ap, ◌∙◌, inl, inr, arith}
 use Rattle.std.specs.Option.{option_map}
 use Rattle.std.proofs.lemmas.Bool.Decides.{eqb_tells}
 use Rattle.std.proofs.lemmas.Bool.{eq-eqb}
@@ -8,8 +8,8 @@ use Rattle.rv32_decode.specs.Rows.{instruction_of}
 use Rattle.rv32_decode.specs.declared.Instr.{Instr}
 use Rattle.rv32_decode.specs.declared.Width.{Width}
 use Rattle.rv32_decode.proofs.Custom.{custom_0-None, custom_1-None}
-use Rattle.templates.specs.declared.runtime_words.RtWord.TheVariants.{Native, MissR, MissW, Xjalr, Poll, Call, TrapFetch, TrapOff, TrapIllegal, TrapEbreak}
-use Rattle.templates.specs.RuntimeWords.{read_word, custom_0, custom_1, width_of_log}
+use Rattle.templates.specs.declared.runtime_words.RtWord.TheVariants.{Native, MissR, MissW, Xjalr, Prepare, Poll, Call, TrapFetch, TrapOff, TrapIllegal, TrapEbreak}
+use Rattle.templates.specs.RuntimeWords.{read_word, custom_0, custom_1, prepare_of, width_of_log}
 
 pub reads_poll : read_word 0x200b ≡ Some Poll
 unfolding read_word
@@ -74,6 +74,18 @@ pub reads_miss_w : (w rd rs1 : ℕ) (imm : ℤ) (width : Width) → field w 0 7 
 reads_miss_w w rd rs1 imm width e f d r i log =
     reads_custom_0 w 1 e f ∙ ap (λ n. option_map (λ x. MissW x (field w 15 5) (imm_i w)) (width_of_log n)) d
     ∙ ap (option_map (λ x. MissW x (field w 15 5) (imm_i w))) log ∙ ap (λ n. Some (MissW width n (imm_i w))) r ∙ ap (λ n. Some (MissW width rs1 n)) i
+
+pub reads_prepare : (w rs1 : ℕ) → rs1 < 32 → w ≡ rs1 * 2 ^ 15 + 0x600b → read_word w ≡ Some (Prepare rs1)
+reads_prepare w rs1 low is =
+    let e : field w 0 7 ≡ 0x0b = omega (arith, is) in
+    let f : field w 12 3 ≡ 6 = omega (arith, is) in
+    let d : field w 7 5 ≡ 0 = omega (arith, is) in
+    let i : field w 20 12 ≡ 0 = omega (arith, is, low) in
+    let r : field w 15 5 ≡ rs1 = omega (arith, is, low) in
+    reads_custom_0 w 6 e f
+    ∙ ap (λ b. cond b (Some Poll) (cond (eqb w 0x300b) (Some Call) (prepare_of w))) (unequal w 0x200b (λ h. let g : field w 12 3 ≡ 2 = ap (λ x. field x 12 3) h in omega (arith, f, g)))
+    ∙ ap (λ b. cond b (Some Call) (prepare_of w)) (unequal w 0x300b (λ h. let g : field w 12 3 ≡ 3 = ap (λ x. field x 12 3) h in omega (arith, f, g)))
+    ∙ (rw (eq-eqb (field w 7 5) 0 d, eq-eqb (field w 20 12) 0 i) (ap (λ n. Some (Prepare n)) r))
 
 pub reads_xjalr : (w rd rs1 : ℕ) (imm : ℤ) → field w 0 7 ≡ 0x0b → field w 12 3 ≡ 4 → field w 7 5 ≡ rd → field w 15 5 ≡ rs1 → imm_i w ≡ imm
     → read_word w ≡ Some (Xjalr rd rs1 imm)

@@ -2,6 +2,7 @@ pub mod RuntimeWords
 pub mod Code
 pub mod Places
 pub mod Plans
+pub mod WholePlan
 pub mod Sequences
 pub mod Expansion
 pub mod Commits

@@ -12,10 +12,10 @@ use Rattle.rv32_decode.specs.declared.Op.TheVariants as op
 use Rattle.rv32_decode.specs.declared.ImmOp.TheVariants as imm_op
 use Rattle.rv32_decode.specs.declared.ShiftOp.TheVariants as shift_op
 use Rattle.rv32_decode.specs.declared.Instr.{Instr}
-use Rattle.rv32_decode.specs.declared.Instr.TheVariants.{Lui, Auipc, Jal, Jalr, Branch, Load, Store, OpImm, ShiftImm, Op, Ecall, Ebreak, Illegal}
+use Rattle.rv32_decode.specs.declared.Instr.TheVariants.{Lui, Auipc, Jal, Jalr, Branch, Load, Store, OpImm, ShiftImm, Op, Ecall, Lr, Sc, Amo, Ebreak, Illegal}
 use Rattle.rv32_program.specs.Targets.{offset_address}
 use Rattle.templates.specs.declared.runtime_words.RtWord.{RtWord}
-use Rattle.templates.specs.declared.runtime_words.RtWord.TheVariants.{Native, MissR, MissW, Poll, Call, Xjalr, TrapFetch, TrapIllegal, TrapEbreak}
+use Rattle.templates.specs.declared.runtime_words.RtWord.TheVariants.{Native, MissR, MissW, Poll, Call, Xjalr, Prepare, TrapFetch, TrapIllegal, TrapEbreak}
 use Rattle.templates.specs.declared.commits.CommitKind.{CommitKind}
 use Rattle.templates.specs.declared.commits.CommitKind.TheVariants.{Never, Always, IfNotFlag, IfNoWait}
 use Rattle.templates.specs.declared.plans.Scratch.{Scratch}
@@ -130,28 +130,36 @@ flag_load_sequence x rd rs1 imm =
     (committing (Native (Load load_kind.Word rd rs1 imm))
     (reload 0 x.s []))))))))
 
--- a load whose line's state is tested: the second bit of the state byte is set where the line isn't
+-- a load, or an LR, whose line's state is tested: the second bit of the state byte is set where the line isn't
 -- readable
-abbrev pub state_load_sequence : Scratches → LoadKind → ℕ → ℕ → ℤ → List SequenceItem
-state_load_sequence x k rd rs1 imm =
+abbrev pub read_sequence : Scratches → Width → ℕ → ℤ → Instr → List SequenceItem
+read_sequence x w rs1 imm i =
     spills x (state_look x rs1 imm
     (own (OpImm imm_op.And x.s.register x.s.register (pos 2))
     (own (Branch Eq x.s.register 0 (pos 8))
-    (checking (MissR (width_of k) rs1 imm)
-    (committing (Native (Load k rd rs1 imm)) (reloads x))))))
+    (checking (MissR w rs1 imm) (committing (Native i) (reloads x))))))
+
+abbrev pub state_load_sequence : Scratches → LoadKind → ℕ → ℕ → ℤ → List SequenceItem
+state_load_sequence x k rd rs1 imm = read_sequence x (width_of k) rs1 imm (Load k rd rs1 imm)
 
 -- a load, by its value or its line's state
 abbrev pub load_sequence : Bool → Scratches → LoadKind → ℕ → ℕ → ℤ → List SequenceItem
 load_sequence true x k rd rs1 imm = flag_load_sequence x rd rs1 imm
 load_sequence false x k rd rs1 imm = state_load_sequence x k rd rs1 imm
 
--- a store whose line's state is tested: the state byte is 0 where the line is writable
-abbrev pub store_sequence : Scratches → Width → ℕ → ℕ → ℤ → List SequenceItem
-store_sequence x w rs1 rs2 imm =
+-- a store, or an AMO, whose line's state is tested: the state byte is 0 where the line is writable
+abbrev pub write_sequence : Scratches → Width → ℕ → ℤ → Instr → List SequenceItem
+write_sequence x w rs1 imm i =
     spills x (state_look x rs1 imm
     (own (Branch Eq x.s.register 0 (pos 8))
-    (checking (MissW w rs1 imm)
-    (committing (Native (Store w rs1 rs2 imm)) (reloads x)))))
+    (checking (MissW w rs1 imm) (committing (Native i) (reloads x)))))
+
+abbrev pub store_sequence : Scratches → Width → ℕ → ℕ → ℤ → List SequenceItem
+store_sequence x w rs1 rs2 imm = write_sequence x w rs1 imm (Store w rs1 rs2 imm)
+
+-- an SC, once its block is wanted for writing where its address is reserved
+abbrev pub conditional_sequence : ℕ → Instr → List SequenceItem
+conditional_sequence rs1 i = checking (Prepare rs1) (committing (Native i) [])
 
 -- a branch past the jump where the original isn't taken; or one that ends the processor where it is
 abbrev pub branch_sequence : Bool → Cond → ℕ → ℕ → ℕ → List SequenceItem
@@ -180,6 +188,10 @@ instruction_items a x (Branch c rs1 rs2 offset) =
 instruction_items a x (Load k rd rs1 imm) =
     load_sequence (looks_at_value k rd rs1) x k rd rs1 imm
 instruction_items a x (Store w rs1 rs2 imm) = store_sequence x w rs1 rs2 imm
+instruction_items a x (Lr rd rs1 aq rl) = read_sequence x Word rs1 (pos 0) (Lr rd rs1 aq rl)
+instruction_items a x (Sc rd rs1 rs2 aq rl) = conditional_sequence rs1 (Sc rd rs1 rs2 aq rl)
+instruction_items a x (Amo o rd rs1 rs2 aq rl) =
+    write_sequence x Word rs1 (pos 0) (Amo o rd rs1 rs2 aq rl)
 instruction_items a x Ecall = with_word IfNoWait Call []
 instruction_items a x Ebreak = committing TrapEbreak []
 instruction_items a x (Illegal word) = committing TrapIllegal []

@@ -85,9 +85,12 @@ fn commit_of_instruction(address: u32, scratches: &Scratches, i: &Instr, word: u
             commit_of_one(number, CommitKind::Always, word)
         }
         Instr::Load { kind, rd, rs1, .. } => commit_of_load(scratches, *kind, *rd, *rs1, word),
+        Instr::Lr { .. } => commit_of_one(8 + spilled_count(scratches), CommitKind::Always, word),
+        Instr::Sc { .. } => commit_of_one(1, CommitKind::Always, word),
         Instr::Store { .. } => {
             commit_of_one(7 + spilled_count(scratches), CommitKind::Always, word)
         }
+        Instr::Amo { .. } => commit_of_one(7 + spilled_count(scratches), CommitKind::Always, word),
         Instr::Ecall => commit_of_one(0, CommitKind::IfNoWait, word),
         _ => commit_of_one(0, CommitKind::Always, word),
     }

@@ -37,7 +37,9 @@ fn instruction_length(address: u32, scratches: &Scratches, i: &Instr) -> u8
         Instr::Jal { offset, .. } => jump_length(address.wrapping_add(offset.word())),
         Instr::Branch { offset, .. } => branch_length(address.wrapping_add(offset.word())),
         Instr::Load { kind, rd, rs1, .. } => load_length(scratches, *kind, *rd, *rs1),
-        Instr::Store { .. } => 8 + 2 * spilled_count(scratches),
+        Instr::Lr { .. } => 9 + 2 * spilled_count(scratches),
+        Instr::Sc { .. } => 2,
+        Instr::Store { .. } | Instr::Amo { .. } => 8 + 2 * spilled_count(scratches),
         _ => 1,
     }
 }

@@ -17,9 +17,7 @@ pub use code::{Code, CodeWord};
 pub use commits::{CommitKind, commit_at};
 pub use counting::sequence_length;
 pub use places::{Part, Place, list_places};
-pub use plans::{
-    Plan, PlanEntry, Scratch, Scratches, Template, closes_loop, looks_at_value, template_of,
-};
+pub use plans::{Plan, PlanEntry, Scratch, Scratches, Template, looks_at_value, template_of};
 pub use runtime_words::{RtWord, read_word};
 pub use sequences::expand;
 pub use words::{Item, Words, encode_word};

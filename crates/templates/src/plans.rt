@@ -1,6 +1,6 @@
 //! Plans: which template serves each place, and with which scratch registers.
 
-ghost use Rattle.templates.specs.Plans.{template_of, by_target, looks_at_value, closes_loop};
+ghost use Rattle.templates.specs.Plans.{template_of, by_target, looks_at_value};
 ghost use Rattle.std.specs.Prelude.{◌≡◌, ◌-◌, ◌^◌, ◌<◌, ◌≤◌, ◌++◌, ◌∷◌, [], length, set, slice_get, Some, OnOk, OnErr, if◌then◌else◌};
 
 use crate::places::aligned_target;
@@ -161,17 +161,6 @@ pub fn template_of(i: &Instr, address: u32) -> Template
         | Instr::ShiftImm { .. }
         | Instr::Op { .. }
         | Instr::Fence { .. } => Template::Plain,
-    }
-}
-
-/// Whether an instruction at an address may close a loop, and so has to poll: an indirect jump, or a
-/// direct one that doesn't go forward.
-pub fn closes_loop(i: &Instr, address: u32) -> bool
-    ensures value { result ≡ closes_loop i.now address }
-{
-    match i {
-        Instr::Jalr { .. } => true,
-        _ => aligned_target(i, address).is_some_and(|target| target <= address),
     }
 }
 

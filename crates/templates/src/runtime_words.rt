@@ -4,7 +4,7 @@ ghost use Rattle.std.specs.Prelude.{◌≡◌, ◌^◌, ◌<◌, ℕ, Some};
 ghost use Rattle.std.specs.Option.{option_map};
 ghost use Rattle.rv32_decode.specs.Rows.{instruction_of};
 ghost use Rattle.rv32_decode.specs.Fields.{field, imm_i, signed};
-ghost use Rattle.templates.specs.RuntimeWords.{read_word, custom_0, custom_1, width_of_log};
+ghost use Rattle.templates.specs.RuntimeWords.{read_word, custom_0, custom_1, prepare_of, width_of_log};
 
 use rv32_decode::{Imm12, Instr, Reg, Width, decode};
 
@@ -19,6 +19,9 @@ pub(crate) const POLL: u32 = 0x200b;
 
 /// The word of `Call`.
 pub(crate) const CALL: u32 = 0x300b;
+
+/// The word of `Prepare` with x0.
+const PREPARE: u32 = 0x600b;
 
 /// The word of `TrapFetch`.
 pub(crate) const TRAP_FETCH: u32 = 0x2b;
@@ -47,6 +50,8 @@ pub enum RtWord {
     Call,
     /// An indirect jump: to rewritten code, with the next original address in rd.
     Xjalr { rd: Reg, rs1: Reg, imm: Imm12 },
+    /// Looks whether the line of rs1 may be written, where that address is reserved.
+    Prepare { rs1: Reg },
     /// Ends the processor with `Fetch` at the word's place.
     TrapFetch,
     /// Ends the processor with `Fetch` at the address, no place, that it went to.
@@ -92,6 +97,13 @@ pub(crate) fn xjalr_word(rd: Reg, rs1: Reg, imm: Imm12) -> u32
     custom_0_word(4, u32::from(rd.number()), rs1, imm)
 }
 
+/// The word of `Prepare`.
+pub(crate) fn prepare_word(rs1: Reg) -> u32
+    ensures { read_word result ≡ Some (RtWord.Prepare rs1) }
+{
+    (u32::from(rs1.number()) << 15) + PREPARE
+}
+
 /// The major opcode of a word.
 fn opcode(word: u32) -> u32
     ensures { result ≡ field word 0 7 }
@@ -127,7 +139,21 @@ fn read_custom_0(word: u32) -> Option<RtWord>
         _ if word == POLL => Some(RtWord::Poll),
         _ if word == CALL => Some(RtWord::Call),
         4 => Some(RtWord::Xjalr { rd, rs1, imm }),
+        6 => read_prepare(word),
         _ => None,
+    }
+}
+
+/// What a word of custom-0 with the funct3 of sc.prepare is.
+fn read_prepare(word: u32) -> Option<RtWord>
+    ensures { result ≡ prepare_of word }
+{
+    if (word >> 7) & 0x1f == 0 && word >> 20 == 0 {
+        Some(RtWord::Prepare {
+            rs1: register(word, 15),
+        })
+    } else {
+        None
     }
 }
 

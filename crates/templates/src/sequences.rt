@@ -2,7 +2,7 @@
 
 ghost use Rattle.std.specs.Prelude.{◌≡◌, ◌+◌, ◌*◌, ◌%◌, ◌^◌, ◌<◌, ◌≤◌, ◌++◌, ◌∷◌, [], Some, map, length, OnOk, OnErr, pos};
 ghost use Rattle.arrayvec.specs.ArrayVec.{array_vec_len};
-ghost use Rattle.templates.specs.Sequences.{upper_part, lower_part, constant, to_head, spill, spills, reload, reloads, state_look, flag_word, flag_load_sequence, state_load_sequence, load_sequence, store_sequence, branch_sequence, jump_sequence, is_multiple_of_four, checking, own, inverse, spill_offset, items_of, place_items, poll_first, instruction_items};
+ghost use Rattle.templates.specs.Sequences.{upper_part, lower_part, constant, to_head, spill, spills, reload, reloads, state_look, flag_word, flag_load_sequence, read_sequence, write_sequence, load_sequence, store_sequence, branch_sequence, jump_sequence, is_multiple_of_four, checking, own, inverse, spill_offset, items_of, place_items, poll_first, instruction_items};
 ghost use Rattle.templates.specs.Plans.{looks_at_value};
 ghost use Rattle.templates.specs.Expansion.{Appends};
 ghost use Rattle.templates.specs.Writing.{IsWritten, IsLonger, jump_items, branch_items};
@@ -104,6 +104,16 @@ fn push_instruction(
             rs2,
             imm,
         } => push_store(sequence, scratches, *width, *rs1, *rs2, *imm),
+        Instr::Lr { rs1, .. } => {
+            push_read(sequence, scratches, Width::Word, *rs1, Imm12::new(0), *i);
+        }
+        Instr::Sc { rs1, .. } => {
+            push(sequence, RtWord::Prepare { rs1: *rs1 });
+            push_native(sequence, *i);
+        }
+        Instr::Amo { rs1, .. } => {
+            push_write(sequence, scratches, Width::Word, *rs1, Imm12::new(0), *i);
+        }
         Instr::Ecall => push(sequence, RtWord::Call),
         Instr::Ebreak => push(sequence, RtWord::TrapEbreak),
         Instr::Illegal { .. } => push(sequence, RtWord::TrapIllegal),
@@ -111,10 +121,7 @@ fn push_instruction(
         | Instr::OpImm { .. }
         | Instr::ShiftImm { .. }
         | Instr::Op { .. }
-        | Instr::Fence { .. }
-        | Instr::Lr { .. }
-        | Instr::Sc { .. }
-        | Instr::Amo { .. } => push_native(sequence, *i),
+        | Instr::Fence { .. } => push_native(sequence, *i),
     }
 }
 
@@ -135,7 +142,8 @@ fn push_load(
     if looks_at_value(kind, rd, rs1) {
         push_flag_load(sequence, scratches, rd, rs1, imm);
     } else {
-        push_state_load(sequence, scratches, kind, rd, rs1, imm);
+        let load = Instr::Load { kind, rd, rs1, imm };
+        push_read(sequence, scratches, kind.width(), rs1, imm, load);
     }
 }
 
@@ -170,17 +178,17 @@ fn push_flag_load(
     push_reload(sequence, 0, scratches.s);
 }
 
-/// Appends a load whose line's state is tested.
-fn push_state_load(
+/// Appends an instruction that reads, behind a test of its line's state.
+fn push_read(
     sequence: &mut ArrayVec<Item, 14>,
     scratches: &Scratches,
-    kind: LoadKind,
-    rd: Reg,
+    width: Width,
     rs1: Reg,
     imm: Imm12,
+    i: Instr,
 )
     requires room { array_vec_len sequence.old ≤ 1 }
-    ensures words { let items = state_load_sequence scratches.now kind rd rs1 imm in
+    ensures words { let items = read_sequence scratches.now width rs1 imm i in
         IsLonger sequence.old.items sequence.new.items items }
 {
     let s = scratches.s.register;
@@ -196,15 +204,8 @@ fn push_state_load(
         },
     );
     push_native(sequence, branch_by(Cond::Eq, s, Reg::ZERO, 8));
-    push(
-        sequence,
-        RtWord::MissR {
-            width: kind.width(),
-            rs1,
-            imm,
-        },
-    );
-    push_native(sequence, Instr::Load { kind, rd, rs1, imm });
+    push(sequence, RtWord::MissR { width, rs1, imm });
+    push_native(sequence, i);
     push_reloads(sequence, scratches);
 }
 
@@ -221,6 +222,28 @@ fn push_store(
     ensures words { let items = store_sequence scratches.now width rs1 rs2 imm in
         IsLonger sequence.old.items sequence.new.items items }
 {
+    let store = Instr::Store {
+        width,
+        rs1,
+        rs2,
+        imm,
+    };
+    push_write(sequence, scratches, width, rs1, imm, store);
+}
+
+/// Appends an instruction that writes, behind a test of its line's state.
+fn push_write(
+    sequence: &mut ArrayVec<Item, 14>,
+    scratches: &Scratches,
+    width: Width,
+    rs1: Reg,
+    imm: Imm12,
+    i: Instr,
+)
+    requires room { array_vec_len sequence.old ≤ 1 }
+    ensures words { let items = write_sequence scratches.now width rs1 imm i in
+        IsLonger sequence.old.items sequence.new.items items }
+{
     push_spills(sequence, scratches);
     push_state_look(sequence, scratches, rs1, imm);
     push_native(
@@ -228,15 +251,7 @@ fn push_store(
         branch_by(Cond::Eq, scratches.s.register, Reg::ZERO, 8),
     );
     push(sequence, RtWord::MissW { width, rs1, imm });
-    push_native(
-        sequence,
-        Instr::Store {
-            width,
-            rs1,
-            rs2,
-            imm,
-        },
-    );
+    push_native(sequence, i);
     push_reloads(sequence, scratches);
 }
 

@@ -5,7 +5,7 @@ ghost use Rattle.templates.specs.RuntimeWords.{read_word};
 
 use crate::runtime_words::{
     CALL, POLL, RtWord, TRAP_EBREAK, TRAP_FETCH, TRAP_ILLEGAL, TRAP_OFF, miss_r_word, miss_w_word,
-    xjalr_word,
+    prepare_word, xjalr_word,
 };
 use rv32_decode::{Instr, encode};
 use std::alloc::{AllocError, Global};
@@ -103,6 +103,7 @@ pub fn encode_word(what: RtWord) -> u32
         RtWord::Poll => POLL,
         RtWord::Call => CALL,
         RtWord::Xjalr { rd, rs1, imm } => xjalr_word(rd, rs1, imm),
+        RtWord::Prepare { rs1 } => prepare_word(rs1),
         RtWord::TrapFetch => TRAP_FETCH,
         RtWord::TrapOff => TRAP_OFF,
         RtWord::TrapIllegal => TRAP_ILLEGAL,

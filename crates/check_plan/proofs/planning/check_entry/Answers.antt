@@ -7,6 +7,6 @@ pub returns-in-Some-clause-entry : goal.returns-in-Some-clause-entry
 returns-in-Some-clause-entry c =
     let e = c.entry-in-Some.ensures in
     let at = sym (c.in-Some.ensures.value ∙ ap (λ ws. code_of ws c.args.address) (c.code.ensures.value ∙ c.graph.ensures.value)) in
-    entry_some (code_of c.args.live.now) c.args.address c.in-Some.i c.all_dead-dead.result c.scratch_count.result c.template_of-template.result c.choose.result c.entry-in-Some.result
-    at c.template_of-template.ensures.value c.scratch_count.ensures.value (λ r nz lt. c.all_dead-dead.ensures.members c.in-Some.i r at nz lt) c.choose.ensures.value
-    e.address e.template e.single (e.polls ∙ c.closes_loop.ensures.value) e.run e.batch
+    entry_some (code_of c.args.live.now) c.args.address c.in-Some.i c.all_dead-dead.result c.scratch_count.result c.template_of-template.result c.choose-single.result c.entry-in-Some.result
+    at c.template_of-template.ensures.value c.scratch_count.ensures.value (λ r nz lt. c.all_dead-dead.ensures.members c.in-Some.i r at nz lt) c.choose-single.ensures.value
+    e.address e.template e.single e.polls e.run e.batch

@@ -1,5 +1,5 @@
--- The plan of a program: the template of each place, and its scratch registers, of which those that
--- are dead are taken first. A program has exactly one.
+-- The plan of a program: the template of each place, its scratch registers, of which those that are
+-- dead are taken first, and whether it polls. A program has exactly one.
 use Rattle.std.specs.Prelude.{◌≡◌, ℕ, ◌↔◌, Bool, true, false, IsTrue, ◌==◌, not, ◌||◌, List, ◌++◌, Option, Some, None, map, filter, take, slice_index_or, Contains}
 use Rattle.std.specs.List.{list_any, range_with_len}
 use Rattle.std.specs.Option.{option_map_or}
@@ -55,16 +55,26 @@ abbrev pub IsSingle : (ℕ → Option Instr) → ℕ → Option Instr → Scratc
 IsSingle code a None x = x ≡ no_scratches
 IsSingle code a (Some i) x = IsChoice code a i (scratch_count (template_of i a)) x
 
--- the entry of a place, which polls where a loop may close and begins no run
-pub record IsCheckEntry (code : ℕ → Option Instr) (e : PlanEntry) : Type 0 where
+-- the entry of a place, which polls or doesn't, and begins no run
+pub record IsEntry (code : ℕ → Option Instr) (polling : Bool) (e : PlanEntry) : Type 0 where
   pub template : e.template ≡ template_at e.address (code e.address)
   pub single : IsSingle code e.address (code e.address) e.single
-  pub polls : e.polls ≡ closes_loop_at e.address (code e.address)
+  pub polls : e.polls ≡ polling
   pub run : e.run ≡ 0
   pub batch : e.batch ≡ no_scratches
 
--- the plan of this code: an entry for each place, in ascending order
-pub record IsCheckPlan (code : ℕ → Option Instr) (plan : List PlanEntry) : Type 0 where
-  pub ascends : AscendsFrom 0 plan
-  pub places : HasPlaces code (addresses plan)
-  pub each : (e : PlanEntry) → Contains plan e → IsCheckEntry code e
+-- an entry for each place of this code, in ascending order, that polls at these addresses
+pub record HasEntries (code : ℕ → Option Instr) (polling : ℕ → Bool) (plan : List PlanEntry)
+    : Type 0
+  where
+    pub ascends : AscendsFrom 0 plan
+    pub places : HasPlaces code (addresses plan)
+    pub each : (e : PlanEntry) → Contains plan e → IsEntry code (polling e.address) e
+
+-- the plan of this code's checks: no place polls as yet
+abbrev pub IsCheckPlan : (ℕ → Option Instr) → List PlanEntry → Type 0
+IsCheckPlan code plan = HasEntries code (λ a. false) plan
+
+-- the plan of this code: a place polls where a loop may close
+abbrev pub IsPlanOf : (ℕ → Option Instr) → List PlanEntry → Type 0
+IsPlanOf code plan = HasEntries code (λ a. closes_loop_at a (code a)) plan

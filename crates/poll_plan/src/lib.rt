@@ -1,0 +1,8 @@
+#![tactic(auto)]
+//! The polls of a plan: where a loop may close.
+
+ghost use Rattle.std.specs.Prelude.{◌≡◌, ℕ};
+
+mod polls;
+
+pub use polls::plan_polls;
