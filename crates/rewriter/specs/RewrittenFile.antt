@@ -11,7 +11,7 @@ use Rattle.templates.specs.Numbers.{number_of}
 use Rattle.exec_map.specs.Contents.{program_of}
 use Rattle.jump_map.specs.Image.{Cell, image_base, IsRewriting}
 use Rattle.jump_map.specs.Maps.{new_of}
-use Rattle.check_plan.specs.CheckPlan.{IsCheckPlan}
+use Rattle.templates.specs.WholePlan.{IsPlanOf}
 use Rattle.rewriter.specs.declared.file.Part.{Part}
 use Rattle.rewriter.specs.declared.file.Part.TheVariants.{Plan, Map, Code}
 
@@ -106,6 +106,6 @@ IsFirstDifference wanted e Code =
 pub record IsOtherCode (original e : Elf) (part : Part) : Type 0 where
   pub plan : List PlanEntry
   pub image : List Cell
-  pub the_plan : IsCheckPlan (program_of original).code plan
+  pub the_plan : IsPlanOf (program_of original).code plan
   pub rewriting : IsRewriting (program_of original) plan image
   pub differs : IsFirstDifference (rewritten_elf original image plan) e part

@@ -3,10 +3,10 @@ use Rattle.std.specs.Prelude.{ℕ, List}
 use Rattle.rv32_program.specs.Program.{Program}
 use Rattle.templates.specs.declared.plans.PlanEntry.{PlanEntry}
 use Rattle.jump_map.specs.Image.{HasTooManyWords}
-use Rattle.check_plan.specs.CheckPlan.{IsCheckPlan}
+use Rattle.templates.specs.WholePlan.{IsPlanOf}
 
 -- the plan of the program has so many words, which are more than an image may have
 pub record IsTooLarge (program : Program) (words : ℕ) : Type 0 where
   pub plan : List PlanEntry
-  pub is_plan : IsCheckPlan program.code plan
+  pub is_plan : IsPlanOf program.code plan
   pub many : HasTooManyWords program plan words

@@ -1,12 +1,14 @@
 //! The file of a rewritten program.
 
-ghost use Rattle.std.specs.Prelude.{◌≡◌, ◌++◌, ◌∷◌, [], ℕ, map, IfOk, IsErrOf, MatchOption, OnOk, length, codes, true};
+ghost use Rattle.std.specs.Prelude.{◌≡◌, ◌++◌, ◌∷◌, ◌^◌, ◌<◌, ◌≤◌, [], ℕ, map, IfOk, IsErrOf, MatchOption, OnOk, length, codes, true};
 ghost use Rattle.exec_map.specs.Contents.{program_of};
+ghost use Rattle.exec_map.specs.Refusals.{IsAcceptable};
 ghost use Rattle.jump_map.specs.Image.{IsRewriting};
+ghost use Rattle.elf32_read.specs.Elf.{are_placed};
 ghost use Rattle.elf32_read.specs.Segments.{segment_of, section_of};
 ghost use Rattle.elf32_write.specs.Layout.{file_of};
 ghost use Rattle.elf32_write.specs.Writable.{is_writable};
-ghost use Rattle.check_plan.specs.CheckPlan.{IsCheckPlan};
+ghost use Rattle.templates.specs.WholePlan.{IsPlanOf};
 ghost use Rattle.rewriter.specs.TooLarge.{IsTooLarge};
 ghost use Rattle.rewriter.specs.RewrittenFile as model;
 ghost use Rattle.rewriter.specs.RewrittenFile.{IsFirstDifference, IsOtherCode, rewritten_elf};
@@ -56,46 +58,36 @@ impl From<AllocError> for CodeRefused {
     }
 }
 
-/// The number of bytes, as a file has it. A file can't have 2^32 of them: there is no room for those.
-fn size_of(bytes: &[u8]) -> Result<u32, AllocError>
-    ensures value { IfOk result (λ size. size ≡ length bytes.now) }
-{
-    match u32::try_from(bytes.len()) {
-        Ok(size) => Ok(size),
-        Err(_) => Err(AllocError),
-    }
-}
-
 /// The section of a plan.
-fn plan_section<'a>(bytes: &'a [u8]) -> Result<Section<'a>, AllocError>
-    ensures value { IfOk result (λ section.
-        section_of section ≡ model.section_with (codes ".shasta.plan") 0x80000001 bytes.entry.now) }
+fn plan_section<'a>(bytes: &'a [u8]) -> Section<'a>
+    requires short { length bytes.now < 2 ^ 32 }
+    ensures value { section_of result
+        ≡ model.section_with (codes ".shasta.plan") 0x80000001 bytes.entry.now }
 {
-    let size = size_of(bytes)?;
-    Ok(Section {
+    Section {
         name: b".shasta.plan",
         kind: 0x8000_0001,
         flags: 0,
         addr: 0,
-        size,
+        size: bytes.len() as u32,
         bytes,
-    })
+    }
 }
 
 /// The section of a map of addresses.
-fn map_section<'a>(bytes: &'a [u8]) -> Result<Section<'a>, AllocError>
-    ensures value { IfOk result (λ section.
-        section_of section ≡ model.section_with (codes ".shasta.map") 0x80000002 bytes.entry.now) }
+fn map_section<'a>(bytes: &'a [u8]) -> Section<'a>
+    requires short { length bytes.now < 2 ^ 32 }
+    ensures value { section_of result
+        ≡ model.section_with (codes ".shasta.map") 0x80000002 bytes.entry.now }
 {
-    let size = size_of(bytes)?;
-    Ok(Section {
+    Section {
         name: b".shasta.map",
         kind: 0x8000_0002,
         flags: 0,
         addr: 0,
-        size,
+        size: bytes.len() as u32,
         bytes,
-    })
+    }
 }
 
 /// A segment of the original, which can't be executed any more.
@@ -116,26 +108,27 @@ fn rewritten_segments<'s, 'o: 's>(
     original: &Elf<'o>,
     code: &'s [u8],
 ) -> Result<Vec<Segment<'s>>, AllocError>
+    requires short { length code.now < 2 ^ 32 }
     ensures value { IfOk result (λ segments. map segment_of segments.items
         ≡ map model.without_execution original.now.segments
         ++ (model.segment_with code.entry.now ∷ [])) }
+    ensures placed { OnOk result (are_placed original.now.segments ≡ true) }
 {
     let mut segments = Vec::new(alloc);
     for segment in original.segments() {
         segments.push(without_execution(segment))?;
     }
-    let memsz = size_of(code)?;
     segments.push(Segment {
         flags: 5,
         vaddr: IMAGE_BASE,
-        memsz,
+        memsz: code.len() as u32,
         bytes: code,
     })?;
     Ok(segments)
 }
 
-/// The executable of a rewritten program, by its entry and the bytes of its plan, map and code. There
-/// is no room for one that is outside the limits of `Elf::make`.
+/// The executable of a rewritten program, by its entry and the bytes of its plan, map and code. That of
+/// an original that is accepted is in the limits of `Elf::make`.
 fn elf_of_parts<'s, 'o: 's>(
     alloc: Global,
     original: &Elf<'o>,
@@ -144,23 +137,27 @@ fn elf_of_parts<'s, 'o: 's>(
     map: &'s [u8],
     code: &'s [u8],
 ) -> Result<Elf<'s>, AllocError>
+    requires accepted { IsAcceptable original.now }
+    requires plan { length plan.now ≤ 2 ^ 21 }
+    requires map { length map.now ≤ 2 ^ 21 }
+    requires code { length code.now ≤ 2 ^ 20 }
     ensures value { IfOk result (λ e. e ≡ model.elf_of_parts original.now entry
         plan.entry.now map.entry.now code.entry.now) }
     ensures writable { IfOk result (λ e. is_writable e ≡ true) }
 {
     let segments = rewritten_segments(alloc, original, code)?;
     let mut sections = Vec::new(alloc);
-    sections.push(plan_section(plan)?)?;
-    sections.push(map_section(map)?)?;
+    sections.push(plan_section(plan))?;
+    sections.push(map_section(map))?;
     match Elf::make(entry, original.flags(), segments, sections) {
         Some(elf) => Ok(elf),
-        None => Err(AllocError),
+        None => unreachable!(),
     }
 }
 
 impl Rewritten {
-    /// The first part in which an executable differs from this rewriting of the original.
-    fn first_difference(
+    /// The first part in which an executable differs from the one that `to_elf` writes.
+    pub fn first_difference(
         &self,
         alloc: Global,
         original: &Elf<'_>,
@@ -172,12 +169,12 @@ impl Rewritten {
     {
         let sections = elf.sections();
         let plan = plan_bytes(alloc, self.plan())?;
-        let wanted = plan_section(&plan)?;
+        let wanted = plan_section(&plan);
         if !has_section(sections, 0, &wanted) {
             return Ok(Some(Part::Plan));
         }
         let map = map_bytes(alloc, self.image(), self.plan())?;
-        let wanted = map_section(&map)?;
+        let wanted = map_section(&map);
         if !has_section(sections, 1, &wanted) {
             return Ok(Some(Part::Map));
         }
@@ -194,16 +191,17 @@ impl Rewritten {
         }
     }
 
-    /// Writes the file of the rewritten program, with what it takes from the original.
+    /// Writes the file of the rewritten program, with what it takes from the original, from which the
+    /// program was accepted.
     ///
-    /// There is no room for a file that is outside the limits of `Elf::make`. Where memory is wanted,
-    /// `out` may have some of the file.
+    /// Where memory is wanted, `out` may have some of the file.
     pub fn to_elf(
         &self,
         alloc: Global,
         original: &Elf<'_>,
         out: &mut Vec<u8>,
     ) -> Result<(), AllocError>
+        requires accepted { IsAcceptable original.now }
         requires empty { out.old.items ≡ [] }
         ensures ok { OnOk result (out.new.items
             ≡ file_of (rewritten_elf original.now self.now.image self.now.plan)) }
@@ -226,7 +224,7 @@ impl Rewritten {
         elf: &Elf<'_>,
     ) -> Result<Rewritten, CodeRefused>
         requires accepted { program.now ≡ original.now }
-        ensures plan { IfOk result (λ r. IsCheckPlan (program_of program.now).code r.plan) }
+        ensures plan { IfOk result (λ r. IsPlanOf (program_of program.now).code r.plan) }
         ensures rewriting { IfOk result (λ r. IsRewriting (program_of program.now) r.plan r.image) }
         ensures same { IfOk result (λ r. elf.now ≡ rewritten_elf original.now r.image r.plan) }
         ensures differs { (part : Part) → IsErrOf result (CodeRefused.PlanRefused part)
