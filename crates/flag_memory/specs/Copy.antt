@@ -1,5 +1,5 @@
 -- What contracts see of a node's copy of the shared memory.
-use Rattle.std.specs.Prelude.{◌≡◌, ℕ, ◌+◌, ◌*◌, ◌/◌, ◌%◌, if◌then◌else◌, nat_lt, List, [], length, slice_index, slice_range}
+use Rattle.std.specs.Prelude.{◌≡◌, ℕ, zero, suc, ◌+◌, ◌*◌, ◌/◌, ◌%◌, if◌then◌else◌, nat_lt, List, [], ◌∷◌, length, slice_index, slice_range}
 use Rattle.block_layout.specs.Layout.{Shape, IsValid, is_shared, shared_before, shared_lines, blocks, start, lines}
 
 -- the layout, and the bytes of the shared lines, ascending
@@ -31,6 +31,11 @@ bytes_in layout bytes b =
 
 abbrev pub bytes_of : Copy → ℕ → List ℕ
 bytes_of c b = bytes_in c.layout c.bytes b
+
+-- so many bytes of a memory from an address on
+abbrev pub bytes_from : (ℕ → ℕ) → (at n : ℕ) → List ℕ
+bytes_from memory at zero = []
+bytes_from memory at (suc n) = memory at ∷ bytes_from memory (at + 1) n
 
 -- a byte for each byte of the shared lines
 pub record IsCopy (layout : Shape) (bytes : List ℕ) : Type 0 where

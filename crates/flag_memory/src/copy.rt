@@ -5,7 +5,7 @@ ghost use Rattle.block_layout.specs.Layout.{is_shared, shared_lines, blocks, lin
 ghost use Rattle.block_layout.specs.Update.{changed};
 ghost use Rattle.rv32_decode.specs.Widths.{size_of, is_aligned};
 ghost use Rattle.byte_range.specs.Memory.{raw, stored};
-ghost use Rattle.flag_memory.specs.Copy.{memory, bytes_of};
+ghost use Rattle.flag_memory.specs.Copy.{memory, bytes_of, place};
 ghost use Rattle.flag_memory.specs.Flag.{flags};
 ghost use Rattle.flag_memory.specs.FirstBytes.{first_byte, AreFirstBytes};
 ghost use Rattle.flag_memory.specs.Ranges.{range_of};
@@ -58,7 +58,8 @@ impl Copy32 {
     pub fn load(&self, address: u32, width: Width) -> u32
         requires shared { is_shared self.now.layout (address / 64) ≡ true }
         requires aligned { is_aligned width address ≡ true }
-        ensures { result ≡ raw width (memory self.now) address }
+        ensures value { result ≡ raw width (memory self.now) address }
+        ensures byte { width ≡ Width.Byte → result < 2 ^ 8 }
     {
         layout_law();
         match self.layout.place_of(address / 64) {
@@ -68,6 +69,19 @@ impl Copy32 {
             }
             None => unreachable!(),
         }
+    }
+
+    /// The same, where it is known at which place of the bytes those of the address begin.
+    #[inline(always)]
+    pub fn load_at(&self, address: u32, at: u32, width: Width) -> u32
+        requires shared { is_shared self.now.layout (address / 64) ≡ true }
+        requires aligned { is_aligned width address ≡ true }
+        requires place { at ≡ place self.now.layout address }
+        ensures value { result ≡ raw width (memory self.now) address }
+        ensures byte { width ≡ Width.Byte → result < 2 ^ 8 }
+    {
+        layout_law();
+        load_at(&self.bytes, at as usize, width)
     }
 
     /// Puts the low bits of a value into the bytes from an address on, little-endian.
@@ -85,6 +99,19 @@ impl Copy32 {
             }
             None => unreachable!(),
         }
+    }
+
+    /// The same, where it is known at which place of the bytes those of the address begin.
+    #[inline(always)]
+    pub fn store_at(&mut self, address: u32, at: u32, width: Width, value: u32)
+        requires shared { is_shared self.old.layout (address / 64) ≡ true }
+        requires aligned { is_aligned width address ≡ true }
+        requires place { at ≡ place self.old.layout address }
+        ensures memory { memory self.new ≡ stored width (memory self.old) address value }
+        ensures layout { self.new.layout ≡ self.old.layout }
+    {
+        layout_law();
+        store_at(&mut self.bytes, at as usize, width, value);
     }
 
     /// Makes a buffer hold the bytes of a block.
@@ -177,7 +204,8 @@ fn write_byte(bytes: &mut [u8], layout: &Layout, address: u32, byte: u8)
 /// The little-endian number that the bytes from a place on make.
 fn load_at(bytes: &[u8], at: usize, width: Width) -> u32
     requires { at + size_of width ≤ length bytes.now }
-    ensures { result ≡ raw width (slice_index bytes.now) at }
+    ensures value { result ≡ raw width (slice_index bytes.now) at }
+    ensures byte { width ≡ Width.Byte → result < 2 ^ 8 }
 {
     match width {
         Width::Byte => u32::from(bytes[at]),

@@ -1,4 +1,5 @@
 pub mod Waits
 pub mod Effects
+pub mod Rows
 pub mod Search
 pub mod Completion

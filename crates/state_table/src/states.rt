@@ -1,7 +1,7 @@
 //! The state bytes of a node.
 
-ghost use Rattle.std.specs.Prelude.{◌≡◌, ◌/◌, ◌<◌, ◌≤◌, ℕ, IfOk, length};
-ghost use Rattle.block_layout.specs.Layout.{blocks};
+ghost use Rattle.std.specs.Prelude.{◌≡◌, ◌/◌, ◌<◌, ◌≤◌, ℕ, Some, IfOk, length};
+ghost use Rattle.block_layout.specs.Layout.{blocks, place_of};
 ghost use Rattle.block_layout.specs.Update.{changed};
 ghost use Rattle.state_table.specs.States.{state_of, line_byte};
 ghost use Rattle.state_table.specs.StateByte.{state_with};
@@ -64,6 +64,16 @@ impl States {
             Some(place) => self.bytes[place as usize],
             None => self.program.byte(line),
         }
+    }
+
+    /// The byte of a shared line, where its place among the shared lines is known.
+    #[inline(always)]
+    pub fn byte_at(&self, line: u32, place: u32) -> u8
+        requires { place_of self.now.layout line ≡ Some place }
+        ensures { result ≡ line_byte self.now line }
+    {
+        layout_law();
+        self.bytes[place as usize]
     }
 
     /// The state of a block.

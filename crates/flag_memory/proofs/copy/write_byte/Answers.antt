@@ -1,4 +1,4 @@
-use Rattle.std.proofs.Common.{◌≡◌, ℕ, ◌+◌, ◌*◌, ◌/◌, ◌%◌, ◌<◌, ◌∙◌, sym, ap, true, arith, is_some, length}
+use Rattle.std.proofs.Common.{◌≡◌, ℕ, ◌+◌, ◌*◌, ◌/◌, ◌%◌, ◌<◌, ◌∙◌, sym, ap, true, arith, length}
 use Rattle.block_layout.specs.Layout.{is_shared, shared_before}
 use Rattle.flag_memory.specs.Copy.{place}
 use Rattle.flag_memory.proofs.Places.{Laws, laws, place_some, place_none, place_low}

@@ -1,4 +1,4 @@
-use Rattle.std.proofs.Common.{◌≡◌, ℕ, ◌+◌, ◌*◌, ◌/◌, ◌%◌, ◌≤◌, ◌∙◌, sym, ap, subst, true, false, arith, is_some, List}
+use Rattle.std.proofs.Common.{◌≡◌, ℕ, ◌+◌, ◌*◌, ◌/◌, ◌%◌, ◌≤◌, ◌∙◌, sym, ap, subst, true, false, arith, List}
 use Rattle.std.specs.Prelude.{slice_index}
 use Rattle.block_layout.specs.Layout.{is_shared, shared_before}
 use Rattle.rv32_decode.specs.Widths.{size_of}
@@ -19,8 +19,8 @@ load_at-requires c =
     let room : c.args.address % 64 + size_of c.args.width ≤ 64 = aligned_room c.args.width c.args.address c.requires.aligned in
     omega (arith, place_low s c.args.address l shared, there.1, c.self.invariant.len, c.deref.ensures.len, c.deref.ensures.value, room)
 
-pub returns : goal.returns
-returns c =
+pub returns-clause-value : goal.returns-clause-value
+returns-clause-value c =
     let i = c.self.inside in
     let s = i.layout in
     let law = c.layout_law.ensures in
@@ -30,7 +30,7 @@ returns c =
     let room : c.args.address % 64 + size_of c.args.width ≤ 64 = aligned_room c.args.width c.args.address c.requires.aligned in
     let at : 64 * c.in-Some.place + c.args.address % 64 ≡ place s c.args.address = ap (λ n. 64 * n + c.args.address % 64) there.1 in
     subst (λ (h : Copy). c.load_at.result ≡ raw c.args.width (memory h) c.args.address) c.self.view_is
-    (c.load_at.ensures
+    (c.load_at.ensures.value
     ∙ ap (λ (xs : List ℕ). raw c.args.width (slice_index xs) (64 * c.in-Some.place + c.args.address % 64)) c.deref.ensures.value
     ∙ ap (raw c.args.width (slice_index i.bytes.items)) at
     ∙ raw_is (copy_with s i.bytes.items) c.args.width c.args.address shared room)

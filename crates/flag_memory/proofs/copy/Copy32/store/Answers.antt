@@ -1,4 +1,4 @@
-use Rattle.std.proofs.Common.{◌≡◌, ℕ, ◌+◌, ◌*◌, ◌/◌, ◌%◌, ◌≤◌, ◌∙◌, sym, ap, subst, true, false, arith, is_some, List, length, take, drop, ◌++◌}
+use Rattle.std.proofs.Common.{◌≡◌, ℕ, ◌+◌, ◌*◌, ◌/◌, ◌%◌, ◌≤◌, ◌∙◌, sym, ap, subst, true, false, arith, List, length, take, drop, ◌++◌}
 use Rattle.std.specs.Prelude.{slice_index}
 use Rattle.block_layout.specs.Layout.{is_shared, shared_before}
 use Rattle.rv32_decode.specs.Widths.{size_of}
