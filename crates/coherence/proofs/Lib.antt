@@ -12,6 +12,8 @@ pub mod Likes
 pub mod Home
 pub mod Store
 pub mod Moves
+pub mod Settled
+pub mod Takers
 pub mod Room
 pub mod Keeps
 pub mod Steps

@@ -1,13 +1,15 @@
 -- The theorem, claim by claim.
 use Rattle.std.proofs.Common.{◌≡◌, ℕ, ◌+◌, ◌*◌, ◌<◌, ◌≤◌, true, false, eqb, Option, Some, None, List, ◌∷◌, ◌⊎◌, inl, inr, refl, sym, ap, ◌∙◌, arith}
-use Rattle.std.proofs.lemmas.Bool.Decides.{nat_tests}
-use Rattle.coherence.specs.Messages.{Need, Read, Write, HomeMessage, Done, ToHome, Wait, is_none}
+use Rattle.std.proofs.lemmas.Bool.Decides.{leb_tells, nat_tests}
+use Rattle.coherence.specs.Messages.{Need, Read, Write, HomeMessage, Done, ToHome, Forward, Wait, is_none}
 use Rattle.coherence.specs.Machine.{Core, Setting, Proper, Event, after}
 use Rattle.coherence.specs.View.{View, if_to_home, if_forward, if_response, part}
 use Rattle.coherence.specs.Picture.{Phase, Idle, ReadOpen, WriteOpen, ReadDone, WriteDone, Picture, wait_for, wait_in, to_home_in, Shows, WellFormed}
-use Rattle.coherence.specs.Claims.{Coherent, OneWriter, HaveRows, Moves, TwoWaits, FewAcks, FewRequests, Costs, Frugal}
+use Rattle.coherence.specs.Claims.{Coherent, OneWriter, HaveRows, Moves, Settles, TakersWait, TwoWaits, FewAcks, FewRequests, Costs, Frugal}
 use Rattle.coherence.proofs.Store.{one_writer, reads_memory, else_flagged}
 use Rattle.coherence.proofs.Moves.{waits_move}
+use Rattle.coherence.proofs.Settled.{no_messages, dones}
+use Rattle.coherence.proofs.Takers.{taker_waits}
 use Rattle.coherence.proofs.Home.{at_home, no_done}
 use Rattle.coherence.proofs.Steps.{Holds, seen, has_row, few_requests, front_part, list_holds}
 
@@ -86,6 +88,22 @@ module _ {C : Type 0} (s : Setting C) (proper : Proper s) (k : Core C) (holds : 
         ],
       )
 
+  settles : Settles s k
+  settles b idle j i = elim (leb_tells s.blocks b) [
+    | inl far ↦ (let q = holds.beyond b far.1 in
+        no_messages b (k.list j i) (q.to_home j i) (q.forwards j i) (q.responses j i))
+    | inr near ↦ (let h = holds.pictures b in
+        dones s.flag s.nodes (s.home b) (seen s k b) h.0 h.1 h.2 h.3
+        (λ x below. idle x below (omega arith)) j i b (k.list j i) refl refl refl)
+  ]
+
+  takers : TakersWait s k
+  takers i j b r m rest e named =
+      let t = taker_waits s.flag s.nodes (s.home b) (seen s k b) j i m (part if_forward b rest)
+      (holds.pictures b)
+      (front_part if_forward (k.list j i) (record { block = b; body = Forward m }) rest e) r named
+      in (t.below, t.other, t.wait.0, t.wait.1, t.wait.2)
+
   acks : FewAcks s k
   acks i b w e = let h = holds.pictures b in
       few_counted (k.memory b) s.nodes h.0 h.1 i w proper.nodes h.3 (sym (h.2.waits i) ∙ e)
@@ -116,6 +134,12 @@ module _ (C : Type 0) (s : Setting C) (proper : Proper s) (es : List (Event C)) 
 
   pub all_moves : Moves s (after s es)
   all_moves = moves s proper (after s es) (list_holds s proper es)
+
+  pub all_settles : Settles s (after s es)
+  all_settles = settles s proper (after s es) (list_holds s proper es)
+
+  pub all_takers : TakersWait s (after s es)
+  all_takers = takers s proper (after s es) (list_holds s proper es)
 
   pub all_two_waits : TwoWaits s (after s es)
   all_two_waits = (list_holds s proper es).two

@@ -1,8 +1,20 @@
 -- What holds after every protocol list.
-use Rattle.std.specs.Prelude.{◌≡◌, ◌≢◌, ℕ, ◌+◌, ◌*◌, ◌<◌, ◌≤◌, true, false, Some, None, List, [], ◌∷◌, ◌⊎◌, length}
-use Rattle.coherence.specs.Messages.{Read, Write, ToHome, Done, Wait, can_read, can_write}
+use Rattle.std.specs.Prelude.{◌≡◌, ◌≢◌, ℕ, ◌+◌, ◌*◌, ◌<◌, ◌≤◌, true, false, Option, Some, None, List, [], ◌∷◌, ◌⊎◌, length}
+use Rattle.coherence.specs.Messages.{Read, Write, ForwardMessage, FwdRead, FwdWrite, Inval, Grant, ToHome, Forward, Done, Wait, can_read, can_write}
 use Rattle.coherence.specs.Table.{Effect}
 use Rattle.coherence.specs.Machine.{Wire, Core, Setting, Proper, Event, row_of, waits, after}
+
+-- the node for which a message takes the block away from another
+abbrev pub taker : ForwardMessage → Option ℕ
+taker (FwdRead r) = None
+taker (FwdWrite r k) = Some r
+taker (Inval r) = Some r
+taker (Grant k) = None
+
+-- each message about block b is a Done
+abbrev pub AreDones : {C : Type 0} → ℕ → List (Wire C) → Type 0
+AreDones b [] = Unit {0}
+AreDones b (w ∷ ws) = (w.block ≡ b → w.body ≡ ToHome Done) × AreDones b ws
 
 module _ {C : Type 0} where
   -- the copies are coherent with the memory: a readable one is the memory's, every other is flagged
@@ -24,6 +36,17 @@ module _ {C : Type 0} where
   abbrev pub Moves : Setting C → Core C → Type 0
   Moves s k = (i b : ℕ) → k.wait i b ≢ None
       → (x : ℕ) × (y : ℕ) × (x < s.nodes) × (y < s.nodes) × (k.list x y ≢ [])
+
+  -- where no node waits for a block, the messages about it are Dones
+  abbrev pub Settles : Setting C → Core C → Type 0
+  Settles s k = (b : ℕ) → ((i : ℕ) → i < s.nodes → b < s.blocks → k.wait i b ≡ None)
+      → (j i : ℕ) → AreDones b (k.list j i)
+
+  -- a block is taken away from a node for another, which waits to write it
+  abbrev pub TakersWait : Setting C → Core C → Type 0
+  TakersWait s k = (i j b r : ℕ) (m : ForwardMessage) (rest : List (Wire C))
+      → k.list j i ≡ record { block = b; body = Forward m } ∷ rest → taker m ≡ Some r
+      → (r < s.nodes) × (r ≢ i) × (w : Wait C) × (k.wait r b ≡ Some w) × (w.need ≡ Write)
 
   abbrev pub TwoWaits : Setting C → Core C → Type 0
   TwoWaits s k = (i : ℕ) → waits s k i ≤ 2

@@ -1,28 +1,29 @@
 -- Nodes and lists that are the same, however they are stored.
-use Rattle.std.proofs.Common.{◌≡◌, ℕ, ◌+◌, ◌<◌, ◌≤◌, Bool, true, false, cond, eqb, ltb, ◌&&◌, List, [], ◌∷◌, ◌++◌, length, get_or, set, refl, sym, ap, ◌∙◌, subst, inl, inr, Option, Some, None, arith}
-use Rattle.std.proofs.lemmas.Bool.Decides.{eqb_tells, nat_tests}
+use Rattle.std.proofs.Common.{◌≡◌, ℕ, ◌<◌, cond, eqb, ◌&&◌, List, [], ◌∷◌, ◌++◌, length, get_or, set, refl, sym, ap, ◌∙◌, subst, inl, inr, Some, arith}
+use Rattle.std.proofs.lemmas.Bool.Decides.{eqb_tells}
 use Rattle.std.proofs.lemmas.List.{get_or-set_same, get_or-set_other, get_or_default, length-set}
-use Rattle.block_layout.specs.Layout.{Shape, blocks, home, IsValid}
+use Rattle.block_layout.specs.Layout.{Shape, blocks}
 use Rattle.block_layout.specs.Update.{changed}
 use Rattle.state_table.specs.States.{state_of}
 use Rattle.flag_memory.specs.Copy.{bytes_of}
 use Rattle.home_directory.specs.declared.messages.Message.{Message}
 use Rattle.home_directory.specs.declared.messages.Message.TheVariants.{Read, Write, FwdRead, FwdWrite, Inval, Data, Grant, Ack, Done, Bye}
 use Rattle.home_directory.specs.declared.messages.Post.{Post}
-use Rattle.home_directory.specs.declared.wait.Wait.{Wait}
 use Rattle.home_directory.specs.Home.{Entry}
 use Rattle.home_directory.specs.Effects.{entry_at}
 use Rattle.miss_handlers.specs.Waits.{wait_of}
-use Rattle.coherence.specs.Machine.{Event, Take, Core, Proper, after}
+use Rattle.coherence.specs.Machine.{Event, Take, Core}
 use Rattle.coherence.specs.Claims.{AfterEveryList, HaveRows}
 use Rattle.dsm_core.specs.declared.nodes.BareNode.{BareNode}
 use Rattle.dsm_core.specs.World.{World, messages_to, with_list, with_sends}
 use Rattle.dsm_core.specs.Abstraction.{Contents, contents, state_of as shown_state, busy_of, wait_of as shown_wait, requests_of, wires_of, home_in, setting_of, StandsFor}
-use Rattle.dsm_core.specs.Sound.{IsLaid, IsFullWait, AreSound, AreRoomy, Sound, size}
+use Rattle.dsm_core.specs.Sound.{IsLaid, IsFullWait, AreSound, HasNoBye, NoByes, AreRoomy, Sound}
 use Rattle.dsm_core.specs.Queue.{Queue, list_of, AreQueues, SameMessages, IsSent, IsTaken}
-use Rattle.dsm_core.specs.Events.{Row, AtHome, AtNode, row_of, after_row, Leads}
+use Rattle.miss_handlers.specs.Rows.{Row, AtHome, AtNode}
+use Rattle.dsm_core.specs.Events.{row_of, after_row, Leads}
 use Rattle.dsm_core.specs.Nodes.{Nodes, no_node, node_in, node_at, world_of, alone, IsNode, HasTreated, AreReached}
 use Rattle.dsm_core.proofs.Promised.{proper}
+use Rattle.dsm_core.proofs.SoundRows.{row_no_byes}
 use Rattle.dsm_core.proofs.Taking.{take_leads, home_is}
 
 pub record Alike (l : Shape) (w v : World) : Type 0 where
@@ -59,6 +60,9 @@ alike_sound l w v a s = record {
   bytes = λ i b bi bb. ap length (a.bytes i b bi bb) ∙ s.bytes i b bi bb;
   waits = λ i b bi bb. subst (IsFullWait l b) (sym (a.wait i b bi bb)) (s.waits i b bi bb);
 }
+
+pub alike_no_byes : (l : Shape) (w v : World) → Alike l w v → NoByes l w → NoByes l v
+alike_no_byes l w v a quiet j i bj bi = subst HasNoBye (sym (a.list j i bj bi)) (quiet j i bj bi)
 
 pub alike_more : (l : Shape) (u w v : World) → Alike l u w → Alike l w v → Alike l u v
 alike_more l u w v a b = record {
@@ -207,10 +211,12 @@ module _ (l : Shape) (ns : List BareNode) (q0 q1 q2 q3 : List Queue) (i j : ℕ)
 
   take_goes : (first : ℕ → Contents) (es : List (Event Contents)) → Leads l first es (world_of p0)
       → Leads l first (es ++ Take i j ∷ []) (world_of p3) × Sound l (world_of p3)
+      × NoByes l (world_of p3)
   take_goes first es st =
+      let plain : HasNoBye (m ∷ left) = subst HasNoBye front (reached.no_byes j i bj bi) in
       let got = take_leads l reached.laid first es (world_of p0) i j m left
       (law (setting_of l first) (proper l reached.laid first) es) st reached.sound bi bj front
-      in
+      plain.0 in
       let row = got.0 in
       let r : row_of l (alone old) i j m ≡ Some row =
       subst (λ (z : BareNode). row_of l (alone z) i j m ≡ Some row) (sym old_is)
@@ -218,8 +224,11 @@ module _ (l : Shape) (ns : List BareNode) (q0 q1 q2 q3 : List Queue) (i j : ℕ)
       let did : HasTreated (node_in l ns i) new posts row =
       subst (λ (z : BareNode). HasTreated z new posts row) old_is (treats l i row node_is r) in
       let a = taken_alike l ns q0 q1 q2 q3 i j new posts m row bi bj reached.count reserved taken
-      sent did in
-      (alike_stands l reached.laid _ _ _ a got.2, alike_sound l _ _ a got.3)
+      sent did in (
+        alike_stands l reached.laid _ _ _ a got.2,
+        alike_sound l _ _ a got.3,
+        alike_no_byes l _ _ a (row_no_byes l (world_of p0) j i left row reached.no_byes plain.1 got.4),
+      )
 
   pub take_event : (first : ℕ → Contents) (es : List (Event Contents))
       → Leads l first es (world_of p0) → Leads l first (es ++ Take i j ∷ []) (world_of p3)
@@ -240,5 +249,6 @@ module _ (l : Shape) (ns : List BareNode) (q0 q1 q2 q3 : List Queue) (i j : ℕ)
               | inr q ↦ rw q.0 (reached.nodes x bx)
             ]);
         sound = got.1;
+        no_byes = got.2;
         reached = (first, es ++ Take i j ∷ [], got.0);
       }

@@ -1,7 +1,7 @@
 -- The promises, by the law of the protocol.
-use Rattle.std.proofs.Common.{◌≡◌, ◌≢◌, ℕ, ◌+◌, ◌*◌, ◌<◌, ◌≤◌, Bool, true, false, cond, ltb, List, [], ◌∷◌, length, get_or, refl, sym, ap, ◌∙◌, subst, Option, Some, None, arith}
+use Rattle.std.proofs.Common.{◌≡◌, ◌≢◌, ℕ, ◌<◌, ◌≤◌, Bool, true, false, cond, ltb, List, ◌∷◌, get_or, refl, sym, ap, ◌∙◌, subst, Option, Some, None, arith}
 use Rattle.std.proofs.lemmas.Bool.Decides.{nat_tests}
-use Rattle.block_layout.specs.Layout.{Shape, blocks, home, lines}
+use Rattle.block_layout.specs.Layout.{Shape, blocks, home}
 use Rattle.state_table.specs.declared.State.{State}
 use Rattle.state_table.specs.declared.State.TheVariants.{Exclusive, Shared, Invalid, Pending}
 use Rattle.state_table.specs.StateByte.{can_read, can_write}
@@ -11,21 +11,21 @@ use Rattle.coherence.specs.Messages as m
 use Rattle.coherence.specs.Machine as k
 use Rattle.coherence.specs.Claims as claims
 use Rattle.dsm_core.specs.World.{World}
-use Rattle.dsm_core.specs.Abstraction.{page, Contents, contents, state_of, wait_of, wires_of, home_in, setting_of, StandsFor}
-use Rattle.dsm_core.specs.Sound.{IsLaid, Sound, size}
+use Rattle.dsm_core.specs.Abstraction.{Contents, contents, state_of, wait_of, wires_of, setting_of}
+use Rattle.dsm_core.specs.Sound.{IsLaid, Sound, HasNoBye, NoByes, size}
 use Rattle.dsm_core.specs.Events.{Leads}
 use Rattle.dsm_core.specs.Promises.{ReadsMemory, OneWriter, Flagged, RowsCome, NeverStuck}
 use Rattle.dsm_core.proofs.NodeRows.{len_flags, flagged}
 use Rattle.dsm_core.proofs.Bytes.{same_bytes, contents_get}
-use Rattle.dsm_core.proofs.Taking.{home_is, take_leads}
+use Rattle.dsm_core.proofs.Taking.{take_leads}
 
-read_same : (s : State) → m.can_read (state_of s) ≡ can_read s
+pub read_same : (s : State) → m.can_read (state_of s) ≡ can_read s
 read_same Exclusive = refl
 read_same Shared = refl
 read_same Invalid = refl
 read_same Pending = refl
 
-write_same : (s : State) → m.can_write (state_of s) ≡ can_write s
+pub write_same : (s : State) → m.can_write (state_of s) ≡ can_write s
 write_same Exclusive = refl
 write_same Shared = refl
 write_same Invalid = refl
@@ -38,7 +38,7 @@ proper l laid first = record { nodes = laid.few; homes = λ b. below b (ltb b (b
     below b true e = laid.homes b (grind (arith, nat_tests))
     below b false e = laid.some
 
-some_waits : (o : Option Wait) → o ≢ None → wait_of o ≢ None
+pub some_waits : (o : Option Wait) → o ≢ None → wait_of o ≢ None
 some_waits None h e = h refl
 some_waits (Some w) h e = cc
 
@@ -73,9 +73,10 @@ module _ (l : Shape) (laid : IsLaid l) (first : ℕ → Contents) (es : List (k.
       sym (contents_get (w.bytes i b) n below) ∙ ap (λ z. get_or z n 0) e
       ∙ contents_get (flags (size l b)) n (omega arith))
 
-  pub rows_come : claims.HaveRows (setting_of l first) c → RowsCome l w
-  rows_come law i j message rest bi bj front =
-      let got = take_leads l laid first es w i j message rest law st sound bi bj front in
+  pub rows_come : NoByes l w → claims.HaveRows (setting_of l first) c → RowsCome l w
+  rows_come quiet law i j message rest bi bj front =
+      let plain : HasNoBye (message ∷ rest) = subst HasNoBye front (quiet j i bj bi) in
+      let got = take_leads l laid first es w i j message rest law st sound bi bj front plain.0 in
       (got.0, got.1)
 
   pub never_stuck : claims.Moves (setting_of l first) c → NeverStuck l w

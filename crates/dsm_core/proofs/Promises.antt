@@ -1,5 +1,5 @@
 -- What is true of reached nodes and lists.
-use Rattle.std.proofs.Common.{◌≡◌, ℕ, ◌+◌, ◌-◌, ◌*◌, ◌/◌, ◌%◌, ◌^◌, ◌<◌, ◌≤◌, Bool, true, false, cond, eqb, List, length, get_or, refl, sym, ap, ◌∙◌, subst, Option, Some, None, arith}
+use Rattle.std.proofs.Common.{◌≡◌, ℕ, ◌+◌, ◌-◌, ◌*◌, ◌/◌, ◌%◌, ◌<◌, ◌≤◌, true, List, get_or, refl, sym, ap, ◌∙◌, subst, Option, Some, None, arith}
 use Rattle.std.specs.Prelude.{is_some}
 use Rattle.std.proofs.lemmas.List.{get_or_default}
 use Rattle.std.proofs.lemmas.Bool.Decides.{nat_tests}
@@ -7,8 +7,8 @@ use Rattle.rv32_decode.specs.declared.Width.{Width}
 use Rattle.rv32_decode.specs.declared.Width.TheVariants.{Byte, Half, Word}
 use Rattle.rv32_decode.specs.Widths.{size_of, is_aligned}
 use Rattle.byte_range.specs.Memory.{raw}
-use Rattle.block_layout.specs.Layout.{Shape, IsValid, blocks, home, lines, first_line, block_of, has_line, is_shared}
-use Rattle.flag_memory.specs.Copy.{Copy, memory, bytes_of}
+use Rattle.block_layout.specs.Layout.{Shape, IsValid, blocks, home, lines, first_line, block_of, is_shared}
+use Rattle.flag_memory.specs.Copy.{memory, bytes_of}
 use Rattle.state_table.specs.StateByte.{can_read}
 use Rattle.coherence.specs.Machine.{Event, after}
 use Rattle.coherence.specs.Claims as claims
@@ -17,11 +17,11 @@ use Rattle.dsm_core.specs.World.{World}
 use Rattle.dsm_core.specs.Abstraction.{Contents, setting_of}
 use Rattle.dsm_core.specs.Sound.{IsLaid, size}
 use Rattle.dsm_core.specs.Events.{Leads}
-use Rattle.dsm_core.specs.Nodes.{Nodes, no_node, node_in, node_at, world_of, AreReached}
+use Rattle.dsm_core.specs.Nodes.{Nodes, no_node, node_at, world_of, AreReached}
 use Rattle.dsm_core.specs.Memory.{address_of, memory_at, may_read, reads_in, byte_in}
 use Rattle.dsm_core.specs.Promises.{ReadsMemory, OneWriter, Flagged, RowsCome, NeverStuck}
 use Rattle.dsm_core.proofs.Promised.{proper, reads_memory, one_writer, flagged_lines, rows_come, never_stuck}
-use Rattle.dsm_core.proofs.Openings.{LineLaws, block_is}
+use Rattle.dsm_core.proofs.Openings.{LineLaws}
 
 pub laid_of : (l : Shape) → IsValid l
     → ((s : Shape) (b : ℕ) → IsValid s → b < blocks s → home s b < s.nodes)
@@ -53,7 +53,7 @@ module _ (p : Nodes) (r : AreReached p) where
 
   pub rows : claims.AfterEveryList Contents claims.HaveRows → RowsCome p.layout (world_of p)
   rows law = let first = r.reached.0 in let es = r.reached.1 in
-      rows_come p.layout r.laid first es (world_of p) r.sound r.reached.2
+      rows_come p.layout r.laid first es (world_of p) r.sound r.reached.2 r.no_byes
       (law (setting_of p.layout first) (proper p.layout r.laid first) es)
 
   pub moves : claims.AfterEveryList Contents claims.Moves → NeverStuck p.layout (world_of p)

@@ -1,5 +1,5 @@
 -- The opening nodes are reached, by no event.
-use Rattle.std.proofs.Common.{◌≡◌, ◌≢◌, ℕ, ◌+◌, ◌-◌, ◌<◌, ◌≤◌, Bool, true, false, cond, eqb, ltb, List, [], ◌∷◌, ◌++◌, length, get_or, refl, ap, ◌∙◌, subst, sym, inl, inr, arith}
+use Rattle.std.proofs.Common.{◌≡◌, ◌≢◌, ℕ, ◌+◌, ◌-◌, ◌<◌, Bool, true, false, cond, eqb, ltb, List, [], ◌∷◌, ◌++◌, length, get_or, refl, ap, ◌∙◌, subst, sym, inl, inr, arith}
 use Rattle.std.proofs.lemmas.Bool.Decides.{eqb_tells, nat_tests}
 use Rattle.std.proofs.lemmas.List.{get_or-append_right}
 use Rattle.std.proofs.Math.ListN.{get_or-append}
@@ -7,7 +7,7 @@ use Rattle.block_layout.specs.Update.{changed}
 use Rattle.block_layout.specs.Layout.{Shape, IsValid}
 use Rattle.flag_memory.specs.FirstBytes.{FirstRange}
 use Rattle.dsm_core.specs.declared.nodes.BareNode.{BareNode}
-use Rattle.dsm_core.specs.Sound.{IsLaid}
+use Rattle.dsm_core.specs.Sound.{IsLaid, HasNoBye}
 use Rattle.dsm_core.specs.Queue.{Queue, list_of, AreQueues}
 use Rattle.dsm_core.specs.Events.{Leads}
 use Rattle.dsm_core.specs.Nodes.{Nodes, no_node, node_in, world_of, IsNode, AreReached}
@@ -34,6 +34,7 @@ module _ (l : Shape) (ns : List BareNode) (qs : List Queue) (rs : List FirstRang
     queues = queues;
     nodes = nodes;
     sound = (opens p rs laid opening empty).1;
+    no_byes = λ j i bj bi. subst HasNoBye (sym (empty j i)) tt;
     reached = (first_contents l rs, [], opening_leads);
   }
 

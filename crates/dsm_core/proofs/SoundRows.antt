@@ -1,12 +1,8 @@
--- Every row leaves buffers roomy and full.
-use Rattle.std.proofs.Common.{◌≡◌, ℕ, zero, suc, ◌+◌, ◌*◌, ◌<◌, ◌≤◌, Bool, true, false, not, cond, eqb, leb, ltb, ◌&&◌, List, [], ◌∷◌, ◌++◌, length, refl, sym, ap, ◌∙◌, subst, inl, inr, Option, Some, None, arith}
-use Rattle.std.proofs.lemmas.Bool.Decides.{eqb_tells, nat_tests}
-use Rattle.std.proofs.lemmas.Grind.{common_steps}
-use Rattle.std.specs.Prelude.{is_none}
+-- Every row leaves buffers roomy and full, and sends no Bye.
+use Rattle.std.proofs.Common.{◌≡◌, ℕ, zero, suc, ◌+◌, ◌<◌, Bool, true, false, cond, eqb, ltb, ◌&&◌, List, [], ◌∷◌, ◌++◌, length, refl, sym, ap, ◌∙◌, subst, inl, inr, Option, Some, None}
+use Rattle.std.proofs.lemmas.Bool.Decides.{eqb_tells}
 use Rattle.block_layout.specs.Layout.{Shape, blocks}
-use Rattle.block_layout.specs.Update.{changed}
 use Rattle.buf_pool.specs.Pool.{Buffer}
-use Rattle.flag_memory.specs.Flag.{flags}
 use Rattle.home_directory.specs.declared.messages.Need.{Need}
 use Rattle.home_directory.specs.declared.messages.Need.TheVariants as want
 use Rattle.home_directory.specs.declared.messages.Message.{Message}
@@ -17,10 +13,12 @@ use Rattle.home_directory.specs.declared.wait.Answer.{Answer}
 use Rattle.home_directory.specs.declared.wait.Answer.TheVariants.{ByData, ByGrant}
 use Rattle.home_directory.specs.declared.directory.Busy.{Busy}
 use Rattle.home_directory.specs.declared.directory.Request.{Request}
-use Rattle.home_directory.specs.Home.{Entry, Home, others, count_of, done_with, post, invals, first_for, without_first}
-use Rattle.home_directory.specs.Table.{BlockFacts, LocalBlock, NodeRow, HomeRow, Start, node_row, completion, data_row, grant_row, ack_row, read_start, grant_start, write_start, start_row, start_home, start_at, ask_when, ask_row, next_start, start_or, next_or, done_home, done_when, done_row}
+use Rattle.home_directory.specs.Home.{Entry, Home, others, done_with, post, invals, first_for, without_first}
+use Rattle.home_directory.specs.Table.{BlockFacts, LocalBlock, NodeRow, HomeRow, Start, node_row, completion, data_row, grant_row, ack_row, read_start, grant_start, write_start, start_row, start_at, ask_when, ask_row, next_start, start_or, done_when, done_row}
 use Rattle.dsm_core.specs.World.{World, messages_to, with_list, with_sends, after_node_row, after_home_row}
-use Rattle.dsm_core.specs.Sound.{IsRoomy, IsSound, AreSound, AreRoomy, IsFullWait, Sound, size}
+use Rattle.dsm_core.specs.Sound.{IsRoomy, IsSound, AreSound, is_bye, HasNoBye, NoByes, AreRoomy, IsFullWait, Sound, size}
+use Rattle.dsm_core.specs.Events.{after_row, sends_in}
+use Rattle.miss_handlers.specs.Rows.{Row, AtHome, AtNode}
 use Rattle.dsm_core.proofs.NodeRows.{len_flags}
 
 -- of the row, if there is one
@@ -29,11 +27,11 @@ IfSome P None = Unit {0}
 IfSome P (Some a) = P a
 
 module _ {A : Type 0} (P : A → Type 0) where
-  if_cond : (t : Bool) (a : A) → P a → IfSome P (cond t (Some a) None)
+  pub if_cond : (t : Bool) (a : A) → P a → IfSome P (cond t (Some a) None)
   if_cond true a p = p
   if_cond false a p = tt
 
-  if_when : (t : Bool) (o : Option A) → IfSome P o → IfSome P (cond t o None)
+  pub if_when : (t : Bool) (o : Option A) → IfSome P o → IfSome P (cond t o None)
   if_when true o p = p
   if_when false o p = tt
 
@@ -48,7 +46,7 @@ module _ {A : Type 0} (P : A → Type 0) where
 module _ (l : Shape) where
   abbrev pub SoundPosts : List Post → Type 0
   SoundPosts [] = Unit {0}
-  SoundPosts (p ∷ ps) = IsSound l p.message × SoundPosts ps
+  SoundPosts (p ∷ ps) = (IsSound l p.message × (is_bye p.message ≡ false)) × SoundPosts ps
 
   posts_append : (xs ys : List Post) → SoundPosts xs → SoundPosts ys → SoundPosts (xs ++ ys)
   posts_append [] ys a b = b
@@ -62,8 +60,16 @@ module _ (l : Shape) where
   sound_to y [] s = tt
   sound_to y (p ∷ ps) s = (elim (eqb p.to y)
       as (λ t. AreSound l (cond t (p.message ∷ messages_to y ps) (messages_to y ps))) [
-        | true ↦ (s.0, sound_to y ps s.1)
+        | true ↦ (s.0.0, sound_to y ps s.1)
         | false ↦ sound_to y ps s.1
+      ])
+
+  no_bye_to : (y : ℕ) (ps : List Post) → SoundPosts ps → HasNoBye (messages_to y ps)
+  no_bye_to y [] s = tt
+  no_bye_to y (p ∷ ps) s = (elim (eqb p.to y)
+      as (λ t. HasNoBye (cond t (p.message ∷ messages_to y ps) (messages_to y ps))) [
+        | true ↦ (s.0.1, no_bye_to y ps s.1)
+        | false ↦ no_bye_to y ps s.1
       ])
 
   -- what a row of a node for b leaves and sends
@@ -86,11 +92,11 @@ module _ (l : Shape) where
         → SoundNode b (completion f h b (record { need = need; answer = a; counted = c }))
     completion_sound need None c fa = record { bytes = full; wait = wait_full _ fa; sends = tt }
     completion_sound need (Some (ByData k buf)) c fa = elim (eqb_tells k c) [
-      | inl q ↦ rw q.0 (record { bytes = fa k buf refl; wait = no_wait; sends = (tt, tt) })
+      | inl q ↦ rw q.0 (record { bytes = fa k buf refl; wait = no_wait; sends = ((tt, refl), tt) })
       | inr q ↦ rw q.0 (record { bytes = full; wait = wait_full _ fa; sends = tt })
     ]
     completion_sound need (Some (ByGrant k buf)) c fa = elim (eqb_tells k c) [
-      | inl q ↦ rw q.0 (record { bytes = full; wait = no_wait; sends = (tt, tt) })
+      | inl q ↦ rw q.0 (record { bytes = full; wait = no_wait; sends = ((tt, refl), tt) })
       | inr q ↦ rw q.0 (record { bytes = full; wait = wait_full _ fa; sends = tt })
     ]
 
@@ -133,21 +139,21 @@ module _ (l : Shape) where
         bytes = full;
         wait = fw;
         sends =
-            ((s, full ∙ ap (size l) (sym at)), tt);
+            (((s, full ∙ ap (size l) (sym at)), refl), tt);
       })
   node_sound f d j h (FwdWrite b r k buf) is full fw at s =
       if_cond (SoundNode d) _ _ (record {
         bytes = len_flags f.size
             ∙ is;
         wait = fw;
-        sends = ((s, full ∙ ap (size l) (sym at)), tt);
+        sends = (((s, full ∙ ap (size l) (sym at)), refl), tt);
       })
   node_sound f d j h (Inval b r) is full fw at s =
       if_cond (SoundNode d) _ _ (record {
         bytes = len_flags f.size
             ∙ is;
         wait = fw;
-        sends = (tt, tt);
+        sends = ((tt, refl), tt);
       })
   node_sound f d j h (Data b k buf) is full fw at s =
       subst (λ z. IfSome (SoundNode d) (data_row f h z k buf h.wait)) (sym at)
@@ -176,18 +182,19 @@ module _ (l : Shape) where
   invals_sound set b r (suc n) = posts_append (invals set b r n)
       (cond (set n) (post n (Inval b r) ∷ []) []) (invals_sound set b r n)
       (elim (set n) as (λ t. SoundPosts (cond t (post n (Inval b r) ∷ []) []))
-      [ true ↦ (tt, tt) | false ↦ tt ])
+      [ true ↦ ((tt, refl), tt) | false ↦ tt ])
 
   start_sound : (n : ℕ) (e : Entry) (b r : ℕ) (need : Need) (buf : Buffer) → IsRoomy buf
       → IfSome SoundStart (start_row n e b r need buf)
   start_sound n e b r want.Read buf s =
       (elim (e.sharers r) as (λ t. IfSome SoundStart (cond t None (Some (read_start e b r buf))))
-      [ true ↦ tt | false ↦ (s, tt) ])
+      [ true ↦ tt | false ↦ ((s, refl), tt) ])
   start_sound n e b r want.Write buf s =
       (elim (e.sharers r) as (λ t. SoundStart
       (cond t (grant_start n e b r buf) (write_start n e b r buf))) [
-        | true ↦ posts_append _ _ (invals_sound (others e.sharers r) b r n) (s, tt)
-        | false ↦ posts_append _ _ (invals_sound (others e.sharers e.owner) b r n) (s, tt)
+        | true ↦ posts_append _ _ (invals_sound (others e.sharers r) b r n) ((s, refl), tt)
+        | false ↦ posts_append _ _ (invals_sound (others e.sharers e.owner) b r n)
+            ((s, refl), tt)
       ])
 
   start_at_sound : (waiting : List Request) (o : Option Start) → AreRoomy waiting
@@ -264,6 +271,30 @@ module _ (l : Shape) where
       go true false = sound_append (c x y) (messages_to y posts) s (sound_to y posts p)
       go false true = r
       go false false = s
+
+  pub no_bye_append : (xs ys : List Message) → HasNoBye xs → HasNoBye ys → HasNoBye (xs ++ ys)
+  no_bye_append [] ys a b = b
+  no_bye_append (x ∷ xs) ys a b = (a.0, no_bye_append xs ys a.1 b)
+
+  list_no_bye : (c : ℕ → ℕ → List Message) (j i : ℕ) (rest : List Message) (posts : List Post)
+      (x y : ℕ) → HasNoBye rest → SoundPosts posts → HasNoBye (c x y)
+      → HasNoBye (with_sends (with_list c j i rest) i posts x y)
+  list_no_bye c j i rest posts x y r p s = go (eqb x i) (eqb x j && eqb y i)
+    where
+      go : (t u : Bool)
+          → HasNoBye (cond t (cond u rest (c x y) ++ messages_to y posts) (cond u rest (c x y)))
+      go true true = no_bye_append rest (messages_to y posts) r (no_bye_to y posts p)
+      go true false = no_bye_append (c x y) (messages_to y posts) s (no_bye_to y posts p)
+      go false true = r
+      go false false = s
+
+  -- where no list has a Bye, none has one after a row
+  pub row_no_byes : (w : World) (j i : ℕ) (rest : List Message) (row : Row) → NoByes l w
+      → HasNoBye rest → SoundPosts (sends_in row) → NoByes l (after_row w j i rest row)
+  row_no_byes w j i rest (AtHome b row) quiet r p x y bx by =
+      list_no_bye w.list j i rest row.sends x y r p (quiet x y bx by)
+  row_no_byes w j i rest (AtNode b row) quiet r p x y bx by =
+      list_no_bye w.list j i rest row.sends x y r p (quiet x y bx by)
 
   module _ (w : World) (sound : Sound l w) (j i b : ℕ) (rest : List Message) (node : i < l.nodes)
       (block : b < blocks l) (left : AreSound l rest) where

@@ -1,5 +1,5 @@
 -- The whole of a store, given what its parts did.
-use Rattle.std.proofs.Common.{◌≡◌, ℕ, ◌+◌, ◌-◌, ◌*◌, ◌/◌, ◌%◌, ◌^◌, ◌<◌, ◌≤◌, Bool, true, false, cond, eqb, leb, ltb, ◌&&◌, List, [], ◌∷◌, ◌++◌, length, get_or, set, refl, sym, ap, ◌∙◌, subst, inl, inr, Option, Some, None, arith}
+use Rattle.std.proofs.Common.{◌≡◌, ◌≢◌, ℕ, ◌+◌, ◌-◌, ◌*◌, ◌/◌, ◌%◌, ◌^◌, ◌<◌, ◌≤◌, true, false, cond, eqb, leb, ltb, ◌&&◌, List, [], ◌∷◌, ◌++◌, length, get_or, set, refl, sym, ap, ◌∙◌, subst, inl, inr, Option, Some, None, arith}
 use Rattle.std.specs.Prelude.{is_some}
 use Rattle.std.proofs.lemmas.Bool.Decides.{eqb_tells, nat_tests}
 use Rattle.std.proofs.lemmas.List.{get_or_default, length-set}
@@ -18,12 +18,12 @@ use Rattle.dsm_core.specs.declared.nodes.BareNode.{BareNode}
 use Rattle.dsm_core.specs.World.{World}
 use Rattle.dsm_core.specs.CopyLaws.{CopyLaws}
 use Rattle.dsm_core.specs.Abstraction.{Contents}
-use Rattle.dsm_core.specs.Sound.{Sound, size}
+use Rattle.dsm_core.specs.Sound.{NoByes, Sound, size}
 use Rattle.dsm_core.specs.Memory.{address_of, store_bytes, store_in, may_write, writes_in}
 use Rattle.dsm_core.specs.Queue.{Queue}
 use Rattle.dsm_core.specs.Events.{Leads}
-use Rattle.dsm_core.specs.Nodes.{Nodes, no_node, node_in, node_at, world_of, IsNode, AreReached}
-use Rattle.dsm_core.proofs.Alike.{Alike, alike_stands, alike_sound, node_set}
+use Rattle.dsm_core.specs.Nodes.{Nodes, no_node, node_in, world_of, IsNode, AreReached}
+use Rattle.dsm_core.proofs.Alike.{Alike, alike_stands, alike_sound, alike_no_byes, node_set}
 use Rattle.dsm_core.proofs.Bytes.{same_bytes, store_length, store_get}
 use Rattle.dsm_core.proofs.Openings.{LineLaws, block_is}
 use Rattle.dsm_core.proofs.Promises.{in_line}
@@ -34,15 +34,32 @@ some_write : (w : World) (i : ℕ) (o : Option ℕ) → writes_in w i o ≡ true
 some_write w i None e = absurd cc
 some_write w i (Some b) e = (b, refl, e)
 
-fits_line : (x : Width) (a : ℕ) → is_aligned x a ≡ true → a % 64 + size_of x ≤ 64
+pub fits_line : (x : Width) (a : ℕ) → is_aligned x a ≡ true → a % 64 + size_of x ≤ 64
 fits_line Byte a al = omega arith
 fits_line Half a al = let e : a % 2 ≡ 0 = grind (arith, nat_tests) in omega arith
 fits_line Word a al = let e : a % 4 ≡ 0 = grind (arith, nat_tests) in omega arith
 
-stored_at : (x : Width) (f : ℕ → ℕ) (a v k : ℕ) → stored x f a v k
+pub stored_at : (x : Width) (f : ℕ → ℕ) (a v k : ℕ) → stored x f a v k
     ≡ cond (leb a k && ltb k (a + size_of x)) (v / 2 ^ (8 * (k - a)) % 2 ^ 8) (f k)
 unfolding stored
 stored_at x f a v k = refl
+
+-- an aligned store misses every address of another block
+pub misses : (l : Shape) (x : Width) (a : ℕ) → is_aligned x a ≡ true → (b y d : ℕ)
+    → block_of l (a / 64) ≡ Some b → block_of l (y / 64) ≡ Some d → d ≢ b
+    → (leb a y && ltb y (a + size_of x)) ≡ false
+misses l x a aligned b y d at there other = (elim (leb a y && ltb y (a + size_of x))
+    as (λ t. (leb a y && ltb y (a + size_of x)) ≡ t → t ≡ false) [
+      | true ↦ (λ t. absurd (
+          let low : a ≤ y = grind (arith, nat_tests) in
+          let high : y < a + size_of x = grind (arith, nat_tests) in
+          let line = in_line x a (y - a) aligned (omega arith) in
+          let same : (a + (y - a)) / 64 ≡ y / 64 =
+          ap (λ z. z / 64) (let z : a + (y - a) ≡ y = omega arith in z) in
+          let e : Some d ≡ Some b = sym there ∙ ap (block_of l) (sym same ∙ line) ∙ at in
+          let z : d ≡ b = cc in other z))
+      | false ↦ (λ t. refl)
+    ]) refl
 
 module _ (laws : LineLaws) (l : Shape) (valid : IsValid l) (x : Width) (a v : ℕ)
     (aligned : is_aligned x a ≡ true) (b : ℕ) (at : block_of l (a / 64) ≡ Some b)
@@ -87,20 +104,7 @@ module _ (laws : LineLaws) (l : Shape) (valid : IsValid l) (x : Width) (a v : �
       same_bytes (bytes_of new d) (bytes_of old d) (omega arith) (λ k below.
       let bk : k < size l d = omega arith in
       let y = address_of l d + k in
-      let here = block_is laws l valid d k bd bk in
-      let away : (leb a y && ltb y (a + size_of x))
-      ≡ false = (elim (leb a y && ltb y (a + size_of x))
-      as (λ t. (leb a y && ltb y (a + size_of x)) ≡ t → t ≡ false) [
-        | true ↦ (λ t. absurd (
-            let low : a ≤ y = grind (arith, nat_tests) in
-            let high : y < a + size_of x = grind (arith, nat_tests) in
-            let line = in_line x a (y - a) aligned (omega arith) in
-            let same : (a + (y - a)) / 64 ≡ y / 64 =
-            ap (λ z. z / 64) (let z : a + (y - a) ≡ y = omega arith in z) in
-            let e : Some d ≡ Some b = sym here ∙ ap (block_of l) (sym same ∙ line) ∙ at in
-            let z : d ≡ b = cc in o z))
-        | false ↦ (λ t. refl)
-      ]) refl in
+      let away = misses l x a aligned b y d at (block_is laws l valid d k bd bk) o in
       get_in new nl nc d k bd bk ∙ ap (λ f. f y) did ∙ stored_at x (memory old) a v y
       ∙ ap (λ t. cond t (v / 2 ^ (8 * (y - a)) % 2 ^ 8) (memory old y)) away
       ∙ sym (get_in old ol oc d k bd bk))
@@ -150,7 +154,7 @@ module _ (laws : LineLaws) (l : Shape) (ns : List BareNode) (qs : List Queue) (i
     store_goes : (first : ℕ → Contents) (es : List (Event Contents)) (b : ℕ) → block_of l (a / 64)
         ≡ Some b → Leads l first es (world_of p0)
         → Leads l first (es ++ Store i b (store_in l x a v b) ∷ []) (world_of p1)
-        × Sound l (world_of p1)
+        × Sound l (world_of p1) × NoByes l (world_of p1)
     store_goes first es b here st =
         let s = some_write (world_of p0) i (block_of l (a / 64)) writable in
         let same : s.0 ≡ b = (let e : Some s.0 ≡ Some b = sym s.1 ∙ here in cc) in
@@ -186,8 +190,11 @@ module _ (laws : LineLaws) (l : Shape) (ns : List BareNode) (qs : List Queue) (i
           bytes = λ y d by bd. refl;
           wait = λ y d by bd. part (λ n. wait_of n.waits d) (ap (λ z. wait_of z d) waits) y;
           list = λ y d by bd. refl;
-        } in
-        (alike_stands l reached.laid _ _ _ alike got.0, alike_sound l _ _ alike got.1)
+        } in (
+          alike_stands l reached.laid _ _ _ alike got.0,
+          alike_sound l _ _ alike got.1,
+          alike_no_byes l _ _ alike reached.no_byes,
+        )
 
     pub store_event : (first : ℕ → Contents) (es : List (Event Contents)) (b : ℕ)
         → block_of l (a / 64) ≡ Some b → Leads l first es (world_of p0)
@@ -219,5 +226,6 @@ module _ (laws : LineLaws) (l : Shape) (ns : List BareNode) (qs : List Queue) (i
             | inr q ↦ rw q.0 (reached.nodes y by)
           ]);
           sound = got.1;
+          no_byes = got.2;
           reached = (first, es ++ Store i s.0 (store_in l x a v s.0) ∷ [], got.0);
         }

@@ -13,7 +13,8 @@ use Rattle.home_directory.specs.Table.{NodeRow, Miss, node_row}
 use Rattle.miss_handlers.specs.Waits.{wait_of}
 use Rattle.miss_handlers.specs.Effects.{NodeBlocks, NodeEffect, node_blocks, row_effect, node_row_at, message_effect, HasEffect, pool_after, pool_after_miss}
 use Rattle.dsm_core.specs.declared.nodes.BareNode.{BareNode}
-use Rattle.dsm_core.specs.Events.{Row, AtHome, AtNode, at_node, row_of}
+use Rattle.miss_handlers.specs.Rows.{Row, AtHome, AtNode, at_node}
+use Rattle.dsm_core.specs.Events.{row_of}
 use Rattle.dsm_core.specs.Events as events
 use Rattle.dsm_core.specs.Nodes.{IsNode, HasTreated, alone}
 

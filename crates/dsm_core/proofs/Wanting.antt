@@ -1,12 +1,11 @@
 -- A want and a store are events of the core of blocks.
-use Rattle.std.proofs.Common.{◌≡◌, ◌≢◌, ℕ, zero, suc, ◌+◌, ◌*◌, ◌<◌, ◌≤◌, Bool, true, false, not, cond, eqb, ltb, ◌&&◌, List, [], ◌∷◌, ◌++◌, length, refl, sym, ap, ◌∙◌, subst, inl, inr, Option, Some, None, arith, append-nil}
+use Rattle.std.proofs.Common.{◌≡◌, ℕ, zero, suc, ◌+◌, ◌*◌, ◌<◌, ◌≤◌, Bool, true, false, not, cond, eqb, List, [], ◌∷◌, ◌++◌, length, refl, sym, ap, ◌∙◌, subst, inl, inr, Option, Some, None, arith, append-nil}
 use Rattle.std.specs.Prelude.{is_some}
 use Rattle.std.proofs.lemmas.Bool.Decides.{eqb_tells, nat_tests}
 use Rattle.block_layout.specs.Layout.{Shape, blocks, home, first_line}
-use Rattle.block_layout.specs.Update.{changed}
 use Rattle.state_table.specs.declared.State.{State}
 use Rattle.state_table.specs.declared.State.TheVariants.{Exclusive, Shared, Invalid, Pending}
-use Rattle.state_table.specs.StateByte.{can_read, can_write}
+use Rattle.state_table.specs.StateByte.{can_write}
 use Rattle.buf_pool.specs.Pool.{Buffer}
 use Rattle.rv32_decode.specs.declared.Width.{Width}
 use Rattle.rv32_decode.specs.Widths.{size_of}
@@ -17,17 +16,18 @@ use Rattle.home_directory.specs.declared.wait.Wait.{Wait}
 use Rattle.home_directory.specs.Home.{count_of, post}
 use Rattle.home_directory.specs.Table.{meets, state_in_wait, request, first_wait, Miss, want_row}
 use Rattle.coherence.specs.Messages as m
-use Rattle.coherence.specs.Table.{count, update}
+use Rattle.coherence.specs.Table.{count}
 use Rattle.coherence.specs.Machine as k
-use Rattle.dsm_core.specs.World.{World, local_block, with_sends, after_miss}
-use Rattle.dsm_core.specs.Abstraction.{Contents, contents, need_of, state_of, wait_of, requests_of, wire_of, wires_of, home_in, setting_of, StandsFor}
-use Rattle.dsm_core.specs.Sound.{IsLaid, IsRoomy, AreSound, Sound, size}
-use Rattle.dsm_core.specs.Events.{facts, pending, Leads}
+use Rattle.dsm_core.specs.World.{World, with_sends, after_miss}
+use Rattle.dsm_core.specs.Abstraction.{Contents, contents, need_of, state_of, wait_of, wire_of, wires_of, setting_of, StandsFor}
+use Rattle.dsm_core.specs.Sound.{IsLaid, IsRoomy, AreSound, HasNoBye, NoByes, Sound, size}
+use Rattle.miss_handlers.specs.Effects.{block_facts as facts}
+use Rattle.dsm_core.specs.Events.{pending, Leads}
 use Rattle.dsm_core.specs.Memory.{store_bytes, store_in}
 use Rattle.dsm_core.proofs.Bytes.{store_contents, store_length}
 use Rattle.dsm_core.proofs.Fits.{wires_append}
 use Rattle.dsm_core.proofs.Simulation.{at_place}
-use Rattle.dsm_core.proofs.SoundRows.{sound_append}
+use Rattle.dsm_core.proofs.SoundRows.{sound_append, no_bye_append}
 use Rattle.dsm_core.proofs.Taking.{steps_more, home_is}
 
 meets_same : (n : Need) (s : State) → meets n s ≡ m.meets (need_of n) (state_of s)
@@ -55,6 +55,10 @@ request_sound : (l : Shape) (n : Need) (b : ℕ) (buf : Buffer) → IsRoomy buf
     → AreSound l (request n b buf ∷ [])
 request_sound l want.Read b buf r = (r, tt)
 request_sound l want.Write b buf r = (r, tt)
+
+request_no_bye : (n : Need) (b : ℕ) (buf : Buffer) → HasNoBye (request n b buf ∷ [])
+request_no_bye want.Read b buf = (refl, tt)
+request_no_bye want.Write b buf = (refl, tt)
 
 count_is : (f g : ℕ → Bool) (n : ℕ) → ((b : ℕ) → b < n → f b ≡ g b) → count_of f n ≡ count g n
 count_is f g zero h = refl
@@ -167,13 +171,23 @@ module _ (l : Shape) (laid : IsLaid l) (first : ℕ → Contents) (es : List (k.
         ];
       }
 
+      want_no_byes : NoByes l w → NoByes l (after_miss w i b (miss_of bs need buf))
+      want_no_byes quiet x y bx by = elim (eqb_tells x i) [
+        | inl p ↦ rw p.0 (no_bye_append l (w.list x y) _ (quiet x y bx by)
+            (elim (eqb (home l b) y) as (λ t. HasNoBye (cond t (request need b buf ∷ []) []))
+            [ true ↦ request_no_bye need b buf | false ↦ tt ]))
+        | inr p ↦ rw p.0 (quiet x y bx by)
+      ]
+
       want_by : Leads l first (es ++ k.Want i b (need_of need) ∷ [])
           (after_miss w i b (miss_of bs need buf)) × Sound l (after_miss w i b (miss_of bs need buf))
+          × (NoByes l w → NoByes l (after_miss w i b (miss_of bs need buf)))
       want_by = (
         subst (StandsFor l (after_miss w i b (miss_of bs need buf)))
             (sym (steps_more s es (k.Want i b (need_of need)) (k.opening s)
             ∙ ap (λ z. cond z (k.want_in s c i b (need_of need)) c) may)) want_stands,
         want_sound,
+        want_no_byes,
       )
 
   -- a want of a block that doesn't meet the need
@@ -181,16 +195,17 @@ module _ (l : Shape) (laid : IsLaid l) (first : ℕ → Contents) (es : List (k.
       → pending l w i < 2 → IsRoomy buf → want_row (facts l b)
       (record { state = w.state i b; bytes = bs; wait = w.wait i b }) b need buf ≡ Some miss
       → Leads l first (es ++ k.Want i b (need_of need) ∷ []) (after_miss w i b miss)
-      × Sound l (after_miss w i b miss)
+      × Sound l (after_miss w i b miss) × (NoByes l w → NoByes l (after_miss w i b miss))
   want_leads bs need buf miss idle few roomy row = by_test (meets need (w.state i b)) refl row
     where
       by_test : (t : Bool) → meets need (w.state i b) ≡ t → cond t None (Some (miss_of bs need buf))
           ≡ Some miss → Leads l first (es ++ k.Want i b (need_of need) ∷ []) (after_miss w i b miss)
-          × Sound l (after_miss w i b miss)
+          × Sound l (after_miss w i b miss) × (NoByes l w → NoByes l (after_miss w i b miss))
       by_test true e r = absurd cc
       by_test false e r = let z : miss_of bs need buf ≡ miss = cc in
           subst (λ (y : Miss). Leads l first (es ++ k.Want i b (need_of need) ∷ [])
-          (after_miss w i b y) × Sound l (after_miss w i b y)) z
+          (after_miss w i b y) × Sound l (after_miss w i b y)
+          × (NoByes l w → NoByes l (after_miss w i b y))) z
           (want_by bs need buf idle few e roomy)
 
   -- a want of a block that meets the need changes nothing

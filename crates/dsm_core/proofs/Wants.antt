@@ -1,11 +1,11 @@
 -- The whole of a want, given what its parts did.
-use Rattle.std.proofs.Common.{◌≡◌, ℕ, ◌+◌, ◌<◌, ◌≤◌, Bool, true, false, not, cond, eqb, List, [], ◌∷◌, ◌++◌, length, get_or, set, refl, sym, ap, ◌∙◌, subst, inl, inr, Option, Some, None, arith, append-nil}
-use Rattle.std.proofs.lemmas.Bool.Decides.{eqb_tells, nat_tests}
+use Rattle.std.proofs.Common.{◌≡◌, ℕ, ◌<◌, ◌≤◌, Bool, true, false, not, cond, eqb, List, [], ◌∷◌, ◌++◌, length, get_or, set, refl, sym, ap, ◌∙◌, subst, inl, inr, Option, Some, None, arith, append-nil}
+use Rattle.std.proofs.lemmas.Bool.Decides.{eqb_tells}
 use Rattle.std.proofs.lemmas.List.{get_or_default, length-set}
 use Rattle.block_layout.specs.Layout.{Shape, blocks}
 use Rattle.buf_pool.specs.Pool.{empty_buffer}
 use Rattle.state_table.specs.States.{state_of}
-use Rattle.flag_memory.specs.Copy.{Copy, bytes_of}
+use Rattle.flag_memory.specs.Copy.{bytes_of}
 use Rattle.home_directory.specs.declared.messages.Need.{Need}
 use Rattle.home_directory.specs.declared.messages.Post.{Post}
 use Rattle.home_directory.specs.Effects.{Directory, entry_at}
@@ -14,14 +14,15 @@ use Rattle.miss_handlers.specs.Waits.{wait_of}
 use Rattle.miss_handlers.specs.Effects.{miss_of, states_after, waits_after}
 use Rattle.coherence.specs.Machine.{Event, Want}
 use Rattle.dsm_core.specs.declared.nodes.BareNode.{BareNode}
-use Rattle.dsm_core.specs.World.{World, messages_to, with_sends, after_miss}
+use Rattle.dsm_core.specs.World.{messages_to, with_sends, after_miss}
 use Rattle.dsm_core.specs.Abstraction.{Contents, need_of}
-use Rattle.dsm_core.specs.Sound.{Sound}
+use Rattle.dsm_core.specs.Sound.{NoByes, Sound}
 use Rattle.dsm_core.specs.Queue.{Queue, list_of, AreQueues, SameMessages, IsSent}
-use Rattle.dsm_core.specs.Events.{facts, pending, Leads}
+use Rattle.miss_handlers.specs.Effects.{block_facts as facts}
+use Rattle.dsm_core.specs.Events.{pending, Leads}
 use Rattle.dsm_core.specs.Nodes.{Nodes, no_node, node_in, node_at, world_of, IsNode, AreReached}
 use Rattle.dsm_core.specs.Want.{posts_of, HasWanted}
-use Rattle.dsm_core.proofs.Alike.{Alike, alike_stands, alike_sound, node_set}
+use Rattle.dsm_core.proofs.Alike.{Alike, alike_stands, alike_sound, alike_no_byes, node_set}
 use Rattle.dsm_core.proofs.Wanting.{want_leads, want_met}
 
 module _ (l : Shape) (ns : List BareNode) (q0 q1 q2 : List Queue) (i b : ℕ) (need : Need)
@@ -78,6 +79,7 @@ module _ (l : Shape) (ns : List BareNode) (q0 q1 q2 : List Queue) (i b : ℕ) (n
   abbrev Goes : Type 0
   Goes = (first : ℕ → Contents) (es : List (Event Contents)) → Leads l first es (world_of p0)
       → Leads l first (es ++ Want i b (need_of need) ∷ []) (world_of p2) × Sound l (world_of p2)
+      × NoByes l (world_of p2)
 
   none_alike : miss ≡ None → Alike l (world_of p0) (world_of p2)
   none_alike e = record {
@@ -143,6 +145,7 @@ module _ (l : Shape) (ns : List BareNode) (q0 q1 q2 : List Queue) (i b : ℕ) (n
     alike_stands l reached.laid _ _ _ (none_alike e)
         (want_met l reached.laid first es (world_of p0) reached.sound st i b bi bb need (met_of e)),
     alike_sound l _ _ (none_alike e) reached.sound,
+    alike_no_byes l _ _ (none_alike e) reached.no_byes,
   )
   goes_by (Some x) e first es st =
       let roomy : 4096 ≤ old.pool.bytes = (let z = node_is.room in omega arith) in
@@ -150,6 +153,7 @@ module _ (l : Shape) (ns : List BareNode) (q0 q1 q2 : List Queue) (i b : ℕ) (n
       (empty_buffer old.pool.bytes) x idle few roomy (row_of x e) in (
         alike_stands l reached.laid _ _ _ (some_alike x e) got.0,
         alike_sound l _ _ (some_alike x e) got.1,
+        alike_no_byes l _ _ (some_alike x e) (got.2 reached.no_byes),
       )
 
   goes : Goes
@@ -174,6 +178,7 @@ module _ (l : Shape) (ns : List BareNode) (q0 q1 q2 : List Queue) (i b : ℕ) (n
           | inr q ↦ rw q.0 (reached.nodes x bx)
         ]);
         sound = got.1;
+        no_byes = got.2;
         reached = (first, es ++ Want i b (need_of need) ∷ [], got.0);
       }
 

@@ -1,10 +1,9 @@
 -- Nodes without code, as they are stored, and the world of n such nodes and their lists.
-use Rattle.std.specs.Prelude.{◌≡◌, ℕ, ◌+◌, ◌<◌, List, [], length, slice_index_or, None, Some}
+use Rattle.std.specs.Prelude.{◌≡◌, ℕ, ◌+◌, ◌<◌, List, [], length, slice_index_or, None}
 use Rattle.block_layout.specs.Layout.{Shape, IsValid}
 use Rattle.block_layout.specs.Update.{changed}
 use Rattle.state_table.specs.States.{state_of}
 use Rattle.flag_memory.specs.Copy.{bytes_of}
-use Rattle.home_directory.specs.declared.messages.Message.{Message}
 use Rattle.home_directory.specs.declared.messages.Post.{Post}
 use Rattle.home_directory.specs.Effects.{entry_at}
 use Rattle.miss_handlers.specs.Waits.{wait_of}
@@ -12,9 +11,10 @@ use Rattle.coherence.specs.Machine.{Event}
 use Rattle.dsm_core.specs.declared.nodes.BareNode.{BareNode}
 use Rattle.dsm_core.specs.World.{World}
 use Rattle.dsm_core.specs.Abstraction.{Contents}
-use Rattle.dsm_core.specs.Sound.{IsLaid, Sound}
+use Rattle.dsm_core.specs.Sound.{IsLaid, Sound, NoByes}
 use Rattle.dsm_core.specs.Queue.{Queue, list_of, AreQueues}
-use Rattle.dsm_core.specs.Events.{Row, AtHome, AtNode, row_of, Leads}
+use Rattle.miss_handlers.specs.Rows.{Row, AtHome, AtNode}
+use Rattle.dsm_core.specs.Events.{Leads}
 
 -- a layout, its nodes, and a queue for each pair of them
 pub record Nodes : Type 0 where
@@ -99,5 +99,6 @@ pub record AreReached (p : Nodes) : Type 0 where
   pub queues : AreQueues p.queues p.layout.nodes
   pub nodes : (i : ℕ) → i < p.layout.nodes → IsNode p.layout i (node_at p i)
   pub sound : Sound p.layout (world_of p)
+  pub no_byes : NoByes p.layout (world_of p)
   pub reached : (first : ℕ → Contents) × (es : List (Event Contents))
       × Leads p.layout first es (world_of p)

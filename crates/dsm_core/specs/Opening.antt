@@ -1,9 +1,9 @@
 -- Nodes at the start.
-use Rattle.std.specs.Prelude.{◌≡◌, ℕ, zero, suc, ◌+◌, ◌*◌, ◌<◌, ◌==◌, if◌then◌else◌, List, [], ◌∷◌}
+use Rattle.std.specs.Prelude.{◌≡◌, ℕ, ◌<◌, ◌==◌, if◌then◌else◌, List, []}
 use Rattle.block_layout.specs.Layout.{Shape, blocks, home}
 use Rattle.state_table.specs.declared.State.TheVariants.{Exclusive, Invalid}
 use Rattle.state_table.specs.States.{state_of}
-use Rattle.flag_memory.specs.Copy.{bytes_of}
+use Rattle.flag_memory.specs.Copy.{bytes_from, bytes_of}
 use Rattle.flag_memory.specs.Flag.{flags}
 use Rattle.flag_memory.specs.FirstBytes.{FirstRange, first_byte}
 use Rattle.home_directory.specs.Home.{first_entry}
@@ -12,11 +12,6 @@ use Rattle.dsm_core.specs.declared.nodes.BareNode.{BareNode}
 use Rattle.dsm_core.specs.Abstraction.{Contents, contents}
 use Rattle.dsm_core.specs.Sound.{size}
 use Rattle.dsm_core.specs.Memory.{address_of}
-
--- so many bytes from an address on
-abbrev pub bytes_from : (ℕ → ℕ) → (at n : ℕ) → List ℕ
-bytes_from memory at zero = []
-bytes_from memory at (suc n) = memory at ∷ bytes_from memory (at + 1) n
 
 -- the first bytes of a block, and its first contents
 abbrev pub first_bytes : Shape → List FirstRange → ℕ → List ℕ

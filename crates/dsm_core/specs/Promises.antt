@@ -7,7 +7,8 @@ use Rattle.home_directory.specs.declared.messages.Message.{Message}
 use Rattle.dsm_core.specs.World.{World}
 use Rattle.dsm_core.specs.Abstraction.{Contents}
 use Rattle.dsm_core.specs.Sound.{size}
-use Rattle.dsm_core.specs.Events.{Row, row_of}
+use Rattle.miss_handlers.specs.Rows.{Row}
+use Rattle.dsm_core.specs.Events.{row_of}
 
 module _ (l : Shape) (w : World) where
   -- every readable copy is the memory's

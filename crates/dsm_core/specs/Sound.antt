@@ -1,5 +1,5 @@
 -- Buffers are roomy, and where they bring a block's bytes they bring all of them.
-use Rattle.std.specs.Prelude.{◌≡◌, ℕ, ◌*◌, ◌<◌, ◌≤◌, nat_lt, List, [], ◌∷◌, length, Option, Some, None}
+use Rattle.std.specs.Prelude.{◌≡◌, ℕ, ◌*◌, ◌<◌, ◌≤◌, Bool, true, false, List, [], ◌∷◌, length, Option, Some}
 use Rattle.block_layout.specs.Layout.{Shape, blocks, lines, home}
 use Rattle.buf_pool.specs.Pool.{Buffer}
 use Rattle.home_directory.specs.declared.messages.Message.{Message}
@@ -23,7 +23,6 @@ size l b = 64 * lines l b
 abbrev pub IsRoomy : Buffer → Type 0
 IsRoomy buf = 4096 ≤ buf.room
 
--- there is no Bye
 abbrev pub IsSound : Shape → Message → Type 0
 IsSound l (Read b buf) = IsRoomy buf
 IsSound l (Write b buf) = IsRoomy buf
@@ -34,11 +33,24 @@ IsSound l (Data b k buf) = IsRoomy buf × (length buf.bytes ≡ size l b)
 IsSound l (Grant b k buf) = IsRoomy buf
 IsSound l (Ack b) = Unit {0}
 IsSound l (Done b) = Unit {0}
-IsSound l Bye = ⊥
+IsSound l Bye = Unit {0}
 
 abbrev pub AreSound : Shape → List Message → Type 0
 AreSound l [] = Unit {0}
 AreSound l (m ∷ ms) = IsSound l m × AreSound l ms
+
+abbrev pub is_bye : Message → Bool
+is_bye Bye = true
+is_bye m = false
+
+-- no message of a list is a Bye
+abbrev pub HasNoBye : List Message → Type 0
+HasNoBye [] = Unit {0}
+HasNoBye (m ∷ ms) = (is_bye m ≡ false) × HasNoBye ms
+
+-- nodes without code never end, so none says Bye
+abbrev pub NoByes : Shape → World → Type 0
+NoByes l w = (j i : ℕ) → j < l.nodes → i < l.nodes → HasNoBye (w.list j i)
 
 abbrev pub AreRoomy : List Request → Type 0
 AreRoomy [] = Unit {0}

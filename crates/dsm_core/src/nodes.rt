@@ -8,7 +8,8 @@ ghost use Rattle.dsm_core.specs.CopyLaws.{CopyLaws};
 ghost use Rattle.block_layout.specs.Layout.{Shape, blocks, is_shared};
 ghost use Rattle.miss_handlers.specs.Waits.{wait_of};
 ghost use Rattle.dsm_core.specs.Want.{HasWanted};
-ghost use Rattle.dsm_core.specs.Events.{Row, row_of};
+ghost use Rattle.miss_handlers.specs.Rows.{Row};
+ghost use Rattle.dsm_core.specs.Events.{row_of};
 ghost use Rattle.dsm_core.specs.Nodes.{IsNode, HasTreated, alone};
 
 use block_layout::Block;

@@ -45,7 +45,7 @@ returns c =
           law.shared;
     } in
     record {
-      value = λ first es st. c.load.ensures
+      value = λ first es st. c.load.ensures.value
           ∙ load_value lines p c.requires.reached c.args.node c.args.address c.args.width
           c.requires.node c.index.result.now c.index.ensures c.requires.aligned c.requires.readable
           c.copy_law.ensures.bytes _
