@@ -1,4 +1,12 @@
 mod StepLemmas
 mod MemoryLemmas
-pub mod NodeLemmas
-pub mod GoingLemmas
+mod BlockLemmas
+mod WaitLemmas
+mod RowLemmas
+mod DeskLemmas
+mod WordLemmas
+mod ShelfLemmas
+mod FrameLemmas
+mod UnmetLemmas
+mod OpeningLemmas
+mod TakeLemmas

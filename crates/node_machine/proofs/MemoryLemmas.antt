@@ -8,16 +8,16 @@ use Rattle.rv32_decode.specs.declared.Width.TheVariants.{Byte, Half, Word}
 use Rattle.rv32_decode.specs.Widths.{is_aligned}
 use Rattle.rv32_program.specs.declared.Class.{Class}
 use Rattle.rv32_program.specs.declared.Class.TheVariants.{Shared, ReadOnly, Private, Unmapped}
-use Rattle.exec_map.specs.Contents.{program_of, class_of_line, first_byte, is_private, is_shared, is_read_only, segment_class, is_writable, touches}
+use Rattle.exec_map.specs.Contents.{program_of, class_of_line, first_byte, is_private, is_read_only, segment_class, is_writable, touches}
 use Rattle.rv32_program.specs.Program.{IsAccepted}
-use Rattle.first_memory.specs.SharedLines.{HasSharedLines, HasReadOnlyLines}
-use Rattle.node_machine.specs.Kept.{HasLines, HasFixed}
+use Rattle.first_memory.specs.SharedLines.{HasReadOnlyLines}
+use Rattle.node_machine.specs.Kept.{HasFixed}
 use Rattle.byte_range.specs.Memory.{raw}
 use Rattle.byte_range.specs.Window.{is_in_window}
 use Rattle.rv32_step.specs.Memory.{byte_by}
 use Rattle.std.proofs.lemmas.Bool.{cases_lt}
 use Rattle.byte_range.specs.Lines.{LineBytes, lines_memory, place_of}
-use Rattle.node_machine.specs.Node.{Memory, Spill, region_of}
+use Rattle.node_model.specs.Node.{Memory, Spill, region_of}
 
 -- an aligned access stays in one line
 pub raw_in_line : (w : Width) (class : ℕ → Class) (c : Class) (f g h i : ℕ → ℕ) (a : ℕ) → is_aligned w a ≡ true → class (a / 64) ≡ c → raw w (λ x. byte_by c (f x) (g x) (h x) (i x)) a ≡ raw w (λ x. byte_by (class (x / 64)) (f x) (g x) (h x) (i x)) a
@@ -92,28 +92,6 @@ spill_region a k high low is aligned =
       ]
     ]
 
-is_shared_tells : (c : Class) → is_shared c ≡ true → c ≡ Shared
-is_shared_tells Shared e = refl
-is_shared_tells ReadOnly e = cc
-is_shared_tells Private e = cc
-is_shared_tells Unmapped e = cc
-
--- a memory of the shared lines of an accepted program serves a node
-pub shelf_lines : (e : Elf) (m : LineBytes) → IsAccepted (program_of e) → HasSharedLines e m → HasLines e m
-shelf_lines e m accepted has = record {
-  lines = λ line. (
-    (λ is. has line ∙ ap is_shared is),
-    (λ there. is_shared_tells (class_of_line e line) (sym (has line) ∙ there)),
-  );
-  low = λ line is. elim (cases_lt line (2 ^ 25)) [
-    | inl low ↦ low
-    | inr high ↦ absurd (unmapped_not_shared (sym (accepted.upper line high) ∙ is))
-  ];
-}
-  where
-    unmapped_not_shared : Unmapped ≡ Shared → ⊥
-    unmapped_not_shared e = cc
-
 read_only_tells : (c : Class) → is_read_only c ≡ true → c ≡ ReadOnly
 read_only_tells Shared e = cc
 read_only_tells ReadOnly e = refl
@@ -144,3 +122,10 @@ not_fixed_place e m line fixed none is = let both : true ≡ false = sym (ap is_
 -- what is read of a read-only line is what the program begins with
 pub fixed_raw : (e : Elf) (m : LineBytes) (w : Width) (a n : ℕ) → HasFixed e m → n ≡ raw w (lines_memory m (first_byte e)) a → n ≡ raw w (first_byte e) a
 fixed_raw e m w a n fixed is = is ∙ ap (λ (f : ℕ → ℕ). raw w f a) fixed.bytes
+
+-- the lines of the window are private, and no others
+pub private_line : (e : Elf) (line : ℕ) → is_private line ≡ true → class_of_line e line ≡ Private
+private_line e line is = rw is refl
+
+pub not_window : (e : Elf) (line : ℕ) → is_private line ≡ false → class_of_line e line ≡ Private → ⊥
+not_window e line out is = segment_not_private (find (touches line) e.segments) (rw out at is)

@@ -6,13 +6,14 @@ ghost use Rattle.rv32_program.specs.Program.{class_at};
 ghost use Rattle.rv32_program.specs.declared.Class.TheVariants.{Shared};
 ghost use Rattle.exec_map.specs.Contents.{program_of};
 ghost use Rattle.byte_range.specs.Memory.{raw};
-ghost use Rattle.node_machine.specs.Node as model;
-ghost use Rattle.node_machine.specs.Kept.{local_of, lane_of, LeavesBehind};
+ghost use Rattle.node_model.specs.Node as model;
+ghost use Rattle.node_machine.specs.Kept.{ground_of, local_of, lane_of, LeavesBehind};
+ghost use Rattle.flag_memory.specs.Flag.{flag_byte as flag_at};
 
-use crate::NodeCounts;
 use crate::lane::Lane;
 use crate::local::Local;
 use crate::region::{Region, region_of};
+use node_model::NodeCounts;
 use rv32_decode::{LoadKind, Reg, Width};
 use rv32_ops::extend;
 
@@ -32,7 +33,7 @@ impl<'a> Body<'a> {
         ensures leaves { (at : ℕ) → LeavesBehind
             (model.load (program_of self.old.local.program) (lane_of self.old.lane at)
             (local_of self.old.local) kind rd address (model.region_of address))
-            self.old.local.program at self.new.lane self.new.local }
+            (ground_of self.old.local) at self.new.lane self.new.local }
         ensures counts { self.new.counts ≡ self.old.counts }
     {
         let width = kind.width();
@@ -56,7 +57,7 @@ impl<'a> Body<'a> {
         ensures leaves { (at : ℕ) → LeavesBehind
             (model.load (program_of self.old.local.program) (lane_of self.old.lane at)
             (local_of self.old.local) kind rd address (model.region_of address))
-            self.old.local.program at self.new.lane self.new.local }
+            (ground_of self.old.local) at self.new.lane self.new.local }
         ensures counts { self.new.counts ≡ self.old.counts }
     {
         let value = match region_of(address) {
@@ -74,14 +75,14 @@ impl<'a> Body<'a> {
         ensures leaves { (at : ℕ) → LeavesBehind
             (model.load (program_of self.old.local.program) (lane_of self.old.lane at)
             (local_of self.old.local) LoadKind.ByteU rd address (model.region_of address))
-            self.old.local.program at self.new.lane self.new.local }
+            (ground_of self.old.local) at self.new.lane self.new.local }
         ensures counts { self.new.counts ≡ self.old.counts }
     {
         let line = address.wrapping_sub(STATE_TABLE);
-        if line < STATE_LINES
-            && let Some(state) = self.local.state_at_hand(line)
-        {
-            self.lane.registers.set(rd, u32::from(state));
+        if line < STATE_LINES {
+            self.lane
+                .registers
+                .set(rd, u32::from(self.local.state(line)));
         } else {
             self.load(LoadKind::ByteU, rd, address);
         }
@@ -114,7 +115,7 @@ impl<'a> Body<'a> {
         ensures leaves { (at : ℕ) → LeavesBehind
             (model.store (program_of self.old.local.program) (lane_of self.old.lane at)
             (local_of self.old.local) width address value (model.region_of address))
-            self.old.local.program at self.new.lane self.new.local }
+            (ground_of self.old.local) at self.new.lane self.new.local }
         ensures counts { self.new.counts ≡ self.old.counts }
     {
         if address >= SPILLS && width == Width::Word {
@@ -132,7 +133,7 @@ impl<'a> Body<'a> {
         ensures leaves { (at : ℕ) → LeavesBehind
             (model.store (program_of self.old.local.program) (lane_of self.old.lane at)
             (local_of self.old.local) width address value (model.region_of address))
-            self.old.local.program at self.new.lane self.new.local }
+            (ground_of self.old.local) at self.new.lane self.new.local }
         ensures counts { self.new.counts ≡ self.old.counts }
     {
         match region_of(address) {
@@ -167,7 +168,7 @@ fn spill_of(address: u32) -> usize
 
 /// The byte of the flag word that an address has.
 fn flag_byte(address: u32) -> u8
-    ensures { result ≡ model.flag_byte address }
+    ensures { result ≡ flag_at address }
 {
     if address % 4 == 0 { 0x03 } else { 0xff }
 }
@@ -176,7 +177,7 @@ fn flag_byte(address: u32) -> u8
 #[tactic(auto, unfolding(byte_range::specs::Memory::raw))]
 fn flag(width: Width, address: u32) -> u32
     requires { is_aligned width address ≡ true }
-    ensures value { result ≡ raw width model.flag_byte address }
+    ensures value { result ≡ raw width flag_at address }
     ensures byte { width ≡ Width.Byte → result < 2 ^ 8 }
 {
     match width {

@@ -5,6 +5,7 @@ ghost use Rattle.node_machine.specs.Address.{word_address};
 
 use byte_range::Window;
 use exec_map::Exit;
+use home_directory::Need;
 use jump_map::IMAGE_BASE;
 use rv32_step::Registers;
 
@@ -22,8 +23,24 @@ pub struct Lane {
     pub spills: [u32; 3],
 }
 
+/// Where a processor goes on once it has what its word wanted.
+#[derive(Clone, Copy, PartialEq, Eq)]
+pub enum Resume {
+    /// Behind the word.
+    PastWord,
+    /// At the word again.
+    SameWord,
+}
+
+/// What a word wants: that the line of an address may be read, or written.
+#[derive(Clone, Copy, PartialEq, Eq)]
+pub struct Want {
+    pub at: u32,
+    pub need: Need,
+}
+
 /// Where a processor goes after a word.
-#[derive(Clone, Copy, Debug, PartialEq, Eq)]
+#[derive(Clone, Copy, PartialEq, Eq)]
 pub enum Move {
     /// To the next word.
     Next,
@@ -33,13 +50,15 @@ pub enum Move {
     To(u32),
     /// To the sequence of an original address.
     Enters(u32),
+    /// Nowhere yet: it waits for a block.
+    Waits(Resume, Want),
     /// Nowhere: it is ended.
     Leaves(Exit),
 }
 
 /// What a word printed, whether it was a miss check of a readable line, and where the processor
 /// goes.
-#[derive(Clone, Copy, Debug, PartialEq, Eq)]
+#[derive(Clone, Copy, PartialEq, Eq)]
 pub struct Outcome {
     pub output: Option<u8>,
     pub false_miss: bool,
@@ -55,6 +74,17 @@ pub fn go_on(next: Move) -> Outcome
         false_miss: false,
         next,
     }
+}
+
+/// The processor waits until the line of an address may be read, or written.
+pub fn wait_for(resume: Resume, at: u32, need: Need) -> Outcome
+    ensures { result ≡ record {
+      output = None;
+      false_miss = false;
+      next = Move.Waits resume (record { at = at; need = need });
+    } }
+{
+    go_on(Move::Waits(resume, Want { at, need }))
 }
 
 /// The word ended the processor.

@@ -1,85 +1,170 @@
 //! What words see of their node: its copy of the shared bytes, and the state of each line.
 
-ghost use Rattle.std.specs.Prelude.{◌≡◌, ◌+◌, ◌*◌, ◌/◌, ◌%◌, ◌^◌, ◌<◌, ◌≤◌, ℕ, true, false, Some, IfOk, IfSome, MatchOption};
+ghost use Rattle.std.specs.Prelude.{◌≡◌, ◌+◌, ◌*◌, ◌/◌, ◌%◌, ◌^◌, ◌<◌, ◌≤◌, ℕ, true, false, Some, None, IfOk, MatchOption, length};
 ghost use Rattle.exec_map.specs.Contents.{program_of, first_byte};
 ghost use Rattle.rv32_program.specs.declared.Class.TheVariants.{Shared, ReadOnly};
 ghost use Rattle.rv32_program.specs.Program.{class_at};
 ghost use Rattle.rv32_decode.specs.Widths.{is_aligned};
 ghost use Rattle.byte_range.specs.Memory.{raw, stored};
-ghost use Rattle.node_machine.specs.Node as model;
-ghost use Rattle.node_machine.specs.Kept.{local_of};
+ghost use Rattle.block_layout.specs.Layout.{blocks, block_of, is_shared};
+ghost use Rattle.llsc.specs.Reservation.{holds};
+ghost use Rattle.state_table.specs.States.{state_of};
+ghost use Rattle.miss_handlers.specs.Waits.{wait_of};
+ghost use Rattle.miss_handlers.specs.Effects.{HasEffect, message_effect, miss_of, states_after, waits_after, pool_after, pool_after_miss, post_of, buffers};
+ghost use Rattle.node_model.specs.Node as model;
+ghost use Rattle.node_machine.specs.Kept.{ground_of, local_of, IsPlace};
+ghost use Rattle.node_machine.specs.Blocks.{ShelfLaws, blocks_at};
 
+use block_layout::{Block, Layout, layout_law};
+use buf_pool::Pool;
 use byte_range::LineMemory;
-use exec_map::{Class, Program};
-use first_memory::{read_only_memory, shared_memory};
+use exec_map::Program;
+use flag_memory::{Copy32, copy_law};
+use home_directory::{Message, Need, Post, Sends};
+use llsc::Reservation;
+use miss_handlers::Waits;
 use rv32_decode::Width;
-use std::alloc::{AllocError, Global};
+use state_table::{READ_ONLY, State, States};
 use std::marker::Model;
 
-/// What words see of their node. State bytes are those of the start.
+/// What words see of their node.
 #[derive(Drop)]
 pub struct Local<'a> {
-    program: &'a Program<'a>,
-    shared: LineMemory,
+    pub(crate) program: &'a Program<'a>,
+    pub(crate) layout: Layout,
+    /// The first address of the first shared lines that stand one behind the other.
+    pub(crate) base: u32,
+    /// How many bytes they have.
+    pub(crate) len: u32,
+    pub(crate) states: States,
+    pub(crate) copy: Copy32,
     /// The read-only lines.
-    fixed: LineMemory,
+    pub(crate) fixed: LineMemory,
+    pub(crate) reservation: Reservation,
 }
 
 impl<'a> Model for Local<'a> {
-    ghost use Rattle.node_machine.specs.Kept.{Shelf, HasLines, HasFixed};
+    ghost use Rattle.std.specs.Prelude.{◌≡◌};
+    ghost use Rattle.node_machine.specs.Kept.{Shelf, HasLines, HasFixed, AreFirstLines};
 
     ghost Value = { Shelf };
 
-    ghost view = { λ l. record { program = l.program.now; shared = l.shared } };
+    ghost view = { λ l. record {
+      program = l.program.now;
+      states = l.states;
+      copy = l.copy;
+      reservation = l.reservation;
+    } };
 
-    ghost invariant = { λ l. HasLines l.program.now l.shared
+    ghost invariant = { λ l. HasLines l.program.now l.states l.copy
+        × (l.layout ≡ l.copy.layout)
+        × AreFirstLines l.layout l.base l.len
         × HasFixed l.program.now l.fixed };
 }
 
 impl<'a> Local<'a> {
-    /// What words see of their node at the start.
-    pub fn first(alloc: Global, program: &'a Program<'a>) -> Result<Local<'a>, AllocError>
-        ensures program { IfOk result (λ l. l.program ≡ program.now) }
-        ensures local { IfOk result (λ l. local_of l ≡ model.first_local (program_of program.now)) }
+    /// What holds of what words see. A caller uses the clauses; the call does nothing.
+    pub fn laws(&self)
+        ensures { ShelfLaws self.now }
     {
-        let _ = program.entry();
-        Ok(Local {
-            program,
-            shared: shared_memory(alloc, program)?,
-            fixed: read_only_memory(alloc, program)?,
-        })
+        let _layout = self.layout.nodes();
+        copy_law(&self.copy);
+    }
+
+    /// Whether the processor has reserved an address.
+    pub fn holds(&self, address: u32) -> bool
+        ensures { result ≡ holds (local_of self.now).reservation address }
+    {
+        self.reservation.holds(address)
+    }
+
+    /// Gives the processor another reservation.
+    pub fn reserve(&mut self, address: u32)
+        ensures local { local_of self.new
+            ≡ record (local_of self.old) { reservation = Some address } }
+        ensures ground { ground_of self.new ≡ ground_of self.old }
+    {
+        self.reservation.set(address);
+    }
+
+    /// Ends the reservation, where there is one.
+    pub fn end_reservation(&mut self)
+        ensures local { local_of self.new ≡ record (local_of self.old) { reservation = None } }
+        ensures ground { ground_of self.new ≡ ground_of self.old }
+    {
+        self.reservation.end();
+    }
+
+    /// The block of the line of an address. `None` exactly where the line isn't shared.
+    pub fn block_of(&self, address: u32) -> Option<Block>
+        ensures { result ≡ block_of self.now.copy.layout (address / 64) }
+    {
+        self.layout.block_of(address / 64)
+    }
+
+    /// The number of nodes.
+    pub fn nodes(&self) -> u8
+        ensures nodes { result ≡ self.now.copy.layout.nodes }
+        ensures few { result ≤ 16 }
+    {
+        self.layout.nodes()
+    }
+
+    /// The state of a block.
+    pub fn block_state(&self, block: Block) -> State
+        requires { block < blocks self.now.copy.layout }
+        ensures { result ≡ state_of self.now.states block }
+    {
+        self.states.state(block)
     }
 
     /// The state byte of a line.
     pub fn state(&self, line: u32) -> u8
         requires { line < 2 ^ 26 }
-        ensures value { result ≡ (local_of self.now).state line }
-        ensures readable { model.is_mapped_state result ≡ true
-            → model.is_readable_state result ≡ true }
-        ensures writable { model.is_fixed_state result ≡ false
-            → model.is_writable_state result ≡ true }
+        ensures { result ≡ (local_of self.now).state line }
     {
-        match self.state_at_hand(line) {
-            Some(state) => state,
-            None => first_state(self.program.class(line)),
+        match self.place(64 * line) {
+            Some(at) => self.states.byte_at(line, at / 64),
+            None => self.fixed_state(line),
         }
     }
 
-    /// The state byte of a line that is shared or read-only; `None` where it is neither.
-    #[inline(always)]
-    pub fn state_at_hand(&self, line: u32) -> Option<u8>
-        requires { line < 2 ^ 26 }
-        ensures value { IfSome result (λ state. state ≡ (local_of self.now).state line) }
-        ensures readable { IfSome result (λ state. model.is_readable_state state ≡ true) }
-        ensures writable { IfSome result (λ state. model.is_fixed_state state ≡ false
-            → model.is_writable_state state ≡ true) }
+    /// The state byte of a line that isn't shared.
+    fn fixed_state(&self, line: u32) -> u8
+        requires line { line < 2 ^ 26 }
+        requires fixed { is_shared self.now.copy.layout line ≡ false }
+        ensures { result ≡ (local_of self.now).state line }
     {
-        if self.shared.place(line).is_some() {
-            Some(WRITABLE)
-        } else if self.fixed.place(line).is_some() {
-            Some(READ_ONLY)
+        match self.fixed.place(line) {
+            Some(_) => READ_ONLY,
+            None => self.states.byte(64 * line),
+        }
+    }
+
+    /// At which place of the shared bytes that of an address stands. `None` exactly where its line
+    /// isn't shared.
+    #[inline(always)]
+    fn place(&self, address: u32) -> Option<u32>
+        ensures { IsPlace self.now.copy.layout address result }
+    {
+        let place = address.wrapping_sub(self.base);
+        if place < self.len {
+            Some(place)
         } else {
-            None
+            self.place_behind(address)
+        }
+    }
+
+    /// The same by the layout.
+    #[inline(never)]
+    fn place_behind(&self, address: u32) -> Option<u32>
+        ensures { IsPlace self.now.copy.layout address result }
+    {
+        layout_law();
+        let _ = self.layout.nodes();
+        match self.layout.place_of(address / 64) {
+            Some(place) => Some(64 * place + address % 64),
+            None => None,
         }
     }
 
@@ -94,7 +179,10 @@ impl<'a> Local<'a> {
             × (n ≡ raw width (local_of self.now).copy address)) }
         ensures byte { (n : ℕ) → result ≡ Some n → width ≡ Width.Byte → n < 2 ^ 8 }
     {
-        self.shared.load(width, address)
+        match self.place(address) {
+            Some(at) => Some(self.copy.load_at(address, at, width)),
+            None => None,
+        }
     }
 
     /// Puts the low bits of a value into the bytes of a shared line from an address on, and says
@@ -106,11 +194,18 @@ impl<'a> Local<'a> {
             (self.new ≡ self.old) × (class_at (program_of self.old.program) address ≡ Shared → ⊥) }
         ensures shared { result ≡ true →
             (class_at (program_of self.old.program) address ≡ Shared) × (address < 2 ^ 31) }
-        ensures bytes { result ≡ true →
-            (local_of self.new).copy ≡ stored width (local_of self.old).copy address value }
-        ensures program { self.new.program ≡ self.old.program }
+        ensures local { result ≡ true → local_of self.new ≡ record (local_of self.old) {
+          copy = stored width (local_of self.old).copy address value;
+        } }
+        ensures ground { ground_of self.new ≡ ground_of self.old }
     {
-        self.shared.store(width, address, value)
+        match self.place(address) {
+            Some(at) => {
+                self.copy.store_at(address, at, width, value);
+                true
+            }
+            None => false,
+        }
     }
 
     /// The number that the bytes of a read-only line from an address on make. `None` exactly where
@@ -126,26 +221,63 @@ impl<'a> Local<'a> {
     {
         self.fixed.load(width, address)
     }
-}
 
-/// The state byte of a line that may be written.
-const WRITABLE: u8 = 0;
+    /// Begins a wait for a block, and gives the message to the home. None where the block meets
+    /// the need.
+    pub fn want(
+        &mut self,
+        block: Block,
+        need: Need,
+        waits: &mut Waits,
+        pool: &mut Pool,
+    ) -> Option<Post>
+        requires block { block < blocks waits.old.layout }
+        requires none { wait_of waits.old block ≡ None }
+        requires few { length waits.old.waits < 2 }
+        requires buffer { 0 < pool.old.free }
+        requires layout { waits.old.layout ≡ self.old.copy.layout }
+        ensures post { result ≡ post_of (miss_of waits.old self.old.states pool.old block need) }
+        ensures state { let miss = miss_of waits.old self.old.states pool.old block need in
+            state_of self.new.states ≡ states_after (state_of self.old.states) block miss }
+        ensures wait { let miss = miss_of waits.old self.old.states pool.old block need in
+            wait_of waits.new ≡ waits_after (wait_of waits.old) block miss }
+        ensures pool { let miss = miss_of waits.old self.old.states pool.old block need in
+            pool.new ≡ pool_after_miss pool.old miss }
+        ensures count { buffers pool.new waits.new ≡ buffers pool.old waits.old }
+        ensures layout { waits.new.layout ≡ waits.old.layout }
+        ensures states_layout { self.new.states.layout ≡ self.old.states.layout }
+        ensures classes { self.new.states.program ≡ self.old.states.program }
+        ensures program { self.new.program ≡ self.old.program }
+        ensures copy { self.new.copy ≡ self.old.copy }
+        ensures reservation { self.new.reservation ≡ self.old.reservation }
+    {
+        waits.want(block, need, &mut self.states, pool)
+    }
 
-/// The state byte of read-only lines.
-pub const READ_ONLY: u8 = 5;
-
-/// The state byte of lines that aren't mapped.
-pub const UNMAPPED: u8 = 7;
-
-/// The state byte of a line of this class at the start: writable, read-only, or not mapped.
-fn first_state(class: Class) -> u8
-    ensures value { result ≡ model.first_state class }
-    ensures readable { model.is_mapped_state result ≡ true → model.is_readable_state result ≡ true }
-    ensures writable { model.is_fixed_state result ≡ false → model.is_writable_state result ≡ true }
-{
-    match class {
-        Class::Shared | Class::Private => WRITABLE,
-        Class::ReadOnly => READ_ONLY,
-        Class::Unmapped => UNMAPPED,
+    /// A message that isn't for a home: the row that the table has for it, or none.
+    pub fn on(&mut self, from: u8, message: Message, waits: &mut Waits, pool: &mut Pool) -> Sends
+        requires pool { pool.old.free + length waits.old.waits ≤ pool.old.slots }
+        requires layout { waits.old.layout ≡ self.old.copy.layout }
+        ensures effect { let old = blocks_at waits.old self.old in
+            HasEffect (blocks_at waits.new self.new) result.items
+            (message_effect waits.old.layout old from message) }
+        ensures pool { let old = blocks_at waits.old self.old in
+            let effect = message_effect waits.old.layout old from message in
+            pool.new ≡ pool_after pool.old effect.gives_back }
+        ensures count { buffers pool.new waits.new ≡ buffers pool.old waits.old }
+        ensures layout { waits.new.layout ≡ waits.old.layout }
+        ensures states_layout { self.new.states.layout ≡ self.old.states.layout }
+        ensures classes { self.new.states.program ≡ self.old.states.program }
+        ensures program { self.new.program ≡ self.old.program }
+        ensures copy_layout { self.new.copy.layout ≡ self.old.copy.layout }
+    {
+        waits.on(
+            from,
+            message,
+            &mut self.states,
+            &mut self.copy,
+            &mut self.reservation,
+            pool,
+        )
     }
 }

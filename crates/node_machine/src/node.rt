@@ -1,205 +1,220 @@
-//! A node: its processor, what words see of it, and how many words it has executed.
+//! A node: its processor, what words see of it, and its part of the protocol.
 
-ghost use Rattle.std.specs.Prelude.{◌≡◌, ◌+◌, ◌*◌, ◌%◌, ◌^◌, ◌<◌, ◌≤◌, ℕ, true, None, IfOk, if◌then◌else◌, option_and_then};
+ghost use Rattle.std.specs.Prelude.{◌≡◌, ◌+◌, ◌^◌, ◌<◌, ◌==◌, ◌≤◌, ℕ, true, None, IfOk, OnOk, if◌then◌else◌, option_and_then};
 ghost use Rattle.jump_map.specs.declared.image.ImageWord.{ImageWord};
 ghost use Rattle.exec_map.specs.Contents.{program_of};
-ghost use Rattle.node_machine.specs.Node as model;
-ghost use Rattle.node_machine.specs.Kept.{node_of, work_of};
+ghost use Rattle.home_directory.specs.Effects.{members};
+ghost use Rattle.home_directory.specs.Home.{count_of};
+ghost use Rattle.node_model.specs.Node as model;
+ghost use Rattle.node_model.specs.Turns as turns;
+ghost use Rattle.node_machine.specs.Frame.{node_of, work_of, HasRoom};
 ghost use Rattle.node_machine.specs.Runs.{HasExecuted};
 
-use crate::NodeCounts;
 use crate::body::Body;
+use crate::desk::Desk;
+use crate::frame::{Frame, Phase, Turn};
 use crate::lane::{Lane, address_of, index_of};
 use crate::local::Local;
+use block_layout::Layout;
+use buf_pool::Pool;
 use byte_range::Window;
 use exec_map::{End, Program};
+use home_directory::{Directory, Wire};
 use jump_map::{Image, ImageWord};
-use run_limits::{Budget, NodeCount};
+use miss_handlers::Waits;
+use node_model::{Entry, NodeCounts, OutByte, Standing};
+use run_limits::Budget;
 use rv32_step::Registers;
 use std::alloc::{AllocError, Global};
 use std::marker::Model;
 use templates::RtWord;
 
-/// What a node did in one event.
-#[derive(Clone, Copy, Debug, PartialEq, Eq)]
-pub struct Turn {
-    /// The byte that it printed.
-    pub output: Option<u8>,
-}
-
-/// What a node may do next.
-#[derive(Clone, Copy, Debug, PartialEq, Eq)]
-pub enum Standing {
-    /// It may execute a word.
-    Running,
-    /// It may execute a word, or take a message: the word is a poll or a call.
-    AtPoll,
-    /// It has ended.
-    Over,
-}
-
 /// A node that runs rewritten code of a program.
-///
-/// What words change is in a box of its own, so that the position and the count of words can stay in
-/// registers of the machine while words are executed.
 #[derive(Drop)]
 pub struct Node<'a> {
-    image: &'a Image,
-    nodes: NodeCount,
-    budget: Budget,
-    body: Box<Body<'a>>,
-    /// The index of its next word.
-    at: u32,
-    executed: u64,
-    end: Option<End>,
+    frame: Frame<'a>,
 }
 
 impl<'a> Model for Node<'a> {
-    ghost use Rattle.node_machine.specs.Kept.{NodeView, IsNode};
+    ghost use Rattle.node_machine.specs.declared.frame.Frame.{Frame as Stored};
+    ghost use Rattle.node_machine.specs.Frame.{IsNode};
 
-    ghost Value = { NodeView };
+    ghost Value = { Stored };
 
-    ghost view = { λ n. record {
-      program = n.body.value.local.program;
-      image = n.image.now;
-      nodes = n.nodes;
-      budget = n.budget;
-      lane = n.body.value.lane;
-      shelf = n.body.value.local;
-      counts = n.body.value.counts;
-      at = n.at;
-      executed = n.executed;
-      end = n.end;
-    } };
+    ghost view = { λ n. n.frame };
 
-    ghost invariant = { λ n. IsNode n.image.now n.budget n.executed n.body.value.counts.falses n.end };
+    ghost invariant = { λ n. IsNode n.frame };
 }
 
+/// How many blocks a node may wait for, each with a buffer.
+const WAITS: u8 = 2;
+
+/// The bytes for which a buffer has room: those of the largest block.
+const PAGE_BYTES: u32 = 4096;
+
 impl<'a> Node<'a> {
-    /// Node number `me` of so many at the start. It executes at most `budget` words.
-    ///
-    /// As yet a node has all shared lines to itself.
+    /// Node number `me` of a layout's at the start. It executes at most `budget` words.
     pub fn new(
         alloc: Global,
         image: &'a Image,
         program: &'a Program<'a>,
+        layout: &Layout,
         me: u8,
-        nodes: NodeCount,
         budget: Budget,
     ) -> Result<Node<'a>, AllocError>
+        requires layout { model.IsLaidOver (program_of program.now) layout.now }
+        requires node { me < layout.now.nodes }
         ensures opening { IfOk result (λ node. node_of node ≡ model.opening_node (work_of node) me) }
         ensures work { IfOk result (λ node. work_of node ≡ record {
           program = program_of program.now;
           image = image.now;
-          nodes = nodes;
+          layout = layout.now;
           budget = budget;
         }) }
     {
         let _ = image.len();
+        let _ = budget.number();
         let body = Body {
             lane: Lane {
-                registers: Registers::first(me, nodes.number()),
+                registers: Registers::first(me, layout.nodes()),
                 private: Window::zeros(alloc)?,
                 written: 0,
                 off: 0,
                 spills: [0; 3],
             },
-            local: Local::first(alloc, program)?,
+            local: Local::first(alloc, program, layout, me)?,
             counts: NO_COUNTS,
         };
+        let desk = Desk {
+            directory: Directory::new(alloc, layout, me, layout.nodes())?,
+            waits: Waits::new(alloc, layout)?,
+            pool: Pool::new(alloc, WAITS, PAGE_BYTES)?,
+        };
         Ok(Node {
-            image,
-            nodes,
-            budget,
-            body: Box::new(alloc, body)?,
-            at: index_of(image.new_of(program.entry()).unwrap_or(0)),
-            executed: 0,
-            end: None,
+            frame: Frame {
+                image,
+                budget,
+                body: Box::new(alloc, body)?,
+                desk,
+                at: index_of(image.new_of(program.entry()).unwrap_or(0)),
+                executed: 0,
+                phase: Phase::Running,
+                byes: [false; 256],
+                stamp: 0,
+                journal: Vec::new(alloc),
+                noted: 0,
+                output: Vec::new(alloc),
+            },
         })
     }
 
-    /// What the node may do next.
-    pub fn standing(&self) -> Standing
-        ensures value { result ≡ model.standing_of (work_of self.now) (node_of self.now) }
-    {
-        match self.end {
-            None => standing_at(self.image.fetch(address_of(self.at))),
-            Some(_) => Standing::Over,
-        }
-    }
-
-    /// How the processor ended; `None` exactly where it hasn't yet: then it may execute a word, for
-    /// as yet no node waits.
+    /// How the processor ended; `None` exactly where it hasn't.
     pub fn end(&self) -> Option<End>
         ensures value { result ≡ model.end_of (node_of self.now).phase }
-        ensures runs { (result ≡ None) → ((node_of self.now).phase ≡ model.Running) }
-        ensures left { (result ≡ None) → (node_of self.now).executed < (work_of self.now).budget }
     {
-        self.end
+        match self.frame.phase {
+            Phase::Ended(end) => Some(end),
+            _ => None,
+        }
     }
 
     /// What the node has counted.
     pub fn counts(&self) -> NodeCounts
         ensures value { result ≡ (node_of self.now).counts }
     {
-        self.body.counts
+        self.frame.body.counts
     }
 
-    /// Executes words, of which none but the last prints a byte or ends the node: as many as their
-    /// micro-ops serve, and one more.
-    pub fn exec_on(&mut self) -> Turn
-        requires { model.can_execute (node_of self.old).phase ≡ true }
-        ensures ran { HasExecuted (work_of self.old) (node_of self.old) (node_of self.new)
-            result.output }
-        ensures work { work_of self.new ≡ work_of self.old }
+    /// The stamp of the node's last event.
+    pub fn stamp(&self) -> u64
+        ensures value { result ≡ (node_of self.now).stamp }
     {
-        let most = self.budget.number() - self.executed - 1;
-        let stretch = self.body.run(self.image, self.at, most);
-        self.at = stretch.at;
-        self.executed += stretch.words;
-        self.serve_word()
+        self.frame.stamp
+    }
+
+    /// What the node may do next.
+    pub fn standing(&self) -> Standing
+        ensures value { result ≡ model.standing_of (work_of self.now) (node_of self.now) }
+    {
+        match self.frame.phase {
+            Phase::Running => standing_at(self.frame.image.fetch(address_of(self.frame.at))),
+            Phase::Resumed => Standing::Running,
+            Phase::Waiting(_) => Standing::Waiting,
+            Phase::Ended(_) => ended_standing(&self.frame.byes, self.frame.body.local.nodes()),
+        }
+    }
+
+    /// The takes of messages, in order.
+    pub fn journal(&self) -> &[Entry]
+        ensures value { result.now ≡ (node_of self.now).journal }
+    {
+        &self.frame.journal
+    }
+
+    /// The bytes that the node printed, in order.
+    pub fn output(&self) -> &[OutByte]
+        ensures value { result.now ≡ (node_of self.now).output }
+    {
+        &self.frame.output
+    }
+
+    /// Makes room for one entry of the journal and one byte of output.
+    pub fn room(&mut self) -> Result<(), AllocError>
+        ensures node { node_of self.new ≡ node_of self.old }
+        ensures work { work_of self.new ≡ work_of self.old }
+        ensures room { OnOk result (HasRoom self.new) }
+    {
+        self.frame.journal.reserve(1)?;
+        self.frame.output.reserve(1)?;
+        Ok(())
     }
 
     /// Executes one word.
     pub fn exec(&mut self) -> Turn
-        requires { model.can_execute (node_of self.old).phase ≡ true }
-        ensures node { node_of self.new ≡ model.word_step (work_of self.old) (node_of self.old) }
-        ensures output { result.output ≡
-            (model.word_outcome (work_of self.old) (node_of self.old)).printed }
+        requires may { model.can_execute (node_of self.old).phase ≡ true }
+        requires room { HasRoom self.old }
+        requires stamp { (node_of self.old).stamp < 2 ^ 56 }
+        ensures node { node_of self.new
+            ≡ (turns.word_turn (work_of self.old) (node_of self.old)).node }
+        ensures sends { result.sends.items
+            ≡ (turns.word_turn (work_of self.old) (node_of self.old)).sends }
+        ensures output { result.output
+            ≡ (turns.word_turn (work_of self.old) (node_of self.old)).printed }
+        ensures stamp { result.stamp ≡ (node_of self.new).stamp }
         ensures work { work_of self.new ≡ work_of self.old }
     {
-        match self.body.step_at(self.image, self.at) {
-            Some(at) => {
-                self.at = at;
-                self.executed += 1;
-                if self.executed == self.budget.number() {
-                    self.end = Some(End::Stopped(self.executed));
-                }
-                Turn { output: None }
-            }
-            None => self.serve_word(),
-        }
+        self.frame.exec()
     }
 
-    /// Executes one word by the path that serves every word.
-    fn serve_word(&mut self) -> Turn
-        requires { model.can_execute (node_of self.old).phase ≡ true }
-        ensures node { node_of self.new ≡ model.word_step (work_of self.old) (node_of self.old) }
-        ensures output { result.output ≡
-            (model.word_outcome (work_of self.old) (node_of self.old)).printed }
+    /// Executes words, of which those before the last print nothing and send nothing: as many as
+    /// their micro-ops serve, and one more.
+    pub fn exec_on(&mut self) -> Turn
+        requires may { model.can_execute (node_of self.old).phase ≡ true }
+        requires room { HasRoom self.old }
+        requires stamp { (node_of self.old).stamp < 2 ^ 56 }
+        ensures ran { HasExecuted (work_of self.old) (node_of self.old) (node_of self.new)
+            result.sends.items result.output }
+        ensures stamp { result.stamp ≡ (node_of self.new).stamp }
         ensures work { work_of self.new ≡ work_of self.old }
     {
-        let served = self.body.serve(self.image, self.at);
-        self.at = served.at;
-        self.executed += 1;
-        if let Some(exit) = served.exit {
-            self.end = Some(End::Exited(exit));
-        } else if self.executed == self.budget.number() {
-            self.end = Some(End::Stopped(self.executed));
-        }
-        Turn {
-            output: served.output,
-        }
+        self.frame.exec_on()
+    }
+
+    /// Takes a message from a node.
+    pub fn take(&mut self, from: u8, wire: Wire) -> Turn
+        requires room { HasRoom self.old }
+        requires stamp { (node_of self.old).stamp < 2 ^ 56 }
+        requires wire { wire.stamp < 2 ^ 56 }
+        ensures node { node_of self.new
+            ≡ (turns.take_turn (work_of self.old) (node_of self.old) from wire).node }
+        ensures sends { result.sends.items
+            ≡ (turns.take_turn (work_of self.old) (node_of self.old) from wire).sends }
+        ensures output { result.output
+            ≡ (turns.take_turn (work_of self.old) (node_of self.old) from wire).printed }
+        ensures stamp { result.stamp ≡ (node_of self.new).stamp }
+        ensures work { work_of self.new ≡ work_of self.old }
+    {
+        self.frame.take(from, wire)
     }
 }
 
@@ -219,6 +234,33 @@ fn takes_messages(what: Option<RtWord>) -> bool
     ensures { result ≡ model.takes_messages what }
 {
     matches!(what, Some(RtWord::Poll | RtWord::Call))
+}
+
+/// What a node that has ended may do next, by the Byes that it has taken.
+fn ended_standing(byes: &[bool; 256], nodes: u8) -> Standing
+    requires { nodes ≤ 16 }
+    ensures { result ≡ (if count_of (members byes.now) nodes == nodes then Standing.Over
+        else Standing.Ended) }
+{
+    if count(byes, nodes) == nodes {
+        Standing::Over
+    } else {
+        Standing::Ended
+    }
+}
+
+/// How many of the first so many are true.
+fn count(flags: &[bool; 256], nodes: u8) -> u8
+    requires { nodes ≤ 16 }
+    ensures { result ≡ count_of (members flags.now) nodes }
+{
+    let mut count = 0;
+    for node in 0..nodes {
+        if flags[node as usize] {
+            count += 1;
+        }
+    }
+    count
 }
 
 /// The counts of the start.

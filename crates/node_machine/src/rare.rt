@@ -1,24 +1,28 @@
 //! The path that serves every word.
 
-ghost use Rattle.std.specs.Prelude.{◌≡◌, ◌+◌, ◌*◌, ◌/◌, ◌%◌, ◌^◌, ◌<◌, ◌≤◌, ℕ};
+ghost use Rattle.std.specs.Prelude.{◌≡◌, ◌+◌, ◌*◌, ◌/◌, ◌%◌, ◌^◌, ◌<◌, ◌≤◌, ℕ, true};
 ghost use Rattle.exec_map.specs.Contents.{program_of};
 ghost use Rattle.rv32_program.specs.Targets.{offset_address};
-ghost use Rattle.rv32_step.specs.declared.Demand.TheVariants.{Sets, Jumps, Branches, Loads, Stores};
+ghost use Rattle.rv32_step.specs.declared.Demand.TheVariants.{Sets, Jumps, Branches, Loads, Stores, Reserves, StoresIf, Updates};
 ghost use Rattle.rv32_step.specs.declared.CallStep.TheVariants.{Puts, Returns};
 ghost use Rattle.rv32_step.specs.Demands as demands;
 ghost use Rattle.rv32_step.specs.Registers.{reg, registers_of};
 ghost use Rattle.byte_range.specs.Memory.{raw};
-ghost use Rattle.node_machine.specs.Node as model;
-ghost use Rattle.node_machine.specs.Kept.{Does, Shelf, local_of, lane_of};
+ghost use Rattle.rv32_decode.specs.Widths.{is_aligned};
+ghost use Rattle.rv32_step.specs.Memory.{load_value};
+ghost use Rattle.node_model.specs.Node as model;
+ghost use Rattle.node_machine.specs.Kept.{Does, Shelf, ground_of, local_of, lane_of};
 ghost use Rattle.node_machine.specs.declared.lane.Lane.{Lane};
 
 use crate::body::Body;
-use crate::lane::{Move, Outcome, exit_by, go_on, index_of};
-use crate::local::{READ_ONLY, UNMAPPED};
+use crate::lane::{Move, Outcome, Resume, exit_by, go_on, index_of, wait_for};
 use exec_map::Exit;
+use home_directory::Need;
 use jump_map::{Image, ImageWord};
-use rv32_decode::{Imm12, Instr, LoadKind, Reg, Width};
+use rv32_decode::{AmoOp, Imm12, Instr, LoadKind, Reg, Width};
+use rv32_ops::amo;
 use rv32_step::{CallStep, Demand, call_step, cut_short, demand_of};
+use state_table::{EXCLUSIVE, READ_ONLY, UNMAPPED};
 use templates::{Place, RtWord};
 
 impl<'a> Body<'a> {
@@ -26,7 +30,7 @@ impl<'a> Body<'a> {
     pub fn execute_at(&mut self, image: &Image, at: u32) -> Outcome
         ensures does { Does (model.next_outcome (program_of self.old.local.program) image.now
             (lane_of self.old.lane at) (local_of self.old.local))
-            self.old.local.program at self.new.lane self.new.local result }
+            (ground_of self.old.local) at self.new.lane self.new.local result }
         ensures counts { self.new.counts ≡ self.old.counts }
     {
         match image.fetch(at) {
@@ -39,7 +43,7 @@ impl<'a> Body<'a> {
     fn execute_read(&mut self, fetched: ImageWord, at: u32) -> Outcome
         ensures does { Does (model.execute_read (program_of self.old.local.program) fetched.place
             fetched.what (lane_of self.old.lane at) (local_of self.old.local))
-            self.old.local.program at self.new.lane self.new.local result }
+            (ground_of self.old.local) at self.new.lane self.new.local result }
         ensures counts { self.new.counts ≡ self.old.counts }
     {
         let place = address_of(fetched.place);
@@ -53,7 +57,7 @@ impl<'a> Body<'a> {
     fn execute(&mut self, place: u32, what: RtWord, at: u32) -> Outcome
         ensures does { Does (model.execute (program_of self.old.local.program) place at what
             (lane_of self.old.lane at) (local_of self.old.local))
-            self.old.local.program at self.new.lane self.new.local result }
+            (ground_of self.old.local) at self.new.lane self.new.local result }
         ensures counts { self.new.counts ≡ self.old.counts }
     {
         match what {
@@ -63,6 +67,7 @@ impl<'a> Body<'a> {
             RtWord::Poll => go_on(Move::Next),
             RtWord::Call => self.call(),
             RtWord::Xjalr { rd, rs1, imm } => self.indirect(place, rd, self.sum(rs1, imm)),
+            RtWord::Prepare { rs1 } => self.prepare(place, self.lane.registers.get(rs1)),
             RtWord::TrapFetch => exit_by(Exit::Fetch(place)),
             RtWord::TrapOff => exit_by(Exit::Fetch(self.lane.off)),
             RtWord::TrapIllegal => exit_by(Exit::Illegal(place)),
@@ -83,7 +88,7 @@ impl<'a> Body<'a> {
         ensures does { Does (model.native (program_of self.old.local.program) place at
             (lane_of self.old.lane at) (local_of self.old.local)
             (demands.demand_of i (registers_of self.old.lane.registers) at))
-            self.old.local.program at self.new.lane self.new.local result }
+            (ground_of self.old.local) at self.new.lane self.new.local result }
         ensures counts { self.new.counts ≡ self.old.counts }
     {
         self.meet(place, self.demand(i, at), at)
@@ -100,7 +105,7 @@ impl<'a> Body<'a> {
     fn meet(&mut self, place: u32, demand: Demand, at: u32) -> Outcome
         ensures does { Does (model.native (program_of self.old.local.program) place at
             (lane_of self.old.lane at) (local_of self.old.local) demand)
-            self.old.local.program at self.new.lane self.new.local result }
+            (ground_of self.old.local) at self.new.lane self.new.local result }
         ensures counts { self.new.counts ≡ self.old.counts }
     {
         match demand {
@@ -115,7 +120,14 @@ impl<'a> Body<'a> {
             Demand::Stores(width, address, value) => {
                 self.store_or_exit(place, width, address, value)
             }
-            Demand::Calls | Demand::Traps(_) | Demand::Unsupported => exit_by(Exit::Fetch(at)),
+            Demand::Reserves(r, address) => self.reserve_or_exit(place, r, address),
+            Demand::StoresIf(r, address, value) => {
+                self.store_if_or_exit(place, r, address, value)
+            }
+            Demand::Updates(op, r, address, value) => {
+                self.update_or_exit(place, op, r, address, value)
+            }
+            Demand::Calls | Demand::Traps(_) => exit_by(Exit::Fetch(at)),
         }
     }
 
@@ -123,7 +135,7 @@ impl<'a> Body<'a> {
     fn jump_to(&mut self, place: u32, r: Reg, target: u32, at: u32) -> Outcome
         ensures does { Does (model.native (program_of self.old.local.program) place at
             (lane_of self.old.lane at) (local_of self.old.local) (Jumps r target))
-            self.old.local.program at self.new.lane self.new.local result }
+            (ground_of self.old.local) at self.new.lane self.new.local result }
         ensures counts { self.new.counts ≡ self.old.counts }
     {
         if target % 4 == 0 {
@@ -138,7 +150,7 @@ impl<'a> Body<'a> {
     fn indirect(&mut self, place: u32, rd: Reg, sum: u32) -> Outcome
         ensures does { (at : ℕ) → Does (model.indirect place (lane_of self.old.lane at)
             (local_of self.old.local) rd (sum / 2 * 2))
-            self.old.local.program at self.new.lane self.new.local result }
+            (ground_of self.old.local) at self.new.lane self.new.local result }
         ensures counts { self.new.counts ≡ self.old.counts }
     {
         let target = sum / 2 * 2;
@@ -154,7 +166,7 @@ impl<'a> Body<'a> {
     fn load_or_exit(&mut self, place: u32, kind: LoadKind, r: Reg, address: u32) -> Outcome
         ensures does { (at : ℕ) → Does (model.native (program_of self.old.local.program) place at
             (lane_of self.old.lane at) (local_of self.old.local) (Loads kind r address))
-            self.old.local.program at self.new.lane self.new.local result }
+            (ground_of self.old.local) at self.new.lane self.new.local result }
         ensures counts { self.new.counts ≡ self.old.counts }
     {
         if kind.width().is_aligned(address) {
@@ -169,7 +181,7 @@ impl<'a> Body<'a> {
     fn store_or_exit(&mut self, place: u32, width: Width, address: u32, value: u32) -> Outcome
         ensures does { (at : ℕ) → Does (model.native (program_of self.old.local.program) place at
             (lane_of self.old.lane at) (local_of self.old.local) (Stores width address value))
-            self.old.local.program at self.new.lane self.new.local result }
+            (ground_of self.old.local) at self.new.lane self.new.local result }
         ensures counts { self.new.counts ≡ self.old.counts }
     {
         if width.is_aligned(address) {
@@ -180,23 +192,111 @@ impl<'a> Body<'a> {
         }
     }
 
+    /// Loads the word of an aligned address, and reserves the address.
+    fn reserve_or_exit(&mut self, place: u32, r: Reg, address: u32) -> Outcome
+        ensures does { (at : ℕ) → Does (model.native (program_of self.old.local.program) place at
+            (lane_of self.old.lane at) (local_of self.old.local) (Reserves r address))
+            (ground_of self.old.local) at self.new.lane self.new.local result }
+        ensures counts { self.new.counts ≡ self.old.counts }
+    {
+        if Width::Word.is_aligned(address) {
+            self.load(LoadKind::Word, r, address);
+            self.local.reserve(address);
+            go_on(Move::Next)
+        } else {
+            exit_by(Exit::Misaligned(place))
+        }
+    }
+
+    /// Stores at an aligned address where it is reserved, and says in a register whether it did.
+    fn store_if_or_exit(&mut self, place: u32, r: Reg, address: u32, value: u32) -> Outcome
+        ensures does { (at : ℕ) → Does (model.native (program_of self.old.local.program) place at
+            (lane_of self.old.lane at) (local_of self.old.local) (StoresIf r address value))
+            (ground_of self.old.local) at self.new.lane self.new.local result }
+        ensures counts { self.new.counts ≡ self.old.counts }
+    {
+        if !Width::Word.is_aligned(address) {
+            return exit_by(Exit::Misaligned(place));
+        }
+        if !self.local.holds(address) {
+            self.lane.registers.set(r, 1);
+            self.local.end_reservation();
+            return go_on(Move::Next);
+        }
+        self.store(Width::Word, address, value);
+        self.lane.registers.set(r, 0);
+        self.local.end_reservation();
+        go_on(Move::Next)
+    }
+
+    /// Puts what an operation makes of the word of an aligned address there, and the word into a
+    /// register.
+    fn update_or_exit(&mut self, place: u32, op: AmoOp, r: Reg, address: u32, value: u32) -> Outcome
+        ensures does { (at : ℕ) → Does (model.native (program_of self.old.local.program) place at
+            (lane_of self.old.lane at) (local_of self.old.local) (Updates op r address value))
+            (ground_of self.old.local) at self.new.lane self.new.local result }
+        ensures counts { self.new.counts ≡ self.old.counts }
+    {
+        if Width::Word.is_aligned(address) {
+            let old = self.word(address);
+            self.store(Width::Word, address, amo(op, old, value));
+            self.lane.registers.set(r, old);
+            go_on(Move::Next)
+        } else {
+            exit_by(Exit::Misaligned(place))
+        }
+    }
+
+    /// The word of an aligned address.
+    #[tactic(auto, unfolding(rv32_ops::specs::Operations::extend))]
+    fn word(&self, address: u32) -> u32
+        requires { is_aligned Width.Word address ≡ true }
+        ensures { (at : ℕ) → result ≡ load_value LoadKind.Word
+            (model.byte_at (program_of self.now.local.program) (lane_of self.now.lane at)
+            (local_of self.now.local)) address }
+    {
+        self.memory(Width::Word, address)
+    }
+
+    /// Looks whether a conditional store may be made.
+    fn prepare(&self, place: u32, address: u32) -> Outcome
+        ensures { (at : ℕ) → Does (model.prepare place (lane_of self.now.lane at)
+            (local_of self.now.local) address)
+            (ground_of self.now.local) at self.now.lane self.now.local result }
+    {
+        if !Width::Word.is_aligned(address) {
+            return exit_by(Exit::Misaligned(place));
+        }
+        let state = self.local.state(address / 64);
+        if is_fixed(state) {
+            exit_by(Exit::Access(place))
+        } else if self.local.holds(address) && !is_writable(state) {
+            wait_for(Resume::PastWord, address, Need::Write)
+        } else {
+            go_on(Move::Next)
+        }
+    }
+
     /// Looks whether a line may be read.
     fn miss_r(&self, place: u32, width: Width, address: u32) -> Outcome
         ensures { (at : ℕ) → Does (model.miss_r place (lane_of self.now.lane at)
             (local_of self.now.local) width address)
-            self.now.local.program at self.now.lane self.now.local result }
+            (ground_of self.now.local) at self.now.lane self.now.local result }
     {
         if !width.is_aligned(address) {
             return exit_by(Exit::Misaligned(place));
         }
-        if self.local.state(address / 64) == UNMAPPED {
+        let state = self.local.state(address / 64);
+        if !is_mapped(state) {
             exit_by(Exit::Access(place))
-        } else {
+        } else if is_readable(state) {
             Outcome {
                 output: None,
                 false_miss: true,
                 next: Move::Next,
             }
+        } else {
+            wait_for(Resume::PastWord, address, Need::Read)
         }
     }
 
@@ -204,14 +304,18 @@ impl<'a> Body<'a> {
     fn miss_w(&self, place: u32, width: Width, address: u32) -> Outcome
         ensures { (at : ℕ) → Does (model.miss_w place (lane_of self.now.lane at)
             (local_of self.now.local) width address)
-            self.now.local.program at self.now.lane self.now.local result }
+            (ground_of self.now.local) at self.now.lane self.now.local result }
     {
         if !width.is_aligned(address) {
             return exit_by(Exit::Misaligned(place));
         }
-        match self.local.state(address / 64) {
-            READ_ONLY | UNMAPPED => exit_by(Exit::Access(place)),
-            _ => go_on(Move::Next),
+        let state = self.local.state(address / 64);
+        if is_fixed(state) {
+            exit_by(Exit::Access(place))
+        } else if is_writable(state) {
+            go_on(Move::Next)
+        } else {
+            wait_for(Resume::PastWord, address, Need::Write)
         }
     }
 
@@ -220,7 +324,7 @@ impl<'a> Body<'a> {
         ensures does { (at : ℕ) → Does (model.make_call (program_of self.old.local.program)
             (lane_of self.old.lane at) (local_of self.old.local)
             (demands.call_step (registers_of self.old.lane.registers) self.old.lane.written))
-            self.old.local.program at self.new.lane self.new.local result }
+            (ground_of self.old.local) at self.new.lane self.new.local result }
         ensures counts { self.new.counts ≡ self.old.counts }
     {
         match call_step(&self.lane.registers, self.lane.written) {
@@ -234,7 +338,7 @@ impl<'a> Body<'a> {
     fn return_with(&mut self, value: u32) -> Outcome
         ensures does { (at : ℕ) → Does (model.go_on (model.lane_after_call
             (lane_of self.old.lane at) value) (local_of self.old.local) model.Next)
-            self.old.local.program at self.new.lane self.new.local result }
+            (ground_of self.old.local) at self.new.lane self.new.local result }
         ensures counts { self.new.counts ≡ self.old.counts }
     {
         self.lane.registers.set(Reg::A0, value);
@@ -242,16 +346,21 @@ impl<'a> Body<'a> {
         go_on(Move::Next)
     }
 
-    /// Prints the byte of an address, or ends the write where the address isn't mapped.
+    /// Prints the byte of an address, waits for it, or ends the write where the address isn't
+    /// mapped.
     fn put(&mut self, address: u32) -> Outcome
         requires { self.old.lane.written + 1 < 2 ^ 32 }
         ensures does { (at : ℕ) → Does (model.make_call (program_of self.old.local.program)
             (lane_of self.old.lane at) (local_of self.old.local) (Puts address))
-            self.old.local.program at self.new.lane self.new.local result }
+            (ground_of self.old.local) at self.new.lane self.new.local result }
         ensures counts { self.new.counts ≡ self.old.counts }
     {
-        if self.local.state(address / 64) == UNMAPPED {
+        let state = self.local.state(address / 64);
+        if !is_mapped(state) {
             return self.return_with(cut_short(self.lane.written));
+        }
+        if !is_readable(state) {
+            return wait_for(Resume::SameWord, address, Need::Read);
         }
         let byte = self.byte(address);
         self.lane.written += 1;
@@ -275,7 +384,7 @@ impl<'a> Body<'a> {
 /// Takes a branch.
 fn branch_to(place: u32, target: u32) -> Outcome
     ensures { (l : Lane) (s : Shelf) (at : ℕ) → Does (model.native (program_of s.program) place at
-        (lane_of l at) (local_of s) (Branches target)) s.program at l s result }
+        (lane_of l at) (local_of s) (Branches target)) (ground_of s) at l s result }
 {
     if target % 4 == 0 {
         go_on(Move::To(index_of(target)))
@@ -292,4 +401,32 @@ fn address_of(place: Option<Place>) -> u32
         Some(place) => place.address,
         None => 0,
     }
+}
+
+/// Whether a line with this state byte is mapped.
+fn is_mapped(state: u8) -> bool
+    ensures { result ≡ model.is_mapped_state state }
+{
+    state != UNMAPPED
+}
+
+/// Whether it may be read.
+fn is_readable(state: u8) -> bool
+    ensures { result ≡ model.is_readable_state state }
+{
+    state & 2 == 0
+}
+
+/// Whether it may not be written by anyone.
+fn is_fixed(state: u8) -> bool
+    ensures { result ≡ model.is_fixed_state state }
+{
+    state == READ_ONLY || state == UNMAPPED
+}
+
+/// Whether it may be written.
+fn is_writable(state: u8) -> bool
+    ensures { result ≡ model.is_writable_state state }
+{
+    state == EXCLUSIVE
 }

@@ -1,7 +1,7 @@
 //! Where an address of a node lies.
 
 ghost use Rattle.std.specs.Prelude.{◌≡◌, ◌+◌, ◌*◌, ◌%◌, ◌^◌, ◌<◌, ◌≤◌, ℕ};
-ghost use Rattle.node_machine.specs.Node as model;
+ghost use Rattle.node_model.specs.Node as model;
 ghost use Rattle.node_machine.specs.Kept.{region_by};
 
 /// Where an address of the node lies.

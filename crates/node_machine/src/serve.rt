@@ -3,24 +3,36 @@
 ghost use Rattle.std.specs.Prelude.{◌≡◌, ◌+◌, ◌*◌, ◌%◌, ◌^◌, ◌<◌, ◌≤◌, ℕ, Some, None, length};
 ghost use Rattle.exec_map.specs.Contents.{program_of};
 ghost use Rattle.jump_map.specs.Image.{most_words};
-ghost use Rattle.node_machine.specs.Node as model;
+ghost use Rattle.node_model.specs.Node as model;
 ghost use Rattle.node_machine.specs.Address.{word_address};
-ghost use Rattle.node_machine.specs.Kept.{StepsOr, Serves, local_of, lane_of, move_of, tally_of, phase_by};
+ghost use Rattle.node_machine.specs.Kept.{StepsOr, Serves, ground_of, local_of, lane_of, move_of, tally_of, phase_by, wants_by};
+ghost use Rattle.node_model.specs.Turns.{wants_of};
 ghost use Rattle.node_machine.specs.GoingOn.{BodyGoesOn};
 
-use crate::NodeCounts;
 use crate::body::Body;
-use crate::lane::{Move, address_of};
+use crate::lane::{Move, Resume, Want, address_of};
 use exec_map::Exit;
 use jump_map::{IMAGE_BASE, Image};
+use node_model::NodeCounts;
+
+/// What follows a word.
+#[derive(Clone, Copy, PartialEq, Eq)]
+pub enum Following {
+    /// Another word.
+    GoesOn,
+    /// A wait.
+    Waits(Resume, Want),
+    /// Nothing: the processor is ended.
+    Leaves(Exit),
+}
 
 /// What the path that serves every word did.
-#[derive(Clone, Copy, Debug, PartialEq, Eq)]
+#[derive(Clone, Copy, PartialEq, Eq)]
 pub struct Served {
     /// The index of the next word.
     pub at: u32,
-    /// How the processor ended, where it did.
-    pub exit: Option<Exit>,
+    /// What follows.
+    pub following: Following,
     /// The byte that it printed.
     pub output: Option<u8>,
 }
@@ -56,7 +68,7 @@ impl<'a> Body<'a> {
         requires { length image.now ≤ most_words }
         ensures words { BodyGoesOn image.now most from self.old result.words result.at self.new }
         ensures most { result.words ≤ most }
-        ensures program { self.new.local.program ≡ self.old.local.program }
+        ensures ground { ground_of self.new.local ≡ ground_of self.old.local }
         ensures counts { self.new.counts ≡ self.old.counts }
     {
         let mut at = from;
@@ -77,14 +89,14 @@ impl<'a> Body<'a> {
         requires { self.old.counts.falses + 1 < 2 ^ 64 }
         ensures { Serves image.now (model.next_outcome (program_of self.old.local.program)
             image.now (lane_of self.old.lane (word_address at)) (local_of self.old.local))
-            self.old.local.program self.old.counts self.new.lane self.new.local self.new.counts
+            (ground_of self.old.local) self.old.counts self.new.lane self.new.local self.new.counts
             result }
     {
         let outcome = self.execute_at(image, address_of(at));
         self.counts = count(self.counts, outcome.false_miss);
         Served {
             at: self.go(image, at, outcome.next),
-            exit: exit_of(outcome.next),
+            following: what_follows(outcome.next),
             output: outcome.output,
         }
     }
@@ -98,7 +110,7 @@ impl<'a> Body<'a> {
     {
         match next {
             Move::Next => at.wrapping_add(1),
-            Move::Again | Move::Leaves(_) => at,
+            Move::Again | Move::Waits(..) | Move::Leaves(_) => at,
             Move::To(index) => index,
             Move::Enters(original) => match image.new_of(original) {
                 Some(new) => (new - IMAGE_BASE) / 4,
@@ -126,13 +138,15 @@ fn count(counts: NodeCounts, false_miss: bool) -> NodeCounts
     }
 }
 
-/// The exit by which a processor leaves.
-fn exit_of(next: Move) -> Option<Exit>
-    ensures { (budget executed : ℕ) → phase_by budget executed result ≡
+/// What follows a word, by where the processor goes.
+fn what_follows(next: Move) -> Following
+    ensures phase { (budget executed : ℕ) → phase_by budget executed result ≡
         model.phase_after budget executed (move_of next) }
+    ensures wants { wants_by result ≡ wants_of (move_of next) }
 {
     match next {
-        Move::Leaves(exit) => Some(exit),
-        _ => None,
+        Move::Waits(resume, want) => Following::Waits(resume, want),
+        Move::Leaves(exit) => Following::Leaves(exit),
+        _ => Following::GoesOn,
     }
 }

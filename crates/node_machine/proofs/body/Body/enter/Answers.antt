@@ -10,4 +10,4 @@ returns c at place =
     let k = (new - 2684354560) / 4 in
     let is = new_address image c.args.original new (sym c.in_ok-new_of.ensures.value) in
     let same : word_address k ≡ new = omega (arith, is.1) in
-    enter_follows image c.args.self.now.local.program c.args.self.now.lane c.args.self.now.local at place c.args.original new k (search rules) (sym c.in_ok-new_of.ensures.value) same
+    enter_follows image c.args.self.now.lane c.args.self.now.local at place c.args.original new k (search rules) (sym c.in_ok-new_of.ensures.value) same

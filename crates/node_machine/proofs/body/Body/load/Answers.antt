@@ -5,10 +5,11 @@ use Rattle.rv32_ops.specs.Operations.{extend}
 use Rattle.rv32_program.specs.declared.Class.TheVariants.{Shared, ReadOnly}
 use Rattle.rv32_step.specs.Registers.{put, registers_of}
 use Rattle.byte_range.specs.Memory.{raw}
+use Rattle.flag_memory.specs.Flag.{flag_byte}
 use Rattle.byte_range.specs.Window.{window_memory}
 use Rattle.exec_map.specs.Contents.{program_of, class_of_line, first_byte}
-use Rattle.node_machine.specs.Node.{Region, load, flag_byte}
-use Rattle.node_machine.specs.Kept.{LeavesBehind, lane_of, local_of}
+use Rattle.node_model.specs.Node.{Region, load}
+use Rattle.node_machine.specs.Kept.{ground_of, LeavesBehind, lane_of, local_of}
 use Rattle.node_machine.proofs.MemoryLemmas.{raw_in_line, memory_region}
 use Rattle.node_machine.proofs.body.Body.load.Goals as goal
 
@@ -22,11 +23,11 @@ returns-in-Some-clause-leaves c at =
     let same = given ∙ raw_in_line (width_of c.args.kind) (class_of_line p) Shared n.copy (first_byte p) (window_memory b.lane.private) flag_byte a c.requires c.in-Some.ensures.value.0 in
     let value = c.extend.ensures ∙ ap (extend c.args.kind) same in
     let registers = c.set-in-Some.ensures ∙ ap (put (registers_of b.lane.registers) c.args.rd) value in
-    subst (λ (q : Region). LeavesBehind (load (program_of p) (lane_of b.lane at) n c.args.kind c.args.rd a q) p at (record b.lane { registers = c.set-in-Some.new.self }) b.local) (sym (memory_region a c.in-Some.ensures.value.1))
+    subst (λ (q : Region). LeavesBehind (load (program_of p) (lane_of b.lane at) n c.args.kind c.args.rd a q) (ground_of b.local) at (record b.lane { registers = c.set-in-Some.new.self }) b.local) (sym (memory_region a c.in-Some.ensures.value.1))
     (record {
       lane = λ t. record (lane_of b.lane at) { registers = registers t };
       local = refl;
-      program_same = refl;
+      ground_same = refl;
     })
 
 pub returns-in-Some-load_fixed-clause-leaves : goal.returns-in-Some-load_fixed-clause-leaves
@@ -39,9 +40,9 @@ returns-in-Some-load_fixed-clause-leaves c at =
     let same = given ∙ raw_in_line (width_of c.args.kind) (class_of_line p) ReadOnly n.copy (first_byte p) (window_memory b.lane.private) flag_byte a c.requires c.in-Some-load_fixed.ensures.value.0 in
     let value = c.extend-in-Some-load_fixed.ensures ∙ ap (extend c.args.kind) same in
     let registers = c.set-in-Some-load_fixed.ensures ∙ ap (put (registers_of b.lane.registers) c.args.rd) value in
-    subst (λ (q : Region). LeavesBehind (load (program_of p) (lane_of b.lane at) n c.args.kind c.args.rd a q) p at (record b.lane { registers = c.set-in-Some-load_fixed.new.self }) b.local) (sym (memory_region a c.in-Some-load_fixed.ensures.value.1))
+    subst (λ (q : Region). LeavesBehind (load (program_of p) (lane_of b.lane at) n c.args.kind c.args.rd a q) (ground_of b.local) at (record b.lane { registers = c.set-in-Some-load_fixed.new.self }) b.local) (sym (memory_region a c.in-Some-load_fixed.ensures.value.1))
     (record {
       lane = λ t. record (lane_of b.lane at) { registers = registers t };
       local = refl;
-      program_same = refl;
+      ground_same = refl;
     })

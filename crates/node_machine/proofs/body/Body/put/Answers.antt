@@ -1,18 +1,40 @@
-use Rattle.std.proofs.Common.{◌≡◌, ℕ, true, sym, ap, ◌∙◌, refl, subst, arith, Some}
-use Rattle.std.proofs.lemmas.Bool.Decides.{nat_tests}
+use Rattle.std.proofs.Common.{◌≡◌, ◌+◌, ℕ, true, false, sym, ap, ◌∙◌, refl, subst, Some}
 use Rattle.exec_map.specs.Contents.{program_of}
-use Rattle.node_machine.specs.Node.{Next, go_on, lane_after_call, is_mapped_state}
-use Rattle.node_machine.specs.Kept.{Does, local_of, lane_of}
-use Rattle.node_machine.proofs.StepLemmas.{put_mapped}
+use Rattle.node_model.specs.Node.{Outcome, Next, go_on, lane_after_call, put_byte, is_mapped_state, is_readable_state}
+use Rattle.node_machine.specs.Kept.{ground_of, Does, local_of, lane_of}
+use Rattle.node_machine.specs.declared.lane.Move.TheVariants as again
+use Rattle.node_machine.proofs.StepLemmas.{put_mapped, put_unmapped, put_waits}
 use Rattle.node_machine.proofs.body.Body.put.Goals as goal
 
-pub returns-then-state-eq-UNMAPPED-clause-does : goal.returns-then-state-eq-UNMAPPED-clause-does
-returns-then-state-eq-UNMAPPED-clause-does c at =
+pub returns-then-not-is_mapped-clause-does : goal.returns-then-not-is_mapped-clause-does
+returns-then-not-is_mapped-clause-does c at =
     let b = c.args.self.now in
-    let is = sym c.state.ensures.value ∙ c.if-state-eq-UNMAPPED.true in
-    let written = c.cut_short.ensures in
+    let program = program_of b.local.program in
     let l = lane_of b.lane at in
-    rw is (subst (λ (x : ℕ). Does (go_on (lane_after_call l x) (local_of b.local) Next) b.local.program at c.return_with.new.self.lane c.return_with.new.self.local c.return_with.result) written (c.return_with.ensures.does at))
+    let n = local_of b.local in
+    let x = c.state-state.result in
+    let mapped : is_mapped_state x ≡ false = sym c.is_mapped.ensures ∙ c.if-not-is_mapped.true in
+    let is = sym (put_unmapped program l n c.args.address x mapped) ∙ ap (put_byte program l n c.args.address) c.state-state.ensures in
+    subst (λ (o : Outcome). Does o (ground_of b.local) at c.return_with.new.self.lane c.return_with.new.self.local c.return_with.result) is
+    (subst (λ (v : ℕ). Does (go_on (lane_after_call l v) n Next) (ground_of b.local) at c.return_with.new.self.lane c.return_with.new.self.local c.return_with.result) c.cut_short.ensures (c.return_with.ensures.does at))
+
+pub returns-then-not-is_readable-clause-does : goal.returns-then-not-is_readable-clause-does
+returns-then-not-is_readable-clause-does c at =
+    let b = c.args.self.now in
+    let program = program_of b.local.program in
+    let l = lane_of b.lane at in
+    let n = local_of b.local in
+    let x = c.state-state.result in
+    let mapped : is_mapped_state x ≡ true = sym c.is_mapped.ensures ∙ c.if-not-is_mapped.false in
+    let readable : is_readable_state x ≡ false = sym c.is_readable.ensures ∙ c.if-not-is_readable.true in
+    let is = sym (put_waits program l n c.args.address x mapped readable) ∙ ap (put_byte program l n c.args.address) c.state-state.ensures in
+    subst (λ (o : Outcome). Does o (ground_of b.local) at b.lane b.local c.wait_for.result) is
+    (rw c.wait_for.ensures (record {
+      leaves = record { lane = refl; local = refl; ground_same = refl };
+      output = refl;
+      tally = refl;
+      move = refl;
+    }))
 
 pub returns-clause-does : goal.returns-clause-does
 returns-clause-does c at =
@@ -20,14 +42,13 @@ returns-clause-does c at =
     let program = program_of b.local.program in
     let l = lane_of b.lane at in
     let n = local_of b.local in
-    let a = c.args.address in
-    let x = c.state.result in
-    let mapped : is_mapped_state x ≡ true = grind (arith, nat_tests) in
-    let readable = c.state.ensures.readable mapped in
-    let prints = put_mapped program l n a x mapped readable in
-    rw (← c.state.ensures.value, prints)
+    let x = c.state-state.result in
+    let mapped : is_mapped_state x ≡ true = sym c.is_mapped.ensures ∙ c.if-not-is_mapped.false in
+    let readable : is_readable_state x ≡ true = sym c.is_readable.ensures ∙ c.if-not-is_readable.false in
+    let is = sym (put_mapped program l n c.args.address x mapped readable) ∙ ap (put_byte program l n c.args.address) c.state-state.ensures in
+    subst (λ (o : Outcome). Does o (ground_of b.local) at (record b.lane { written = b.lane.written + 1 }) b.local (record { output = Some c.byte-byte.result; false_miss = false; next = again.Again })) is
     (record {
-      leaves = record { lane = refl; local = refl; program_same = refl };
+      leaves = record { lane = refl; local = refl; ground_same = refl };
       output = ap (λ (v : ℕ). Some v) (c.byte-byte.ensures at);
       tally = refl;
       move = refl;

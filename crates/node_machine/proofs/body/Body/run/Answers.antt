@@ -1,12 +1,12 @@
 use Rattle.std.proofs.Common.{refl, ◌∙◌, arith}
-use Rattle.node_machine.proofs.GoingLemmas.{body_starts, body_more}
+use Rattle.node_machine.proofs.WordLemmas.{body_starts, body_more}
 use Rattle.node_machine.proofs.body.Body.run.Goals as goal
 
 pub loop-words-init : goal.loop-words-init
 loop-words-init c = record {
   words = body_starts c.args.image.now c.args.most c.args.from c.args.self.now;
   most = omega arith;
-  program = refl;
+  ground = refl;
   counts = refl;
 }
 
@@ -15,8 +15,8 @@ loop-words-preserved c =
     let l = c.loop-words in
     record {
       words = body_more c.args.image.now c.args.most c.args.from l.words l.at c.in-Some.next c.args.self.now l.self c.step_at.new.self
-          c.loop-words-test.true l.invariant.program c.step_at.ensures.counts l.invariant.words c.in-Some.ensures.steps;
+          c.loop-words-test.true l.invariant.ground l.invariant.words c.in-Some.ensures.steps;
       most = omega (arith, c.loop-words-test.true);
-      program = c.in-Some.ensures.steps.program_same ∙ l.invariant.program;
+      ground = c.in-Some.ensures.steps.ground_same ∙ l.invariant.ground;
       counts = c.step_at.ensures.counts ∙ l.invariant.counts;
     }

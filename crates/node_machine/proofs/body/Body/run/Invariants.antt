@@ -1,12 +1,13 @@
 use Rattle.std.proofs.Common.{◌≡◌, ◌-◌, ◌≤◌}
 use Rattle.node_machine.specs.GoingOn.{BodyGoesOn}
+use Rattle.node_machine.specs.Kept.{ground_of}
 use Rattle.node_machine.proofs.body.Body.run.Given as goal
 
 abbrev pub invariant-loop-words : goal.invariant-loop-words
 invariant-loop-words l = record {
   words : BodyGoesOn l.image l.most l.from l.initial.self l.words l.at l.self;
   most : l.words ≤ l.most;
-  program : l.self.local.program ≡ l.initial.self.local.program;
+  ground : ground_of l.self.local ≡ ground_of l.initial.self.local;
   counts : l.self.counts ≡ l.initial.self.counts;
 }
 

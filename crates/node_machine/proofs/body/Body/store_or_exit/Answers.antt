@@ -1,7 +1,7 @@
 use Rattle.std.proofs.Common.{◌≡◌, true, sym, ap, ◌∙◌}
 use Rattle.rv32_decode.specs.Widths.{is_aligned}
 use Rattle.exec_map.specs.Contents.{program_of}
-use Rattle.node_machine.specs.Node.{region_of}
+use Rattle.node_model.specs.Node.{region_of}
 use Rattle.node_machine.specs.Kept.{lane_of, local_of, tally_of, move_of}
 use Rattle.node_machine.specs.declared.lane.Outcome.{Outcome}
 use Rattle.node_machine.proofs.StepLemmas.{store_next}

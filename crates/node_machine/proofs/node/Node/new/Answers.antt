@@ -1,14 +1,19 @@
-use Rattle.std.proofs.Common.{◌≡◌, ℕ, List, [], ◌∷◌, Option, None, get_or, zero, suc, ap, sym, ◌∙◌, subst, refl}
+use Rattle.std.proofs.Common.{◌≡◌, ℕ, List, [], ◌∷◌, Option, get_or, replicate, false, zero, suc, ap, sym, ◌∙◌, subst, refl}
 use Rattle.std.specs.Prelude.{unwrap_or, slice_index}
 use Rattle.std.proofs.Math.Path.{fun_ext}
 use Rattle.elf32_read.specs.Elf.{Elf}
+use Rattle.block_layout.specs.Layout.{Shape}
 use Rattle.rv32_step.specs.Registers.{registers_of, first_values}
 use Rattle.exec_map.specs.Contents.{program_of}
-use Rattle.jump_map.specs.Image.{Cell}
 use Rattle.jump_map.specs.Maps.{new_of}
+use Rattle.home_directory.specs.Effects.{entry_at, members}
+use Rattle.miss_handlers.specs.Waits.{wait_of}
 use Rattle.node_machine.specs.declared.body.Body.{Body}
-use Rattle.node_machine.specs.Node.{Running, opening_node, first_local}
-use Rattle.node_machine.specs.Kept.{NodeView, node_of, work_of}
+use Rattle.node_model.specs.Node.{Node, Work, Running, opening_node}
+use Rattle.node_machine.specs.Kept.{local_of, lane_of}
+use Rattle.node_machine.specs.Frame.{layout_of, entries_in}
+use Rattle.node_machine.specs.Address.{word_address}
+use Rattle.node_machine.proofs.OpeningLemmas.{opening_entries, none_of}
 use Rattle.node_machine.proofs.node.Node.new.Goals as goal
 
 abbrev three_zeros : List ℕ
@@ -23,43 +28,54 @@ three_zeros_get (suc (suc (suc k))) = refl
 three_zeros_are : slice_index three_zeros ≡ (λ _. 0)
 three_zeros_are = fun_ext three_zeros_get
 
-abbrev view_by : List Cell → ℕ → ℕ → ℕ → Body → NodeView
-view_by image nodes budget at b = record {
-  program = b.local.program;
-  image = image;
-  nodes = nodes;
-  budget = budget;
-  lane = b.lane;
-  shelf = b.local;
-  counts = b.counts;
-  at = at;
-  executed = 0;
-  end = None;
-}
-
 pub returns-clause-opening : goal.returns-clause-opening
 returns-clause-opening c =
     let image = c.args.image.now in
-    let view : Body → NodeView = view_by image c.args.nodes c.args.budget c.index_of.result in
+    let l = c.args.layout.now in
+    let me = c.args.me in
     let first = c.in_ok-first.ensures in
-    let program = c.in_ok-first.field-0.program in
+    let d = c.in_ok-new.field-0 in
     let entry = c.entry.ensures.value ∙ ap (λ (e : Elf). (program_of e).entry) (sym first.program) in
     let at = c.index_of.ensures ∙ c.unwrap_or.ensures ∙ ap (λ (o : Option ℕ). unwrap_or o 0) (c.new_of.ensures.value ∙ ap (new_of image) entry) in
-    let registers = ap registers_of (c.first.ensures ∙ ap (first_values c.args.me) c.number.ensures.value) in
-    let private = c.in_ok-zeros.ensures.zeros in
-    let local = first.local ∙ ap (λ (e : Elf). first_local (program_of e)) (sym first.program) in
-    subst (λ (b : Body). node_of (view b) ≡ opening_node (work_of (view b)) c.args.me) (sym c.in_ok-new.ensures.ok)
+    let registers = ap registers_of (c.first.ensures ∙ ap (first_values me) (c.nodes.ensures.nodes ∙ sym (ap (λ (z : Shape). z.nodes) first.layout))) in
+    let work : Work = record { program = program_of c.in_ok-first.field-0.program; image = image; layout = c.in_ok-first.field-0.copy.layout; budget = c.args.budget } in
+    let local = first.local work (ap program_of first.program) first.layout in
+    let work_by : Body → Work = λ b. record { program = program_of b.local.program; image = image; layout = layout_of b; budget = c.args.budget } in
+    let node_by : Body → Node = λ b. record {
+      me = d.me;
+      lane = lane_of b.lane (word_address c.index_of.result);
+      local = local_of b.local;
+      executed = 0;
+      phase = Running;
+      entry = entries_in d.layout d.me (entry_at d.entries);
+      waiting = d.waiting;
+      wait = wait_of c.in_ok-new-2.field-0;
+      byes = members (replicate 256 false);
+      stamp = 0;
+      journal = c.new-5.result.items;
+      output = c.new-6.result.items;
+      counts = b.counts;
+    } in
+    subst (λ (b : Body). node_by b ≡ opening_node (work_by b) me) (sym c.in_ok-new-4.ensures.ok)
     (λ t. record {
+      me = c.in_ok-new.ensures.me t;
       lane = record {
         registers = registers t;
         at = at t;
-        private = private t;
+        private = c.in_ok-zeros.ensures.zeros t;
         written = 0;
         off = 0;
         spills = three_zeros_are t;
       };
       local = local t;
-      counts = (opening_node (work_of (view_by image c.args.nodes c.args.budget c.index_of.result c.in_ok-new.field-0.value)) c.args.me).counts;
       executed = 0;
       phase = Running;
+      entry = opening_entries d l me c.in_ok-new.ensures.layout c.in_ok-new.ensures.me c.in_ok-new.ensures.entries t;
+      waiting = c.in_ok-new.ensures.waiting t;
+      wait = ap wait_of c.in_ok-new-2.ensures t;
+      byes = fun_ext (none_of 256) t;
+      stamp = 0;
+      journal = c.new-5.ensures.items t;
+      output = c.new-6.ensures.items t;
+      counts = (opening_node work me).counts;
     })

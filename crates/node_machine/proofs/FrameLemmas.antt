@@ -1,0 +1,151 @@
+-- A node's events, by what it stores.
+use Rattle.std.proofs.Common.{◌≡◌, ◌≢◌, ℕ, zero, suc, ◌+◌, ◌<◌, ◌≤◌, Bool, true, false, cond, eqb, List, [], ◌++◌, Option, refl, sym, ap, ◌∙◌, subst, inl, inr, arith}
+use Rattle.std.proofs.lemmas.Bool.Decides.{eqb_tells, nat_tests}
+use Rattle.rv32_program.specs.declared.End.TheVariants.{Stopped}
+use Rattle.exec_map.specs.Contents.{program_of}
+use Rattle.home_directory.specs.declared.messages.Post.{Post}
+use Rattle.node_model.specs.declared.NodeCounts.{NodeCounts}
+use Rattle.node_machine.specs.declared.body.Body.{Body}
+use Rattle.node_machine.specs.declared.desk.Desk.{Desk}
+use Rattle.node_machine.specs.declared.frame.Frame.{Frame}
+use Rattle.node_machine.specs.declared.serve.Served as kept_served
+use Rattle.node_machine.specs.declared.serve.Following.{Following}
+use Rattle.node_machine.specs.declared.serve.Following.TheVariants as following_by
+use Rattle.node_machine.specs.Address.{word_address}
+use Rattle.node_model.specs.Node.{Node, Work, Phase, Running, Resumed, Waiting, Ended, Tally, Nothing_counted, FalseMiss, can_execute, counts_after, stop_at, stop_or, word_outcome}
+use Rattle.node_model.specs.Turns.{quiet, want_all, with_byes, byes_to, is_ended, word_turn}
+use Rattle.node_machine.specs.Kept.{Ground, Follows, Serves, phase_by, wants_by, ground_of, lane_of, local_of}
+use Rattle.node_machine.specs.Frame.{work_of, node_of, layout_of, with_parts, AreCountsBelow, WaitsInPhase, HasBegun}
+use Rattle.node_machine.specs.Desk.{turn_by}
+use Rattle.node_machine.specs.GoingOn.{phase_on}
+use Rattle.node_machine.proofs.WordLemmas.{ending, moved, served_node, hot_turn, cold_turn}
+
+-- 1. Turns
+
+pub byes_by : (nodes : ℕ) (n : Node) (posts : List Post) (p : Option ℕ) (t : Bool)
+    → turn_by n (cond t (posts ++ byes_to nodes) posts) p ≡ with_byes nodes (turn_by n posts p) t
+byes_by nodes n posts p true = refl
+byes_by nodes n posts p false = refl
+
+-- what a frame stands for, with another body
+abbrev pub work_at : Frame → Body → Work
+work_at i b = record {
+  program = program_of b.local.program;
+  image = i.image.now;
+  layout = layout_of b;
+  budget = i.budget;
+}
+
+abbrev pub node_at : Frame → Body → Node
+node_at i b = record (node_of i) {
+  lane = lane_of b.lane (word_address i.at);
+  local = local_of b.local;
+  counts = b.counts;
+}
+
+-- after a word that printed and wanted nothing
+pub passed_turn : (i : Frame) (b : Body) (k : ℕ)
+    → Follows i.image.now (word_outcome (work_of i) (node_of i)) (ground_of i.body.value.local) (word_address k) b.lane b.local
+    → b.counts ≡ i.body.value.counts
+    → ending (layout_of b).nodes (quiet (record (moved (work_of i) (node_of i) b.lane b.local k) { counts = b.counts }))
+    ≡ word_turn (work_of i) (node_of i)
+passed_turn i b k f counts =
+    (λ t. ending ((f.ground_same t).layout.nodes) (quiet (record (moved (work_of i) (node_of i) b.lane b.local k) { counts = counts t })))
+    ∙ sym (hot_turn (work_of i) (node_of i) (ground_of i.body.value.local) b.lane b.local k f)
+
+-- after a word that was served, and whose wants were asked for
+pub served_turn : (i : Frame) (b b' : Body) (d : Desk) (done : kept_served.Served) (posts : List Post) (last : Node)
+    → Serves i.image.now (word_outcome (work_of i) (node_of i)) (ground_of i.body.value.local) i.body.value.counts b.lane b.local b.counts done
+    → ((m : Node) (p : Option ℕ) → want_all (layout_of b) (turn_by (with_parts m b i.desk) [] p) (wants_by done.following)
+    ≡ turn_by (with_parts m b' d) posts p)
+    → last ≡ with_parts (served_node (work_of i) (node_of i) b.lane b.local b.counts done) b' d
+    → ending (layout_of i.body.value).nodes (turn_by last posts done.output) ≡ word_turn (work_of i) (node_of i)
+served_turn i b b' d done posts last s ask is =
+    let before = served_node (work_of i) (node_of i) b.lane b.local b.counts done in
+    let wants : want_all (layout_of i.body.value) (turn_by before [] done.output) (wants_by done.following) ≡ turn_by last posts done.output =
+    ap (λ (g : Ground). want_all g.layout (turn_by before [] done.output) (wants_by done.following)) (sym s.ground_same)
+    ∙ ask before done.output
+    ∙ ap (λ (x : Node). turn_by x posts done.output) (sym is) in
+    sym (cold_turn (work_of i) (node_of i) (ground_of i.body.value.local) b.lane b.local b.counts done s
+    ∙ ap (ending (layout_of i.body.value).nodes) wants)
+
+-- 2. What is true of every node
+
+pub counts_up : (m k : ℕ) (c : NodeCounts) → m ≤ k → AreCountsBelow m c → AreCountsBelow k c
+counts_up m k c h a = record {
+  read = let x = a.read in omega (arith, h, x);
+  exclusive = let x = a.exclusive in omega (arith, h, x);
+  upgrade = let x = a.upgrade in omega (arith, h, x);
+  falses = let x = a.falses in omega (arith, h, x);
+  invalidations = let x = a.invalidations in omega (arith, h, x);
+  messages = let x = a.messages in omega (arith, h, x);
+}
+
+tally_below : (t : Tally) (m : ℕ) (c : NodeCounts) → AreCountsBelow m c → AreCountsBelow (m + 1) (counts_after t c)
+tally_below Nothing_counted m c a = counts_up m (m + 1) c (omega arith) a
+tally_below FalseMiss m c a =
+    let up = counts_up m (m + 1) c (omega arith) a in
+    let x = a.falses in
+    record {
+      read = up.read;
+      exclusive = up.exclusive;
+      upgrade = up.upgrade;
+      falses = omega (arith, x);
+      invalidations = up.invalidations;
+      messages = up.messages;
+    }
+
+pub served_below : (t : Tally) (m : ℕ) (c c' : NodeCounts) → c' ≡ counts_after t c → AreCountsBelow m c → AreCountsBelow (m + 1) c'
+served_below t m c c' is a = subst (AreCountsBelow (m + 1)) (sym is) (tally_below t m c a)
+
+-- a processor whose budget isn't used up runs, and another is stopped
+pub still_runs : (budget executed : ℕ) (p : Phase) → p ≡ stop_at budget executed → executed ≤ budget
+    → can_execute p ≡ true → executed < budget
+still_runs budget executed p is within may = elim (eqb_tells executed budget) [
+  | inl e ↦
+      (let stopped : stop_at budget executed ≡ Ended (Stopped budget) = rw e.0 refl in
+      let both : true ≡ false = sym may ∙ ap can_execute (is ∙ stopped) in
+      absurd (cc))
+  | inr e ↦ (let apart = e.1 in lt_of executed budget within apart)
+]
+  where
+    lt_of : (x y : ℕ) → x ≤ y → x ≢ y → x < y
+    lt_of x y a b = grind (arith, nat_tests)
+
+pub may_waits : (p : Phase) (w : ℕ) → can_execute p ≡ true → WaitsInPhase p w → w ≡ 0
+may_waits Running w may h = h
+may_waits Resumed w may h = h
+may_waits (Waiting r) w may h = absurd (cc)
+may_waits (Ended e) w may h = absurd (cc)
+
+pub stop_waits : (budget executed w : ℕ) (p q : Phase) → p ≡ stop_or budget executed q → w ≡ 0 → WaitsInPhase q w → WaitsInPhase p w
+stop_waits budget executed w p q is none h = subst (λ (x : Phase). WaitsInPhase x w) (sym is) (go (eqb executed budget))
+  where
+    go : (t : Bool) → WaitsInPhase (cond t (Ended (Stopped budget)) q) w
+    go true = none
+    go false = h
+
+pub on_waits : (p : Phase) (k w : ℕ) → can_execute p ≡ true → WaitsInPhase p w → WaitsInPhase (phase_on p k) w
+on_waits p zero w may h = h
+on_waits p (suc k) w may h = may_waits p w may h
+
+pub begun_waits : (budget executed w : ℕ) (following : Following) → HasBegun following w → WaitsInPhase (phase_by budget executed following) w
+begun_waits budget executed w following_by.GoesOn h = stop_waits budget executed w (stop_at budget executed) Running refl h h
+begun_waits budget executed w (following_by.Waits r want) h = h
+begun_waits budget executed w (following_by.Leaves e) h = h
+
+-- a processor that may go on after a word has words left
+pub following_runs : (budget executed : ℕ) (following : Following) (p : Phase) → p ≡ phase_by budget executed following
+    → executed ≤ budget → can_execute p ≡ true → executed < budget
+following_runs budget executed following_by.GoesOn p is within may = still_runs budget executed p is within may
+following_runs budget executed (following_by.Waits r want) p is within may =
+    let both : true ≡ false = sym may ∙ ap can_execute is in absurd (cc)
+following_runs budget executed (following_by.Leaves e) p is within may =
+    let both : true ≡ false = sym may ∙ ap can_execute is in absurd (cc)
+
+-- a word that ends its processor wants nothing
+pub ended_quiet : (budget executed : ℕ) (following : Following) → is_ended (phase_by budget executed following) ≡ true
+    → wants_by following ≡ []
+ended_quiet budget executed following_by.GoesOn e = refl
+ended_quiet budget executed (following_by.Waits r want) e = absurd (cc)
+ended_quiet budget executed (following_by.Leaves x) e = refl

@@ -1,0 +1,147 @@
+-- A word that waits wants what its node doesn't meet.
+use Rattle.std.proofs.Common.{◌≡◌, ℕ, ◌%◌, ◌*◌, ◌/◌, Bool, true, false, not, ◌&&◌, eqb, cond, List, Option, Some, None, refl, sym, subst}
+use Rattle.std.specs.Prelude.{pos}
+use Rattle.rv32_program.specs.Targets.{offset_address}
+use Rattle.rv32_program.specs.declared.Exit.TheVariants.{Misaligned}
+use Rattle.rv32_step.specs.Registers.{reg}
+use Rattle.rv32_step.specs.OneMemory.{next_pc}
+use Rattle.rv32_decode.specs.Widths.{is_aligned, width_of}
+use Rattle.rv32_decode.specs.declared.Width.{Width}
+use Rattle.rv32_decode.specs.declared.Width.TheVariants.{Word}
+use Rattle.rv32_decode.specs.declared.LoadKind.TheVariants.{Word as WordLoad}
+use Rattle.rv32_ops.specs.Operations.{amo}
+use Rattle.rv32_program.specs.Program.{Program, line_of}
+use Rattle.rv32_step.specs.declared.Demand.{Demand}
+use Rattle.rv32_step.specs.declared.Demand.TheVariants.{Sets, Continues, Jumps, Branches, Loads, Stores, Calls, Traps, Reserves, StoresIf, Updates}
+use Rattle.rv32_step.specs.declared.CallStep.{CallStep}
+use Rattle.rv32_step.specs.declared.CallStep.TheVariants.{Ends, Returns, Puts}
+use Rattle.rv32_step.specs.Demands.{demand_of, call_step}
+use Rattle.rv32_step.specs.Memory.{load_value}
+use Rattle.templates.specs.declared.runtime_words.RtWord.{RtWord}
+use Rattle.templates.specs.declared.runtime_words.RtWord.TheVariants.{Native, MissR, MissW, Poll, Call, Xjalr, Prepare, TrapFetch, TrapOff, TrapIllegal, TrapEbreak}
+use Rattle.templates.specs.declared.places.Place.{Place}
+use Rattle.jump_map.specs.declared.image.ImageWord.{ImageWord}
+use Rattle.jump_map.specs.Maps.{fetch}
+use Rattle.llsc.specs.Reservation.{holds}
+use Rattle.node_model.specs.Node.{Node, Work, Lane, Local, Outcome, Move, Next, Enters, Want, set_register, native, store, load, region_of, go_on, exit_by, put_byte, make_call, miss_r, miss_r_by, miss_w, miss_w_by, prepare, prepare_by, indirect, execute, execute_read, execute_at, place_address, word_outcome, is_mapped_state, is_readable_state, is_fixed_state, is_writable_state, store_if, byte_at}
+use Rattle.node_model.specs.Turns.{wants_of}
+use Rattle.node_machine.specs.Desk.{AreUnmet}
+use Rattle.node_machine.proofs.StepLemmas.{load_next, store_next}
+
+-- an outcome's wants are unmet in what words see after it
+abbrev IsUnmet : Outcome → Type 0
+IsUnmet o = AreUnmet o.local (wants_of o.move)
+
+by_test : (t : Bool) (x y : Outcome) → IsUnmet x → IsUnmet y → IsUnmet (cond t x y)
+by_test true x y px py = px
+by_test false x y px py = py
+
+-- where the test's result is needed
+by_case : (t : Bool) (x y : Outcome) → (t ≡ true → IsUnmet x) → (t ≡ false → IsUnmet y) → IsUnmet (cond t x y)
+by_case true x y px py = px refl
+by_case false x y px py = py refl
+
+wants_nothing : (o : Outcome) → o.move ≡ Next → IsUnmet o
+wants_nothing o is = subst (λ (m : Move). AreUnmet o.local (wants_of m)) (sym is) tt
+
+store_if_quiet : (program : Program) (l : Lane) (n : Local) (r a value : ℕ) (t : Bool) → IsUnmet (store_if program l n r a value t)
+store_if_quiet program l n r a value true = wants_nothing (store_if program l n r a value true) (store_next program l n Word a value (region_of a)).0
+store_if_quiet program l n r a value false = tt
+
+native_quiet : (program : Program) (place at : ℕ) (l : Lane) (n : Local) (d : Demand) → IsUnmet (native program place at l n d)
+native_quiet program place at l n (Sets r value) = tt
+native_quiet program place at l n Continues = tt
+native_quiet program place at l n (Jumps r target) = by_test (eqb (target % 4) 0) _ _ tt tt
+native_quiet program place at l n (Branches target) = by_test (eqb (target % 4) 0) _ _ tt tt
+native_quiet program place at l n (Loads k r a) = by_test (is_aligned (width_of k) a) _ _
+    (wants_nothing (load program l n k r a (region_of a)) (load_next program l n k r a (region_of a)).0) tt
+native_quiet program place at l n (Stores w a value) = by_test (is_aligned w a) _ _
+    (wants_nothing (store program l n w a value (region_of a)) (store_next program l n w a value (region_of a)).0) tt
+native_quiet program place at l n Calls = tt
+native_quiet program place at l n (Traps e) = tt
+native_quiet program place at l n (Reserves r a) = by_test (is_aligned Word a) _ _
+    (subst (λ (m : Move). AreUnmet (record (load program l n WordLoad r a (region_of a)).local { reservation = Some a }) (wants_of m))
+    (sym (load_next program l n WordLoad r a (region_of a)).0) tt) tt
+native_quiet program place at l n (StoresIf r a value) = by_test (is_aligned Word a) _ _
+    (store_if_quiet program l n r a value (holds n.reservation a)) tt
+native_quiet program place at l n (Updates o r a value) = by_test (is_aligned Word a) _ _
+    (subst (λ (m : Move). AreUnmet (store program l n Word a (amo o (load_value WordLoad (byte_at program l n) a) value) (region_of a)).local (wants_of m))
+    (sym (store_next program l n Word a (amo o (load_value WordLoad (byte_at program l n) a) value) (region_of a)).0) tt) tt
+
+unmet_read : (s : ℕ) → is_mapped_state s ≡ true → is_readable_state s ≡ false → (is_mapped_state s && not (is_readable_state s)) ≡ true
+unmet_read s m r = λ t. m t && not (r t)
+
+unmet_write : (s : ℕ) → is_fixed_state s ≡ false → is_writable_state s ≡ false → (not (is_fixed_state s) && not (is_writable_state s)) ≡ true
+unmet_write s f w = λ t. not (f t) && not (w t)
+
+put_unmet : (program : Program) (l : Lane) (n : Local) (a : ℕ) → IsUnmet (put_byte program l n a (n.state (line_of a)))
+put_unmet program l n a =
+    let s = n.state (line_of a) in
+    by_case (is_mapped_state s) _ _ (λ m. by_case (is_readable_state s) _ _ (λ r. tt) (λ r. (unmet_read s m r, tt))) (λ m. tt)
+
+call_unmet : (program : Program) (l : Lane) (n : Local) (s : CallStep) → IsUnmet (make_call program l n s)
+call_unmet program l n (Ends code) = tt
+call_unmet program l n (Returns value) = tt
+call_unmet program l n (Puts a) = put_unmet program l n a
+
+read_unmet : (place : ℕ) (l : Lane) (n : Local) (a : ℕ) → IsUnmet (miss_r_by (n.state (line_of a)) place l n a)
+read_unmet place l n a =
+    let s = n.state (line_of a) in
+    by_case (is_mapped_state s) _ _ (λ m. by_case (is_readable_state s) _ _ (λ r. tt) (λ r. (unmet_read s m r, tt))) (λ m. tt)
+
+write_unmet : (place : ℕ) (l : Lane) (n : Local) (a : ℕ) → IsUnmet (miss_w_by (n.state (line_of a)) place l n a)
+write_unmet place l n a =
+    let s = n.state (line_of a) in
+    by_case (is_fixed_state s) _ _ (λ f. tt) (λ f. by_case (is_writable_state s) _ _ (λ w. tt) (λ w. (unmet_write s f w, tt)))
+
+and_not : (a b : Bool) → (a && not b) ≡ true → b ≡ false
+and_not true true e = cc
+and_not true false e = refl
+and_not false true e = cc
+and_not false false e = refl
+
+prepare_unmet : (place : ℕ) (l : Lane) (n : Local) (a : ℕ) → IsUnmet (prepare_by (n.state (line_of a)) place l n a)
+prepare_unmet place l n a =
+    let s = n.state (line_of a) in
+    by_case (is_fixed_state s) _ _ (λ f. tt) (λ f. by_case (holds n.reservation a && not (is_writable_state s)) _ _
+    (λ w. (unmet_write s f (and_not (holds n.reservation a) (is_writable_state s) w), tt)) (λ w. tt))
+
+miss_r_unmet : (place : ℕ) (l : Lane) (n : Local) (w : Width) (a : ℕ) → IsUnmet (miss_r place l n w a)
+miss_r_unmet place l n w a = by_test (is_aligned w a) (miss_r_by (n.state (line_of a)) place l n a) (exit_by l n (Misaligned place)) (read_unmet place l n a) tt
+
+miss_w_unmet : (place : ℕ) (l : Lane) (n : Local) (w : Width) (a : ℕ) → IsUnmet (miss_w place l n w a)
+miss_w_unmet place l n w a = by_test (is_aligned w a) (miss_w_by (n.state (line_of a)) place l n a) (exit_by l n (Misaligned place)) (write_unmet place l n a) tt
+
+prepared_unmet : (place : ℕ) (l : Lane) (n : Local) (a : ℕ) → IsUnmet (prepare place l n a)
+prepared_unmet place l n a = by_test (is_aligned Word a) (prepare_by (n.state (line_of a)) place l n a) (exit_by l n (Misaligned place)) (prepare_unmet place l n a) tt
+
+indirect_quiet : (place : ℕ) (l : Lane) (n : Local) (rd target : ℕ) → IsUnmet (indirect place l n rd target)
+indirect_quiet place l n rd target = by_test (eqb (target % 4) 0) (go_on (set_register l rd (next_pc place)) n (Enters target)) (exit_by l n (Misaligned place)) tt tt
+
+execute_unmet : (program : Program) (place at : ℕ) (w : RtWord) (l : Lane) (n : Local) → IsUnmet (execute program place at w l n)
+execute_unmet program place at (Native i) l n = native_quiet program place at l n (demand_of i l.registers at)
+execute_unmet program place at (MissR w rs1 imm) l n = miss_r_unmet place l n w (offset_address (reg l.registers rs1) imm)
+execute_unmet program place at (MissW w rs1 imm) l n = miss_w_unmet place l n w (offset_address (reg l.registers rs1) imm)
+execute_unmet program place at Poll l n = tt
+execute_unmet program place at Call l n = call_unmet program l n (call_step l.registers l.written)
+execute_unmet program place at (Xjalr rd rs1 imm) l n = indirect_quiet place l n rd (offset_address (reg l.registers rs1) imm / 2 * 2)
+execute_unmet program place at (Prepare rs1) l n = prepared_unmet place l n (offset_address (reg l.registers rs1) (pos 0))
+execute_unmet program place at TrapFetch l n = tt
+execute_unmet program place at TrapOff l n = tt
+execute_unmet program place at TrapIllegal l n = tt
+execute_unmet program place at TrapEbreak l n = tt
+
+read_word_unmet : (program : Program) (place : Option Place) (w : Option RtWord) (l : Lane) (n : Local) → IsUnmet (execute_read program place w l n)
+read_word_unmet program place None l n = tt
+read_word_unmet program place (Some w) l n = execute_unmet program (place_address place) l.at w l n
+
+fetched_unmet : (program : Program) (w : Option ImageWord) (l : Lane) (n : Local) → IsUnmet (execute_at program w l n)
+fetched_unmet program None l n = tt
+fetched_unmet program (Some w) l n = read_word_unmet program w.place w.what l n
+
+pub word_unmet : (work : Work) (n : Node) (after : Local) (wants : List Want) → after ≡ (word_outcome work n).local
+    → wants ≡ wants_of (word_outcome work n).move → AreUnmet after wants
+word_unmet work n after wants is same =
+    subst (λ (x : Local). AreUnmet x wants) (sym is)
+    (subst (λ (ws : List Want). AreUnmet (word_outcome work n).local ws) (sym same)
+    (fetched_unmet work.program (fetch work.image n.lane.at) n.lane n.local))

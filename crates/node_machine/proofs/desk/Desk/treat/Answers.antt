@@ -1,0 +1,34 @@
+use Rattle.std.proofs.Common.{◌≡◌, ◌∙◌, ◌&&◌, ltb, length}
+use Rattle.node_machine.specs.declared.body.Body.{Body}
+use Rattle.node_model.specs.Turns.{count_row}
+use Rattle.node_machine.specs.Desk.{is_order}
+use Rattle.node_machine.proofs.BlockLemmas.{LineLaws}
+use Rattle.node_machine.proofs.DeskLemmas.{counted, routed_turn, routed_few}
+use Rattle.node_machine.proofs.desk.Desk.treat.Goals as goal
+
+pub returns-clause-turn : goal.returns-clause-turn
+returns-clause-turn c n me =
+    let body = c.args.body.now in
+    let d = c.args.self.now in
+    let law = c.layout_law.ensures in
+    let laws : LineLaws = record { ends = law.ends; has = law.has; found = law.found; shared = law.shared; some = law.some } in
+    let body' : Body = record { lane = body.lane; local = c.route-sends.new.local; counts = c.count_row-body.result } in
+    let posts = c.route-sends.result.items in
+    let given : c.gives_up-given.result ≡ (is_order c.args.message && ltb 0 (length posts)) =
+    c.gives_up-given.ensures ∙ (λ t. c.is_order-order.ensures t && ltb 0 (c.len.ensures.value t)) in
+    let counts : c.count_row-body.result ≡ counted c.args.message posts body.counts =
+    c.count_row-body.ensures ∙ (λ t. count_row (given t) (c.len-2.ensures.value t) body.counts) in
+    routed_turn laws body body' d c.route-sends.new.self posts c.args.from c.requires.desk c.laws.ensures c.laws-2.ensures
+    c.args.message n me counts c.route-sends.ensures.routed
+
+pub returns-clause-few : goal.returns-clause-few
+returns-clause-few c =
+    let body = c.args.body.now in
+    let body' : Body = record { lane = body.lane; local = c.route-sends.new.local; counts = c.count_row-body.result } in
+    (routed_few body body' c.args.self.now c.route-sends.new.self c.route-sends.result.items c.args.message c.args.from c.route-sends.ensures.routed).0
+
+pub returns-clause-none : goal.returns-clause-none
+returns-clause-none c =
+    let body = c.args.body.now in
+    let body' : Body = record { lane = body.lane; local = c.route-sends.new.local; counts = c.count_row-body.result } in
+    (routed_few body body' c.args.self.now c.route-sends.new.self c.route-sends.result.items c.args.message c.args.from c.route-sends.ensures.routed).1

@@ -1,0 +1,73 @@
+use Rattle.std.proofs.Common.{◌≡◌, ◌∙◌, ap, sym, refl, [], ◌∷◌, Option, Some, None}
+use Rattle.home_directory.specs.declared.messages.Post.{Post}
+use Rattle.home_directory.specs.Table.{Miss}
+use Rattle.state_table.specs.States.{state_of}
+use Rattle.miss_handlers.specs.Effects.{miss_of, post_of}
+use Rattle.node_model.specs.declared.NodeCounts.{NodeCounts}
+use Rattle.home_directory.specs.declared.messages.Need.{Need}
+use Rattle.state_table.specs.declared.State.{State}
+use Rattle.node_machine.specs.declared.body.Body.{Body}
+use Rattle.node_machine.specs.declared.desk.Desk.{Desk}
+use Rattle.node_model.specs.Turns.{count_want}
+use Rattle.node_machine.proofs.BlockLemmas.{LineLaws}
+use Rattle.node_machine.proofs.DeskLemmas.{HasWanted, want_turn, posts_of, counts_if}
+use Rattle.node_machine.proofs.desk.Desk.want_block.Goals as goal
+
+none_post : (miss : Option Miss) → None ≡ post_of miss → miss ≡ None
+none_post None e = refl
+none_post (Some m) e = absurd (cc)
+
+some_post : (miss : Option Miss) (p : Post) → Some p ≡ post_of miss → posts_of miss ≡ p ∷ []
+some_post None p e = absurd (cc)
+some_post (Some m) p e = cc
+
+some_counts : (miss : Option Miss) (p : Post) (need : Need) (st : State) (c : NodeCounts) → Some p ≡ post_of miss
+    → counts_if miss need st c ≡ count_want need st c
+some_counts None p need st c e = absurd (cc)
+some_counts (Some m) p need st c e = refl
+
+pub returns-in-None-clause-turn : goal.returns-in-None-clause-turn
+returns-in-None-clause-turn c n p =
+    let body = c.args.body.now in
+    let d = c.args.self.now in
+    let law = c.layout_law.ensures in
+    let laws : LineLaws = record { ends = law.ends; has = law.has; found = law.found; shared = law.shared; some = law.some } in
+    let body' : Body = record { lane = body.lane; local = c.want.new.self; counts = body.counts } in
+    let d' : Desk = record { directory = d.directory; waits = c.want.new.waits; pool = c.want.new.pool } in
+    let miss = miss_of d.waits body.local.states d.pool c.args.block c.args.need in
+    let none : miss ≡ None = none_post miss c.in-None.ensures.post in
+    let w : HasWanted d d' body.local c.want.new.self c.args.block c.args.need c.new.result.items miss = record {
+      sends = c.new.ensures ∙ sym (ap posts_of none);
+      state = c.in-None.ensures.state;
+      wait = c.in-None.ensures.wait;
+      directory = refl;
+      states_layout = c.in-None.ensures.states_layout;
+      classes = c.in-None.ensures.classes;
+      copy = c.in-None.ensures.copy;
+      reservation = c.in-None.ensures.reservation;
+    } in
+    want_turn laws n p body body' d d' c.new.result.items c.args.block c.args.need c.requires.desk c.laws.ensures c.requires.block w
+    (sym (ap (λ (x : Option Miss). counts_if x c.args.need (state_of body.local.states c.args.block) body.counts) none))
+
+pub returns-in-Some-clause-turn : goal.returns-in-Some-clause-turn
+returns-in-Some-clause-turn c n p =
+    let body = c.args.body.now in
+    let d = c.args.self.now in
+    let law = c.layout_law.ensures in
+    let laws : LineLaws = record { ends = law.ends; has = law.has; found = law.found; shared = law.shared; some = law.some } in
+    let body' : Body = record { lane = body.lane; local = c.want.new.self; counts = c.count_want-body.result } in
+    let d' : Desk = record { directory = d.directory; waits = c.want.new.waits; pool = c.want.new.pool } in
+    let miss = miss_of d.waits body.local.states d.pool c.args.block c.args.need in
+    let w : HasWanted d d' body.local c.want.new.self c.args.block c.args.need c.one.result.items miss = record {
+      sends = c.one.ensures ∙ sym (some_post miss c.in-Some.post c.in-Some.ensures.post);
+      state = c.in-Some.ensures.state;
+      wait = c.in-Some.ensures.wait;
+      directory = refl;
+      states_layout = c.in-Some.ensures.states_layout;
+      classes = c.in-Some.ensures.classes;
+      copy = c.in-Some.ensures.copy;
+      reservation = c.in-Some.ensures.reservation;
+    } in
+    want_turn laws n p body body' d d' c.one.result.items c.args.block c.args.need c.requires.desk c.laws.ensures c.requires.block w
+    (c.count_want-body.ensures ∙ ap (λ (x : State). count_want c.args.need x body.counts) c.block_state-state.ensures
+    ∙ sym (some_counts miss c.in-Some.post c.args.need (state_of body.local.states c.args.block) body.counts c.in-Some.ensures.post))

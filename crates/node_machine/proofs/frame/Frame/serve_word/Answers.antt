@@ -1,0 +1,129 @@
+use Rattle.std.proofs.Common.{◌≡◌, ◌+◌, ◌*◌, ◌≤◌, ◌∙◌, ap, sym, subst, length, ℕ, [], Option, ◌^◌, arith}
+use Rattle.block_layout.specs.Layout.{Shape}
+use Rattle.exec_map.specs.Contents.{program_of}
+use Rattle.home_directory.specs.Effects.{entry_at, members}
+use Rattle.miss_handlers.specs.Waits.{wait_of}
+use Rattle.node_machine.specs.declared.body.Body.{Body}
+use Rattle.node_machine.specs.Address.{word_address}
+use Rattle.node_model.specs.Node.{Node, next_outcome, word_outcome}
+use Rattle.node_model.specs.Turns.{want_all, is_ended}
+use Rattle.node_machine.specs.Kept.{Ground, Serves, ground_of, lane_of, local_of, wants_by}
+use Rattle.node_machine.specs.Frame.{node_of, work_of, layout_of, phase_of, with_parts, entries_in, IsDesk, AreCountsBelow, WaitsInPhase}
+use Rattle.node_machine.specs.Desk.{turn_by, AreUnmet}
+use Rattle.node_machine.proofs.WordLemmas.{ending, served_node}
+use Rattle.node_machine.proofs.FrameLemmas.{served_turn, counts_up, served_below, may_waits, begun_waits, following_runs, ended_quiet}
+use Rattle.node_machine.proofs.UnmetLemmas.{word_unmet}
+use Rattle.node_machine.proofs.frame.Frame.serve_word.Goals as goal
+
+pub serve-served-requires : goal.serve-served-requires
+serve-served-requires c =
+    let i = c.args.self.now in
+    let falses : c.deref_mut.result.now.counts.falses ≤ 18 * i.stamp =
+    subst (λ (b : Body). b.counts.falses ≤ 18 * i.stamp) (sym c.deref_mut.ensures.value) c.requires.node.counts.falses in
+    let stamp = c.requires.stamp in
+    omega (arith, falses, stamp)
+
+pub ask-sends-requires-clause-desk : goal.ask-sends-requires-clause-desk
+ask-sends-requires-clause-desk c =
+    let i = c.args.self.now in
+    let layout = ap layout_of c.deref_mut-2.ensures.value ∙ ap (λ (g : Ground). g.layout) c.serve-served.ensures.ground_same ∙ ap layout_of c.deref_mut.ensures.value in
+    subst (λ (l : Shape). IsDesk l i.desk) (sym layout) c.requires.node.desk
+
+pub ask-sends-requires-clause-idle : goal.ask-sends-requires-clause-idle
+ask-sends-requires-clause-idle c = may_waits (phase_of c.args.self.now.phase) _ c.requires.may c.requires.node.waits
+
+pub ask-sends-requires-clause-counts : goal.ask-sends-requires-clause-counts
+ask-sends-requires-clause-counts c =
+    let i = c.args.self.now in
+    let stamp = c.requires.stamp in
+    let old = subst (λ (b : Body). AreCountsBelow (18 * i.stamp) b.counts) (sym c.deref_mut.ensures.value) c.requires.node.counts in
+    let below = served_below _ (18 * i.stamp) c.deref_mut.result.now.counts c.serve-served.new.self.counts c.serve-served.ensures.counts_after old in
+    subst (λ (b : Body). AreCountsBelow (2 ^ 63) b.counts) (sym c.deref_mut-2.ensures.value)
+    (counts_up (18 * i.stamp + 1) (2 ^ 63) c.serve-served.new.self.counts (omega (arith, stamp)) below)
+
+pub turn-requires : goal.turn-requires
+turn-requires c = record {
+  few = λ ended.
+      let i = c.args.self.now in
+      let quiet = c.ask-sends.ensures.quiet (ended_quiet i.budget (i.executed + 1) c.serve-served.result.following (sym (ap is_ended c.phase_by-self.ensures) ∙ ended)) in
+      let none = ap length quiet in
+      omega (arith, none);
+}
+
+pub returns-clause-turn : goal.returns-clause-turn
+returns-clause-turn c =
+    let i = c.args.self.now in
+    let b = c.serve-served.new.self in
+    let b' = c.ask-sends.new.body in
+    let d = c.ask-sends.new.desk in
+    let done = c.serve-served.result in
+    let posts = c.ask-sends.result.items in
+    let s : Serves i.image.now (word_outcome (work_of i) (node_of i)) (ground_of i.body.value.local) i.body.value.counts b.lane b.local b.counts done =
+    subst (λ (x : Body). Serves i.image.now (next_outcome (program_of x.local.program) i.image.now (lane_of x.lane (word_address i.at)) (local_of x.local))
+    (ground_of x.local) x.counts b.lane b.local b.counts done) c.deref_mut.ensures.value c.serve-served.ensures in
+    let ask : (m : Node) (p : Option ℕ) → want_all (layout_of b) (turn_by (with_parts m b i.desk) [] p) (wants_by done.following)
+    ≡ turn_by (with_parts m b' d) posts p =
+    λ m p. subst (λ (x : Body). want_all (layout_of x) (turn_by (with_parts m x i.desk) [] p) (wants_by done.following)
+    ≡ turn_by (with_parts m b' d) posts p) c.deref_mut-2.ensures.value (c.ask-sends.ensures.turn m p) in
+    let lane = c.ask-sends.ensures.lane ∙ ap (λ (x : Body). x.lane) c.deref_mut-2.ensures.value in
+    let last : Node = record {
+      me = d.directory.me;
+      lane = lane_of b'.lane (word_address done.at);
+      local = local_of b'.local;
+      executed = i.executed + 1;
+      phase = phase_of c.phase_by-self.result;
+      entry = entries_in d.directory.layout d.directory.me (entry_at d.directory.entries);
+      waiting = d.directory.waiting;
+      wait = wait_of d.waits;
+      byes = members i.byes;
+      stamp = i.stamp + 1;
+      journal = i.journal.items;
+      output = c.print.new.output.items;
+      counts = b'.counts;
+    } in
+    let is : last ≡ with_parts (served_node (work_of i) (node_of i) b.lane b.local b.counts done) b' d = λ t. record last {
+      me = (c.ask-sends.ensures.directory t).me;
+      lane = lane_of (lane t) (word_address done.at);
+      phase = c.phase_by-self.ensures t;
+      output = c.print.ensures t;
+    } in
+    let layout = ap (λ (g : Ground). g.layout) c.ask-sends.ensures.ground ∙ ap layout_of c.deref_mut-2.ensures.value ∙ ap (λ (g : Ground). g.layout) s.ground_same in
+    c.turn.ensures.turn ∙ ap (λ (l : Shape). ending l.nodes (turn_by last posts done.output)) layout
+    ∙ served_turn i b b' d done posts last s ask is
+
+pub returns-clause-work : goal.returns-clause-work
+returns-clause-work c =
+    let i = c.args.self.now in
+    let g = c.ask-sends.ensures.ground ∙ ap (λ (b : Body). ground_of b.local) c.deref_mut-2.ensures.value ∙ c.serve-served.ensures.ground_same
+    ∙ ap (λ (b : Body). ground_of b.local) c.deref_mut.ensures.value in
+    λ t. record { program = program_of (g t).program; image = i.image.now; layout = (g t).layout; budget = i.budget }
+
+pub returns-clause-node : goal.returns-clause-node
+returns-clause-node c =
+    let i = c.args.self.now in
+    let n = c.requires.node in
+    let b = c.serve-served.new.self in
+    let done = c.serve-served.result in
+    let low = n.going c.requires.may in
+    let behind = n.behind in
+    let layout = ap (λ (x : Ground). x.layout) c.ask-sends.ensures.ground in
+    let old = subst (λ (x : Body). AreCountsBelow (18 * i.stamp) x.counts) (sym c.deref_mut.ensures.value) n.counts in
+    let served = served_below _ (18 * i.stamp) c.deref_mut.result.now.counts b.counts c.serve-served.ensures.counts_after old in
+    let asked = c.ask-sends.ensures.counts (18 * i.stamp + 1) (subst (λ (x : Body). AreCountsBelow (18 * i.stamp + 1) x.counts) (sym c.deref_mut-2.ensures.value) served) in
+    let s : Serves i.image.now (word_outcome (work_of i) (node_of i)) (ground_of i.body.value.local) i.body.value.counts b.lane b.local b.counts done =
+    subst (λ (x : Body). Serves i.image.now (next_outcome (program_of x.local.program) i.image.now (lane_of x.lane (word_address i.at)) (local_of x.local))
+    (ground_of x.local) x.counts b.lane b.local b.counts done) c.deref_mut.ensures.value c.serve-served.ensures in
+    let unmet : AreUnmet (local_of b.local) (wants_by done.following) = word_unmet (work_of i) (node_of i) (local_of b.local) (wants_by done.following) s.local s.wants in
+    let begun = c.ask-sends.ensures.begun (subst (λ (x : Body). AreUnmet (local_of x.local) (wants_by done.following)) (sym c.deref_mut-2.ensures.value) unmet) in
+    record {
+      within = omega (arith, low);
+      going = λ may. following_runs i.budget (i.executed + 1) done.following (phase_of c.phase_by-self.result) c.phase_by-self.ensures (omega (arith, low)) may;
+      range = n.range;
+      short = n.short;
+      desk = subst (λ (l : Shape). IsDesk l c.ask-sends.new.desk) (sym layout) c.ask-sends.ensures.desk;
+      waits = subst (λ x. WaitsInPhase x (length c.ask-sends.new.desk.waits.waits)) (sym c.phase_by-self.ensures)
+          (begun_waits i.budget (i.executed + 1) _ done.following begun);
+      noted = n.noted;
+      behind = omega (arith, behind);
+      counts = counts_up (18 * i.stamp + 1 + 1) (18 * (i.stamp + 1)) c.ask-sends.new.body.counts (omega arith) asked;
+    }

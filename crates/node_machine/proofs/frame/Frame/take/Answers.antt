@@ -1,0 +1,176 @@
+use Rattle.std.proofs.Common.{◌≡◌, ◌+◌, ◌-◌, ◌*◌, ◌∙◌, ◌++◌, ap, sym, subst, eqb, length, [], ◌∷◌, None, arith}
+use Rattle.block_layout.specs.Layout.{Shape, blocks}
+use Rattle.home_directory.specs.Effects.{entry_at, members}
+use Rattle.home_directory.specs.Home.{count_of}
+use Rattle.std.specs.Prelude.{is_some}
+use Rattle.miss_handlers.specs.Waits.{wait_of}
+use Rattle.node_machine.specs.declared.body.Body.{Body}
+use Rattle.node_model.specs.declared.Entry.{Entry}
+use Rattle.node_machine.specs.Address.{word_address}
+use Rattle.node_model.specs.Node.{Node, can_execute}
+use Rattle.node_model.specs.Turns.{treated, journaled, later, words_before, with_byes, is_ended}
+use Rattle.node_machine.specs.Kept.{Ground, ground_of, lane_of, local_of}
+use Rattle.node_machine.specs.Frame.{node_of, layout_of, phase_of, with_all, entries_in, phase_resumed, at_resumed, IsDesk, AreCountsBelow, WaitsInPhase}
+use Rattle.node_machine.specs.Desk.{turn_by}
+use Rattle.node_machine.proofs.FrameLemmas.{counts_up}
+use Rattle.node_machine.proofs.TakeLemmas.{no_wait_is, taken, taken_ended, taken_going, resumed_waits, resumed_goes, words_more, later_above}
+use Rattle.node_machine.proofs.frame.Frame.take.Goals as goal
+
+pub returns-then-was_ended-clause-turn : goal.returns-then-was_ended-clause-turn
+returns-then-was_ended-clause-turn c =
+    let i = c.args.self.now in
+    let wire = c.args.wire in
+    let from = c.args.from in
+    let b = c.treat-sends.new.body in
+    let d = c.treat-sends.new.desk in
+    let byes = c.treat-sends.new.byes in
+    let posts = c.treat-sends.result.items in
+    let idle = eqb c.pending-pending.result 0 in
+    let lane = c.treat-sends.ensures.lane ∙ ap (λ (x : Body). x.lane) c.deref_mut.ensures.value in
+    let entry : Entry = record { stamp = c.later.result + 1; from = from; words = i.executed - i.noted } in
+    let entry_is : entry ≡ record { stamp = later i.stamp wire.stamp + 1; from = from; words = i.executed - words_before i.journal.items } =
+    λ t. record { stamp = c.later.ensures t + 1; from = from; words = i.executed - c.requires.node.noted t } in
+    let journal = c.push_reserved.ensures.items ∙ ap (λ (e : Entry). i.journal.items ++ e ∷ []) entry_is in
+    let last : Node = record {
+      me = d.directory.me;
+      lane = lane_of b.lane (word_address c.resumed-position.result.at);
+      local = local_of b.local;
+      executed = i.executed;
+      phase = phase_of c.resumed-position.result.phase;
+      entry = entries_in d.directory.layout d.directory.me (entry_at d.directory.entries);
+      waiting = d.directory.waiting;
+      wait = wait_of d.waits;
+      byes = members byes;
+      stamp = c.later.result + 1;
+      journal = c.push_reserved.new.self.items;
+      output = i.output.items;
+      counts = b.counts;
+    } in
+    let treat : (n : Node) → n.me ≡ i.desk.directory.me → treated (layout_of i.body.value) (with_all n i.body.value i.desk i.byes) from wire.message
+    ≡ turn_by (with_all n b d byes) posts None =
+    λ n me. subst (λ (x : Body). treated (layout_of x) (with_all n x i.desk i.byes) from wire.message ≡ turn_by (with_all n b d byes) posts None)
+    c.deref_mut.ensures.value (c.treat-sends.ensures.turn n me) in
+    let desk = subst (λ (x : Body). IsDesk (layout_of x) d) c.deref_mut.ensures.value c.treat-sends.ensures.desk in
+    let none : eqb (count_of (λ x. is_some (wait_of d.waits x)) (blocks (layout_of i.body.value))) 0 ≡ idle =
+    no_wait_is (layout_of i.body.value) d.waits c.pending-pending.result desk.waits c.pending-pending.ensures.waits c.pending-pending.ensures.count in
+    let is : last ≡ record (with_all (journaled (node_of i) from wire) b d byes) {
+      lane = record (node_of i).lane { at = at_resumed idle (node_of i).phase (node_of i).lane.at };
+      phase = phase_resumed i.budget i.executed idle (node_of i).phase;
+    } = λ t. record last {
+      me = c.treat-sends.ensures.me t;
+      lane = record (lane_of (lane t) (word_address i.at)) { at = c.resumed-position.ensures.at t };
+      phase = c.resumed-position.ensures.phase t;
+      stamp = c.later.ensures t + 1;
+      journal = journal t;
+    } in
+    let after = taken i from wire b d byes posts idle last treat none is in
+    taken_ended i from wire posts last after (sym c.is_ended-was_ended.ensures ∙ c.if-was_ended.true)
+
+pub returns-then-was_ended-clause-node : goal.returns-then-was_ended-clause-node
+returns-then-was_ended-clause-node c =
+    let i = c.args.self.now in
+    let n = c.requires.node in
+    let b = c.treat-sends.new.body in
+    let d = c.treat-sends.new.desk in
+    let idle = eqb c.pending-pending.result 0 in
+    let left = ap (λ x. eqb x 0) (sym c.pending-pending.ensures.count) in
+    let entry : Entry = record { stamp = c.later.result + 1; from = c.args.from; words = i.executed - i.noted } in
+    let words = ap words_before c.push_reserved.ensures.items ∙ words_more i.journal.items entry in
+    let noted = n.noted in
+    let behind = n.behind in
+    let above = later_above i.stamp c.args.wire.stamp in
+    let stamp = c.later.ensures in
+    let old = subst (λ (x : Body). AreCountsBelow (18 * i.stamp) x.counts) (sym c.deref_mut.ensures.value) n.counts in
+    record {
+      within = n.within;
+      going = λ may. resumed_goes i.budget i.executed (phase_of i.phase) idle n.within n.going (sym (ap can_execute c.resumed-position.ensures.phase) ∙ may);
+      range = n.range;
+      short = n.short;
+      desk = subst (λ (l : Shape). IsDesk l d) (sym (ap (λ (x : Ground). x.layout) c.treat-sends.ensures.ground)) c.treat-sends.ensures.desk;
+      waits = subst (λ p. WaitsInPhase p (length d.waits.waits)) (sym c.resumed-position.ensures.phase)
+          (resumed_waits i.budget i.executed (phase_of i.phase) (length i.desk.waits.waits) (length d.waits.waits) idle left n.waits c.treat-sends.ensures.none);
+      noted = omega (arith, words, noted, behind);
+      behind = omega arith;
+      counts = counts_up (18 * i.stamp + 18) (18 * (c.later.result + 1)) b.counts (omega (arith, above, stamp)) (c.treat-sends.ensures.counts (18 * i.stamp) old);
+    }
+
+pub returns-clause-turn : goal.returns-clause-turn
+returns-clause-turn c =
+    let i = c.args.self.now in
+    let wire = c.args.wire in
+    let from = c.args.from in
+    let b = c.treat-sends.new.body in
+    let d = c.treat-sends.new.desk in
+    let byes = c.treat-sends.new.byes in
+    let posts = c.treat-sends.result.items in
+    let idle = eqb c.pending-pending.result 0 in
+    let lane = c.treat-sends.ensures.lane ∙ ap (λ (x : Body). x.lane) c.deref_mut.ensures.value in
+    let entry : Entry = record { stamp = c.later.result + 1; from = from; words = i.executed - i.noted } in
+    let entry_is : entry ≡ record { stamp = later i.stamp wire.stamp + 1; from = from; words = i.executed - words_before i.journal.items } =
+    λ t. record { stamp = c.later.ensures t + 1; from = from; words = i.executed - c.requires.node.noted t } in
+    let journal = c.push_reserved.ensures.items ∙ ap (λ (e : Entry). i.journal.items ++ e ∷ []) entry_is in
+    let last : Node = record {
+      me = d.directory.me;
+      lane = lane_of b.lane (word_address c.resumed-position.result.at);
+      local = local_of b.local;
+      executed = i.executed;
+      phase = phase_of c.resumed-position.result.phase;
+      entry = entries_in d.directory.layout d.directory.me (entry_at d.directory.entries);
+      waiting = d.directory.waiting;
+      wait = wait_of d.waits;
+      byes = members byes;
+      stamp = c.later.result + 1;
+      journal = c.push_reserved.new.self.items;
+      output = i.output.items;
+      counts = b.counts;
+    } in
+    let treat : (n : Node) → n.me ≡ i.desk.directory.me → treated (layout_of i.body.value) (with_all n i.body.value i.desk i.byes) from wire.message
+    ≡ turn_by (with_all n b d byes) posts None =
+    λ n me. subst (λ (x : Body). treated (layout_of x) (with_all n x i.desk i.byes) from wire.message ≡ turn_by (with_all n b d byes) posts None)
+    c.deref_mut.ensures.value (c.treat-sends.ensures.turn n me) in
+    let desk = subst (λ (x : Body). IsDesk (layout_of x) d) c.deref_mut.ensures.value c.treat-sends.ensures.desk in
+    let none : eqb (count_of (λ x. is_some (wait_of d.waits x)) (blocks (layout_of i.body.value))) 0 ≡ idle =
+    no_wait_is (layout_of i.body.value) d.waits c.pending-pending.result desk.waits c.pending-pending.ensures.waits c.pending-pending.ensures.count in
+    let is : last ≡ record (with_all (journaled (node_of i) from wire) b d byes) {
+      lane = record (node_of i).lane { at = at_resumed idle (node_of i).phase (node_of i).lane.at };
+      phase = phase_resumed i.budget i.executed idle (node_of i).phase;
+    } = λ t. record last {
+      me = c.treat-sends.ensures.me t;
+      lane = record (lane_of (lane t) (word_address i.at)) { at = c.resumed-position.ensures.at t };
+      phase = c.resumed-position.ensures.phase t;
+      stamp = c.later.ensures t + 1;
+      journal = journal t;
+    } in
+    let after = taken i from wire b d byes posts idle last treat none is in
+    let g = c.treat-sends.ensures.ground ∙ ap (λ (x : Body). ground_of x.local) c.deref_mut.ensures.value in
+    c.turn.ensures.turn
+    ∙ ap (λ (x : Ground). with_byes x.layout.nodes (turn_by last posts None) (is_ended last.phase)) g
+    ∙ taken_going i from wire posts last after (sym c.is_ended-was_ended.ensures ∙ c.if-was_ended.false)
+
+pub returns-clause-node : goal.returns-clause-node
+returns-clause-node c =
+    let i = c.args.self.now in
+    let n = c.requires.node in
+    let b = c.treat-sends.new.body in
+    let d = c.treat-sends.new.desk in
+    let idle = eqb c.pending-pending.result 0 in
+    let left = ap (λ x. eqb x 0) (sym c.pending-pending.ensures.count) in
+    let entry : Entry = record { stamp = c.later.result + 1; from = c.args.from; words = i.executed - i.noted } in
+    let words = ap words_before c.push_reserved.ensures.items ∙ words_more i.journal.items entry in
+    let noted = n.noted in
+    let behind = n.behind in
+    let above = later_above i.stamp c.args.wire.stamp in
+    let stamp = c.later.ensures in
+    let old = subst (λ (x : Body). AreCountsBelow (18 * i.stamp) x.counts) (sym c.deref_mut.ensures.value) n.counts in
+    record {
+      within = n.within;
+      going = λ may. resumed_goes i.budget i.executed (phase_of i.phase) idle n.within n.going (sym (ap can_execute c.resumed-position.ensures.phase) ∙ may);
+      range = n.range;
+      short = n.short;
+      desk = subst (λ (l : Shape). IsDesk l d) (sym (ap (λ (x : Ground). x.layout) c.treat-sends.ensures.ground)) c.treat-sends.ensures.desk;
+      waits = subst (λ p. WaitsInPhase p (length d.waits.waits)) (sym c.resumed-position.ensures.phase)
+          (resumed_waits i.budget i.executed (phase_of i.phase) (length i.desk.waits.waits) (length d.waits.waits) idle left n.waits c.treat-sends.ensures.none);
+      noted = omega (arith, words, noted, behind);
+      behind = omega arith;
+      counts = counts_up (18 * i.stamp + 18) (18 * (c.later.result + 1)) b.counts (omega (arith, above, stamp)) (c.treat-sends.ensures.counts (18 * i.stamp) old);
+    }

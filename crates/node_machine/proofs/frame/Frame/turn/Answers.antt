@@ -1,0 +1,17 @@
+use Rattle.std.proofs.Common.{◌∙◌, ◌++◌, ap, cond, List}
+use Rattle.home_directory.specs.declared.messages.Post.{Post}
+use Rattle.node_machine.specs.declared.body.Body.{Body}
+use Rattle.node_model.specs.Turns.{byes_to, is_ended}
+use Rattle.node_machine.specs.Frame.{node_of, layout_of, phase_of}
+use Rattle.node_machine.specs.Desk.{turn_by}
+use Rattle.node_machine.proofs.FrameLemmas.{byes_by}
+use Rattle.node_machine.proofs.frame.Frame.turn.Goals as goal
+
+pub returns-clause-turn : goal.returns-clause-turn
+returns-clause-turn c =
+    let f = c.args.self.now in
+    let posts = c.args.sends.items in
+    let nodes = c.nodes.ensures.nodes ∙ ap (λ (b : Body). (layout_of b).nodes) c.deref.ensures in
+    ap (λ (x : List Post). turn_by (node_of f) x c.args.output)
+    (c.with_byes.ensures ∙ (λ t. cond (c.is_ended.ensures t) (posts ++ byes_to (nodes t)) posts))
+    ∙ byes_by (layout_of f.body.value).nodes (node_of f) posts c.args.output (is_ended (phase_of f.phase))

@@ -1,0 +1,10 @@
+use Rattle.std.proofs.Common.{◌∙◌}
+use Rattle.home_directory.specs.Effects.{members}
+use Rattle.node_machine.specs.Frame.{layout_of, with_all}
+use Rattle.node_machine.proofs.TakeLemmas.{treated_other}
+use Rattle.node_machine.proofs.frame.treat.Goals as goal
+
+pub returns-in_default-clause-turn : goal.returns-in_default-clause-turn
+returns-in_default-clause-turn c n me =
+    treated_other (layout_of c.args.body.now) (with_all n c.args.body.now c.args.desk.now c.args.byes.now) c.args.from c.args.message c.in_default.not-Bye
+    ∙ c.treat.ensures.turn (record n { byes = members c.args.byes.now }) me

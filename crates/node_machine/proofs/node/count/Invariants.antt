@@ -1,0 +1,10 @@
+use Rattle.std.proofs.Common.{◌≡◌, ◌≤◌}
+use Rattle.home_directory.specs.Effects.{members}
+use Rattle.home_directory.specs.Home.{count_of}
+use Rattle.node_machine.proofs.node.count.Given as goal
+
+abbrev pub invariant-loop-node : goal.invariant-loop-node
+invariant-loop-node l = record {
+  count : l.count ≡ count_of (members l.flags) l.node;
+  few : l.count ≤ l.node;
+}

@@ -1,0 +1,150 @@
+-- Helps the code alone: what a node stores, and the node that it stands for.
+use Rattle.std.specs.Prelude.{◌≡◌, ℕ, ◌+◌, ◌*◌, ◌<◌, ◌≤◌, Bool, true, if◌then◌else◌, nat_lt, List, length}
+use Rattle.std.specs.Vec.{vec_capacity}
+use Rattle.block_layout.specs.Layout.{Shape, blocks}
+use Rattle.rv32_step.specs.OneMemory.{next_pc}
+use Rattle.run_limits.specs.Ranges.{IsBudget}
+use Rattle.exec_map.specs.Contents.{program_of}
+use Rattle.home_directory.specs.Home.{Entry, first_entry}
+use Rattle.home_directory.specs.Effects.{entry_at, members}
+use Rattle.miss_handlers.specs.Waits.{wait_of}
+use Rattle.jump_map.specs.Image.{most_words}
+use Rattle.node_machine.specs.Address.{word_address}
+use Rattle.node_model.specs.declared.NodeCounts.{NodeCounts}
+use Rattle.node_machine.specs.declared.body.Body.{Body}
+use Rattle.node_machine.specs.declared.desk.Desk.{Desk}
+use Rattle.node_machine.specs.declared.frame.Frame.{Frame}
+use Rattle.node_machine.specs.declared.frame.Phase as kept
+use Rattle.node_machine.specs.declared.frame.Phase.TheVariants as kept_phase
+use Rattle.node_machine.specs.declared.serve.Following.{Following}
+use Rattle.node_machine.specs.declared.serve.Following.TheVariants as following_by
+use Rattle.node_model.specs.Node.{Node, Work, Phase, Running, Resumed, Waiting, Ended, PastWord, can_execute, stop_at, stop_or}
+use Rattle.node_model.specs.Turns.{Turn, quiet, with_byes, is_ended, words_before}
+use Rattle.node_machine.specs.Kept.{lane_of, local_of, resume_of}
+
+abbrev pub phase_of : kept.Phase → Phase
+phase_of kept_phase.Running = Running
+phase_of kept_phase.Resumed = Resumed
+phase_of (kept_phase.Waiting resume) = Waiting (resume_of resume)
+phase_of (kept_phase.Ended end) = Ended end
+
+-- the entries by block; past the layout's last block they are those of the start
+abbrev pub entries_in : Shape → (me : ℕ) → (ℕ → Entry) → ℕ → Entry
+entries_in layout me entry b = if nat_lt b (blocks layout) then entry b else first_entry me
+
+-- the layout that a node was made with
+abbrev pub layout_of : Body → Shape
+layout_of b = b.local.copy.layout
+
+-- the node with what it has of blocks, and its counts, as they are stored here
+abbrev pub with_parts : Node → Body → Desk → Node
+with_parts n b d = record n {
+  local = local_of b.local;
+  entry = entries_in d.directory.layout d.directory.me (entry_at d.directory.entries);
+  waiting = d.directory.waiting;
+  wait = wait_of d.waits;
+  counts = b.counts;
+}
+
+-- what a node runs
+abbrev pub work_of : Frame → Work
+work_of f = record {
+  program = program_of f.body.value.local.program;
+  image = f.image.now;
+  layout = layout_of f.body.value;
+  budget = f.budget;
+}
+
+-- the node that it stands for
+abbrev pub node_of : Frame → Node
+node_of f = record {
+  me = f.desk.directory.me;
+  lane = lane_of f.body.value.lane (word_address f.at);
+  local = local_of f.body.value.local;
+  executed = f.executed;
+  phase = phase_of f.phase;
+  entry = entries_in f.desk.directory.layout f.desk.directory.me (entry_at f.desk.directory.entries);
+  waiting = f.desk.directory.waiting;
+  wait = wait_of f.desk.waits;
+  byes = members f.byes;
+  stamp = f.stamp;
+  journal = f.journal.items;
+  output = f.output.items;
+  counts = f.body.value.counts;
+}
+
+-- there is room for one entry of the journal and one byte of output
+pub record HasRoom (f : Frame) : Type 0 where
+  pub journal : length f.journal.items < vec_capacity f.journal
+  pub output : length f.output.items < vec_capacity f.output
+
+-- the parts of the protocol are of one layout, and the two buffers are in the pool or belong to
+-- waits
+pub record IsDesk (layout : Shape) (d : Desk) : Type 0 where
+  pub directory : d.directory.layout ≡ layout
+  pub waits : d.waits.layout ≡ layout
+  pub slots : d.pool.slots ≡ 2
+  pub bytes : d.pool.bytes ≡ 4096
+  pub buffers : d.pool.free + length d.waits.waits ≡ 2
+
+-- no count is above so many
+pub record AreCountsBelow (most : ℕ) (c : NodeCounts) : Type 0 where
+  pub read : c.read ≤ most
+  pub exclusive : c.exclusive ≤ most
+  pub upgrade : c.upgrade ≤ most
+  pub falses : c.falses ≤ most
+  pub invalidations : c.invalidations ≤ most
+  pub messages : c.messages ≤ most
+
+-- a node that waits has a wait, and no other has one
+abbrev pub WaitsInPhase : Phase → (waits : ℕ) → Type 0
+WaitsInPhase Running waits = waits ≡ 0
+WaitsInPhase Resumed waits = waits ≡ 0
+WaitsInPhase (Waiting resume) waits = 0 < waits
+WaitsInPhase (Ended end) waits = waits ≡ 0
+
+-- so many waits are left after a word, by what follows it
+abbrev pub HasBegun : Following → (waits : ℕ) → Type 0
+HasBegun following_by.GoesOn waits = waits ≡ 0
+HasBegun (following_by.Waits resume want) waits = 0 < waits
+HasBegun (following_by.Leaves exit) waits = waits ≡ 0
+
+-- what is true of every node
+pub record IsNode (f : Frame) : Type 0 where
+  pub within : f.executed ≤ f.budget
+  pub going : can_execute (phase_of f.phase) ≡ true → f.executed < f.budget
+  pub range : IsBudget f.budget
+  pub short : length f.image.now ≤ most_words
+  pub desk : IsDesk (layout_of f.body.value) f.desk
+  pub waits : WaitsInPhase (phase_of f.phase) (length f.desk.waits.waits)
+  pub noted : f.noted ≡ words_before f.journal.items
+  pub behind : f.noted ≤ f.executed
+  pub counts : AreCountsBelow (18 * f.stamp) f.body.value.counts
+
+-- the node at the word with this address, where the word before printed nothing and wanted nothing
+abbrev pub passed : Work → Node → (at : ℕ) → Node
+passed work n at = record n {
+  lane = record n.lane { at = at };
+  executed = n.executed + 1;
+  stamp = n.stamp + 1;
+  phase = stop_at work.budget (n.executed + 1);
+}
+
+abbrev pub passed_to : Work → Node → (at : ℕ) → Turn
+passed_to work n at =
+    with_byes work.layout.nodes (quiet (passed work n at)) (is_ended (passed work n at).phase)
+
+-- the node with what it has of blocks, its counts and the Byes, as they are stored here
+abbrev pub with_all : Node → Body → Desk → List Bool → Node
+with_all n b d byes = record (with_parts n b d) { byes = members byes }
+
+-- the phase after a message, where no wait is left or some is
+abbrev pub phase_resumed : (budget executed : ℕ) → (idle : Bool) → Phase → Phase
+phase_resumed budget executed idle (Waiting resume) =
+    if idle then stop_or budget executed Resumed else Waiting resume
+phase_resumed budget executed idle phase = phase
+
+-- the address of the next word then
+abbrev pub at_resumed : (idle : Bool) → Phase → ℕ → ℕ
+at_resumed idle (Waiting PastWord) at = if idle then next_pc at else at
+at_resumed idle phase at = at

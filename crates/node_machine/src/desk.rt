@@ -1,0 +1,210 @@
+//! What a node keeps of blocks beside their states and bytes: its part of the protocol.
+
+ghost use Rattle.std.specs.Prelude.{◌≡◌, ◌+◌, ◌/◌, ◌^◌, ◌≤◌, ◌<◌, ◌⊎◌, ◌&&◌, nat_lt, ℕ, [], ◌∷◌, None, Some, true, false, Option, length};
+ghost use Rattle.state_table.specs.States.{state_of};
+ghost use Rattle.block_layout.specs.Layout.{blocks, block_of};
+ghost use Rattle.home_directory.specs.Table.{meets};
+ghost use Rattle.rv32_program.specs.Program.{line_of};
+ghost use Rattle.miss_handlers.specs.Rows.{row_of};
+ghost use Rattle.node_model.specs.Node as model;
+ghost use Rattle.node_model.specs.Turns as turns;
+ghost use Rattle.node_machine.specs.Kept.{ground_of, local_of};
+ghost use Rattle.node_machine.specs.Blocks.{ShelfLaws};
+ghost use Rattle.node_machine.specs.Frame.{layout_of, with_parts, IsDesk, AreCountsBelow};
+ghost use Rattle.node_machine.specs.Desk.{HasRouted, turn_by, is_unmet, is_order};
+
+use crate::body::Body;
+use crate::lane::Want;
+use crate::local::Local;
+use block_layout::{Block, layout_law};
+use buf_pool::Pool;
+use home_directory::{Directory, Message, Need, Post, Sends};
+use miss_handlers::Waits;
+use node_model::NodeCounts;
+use state_table::State;
+
+/// A node's part of the protocol: the entries of the blocks whose home it is, its waits, and the
+/// buffers of its own.
+#[derive(Drop)]
+pub struct Desk {
+    pub directory: Directory,
+    pub waits: Waits,
+    pub pool: Pool,
+}
+
+impl Desk {
+    /// A word wants a line: the node asks the home of its block, and waits. Nothing where the line
+    /// isn't shared, or its block meets the need.
+    pub fn want(&mut self, body: &mut Body<'_>, want: Want) -> Sends
+        requires desk { IsDesk (layout_of body.old) self.old }
+        requires idle { length self.old.waits.waits ≡ 0 }
+        requires counts { AreCountsBelow (2 ^ 63) body.old.counts }
+        ensures turn { (n : model.Node) (p : Option ℕ) →
+            turns.want_in (layout_of body.old) (turn_by (with_parts n body.old self.old) [] p)
+            want.need (block_of (layout_of body.old) (line_of want.at))
+            ≡ turn_by (with_parts n body.new self.new) result.items p }
+        ensures begun { is_unmet want.need ((local_of body.old.local).state (line_of want.at)) ≡ true
+            → 0 < length self.new.waits.waits }
+        ensures desk { IsDesk (layout_of body.old) self.new }
+        ensures directory { self.new.directory ≡ self.old.directory }
+        ensures lane { body.new.lane ≡ body.old.lane }
+        ensures ground { ground_of body.new.local ≡ ground_of body.old.local }
+        ensures counts { (most : ℕ) → AreCountsBelow most body.old.counts
+            → AreCountsBelow (most + 1) body.new.counts }
+    {
+        layout_law();
+        body.local.laws();
+        match body.local.block_of(want.at) {
+            None => Sends::new(),
+            Some(block) => self.want_block(body, block, want.need),
+        }
+    }
+
+    /// A word wants a block.
+    fn want_block(&mut self, body: &mut Body<'_>, block: Block, need: Need) -> Sends
+        requires desk { IsDesk (layout_of body.old) self.old }
+        requires idle { length self.old.waits.waits ≡ 0 }
+        requires counts { AreCountsBelow (2 ^ 63) body.old.counts }
+        requires block { block < blocks (layout_of body.old) }
+        ensures turn { (n : model.Node) (p : Option ℕ) →
+            turns.want_in (layout_of body.old) (turn_by (with_parts n body.old self.old) [] p)
+            need (Some block) ≡ turn_by (with_parts n body.new self.new) result.items p }
+        ensures begun { meets need (state_of body.old.local.states block) ≡ false
+            → 0 < length self.new.waits.waits }
+        ensures desk { IsDesk (layout_of body.old) self.new }
+        ensures directory { self.new.directory ≡ self.old.directory }
+        ensures lane { body.new.lane ≡ body.old.lane }
+        ensures ground { ground_of body.new.local ≡ ground_of body.old.local }
+        ensures counts { (most : ℕ) → AreCountsBelow most body.old.counts
+            → AreCountsBelow (most + 1) body.new.counts }
+    {
+        layout_law();
+        body.local.laws();
+        let state = body.local.block_state(block);
+        match body
+            .local
+            .want(block, need, &mut self.waits, &mut self.pool)
+        {
+            None => Sends::new(),
+            Some(post) => {
+                body.counts = count_want(need, state, body.counts);
+                one(post)
+            }
+        }
+    }
+
+    /// A message from a node, but for a Bye: its row, or nothing.
+    pub fn treat(&mut self, body: &mut Body<'_>, from: u8, message: Message) -> Sends
+        requires desk { IsDesk (layout_of body.old) self.old }
+        requires counts { AreCountsBelow (2 ^ 63) body.old.counts }
+        ensures turn { let l = layout_of body.old in (n : model.Node) →
+            n.me ≡ self.old.directory.me →
+            turns.by_row_or l (with_parts n body.old self.old)
+            (row_of l n.me (turns.holding l (with_parts n body.old self.old)) from message)
+            ≡ turn_by (with_parts n body.new self.new) result.items None }
+        ensures few { (length result.items ≤ 1)
+            ⊎ (length self.new.waits.waits ≡ length self.old.waits.waits) }
+        ensures none { length self.old.waits.waits ≡ 0 → length self.new.waits.waits ≡ 0 }
+        ensures desk { IsDesk (layout_of body.old) self.new }
+        ensures me { self.new.directory.me ≡ self.old.directory.me }
+        ensures lane { body.new.lane ≡ body.old.lane }
+        ensures ground { ground_of body.new.local ≡ ground_of body.old.local }
+        ensures counts { (most : ℕ) → AreCountsBelow most body.old.counts
+            → AreCountsBelow (most + 18) body.new.counts }
+    {
+        layout_law();
+        body.local.laws();
+        let order = is_order(&message);
+        let sends = self.route(&mut body.local, from, message);
+        body.local.laws();
+        let given = gives_up(order, sends.len());
+        body.counts = count_row(body.counts, given, sends.len());
+        sends
+    }
+
+    /// A message from a node, but for the counts.
+    fn route(&mut self, local: &mut Local<'_>, from: u8, message: Message) -> Sends
+        requires desk { IsDesk local.old.copy.layout self.old }
+        ensures routed { HasRouted local.old.copy.layout self.old self.new local.old local.new
+            result.items from message }
+        ensures desk { IsDesk local.old.copy.layout self.new }
+        ensures me { self.new.directory.me ≡ self.old.directory.me }
+        ensures ground { ground_of local.new ≡ ground_of local.old }
+    {
+        match message {
+            Message::Read { block, buf } => self.directory.ask(from, block, Need::Read, buf),
+            Message::Write { block, buf } => self.directory.ask(from, block, Need::Write, buf),
+            Message::Done { block } => self.directory.done(from, block),
+            message => local.on(from, message, &mut self.waits, &mut self.pool),
+        }
+    }
+}
+
+/// The counts after a Read or a Write was sent for a block in a state.
+fn count_want(need: Need, state: State, counts: NodeCounts) -> NodeCounts
+    requires { AreCountsBelow (2 ^ 63) counts }
+    ensures { result ≡ turns.count_want need state counts }
+{
+    let messages = counts.messages + 1;
+    match need {
+        Need::Read => NodeCounts {
+            read: counts.read + 1,
+            messages,
+            ..counts
+        },
+        Need::Write if state.can_read() => NodeCounts {
+            upgrade: counts.upgrade + 1,
+            messages,
+            ..counts
+        },
+        Need::Write => NodeCounts {
+            exclusive: counts.exclusive + 1,
+            messages,
+            ..counts
+        },
+    }
+}
+
+/// The counts after a message that was treated, which gave up a block or didn't.
+fn count_row(counts: NodeCounts, gives_up: bool, sends: usize) -> NodeCounts
+    requires counts { AreCountsBelow (2 ^ 63) counts }
+    requires few { sends ≤ 18 }
+    ensures { result ≡ turns.count_row gives_up sends counts }
+{
+    let invalidations = if gives_up {
+        counts.invalidations + 1
+    } else {
+        counts.invalidations
+    };
+    NodeCounts {
+        invalidations,
+        messages: counts.messages + sends as u64,
+        ..counts
+    }
+}
+
+/// Whether a block was given up: on an order that had a row, for which something was sent.
+fn gives_up(order: bool, sends: usize) -> bool
+    ensures { result ≡ (order && nat_lt 0 sends) }
+{
+    order && sends > 0
+}
+
+/// Whether a message orders the node to give up a block.
+fn is_order(message: &Message) -> bool
+    ensures { result ≡ is_order message.now }
+{
+    match message {
+        Message::FwdWrite { .. } | Message::Inval { .. } => true,
+        _ => false,
+    }
+}
+
+/// One message to send.
+fn one(post: Post) -> Sends
+    ensures { result.items ≡ post ∷ [] }
+{
+    let mut sends = Sends::new();
+    sends.push(post);
+    sends
+}

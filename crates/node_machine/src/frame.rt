@@ -1,0 +1,394 @@
+//! What a node stores, and its events. How the parts fit together is said by each call's clauses,
+//! and kept by the type of the node above it.
+
+ghost use Rattle.std.specs.Prelude.{◌≡◌, ◌+◌, ◌*◌, ◌^◌, ◌<◌, ◌≤◌, ◌&&◌, ◌++◌, ◌⊎◌, ◌==◌, if◌then◌else◌, ℕ, [], true, None, Option, length};
+ghost use Rattle.std.specs.Vec.{vec_capacity};
+ghost use Rattle.node_model.specs.Node as model;
+ghost use Rattle.node_model.specs.Turns as turns;
+ghost use Rattle.node_machine.specs.Address.{word_address};
+ghost use Rattle.node_machine.specs.Kept.{ground_of, local_of, phase_by, wants_by, resume_of};
+ghost use Rattle.node_machine.specs.Frame.{work_of, node_of, layout_of, with_parts, phase_of, HasRoom, IsNode, IsDesk, AreCountsBelow, HasBegun, passed_to, with_all, phase_resumed, at_resumed};
+ghost use Rattle.node_machine.specs.GoingOn.{phase_on};
+ghost use Rattle.node_machine.specs.Desk.{turn_by, AreUnmet};
+ghost use Rattle.node_machine.specs.Runs.{HasExecuted};
+
+use crate::body::Body;
+use crate::desk::Desk;
+use crate::lane::Resume;
+use crate::serve::Following;
+use exec_map::End;
+use home_directory::{Message, Post, Sends, Wire};
+use jump_map::Image;
+use node_model::{Entry, OutByte};
+use run_limits::Budget;
+
+/// What a node did in one event.
+#[derive(Drop)]
+pub struct Turn {
+    /// The stamp of the event.
+    pub stamp: u64,
+    /// What it sent, in order.
+    pub sends: Sends,
+    /// The byte that it printed.
+    pub output: Option<u8>,
+}
+
+/// Whether a processor runs, has just got what it waited for, waits for blocks, or has ended.
+#[derive(Clone, Copy, PartialEq, Eq)]
+pub enum Phase {
+    Running,
+    Resumed,
+    Waiting(Resume),
+    Ended(End),
+}
+
+/// What a node stores.
+///
+/// What words change is in a box of its own, so that the position and the count of words can stay in
+/// registers of the machine while words are executed.
+#[derive(Drop)]
+pub struct Frame<'a> {
+    pub image: &'a Image,
+    pub budget: Budget,
+    pub body: Box<Body<'a>>,
+    pub desk: Desk,
+    /// The index of its next word.
+    pub at: u32,
+    pub executed: u64,
+    pub phase: Phase,
+    /// The nodes whose Byes it has taken.
+    pub byes: [bool; 256],
+    /// The stamp of its last event.
+    pub stamp: u64,
+    pub journal: Vec<Entry>,
+    /// How many words the journal has.
+    pub noted: u64,
+    pub output: Vec<OutByte>,
+}
+
+impl<'a> Frame<'a> {
+    /// Executes one word.
+    pub fn exec(&mut self) -> Turn
+        requires node { IsNode self.old }
+        requires may { model.can_execute (node_of self.old).phase ≡ true }
+        requires room { HasRoom self.old }
+        requires stamp { self.old.stamp < 2 ^ 56 }
+        ensures turn { turn_by (node_of self.new) result.sends.items result.output
+            ≡ turns.word_turn (work_of self.old) (node_of self.old) }
+        ensures stamp { result.stamp ≡ self.new.stamp }
+        ensures work { work_of self.new ≡ work_of self.old }
+        ensures node { IsNode self.new }
+    {
+        match self.body.step_at(self.image, self.at) {
+            Some(at) => self.pass_to(at),
+            None => self.serve_word(),
+        }
+    }
+
+    /// Executes words, of which those before the last print nothing and send nothing: as many as
+    /// their micro-ops serve, and one more.
+    pub fn exec_on(&mut self) -> Turn
+        requires node { IsNode self.old }
+        requires may { model.can_execute (node_of self.old).phase ≡ true }
+        requires room { HasRoom self.old }
+        requires stamp { self.old.stamp < 2 ^ 56 }
+        ensures ran { HasExecuted (work_of self.old) (node_of self.old) (node_of self.new)
+            result.sends.items result.output }
+        ensures stamp { result.stamp ≡ self.new.stamp }
+        ensures work { work_of self.new ≡ work_of self.old }
+        ensures node { IsNode self.new }
+    {
+        let most = most_words(
+            self.budget.number() - self.executed - 1,
+            STAMPS - self.stamp - 1,
+        );
+        let stretch = self.body.run(self.image, self.at, most);
+        self.at = stretch.at;
+        self.executed += stretch.words;
+        self.stamp += stretch.words;
+        self.phase = phase_on(self.phase, stretch.words);
+        self.serve_word()
+    }
+
+    /// Takes a message from a node.
+    pub fn take(&mut self, from: u8, wire: Wire) -> Turn
+        requires node { IsNode self.old }
+        requires room { HasRoom self.old }
+        requires stamp { self.old.stamp < 2 ^ 56 }
+        requires wire { wire.stamp < 2 ^ 56 }
+        ensures turn { turn_by (node_of self.new) result.sends.items result.output
+            ≡ turns.take_turn (work_of self.old) (node_of self.old) from wire }
+        ensures stamp { result.stamp ≡ self.new.stamp }
+        ensures work { work_of self.new ≡ work_of self.old }
+        ensures node { IsNode self.new }
+    {
+        let was_ended = is_ended(self.phase);
+        self.stamp = later(self.stamp, wire.stamp) + 1;
+        self.journal.push_reserved(Entry {
+            stamp: self.stamp,
+            from,
+            words: self.executed - self.noted,
+        });
+        self.noted = self.executed;
+        let sends = treat(
+            &mut self.desk,
+            &mut self.body,
+            &mut self.byes,
+            from,
+            wire.message,
+        );
+        let pending = self.desk.waits.pending();
+        let position = resumed(self.phase, self.at, pending, self.budget, self.executed);
+        self.at = position.at;
+        self.phase = position.phase;
+        if was_ended {
+            return Turn {
+                stamp: self.stamp,
+                sends,
+                output: None,
+            };
+        }
+        self.turn(sends, None)
+    }
+
+    /// Goes on to the word with an index, where the word before was executed.
+    fn pass_to(&mut self, at: u32) -> Turn
+        requires node { IsNode self.old }
+        requires may { model.can_execute (node_of self.old).phase ≡ true }
+        requires stamp { self.old.stamp < 2 ^ 56 }
+        ensures turn { turn_by (node_of self.new) result.sends.items result.output
+            ≡ passed_to (work_of self.old) (node_of self.old) (word_address at) }
+        ensures stamp { result.stamp ≡ self.new.stamp }
+        ensures work { work_of self.new ≡ work_of self.old }
+        ensures node { IsNode self.new }
+    {
+        self.at = at;
+        self.executed += 1;
+        self.stamp += 1;
+        self.phase = stop_or(self.budget, self.executed, Phase::Running);
+        self.turn(Sends::new(), None)
+    }
+
+    /// Executes one word by the path that serves every word.
+    fn serve_word(&mut self) -> Turn
+        requires node { IsNode self.old }
+        requires may { model.can_execute (node_of self.old).phase ≡ true }
+        requires room { HasRoom self.old }
+        requires stamp { self.old.stamp < 2 ^ 56 }
+        ensures turn { turn_by (node_of self.new) result.sends.items result.output
+            ≡ turns.word_turn (work_of self.old) (node_of self.old) }
+        ensures stamp { result.stamp ≡ self.new.stamp }
+        ensures work { work_of self.new ≡ work_of self.old }
+        ensures node { IsNode self.new }
+    {
+        let served = self.body.serve(self.image, self.at);
+        self.at = served.at;
+        self.executed += 1;
+        self.stamp += 1;
+        self.phase = phase_by(self.budget, self.executed, served.following);
+        print(&mut self.output, self.stamp, served.output);
+        let sends = ask(&mut self.desk, &mut self.body, served.following);
+        self.turn(sends, served.output)
+    }
+
+    /// The turn that ends with a node so, once this was sent and printed: a node that has just
+    /// ended says so to all nodes.
+    fn turn(&self, sends: Sends, output: Option<u8>) -> Turn
+        requires few { turns.is_ended (phase_of self.now.phase) ≡ true → length sends.items ≤ 2 }
+        ensures turn { turn_by (node_of self.now) result.sends.items result.output
+            ≡ turns.with_byes (layout_of self.now.body.value).nodes
+            (turn_by (node_of self.now) sends.items output)
+            (turns.is_ended (phase_of self.now.phase)) }
+        ensures stamp { result.stamp ≡ self.now.stamp }
+    {
+        Turn {
+            stamp: self.stamp,
+            sends: with_byes(sends, self.body.local.nodes(), is_ended(self.phase)),
+            output,
+        }
+    }
+}
+
+/// Stamps are below this.
+const STAMPS: u64 = 1 << 56;
+
+/// The lesser of two numbers of words.
+fn most_words(a: u64, b: u64) -> u64
+    ensures first { result ≤ a }
+    ensures second { result ≤ b }
+{
+    if a < b { a } else { b }
+}
+
+/// The phase of a node that may execute words, after so many that go on.
+fn phase_on(phase: Phase, words: u64) -> Phase
+    ensures { phase_of result ≡ phase_on (phase_of phase) words }
+{
+    if words == 0 { phase } else { Phase::Running }
+}
+
+/// The phase of a node that has executed so many words and has nothing pending: the one given, or
+/// stopped by its budget.
+fn stop_or(budget: Budget, executed: u64, phase: Phase) -> Phase
+    ensures { phase_of result ≡ model.stop_or budget executed (phase_of phase) }
+{
+    if executed == budget.number() {
+        Phase::Ended(End::Stopped(executed))
+    } else {
+        phase
+    }
+}
+
+/// The phase after a word, by what follows it.
+fn phase_by(budget: Budget, executed: u64, following: Following) -> Phase
+    ensures { phase_of result ≡ phase_by budget executed following }
+{
+    match following {
+        Following::GoesOn => stop_or(budget, executed, Phase::Running),
+        Following::Waits(resume, _) => Phase::Waiting(resume),
+        Following::Leaves(exit) => Phase::Ended(End::Exited(exit)),
+    }
+}
+
+/// Whether a processor has ended.
+fn is_ended(phase: Phase) -> bool
+    ensures { result ≡ turns.is_ended (phase_of phase) }
+{
+    match phase {
+        Phase::Ended(_) => true,
+        _ => false,
+    }
+}
+
+/// Where a processor is: the index of its next word, and its phase.
+#[derive(Clone, Copy, PartialEq, Eq)]
+pub struct Position {
+    pub at: u32,
+    pub phase: Phase,
+}
+
+/// Where a processor is after a message, with so many waits left: where none is left it runs on, or
+/// is stopped by its budget.
+fn resumed(phase: Phase, at: u32, pending: u8, budget: Budget, executed: u64) -> Position
+    ensures phase { phase_of result.phase
+        ≡ phase_resumed budget executed (pending == 0) (phase_of phase) }
+    ensures at { word_address result.at ≡ at_resumed (pending == 0) (phase_of phase) (word_address at) }
+{
+    match phase {
+        Phase::Waiting(resume) => {
+            if pending == 0 {
+                Position {
+                    at: index_resumed(resume, at),
+                    phase: stop_or(budget, executed, Phase::Resumed),
+                }
+            } else {
+                Position { at, phase }
+            }
+        }
+        Phase::Running | Phase::Resumed | Phase::Ended(_) => Position { at, phase },
+    }
+}
+
+/// The index of the word at which a processor goes on.
+fn index_resumed(resume: Resume, at: u32) -> u32
+    ensures { word_address result ≡ at_resumed true (model.Waiting (resume_of resume)) (word_address at) }
+{
+    match resume {
+        Resume::PastWord => at.wrapping_add(1),
+        Resume::SameWord => at,
+    }
+}
+
+/// The greater of two stamps.
+fn later(s: u64, t: u64) -> u64
+    ensures { result ≡ turns.later s t }
+{
+    if s < t { t } else { s }
+}
+
+/// A message from a node: a Bye is noted, another has its row.
+#[tactic(auto, using(crate::proofs::TakeLemmas::members_set))]
+fn treat(
+    desk: &mut Desk,
+    body: &mut Body<'_>,
+    byes: &mut [bool; 256],
+    from: u8,
+    message: Message,
+) -> Sends
+    requires desk { IsDesk (layout_of body.old) desk.old }
+    requires counts { AreCountsBelow (2 ^ 63) body.old.counts }
+    ensures turn { (n : model.Node) → n.me ≡ desk.old.directory.me →
+        turns.treated (layout_of body.old) (with_all n body.old desk.old byes.old) from message
+        ≡ turn_by (with_all n body.new desk.new byes.new) result.items None }
+    ensures few { (length result.items ≤ 1)
+        ⊎ (length desk.new.waits.waits ≡ length desk.old.waits.waits) }
+    ensures none { length desk.old.waits.waits ≡ 0 → length desk.new.waits.waits ≡ 0 }
+    ensures desk { IsDesk (layout_of body.old) desk.new }
+    ensures me { desk.new.directory.me ≡ desk.old.directory.me }
+    ensures lane { body.new.lane ≡ body.old.lane }
+    ensures ground { ground_of body.new.local ≡ ground_of body.old.local }
+    ensures counts { (most : ℕ) → AreCountsBelow most body.old.counts
+        → AreCountsBelow (most + 18) body.new.counts }
+{
+    match message {
+        Message::Bye => {
+            byes[from as usize] = true;
+            Sends::new()
+        }
+        message => desk.treat(body, from, message),
+    }
+}
+
+/// Keeps a byte that was printed, where one was.
+fn print(output: &mut Vec<OutByte>, stamp: u64, byte: Option<u8>)
+    requires { length output.old.items < vec_capacity output.old }
+    ensures { output.new.items ≡ model.printed_also output.old.items stamp byte }
+{
+    match byte {
+        Some(byte) => output.push_reserved(OutByte { stamp, byte }),
+        None => {}
+    }
+}
+
+/// Asks for what a word wants.
+fn ask(desk: &mut Desk, body: &mut Body<'_>, following: Following) -> Sends
+    requires desk { IsDesk (layout_of body.old) desk.old }
+    requires idle { length desk.old.waits.waits ≡ 0 }
+    requires counts { AreCountsBelow (2 ^ 63) body.old.counts }
+    ensures turn { (n : model.Node) (p : Option ℕ) → turns.want_all (layout_of body.old)
+        (turn_by (with_parts n body.old desk.old) [] p) (wants_by following)
+        ≡ turn_by (with_parts n body.new desk.new) result.items p }
+    ensures begun { AreUnmet (local_of body.old.local) (wants_by following) →
+        HasBegun following (length desk.new.waits.waits) }
+    ensures quiet { wants_by following ≡ [] → result.items ≡ [] }
+    ensures desk { IsDesk (layout_of body.old) desk.new }
+    ensures directory { desk.new.directory ≡ desk.old.directory }
+    ensures lane { body.new.lane ≡ body.old.lane }
+    ensures ground { ground_of body.new.local ≡ ground_of body.old.local }
+    ensures counts { (most : ℕ) → AreCountsBelow most body.old.counts
+        → AreCountsBelow (most + 1) body.new.counts }
+{
+    match following {
+        Following::Waits(_, want) => desk.want(body, want),
+        Following::GoesOn | Following::Leaves(_) => Sends::new(),
+    }
+}
+
+/// What is sent, with a Bye to every node behind it where the node has ended.
+fn with_byes(mut sends: Sends, nodes: u8, ended: bool) -> Sends
+    requires few { ended ≡ true → length sends.items ≤ 2 }
+    requires nodes { nodes ≤ 16 }
+    ensures { result.items ≡ (if ended then sends.items ++ turns.byes_to nodes
+        else sends.items) }
+{
+    if !ended {
+        return sends;
+    }
+    for to in 0..nodes {
+        sends.push(Post {
+            to,
+            message: Message::Bye,
+        });
+    }
+    sends
+}
