@@ -1,20 +1,29 @@
 -- What the words of a place's sequence do, beside the processor whose next step they make.
-use Rattle.std.proofs.Common.{◌≡◌, ℕ, zero, suc, ◌+◌, Bool, true, false, List, [], ◌∷◌, Some, None}
+use Rattle.std.proofs.Common.{◌≡◌, ℕ, zero, suc, ◌+◌, ◌⊎◌, Bool, true, false, List, [], ◌∷◌, Some, None}
 use Rattle.rv32_decode.specs.declared.Instr.{Instr}
-use Rattle.rv32_decode.specs.declared.LoadKind.TheVariants.{ByteU}
+use Rattle.rv32_decode.specs.declared.LoadKind.TheVariants.{ByteU, Word as WordLoad}
+use Rattle.rv32_decode.specs.declared.Width.TheVariants.{Word}
+use Rattle.rv32_ops.specs.Operations.{amo}
+use Rattle.block_layout.specs.Layout.{Shape}
+use Rattle.llsc.specs.Reservation.{holds}
+use Rattle.rv32_program.specs.declared.Class.TheVariants.{Shared}
 use Rattle.rv32_program.specs.Program.{Program, class_at, line_of}
 use Rattle.rv32_program.specs.Liveness.{Live}
 use Rattle.rv32_step.specs.Registers.{reg}
 use Rattle.rv32_step.specs.Memory.{load_value, byte_by}
-use Rattle.rv32_step.specs.OneMemory.{Processor, Nothing, Reads, Writes, Request, Becomes, Prints, LoadsFrom, StoresTo, request, with_exit, after_print, after_store, set_register, next_pc}
+use Rattle.rv32_step.specs.Breaks.{is_in_block, stands_at_store, RunsToStore}
+use Rattle.rv32_step.specs.OneMemory.{Processor, Nothing, Reads, Writes, WritesIf, Exchanges, Request, Becomes, Prints, LoadsFrom, StoresTo, ReservesAt, StoresWhere, UpdatesAt, request, with_exit, after_print, after_store, after_exchange, after_conditional, set_register, next_pc}
+use Rattle.templates.specs.declared.runtime_words.RtWord.TheVariants.{Poll, Call}
 use Rattle.templates.specs.declared.commits.CommitKind.{CommitKind}
 use Rattle.templates.specs.declared.commits.CommitKind.TheVariants.{Never}
 use Rattle.templates.specs.Places.{IsPlace}
 use Rattle.templates.specs.Sequences.{SequenceItem, ItemWord, Runs, GoesTo}
-use Rattle.node_machine.specs.declared.Need.{Need}
-use Rattle.node_machine.specs.declared.Need.TheVariants.{Read, Write}
-use Rattle.node_machine.specs.Node.{Lane, Local, Want, Resume, PastWord, SameWord, Move, Next, Again, To, Enters, Waits, Leaves, Outcome, first_state, is_readable_state, is_writable_state, local_stored, execute}
+use Rattle.home_directory.specs.declared.messages.Need.{Need}
+use Rattle.home_directory.specs.declared.messages.Need.TheVariants.{Read, Write}
+use Rattle.node_model.specs.Node.{Lane, Local, Want, Resume, PastWord, SameWord, Move, Next, Again, To, Enters, Waits, Leaves, Outcome, local_stored, execute}
 use Rattle.shared_sim.specs.CoreRun.{commits_by}
+use Rattle.shared_sim.specs.Licence.{Licensed}
+use Rattle.shared_sim.proofs.States.{Suits, grants}
 
 -- the node stands at the head of a place, where its registers agree wherever they are live. This is
 -- the only fact that two sequences share
@@ -24,10 +33,6 @@ pub record AtHead (program : Program) (a : ℕ) (q : Processor) (l : Lane) : Typ
   pub agree : (r : ℕ) → Live program.code r a → reg l.registers r ≡ reg q.registers r
   pub private : l.private ≡ q.private
   pub written : l.written ≡ q.written
-
--- the state bytes fit the classes of the lines, where one node has all shared lines
-pub record Suits (program : Program) (n : Local) : Type 0 where
-  pub states : (line : ℕ) → n.state line ≡ first_state (program.class line)
 
 -- the byte of an address, as the processor would see it in the node's copy
 abbrev pub byte_seen : Program → Processor → Local → ℕ → ℕ
@@ -43,15 +48,40 @@ abbrev pub skip_to : ℕ → ℕ → ℕ
 skip_to zero at = at
 skip_to (suc s) at = skip_to s (next_pc at)
 
--- a state byte that grants what was wanted
-abbrev pub grants : Need → ℕ → Bool
-grants Read state = is_readable_state state
-grants Write state = is_writable_state state
+-- the processor stands at a store, an AMO or an SC to the address, or where a run begins that
+-- stores in its block, whatever the blocks are
+abbrev pub StandsToStore : Program → Processor → ℕ → Type 0
+StandsToStore program q x =
+    (layout : Shape) (b : ℕ) → is_in_block layout b x ≡ true
+    → (stands_at_store program layout b q.registers q.pc ≡ true)
+    ⊎ RunsToStore program layout b q.registers q.pc
 
--- the node may do all that was wanted
-abbrev pub Grants : Want → List Want → Local → Type 0
-Grants w [] n = grants w.need (n.state (line_of w.at)) ≡ true
-Grants w (v ∷ vs) n = (grants w.need (n.state (line_of w.at)) ≡ true) × Grants v vs n
+-- what an address is wanted for is what the processor is about to do
+abbrev pub Seeks : Program → Processor → Need → ℕ → Type 0
+Seeks program q Read x = Unit {0}
+Seeks program q Write x = StandsToStore program q x
+
+-- what a word waits for: a shared line that doesn't grant it, and that the processor seeks
+pub record IsWanted (program : Program) (q : Processor) (n : Local) (want : Want) : Type 0 where
+  pub shared : class_at program want.at ≡ Shared
+  pub unmet : grants want.need (n.state (line_of want.at)) ≡ false
+  pub seeks : Seeks program q want.need want.at
+
+abbrev pub word_seen : Program → Processor → Local → ℕ → ℕ
+word_seen program q n x = load_value WordLoad (byte_seen program q n) x
+
+-- the copy after a conditional store, where the address was reserved or wasn't
+abbrev pub local_conditional : Program → Local → ℕ → ℕ → Bool → Local
+local_conditional program n x value true =
+    record (local_stored program n Word x value) { reservation = None }
+local_conditional program n x value false = record n { reservation = None }
+
+abbrev pub CommitsConditional : Program → (Processor → Type 0) → Processor → Local → Outcome → ℕ → ℕ
+    → ℕ → Bool → Type 0
+CommitsConditional program K q n r d x value reserved =
+    (r.access ≡ WritesIf x value reserved) × (r.printed ≡ None)
+    × (r.local ≡ local_conditional program n x value reserved)
+    × K (after_conditional program q d x value reserved)
 
 -- the word does what the processor asks for, and goes on well with the processor after its step
 abbrev pub Commits : Program → (Processor → Type 0) → Processor → Local → Outcome → Request → Type 0
@@ -66,10 +96,23 @@ Commits program K q n r (LoadsFrom k d x) =
 Commits program K q n r (StoresTo w x value) =
     (r.access ≡ Writes w x value) × (r.printed ≡ None)
     × (r.local ≡ local_stored program n w x value) × K (after_store program q w x value)
+Commits program K q n r (ReservesAt d x) =
+    (r.access ≡ Reads WordLoad x (word_seen program q n x)) × (r.printed ≡ None)
+    × (r.local ≡ record n { reservation = Some x })
+    × K (set_register q d (word_seen program q n x))
+Commits program K q n r (StoresWhere d x value) =
+    CommitsConditional program K q n r d x value (holds n.reservation x)
+Commits program K q n r (UpdatesAt o d x value) =
+    (r.access ≡ Exchanges x (word_seen program q n x) (amo o (word_seen program q n x) value))
+    × (r.printed ≡ None)
+    × (r.local ≡ local_stored program n Word x (amo o (word_seen program q n x) value))
+    × K (after_exchange program q x (amo o (word_seen program q n x) value) d
+    (word_seen program q n x))
 
--- the word commits, or it does nothing that the original sees
+-- the word commits by a licensed access, or it does nothing that the original sees
 abbrev pub Continues : Program → (Processor → Type 0) → Processor → Local → Outcome → Bool → Type 0
-Continues program K q n r true = Commits program K q n r (request program q)
+Continues program K q n r true =
+    Licensed n r.access × Commits program K q n r (request program q)
 Continues program K q n r false = (r.printed ≡ None) × (r.local ≡ n) × K q
 
 -- what holds of the words behind one, once so many more are skipped
@@ -99,14 +142,29 @@ Leads program a k at K q n r m (To target) =
 Leads program a k at K q n r m (Enters target) =
     Continues program (λ p. AtHead program target p r.lane) q n r (commits_by m r)
 Leads program a k at K q n r m (Waits resume want more) =
-    (commits_by m r ≡ false) × (r.printed ≡ None) × (r.local ≡ n)
-    × ((n' : Local) → Suits program n' → Grants want more n'
+    (commits_by m r ≡ false) × (r.printed ≡ None) × (r.local ≡ n) × (more ≡ [])
+    × IsWanted program q n want
+    × ((n' : Local) → Suits program n'
+    → grants want.need (n'.state (line_of want.at)) ≡ true
     → Resumes program a k K q r.lane resume n')
+
+-- a word before which messages are taken is the first of its place, where the node stands at the
+-- head whatever the messages bring
+abbrev pub IsHead : Program → ℕ → ℕ → Processor → Lane → Type 0
+IsHead program a k q l = (k ≡ 0) × AtHead program a q l
 
 abbrev pub ItemLeads : Program → ℕ → ℕ → ℕ → Rest → CommitKind → Processor → Lane → Local → ItemWord
     → Type 0
 ItemLeads program a k at K m q l n (GoesTo place to_head) =
     (m ≡ Never) × IsPlace program.code place × AtHead program place q l
+ItemLeads program a k at K m q l n (Runs Poll) =
+    IsHead program a k q l
+    × Leads program a k at K q n (execute program a at Poll l n) m
+    (execute program a at Poll l n).move
+ItemLeads program a k at K m q l n (Runs Call) =
+    IsHead program a k q l
+    × Leads program a k at K q n (execute program a at Call l n) m
+    (execute program a at Call l n).move
 ItemLeads program a k at K m q l n (Runs w) =
     Leads program a k at K q n (execute program a at w l n) m (execute program a at w l n).move
 

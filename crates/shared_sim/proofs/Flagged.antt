@@ -28,12 +28,14 @@ use Rattle.templates.specs.declared.commits.CommitKind.TheVariants.{Always, IfNo
 use Rattle.templates.specs.declared.plans.Scratches.{Scratches}
 use Rattle.templates.specs.Plans.{looks_at_value, HasOneScratch}
 use Rattle.templates.specs.Sequences.{SequenceItem, with_word, committing, checking, own, reload, lower_part, flag_word, flag_load_sequence}
-use Rattle.node_machine.specs.Node.{Lane, Local, Outcome, flag_byte, byte_at, first_state, is_mapped_state, is_readable_state, native, execute}
+use Rattle.flag_memory.specs.Flag.{flag_byte}
+use Rattle.node_model.specs.Node.{Lane, Local, Outcome, byte_at, is_readable_state, native, execute}
 use Rattle.shared_sim.specs.CoreRun.{commits_by}
 use Rattle.shared_sim.proofs.RegisterLemmas.{apart, equal, reg_zero, put_here, put_other}
-use Rattle.shared_sim.proofs.Does.{AtHead, Suits, Rest, lane_at, Continues, Leads, Does}
+use Rattle.shared_sim.proofs.States.{Suits, ReadLook, Gone, Readable, Unreadable, read_look}
+use Rattle.shared_sim.proofs.Does.{AtHead, Rest, byte_seen, lane_at, Continues, Leads, Does}
 use Rattle.shared_sim.proofs.Mids.{Hide, Shown, IsHidden, hiding, shown, Mid, with_reg, hide_hidden, alu_add, spill_0, next_aligned, mid_at, own_set, own_set_unused, own_next, own_sets, own_jumps, spill_does, reload_does}
-use Rattle.shared_sim.proofs.Checked.{value_same, not_live, load_outcome, seen_value, same_base, load_misaligned, load_gives, load_sees, load_commits, miss_refused, miss_passes}
+use Rattle.shared_sim.proofs.Checked.{value_same, not_live, load_outcome, seen_value, same_base, load_misaligned, load_gives, load_sees, load_commits, refused, read_missed}
 
 taken_unequal : (a b : ℕ) → taken Ne a b ≡ not (eqb a b)
 unfolding taken
@@ -47,12 +49,12 @@ taken_negative a = elim (leb_tells (suc a) (2 ^ 31)) [
   | inr high ↦ rw high.0 refl
 ]
 
-extend_word : (v : ℕ) → extend load_kind.Word v ≡ v
+pub extend_word : (v : ℕ) → extend load_kind.Word v ≡ v
 unfolding extend
 extend_word v = refl
 
 -- the bytes of an unmapped line make the flag word
-flag_bytes : (a : ℕ) → a % 4 ≡ 0 → raw Word flag_byte a ≡ flag_word
+pub flag_bytes : (a : ℕ) → a % 4 ≡ 0 → raw Word flag_byte a ≡ flag_word
 unfolding raw
 flag_bytes a m =
     let e0 : eqb (a % 4) 0 ≡ true = grind (arith, nat_tests) in
@@ -143,11 +145,11 @@ module _ (program : Program) (accepted : IsAccepted program) where
     abbrev test : List SequenceItem
     test = own (Branch Lt s 0 (pos 16)) first
 
-    ends : (j at : ℕ) (p : Processor) (l : Lane) → Mid program hides (a + 4) p l
-        → Does program a j at last 0 p l n
-    ends j at p l m =
-        reload_does program a x.s.spilled 0 s j at (a + 4) shown p l n [] spill_0 one.s.nonzero refl
-        m (λ j1 to1 l1 m1. (
+    ends : (n' : Local) (j at : ℕ) (p : Processor) (l : Lane) → Mid program hides (a + 4) p l
+        → Does program a j at last 0 p l n'
+    ends n' j at p l m =
+        reload_does program a x.s.spilled 0 s j at (a + 4) shown p l n' [] spill_0 one.s.nonzero
+        refl m (λ j1 to1 l1 m1. (
           (word, c),
           record {
             place = m1.place;
@@ -158,34 +160,29 @@ module _ (program : Program) (accepted : IsAccepted program) where
           },
         ))
 
-    -- the look at the line's state: it isn't mapped, or the word is loaded again
-    looks : (j at : ℕ) (l : Lane) → Mid program hides a q l → Does program a j at look 0 q l n
-    looks j at l m = go (class_at program address) refl
+    -- the second load, where the line is readable
+    loads_again : (n' : Local) → is_readable_state (n'.state (line_of address)) ≡ true
+        → is_mapped (class_at program address) ≡ true → (j at : ℕ) (l : Lane)
+        → Mid program hides a q l → Does program a j at again 0 q l n'
+    loads_again n' readable mapped j at l m = go (is_aligned Word address) refl
       where
-        loads : is_mapped (class_at program address) ≡ true → is_aligned Word address ≡ true
-            → (x y : ℕ) → Does program a (j + 1) (next_pc at) again 0 q (lane_at x y l) n
-        loads mapped f x y =
-            load_commits program accepted a q n hides load_kind.Word rd rs1 imm c base_shown (j + 1)
-            (next_pc at) (lane_at x y l) Always last destination_shown f mapped refl
-            (mid_at program a hides q l x y m)
-            (λ x1 y1 mid. ends (j + 1 + 1) (next_pc (next_pc at)) _ _ mid)
+        go : (b : Bool) → is_aligned Word address ≡ b → Does program a j at again 0 q l n'
+        go false f = load_misaligned program accepted a q n' hides load_kind.Word rd rs1 imm c
+            base_shown j at l Always last f m
+        go true f =
+            load_commits program accepted a q n' hides load_kind.Word rd rs1 imm c base_shown j at l
+            Always last destination_shown f mapped readable refl m
+            (λ x1 y1 mid. ends n' (j + 1) (next_pc at) _ _ mid)
 
-        readable : (cl : Class) → class_at program address ≡ cl → is_mapped cl ≡ true
-            → is_mapped_state (first_state cl) ≡ true → is_readable_state (first_state cl) ≡ true
-            → Does program a j at look 0 q l n
-        readable cl e mapped state_mapped state_readable =
-            let state = suits.states (line_of address)
-            ∙ ap first_state e in
-            miss_passes program accepted a q n hides load_kind.Word rd rs1 imm c base_shown j at l
-            again (ap is_mapped_state state ∙ state_mapped)
-            (ap is_readable_state state ∙ state_readable) m (loads (ap is_mapped e ∙ mapped))
-
-        go : (cl : Class) → class_at program address ≡ cl → Does program a j at look 0 q l n
-        go Shared e = readable Shared e refl refl refl
-        go ReadOnly e = readable ReadOnly e refl refl refl
-        go Private e = readable Private e refl refl refl
-        go Unmapped e = miss_refused program accepted a q n hides load_kind.Word rd rs1 imm c
-            base_shown j at l again e suits m
+    -- the look at the line's state: it isn't mapped, or the word is loaded again, once it may be
+    looks : (j at : ℕ) (l : Lane) → Mid program hides a q l → Does program a j at look 0 q l n
+    looks j at l m =
+        read_missed program accepted a q m.place Word rs1 imm address again j at l n suits
+        (ap (λ z. offset_address z imm)
+        (same_base program accepted a q n hides load_kind.Word rd rs1 imm c base_shown l m))
+        (λ e h. refused program accepted a q word e m.place c h)
+        (λ n' readable mapped x1 y1. loads_again n' readable mapped (j + 1) (next_pc at)
+        (lane_at x1 y1 l) (mid_at program a hides q l x1 y1 m))
 
     -- the branch past the look and the second load, where the register holds another value
     compares : (j at b : ℕ) (p : Processor) (l : Lane) (v : ℕ) → at % 4 ≡ 0
@@ -260,6 +257,24 @@ module _ (program : Program) (accepted : IsAccepted program) where
         v : ℕ
         v = seen_value program accepted a q n hides load_kind.Word rd rs1 imm c base_shown
 
+        -- a word that isn't the flag word is of a readable line
+        readable : is_aligned Word address ≡ true → is_mapped (class_at program address) ≡ true
+            → eqb v flag_word ≡ false
+            → ReadLook (class_at program address) (n.state (line_of address))
+            → is_readable_state (n.state (line_of address)) ≡ true
+        readable f mapped tells (Gone unmapped gone unreadable) =
+            let bad : false ≡ true = ap is_mapped (sym unmapped) ∙ mapped in cc
+        readable f mapped tells (Readable there known may) = may
+        readable f mapped tells (Unreadable shared known unreadable) =
+            let four : address % 4 ≡ 0 = grind (arith, nat_tests) in
+            let flag : load_value load_kind.Word n.copy address ≡ flag_word =
+            suits.flagged address shared four unreadable in
+            let same : v ≡ load_value load_kind.Word n.copy address =
+            ap (extend load_kind.Word) (value_same Word (byte_seen program q n) n.copy address f
+            (λ y line. ap (λ z. byte_by z (n.copy y) (program.first y) (q.private y) 0)
+            (ap program.class line ∙ shared))) in
+            let bad : true ≡ false = sym (equal v flag_word (same ∙ flag)) ∙ tells in cc
+
         sees : is_aligned Word address ≡ true → is_mapped (class_at program address) ≡ true
             → (t : Bool) → eqb v flag_word ≡ t → Does program a j at first 0 q l n
         sees f mapped true tells =
@@ -267,12 +282,14 @@ module _ (program : Program) (accepted : IsAccepted program) where
             (load_sees program accepted a q n hides load_kind.Word rd rs1 imm c base_shown at l f
             mapped m) tells
         sees f mapped false tells =
+            let may = readable f mapped tells (read_look (class_at program address)
+            (n.state (line_of address)) (suits.states (line_of address))) in
             load_commits program accepted a q n hides load_kind.Word rd rs1 imm c base_shown j at l
-            IfNotFlag flag destination_shown f mapped (ap not tells) m
+            IfNotFlag flag destination_shown f mapped may (ap not tells) m
             (λ x1 y1 mid. compares (j + 1) (next_pc at) (a + 4) (set_register q rd v)
             (lane_at x1 y1 (with_reg l rd v)) v (next_aligned at al)
             (put_here l.registers rd v nonzero) mid false tells
-            (λ k to l' m'. ends (k + 1 + 1) (next_pc (next_pc to)) (set_register q rd v) l' m'))
+            (λ k to l' m'. ends n (k + 1 + 1) (next_pc (next_pc to)) (set_register q rd v) l' m'))
 
         unmapped_flag : is_aligned Word address ≡ true → class_at program address ≡ Unmapped
             → eqb (load_value load_kind.Word (byte_at program l n) address) flag_word ≡ true

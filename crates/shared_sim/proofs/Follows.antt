@@ -1,130 +1,117 @@
--- A node follows a processor on one memory, over whole runs.
-use Rattle.std.proofs.Common.{◌≡◌, ℕ, ◌+◌, ◌<◌, Bool, true, false, cond, List, [], ◌∷◌, ◌++◌, None, refl, sym, ap, ◌∙◌, subst, inl, arith, append-nil, append_assoc}
-use Rattle.std.specs.Prelude.{unwrap_or, IsSome}
-use Rattle.std.specs.Option.{option_to_list}
-use Rattle.rv32_program.specs.Program.{IsAccepted}
-use Rattle.rv32_step.specs.OneMemory.{State, opening, value_read, Pick, Step, step, IsRun, run, values_read}
+-- The composed law, from the code's side and the directory protocol's.
+use Rattle.std.proofs.Common.{◌≡◌, ◌≢◌, ℕ, ◌*◌, ◌<◌, ◌≤◌, true, List, [], ap, ◌∙◌, arith}
+use Rattle.block_layout.specs.Layout.{Shape, IsValid, blocks, home, lines, block_of}
+use Rattle.rv32_program.specs.Program.{IsAccepted, line_of}
+use Rattle.rv32_step.specs.OneMemory.{opening}
 use Rattle.templates.specs.declared.plans.PlanEntry.{PlanEntry}
 use Rattle.jump_map.specs.Image.{IsRewriting}
-use Rattle.node_machine.specs.Node.{Work, Node, Outcome, Phase, opening_node, word_outcome}
-use Rattle.shared_sim.specs.CoreRun.{Core, Event, Exec, IsCoreRun, opening_core, event_step, after, commits, picks_of, values_of, printed_by}
-use Rattle.shared_sim.specs.Interleaving.{original_of, EndsAs, Interleaves}
-use Rattle.shared_sim.proofs.Plans.{split_at}
-use Rattle.shared_sim.proofs.Fetching.{word_address, new_of_place}
-use Rattle.shared_sim.proofs.Standing.{some_items, from_head}
-use Rattle.shared_sim.proofs.Words.{one, Matches, MatchesAfter, Advances, node_advances, ends_as}
+use Rattle.dsm_core.proofs.Openings.{LineLaws}
+use Rattle.node_model.specs.declared.Standing.TheVariants.{Over}
+use Rattle.node_model.specs.Node.{Work, Resume, Waiting, is_readable_state, is_writable_state, IsLaidOver, can_execute, standing_of}
+use Rattle.node_model.specs.Core.{Event, May, IsCoreRun, opening_core, after}
+use Rattle.shared_sim.specs.Licence.{AllLicensed}
+use Rattle.shared_sim.specs.Interleaving.{Interleaves, IsCoherent, GoesAlone, SameReservations, HaveRows, original_of, original_after}
+use Rattle.shared_sim.proofs.CodeSide.{CodeSide}
+use Rattle.shared_sim.proofs.CodeFollows.{code_side}
+use Rattle.shared_sim.proofs.DirectorySide.{Layout, coherent as nodes_coherent, alone, flagged}
+use Rattle.shared_sim.proofs.TurnTies.{rest_of, locals_of}
+use Rattle.shared_sim.proofs.Composed.{Composes, composes_from_start}
+use Rattle.shared_sim.proofs.Alone.{one_alone}
+use Rattle.shared_sim.proofs.Stuck.{never_stuck, moves, over, rows}
+
+-- what the laws of blocks say of a layout
+pub layout_of : LineLaws → ((s : Shape) (b : ℕ) → IsValid s → b < blocks s → 0 < lines s b)
+    → ((s : Shape) (b : ℕ) → IsValid s → b < blocks s → lines s b ≤ 64)
+    → ((s : Shape) (b : ℕ) → IsValid s → b < blocks s → home s b < s.nodes) → (work : Work)
+    → IsValid work.layout → IsLaidOver work.program work.layout → Layout work
+layout_of laws some few homes work valid over = record {
+  laws = laws;
+  valid = valid;
+  some = λ b below. some work.layout b valid below;
+  laid = record {
+    some = valid.some_node;
+    few = valid.few_nodes;
+    homes = λ b below. homes work.layout b valid below;
+    sizes = λ b below. few work.layout b valid below;
+  };
+  over = over;
+}
 
 module _ (work : Work) (plan : List PlanEntry) (accepted : IsAccepted work.program)
-    (rewriting : IsRewriting work.program plan work.image) (single : work.nodes ≡ 1) where
-  -- from this state on the picks are a run of the processor, with these values, bytes and end
-  record Follows (s : State) (picks : List Pick) (values printed : List ℕ) (phase : Phase) : Type 0
-    where
-      allowed : IsRun (original_of work) s picks
-      same_values : values_read (original_of work) 0 s picks ≡ values
-      output : (run (original_of work) s picks).output ≡ s.output ++ printed
-      ends : EndsAs work.budget (one (run (original_of work) s picks)).exit phase
+    (lay : Layout work) (rewriting : IsRewriting work.program plan work.image) (es : List Event)
+    (may : IsCoreRun work (opening_core work) es) where
+  abbrev code : CodeSide work.layout work plan
+  code = code_side work.layout work plan accepted rewriting
 
-  -- a word more at the front of a run
-  join : (executed : ℕ) (s : State) (r : Outcome) (b : Bool) (picks : List Pick)
-      (values printed : List ℕ) (phase : Phase) → (one s).exit ≡ None
-      → Advances work plan accepted rewriting executed s r b
-      → ((t : State) → MatchesAfter work plan accepted rewriting executed t r
-      → Follows t picks values printed phase)
-      → Follows s (cond b (Step 0 ∷ []) [] ++ picks)
-      (cond b (option_to_list (value_read r.access)) [] ++ values)
-      (option_to_list r.printed ++ printed) phase
-  join executed s r true picks values printed phase e a f =
-      let st = step (original_of work) s 0 in
-      let rest = f st.state a.matches in
+  composed : Composes work plan lay code
+      (opening_core work) (opening (original_of work)) es
+  composed = composes_from_start work plan lay
+      code es may
+
+  pub interleaves : Interleaves work plan es
+  interleaves =
+      let f = composed.follows in
       record {
-        allowed = ((omega (arith, single), e), rest.allowed);
-        same_values = ap (λ x. option_to_list (value_read x)
-            ++ values_read (original_of work) 0 st.state picks) (sym a.access)
-            ∙ ap (λ xs. option_to_list (value_read r.access) ++ xs) rest.same_values;
-        output = rest.output ∙ ap (λ xs. xs ++ printed) a.output
-            ∙ append_assoc s.output (option_to_list r.printed) printed;
-        ends = rest.ends;
-      }
-  join executed s r false picks values printed phase e a f =
-      let rest = f s a.matches in
-      record {
-        allowed = rest.allowed;
-        same_values = rest.same_values;
-        output = rest.output
-            ∙ ap (λ o. s.output ++ (option_to_list o ++ printed)) (sym a.printed);
-        ends = rest.ends;
+        allowed = f.advanced.allowed;
+        values = λ p low. f.advanced.same_values p;
+        output = f.advanced.output;
+        ends = f.ends;
       }
 
-  abbrev MatchesNode : State → Node → Type 0
-  MatchesNode s n = Matches work plan accepted rewriting s n.lane n.local n.phase
+  pub licensed : AllLicensed work plan (opening_core work) es
+  licensed = composed.licensed
 
-  abbrev FollowsRun : State → Core → List Event → Type 0
-  FollowsRun s c es =
-      Follows s (picks_of work plan c es) (values_of work plan 0 c es) (printed_by work c es)
-      ((after work c es).nodes 0).phase
-
-  -- a whole run
-  follow : (es : List Event) (c : Core) (s : State) → MatchesNode s (c.nodes 0)
-      → IsCoreRun work c es
-      → FollowsRun s c es
-  follow [] c s h may = record {
-    allowed = tt;
-    same_values = refl;
-    output = sym (append-nil s.output);
-    ends = ends_as work plan accepted rewriting (one s) (c.nodes 0).lane (c.nodes 0).local
-        (c.nodes 0).phase h.fits;
-  }
-  follow (Exec i ∷ es) c s h may =
-      let here : i ≡ 0 = (let low = may.0.0 in omega (arith, low, single)) in
-      subst (λ j. IsCoreRun work c (Exec j ∷ es) → FollowsRun s c (Exec j ∷ es)) (sym here) (λ m.
-      let n = c.nodes 0 in
-      let a = node_advances work plan accepted rewriting s n h m.0.1 in
-      let d = event_step work c (Exec 0) in
-      join (n.executed + 1) s (word_outcome work n) (commits work plan n) (picks_of work plan d es)
-      (values_of work plan 0 d es) (printed_by work d es) ((after work d es).nodes 0).phase a.0 a.1
-      (λ t g. follow es d t g m.1)) may
-
-  opening_matches : MatchesNode (opening (original_of work)) (opening_node work 0)
-  opening_matches =
-      let program = work.program in
-      let n = opening_node work 0 in
-      let f = split_at plan program.entry (rewriting.admissible.complete program.entry
-      (inl (subst IsSome (sym accepted.starts) refl))) in
-      let at : n.lane.at ≡ word_address program f 0 = ap (λ o. unwrap_or o 0)
-      (new_of_place program plan work.image rewriting program.entry f
-      (some_items f.entry (program.code f.entry.address))) in
+  pub coherent : IsCoherent work (after work (opening_core work) es)
+      (original_after work plan es).shared
+  coherent =
+      let c = after work (opening_core work) es in
+      let memory = (original_after work plan es).shared in
+      let held = composed.matches.matches.shares.held in
       record {
-        copy = refl;
-        suits = record { states = λ line. refl };
-        fits = (
-          refl,
-          from_head program plan work.image accepted rewriting program.entry
-              (one (opening (original_of work))) n.lane n.local (record { states = λ line. refl }) f
-              at
-              (record {
-                place = refl;
-                running = refl;
-                agree = λ r live. refl;
-                private = refl;
-                written = refl;
-              }),
-        );
+        reads = λ i a low shared readable.
+            nodes_coherent work lay (locals_of c) (rest_of c) memory held i low a shared readable;
+        flags = λ i a low shared unreadable.
+            flagged work lay (locals_of c) (rest_of c) memory held i low a shared unreadable;
+        one_writer = λ i j x y b low_i low_j at_x at_y writable readable.
+            let is_x : line_of (64 * x) ≡ x = omega arith in
+            let is_y : line_of (64 * y) ≡ y = omega arith in
+            alone work lay (locals_of c) (rest_of c) memory held i j low_i low_j (64 * x) (64 * y) b
+            (ap (block_of work.layout) is_x ∙ at_x) (ap (block_of work.layout) is_y ∙ at_y)
+            (ap (λ z. is_writable_state ((locals_of c i).state z)) is_x ∙ writable)
+            (ap (λ z. is_readable_state ((locals_of c j).state z)) is_y ∙ readable);
       }
 
-  pub interleaves : (es : List Event) → IsCoreRun work (opening_core work) es
-      → Interleaves work plan es
-  interleaves es may =
-      let f = follow es (opening_core work) (opening (original_of work)) opening_matches may in
-      let zero_is : (p : ℕ) → p < work.nodes → 0 ≡ p = λ p low. omega (arith, low, single) in
-      record {
-        allowed = f.allowed;
-        values = λ p low. subst (λ q. values_read (original_of work) q (opening (original_of work))
-            (picks_of work plan (opening_core work) es)
-            ≡ values_of work plan q (opening_core work) es)
-            (zero_is p low) f.same_values;
-        output = f.output;
-        ends = λ p low. subst (λ q. EndsAs work.budget
-            ((run (original_of work) (opening (original_of work))
-            (picks_of work plan (opening_core work) es)).processors q).exit
-            ((after work (opening_core work) es).nodes q).phase) (zero_is p low) f.ends;
-      }
+  pub same_reservations : SameReservations work (after work (opening_core work) es)
+      (original_after work plan es)
+  same_reservations p low = composed.matches.matches.shares.reservations p low
+
+  -- one node
+  pub goes_alone : work.layout.nodes ≡ 1
+      → can_execute ((after work (opening_core work) es).nodes 0).phase ≡ true
+      → GoesAlone work ((after work (opening_core work) es).nodes 0)
+  goes_alone single runs =
+      one_alone work plan lay code single es may runs
+
+  -- some event is allowed
+  pub goes_on : (i : ℕ) → i < work.layout.nodes
+      → standing_of work ((after work (opening_core work) es).nodes i) ≢ Over
+      → (e : Event) × May work (after work (opening_core work) es) e
+  goes_on = never_stuck work plan lay code es may
+
+  -- where a node waits, some list isn't empty
+  pub waiting_moves : (i : ℕ) (resume : Resume) → i < work.layout.nodes
+      → ((after work (opening_core work) es).nodes i).phase ≡ Waiting resume
+      → (j : ℕ) × (k : ℕ) × (j < work.layout.nodes) × (k < work.layout.nodes)
+      × ((after work (opening_core work) es).list j k ≢ [])
+  waiting_moves = moves work plan lay code es may
+
+  -- and where all nodes are over, each is
+  pub all_empty : ((i : ℕ) → i < work.layout.nodes
+      → standing_of work ((after work (opening_core work) es).nodes i) ≡ Over) → (j k : ℕ)
+      → j < work.layout.nodes → k < work.layout.nodes
+      → (after work (opening_core work) es).list j k ≡ []
+  all_empty = over work plan lay code es may
+
+  -- and the first message of a list has its row
+  pub have_rows : HaveRows work (after work (opening_core work) es)
+  have_rows = rows work plan lay code es may

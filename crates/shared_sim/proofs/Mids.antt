@@ -25,7 +25,7 @@ use Rattle.templates.specs.declared.runtime_words.RtWord.TheVariants.{Native}
 use Rattle.templates.specs.declared.commits.CommitKind.TheVariants.{Never}
 use Rattle.templates.specs.declared.plans.Scratches.{Scratches}
 use Rattle.templates.specs.Sequences.{SequenceItem, own, spill_offset, spill_by, reload_by, state_look}
-use Rattle.node_machine.specs.Node.{Lane, Local, Outcome, Next, To, go_on, set_register, native, load, StateOf, Spill, region_of, execute}
+use Rattle.node_model.specs.Node.{Lane, Local, Outcome, Next, To, go_on, set_register, native, load, StateOf, Spill, region_of, execute}
 use Rattle.shared_sim.proofs.RegisterLemmas.{apart, equal, reg_zero, put_here, put_other}
 use Rattle.shared_sim.proofs.Does.{lane_at, skip_to, Leads, Does}
 

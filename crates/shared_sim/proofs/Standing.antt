@@ -16,10 +16,11 @@ use Rattle.templates.specs.Plans.{looks_at_value, may_poll, HasScratchesAt, temp
 use Rattle.templates.specs.Sequences.{SequenceItem, instruction_items, place_items, poll_first, items_of, spills, spill, spill_by, load_sequence, branch_sequence, jump_sequence, is_multiple_of_four}
 use Rattle.jump_map.specs.Image.{Cell, IsRewriting, image_base, distance}
 use Rattle.jump_map.specs.Maps.{new_of}
-use Rattle.node_machine.specs.Node.{Lane, Local, enter}
+use Rattle.node_model.specs.Node.{Lane, Local, enter}
 use Rattle.shared_sim.proofs.Plans.{EntrySplit, follows}
 use Rattle.shared_sim.proofs.Fetching.{items_at, word_address, in_range, next_word, next_split, new_of_place, new_of_none, AllApart, member, absent}
-use Rattle.shared_sim.proofs.Does.{AtHead, Suits, skip_to, Does}
+use Rattle.shared_sim.proofs.States.{Suits}
+use Rattle.shared_sim.proofs.Does.{AtHead, skip_to, Does}
 use Rattle.shared_sim.proofs.Templates.{entry_does}
 
 pub get_middle : {X : Type 0} (xs : List X) (y : X) (ys : List X)
@@ -78,9 +79,9 @@ some_instruction_items a regs (Op o rd rs1 rs2) = omega arith
 some_instruction_items a regs (Fence rd rs1 bits) = omega arith
 some_instruction_items a regs Ecall = omega arith
 some_instruction_items a regs Ebreak = omega arith
-some_instruction_items a regs (Lr rd rs1 aq rl) = omega arith
+some_instruction_items a regs (Lr rd rs1 aq rl) = some_spills regs _ (omega arith)
 some_instruction_items a regs (Sc rd rs1 rs2 aq rl) = omega arith
-some_instruction_items a regs (Amo o rd rs1 rs2 aq rl) = omega arith
+some_instruction_items a regs (Amo o rd rs1 rs2 aq rl) = some_spills regs _ (omega arith)
 some_instruction_items a regs (Illegal word) = omega arith
 
 some_place_items : (a : ℕ) (regs : Scratches) (o : Option Instr) → 0 < length (place_items a regs o)

@@ -1,6 +1,6 @@
 -- Each template by itself: from the head of its place to its commit, and on to the next head.
 use Rattle.std.proofs.Common.{◌≡◌, ◌≢◌, ℕ, suc, ◌+◌, ◌*◌, ◌/◌, ◌%◌, ◌^◌, ◌<◌, Bool, true, false, cond, eqb, List, [], Option, Some, None, refl, sym, ap, ◌∙◌, subst, inl, inr, arith, lit<}
-use Rattle.std.specs.Prelude.{ℤ, pos, not, int_lt, nat_lt, IsTrue}
+use Rattle.std.specs.Prelude.{ℤ, pos, not, nat_lt, IsTrue}
 use Rattle.std.proofs.lemmas.Bool.Decides.{eqb_tells, leb_tells, nat_tests}
 use Rattle.rv32_decode.specs.Fields.{unsigned}
 use Rattle.rv32_decode.specs.Registers.{destination}
@@ -12,8 +12,6 @@ use Rattle.rv32_decode.specs.declared.ImmOp.TheVariants as imm_op
 use Rattle.rv32_decode.specs.declared.LoadKind.{LoadKind}
 use Rattle.rv32_decode.specs.declared.LoadKind.TheVariants.{Byte, Half, Word, ByteU, HalfU}
 use Rattle.rv32_ops.specs.Operations.{alu, taken, is_signed_below}
-use Rattle.rv32_program.specs.declared.Class.{Class}
-use Rattle.rv32_program.specs.declared.Class.TheVariants.{Shared, ReadOnly, Private, Unmapped}
 use Rattle.rv32_program.specs.declared.Exit.{Exit as Ending}
 use Rattle.rv32_program.specs.declared.Exit.TheVariants.{Ebreak as EbreakExit, Illegal as IllegalExit, Misaligned, Fetch}
 use Rattle.rv32_step.specs.declared.Demand.TheVariants.{Sets, Jumps, Branches}
@@ -25,7 +23,7 @@ use Rattle.rv32_program.specs.Targets.{offset_address, target_of}
 use Rattle.rv32_step.specs.Memory.{byte_by}
 use Rattle.rv32_program.specs.declared.CallKind.{CallKind}
 use Rattle.rv32_program.specs.declared.CallKind.TheVariants.{Exit, Write, Unknown}
-use Rattle.rv32_program.specs.Program.{Program, IsAccepted, call_of, is_supported, class_at, is_mapped, line_of}
+use Rattle.rv32_program.specs.Program.{Program, IsAccepted, call_of, class_at, is_mapped, line_of}
 use Rattle.rv32_program.specs.Liveness.{uses, passes, Next as Follows}
 use Rattle.rv32_step.specs.OneMemory.{Processor, Reads, Request, Becomes, Prints, request, request_at, request_for, request_unless, request_of_call, with_exit, set_register, to_next, after_jump, after_branch, after_call, next_pc}
 use Rattle.templates.specs.declared.runtime_words.RtWord.{RtWord}
@@ -38,11 +36,16 @@ use Rattle.templates.specs.declared.plans.Template.TheVariants as template
 use Rattle.templates.specs.Places.{IsPlace}
 use Rattle.templates.specs.Plans.{looks_at_value, may_poll, HasScratches, HasScratchesAt, template_at}
 use Rattle.templates.specs.Sequences.{SequenceItem, committing, with_word, to_head, constant, upper_part, lower_part, inverse, load_sequence, branch_sequence, jump_sequence, is_multiple_of_four, instruction_items, place_items, poll_first, items_of}
-use Rattle.node_machine.specs.Node as node
-use Rattle.node_machine.specs.Node.{Lane, Local, Outcome, Next, Again, To, Enters, Leaves, go_on, exit_by, first_state, is_mapped_state, is_readable_state, byte_at, flag_byte, native, make_call, put_byte, print_byte, lane_after_call, indirect, execute}
+use Rattle.home_directory.specs.declared.messages.Need.TheVariants.{Read}
+use Rattle.flag_memory.specs.Flag.{flag_byte}
+use Rattle.node_model.specs.Node as node
+use Rattle.node_model.specs.Node.{Lane, Local, Outcome, Next, To, Enters, Waits, SameWord, go_on, exit_by, is_readable_state, byte_at, native, make_call, print_byte, lane_after_call, indirect, execute}
 use Rattle.shared_sim.proofs.RegisterLemmas.{apart, equal, put_here, put_both, put_twice, put_zero}
-use Rattle.shared_sim.proofs.Does.{AtHead, Suits, byte_seen, lane_at, skip_to, Commits, Leads, Does}
+use Rattle.shared_sim.proofs.States.{Suits, ReadLook, Gone, Readable, Unreadable, read_look}
+use Rattle.shared_sim.proofs.Does.{AtHead, byte_seen, lane_at, skip_to, Commits, Leads, Does}
 use Rattle.shared_sim.proofs.Mids.{alu_add, next_aligned, own_sets}
+use Rattle.shared_sim.proofs.Atomics.{reserved_does, update_does}
+use Rattle.shared_sim.proofs.Conditionals.{conditional_does}
 use Rattle.shared_sim.proofs.Checked.{asks, next_is, state_load_does, store_does, byte_mapped, leaves}
 use Rattle.shared_sim.proofs.Flagged.{flag_load_does}
 
@@ -110,16 +113,18 @@ number_in rd c f small r = elim (eqb_tells rd 0) [
 module _ (program : Program) (accepted : IsAccepted program) where
   module _ (a : ℕ) (q : Processor) (l : Lane) (n : Local) (head : AtHead program a q l) where
     -- a word that commits by itself, where the processor asks for nothing of the memory
-    becomes : (k at : ℕ) (w : RtWord) (rest : List SequenceItem) (q' : Processor) (l' : Lane)
-        → execute program a at w l n ≡ go_on l' n Next → request program q ≡ Becomes q'
+    becomes : (k at : ℕ) (i : Instr) (rest : List SequenceItem) (q' : Processor) (l' : Lane)
+        → execute program a at (Native i) l n ≡ go_on l' n Next → request program q ≡ Becomes q'
         → q'.exit ≡ None
         → ((x y : ℕ) → Does program a (k + 1) (next_pc at) rest 0 q' (lane_at x y l') n)
-        → Does program a k at (committing w rest) 0 q l n
-    becomes k at w rest q' l' is ask run go =
+        → Does program a k at (committing (Native i) rest) 0 q l n
+    becomes k at i rest q' l' is ask run go =
         subst (λ (r : Outcome). Leads program a k at
-        (λ s. Does program a (k + 1) (next_pc at) rest s) q n r Always r.move) (sym is)
-        (subst (Commits program (λ p. (x y : ℕ) → Does program a (k + 1) (next_pc at) rest 0 p
-        (lane_at x y l') n) q n (go_on l' n Next)) (sym ask) (run, refl, refl, refl, go))
+        (λ s. Does program a (k + 1) (next_pc at) rest s) q n r Always r.move) (sym is) (
+          tt,
+          subst (Commits program (λ p. (x y : ℕ) → Does program a (k + 1) (next_pc at) rest 0 p
+              (lane_at x y l') n) q n (go_on l' n Next)) (sym ask) (run, refl, refl, refl, go),
+        )
 
     -- one that ends the processor
     ends_here : (k at : ℕ) (w : RtWord) (m : CommitKind) (rest : List SequenceItem) (e : Ending)
@@ -138,7 +143,7 @@ module _ (program : Program) (accepted : IsAccepted program) where
     plain_does rd v i at h here there only next =
         let ask : request program q ≡ Becomes (set_register q rd v) =
         asks program a q i head.place h ∙ ap (request_for program q) there in
-        becomes 0 at (Native i) [] (set_register q rd v) (node.set_register l rd v)
+        becomes 0 at i [] (set_register q rd v) (node.set_register l rd v)
         (ap (native program a at l n) here) ask head.running
         (λ x y. (
           (i, h),
@@ -155,7 +160,7 @@ module _ (program : Program) (accepted : IsAccepted program) where
     fence_does : (rd rs1 bits at : ℕ) → program.code a ≡ Some (Fence rd rs1 bits)
         → Does program a 0 at (committing (Native (Fence rd rs1 bits)) []) 0 q l n
     fence_does rd rs1 bits at h =
-        becomes 0 at (Native (Fence rd rs1 bits)) [] (to_next q) l refl
+        becomes 0 at (Fence rd rs1 bits) [] (to_next q) l refl
         (asks program a q (Fence rd rs1 bits) head.place h) head.running
         (λ x y. (
           (Fence rd rs1 bits, h),
@@ -189,16 +194,18 @@ module _ (program : Program) (accepted : IsAccepted program) where
         (alu_add (reg l1.registers rd) (unsigned 32 (lower_part c))) in
         subst (λ (r : Outcome). Leads program a (k + 1) (next_pc at)
         (λ s. Does program a (k + 1 + 1) (next_pc (next_pc at)) rest s) q n r Always r.move)
-        (sym is)
-        (subst (Commits program (λ p. (x y : ℕ) → Does program a (k + 1 + 1) (next_pc (next_pc at))
-        rest 0 p (lane_at x y l2) n) q n (go_on l2 n Next)) (sym ask) (
-          run,
-          refl,
-          refl,
-          refl,
-          λ x2 y2. go x2 y2 l2 (λ r. put_twice l.registers rd (upper_part c * 2 ^ 12) v r
-              ∙ number_in rd c l.registers small r) refl refl,
-        )))
+        (sym is) (
+          tt,
+          subst (Commits program (λ p. (x y : ℕ) → Does program a (k + 1 + 1)
+              (next_pc (next_pc at)) rest 0 p (lane_at x y l2) n) q n (go_on l2 n Next)) (sym ask) (
+                run,
+                refl,
+                refl,
+                refl,
+                λ x2 y2. go x2 y2 l2 (λ r. put_twice l.registers rd (upper_part c * 2 ^ 12) v r
+                    ∙ number_in rd c l.registers small r) refl refl,
+              ),
+        ))
 
     -- an address of the program's counter in a register
     address_does : (rd upper at : ℕ) → program.code a ≡ Some (Auipc rd upper)
@@ -226,7 +233,8 @@ module _ (program : Program) (accepted : IsAccepted program) where
     off_target at m = let ne : offset_address at (pos 2) % 4 ≢ 0 = omega arith in
         apart (offset_address at (pos 2) % 4) 0 ne
 
-    jump_does : (j rd : ℕ) (offset : ℤ) (at : ℕ) → program.code a ≡ Some (Jal rd offset) → at % 4 ≡ 0
+    jump_does : (j rd : ℕ) (offset : ℤ) (at : ℕ) → program.code a ≡ Some (Jal rd offset)
+        → at % 4 ≡ 0
         → (b : Bool) → is_multiple_of_four (offset_address a offset) ≡ b
         → Does program a j at (jump_sequence b rd ((a + 4) % 2 ^ 32) (offset_address a offset)) 0 q
         l n
@@ -331,7 +339,7 @@ module _ (program : Program) (accepted : IsAccepted program) where
               let ask : request program q ≡ Becomes (after_branch q t) = asks_branch true e
               ∙ ap (λ b. request_unless program q (Branches t)
               (cond b None (Some (Misaligned q.pc)))) al in
-              becomes j at (Native (Branch (inverse c) rs1 rs2 (pos 8))) rest (after_branch q t) l
+              becomes j at (Branch (inverse c) rs1 rs2 (pos 8)) rest (after_branch q t) l
               (acts true e) ask head.running
               (λ x y. (
                 refl,
@@ -355,14 +363,17 @@ module _ (program : Program) (accepted : IsAccepted program) where
               subst (λ (r : Outcome). Leads program a j at K q n r Always r.move) (sym is) (
                 1,
                 there,
-                subst (Commits program (λ p. (x y : ℕ) → K 1 p (lane_at x y l) n) q n
-                    (go_on l n (To (offset_address at (pos 8))))) (sym ask) (
-                      head.running,
-                      refl,
-                      refl,
-                      refl,
-                      λ x y. ((Branch c rs1 rs2 offset, h), falls x y),
-                    ),
+                (
+                  tt,
+                  subst (Commits program (λ p. (x y : ℕ) → K 1 p (lane_at x y l) n) q n
+                      (go_on l n (To (offset_address at (pos 8))))) (sym ask) (
+                        head.running,
+                        refl,
+                        refl,
+                        refl,
+                        λ x y. ((Branch c rs1 rs2 offset, h), falls x y),
+                      ),
+                ),
               )
 
       bad_branch : (at : ℕ) → at % 4 ≡ 0 → is_multiple_of_four (offset_address a offset) ≡ false
@@ -391,7 +402,7 @@ module _ (program : Program) (accepted : IsAccepted program) where
               ∙ ap (λ z. Becomes (with_exit q (Misaligned z))) head.place in
               ends_here j at (Native (Branch c rs1 rs2 (pos 2))) Always [] (Misaligned a)
               (acts true e ∙ rw (off_target at m) refl) ask
-          go false e = becomes j at (Native (Branch c rs1 rs2 (pos 2))) [] (to_next q) l
+          go false e = becomes j at (Branch c rs1 rs2 (pos 2)) [] (to_next q) l
               (acts false e) (asks_branch false e) head.running
               (λ x y. ((Branch c rs1 rs2 offset, h), falls x y))
 
@@ -428,22 +439,25 @@ module _ (program : Program) (accepted : IsAccepted program) where
             let l' = node.set_register l rd (next_pc a) in
             let is : execute program a at (Xjalr rd rs1 imm) l n ≡ go_on l' n (Enters t) = acts
             ∙ rw e refl in
-            subst (λ (r : Outcome). Leads program a j at K q n r Always r.move) (sym is)
-            (subst (Commits program (λ p. AtHead program t p l') q n (go_on l' n (Enters t)))
-            (sym ask) (
-              head.running,
-              refl,
-              refl,
-              refl,
-              record {
-                place = refl;
-                running = head.running;
-                agree = λ r live. put_both l.registers q.registers rd (next_pc a) r (λ ne. same r)
-                    ∙ ap (λ z. reg (put q.registers rd (next_pc z)) r) (sym head.place);
-                private = head.private;
-                written = head.written;
-              },
-            ))
+            subst (λ (r : Outcome). Leads program a j at K q n r Always r.move) (sym is) (
+              tt,
+              subst (Commits program (λ p. AtHead program t p l') q n (go_on l' n (Enters t)))
+                  (sym ask) (
+                    head.running,
+                    refl,
+                    refl,
+                    refl,
+                    record {
+                      place = refl;
+                      running = head.running;
+                      agree = λ r live. put_both l.registers q.registers rd (next_pc a) r (λ ne.
+                          same r)
+                          ∙ ap (λ z. reg (put q.registers rd (next_pc z)) r) (sym head.place);
+                      private = head.private;
+                      written = head.written;
+                    },
+                  ),
+            )
         go false e =
             let ask : request program q ≡ Becomes (with_exit q (Misaligned a)) =
             asks program a q (Jalr rd rs1 imm) head.place h
@@ -481,82 +495,91 @@ module _ (program : Program) (accepted : IsAccepted program) where
 
       returns_does : (v : ℕ) → request program q ≡ Becomes (after_call q v)
           → Good (go_on (lane_after_call l v) n Next)
-      returns_does v ask =
-          subst (Commits program (λ p. (x y : ℕ) → Does program a (0 + 1) (next_pc at) [] 0 p
-          (lane_at x y (lane_after_call l v)) n) q n (go_on (lane_after_call l v) n Next))
-          (sym ask) (
-            head.running,
-            refl,
-            refl,
-            refl,
-            λ x y. (
-              (Ecall, h),
-              record {
-                place = next_is program accepted a q Ecall head.place h;
-                running = head.running;
-                agree = λ r live. put_both l.registers q.registers 10 v r (λ ne. same_all r);
-                private = head.private;
-                written = refl;
-              },
+      returns_does v ask = (
+        tt,
+        subst (Commits program (λ p. (x y : ℕ) → Does program a (0 + 1) (next_pc at) [] 0 p
+            (lane_at x y (lane_after_call l v)) n) q n (go_on (lane_after_call l v) n Next))
+            (sym ask) (
+              head.running,
+              refl,
+              refl,
+              refl,
+              λ x y. (
+                (Ecall, h),
+                record {
+                  place = next_is program accepted a q Ecall head.place h;
+                  running = head.running;
+                  agree = λ r live. put_both l.registers q.registers 10 v r (λ ne. same_all r);
+                  private = head.private;
+                  written = refl;
+                },
+              ),
             ),
-          )
+      )
 
-      prints_does : (x : ℕ) → is_mapped (class_at program x) ≡ true → request program q ≡ Prints x
+      prints_does : (x : ℕ) → is_mapped (class_at program x) ≡ true
+          → is_readable_state (n.state (line_of x)) ≡ true → request program q ≡ Prints x
           → Good (print_byte l n x (byte_at program l n x))
-      prints_does x mapped ask =
+      prints_does x mapped readable ask =
           let byte : byte_at program l n x ≡ byte_seen program q n x =
           byte_mapped (class_at program x) (n.copy x) (program.first x) (l.private x) (flag_byte x)
           mapped ∙ ap (λ f. byte_by (class_at program x) (n.copy x) (program.first x) (f x) 0)
           head.private in (
             refl,
-            subst (Commits program (λ p. AtHead program a p
-                (print_byte l n x (byte_at program l n x)).lane) q n
-                (print_byte l n x (byte_at program l n x))) (sym ask) (
-                  ap (Reads ByteU x) byte,
-                  ap (λ b. Some b) byte,
-                  refl,
-                  record {
-                    place = head.place;
-                    running = head.running;
-                    agree = head.agree;
-                    private = head.private;
-                    written = ap (λ w. w + 1) head.written;
-                  },
-                ),
+            (
+              readable,
+              subst (Commits program (λ p. AtHead program a p
+                  (print_byte l n x (byte_at program l n x)).lane) q n
+                  (print_byte l n x (byte_at program l n x))) (sym ask) (
+                    ap (Reads ByteU x) byte,
+                    ap (λ b. Some b) byte,
+                    refl,
+                    record {
+                      place = head.place;
+                      running = head.running;
+                      agree = head.agree;
+                      private = head.private;
+                      written = ap (λ w. w + 1) head.written;
+                    },
+                  ),
+            ),
           )
 
       call_step_does : (c : CallStep) → request program q ≡ request_of_call program q c
           → Good (make_call program l n c)
       call_step_does (Ends code) ask = (ask, refl, refl, refl)
       call_step_does (Returns v) ask = returns_does v ask
-      call_step_does (Puts x) ask = go (class_at program x) refl
+      call_step_does (Puts x) ask = go (read_look (class_at program x) (n.state (line_of x))
+          (suits.states (line_of x)))
         where
-          by : Class → Request
-          by c = cond (is_mapped c) (Prints x) (Becomes (after_call q (cut_short q.written)))
+          by : Bool → Request
+          by b = cond b (Prints x) (Becomes (after_call q (cut_short q.written)))
 
-          prints : (c : Class) → class_at program x ≡ c → is_mapped c ≡ true
-              → request program q ≡ Prints x
-              → Good (print_byte l n x (byte_at program l n x))
-          prints c e mapped ask = prints_does x (ap is_mapped e ∙ mapped) ask
+          waits : Outcome
+          waits = go_on l n (Waits SameWord (record { at = x; need = Read }) [])
 
-          state : (c : Class) → class_at program x ≡ c → first_state c ≡ n.state (line_of x)
-          state c e = sym (suits.states (line_of x) ∙ ap first_state e)
-
-          go : (c : Class) → class_at program x ≡ c → Good (make_call program l n (Puts x))
-          go Unmapped e =
-              let cut = ask ∙ ap by e ∙ ap (λ w. Becomes (after_call q (cut_short w)))
-              (sym head.written) in
-              subst (λ z. Good (put_byte program l n x z)) (state Unmapped e)
-              (returns_does (cut_short l.written) cut)
-          go Shared e =
-              subst (λ z. Good (put_byte program l n x z)) (state Shared e)
-              (prints Shared e refl (ask ∙ ap by e))
-          go ReadOnly e =
-              subst (λ z. Good (put_byte program l n x z)) (state ReadOnly e)
-              (prints ReadOnly e refl (ask ∙ ap by e))
-          go Private e =
-              subst (λ z. Good (put_byte program l n x z)) (state Private e)
-              (prints Private e refl (ask ∙ ap by e))
+          go : ReadLook (class_at program x) (n.state (line_of x))
+              → Good (make_call program l n (Puts x))
+          go (Gone unmapped gone unreadable) =
+              let cut = ask ∙ ap by (ap is_mapped unmapped)
+              ∙ ap (λ w. Becomes (after_call q (cut_short w))) (sym head.written) in
+              let does : make_call program l n (Puts x)
+              ≡ go_on (lane_after_call l (cut_short l.written)) n Next = rw gone refl in
+              subst Good (sym does) (returns_does (cut_short l.written) cut)
+          go (Readable mapped known readable) =
+              let does : make_call program l n (Puts x)
+              ≡ print_byte l n x (byte_at program l n x) = rw (known, readable) refl in
+              subst Good (sym does) (prints_does x mapped readable (ask ∙ ap by mapped))
+          go (Unreadable shared known unreadable) =
+              let does : make_call program l n (Puts x) ≡ waits = rw (known, unreadable) refl in
+              subst Good (sym does) (
+                refl,
+                refl,
+                refl,
+                refl,
+                record { shared = shared; unmet = unreadable; seeks = tt },
+                λ n' suited granted. (refl, head),
+              )
 
       same_step : (k : CallKind) → step_of k l.registers l.written ≡ step_of k q.registers l.written
       same_step Exit = ap (λ z. Ends (z % 2 ^ 8)) (same_all 10)
@@ -567,14 +590,11 @@ module _ (program : Program) (accepted : IsAccepted program) where
       call_does =
           let steps : call_step l.registers l.written ≡ call_step q.registers q.written =
           ap (λ z. step_of (call_of z) l.registers l.written) (same_all 17)
-          ∙ same_step (call_of (reg q.registers 17)) ∙ ap (call_step q.registers) head.written in
-          call_step_does (call_step l.registers l.written)
-          (asks program a q Ecall head.place h ∙ ap (request_of_call program q) (sym steps))
-
-  unsupported : {X : Type 0} (a : ℕ) (i : Instr) → program.code a ≡ Some i → is_supported i ≡ false
-      → X
-  unsupported a i h without = let with = accepted.supported a i h in let b : true ≡ false = sym with
-      ∙ without in cc
+          ∙ same_step (call_of (reg q.registers 17)) ∙ ap (call_step q.registers) head.written in (
+            (refl, head),
+            call_step_does (call_step l.registers l.written)
+                (asks program a q Ecall head.place h ∙ ap (request_of_call program q) (sym steps)),
+          )
 
   -- a load, by its value or its line's state
   load_does : (a : ℕ) (regs : Scratches) (q : Processor) (l : Lane) (n : Local) (at : ℕ)
@@ -641,11 +661,11 @@ module _ (program : Program) (accepted : IsAccepted program) where
   place_does a regs q l n at Ebreak h two suits head m = break_does a q l n head at h
   place_does a regs q l n at (Illegal w) h two suits head m = illegal_does a q l n head w at h
   place_does a regs q l n at (Lr rd rs1 aq rl) h two suits head m =
-      unsupported a (Lr rd rs1 aq rl) h refl
+      reserved_does program accepted a q n suits regs rd rs1 aq rl h two at l head m
   place_does a regs q l n at (Sc rd rs1 rs2 aq rl) h two suits head m =
-      unsupported a (Sc rd rs1 rs2 aq rl) h refl
+      conditional_does program accepted a q rd rs1 rs2 aq rl h n suits at l head
   place_does a regs q l n at (Amo o rd rs1 rs2 aq rl) h two suits head m =
-      unsupported a (Amo o rd rs1 rs2 aq rl) h refl
+      update_does program accepted a q n suits regs o rd rs1 rs2 aq rl h two at l head m
 
   -- behind a poll, which only a branch or a jump has
   behind_poll : (a : ℕ) (regs : Scratches) (q : Processor) (l : Lane) (n : Local) (at : ℕ)
@@ -710,8 +730,11 @@ module _ (program : Program) (accepted : IsAccepted program) where
           → Does program e.address 0 at (poll_first b (place_items e.address e.single o)) 0 q l n
       go false is = single o h scratches
       go true is = (
-        refl,
-        refl,
-        λ x y. behind_poll e.address e.single q (lane_at x y l) n (next_pc at) o h (polls is)
-            (head_at program e.address q l x y head) (next_aligned at m),
+        (refl, head),
+        (
+          refl,
+          refl,
+          λ x y. behind_poll e.address e.single q (lane_at x y l) n (next_pc at) o h (polls is)
+              (head_at program e.address q l x y head) (next_aligned at m),
+        ),
       )

@@ -1,47 +1,23 @@
--- Runs of n nodes, as lists of events, and the picks of the original processors that they stand for.
--- Nodes exchange no messages as yet.
-use Rattle.std.specs.Prelude.{◌≡◌, ℕ, ◌<◌, Bool, true, false, not, if◌then◌else◌, ◌==◌, ◌||◌, List, [], ◌∷◌, ◌++◌}
+-- The picks of the original processors that a core run stands for, and what its nodes read and
+-- print.
+use Rattle.std.specs.Prelude.{ℕ, Bool, true, false, not, if◌then◌else◌, ◌==◌, ◌||◌, List, [], ◌∷◌, ◌++◌, Option, Some, None}
 use Rattle.std.specs.Option.{option_map_or, option_to_list}
-use Rattle.rv32_step.specs.OneMemory.{Pick, Step, value_read}
+use Rattle.block_layout.specs.Layout.{Shape, has_line}
+use Rattle.rv32_program.specs.Program.{line_of}
+use Rattle.rv32_step.specs.OneMemory.{Pick, Step, Break, value_read}
 use Rattle.templates.specs.declared.commits.CommitKind.{CommitKind}
 use Rattle.templates.specs.declared.commits.CommitKind.TheVariants.{Never, Always, IfNotFlag, IfNoWait}
 use Rattle.templates.specs.declared.plans.PlanEntry.{PlanEntry}
 use Rattle.templates.specs.Sequences.{flag_word}
 use Rattle.templates.specs.Commits.{commit_at}
 use Rattle.jump_map.specs.Maps.{old_of}
-use Rattle.node_machine.specs.Node.{Work, Node, Outcome, Move, Leaves, Waits, can_execute, opening_node, word_outcome, word_step}
-
--- what happens on the nodes: a node executes a word
-pub data Event : Type 0 where
-  Exec : (i : ℕ) → Event
-
--- the nodes, by number
-pub record Core : Type 0 where
-  pub nodes : ℕ → Node
-
-abbrev pub opening_core : Work → Core
-opening_core work = record { nodes = opening_node work }
-
--- a node that runs may execute a word
-abbrev pub May : Work → Core → Event → Type 0
-May work c (Exec i) = (i < work.nodes) × (can_execute (c.nodes i).phase ≡ true)
-
-abbrev pub with_node : Core → ℕ → Node → Core
-with_node c i n = record { nodes = λ j. if j == i then n else c.nodes j }
-
--- the core after an event
-abbrev pub event_step : Work → Core → Event → Core
-event_step work c (Exec i) = with_node c i (word_step work (c.nodes i))
-
--- the events are a core run from this core on
-abbrev pub IsCoreRun : Work → Core → List Event → Type 0
-IsCoreRun work c [] = Unit {0}
-IsCoreRun work c (e ∷ es) = May work c e × IsCoreRun work (event_step work c e) es
-
--- the core after the events
-abbrev pub after : Work → Core → List Event → Core
-after work c [] = c
-after work c (e ∷ es) = after work (event_step work c e) es
+use Rattle.home_directory.specs.declared.messages.Message.{Message}
+use Rattle.home_directory.specs.declared.messages.Wire.{Wire}
+use Rattle.miss_handlers.specs.Rows.{Row, row_of}
+use Rattle.dsm_core.specs.Holds.{block_in, clears, taker_in}
+use Rattle.node_model.specs.Node.{Work, Node, Outcome, Move, Leaves, Waits, word_outcome}
+use Rattle.node_model.specs.Turns.{holding}
+use Rattle.node_model.specs.Core.{Core, Event, Exec, Take, event_step}
 
 abbrev pub is_exit : Move → Bool
 is_exit (Leaves e) = true
@@ -65,10 +41,42 @@ commits work plan n =
     is_exit (word_outcome work n).move
     || commits_by (commit_at work.program plan (old_of work.image n.lane.at)) (word_outcome work n)
 
+-- what a message orders of the node that takes it: that a block be given up, for a requester
+pub record Order : Type 0 where
+  pub block : ℕ
+  pub requester : ℕ
+
+-- a row that gives up its block does so for the node that its message names
+abbrev pub order_by : Option ℕ → Option Row → Option Order
+order_by (Some requester) (Some row) =
+    if clears row then Some (record { block = block_in row; requester = requester }) else None
+order_by taker row = None
+
+-- what a message from node j orders of node n
+abbrev pub order_of : Shape → Node → ℕ → Message → Option Order
+order_of layout n j message =
+    order_by (taker_in message) (row_of layout n.me (holding layout n) j message)
+
+-- node i gives up a block for a requester: a break of its reservation, where that lies in the block
+abbrev pub break_by : Shape → ℕ → Option Order → Option ℕ → List Pick
+break_by layout i None reserved = []
+break_by layout i (Some order) None = []
+break_by layout i (Some order) (Some a) =
+    if has_line layout order.block (line_of a) then Break i order.requester ∷ [] else []
+
+-- the picks of node i's taking of the first of these messages from node j
+abbrev pub picks_of_take : Work → Core → (i j : ℕ) → List Wire → List Pick
+picks_of_take work c i j [] = []
+picks_of_take work c i j (wire ∷ rest) =
+    break_by work.layout i (order_of work.layout (c.nodes i) j wire.message)
+    (c.nodes i).local.reservation
+
 abbrev pub picks_at : Work → List PlanEntry → Core → Event → List Pick
 picks_at work plan c (Exec i) = if commits work plan (c.nodes i) then Step i ∷ [] else []
+picks_at work plan c (Take i j) = picks_of_take work c i j (c.list j i)
 
--- the picks of a core run: a step for each word that commits, in the order of the events
+-- the picks of a core run: a step for each word that commits, and a break for each message that
+-- clears a reservation, in the order of the events
 abbrev pub picks_of : Work → List PlanEntry → Core → List Event → List Pick
 picks_of work plan c [] = []
 picks_of work plan c (e ∷ es) =
@@ -81,6 +89,7 @@ value_at work plan n =
 
 abbrev pub values_at : Work → List PlanEntry → ℕ → Core → Event → List ℕ
 values_at work plan p c (Exec i) = if p == i then value_at work plan (c.nodes i) else []
+values_at work plan p c (Take i j) = []
 
 -- the values that the committing words of node p read, in order
 abbrev pub values_of : Work → List PlanEntry → ℕ → Core → List Event → List ℕ
@@ -90,6 +99,7 @@ values_of work plan p c (e ∷ es) =
 
 abbrev pub printed_at : Work → Core → Event → List ℕ
 printed_at work c (Exec i) = option_to_list (word_outcome work (c.nodes i)).printed
+printed_at work c (Take i j) = []
 
 -- the bytes printed, in the order of the events
 abbrev pub printed_by : Work → Core → List Event → List ℕ
