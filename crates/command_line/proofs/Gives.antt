@@ -13,7 +13,7 @@ use Rattle.clap.specs.declared.parser.matches.ValueSource.TheVariants.{CommandLi
 use Rattle.clap.specs.Faults.{fault_of, built_fault}
 use Rattle.clap.proofs.FaultLemmas.{leaf_fault}
 use Rattle.command_line.specs.declared.table.Setting.{Setting}
-use Rattle.command_line.specs.declared.table.Setting.TheVariants.{Nodes, Order, Budget, Layout}
+use Rattle.command_line.specs.declared.table.Setting.TheVariants.{Nodes, Order, Budget, Layout, Code}
 use Rattle.command_line.specs.declared.table.Role.{Role}
 use Rattle.command_line.specs.declared.table.Role.TheVariants as role
 use Rattle.command_line.specs.Commands.{option_word}
@@ -68,12 +68,14 @@ no_operand Nodes = refl
 no_operand Order = refl
 no_operand Budget = refl
 no_operand Layout = refl
+no_operand Code = refl
 
 no_option : (s : Setting) → bytes_eq (name_of s) (codes "operand") ≡ false
 no_option Nodes = refl
 no_option Order = refl
 no_option Budget = refl
 no_option Layout = refl
+no_option Code = refl
 
 same_names : (s t : Setting) → bytes_eq (name_of s) (name_of t) ≡ is_same s t
 same_names s t = sym (ap (λ w. bytes_eq w (option_word t)) (dashed s)
@@ -163,12 +165,15 @@ module _ (settings : List Setting) where
       record { more = omega (arith, length-append (codes "--budget") (61 ∷ v)); first = refl; second = refl }
   long_joined Layout v =
       record { more = omega (arith, length-append (codes "--layout") (61 ∷ v)); first = refl; second = refl }
+  long_joined Code v =
+      record { more = omega (arith, length-append (codes "--code") (61 ∷ v)); first = refl; second = refl }
 
   long_alone : (s : Setting) → IsLong (option_word s)
   long_alone Nodes = record { more = omega arith; first = refl; second = refl }
   long_alone Order = record { more = omega arith; first = refl; second = refl }
   long_alone Budget = record { more = omega arith; first = refl; second = refl }
   long_alone Layout = record { more = omega arith; first = refl; second = refl }
+  long_alone Code = record { more = omega arith; first = refl; second = refl }
 
   readable : (arguments : List Argument) → AreArguments settings arguments →
       AreReadable (flat_map words_of arguments)

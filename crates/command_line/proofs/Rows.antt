@@ -7,7 +7,7 @@ use Rattle.command_line.specs.declared.table.Access.TheVariants.{Read, Write}
 use Rattle.command_line.specs.declared.table.Kind.{Kind}
 use Rattle.command_line.specs.declared.table.Kind.TheVariants.{Number, File, Flag}
 use Rattle.command_line.specs.declared.table.Setting.{Setting}
-use Rattle.command_line.specs.declared.table.Setting.TheVariants.{Nodes, Order, Budget, Layout}
+use Rattle.command_line.specs.declared.table.Setting.TheVariants.{Nodes, Order, Budget, Layout, Code}
 use Rattle.command_line.specs.declared.table.Role.{Role}
 use Rattle.command_line.specs.declared.table.Role.TheVariants as role
 use Rattle.command_line.specs.declared.table.CommandWord.{CommandWord}
@@ -175,30 +175,30 @@ other_second v w e h = h (ap (λ x. get_or x 1 0) e)
 pub as_rewrite : (g : Given) (c : Command) → Completes (codes "rewrite") g c → (x : List ℕ)
     × (y : List ℕ) × IsOfRow (row_of (Rewrite x y)) g
 as_rewrite g (Rewrite x y) h = (x, y, h.of_row)
-as_rewrite g (Run f b l) h = absurd (other_second _ _ h.word_is (omega arith))
+as_rewrite g (Run f b k l) h = absurd (other_second _ _ h.word_is (omega arith))
 as_rewrite g (Listing f) h = absurd (other_first _ _ h.word_is (omega arith))
-as_rewrite g (One f n o b) h = absurd (other_first _ _ h.word_is (omega arith))
+as_rewrite g (One f n o b l) h = absurd (other_first _ _ h.word_is (omega arith))
 
 pub as_run : (g : Given) (c : Command) → Completes (codes "run") g c → (f : List ℕ)
-    × (b : ℕ) × (l : Option (List ℕ)) × IsOfRow (row_of (Run f b l)) g
+    × (b : ℕ) × (k l : Option (List ℕ)) × IsOfRow (row_of (Run f b k l)) g
 as_run g (Rewrite f o) h = absurd (other_second _ _ h.word_is (omega arith))
-as_run g (Run f b l) h = (f, b, l, h.of_row)
+as_run g (Run f b k l) h = (f, b, k, l, h.of_row)
 as_run g (Listing f) h = absurd (other_first _ _ h.word_is (omega arith))
-as_run g (One f n o b) h = absurd (other_first _ _ h.word_is (omega arith))
+as_run g (One f n o b l) h = absurd (other_first _ _ h.word_is (omega arith))
 
 pub as_list : (g : Given) (c : Command) → Completes (codes "list") g c →
     (f : List ℕ) × IsOfRow (row_of (Listing f)) g
 as_list g (Rewrite f o) h = absurd (other_first _ _ h.word_is (omega arith))
-as_list g (Run f b l) h = absurd (other_first _ _ h.word_is (omega arith))
+as_list g (Run f b k l) h = absurd (other_first _ _ h.word_is (omega arith))
 as_list g (Listing f) h = (f, h.of_row)
-as_list g (One f n o b) h = absurd (other_first _ _ h.word_is (omega arith))
+as_list g (One f n o b l) h = absurd (other_first _ _ h.word_is (omega arith))
 
 pub as_one : (g : Given) (c : Command) → Completes (codes "one") g c → (f : List ℕ)
-    × (n : ℕ) × (o : ℕ) × (b : ℕ) × IsOfRow (row_of (One f n o b)) g
+    × (n : ℕ) × (o : ℕ) × (b : ℕ) × (l : Option (List ℕ)) × IsOfRow (row_of (One f n o b l)) g
 as_one g (Rewrite f o) h = absurd (other_first _ _ h.word_is (omega arith))
-as_one g (Run f b l) h = absurd (other_first _ _ h.word_is (omega arith))
+as_one g (Run f b k l) h = absurd (other_first _ _ h.word_is (omega arith))
 as_one g (Listing f) h = absurd (other_first _ _ h.word_is (omega arith))
-as_one g (One f n o b) h = (f, n, o, b, h.of_row)
+as_one g (One f n o b l) h = (f, n, o, b, l, h.of_row)
 
 same_file : (x y : List ℕ) (words : List (List ℕ)) → ArePlaced ((Named Read, Name x) ∷ []) words →
     ArePlaced ((Named Read, Name y) ∷ []) words → x ≡ y
@@ -213,30 +213,32 @@ one_row : (g : Given) (c d : Command) → IsOfRow (row_of c) g → IsOfRow (row_
 one_row g (Rewrite x y) (Rewrite v w) p q e =
     let same = same_files x y v w _ p.places q.places in
     ap (λ f. Rewrite f y) same.0 ∙ ap (λ f. Rewrite v f) same.1
-one_row g (Rewrite x y) (Run v n l) p q e = absurd (other_second _ _ e (omega arith))
+one_row g (Rewrite x y) (Run v n k l) p q e = absurd (other_second _ _ e (omega arith))
 one_row g (Rewrite x y) (Listing v) p q e = absurd (other_first _ _ e (omega arith))
-one_row g (Rewrite x y) (One v n o b) p q e = absurd (other_first _ _ e (omega arith))
-one_row g (Run v n l) (Rewrite x y) p q e = absurd (other_second _ _ e (omega arith))
+one_row g (Rewrite x y) (One v n o b l) p q e = absurd (other_first _ _ e (omega arith))
+one_row g (Run v n k l) (Rewrite x y) p q e = absurd (other_second _ _ e (omega arith))
 one_row g (Listing v) (Rewrite x y) p q e = absurd (other_first _ _ e (omega arith))
-one_row g (One v n o b) (Rewrite x y) p q e = absurd (other_first _ _ e (omega arith))
-one_row g (Run x n k) (Run y m l) p q e =
+one_row g (One v n o b l) (Rewrite x y) p q e = absurd (other_first _ _ e (omega arith))
+one_row g (Run x n c k) (Run y m d l) p q e =
     let file = same_file x y _ p.places q.places in
     let budget = says_one g Budget n m p.options.0 q.options.0 in
-    let layout = names_one g Layout k l p.options.1.0 q.options.1.0 in
+    let code = names_one g Code c d p.options.1.0 q.options.1.0 in
+    let layout = names_one g Layout k l p.options.1.1.0 q.options.1.1.0 in
     cc
 one_row g (Listing x) (Listing y) p q e = ap Listing (same_file x y _ p.places q.places)
-one_row g (One x n o b) (One y m r d) p q e =
+one_row g (One x n o b k) (One y m r d l) p q e =
     let file = same_file x y _ p.places q.places in
     let nodes = says_one g Nodes n m p.options.0 q.options.0 in
     let order = says_one g Order o r p.options.1.0 q.options.1.0 in
     let budget = says_one g Budget b d p.options.1.1.0 q.options.1.1.0 in
+    let layout = names_one g Layout k l p.options.1.1.1.0 q.options.1.1.1.0 in
     cc
-one_row g (Run x n k) (Listing y) p q e = absurd (other_first _ _ e (omega arith))
-one_row g (Run x n k) (One y m r d) p q e = absurd (other_first _ _ e (omega arith))
-one_row g (Listing x) (Run y m l) p q e = absurd (other_first _ _ e (omega arith))
-one_row g (Listing x) (One y m r d) p q e = absurd (other_first _ _ e (omega arith))
-one_row g (One x n o b) (Run y m l) p q e = absurd (other_first _ _ e (omega arith))
-one_row g (One x n o b) (Listing y) p q e = absurd (other_first _ _ e (omega arith))
+one_row g (Run x n c k) (Listing y) p q e = absurd (other_first _ _ e (omega arith))
+one_row g (Run x n c k) (One y m r d l) p q e = absurd (other_first _ _ e (omega arith))
+one_row g (Listing x) (Run y m d l) p q e = absurd (other_first _ _ e (omega arith))
+one_row g (Listing x) (One y m r d l) p q e = absurd (other_first _ _ e (omega arith))
+one_row g (One x n o b k) (Run y m d l) p q e = absurd (other_first _ _ e (omega arith))
+one_row g (One x n o b k) (Listing y) p q e = absurd (other_first _ _ e (omega arith))
 
 -- ---- words of a row, and what they give
 
@@ -273,34 +275,34 @@ row_given row words r g e = record {
 -- the word of a command, with its options
 pub command_word : Command → CommandWord
 command_word (Rewrite x y) = word.Rewrite
-command_word (Run f b l) = word.Run
+command_word (Run f b k l) = word.Run
 command_word (Listing f) = word.List
-command_word (One f n o b) = word.One
+command_word (One f n o b l) = word.One
 
 pub word_is : (c : Command) → text_of (command_word c) ≡ (row_of c).word
 unfolding command_word
 word_is (Rewrite x y) = refl
-word_is (Run f b l) = refl
+word_is (Run f b k l) = refl
 word_is (Listing f) = refl
-word_is (One f n o b) = refl
+word_is (One f n o b l) = refl
 
 word_settings : (w : CommandWord) (c : Command) → text_of w ≡ (row_of c).word →
     settings_in (row_of c).options ≡ settings_of w
 word_settings word.Rewrite (Rewrite x y) e = refl
-word_settings word.Run (Run f b l) e = refl
+word_settings word.Run (Run f b k l) e = refl
 word_settings word.List (Listing f) e = refl
-word_settings word.One (One f n o b) e = refl
-word_settings word.Rewrite (Run f b l) e = absurd (other_second _ _ e (omega arith))
+word_settings word.One (One f n o b l) e = refl
+word_settings word.Rewrite (Run f b k l) e = absurd (other_second _ _ e (omega arith))
 word_settings word.Rewrite (Listing f) e = absurd (other_first _ _ e (omega arith))
-word_settings word.Rewrite (One f n o b) e = absurd (other_first _ _ e (omega arith))
+word_settings word.Rewrite (One f n o b l) e = absurd (other_first _ _ e (omega arith))
 word_settings word.Run (Rewrite x y) e = absurd (other_second _ _ e (omega arith))
 word_settings word.List (Rewrite x y) e = absurd (other_first _ _ e (omega arith))
 word_settings word.One (Rewrite x y) e = absurd (other_first _ _ e (omega arith))
 word_settings word.Run (Listing f) e = absurd (other_first _ _ e (omega arith))
-word_settings word.Run (One f n o b) e = absurd (other_first _ _ e (omega arith))
-word_settings word.List (Run f b l) e = absurd (other_first _ _ e (omega arith))
-word_settings word.List (One f n o b) e = absurd (other_first _ _ e (omega arith))
-word_settings word.One (Run f b l) e = absurd (other_first _ _ e (omega arith))
+word_settings word.Run (One f n o b l) e = absurd (other_first _ _ e (omega arith))
+word_settings word.List (Run f b k l) e = absurd (other_first _ _ e (omega arith))
+word_settings word.List (One f n o b l) e = absurd (other_first _ _ e (omega arith))
+word_settings word.One (Run f b k l) e = absurd (other_first _ _ e (omega arith))
 word_settings word.One (Listing f) e = absurd (other_first _ _ e (omega arith))
 
 same_head : (v w : List ℕ) (vs ws : List (List ℕ)) → v ∷ vs ≡ w ∷ ws → v ≡ w

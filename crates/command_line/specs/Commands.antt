@@ -7,19 +7,20 @@ use Rattle.command_line.specs.declared.table.Access.TheVariants.{Read, Write}
 use Rattle.command_line.specs.declared.table.Kind.{Kind}
 use Rattle.command_line.specs.declared.table.Kind.TheVariants.{Number, File}
 use Rattle.command_line.specs.declared.table.Setting.{Setting}
-use Rattle.command_line.specs.declared.table.Setting.TheVariants.{Nodes, Order, Budget, Layout}
+use Rattle.command_line.specs.declared.table.Setting.TheVariants.{Nodes, Order, Budget, Layout, Code}
 
 pub data Command : Type 0 where
   -- write the rewritten executable of the one in a file into another
   Rewrite : (input output : List ℕ) → Command
-  -- run the rewritten code of the executable in a file, at most so many words of each processor,
-  -- with the blocks of the layout in a file, where one is named
-  Run : (file : List ℕ) (budget : ℕ) (layout : Option (List ℕ)) → Command
+  -- run the rewritten code of the executable in a file, at most so many words of each processor;
+  -- where they are named, the code is that of the executable in a file, and the blocks are those of
+  -- the layout in a file
+  Run : (file : List ℕ) (budget : ℕ) (code layout : Option (List ℕ)) → Command
   -- list its code words
   Listing : (file : List ℕ) → Command
   -- run so many processors of the original on one memory, by the order of a number, at most so
-  -- many steps of each
-  One : (file : List ℕ) (nodes order budget : ℕ) → Command
+  -- many steps of each, with the blocks of the layout in a file, where one is named
+  One : (file : List ℕ) (nodes order budget : ℕ) (layout : Option (List ℕ)) → Command
 
 -- the word of an option
 abbrev pub option_word : Setting → List ℕ
@@ -27,6 +28,7 @@ option_word Nodes = codes "--nodes"
 option_word Order = codes "--order"
 option_word Budget = codes "--budget"
 option_word Layout = codes "--layout"
+option_word Code = codes "--code"
 
 -- what an option is given
 abbrev pub kind_of : Setting → Kind
@@ -34,6 +36,7 @@ kind_of Nodes = Number 1 16 1
 kind_of Order = Number 0 (2 ^ 32 - 1) 0
 kind_of Budget = Number 1 (2 ^ 32) 100000000
 kind_of Layout = File Read
+kind_of Code = File Read
 
 -- the place of an operand, which stands behind the command's word without an option: the name of
 -- a file, or a number
@@ -66,20 +69,23 @@ row_of (Rewrite input output) = record {
   places = (Named Read, Name input) ∷ (Named Write, Name output) ∷ [];
   options = [];
 }
-row_of (Run file budget layout) = record {
+row_of (Run file budget code layout) = record {
   word = codes "run";
   places = (Named Read, Name file) ∷ [];
-  options = (Budget, Amount budget) ∷ (Layout, name_or_none layout) ∷ [];
+  options =
+      (Budget, Amount budget) ∷ (Code, name_or_none code) ∷ (Layout, name_or_none layout) ∷ [];
 }
 row_of (Listing file) = record {
   word = codes "list";
   places = (Named Read, Name file) ∷ [];
   options = [];
 }
-row_of (One file nodes order budget) = record {
+row_of (One file nodes order budget layout) = record {
   word = codes "one";
   places = (Named Read, Name file) ∷ [];
-  options = (Nodes, Amount nodes) ∷ (Order, Amount order) ∷ (Budget, Amount budget) ∷ [];
+  options =
+      (Nodes, Amount nodes) ∷ (Order, Amount order) ∷ (Budget, Amount budget)
+      ∷ (Layout, name_or_none layout) ∷ [];
 }
 
 -- the options that a command has
@@ -106,7 +112,8 @@ files_of wanted row =
     flat_map (file_at wanted) row.places
     ++ flat_map (λ option. file_given wanted (kind_of option.0) option.1) row.options
 
--- the names of the files that a command reads, and of those that it writes
+-- the names of the files that a command reads, in the order in which it does, and of those that it
+-- writes
 abbrev pub reads : Command → List (List ℕ)
 reads command = files_of Read (row_of command)
 

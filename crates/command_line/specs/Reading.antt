@@ -6,7 +6,7 @@ use Rattle.clap.specs.declared.parser.matches.ArgMatches.{ArgMatches}
 use Rattle.clap.specs.Words.{App, Rule, all_of, found_of, new_rule, rows_of}
 use Rattle.clap.specs.Simple.{new_shape}
 use Rattle.command_line.specs.declared.table.Setting.{Setting}
-use Rattle.command_line.specs.declared.table.Setting.TheVariants.{Nodes, Order, Budget, Layout}
+use Rattle.command_line.specs.declared.table.Setting.TheVariants.{Nodes, Order, Budget, Layout, Code}
 use Rattle.command_line.specs.declared.table.CommandWord.{CommandWord}
 use Rattle.command_line.specs.declared.table.CommandWord.TheVariants as word
 use Rattle.command_line.specs.declared.table.Role.{Role}
@@ -25,9 +25,9 @@ text_of word.One = codes "one"
 
 abbrev pub settings_of : CommandWord → List Setting
 settings_of word.Rewrite = []
-settings_of word.Run = Budget ∷ Layout ∷ []
+settings_of word.Run = Budget ∷ Code ∷ Layout ∷ []
 settings_of word.List = []
-settings_of word.One = Nodes ∷ Order ∷ Budget ∷ []
+settings_of word.One = Nodes ∷ Order ∷ Budget ∷ Layout ∷ []
 
 -- the name of an option, without its dashes
 abbrev pub name_of : Setting → List ℕ

@@ -29,11 +29,13 @@ pub enum Command<'a> {
         input: &'a str,
         output: &'a str,
     },
-    /// Run its rewritten code, at most `budget` words of each processor, with the blocks of the
-    /// layout in a file.
+    /// Run its rewritten code, at most `budget` words of each processor. Where they are named, the
+    /// code is that of the executable in the file `code`, and the blocks are those of the layout in the
+    /// file `layout`.
     Run {
         file: &'a str,
         budget: Budget,
+        code: Option<&'a str>,
         layout: Option<&'a str>,
     },
     /// List its code words.
@@ -41,12 +43,13 @@ pub enum Command<'a> {
         file: &'a str,
     },
     /// Run `nodes` processors of the original on one memory by the order of a number, at most
-    /// `budget` steps of each.
+    /// `budget` steps of each, with the blocks of the layout in a file, where one is named.
     One {
         file: &'a str,
         nodes: NodeCount,
         order: u32,
         budget: Budget,
+        layout: Option<&'a str>,
     },
 }
 
@@ -167,10 +170,12 @@ fn run_of<'a>(matches: &ArgMatches<'a>) -> Option<Command<'a>>
 {
     let file = file_in(matches)?;
     let budget = budget_in(matches)?;
+    let code = name_in(matches, Setting::Code)?;
     let layout = name_in(matches, Setting::Layout)?;
     Some(Command::Run {
         file,
         budget,
+        code,
         layout,
     })
 }
@@ -195,11 +200,13 @@ fn one_of<'a>(matches: &ArgMatches<'a>) -> Option<Command<'a>>
     let nodes = nodes_in(matches)?;
     let order = order_in(matches)?;
     let budget = budget_in(matches)?;
+    let layout = name_in(matches, Setting::Layout)?;
     Some(Command::One {
         file,
         nodes,
         order,
         budget,
+        layout,
     })
 }
 

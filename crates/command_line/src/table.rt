@@ -30,6 +30,7 @@ pub(crate) enum Setting {
     Order,
     Budget,
     Layout,
+    Code,
 }
 
 /// What an argument is for.
@@ -69,9 +70,14 @@ impl CommandWord {
         ensures { result.now ≡ settings_of self }
     {
         match self {
-            CommandWord::Run => &[Setting::Budget, Setting::Layout],
+            CommandWord::Run => &[Setting::Budget, Setting::Code, Setting::Layout],
             CommandWord::Rewrite | CommandWord::List => &[],
-            CommandWord::One => &[Setting::Nodes, Setting::Order, Setting::Budget],
+            CommandWord::One => &[
+                Setting::Nodes,
+                Setting::Order,
+                Setting::Budget,
+                Setting::Layout,
+            ],
         }
     }
 }
@@ -86,6 +92,7 @@ impl Setting {
             Setting::Order => "order",
             Setting::Budget => "budget",
             Setting::Layout => "layout",
+            Setting::Code => "code",
         }
     }
 
@@ -109,7 +116,7 @@ impl Setting {
                 high: 1 << 32,
                 default: 100_000_000,
             },
-            Setting::Layout => Kind::File(Access::Read),
+            Setting::Layout | Setting::Code => Kind::File(Access::Read),
         }
     }
 

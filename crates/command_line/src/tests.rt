@@ -21,6 +21,7 @@ fn parts_of(command: Command<'_>) -> (&str, u8, u32, u64) {
         Command::Run {
             file,
             budget,
+            code: _,
             layout: _,
         } => (file, 0, 0, budget.number()),
         Command::List { file } => (file, 0, 0, 0),
@@ -29,6 +30,7 @@ fn parts_of(command: Command<'_>) -> (&str, u8, u32, u64) {
             nodes,
             order,
             budget,
+            layout: _,
         } => (file, nodes.number(), order, budget.number()),
     }
 }
@@ -80,7 +82,13 @@ fn reads_the_words_that_are_commands(rt: HostRuntime) -> Result<(), Fail> {
         ("run a --layout -x", None),
         ("run a --layout=", None),
         ("run a --layout x --layout x", None),
-        ("one a --layout x", None),
+        ("run a --code x --layout=y", Some((0, 0, 100_000_000))),
+        ("run a --code", None),
+        ("run a --code=", None),
+        ("run a --code x --code=x", None),
+        ("one a --layout x --nodes 2", Some((2, 0, 100_000_000))),
+        ("one a --code x", None),
+        ("list a --layout x", None),
         ("one a --nodes 17", None),
         ("one a --order 00000000000", None),
         ("one a --order --nodes 1", None),

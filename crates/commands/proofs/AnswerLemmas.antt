@@ -9,12 +9,11 @@ use Rattle.command_line.specs.Meaning.{meaning_of}
 use Rattle.commands.specs.declared.failure.Failure.{Failure}
 use Rattle.commands.specs.declared.failure.Failure.TheVariants.{Input, NotWritten, Refused, Layout, Output, OutOfMemory}
 use Rattle.commands.specs.Answers.{SinkState, FilesState, IsFault, IsLeft, IsTooLong, file_limit}
-use Rattle.commands.specs.Executables.{IsRefused, IsUnrewritten}
-use Rattle.commands.specs.Failures.{status_of, line_of, IsReadFailure, FailsAs, Puts, IsFailure, IsPerformFailure, IsRewriteFailure, IsSuccess, IsNoRefusal, IsRunFailure, IsLayoutFailure, IsInputFailure, AreInputs, AreKept, AreLeft, AreWritten}
-use Rattle.commands.specs.Headline.{AreTold, IsText, IsTextWith, IsOutcomeOf, IsRewrittenFile, IsRewrittenText, PrintsPrefix}
-use Rattle.commands.specs.Inputs.{Inputs, input_of, layout_of, inputs_of}
-use Rattle.commands.specs.Layouts.{IsFaultyLayout, IsBadLayout, IsLayoutRefused}
-use Rattle.elf32_read.specs.Elf.{Elf}
+use Rattle.commands.specs.Refusals.{IsRefused, IsLayoutRefused}
+use Rattle.commands.specs.Failures.{status_of, line_of, IsReadFailure, FailsAs, Puts, IsFailure, IsPerformFailure, IsRewriteFailure, IsSuccess, IsNoRefusal, IsInputFailure, IsNamedFailure, AreInputs, AreKept, AreLeft, AreWritten}
+use Rattle.commands.specs.Headline.{AreTold, IsText, IsRewrittenFile, IsRewrittenText, PrintsPrefix}
+use Rattle.commands.specs.Inputs.{Inputs, inputs_of}
+use Rattle.commands.proofs.InputLemmas.{only_of}
 
 -- what the words ask for, and where they ask for nothing
 pub asked_as : (words : List (List ℕ)) (r : Option OfCode) (x : OfCode)
@@ -29,59 +28,6 @@ pub none_as : (words : List (List ℕ)) (r : Option OfCode) → r ≡ None
 none_as words r e h =
     subst (λ o. MatchOption o ((c : Command) → Asks words c → ⊥) (λ c. Asks words (meaning_of c))) e h
 
-pub reads_input : (c : Command) → Contains (reads c) (input_of c)
-reads_input (Rewrite input output) = (0, omega arith, refl)
-reads_input (Run file budget layout) = (0, omega arith, refl)
-reads_input (Listing file) = (0, omega arith, refl)
-reads_input (One file nodes order budget) = (0, omega arith, refl)
-
-only_zero : (k : ℕ) → k < 1 → k ≡ 0
-only_zero k h = omega arith
-
-same_inside : (x y : List ℕ) → Some x ≡ Some y → x ≡ y
-same_inside x y e = cc
-
-pub reads_layout : (c : Command) (name : List ℕ) → layout_of c ≡ Some name → Contains (reads c) name
-reads_layout (Rewrite input output) name e = absurd (cc)
-reads_layout (Run file budget None) name e = absurd (cc)
-reads_layout (Run file budget (Some layout)) name e = (1, omega arith, same_inside layout name e)
-reads_layout (Listing file) name e = absurd (cc)
-reads_layout (One file nodes order budget) name e = absurd (cc)
-
--- a list of one name
-only_of : (file name : List ℕ) → Contains (file ∷ []) name → name ≡ file
-only_of file name h =
-    let zero = only_zero h.0 h.1 in
-    sym (subst (λ k. Rattle.std.proofs.Common.get_or (file ∷ []) k name ≡ name) zero h.2)
-
--- a list of two names
-two_of : (one other name : List ℕ) → Contains (one ∷ other ∷ []) name
-    → (name ≡ one) ⊎ (name ≡ other)
-two_of one other name h = go h.0 h.1 h.2
-  where
-    go : (k : ℕ) → k < 2 → Rattle.std.proofs.Common.get_or (one ∷ other ∷ []) k name ≡ name
-        → (name ≡ one) ⊎ (name ≡ other)
-    go zero low e = inl (sym e)
-    go (suc zero) low e = inr (sym e)
-    go (suc (suc k)) low e = absurd (omega (arith, low))
-
--- a command reads its executable, and its layout where it names one
-pub reads_only : (c : Command) (name : List ℕ) → Contains (reads c) name
-    → (name ≡ input_of c) ⊎ (layout_of c ≡ Some name)
-reads_only (Rewrite input output) name h = inl (only_of input name h)
-reads_only (Run file budget None) name h = inl (only_of file name h)
-reads_only (Run file budget (Some layout)) name h = elim (two_of file layout name h) [
-  | inl e ↦ inl e
-  | inr e ↦ inr (ap Some (sym e))
-]
-reads_only (Listing file) name h = inl (only_of file name h)
-reads_only (One file nodes order budget) name h = inl (only_of file name h)
-
-pub content_is : (o : Option (List ℕ)) (bytes content : List ℕ)
-    → IfSome o (λ c. bytes ≡ c) → o ≡ Some content → bytes ≡ content
-content_is o bytes content h is =
-    subst (λ (x : Option (List ℕ)). IfSome x (λ c. bytes ≡ c)) is h
-
 low_status : (b : Bool) → (if b then 0 else 1) ≤ 1
 low_status true = omega arith
 low_status false = omega arith
@@ -89,37 +35,10 @@ low_status false = omega arith
 pub is_low : (c : Command) (inputs : Inputs) (text : List ℕ) (status : ℕ)
     → IsText c inputs text status → status ≤ 1
 is_low (Rewrite input output) inputs text status h = let zero = h.status_is in omega (arith, zero)
-is_low (Run file budget layout) inputs text status h = subst (λ s. s ≤ 1) (sym h.status_is) (low_status _)
-is_low (One file nodes order budget) inputs text status h =
+is_low (Run file budget code layout) inputs text status h = subst (λ s. s ≤ 1) (sym h.status_is) (low_status _)
+is_low (One file nodes order budget layout) inputs text status h =
     subst (λ s. s ≤ 1) (sym h.status_is) (low_status _)
 is_low (Listing file) inputs text status h = let zero = h.1 in omega (arith, zero)
-
--- what was read is what the files are told to have, where both have been read
-pub same_executable : (c : Command) (held : List ℕ → Option (List ℕ)) (contents : List ℕ → List ℕ)
-    (bytes : List ℕ) → IfSome (held (input_of c)) (λ x. bytes ≡ x) → AreTold c held contents
-    → bytes ≡ contents (input_of c)
-same_executable c held contents bytes h told =
-    content_is (held (input_of c)) bytes (contents (input_of c)) h (told (input_of c) (reads_input c))
-
-abbrev inputs : List ℕ → Option (List ℕ) → Inputs
-inputs b l = record { executable = b; layout = l }
-
-pub reads_alone : (c : Command) (held : List ℕ → Option (List ℕ)) (bytes : List ℕ)
-    → IfSome (held (input_of c)) (λ x. bytes ≡ x) → layout_of c ≡ None
-    → AreInputs c held (record { executable = bytes; layout = None })
-reads_alone c held bytes h none contents told =
-    let same = same_executable c held contents bytes h told in
-    ap (λ b. inputs b None) same ∙ ap (λ l. inputs (contents (input_of c)) (option_map contents l)) (sym none)
-
-pub reads_both : (c : Command) (held between : List ℕ → Option (List ℕ)) (bytes text name : List ℕ)
-    → IfSome (held (input_of c)) (λ x. bytes ≡ x) → layout_of c ≡ Some name
-    → between name ≡ held name → IfSome (between name) (λ x. text ≡ x)
-    → AreInputs c held (record { executable = bytes; layout = Some text })
-reads_both c held between bytes text name h some same k contents told =
-    let one = same_executable c held contents bytes h told in
-    let other = content_is (between name) text (contents name) k (same ∙ told name (reads_layout c name some)) in
-    ap (λ b. inputs b (Some text)) one ∙ ap (λ t. inputs (contents (input_of c)) (Some t)) other
-    ∙ ap (λ l. inputs (contents (input_of c)) (option_map contents l)) (sym some)
 
 pub succeeds : (c : Command) (files : FilesState) (before now : SinkState) (inputs : Inputs)
     (status : ℕ) → AreInputs c files.held inputs → Puts (IsText c inputs) status before.taken now.taken
@@ -219,6 +138,15 @@ no_refusal files files_now name (Refused line) h = absurd h
 no_refusal files files_now name (Layout line) h = absurd h
 no_refusal files files_now name Output h = absurd h
 no_refusal files files_now name OutOfMemory h = inr refl
+
+-- a file of the command that is named wasn't read, after others
+pub named_fails : (c : Command) (files between now : FilesState) (o : Option (List ℕ)) (f : Failure)
+    → ((n : List ℕ) → between.held n ≡ files.held n)
+    → ((n : List ℕ) → files.failed_reads n ≤ between.failed_reads n)
+    → ((n : List ℕ) → o ≡ Some n → Contains (reads c) n)
+    → IsNamedFailure between now o f → IsInputFailure c files now f
+named_fails c files between now o f same low is_read h =
+    (h.0, is_read h.0 h.1, later_read files between now h.0 f (same h.0) (low h.0) h.2)
 
 pub kept_unread : (c : Command) (files files_now : FilesState) (f : Failure)
     → IsInputFailure c files files_now f → IsNoRefusal f
@@ -406,64 +334,16 @@ pub same_taken : (o : Option (List ℕ)) → o ≡ option_map (λ t. t ++ []) o
 same_taken None = refl
 same_taken (Some t) = ap Some (sym (append-nil t))
 
--- a failure of a command that writes no file, and reads no layout
+-- a failure of a command that writes no file
 pub plain_fails : (c : Command) (inputs : Inputs) (fb fn : FilesState) (before now : SinkState)
-    (f : Failure) → FailsAs (IsText c inputs) (IsRefused c inputs) before now f
+    (f : Failure) → FailsAs (IsText c inputs) (IsRefused c inputs) (IsLayoutRefused c inputs) before now f
     → IsPerformFailure c inputs fb fn before now f
 plain_fails c inputs fb fn before now (Input line) h = h
 plain_fails c inputs fb fn before now (NotWritten line) h = absurd h
 plain_fails c inputs fb fn before now (Refused line) h = h
-plain_fails c inputs fb fn before now (Layout line) h = absurd h
+plain_fails c inputs fb fn before now (Layout line) h = h
 plain_fails c inputs fb fn before now Output h = h
 plain_fails c inputs fb fn before now OutOfMemory h = h
-
--- a failure of a run
-abbrev pub IsRun : Command → ℕ → Type 0
-IsRun (Run file n layout) budget = n ≡ budget
-IsRun command budget = ⊥
-
-run_fails_by : (file : List ℕ) (budget : ℕ) (layout : Option (List ℕ)) (inputs : Inputs)
-    (fb fn : FilesState) (before now : SinkState) (f : Failure)
-    → IsRunFailure inputs budget before now f
-    → IsPerformFailure (Run file budget layout) inputs fb fn before now f
-run_fails_by file budget layout inputs fb fn before now (Input line) h = h
-run_fails_by file budget layout inputs fb fn before now (NotWritten line) h = absurd h
-run_fails_by file budget layout inputs fb fn before now (Refused line) h = h
-run_fails_by file budget layout inputs fb fn before now (Layout line) h = h
-run_fails_by file budget layout inputs fb fn before now Output h = h
-run_fails_by file budget layout inputs fb fn before now OutOfMemory h = h
-
-pub run_fails : (c : Command) (budget : ℕ) (inputs : Inputs) (fb fn : FilesState)
-    (before now : SinkState) (f : Failure) → IsRun c budget → IsRunFailure inputs budget before now f
-    → IsPerformFailure c inputs fb fn before now f
-run_fails (Run file n layout) budget inputs fb fn before now f same h =
-    run_fails_by file n layout inputs fb fn before now f
-    (subst (λ b. IsRunFailure inputs b before now f) (sym same) h)
-run_fails (Rewrite input output) budget inputs fb fn before now f same h = absurd same
-run_fails (Listing file) budget inputs fb fn before now f same h = absurd same
-run_fails (One file nodes order n) budget inputs fb fn before now f same h = absurd same
-
--- a failure of a run that isn't its layout's
-pub run_fails_as : (inputs : Inputs) (budget : ℕ) (before now : SinkState) (f : Failure)
-    → FailsAs (IsTextWith (IsOutcomeOf inputs.executable inputs.layout budget))
-    (IsUnrewritten inputs.executable) before now f
-    → IsRunFailure inputs budget before now f
-run_fails_as inputs budget before now (Input line) h = h
-run_fails_as inputs budget before now (NotWritten line) h = h
-run_fails_as inputs budget before now (Refused line) h = h
-run_fails_as inputs budget before now (Layout line) h = absurd h
-run_fails_as inputs budget before now Output h = h
-run_fails_as inputs budget before now OutOfMemory h = h
-
-pub layout_fails : (inputs : Inputs) (budget : ℕ) (elf : Elf) (state : SinkState) (f : Failure)
-    → ((line : List ℕ) → IsFaultyLayout elf inputs.layout line → IsBadLayout inputs line)
-    → IsLayoutFailure elf inputs.layout f → IsRunFailure inputs budget state state f
-layout_fails inputs budget elf state (Input line) bad h = h
-layout_fails inputs budget elf state (NotWritten line) bad h = h
-layout_fails inputs budget elf state (Refused line) bad h = absurd h
-layout_fails inputs budget elf state (Layout line) bad h = (bad line.items h, refl)
-layout_fails inputs budget elf state Output bad h = absurd h
-layout_fails inputs budget elf state OutOfMemory bad h = inl refl
 
 -- what is left is left also from before the file was read
 pub left_before : (c : Command) (inputs : Inputs) (before between now : FilesState)
@@ -482,10 +362,11 @@ pub kept_before : (before between now : FilesState) (f : Failure)
 kept_before before between now f same h four name = h four name ∙ same name
 
 pub plain_failure : (c : Command) (inputs : Inputs) (fb fn : FilesState) (before now : SinkState)
-    (r : Result ℕ Failure) → IfErr r (FailsAs (IsText c inputs) (IsRefused c inputs) before now)
+    (r : Result ℕ Failure)
+    → IfErr r (FailsAs (IsText c inputs) (IsRefused c inputs) (IsLayoutRefused c inputs) before now)
     → IfErr r (IsPerformFailure c inputs fb fn before now)
 plain_failure c inputs fb fn before now r h =
-    err_as (FailsAs (IsText c inputs) (IsRefused c inputs) before now)
+    err_as (FailsAs (IsText c inputs) (IsRefused c inputs) (IsLayoutRefused c inputs) before now)
     (IsPerformFailure c inputs fb fn before now) r (plain_fails c inputs fb fn before now) h
 
 pub puts_nothing : (c : Command) (inputs : Inputs) (t : Option (List ℕ)) (r : Result ℕ Failure)

@@ -1,4 +1,5 @@
 pub mod Pieces
 pub mod ListingLemmas
+pub mod InputLemmas
 pub mod AnswerLemmas
 pub mod RunLemmas

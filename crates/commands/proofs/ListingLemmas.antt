@@ -226,7 +226,7 @@ rest_more e b next text more reached is line =
 pub lines_fail : (e : Elf) (start before now : SinkState) (pieces lines rest : List ℕ) (f : Failure)
     → listing e ≡ (pieces ++ lines) ++ rest → Appends start.taken before.taken pieces
     → before.faults ≡ start.faults → IsPutFailure before now lines f
-    → FailsAs (IsLike (listing e)) IsNever start now f
+    → FailsAs (IsLike (listing e)) IsNever IsNever start now f
 lines_fail e start before now pieces lines rest f is put same h =
-    put_fails (IsLike (listing e)) IsNever (listing e) 0 start before now pieces lines rest f refl
+    put_fails (IsLike (listing e)) IsNever IsNever (listing e) 0 start before now pieces lines rest f refl
     (is ∙ append_assoc pieces lines rest) put same h

@@ -8,7 +8,7 @@ use Rattle.commands.specs.declared.failure.Failure.TheVariants.{Input, NotWritte
 use Rattle.commands.specs.Answers.{SinkState}
 use Rattle.commands.specs.Outcomes.{Outcome}
 use Rattle.commands.specs.Headline.{IsTextWith}
-use Rattle.commands.specs.Failures.{IsPutFailure, FailsAs, Puts, PutsPrefix, IsTextOfOutcome, IsNever}
+use Rattle.commands.specs.Failures.{IsPutFailure, IsRefusal, FailsAs, Puts, PutsPrefix, IsTextOfOutcome, IsNever}
 use Rattle.std.specs.Prelude.{Result, Ok, Err, IfOk, IfErr}
 
 pub joins : (before middle now : Option (List ℕ)) (p q : List ℕ) → Appends before middle p
@@ -49,21 +49,22 @@ prefix_then before middle now p q rest text is one two =
     (joins before middle now p (take two.0 q) one two.1)
 
 -- a piece of a text wasn't put, behind those before it
-pub put_fails : (IsTextFor : List ℕ → ℕ → Type 0) (Reason : List ℕ → Type 0) (text : List ℕ)
+pub put_fails : (IsTextFor : List ℕ → ℕ → Type 0) (Reason OfLayout : List ℕ → Type 0) (text : List ℕ)
     (status : ℕ) (start before now : SinkState) (p q rest : List ℕ) (f : Failure)
     → IsTextFor text status → text ≡ p ++ (q ++ rest) → Appends start.taken before.taken p
     → before.faults ≡ start.faults → IsPutFailure before now q f
-    → FailsAs IsTextFor Reason start now f
-put_fails IsTextFor Reason text status start before now p q rest (Input line) is text_is one same h = h
-put_fails IsTextFor Reason text status start before now p q rest (NotWritten line) is text_is one same h = h
-put_fails IsTextFor Reason text status start before now p q rest (Refused line) is text_is one same h =
+    → FailsAs IsTextFor Reason OfLayout start now f
+put_fails IsTextFor Reason OfLayout text status start before now p q rest (Input line) is text_is one same h = h
+put_fails IsTextFor Reason OfLayout text status start before now p q rest (NotWritten line) is text_is one same h = h
+put_fails IsTextFor Reason OfLayout text status start before now p q rest (Refused line) is text_is one same h =
     absurd h
-put_fails IsTextFor Reason text status start before now p q rest (Layout line) is text_is one same h = h
-put_fails IsTextFor Reason text status start before now p q rest Output is text_is one same h = (
+put_fails IsTextFor Reason OfLayout text status start before now p q rest (Layout line) is text_is one same h =
+    absurd h
+put_fails IsTextFor Reason OfLayout text status start before now p q rest Output is text_is one same h = (
   subst (λ n. Rose n now.faults) same h.0,
   (text, status, is, prefix_then start.taken before.taken now.taken p q rest text text_is one h.1),
 )
-put_fails IsTextFor Reason text status start before now p q rest OutOfMemory is text_is one same h =
+put_fails IsTextFor Reason OfLayout text status start before now p q rest OutOfMemory is text_is one same h =
     inr (
       text,
       status,
@@ -73,43 +74,64 @@ put_fails IsTextFor Reason text status start before now p q rest OutOfMemory is 
     )
 
 -- it is out of memory, with a prefix of a text put
-pub stops_behind : (IsTextFor : List ℕ → ℕ → Type 0) (Reason : List ℕ → Type 0) (text : List ℕ)
+pub stops_behind : (IsTextFor : List ℕ → ℕ → Type 0) (Reason OfLayout : List ℕ → Type 0) (text : List ℕ)
     (status : ℕ) (start now : SinkState) (p rest : List ℕ) (f : Failure) → f ≡ OutOfMemory
     → IsTextFor text status → text ≡ p ++ rest → Appends start.taken now.taken p
-    → FailsAs IsTextFor Reason start now f
-stops_behind IsTextFor Reason text status start now p rest f out is text_is put =
-    subst (FailsAs IsTextFor Reason start now) (sym out)
+    → FailsAs IsTextFor Reason OfLayout start now f
+stops_behind IsTextFor Reason OfLayout text status start now p rest f out is text_is put =
+    subst (FailsAs IsTextFor Reason OfLayout start now) (sym out)
     (inr (text, status, is, prefix_of start.taken now.taken p rest text text_is put))
 
 -- a failure of the texts of one meaning is a failure of those of another that has all of them
-pub fails_too : (IsOne IsOther : List ℕ → ℕ → Type 0) (Reason Why : List ℕ → Type 0)
+pub fails_too : (IsOne IsOther : List ℕ → ℕ → Type 0) (Reason OfLayout Why WhyLayout : List ℕ → Type 0)
     (before now : SinkState) (f : Failure)
     → ((text : List ℕ) (status : ℕ) → IsOne text status → (s : ℕ) × IsOther text s)
     → ((line : List ℕ) → Reason line → Why line)
-    → FailsAs IsOne Reason before now f → FailsAs IsOther Why before now f
-fails_too IsOne IsOther Reason Why before now (Input line) texts reasons h = h
-fails_too IsOne IsOther Reason Why before now (NotWritten line) texts reasons h = h
-fails_too IsOne IsOther Reason Why before now (Refused line) texts reasons h =
+    → ((line : List ℕ) → OfLayout line → WhyLayout line)
+    → FailsAs IsOne Reason OfLayout before now f → FailsAs IsOther Why WhyLayout before now f
+fails_too IsOne IsOther Reason OfLayout Why WhyLayout before now (Input line) texts reasons layouts h = h
+fails_too IsOne IsOther Reason OfLayout Why WhyLayout before now (NotWritten line) texts reasons layouts h = h
+fails_too IsOne IsOther Reason OfLayout Why WhyLayout before now (Refused line) texts reasons layouts h =
     (reasons line.items h.0, h.1)
-fails_too IsOne IsOther Reason Why before now (Layout line) texts reasons h = h
-fails_too IsOne IsOther Reason Why before now Output texts reasons h =
+fails_too IsOne IsOther Reason OfLayout Why WhyLayout before now (Layout line) texts reasons layouts h =
+    (layouts line.items h.0, h.1)
+fails_too IsOne IsOther Reason OfLayout Why WhyLayout before now Output texts reasons layouts h =
     let t = texts h.1.0 h.1.1 h.1.2 in (h.0, (h.1.0, t.0, t.1, h.1.3))
-fails_too IsOne IsOther Reason Why before now OutOfMemory texts reasons h =
+fails_too IsOne IsOther Reason OfLayout Why WhyLayout before now OutOfMemory texts reasons layouts h =
     elim h [
       | inl same ↦ inl same
       | inr part ↦ let t = texts part.0 part.1 part.2 in inr (part.0, t.0, t.1, part.3)
     ]
 
 -- a refusal that comes before anything is put
-pub refused_first : (IsTextFor : List ℕ → ℕ → Type 0) (Reason Why : List ℕ → Type 0)
+pub refused_first : (IsTextFor : List ℕ → ℕ → Type 0) (Reason OfLayout Why WhyLayout : List ℕ → Type 0)
     (state : SinkState) (f : Failure) → ((line : List ℕ) → Reason line → Why line)
-    → Rattle.commands.specs.Failures.IsRefusal Reason f → FailsAs IsTextFor Why state state f
-refused_first IsTextFor Reason Why state (Input line) reasons h = h
-refused_first IsTextFor Reason Why state (NotWritten line) reasons h = h
-refused_first IsTextFor Reason Why state (Refused line) reasons h = (reasons line.items h, refl)
-refused_first IsTextFor Reason Why state (Layout line) reasons h = h
-refused_first IsTextFor Reason Why state Output reasons h = absurd h
-refused_first IsTextFor Reason Why state OutOfMemory reasons h = inl refl
+    → ((line : List ℕ) → OfLayout line → WhyLayout line)
+    → IsRefusal Reason OfLayout f → FailsAs IsTextFor Why WhyLayout state state f
+refused_first IsTextFor Reason OfLayout Why WhyLayout state (Input line) reasons layouts h = h
+refused_first IsTextFor Reason OfLayout Why WhyLayout state (NotWritten line) reasons layouts h = h
+refused_first IsTextFor Reason OfLayout Why WhyLayout state (Refused line) reasons layouts h =
+    (reasons line.items h, refl)
+refused_first IsTextFor Reason OfLayout Why WhyLayout state (Layout line) reasons layouts h =
+    (layouts line.items h, refl)
+refused_first IsTextFor Reason OfLayout Why WhyLayout state Output reasons layouts h = absurd h
+refused_first IsTextFor Reason OfLayout Why WhyLayout state OutOfMemory reasons layouts h = inl refl
+
+-- a refusal for one reason is one for another that follows from it
+pub refused_too : (Reason OfLayout Why WhyLayout : List ℕ → Type 0) (f : Failure)
+    → ((line : List ℕ) → Reason line → Why line)
+    → ((line : List ℕ) → OfLayout line → WhyLayout line)
+    → IsRefusal Reason OfLayout f → IsRefusal Why WhyLayout f
+refused_too Reason OfLayout Why WhyLayout (Input line) reasons layouts h = h
+refused_too Reason OfLayout Why WhyLayout (NotWritten line) reasons layouts h = h
+refused_too Reason OfLayout Why WhyLayout (Refused line) reasons layouts h = reasons line.items h
+refused_too Reason OfLayout Why WhyLayout (Layout line) reasons layouts h = layouts line.items h
+refused_too Reason OfLayout Why WhyLayout Output reasons layouts h = h
+refused_too Reason OfLayout Why WhyLayout OutOfMemory reasons layouts h = h
+
+-- what never is says anything
+pub never : (Why : List ℕ → Type 0) (line : List ℕ) → IsNever line → Why line
+never Why line h = absurd h
 
 -- the text of an outcome with these facts is put, or isn't
 
@@ -124,11 +146,11 @@ outcome_put Is o before now (Ok status) is put =
     (put.0, text_with Is o put.0 status is put.1, put.2)
 outcome_put Is o before now (Err f) is put = tt
 
-pub outcome_fails : (Is : Outcome → Type 0) (Reason : List ℕ → Type 0) (o : Outcome)
+pub outcome_fails : (Is : Outcome → Type 0) (Reason OfLayout : List ℕ → Type 0) (o : Outcome)
     (before now : SinkState) (r : Result ℕ Failure) → Is o
-    → IfErr r (FailsAs (IsTextOfOutcome o) IsNever before now)
-    → IfErr r (FailsAs (IsTextWith Is) Reason before now)
-outcome_fails Is Reason o before now (Ok status) is h = tt
-outcome_fails Is Reason o before now (Err f) is h =
-    fails_too (IsTextOfOutcome o) (IsTextWith Is) IsNever Reason before now f
-    (λ text status t. (status, text_with Is o text status is t)) (λ line never. absurd never) h
+    → IfErr r (FailsAs (IsTextOfOutcome o) IsNever IsNever before now)
+    → IfErr r (FailsAs (IsTextWith Is) Reason OfLayout before now)
+outcome_fails Is Reason OfLayout o before now (Ok status) is h = tt
+outcome_fails Is Reason OfLayout o before now (Err f) is h =
+    fails_too (IsTextOfOutcome o) (IsTextWith Is) IsNever IsNever Reason OfLayout before now f
+    (λ text status t. (status, text_with Is o text status is t)) (never Reason) (never OfLayout) h

@@ -9,8 +9,8 @@ use Rattle.exec_map.specs.Contents.{program_of}
 use Rattle.exec_map.specs.Refusals.{IsAcceptable, IsRefusedBy}
 use Rattle.exec_map.specs.declared.refused.ProgramRule.{ProgramRule}
 use Rattle.rewriter.specs.TooLarge.{IsTooLarge}
-use Rattle.command_line.specs.Commands.{Command, Rewrite, Run, Listing, One}
-use Rattle.commands.specs.Inputs.{Inputs}
+use Rattle.commands.specs.declared.refusal.Subject.{Subject}
+use Rattle.commands.specs.declared.refusal.Subject.TheVariants.{Executable}
 use Rattle.commands.specs.Text.{file_line, program_line, too_many_words}
 
 -- the file is read as this executable
@@ -18,9 +18,9 @@ abbrev pub ReadsAs : List ℕ → Elf → Type 0
 ReadsAs file elf = IsReadable file × (elf ≡ elf_of file)
 
 -- the file is read as no executable, and this line says why
-abbrev pub IsUnread : List ℕ → List ℕ → Type 0
-IsUnread file line =
-    (rule : FileRule) × files.IsRefusedBy file rule × (line ≡ file_line rule)
+abbrev pub IsUnread : Subject → List ℕ → List ℕ → Type 0
+IsUnread subject file line =
+    (rule : FileRule) × files.IsRefusedBy file rule × (line ≡ file_line subject rule)
 
 -- the file is read as this executable, and the executable is accepted
 pub record IsProgramOf (file : List ℕ) (elf : Elf) : Type 0 where
@@ -35,18 +35,14 @@ IsRejection elf line =
 -- the file is read as no executable, or its executable isn't accepted, and this line says why
 abbrev pub IsUnaccepted : List ℕ → List ℕ → Type 0
 IsUnaccepted file line =
-    IsUnread file line ⊎ ((elf : Elf) × ReadsAs file elf × IsRejection elf line)
+    IsUnread Executable file line ⊎ ((elf : Elf) × ReadsAs file elf × IsRejection elf line)
 
--- or it is accepted, and the rewritten code is too large
+-- the rewritten code of the executable is too large, and this line says so
+abbrev pub HasLongCode : Elf → List ℕ → Type 0
+HasLongCode elf line =
+    (words : ℕ) × IsTooLarge (program_of elf) words × (line ≡ too_many_words words)
+
+-- the executable isn't accepted, or it is, and its rewritten code is too large
 abbrev pub IsUnrewritten : List ℕ → List ℕ → Type 0
 IsUnrewritten file line =
-    IsUnaccepted file line
-    ⊎ ((elf : Elf) × (words : ℕ) × IsProgramOf file elf × IsTooLarge (program_of elf) words
-    × (line ≡ too_many_words words))
-
--- a command's executable is refused first with this line
-abbrev pub IsRefused : Command → Inputs → List ℕ → Type 0
-IsRefused (Rewrite input output) inputs line = IsUnrewritten inputs.executable line
-IsRefused (Run name budget layout) inputs line = IsUnrewritten inputs.executable line
-IsRefused (Listing name) inputs line = IsUnaccepted inputs.executable line
-IsRefused (One name nodes order budget) inputs line = IsUnaccepted inputs.executable line
+    IsUnaccepted file line ⊎ ((elf : Elf) × IsProgramOf file elf × HasLongCode elf line)

@@ -1,9 +1,11 @@
 -- Helps the code alone: failures of commands, and what each says of the files and the output.
-use Rattle.std.specs.Prelude.{◌≡◌, ℕ, ◌≤◌, ◌⊎◌, List, Option, Some, Contains, IfSome}
+use Rattle.std.specs.Prelude.{◌≡◌, ℕ, ◌≤◌, ◌⊎◌, true, List, length, Option, None, Some, Contains, IfSome}
 use Rattle.rv32_program.specs.declared.End.{End}
-use Rattle.node_machine.specs.declared.NodeCounts.{NodeCounts}
-use Rattle.node_machine.specs.Node.{Work, end_of}
-use Rattle.shared_sim.specs.CoreRun.{Event, IsCoreRun, opening_core, after, printed_by}
+use Rattle.node_model.specs.declared.NodeCounts.{NodeCounts}
+use Rattle.node_model.specs.Node.{Work, can_execute, end_of}
+use Rattle.node_model.specs.Core.{Event, IsCoreRun, opening_core, after}
+use Rattle.shared_sim.specs.CoreRun.{printed_by}
+use Rattle.shared_sim.specs.Interleaving.{GoesAlone}
 use Rattle.dsm_io.specs.Causes.{Rose, Appends, AppendsPrefix}
 use Rattle.commands.specs.declared.failure.Failure.{Failure}
 use Rattle.commands.specs.declared.failure.Failure.TheVariants.{Input, NotWritten, Refused, Layout, Output, OutOfMemory}
@@ -11,12 +13,11 @@ use Rattle.commands.specs.Text.{text_of, cannot_read, cannot_write, too_long, ca
 use Rattle.commands.specs.Outcomes.{Outcome}
 use Rattle.commands.specs.Outcomes as outcomes
 use Rattle.command_line.specs.Commands.{Command, reads, writes}
-use Rattle.commands.specs.Answers.{SinkState, FilesState, IsTooLong, IsReadFault, IsWriteFault, IsPutFault, IsLeft}
-use Rattle.commands.specs.Executables.{IsRefused, IsUnrewritten}
-use Rattle.commands.specs.Headline.{AreTold, IsText, IsOutcomeOf, IsTextWith, IsWritten, Prints, PrintsPrefix}
-use Rattle.commands.specs.Inputs.{Inputs, inputs_of}
-use Rattle.commands.specs.Layouts.{IsFaultyLayout, IsBadLayout, IsLayoutRefused}
-use Rattle.elf32_read.specs.Elf.{Elf}
+use Rattle.commands.specs.Answers.{SinkState, FilesState, file_limit, IsTooLong, IsReadFault, IsWriteFault, IsPutFault, IsLeft}
+use Rattle.commands.specs.Executables.{IsUnrewritten}
+use Rattle.commands.specs.Refusals.{IsRefused, IsLayoutRefused}
+use Rattle.commands.specs.Headline.{AreTold, IsText, IsWritten, Prints, PrintsPrefix}
+use Rattle.commands.specs.Inputs.{Inputs, input_of, code_of, layout_of, inputs_of}
 
 -- the status and the line of a failure
 abbrev pub status_of : Failure → ℕ
@@ -46,20 +47,38 @@ IsReadFailure before now name (Layout line) = ⊥
 IsReadFailure before now name Output = ⊥
 IsReadFailure before now name OutOfMemory = Unit {0}
 
--- a failure for this reason, which a line tells, or because it is out of memory
-abbrev pub IsRefusal : (List ℕ → Type 0) → Failure → Type 0
-IsRefusal Reason (Input line) = ⊥
-IsRefusal Reason (NotWritten line) = ⊥
-IsRefusal Reason (Refused line) = Reason line.items
-IsRefusal Reason (Layout line) = ⊥
-IsRefusal Reason Output = ⊥
-IsRefusal Reason OutOfMemory = Unit {0}
+-- the bytes are those that a name is told to hold, and no more than a file may have
+pub record IsContent (held : Option (List ℕ)) (bytes : List ℕ) : Type 0 where
+  pub same : IfSome held (λ content. bytes ≡ content)
+  pub fits : length bytes ≤ file_limit
 
--- why a layout isn't used
-abbrev pub IsLayoutFailure : Elf → Option (List ℕ) → Failure → Type 0
-IsLayoutFailure elf layout (Layout line) = IsFaultyLayout elf layout line.items
-IsLayoutFailure elf layout OutOfMemory = Unit {0}
-IsLayoutFailure elf layout f = ⊥
+-- likewise where a name may be left out
+abbrev pub AreContents : (List ℕ → Option (List ℕ)) → Option (List ℕ) → Option (List ℕ) → Type 0
+AreContents held None bytes = bytes ≡ None
+AreContents held (Some name) None = ⊥
+AreContents held (Some name) (Some bytes) = IsContent (held name) bytes
+
+-- the inputs are the contents of the command's files
+pub record AreRead (command : Command) (held : List ℕ → Option (List ℕ)) (inputs : Inputs) : Type 0
+  where
+    pub executable : IsContent (held (input_of command)) inputs.executable
+    pub code : AreContents held (code_of command) inputs.code
+    pub layout : AreContents held (layout_of command) inputs.layout
+
+-- a file that is named wasn't read
+abbrev pub IsNamedFailure : FilesState → FilesState → Option (List ℕ) → Failure → Type 0
+IsNamedFailure before now named f =
+    (name : List ℕ) × (named ≡ Some name) × IsReadFailure before now name f
+
+-- a refusal, by the reasons that a line tells: of an executable, and of a layout; or a failure because
+-- it is out of memory
+abbrev pub IsRefusal : (List ℕ → Type 0) → (List ℕ → Type 0) → Failure → Type 0
+IsRefusal Reason OfLayout (Input line) = ⊥
+IsRefusal Reason OfLayout (NotWritten line) = ⊥
+IsRefusal Reason OfLayout (Refused line) = Reason line.items
+IsRefusal Reason OfLayout (Layout line) = OfLayout line.items
+IsRefusal Reason OfLayout Output = ⊥
+IsRefusal Reason OfLayout OutOfMemory = Unit {0}
 
 -- why a piece wasn't put whole
 abbrev pub IsPutFailure : SinkState → SinkState → List ℕ → Failure → Type 0
@@ -76,17 +95,19 @@ abbrev pub PutsPrefix : (List ℕ → ℕ → Type 0) → Option (List ℕ) → 
 PutsPrefix IsTextFor before now =
     (text : List ℕ) × (status : ℕ) × IsTextFor text status × AppendsPrefix before now text
 
--- how a command fails whose texts and refusals are these
-abbrev pub FailsAs : (List ℕ → ℕ → Type 0) → (List ℕ → Type 0) → SinkState → SinkState
-    → Failure → Type 0
-FailsAs IsTextFor Reason before now (Input line) = ⊥
-FailsAs IsTextFor Reason before now (NotWritten line) = ⊥
-FailsAs IsTextFor Reason before now (Refused line) =
+-- how a command fails whose texts are these, and whose refusals are these: of executables, and of
+-- the layout
+abbrev pub FailsAs : (List ℕ → ℕ → Type 0) → (List ℕ → Type 0) → (List ℕ → Type 0) → SinkState
+    → SinkState → Failure → Type 0
+FailsAs IsTextFor Reason OfLayout before now (Input line) = ⊥
+FailsAs IsTextFor Reason OfLayout before now (NotWritten line) = ⊥
+FailsAs IsTextFor Reason OfLayout before now (Refused line) =
     Reason line.items × (now.taken ≡ before.taken)
-FailsAs IsTextFor Reason before now (Layout line) = ⊥
-FailsAs IsTextFor Reason before now Output =
+FailsAs IsTextFor Reason OfLayout before now (Layout line) =
+    OfLayout line.items × (now.taken ≡ before.taken)
+FailsAs IsTextFor Reason OfLayout before now Output =
     Rose before.faults now.faults × PutsPrefix IsTextFor before.taken now.taken
-FailsAs IsTextFor Reason before now OutOfMemory =
+FailsAs IsTextFor Reason OfLayout before now OutOfMemory =
     (now.taken ≡ before.taken) ⊎ PutsPrefix IsTextFor before.taken now.taken
 
 -- the whole of a text with this status was put
@@ -104,6 +125,13 @@ IsNever line = ⊥
 -- the text and the status of an outcome
 abbrev pub IsTextOfOutcome : Outcome → List ℕ → ℕ → Type 0
 IsTextOfOutcome o text status = (text ≡ text_of o) × (status ≡ outcomes.status_of o)
+
+-- the work is that of one node, no word of which waits
+pub record IsForOne (work : Work) : Type 0 where
+  pub nodes : work.layout.nodes ≡ 1
+  pub alone : (events : List Event) → IsCoreRun work (opening_core work) events
+      → can_execute ((after work (opening_core work) events).nodes 0).phase ≡ true
+      → GoesAlone work ((after work (opening_core work) events).nodes 0)
 
 -- a whole run of the node of this work, by its bytes, its end and its counts
 pub record IsFinished (work : Work) (output : List ℕ) (end : End) (counts : NodeCounts) : Type 0
@@ -159,23 +187,14 @@ IsRewriteFailure file before now name (Refused line) =
     IsUnrewritten file line.items × ((n : List ℕ) → now.held n ≡ before.held n)
 IsRewriteFailure file before now name f = IsWriteFailure before now name f
 
--- how a run fails
-abbrev pub IsRunFailure : Inputs → ℕ → SinkState → SinkState → Failure → Type 0
-IsRunFailure inputs budget before now (Layout line) =
-    IsBadLayout inputs line.items × (now.taken ≡ before.taken)
-IsRunFailure inputs budget before now f =
-    FailsAs (IsTextWith (IsOutcomeOf inputs.executable inputs.layout budget))
-    (IsUnrewritten inputs.executable) before now f
-
 -- how a command fails that reads these files
 abbrev pub IsPerformFailure : Command → Inputs → FilesState → FilesState → SinkState → SinkState
     → Failure → Type 0
 IsPerformFailure command inputs files files_now before now (NotWritten line) =
     (now.taken ≡ before.taken) × IsWriteFault command files files_now (λ l. line.items ≡ l)
-IsPerformFailure command inputs files files_now before now (Layout line) =
-    IsLayoutRefused command inputs line.items × (now.taken ≡ before.taken)
 IsPerformFailure command inputs files files_now before now f =
-    FailsAs (IsText command inputs) (IsRefused command inputs) before now f
+    FailsAs (IsText command inputs) (IsRefused command inputs) (IsLayoutRefused command inputs)
+    before now f
 
 -- a file that a command reads wasn't read
 abbrev pub IsInputFailure : Command → FilesState → FilesState → Failure → Type 0

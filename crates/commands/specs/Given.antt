@@ -7,11 +7,13 @@ use Rattle.commands.specs.Inputs.{Inputs}
 abbrev pub bytes_of : OfCode → Inputs
 bytes_of inputs = record {
   executable = inputs.executable.now;
-  layout = option_map (λ text. text.now) inputs.layout;
+  code = option_map (λ file. file.now) inputs.code;
+  layout = option_map (λ file. file.now) inputs.layout;
 }
 
 abbrev pub contents_of : InputFiles → Inputs
 contents_of files = record {
   executable = files.executable.items;
-  layout = option_map (λ text. text.items) files.layout;
+  code = option_map (λ file. file.items) files.code;
+  layout = option_map (λ file. file.items) files.layout;
 }

@@ -5,46 +5,51 @@ use Rattle.elf32_read.specs.Elf.{Elf}
 use Rattle.exec_map.specs.Contents.{program_of, is_code_word, word_of}
 use Rattle.rv32_text.specs.Listing.{line_of}
 use Rattle.templates.specs.declared.plans.PlanEntry.{PlanEntry}
-use Rattle.check_plan.specs.CheckPlan.{IsCheckPlan}
+use Rattle.templates.specs.WholePlan.{IsPlanOf}
 use Rattle.jump_map.specs.Image.{Cell, IsRewriting}
 use Rattle.elf32_write.specs.Layout.{file_of}
 use Rattle.rewriter.specs.RewrittenFile.{rewritten_elf}
-use Rattle.node_machine.specs.Node.{Work}
-use Rattle.shared_sim.specs.CoreRun.{Event}
+use Rattle.node_model.specs.Node.{Work}
+use Rattle.node_model.specs.Core.{Event}
+use Rattle.block_layout.specs.Layout.{Shape}
 use Rattle.one_memory.specs.ByOrder.{IsRunByOrder}
 use Rattle.command_line.specs.Commands.{Command, Rewrite, Run, Listing, One, reads}
 use Rattle.dsm_io.specs.Causes.{Appends, AppendsPrefix}
+use Rattle.commands.specs.Code.{IsFileOf}
 use Rattle.commands.specs.Executables.{IsProgramOf}
 use Rattle.commands.specs.Inputs.{Inputs, inputs_of}
-use Rattle.commands.specs.Layouts.{HasLayout}
+use Rattle.commands.specs.Layouts.{IsLayoutFor}
 use Rattle.commands.specs.Outcomes.{Outcome, status_of, IsWholeRun}
 use Rattle.commands.specs.Text.{text_of}
 
--- the outcome of a run of the file's rewritten code on one node: the code is the rewriting by the
--- plan of the program; and a layout that is given is one for the executable
-pub record IsOutcomeOf (file : List ℕ) (layout : Option (List ℕ)) (budget : ℕ) (outcome : Outcome) :
-    Type 0 where
+-- the outcome of a run of the executable's rewritten code on one node: the code is the rewriting by
+-- the plan of the program, which a file of code that is given holds; and the blocks of the shared
+-- lines are those of a layout that is given, or each line is one
+pub record IsOutcomeOf (inputs : Inputs) (budget : ℕ) (outcome : Outcome) : Type 0 where
   pub elf : Elf
-  pub executable : IsProgramOf file elf
+  pub executable : IsProgramOf inputs.executable elf
   pub work : Work
   pub program : work.program ≡ program_of elf
-  pub alone : work.nodes ≡ 1
+  pub laid_out : IsLayoutFor elf inputs.layout 1 work.layout
+  pub alone : work.layout.nodes ≡ 1
   pub limit : work.budget ≡ budget
   pub plan : List PlanEntry
-  pub the_plan : IsCheckPlan work.program.code plan
+  pub the_plan : IsPlanOf work.program.code plan
   pub rewriting : IsRewriting work.program plan work.image
+  pub code : IsFileOf (rewritten_elf elf work.image plan) inputs.code
   pub events : List Event
   pub whole : IsWholeRun work plan events outcome
-  pub laid_out : HasLayout elf layout
 
--- the outcome of the original's processors on one memory, by the order of a number; no node counts
--- anything
-pub record IsOutcomeByOrder (file : List ℕ) (nodes order budget : ℕ) (outcome : Outcome) : Type 0
+-- the outcome of the original's processors on one memory, by the order of a number, with the blocks
+-- of the layout; no node counts anything
+pub record IsOutcomeByOrder (inputs : Inputs) (nodes order budget : ℕ) (outcome : Outcome) : Type 0
   where
     pub elf : Elf
-    pub executable : IsProgramOf file elf
-    pub ordered : IsRunByOrder (record { program = program_of elf; nodes = nodes }) budget order
-        outcome.output outcome.ends
+    pub executable : IsProgramOf inputs.executable elf
+    pub layout : Shape
+    pub laid_out : IsLayoutFor elf inputs.layout nodes layout
+    pub ordered : IsRunByOrder (record { program = program_of elf; layout = layout; nodes = nodes })
+        budget order outcome.output outcome.ends
     pub counts : outcome.counts ≡ []
 
 -- the lines of the code words below an address, ascending
@@ -70,7 +75,7 @@ pub record IsRewrittenFile (file bytes : List ℕ) : Type 0 where
   pub elf : Elf
   pub executable : IsProgramOf file elf
   pub plan : List PlanEntry
-  pub the_plan : IsCheckPlan (program_of elf).code plan
+  pub the_plan : IsPlanOf (program_of elf).code plan
   pub image : List Cell
   pub rewriting : IsRewriting (program_of elf) plan image
   pub bytes_are : bytes ≡ file_of (rewritten_elf elf image plan)
@@ -93,11 +98,11 @@ pub record IsTextWith (Is : Outcome → Type 0) (text : List ℕ) (status : ℕ)
 abbrev pub IsText : Command → Inputs → List ℕ → ℕ → Type 0
 IsText (Rewrite input output) inputs text status =
     IsRewrittenText inputs.executable text status
-IsText (Run name budget layout) inputs text status =
-    IsTextWith (IsOutcomeOf inputs.executable inputs.layout budget) text status
-IsText (One name nodes order budget) inputs text status =
-    IsTextWith (IsOutcomeByOrder inputs.executable nodes order budget) text status
-IsText (Listing name) inputs text status = IsListingText inputs.executable text status
+IsText (Run file budget code layout) inputs text status =
+    IsTextWith (IsOutcomeOf inputs budget) text status
+IsText (One file nodes order budget layout) inputs text status =
+    IsTextWith (IsOutcomeByOrder inputs nodes order budget) text status
+IsText (Listing file) inputs text status = IsListingText inputs.executable text status
 
 -- each file that the command reads is told to have its content
 abbrev pub AreTold : Command → (List ℕ → Option (List ℕ)) → (List ℕ → List ℕ) → Type 0

@@ -1,9 +1,11 @@
 pub mod Text
 pub mod Inputs
+pub mod Executables
+pub mod Code
 pub mod Layouts
+pub mod Refusals
 pub mod Given
 pub mod Outcomes
-pub mod Executables
 pub mod Headline
 pub mod Answers
 pub mod Failures

@@ -5,10 +5,11 @@ use Rattle.rv32_program.specs.declared.Exit.TheVariants.{Code}
 use Rattle.rv32_program.specs.declared.End.{End}
 use Rattle.rv32_program.specs.declared.End.TheVariants.{Exited, Stopped}
 use Rattle.templates.specs.declared.plans.PlanEntry.{PlanEntry}
-use Rattle.node_machine.specs.declared.NodeCounts.{NodeCounts}
-use Rattle.node_machine.specs.Node.{Work, Ended, end_of}
-use Rattle.shared_sim.specs.CoreRun.{Event, IsCoreRun, opening_core, after}
-use Rattle.shared_sim.specs.Interleaving.{Interleaves, original_after}
+use Rattle.node_model.specs.declared.NodeCounts.{NodeCounts}
+use Rattle.node_model.specs.Node.{Work, Ended, end_of}
+use Rattle.node_model.specs.Core.{Event, IsCoreRun, opening_core, after}
+use Rattle.shared_sim.specs.Interleaving.{Interleaves, IsCoherent, original_after}
+use Rattle.shared_sim.specs.Licence.{AllLicensed}
 
 pub record Outcome : Type 0 where
   pub output : List ℕ
@@ -28,12 +29,12 @@ status_of o = if list_all is_success o.ends then 0 else 1
 abbrev pub ends_after : Work → List Event → List (Option End)
 ends_after work events =
     map (λ i. end_of ((after work (opening_core work) events).nodes i).phase)
-    (range_with_len 0 work.nodes)
+    (range_with_len 0 work.layout.nodes)
 
 abbrev pub counts_after : Work → List Event → List NodeCounts
 counts_after work events =
     map (λ i. ((after work (opening_core work) events).nodes i).counts)
-    (range_with_len 0 work.nodes)
+    (range_with_len 0 work.layout.nodes)
 
 -- the events are a whole run of the nodes, from the start until each has ended, with this outcome
 pub record IsWholeRun (work : Work) (plan : List PlanEntry) (events : List Event) (o : Outcome) : Type 0 where
@@ -44,8 +45,13 @@ pub record IsWholeRun (work : Work) (plan : List PlanEntry) (events : List Event
   -- values read, the same bytes printed, and the same exits
   pub original : Interleaves work plan events
   pub output : o.output ≡ (original_after work plan events).output
+  -- each word that commits makes a licensed access, and the nodes' copies are coherent with that
+  -- memory
+  pub licensed : AllLicensed work plan (opening_core work) events
+  pub coherent : IsCoherent work (after work (opening_core work) events)
+      (original_after work plan events).shared
   -- a processor is stopped only where it has executed the whole budget
-  pub stopped : (i b : ℕ) → i < work.nodes
+  pub stopped : (i b : ℕ) → i < work.layout.nodes
       → ((after work (opening_core work) events).nodes i).phase ≡ Ended (Stopped b)
       → (b ≡ work.budget)
       × (((after work (opening_core work) events).nodes i).executed ≡ work.budget)

@@ -6,7 +6,7 @@ use Rattle.rv32_program.specs.declared.Exit.{Exit}
 use Rattle.rv32_program.specs.declared.Exit.TheVariants.{Code, Ebreak, Illegal, Misaligned, Access, Fetch}
 use Rattle.rv32_program.specs.declared.End.{End}
 use Rattle.rv32_program.specs.declared.End.TheVariants.{Exited, Stopped}
-use Rattle.node_machine.specs.declared.NodeCounts.{NodeCounts}
+use Rattle.node_model.specs.declared.NodeCounts.{NodeCounts}
 use Rattle.elf32_read.specs.Refusals as files
 use Rattle.elf32_read.specs.declared.refused.FileRule.{FileRule}
 use Rattle.elf32_read.specs.declared.refused.FileRule.TheVariants.{Short, NotElf, NotElf32, NotExec, NotRiscv, Flags, ProgramTable, SectionTable, Dynamic, SegmentOutside, SegmentSizes}
@@ -15,8 +15,12 @@ use Rattle.exec_map.specs.declared.refused.ProgramRule.{ProgramRule}
 use Rattle.exec_map.specs.declared.refused.ProgramRule.TheVariants.{TooHigh, Overlap, WritableCode, NoCode, TooMuch, EntryNotCode, Unsupported, CodeAlign, TooManySegments}
 use Rattle.rv32_program.specs.declared.Class.{Class}
 use Rattle.rv32_program.specs.declared.Class.TheVariants.{Shared}
+use Rattle.rewriter.specs.declared.file.Part.{Part}
+use Rattle.rewriter.specs.declared.file.Part.TheVariants as part
 use Rattle.block_layout.specs.Text as layouts
 use Rattle.block_layout.specs.declared.refused.Rule.{Rule}
+use Rattle.commands.specs.declared.refusal.Subject.{Subject}
+use Rattle.commands.specs.declared.refusal.Subject.TheVariants as subject
 use Rattle.commands.specs.Outcomes.{Outcome}
 
 -- a word in eight hexadecimal digits, behind 0x
@@ -93,12 +97,18 @@ cannot_write_output = codes "shasta: cannot write output\n"
 abbrev pub out_of_memory : List ℕ
 out_of_memory = codes "shasta: out of memory\n"
 
--- the line of a refusal, by its number and its text
-abbrev pub refusal_head : ℕ → List ℕ
-refusal_head number = codes "shasta: executable refused " ++ (decimal number ++ codes " ")
+-- what a refusal is of: the executable, or a file of its rewritten code
+abbrev pub subject_text : Subject → List ℕ
+subject_text subject.Executable = codes "executable"
+subject_text subject.Code = codes "code"
 
-abbrev pub refusal : ℕ → List ℕ → List ℕ
-refusal number text = refusal_head number ++ (text ++ codes "\n")
+-- the line of a refusal, by what it is of, its number and its text
+abbrev pub refusal_head : Subject → ℕ → List ℕ
+refusal_head of number =
+    codes "shasta: " ++ (subject_text of ++ (codes " refused " ++ (decimal number ++ codes " ")))
+
+abbrev pub refusal : Subject → ℕ → List ℕ → List ℕ
+refusal of number text = refusal_head of number ++ (text ++ codes "\n")
 
 abbrev pub class_name : Class → List ℕ
 class_name Shared = codes "shared"
@@ -118,8 +128,8 @@ file_rule_text (Dynamic header) = codes "Dynamic header " ++ decimal header
 file_rule_text (SegmentOutside header) = codes "SegmentOutside header " ++ decimal header
 file_rule_text (SegmentSizes header) = codes "SegmentSizes header " ++ decimal header
 
-abbrev pub file_line : FileRule → List ℕ
-file_line rule = refusal (files.number_of rule) (file_rule_text rule)
+abbrev pub file_line : Subject → FileRule → List ℕ
+file_line of rule = refusal of (files.number_of rule) (file_rule_text rule)
 
 -- a rule that refuses a program: its name, and what it names
 abbrev pub rule_text : ProgramRule → List ℕ
@@ -137,10 +147,20 @@ rule_text (TooManySegments count) =
     codes "TooManySegments " ++ (decimal count ++ codes " segments")
 
 abbrev pub program_line : ProgramRule → List ℕ
-program_line rule = refusal (number_of rule) (rule_text rule)
+program_line rule = refusal subject.Executable (number_of rule) (rule_text rule)
 
 abbrev pub too_many_words : ℕ → List ℕ
-too_many_words words = refusal 20 (codes "CodeTooLarge " ++ (decimal words ++ codes " words"))
+too_many_words words =
+    refusal subject.Executable 20 (codes "CodeTooLarge " ++ (decimal words ++ codes " words"))
+
+-- a file of code that is read, but isn't that of the rewriting: the first part that differs
+abbrev pub part_name : Part → List ℕ
+part_name part.Plan = codes "Plan"
+part_name part.Map = codes "Map"
+part_name part.Code = codes "Code"
+
+abbrev pub code_line : Part → List ℕ
+code_line differs = refusal subject.Code 21 (codes "PlanRefused " ++ part_name differs)
 
 -- the line of a rule that refuses a layout, and of the line that breaks it
 abbrev pub layout_line : Rule → ℕ → List ℕ

@@ -2,19 +2,19 @@
 
 ghost use Rattle.std.specs.Prelude.{◌≡◌, ◌⊎◌, ◌<◌, ◌≤◌, ℕ, List, length, Option, Some, Contains, option_map, IfOk, OnOk, IfErr, IfSome, MatchResult};
 ghost use Rattle.command_line.specs.Commands.{reads};
-ghost use Rattle.command_line.specs.Meaning.{meaning_of};
-ghost use Rattle.commands.specs.Inputs.{input_of as model_input_of, layout_of as model_layout_of};
+ghost use Rattle.command_line.specs.Meaning.{meaning_of, file_name};
+ghost use Rattle.commands.specs.Inputs.{input_of as model_input_of, code_of as model_code_of, layout_of as model_layout_of};
 ghost use Rattle.commands.specs.Given.{bytes_of, contents_of};
 ghost use Rattle.commands.specs.Text as model;
 ghost use Rattle.commands.specs.Answers.{FilesState, file_limit, files_of};
 ghost use Rattle.commands.specs.Executables.{ReadsAs, IsUnread, IsRejection};
-ghost use Rattle.commands.specs.Failures.{AreInputs, IsInputFailure, IsNoRefusal, IsReadFailure, IsRefusal};
+ghost use Rattle.commands.specs.Failures.{AreContents, AreInputs, IsContent, IsInputFailure, IsNamedFailure, IsNever, IsNoRefusal, IsReadFailure, IsRefusal};
 ghost use Rattle.exec_map.specs.Contents.{program_of as model_program_of};
 ghost use Rattle.exec_map.specs.Refusals.{IsAcceptable};
 ghost use Rattle.rv32_program.specs.Program.{IsAccepted};
 
 use crate::failure::Failure;
-use crate::refusal::{file_line, program_line};
+use crate::refusal::{Subject, file_line, program_line};
 use command_line::Command;
 use dsm_io::{FileError, Files};
 use elf32_read::{Elf, ElfRefused, read_elf};
@@ -25,6 +25,7 @@ use std::alloc::{AllocError, Global};
 #[derive(Drop)]
 pub struct InputFiles {
     executable: Vec<u8>,
+    code: Option<Vec<u8>>,
     layout: Option<Vec<u8>>,
 }
 
@@ -32,6 +33,8 @@ pub struct InputFiles {
 #[derive(Clone, Copy)]
 pub struct Inputs<'a> {
     pub executable: &'a [u8],
+    /// None where the command names no file of rewritten code.
+    pub code: Option<&'a [u8]>,
     /// None where the command names no layout.
     pub layout: Option<&'a [u8]>,
 }
@@ -43,11 +46,19 @@ impl InputFiles {
     {
         Inputs {
             executable: &self.executable,
-            layout: match &self.layout {
-                Some(text) => Some(text),
-                None => None,
-            },
+            code: lent(&self.code),
+            layout: lent(&self.layout),
         }
+    }
+}
+
+/// The bytes of a file that may be left out.
+fn lent(file: &Option<Vec<u8>>) -> Option<&[u8]>
+    ensures { option_map (λ bytes. bytes.now) result ≡ option_map (λ bytes. bytes.items) file.now }
+{
+    match file {
+        Some(bytes) => Some(bytes),
+        None => None,
     }
 }
 
@@ -60,6 +71,7 @@ fn input_of<'a>(command: &Command<'a>) -> &'a str
         Command::Run {
             file,
             budget: _,
+            code: _,
             layout: _,
         } => file,
         Command::List { file } => file,
@@ -68,25 +80,49 @@ fn input_of<'a>(command: &Command<'a>) -> &'a str
             nodes: _,
             order: _,
             budget: _,
+            layout: _,
         } => file,
     }
 }
 
-/// The name of the file that a command reads as a layout.
-fn layout_of<'a>(command: &Command<'a>) -> Option<&'a str>
-    ensures { option_map (λ name. name.now) result ≡ model_layout_of (meaning_of command.now) }
+/// The name of the file that a command reads as the rewritten executable.
+fn code_of<'a>(command: &Command<'a>) -> Option<&'a str>
+    ensures { file_name result ≡ model_code_of (meaning_of command.now) }
 {
     match command {
         Command::Run {
             file: _,
             budget: _,
-            layout,
-        } => *layout,
+            code,
+            layout: _,
+        } => *code,
         Command::Rewrite { .. } | Command::List { .. } | Command::One { .. } => None,
     }
 }
 
-/// Reads the files of a command, the executable first.
+/// The name of the file that a command reads as a layout.
+fn layout_of<'a>(command: &Command<'a>) -> Option<&'a str>
+    ensures { file_name result ≡ model_layout_of (meaning_of command.now) }
+{
+    match command {
+        Command::Run {
+            file: _,
+            budget: _,
+            code: _,
+            layout,
+        } => *layout,
+        Command::One {
+            file: _,
+            nodes: _,
+            order: _,
+            budget: _,
+            layout,
+        } => *layout,
+        Command::Rewrite { .. } | Command::List { .. } => None,
+    }
+}
+
+/// Reads the files of a command: the executable, that of its code, and the layout, in this order.
 pub fn read_inputs<F: Files>(
     alloc: Global,
     command: &Command<'_>,
@@ -104,11 +140,38 @@ pub fn read_inputs<F: Files>(
     ensures writes { (n : List ℕ) → F.failed_writes files.old n ≤ F.failed_writes files.new n }
 {
     let executable = read_file(alloc, files, input_of(command))?;
-    let layout = match layout_of(command) {
-        Some(name) => Some(read_file(alloc, files, name)?),
-        None => None,
-    };
-    Ok(InputFiles { executable, layout })
+    let code = read_named(alloc, files, code_of(command))?;
+    let layout = read_named(alloc, files, layout_of(command))?;
+    Ok(InputFiles {
+        executable,
+        code,
+        layout,
+    })
+}
+
+/// The bytes of a file that may be left out. None where it has no name.
+fn read_named<F: Files>(
+    alloc: Global,
+    files: &mut F,
+    name: Option<&str>,
+) -> Result<Option<Vec<u8>>, Failure>
+    ensures ok { IfOk result (λ bytes. AreContents (F.held files.old) (file_name name.entry)
+        (option_map (λ b. b.items) bytes)) }
+    ensures failure { IfErr result (IsNamedFailure
+        (files_of (F.held files.old) (F.failed_reads files.old) (F.failed_writes files.old))
+        (files_of (F.held files.new) (F.failed_reads files.new) (F.failed_writes files.new))
+        (file_name name.entry)) }
+    ensures contents { (n : List ℕ) → F.held files.new n ≡ F.held files.old n }
+    ensures reads { (n : List ℕ) → F.failed_reads files.old n ≤ F.failed_reads files.new n }
+    ensures writes { (n : List ℕ) → F.failed_writes files.old n ≤ F.failed_writes files.new n }
+{
+    match name {
+        Some(name) => {
+            let bytes = read_file(alloc, files, name)?;
+            Ok(Some(bytes))
+        }
+        None => Ok(None),
+    }
 }
 
 /// The longest file that is read, in bytes.
@@ -116,9 +179,7 @@ const FILE_LIMIT: u64 = 33_554_432;
 
 /// The bytes of a file.
 fn read_file<F: Files>(alloc: Global, files: &mut F, name: &str) -> Result<Vec<u8>, Failure>
-    ensures ok { IfOk result (λ bytes.
-        IfSome (F.held files.old name.now) (λ content. bytes.items ≡ content)) }
-    ensures fits { IfOk result (λ bytes. length bytes.items ≤ file_limit) }
+    ensures ok { IfOk result (λ bytes. IsContent (F.held files.old name.now) bytes.items) }
     ensures failure { IfErr result (λ f. IsReadFailure
         (files_of (F.held files.old) (F.failed_reads files.old) (F.failed_writes files.old))
         (files_of (F.held files.new) (F.failed_reads files.new) (F.failed_writes files.new)) name.now f) }
@@ -156,14 +217,14 @@ fn too_long(alloc: Global, name: &str) -> Result<Vec<u8>, AllocError>
     Ok(line)
 }
 
-/// The executable in a file.
-pub fn elf_of(alloc: Global, file: &[u8]) -> Result<Elf<'_>, Failure>
+/// The executable in a file, which is read for this.
+pub fn elf_of(alloc: Global, subject: Subject, file: &[u8]) -> Result<Elf<'_>, Failure>
     ensures ok { IfOk result (λ elf. ReadsAs file.now elf) }
-    ensures refused { IfErr result (IsRefusal (IsUnread file.now)) }
+    ensures refused { IfErr result (IsRefusal (IsUnread subject file.now) IsNever) }
 {
     match read_elf(alloc, file) {
         Ok(elf) => Ok(elf),
-        Err(ElfRefused::Broken(rule)) => Err(Failure::Refused(file_line(alloc, rule)?)),
+        Err(ElfRefused::Broken(rule)) => Err(Failure::Refused(file_line(alloc, subject, rule)?)),
         Err(ElfRefused::OutOfMemory) => Err(Failure::OutOfMemory),
     }
 }
@@ -173,7 +234,7 @@ pub fn program_of<'a>(alloc: Global, elf: &'a Elf<'_>) -> Result<Program<'a>, Fa
     ensures ok { IfOk result (λ program. program ≡ elf.now) }
     ensures acceptable { OnOk result (IsAcceptable elf.now) }
     ensures accepted { OnOk result (IsAccepted (model_program_of elf.now)) }
-    ensures refused { IfErr result (IsRefusal (IsRejection elf.now)) }
+    ensures refused { IfErr result (IsRefusal (IsRejection elf.now) IsNever) }
 {
     match accept(alloc, elf) {
         Ok(program) => Ok(program),

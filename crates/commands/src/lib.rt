@@ -1,8 +1,10 @@
 #![tactic(auto)]
 //! The commands of the program, and the top call, [`shasta`], which does what the words ask for.
 
+mod code;
 mod failure;
 mod input;
+mod layout;
 mod list;
 mod one;
 mod outcome;

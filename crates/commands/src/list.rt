@@ -12,6 +12,7 @@ ghost use Rattle.commands.specs.Failures.{Puts, FailsAs, IsLike, IsNever};
 use crate::failure::Failure;
 use crate::input::{elf_of, program_of};
 use crate::output::put;
+use crate::refusal::Subject;
 use dsm_io::Sink;
 use exec_map::Program;
 use rv32_text::line_of;
@@ -24,11 +25,11 @@ const PIECE: usize = 0x1_0000;
 pub fn list<O: Sink>(alloc: Global, file: &[u8], out: &mut O) -> Result<u8, Failure>
     ensures ok { IfOk result (λ status. Puts (IsListingText file.now) status
         (O.taken out.old) (O.taken out.new)) }
-    ensures failure { IfErr result (FailsAs (IsListingText file.now) (IsUnaccepted file.now)
+    ensures failure { IfErr result (FailsAs (IsListingText file.now) (IsUnaccepted file.now) IsNever
         (sink_of (O.taken out.old) (O.faults out.old) (O.refusals out.old))
         (sink_of (O.taken out.new) (O.faults out.new) (O.refusals out.new))) }
 {
-    let elf = elf_of(alloc, file)?;
+    let elf = elf_of(alloc, Subject::Executable, file)?;
     let program = program_of(alloc, &elf)?;
     put_lines(alloc, &program, out)?;
     Ok(0)
@@ -37,7 +38,7 @@ pub fn list<O: Sink>(alloc: Global, file: &[u8], out: &mut O) -> Result<u8, Fail
 /// Puts a line for each code word.
 fn put_lines<O: Sink>(alloc: Global, program: &Program<'_>, out: &mut O) -> Result<(), Failure>
     ensures ok { OnOk result (Appends (O.taken out.old) (O.taken out.new) (listing program.now)) }
-    ensures failure { IfErr result (FailsAs (IsLike (listing program.now)) IsNever
+    ensures failure { IfErr result (FailsAs (IsLike (listing program.now)) IsNever IsNever
         (sink_of (O.taken out.old) (O.faults out.old) (O.refusals out.old))
         (sink_of (O.taken out.new) (O.faults out.new) (O.refusals out.new))) }
 {

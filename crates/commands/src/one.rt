@@ -5,34 +5,41 @@ ghost use Rattle.commands.specs.Answers.{sink_of};
 ghost use Rattle.commands.specs.Headline.{IsTextWith, IsOutcomeByOrder};
 ghost use Rattle.commands.specs.Executables.{IsUnaccepted};
 ghost use Rattle.commands.specs.Failures.{Puts, FailsAs};
+ghost use Rattle.commands.specs.Given.{bytes_of};
+ghost use Rattle.commands.specs.Layouts.{IsBadLayout};
 
 use crate::failure::Failure;
-use crate::input::{elf_of, program_of};
+use crate::input::{Inputs, elf_of, program_of};
+use crate::layout::layout_for;
 use crate::outcome::put_outcome;
+use crate::refusal::Subject;
 use dsm_io::Sink;
 use one_memory::run_by_order;
 use run_limits::{Budget, NodeCount};
 use std::alloc::Global;
 
-/// Runs the original of the executable in a file, and puts the text of the outcome.
+/// Runs the original of the executable among these files, with the blocks of the layout, and puts the
+/// text of the outcome.
 pub fn one<O: Sink>(
     alloc: Global,
-    file: &[u8],
+    inputs: &Inputs<'_>,
     nodes: NodeCount,
     order: u32,
     budget: Budget,
     out: &mut O,
 ) -> Result<u8, Failure>
     ensures ok { IfOk result (λ status.
-        Puts (IsTextWith (IsOutcomeByOrder file.now nodes order budget)) status
+        Puts (IsTextWith (IsOutcomeByOrder (bytes_of inputs.now) nodes order budget)) status
         (O.taken out.old) (O.taken out.new)) }
-    ensures failure { IfErr result
-        (FailsAs (IsTextWith (IsOutcomeByOrder file.now nodes order budget)) (IsUnaccepted file.now)
+    ensures failure { IfErr result (FailsAs
+        (IsTextWith (IsOutcomeByOrder (bytes_of inputs.now) nodes order budget))
+        (IsUnaccepted (bytes_of inputs.now).executable) (IsBadLayout (bytes_of inputs.now) nodes)
         (sink_of (O.taken out.old) (O.faults out.old) (O.refusals out.old))
         (sink_of (O.taken out.new) (O.faults out.new) (O.refusals out.new))) }
 {
-    let elf = elf_of(alloc, file)?;
+    let elf = elf_of(alloc, Subject::Executable, inputs.executable)?;
     let program = program_of(alloc, &elf)?;
-    let outcome = run_by_order(alloc, &program, nodes, order, budget)?;
+    let layout = layout_for(alloc, &program, inputs.layout, nodes)?;
+    let outcome = run_by_order(alloc, &program, &layout, nodes, order, budget)?;
     put_outcome(alloc, &outcome.output, &outcome.ends, &[], out)
 }

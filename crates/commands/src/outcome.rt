@@ -26,7 +26,8 @@ pub fn put_outcome<O: Sink>(
         Puts (IsTextOfOutcome (record { output = output.now; ends = ends.now; counts = counts.now }))
         status (O.taken out.old) (O.taken out.new)) }
     ensures failure { IfErr result (FailsAs
-        (IsTextOfOutcome (record { output = output.now; ends = ends.now; counts = counts.now })) IsNever
+        (IsTextOfOutcome (record { output = output.now; ends = ends.now; counts = counts.now }))
+        IsNever IsNever
         (sink_of (O.taken out.old) (O.faults out.old) (O.refusals out.old))
         (sink_of (O.taken out.new) (O.faults out.new) (O.refusals out.new))) }
 {

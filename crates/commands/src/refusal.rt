@@ -1,4 +1,4 @@
-//! The lines that say why an executable or a layout is refused.
+//! The lines that say why an executable, a file of code or a layout is refused.
 
 ghost use Rattle.std.specs.Prelude.{◌≡◌, ◌++◌, IfOk, OnOk};
 ghost use Rattle.std.specs.Fmt.{decimal};
@@ -8,13 +8,35 @@ use crate::text::{push_address, push_number};
 use block_layout::Rule;
 use elf32_read::FileRule;
 use exec_map::{Class, ProgramRule};
+use rewriter::Part;
 use std::alloc::{AllocError, Global};
 
-/// The line of a rule that refuses a file.
-pub fn file_line(alloc: Global, rule: FileRule) -> Result<Vec<u8>, AllocError>
-    ensures { IfOk result (λ line. line.items ≡ model.file_line rule) }
+/// What a file is read for.
+#[derive(Clone, Copy)]
+pub enum Subject {
+    /// As the executable.
+    Executable,
+    /// As the file of its rewritten code.
+    Code,
+}
+
+impl Subject {
+    /// The word for it.
+    fn text(self) -> &'static [u8]
+        ensures { result.now ≡ model.subject_text self }
+    {
+        match self {
+            Subject::Executable => b"executable",
+            Subject::Code => b"code",
+        }
+    }
+}
+
+/// The line of a rule that refuses a file, which was read for this.
+pub fn file_line(alloc: Global, subject: Subject, rule: FileRule) -> Result<Vec<u8>, AllocError>
+    ensures { IfOk result (λ line. line.items ≡ model.file_line subject rule) }
 {
-    let mut line = begin(alloc, rule.number())?;
+    let mut line = begin(alloc, subject, rule.number())?;
     push_file_rule(&mut line, rule)?;
     line.extend_from_slice(b"\n")?;
     Ok(line)
@@ -24,7 +46,7 @@ pub fn file_line(alloc: Global, rule: FileRule) -> Result<Vec<u8>, AllocError>
 pub fn program_line(alloc: Global, rule: ProgramRule) -> Result<Vec<u8>, AllocError>
     ensures { IfOk result (λ line. line.items ≡ model.program_line rule) }
 {
-    let mut line = begin(alloc, rule.number())?;
+    let mut line = begin(alloc, Subject::Executable, rule.number())?;
     push_rule(&mut line, rule)?;
     line.extend_from_slice(b"\n")?;
     Ok(line)
@@ -34,11 +56,33 @@ pub fn program_line(alloc: Global, rule: ProgramRule) -> Result<Vec<u8>, AllocEr
 pub fn too_many_words(alloc: Global, words: u64) -> Result<Vec<u8>, AllocError>
     ensures { IfOk result (λ line. line.items ≡ model.too_many_words words) }
 {
-    let mut line = begin(alloc, 20)?;
+    let mut line = begin(alloc, Subject::Executable, 20)?;
     line.extend_from_slice(b"CodeTooLarge ")?;
     push_number(&mut line, words)?;
     line.extend_from_slice(b" words\n")?;
     Ok(line)
+}
+
+/// The line that says in which part a file of code differs first from that of the rewriting.
+pub fn code_line(alloc: Global, part: Part) -> Result<Vec<u8>, AllocError>
+    ensures { IfOk result (λ line. line.items ≡ model.code_line part) }
+{
+    let mut line = begin(alloc, Subject::Code, 21)?;
+    line.extend_from_slice(b"PlanRefused ")?;
+    line.extend_from_slice(part_name(part))?;
+    line.extend_from_slice(b"\n")?;
+    Ok(line)
+}
+
+/// The name of a part.
+fn part_name(part: Part) -> &'static [u8]
+    ensures { result.now ≡ model.part_name part }
+{
+    match part {
+        Part::Plan => b"Plan",
+        Part::Map => b"Map",
+        Part::Code => b"Code",
+    }
 }
 
 /// The line of a rule that refuses a layout, and of the line that breaks it.
@@ -54,12 +98,14 @@ pub fn layout_line(alloc: Global, rule: Rule, number: usize) -> Result<Vec<u8>, 
     Ok(line)
 }
 
-/// What each line begins with: that the executable is refused, and the number.
-fn begin(alloc: Global, number: u8) -> Result<Vec<u8>, AllocError>
-    ensures { IfOk result (λ line. line.items ≡ model.refusal_head number) }
+/// What each line begins with: what is refused, and the number.
+fn begin(alloc: Global, subject: Subject, number: u8) -> Result<Vec<u8>, AllocError>
+    ensures { IfOk result (λ line. line.items ≡ model.refusal_head subject number) }
 {
     let mut line = Vec::new(alloc);
-    line.extend_from_slice(b"shasta: executable refused ")?;
+    line.extend_from_slice(b"shasta: ")?;
+    line.extend_from_slice(subject.text())?;
+    line.extend_from_slice(b" refused ")?;
     push_number(&mut line, u64::from(number))?;
     line.extend_from_slice(b" ")?;
     Ok(line)

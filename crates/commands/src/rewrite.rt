@@ -4,15 +4,14 @@ ghost use Rattle.std.specs.Prelude.{◌≡◌, ◌≢◌, ℕ, List, [], IfOk, O
 ghost use Rattle.commands.specs.Text as model;
 ghost use Rattle.commands.specs.Answers.{files_of};
 ghost use Rattle.commands.specs.Executables.{IsUnrewritten};
-ghost use Rattle.commands.specs.Failures.{IsRefusal, IsWriteFailure, IsRewriteFailure};
+ghost use Rattle.commands.specs.Failures.{IsRefusal, IsNever, IsWriteFailure, IsRewriteFailure};
 ghost use Rattle.commands.specs.Headline.{IsRewrittenFile, IsRewrittenText};
 
+use crate::code::rewriting_of;
 use crate::failure::Failure;
 use crate::input::{elf_of, program_of};
-use crate::refusal::too_many_words;
+use crate::refusal::Subject;
 use dsm_io::{FileError, Files};
-use jump_map::ImageRefused;
-use rewriter::rewrite;
 use std::alloc::{AllocError, Global};
 
 /// Writes the rewritten executable of the one that a file holds into the file `output`.
@@ -39,17 +38,11 @@ pub fn rewrite_into<F: Files>(
 /// The file of the rewritten program of the executable in a file.
 fn rewritten_file(alloc: Global, file: &[u8]) -> Result<Vec<u8>, Failure>
     ensures ok { IfOk result (λ bytes. IsRewrittenFile file.now bytes.items) }
-    ensures refused { IfErr result (IsRefusal (IsUnrewritten file.now)) }
+    ensures refused { IfErr result (IsRefusal (IsUnrewritten file.now) IsNever) }
 {
-    let elf = elf_of(alloc, file)?;
+    let elf = elf_of(alloc, Subject::Executable, file)?;
     let program = program_of(alloc, &elf)?;
-    let rewritten = match rewrite(alloc, &program) {
-        Ok(rewritten) => rewritten,
-        Err(ImageRefused::CodeTooLarge(words)) => {
-            return Err(Failure::Refused(too_many_words(alloc, words)?));
-        }
-        Err(ImageRefused::OutOfMemory) => return Err(Failure::OutOfMemory),
-    };
+    let rewritten = rewriting_of(alloc, &program)?;
     let mut bytes = Vec::new(alloc);
     rewritten.to_elf(alloc, &elf, &mut bytes)?;
     Ok(bytes)

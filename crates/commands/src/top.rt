@@ -7,9 +7,8 @@ ghost use Rattle.command_line.specs.Meaning.{meaning_of};
 ghost use Rattle.commands.specs.Headline.{AreTold, IsText, Prints, PrintsPrefix};
 ghost use Rattle.commands.specs.Inputs.{inputs_of};
 ghost use Rattle.commands.specs.Given.{bytes_of};
-ghost use Rattle.commands.specs.Layouts.{IsLayoutRefused};
 ghost use Rattle.commands.specs.Failures.{IsSuccess, IsFailure, IsPerformFailure, IsNoRefusal, Puts, AreKept, AreLeft, AreWritten};
-ghost use Rattle.commands.specs.Executables.{IsRefused};
+ghost use Rattle.commands.specs.Refusals.{IsRefused, IsLayoutRefused};
 ghost use Rattle.commands.specs.Answers.{Tells, IsFault, file_limit, files_of, sink_of};
 ghost use Rattle.commands.specs.Text.{usage, out_of_memory};
 
@@ -26,8 +25,8 @@ use std::alloc::Global;
 
 /// Does what the words ask for, and answers the status: 0 where every processor ended by itself with
 /// code 0, or none runs; 1 where some processor ended otherwise; 2 for a faulty command line; 3 where
-/// a file or the output failed; 4 where the executable is refused; 5 where it was out of memory; 6
-/// where the layout is refused.
+/// a file or the output failed; 4 where the executable, or a file of its rewritten code, is refused; 5
+/// where it was out of memory; 6 where the layout is refused.
 pub fn shasta<F: Files, O: Sink, E: Sink, G: Gate + Sync>(
     alloc: Global,
     words: &[Text],
@@ -54,7 +53,7 @@ pub fn shasta<F: Files, O: Sink, E: Sink, G: Gate + Sync>(
         → Prints c contents (O.taken out.old) (O.taken out.new) result }
     ensures quiet { result ≤ 1 → E.taken err.new ≡ E.taken err.old }
 
-    // Status 4 is for a refused executable; the refusal is told.
+    // Status 4 is for a refused executable, or one that isn't the rewritten one; the refusal is told.
     ensures refused { (c : Asked) (contents : List ℕ → List ℕ) → Asks words.now c
         → AreTold c (F.held files.old) contents → result ≡ 4
         → (line : List ℕ) × IsRefused c (inputs_of c contents) line × Tells
@@ -199,6 +198,7 @@ fn perform<F: Files, O: Sink>(
         Command::Run {
             file: _,
             budget,
+            code: _,
             layout: _,
         } => run(alloc, inputs, *budget, out),
         Command::List { file: _ } => list(alloc, file, out),
@@ -207,7 +207,8 @@ fn perform<F: Files, O: Sink>(
             nodes,
             order,
             budget,
-        } => one(alloc, file, *nodes, *order, *budget, out),
+            layout: _,
+        } => one(alloc, inputs, *nodes, *order, *budget, out),
     }
 }
 

@@ -1,50 +1,80 @@
 use Rattle.std.proofs.lemmas.Result.{err_from_is_err_and}
-use Rattle.std.proofs.Common.{◌≡◌, ◌∙◌, Some, option_map, ap, sym, subst}
-use Rattle.std.specs.Prelude.{IfSome}
+use Rattle.std.proofs.Common.{◌≡◌, ◌≤◌, ◌∙◌, ℕ, List, Some, option_map, ap, arith, sym, subst}
 use Rattle.command_line.specs.Meaning.{meaning_of}
 use Rattle.commands.specs.Answers.{FilesState}
-use Rattle.commands.specs.Inputs.{input_of, layout_of}
-use Rattle.commands.specs.Failures.{AreInputs, IsInputFailure}
-use Rattle.commands.proofs.AnswerLemmas.{later_read, reads_alone, reads_both, reads_layout}
+use Rattle.commands.specs.Given.{contents_of}
+use Rattle.commands.specs.Inputs.{input_of, code_of, layout_of}
+use Rattle.commands.specs.Failures.{AreContents, AreRead, IsContent, IsInputFailure, IsNamedFailure}
+use Rattle.commands.proofs.AnswerLemmas.{kept_unread, named_fails}
+use Rattle.commands.proofs.InputLemmas.{content_before, inputs_read, none_long, reads_code, reads_layout}
 use Rattle.commands.proofs.input.read_inputs.Goals as goal
-use Rattle.commands.proofs.input.read_inputs.Goals.{in-Some+in_ok-read_file-in-Some, in-None}
 
-pub returns-in_err-read_file-in-Some-clause-failure :
-    goal.returns-in_err-read_file-in-Some-clause-failure
-returns-in_err-read_file-in-Some-clause-failure g c =
+pub returns-in_err-code-clause-failure : goal.returns-in_err-code-clause-failure
+returns-in_err-code-clause-failure g c =
     let files : FilesState = record { held = g.F.Files.held c.args.files.now; failed_reads = g.F.Files.failed_reads c.args.files.now; failed_writes = g.F.Files.failed_writes c.args.files.now } in
     let between : FilesState = record { held = g.F.Files.held c.read_file.new.files; failed_reads = g.F.Files.failed_reads c.read_file.new.files; failed_writes = g.F.Files.failed_writes c.read_file.new.files } in
-    let files_now : FilesState = record { held = g.F.Files.held c.read_file-in-Some.new.files; failed_reads = g.F.Files.failed_reads c.read_file-in-Some.new.files; failed_writes = g.F.Files.failed_writes c.read_file-in-Some.new.files } in
+    let files_now : FilesState = record { held = g.F.Files.held c.read_named.new.files; failed_reads = g.F.Files.failed_reads c.read_named.new.files; failed_writes = g.F.Files.failed_writes c.read_named.new.files } in
     let cmd = meaning_of c.args.command.now in
-    let name = c.in-Some.name.now in
-    let some : layout_of cmd ≡ Some name = sym c.layout_of.ensures ∙ ap (option_map (λ n. n.now)) c.in-Some.is in
-    let failed : IsInputFailure cmd files files_now c.in_err-read_file-in-Some.field-0.0 = (
-      name,
-      reads_layout cmd name some,
-      later_read files between files_now name c.in_err-read_file-in-Some.field-0.0
-          (c.in_ok-executable.ensures.contents name) (c.in_ok-executable.ensures.reads name)
-          c.in_err-read_file-in-Some.ensures.failure,
-    ) in
-    let p = err_from_is_err_and c.from_residual-in_err-read_file-in-Some.result
-    c.from_residual-in_err-read_file-in-Some.ensures.1 in
-    rw (p.1, p.2) failed
+    let f = c.in_err-code.field-0.0 in
+    let failed : IsNamedFailure between files_now (code_of cmd) f =
+    subst (λ o. IsNamedFailure between files_now o f) c.code_of.ensures c.in_err-code.ensures.failure in
+    let p = err_from_is_err_and c.from_residual-in_err-code.result c.from_residual-in_err-code.ensures.1 in
+    rw (p.1, p.2) (named_fails cmd files between files_now (code_of cmd) f c.in_ok-executable.ensures.contents
+    c.in_ok-executable.ensures.reads (reads_code cmd) failed)
+
+pub returns-in_err-layout-clause-failure : goal.returns-in_err-layout-clause-failure
+returns-in_err-layout-clause-failure g c =
+    let files : FilesState = record { held = g.F.Files.held c.args.files.now; failed_reads = g.F.Files.failed_reads c.args.files.now; failed_writes = g.F.Files.failed_writes c.args.files.now } in
+    let first : FilesState = record { held = g.F.Files.held c.read_file.new.files; failed_reads = g.F.Files.failed_reads c.read_file.new.files; failed_writes = g.F.Files.failed_writes c.read_file.new.files } in
+    let between : FilesState = record { held = g.F.Files.held c.read_named.new.files; failed_reads = g.F.Files.failed_reads c.read_named.new.files; failed_writes = g.F.Files.failed_writes c.read_named.new.files } in
+    let files_now : FilesState = record { held = g.F.Files.held c.read_named-2.new.files; failed_reads = g.F.Files.failed_reads c.read_named-2.new.files; failed_writes = g.F.Files.failed_writes c.read_named-2.new.files } in
+    let cmd = meaning_of c.args.command.now in
+    let f = c.in_err-layout.field-0.0 in
+    let failed : IsNamedFailure between files_now (layout_of cmd) f =
+    subst (λ o. IsNamedFailure between files_now o f) c.layout_of.ensures c.in_err-layout.ensures.failure in
+    let low : (n : List ℕ) → files.failed_reads n ≤ between.failed_reads n =
+    λ n. let one = c.in_ok-executable.ensures.reads n in
+    let two = c.in_ok-code.ensures.reads n in omega (arith, one, two) in
+    let p = err_from_is_err_and c.from_residual-in_err-layout.result c.from_residual-in_err-layout.ensures.1 in
+    rw (p.1, p.2) (named_fails cmd files between files_now (layout_of cmd) f
+    (λ n. c.in_ok-code.ensures.contents n ∙ c.in_ok-executable.ensures.contents n) low
+    (reads_layout cmd) failed)
 
 pub returns-clause-ok : goal.returns-clause-ok
 returns-clause-ok g c =
     let cmd = meaning_of c.args.command.now in
     let held = g.F.Files.held c.args.files.now in
-    let between = g.F.Files.held c.read_file.new.files in
-    let bytes = c.in_ok-executable.executable.items in
-    let read : IfSome (held (input_of cmd)) (λ x. bytes ≡ x) =
-    subst (λ n. IfSome (held n) (λ x. bytes ≡ x)) c.input_of.ensures c.in_ok-executable.ensures.ok in
-    elim c.match-layout_of.branch [
-      | in-Some+in_ok-read_file-in-Some w ↦
-          subst (λ l. AreInputs cmd held (record { executable = bytes; layout = option_map (λ t. t.items) l }))
-          (sym w.layout-is)
-          (reads_both cmd held between bytes w.in_ok-read_file-in-Some.field-0.items w.in-Some.name.now read
-          (sym c.layout_of.ensures ∙ ap (option_map (λ n. n.now)) w.in-Some.is)
-          (c.in_ok-executable.ensures.contents w.in-Some.name.now) w.in_ok-read_file-in-Some.ensures.ok)
-      | in-None w ↦
-          subst (λ l. AreInputs cmd held (record { executable = bytes; layout = option_map (λ t. t.items) l }))
-          (sym w.layout-is) (reads_alone cmd held bytes read (sym w.in-None.ensures))
-    ]
+    let first = g.F.Files.held c.read_file.new.files in
+    let second = g.F.Files.held c.read_named.new.files in
+    let code = option_map (λ b. b.items) c.in_ok-code.code in
+    let layout = option_map (λ b. b.items) c.in_ok-layout.layout in
+    let read : AreRead cmd held (record { executable = c.in_ok-executable.executable.items; code = code; layout = layout }) = record {
+      executable = subst (λ n. IsContent (held n) c.in_ok-executable.executable.items) c.input_of.ensures
+          c.in_ok-executable.ensures.ok;
+      code = content_before held first (code_of cmd) code c.in_ok-executable.ensures.contents
+          (subst (λ o. AreContents first o code) c.code_of.ensures c.in_ok-code.ensures.ok);
+      layout = content_before held second (layout_of cmd) layout
+          (λ n. c.in_ok-code.ensures.contents n ∙ c.in_ok-executable.ensures.contents n)
+          (subst (λ o. AreContents second o layout) c.layout_of.ensures c.in_ok-layout.ensures.ok);
+    } in
+    inputs_read cmd held (record { executable = c.in_ok-executable.executable.items; code = code; layout = layout }) read
+
+pub returns-clause-longer : goal.returns-clause-longer
+returns-clause-longer g c = λ name content there is long.
+    let cmd = meaning_of c.args.command.now in
+    let held = g.F.Files.held c.args.files.now in
+    let first = g.F.Files.held c.read_file.new.files in
+    let second = g.F.Files.held c.read_named.new.files in
+    let code = option_map (λ b. b.items) c.in_ok-code.code in
+    let layout = option_map (λ b. b.items) c.in_ok-layout.layout in
+    let read : AreRead cmd held (record { executable = c.in_ok-executable.executable.items; code = code; layout = layout }) = record {
+      executable = subst (λ n. IsContent (held n) c.in_ok-executable.executable.items) c.input_of.ensures
+          c.in_ok-executable.ensures.ok;
+      code = content_before held first (code_of cmd) code c.in_ok-executable.ensures.contents
+          (subst (λ o. AreContents first o code) c.code_of.ensures c.in_ok-code.ensures.ok);
+      layout = content_before held second (layout_of cmd) layout
+          (λ n. c.in_ok-code.ensures.contents n ∙ c.in_ok-executable.ensures.contents n)
+          (subst (λ o. AreContents second o layout) c.layout_of.ensures c.in_ok-layout.ensures.ok);
+    } in
+    none_long cmd held (record { executable = c.in_ok-executable.executable.items; code = code; layout = layout })
+    name content read there is long

@@ -49,7 +49,7 @@ returns-in_err-push_line-clause-failure g c =
     let u = c.loop-next.invariant in
     let r = rest_of e c.loop-next.next (u.pieces ++ c.loop-next.lines.items) u.reached in
     let p = err_from_is_err_and c.from_residual.result c.from_residual.ensures.1 in
-    rw p.1 (stops_behind (IsLike (listing e)) IsNever (listing e) 0 start now u.pieces
+    rw p.1 (stops_behind (IsLike (listing e)) IsNever IsNever (listing e) 0 start now u.pieces
     (c.loop-next.lines.items ++ r.0) p.0 p.2 refl
     (r.1 ∙ append_assoc u.pieces c.loop-next.lines.items r.0) u.put)
 

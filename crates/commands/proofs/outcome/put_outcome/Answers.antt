@@ -18,7 +18,7 @@ returns-in_err-put-clause-failure g c =
     let head = outcome_head (length o.output) in
     let piece : c.deref.result.now ≡ head = c.deref.ensures.value ∙ c.in_ok-head.ensures in
     let p = err_from_is_err_and c.from_residual-in_err-put.result c.from_residual-in_err-put.ensures.1 in
-    rw (p.1, p.2) (put_fails (IsTextOfOutcome o) IsNever (text_of o) (outcomes.status_of o) start start now
+    rw (p.1, p.2) (put_fails (IsTextOfOutcome o) IsNever IsNever (text_of o) (outcomes.status_of o) start start now
     [] head (o.output ++ tail) c.in_err-put.field-0.0 (refl, refl) refl (nothing_put start.taken) refl
     (subst (λ t. IsPutFailure start now t c.in_err-put.field-0.0) piece c.in_err-put.ensures.failure))
 
@@ -34,7 +34,7 @@ returns-in_err-put-2-clause-failure g c =
     let first : Appends start.taken middle.taken head =
     subst (Appends start.taken middle.taken) piece c.in_ok-put.ensures.ok in
     let p = err_from_is_err_and c.from_residual-in_err-put-2.result c.from_residual-in_err-put-2.ensures.1 in
-    rw (p.1, p.2) (put_fails (IsTextOfOutcome o) IsNever (text_of o) (outcomes.status_of o) start middle now
+    rw (p.1, p.2) (put_fails (IsTextOfOutcome o) IsNever IsNever (text_of o) (outcomes.status_of o) start middle now
     head o.output tail c.in_err-put-2.field-0.0 (refl, refl) refl first c.in_ok-put.ensures.faults
     c.in_err-put-2.ensures.failure)
 
@@ -56,7 +56,7 @@ returns-in_err-put-3-clause-failure g c =
     let whole : text_of o ≡ (head ++ o.output) ++ (tail ++ []) =
     sym (append_assoc head o.output tail) ∙ ap (λ t. (head ++ o.output) ++ t) (sym (append-nil tail)) in
     let p = err_from_is_err_and c.from_residual-in_err-put-3.result c.from_residual-in_err-put-3.ensures.1 in
-    rw (p.1, p.2) (put_fails (IsTextOfOutcome o) IsNever (text_of o) (outcomes.status_of o) start before now
+    rw (p.1, p.2) (put_fails (IsTextOfOutcome o) IsNever IsNever (text_of o) (outcomes.status_of o) start before now
     (head ++ o.output) tail [] c.in_err-put-3.field-0.0 (refl, refl) whole both
     (c.in_ok-put-2.ensures.faults ∙ c.in_ok-put.ensures.faults)
     (subst (λ t. IsPutFailure before now t c.in_err-put-3.field-0.0) last c.in_err-put-3.ensures.failure))

@@ -1,5 +1,6 @@
 use Rattle.std.proofs.Common.{◌≡◌, ◌++◌, List, ℕ, ap, ◌∙◌, codes, append_assoc}
 use Rattle.std.specs.Fmt.{decimal}
+use Rattle.commands.specs.declared.refusal.Subject.TheVariants.{Executable}
 use Rattle.commands.specs.Text.{refusal_head}
 use Rattle.commands.proofs.refusal.too_many_words.Goals as goal
 
@@ -12,4 +13,4 @@ returns c =
     ∙ ap (λ t. t ++ codes " words\n") (c.in_ok-push_number.ensures
     ∙ ap (λ t. t ++ decimal c.args.words) (c.in_ok-extend_from_slice.ensures.items
     ∙ ap (λ t. t ++ codes "CodeTooLarge ") c.in_ok-line.ensures))
-    ∙ regroup (refusal_head 20) (codes "CodeTooLarge ") (decimal c.args.words) (codes " words") (codes "\n")
+    ∙ regroup (refusal_head Executable 20) (codes "CodeTooLarge ") (decimal c.args.words) (codes " words") (codes "\n")

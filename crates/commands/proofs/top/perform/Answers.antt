@@ -1,9 +1,7 @@
-use Rattle.std.proofs.Common.{refl}
 use Rattle.command_line.specs.Meaning.{meaning_of}
 use Rattle.commands.specs.Answers.{SinkState, FilesState}
-use Rattle.commands.specs.Failures.{IsRunFailure, IsPerformFailure}
 use Rattle.commands.specs.Given.{bytes_of}
-use Rattle.commands.proofs.AnswerLemmas.{err_as, plain_failure, puts_nothing, IsRun, run_fails}
+use Rattle.commands.proofs.AnswerLemmas.{plain_failure, puts_nothing}
 use Rattle.commands.proofs.top.perform.Goals as goal
 
 pub returns-in-Rewrite-clause-ok : goal.returns-in-Rewrite-clause-ok
@@ -16,13 +14,8 @@ returns-in-Run-clause-failure g c =
     let files : FilesState = record { held = g.F.Files.held c.args.files.now; failed_reads = g.F.Files.failed_reads c.args.files.now; failed_writes = g.F.Files.failed_writes c.args.files.now } in
     let before : SinkState = record { taken = g.O.Sink.taken c.args.out.now; faults = g.O.Sink.faults c.args.out.now; refusals = g.O.Sink.refusals c.args.out.now } in
     let now : SinkState = record { taken = g.O.Sink.taken c.run.new.out; faults = g.O.Sink.faults c.run.new.out; refusals = g.O.Sink.refusals c.run.new.out } in
-    let budget = c.in-Run.budget in
-    let is_run : IsRun (meaning_of c.args.command.now) budget = rw c.in-Run.is refl in
-    err_as (IsRunFailure (bytes_of c.args.inputs.now) budget before now)
-    (IsPerformFailure (meaning_of c.args.command.now) (bytes_of c.args.inputs.now) files files before now)
-    c.run.result
-    (λ f h. run_fails (meaning_of c.args.command.now) budget (bytes_of c.args.inputs.now) files files
-    before now f is_run h) c.run.ensures.failure
+    plain_failure (meaning_of c.args.command.now) (bytes_of c.args.inputs.now) files files before now
+    c.run.result (rw c.in-Run.is c.run.ensures.failure)
 
 pub returns-in-List-clause-failure : goal.returns-in-List-clause-failure
 returns-in-List-clause-failure g c =

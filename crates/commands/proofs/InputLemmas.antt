@@ -1,0 +1,144 @@
+-- The files that commands read.
+use Rattle.std.proofs.Common.{◌≡◌, ◌⊎◌, ℕ, ◌<◌, ◌≤◌, List, [], ◌∷◌, ◌++◌, length, Option, Some, None, option_map, refl, sym, ap, ◌∙◌, subst, inl, inr, arith}
+use Rattle.std.specs.Prelude.{Contains, IfSome}
+use Rattle.std.proofs.lemmas.List.Elements.{Contains-append_left, Contains-append_right, Contains-append_cases}
+use Rattle.command_line.specs.Commands.{Command, Rewrite, Run, Listing, One, reads}
+use Rattle.commands.specs.Answers.{file_limit}
+use Rattle.commands.specs.Failures.{AreContents, AreInputs, AreRead, IsContent}
+use Rattle.commands.specs.Headline.{AreTold}
+use Rattle.commands.specs.Inputs.{Inputs, input_of, code_of, layout_of, inputs_of}
+
+-- the file of a name that may be left out
+abbrev named : Option (List ℕ) → List (List ℕ)
+named None = []
+named (Some name) = name ∷ []
+
+-- a command reads its executable, its code and its layout
+abbrev files_of : Command → List (List ℕ)
+files_of c = (input_of c ∷ []) ++ (named (code_of c) ++ named (layout_of c))
+
+reads_are : (c : Command) → reads c ≡ files_of c
+reads_are (Rewrite input output) = refl
+reads_are (Run file budget None None) = refl
+reads_are (Run file budget None (Some layout)) = refl
+reads_are (Run file budget (Some code) None) = refl
+reads_are (Run file budget (Some code) (Some layout)) = refl
+reads_are (Listing file) = refl
+reads_are (One file nodes order budget None) = refl
+reads_are (One file nodes order budget (Some layout)) = refl
+
+-- a list of one name
+pub only_of : (file name : List ℕ) → Contains (file ∷ []) name → name ≡ file
+only_of file name h =
+    let zero : h.0 ≡ 0 = omega (arith, h.1) in
+    sym (subst (λ k. Rattle.std.proofs.Common.get_or (file ∷ []) k name ≡ name) zero h.2)
+
+first_of : (name : List ℕ) → Contains (name ∷ []) name
+first_of name = (0, omega arith, refl)
+
+among : (o : Option (List ℕ)) (name : List ℕ) → o ≡ Some name → Contains (named o) name
+among o name e = subst (λ x. Contains (named x) name) (sym e) (first_of name)
+
+of_named : (o : Option (List ℕ)) (name : List ℕ) → Contains (named o) name → o ≡ Some name
+of_named None name h = absurd (omega (arith, h.1))
+of_named (Some other) name h = ap Some (sym (only_of other name h))
+
+pub reads_input : (c : Command) → Contains (reads c) (input_of c)
+reads_input c =
+    subst (λ ns. Contains ns (input_of c)) (sym (reads_are c))
+    (Contains-append_left (input_of c ∷ []) (named (code_of c) ++ named (layout_of c)) (input_of c)
+    (first_of (input_of c)))
+
+pub reads_code : (c : Command) (name : List ℕ) → code_of c ≡ Some name → Contains (reads c) name
+reads_code c name e =
+    subst (λ ns. Contains ns name) (sym (reads_are c))
+    (Contains-append_right (input_of c ∷ []) (named (code_of c) ++ named (layout_of c)) name
+    (Contains-append_left (named (code_of c)) (named (layout_of c)) name (among (code_of c) name e)))
+
+pub reads_layout : (c : Command) (name : List ℕ) → layout_of c ≡ Some name → Contains (reads c) name
+reads_layout c name e =
+    subst (λ ns. Contains ns name) (sym (reads_are c))
+    (Contains-append_right (input_of c ∷ []) (named (code_of c) ++ named (layout_of c)) name
+    (Contains-append_right (named (code_of c)) (named (layout_of c)) name (among (layout_of c) name e)))
+
+-- and nothing else
+reads_only : (c : Command) (name : List ℕ) → Contains (reads c) name
+    → (name ≡ input_of c) ⊎ ((code_of c ≡ Some name) ⊎ (layout_of c ≡ Some name))
+reads_only c name h =
+    elim (Contains-append_cases (input_of c ∷ []) (named (code_of c) ++ named (layout_of c)) name
+    (subst (λ ns. Contains ns name) (reads_are c) h)) [
+      | inl first ↦ inl (only_of (input_of c) name first)
+      | inr more ↦ inr (elim (Contains-append_cases (named (code_of c)) (named (layout_of c)) name more) [
+        | inl k ↦ inl (of_named (code_of c) name k)
+        | inr k ↦ inr (of_named (layout_of c) name k)
+      ])
+    ]
+
+-- what was read is what the files are told to have
+
+content_is : (o : Option (List ℕ)) (bytes content : List ℕ) → IsContent o bytes
+    → o ≡ Some content → bytes ≡ content
+content_is o bytes content h is =
+    subst (λ (x : Option (List ℕ)). IfSome x (λ c. bytes ≡ c)) is h.same
+
+named_is : (held : List ℕ → Option (List ℕ)) (contents : List ℕ → List ℕ)
+    (o bytes : Option (List ℕ)) → AreContents held o bytes
+    → ((name : List ℕ) → o ≡ Some name → held name ≡ Some (contents name))
+    → bytes ≡ option_map contents o
+named_is held contents None bytes h told = h
+named_is held contents (Some name) None h told = absurd h
+named_is held contents (Some name) (Some bytes) h told =
+    ap Some (content_is (held name) bytes (contents name) h (told name refl))
+
+abbrev inputs : List ℕ → Option (List ℕ) → Option (List ℕ) → Inputs
+inputs executable code layout = record { executable = executable; code = code; layout = layout }
+
+pub inputs_read : (c : Command) (held : List ℕ → Option (List ℕ)) (i : Inputs) → AreRead c held i
+    → AreInputs c held i
+inputs_read c held i h contents told =
+    let one = content_is (held (input_of c)) i.executable (contents (input_of c)) h.executable
+    (told (input_of c) (reads_input c)) in
+    let two = named_is held contents (code_of c) i.code h.code
+    (λ name e. told name (reads_code c name e)) in
+    let three = named_is held contents (layout_of c) i.layout h.layout
+    (λ name e. told name (reads_layout c name e)) in
+    ap (λ x. inputs x i.code i.layout) one
+    ∙ ap (λ x. inputs (contents (input_of c)) x i.layout) two
+    ∙ ap (λ x. inputs (contents (input_of c)) (option_map contents (code_of c)) x) three
+
+-- no file that was read is too long
+short_content : (o : Option (List ℕ)) (bytes content : List ℕ) → IsContent o bytes
+    → o ≡ Some content → file_limit < length content → ⊥
+short_content o bytes content h is long =
+    let same = ap length (content_is o bytes content h is) in
+    let fits = h.fits in
+    omega (arith, same, fits, long)
+
+short_named : (held : List ℕ → Option (List ℕ)) (o bytes : Option (List ℕ)) (name content : List ℕ)
+    → AreContents held o bytes → o ≡ Some name → held name ≡ Some content
+    → file_limit < length content → ⊥
+short_named held None bytes name content h e is long = absurd (cc)
+short_named held (Some other) None name content h e is long = h
+short_named held (Some other) (Some bytes) name content h e is long =
+    short_content (held other) bytes content h (ap held (same_inside other name e) ∙ is) long
+  where
+    same_inside : (x y : List ℕ) → Some x ≡ Some y → x ≡ y
+    same_inside x y e = cc
+
+pub none_long : (c : Command) (held : List ℕ → Option (List ℕ)) (i : Inputs) (name content : List ℕ)
+    → AreRead c held i → Contains (reads c) name → held name ≡ Some content
+    → file_limit < length content → ⊥
+none_long c held i name content h there is long = elim (reads_only c name there) [
+  | inl e ↦
+      short_content (held (input_of c)) i.executable content h.executable (ap held (sym e) ∙ is) long
+  | inr (inl e) ↦ short_named held (code_of c) i.code name content h.code e is long
+  | inr (inr e) ↦ short_named held (layout_of c) i.layout name content h.layout e is long
+]
+
+-- files are read after others, which leaves what each holds
+pub content_before : (held between : List ℕ → Option (List ℕ)) (o bytes : Option (List ℕ))
+    → ((n : List ℕ) → between n ≡ held n) → AreContents between o bytes → AreContents held o bytes
+content_before held between None bytes same h = h
+content_before held between (Some name) None same h = h
+content_before held between (Some name) (Some bytes) same h =
+    subst (λ o. IsContent o bytes) (same name) h

@@ -1,0 +1,40 @@
+//! The layout of a run.
+
+ghost use Rattle.std.specs.Prelude.{◌≡◌, ℕ, option_map, IfOk, IfErr};
+ghost use Rattle.block_layout.specs.Layout.{IsValid};
+ghost use Rattle.commands.specs.Failures.{IsRefusal, IsNever};
+ghost use Rattle.commands.specs.Layouts.{IsFaultyLayout, IsLayoutFor};
+
+use crate::failure::Failure;
+use crate::refusal::layout_line;
+use block_layout::{Layout, LayoutRefused, default_layout, read_layout};
+use exec_map::Program;
+use run_limits::NodeCount;
+use std::alloc::Global;
+
+/// The layout of a program's shared lines for so many nodes: that of a text, or, where there is none,
+/// that where each line is a block.
+pub fn layout_for(
+    alloc: Global,
+    program: &Program<'_>,
+    text: Option<&[u8]>,
+    nodes: NodeCount,
+) -> Result<Layout, Failure>
+    ensures ok { IfOk result
+        (IsLayoutFor program.now (option_map (λ text. text.now) text.entry) nodes) }
+    ensures valid { IfOk result IsValid }
+    ensures refused { IfErr result (IsRefusal IsNever
+        (IsFaultyLayout program.now (option_map (λ text. text.now) text.entry) nodes)) }
+{
+    let ranges = program.shared_ranges(alloc)?;
+    let Some(text) = text else {
+        return Ok(default_layout(alloc, &ranges, nodes.number())?);
+    };
+    match read_layout(alloc, text, &ranges, nodes.number()) {
+        Ok(layout) => Ok(layout),
+        Err(LayoutRefused::Broken { rule, line }) => {
+            Err(Failure::Layout(layout_line(alloc, rule, line)?))
+        }
+        Err(LayoutRefused::OutOfMemory) => Err(Failure::OutOfMemory),
+    }
+}
