@@ -6,7 +6,7 @@ use std::fs;
 use std::test::Fail;
 
 /// Reads and tells the answer without its bytes.
-fn answer(alloc: Global, files: &mut impl Files, name: &str, limit: u64) -> Result<(), FileError> {
+fn answer(alloc: Global, files: &mut RealFiles, name: &str, limit: u64) -> Result<(), FileError> {
     files.read(alloc, name, limit)?;
     Ok(())
 }

@@ -1,77 +1,78 @@
-//! Calls of the program on a file in memory.
+//! Calls of the program on files in memory.
 
 use commands::shasta;
 use dsm_io::{MemFiles, MemSink, OpenGate, Text};
 use std::alloc::{AllocError, Global};
+use std::str::from_utf8;
 use std::test::Fail;
 
 /// The line of a node that counted nothing.
 pub const NODE: &str =
     "node 0 read 0 exclusive 0 upgrade 0 false 0 invalidations 0 fallbacks 0 messages 0\n";
 
-fn push_words(bytes: &mut Vec<u8>, words: &[u32]) -> Result<(), AllocError> {
-    for word in words {
+/// The file header of an executable with two program headers and no section header.
+const FILE_HEADER: &str = "464c457f 00010101 00000000 00000000 00f30002 00000001 00010000 00000034
+    00000000 00000000 00200034 00000002 00000000";
+
+/// Appends words, each of eight hexadecimal digits, with spaces between them.
+fn push_words(bytes: &mut Vec<u8>, words: &str) -> Result<(), Fail> {
+    for word in words.split_whitespace() {
+        let word = u32::from_str_radix(word, 16)?;
         bytes.extend_from_slice(&word.to_le_bytes())?;
     }
     Ok(())
 }
 
-/// A number as a word; the largest word where it is larger.
-fn word_of(number: usize) -> u32 {
-    u32::try_from(number).unwrap_or(u32::MAX)
+/// The bytes of words, each of eight hexadecimal digits, with spaces between them.
+pub fn words_of(alloc: Global, words: &str) -> Result<Vec<u8>, Fail> {
+    let mut bytes = Vec::new(alloc);
+    push_words(&mut bytes, words)?;
+    Ok(bytes)
 }
 
-/// The executable of this code and data, of which the data's memory has so many bytes.
-pub fn executable(
-    alloc: Global,
-    code: &[u32],
-    data: &[u8],
-    data_size: u32,
-) -> Result<Vec<u8>, AllocError> {
-    let code_size = word_of(code.len()).wrapping_mul(4);
+/// Appends the number of bytes in the file and that in memory.
+fn push_sizes(bytes: &mut Vec<u8>, in_file: usize, in_memory: u32) -> Result<(), Fail> {
+    bytes.extend_from_slice(&u32::try_from(in_file)?.to_le_bytes())?;
+    bytes.extend_from_slice(&in_memory.to_le_bytes())?;
+    Ok(())
+}
+
+/// The executable of this code and data, of which the data's memory has so many bytes. The code is
+/// a text of words.
+pub fn executable(alloc: Global, code: &str, data: &[u8], data_size: u32) -> Result<Vec<u8>, Fail> {
+    let words = words_of(alloc, code)?;
     let mut file = Vec::new(alloc);
-    // e_ident, e_type and e_machine, e_version, e_entry, e_phoff, e_shoff, e_flags
-    push_words(
-        &mut file,
-        &[
-            0x464c457f, 0x00010101, 0, 0, 0x00f30002, 1, 0x10000, 52, 0, 0,
-        ],
-    )?;
-    // e_ehsize and e_phentsize, e_phnum and e_shentsize, e_shnum and e_shstrndx
-    push_words(&mut file, &[0x00200034, 2, 0])?;
-    // the code's program header
-    push_words(
-        &mut file,
-        &[1, 0x1000, 0x10000, 0x10000, code_size, code_size, 5, 0x1000],
-    )?;
-    // the data's program header
-    push_words(
-        &mut file,
-        &[
-            1,
-            0x2000,
-            0x20000,
-            0x20000,
-            word_of(data.len()),
-            data_size,
-            6,
-            0x1000,
-        ],
-    )?;
+    push_words(&mut file, FILE_HEADER)?;
+    push_words(&mut file, "00000001 00001000 00010000 00010000")?;
+    push_sizes(&mut file, words.len(), u32::try_from(words.len())?)?;
+    push_words(&mut file, "00000005 00001000")?;
+    push_words(&mut file, "00000001 00002000 00020000 00020000")?;
+    push_sizes(&mut file, data.len(), data_size)?;
+    push_words(&mut file, "00000006 00001000")?;
     file.resize(0x1000, 0)?;
-    push_words(&mut file, code)?;
+    file.extend_from_slice(&words)?;
     file.resize(0x2000, 0)?;
     file.extend_from_slice(data)?;
     Ok(file)
 }
 
-/// The bytes of some texts, one after another.
-pub fn text_of(alloc: Global, parts: &[&str]) -> Result<Vec<u8>, AllocError> {
-    let mut text = Vec::new(alloc);
+/// Some texts, one after another.
+pub fn text_of(alloc: Global, parts: &[&str]) -> Result<String, AllocError> {
+    let mut text = String::new(alloc);
     for part in parts {
-        text.extend_from_slice(part.as_bytes())?;
+        text.push_str(part)?;
     }
     Ok(text)
+}
+
+/// Files with these names and contents, of which the calls with these numbers fail.
+pub fn files_of(alloc: Global, all: &[(&str, &[u8])], fails: &[u64]) -> Result<MemFiles, Fail> {
+    let mut held = Vec::new(alloc);
+    for (name, bytes) in all {
+        let name = Text::of(String::from_str(alloc, name)?);
+        held.push((name, bytes.to_vec(alloc)?))?;
+    }
+    Ok(MemFiles::new(alloc, held, fails.to_vec(alloc)?))
 }
 
 /// What a call did.
@@ -82,29 +83,87 @@ pub struct Called {
     pub err: MemSink,
 }
 
-/// Calls the program with these words, where IN is the only file.
-pub fn call(alloc: Global, file: &[u8], words: &[&str]) -> Result<Called, Fail> {
-    call_with(alloc, file, words, Vec::new(alloc), Vec::new(alloc))
-}
-
-/// The same, where the calls of the files with the first numbers fail, and the puts with the second.
-pub fn call_with(
+/// Calls the program on files with these words, with spaces between them. The puts to the output
+/// with these numbers fail.
+pub fn call_on(
     alloc: Global,
-    file: &[u8],
-    words: &[&str],
-    file_fails: Vec<u64>,
-    put_fails: Vec<u64>,
+    files: &mut MemFiles,
+    words: &str,
+    put_fails: &[u64],
 ) -> Result<Called, Fail> {
-    let mut held = Vec::new(alloc);
-    let name = Text::of(String::from_str(alloc, "IN")?);
-    held.push((name, file.to_vec(alloc)?))?;
-    let mut files = MemFiles::new(alloc, held, file_fails);
     let mut line = Vec::new(alloc);
-    for word in words {
+    for word in words.split_whitespace() {
         line.push(Text::of(String::from_str(alloc, word)?))?;
     }
-    let mut out = MemSink::new(alloc, put_fails);
+    let mut out = MemSink::new(alloc, put_fails.to_vec(alloc)?);
     let mut err = MemSink::new(alloc, Vec::new(alloc));
-    let status = shasta(alloc, &line, &mut files, &mut out, &mut err, &OpenGate);
+    let status = shasta(alloc, &line, files, &mut out, &mut err, &OpenGate);
     Ok(Called { status, out, err })
+}
+
+/// What a call answers: its status, and what the output and the errors take.
+#[derive(Clone, Copy)]
+pub struct Answer<'a> {
+    pub status: u8,
+    pub out: &'a str,
+    pub err: &'a str,
+}
+
+impl Called {
+    /// Fails the test where the call of these words answered otherwise.
+    pub fn expect(&self, words: &str, answer: &Answer<'_>) -> Result<(), Fail> {
+        let out = from_utf8(self.out.taken())?;
+        let err = from_utf8(self.err.taken())?;
+        if out == answer.out && err == answer.err && self.status == answer.status {
+            return Ok(());
+        }
+        let status = self.status;
+        Err(Fail::new(format_args!("{words}: {status}: {err}: {out}")))
+    }
+}
+
+/// Calls the program with these words where these files are held, and fails the test where it
+/// answers otherwise.
+pub fn try_held(
+    alloc: Global,
+    held: &[(&str, &[u8])],
+    words: &str,
+    answer: &Answer<'_>,
+) -> Result<(), Fail> {
+    let mut files = files_of(alloc, held, &[])?;
+    let called = call_on(alloc, &mut files, words, &[])?;
+    called.expect(words, answer)
+}
+
+/// Calls the program with these words where IN is the only file, and fails the test where it
+/// answers otherwise.
+pub fn try_call(alloc: Global, file: &[u8], words: &str, answer: &Answer<'_>) -> Result<(), Fail> {
+    try_held(alloc, &[("IN", file)], words, answer)
+}
+
+/// Executes a program that prints nothing, on one memory and rewritten, and fails the test where it
+/// ends otherwise or its node counts otherwise.
+pub fn try_program(
+    alloc: Global,
+    code: &str,
+    data: &[u8],
+    end: &str,
+    node: &str,
+) -> Result<(), Fail> {
+    let file = executable(alloc, code, data, 64)?;
+    let status = u8::from(end != "exit 0");
+    let one = text_of(alloc, &["output 0\n\nprocessor 0 ", end, "\n"])?;
+    let run = text_of(alloc, &[&one, node])?;
+    let of_one = Answer {
+        status,
+        out: &one,
+        err: "",
+    };
+    try_call(alloc, &file, "one IN", &of_one)?;
+    let of_run = Answer {
+        status,
+        out: &run,
+        err: "",
+    };
+    try_call(alloc, &file, "run IN", &of_run)
 }

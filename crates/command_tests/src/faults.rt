@@ -1,6 +1,7 @@
 //! What is told where a command does no work.
 
-use crate::calls::{call, call_with, executable};
+use crate::calls::{Answer, call_on, executable, files_of, text_of, try_call};
+use std::alloc::Global;
 use std::test::Fail;
 
 /// How the program is called.
@@ -13,53 +14,85 @@ const USAGE: &str = "usage: shasta rewrite IN OUT [--no-batch]
        shasta gen NUMBER OUT
 ";
 
-/// The commands that read an executable.
-const COMMANDS: [&str; 3] = ["list", "run", "one"];
+/// Words that ask for no command.
+const FAULTY: [&str; 12] = [
+    "",
+    "run",
+    "run IN --nodes 17",
+    "run IN --nodes 2",
+    "list IN IN",
+    "run IN --layout -x",
+    "run IN --layout=",
+    "run IN --code -x",
+    "run IN --code=",
+    "one IN --nodes 17",
+    "one IN --code a",
+    "list IN --layout a",
+];
 
 #[test]
 fn tells_its_use(rt: HostRuntime) -> Result<(), Fail> {
-    let alloc = rt.alloc();
-    for words in [
-        ["run"].as_slice(),
-        &["run", "IN", "--layout", "-x"],
-        &["run", "IN", "--layout="],
-        &[],
-        &["list", "IN", "IN"],
-        &["one", "IN", "--nodes", "17"],
-    ] {
-        let called = call(alloc, b"", words)?;
-        assert_eq!(rt; called.status, 2);
-        assert_eq!(rt; called.err.taken(), USAGE.as_bytes());
-        assert_eq!(rt; called.out.taken(), b"".as_slice());
+    let answer = Answer {
+        status: 2,
+        out: "",
+        err: USAGE,
+    };
+    for words in FAULTY {
+        try_call(rt.alloc(), b"", words, &answer)?;
     }
     Ok(())
 }
 
-/// Words that no version executes, or not this one, and what is told of each.
-const WORDS: [(u32, &str); 2] = [
+/// Calls a command on a name, where IN is a file, and fails the test where it prints something or
+/// answers otherwise.
+fn try_command(
+    alloc: Global,
+    file: &[u8],
+    command: &str,
+    name: &str,
+    answer: &Answer<'_>,
+) -> Result<(), Fail> {
+    let words = text_of(alloc, &[command, " ", name])?;
+    try_call(alloc, file, &words, answer)
+}
+
+/// The same for each command that reads an executable.
+fn try_commands(alloc: Global, file: &[u8], name: &str, status: u8, err: &str) -> Result<(), Fail> {
+    let answer = Answer {
+        status,
+        out: "",
+        err,
+    };
+    for command in ["list", "run", "one"] {
+        try_command(alloc, file, command, name, &answer)?;
+    }
+    Ok(())
+}
+
+/// Words that are no instruction of RV32IA, and what is told of each.
+const WORDS: [(&str, &str); 2] = [
     // csrrs x5, cycle, x0
     (
-        0xc00022f3,
+        "c00022f3",
         "shasta: executable refused 18 Unsupported 0x00010000 word 0xc00022f3\n",
     ),
-    // lr.w x6, (x5)
+    // lr.w x6, (x5) with 1 for its second register
     (
-        0x1002a32f,
-        "shasta: executable refused 18 Unsupported 0x00010000 word 0x1002a32f\n",
+        "1012a32f",
+        "shasta: executable refused 18 Unsupported 0x00010000 word 0x1012a32f\n",
     ),
 ];
 
+/// Calls the commands on a program of one word.
+fn try_word(alloc: Global, word: &str, line: &str) -> Result<(), Fail> {
+    let file = executable(alloc, word, b"", 64)?;
+    try_commands(alloc, &file, "IN", 4, line)
+}
+
 #[test]
-fn tells_which_word_is_not_executed(rt: HostRuntime) -> Result<(), Fail> {
-    let alloc = rt.alloc();
+fn tells_which_word_is_no_instruction(rt: HostRuntime) -> Result<(), Fail> {
     for (word, line) in WORDS {
-        let file = executable(alloc, &[word], b"", 64)?;
-        for command in COMMANDS {
-            let called = call(alloc, &file, &[command, "IN"])?;
-            assert_eq!(rt; called.status, 4);
-            assert_eq!(rt; called.err.taken(), line.as_bytes());
-            assert_eq!(rt; called.out.taken(), b"".as_slice());
-        }
+        try_word(rt.alloc(), word, line)?;
     }
     Ok(())
 }
@@ -69,44 +102,41 @@ fn tells_what_is_wrong_with_a_file(rt: HostRuntime) -> Result<(), Fail> {
     let alloc = rt.alloc();
     let mut long = Vec::new(alloc);
     long.resize(33_554_433, 0)?;
-    for command in COMMANDS {
-        let other = call(alloc, b"text", &[command, "IN"])?;
-        assert_eq!(rt; other.status, 4);
-        assert_eq!(rt;
-            other.err.taken(),
-            b"shasta: executable refused 1 Short\n".as_slice()
-        );
-        let absent = call(alloc, b"", &[command, "a"])?;
-        assert_eq!(rt; absent.status, 3);
-        assert_eq!(rt; absent.err.taken(), b"shasta: cannot read a\n".as_slice());
-        let above = call(alloc, &long, &[command, "IN"])?;
-        assert_eq!(rt; above.status, 3);
-        assert_eq!(rt;
-            above.err.taken(),
-            b"shasta: IN is longer than 33554432 bytes\n".as_slice()
-        );
-        assert_eq!(rt; above.out.taken(), b"".as_slice());
-    }
-    Ok(())
+    try_commands(
+        alloc,
+        b"text",
+        "IN",
+        4,
+        "shasta: executable refused 1 Short\n",
+    )?;
+    try_commands(alloc, b"", "a", 3, "shasta: cannot read a\n")?;
+    try_commands(
+        alloc,
+        &long,
+        "IN",
+        3,
+        "shasta: IN is longer than 33554432 bytes\n",
+    )
+}
+
+/// Calls the program with these words on a file, where the first put to the output fails.
+fn try_output(alloc: Global, file: &[u8], words: &str) -> Result<(), Fail> {
+    let mut files = files_of(alloc, &[("IN", file)], &[])?;
+    let called = call_on(alloc, &mut files, words, &[1])?;
+    let answer = Answer {
+        status: 3,
+        out: "",
+        err: "shasta: cannot write output\n",
+    };
+    called.expect(words, &answer)
 }
 
 #[test]
 fn tells_that_the_output_failed(rt: HostRuntime) -> Result<(), Fail> {
     let alloc = rt.alloc();
-    let file = executable(alloc, &[0x00100073], b"", 64)?;
-    for command in COMMANDS {
-        let called = call_with(
-            alloc,
-            &file,
-            &[command, "IN"],
-            Vec::new(alloc),
-            vec![in alloc; 1u64]?,
-        )?;
-        assert_eq!(rt; called.status, 3);
-        assert_eq!(rt;
-            called.err.taken(),
-            b"shasta: cannot write output\n".as_slice()
-        );
+    let file = executable(alloc, "00100073", b"", 64)?;
+    for words in ["list IN", "run IN", "one IN"] {
+        try_output(alloc, &file, words)?;
     }
     Ok(())
 }

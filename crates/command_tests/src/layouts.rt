@@ -1,13 +1,15 @@
 //! Runs with a layout: what it changes, and why it is refused.
 
-use crate::calls::{Called, NODE, executable, text_of};
-use commands::shasta;
-use dsm_io::{MemFiles, MemSink, OpenGate, Text};
+use crate::atomics::{COUNTED, COUNTER};
+use crate::calls::{Answer, NODE, executable, text_of, try_call, try_held};
 use std::alloc::Global;
 use std::test::Fail;
 
 /// EBREAK alone.
-const STOP: [u32; 1] = [0x00100073];
+const STOP: &str = "00100073";
+
+/// What `one` prints of it.
+const STOPPED: &str = "output 0\n\nprocessor 0 ebreak 0x00010000\n";
 
 /// A layout for one line of shared memory at 0x20000, and its answer.
 struct Case {
@@ -56,52 +58,120 @@ const CASES: [Case; 7] = [
     },
 ];
 
-/// Calls `run` on a file with the layout of a text.
-fn run_with(alloc: Global, file: Vec<u8>, text: &str) -> Result<Called, Fail> {
-    let mut held = Vec::new(alloc);
-    held.push((Text::of(String::from_str(alloc, "IN")?), file))?;
-    let layout = text_of(alloc, &[text])?;
-    held.push((Text::of(String::from_str(alloc, "-x")?), layout))?;
-    let mut files = MemFiles::new(alloc, held, Vec::new(alloc));
-    let mut line = Vec::new(alloc);
-    for word in ["run", "--layout=-x", "IN"] {
-        line.push(Text::of(String::from_str(alloc, word)?))?;
-    }
-    let mut out = MemSink::new(alloc, Vec::new(alloc));
-    let mut err = MemSink::new(alloc, Vec::new(alloc));
-    let status = shasta(alloc, &line, &mut files, &mut out, &mut err, &OpenGate);
-    Ok(Called { status, out, err })
+/// Calls `run` and `one` on a file with a layout, and fails the test where one answers otherwise.
+/// The text behind the output of `run` is the line of its node.
+fn try_layout(alloc: Global, file: &[u8], layout: &str, answer: &Answer<'_>) -> Result<(), Fail> {
+    let held = [("IN", file), ("-x", layout.as_bytes())];
+    try_held(alloc, &held, "one --layout=-x IN", answer)?;
+    let node = if answer.out.is_empty() { "" } else { NODE };
+    let out = text_of(alloc, &[answer.out, node])?;
+    let of_run = Answer {
+        status: answer.status,
+        out: &out,
+        err: answer.err,
+    };
+    try_held(alloc, &held, "run --layout=-x IN", &of_run)
 }
 
 #[test]
 fn judges_the_layout(rt: HostRuntime) -> Result<(), Fail> {
     let alloc = rt.alloc();
-    let whole = text_of(
-        alloc,
-        &["output 0\n\nprocessor 0 ebreak 0x00010000\n", NODE],
-    )?;
+    let file = executable(alloc, STOP, b"", 64)?;
     for case in &CASES {
-        let called = run_with(alloc, executable(alloc, &STOP, b"", 64)?, case.text)?;
-        assert_eq!(rt; called.status, case.status);
-        assert_eq!(rt; called.err.taken(), case.line.as_bytes());
-        let text = if case.status == 6 {
-            b""
-        } else {
-            whole.as_slice()
+        let answer = Answer {
+            status: case.status,
+            out: if case.status == 6 { "" } else { STOPPED },
+            err: case.line,
         };
-        assert_eq!(rt; called.out.taken(), text);
+        try_layout(alloc, &file, case.text, &answer)?;
     }
     Ok(())
 }
 
 #[test]
 fn judges_the_executable_first(rt: HostRuntime) -> Result<(), Fail> {
+    let answer = Answer {
+        status: 4,
+        out: "",
+        err: "shasta: executable refused 1 Short\n",
+    };
+    try_layout(rt.alloc(), b"", "?", &answer)
+}
+
+/// All files are read before one is judged.
+#[test]
+fn reads_the_layout_first(rt: HostRuntime) -> Result<(), Fail> {
+    let answer = Answer {
+        status: 3,
+        out: "",
+        err: "shasta: cannot read a\n",
+    };
+    for words in ["run IN --layout a", "one IN --layout a"] {
+        try_call(rt.alloc(), b"", words, &answer)?;
+    }
+    Ok(())
+}
+
+/// The second node may be a home where there are two, and no third.
+#[test]
+fn judges_homes_for_the_nodes(rt: HostRuntime) -> Result<(), Fail> {
     let alloc = rt.alloc();
-    let called = run_with(alloc, Vec::new(alloc), "?")?;
-    assert_eq!(rt; called.status, 4);
-    assert_eq!(rt;
-        called.err.taken(),
-        b"shasta: executable refused 1 Short\n".as_slice()
-    );
+    let file = executable(alloc, STOP, b"", 64)?;
+    let both = "output 0\n\nprocessor 0 ebreak 0x00010000\nprocessor 1 ebreak 0x00010000\n";
+    let line = "shasta: layout refused 35 at line 1\n";
+    for (text, status, out, err) in [
+        ("0x20000 0x40 64 1", 1, both, ""),
+        ("0x20000 0x40 64 2", 6, "", line),
+    ] {
+        let held = [("IN", file.as_slice()), ("L", text.as_bytes())];
+        let answer = Answer { status, out, err };
+        try_held(alloc, &held, "one IN --layout L --nodes 2", &answer)?;
+    }
+    Ok(())
+}
+
+/// Processor 0 reserves the first line, and lets processor 1 store to the second one before it stores:
+/// `lui x5, 0x20; bne x10, x0, 36; lr.w x6, (x5); addi x7, x0, 1; sw x7, 256(x5);
+/// lw x8, 260(x5); beq x8, x0, -4; sc.w x10, x7, (x5); addi x17, x0, 93; ecall; lw x8, 256(x5);
+/// beq x8, x0, -4; sw x8, 64(x5); sw x8, 260(x5); addi x10, x0, 0; addi x17, x0, 93; ecall`.
+const NEIGHBOURS: &str = "000202b7 02051263 1002a32f 00100393 1072a023 1042a403 fe040ee3 1872a52f
+    05d00893 00000073 1002a403 fe040ee3 0482a023 1082a223 00000513 05d00893 00000073";
+
+/// Where both lines are one block, the store ends the reservation.
+#[test]
+fn reserves_a_block(rt: HostRuntime) -> Result<(), Fail> {
+    let alloc = rt.alloc();
+    let file = executable(alloc, NEIGHBOURS, b"", 320)?;
+    for (text, status, out) in [
+        (
+            "",
+            0,
+            "output 0\n\nprocessor 0 exit 0\nprocessor 1 exit 0\n",
+        ),
+        (
+            "0x20000 0x80 128 *",
+            1,
+            "output 0\n\nprocessor 0 exit 1\nprocessor 1 exit 0\n",
+        ),
+    ] {
+        let held = [("IN", file.as_slice()), ("L", text.as_bytes())];
+        let answer = Answer {
+            status,
+            out,
+            err: "",
+        };
+        try_held(alloc, &held, "one IN --layout L --nodes 2", &answer)?;
+    }
+    Ok(())
+}
+
+#[test]
+fn counts_whatever_the_blocks(rt: HostRuntime) -> Result<(), Fail> {
+    let alloc = rt.alloc();
+    let file = executable(alloc, COUNTER, b"", 128)?;
+    for text in ["", "0x20000 0x80 128 1", "0x20040 0x40 64 0"] {
+        let held = [("IN", file.as_slice()), ("L", text.as_bytes())];
+        try_held(alloc, &held, "one IN --layout L --nodes 2", &COUNTED)?;
+    }
     Ok(())
 }

@@ -4,13 +4,19 @@
 #[cfg(test)]
 mod adapters;
 #[cfg(test)]
+mod atomics;
+#[cfg(test)]
 mod calls;
+#[cfg(test)]
+mod code;
 #[cfg(test)]
 mod faults;
 #[cfg(test)]
 mod instructions;
 #[cfg(test)]
 mod layouts;
+#[cfg(test)]
+mod orders;
 #[cfg(test)]
 mod programs;
 #[cfg(test)]

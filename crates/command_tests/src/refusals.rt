@@ -1,11 +1,11 @@
 //! Each refusal of a file with its line, on changed copies of one executable.
 
-use crate::calls::{call, executable};
-use std::alloc::{AllocError, Global};
+use crate::calls::{Answer, NODE, executable, text_of, try_call};
+use std::alloc::Global;
 use std::test::Fail;
 
 /// A program that exits with code 0: `addi x10, x0, 0; addi x17, x0, 93; ecall`.
-const CODE: [u32; 3] = [0x00000513, 0x05d00893, 0x00000073];
+const CODE: &str = "00000513 05d00893 00000073";
 
 /// The length of its file with three bytes of data.
 const FILE_SIZE: usize = 8195;
@@ -128,8 +128,8 @@ const CASES: [Case; 18] = [
 ];
 
 /// The executable, cut and changed.
-fn changed(alloc: Global, len: usize, bytes: &[(usize, u8)]) -> Result<Vec<u8>, AllocError> {
-    let mut file = executable(alloc, &CODE, b"hi\n", 3)?;
+fn changed(alloc: Global, len: usize, bytes: &[(usize, u8)]) -> Result<Vec<u8>, Fail> {
+    let mut file = executable(alloc, CODE, b"hi\n", 3)?;
     for (offset, byte) in bytes {
         if let Some(place) = file.get_mut(*offset) {
             *place = *byte;
@@ -139,19 +139,22 @@ fn changed(alloc: Global, len: usize, bytes: &[(usize, u8)]) -> Result<Vec<u8>, 
     Ok(file)
 }
 
+/// Calls `list` on the file of a case, and fails the test where another line is told.
+fn try_case(alloc: Global, case: &Case) -> Result<(), Fail> {
+    let file = changed(alloc, case.len, case.bytes)?;
+    let line = text_of(alloc, &["shasta: executable refused ", case.line, "\n"])?;
+    let answer = Answer {
+        status: 4,
+        out: "",
+        err: &line,
+    };
+    try_call(alloc, &file, "list IN", &answer)
+}
+
 #[test]
 fn tells_why_a_file_is_refused(rt: HostRuntime) -> Result<(), Fail> {
-    let alloc = rt.alloc();
     for case in &CASES {
-        let file = changed(alloc, case.len, case.bytes)?;
-        let mut line = String::new(alloc);
-        line.push_str("shasta: executable refused ")?;
-        line.push_str(case.line)?;
-        line.push_str("\n")?;
-        let called = call(alloc, &file, &["list", "IN"])?;
-        assert_eq!(rt; called.err.taken(), line.as_bytes());
-        assert_eq!(rt; called.status, 4);
-        assert_eq!(rt; called.out.taken(), b"".as_slice());
+        try_case(rt.alloc(), case)?;
     }
     Ok(())
 }
@@ -160,8 +163,11 @@ fn tells_why_a_file_is_refused(rt: HostRuntime) -> Result<(), Fail> {
 fn accepts_total_store_order(rt: HostRuntime) -> Result<(), Fail> {
     let alloc = rt.alloc();
     let file = changed(alloc, FILE_SIZE, &[(36, 0x10)])?;
-    let called = call(alloc, &file, &["run", "IN"])?;
-    assert_eq!(rt; called.status, 0);
-    assert_eq!(rt; called.err.taken(), b"".as_slice());
-    Ok(())
+    let out = text_of(alloc, &["output 0\n\nprocessor 0 exit 0\n", NODE])?;
+    let answer = Answer {
+        status: 0,
+        out: &out,
+        err: "",
+    };
+    try_call(alloc, &file, "run IN", &answer)
 }

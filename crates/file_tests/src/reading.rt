@@ -97,3 +97,36 @@ fn accepts_an_executable_of_sections(rt: HostRuntime) -> Result<(), Fail> {
     assert_eq!(rt; program.next_code(0x100b1), None);
     Ok(())
 }
+
+/// 65,535 sections whose names begin in eight MiB of letters, which nothing ends: each is empty, and a
+/// look at the letters for each of them would take hours.
+#[test]
+fn reads_many_headers(rt: HostRuntime) -> Result<(), Fail> {
+    let alloc = rt.alloc();
+    let mut file = example(alloc)?;
+    // e_shoff 0x10000, e_shnum 0xffff and e_shstrndx 1
+    for (offset, byte) in [(33, 0), (34, 1), (48, 0xff), (49, 0xff), (50, 1)] {
+        if let Some(place) = file.get_mut(offset) {
+            *place = byte;
+        }
+    }
+    file.resize(0x10000, 0)?;
+    let names = [0, 3, 0, 0, 0x29_0000, 0x80_0000, 0, 0, 1, 0];
+    for word in [0; 10].iter().chain(names.iter()) {
+        let word: u32 = *word;
+        file.extend_from_slice(&word.to_le_bytes())?;
+    }
+    for number in 2..0xffff_u32 {
+        for word in [number, 1, 0, 0, 0, 0, 0, 0, 1, 0] {
+            file.extend_from_slice(&word.to_le_bytes())?;
+        }
+    }
+    file.resize(0x29_0000, 0)?;
+    file.resize(0xa9_0000, b'a')?;
+    let e = read_elf(alloc, &file)?;
+    assert_eq!(rt; e.sections().len(), 0xfffd);
+    for section in e.sections() {
+        assert_eq!(rt; section.name.len(), 0);
+    }
+    Ok(())
+}

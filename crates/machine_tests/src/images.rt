@@ -1,4 +1,4 @@
-//! The rewritten words of two programs.
+//! The rewritten words of small programs.
 
 use crate::files::{HI, executable};
 use elf32_read::read_elf;
@@ -35,7 +35,7 @@ struct Sequence {
     words: &'static [u32],
 }
 
-const SEQUENCES: [Sequence; 3] = [
+const SEQUENCES: [Sequence; 6] = [
     // addi x17, x0, 93; lui x10, 0x20; lw x10, 0(x10); ecall: the load spills two registers, and tests
     // the readable bit of the state byte
     Sequence {
@@ -65,6 +65,33 @@ const SEQUENCES: [Sequence; 3] = [
         words: &[
             0x00010037, 0x00400013, 0x0040006f, 0x0000200b, 0x00001463, 0xff9ff06f, 0x0000200b,
             0x0000400b, 0x0000002b,
+        ],
+    },
+    // lui x5, 0x20; lr.w x6, (x5); ecall
+    Sequence {
+        code: &[0x000202b7, 0x1002a32f, 0x00000073],
+        place: 0x00010004,
+        at: 0xa0000008,
+        words: &[
+            0xfe102e23, 0xfe202c23, 0x00028093, 0x80000137, 0x0060d093, 0x002080b3, 0x0000c083,
+            0x0020f093, 0x00008463, 0x0002810b, 0x1002a32f, 0xffc02083, 0xff802103, 0x0000300b,
+        ],
+    },
+    // lui x5, 0x20; sc.w x6, x7, (x5); ecall
+    Sequence {
+        code: &[0x000202b7, 0x1872a32f, 0x00000073],
+        place: 0x00010004,
+        at: 0xa0000008,
+        words: &[0x0002e00b, 0x1872a32f, 0x0000300b],
+    },
+    // lui x5, 0x20; amoadd.w x6, x7, (x5); ecall: tests the whole state byte
+    Sequence {
+        code: &[0x000202b7, 0x0072a32f, 0x00000073],
+        place: 0x00010004,
+        at: 0xa0000008,
+        words: &[
+            0xfe102e23, 0xfe202c23, 0x00028093, 0x80000137, 0x0060d093, 0x002080b3, 0x0000c083,
+            0x00008463, 0x0002910b, 0x0072a32f, 0xffc02083, 0xff802103, 0x0000300b,
         ],
     },
 ];

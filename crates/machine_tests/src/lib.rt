@@ -10,4 +10,6 @@ mod machines;
 #[cfg(test)]
 mod plans;
 #[cfg(test)]
+mod reservations;
+#[cfg(test)]
 mod rewritten_files;

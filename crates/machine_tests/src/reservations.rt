@@ -1,0 +1,197 @@
+//! Reservations of one processor, and stores and breaks by another.
+
+ghost use Rattle.std.specs.Prelude.{◌≡◌, ◌<◌};
+ghost use Rattle.one_memory.specs.Machine.{original_of};
+
+use crate::files::executable;
+use crate::machines::run;
+use block_layout::default_layout;
+use elf32_read::read_elf;
+use exec_map::{Exit, accept};
+use one_memory::OneMemory;
+use run_limits::NodeCount;
+use std::alloc::{AllocError, Global};
+use std::test::Fail;
+
+/// What processor 1 does while processor 0 has a reservation: so many instructions that do nothing,
+/// and a word. Whether the word ends the reservation, and whether processor 1 may break it before.
+struct Case {
+    /// Puts the address to be reserved in x7; x5 is 0x20000.
+    address: u32,
+    nothing: usize,
+    word: u32,
+    ends: bool,
+    breaks: bool,
+}
+
+const CASES: [Case; 9] = [
+    // addi x7, x5, 0; sw x0, 4(x5): into the block
+    Case {
+        address: 0x00028393,
+        nothing: 0,
+        word: 0x0002a223,
+        ends: true,
+        breaks: true,
+    },
+    // sw x0, 64(x5): into the next block
+    Case {
+        address: 0x00028393,
+        nothing: 0,
+        word: 0x0402a023,
+        ends: false,
+        breaks: false,
+    },
+    // amoadd.w x0, x0, (x5)
+    Case {
+        address: 0x00028393,
+        nothing: 0,
+        word: 0x0002a02f,
+        ends: true,
+        breaks: true,
+    },
+    // sc.w x0, x0, (x5): it fails, since processor 1 has no reservation
+    Case {
+        address: 0x00028393,
+        nothing: 0,
+        word: 0x1802a02f,
+        ends: false,
+        breaks: true,
+    },
+    // addi x7, x2, -16; sw x0, -16(x2): each in its own window
+    Case {
+        address: 0xff010393,
+        nothing: 0,
+        word: 0xfe012823,
+        ends: false,
+        breaks: false,
+    },
+    // the same, and sw x0, 4(x5)
+    Case {
+        address: 0xff010393,
+        nothing: 0,
+        word: 0x0002a223,
+        ends: false,
+        breaks: false,
+    },
+    // a stretch of 16 instructions
+    Case {
+        address: 0x00028393,
+        nothing: 15,
+        word: 0x0002a223,
+        ends: true,
+        breaks: true,
+    },
+    // a stretch of 17
+    Case {
+        address: 0x00028393,
+        nothing: 16,
+        word: 0x0002a223,
+        ends: true,
+        breaks: false,
+    },
+    // an AMO behind another instruction
+    Case {
+        address: 0x00028393,
+        nothing: 1,
+        word: 0x0002a02f,
+        ends: true,
+        breaks: false,
+    },
+];
+
+/// Both processors: lui x5, 0x20; the address; bne x10, x0, 20. Processor 0: lr.w x6, (x7);
+/// sc.w x10, x6, (x7); addi x17, x0, 93; ecall. Processor 1: what the case says; ebreak.
+fn code_of(alloc: Global, case: &Case) -> Result<Vec<u32>, AllocError> {
+    let mut code = Vec::new(alloc);
+    code.extend_from_slice(&[
+        0x000202b7,
+        case.address,
+        0x00051a63,
+        0x1003a32f,
+        0x1863a52f,
+        0x05d00893,
+        0x00000073,
+    ])?;
+    for _ in 0..case.nothing {
+        code.push(0x00000013)?;
+    }
+    code.push(case.word)?;
+    code.push(0x00100073)?;
+    Ok(code)
+}
+
+/// Tries to break the reservation of processor `p` by processor `q`, and fails the test where that
+/// may be done otherwise.
+fn try_break(machine: &mut OneMemory<'_>, p: u8, q: u8, may: bool) -> Result<(), Fail>
+    requires own { p < (original_of machine.old).nodes }
+    requires other { q < (original_of machine.old).nodes }
+    ensures { original_of machine.new ≡ original_of machine.old }
+{
+    if machine.break_reservation(p, q).is_ok() == may {
+        Ok(())
+    } else {
+        Err(Fail::from("a break that may be made otherwise"))
+    }
+}
+
+/// What processor 1 does while processor 0 has its reservation.
+fn act(machine: &mut OneMemory<'_>, case: &Case, breaks: bool) -> Result<(), Fail>
+    requires { (original_of machine.old).nodes ≡ 2 }
+    ensures { original_of machine.new ≡ original_of machine.old }
+{
+    if breaks {
+        return try_break(machine, 0, 1, case.breaks);
+    }
+    run(machine, 1, case.nothing)?;
+    run(machine, 1, 1)?;
+    Ok(())
+}
+
+/// How processor 0 ends, where processor 1 acts behind its LR.
+fn play(machine: &mut OneMemory<'_>, case: &Case, breaks: bool) -> Result<Option<Exit>, Fail>
+    requires { (original_of machine.old).nodes ≡ 2 }
+{
+    run(machine, 0, 4)?;
+    run(machine, 1, 3)?;
+    act(machine, case, breaks)?;
+    try_break(machine, 0, 0, false)?;
+    try_break(machine, 1, 0, false)?;
+    run(machine, 0, 3)?;
+    Ok(machine.exit(0))
+}
+
+/// How processor 0 ends, where processor 1 makes its steps, or tries to break the reservation.
+fn exit_after(alloc: Global, case: &Case, breaks: bool) -> Result<Option<Exit>, Fail> {
+    let code = code_of(alloc, case)?;
+    let file = executable(alloc, &code, b"", 128)?;
+    let elf = read_elf(alloc, &file)?;
+    let program = accept(alloc, &elf)?;
+    let Some(nodes) = NodeCount::of(2) else {
+        return Err(Fail::from("two is a number of nodes"));
+    };
+    let ranges = program.shared_ranges(alloc)?;
+    let layout = default_layout(alloc, &ranges, 2)?;
+    let mut machine = OneMemory::new(alloc, &program, &layout, nodes)?;
+    play(&mut machine, case, breaks)
+}
+
+/// Fails the test where processor 0 ends otherwise than the case says.
+fn try_case(alloc: Global, case: &Case) -> Result<(), Fail> {
+    let after_steps = exit_after(alloc, case, false)?;
+    let after_break = exit_after(alloc, case, true)?;
+    if after_steps == Some(Exit::Code(u8::from(case.ends)))
+        && after_break == Some(Exit::Code(u8::from(case.breaks)))
+    {
+        Ok(())
+    } else {
+        Err(Fail::from("another end of processor 0"))
+    }
+}
+
+#[test]
+fn others_end_reservations(rt: HostRuntime) -> Result<(), Fail> {
+    for case in &CASES {
+        try_case(rt.alloc(), case)?;
+    }
+    Ok(())
+}
