@@ -1,0 +1,31 @@
+/* Numbers as text. */
+#ifndef PRINT_H
+#define PRINT_H
+
+#include "shasta.h"
+
+/* Writes a word, a space, a number and a line feed to the output, by one call. */
+static void print(const char *word, unsigned number)
+{
+    char text[32];
+    unsigned at = sizeof text;
+    text[--at] = '\n';
+    do {
+        unsigned tens = 0;
+        while (number >= 10) {
+            number -= 10;
+            tens += 1;
+        }
+        text[--at] = (char)('0' + number);
+        number = tens;
+    } while (number != 0);
+    text[--at] = ' ';
+    unsigned length = 0;
+    while (word[length] != '\0')
+        length += 1;
+    while (length != 0)
+        text[--at] = word[--length];
+    write_bytes(text + at, sizeof text - at);
+}
+
+#endif
