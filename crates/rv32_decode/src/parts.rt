@@ -206,7 +206,8 @@ impl Model for BranchOffset {
 
     ghost inverse = { λ z. record { value = z } };
 
-    ghost invariant = { λ i. (negsuc 4095 ≤ℤ i.value) × (i.value ≤ℤ pos 4094) × (unsigned 32 i.value % 2 ≡ 0) };
+    ghost invariant = { λ i. (negsuc 4095 ≤ℤ i.value) × (i.value ≤ℤ pos 4094)
+        × (unsigned 32 i.value % 2 ≡ 0) };
 }
 
 impl BranchOffset {
@@ -277,7 +278,8 @@ impl Model for JumpOffset {
 
     ghost inverse = { λ z. record { value = z } };
 
-    ghost invariant = { λ i. (negsuc 1048575 ≤ℤ i.value) × (i.value ≤ℤ pos 1048574) × (unsigned 32 i.value % 2 ≡ 0) };
+    ghost invariant = { λ i. (negsuc 1048575 ≤ℤ i.value) × (i.value ≤ℤ pos 1048574)
+        × (unsigned 32 i.value % 2 ≡ 0) };
 }
 
 impl JumpOffset {

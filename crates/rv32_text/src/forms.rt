@@ -188,7 +188,8 @@ fn push_ordered_first(
 
 /// A mnemonic, and a register with its comma.
 fn push_first(out: &mut Vec<u8>, name: &[u8], r: Reg) -> Result<(), AllocError>
-    ensures ok { OnOk result (out.new.items ≡ out.old.items ++ name.now ++ codes " " ++ register r ++ codes ", ") }
+    ensures ok { OnOk result (out.new.items ≡
+        out.old.items ++ name.now ++ codes " " ++ register r ++ codes ", ") }
     ensures err { OnErr result (Extends out.old.items out.new.items) }
 {
     out.extend_from_slice(name)?;

@@ -15,7 +15,8 @@ use rv32_decode::{ranges_law, words_law};
 pub fn text_law()
     ensures instructions { (address : ℕ) (i j : Instr) → IsInRange i → IsInRange j → ShowsAll i
         → text_of address i ≡ text_of address j → i ≡ j }
-    ensures words { (address v w : ℕ) → v < 2 ^ 32 → w < 2 ^ 32 → IsSomeAnd (instruction_of v) ShowsAll
+    ensures words { (address v w : ℕ) → v < 2 ^ 32 → w < 2 ^ 32
+        → IsSomeAnd (instruction_of v) ShowsAll
         → text_of_word address v ≡ text_of_word address w → v ≡ w }
 {
     ranges_law();
