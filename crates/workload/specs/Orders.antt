@@ -1,5 +1,5 @@
 -- The choices of an order: a linear congruential sequence modulo 2^32, of whose numbers the upper half is used.
-use Rattle.std.specs.Prelude.{ℕ, ◌+◌, ◌*◌, ◌/◌, ◌%◌, ◌^◌}
+use Rattle.std.specs.Prelude.{ℕ, zero, suc, ◌+◌, ◌*◌, ◌/◌, ◌%◌, ◌^◌}
 
 -- the number that follows a number
 abbrev pub following : ℕ → ℕ
@@ -8,3 +8,8 @@ following number = (1664525 * number + 1013904223) % 2 ^ 32
 -- what a number chooses among so many
 abbrev pub choice : ℕ → ℕ → ℕ
 choice count number = number / 2 ^ 16 % count
+
+-- the number after so many turns
+abbrev pub after_turns : (turns number : ℕ) → ℕ
+after_turns zero number = number
+after_turns (suc turns) number = after_turns turns (following number)
