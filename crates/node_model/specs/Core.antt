@@ -1,11 +1,12 @@
 -- A core: n nodes that run rewritten code, and the lists of messages between them.
 use Rattle.std.specs.Prelude.{◌≡◌, ◌≢◌, ℕ, ◌<◌, Bool, true, false, ◌==◌, ◌&&◌, if◌then◌else◌, List, [], ◌∷◌, ◌++◌}
+use Rattle.std.specs.Option.{option_to_list}
 use Rattle.block_layout.specs.Update.{changed}
 use Rattle.home_directory.specs.declared.messages.Post.{Post}
 use Rattle.home_directory.specs.declared.messages.Wire.{Wire}
 use Rattle.node_model.specs.declared.Standing.{Standing}
 use Rattle.node_model.specs.declared.Standing.TheVariants as standing
-use Rattle.node_model.specs.Node.{Work, Node, opening_node, standing_of}
+use Rattle.node_model.specs.Node.{Work, Node, opening_node, standing_of, word_outcome}
 use Rattle.node_model.specs.Turns.{Turn, word_turn, take_turn}
 
 -- a node executes a word, or takes the first message of the list from another
@@ -80,3 +81,23 @@ IsCoreRun work c (e ∷ es) = May work c e × IsCoreRun work (event_step work c 
 abbrev pub after : Work → Core → List Event → Core
 after work c [] = c
 after work c (e ∷ es) = after work (event_step work c e) es
+
+-- two cores have the same nodes below n, and the same lists between these
+pub record AreAlike (n : ℕ) (c d : Core) : Type 0 where
+  pub nodes : (i : ℕ) → i < n → c.nodes i ≡ d.nodes i
+  pub lists : (j i : ℕ) → j < n → i < n → c.list j i ≡ d.list j i
+
+-- each node has ended, and has been told by all nodes that they have
+abbrev pub IsOver : Work → Core → Type 0
+IsOver work c =
+    (i : ℕ) → i < work.layout.nodes → standing_of work (c.nodes i) ≡ standing.Over
+
+-- the byte that an event prints
+abbrev pub printed_at : Work → Core → Event → List ℕ
+printed_at work c (Exec i) = option_to_list (word_outcome work (c.nodes i)).printed
+printed_at work c (Take i j) = []
+
+-- the bytes printed, in the order of the events
+abbrev pub printed_by : Work → Core → List Event → List ℕ
+printed_by work c [] = []
+printed_by work c (e ∷ es) = printed_at work c e ++ printed_by work (event_step work c e) es

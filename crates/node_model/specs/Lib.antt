@@ -1,3 +1,4 @@
 pub mod Node
 pub mod Turns
 pub mod Core
+pub mod Outcome

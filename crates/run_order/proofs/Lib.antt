@@ -1,0 +1,11 @@
+pub mod Deeds
+pub mod Merging
+pub mod Ordered
+pub mod Unique
+pub mod Kept
+pub mod Moving
+pub mod Journals
+pub mod Told
+pub mod Lists
+pub mod Stamps
+pub mod Theorem
