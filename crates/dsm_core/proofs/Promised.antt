@@ -1,87 +1,111 @@
--- The promises, by the law of the protocol.
-use Rattle.std.proofs.Common.{◌≡◌, ◌≢◌, ℕ, ◌<◌, ◌≤◌, Bool, true, false, cond, ltb, List, ◌∷◌, get_or, refl, sym, ap, ◌∙◌, subst, Option, Some, None, arith}
-use Rattle.std.proofs.lemmas.Bool.Decides.{nat_tests}
-use Rattle.block_layout.specs.Layout.{Shape, blocks, home}
-use Rattle.state_table.specs.declared.State.{State}
-use Rattle.state_table.specs.declared.State.TheVariants.{Exclusive, Shared, Invalid, Pending}
-use Rattle.state_table.specs.StateByte.{can_read, can_write}
-use Rattle.flag_memory.specs.Flag.{flags}
-use Rattle.home_directory.specs.declared.wait.Wait.{Wait}
-use Rattle.coherence.specs.Messages as m
-use Rattle.coherence.specs.Machine as k
-use Rattle.coherence.specs.Claims as claims
-use Rattle.dsm_core.specs.World.{World}
-use Rattle.dsm_core.specs.Abstraction.{Contents, contents, state_of, wait_of, wires_of, setting_of}
-use Rattle.dsm_core.specs.Sound.{IsLaid, Sound, HasNoBye, NoByes, size}
-use Rattle.dsm_core.specs.Events.{Leads}
-use Rattle.dsm_core.specs.Promises.{ReadsMemory, OneWriter, Flagged, RowsCome, NeverStuck}
-use Rattle.dsm_core.proofs.NodeRows.{len_flags, flagged}
-use Rattle.dsm_core.proofs.Bytes.{same_bytes, contents_get}
-use Rattle.dsm_core.proofs.Taking.{take_leads}
+-- What the laws of progress and of stamps say of a core.
+use Rattle.std.proofs.Common.{◌≡◌, ◌≢◌, ℕ, ◌<◌, List, [], ◌∷◌, ◌++◌, refl, sym, ap, ◌∙◌, subst}
+use Rattle.block_layout.specs.Layout.{IsValid}
+use Rattle.rv32_program.specs.Program.{IsAccepted}
+use Rattle.templates.specs.declared.plans.PlanEntry.{PlanEntry}
+use Rattle.jump_map.specs.Image.{IsRewriting}
+use Rattle.home_directory.specs.declared.messages.Wire.{Wire}
+use Rattle.node_model.specs.declared.Standing.TheVariants.{Over}
+use Rattle.node_model.specs.Node.{Work, Node, Resume, Waiting, IsLaidOver, standing_of}
+use Rattle.node_model.specs.Core.{Core, Event, May, IsOver, IsCoreRun, opening_core, after, AreAlike}
+use Rattle.run_order.specs.OwnRun.{Stamped, StandsForOwnRun, AreEventsOf, events_of, run_of}
+use Rattle.dsm_core.specs.CoreParts.{CoreParts, work_of, core_of, IsCore}
+use Rattle.dsm_core.proofs.CoreRuns.{alike_also, alike_back, may_alike}
 
-pub read_same : (s : State) → m.can_read (state_of s) ≡ can_read s
-read_same Exclusive = refl
-read_same Shared = refl
-read_same Invalid = refl
-read_same Pending = refl
+-- 1. The own run
 
-pub write_same : (s : State) → m.can_write (state_of s) ≡ can_write s
-write_same Exclusive = refl
-write_same Shared = refl
-write_same Invalid = refl
-write_same Pending = refl
+abbrev pub HaveOwnRun : Type 0
+HaveOwnRun = (work : Work) (run : List Event) → IsCoreRun work (opening_core work) run
+    → (events : List Stamped) × StandsForOwnRun work (after work (opening_core work) run) events
 
-pub proper : (l : Shape) → IsLaid l → (first : ℕ → Contents) → k.Proper (setting_of l first)
-proper l laid first = record { nodes = laid.few; homes = λ b. below b (ltb b (blocks l)) refl }
-  where
-    below : (b : ℕ) (t : Bool) → ltb b (blocks l) ≡ t → cond t (home l b) 0 < l.nodes
-    below b true e = laid.homes b (grind (arith, nat_tests))
-    below b false e = laid.some
+pub stands_alike : (work : Work) (c d : Core) (events : List Stamped)
+    → AreAlike work.layout.nodes c d → StandsForOwnRun work d events
+    → StandsForOwnRun work c events
+stands_alike work c d events a stands = record {
+  are_events = record {
+    sorted = stands.are_events.sorted;
+    below = stands.are_events.below;
+    each = λ i bi. stands.are_events.each i bi ∙ ap (events_of i) (sym (a.nodes i bi));
+  };
+  is_run = stands.is_run;
+  ends = alike_also work.layout.nodes c d
+      (after work (opening_core work) (run_of events)) a stands.ends;
+}
 
-pub some_waits : (o : Option Wait) → o ≢ None → wait_of o ≢ None
-some_waits None h e = h refl
-some_waits (Some w) h e = cc
+pub own_run : (p : CoreParts) → HaveOwnRun → IsCore p
+    → (events : List Stamped) × StandsForOwnRun (work_of p) (core_of p) events
+own_run p law is =
+    let work = work_of p in
+    let l = is.led_to in
+    let last = after work (opening_core work) l.run in
+    let own = law work l.run l.is_run in
+    (own.0, stands_alike work (core_of p) last own.0 l.leads own.1)
 
-module _ (l : Shape) (laid : IsLaid l) (first : ℕ → Contents) (es : List (k.Event Contents))
-    (w : World) (sound : Sound l w) (st : Leads l first es w) where
-  abbrev c : k.Core Contents
-  c = k.after (setting_of l first) es
+-- 2. Progress
 
-  pub reads_memory : claims.Coherent (setting_of l first) c → ReadsMemory l w c.memory
-  reads_memory law i b n bi bb can within =
-      let r : m.can_read (c.state i b) ≡ true = ap m.can_read (st.state i b bi bb)
-      ∙ read_same (w.state i b) ∙ can in
-      let len = sound.bytes i b bi bb in
-      sym (contents_get (w.bytes i b) n (omega arith))
-      ∙ ap (λ z. get_or z n 0) (sym (st.copy i b bi bb) ∙ law.reads i b r)
+abbrev pub RunsGoOn : Type 0
+RunsGoOn = (work : Work) (plan : List PlanEntry) (events : List Event) (i : ℕ)
+    → IsAccepted work.program → IsValid work.layout → IsLaidOver work.program work.layout
+    → IsRewriting work.program plan work.image → IsCoreRun work (opening_core work) events
+    → i < work.layout.nodes
+    → standing_of work ((after work (opening_core work) events).nodes i) ≢ Over
+    → (event : Event) × May work (after work (opening_core work) events) event
 
-  pub one_writer : claims.OneWriter (setting_of l first) c → OneWriter l w
-  one_writer law i x b bi bx bb can reads =
-      law i x b (ap m.can_write (st.state i b bi bb) ∙ write_same (w.state i b) ∙ can)
-      (ap m.can_read (st.state x b bx bb) ∙ read_same (w.state x b) ∙ reads)
+pub goes_on : (p : CoreParts) → RunsGoOn → IsCore p → (i : ℕ) → i < p.layout.nodes
+    → standing_of (work_of p) ((core_of p).nodes i) ≢ Over
+    → (event : Event) × May (work_of p) (core_of p) event
+goes_on p law is i bi other =
+    let work = work_of p in
+    let r = is.are_parts.rewritten in
+    let l = is.led_to in
+    let last = after work (opening_core work) l.run in
+    let next = law work r.plan l.run i r.accepted r.valid r.laid_over r.rewriting l.is_run bi
+    (subst (λ (n : Node). standing_of work n ≢ Over) (l.leads.nodes i bi) other) in (
+      next.0,
+      may_alike work last (core_of p) next.0
+          (alike_back p.layout.nodes (core_of p) last l.leads) next.1,
+    )
 
-  pub flagged_lines : claims.Coherent (setting_of l first) c → Flagged l w
-  flagged_lines law i b bi bb cannot =
-      let r : m.can_read (c.state i b) ≡ false = ap m.can_read (st.state i b bi bb)
-      ∙ read_same (w.state i b) ∙ cannot in
-      let len = sound.bytes i b bi bb in
-      let lf = len_flags (size l b) in
-      let few : size l b ≤ 4096 = (let a = laid.sizes b bb in omega arith) in
-      let e : contents (w.bytes i b) ≡ contents (flags (size l b)) = sym (st.copy i b bi bb)
-      ∙ law.flags i b r ∙ sym (flagged (size l b) few) in
-      same_bytes (w.bytes i b) (flags (size l b)) (len ∙ sym lf) (λ n below.
-      sym (contents_get (w.bytes i b) n below) ∙ ap (λ z. get_or z n 0) e
-      ∙ contents_get (flags (size l b)) n (omega arith))
+abbrev pub RunsMove : Type 0
+RunsMove = (work : Work) (plan : List PlanEntry) (events : List Event) (i : ℕ) (resume : Resume)
+    → IsAccepted work.program → IsValid work.layout → IsLaidOver work.program work.layout
+    → IsRewriting work.program plan work.image → IsCoreRun work (opening_core work) events
+    → i < work.layout.nodes
+    → ((after work (opening_core work) events).nodes i).phase ≡ Waiting resume
+    → (j : ℕ) × (k : ℕ) × (j < work.layout.nodes) × (k < work.layout.nodes)
+    × ((after work (opening_core work) events).list j k ≢ [])
 
-  pub rows_come : NoByes l w → claims.HaveRows (setting_of l first) c → RowsCome l w
-  rows_come quiet law i j message rest bi bj front =
-      let plain : HasNoBye (message ∷ rest) = subst HasNoBye front (quiet j i bj bi) in
-      let got = take_leads l laid first es w i j message rest law st sound bi bj front plain.0 in
-      (got.0, got.1)
+pub moves : (p : CoreParts) → RunsMove → IsCore p → (i : ℕ) (resume : Resume)
+    → i < p.layout.nodes → ((core_of p).nodes i).phase ≡ Waiting resume → (j : ℕ) × (k : ℕ)
+    × (j < p.layout.nodes) × (k < p.layout.nodes) × ((core_of p).list j k ≢ [])
+moves p law is i resume bi waits =
+    let work = work_of p in
+    let r = is.are_parts.rewritten in
+    let l = is.led_to in
+    let some = law work r.plan l.run i resume r.accepted r.valid r.laid_over r.rewriting l.is_run bi
+    (ap (λ (n : Node). n.phase) (sym (l.leads.nodes i bi)) ∙ waits) in (
+      some.0,
+      some.1,
+      some.2,
+      some.3,
+      subst (λ (ws : List Wire). ws ≢ []) (sym (l.leads.lists some.0 some.1 some.2 some.3)) some.4,
+    )
 
-  pub never_stuck : claims.Moves (setting_of l first) c → NeverStuck l w
-  never_stuck law i b bi bb waits =
-      let e : c.wait i b ≢ None = (λ z. some_waits (w.wait i b) waits (sym (st.wait i b bi bb) ∙ z))
-      in
-      let got = law i b e in
-      (got.0, got.1, got.2, got.3, λ z. got.4 (st.list got.0 got.1 got.2 got.3 ∙ ap wires_of z))
+abbrev pub RunsEndEmpty : Type 0
+RunsEndEmpty = (work : Work) (plan : List PlanEntry) (events : List Event) (j k : ℕ)
+    → IsAccepted work.program → IsValid work.layout → IsLaidOver work.program work.layout
+    → IsRewriting work.program plan work.image → IsCoreRun work (opening_core work) events
+    → ((i : ℕ) → i < work.layout.nodes
+    → standing_of work ((after work (opening_core work) events).nodes i) ≡ Over)
+    → j < work.layout.nodes → k < work.layout.nodes
+    → (after work (opening_core work) events).list j k ≡ []
+
+pub lists_empty : (p : CoreParts) → RunsEndEmpty → IsCore p → IsOver (work_of p) (core_of p)
+    → (j i : ℕ) → j < p.layout.nodes → i < p.layout.nodes → (core_of p).list j i ≡ []
+lists_empty p law is over j i bj bi =
+    let work = work_of p in
+    let r = is.are_parts.rewritten in
+    let l = is.led_to in
+    l.leads.lists j i bj bi
+    ∙ law work r.plan l.run j i r.accepted r.valid r.laid_over r.rewriting l.is_run
+    (λ k bk. subst (λ (n : Node). standing_of work n ≡ Over) (l.leads.nodes k bk) (over k bk)) bj bi

@@ -1,12 +1,13 @@
-//! Nodes over one shared memory.
+//! n nodes that run rewritten code, and the lists of messages between them.
 #![tactic(auto)]
 
-mod lists;
-mod nodes;
-mod opening;
-mod protocol;
-mod queue;
+mod cores;
+mod finish;
+mod outcome;
+mod parts;
+mod steps;
 
-pub use nodes::BareNode;
-pub use protocol::Protocol;
-pub use queue::Queue;
+pub use cores::{Core, Event};
+pub use dsm_protocol::Protocol;
+pub use outcome::Outcome;
+pub use parts::Parts;

@@ -3,7 +3,7 @@
 ghost use Rattle.std.specs.Prelude.{◌≡◌, ◌<◌, ◌≤◌, IfOk};
 
 use block_layout::{Layout, Lines, Ranges, default_layout};
-use dsm_core::Protocol;
+use dsm_protocol::Protocol;
 use flag_memory::FirstBytes;
 use home_directory::Need;
 use std::alloc::{AllocError, Global};

@@ -2,7 +2,7 @@
 
 use crate::drive::{layout_of, nodes_of, take, take_all, want};
 use buf_pool::{Buf, Pool};
-use dsm_core::Protocol;
+use dsm_protocol::Protocol;
 use home_directory::{Directory, Message, Need, Post};
 use state_table::State;
 use std::alloc::{AllocError, Global};
