@@ -1,0 +1,124 @@
+#![tactic(auto)]
+//! Nodes that run rewritten code over the directory protocol do what the original processors do on
+//! one memory.
+
+ghost use Rattle.std.specs.Prelude.{◌≡◌, ◌≢◌, ℕ, ◌<◌, ◌≤◌, Bool, true, List, [], Some, length};
+ghost use Rattle.block_layout.specs.Layout.{IsValid};
+ghost use Rattle.rv32_program.specs.declared.End.TheVariants.{Stopped};
+ghost use Rattle.rv32_program.specs.Program.{IsAccepted};
+ghost use Rattle.templates.specs.declared.plans.PlanEntry.{PlanEntry};
+ghost use Rattle.jump_map.specs.Image.{IsRewriting};
+ghost use Rattle.node_model.specs.declared.Standing.TheVariants.{Over};
+ghost use Rattle.rv32_step.specs.OneMemory.{WritesIf};
+ghost use Rattle.node_model.specs.Node.{Work, Node, Resume, Waiting, Ended, IsLaidOver, can_execute, standing_of, word_outcome};
+ghost use Rattle.node_model.specs.Core.{Core, Event, May, IsCoreRun, opening_core, event_step, after};
+ghost use Rattle.rewriting_law.specs.Licence.{AllLicensed};
+ghost use Rattle.rewriting_law.specs.Bounds.{most_events};
+ghost use Rattle.rewriting_law.specs.Conditionals.{IsConditional, IsLostBy};
+ghost use Rattle.rewriting_law.specs.Interleaving.{Interleaves, IsCoherent, GoesAlone, SameReservations, HaveRows, original_after};
+
+use block_layout::layout_law;
+
+/// The law of rewriting, which the callers use by its clauses; the call does nothing.
+pub fn interleaving_law()
+    // Every core run of rewritten code, on the nodes of a layout, is by its picks an interleaved
+    // run of the original processors on one memory.
+    ensures interleaves { (work : Work) (plan : List PlanEntry) (events : List Event)
+        → IsAccepted work.program → IsValid work.layout → IsLaidOver work.program work.layout
+        → IsRewriting work.program plan work.image → IsCoreRun work (opening_core work) events
+        → Interleaves work plan events }
+    // Each word of such a run that commits makes a licensed access: the line of a load is readable,
+    // that of a store writable, by the node's states before the word.
+    ensures licensed { (work : Work) (plan : List PlanEntry) (events : List Event)
+        → IsAccepted work.program → IsValid work.layout → IsLaidOver work.program work.layout
+        → IsRewriting work.program plan work.image → IsCoreRun work (opening_core work) events
+        → AllLicensed work plan (opening_core work) events }
+    // After each such run the nodes' copies are coherent with the memory of the interleaved run:
+    // what a node may read is the memory's, all else is flagged, and a block has one writer or
+    // only readers.
+    ensures coherent { (work : Work) (plan : List PlanEntry) (events : List Event)
+        → IsAccepted work.program → IsValid work.layout → IsLaidOver work.program work.layout
+        → IsRewriting work.program plan work.image → IsCoreRun work (opening_core work) events
+        → IsCoherent work (after work (opening_core work) events)
+        (original_after work plan events).shared }
+    // And the processors have the same addresses reserved on both sides.
+    ensures reservations { (work : Work) (plan : List PlanEntry) (events : List Event)
+        → IsAccepted work.program → IsValid work.layout → IsLaidOver work.program work.layout
+        → IsRewriting work.program plan work.image → IsCoreRun work (opening_core work) events
+        → SameReservations work (after work (opening_core work) events)
+        (original_after work plan events) }
+    // On one node no word waits, and an event leaves of the node what its word leaves: so words
+    // that are executed one after the other until the node has ended are a core run.
+    ensures alone { (work : Work) (plan : List PlanEntry) (events : List Event)
+        → work.layout.nodes ≡ 1 → IsAccepted work.program → IsValid work.layout
+        → IsLaidOver work.program work.layout → IsRewriting work.program plan work.image
+        → IsCoreRun work (opening_core work) events
+        → can_execute ((after work (opening_core work) events).nodes 0).phase ≡ true
+        → GoesAlone work ((after work (opening_core work) events).nodes 0) }
+    // A node is stopped only where it has executed its whole budget.
+    ensures stopped { (work : Work) (events : List Event) (i budget : ℕ)
+        → IsCoreRun work (opening_core work) events
+        → ((after work (opening_core work) events).nodes i).phase ≡ Ended (Stopped budget)
+        → (budget ≡ work.budget)
+        × (((after work (opening_core work) events).nodes i).executed ≡ work.budget) }
+{
+    layout_law();
+}
+
+/// The law of progress, which the callers use by its clause; the call does nothing.
+pub fn progress_law()
+    // After every core run of rewritten code, some event is allowed, unless each node has ended and
+    // has been told by all nodes that they have.
+    ensures goes_on { (work : Work) (plan : List PlanEntry) (events : List Event) (i : ℕ)
+        → IsAccepted work.program → IsValid work.layout → IsLaidOver work.program work.layout
+        → IsRewriting work.program plan work.image → IsCoreRun work (opening_core work) events
+        → i < work.layout.nodes
+        → standing_of work ((after work (opening_core work) events).nodes i) ≢ Over
+        → (event : Event) × May work (after work (opening_core work) events) event }
+    // Where a node waits, some list isn't empty.
+    ensures moves { (work : Work) (plan : List PlanEntry) (events : List Event) (i : ℕ)
+        (resume : Resume) → IsAccepted work.program → IsValid work.layout
+        → IsLaidOver work.program work.layout → IsRewriting work.program plan work.image
+        → IsCoreRun work (opening_core work) events → i < work.layout.nodes
+        → ((after work (opening_core work) events).nodes i).phase ≡ Waiting resume
+        → (j : ℕ) × (k : ℕ) × (j < work.layout.nodes) × (k < work.layout.nodes)
+        × ((after work (opening_core work) events).list j k ≢ []) }
+    // A message without a row never comes.
+    ensures rows { (work : Work) (plan : List PlanEntry) (events : List Event)
+        → IsAccepted work.program → IsValid work.layout → IsLaidOver work.program work.layout
+        → IsRewriting work.program plan work.image → IsCoreRun work (opening_core work) events
+        → HaveRows work (after work (opening_core work) events) }
+    // Once every node is over, every list is empty.
+    ensures over { (work : Work) (plan : List PlanEntry) (events : List Event) (j k : ℕ)
+        → IsAccepted work.program → IsValid work.layout → IsLaidOver work.program work.layout
+        → IsRewriting work.program plan work.image → IsCoreRun work (opening_core work) events
+        → ((i : ℕ) → i < work.layout.nodes
+        → standing_of work ((after work (opening_core work) events).nodes i) ≡ Over)
+        → j < work.layout.nodes → k < work.layout.nodes
+        → (after work (opening_core work) events).list j k ≡ [] }
+    // No node executes more words than its budget, which is one or more.
+    ensures within { (work : Work) (events : List Event) (i : ℕ) → 0 < work.budget
+        → IsCoreRun work (opening_core work) events
+        → ((after work (opening_core work) events).nodes i).executed ≤ work.budget }
+    // A core run is of at most so many events: so any run that goes on while it may ends with every
+    // node over.
+    ensures short { (work : Work) (plan : List PlanEntry) (events : List Event)
+        → IsAccepted work.program → IsValid work.layout → IsLaidOver work.program work.layout
+        → IsRewriting work.program plan work.image → 0 < work.budget
+        → IsCoreRun work (opening_core work) events → length events ≤ most_events work }
+{
+    layout_law();
+}
+
+/// The law of reservations, which the callers use by its clauses; the call does nothing.
+pub fn conditional_law()
+    // A conditional store of a node stores exactly where the processor's reservation is its address.
+    ensures stores { (work : Work) (n : Node) (a value : ℕ) (stores : Bool)
+        → (word_outcome work n).access ≡ WritesIf a value stores
+        → IsConditional work n a value stores }
+    // A reservation is lost only by the processor's own conditional store, to its own later load
+    // that reserves, or to a message that takes the block away for another node, which is a break.
+    ensures lost { (work : Work) (plan : List PlanEntry) (c : Core) (e : Event) (i a : ℕ)
+        → (c.nodes i).local.reservation ≡ Some a
+        → ((event_step work c e).nodes i).local.reservation ≢ Some a → IsLostBy work plan c i e }
+{}
