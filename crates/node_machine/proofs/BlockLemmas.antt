@@ -1,9 +1,9 @@
 -- Blocks at a node, by line and by address.
-use Rattle.std.proofs.Common.{◌≡◌, ℕ, zero, suc, ◌+◌, ◌-◌, ◌*◌, ◌/◌, ◌<◌, ◌≤◌, Bool, true, false, cond, List, [], ◌∷◌, length, get_or, refl, sym, ap, ◌∙◌, subst, inl, inr, Option, Some, None, arith, add-zero}
+use Rattle.std.proofs.Common.{◌≡◌, ℕ, zero, suc, ◌+◌, ◌-◌, ◌*◌, ◌/◌, ◌<◌, ◌≤◌, Bool, true, false, List, [], ◌∷◌, length, get_or, refl, sym, ap, ◌∙◌, subst, inl, inr, Option, Some, None, arith, add-zero}
 use Rattle.std.specs.Prelude.{◌↔◌, IsSome, is_some}
 use Rattle.std.proofs.Math.Path.{fun_ext}
 use Rattle.std.proofs.lemmas.Bool.Decides.{eqb_tells}
-use Rattle.block_layout.specs.Layout.{Shape, IsValid, blocks, lines, first_line, block_of, has_line, is_shared, shared_before, place_of}
+use Rattle.block_layout.specs.Layout.{Shape, IsValid, blocks, lines, first_line, block_of, has_line, is_shared}
 use Rattle.block_layout.specs.Update.{changed}
 use Rattle.state_table.specs.declared.State.{State}
 use Rattle.state_table.specs.declared.State.TheVariants.{Exclusive, Shared, Invalid, Pending}
@@ -17,8 +17,9 @@ use Rattle.miss_handlers.specs.Waits.{NodeWaits, wait_of}
 use Rattle.miss_handlers.specs.Effects.{local_block}
 use Rattle.node_model.specs.Node.{Node}
 use Rattle.node_model.specs.Turns.{with_state, with_bytes, block_at}
-use Rattle.node_machine.specs.Kept.{Shelf, copy_of, local_of}
-use Rattle.node_machine.specs.Blocks.{CopyLaws, blocks_at}
+use Rattle.node_words.specs.Kept.{Shelf, copy_of, local_of}
+use Rattle.node_words.specs.Blocks.{CopyLaws, blocks_at}
+use Rattle.node_words.proofs.ShelfLemmas.{copy_shared, copy_outside}
 
 -- what the layout's law says of the lines of a block
 pub record LineLaws : Type 0 where
@@ -30,23 +31,6 @@ pub record LineLaws : Type 0 where
       × (has_line s b line ≡ true)
   pub shared : (s : Shape) (line : ℕ) → (is_shared s line ≡ true) ↔ IsSome (block_of s line)
   pub some : (s : Shape) (b : ℕ) → IsValid s → b < blocks s → 0 < lines s b
-
--- a line that has a place is shared, and one that has none isn't
-pub place_some : (s : Shape) (line k : ℕ) → place_of s line ≡ Some k → is_shared s line ≡ true
-unfolding place_of
-place_some s line k is = go (is_shared s line) is
-  where
-    go : (t : Bool) → cond t (Some (shared_before s line)) None ≡ Some k → t ≡ true
-    go true e = refl
-    go false e = absurd (cc)
-
-pub place_none : (s : Shape) (line : ℕ) → place_of s line ≡ None → is_shared s line ≡ false
-unfolding place_of
-place_none s line is = go (is_shared s line) is
-  where
-    go : (t : Bool) → cond t (Some (shared_before s line)) None ≡ None → t ≡ false
-    go true e = absurd (cc)
-    go false e = refl
 
 some_none : (b : ℕ) → Some b ≡ None → ⊥
 some_none b e = cc
@@ -88,14 +72,6 @@ offset a f n low high = (omega arith, omega arith)
 
 in_block : (f n k : ℕ) → k < 64 * n → (f ≤ (64 * f + k) / 64) × ((64 * f + k) / 64 < f + n)
 in_block f n k low = (omega arith, omega arith)
-
-pub copy_shared : (c : Copy) (a : ℕ) → is_shared c.layout (a / 64) ≡ true → copy_of c a ≡ memory c a
-unfolding copy_of
-copy_shared c a s = ap (λ (t : Bool). cond t (memory c a) (flag_byte a)) s
-
-pub copy_outside : (c : Copy) (a : ℕ) → is_shared c.layout (a / 64) ≡ false → copy_of c a ≡ flag_byte a
-unfolding copy_of
-copy_outside c a s = ap (λ (t : Bool). cond t (memory c a) (flag_byte a)) s
 
 module _ (laws : LineLaws) (l : Shape) (valid : IsValid l) where
   not_in : (b line : ℕ) → b < blocks l → (block_of l line ≡ Some b → ⊥) → has_line l b line ≡ false

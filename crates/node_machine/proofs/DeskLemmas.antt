@@ -25,12 +25,12 @@ use Rattle.miss_handlers.specs.Waits.{NodeWaits, wait_of}
 use Rattle.miss_handlers.specs.Effects.{NodeBlocks, block_facts, local_block, row_effect, node_row_at, message_effect, miss_of, states_after, waits_after, pool_after}
 use Rattle.miss_handlers.specs.Rows.{AtHome, AtNode, at_home, at_node, if_home, home_of, node_row_of, row_of}
 use Rattle.node_model.specs.declared.NodeCounts.{NodeCounts}
-use Rattle.node_machine.specs.declared.body.Body.{Body}
+use Rattle.node_words.specs.declared.body.Body.{Body}
 use Rattle.node_machine.specs.declared.desk.Desk.{Desk}
 use Rattle.node_model.specs.Node.{Node, first_state}
 use Rattle.node_model.specs.Turns.{quiet, holding, block_at, by_row, by_row_or, count_row, count_want, with_state, with_miss, want_in}
-use Rattle.node_machine.specs.Kept.{Shelf, copy_of, local_of}
-use Rattle.node_machine.specs.Blocks.{ShelfLaws, blocks_at}
+use Rattle.node_words.specs.Kept.{Shelf, copy_of, local_of}
+use Rattle.node_words.specs.Blocks.{ShelfLaws, blocks_at}
 use Rattle.node_machine.specs.Frame.{entries_in, layout_of, with_parts, IsDesk}
 use Rattle.node_machine.specs.Desk.{HomeSide, NodeSide, HasRouted, is_order, is_unmet, turn_by}
 use Rattle.node_machine.proofs.BlockLemmas.{LineLaws, set_states, same_states, put_bytes, same_copy, block_is, is_out, byte_in, byte_out}

@@ -5,20 +5,21 @@ use Rattle.rv32_program.specs.declared.End.TheVariants.{Stopped}
 use Rattle.exec_map.specs.Contents.{program_of}
 use Rattle.home_directory.specs.declared.messages.Post.{Post}
 use Rattle.node_model.specs.declared.NodeCounts.{NodeCounts}
-use Rattle.node_machine.specs.declared.body.Body.{Body}
+use Rattle.node_words.specs.declared.body.Body.{Body}
 use Rattle.node_machine.specs.declared.desk.Desk.{Desk}
 use Rattle.node_machine.specs.declared.frame.Frame.{Frame}
-use Rattle.node_machine.specs.declared.serve.Served as kept_served
-use Rattle.node_machine.specs.declared.serve.Following.{Following}
-use Rattle.node_machine.specs.declared.serve.Following.TheVariants as following_by
-use Rattle.node_machine.specs.Address.{word_address}
-use Rattle.node_model.specs.Node.{Node, Work, Phase, Running, Resumed, Waiting, Ended, Tally, Nothing_counted, FalseMiss, can_execute, counts_after, stop_at, stop_or, word_outcome}
-use Rattle.node_model.specs.Turns.{quiet, want_all, with_byes, byes_to, is_ended, word_turn}
-use Rattle.node_machine.specs.Kept.{Ground, Follows, Serves, phase_by, wants_by, ground_of, lane_of, local_of}
+use Rattle.node_words.specs.declared.lane.Lane as kept
+use Rattle.node_words.specs.declared.serve.Served as kept_served
+use Rattle.node_words.specs.declared.serve.Following.{Following}
+use Rattle.node_words.specs.declared.serve.Following.TheVariants as following_by
+use Rattle.node_words.specs.Address.{word_address}
+use Rattle.node_model.specs.Node.{Node, Work, Phase, Running, Resumed, Waiting, Ended, Tally, Nothing_counted, FalseMiss, can_execute, counts_after, printed_also, stop_at, stop_or, word_outcome}
+use Rattle.node_model.specs.Turns.{quiet, want_all, with_byes, byes_to, is_ended, after_word, word_turn}
+use Rattle.node_words.specs.Kept.{Shelf, Ground, Follows, Serves, phase_by, wants_by, ground_of, lane_of, local_of}
 use Rattle.node_machine.specs.Frame.{work_of, node_of, layout_of, with_parts, AreCountsBelow, WaitsInPhase, HasBegun}
 use Rattle.node_machine.specs.Desk.{turn_by}
-use Rattle.node_machine.specs.GoingOn.{phase_on}
-use Rattle.node_machine.proofs.WordLemmas.{ending, moved, served_node, hot_turn, cold_turn}
+use Rattle.node_words.specs.GoingOn.{phase_on}
+use Rattle.node_words.proofs.WordLemmas.{ending, moved, runs_on, hot_turn}
 
 -- 1. Turns
 
@@ -43,15 +44,52 @@ node_at i b = record (node_of i) {
   counts = b.counts;
 }
 
--- after a word that printed and wanted nothing
+-- after a word that its micro-op served, where the budget has a further one
 pub passed_turn : (i : Frame) (b : Body) (k : ℕ)
     → Follows i.image.now (word_outcome (work_of i) (node_of i)) (ground_of i.body.value.local) (word_address k) b.lane b.local
-    → b.counts ≡ i.body.value.counts
-    → ending (layout_of b).nodes (quiet (record (moved (work_of i) (node_of i) b.lane b.local k) { counts = b.counts }))
-    ≡ word_turn (work_of i) (node_of i)
-passed_turn i b k f counts =
-    (λ t. ending ((f.ground_same t).layout.nodes) (quiet (record (moved (work_of i) (node_of i) b.lane b.local k) { counts = counts t })))
-    ∙ sym (hot_turn (work_of i) (node_of i) (ground_of i.body.value.local) b.lane b.local k f)
+    → b.counts ≡ i.body.value.counts → i.executed + 1 < i.budget
+    → word_turn (work_of i) (node_of i)
+    ≡ quiet (record (moved (work_of i) (node_of i) b.lane b.local k) { phase = Running; counts = b.counts })
+passed_turn i b k f counts below =
+    let apart : i.executed + 1 ≢ i.budget = λ e. omega (arith, e, below) in
+    let next = moved (work_of i) (node_of i) b.lane b.local k in
+    hot_turn (work_of i) (node_of i) (ground_of i.body.value.local) b.lane b.local k f
+    ∙ ap (λ (p : Phase). ending (layout_of i.body.value).nodes (quiet (record next { phase = p }))) (runs_on i.budget (i.executed + 1) apart)
+    ∙ (λ t. quiet (record next { phase = Running; counts = sym counts t }))
+
+-- the node after a word that was served, before its wants
+abbrev pub served_node : Work → Node → kept.Lane → Shelf → NodeCounts → kept_served.Served → Node
+served_node work n l s counts done = record n {
+  lane = lane_of l (word_address done.at);
+  local = local_of s;
+  executed = n.executed + 1;
+  phase = phase_by work.budget (n.executed + 1) done.following;
+  stamp = n.stamp + 1;
+  output = printed_also n.output (n.stamp + 1) done.output;
+  counts = counts;
+}
+
+-- after a word that was served
+pub cold_turn : (work : Work) (n : Node) (g : Ground) (l : kept.Lane) (s : Shelf) (counts : NodeCounts) (done : kept_served.Served)
+    → Serves work.image (word_outcome work n) g n.counts l s counts done
+    → word_turn work n ≡ ending work.layout.nodes
+    (want_all work.layout (turn_by (served_node work n l s counts done) [] done.output) (wants_by done.following))
+cold_turn work n g l s counts done f =
+    let word : after_word work n ≡ turn_by (served_node work n l s counts done) [] done.output = λ t. record {
+      node = record n {
+        lane = sym f.lane t;
+        local = sym f.local t;
+        executed = n.executed + 1;
+        phase = sym (f.phase work.budget (n.executed + 1)) t;
+        stamp = n.stamp + 1;
+        output = printed_also n.output (n.stamp + 1) (sym f.output t);
+        counts = sym f.counts_after t;
+      };
+      sends = [];
+      printed = sym f.output t;
+    } in
+    ap (ending work.layout.nodes)
+    (λ t. want_all work.layout (word t) (sym f.wants t))
 
 -- after a word that was served, and whose wants were asked for
 pub served_turn : (i : Frame) (b b' : Body) (d : Desk) (done : kept_served.Served) (posts : List Post) (last : Node)

@@ -1,11 +1,7 @@
-mod StepLemmas
-mod MemoryLemmas
 mod BlockLemmas
 mod WaitLemmas
 mod RowLemmas
 mod DeskLemmas
-mod WordLemmas
-mod ShelfLemmas
 mod FrameLemmas
 mod UnmetLemmas
 mod OpeningLemmas

@@ -27,11 +27,11 @@ use Rattle.home_directory.specs.Home.{first_entry}
 use Rattle.home_directory.specs.Effects.{Directory, entry_at, members}
 use Rattle.node_machine.specs.Frame.{entries_in}
 use Rattle.node_model.specs.Node.{IsLaidOver, first_state, is_at_home}
-use Rattle.node_machine.specs.Kept.{copy_of, HasSharedLines}
-use Rattle.node_machine.specs.Blocks.{CopyLaws}
+use Rattle.node_words.specs.Kept.{copy_of, HasSharedLines}
+use Rattle.node_words.specs.Blocks.{CopyLaws}
 use Rattle.node_machine.specs.Opening.{AreFixedClasses, read_only_class, window_class, classes_of, block_bytes, opening_state, opening_bytes}
 use Rattle.node_machine.proofs.BlockLemmas.{LineLaws, is_out, byte_in, byte_out, byte_at_block, flag_out}
-use Rattle.node_machine.proofs.MemoryLemmas.{private_line, not_window}
+use Rattle.node_words.proofs.MemoryLemmas.{private_line, not_window}
 
 -- 1. The classes of the lines that aren't shared
 

@@ -15,7 +15,7 @@ use Rattle.home_directory.specs.Home.{count_of}
 use Rattle.miss_handlers.specs.Rows.{row_of}
 use Rattle.miss_handlers.specs.Waits.{NodeWaits, AreWaits, wait_of}
 use Rattle.rv32_program.specs.declared.End.TheVariants.{Stopped}
-use Rattle.node_machine.specs.declared.body.Body.{Body}
+use Rattle.node_words.specs.declared.body.Body.{Body}
 use Rattle.node_machine.specs.declared.desk.Desk.{Desk}
 use Rattle.node_machine.specs.declared.frame.Frame.{Frame}
 use Rattle.node_model.specs.declared.Entry.{Entry}

@@ -26,7 +26,7 @@ use Rattle.llsc.specs.Reservation.{holds}
 use Rattle.node_model.specs.Node.{Node, Work, Lane, Local, Outcome, Move, Next, Enters, Want, set_register, native, store, load, region_of, go_on, exit_by, put_byte, make_call, miss_r, miss_r_by, miss_w, miss_w_by, prepare, prepare_by, indirect, execute, execute_read, execute_at, place_address, word_outcome, is_mapped_state, is_readable_state, is_fixed_state, is_writable_state, store_if, byte_at}
 use Rattle.node_model.specs.Turns.{wants_of}
 use Rattle.node_machine.specs.Desk.{AreUnmet}
-use Rattle.node_machine.proofs.StepLemmas.{load_next, store_next}
+use Rattle.node_words.proofs.StepLemmas.{load_next, store_next}
 
 -- an outcome's wants are unmet in what words see after it
 abbrev IsUnmet : Outcome → Type 0

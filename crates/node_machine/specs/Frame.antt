@@ -9,18 +9,18 @@ use Rattle.home_directory.specs.Home.{Entry, first_entry}
 use Rattle.home_directory.specs.Effects.{entry_at, members}
 use Rattle.miss_handlers.specs.Waits.{wait_of}
 use Rattle.jump_map.specs.Image.{most_words}
-use Rattle.node_machine.specs.Address.{word_address}
+use Rattle.node_words.specs.Address.{word_address}
 use Rattle.node_model.specs.declared.NodeCounts.{NodeCounts}
-use Rattle.node_machine.specs.declared.body.Body.{Body}
+use Rattle.node_words.specs.declared.body.Body.{Body}
 use Rattle.node_machine.specs.declared.desk.Desk.{Desk}
 use Rattle.node_machine.specs.declared.frame.Frame.{Frame}
 use Rattle.node_machine.specs.declared.frame.Phase as kept
 use Rattle.node_machine.specs.declared.frame.Phase.TheVariants as kept_phase
-use Rattle.node_machine.specs.declared.serve.Following.{Following}
-use Rattle.node_machine.specs.declared.serve.Following.TheVariants as following_by
-use Rattle.node_model.specs.Node.{Node, Work, Phase, Running, Resumed, Waiting, Ended, PastWord, can_execute, stop_at, stop_or}
-use Rattle.node_model.specs.Turns.{Turn, quiet, with_byes, is_ended, words_before}
-use Rattle.node_machine.specs.Kept.{lane_of, local_of, resume_of}
+use Rattle.node_words.specs.declared.serve.Following.{Following}
+use Rattle.node_words.specs.declared.serve.Following.TheVariants as following_by
+use Rattle.node_model.specs.Node.{Node, Work, Phase, Running, Resumed, Waiting, Ended, PastWord, can_execute, stop_or}
+use Rattle.node_model.specs.Turns.{words_before}
+use Rattle.node_words.specs.Kept.{lane_of, local_of, resume_of}
 
 abbrev pub phase_of : kept.Phase → Phase
 phase_of kept_phase.Running = Running
@@ -120,19 +120,6 @@ pub record IsNode (f : Frame) : Type 0 where
   pub noted : f.noted ≡ words_before f.journal.items
   pub behind : f.noted ≤ f.executed
   pub counts : AreCountsBelow (18 * f.stamp) f.body.value.counts
-
--- the node at the word with this address, where the word before printed nothing and wanted nothing
-abbrev pub passed : Work → Node → (at : ℕ) → Node
-passed work n at = record n {
-  lane = record n.lane { at = at };
-  executed = n.executed + 1;
-  stamp = n.stamp + 1;
-  phase = stop_at work.budget (n.executed + 1);
-}
-
-abbrev pub passed_to : Work → Node → (at : ℕ) → Turn
-passed_to work n at =
-    with_byes work.layout.nodes (quiet (passed work n at)) (is_ended (passed work n at).phase)
 
 -- the node with what it has of blocks, its counts and the Byes, as they are stored here
 abbrev pub with_all : Node → Body → Desk → List Bool → Node

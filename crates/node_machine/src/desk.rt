@@ -8,19 +8,17 @@ ghost use Rattle.rv32_program.specs.Program.{line_of};
 ghost use Rattle.miss_handlers.specs.Rows.{row_of};
 ghost use Rattle.node_model.specs.Node as model;
 ghost use Rattle.node_model.specs.Turns as turns;
-ghost use Rattle.node_machine.specs.Kept.{ground_of, local_of};
-ghost use Rattle.node_machine.specs.Blocks.{ShelfLaws};
+ghost use Rattle.node_words.specs.Kept.{ground_of, local_of};
+ghost use Rattle.node_words.specs.Blocks.{ShelfLaws};
 ghost use Rattle.node_machine.specs.Frame.{layout_of, with_parts, IsDesk, AreCountsBelow};
 ghost use Rattle.node_machine.specs.Desk.{HasRouted, turn_by, is_unmet, is_order};
 
-use crate::body::Body;
-use crate::lane::Want;
-use crate::local::Local;
 use block_layout::{Block, layout_law};
 use buf_pool::Pool;
 use home_directory::{Directory, Message, Need, Post, Sends};
 use miss_handlers::Waits;
 use node_model::NodeCounts;
+use node_words::{Body, Local, Want};
 use state_table::State;
 
 /// A node's part of the protocol: the entries of the blocks whose home it is, its waits, and the

@@ -1,25 +1,23 @@
 //! What a node stores, and its events. How the parts fit together is said by each call's clauses,
 //! and kept by the type of the node above it.
 
-ghost use Rattle.std.specs.Prelude.{◌≡◌, ◌+◌, ◌*◌, ◌^◌, ◌<◌, ◌≤◌, ◌&&◌, ◌++◌, ◌⊎◌, ◌==◌, if◌then◌else◌, ℕ, [], true, None, Option, length};
+ghost use Rattle.std.specs.Prelude.{◌≡◌, ◌+◌, ◌*◌, ◌^◌, ◌<◌, ◌≤◌, ◌&&◌, ◌++◌, ◌⊎◌, ◌==◌, if◌then◌else◌, ℕ, [], true, false, None, Option, length};
 ghost use Rattle.std.specs.Vec.{vec_capacity};
 ghost use Rattle.node_model.specs.Node as model;
 ghost use Rattle.node_model.specs.Turns as turns;
-ghost use Rattle.node_machine.specs.Address.{word_address};
-ghost use Rattle.node_machine.specs.Kept.{ground_of, local_of, phase_by, wants_by, resume_of};
-ghost use Rattle.node_machine.specs.Frame.{work_of, node_of, layout_of, with_parts, phase_of, HasRoom, IsNode, IsDesk, AreCountsBelow, HasBegun, passed_to, with_all, phase_resumed, at_resumed};
-ghost use Rattle.node_machine.specs.GoingOn.{phase_on};
+ghost use Rattle.node_words.specs.Address.{word_address};
+ghost use Rattle.node_words.specs.Kept.{ground_of, local_of, phase_by, wants_by, resume_of};
+ghost use Rattle.node_machine.specs.Frame.{work_of, node_of, layout_of, with_parts, phase_of, HasRoom, IsNode, IsDesk, AreCountsBelow, HasBegun, with_all, phase_resumed, at_resumed};
+ghost use Rattle.node_words.specs.GoingOn.{phase_on};
 ghost use Rattle.node_machine.specs.Desk.{turn_by, AreUnmet};
 ghost use Rattle.node_machine.specs.Runs.{HasExecuted};
 
-use crate::body::Body;
 use crate::desk::Desk;
-use crate::lane::Resume;
-use crate::serve::Following;
 use exec_map::End;
 use home_directory::{Message, Post, Sends, Wire};
 use jump_map::Image;
 use node_model::{Entry, OutByte};
+use node_words::{Body, Following, Resume};
 use run_limits::Budget;
 
 /// What a node did in one event.
@@ -44,8 +42,8 @@ pub enum Phase {
 
 /// What a node stores.
 ///
-/// What words change is in a box of its own, so that the position and the count of words can stay in
-/// registers of the machine while words are executed.
+/// What words change is in a box of its own, so that the position and the count of words can stay
+/// in registers of the machine while words are executed.
 #[derive(Drop)]
 pub struct Frame<'a> {
     pub image: &'a Image,
@@ -79,9 +77,42 @@ impl<'a> Frame<'a> {
         ensures work { work_of self.new ≡ work_of self.old }
         ensures node { IsNode self.new }
     {
+        if self.pass() {
+            return Turn {
+                stamp: self.stamp,
+                sends: Sends::new(),
+                output: None,
+            };
+        }
+        self.serve_word()
+    }
+
+    /// Executes the next word by its micro-op, where that serves it and the budget has a further
+    /// word for after it. Otherwise nothing changes.
+    #[inline]
+    pub fn pass(&mut self) -> bool
+        requires node { IsNode self.old }
+        requires may { model.can_execute (node_of self.old).phase ≡ true }
+        requires stamp { self.old.stamp < 2 ^ 56 }
+        ensures passed { result ≡ true →
+            (turns.word_turn (work_of self.old) (node_of self.old) ≡ turns.quiet (node_of self.new))
+            × (model.can_execute (node_of self.new).phase ≡ true) }
+        ensures same { result ≡ false → self.new ≡ self.old }
+        ensures work { work_of self.new ≡ work_of self.old }
+        ensures node { IsNode self.new }
+    {
+        if self.executed + 1 >= self.budget.number() {
+            return false;
+        }
         match self.body.step_at(self.image, self.at) {
-            Some(at) => self.pass_to(at),
-            None => self.serve_word(),
+            Some(at) => {
+                self.at = at;
+                self.executed += 1;
+                self.stamp += 1;
+                self.phase = Phase::Running;
+                true
+            }
+            None => false,
         }
     }
 
@@ -149,24 +180,6 @@ impl<'a> Frame<'a> {
             };
         }
         self.turn(sends, None)
-    }
-
-    /// Goes on to the word with an index, where the word before was executed.
-    fn pass_to(&mut self, at: u32) -> Turn
-        requires node { IsNode self.old }
-        requires may { model.can_execute (node_of self.old).phase ≡ true }
-        requires stamp { self.old.stamp < 2 ^ 56 }
-        ensures turn { turn_by (node_of self.new) result.sends.items result.output
-            ≡ passed_to (work_of self.old) (node_of self.old) (word_address at) }
-        ensures stamp { result.stamp ≡ self.new.stamp }
-        ensures work { work_of self.new ≡ work_of self.old }
-        ensures node { IsNode self.new }
-    {
-        self.at = at;
-        self.executed += 1;
-        self.stamp += 1;
-        self.phase = stop_or(self.budget, self.executed, Phase::Running);
-        self.turn(Sends::new(), None)
     }
 
     /// Executes one word by the path that serves every word.
@@ -272,7 +285,8 @@ pub struct Position {
 fn resumed(phase: Phase, at: u32, pending: u8, budget: Budget, executed: u64) -> Position
     ensures phase { phase_of result.phase
         ≡ phase_resumed budget executed (pending == 0) (phase_of phase) }
-    ensures at { word_address result.at ≡ at_resumed (pending == 0) (phase_of phase) (word_address at) }
+    ensures at { word_address result.at
+        ≡ at_resumed (pending == 0) (phase_of phase) (word_address at) }
 {
     match phase {
         Phase::Waiting(resume) => {
@@ -291,7 +305,8 @@ fn resumed(phase: Phase, at: u32, pending: u8, budget: Budget, executed: u64) ->
 
 /// The index of the word at which a processor goes on.
 fn index_resumed(resume: Resume, at: u32) -> u32
-    ensures { word_address result ≡ at_resumed true (model.Waiting (resume_of resume)) (word_address at) }
+    ensures { word_address result
+        ≡ at_resumed true (model.Waiting (resume_of resume)) (word_address at) }
 {
     match resume {
         Resume::PastWord => at.wrapping_add(1),

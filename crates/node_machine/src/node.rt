@@ -1,8 +1,9 @@
 //! A node: its processor, what words see of it, and its part of the protocol.
 
-ghost use Rattle.std.specs.Prelude.{◌≡◌, ◌+◌, ◌^◌, ◌<◌, ◌==◌, ◌≤◌, ℕ, true, None, IfOk, OnOk, if◌then◌else◌, option_and_then};
+ghost use Rattle.std.specs.Prelude.{◌≡◌, ◌+◌, ◌^◌, ◌<◌, ◌==◌, ◌≤◌, ℕ, true, false, None, IfOk, OnOk, if◌then◌else◌, option_and_then};
 ghost use Rattle.jump_map.specs.declared.image.ImageWord.{ImageWord};
 ghost use Rattle.exec_map.specs.Contents.{program_of};
+ghost use Rattle.jump_map.specs.Maps.{fetch};
 ghost use Rattle.home_directory.specs.Effects.{members};
 ghost use Rattle.home_directory.specs.Home.{count_of};
 ghost use Rattle.node_model.specs.Node as model;
@@ -10,11 +11,9 @@ ghost use Rattle.node_model.specs.Turns as turns;
 ghost use Rattle.node_machine.specs.Frame.{node_of, work_of, HasRoom};
 ghost use Rattle.node_machine.specs.Runs.{HasExecuted};
 
-use crate::body::Body;
 use crate::desk::Desk;
 use crate::frame::{Frame, Phase, Turn};
-use crate::lane::{Lane, address_of, index_of};
-use crate::local::Local;
+use crate::opening::first_local;
 use block_layout::Layout;
 use buf_pool::Pool;
 use byte_range::Window;
@@ -23,6 +22,7 @@ use home_directory::{Directory, Wire};
 use jump_map::{Image, ImageWord};
 use miss_handlers::Waits;
 use node_model::{Entry, NodeCounts, OutByte, Standing};
+use node_words::{Body, Lane, address_of, index_of};
 use run_limits::Budget;
 use rv32_step::Registers;
 use std::alloc::{AllocError, Global};
@@ -82,7 +82,7 @@ impl<'a> Node<'a> {
                 off: 0,
                 spills: [0; 3],
             },
-            local: Local::first(alloc, program, layout, me)?,
+            local: first_local(alloc, program, layout, me)?,
             counts: NO_COUNTS,
         };
         let desk = Desk {
@@ -144,6 +144,13 @@ impl<'a> Node<'a> {
         }
     }
 
+    /// The word at which the processor goes on; `None` where there is none.
+    pub fn next_word(&self) -> Option<ImageWord>
+        ensures value { result ≡ fetch (work_of self.now).image (node_of self.now).lane.at }
+    {
+        self.frame.image.fetch(address_of(self.frame.at))
+    }
+
     /// The takes of messages, in order.
     pub fn journal(&self) -> &[Entry]
         ensures value { result.now ≡ (node_of self.now).journal }
@@ -184,6 +191,21 @@ impl<'a> Node<'a> {
         ensures work { work_of self.new ≡ work_of self.old }
     {
         self.frame.exec()
+    }
+
+    /// Executes the next word by its micro-op, where that serves it and the budget has a further
+    /// word for after it, and says whether it did. Otherwise nothing changes.
+    #[inline]
+    pub fn pass(&mut self) -> bool
+        requires may { model.can_execute (node_of self.old).phase ≡ true }
+        requires stamp { (node_of self.old).stamp < 2 ^ 56 }
+        ensures passed { result ≡ true →
+            (turns.word_turn (work_of self.old) (node_of self.old) ≡ turns.quiet (node_of self.new))
+            × (model.can_execute (node_of self.new).phase ≡ true) }
+        ensures same { result ≡ false → node_of self.new ≡ node_of self.old }
+        ensures work { work_of self.new ≡ work_of self.old }
+    {
+        self.frame.pass()
     }
 
     /// Executes words, of which those before the last print nothing and send nothing: as many as

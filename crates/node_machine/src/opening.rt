@@ -7,53 +7,41 @@ ghost use Rattle.block_layout.specs.Update.{changed};
 ghost use Rattle.state_table.specs.States.{state_of};
 ghost use Rattle.flag_memory.specs.Copy.{bytes_of};
 ghost use Rattle.node_model.specs.Node as model;
-ghost use Rattle.node_machine.specs.Kept.{local_of, AreFirstLines};
+ghost use Rattle.node_words.specs.Kept.{local_of};
 ghost use Rattle.node_machine.specs.Opening.{AreFixedClasses, classes_of, opening_state, opening_bytes};
 
-use crate::local::Local;
 use block_layout::{Block, Layout, layout_law};
 use exec_map::{Lines, Program, first_bytes_law};
 use first_memory::read_only_memory;
 use flag_memory::{Copy32, FirstBytes, copy_law};
-use llsc::Reservation;
+use node_words::Local;
 use state_table::{EXCLUSIVE, LineClass, LineClasses, READ_ONLY, State, States};
 use std::alloc::{AllocError, Global};
 
-impl<'a> Local<'a> {
-    /// What words see of node `me` at the start.
-    pub fn first(
-        alloc: Global,
-        program: &'a Program<'a>,
-        layout: &Layout,
-        me: u8,
-    ) -> Result<Local<'a>, AllocError>
-        requires layout { model.IsLaidOver (program_of program.now) layout.now }
-        ensures program { IfOk result (λ l. l.program ≡ program.now) }
-        ensures layout { IfOk result (λ l. l.copy.layout ≡ layout.now) }
-        ensures local { IfOk result (λ l. (work : model.Work) → work.program ≡ program_of program.now
-            → work.layout ≡ layout.now → local_of l ≡ model.first_local work me) }
-    {
-        layout_law();
-        first_bytes_law();
-        let _ = program.entry();
-        let _ = layout.nodes();
-        let classes = fixed_classes(alloc, program)?;
-        let mut states = States::new(alloc, layout, &classes)?;
-        let mut copy = Copy32::new(alloc, layout, &FirstBytes::new(Vec::new(alloc)))?;
-        open_blocks(alloc, program, layout, me, &mut states, &mut copy)?;
-        copy_law(&copy);
-        let first = first_lines(layout);
-        Ok(Local {
-            program,
-            layout: layout.copy(alloc)?,
-            base: 64 * first.first,
-            len: 64 * first.lines,
-            states,
-            copy,
-            fixed: read_only_memory(alloc, program)?,
-            reservation: Reservation::new(),
-        })
-    }
+/// What words see of node `me` at the start.
+pub fn first_local<'a>(
+    alloc: Global,
+    program: &'a Program<'a>,
+    layout: &Layout,
+    me: u8,
+) -> Result<Local<'a>, AllocError>
+    requires layout { model.IsLaidOver (program_of program.now) layout.now }
+    ensures program { IfOk result (λ l. l.program ≡ program.now) }
+    ensures layout { IfOk result (λ l. l.copy.layout ≡ layout.now) }
+    ensures local { IfOk result (λ l. (work : model.Work) → work.program ≡ program_of program.now
+        → work.layout ≡ layout.now → local_of l ≡ model.first_local work me) }
+{
+    layout_law();
+    first_bytes_law();
+    let _ = program.entry();
+    let _ = layout.nodes();
+    let classes = fixed_classes(alloc, program)?;
+    let mut states = States::new(alloc, layout, &classes)?;
+    let mut copy = Copy32::new(alloc, layout, &FirstBytes::new(Vec::new(alloc)))?;
+    open_blocks(alloc, program, layout, me, &mut states, &mut copy)?;
+    copy_law(&copy);
+    let fixed = read_only_memory(alloc, program)?;
+    Ok(Local::new(program, layout.copy(alloc)?, states, copy, fixed))
 }
 
 /// The state bytes of the lines that aren't shared.
@@ -90,37 +78,6 @@ const WINDOW_FIRST: u32 = 0x01ff_fc00;
 
 /// How many lines it has.
 const WINDOW_LINES: u32 = 0x400;
-
-/// No more lines are taken for the first ones, but for those of one block.
-const MOST_LINES: u32 = 1 << 25;
-
-/// The first shared lines that stand one behind the other; not always all of them.
-fn first_lines(layout: &Layout) -> Lines
-    ensures first { AreFirstLines layout.now (64 * result.first) (64 * result.lines) }
-    ensures low { result.first < 2 ^ 26 }
-    ensures few { result.lines < 2 ^ 26 }
-{
-    layout_law();
-    let count = layout.blocks();
-    if count == 0 {
-        return Lines { first: 0, lines: 0 };
-    }
-    let first = layout.first_line(0);
-    let mut lines = 0;
-    for block in 0..count {
-        if lines >= MOST_LINES {
-            break;
-        }
-        if layout.first_line(block) != first + lines {
-            break;
-        }
-        if layout.start(block) != lines {
-            break;
-        }
-        lines += layout.lines(block);
-    }
-    Lines { first, lines }
-}
 
 /// Gives the blocks that are homed at a node their first bytes, and makes them exclusive there;
 /// flags the others.

@@ -2,7 +2,7 @@ use Rattle.std.proofs.Common.{sym, refl, subst}
 use Rattle.home_directory.specs.declared.messages.Message.{Message}
 use Rattle.miss_handlers.specs.Effects.{HasEffect, message_effect}
 use Rattle.node_machine.specs.declared.desk.Desk.{Desk}
-use Rattle.node_machine.specs.Blocks.{blocks_at}
+use Rattle.node_words.specs.Blocks.{blocks_at}
 use Rattle.node_machine.specs.Desk.{HasRouted}
 use Rattle.node_machine.proofs.DeskLemmas.{others_routed, desk_other}
 use Rattle.node_machine.proofs.desk.Desk.route.Goals as goal

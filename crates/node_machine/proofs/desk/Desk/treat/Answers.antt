@@ -1,5 +1,5 @@
 use Rattle.std.proofs.Common.{◌≡◌, ◌∙◌, ◌&&◌, ltb, length}
-use Rattle.node_machine.specs.declared.body.Body.{Body}
+use Rattle.node_words.specs.declared.body.Body.{Body}
 use Rattle.node_model.specs.Turns.{count_row}
 use Rattle.node_machine.specs.Desk.{is_order}
 use Rattle.node_machine.proofs.BlockLemmas.{LineLaws}

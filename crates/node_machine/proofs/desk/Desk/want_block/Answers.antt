@@ -6,7 +6,7 @@ use Rattle.miss_handlers.specs.Effects.{miss_of, post_of}
 use Rattle.node_model.specs.declared.NodeCounts.{NodeCounts}
 use Rattle.home_directory.specs.declared.messages.Need.{Need}
 use Rattle.state_table.specs.declared.State.{State}
-use Rattle.node_machine.specs.declared.body.Body.{Body}
+use Rattle.node_words.specs.declared.body.Body.{Body}
 use Rattle.node_machine.specs.declared.desk.Desk.{Desk}
 use Rattle.node_model.specs.Turns.{count_want}
 use Rattle.node_machine.proofs.BlockLemmas.{LineLaws}

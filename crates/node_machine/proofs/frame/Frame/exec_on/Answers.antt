@@ -1,14 +1,14 @@
 use Rattle.std.proofs.Common.{◌≡◌, ◌+◌, ◌*◌, ◌<◌, ◌∙◌, ap, sym, subst, refl, length, arith, add-zero}
 use Rattle.block_layout.specs.Layout.{Shape}
 use Rattle.exec_map.specs.Contents.{program_of}
-use Rattle.node_machine.specs.declared.body.Body.{Body}
+use Rattle.node_words.specs.declared.body.Body.{Body}
 use Rattle.node_model.specs.Node.{Node, can_execute}
 use Rattle.node_model.specs.Turns.{word_turn}
-use Rattle.node_machine.specs.GoingOn.{node_on}
-use Rattle.node_machine.specs.Runs.{GoesOnBy}
-use Rattle.node_machine.specs.Kept.{Ground, ground_of}
+use Rattle.node_words.specs.GoingOn.{node_on}
+use Rattle.node_words.specs.Runs.{GoesOnBy}
+use Rattle.node_words.specs.Kept.{Ground, ground_of}
 use Rattle.node_machine.specs.Frame.{node_of, work_of, layout_of, phase_of, IsDesk, AreCountsBelow, WaitsInPhase}
-use Rattle.node_machine.proofs.WordLemmas.{still_may}
+use Rattle.node_words.proofs.WordLemmas.{still_may}
 use Rattle.node_machine.proofs.FrameLemmas.{on_waits, counts_up}
 use Rattle.node_machine.proofs.frame.Frame.exec_on.Goals as goal
 

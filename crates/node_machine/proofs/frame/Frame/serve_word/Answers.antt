@@ -3,15 +3,15 @@ use Rattle.block_layout.specs.Layout.{Shape}
 use Rattle.exec_map.specs.Contents.{program_of}
 use Rattle.home_directory.specs.Effects.{entry_at, members}
 use Rattle.miss_handlers.specs.Waits.{wait_of}
-use Rattle.node_machine.specs.declared.body.Body.{Body}
-use Rattle.node_machine.specs.Address.{word_address}
+use Rattle.node_words.specs.declared.body.Body.{Body}
+use Rattle.node_words.specs.Address.{word_address}
 use Rattle.node_model.specs.Node.{Node, next_outcome, word_outcome}
 use Rattle.node_model.specs.Turns.{want_all, is_ended}
-use Rattle.node_machine.specs.Kept.{Ground, Serves, ground_of, lane_of, local_of, wants_by}
+use Rattle.node_words.specs.Kept.{Ground, Serves, ground_of, lane_of, local_of, wants_by}
 use Rattle.node_machine.specs.Frame.{node_of, work_of, layout_of, phase_of, with_parts, entries_in, IsDesk, AreCountsBelow, WaitsInPhase}
 use Rattle.node_machine.specs.Desk.{turn_by, AreUnmet}
-use Rattle.node_machine.proofs.WordLemmas.{ending, served_node}
-use Rattle.node_machine.proofs.FrameLemmas.{served_turn, counts_up, served_below, may_waits, begun_waits, following_runs, ended_quiet}
+use Rattle.node_words.proofs.WordLemmas.{ending}
+use Rattle.node_machine.proofs.FrameLemmas.{served_node, served_turn, counts_up, served_below, may_waits, begun_waits, following_runs, ended_quiet}
 use Rattle.node_machine.proofs.UnmetLemmas.{word_unmet}
 use Rattle.node_machine.proofs.frame.Frame.serve_word.Goals as goal
 

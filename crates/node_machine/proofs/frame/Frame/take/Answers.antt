@@ -4,12 +4,12 @@ use Rattle.home_directory.specs.Effects.{entry_at, members}
 use Rattle.home_directory.specs.Home.{count_of}
 use Rattle.std.specs.Prelude.{is_some}
 use Rattle.miss_handlers.specs.Waits.{wait_of}
-use Rattle.node_machine.specs.declared.body.Body.{Body}
+use Rattle.node_words.specs.declared.body.Body.{Body}
 use Rattle.node_model.specs.declared.Entry.{Entry}
-use Rattle.node_machine.specs.Address.{word_address}
+use Rattle.node_words.specs.Address.{word_address}
 use Rattle.node_model.specs.Node.{Node, can_execute}
 use Rattle.node_model.specs.Turns.{treated, journaled, later, words_before, with_byes, is_ended}
-use Rattle.node_machine.specs.Kept.{Ground, ground_of, lane_of, local_of}
+use Rattle.node_words.specs.Kept.{Ground, ground_of, lane_of, local_of}
 use Rattle.node_machine.specs.Frame.{node_of, layout_of, phase_of, with_all, entries_in, phase_resumed, at_resumed, IsDesk, AreCountsBelow, WaitsInPhase}
 use Rattle.node_machine.specs.Desk.{turn_by}
 use Rattle.node_machine.proofs.FrameLemmas.{counts_up}

@@ -8,11 +8,11 @@ use Rattle.exec_map.specs.Contents.{program_of}
 use Rattle.jump_map.specs.Maps.{new_of}
 use Rattle.home_directory.specs.Effects.{entry_at, members}
 use Rattle.miss_handlers.specs.Waits.{wait_of}
-use Rattle.node_machine.specs.declared.body.Body.{Body}
+use Rattle.node_words.specs.declared.body.Body.{Body}
 use Rattle.node_model.specs.Node.{Node, Work, Running, opening_node}
-use Rattle.node_machine.specs.Kept.{local_of, lane_of}
+use Rattle.node_words.specs.Kept.{local_of, lane_of}
 use Rattle.node_machine.specs.Frame.{layout_of, entries_in}
-use Rattle.node_machine.specs.Address.{word_address}
+use Rattle.node_words.specs.Address.{word_address}
 use Rattle.node_machine.proofs.OpeningLemmas.{opening_entries, none_of}
 use Rattle.node_machine.proofs.node.Node.new.Goals as goal
 
@@ -33,12 +33,12 @@ returns-clause-opening c =
     let image = c.args.image.now in
     let l = c.args.layout.now in
     let me = c.args.me in
-    let first = c.in_ok-first.ensures in
+    let first = c.in_ok-first_local.ensures in
     let d = c.in_ok-new.field-0 in
     let entry = c.entry.ensures.value ∙ ap (λ (e : Elf). (program_of e).entry) (sym first.program) in
     let at = c.index_of.ensures ∙ c.unwrap_or.ensures ∙ ap (λ (o : Option ℕ). unwrap_or o 0) (c.new_of.ensures.value ∙ ap (new_of image) entry) in
     let registers = ap registers_of (c.first.ensures ∙ ap (first_values me) (c.nodes.ensures.nodes ∙ sym (ap (λ (z : Shape). z.nodes) first.layout))) in
-    let work : Work = record { program = program_of c.in_ok-first.field-0.program; image = image; layout = c.in_ok-first.field-0.copy.layout; budget = c.args.budget } in
+    let work : Work = record { program = program_of c.in_ok-first_local.field-0.program; image = image; layout = c.in_ok-first_local.field-0.copy.layout; budget = c.args.budget } in
     let local = first.local work (ap program_of first.program) first.layout in
     let work_by : Body → Work = λ b. record { program = program_of b.local.program; image = image; layout = layout_of b; budget = c.args.budget } in
     let node_by : Body → Node = λ b. record {

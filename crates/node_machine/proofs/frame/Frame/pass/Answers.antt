@@ -1,0 +1,72 @@
+use Rattle.std.proofs.Common.{◌≡◌, ◌+◌, ◌*◌, ◌∙◌, ap, sym, subst, refl, length, arith}
+use Rattle.std.specs.Box.{with_value}
+use Rattle.block_layout.specs.Layout.{Shape}
+use Rattle.exec_map.specs.Contents.{program_of}
+use Rattle.node_words.specs.declared.body.Body.{Body}
+use Rattle.node_machine.specs.declared.frame.Frame.{Frame}
+use Rattle.node_words.specs.Address.{word_address}
+use Rattle.node_model.specs.Node.{next_outcome}
+use Rattle.node_words.specs.Kept.{Ground, Follows, ground_of, lane_of, local_of}
+use Rattle.node_machine.specs.Frame.{layout_of, phase_of, work_of, IsDesk, IsNode, AreCountsBelow}
+use Rattle.node_machine.proofs.FrameLemmas.{passed_turn, may_waits, counts_up}
+use Rattle.node_machine.proofs.frame.Frame.pass.Goals as goal
+
+pub returns-in-Some-clause-passed : goal.returns-in-Some-clause-passed
+returns-in-Some-clause-passed c =
+    let i = c.args.self.now in
+    let b = c.step_at.new.self in
+    let f = subst (λ (x : Body). Follows i.image.now (next_outcome (program_of x.local.program) i.image.now (lane_of x.lane (word_address i.at)) (local_of x.local))
+    (ground_of x.local) (word_address c.in-Some.at) b.lane b.local) c.deref_mut.ensures.value c.in-Some.ensures.steps in
+    let counts = c.step_at.ensures.counts ∙ ap (λ (x : Body). x.counts) c.deref_mut.ensures.value in
+    let budget = c.number.ensures.value in
+    λ yes. (passed_turn i b c.in-Some.at f counts (omega (arith, budget)), refl)
+
+pub returns-in-Some-clause-work : goal.returns-in-Some-clause-work
+returns-in-Some-clause-work c =
+    let i = c.args.self.now in
+    let g = c.in-Some.ensures.steps.ground_same ∙ ap (λ (b : Body). ground_of b.local) c.deref_mut.ensures.value in
+    λ t. record { program = program_of (g t).program; image = i.image.now; layout = (g t).layout; budget = i.budget }
+
+pub returns-in-Some-clause-node : goal.returns-in-Some-clause-node
+returns-in-Some-clause-node c =
+    let i = c.args.self.now in
+    let n = c.requires.node in
+    let low = n.going c.requires.may in
+    let budget = c.number.ensures.value in
+    let behind = n.behind in
+    let layout = ap (λ (g : Ground). g.layout) c.in-Some.ensures.steps.ground_same ∙ ap layout_of c.deref_mut.ensures.value in
+    let counts = c.step_at.ensures.counts ∙ ap (λ (b : Body). b.counts) c.deref_mut.ensures.value in
+    record {
+      within = omega (arith, low);
+      going = λ may. omega (arith, budget);
+      range = n.range;
+      short = n.short;
+      desk = subst (λ (l : Shape). IsDesk l i.desk) (sym layout) n.desk;
+      waits = may_waits (phase_of i.phase) (length i.desk.waits.waits) c.requires.may n.waits;
+      noted = n.noted;
+      behind = omega (arith, behind);
+      counts = counts_up (18 * i.stamp) (18 * (i.stamp + 1)) c.step_at.new.self.counts (omega arith)
+          (subst (AreCountsBelow (18 * i.stamp)) (sym counts) n.counts);
+    }
+
+-- where the micro-op served nothing, the frame is as it was
+
+kept_frame : (i : Frame) (b : Body) → b ≡ i.body.value → record i { body = with_value i.body b } ≡ i
+kept_frame i b same = λ t. record i { body = with_value i.body (same t) }
+
+none_changed : (c : goal.In-None)
+    → record c.args.self.now { body = with_value c.args.self.now.body c.step_at.new.self } ≡ c.args.self.now
+none_changed c = kept_frame c.args.self.now c.step_at.new.self ((λ t. record {
+  lane = c.in-None.ensures.steps.0 t;
+  local = c.in-None.ensures.steps.1 t;
+  counts = c.step_at.ensures.counts t;
+}) ∙ c.deref_mut.ensures.value)
+
+pub returns-in-None-clause-same : goal.returns-in-None-clause-same
+returns-in-None-clause-same c = λ no. none_changed c
+
+pub returns-in-None-clause-work : goal.returns-in-None-clause-work
+returns-in-None-clause-work c = ap work_of (none_changed c)
+
+pub returns-in-None-clause-node : goal.returns-in-None-clause-node
+returns-in-None-clause-node c = subst IsNode (sym (none_changed c)) c.requires.node

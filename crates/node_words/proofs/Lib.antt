@@ -1,0 +1,4 @@
+pub mod StepLemmas
+pub mod MemoryLemmas
+pub mod WordLemmas
+pub mod ShelfLemmas

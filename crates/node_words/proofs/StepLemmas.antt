@@ -1,0 +1,176 @@
+-- What a micro-op does, by what its kind means.
+use Rattle.std.proofs.Common.{◌≡◌, ℕ, ◌+◌, ◌*◌, ◌/◌, ◌%◌, ◌<◌, ◌≤◌, Bool, true, false, List, Option, Some, None, refl, ap, sym, ◌∙◌, subst, arith}
+use Rattle.std.proofs.Math.Path.{fun_ext}
+use Rattle.rv32_decode.specs.declared.LoadKind.{LoadKind}
+use Rattle.rv32_decode.specs.declared.Width.{Width}
+use Rattle.rv32_decode.specs.declared.Width.TheVariants.{Word}
+use Rattle.rv32_program.specs.Program.{Program}
+use Rattle.micro_op.specs.declared.micro_op.MicroOp.{MicroOp}
+use Rattle.micro_op.specs.declared.MicroKind.{MicroKind}
+use Rattle.micro_op.specs.Micro.{Meaning, meaning_by, meaning_of}
+use Rattle.jump_map.specs.Image.{Cell, image_base}
+use Rattle.node_words.specs.declared.lane.Lane as kept
+use Rattle.node_model.specs.Node.{Lane, Local, Outcome, Next, Waits, SameWord, go_on, lane_after_call, Nothing_counted, Region, Memory, StateOf, Spill, Elsewhere, native, put_byte, print_byte, byte_at, is_mapped_state, is_readable_state, execute_at, execute_read, next_outcome, place_address, indirect, load, store, phase_after, lane_after, region_of, set_register}
+use Rattle.std.proofs.Common.{eqb, ◌&&◌}
+use Rattle.std.specs.Prelude.{position}
+use Rattle.std.specs.Option.{option_map}
+use Rattle.std.proofs.lemmas.Bool.Decides.{nat_tests}
+use Rattle.home_directory.specs.declared.messages.Need.TheVariants.{Read}
+use Rattle.rv32_step.specs.Demands.{cut_short}
+use Rattle.rv32_step.specs.Registers.{put, registers_of}
+use Rattle.jump_map.specs.Image.{address_of_word}
+use Rattle.jump_map.specs.Maps.{new_of, begins_at}
+use Rattle.rv32_step.specs.OneMemory.{Exchanges, next_pc}
+use Rattle.std.proofs.Common.{◌-◌, [], ◌∷◌, leb, length, zero, suc}
+use Rattle.std.specs.Prelude.{slice_get}
+use Rattle.rv32_decode.specs.Fields.{unsigned}
+use Rattle.rv32_step.specs.declared.Demand.{Demand}
+use Rattle.rv32_step.specs.declared.Demand.TheVariants.{Continues}
+use Rattle.rv32_step.specs.Registers.{reg}
+use Rattle.micro_op.specs.declared.MicroKind.TheVariants.{Rare}
+use Rattle.micro_op.specs.Micro.{Unserved, Demands, Enters as EntersBy, Meets, EntersAt}
+use Rattle.templates.specs.declared.runtime_words.RtWord.{RtWord}
+use Rattle.templates.specs.declared.runtime_words.RtWord.TheVariants.{Native, Poll, Xjalr}
+use Rattle.templates.specs.declared.places.Place.{Place}
+use Rattle.templates.specs.RuntimeWords.{read_word}
+use Rattle.exec_map.specs.Contents.{program_of}
+use Rattle.jump_map.specs.declared.image.ImageWord.{ImageWord}
+use Rattle.jump_map.specs.Image.{read_cell, most_words}
+use Rattle.jump_map.specs.Maps.{fetch}
+use Rattle.jump_map.specs.Micro.{IsMicroWord}
+use Rattle.node_words.specs.Kept.{StepsOr}
+use Rattle.node_words.specs.Kept.{Shelf, Ground, ground_of, LeavesBehind, Follows, StepsTo, lane_of, local_of}
+use Rattle.node_words.specs.Address.{word_address}
+use Rattle.node_model.specs.Turns.{wants_of}
+
+-- an update that stores this new word
+abbrev pub updated_to : Program → Lane → Local → ℕ → ℕ → ℕ → ℕ → Outcome
+updated_to program l n r a old new = record (store program l n Word a new (region_of a)) {
+  lane = set_register (store program l n Word a new (region_of a)).lane r old;
+  access = Exchanges a old new;
+}
+
+-- a micro-op of a kind does what that kind means
+pub stepped : (image : List Cell) (k : MicroKind) (op : MicroOp) (registers : ℕ → ℕ) (at : ℕ) (l : kept.Lane) (s : Shelf) (l' : kept.Lane) (s' : Shelf) (o : Option ℕ) (m : Meaning) → op.kind ≡ k → StepsTo image m at l s l' s' o → meaning_by k image_base op registers ≡ m → StepsTo image (meaning_of image_base op registers) at l s l' s' o
+stepped image k op registers at l s l' s' o m is does means =
+    subst (λ (x : Meaning). StepsTo image x at l s l' s' o) (sym (ap (λ (q : MicroKind). meaning_by q image_base op registers) is ∙ means)) does
+
+-- the word that follows is the next one
+pub next_follows : (image : List Cell) (outcome : Outcome) (g : Ground) (at k : ℕ) (l : kept.Lane) (s : Shelf) → k ≡ (at + 1) % 4294967296 → outcome.move ≡ Next → outcome.printed ≡ None → outcome.tally ≡ Nothing_counted → LeavesBehind outcome g (word_address at) l s → Follows image outcome g (word_address k) l s
+next_follows image outcome g at k l s is move printed tally leaves =
+    let next : word_address k ≡ next_pc (word_address at) = omega arith in
+    record {
+      lane = ap (λ x. lane_of l x) next ∙ ap (λ (x : Lane). record x { at = next_pc x.at }) leaves.lane ∙ sym (ap (lane_after image outcome.lane) move);
+      local = leaves.local;
+      ground_same = leaves.ground_same;
+      output = printed;
+      tally = tally;
+      phase = λ budget executed. ap (phase_after budget executed) move;
+      wants = ap wants_of move;
+    }
+
+pub load_next : (program : Program) (l : Lane) (n : Local) (k : LoadKind) (r a : ℕ) (region : Region) → ((load program l n k r a region).move ≡ Next) × ((load program l n k r a region).printed ≡ None) × ((load program l n k r a region).tally ≡ Nothing_counted)
+load_next program l n k r a Memory = (refl, refl, refl)
+load_next program l n k r a (StateOf line) = (refl, refl, refl)
+load_next program l n k r a (Spill j) = (refl, refl, refl)
+load_next program l n k r a Elsewhere = (refl, refl, refl)
+
+pub store_next : (program : Program) (l : Lane) (n : Local) (w : Width) (a v : ℕ) (region : Region) → ((store program l n w a v region).move ≡ Next) × ((store program l n w a v region).printed ≡ None) × ((store program l n w a v region).tally ≡ Nothing_counted)
+store_next program l n w a v Memory = (refl, refl, refl)
+store_next program l n w a v (StateOf line) = (refl, refl, refl)
+store_next program l n w a v (Spill j) = (refl, refl, refl)
+store_next program l n w a v Elsewhere = (refl, refl, refl)
+
+-- a write of x0 is lost
+and_false : (b : Bool) → (b && false) ≡ false
+and_false true = refl
+and_false false = refl
+
+pub put_zero : (registers : ℕ → ℕ) (value : ℕ) → put registers 0 value ≡ registers
+unfolding put
+put_zero registers value = fun_ext (λ q. rw (and_false (eqb q 0)) refl)
+
+address_some : (o : Option ℕ) (new : ℕ) → option_map address_of_word o ≡ Some new → (k : ℕ) × (new ≡ address_of_word k)
+address_some None new is = absurd (cc)
+address_some (Some k) new is = (k, cc)
+
+-- an address of the sequence of an original address
+pub new_address : (image : List Cell) (a new : ℕ) → new_of image a ≡ Some new → (k : ℕ) × (new ≡ address_of_word k)
+new_address image a new is = address_some (position (begins_at a) image) new is
+
+-- the sequence of an original address follows
+pub enter_follows : (image : List Cell) (l : kept.Lane) (s : Shelf) (at place original new k : ℕ) → original % 4 ≡ 0 → new_of image original ≡ Some new → word_address k ≡ new → Follows image (indirect place (lane_of l (word_address at)) (local_of s) 0 original) (ground_of s) (word_address k) l s
+enter_follows image l s at place original new k aligned is same =
+    let test : eqb (original % 4) 0 ≡ true = grind (arith, nat_tests) in
+    let zero = put_zero (registers_of l.registers) (next_pc place) in
+    rw test (record {
+      lane = rw is (λ t. record (lane_of l (word_address k)) { at = same t; registers = sym zero t });
+      local = refl;
+      ground_same = refl;
+      output = refl;
+      tally = refl;
+      phase = λ budget executed. refl;
+      wants = refl;
+    })
+
+-- a byte of a line that is mapped and readable is printed
+pub put_mapped : (program : Program) (l : Lane) (n : Local) (a x : ℕ) → is_mapped_state x ≡ true → is_readable_state x ≡ true → put_byte program l n a x ≡ print_byte l n a (byte_at program l n a)
+put_mapped program l n a x mapped readable = rw (mapped, readable) refl
+
+-- one that isn't mapped ends the call
+pub put_unmapped : (program : Program) (l : Lane) (n : Local) (a x : ℕ) → is_mapped_state x ≡ false → put_byte program l n a x ≡ go_on (lane_after_call l (cut_short l.written)) n Next
+put_unmapped program l n a x mapped = rw mapped refl
+
+-- and one that can't be read is waited for
+pub put_waits : (program : Program) (l : Lane) (n : Local) (a x : ℕ) → is_mapped_state x ≡ true → is_readable_state x ≡ false → put_byte program l n a x ≡ go_on l n (Waits SameWord (record { at = a; need = Read }) [])
+put_waits program l n a x mapped readable = rw (mapped, readable) refl
+
+-- a demand that a micro-op meets, or an original address that it enters
+native_steps : (image : List Cell) (m : Meaning) (d : Demand) (at k place : ℕ) (l : kept.Lane) (s : Shelf) (l' : kept.Lane) (s' : Shelf) → Meets m d → StepsTo image m at l s l' s' (Some k) → Follows image (native (program_of s.program) place (word_address at) (lane_of l (word_address at)) (local_of s) d) (ground_of s) (word_address k) l' s'
+native_steps image Unserved d at k place l s l' s' meets steps = absurd steps
+native_steps image (Demands e) d at k place l s l' s' meets steps =
+    subst (λ (x : Demand). Follows image (native (program_of s.program) place (word_address at) (lane_of l (word_address at)) (local_of s) x) (ground_of s) (word_address k) l' s') meets (steps place)
+native_steps image (EntersBy original) d at k place l s l' s' meets steps = absurd meets
+
+entry_steps : (image : List Cell) (m : Meaning) (rd original at k place : ℕ) (l : kept.Lane) (s : Shelf) (l' : kept.Lane) (s' : Shelf) → EntersAt m rd original → StepsTo image m at l s l' s' (Some k) → Follows image (indirect place (lane_of l (word_address at)) (local_of s) rd original) (ground_of s) (word_address k) l' s'
+entry_steps image Unserved rd original at k place l s l' s' enters steps = absurd steps
+entry_steps image (Demands e) rd original at k place l s l' s' enters steps = absurd enters
+entry_steps image (EntersBy target) rd original at k place l s l' s' enters steps =
+    subst (λ (x : ℕ). Follows image (indirect place (lane_of l (word_address at)) (local_of s) x original) (ground_of s) (word_address k) l' s') (sym enters.0)
+    (subst (λ (x : ℕ). Follows image (indirect place (lane_of l (word_address at)) (local_of s) 0 x) (ground_of s) (word_address k) l' s') enters.1 (steps place))
+
+rare_steps : (image : List Cell) (op : MicroOp) (at k : ℕ) (l : kept.Lane) (s : Shelf) (l' : kept.Lane) (s' : Shelf) → op.kind ≡ Rare → StepsTo image (meaning_of image_base op (registers_of l.registers)) at l s l' s' (Some k) → ⊥
+rare_steps image op at k l s l' s' is steps = subst (λ (q : MicroKind). StepsTo image (meaning_by q image_base op (registers_of l.registers)) at l s l' s' (Some k)) is steps
+
+-- a micro-op that was executed is the word's
+micro_served : (image : List Cell) (word : Option RtWord) (place : Option Place) (op : MicroOp) (at k : ℕ) (l : kept.Lane) (s : Shelf) (l' : kept.Lane) (s' : Shelf) → IsMicroWord (word_address at) word op → StepsTo image (meaning_of image_base op (registers_of l.registers)) at l s l' s' (Some k) → Follows image (execute_read (program_of s.program) place word (lane_of l (word_address at)) (local_of s)) (ground_of s) (word_address k) l' s'
+micro_served image None place op at k l s l' s' is steps = absurd (rare_steps image op at k l s l' s' is steps)
+micro_served image (Some (Native i)) place op at k l s l' s' is steps = native_steps image _ _ at k (place_address place) l s l' s' (is.meets (registers_of l.registers)) steps
+micro_served image (Some Poll) place op at k l s l' s' is steps = native_steps image _ Continues at k (place_address place) l s l' s' (is (registers_of l.registers)) steps
+micro_served image (Some (Xjalr rd rs1 imm)) place op at k l s l' s' is steps = entry_steps image _ rd ((reg (registers_of l.registers) rs1 + unsigned 32 imm) % 4294967296 / 2 * 2) at k (place_address place) l s l' s' (is.enters (registers_of l.registers)) steps
+micro_served image (Some w) place op at k l s l' s' is steps = absurd (rare_steps image op at k l s l' s' is steps)
+
+got_below : (xs : List Cell) (i : ℕ) (c : Cell) → slice_get xs i ≡ Some c → i < length xs
+got_below [] i c is = absurd (cc)
+got_below (x ∷ xs) zero c is = omega arith
+got_below (x ∷ xs) (suc i) c is = let rest = got_below xs i c is in omega arith
+
+fetch_word : (image : List Cell) (at : ℕ) (c : Cell) → length image ≤ most_words → slice_get image at ≡ Some c → fetch image (word_address at) ≡ Some (read_cell c)
+fetch_word image at c few is =
+    let below = got_below image at c is in
+    let new : word_address at ≡ image_base + 4 * at = omega arith in
+    let low : leb image_base (image_base + 4 * at) ≡ true = grind (arith, nat_tests) in
+    let rest : (image_base + 4 * at) % 4 ≡ 0 = omega arith in
+    let back : (image_base + 4 * at - image_base) / 4 ≡ at = omega arith in
+    rw (new, low, rest, back, is) refl
+
+-- a micro-op that was executed does what the next word does
+pub micro_step : (image : List Cell) (op : MicroOp) (at : ℕ) (l : kept.Lane) (s : Shelf) (l' : kept.Lane) (s' : Shelf) (o : Option ℕ) (c : Cell) → length image ≤ most_words → slice_get image at ≡ Some c → IsMicroWord (image_base + 4 * at) (read_word c.word) op → StepsTo image (meaning_of image_base op (registers_of l.registers)) at l s l' s' o → StepsOr image (next_outcome (program_of s.program) image (lane_of l (word_address at)) (local_of s)) l s l' s' o
+micro_step image op at l s l' s' None c few got is steps = steps
+micro_step image op at l s l' s' (Some k) c few got is steps =
+    let below = got_below image at c got in
+    let new : image_base + 4 * at ≡ word_address at = omega arith in
+    let word = subst (λ (x : ℕ). IsMicroWord x (read_word c.word) op) new is in
+    subst (λ (f : Option ImageWord). Follows image (execute_at (program_of s.program) f (lane_of l (word_address at)) (local_of s)) (ground_of s) (word_address k) l' s')
+    (sym (fetch_word image at c few got))
+    (micro_served image (read_word c.word) c.place op at k l s l' s' word steps)

@@ -1,0 +1,197 @@
+-- Helps the code alone: what a node keeps, what that stands for, and what one word does to it.
+use Rattle.std.specs.Prelude.{◌≡◌, ℕ, ◌+◌, ◌-◌, ◌^◌, ◌/◌, ◌<◌, ◌≤◌, Bool, true, false, if◌then◌else◌, List, [], ◌∷◌, Option, Some, None, slice_index}
+use Rattle.elf32_read.specs.Elf.{Elf}
+use Rattle.block_layout.specs.Layout.{Shape, is_shared}
+use Rattle.byte_range.specs.Lines.{LineBytes, lines_memory}
+use Rattle.byte_range.specs.Window.{window_memory}
+use Rattle.first_memory.specs.SharedLines.{HasReadOnlyLines}
+use Rattle.exec_map.specs.Contents.{program_of, class_of_line, first_byte, is_shared as is_shared_class}
+use Rattle.rv32_program.specs.declared.Class.TheVariants.{ReadOnly}
+use Rattle.rv32_program.specs.declared.End.TheVariants.{Exited}
+use Rattle.rv32_step.specs.Registers.{registers_of}
+use Rattle.state_table.specs.States.{States, line_byte}
+use Rattle.state_table.specs.LineClasses.{class_byte}
+use Rattle.flag_memory.specs.Copy.{Copy, memory, place}
+use Rattle.flag_memory.specs.Flag.{flag_byte}
+use Rattle.micro_op.specs.Micro.{Meaning, Unserved, Demands, Enters as EntersBy}
+use Rattle.jump_map.specs.Image.{Cell}
+use Rattle.node_words.specs.Address.{word_address}
+use Rattle.node_model.specs.declared.NodeCounts.{NodeCounts}
+use Rattle.node_words.specs.declared.lane.Lane as kept
+use Rattle.node_words.specs.declared.lane.Move as kept_move
+use Rattle.node_words.specs.declared.lane.Move.TheVariants as kept_to
+use Rattle.node_words.specs.declared.lane.Resume as kept_resume
+use Rattle.node_words.specs.declared.lane.Resume.TheVariants as kept_on
+use Rattle.node_words.specs.declared.lane.Want as kept_want
+use Rattle.node_words.specs.declared.lane.Outcome as kept_outcome
+use Rattle.node_words.specs.declared.serve.Following as kept_following
+use Rattle.node_words.specs.declared.serve.Following.TheVariants as kept_after
+use Rattle.node_words.specs.declared.serve.Served as kept_served
+use Rattle.node_words.specs.declared.region.Region as kept_region
+use Rattle.node_words.specs.declared.region.Region.TheVariants as kept_at
+use Rattle.node_model.specs.Node.{Lane, Local, Phase, Waiting, Ended, Outcome, Move, Next, Again, To, Enters, Waits, Leaves, Resume, PastWord, SameWord, Want, Tally, Nothing_counted, FalseMiss, Region, Memory, StateOf, Spill, Elsewhere, first_state, native, indirect, lane_after, phase_after, stop_at, counts_after}
+use Rattle.node_model.specs.Turns.{wants_of}
+
+-- what contracts see of what words see of their node
+pub record Shelf : Type 0 where
+  pub program : Elf
+  pub states : States
+  pub copy : Copy
+  pub reservation : Option ℕ
+
+-- what no word and no message changes of it
+pub record Ground : Type 0 where
+  pub program : Elf
+  pub layout : Shape
+
+abbrev pub ground_of : Shelf → Ground
+ground_of s = record { program = s.program; layout = s.copy.layout }
+
+-- the shared lines of the layout are those of the program, as tests of a line
+abbrev pub HasSharedLines : Elf → Shape → Type 0
+HasSharedLines e layout =
+    (line : ℕ) → is_shared layout line ≡ is_shared_class (class_of_line e line)
+
+-- the states and the copy are those of the program's shared lines, and the state bytes of the other
+-- lines are those of the start
+pub record HasLines (e : Elf) (states : States) (copy : Copy) : Type 0 where
+  pub one : states.layout ≡ copy.layout
+  pub shared : HasSharedLines e copy.layout
+  pub others : (line : ℕ) → is_shared copy.layout line ≡ false
+      → class_byte states.program line ≡ first_state (class_of_line e line) false
+  pub low : (line : ℕ) → is_shared copy.layout line ≡ true → line < 2 ^ 25
+
+-- the bytes of the read-only lines are those that the program begins with
+pub record HasFixed (e : Elf) (fixed : LineBytes) : Type 0 where
+  pub lines : HasReadOnlyLines e fixed
+  pub low : (line : ℕ) → class_of_line e line ≡ ReadOnly → line < 2 ^ 25
+  pub bytes : lines_memory fixed (first_byte e) ≡ first_byte e
+
+-- lines from an address on that are shared, and are the first of all
+pub record AreFirstLines (layout : Shape) (base len : ℕ) : Type 0 where
+  pub fits : base + len ≤ 2 ^ 32
+  pub first : (a : ℕ) → base ≤ a → a < base + len
+      → (is_shared layout (a / 64) ≡ true) × (place layout a ≡ a - base)
+
+-- the place of an address's byte among those of the shared lines, where its line is shared
+abbrev pub IsPlace : Shape → ℕ → Option ℕ → Type 0
+IsPlace layout a None = is_shared layout (a / 64) ≡ false
+IsPlace layout a (Some k) = (is_shared layout (a / 64) ≡ true) × (k ≡ place layout a)
+
+-- the copy by address; outside of the shared lines it holds flag words
+unfoldable pub copy_of : Copy → ℕ → ℕ
+copy_of c a = if is_shared c.layout (a / 64) then memory c a else flag_byte a
+
+abbrev pub local_of : Shelf → Local
+local_of s = record {
+  copy = copy_of s.copy;
+  state = line_byte s.states;
+  reservation = s.reservation;
+}
+
+abbrev pub lane_of : kept.Lane → ℕ → Lane
+lane_of l at = record {
+  registers = registers_of l.registers;
+  at = at;
+  private = window_memory l.private;
+  written = l.written;
+  off = l.off;
+  spills = slice_index l.spills;
+}
+
+abbrev pub region_by : kept_region.Region → Region
+region_by kept_at.Memory = Memory
+region_by (kept_at.StateOf line) = StateOf line
+region_by (kept_at.Spill k) = Spill k
+region_by kept_at.Elsewhere = Elsewhere
+
+abbrev pub resume_of : kept_resume.Resume → Resume
+resume_of kept_on.PastWord = PastWord
+resume_of kept_on.SameWord = SameWord
+
+abbrev pub want_of : kept_want.Want → Want
+want_of w = record { at = w.at; need = w.need }
+
+abbrev pub move_of : kept_move.Move → Move
+move_of kept_to.Next = Next
+move_of kept_to.Again = Again
+move_of (kept_to.To k) = To (word_address k)
+move_of (kept_to.Enters original) = Enters original
+move_of (kept_to.Waits resume want) = Waits (resume_of resume) (want_of want) []
+move_of (kept_to.Leaves exit) = Leaves exit
+
+abbrev pub tally_of : Bool → Tally
+tally_of true = FalseMiss
+tally_of false = Nothing_counted
+
+-- what a word leaves of the processor and of what words see
+pub record LeavesBehind (outcome : Outcome) (ground : Ground) (at : ℕ) (l : kept.Lane) (s : Shelf)
+    : Type 0 where
+  pub lane : lane_of l at ≡ outcome.lane
+  pub local : local_of s ≡ outcome.local
+  pub ground_same : ground_of s ≡ ground
+
+-- what a word did is what the definition says
+pub record Does (outcome : Outcome) (ground : Ground) (at : ℕ) (l : kept.Lane) (s : Shelf)
+    (done : kept_outcome.Outcome) : Type 0 where
+  pub leaves : LeavesBehind outcome ground at l s
+  pub output : done.output ≡ outcome.printed
+  pub tally : tally_of done.false_miss ≡ outcome.tally
+  pub move : move_of done.next ≡ outcome.move
+
+-- a word that prints and counts nothing, after which the word at an address follows
+pub record Follows (image : List Cell) (outcome : Outcome) (ground : Ground) (at : ℕ)
+    (l : kept.Lane) (s : Shelf) : Type 0 where
+  pub lane : lane_of l at ≡ lane_after image outcome.lane outcome.move
+  pub local : local_of s ≡ outcome.local
+  pub ground_same : ground_of s ≡ ground
+  pub output : outcome.printed ≡ None
+  pub tally : outcome.tally ≡ Nothing_counted
+  pub phase : (budget executed : ℕ)
+      → phase_after budget executed outcome.move ≡ stop_at budget executed
+  pub wants : wants_of outcome.move ≡ []
+
+-- what a micro-op at an index does: either nothing, and the path that serves every word is to serve
+-- it; or what the word does, and the word with this index follows
+abbrev pub StepsTo : List Cell → Meaning → ℕ → (l : kept.Lane) (s : Shelf)
+    → (l' : kept.Lane) (s' : Shelf) → Option ℕ → Type 0
+StepsTo image meaning at l s l' s' None = (l' ≡ l) × (s' ≡ s)
+StepsTo image (Demands d) at l s l' s' (Some k) =
+    (place : ℕ) → Follows image
+    (native (program_of s.program) place (word_address at) (lane_of l (word_address at))
+    (local_of s) d) (ground_of s) (word_address k) l' s'
+StepsTo image (EntersBy original) at l s l' s' (Some k) =
+    (place : ℕ) → Follows image
+    (indirect place (lane_of l (word_address at)) (local_of s) 0 original)
+    (ground_of s) (word_address k) l' s'
+StepsTo image Unserved at l s l' s' (Some k) = ⊥
+
+-- the phase after a word, by what follows it
+abbrev pub phase_by : ℕ → ℕ → kept_following.Following → Phase
+phase_by budget executed kept_after.GoesOn = stop_at budget executed
+phase_by budget executed (kept_after.Waits resume want) = Waiting (resume_of resume)
+phase_by budget executed (kept_after.Leaves e) = Ended (Exited e)
+
+-- the wants of a word, by what follows it
+abbrev pub wants_by : kept_following.Following → List Want
+wants_by kept_after.GoesOn = []
+wants_by (kept_after.Waits resume want) = want_of want ∷ []
+wants_by (kept_after.Leaves e) = []
+
+-- the word was served, and its move was made
+pub record Serves (image : List Cell) (outcome : Outcome) (ground : Ground) (counts : NodeCounts)
+    (l : kept.Lane) (s : Shelf) (after : NodeCounts) (done : kept_served.Served) : Type 0 where
+  pub lane : lane_of l (word_address done.at) ≡ lane_after image outcome.lane outcome.move
+  pub local : local_of s ≡ outcome.local
+  pub ground_same : ground_of s ≡ ground
+  pub output : done.output ≡ outcome.printed
+  pub counts_after : after ≡ counts_after outcome.tally counts
+  pub phase : (budget executed : ℕ)
+      → phase_by budget executed done.following ≡ phase_after budget executed outcome.move
+  pub wants : wants_by done.following ≡ wants_of outcome.move
+
+-- a word was executed, after which the word with an index follows; or nothing changed
+abbrev pub StepsOr : List Cell → Outcome → kept.Lane → Shelf → kept.Lane → Shelf → Option ℕ → Type 0
+StepsOr image outcome l s l' s' None = (l' ≡ l) × (s' ≡ s)
+StepsOr image outcome l s l' s' (Some k) =
+    Follows image outcome (ground_of s) (word_address k) l' s'

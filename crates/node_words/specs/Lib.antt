@@ -1,0 +1,5 @@
+pub mod Address
+pub mod Kept
+pub mod Runs
+pub mod GoingOn
+pub mod Blocks

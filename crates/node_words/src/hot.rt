@@ -1,0 +1,169 @@
+//! Micro-ops: the words that are executed most, by one match a word.
+
+ghost use Rattle.std.specs.Prelude.{◌≡◌, ◌+◌, ◌*◌, ◌/◌, ◌%◌, ◌^◌, ◌<◌, ◌≤◌, ℕ, Option, Some, None, List};
+ghost use Rattle.rv32_step.specs.Registers.{registers_of};
+ghost use Rattle.rv32_step.specs.Demands.{branch_demand};
+ghost use Rattle.rv32_step.specs.declared.Demand.TheVariants.{Sets, Continues, Jumps, Branches, Loads, Stores};
+ghost use Rattle.micro_op.specs.Micro.{Demands, Enters, meaning_of};
+ghost use Rattle.jump_map.specs.Image.{Cell, image_base};
+ghost use Rattle.jump_map.specs.Maps.{new_of};
+ghost use Rattle.node_words.specs.Kept.{StepsTo, Shelf};
+ghost use Rattle.node_words.specs.Address.{word_address};
+ghost use Rattle.node_words.specs.declared.lane.Lane.{Lane};
+
+use crate::body::Body;
+use jump_map::{IMAGE_BASE, Image};
+use micro_op::{MicroKind, MicroOp};
+use rv32_decode::{Cond, LoadKind, Op, Reg, Width};
+use rv32_ops::{alu, taken};
+
+impl<'a> Body<'a> {
+    /// Executes a micro-op at an index, and gives the index of the word that follows. `None` where
+    /// the path that serves every word has to; then nothing changed.
+    #[inline(always)]
+    pub(crate) fn step(&mut self, image: &Image, op: &MicroOp, at: u32) -> Option<u32>
+        ensures steps { StepsTo image.now
+            (meaning_of image_base op.now (registers_of self.old.lane.registers)) at
+            self.old.lane self.old.local self.new.lane self.new.local result }
+        ensures counts { self.new.counts ≡ self.old.counts }
+    {
+        let a = self.lane.registers.get(op.rs1);
+        let b = self.lane.registers.get(op.rs2);
+        match op.kind {
+            MicroKind::Rare => None,
+            MicroKind::Nothing => branch(false, 0, at),
+            MicroKind::Constant => self.set(op.rd, op.imm, at),
+            MicroKind::Jump => self.jump(op.rd, op.imm, at),
+            MicroKind::JumpBy => None,
+            MicroKind::EnterBy => self.enter(image, a.wrapping_add(op.imm) / 2 * 2),
+            MicroKind::BranchEq => branch(taken(Cond::Eq, a, b), op.imm, at),
+            MicroKind::BranchNe => branch(taken(Cond::Ne, a, b), op.imm, at),
+            MicroKind::BranchLt => branch(taken(Cond::Lt, a, b), op.imm, at),
+            MicroKind::BranchGe => branch(taken(Cond::Ge, a, b), op.imm, at),
+            MicroKind::BranchLtu => branch(taken(Cond::Ltu, a, b), op.imm, at),
+            MicroKind::BranchGeu => branch(taken(Cond::Geu, a, b), op.imm, at),
+            MicroKind::LoadByte => self.load_at(LoadKind::Byte, op.rd, a.wrapping_add(op.imm), at),
+            MicroKind::LoadHalf => self.load_at(LoadKind::Half, op.rd, a.wrapping_add(op.imm), at),
+            MicroKind::LoadWord => self.load_at(LoadKind::Word, op.rd, a.wrapping_add(op.imm), at),
+            MicroKind::LoadByteU => self.load_byte_at(op.rd, a.wrapping_add(op.imm), at),
+            MicroKind::LoadHalfU => {
+                self.load_at(LoadKind::HalfU, op.rd, a.wrapping_add(op.imm), at)
+            }
+            MicroKind::StoreByte => self.store_at(Width::Byte, a.wrapping_add(op.imm), b, at),
+            MicroKind::StoreHalf => self.store_at(Width::Half, a.wrapping_add(op.imm), b, at),
+            MicroKind::StoreWord => self.store_at(Width::Word, a.wrapping_add(op.imm), b, at),
+            MicroKind::AddImm => self.set(op.rd, alu(Op::Add, a, op.imm), at),
+            MicroKind::SltImm => self.set(op.rd, alu(Op::Slt, a, op.imm), at),
+            MicroKind::SltuImm => self.set(op.rd, alu(Op::Sltu, a, op.imm), at),
+            MicroKind::XorImm => self.set(op.rd, alu(Op::Xor, a, op.imm), at),
+            MicroKind::OrImm => self.set(op.rd, alu(Op::Or, a, op.imm), at),
+            MicroKind::AndImm => self.set(op.rd, alu(Op::And, a, op.imm), at),
+            MicroKind::SllImm => self.set(op.rd, alu(Op::Sll, a, op.imm), at),
+            MicroKind::SrlImm => self.set(op.rd, alu(Op::Srl, a, op.imm), at),
+            MicroKind::SraImm => self.set(op.rd, alu(Op::Sra, a, op.imm), at),
+            MicroKind::Add => self.set(op.rd, alu(Op::Add, a, b), at),
+            MicroKind::Sub => self.set(op.rd, alu(Op::Sub, a, b), at),
+            MicroKind::Sll => self.set(op.rd, alu(Op::Sll, a, b), at),
+            MicroKind::Slt => self.set(op.rd, alu(Op::Slt, a, b), at),
+            MicroKind::Sltu => self.set(op.rd, alu(Op::Sltu, a, b), at),
+            MicroKind::Xor => self.set(op.rd, alu(Op::Xor, a, b), at),
+            MicroKind::Srl => self.set(op.rd, alu(Op::Srl, a, b), at),
+            MicroKind::Sra => self.set(op.rd, alu(Op::Sra, a, b), at),
+            MicroKind::Or => self.set(op.rd, alu(Op::Or, a, b), at),
+            MicroKind::And => self.set(op.rd, alu(Op::And, a, b), at),
+        }
+    }
+
+    /// Puts a value into a register.
+    #[inline(always)]
+    fn set(&mut self, rd: Reg, value: u32, at: u32) -> Option<u32>
+        ensures steps { (image : List Cell) → StepsTo image (Demands (Sets rd value)) at
+            self.old.lane self.old.local self.new.lane self.new.local result }
+        ensures counts { self.new.counts ≡ self.old.counts }
+    {
+        self.lane.registers.set(rd, value);
+        Some(at.wrapping_add(1))
+    }
+
+    /// Jumps, and keeps the next address in a register.
+    #[inline(always)]
+    fn jump(&mut self, rd: Reg, index: u32, at: u32) -> Option<u32>
+        ensures steps { (image : List Cell) →
+            StepsTo image (Demands (Jumps rd (word_address index))) at
+            self.old.lane self.old.local self.new.lane self.new.local result }
+        ensures counts { self.new.counts ≡ self.old.counts }
+    {
+        let next = IMAGE_BASE.wrapping_add(at.wrapping_mul(4)).wrapping_add(4);
+        self.lane.registers.set(rd, next);
+        Some(index)
+    }
+
+    /// Enters the sequence of an original address; one without a sequence is left to the path that
+    /// serves every word.
+    #[inline(always)]
+    fn enter(&self, image: &Image, original: u32) -> Option<u32>
+        ensures { (at : ℕ) → StepsTo image.now (Enters original) at
+            self.now.lane self.now.local self.now.lane self.now.local result }
+    {
+        if original % 4 != 0 {
+            return None;
+        }
+        Some((image.new_of(original)? - IMAGE_BASE) / 4)
+    }
+
+    /// Loads from an address; a misaligned one is left to the path that serves every word.
+    #[inline(always)]
+    fn load_at(&mut self, kind: LoadKind, rd: Reg, address: u32, at: u32) -> Option<u32>
+        ensures steps { (image : List Cell) → StepsTo image (Demands (Loads kind rd address)) at
+            self.old.lane self.old.local self.new.lane self.new.local result }
+        ensures counts { self.new.counts ≡ self.old.counts }
+    {
+        if kind.width().is_aligned(address) {
+            self.load(kind, rd, address);
+            Some(at.wrapping_add(1))
+        } else {
+            None
+        }
+    }
+
+    /// Loads an unsigned byte.
+    #[inline(always)]
+    fn load_byte_at(&mut self, rd: Reg, address: u32, at: u32) -> Option<u32>
+        ensures steps { (image : List Cell) →
+            StepsTo image (Demands (Loads LoadKind.ByteU rd address)) at
+            self.old.lane self.old.local self.new.lane self.new.local result }
+        ensures counts { self.new.counts ≡ self.old.counts }
+    {
+        self.load_byte(rd, address);
+        Some(at.wrapping_add(1))
+    }
+
+    /// Stores at an address; a misaligned one is left to the path that serves every word.
+    #[inline(always)]
+    fn store_at(&mut self, width: Width, address: u32, value: u32, at: u32) -> Option<u32>
+        ensures steps { (image : List Cell) →
+            StepsTo image (Demands (Stores width address value)) at
+            self.old.lane self.old.local self.new.lane self.new.local result }
+        ensures counts { self.new.counts ≡ self.old.counts }
+    {
+        if width.is_aligned(address) {
+            self.store(width, address, value);
+            Some(at.wrapping_add(1))
+        } else {
+            None
+        }
+    }
+}
+
+/// The word that follows a branch.
+#[inline(always)]
+fn branch(taken: bool, index: u32, at: u32) -> Option<u32>
+    ensures { (image : List Cell) (l : Lane) (s : Shelf) →
+        StepsTo image (Demands (branch_demand taken (word_address index))) at l s l s result }
+{
+    if taken {
+        Some(index)
+    } else {
+        Some(at.wrapping_add(1))
+    }
+}

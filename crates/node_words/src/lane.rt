@@ -1,0 +1,111 @@
+//! What is a processor's own, and what a word did.
+
+ghost use Rattle.std.specs.Prelude.{◌≡◌, ◌+◌, ◌*◌, ◌%◌, ◌^◌, ℕ, None, false};
+ghost use Rattle.node_words.specs.Address.{word_address};
+
+use byte_range::Window;
+use exec_map::Exit;
+use home_directory::Need;
+use jump_map::IMAGE_BASE;
+use rv32_step::Registers;
+
+/// A processor in rewritten code, but for the position of its next word.
+#[derive(Drop)]
+pub struct Lane {
+    pub registers: Registers,
+    /// The bytes of its own window.
+    pub private: Window,
+    /// The bytes that a write in progress has written.
+    pub written: u32,
+    /// Where it went, when that was no place.
+    pub off: u32,
+    /// The words in which sequences keep registers.
+    pub spills: [u32; 3],
+}
+
+/// Where a processor goes on once it has what its word wanted.
+#[derive(Clone, Copy, PartialEq, Eq)]
+pub enum Resume {
+    /// Behind the word.
+    PastWord,
+    /// At the word again.
+    SameWord,
+}
+
+/// What a word wants: that the line of an address may be read, or written.
+#[derive(Clone, Copy, PartialEq, Eq)]
+pub struct Want {
+    pub at: u32,
+    pub need: Need,
+}
+
+/// Where a processor goes after a word.
+#[derive(Clone, Copy, PartialEq, Eq)]
+pub enum Move {
+    /// To the next word.
+    Next,
+    /// To the same word.
+    Again,
+    /// To the word with an index.
+    To(u32),
+    /// To the sequence of an original address.
+    Enters(u32),
+    /// Nowhere yet: it waits for a block.
+    Waits(Resume, Want),
+    /// Nowhere: it is ended.
+    Leaves(Exit),
+}
+
+/// What a word printed, whether it was a miss check of a readable line, and where the processor
+/// goes.
+#[derive(Clone, Copy, PartialEq, Eq)]
+pub struct Outcome {
+    pub output: Option<u8>,
+    pub false_miss: bool,
+    pub next: Move,
+}
+
+/// The processor goes on so, and nothing else happens.
+pub fn go_on(next: Move) -> Outcome
+    ensures { result ≡ record { output = None; false_miss = false; next = next } }
+{
+    Outcome {
+        output: None,
+        false_miss: false,
+        next,
+    }
+}
+
+/// The processor waits until the line of an address may be read, or written.
+pub fn wait_for(resume: Resume, at: u32, need: Need) -> Outcome
+    ensures { result ≡ record {
+      output = None;
+      false_miss = false;
+      next = Move.Waits resume (record { at = at; need = need });
+    } }
+{
+    go_on(Move::Waits(resume, Want { at, need }))
+}
+
+/// The word ended the processor.
+pub fn exit_by(exit: Exit) -> Outcome
+    ensures { result ≡ record { output = None; false_miss = false; next = Move.Leaves exit } }
+{
+    go_on(Move::Leaves(exit))
+}
+
+/// The address of the word with an index: `IMAGE_BASE` and four for each word, modulo 2^32.
+#[inline(always)]
+pub fn address_of(index: u32) -> u32
+    ensures { result ≡ word_address index }
+{
+    IMAGE_BASE.wrapping_add(index.wrapping_mul(4))
+}
+
+/// The index of the word at an address.
+pub fn index_of(address: u32) -> u32
+    requires { address % 4 ≡ 0 }
+    ensures { word_address result ≡ address }
+{
+    address.wrapping_sub(IMAGE_BASE) / 4
+}

@@ -1,0 +1,19 @@
+#![tactic(auto)]
+//! One word at a node: by its micro-op, or by the path that serves every word.
+//!
+//! A [`Body`] is a processor with what its words see of the node, its [`Local`]. Words change
+//! nothing else of a node: what a word wants of other nodes, and how a node takes messages, is said
+//! above this crate.
+
+mod body;
+mod hot;
+mod lane;
+mod local;
+mod rare;
+mod region;
+mod serve;
+
+pub use body::Body;
+pub use lane::{Lane, Resume, Want, address_of, index_of};
+pub use local::Local;
+pub use serve::{Following, Served, Stretch};

@@ -1,0 +1,152 @@
+//! One word of a node: by its micro-op, or by the path that serves every word.
+
+ghost use Rattle.std.specs.Prelude.{◌≡◌, ◌+◌, ◌*◌, ◌%◌, ◌^◌, ◌<◌, ◌≤◌, ℕ, Some, None, length};
+ghost use Rattle.exec_map.specs.Contents.{program_of};
+ghost use Rattle.jump_map.specs.Image.{most_words};
+ghost use Rattle.node_model.specs.Node as model;
+ghost use Rattle.node_words.specs.Address.{word_address};
+ghost use Rattle.node_words.specs.Kept.{StepsOr, Serves, ground_of, local_of, lane_of, move_of, tally_of, phase_by, wants_by};
+ghost use Rattle.node_model.specs.Turns.{wants_of};
+ghost use Rattle.node_words.specs.GoingOn.{BodyGoesOn};
+
+use crate::body::Body;
+use crate::lane::{Move, Resume, Want, address_of};
+use exec_map::Exit;
+use jump_map::{IMAGE_BASE, Image};
+use node_model::NodeCounts;
+
+/// What follows a word.
+#[derive(Clone, Copy, PartialEq, Eq)]
+pub enum Following {
+    /// Another word.
+    GoesOn,
+    /// A wait.
+    Waits(Resume, Want),
+    /// Nothing: the processor is ended.
+    Leaves(Exit),
+}
+
+/// What the path that serves every word did.
+#[derive(Clone, Copy, PartialEq, Eq)]
+pub struct Served {
+    /// The index of the next word.
+    pub at: u32,
+    /// What follows.
+    pub following: Following,
+    /// The byte that it printed.
+    pub output: Option<u8>,
+}
+
+/// How many words were executed one after another, and the index of the word that follows.
+#[derive(Clone, Copy, Debug, PartialEq, Eq)]
+pub struct Stretch {
+    pub at: u32,
+    pub words: u64,
+}
+
+impl<'a> Body<'a> {
+    /// Executes the word with an index by its micro-op, and gives the index of the word that
+    /// follows. `None` where the path that serves every word has to; then nothing changed.
+    #[inline(always)]
+    pub fn step_at(&mut self, image: &Image, at: u32) -> Option<u32>
+        requires { length image.now ≤ most_words }
+        ensures steps { StepsOr image.now (model.next_outcome (program_of self.old.local.program)
+            image.now (lane_of self.old.lane (word_address at)) (local_of self.old.local))
+            self.old.lane self.old.local self.new.lane self.new.local result }
+        ensures counts { self.new.counts ≡ self.old.counts }
+    {
+        match image.micro(at) {
+            Some(op) => self.step(image, op, at),
+            None => None,
+        }
+    }
+
+    /// Executes words from an index on by their micro-ops, as long as those serve them, and at most
+    /// so many.
+    #[inline(never)]
+    pub fn run(&mut self, image: &Image, from: u32, most: u64) -> Stretch
+        requires { length image.now ≤ most_words }
+        ensures words { BodyGoesOn image.now most from self.old result.words result.at self.new }
+        ensures most { result.words ≤ most }
+        ensures ground { ground_of self.new.local ≡ ground_of self.old.local }
+        ensures counts { self.new.counts ≡ self.old.counts }
+    {
+        let mut at = from;
+        let mut words = 0;
+        while words < most {
+            match self.step_at(image, at) {
+                Some(next) => at = next,
+                None => break,
+            }
+            words += 1;
+        }
+        Stretch { at, words }
+    }
+
+    /// Executes the word with an index, whichever it is.
+    #[inline(never)]
+    pub fn serve(&mut self, image: &Image, at: u32) -> Served
+        requires { self.old.counts.falses + 1 < 2 ^ 64 }
+        ensures { Serves image.now (model.next_outcome (program_of self.old.local.program)
+            image.now (lane_of self.old.lane (word_address at)) (local_of self.old.local))
+            (ground_of self.old.local) self.old.counts self.new.lane self.new.local self.new.counts
+            result }
+    {
+        let outcome = self.execute_at(image, address_of(at));
+        self.counts = count(self.counts, outcome.false_miss);
+        Served {
+            at: self.go(image, at, outcome.next),
+            following: what_follows(outcome.next),
+            output: outcome.output,
+        }
+    }
+
+    /// The index of the word that follows.
+    fn go(&mut self, image: &Image, at: u32, next: Move) -> u32
+        ensures lane { lane_of self.new.lane (word_address result) ≡
+            model.lane_after image.now (lane_of self.old.lane (word_address at)) (move_of next) }
+        ensures local { self.new.local ≡ self.old.local }
+        ensures counts { self.new.counts ≡ self.old.counts }
+    {
+        match next {
+            Move::Next => at.wrapping_add(1),
+            Move::Again | Move::Waits(..) | Move::Leaves(_) => at,
+            Move::To(index) => index,
+            Move::Enters(original) => match image.new_of(original) {
+                Some(new) => (new - IMAGE_BASE) / 4,
+                None => {
+                    self.lane.off = original;
+                    0
+                }
+            },
+        }
+    }
+}
+
+/// The counts after a word that was a miss check of a readable line, or wasn't.
+fn count(counts: NodeCounts, false_miss: bool) -> NodeCounts
+    requires { counts.falses + 1 < 2 ^ 64 }
+    ensures { result ≡ model.counts_after (tally_of false_miss) counts }
+{
+    if false_miss {
+        NodeCounts {
+            falses: counts.falses + 1,
+            ..counts
+        }
+    } else {
+        counts
+    }
+}
+
+/// What follows a word, by where the processor goes.
+fn what_follows(next: Move) -> Following
+    ensures phase { (budget executed : ℕ) → phase_by budget executed result ≡
+        model.phase_after budget executed (move_of next) }
+    ensures wants { wants_by result ≡ wants_of (move_of next) }
+{
+    match next {
+        Move::Waits(resume, want) => Following::Waits(resume, want),
+        Move::Leaves(exit) => Following::Leaves(exit),
+        _ => Following::GoesOn,
+    }
+}
