@@ -1,0 +1,20 @@
+-- By the law of short runs, and that of stamps.
+use Rattle.std.proofs.Common.{subst}
+use Rattle.dsm_core.specs.CoreParts.{IsCore}
+use Rattle.dsm_core.proofs.Bounds.{in_range, runs_end, only_adds}
+use Rattle.dsm_core.proofs.cores.Core.bounds.Goals as goal
+
+pub returns-clause-range : goal.returns-clause-range
+returns-clause-range c =
+    in_range c.args.self.now c.progress_law.ensures.short c.stamp_law.ensures.few
+    c.stamp_law.ensures.wires (subst IsCore c.self.view_is c.self.invariant)
+
+pub returns-clause-runs : goal.returns-clause-runs
+returns-clause-runs c =
+    let is = subst IsCore c.self.view_is c.self.invariant in
+    λ k d goes. runs_end c.args.self.now k d c.progress_law.ensures.short is goes
+
+pub returns-clause-adds : goal.returns-clause-adds
+returns-clause-adds c =
+    let is = subst IsCore c.self.view_is c.self.invariant in
+    λ d goes. only_adds c.args.self.now d c.stamp_law.ensures.adds is goes

@@ -1,0 +1,102 @@
+-- Words of the nodes and lists are those of the core.
+use Rattle.std.proofs.Common.{◌≡◌, ℕ, ◌<◌, ◌∙◌, refl, sym, subst}
+use Rattle.node_model.specs.Core.{Exec, May}
+use Rattle.dsm_protocol.specs.Queue.{AreQueues}
+use Rattle.dsm_core.specs.CoreParts.{CoreParts, work_of, core_with, core_of, AreParts}
+use Rattle.dsm_core.specs.CoreWords.{HasExecutedOn}
+use Rattle.dsm_core.specs.CoreSteps.{HaveExecutedOn, HaveKept, AreInRange}
+use Rattle.dsm_core.proofs.CoreSteps.{if_ok, on_err}
+use Rattle.dsm_core.proofs.CoreRuns.{parts_kept, may_execute_at, stamped}
+use Rattle.dsm_core.proofs.parts.Parts.execute_on.Goals as goal
+
+pub execute_on-requires-clause-node : goal.execute_on-requires-clause-node
+execute_on-requires-clause-node c =
+    let may = subst (λ (q : CoreParts). May (work_of q) (core_of q) (Exec c.args.node))
+    (sym c.self.view_is) c.requires.enabled in
+    subst (λ z. c.args.node < z) (sym c.nodes-count.ensures.nodes) may.0
+
+pub execute_on-requires-clause-may : goal.execute_on-requires-clause-may
+execute_on-requires-clause-may c =
+    let p : CoreParts = record {
+      program = c.self.inside.program.now;
+      image = c.self.inside.image.now;
+      layout = c.self.inside.layout;
+      budget = c.self.inside.budget;
+      nodes = c.self.inside.nodes.items;
+      lists = c.self.inside.lists.items;
+    } in
+    let are = subst AreParts (sym c.self.view_is) c.requires.parts in
+    let may = subst (λ (q : CoreParts). May (work_of q) (core_of q) (Exec c.args.node))
+    (sym c.self.view_is) c.requires.enabled in
+    may_execute_at p c.args.node are may
+
+pub execute_on-requires-clause-stamp : goal.execute_on-requires-clause-stamp
+execute_on-requires-clause-stamp c =
+    let p : CoreParts = record {
+      program = c.self.inside.program.now;
+      image = c.self.inside.image.now;
+      layout = c.self.inside.layout;
+      budget = c.self.inside.budget;
+      nodes = c.self.inside.nodes.items;
+      lists = c.self.inside.lists.items;
+    } in
+    let are = subst AreParts (sym c.self.view_is) c.requires.parts in
+    let range = subst (λ (q : CoreParts). AreInRange q.layout.nodes (core_of q))
+    (sym c.self.view_is) c.requires.range in
+    let may = subst (λ (q : CoreParts). May (work_of q) (core_of q) (Exec c.args.node))
+    (sym c.self.view_is) c.requires.enabled in
+    stamped p c.args.node are range may.0
+
+pub returns-clause-parts : goal.returns-clause-parts
+returns-clause-parts c =
+    let p : CoreParts = record {
+      program = c.self.inside.program.now;
+      image = c.self.inside.image.now;
+      layout = c.self.inside.layout;
+      budget = c.self.inside.budget;
+      nodes = c.self.inside.nodes.items;
+      lists = c.self.inside.lists.items;
+    } in
+    let are = subst AreParts (sym c.self.view_is) c.requires.parts in
+    let qs = c.execute_on.new.lists.items in
+    let e = c.nodes-count.ensures.nodes in
+    parts_kept p c.execute_on.new.nodes.items qs are (c.execute_on.ensures.count ∙ e)
+    (subst (λ z. AreQueues qs z) e c.execute_on.ensures.lists) c.execute_on.ensures.works
+
+pub returns-clause-ran : goal.returns-clause-ran
+returns-clause-ran c =
+    let p : CoreParts = record {
+      program = c.self.inside.program.now;
+      image = c.self.inside.image.now;
+      layout = c.self.inside.layout;
+      budget = c.self.inside.budget;
+      nodes = c.self.inside.nodes.items;
+      lists = c.self.inside.lists.items;
+    } in
+    let are = subst AreParts (sym c.self.view_is) c.requires.parts in
+    let i = c.args.node in
+    let ns = c.execute_on.new.nodes.items in
+    let qs = c.execute_on.new.lists.items in
+    let n = c.nodes-count.result in
+    if_ok c.execute_on.result
+    (λ words (ran : HaveExecutedOn n i words p.nodes ns p.lists qs).
+    subst (λ (q : CoreParts). HasExecutedOn (work_of q) i words (core_of q)
+    (core_with (work_of p) ns qs)) c.self.view_is
+    (ran (work_of p) (sym c.nodes-count.ensures.nodes) are.works)) c.execute_on.ensures.ran
+
+pub returns-clause-err : goal.returns-clause-err
+returns-clause-err c =
+    let p : CoreParts = record {
+      program = c.self.inside.program.now;
+      image = c.self.inside.image.now;
+      layout = c.self.inside.layout;
+      budget = c.self.inside.budget;
+      nodes = c.self.inside.nodes.items;
+      lists = c.self.inside.lists.items;
+    } in
+    let ns = c.execute_on.new.nodes.items in
+    let qs = c.execute_on.new.lists.items in
+    on_err c.execute_on.result
+    (λ (kept : HaveKept c.nodes-count.result p.nodes ns p.lists qs).
+    subst (λ (q : CoreParts). core_with (work_of p) ns qs ≡ core_of q) c.self.view_is
+    (kept (work_of p) (sym c.nodes-count.ensures.nodes))) c.execute_on.ensures.err

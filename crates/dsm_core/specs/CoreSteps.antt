@@ -1,0 +1,107 @@
+-- Helps the code alone: events of nodes and lists, as they are stored.
+use Rattle.std.specs.Prelude.{◌≡◌, ◌≢◌, ℕ, ◌<◌, ◌≤◌, ◌^◌, Bool, true, false, if◌then◌else◌, List, [], ◌∷◌, map, slice_index_or, length}
+use Rattle.home_directory.specs.declared.messages.Wire.{Wire}
+use Rattle.node_model.specs.Node.{Work, Node, opening_node, can_execute}
+use Rattle.node_model.specs.Core.{Core, Event, Exec, Take, May, event_step, AreAlike}
+use Rattle.node_machine.specs.declared.frame.Frame.{Frame}
+use Rattle.node_machine.specs.Frame.{node_of, work_of as work_at, HasRoom}
+use Rattle.dsm_protocol.specs.Queue.{Queue, wires_of}
+use Rattle.dsm_core.specs.CoreParts.{core_with, HaveWork, GoesOnTo}
+use Rattle.dsm_core.specs.CoreWords.{HasExecutedOn, HasPassed}
+
+-- node i, where there is one
+abbrev pub node_or : List Frame → ℕ → Node → Node
+node_or nodes i n = slice_index_or (map node_of nodes) i n
+
+-- the nodes stand for the same, and run the same
+pub record SameNodes (old new : List Frame) : Type 0 where
+  pub nodes : map node_of new ≡ map node_of old
+  pub works : map work_at new ≡ map work_at old
+
+-- node i has room for one event
+abbrev pub HasNodeRoom : List Frame → ℕ → Type 0
+HasNodeRoom nodes i = (f : Frame) → HasRoom (slice_index_or nodes i f)
+
+abbrev pub MayExecute : List Frame → ℕ → Type 0
+MayExecute nodes i = (n : Node) → can_execute (node_or nodes i n).phase ≡ true
+
+-- the stamps of node i, and of the first message from j to i, are in range
+abbrev pub IsStamped : List Frame → ℕ → Type 0
+IsStamped nodes i = (n : Node) → (node_or nodes i n).stamp < 2 ^ 56
+
+abbrev pub IsFirstStamped : List Queue → (n j i : ℕ) → Type 0
+IsFirstStamped lists n j i = (w : Wire) (rest : List Wire) → wires_of lists n j i ≡ w ∷ rest
+    → w.stamp < 2 ^ 56
+
+-- the event is allowed, and its stamps are in range
+abbrev pub CanMake : (n : ℕ) → List Frame → List Queue → Event → Type 0
+CanMake n nodes lists (Exec i) = (i < n) × MayExecute nodes i × IsStamped nodes i
+CanMake n nodes lists (Take i j) = (i < n) × (j < n) × (wires_of lists n j i ≢ [])
+    × IsStamped nodes i × IsFirstStamped lists n j i
+
+-- the nodes and lists have made the event, whatever they run
+abbrev pub HaveMade : (n : ℕ) (old_nodes new_nodes : List Frame)
+    (old_lists new_lists : List Queue)
+    → Event → Type 0
+HaveMade n old_nodes new_nodes old_lists new_lists e = (work : Work) → work.layout.nodes ≡ n
+    → HaveWork work old_nodes
+    → AreAlike n (core_with work new_nodes new_lists)
+    (event_step work (core_with work old_nodes old_lists) e)
+
+-- the core is the same, whatever they run
+abbrev pub HaveKept : (n : ℕ) (old_nodes new_nodes : List Frame)
+    (old_lists new_lists : List Queue)
+    → Type 0
+HaveKept n old_nodes new_nodes old_lists new_lists = (work : Work) → work.layout.nodes ≡ n
+    → core_with work new_nodes new_lists ≡ core_with work old_nodes old_lists
+
+-- node i has passed a word, whatever they run
+abbrev pub HavePassed : (n i : ℕ) (old new : List Frame) → Type 0
+HavePassed n i old new = (work : Work) (lists : List Queue) → work.layout.nodes ≡ n
+    → HaveWork work old → HasPassed work i (core_with work old lists) (core_with work new lists)
+
+-- node i has executed so many words, whatever they run
+abbrev pub HaveExecutedOn : (n i words : ℕ) (old_nodes new_nodes : List Frame)
+    (old_lists new_lists : List Queue)
+    → Type 0
+HaveExecutedOn n i words old_nodes new_nodes old_lists new_lists = (work : Work)
+    → work.layout.nodes ≡ n → HaveWork work old_nodes
+    → HasExecutedOn work i words (core_with work old_nodes old_lists)
+    (core_with work new_nodes new_lists)
+
+-- the nodes run what they ran
+abbrev pub SameWorks : (old new : List Frame) → Type 0
+SameWorks old new = map work_at new ≡ map work_at old
+
+-- each node is that of the start, and runs this
+abbrev pub AreFirst : Work → List Frame → Type 0
+AreFirst work nodes =
+    (i : ℕ) → slice_index_or (map node_of nodes) i (opening_node work i) ≡ opening_node work i
+
+-- by so many events at least
+pub record GoesOnFor (work : Work) (k : ℕ) (c d : Core) : Type 0 where
+  pub goes : GoesOnTo work c d
+  pub count : k ≤ length goes.more
+
+-- so many events at least, and none where nothing has changed
+pub record HasGone (work : Work) (k : ℕ) (c d : Core) : Type 0 where
+  pub goes : GoesOnFor work k c d
+  pub same : k ≡ 0 → d ≡ c
+
+abbrev pub one_if : Bool → ℕ
+one_if moved = if moved then 1 else 0
+
+-- node i may take no message
+abbrev pub TakesNone : Work → ℕ → Core → Type 0
+TakesNone work i c = (j : ℕ) → May work c (Take i j) → ⊥
+
+-- node i may make no event
+pub record IsStill (work : Work) (i : ℕ) (c : Core) : Type 0 where
+  pub word : May work c (Exec i) → ⊥
+  pub takes : TakesNone work i c
+
+-- the stamps of the core are in range
+pub record AreInRange (n : ℕ) (c : Core) : Type 0 where
+  pub nodes : (i : ℕ) → i < n → (c.nodes i).stamp < 2 ^ 56
+  pub wires : (j i : ℕ) (w : Wire) (rest : List Wire) → j < n → i < n → c.list j i ≡ w ∷ rest
+      → w.stamp < 2 ^ 56

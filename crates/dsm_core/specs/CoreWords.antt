@@ -1,0 +1,28 @@
+-- Words of one node of a core, one after another.
+use Rattle.std.specs.Prelude.{◌≡◌, ℕ, zero, suc, ◌+◌}
+use Rattle.node_model.specs.Node.{Work}
+use Rattle.node_model.specs.Turns.{quiet, word_turn}
+use Rattle.node_model.specs.Core.{Core, Exec, May, AreAlike, event_step}
+
+-- so many words of node i, each of which prints nothing and sends nothing, lead from one core to
+-- another
+abbrev pub GoesOnBy : Work → (i words : ℕ) → Core → Core → Type 0
+GoesOnBy work i zero c d = c ≡ d
+GoesOnBy work i (suc k) c d =
+    May work c (Exec i) × (word_turn work (c.nodes i) ≡ quiet (word_turn work (c.nodes i)).node)
+    × GoesOnBy work i k (event_step work c (Exec i)) d
+
+-- node i has executed so many words, of which those before the last print nothing and send nothing
+pub record HasExecutedOn (work : Work) (i words : ℕ) (c d : Core) : Type 0 where
+  pub before : ℕ
+  pub count : words ≡ before + 1
+  pub last : Core
+  pub goes_on : GoesOnBy work i before c last
+  pub may : May work last (Exec i)
+  pub event : AreAlike work.layout.nodes d (event_step work last (Exec i))
+
+-- node i has executed a word that printed nothing and sent nothing, and may execute another
+pub record HasPassed (work : Work) (i : ℕ) (c d : Core) : Type 0 where
+  pub quiet : word_turn work (c.nodes i) ≡ quiet (word_turn work (c.nodes i)).node
+  pub event : AreAlike work.layout.nodes d (event_step work c (Exec i))
+  pub may : May work d (Exec i)

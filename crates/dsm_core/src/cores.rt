@@ -1,0 +1,234 @@
+//! n nodes that run rewritten code, and the n × n lists of messages between them.
+
+ghost use Rattle.std.specs.Prelude.{◌≡◌, ◌≢◌, ◌<◌, ◌≤◌, ◌^◌, ◌↔◌, ℕ, List, [], ◌∷◌, true, false, length, IfOk, OnOk, OnErr};
+ghost use Rattle.node_model.specs.declared.Standing.TheVariants.{Over};
+ghost use Rattle.node_model.specs.Node.{Resume, Waiting, standing_of};
+ghost use Rattle.node_model.specs.Core as model;
+ghost use Rattle.node_model.specs.Core.{May, AreAlike, IsOver, IsCoreRun, event_step, opening_core};
+ghost use Rattle.run_order.specs.OwnRun.{Stamped, StandsForOwnRun, OnlyAdds};
+ghost use Rattle.rewriting_law.specs.Bounds.{RunsRewritten, most_events};
+ghost use Rattle.dsm_core.specs.CoreParts.{work_of, work_with, core_of, event_of, AreParts, GoesOnTo};
+ghost use Rattle.dsm_core.specs.CoreWords.{HasPassed, HasExecutedOn};
+ghost use Rattle.dsm_core.specs.CoreSteps.{GoesOnFor, AreInRange};
+ghost use Rattle.node_machine.specs.Frame.{node_of, work_of as work_at};
+
+use crate::parts::Parts;
+use crate::steps::first_nodes;
+use block_layout::Layout;
+use dsm_protocol::lists::empty_lists;
+use exec_map::Program;
+use jump_map::Image;
+use node_machine::Node;
+use rewriting_law::progress_law;
+use run_limits::Budget;
+use run_order::stamp_law;
+use std::alloc::{AllocError, Global};
+use std::marker::Model;
+
+/// What may happen next in a core.
+#[derive(Clone, Copy, Debug, PartialEq, Eq)]
+pub enum Event {
+    /// A node executes a word.
+    Exec(u8),
+    /// A node takes the first message of the list from another.
+    Take {
+        /// The node that takes it.
+        node: u8,
+        /// The node that sent it.
+        from: u8,
+    },
+}
+
+/// A core: nodes and lists that a run of events leads to from the start. It stands for its own run,
+/// which is the events of its nodes, as their journals tell them, by (stamp, node).
+#[derive(Drop)]
+pub struct Core<'a> {
+    parts: Parts<'a>,
+}
+
+impl<'a> Model for Core<'a> {
+    ghost use Rattle.dsm_core.specs.CoreParts.{CoreParts, IsCore};
+
+    ghost Value = { CoreParts };
+
+    ghost view = { λ c. c.parts };
+
+    ghost invariant = { λ c. IsCore c.parts };
+}
+
+impl<'a> Core<'a> {
+    /// The nodes of a layout at the start, and empty lists. Each node executes at most `budget`
+    /// words.
+    pub fn new(
+        alloc: Global,
+        image: &'a Image,
+        program: &'a Program<'a>,
+        layout: &Layout,
+        budget: Budget,
+    ) -> Result<Core<'a>, AllocError>
+        requires rewritten { RunsRewritten (work_with program.now image.now layout.now budget) }
+        ensures opening { IfOk result (λ c. core_of c ≡ opening_core (work_of c)) }
+        ensures work { IfOk result (λ c. work_of c
+            ≡ work_with program.now image.now layout.now budget) }
+    {
+        let _ = image.len();
+        let _ = program.entry();
+        let _ = budget.number();
+        let count = layout.nodes();
+        let nodes = first_nodes(alloc, image, program, layout, budget)?;
+        let lists = empty_lists(alloc, count)?;
+        let parts = Parts {
+            image,
+            program,
+            layout: layout.copy(alloc)?,
+            budget,
+            nodes,
+            lists,
+        };
+        Ok(Core { parts })
+    }
+
+    /// What holds of every core; the call does nothing.
+    pub fn promises(&self)
+        // It stands for its own run.
+        ensures own_run { (events : List Stamped)
+            × StandsForOwnRun (work_of self.now) (core_of self.now) events }
+        // Until every node is over some event is allowed.
+        ensures goes_on { (i : ℕ) → i < self.now.layout.nodes
+            → standing_of (work_of self.now) ((core_of self.now).nodes i) ≢ Over
+            → (event : model.Event) × May (work_of self.now) (core_of self.now) event }
+        // Where a node waits, some list isn't empty.
+        ensures moves { (i : ℕ) (resume : Resume) → i < self.now.layout.nodes
+            → ((core_of self.now).nodes i).phase ≡ Waiting resume → (j : ℕ) × (k : ℕ)
+            × (j < self.now.layout.nodes) × (k < self.now.layout.nodes)
+            × ((core_of self.now).list j k ≢ []) }
+        // A run that goes on from it is of at most so many events.
+        ensures short { (more : List model.Event)
+            → IsCoreRun (work_of self.now) (core_of self.now) more
+            → length more ≤ most_events (work_of self.now) }
+        // Once every node is over, every list is empty.
+        ensures empty { IsOver (work_of self.now) (core_of self.now) → (j i : ℕ)
+            → j < self.now.layout.nodes → i < self.now.layout.nodes
+            → (core_of self.now).list j i ≡ [] }
+        // The nodes run rewritten code.
+        ensures rewritten { RunsRewritten (work_of self.now) }
+    {
+        progress_law();
+        stamp_law();
+        let _layout = self.parts.layout();
+    }
+
+    /// What holds of the stamps of every core, and of the runs that go on from it; the call does
+    /// nothing.
+    pub(crate) fn bounds(&self)
+        ensures range { AreInRange self.now.layout.nodes (core_of self.now) }
+        ensures runs { (k : ℕ) (d : model.Core)
+            → GoesOnFor (work_of self.now) k (core_of self.now) d → k < 2 ^ 56 }
+        ensures adds { (d : model.Core) → GoesOnTo (work_of self.now) (core_of self.now) d
+            → OnlyAdds self.now.layout.nodes (core_of self.now) d }
+    {
+        progress_law();
+        stamp_law();
+        let _layout = self.parts.layout();
+    }
+
+    /// The layout, whose number of nodes is the core's.
+    pub fn layout(&self) -> &Layout
+        ensures value { result.now ≡ self.now.layout }
+    {
+        self.parts.layout()
+    }
+
+    /// A node.
+    pub fn node(&self, node: u8) -> &Node<'a>
+        requires node { node < self.now.layout.nodes }
+        ensures value { node_of result.now ≡ (core_of self.now).nodes node }
+        ensures work { work_at result.now ≡ work_of self.now }
+    {
+        self.parts.node(node)
+    }
+
+    /// Whether every node is over.
+    pub fn is_over(&self) -> bool
+        ensures value { (result ≡ true) ↔ IsOver (work_of self.now) (core_of self.now) }
+    {
+        self.parts.is_over()
+    }
+
+    /// Whether an event is allowed.
+    pub fn enabled(&self, event: Event) -> bool
+        ensures value { (result ≡ true)
+            ↔ May (work_of self.now) (core_of self.now) (event_of event) }
+    {
+        self.parts.enabled(event)
+    }
+
+    /// Makes an event that is allowed. It takes its memory first.
+    pub fn step(&mut self, event: Event) -> Result<(), AllocError>
+        requires enabled { May (work_of self.old) (core_of self.old) (event_of event) }
+        ensures event { OnOk result (AreAlike self.old.layout.nodes (core_of self.new)
+            (event_step (work_of self.old) (core_of self.old) (event_of event))) }
+        ensures err { OnErr result (core_of self.new ≡ core_of self.old) }
+        ensures work { work_of self.new ≡ work_of self.old }
+    {
+        self.bounds();
+        self.parts.make(event)
+    }
+
+    /// Executes the next word of a node by its micro-op, where that serves it: such a word prints
+    /// nothing and sends nothing, and the node may execute another. It says whether it did; where it
+    /// didn't, nothing has changed.
+    pub fn pass(&mut self, node: u8) -> bool
+        requires enabled { May (work_of self.old) (core_of self.old) (model.Exec node) }
+        ensures passed { result ≡ true
+            → HasPassed (work_of self.old) node (core_of self.old) (core_of self.new) }
+        ensures kept { result ≡ false → core_of self.new ≡ core_of self.old }
+        ensures work { work_of self.new ≡ work_of self.old }
+    {
+        self.bounds();
+        self.parts.pass(node)
+    }
+
+    /// Executes words of a node, of which those before the last print nothing and send nothing, and
+    /// gives how many. It takes its memory first.
+    pub fn execute_on(&mut self, node: u8) -> Result<u64, AllocError>
+        requires enabled { May (work_of self.old) (core_of self.old) (model.Exec node) }
+        ensures ran { IfOk result (λ words. HasExecutedOn (work_of self.old) node words
+            (core_of self.old) (core_of self.new)) }
+        ensures err { OnErr result (core_of self.new ≡ core_of self.old) }
+        ensures work { work_of self.new ≡ work_of self.old }
+    {
+        self.bounds();
+        self.parts.execute_on(node)
+    }
+
+    /// Whether a message is on its way to a node.
+    pub fn has_mail(&self, node: u8) -> bool
+        requires node { node < self.now.layout.nodes }
+        ensures value { (result ≡ false) ↔ ((j : ℕ) → j < self.now.layout.nodes
+            → (core_of self.now).list j node ≡ []) }
+    {
+        self.parts.has_mail(node)
+    }
+
+    /// Its nodes and lists.
+    pub fn take_apart(self) -> Parts<'a>
+        ensures parts { result ≡ self.entry }
+        ensures are_parts { AreParts result }
+        ensures own_run { (events : List Stamped)
+            × StandsForOwnRun (work_of result) (core_of result) events }
+    {
+        self.promises();
+        self.parts
+    }
+
+    /// The core of nodes and lists that stand for their own run.
+    pub fn put_together(parts: Parts<'a>) -> Core<'a>
+        requires parts { AreParts parts }
+        requires own_run { (events : List Stamped)
+            × StandsForOwnRun (work_of parts) (core_of parts) events }
+        ensures core { result ≡ parts.entry }
+    {
+        Core { parts }
+    }
+}

@@ -1,0 +1,147 @@
+//! The nodes and lists of a core, as they are stored, and their events.
+
+ghost use Rattle.std.specs.Prelude.{◌≡◌, ◌<◌, ◌↔◌, ℕ, [], true, false, IfOk, OnOk, OnErr};
+ghost use Rattle.node_model.specs.Core as model;
+ghost use Rattle.node_model.specs.Core.{May, IsOver, AreAlike, event_step};
+ghost use Rattle.node_machine.specs.Frame.{node_of, work_of as work_at};
+ghost use Rattle.dsm_core.specs.CoreParts.{work_of, core_of, event_of, AreParts};
+ghost use Rattle.dsm_core.specs.CoreWords.{HasPassed, HasExecutedOn};
+ghost use Rattle.dsm_core.specs.CoreSteps.{AreInRange};
+
+use crate::cores::Event;
+use crate::steps::{are_over, execute_on, has_mail, is_enabled, make, pass};
+use block_layout::Layout;
+use dsm_protocol::Queue;
+use exec_map::Program;
+use jump_map::Image;
+use node_machine::Node;
+use run_limits::Budget;
+use std::alloc::AllocError;
+use std::marker::Model;
+
+/// n nodes that run rewritten code of a program over a layout, and the lists of messages between
+/// them.
+#[derive(Drop)]
+pub struct Parts<'a> {
+    /// The rewritten code.
+    pub image: &'a Image,
+    /// The program that it was rewritten from.
+    pub program: &'a Program<'a>,
+    /// The layout, whose number of nodes is n.
+    pub layout: Layout,
+    /// How many words each node executes at most.
+    pub budget: Budget,
+    /// The nodes, by number.
+    pub nodes: Vec<Node<'a>>,
+    /// The messages on their way: the list from node j to node i stands at place j × n + i.
+    pub lists: Vec<Queue>,
+}
+
+impl<'a> Model for Parts<'a> {
+    ghost use Rattle.dsm_core.specs.CoreParts.{CoreParts};
+
+    ghost Value = { CoreParts };
+
+    ghost view = { λ p. record {
+      program = p.program.now;
+      image = p.image.now;
+      layout = p.layout;
+      budget = p.budget;
+      nodes = p.nodes.items;
+      lists = p.lists.items;
+    } };
+}
+
+impl<'a> Parts<'a> {
+    /// The layout.
+    pub(crate) fn layout(&self) -> &Layout
+        ensures value { result.now ≡ self.now.layout }
+    {
+        &self.layout
+    }
+
+    /// A node.
+    pub(crate) fn node(&self, node: u8) -> &Node<'a>
+        requires parts { AreParts self.now }
+        requires node { node < self.now.layout.nodes }
+        ensures value { node_of result.now ≡ (core_of self.now).nodes node }
+        ensures work { work_at result.now ≡ work_of self.now }
+    {
+        &self.nodes[node as usize]
+    }
+
+    /// Whether every node is over.
+    pub(crate) fn is_over(&self) -> bool
+        requires parts { AreParts self.now }
+        ensures value { (result ≡ true) ↔ IsOver (work_of self.now) (core_of self.now) }
+    {
+        let count = self.layout.nodes();
+        are_over(&self.nodes, count)
+    }
+
+    /// Whether an event is allowed.
+    pub(crate) fn enabled(&self, event: Event) -> bool
+        requires parts { AreParts self.now }
+        ensures value { (result ≡ true)
+            ↔ May (work_of self.now) (core_of self.now) (event_of event) }
+    {
+        let count = self.layout.nodes();
+        is_enabled(&self.nodes, &self.lists, count, event)
+    }
+
+    /// Makes an event that is allowed, where its stamps are in range.
+    pub(crate) fn make(&mut self, event: Event) -> Result<(), AllocError>
+        requires parts { AreParts self.old }
+        requires range { AreInRange self.old.layout.nodes (core_of self.old) }
+        requires enabled { May (work_of self.old) (core_of self.old) (event_of event) }
+        ensures parts { AreParts self.new }
+        ensures work { work_of self.new ≡ work_of self.old }
+        ensures event { OnOk result (AreAlike self.old.layout.nodes (core_of self.new)
+            (event_step (work_of self.old) (core_of self.old) (event_of event))) }
+        ensures err { OnErr result (core_of self.new ≡ core_of self.old) }
+    {
+        let count = self.layout.nodes();
+        make(&mut self.nodes, &mut self.lists, count, event)
+    }
+
+    /// A node executes its next word by its micro-op, where that serves it.
+    pub(crate) fn pass(&mut self, node: u8) -> bool
+        requires parts { AreParts self.old }
+        requires range { AreInRange self.old.layout.nodes (core_of self.old) }
+        requires enabled { May (work_of self.old) (core_of self.old) (model.Exec node) }
+        ensures parts { AreParts self.new }
+        ensures work { work_of self.new ≡ work_of self.old }
+        ensures passed { result ≡ true
+            → HasPassed (work_of self.old) node (core_of self.old) (core_of self.new) }
+        ensures kept { result ≡ false → core_of self.new ≡ core_of self.old }
+    {
+        let count = self.layout.nodes();
+        pass(&mut self.nodes, count, node)
+    }
+
+    /// A node executes words, of which those before the last print nothing and send nothing.
+    pub(crate) fn execute_on(&mut self, node: u8) -> Result<u64, AllocError>
+        requires parts { AreParts self.old }
+        requires range { AreInRange self.old.layout.nodes (core_of self.old) }
+        requires enabled { May (work_of self.old) (core_of self.old) (model.Exec node) }
+        ensures parts { AreParts self.new }
+        ensures work { work_of self.new ≡ work_of self.old }
+        ensures ran { IfOk result (λ words. HasExecutedOn (work_of self.old) node words
+            (core_of self.old) (core_of self.new)) }
+        ensures err { OnErr result (core_of self.new ≡ core_of self.old) }
+    {
+        let count = self.layout.nodes();
+        execute_on(&mut self.nodes, &mut self.lists, count, node)
+    }
+
+    /// Whether a message is on its way to a node.
+    pub(crate) fn has_mail(&self, node: u8) -> bool
+        requires parts { AreParts self.now }
+        requires node { node < self.now.layout.nodes }
+        ensures value { (result ≡ false) ↔ ((j : ℕ) → j < self.now.layout.nodes
+            → (core_of self.now).list j node ≡ []) }
+    {
+        let count = self.layout.nodes();
+        has_mail(&self.lists, count, node)
+    }
+}

@@ -1,0 +1,343 @@
+//! Events of nodes that run rewritten code, and of the lists between them.
+
+ghost use Rattle.std.specs.Prelude.{◌≡◌, ◌≢◌, ◌<◌, ◌↔◌, ℕ, List, [], true, false, length, IfOk, OnOk, OnErr};
+ghost use Rattle.exec_map.specs.Contents.{program_of};
+ghost use Rattle.node_model.specs.Node.{Work, IsLaidOver, standing_of};
+ghost use Rattle.node_model.specs.Core as model;
+ghost use Rattle.dsm_protocol.specs.Queue.{Queue as Stored, AreQueues, SameWires, HasRoom, wires_of};
+ghost use Rattle.dsm_core.specs.CoreParts.{work_with, core_with, event_of, HaveWork};
+ghost use Rattle.node_model.specs.Core.{IsOver};
+ghost use Rattle.dsm_core.specs.CoreSteps.{SameNodes, SameWorks, HasNodeRoom, MayExecute, IsStamped, IsFirstStamped, HaveMade, HaveKept, HavePassed, HaveExecutedOn, AreFirst, CanMake};
+
+use crate::cores::Event;
+use block_layout::Layout;
+use dsm_protocol::Queue;
+use dsm_protocol::lists::{first_wire, reserve_from, send, take_first};
+use exec_map::Program;
+use jump_map::Image;
+use node_machine::{Node, Standing};
+use run_limits::Budget;
+use std::alloc::{AllocError, Global};
+
+/// The nodes of a layout at the start.
+pub(crate) fn first_nodes<'a>(
+    alloc: Global,
+    image: &'a Image,
+    program: &'a Program<'a>,
+    layout: &Layout,
+    budget: Budget,
+) -> Result<Vec<Node<'a>>, AllocError>
+    requires layout { IsLaidOver (program_of program.now) layout.now }
+    ensures count { IfOk result (λ ns. length ns.items ≡ layout.now.nodes) }
+    ensures first { IfOk result (λ ns.
+        AreFirst (work_with program.now image.now layout.now budget) ns.items) }
+    ensures works { IfOk result (λ ns.
+        HaveWork (work_with program.now image.now layout.now budget) ns.items) }
+{
+    let count = layout.nodes();
+    let mut nodes = Vec::with_capacity(alloc, count as usize)?;
+    for me in 0..count {
+        nodes.push_reserved(Node::new(alloc, image, program, layout, me, budget)?);
+    }
+    Ok(nodes)
+}
+
+/// Whether a node may execute a word.
+fn may_execute(standing: Standing) -> bool
+    ensures { result ≡ model.may_execute standing }
+{
+    match standing {
+        Standing::Running | Standing::AtPoll => true,
+        Standing::Waiting | Standing::Ended | Standing::Over => false,
+    }
+}
+
+/// Whether a node may take a message.
+fn may_take(standing: Standing) -> bool
+    ensures { result ≡ model.may_take standing }
+{
+    match standing {
+        Standing::AtPoll | Standing::Waiting | Standing::Ended => true,
+        Standing::Running | Standing::Over => false,
+    }
+}
+
+/// Whether there is a message from one node to another.
+fn has_wire(lists: &[Queue], count: u8, from: u8, to: u8) -> bool
+    requires lists { AreQueues lists.now count }
+    requires from { from < count }
+    requires to { to < count }
+    ensures value { (result ≡ true) ↔ (wires_of lists.now count from to ≢ []) }
+{
+    match first_wire(lists, count, from, to) {
+        Some(_) => true,
+        None => false,
+    }
+}
+
+/// Whether there is a message to a node.
+pub(crate) fn has_mail(lists: &[Queue], count: u8, node: u8) -> bool
+    requires lists { AreQueues lists.now count }
+    requires node { node < count }
+    ensures value { (result ≡ false)
+        ↔ ((from : ℕ) → from < count → wires_of lists.now count from node ≡ []) }
+{
+    for from in 0..count {
+        if has_wire(lists, count, from, node) {
+            return true;
+        }
+    }
+    false
+}
+
+/// What a node may do next.
+fn standing(nodes: &[Node<'_>], node: u8) -> Standing
+    requires node { node < length nodes.now }
+    ensures value { (work : Work) (lists : List Stored) → HaveWork work nodes.now
+        → result ≡ standing_of work ((core_with work nodes.now lists).nodes node) }
+{
+    nodes[node as usize].standing()
+}
+
+/// Whether a node has ended, and has been told by all nodes that they have.
+fn is_over(standing: Standing) -> bool
+    ensures { (result ≡ true) ↔ (standing ≡ Standing.Over) }
+{
+    match standing {
+        Standing::Over => true,
+        Standing::Running | Standing::AtPoll | Standing::Waiting | Standing::Ended => false,
+    }
+}
+
+/// Whether every node is over.
+pub(crate) fn are_over(nodes: &[Node<'_>], count: u8) -> bool
+    requires count { length nodes.now ≡ count }
+    ensures value { (work : Work) (lists : List Stored) → work.layout.nodes ≡ count
+        → HaveWork work nodes.now
+        → (result ≡ true) ↔ IsOver work (core_with work nodes.now lists) }
+{
+    for node in 0..count {
+        if !is_over(standing(nodes, node)) {
+            return false;
+        }
+    }
+    true
+}
+
+/// Whether an event is allowed.
+pub(crate) fn is_enabled(nodes: &[Node<'_>], lists: &[Queue], count: u8, event: Event) -> bool
+    requires count { length nodes.now ≡ count }
+    requires lists { AreQueues lists.now count }
+    ensures value { (work : Work) → work.layout.nodes ≡ count → HaveWork work nodes.now
+        → (result ≡ true) ↔ model.May work (core_with work nodes.now lists.now) (event_of event) }
+{
+    match event {
+        Event::Exec(node) => can_execute(nodes, count, node),
+        Event::Take { node, from } => can_take(nodes, lists, count, node, from),
+    }
+}
+
+/// Whether a node may execute a word.
+fn can_execute(nodes: &[Node<'_>], count: u8, node: u8) -> bool
+    requires count { length nodes.now ≡ count }
+    ensures value { (work : Work) (lists : List Stored) → work.layout.nodes ≡ count
+        → HaveWork work nodes.now → (result ≡ true)
+        ↔ model.May work (core_with work nodes.now lists) (model.Exec node) }
+{
+    if node >= count {
+        return false;
+    }
+    may_execute(standing(nodes, node))
+}
+
+/// Whether a node may take a message from another.
+fn can_take(nodes: &[Node<'_>], lists: &[Queue], count: u8, node: u8, from: u8) -> bool
+    requires count { length nodes.now ≡ count }
+    requires lists { AreQueues lists.now count }
+    ensures value { (work : Work) → work.layout.nodes ≡ count → HaveWork work nodes.now
+        → (result ≡ true)
+        ↔ model.May work (core_with work nodes.now lists.now) (model.Take node from) }
+{
+    if node >= count {
+        return false;
+    }
+    if from >= count {
+        return false;
+    }
+    if !has_wire(lists, count, from, node) {
+        return false;
+    }
+    may_take(standing(nodes, node))
+}
+
+/// Makes room for an event of a node.
+fn make_room(
+    nodes: &mut Vec<Node<'_>>,
+    lists: &mut Vec<Queue>,
+    count: u8,
+    node: u8,
+) -> Result<(), AllocError>
+    requires count { length nodes.old.items ≡ count }
+    requires lists { AreQueues lists.old.items count }
+    requires node { node < count }
+    ensures count { length nodes.new.items ≡ count }
+    ensures lists { AreQueues lists.new.items count }
+    ensures nodes { SameNodes nodes.old.items nodes.new.items }
+    ensures wires { SameWires lists.old.items lists.new.items count }
+    ensures room { OnOk result (HasRoom lists.new.items count node 18) }
+    ensures node { OnOk result (HasNodeRoom nodes.new.items node) }
+{
+    reserve_from(lists, count, node)?;
+    nodes[node as usize].room()?;
+    Ok(())
+}
+
+/// Makes an event that is allowed.
+pub(crate) fn make(
+    nodes: &mut Vec<Node<'_>>,
+    lists: &mut Vec<Queue>,
+    count: u8,
+    event: Event,
+) -> Result<(), AllocError>
+    requires count { length nodes.old.items ≡ count }
+    requires lists { AreQueues lists.old.items count }
+    requires allowed { CanMake count nodes.old.items lists.old.items (event_of event) }
+    ensures count { length nodes.new.items ≡ count }
+    ensures lists { AreQueues lists.new.items count }
+    ensures works { SameWorks nodes.old.items nodes.new.items }
+    ensures event { OnOk result (HaveMade count nodes.old.items nodes.new.items
+        lists.old.items lists.new.items (event_of event)) }
+    ensures err { OnErr result (HaveKept count nodes.old.items nodes.new.items
+        lists.old.items lists.new.items) }
+{
+    match event {
+        Event::Exec(node) => execute(nodes, lists, count, node),
+        Event::Take { node, from } => take(nodes, lists, count, node, from),
+    }
+}
+
+/// A node executes its next word by its micro-op, where that serves it.
+pub(crate) fn pass(nodes: &mut Vec<Node<'_>>, count: u8, node: u8) -> bool
+    requires count { length nodes.old.items ≡ count }
+    requires node { node < count }
+    requires may { MayExecute nodes.old.items node }
+    requires stamp { IsStamped nodes.old.items node }
+    ensures count { length nodes.new.items ≡ count }
+    ensures works { SameWorks nodes.old.items nodes.new.items }
+    ensures passed { result ≡ true → HavePassed count node nodes.old.items nodes.new.items }
+    ensures same { result ≡ false → SameNodes nodes.old.items nodes.new.items }
+{
+    nodes[node as usize].pass()
+}
+
+/// A node executes a word. Where its micro-op serves it no room is needed.
+fn execute(
+    nodes: &mut Vec<Node<'_>>,
+    lists: &mut Vec<Queue>,
+    count: u8,
+    node: u8,
+) -> Result<(), AllocError>
+    requires count { length nodes.old.items ≡ count }
+    requires lists { AreQueues lists.old.items count }
+    requires node { node < count }
+    requires may { MayExecute nodes.old.items node }
+    requires stamp { IsStamped nodes.old.items node }
+    ensures count { length nodes.new.items ≡ count }
+    ensures lists { AreQueues lists.new.items count }
+    ensures works { SameWorks nodes.old.items nodes.new.items }
+    ensures event { OnOk result (HaveMade count nodes.old.items nodes.new.items
+        lists.old.items lists.new.items (model.Exec node)) }
+    ensures err { OnErr result (HaveKept count nodes.old.items nodes.new.items
+        lists.old.items lists.new.items) }
+{
+    if pass(nodes, count, node) {
+        return Ok(());
+    }
+    execute_with_room(nodes, lists, count, node)
+}
+
+/// A node executes words, of which those before the last print nothing and send nothing, and it is
+/// given how many.
+pub(crate) fn execute_on(
+    nodes: &mut Vec<Node<'_>>,
+    lists: &mut Vec<Queue>,
+    count: u8,
+    node: u8,
+) -> Result<u64, AllocError>
+    requires count { length nodes.old.items ≡ count }
+    requires lists { AreQueues lists.old.items count }
+    requires node { node < count }
+    requires may { MayExecute nodes.old.items node }
+    requires stamp { IsStamped nodes.old.items node }
+    ensures count { length nodes.new.items ≡ count }
+    ensures lists { AreQueues lists.new.items count }
+    ensures works { SameWorks nodes.old.items nodes.new.items }
+    ensures ran { IfOk result (λ words. HaveExecutedOn count node words nodes.old.items
+        nodes.new.items lists.old.items lists.new.items) }
+    ensures err { OnErr result (HaveKept count nodes.old.items nodes.new.items
+        lists.old.items lists.new.items) }
+{
+    make_room(nodes, lists, count, node)?;
+    let stored = &mut nodes[node as usize];
+    let stamp = stored.stamp();
+    let turn = stored.exec_on();
+    let words = turn.stamp - stamp;
+    send(lists, count, node, turn.stamp, turn.sends);
+    Ok(words)
+}
+
+/// A node executes a word by the path that serves every word.
+fn execute_with_room(
+    nodes: &mut Vec<Node<'_>>,
+    lists: &mut Vec<Queue>,
+    count: u8,
+    node: u8,
+) -> Result<(), AllocError>
+    requires count { length nodes.old.items ≡ count }
+    requires lists { AreQueues lists.old.items count }
+    requires node { node < count }
+    requires may { MayExecute nodes.old.items node }
+    requires stamp { IsStamped nodes.old.items node }
+    ensures count { length nodes.new.items ≡ count }
+    ensures lists { AreQueues lists.new.items count }
+    ensures works { SameWorks nodes.old.items nodes.new.items }
+    ensures event { OnOk result (HaveMade count nodes.old.items nodes.new.items
+        lists.old.items lists.new.items (model.Exec node)) }
+    ensures err { OnErr result (HaveKept count nodes.old.items nodes.new.items
+        lists.old.items lists.new.items) }
+{
+    make_room(nodes, lists, count, node)?;
+    let turn = nodes[node as usize].exec();
+    send(lists, count, node, turn.stamp, turn.sends);
+    Ok(())
+}
+
+/// A node takes the first message of the list from another.
+fn take(
+    nodes: &mut Vec<Node<'_>>,
+    lists: &mut Vec<Queue>,
+    count: u8,
+    node: u8,
+    from: u8,
+) -> Result<(), AllocError>
+    requires count { length nodes.old.items ≡ count }
+    requires lists { AreQueues lists.old.items count }
+    requires node { node < count }
+    requires from { from < count }
+    requires some { wires_of lists.old.items count from node ≢ [] }
+    requires stamp { IsStamped nodes.old.items node }
+    requires wire { IsFirstStamped lists.old.items count from node }
+    ensures count { length nodes.new.items ≡ count }
+    ensures lists { AreQueues lists.new.items count }
+    ensures works { SameWorks nodes.old.items nodes.new.items }
+    ensures event { OnOk result (HaveMade count nodes.old.items nodes.new.items
+        lists.old.items lists.new.items (model.Take node from)) }
+    ensures err { OnErr result (HaveKept count nodes.old.items nodes.new.items
+        lists.old.items lists.new.items) }
+{
+    make_room(nodes, lists, count, node)?;
+    let wire = take_first(lists, count, from, node);
+    let turn = nodes[node as usize].take(from, wire);
+    send(lists, count, node, turn.stamp, turn.sends);
+    Ok(())
+}
