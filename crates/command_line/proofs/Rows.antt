@@ -7,16 +7,16 @@ use Rattle.command_line.specs.declared.table.Access.TheVariants.{Read, Write}
 use Rattle.command_line.specs.declared.table.Kind.{Kind}
 use Rattle.command_line.specs.declared.table.Kind.TheVariants.{Number, File, Flag}
 use Rattle.command_line.specs.declared.table.Setting.{Setting}
-use Rattle.command_line.specs.declared.table.Setting.TheVariants.{Nodes, Order, Budget, Layout, Code}
+use Rattle.command_line.specs.declared.table.Setting.TheVariants.{Nodes, Order, Budget, Layout, Code, Brief}
 use Rattle.command_line.specs.declared.table.Role.{Role}
 use Rattle.command_line.specs.declared.table.Role.TheVariants as role
 use Rattle.command_line.specs.declared.table.CommandWord.{CommandWord}
 use Rattle.command_line.specs.declared.table.CommandWord.TheVariants as word
-use Rattle.command_line.specs.Commands.{Command, Rewrite, Run, Listing, One, Named, Value, Amount, Name, Switch, name_or_none, Row, row_of, kind_of, settings_in}
+use Rattle.command_line.specs.Commands.{Command, Rewrite, Run, Listing, One, Sim, Named, Value, Amount, Name, Switch, name_or_none, Row, row_of, kind_of, settings_in}
 use Rattle.command_line.specs.Asks.{Argument, IsNumber, ArePlaced, IsSet, AreSet, AreOfRow, Asks}
 use Rattle.command_line.specs.declared.Command.{Command as OfCode}
 use Rattle.command_line.specs.Meaning.{meaning_of}
-use Rattle.command_line.specs.Reading.{IsCut, Reads, IsOfRow, AreGiven, SaysNumber, SaysName, Completes, given_by, id_of, words_for, settings_of, text_of}
+use Rattle.command_line.specs.Reading.{IsCut, Reads, IsOfRow, AreGiven, SaysNumber, SaysName, SaysFlag, Completes, given_by, id_of, words_for, settings_of, text_of}
 use Rattle.command_line.proofs.Cuts.{same_cut}
 
 abbrev Given : Type 0
@@ -115,6 +115,27 @@ name_one Flag (x ∷ y ∷ more) n m h k = absurd h
 names_one : (g : Given) (s : Setting) (n m : Option (List ℕ)) → SaysName g s n → SaysName g s m → n ≡ m
 names_one g s n m h k = name_one (kind_of s) (g (role.Option s)) n m h k
 
+-- a flag is there, or not
+same_switch : (b d : Bool) → Switch b ≡ Switch d → b ≡ d
+same_switch b d e = cc
+
+switch_one : (values : List (List ℕ)) (b d : Bool) → IsSet Flag values (Switch b) →
+    IsSet Flag values (Switch d) → b ≡ d
+switch_one [] b d h k = same_switch b d (h ∙ sym k)
+switch_one (x ∷ []) b d h k = same_switch b d (h ∙ sym k)
+switch_one (x ∷ y ∷ more) b d h k = absurd h
+
+flag_one : (g : Given) (b d : Bool) → SaysFlag g Brief b → SaysFlag g Brief d → b ≡ d
+flag_one g b d h k = switch_one (g (role.Option Brief)) b d h k
+
+pub flag_at : (g : Given) (values : List (List ℕ)) (b : Bool) →
+    g (role.Option Brief) ≡ values → IsSet Flag values (Switch b) → SaysFlag g Brief b
+flag_at g values b e h = subst (λ vs. IsSet Flag vs (Switch b)) (sym e) h
+
+pub flag_few : (g : Given) (b : Bool) → 1 < length (g (role.Option Brief)) →
+    SaysFlag g Brief b → ⊥
+flag_few g b lt h = set_few Flag (g (role.Option Brief)) (Switch b) h lt
+
 pub nothing : (xs : List (Bor (List ℕ))) → length xs ≡ 0 → map (λ v. v.now) xs ≡ []
 nothing [] e = refl
 nothing (x ∷ xs) e = absurd (omega (arith, e))
@@ -175,30 +196,43 @@ other_second v w e h = h (ap (λ x. get_or x 1 0) e)
 pub as_rewrite : (g : Given) (c : Command) → Completes (codes "rewrite") g c → (x : List ℕ)
     × (y : List ℕ) × IsOfRow (row_of (Rewrite x y)) g
 as_rewrite g (Rewrite x y) h = (x, y, h.of_row)
-as_rewrite g (Run f b k l) h = absurd (other_second _ _ h.word_is (omega arith))
+as_rewrite g (Run f b k l t) h = absurd (other_second _ _ h.word_is (omega arith))
 as_rewrite g (Listing f) h = absurd (other_first _ _ h.word_is (omega arith))
 as_rewrite g (One f n o b l) h = absurd (other_first _ _ h.word_is (omega arith))
+as_rewrite g (Sim f n o b k l t) h = absurd (other_first _ _ h.word_is (omega arith))
 
 pub as_run : (g : Given) (c : Command) → Completes (codes "run") g c → (f : List ℕ)
-    × (b : ℕ) × (k l : Option (List ℕ)) × IsOfRow (row_of (Run f b k l)) g
+    × (b : ℕ) × (k l : Option (List ℕ)) × (t : Bool) × IsOfRow (row_of (Run f b k l t)) g
 as_run g (Rewrite f o) h = absurd (other_second _ _ h.word_is (omega arith))
-as_run g (Run f b k l) h = (f, b, k, l, h.of_row)
+as_run g (Run f b k l t) h = (f, b, k, l, t, h.of_row)
 as_run g (Listing f) h = absurd (other_first _ _ h.word_is (omega arith))
 as_run g (One f n o b l) h = absurd (other_first _ _ h.word_is (omega arith))
+as_run g (Sim f n o b k l t) h = absurd (other_first _ _ h.word_is (omega arith))
 
 pub as_list : (g : Given) (c : Command) → Completes (codes "list") g c →
     (f : List ℕ) × IsOfRow (row_of (Listing f)) g
 as_list g (Rewrite f o) h = absurd (other_first _ _ h.word_is (omega arith))
-as_list g (Run f b k l) h = absurd (other_first _ _ h.word_is (omega arith))
+as_list g (Run f b k l t) h = absurd (other_first _ _ h.word_is (omega arith))
 as_list g (Listing f) h = (f, h.of_row)
 as_list g (One f n o b l) h = absurd (other_first _ _ h.word_is (omega arith))
+as_list g (Sim f n o b k l t) h = absurd (other_first _ _ h.word_is (omega arith))
 
 pub as_one : (g : Given) (c : Command) → Completes (codes "one") g c → (f : List ℕ)
     × (n : ℕ) × (o : ℕ) × (b : ℕ) × (l : Option (List ℕ)) × IsOfRow (row_of (One f n o b l)) g
 as_one g (Rewrite f o) h = absurd (other_first _ _ h.word_is (omega arith))
-as_one g (Run f b k l) h = absurd (other_first _ _ h.word_is (omega arith))
+as_one g (Run f b k l t) h = absurd (other_first _ _ h.word_is (omega arith))
 as_one g (Listing f) h = absurd (other_first _ _ h.word_is (omega arith))
 as_one g (One f n o b l) h = (f, n, o, b, l, h.of_row)
+as_one g (Sim f n o b k l t) h = absurd (other_first _ _ h.word_is (omega arith))
+
+pub as_sim : (g : Given) (c : Command) → Completes (codes "sim") g c → (f : List ℕ)
+    × (n : ℕ) × (o : ℕ) × (b : ℕ) × (k l : Option (List ℕ)) × (t : Bool)
+    × IsOfRow (row_of (Sim f n o b k l t)) g
+as_sim g (Rewrite f o) h = absurd (other_first _ _ h.word_is (omega arith))
+as_sim g (Run f b k l t) h = absurd (other_first _ _ h.word_is (omega arith))
+as_sim g (Listing f) h = absurd (other_first _ _ h.word_is (omega arith))
+as_sim g (One f n o b l) h = absurd (other_first _ _ h.word_is (omega arith))
+as_sim g (Sim f n o b k l t) h = (f, n, o, b, k, l, t, h.of_row)
 
 same_file : (x y : List ℕ) (words : List (List ℕ)) → ArePlaced ((Named Read, Name x) ∷ []) words →
     ArePlaced ((Named Read, Name y) ∷ []) words → x ≡ y
@@ -213,17 +247,12 @@ one_row : (g : Given) (c d : Command) → IsOfRow (row_of c) g → IsOfRow (row_
 one_row g (Rewrite x y) (Rewrite v w) p q e =
     let same = same_files x y v w _ p.places q.places in
     ap (λ f. Rewrite f y) same.0 ∙ ap (λ f. Rewrite v f) same.1
-one_row g (Rewrite x y) (Run v n k l) p q e = absurd (other_second _ _ e (omega arith))
-one_row g (Rewrite x y) (Listing v) p q e = absurd (other_first _ _ e (omega arith))
-one_row g (Rewrite x y) (One v n o b l) p q e = absurd (other_first _ _ e (omega arith))
-one_row g (Run v n k l) (Rewrite x y) p q e = absurd (other_second _ _ e (omega arith))
-one_row g (Listing v) (Rewrite x y) p q e = absurd (other_first _ _ e (omega arith))
-one_row g (One v n o b l) (Rewrite x y) p q e = absurd (other_first _ _ e (omega arith))
-one_row g (Run x n c k) (Run y m d l) p q e =
+one_row g (Run x n c k s) (Run y m d l t) p q e =
     let file = same_file x y _ p.places q.places in
     let budget = says_one g Budget n m p.options.0 q.options.0 in
     let code = names_one g Code c d p.options.1.0 q.options.1.0 in
     let layout = names_one g Layout k l p.options.1.1.0 q.options.1.1.0 in
+    let brief = flag_one g s t p.options.1.1.1.0 q.options.1.1.1.0 in
     cc
 one_row g (Listing x) (Listing y) p q e = ap Listing (same_file x y _ p.places q.places)
 one_row g (One x n o b k) (One y m r d l) p q e =
@@ -233,12 +262,35 @@ one_row g (One x n o b k) (One y m r d l) p q e =
     let budget = says_one g Budget b d p.options.1.1.0 q.options.1.1.0 in
     let layout = names_one g Layout k l p.options.1.1.1.0 q.options.1.1.1.0 in
     cc
-one_row g (Run x n c k) (Listing y) p q e = absurd (other_first _ _ e (omega arith))
-one_row g (Run x n c k) (One y m r d l) p q e = absurd (other_first _ _ e (omega arith))
-one_row g (Listing x) (Run y m d l) p q e = absurd (other_first _ _ e (omega arith))
-one_row g (Listing x) (One y m r d l) p q e = absurd (other_first _ _ e (omega arith))
-one_row g (One x n o b k) (Run y m d l) p q e = absurd (other_first _ _ e (omega arith))
-one_row g (One x n o b k) (Listing y) p q e = absurd (other_first _ _ e (omega arith))
+one_row g (Sim x n o b c k s) (Sim y m r d f l t) p q e =
+    let file = same_file x y _ p.places q.places in
+    let nodes = says_one g Nodes n m p.options.0 q.options.0 in
+    let order = says_one g Order o r p.options.1.0 q.options.1.0 in
+    let budget = says_one g Budget b d p.options.1.1.0 q.options.1.1.0 in
+    let code = names_one g Code c f p.options.1.1.1.0 q.options.1.1.1.0 in
+    let layout = names_one g Layout k l p.options.1.1.1.1.0 q.options.1.1.1.1.0 in
+    let brief = flag_one g s t p.options.1.1.1.1.1.0 q.options.1.1.1.1.1.0 in
+    cc
+one_row g (Rewrite x y) (Run v m d l t) p q e = absurd (other_second _ _ e (omega arith))
+one_row g (Rewrite x y) (Listing v) p q e = absurd (other_first _ _ e (omega arith))
+one_row g (Rewrite x y) (One v m r d l) p q e = absurd (other_first _ _ e (omega arith))
+one_row g (Rewrite x y) (Sim v m r d f l t) p q e = absurd (other_first _ _ e (omega arith))
+one_row g (Run x n c k s) (Rewrite v w) p q e = absurd (other_second _ _ e (omega arith))
+one_row g (Run x n c k s) (Listing v) p q e = absurd (other_first _ _ e (omega arith))
+one_row g (Run x n c k s) (One v m r d l) p q e = absurd (other_first _ _ e (omega arith))
+one_row g (Run x n c k s) (Sim v m r d f l t) p q e = absurd (other_first _ _ e (omega arith))
+one_row g (Listing x) (Rewrite v w) p q e = absurd (other_first _ _ e (omega arith))
+one_row g (Listing x) (Run v m d l t) p q e = absurd (other_first _ _ e (omega arith))
+one_row g (Listing x) (One v m r d l) p q e = absurd (other_first _ _ e (omega arith))
+one_row g (Listing x) (Sim v m r d f l t) p q e = absurd (other_first _ _ e (omega arith))
+one_row g (One x n o b k) (Rewrite v w) p q e = absurd (other_first _ _ e (omega arith))
+one_row g (One x n o b k) (Run v m d l t) p q e = absurd (other_first _ _ e (omega arith))
+one_row g (One x n o b k) (Listing v) p q e = absurd (other_first _ _ e (omega arith))
+one_row g (One x n o b k) (Sim v m r d f l t) p q e = absurd (other_first _ _ e (omega arith))
+one_row g (Sim x n o b c k s) (Rewrite v w) p q e = absurd (other_first _ _ e (omega arith))
+one_row g (Sim x n o b c k s) (Run v m d l t) p q e = absurd (other_first _ _ e (omega arith))
+one_row g (Sim x n o b c k s) (Listing v) p q e = absurd (other_first _ _ e (omega arith))
+one_row g (Sim x n o b c k s) (One v m r d l) p q e = absurd (other_first _ _ e (omega arith))
 
 -- ---- words of a row, and what they give
 
@@ -275,35 +327,46 @@ row_given row words r g e = record {
 -- the word of a command, with its options
 pub command_word : Command → CommandWord
 command_word (Rewrite x y) = word.Rewrite
-command_word (Run f b k l) = word.Run
+command_word (Run f b k l t) = word.Run
 command_word (Listing f) = word.List
 command_word (One f n o b l) = word.One
+command_word (Sim f n o b k l t) = word.Sim
 
 pub word_is : (c : Command) → text_of (command_word c) ≡ (row_of c).word
 unfolding command_word
 word_is (Rewrite x y) = refl
-word_is (Run f b k l) = refl
+word_is (Run f b k l t) = refl
 word_is (Listing f) = refl
 word_is (One f n o b l) = refl
+word_is (Sim f n o b k l t) = refl
 
 word_settings : (w : CommandWord) (c : Command) → text_of w ≡ (row_of c).word →
     settings_in (row_of c).options ≡ settings_of w
 word_settings word.Rewrite (Rewrite x y) e = refl
-word_settings word.Run (Run f b k l) e = refl
+word_settings word.Run (Run f b k l t) e = refl
 word_settings word.List (Listing f) e = refl
 word_settings word.One (One f n o b l) e = refl
-word_settings word.Rewrite (Run f b k l) e = absurd (other_second _ _ e (omega arith))
+word_settings word.Sim (Sim f n o b k l t) e = refl
+word_settings word.Rewrite (Run f b k l t) e = absurd (other_second _ _ e (omega arith))
 word_settings word.Rewrite (Listing f) e = absurd (other_first _ _ e (omega arith))
 word_settings word.Rewrite (One f n o b l) e = absurd (other_first _ _ e (omega arith))
+word_settings word.Rewrite (Sim f n o b k l t) e = absurd (other_first _ _ e (omega arith))
 word_settings word.Run (Rewrite x y) e = absurd (other_second _ _ e (omega arith))
-word_settings word.List (Rewrite x y) e = absurd (other_first _ _ e (omega arith))
-word_settings word.One (Rewrite x y) e = absurd (other_first _ _ e (omega arith))
 word_settings word.Run (Listing f) e = absurd (other_first _ _ e (omega arith))
 word_settings word.Run (One f n o b l) e = absurd (other_first _ _ e (omega arith))
-word_settings word.List (Run f b k l) e = absurd (other_first _ _ e (omega arith))
+word_settings word.Run (Sim f n o b k l t) e = absurd (other_first _ _ e (omega arith))
+word_settings word.List (Rewrite x y) e = absurd (other_first _ _ e (omega arith))
+word_settings word.List (Run f b k l t) e = absurd (other_first _ _ e (omega arith))
 word_settings word.List (One f n o b l) e = absurd (other_first _ _ e (omega arith))
-word_settings word.One (Run f b k l) e = absurd (other_first _ _ e (omega arith))
+word_settings word.List (Sim f n o b k l t) e = absurd (other_first _ _ e (omega arith))
+word_settings word.One (Rewrite x y) e = absurd (other_first _ _ e (omega arith))
+word_settings word.One (Run f b k l t) e = absurd (other_first _ _ e (omega arith))
 word_settings word.One (Listing f) e = absurd (other_first _ _ e (omega arith))
+word_settings word.One (Sim f n o b k l t) e = absurd (other_first _ _ e (omega arith))
+word_settings word.Sim (Rewrite x y) e = absurd (other_first _ _ e (omega arith))
+word_settings word.Sim (Run f b k l t) e = absurd (other_first _ _ e (omega arith))
+word_settings word.Sim (Listing f) e = absurd (other_first _ _ e (omega arith))
+word_settings word.Sim (One f n o b l) e = absurd (other_first _ _ e (omega arith))
 
 same_head : (v w : List ℕ) (vs ws : List (List ℕ)) → v ∷ vs ≡ w ∷ ws → v ≡ w
 same_head v w vs ws e = cc

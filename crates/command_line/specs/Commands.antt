@@ -5,22 +5,26 @@ use Rattle.std.specs.List.{flat_map}
 use Rattle.command_line.specs.declared.table.Access.{Access}
 use Rattle.command_line.specs.declared.table.Access.TheVariants.{Read, Write}
 use Rattle.command_line.specs.declared.table.Kind.{Kind}
-use Rattle.command_line.specs.declared.table.Kind.TheVariants.{Number, File}
+use Rattle.command_line.specs.declared.table.Kind.TheVariants.{Number, File, Flag}
 use Rattle.command_line.specs.declared.table.Setting.{Setting}
-use Rattle.command_line.specs.declared.table.Setting.TheVariants.{Nodes, Order, Budget, Layout, Code}
+use Rattle.command_line.specs.declared.table.Setting.TheVariants.{Nodes, Order, Budget, Layout, Code, Brief}
 
 pub data Command : Type 0 where
   -- write the rewritten executable of the one in a file into another
   Rewrite : (input output : List ℕ) → Command
   -- run the rewritten code of the executable in a file, at most so many words of each processor;
   -- where they are named, the code is that of the executable in a file, and the blocks are those of
-  -- the layout in a file
-  Run : (file : List ℕ) (budget : ℕ) (code layout : Option (List ℕ)) → Command
+  -- the layout in a file; a brief text has no counts
+  Run : (file : List ℕ) (budget : ℕ) (code layout : Option (List ℕ)) (brief : Bool) → Command
   -- list its code words
   Listing : (file : List ℕ) → Command
   -- run so many processors of the original on one memory, by the order of a number, at most so
   -- many steps of each, with the blocks of the layout in a file, where one is named
   One : (file : List ℕ) (nodes order budget : ℕ) (layout : Option (List ℕ)) → Command
+  -- run so many nodes of the rewritten code by the order of a number, at most so many words of each
+  -- processor; the code, the blocks and the text are as of a run
+  Sim : (file : List ℕ) (nodes order budget : ℕ) (code layout : Option (List ℕ)) (brief : Bool)
+      → Command
 
 -- the word of an option
 abbrev pub option_word : Setting → List ℕ
@@ -29,6 +33,7 @@ option_word Order = codes "--order"
 option_word Budget = codes "--budget"
 option_word Layout = codes "--layout"
 option_word Code = codes "--code"
+option_word Brief = codes "--brief"
 
 -- what an option is given
 abbrev pub kind_of : Setting → Kind
@@ -37,6 +42,7 @@ kind_of Order = Number 0 (2 ^ 32 - 1) 0
 kind_of Budget = Number 1 (2 ^ 32) 100000000
 kind_of Layout = File Read
 kind_of Code = File Read
+kind_of Brief = Flag
 
 -- the place of an operand, which stands behind the command's word without an option: the name of
 -- a file, or a number
@@ -69,11 +75,12 @@ row_of (Rewrite input output) = record {
   places = (Named Read, Name input) ∷ (Named Write, Name output) ∷ [];
   options = [];
 }
-row_of (Run file budget code layout) = record {
+row_of (Run file budget code layout brief) = record {
   word = codes "run";
   places = (Named Read, Name file) ∷ [];
   options =
-      (Budget, Amount budget) ∷ (Code, name_or_none code) ∷ (Layout, name_or_none layout) ∷ [];
+      (Budget, Amount budget) ∷ (Code, name_or_none code) ∷ (Layout, name_or_none layout)
+      ∷ (Brief, Switch brief) ∷ [];
 }
 row_of (Listing file) = record {
   word = codes "list";
@@ -86,6 +93,13 @@ row_of (One file nodes order budget layout) = record {
   options =
       (Nodes, Amount nodes) ∷ (Order, Amount order) ∷ (Budget, Amount budget)
       ∷ (Layout, name_or_none layout) ∷ [];
+}
+row_of (Sim file nodes order budget code layout brief) = record {
+  word = codes "sim";
+  places = (Named Read, Name file) ∷ [];
+  options =
+      (Nodes, Amount nodes) ∷ (Order, Amount order) ∷ (Budget, Amount budget)
+      ∷ (Code, name_or_none code) ∷ (Layout, name_or_none layout) ∷ (Brief, Switch brief) ∷ [];
 }
 
 -- the options that a command has

@@ -3,7 +3,7 @@ use Rattle.std.specs.Prelude.{ℕ, List, Option, option_map}
 use Rattle.std.specs.Borrow.{Bor}
 use Rattle.command_line.specs.declared.Command.{Command as OfCode}
 use Rattle.command_line.specs.declared.Command.TheVariants as asked
-use Rattle.command_line.specs.Commands.{Command, Rewrite, Run, Listing, One}
+use Rattle.command_line.specs.Commands.{Command, Rewrite, Run, Listing, One, Sim}
 
 -- the name of a file that may be left out
 abbrev pub file_name : Option (Bor (List ℕ)) → Option (List ℕ)
@@ -11,8 +11,10 @@ file_name name = option_map (λ n. n.now) name
 
 abbrev pub meaning_of : OfCode → Command
 meaning_of (asked.Rewrite input output) = Rewrite input.now output.now
-meaning_of (asked.Run file budget code layout) =
-    Run file.now budget (file_name code) (file_name layout)
+meaning_of (asked.Run file budget code layout brief) =
+    Run file.now budget (file_name code) (file_name layout) brief
 meaning_of (asked.List file) = Listing file.now
 meaning_of (asked.One file nodes order budget layout) =
     One file.now nodes order budget (file_name layout)
+meaning_of (asked.Sim file nodes order budget code layout brief) =
+    Sim file.now nodes order budget (file_name code) (file_name layout) brief

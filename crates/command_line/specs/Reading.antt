@@ -6,14 +6,14 @@ use Rattle.clap.specs.declared.parser.matches.ArgMatches.{ArgMatches}
 use Rattle.clap.specs.Words.{App, Rule, all_of, found_of, new_rule, rows_of}
 use Rattle.clap.specs.Simple.{new_shape}
 use Rattle.command_line.specs.declared.table.Setting.{Setting}
-use Rattle.command_line.specs.declared.table.Setting.TheVariants.{Nodes, Order, Budget, Layout, Code}
+use Rattle.command_line.specs.declared.table.Setting.TheVariants.{Nodes, Order, Budget, Layout, Code, Brief}
 use Rattle.command_line.specs.declared.table.CommandWord.{CommandWord}
 use Rattle.command_line.specs.declared.table.CommandWord.TheVariants as word
 use Rattle.command_line.specs.declared.table.Role.{Role}
 use Rattle.command_line.specs.declared.table.Role.TheVariants as role
 use Rattle.command_line.specs.declared.parsing.Given.{Given}
 use Rattle.command_line.specs.declared.parsing.Given.TheVariants as are
-use Rattle.command_line.specs.Commands.{Command, Value, Row, Amount, name_or_none, option_word, kind_of, row_of}
+use Rattle.command_line.specs.Commands.{Command, Value, Row, Amount, Switch, name_or_none, option_word, kind_of, row_of}
 use Rattle.command_line.specs.Asks.{IsPlain, IsSet, ArePlaced, Argument, words_of, AreArguments, operands_of, values_of, takes_value}
 
 -- the text of a command's word, and the command's options
@@ -22,12 +22,14 @@ text_of word.Rewrite = codes "rewrite"
 text_of word.Run = codes "run"
 text_of word.List = codes "list"
 text_of word.One = codes "one"
+text_of word.Sim = codes "sim"
 
 abbrev pub settings_of : CommandWord → List Setting
 settings_of word.Rewrite = []
-settings_of word.Run = Budget ∷ Code ∷ Layout ∷ []
+settings_of word.Run = Budget ∷ Code ∷ Layout ∷ Brief ∷ []
 settings_of word.List = []
 settings_of word.One = Nodes ∷ Order ∷ Budget ∷ Layout ∷ []
+settings_of word.Sim = Nodes ∷ Order ∷ Budget ∷ Code ∷ Layout ∷ Brief ∷ []
 
 -- the name of an option, without its dashes
 abbrev pub name_of : Setting → List ℕ
@@ -114,6 +116,11 @@ SaysNumber given setting number =
 abbrev pub SaysName : (Role → List (List ℕ)) → Setting → Option (List ℕ) → Type 0
 SaysName given setting name =
     IsSet (kind_of setting) (given (role.Option setting)) (name_or_none name)
+
+-- what is given says of the option whether it is there
+abbrev pub SaysFlag : (Role → List (List ℕ)) → Setting → Bool → Type 0
+SaysFlag given setting there =
+    IsSet (kind_of setting) (given (role.Option setting)) (Switch there)
 
 -- a command's word, and what is given, are of the command's row
 pub record Completes (word : List ℕ) (given : Role → List (List ℕ)) (command : Command) : Type 0

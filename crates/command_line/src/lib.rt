@@ -1,11 +1,11 @@
 #![tactic(auto)]
 //! The words of the command line, and what they ask for.
 
-ghost use Rattle.std.specs.Prelude.{◌≡◌, ℕ, List, [], ◌∷◌, codes, Option, option_map, IfOk, MatchOption};
+ghost use Rattle.std.specs.Prelude.{◌≡◌, ℕ, Bool, List, [], ◌∷◌, codes, Option, option_map, IfOk, MatchOption};
 ghost use Rattle.command_line.specs.Commands as model;
 ghost use Rattle.command_line.specs.Asks.{Asks};
 ghost use Rattle.command_line.specs.Meaning.{meaning_of};
-ghost use Rattle.command_line.specs.Reading.{Completes, SaysName, SaysNumber, given_by, text_of};
+ghost use Rattle.command_line.specs.Reading.{Completes, SaysFlag, SaysName, SaysNumber, given_by, text_of};
 
 use clap::ArgMatches;
 use dsm_io::Text;
@@ -31,12 +31,13 @@ pub enum Command<'a> {
     },
     /// Run its rewritten code, at most `budget` words of each processor. Where they are named, the
     /// code is that of the executable in the file `code`, and the blocks are those of the layout in the
-    /// file `layout`.
+    /// file `layout`. A `brief` text has no counts.
     Run {
         file: &'a str,
         budget: Budget,
         code: Option<&'a str>,
         layout: Option<&'a str>,
+        brief: bool,
     },
     /// List its code words.
     List {
@@ -50,6 +51,17 @@ pub enum Command<'a> {
         order: u32,
         budget: Budget,
         layout: Option<&'a str>,
+    },
+    /// Run `nodes` nodes of its rewritten code by the order of a number, at most `budget` words of
+    /// each processor. The code, the blocks and the text are as of `Run`.
+    Sim {
+        file: &'a str,
+        nodes: NodeCount,
+        order: u32,
+        budget: Budget,
+        code: Option<&'a str>,
+        layout: Option<&'a str>,
+        brief: bool,
     },
 }
 
@@ -152,6 +164,20 @@ fn order_in(matches: &ArgMatches<'_>) -> Option<u32>
     }
 }
 
+/// Whether the text is to be brief.
+fn brief_in(matches: &ArgMatches<'_>) -> Option<bool>
+    ensures { MatchOption result
+        ((b : Bool) → SaysFlag (given_by matches.now) Setting.Brief b → ⊥)
+        (λ b. SaysFlag (given_by matches.now) Setting.Brief b) }
+{
+    match given_for(matches, Role::Option(Setting::Brief)) {
+        Given::Nothing => Some(false),
+        Given::One(_) => Some(true),
+        Given::Two(_, _) => None,
+        Given::More => None,
+    }
+}
+
 /// The command `rewrite`.
 fn rewrite_of<'a>(matches: &ArgMatches<'a>) -> Option<Command<'a>>
     ensures { MatchOption result
@@ -172,11 +198,13 @@ fn run_of<'a>(matches: &ArgMatches<'a>) -> Option<Command<'a>>
     let budget = budget_in(matches)?;
     let code = name_in(matches, Setting::Code)?;
     let layout = name_in(matches, Setting::Layout)?;
+    let brief = brief_in(matches)?;
     Some(Command::Run {
         file,
         budget,
         code,
         layout,
+        brief,
     })
 }
 
@@ -210,6 +238,30 @@ fn one_of<'a>(matches: &ArgMatches<'a>) -> Option<Command<'a>>
     })
 }
 
+/// The command `sim`.
+fn sim_of<'a>(matches: &ArgMatches<'a>) -> Option<Command<'a>>
+    ensures { MatchOption result
+        ((c : model.Command) → Completes (codes "sim") (given_by matches.now) c → ⊥)
+        (λ c. Completes (codes "sim") (given_by matches.now) (meaning_of c)) }
+{
+    let file = file_in(matches)?;
+    let nodes = nodes_in(matches)?;
+    let order = order_in(matches)?;
+    let budget = budget_in(matches)?;
+    let code = name_in(matches, Setting::Code)?;
+    let layout = name_in(matches, Setting::Layout)?;
+    let brief = brief_in(matches)?;
+    Some(Command::Sim {
+        file,
+        nodes,
+        order,
+        budget,
+        code,
+        layout,
+        brief,
+    })
+}
+
 /// The command of a word that is a command's, with these arguments.
 fn command_in<'a>(word: CommandWord, matches: &ArgMatches<'a>) -> Option<Command<'a>>
     ensures { MatchOption result
@@ -221,6 +273,7 @@ fn command_in<'a>(word: CommandWord, matches: &ArgMatches<'a>) -> Option<Command
         CommandWord::Run => run_of(matches),
         CommandWord::List => list_of(matches),
         CommandWord::One => one_of(matches),
+        CommandWord::Sim => sim_of(matches),
     }
 }
 

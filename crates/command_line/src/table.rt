@@ -31,6 +31,7 @@ pub(crate) enum Setting {
     Budget,
     Layout,
     Code,
+    Brief,
 }
 
 /// What an argument is for.
@@ -48,6 +49,7 @@ pub(crate) enum CommandWord {
     Run,
     List,
     One,
+    Sim,
 }
 
 impl CommandWord {
@@ -61,6 +63,7 @@ impl CommandWord {
             "run" => Some(CommandWord::Run),
             "list" => Some(CommandWord::List),
             "one" => Some(CommandWord::One),
+            "sim" => Some(CommandWord::Sim),
             _ => None,
         }
     }
@@ -70,13 +73,26 @@ impl CommandWord {
         ensures { result.now ≡ settings_of self }
     {
         match self {
-            CommandWord::Run => &[Setting::Budget, Setting::Code, Setting::Layout],
+            CommandWord::Run => &[
+                Setting::Budget,
+                Setting::Code,
+                Setting::Layout,
+                Setting::Brief,
+            ],
             CommandWord::Rewrite | CommandWord::List => &[],
             CommandWord::One => &[
                 Setting::Nodes,
                 Setting::Order,
                 Setting::Budget,
                 Setting::Layout,
+            ],
+            CommandWord::Sim => &[
+                Setting::Nodes,
+                Setting::Order,
+                Setting::Budget,
+                Setting::Code,
+                Setting::Layout,
+                Setting::Brief,
             ],
         }
     }
@@ -93,6 +109,7 @@ impl Setting {
             Setting::Budget => "budget",
             Setting::Layout => "layout",
             Setting::Code => "code",
+            Setting::Brief => "brief",
         }
     }
 
@@ -117,6 +134,7 @@ impl Setting {
                 default: 100_000_000,
             },
             Setting::Layout | Setting::Code => Kind::File(Access::Read),
+            Setting::Brief => Kind::Flag,
         }
     }
 

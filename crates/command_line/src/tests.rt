@@ -23,6 +23,7 @@ fn parts_of(command: Command<'_>) -> (&str, u8, u32, u64) {
             budget,
             code: _,
             layout: _,
+            brief: _,
         } => (file, 0, 0, budget.number()),
         Command::List { file } => (file, 0, 0, 0),
         Command::One {
@@ -31,6 +32,15 @@ fn parts_of(command: Command<'_>) -> (&str, u8, u32, u64) {
             order,
             budget,
             layout: _,
+        }
+        | Command::Sim {
+            file,
+            nodes,
+            order,
+            budget,
+            code: _,
+            layout: _,
+            brief: _,
         } => (file, nodes.number(), order, budget.number()),
     }
 }
@@ -86,6 +96,17 @@ fn reads_the_words_that_are_commands(rt: HostRuntime) -> Result<(), Fail> {
         ("run a --code", None),
         ("run a --code=", None),
         ("run a --code x --code=x", None),
+        ("run --brief a", Some((0, 0, 100_000_000))),
+        ("run a --brief=x", None),
+        ("run a --brief --brief", None),
+        ("one a --brief", None),
+        ("sim a", Some((1, 0, 100_000_000))),
+        (
+            "sim --nodes 2 --order=3 --budget 4 --code x --layout=y --brief a",
+            Some((2, 3, 4)),
+        ),
+        ("sim --brief x a", None),
+        ("sim a --brief= --nodes 2", None),
         ("one a --layout x --nodes 2", Some((2, 0, 100_000_000))),
         ("one a --code x", None),
         ("list a --layout x", None),

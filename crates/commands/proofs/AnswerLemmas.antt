@@ -1,8 +1,8 @@
 -- What the answer of a command says of the whole.
-use Rattle.std.proofs.Common.{◌≡◌, ◌⊎◌, ℕ, zero, suc, ◌<◌, ◌≤◌, Bool, true, false, List, [], ◌∷◌, ◌++◌, length, Option, Some, None, append-nil, option_map, refl, sym, ap, ◌∙◌, subst, inl, inr, arith}
+use Rattle.std.proofs.Common.{◌≡◌, ◌⊎◌, ℕ, ◌<◌, ◌≤◌, Bool, true, false, List, [], ◌++◌, length, Option, Some, None, append-nil, option_map, refl, sym, ap, ◌∙◌, subst, inl, inr, arith}
 use Rattle.std.specs.Prelude.{Contains, IfSome, IfOk, IfErr, MatchOption, Result, Ok, Err, if◌then◌else◌}
 use Rattle.dsm_io.specs.Causes.{Rose}
-use Rattle.command_line.specs.Commands.{Command, Rewrite, Run, Listing, One, reads, writes}
+use Rattle.command_line.specs.Commands.{Command, Rewrite, Run, Listing, One, Sim, reads, writes}
 use Rattle.command_line.specs.declared.Command.{Command as OfCode}
 use Rattle.command_line.specs.Asks.{Asks}
 use Rattle.command_line.specs.Meaning.{meaning_of}
@@ -35,8 +35,11 @@ low_status false = omega arith
 pub is_low : (c : Command) (inputs : Inputs) (text : List ℕ) (status : ℕ)
     → IsText c inputs text status → status ≤ 1
 is_low (Rewrite input output) inputs text status h = let zero = h.status_is in omega (arith, zero)
-is_low (Run file budget code layout) inputs text status h = subst (λ s. s ≤ 1) (sym h.status_is) (low_status _)
+is_low (Run file budget code layout brief) inputs text status h =
+    subst (λ s. s ≤ 1) (sym h.status_is) (low_status _)
 is_low (One file nodes order budget layout) inputs text status h =
+    subst (λ s. s ≤ 1) (sym h.status_is) (low_status _)
+is_low (Sim file nodes order budget code layout brief) inputs text status h =
     subst (λ s. s ≤ 1) (sym h.status_is) (low_status _)
 is_low (Listing file) inputs text status h = let zero = h.1 in omega (arith, zero)
 

@@ -2,11 +2,10 @@
 use Rattle.std.proofs.Common.{◌≡◌, ◌⊎◌, ℕ, ◌<◌, ◌≤◌, List, [], ◌∷◌, ◌++◌, length, Option, Some, None, option_map, refl, sym, ap, ◌∙◌, subst, inl, inr, arith}
 use Rattle.std.specs.Prelude.{Contains, IfSome}
 use Rattle.std.proofs.lemmas.List.Elements.{Contains-append_left, Contains-append_right, Contains-append_cases}
-use Rattle.command_line.specs.Commands.{Command, Rewrite, Run, Listing, One, reads}
+use Rattle.command_line.specs.Commands.{Command, Rewrite, Run, Listing, One, Sim, reads}
 use Rattle.commands.specs.Answers.{file_limit}
 use Rattle.commands.specs.Failures.{AreContents, AreInputs, AreRead, IsContent}
-use Rattle.commands.specs.Headline.{AreTold}
-use Rattle.commands.specs.Inputs.{Inputs, input_of, code_of, layout_of, inputs_of}
+use Rattle.commands.specs.Inputs.{Inputs, input_of, code_of, layout_of}
 
 -- the file of a name that may be left out
 abbrev named : Option (List ℕ) → List (List ℕ)
@@ -19,13 +18,17 @@ files_of c = (input_of c ∷ []) ++ (named (code_of c) ++ named (layout_of c))
 
 reads_are : (c : Command) → reads c ≡ files_of c
 reads_are (Rewrite input output) = refl
-reads_are (Run file budget None None) = refl
-reads_are (Run file budget None (Some layout)) = refl
-reads_are (Run file budget (Some code) None) = refl
-reads_are (Run file budget (Some code) (Some layout)) = refl
+reads_are (Run file budget None None brief) = refl
+reads_are (Run file budget None (Some layout) brief) = refl
+reads_are (Run file budget (Some code) None brief) = refl
+reads_are (Run file budget (Some code) (Some layout) brief) = refl
 reads_are (Listing file) = refl
 reads_are (One file nodes order budget None) = refl
 reads_are (One file nodes order budget (Some layout)) = refl
+reads_are (Sim file nodes order budget None None brief) = refl
+reads_are (Sim file nodes order budget None (Some layout) brief) = refl
+reads_are (Sim file nodes order budget (Some code) None brief) = refl
+reads_are (Sim file nodes order budget (Some code) (Some layout) brief) = refl
 
 -- a list of one name
 pub only_of : (file name : List ℕ) → Contains (file ∷ []) name → name ≡ file

@@ -1,14 +1,15 @@
 -- Texts that are put in pieces.
-use Rattle.std.proofs.Common.{◌≡◌, ℕ, List, [], ◌++◌, length, take, drop, Option, Some, None, refl, sym, ap, ◌∙◌, subst, inl, inr, append-nil, append_assoc}
+use Rattle.std.proofs.Common.{◌≡◌, ℕ, Bool, true, false, List, [], ◌++◌, length, take, drop, Option, Some, None, refl, sym, ap, ◌∙◌, subst, inl, inr, append-nil, append_assoc}
 use Rattle.std.proofs.Math.Seq.{take-append_seam}
 use Rattle.std.proofs.lemmas.List.{take-append-drop}
 use Rattle.dsm_io.specs.Causes.{Rose, Appends, AppendsPrefix}
 use Rattle.commands.specs.declared.failure.Failure.{Failure}
 use Rattle.commands.specs.declared.failure.Failure.TheVariants.{Input, NotWritten, Refused, Layout, Output, OutOfMemory}
 use Rattle.commands.specs.Answers.{SinkState}
-use Rattle.commands.specs.Outcomes.{Outcome}
+use Rattle.node_model.specs.Outcome.{Outcome}
+use Rattle.commands.specs.Outcomes.{status_of, told}
 use Rattle.commands.specs.Headline.{IsTextWith}
-use Rattle.commands.specs.Failures.{IsPutFailure, IsRefusal, FailsAs, Puts, PutsPrefix, IsTextOfOutcome, IsNever}
+use Rattle.commands.specs.Failures.{IsPutFailure, IsRefusal, FailsAs, Puts, IsTextOfOutcome, IsNever}
 use Rattle.std.specs.Prelude.{Result, Ok, Err, IfOk, IfErr}
 
 pub joins : (before middle now : Option (List ℕ)) (p q : List ℕ) → Appends before middle p
@@ -135,22 +136,29 @@ never Why line h = absurd h
 
 -- the text of an outcome with these facts is put, or isn't
 
-text_with : (Is : Outcome → Type 0) (o : Outcome) (text : List ℕ) (status : ℕ) → Is o
-    → IsTextOfOutcome o text status → IsTextWith Is text status
-text_with Is o text status is h = record { outcome = o; is = is; text_is = h.0; status_is = h.1 }
+told_status : (brief : Bool) (o : Outcome) → status_of (told brief o) ≡ status_of o
+told_status true o = refl
+told_status false o = refl
 
-pub outcome_put : (Is : Outcome → Type 0) (o : Outcome) (before now : Option (List ℕ))
-    (r : Result ℕ Failure) → Is o → IfOk r (λ status. Puts (IsTextOfOutcome o) status before now)
-    → IfOk r (λ status. Puts (IsTextWith Is) status before now)
-outcome_put Is o before now (Ok status) is put =
-    (put.0, text_with Is o put.0 status is put.1, put.2)
-outcome_put Is o before now (Err f) is put = tt
+text_with : (Is : Outcome → Type 0) (brief : Bool) (o : Outcome) (text : List ℕ) (status : ℕ) → Is o
+    → IsTextOfOutcome (told brief o) text status → IsTextWith Is brief text status
+text_with Is brief o text status is h =
+    record { outcome = o; is = is; text_is = h.0; status_is = h.1 ∙ told_status brief o }
 
-pub outcome_fails : (Is : Outcome → Type 0) (Reason OfLayout : List ℕ → Type 0) (o : Outcome)
-    (before now : SinkState) (r : Result ℕ Failure) → Is o
-    → IfErr r (FailsAs (IsTextOfOutcome o) IsNever IsNever before now)
-    → IfErr r (FailsAs (IsTextWith Is) Reason OfLayout before now)
-outcome_fails Is Reason OfLayout o before now (Ok status) is h = tt
-outcome_fails Is Reason OfLayout o before now (Err f) is h =
-    fails_too (IsTextOfOutcome o) (IsTextWith Is) IsNever IsNever Reason OfLayout before now f
-    (λ text status t. (status, text_with Is o text status is t)) (never Reason) (never OfLayout) h
+pub outcome_put : (Is : Outcome → Type 0) (brief : Bool) (o : Outcome)
+    (before now : Option (List ℕ)) (r : Result ℕ Failure) → Is o
+    → IfOk r (λ status. Puts (IsTextOfOutcome (told brief o)) status before now)
+    → IfOk r (λ status. Puts (IsTextWith Is brief) status before now)
+outcome_put Is brief o before now (Ok status) is put =
+    (put.0, text_with Is brief o put.0 status is put.1, put.2)
+outcome_put Is brief o before now (Err f) is put = tt
+
+pub outcome_fails : (Is : Outcome → Type 0) (brief : Bool) (Reason OfLayout : List ℕ → Type 0)
+    (o : Outcome) (before now : SinkState) (r : Result ℕ Failure) → Is o
+    → IfErr r (FailsAs (IsTextOfOutcome (told brief o)) IsNever IsNever before now)
+    → IfErr r (FailsAs (IsTextWith Is brief) Reason OfLayout before now)
+outcome_fails Is brief Reason OfLayout o before now (Ok status) is h = tt
+outcome_fails Is brief Reason OfLayout o before now (Err f) is h =
+    fails_too (IsTextOfOutcome (told brief o)) (IsTextWith Is brief) IsNever IsNever Reason OfLayout
+    before now f (λ text status t. (status, text_with Is brief o text status is t)) (never Reason)
+    (never OfLayout) h

@@ -1,22 +1,21 @@
 -- Helps the code alone: failures of commands, and what each says of the files and the output.
-use Rattle.std.specs.Prelude.{◌≡◌, ℕ, ◌≤◌, ◌⊎◌, true, List, length, Option, None, Some, Contains, IfSome}
-use Rattle.rv32_program.specs.declared.End.{End}
-use Rattle.node_model.specs.declared.NodeCounts.{NodeCounts}
-use Rattle.node_model.specs.Node.{Work, can_execute, end_of}
-use Rattle.node_model.specs.Core.{Event, IsCoreRun, opening_core, after}
-use Rattle.shared_sim.specs.CoreRun.{printed_by}
-use Rattle.shared_sim.specs.Interleaving.{GoesAlone}
+use Rattle.std.specs.Prelude.{◌≡◌, ℕ, ◌≤◌, ◌⊎◌, List, length, Option, None, Some, Contains, IfSome}
+use Rattle.node_model.specs.Node.{Work}
+use Rattle.node_model.specs.Core.{Core, IsOver}
+use Rattle.node_model.specs.Outcome.{Outcome, IsOutcomeOf}
+use Rattle.run_order.specs.OwnRun.{Stamped, StandsForOwnRun, run_of}
+use Rattle.dsm_core.specs.CoreParts.{work_with}
 use Rattle.dsm_io.specs.Causes.{Rose, Appends, AppendsPrefix}
 use Rattle.commands.specs.declared.failure.Failure.{Failure}
 use Rattle.commands.specs.declared.failure.Failure.TheVariants.{Input, NotWritten, Refused, Layout, Output, OutOfMemory}
 use Rattle.commands.specs.Text.{text_of, cannot_read, cannot_write, too_long, cannot_write_output, out_of_memory}
-use Rattle.commands.specs.Outcomes.{Outcome}
+use Rattle.commands.specs.declared.prepare.Prepared.{Prepared}
 use Rattle.commands.specs.Outcomes as outcomes
 use Rattle.command_line.specs.Commands.{Command, reads, writes}
 use Rattle.commands.specs.Answers.{SinkState, FilesState, file_limit, IsTooLong, IsReadFault, IsWriteFault, IsPutFault, IsLeft}
 use Rattle.commands.specs.Executables.{IsUnrewritten}
 use Rattle.commands.specs.Refusals.{IsRefused, IsLayoutRefused}
-use Rattle.commands.specs.Headline.{AreTold, IsText, IsWritten, Prints, PrintsPrefix}
+use Rattle.commands.specs.Headline.{AreTold, IsRunOf, IsText, IsWritten, Prints, PrintsPrefix}
 use Rattle.commands.specs.Inputs.{Inputs, input_of, code_of, layout_of, inputs_of}
 
 -- the status and the line of a failure
@@ -70,8 +69,8 @@ abbrev pub IsNamedFailure : FilesState → FilesState → Option (List ℕ) → 
 IsNamedFailure before now named f =
     (name : List ℕ) × (named ≡ Some name) × IsReadFailure before now name f
 
--- a refusal, by the reasons that a line tells: of an executable, and of a layout; or a failure because
--- it is out of memory
+-- a refusal, by the reasons that a line tells: of an executable, and of a layout; or a failure
+-- because it is out of memory
 abbrev pub IsRefusal : (List ℕ → Type 0) → (List ℕ → Type 0) → Failure → Type 0
 IsRefusal Reason OfLayout (Input line) = ⊥
 IsRefusal Reason OfLayout (NotWritten line) = ⊥
@@ -126,21 +125,23 @@ IsNever line = ⊥
 abbrev pub IsTextOfOutcome : Outcome → List ℕ → ℕ → Type 0
 IsTextOfOutcome o text status = (text ≡ text_of o) × (status ≡ outcomes.status_of o)
 
--- the work is that of one node, no word of which waits
-pub record IsForOne (work : Work) : Type 0 where
-  pub nodes : work.layout.nodes ≡ 1
-  pub alone : (events : List Event) → IsCoreRun work (opening_core work) events
-      → can_execute ((after work (opening_core work) events).nodes 0).phase ≡ true
-      → GoesAlone work ((after work (opening_core work) events).nodes 0)
+-- what the nodes run by prepared parts
+abbrev pub work_for : Prepared → Work
+work_for p = work_with p.program p.rewritten.image p.layout p.budget
 
--- a whole run of the node of this work, by its bytes, its end and its counts
-pub record IsFinished (work : Work) (output : List ℕ) (end : End) (counts : NodeCounts) : Type 0
-  where
-    pub events : List Event
-    pub run : IsCoreRun work (opening_core work) events
-    pub end_is : end_of ((after work (opening_core work) events).nodes 0).phase ≡ Some end
-    pub output_is : output ≡ printed_by work (opening_core work) events
-    pub counts_are : counts ≡ ((after work (opening_core work) events).nodes 0).counts
+-- a core of this work whose nodes are over and that stands for its own run, and the outcome of that
+pub record IsOwnOutcome (work : Work) (o : Outcome) : Type 0 where
+  pub core : Core
+  pub own : List Stamped
+  pub stands : StandsForOwnRun work core own
+  pub over : IsOver work core
+  pub outcome : IsOutcomeOf work (run_of own) o
+
+-- the own runs of cores of this work whose nodes are over are runs of the inputs
+abbrev pub GivesRuns : Inputs → (nodes budget : ℕ) → Work → Type 0
+GivesRuns inputs nodes budget work =
+    (core : Core) (own : List Stamped) (o : Outcome) → StandsForOwnRun work core own
+    → IsOver work core → IsOutcomeOf work (run_of own) o → IsRunOf inputs nodes budget work own o
 
 -- how a command fails, with its file read by it
 abbrev pub IsFailure : Command → FilesState → FilesState → SinkState → SinkState → Failure → Type 0
@@ -162,11 +163,11 @@ IsFailure command files files_now before now OutOfMemory =
     → (now.taken ≡ before.taken) ⊎ PrintsPrefix command contents before.taken now.taken
 
 -- how a command succeeds: its whole text was put
-pub record IsSuccess (command : Command) (files : FilesState) (before now : SinkState) (status : ℕ) : Type 0
-  where
-    pub low : status ≤ 1
-    pub prints : (contents : List ℕ → List ℕ) → AreTold command files.held contents
-        → Prints command contents before.taken now.taken status
+pub record IsSuccess (command : Command) (files : FilesState) (before now : SinkState)
+    (status : ℕ) : Type 0 where
+  pub low : status ≤ 1
+  pub prints : (contents : List ℕ → List ℕ) → AreTold command files.held contents
+      → Prints command contents before.taken now.taken status
 
 -- a failure that isn't a refusal
 abbrev pub IsNoRefusal : Failure → Type 0

@@ -1,5 +1,5 @@
 -- What the program promises of each command.
-use Rattle.std.specs.Prelude.{◌≡◌, ℕ, ◌^◌, List, [], Option, Some, Contains, filter}
+use Rattle.std.specs.Prelude.{◌≡◌, ℕ, ◌^◌, Bool, false, List, [], Option, Some, Contains, filter}
 use Rattle.std.specs.List.{flat_map, range_with_len}
 use Rattle.elf32_read.specs.Elf.{Elf}
 use Rattle.exec_map.specs.Contents.{program_of, is_code_word, word_of}
@@ -10,35 +10,60 @@ use Rattle.jump_map.specs.Image.{Cell, IsRewriting}
 use Rattle.elf32_write.specs.Layout.{file_of}
 use Rattle.rewriter.specs.RewrittenFile.{rewritten_elf}
 use Rattle.node_model.specs.Node.{Work}
-use Rattle.node_model.specs.Core.{Event}
+use Rattle.node_model.specs.Core.{Event, IsOver, opening_core, after}
+use Rattle.node_model.specs.Outcome.{Outcome}
+use Rattle.run_order.specs.OwnRun.{Stamped, StandsForOwnRun, run_of}
+use Rattle.shared_sim.specs.ByOrder.{FollowsOrder}
 use Rattle.block_layout.specs.Layout.{Shape}
 use Rattle.one_memory.specs.ByOrder.{IsRunByOrder}
-use Rattle.command_line.specs.Commands.{Command, Rewrite, Run, Listing, One, reads}
+use Rattle.command_line.specs.Commands.{Command, Rewrite, Run, Listing, One, Sim, reads}
 use Rattle.dsm_io.specs.Causes.{Appends, AppendsPrefix}
 use Rattle.commands.specs.Code.{IsFileOf}
 use Rattle.commands.specs.Executables.{IsProgramOf}
 use Rattle.commands.specs.Inputs.{Inputs, inputs_of}
 use Rattle.commands.specs.Layouts.{IsLayoutFor}
-use Rattle.commands.specs.Outcomes.{Outcome, status_of, IsWholeRun}
+use Rattle.commands.specs.Outcomes.{status_of, told, IsWholeRun}
 use Rattle.commands.specs.Text.{text_of}
 
--- the outcome of a run of the executable's rewritten code on one node: the code is the rewriting by
--- the plan of the program, which a file of code that is given holds; and the blocks of the shared
--- lines are those of a layout that is given, or each line is one
-pub record IsOutcomeOf (inputs : Inputs) (budget : ℕ) (outcome : Outcome) : Type 0 where
+-- The outcome of a run of the executable's rewritten code on so many nodes. The code is the
+-- rewriting by the plan of the program, which a file of code that is given holds; and the blocks of
+-- the shared lines are those of a layout that is given, or each line is one. The events are the
+-- nodes' own, as their journals tell them, by stamp, and at one stamp by node; after them each node
+-- is over.
+pub record IsRunOf (inputs : Inputs) (nodes budget : ℕ) (work : Work) (own : List Stamped)
+    (outcome : Outcome) : Type 0 where
   pub elf : Elf
   pub executable : IsProgramOf inputs.executable elf
-  pub work : Work
   pub program : work.program ≡ program_of elf
-  pub laid_out : IsLayoutFor elf inputs.layout 1 work.layout
-  pub alone : work.layout.nodes ≡ 1
+  pub laid_out : IsLayoutFor elf inputs.layout nodes work.layout
+  pub count : work.layout.nodes ≡ nodes
   pub limit : work.budget ≡ budget
   pub plan : List PlanEntry
   pub the_plan : IsPlanOf work.program.code plan
   pub rewriting : IsRewriting work.program plan work.image
   pub code : IsFileOf (rewritten_elf elf work.image plan) inputs.code
-  pub events : List Event
-  pub whole : IsWholeRun work plan events outcome
+  pub stands : StandsForOwnRun work (after work (opening_core work) (run_of own)) own
+  pub over : IsOver work (after work (opening_core work) (run_of own))
+  pub whole : IsWholeRun work plan (run_of own) outcome
+
+-- the outcome of some such run
+pub record IsOutcomeOfRun (inputs : Inputs) (nodes budget : ℕ) (outcome : Outcome) : Type 0 where
+  pub work : Work
+  pub own : List Stamped
+  pub is_run : IsRunOf inputs nodes budget work own outcome
+
+-- The outcome of the run by the order of a number: at each turn it picks one of the events that are
+-- allowed, until each node is over. The core that these events lead to stands for its own run,
+-- whose outcome this is.
+pub record IsOutcomeOfSim (inputs : Inputs) (nodes order budget : ℕ) (outcome : Outcome) : Type 0
+  where
+    pub work : Work
+    pub own : List Stamped
+    pub is_run : IsRunOf inputs nodes budget work own outcome
+    pub events : List Event
+    pub ordered : FollowsOrder work order (opening_core work) events
+    pub over : IsOver work (after work (opening_core work) events)
+    pub stands : StandsForOwnRun work (after work (opening_core work) events) own
 
 -- the outcome of the original's processors on one memory, by the order of a number, with the blocks
 -- of the layout; no node counts anything
@@ -87,21 +112,24 @@ pub record IsRewrittenText (file text : List ℕ) (status : ℕ) : Type 0 where
   pub text_is : text ≡ []
   pub status_is : status ≡ 0
 
--- the text of an outcome with these facts, and its status
-pub record IsTextWith (Is : Outcome → Type 0) (text : List ℕ) (status : ℕ) : Type 0 where
-  pub outcome : Outcome
-  pub is : Is outcome
-  pub text_is : text ≡ text_of outcome
-  pub status_is : status ≡ status_of outcome
+-- the text of an outcome with these facts, which may be brief, and its status
+pub record IsTextWith (Is : Outcome → Type 0) (brief : Bool) (text : List ℕ) (status : ℕ) : Type 0
+  where
+    pub outcome : Outcome
+    pub is : Is outcome
+    pub text_is : text ≡ text_of (told brief outcome)
+    pub status_is : status ≡ status_of outcome
 
 -- the text that a command asks for, where it reads these files, and the status
 abbrev pub IsText : Command → Inputs → List ℕ → ℕ → Type 0
 IsText (Rewrite input output) inputs text status =
     IsRewrittenText inputs.executable text status
-IsText (Run file budget code layout) inputs text status =
-    IsTextWith (IsOutcomeOf inputs budget) text status
+IsText (Run file budget code layout brief) inputs text status =
+    IsTextWith (IsOutcomeOfRun inputs 1 budget) brief text status
 IsText (One file nodes order budget layout) inputs text status =
-    IsTextWith (IsOutcomeByOrder inputs nodes order budget) text status
+    IsTextWith (IsOutcomeByOrder inputs nodes order budget) false text status
+IsText (Sim file nodes order budget code layout brief) inputs text status =
+    IsTextWith (IsOutcomeOfSim inputs nodes order budget) brief text status
 IsText (Listing file) inputs text status = IsListingText inputs.executable text status
 
 -- each file that the command reads is told to have its content

@@ -1,20 +1,15 @@
--- What a run gives: the bytes printed, how each processor ended, and what each node counted.
-use Rattle.std.specs.Prelude.{◌≡◌, ℕ, ◌<◌, Bool, false, if◌then◌else◌, ◌==◌, List, Option, Some, map}
-use Rattle.std.specs.List.{list_all, range_with_len}
+-- What is told of an outcome, and when events are a whole run of the nodes.
+use Rattle.std.specs.Prelude.{◌≡◌, ℕ, ◌<◌, Bool, true, false, if◌then◌else◌, ◌==◌, List, [], Some, map}
+use Rattle.std.specs.List.{list_all}
 use Rattle.rv32_program.specs.declared.Exit.TheVariants.{Code}
 use Rattle.rv32_program.specs.declared.End.{End}
 use Rattle.rv32_program.specs.declared.End.TheVariants.{Exited, Stopped}
 use Rattle.templates.specs.declared.plans.PlanEntry.{PlanEntry}
-use Rattle.node_model.specs.declared.NodeCounts.{NodeCounts}
-use Rattle.node_model.specs.Node.{Work, Ended, end_of}
+use Rattle.node_model.specs.Node.{Work, Ended}
 use Rattle.node_model.specs.Core.{Event, IsCoreRun, opening_core, after}
-use Rattle.shared_sim.specs.Interleaving.{Interleaves, IsCoherent, original_after}
-use Rattle.shared_sim.specs.Licence.{AllLicensed}
-
-pub record Outcome : Type 0 where
-  pub output : List ℕ
-  pub ends : List End
-  pub counts : List NodeCounts
+use Rattle.node_model.specs.Outcome.{Outcome, ends_after, counts_after}
+use Rattle.rewriting_law.specs.Interleaving.{Interleaves, IsCoherent, original_after}
+use Rattle.rewriting_law.specs.Licence.{AllLicensed}
 
 -- the processor ended by itself, with code 0
 abbrev pub is_success : End → Bool
@@ -25,19 +20,14 @@ is_success e = false
 abbrev pub status_of : Outcome → ℕ
 status_of o = if list_all is_success o.ends then 0 else 1
 
--- the ends of the nodes after the events
-abbrev pub ends_after : Work → List Event → List (Option End)
-ends_after work events =
-    map (λ i. end_of ((after work (opening_core work) events).nodes i).phase)
-    (range_with_len 0 work.layout.nodes)
-
-abbrev pub counts_after : Work → List Event → List NodeCounts
-counts_after work events =
-    map (λ i. ((after work (opening_core work) events).nodes i).counts)
-    (range_with_len 0 work.layout.nodes)
+-- the part of an outcome that is told: where that is brief, not what the nodes counted
+abbrev pub told : (brief : Bool) → Outcome → Outcome
+told true o = record { output = o.output; ends = o.ends; counts = [] }
+told false o = o
 
 -- the events are a whole run of the nodes, from the start until each has ended, with this outcome
-pub record IsWholeRun (work : Work) (plan : List PlanEntry) (events : List Event) (o : Outcome) : Type 0 where
+pub record IsWholeRun (work : Work) (plan : List PlanEntry) (events : List Event) (o : Outcome) :
+    Type 0 where
   pub run : IsCoreRun work (opening_core work) events
   pub ends : ends_after work events ≡ map (λ e. Some e) o.ends
   pub counts : o.counts ≡ counts_after work events

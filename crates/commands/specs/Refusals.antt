@@ -1,7 +1,7 @@
 -- How the files of each command are refused: the executable first, then its rewriting, the file of
 -- code, and the layout.
 use Rattle.std.specs.Prelude.{ℕ, ◌⊎◌, List}
-use Rattle.command_line.specs.Commands.{Command, Rewrite, Run, Listing, One}
+use Rattle.command_line.specs.Commands.{Command, Rewrite, Run, Listing, One, Sim}
 use Rattle.commands.specs.Code.{IsCodeRefused}
 use Rattle.commands.specs.Executables.{IsUnaccepted, IsUnrewritten}
 use Rattle.commands.specs.Inputs.{Inputs}
@@ -14,12 +14,15 @@ IsRunRefused inputs line = IsUnrewritten inputs.executable line ⊎ IsCodeRefuse
 -- a command's executable, or its file of code, is refused with this line
 abbrev pub IsRefused : Command → Inputs → List ℕ → Type 0
 IsRefused (Rewrite input output) inputs line = IsUnrewritten inputs.executable line
-IsRefused (Run file budget code layout) inputs line = IsRunRefused inputs line
+IsRefused (Run file budget code layout brief) inputs line = IsRunRefused inputs line
 IsRefused (Listing file) inputs line = IsUnaccepted inputs.executable line
 IsRefused (One file nodes order budget layout) inputs line = IsUnaccepted inputs.executable line
+IsRefused (Sim file nodes order budget code layout brief) inputs line = IsRunRefused inputs line
 
 -- a command's layout is refused with this line
 abbrev pub IsLayoutRefused : Command → Inputs → List ℕ → Type 0
-IsLayoutRefused (Run file budget code layout) inputs line = IsBadRunLayout inputs 1 line
+IsLayoutRefused (Run file budget code layout brief) inputs line = IsBadRunLayout inputs 1 line
 IsLayoutRefused (One file nodes order budget layout) inputs line = IsBadLayout inputs nodes line
+IsLayoutRefused (Sim file nodes order budget code layout brief) inputs line =
+    IsBadRunLayout inputs nodes line
 IsLayoutRefused command inputs line = ⊥

@@ -7,6 +7,7 @@ use Rattle.rv32_program.specs.declared.Exit.TheVariants.{Code, Ebreak, Illegal, 
 use Rattle.rv32_program.specs.declared.End.{End}
 use Rattle.rv32_program.specs.declared.End.TheVariants.{Exited, Stopped}
 use Rattle.node_model.specs.declared.NodeCounts.{NodeCounts}
+use Rattle.node_model.specs.Outcome.{Outcome}
 use Rattle.elf32_read.specs.Refusals as files
 use Rattle.elf32_read.specs.declared.refused.FileRule.{FileRule}
 use Rattle.elf32_read.specs.declared.refused.FileRule.TheVariants.{Short, NotElf, NotElf32, NotExec, NotRiscv, Flags, ProgramTable, SectionTable, Dynamic, SegmentOutside, SegmentSizes}
@@ -21,7 +22,6 @@ use Rattle.block_layout.specs.Text as layouts
 use Rattle.block_layout.specs.declared.refused.Rule.{Rule}
 use Rattle.commands.specs.declared.refusal.Subject.{Subject}
 use Rattle.commands.specs.declared.refusal.Subject.TheVariants as subject
-use Rattle.commands.specs.Outcomes.{Outcome}
 
 -- a word in eight hexadecimal digits, behind 0x
 abbrev pub hex8 : ℕ → List ℕ
@@ -78,9 +78,12 @@ unfoldable pub usage : List ℕ
 usage =
     codes "usage: shasta rewrite IN OUT [--no-batch]\n" ++ (codes "       shasta list IN\n"
     ++ (codes "       shasta one IN [--nodes N] [--order K] [--budget B] [--layout FILE]\n"
-    ++ (codes "       shasta sim IN [--nodes N] [--order K] [--budget B] [--layout FILE] [--code FILE] [--no-batch] [--brief]\n"
-    ++ (codes "       shasta run IN [--nodes N] [--record FILE] [--budget B] [--layout FILE] [--code FILE] [--no-batch] [--brief]\n"
-    ++ (codes "       shasta replay IN RECORD [--brief]\n" ++ codes "       shasta gen NUMBER OUT\n")))))
+    ++ (codes "       shasta sim IN [--nodes N] [--order K] [--budget B] [--layout FILE]"
+    ++ (codes " [--code FILE] [--no-batch] [--brief]\n"
+    ++ (codes "       shasta run IN [--nodes N] [--record FILE] [--budget B] [--layout FILE]"
+    ++ (codes " [--code FILE] [--no-batch] [--brief]\n"
+    ++ (codes "       shasta replay IN RECORD [--brief]\n"
+    ++ codes "       shasta gen NUMBER OUT\n")))))))
 
 abbrev pub cannot_read : List ℕ → List ℕ
 cannot_read name = codes "shasta: cannot read " ++ (name ++ codes "\n")

@@ -68,20 +68,10 @@ fn input_of<'a>(command: &Command<'a>) -> &'a str
 {
     match command {
         Command::Rewrite { input, output: _ } => input,
-        Command::Run {
-            file,
-            budget: _,
-            code: _,
-            layout: _,
-        } => file,
-        Command::List { file } => file,
-        Command::One {
-            file,
-            nodes: _,
-            order: _,
-            budget: _,
-            layout: _,
-        } => file,
+        Command::Run { file, .. }
+        | Command::List { file }
+        | Command::One { file, .. }
+        | Command::Sim { file, .. } => file,
     }
 }
 
@@ -90,12 +80,7 @@ fn code_of<'a>(command: &Command<'a>) -> Option<&'a str>
     ensures { file_name result ≡ model_code_of (meaning_of command.now) }
 {
     match command {
-        Command::Run {
-            file: _,
-            budget: _,
-            code,
-            layout: _,
-        } => *code,
+        Command::Run { code, .. } | Command::Sim { code, .. } => *code,
         Command::Rewrite { .. } | Command::List { .. } | Command::One { .. } => None,
     }
 }
@@ -105,19 +90,8 @@ fn layout_of<'a>(command: &Command<'a>) -> Option<&'a str>
     ensures { file_name result ≡ model_layout_of (meaning_of command.now) }
 {
     match command {
-        Command::Run {
-            file: _,
-            budget: _,
-            code: _,
-            layout,
-        } => *layout,
-        Command::One {
-            file: _,
-            nodes: _,
-            order: _,
-            budget: _,
-            layout,
-        } => *layout,
+        Command::Run { layout, .. } | Command::One { layout, .. } | Command::Sim { layout, .. } =>
+            *layout,
         Command::Rewrite { .. } | Command::List { .. } => None,
     }
 }
@@ -182,7 +156,8 @@ fn read_file<F: Files>(alloc: Global, files: &mut F, name: &str) -> Result<Vec<u
     ensures ok { IfOk result (λ bytes. IsContent (F.held files.old name.now) bytes.items) }
     ensures failure { IfErr result (λ f. IsReadFailure
         (files_of (F.held files.old) (F.failed_reads files.old) (F.failed_writes files.old))
-        (files_of (F.held files.new) (F.failed_reads files.new) (F.failed_writes files.new)) name.now f) }
+        (files_of (F.held files.new) (F.failed_reads files.new) (F.failed_writes files.new))
+        name.now f) }
     ensures contents { (n : List ℕ) → F.held files.new n ≡ F.held files.old n }
     ensures reads { (n : List ℕ) → F.failed_reads files.old n ≤ F.failed_reads files.new n }
     ensures writes { (n : List ℕ) → F.failed_writes files.old n ≤ F.failed_writes files.new n }

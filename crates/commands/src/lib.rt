@@ -9,9 +9,11 @@ mod list;
 mod one;
 mod outcome;
 mod output;
+mod prepare;
 mod refusal;
 mod rewrite;
 mod run;
+mod sim;
 mod text;
 mod top;
 

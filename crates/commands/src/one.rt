@@ -1,6 +1,6 @@
 //! `one`: the original's processors on one memory, by the order of a number.
 
-ghost use Rattle.std.specs.Prelude.{◌≡◌, ℕ, IfOk, IfErr};
+ghost use Rattle.std.specs.Prelude.{◌≡◌, ℕ, false, IfOk, IfErr};
 ghost use Rattle.commands.specs.Answers.{sink_of};
 ghost use Rattle.commands.specs.Headline.{IsTextWith, IsOutcomeByOrder};
 ghost use Rattle.commands.specs.Executables.{IsUnaccepted};
@@ -18,8 +18,8 @@ use one_memory::run_by_order;
 use run_limits::{Budget, NodeCount};
 use std::alloc::Global;
 
-/// Runs the original of the executable among these files, with the blocks of the layout, and puts the
-/// text of the outcome.
+/// Runs the original of the executable among these files, with the blocks of the layout, and puts
+/// the text of the outcome.
 pub fn one<O: Sink>(
     alloc: Global,
     inputs: &Inputs<'_>,
@@ -29,10 +29,10 @@ pub fn one<O: Sink>(
     out: &mut O,
 ) -> Result<u8, Failure>
     ensures ok { IfOk result (λ status.
-        Puts (IsTextWith (IsOutcomeByOrder (bytes_of inputs.now) nodes order budget)) status
+        Puts (IsTextWith (IsOutcomeByOrder (bytes_of inputs.now) nodes order budget) false) status
         (O.taken out.old) (O.taken out.new)) }
     ensures failure { IfErr result (FailsAs
-        (IsTextWith (IsOutcomeByOrder (bytes_of inputs.now) nodes order budget))
+        (IsTextWith (IsOutcomeByOrder (bytes_of inputs.now) nodes order budget) false)
         (IsUnaccepted (bytes_of inputs.now).executable) (IsBadLayout (bytes_of inputs.now) nodes)
         (sink_of (O.taken out.old) (O.faults out.old) (O.refusals out.old))
         (sink_of (O.taken out.new) (O.faults out.new) (O.refusals out.new))) }

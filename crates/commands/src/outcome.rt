@@ -3,16 +3,40 @@
 ghost use Rattle.std.specs.Prelude.{◌≡◌, ◌≤◌, ℕ, IfOk, IfErr};
 ghost use Rattle.std.specs.List.{list_all};
 ghost use Rattle.commands.specs.Answers.{sink_of};
-ghost use Rattle.commands.specs.Outcomes.{is_success, status_of};
+ghost use Rattle.commands.specs.Outcomes.{is_success, status_of, told};
+ghost use Rattle.dsm_core.specs.CoreParts.{outcome_of};
 ghost use Rattle.commands.specs.Failures.{Puts, FailsAs, IsTextOfOutcome, IsNever};
 
 use crate::failure::Failure;
 use crate::output::put;
 use crate::text::{outcome_head, outcome_tail};
+use dsm_core::Outcome;
 use dsm_io::Sink;
 use exec_map::{End, Exit};
-use node_machine::NodeCounts;
+use node_model::NodeCounts;
 use std::alloc::Global;
+
+/// Puts the text of the outcome of nodes, which may be brief, and gives its status.
+pub fn put_told<O: Sink>(
+    alloc: Global,
+    outcome: &Outcome,
+    brief: bool,
+    out: &mut O,
+) -> Result<u8, Failure>
+    ensures ok { IfOk result (λ status.
+        Puts (IsTextOfOutcome (told brief (outcome_of outcome.now))) status
+        (O.taken out.old) (O.taken out.new)) }
+    ensures failure { IfErr result (FailsAs
+        (IsTextOfOutcome (told brief (outcome_of outcome.now))) IsNever IsNever
+        (sink_of (O.taken out.old) (O.faults out.old) (O.refusals out.old))
+        (sink_of (O.taken out.new) (O.faults out.new) (O.refusals out.new))) }
+{
+    if brief {
+        put_outcome(alloc, &outcome.output, &outcome.ends, &[], out)
+    } else {
+        put_outcome(alloc, &outcome.output, &outcome.ends, &outcome.counts, out)
+    }
+}
 
 /// Puts the text of an outcome, and gives its status.
 pub fn put_outcome<O: Sink>(
@@ -22,11 +46,11 @@ pub fn put_outcome<O: Sink>(
     counts: &[NodeCounts],
     out: &mut O,
 ) -> Result<u8, Failure>
-    ensures ok { IfOk result (λ status.
-        Puts (IsTextOfOutcome (record { output = output.now; ends = ends.now; counts = counts.now }))
+    ensures ok { IfOk result (λ status. Puts (IsTextOfOutcome
+        (record { output = output.now; ends = ends.now; counts = counts.now }))
         status (O.taken out.old) (O.taken out.new)) }
-    ensures failure { IfErr result (FailsAs
-        (IsTextOfOutcome (record { output = output.now; ends = ends.now; counts = counts.now }))
+    ensures failure { IfErr result (FailsAs (IsTextOfOutcome
+        (record { output = output.now; ends = ends.now; counts = counts.now }))
         IsNever IsNever
         (sink_of (O.taken out.old) (O.faults out.old) (O.refusals out.old))
         (sink_of (O.taken out.new) (O.faults out.new) (O.refusals out.new))) }
@@ -41,7 +65,8 @@ pub fn put_outcome<O: Sink>(
 
 /// 0 where every processor ended by itself with code 0, else 1.
 fn status(ends: &[End]) -> u8
-    ensures value { (output : _) (counts : _) → result ≡ status_of (record { output = output; ends = ends.now; counts = counts }) }
+    ensures value { (output : _) (counts : _) → result
+        ≡ status_of (record { output = output; ends = ends.now; counts = counts }) }
     ensures range { result ≤ 1 }
 {
     if all_succeeded(ends) { 0 } else { 1 }

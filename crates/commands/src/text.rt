@@ -6,7 +6,7 @@ ghost use Rattle.commands.specs.Text as model;
 
 use exec_map::{End, Exit};
 use itoa::Buffer;
-use node_machine::NodeCounts;
+use node_model::NodeCounts;
 use rv32_text::push_word;
 use std::alloc::{AllocError, Global};
 
@@ -15,8 +15,10 @@ pub const USAGE: &str = concat!(
     "usage: shasta rewrite IN OUT [--no-batch]\n",
     "       shasta list IN\n",
     "       shasta one IN [--nodes N] [--order K] [--budget B] [--layout FILE]\n",
-    "       shasta sim IN [--nodes N] [--order K] [--budget B] [--layout FILE] [--code FILE] [--no-batch] [--brief]\n",
-    "       shasta run IN [--nodes N] [--record FILE] [--budget B] [--layout FILE] [--code FILE] [--no-batch] [--brief]\n",
+    "       shasta sim IN [--nodes N] [--order K] [--budget B] [--layout FILE]",
+    " [--code FILE] [--no-batch] [--brief]\n",
+    "       shasta run IN [--nodes N] [--record FILE] [--budget B] [--layout FILE]",
+    " [--code FILE] [--no-batch] [--brief]\n",
     "       shasta replay IN RECORD [--brief]\n",
     "       shasta gen NUMBER OUT\n",
 );
@@ -60,7 +62,8 @@ fn push_processors(text: &mut Vec<u8>, ends: &[End]) -> Result<(), AllocError>
 
 /// Appends the line of a processor.
 fn push_processor(text: &mut Vec<u8>, processor: u64, end: End) -> Result<(), AllocError>
-    ensures { OnOk result (text.new.items ≡ text.old.items ++ model.processor_lines processor (end ∷ [])) }
+    ensures { OnOk result
+        (text.new.items ≡ text.old.items ++ model.processor_lines processor (end ∷ [])) }
 {
     text.extend_from_slice(b"processor ")?;
     push_number(text, processor)?;
@@ -121,7 +124,8 @@ fn push_nodes(text: &mut Vec<u8>, counts: &[NodeCounts]) -> Result<(), AllocErro
 
 /// Appends the line of a node.
 fn push_node(text: &mut Vec<u8>, node: u64, counts: &NodeCounts) -> Result<(), AllocError>
-    ensures { OnOk result (text.new.items ≡ text.old.items ++ model.node_lines node (counts.now ∷ [])) }
+    ensures { OnOk result
+        (text.new.items ≡ text.old.items ++ model.node_lines node (counts.now ∷ [])) }
 {
     push_count(text, b"node ", node)?;
     text.extend_from_slice(b" ")?;

@@ -18,15 +18,16 @@ use crate::list::list;
 use crate::one::one;
 use crate::rewrite::rewrite_into;
 use crate::run::run;
+use crate::sim::sim;
 use crate::text::USAGE;
 use command_line::{Command, command_of};
 use dsm_io::{Files, Gate, Sink, SinkError, Text};
 use std::alloc::Global;
 
-/// Does what the words ask for, and answers the status: 0 where every processor ended by itself with
-/// code 0, or none runs; 1 where some processor ended otherwise; 2 for a faulty command line; 3 where
-/// a file or the output failed; 4 where the executable, or a file of its rewritten code, is refused; 5
-/// where it was out of memory; 6 where the layout is refused.
+/// Does what the words ask for, and answers the status: 0 where every processor ended by itself
+/// with code 0, or none runs; 1 where some processor ended otherwise; 2 for a faulty command line;
+/// 3 where a file or the output failed; 4 where the executable, or a file of its rewritten code, is
+/// refused; 5 where it was out of memory; 6 where the layout is refused.
 pub fn shasta<F: Files, O: Sink, E: Sink, G: Gate + Sync>(
     alloc: Global,
     words: &[Text],
@@ -46,14 +47,15 @@ pub fn shasta<F: Files, O: Sink, E: Sink, G: Gate + Sync>(
         (sink_of (E.taken err.new) (E.faults err.new) (E.refusals err.new))
         usage }
 
-    // With status 0 and 1 the text is what the command asks for: of `run`, that of a run of the
-    // original on one memory. `err` took nothing.
+    // With status 0 and 1 the text is what the command asks for: of `run` and `sim`, that of a run
+    // of the original on one memory. `err` took nothing.
     ensures prints { (c : Asked) (contents : List ℕ → List ℕ) → Asks words.now c
         → AreTold c (F.held files.old) contents → result ≤ 1
         → Prints c contents (O.taken out.old) (O.taken out.new) result }
     ensures quiet { result ≤ 1 → E.taken err.new ≡ E.taken err.old }
 
-    // Status 4 is for a refused executable, or one that isn't the rewritten one; the refusal is told.
+    // Status 4 is for a refused executable, or one that isn't the rewritten one; the refusal is
+    // told.
     ensures refused { (c : Asked) (contents : List ℕ → List ℕ) → Asks words.now c
         → AreTold c (F.held files.old) contents → result ≡ 4
         → (line : List ℕ) × IsRefused c (inputs_of c contents) line × Tells
@@ -71,9 +73,9 @@ pub fn shasta<F: Files, O: Sink, E: Sink, G: Gate + Sync>(
         (sink_of (E.taken err.new) (E.faults err.new) (E.refusals err.new))
         line }
 
-    // Status 3 comes only where a count of faults rose in this call, or a file is too long; its line
-    // names which. A fault of a file comes before anything is put, one of the output only where a
-    // text that the command asks for is being put. A file that is too long is never run.
+    // Status 3 comes only where a count of faults rose in this call, or a file is too long; its
+    // line names which. A fault of a file comes before anything is put, one of the output only
+    // where a text that the command asks for is being put. A file that is too long is never run.
     ensures fault { (c : Asked) → Asks words.now c → result ≡ 3 → IsFault c
         (files_of (F.held files.old) (F.failed_reads files.old) (F.failed_writes files.old))
         (files_of (F.held files.new) (F.failed_reads files.new) (F.failed_writes files.new))
@@ -96,7 +98,8 @@ pub fn shasta<F: Files, O: Sink, E: Sink, G: Gate + Sync>(
         → (O.taken out.new ≡ O.taken out.old)
         ⊎ PrintsPrefix c contents (O.taken out.old) (O.taken out.new) }
 
-    // No file changes but one that the command writes; and that one does only with status 0, 3 or 5.
+    // No file changes but one that the command writes; and that one does only with status 0, 3 or
+    // 5.
     ensures files { (name : List ℕ)
         → ((c : Asked) → Asks words.now c → Contains (writes c) name → ⊥)
         → F.held files.new name ≡ F.held files.old name }
@@ -186,7 +189,8 @@ fn perform<F: Files, O: Sink>(
     ensures kept { IfErr result (AreKept
         (files_of (F.held files.old) (F.failed_reads files.old) (F.failed_writes files.old))
         (files_of (F.held files.new) (F.failed_reads files.new) (F.failed_writes files.new))) }
-    ensures written { IfOk result (λ status. AreWritten (meaning_of command.now) (bytes_of inputs.now)
+    ensures written { IfOk result (λ status. AreWritten (meaning_of command.now)
+        (bytes_of inputs.now)
         (files_of (F.held files.new) (F.failed_reads files.new) (F.failed_writes files.new))) }
     ensures left { IfErr result (λ f. AreLeft (meaning_of command.now) (bytes_of inputs.now)
         (files_of (F.held files.old) (F.failed_reads files.old) (F.failed_writes files.old))
@@ -195,20 +199,21 @@ fn perform<F: Files, O: Sink>(
     let file = inputs.executable;
     match command {
         Command::Rewrite { input: _, output } => rewrite_into(alloc, file, output, files),
-        Command::Run {
-            file: _,
-            budget,
-            code: _,
-            layout: _,
-        } => run(alloc, inputs, *budget, out),
+        Command::Run { budget, brief, .. } => run(alloc, inputs, *budget, *brief, out),
         Command::List { file: _ } => list(alloc, file, out),
         Command::One {
-            file: _,
             nodes,
             order,
             budget,
-            layout: _,
+            ..
         } => one(alloc, inputs, *nodes, *order, *budget, out),
+        Command::Sim {
+            nodes,
+            order,
+            budget,
+            brief,
+            ..
+        } => sim(alloc, inputs, *nodes, *order, *budget, *brief, out),
     }
 }
 

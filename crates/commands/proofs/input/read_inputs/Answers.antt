@@ -1,11 +1,10 @@
 use Rattle.std.proofs.lemmas.Result.{err_from_is_err_and}
-use Rattle.std.proofs.Common.{◌≡◌, ◌≤◌, ◌∙◌, ℕ, List, Some, option_map, ap, arith, sym, subst}
+use Rattle.std.proofs.Common.{◌≤◌, ◌∙◌, ℕ, List, option_map, arith, subst}
 use Rattle.command_line.specs.Meaning.{meaning_of}
 use Rattle.commands.specs.Answers.{FilesState}
-use Rattle.commands.specs.Given.{contents_of}
-use Rattle.commands.specs.Inputs.{input_of, code_of, layout_of}
-use Rattle.commands.specs.Failures.{AreContents, AreRead, IsContent, IsInputFailure, IsNamedFailure}
-use Rattle.commands.proofs.AnswerLemmas.{kept_unread, named_fails}
+use Rattle.commands.specs.Inputs.{code_of, layout_of}
+use Rattle.commands.specs.Failures.{AreContents, AreRead, IsContent, IsNamedFailure}
+use Rattle.commands.proofs.AnswerLemmas.{named_fails}
 use Rattle.commands.proofs.InputLemmas.{content_before, inputs_read, none_long, reads_code, reads_layout}
 use Rattle.commands.proofs.input.read_inputs.Goals as goal
 

@@ -1,11 +1,11 @@
-use Rattle.std.proofs.Common.{◌≡◌, [], inl, inr, refl, sym, subst}
+use Rattle.std.proofs.Common.{false, [], inl, inr, refl, sym, subst}
 use Rattle.std.proofs.lemmas.Result.{err_from_is_err_and}
 use Rattle.elf32_read.specs.Elf.{Elf}
 use Rattle.exec_map.specs.Contents.{program_of}
 use Rattle.rv32_step.specs.OneMemory.{Original}
 use Rattle.one_memory.specs.ByOrder.{IsRunByOrder}
 use Rattle.commands.specs.Answers.{SinkState}
-use Rattle.commands.specs.Outcomes.{Outcome}
+use Rattle.node_model.specs.Outcome.{Outcome}
 use Rattle.commands.specs.Executables.{IsUnaccepted, IsUnread, IsRejection}
 use Rattle.commands.specs.declared.refusal.Subject.TheVariants.{Executable}
 use Rattle.commands.specs.Failures.{IsNever}
@@ -21,7 +21,7 @@ returns-in_err-elf-clause-failure g c =
     let n = c.args.nodes in
     let state : SinkState = record { taken = g.O.Sink.taken c.args.out.now; faults = g.O.Sink.faults c.args.out.now; refusals = g.O.Sink.refusals c.args.out.now } in
     let e = err_from_is_err_and c.from_residual.result c.from_residual.ensures.1 in
-    rw (e.1, e.2) (refused_first (IsTextWith (IsOutcomeByOrder inputs n c.args.order c.args.budget))
+    rw (e.1, e.2) (refused_first (IsTextWith (IsOutcomeByOrder inputs n c.args.order c.args.budget) false)
     (IsUnread Executable inputs.executable) IsNever (IsUnaccepted inputs.executable)
     (IsBadLayout inputs n) state c.in_err-elf.field-0.0 (λ line h. inl h) (never (IsBadLayout inputs n))
     c.in_err-elf.ensures.refused)
@@ -33,7 +33,7 @@ returns-in_err-program-clause-failure g c =
     let state : SinkState = record { taken = g.O.Sink.taken c.args.out.now; faults = g.O.Sink.faults c.args.out.now; refusals = g.O.Sink.refusals c.args.out.now } in
     let e = err_from_is_err_and c.from_residual-in_err-program.result
     c.from_residual-in_err-program.ensures.1 in
-    rw (e.1, e.2) (refused_first (IsTextWith (IsOutcomeByOrder inputs n c.args.order c.args.budget))
+    rw (e.1, e.2) (refused_first (IsTextWith (IsOutcomeByOrder inputs n c.args.order c.args.budget) false)
     (IsRejection c.in_ok-elf.elf) IsNever (IsUnaccepted inputs.executable) (IsBadLayout inputs n) state
     c.in_err-program.field-0.0 (λ line h. inr (c.in_ok-elf.elf, c.in_ok-elf.ensures.ok, h))
     (never (IsBadLayout inputs n)) c.in_err-program.ensures.refused)
@@ -46,7 +46,7 @@ returns-in_err-layout-clause-failure g c =
     let state : SinkState = record { taken = g.O.Sink.taken c.args.out.now; faults = g.O.Sink.faults c.args.out.now; refusals = g.O.Sink.refusals c.args.out.now } in
     let e = err_from_is_err_and c.from_residual-in_err-layout.result
     c.from_residual-in_err-layout.ensures.1 in
-    rw (e.1, e.2) (refused_first (IsTextWith (IsOutcomeByOrder inputs n c.args.order c.args.budget))
+    rw (e.1, e.2) (refused_first (IsTextWith (IsOutcomeByOrder inputs n c.args.order c.args.budget) false)
     IsNever (IsFaultyLayout p inputs.layout n) (IsUnaccepted inputs.executable) (IsBadLayout inputs n)
     state c.in_err-layout.field-0.0 (never (IsUnaccepted inputs.executable))
     (λ line h. record {
@@ -77,7 +77,7 @@ returns-clause-ok g c =
       ordered = ordered;
       counts = refl;
     } in
-    outcome_put (IsOutcomeByOrder inputs n c.args.order c.args.budget) o
+    outcome_put (IsOutcomeByOrder inputs n c.args.order c.args.budget) false o
     (g.O.Sink.taken c.args.out.now) (g.O.Sink.taken c.put_outcome.new.out) c.put_outcome.result is
     c.put_outcome.ensures.ok
 
@@ -105,5 +105,5 @@ returns-clause-failure g c =
       ordered = ordered;
       counts = refl;
     } in
-    outcome_fails (IsOutcomeByOrder inputs n c.args.order c.args.budget) (IsUnaccepted inputs.executable)
-    (IsBadLayout inputs n) o before now c.put_outcome.result is c.put_outcome.ensures.failure
+    outcome_fails (IsOutcomeByOrder inputs n c.args.order c.args.budget) false
+    (IsUnaccepted inputs.executable) (IsBadLayout inputs n) o before now c.put_outcome.result is c.put_outcome.ensures.failure

@@ -2,7 +2,7 @@ use Rattle.std.proofs.Common.{◌≡◌, [], ◌++◌, length, refl, sym, ap, �
 use Rattle.std.proofs.lemmas.Result.{err_from_is_err_and}
 use Rattle.dsm_io.specs.Causes.{Appends}
 use Rattle.commands.specs.Answers.{SinkState}
-use Rattle.commands.specs.Outcomes.{Outcome}
+use Rattle.node_model.specs.Outcome.{Outcome}
 use Rattle.commands.specs.Outcomes as outcomes
 use Rattle.commands.specs.Text.{outcome_head, outcome_tail, text_of}
 use Rattle.commands.specs.Failures.{IsTextOfOutcome, IsNever, IsPutFailure}

@@ -32,3 +32,11 @@ returns-in-One-clause-failure g c =
     let now : SinkState = record { taken = g.O.Sink.taken c.one.new.out; faults = g.O.Sink.faults c.one.new.out; refusals = g.O.Sink.refusals c.one.new.out } in
     plain_failure (meaning_of c.args.command.now) (bytes_of c.args.inputs.now) files files before now
     c.one.result (rw c.in-One.is c.one.ensures.failure)
+
+pub returns-in-Sim-clause-failure : goal.returns-in-Sim-clause-failure
+returns-in-Sim-clause-failure g c =
+    let files : FilesState = record { held = g.F.Files.held c.args.files.now; failed_reads = g.F.Files.failed_reads c.args.files.now; failed_writes = g.F.Files.failed_writes c.args.files.now } in
+    let before : SinkState = record { taken = g.O.Sink.taken c.args.out.now; faults = g.O.Sink.faults c.args.out.now; refusals = g.O.Sink.refusals c.args.out.now } in
+    let now : SinkState = record { taken = g.O.Sink.taken c.sim.new.out; faults = g.O.Sink.faults c.sim.new.out; refusals = g.O.Sink.refusals c.sim.new.out } in
+    plain_failure (meaning_of c.args.command.now) (bytes_of c.args.inputs.now) files files before now
+    c.sim.result (rw c.in-Sim.is c.sim.ensures.failure)

@@ -1,0 +1,59 @@
+//! What a run of rewritten code is of: the program, its rewriting, and the layout.
+
+ghost use Rattle.std.specs.Prelude.{◌≡◌, ℕ, IfOk, IfErr};
+ghost use Rattle.rewriting_law.specs.Bounds.{RunsRewritten};
+ghost use Rattle.commands.specs.Executables.{ReadsAs};
+ghost use Rattle.commands.specs.Failures.{IsRefusal, GivesRuns, work_for};
+ghost use Rattle.commands.specs.Given.{bytes_of};
+ghost use Rattle.commands.specs.Layouts.{IsBadRunLayout};
+ghost use Rattle.commands.specs.Refusals.{IsRunRefused};
+
+use crate::code::{judge_code, rewriting_of};
+use crate::failure::Failure;
+use crate::input::{Inputs, program_of};
+use crate::layout::layout_for;
+use block_layout::Layout;
+use elf32_read::Elf;
+use exec_map::Program;
+use rewriter::Rewritten;
+use rewriting_law::interleaving_law;
+use run_limits::{Budget, NodeCount};
+use std::alloc::Global;
+
+/// The parts of a run.
+#[derive(Drop)]
+pub struct Prepared<'a> {
+    pub program: Program<'a>,
+    pub rewritten: Rewritten,
+    pub layout: Layout,
+    pub budget: Budget,
+}
+
+/// Judges the executable, which was read, its rewriting, the file of code and the layout, in this
+/// order, and gives the parts of a run of so many nodes.
+pub fn prepare<'a>(
+    alloc: Global,
+    elf: &'a Elf<'_>,
+    inputs: &Inputs<'_>,
+    nodes: NodeCount,
+    budget: Budget,
+) -> Result<Prepared<'a>, Failure>
+    requires reads { ReadsAs (bytes_of inputs.now).executable elf.now }
+    ensures rewritten { IfOk result (λ p. RunsRewritten (work_for p)) }
+    ensures runs { IfOk result (λ p. GivesRuns (bytes_of inputs.now) nodes budget (work_for p)) }
+    ensures refused { IfErr result (IsRefusal (IsRunRefused (bytes_of inputs.now))
+        (IsBadRunLayout (bytes_of inputs.now) nodes)) }
+{
+    let program = program_of(alloc, elf)?;
+    let rewritten = rewriting_of(alloc, &program)?;
+    judge_code(alloc, elf, &rewritten, inputs.code)?;
+    let layout = layout_for(alloc, &program, inputs.layout, nodes)?;
+    let _words = budget.number();
+    interleaving_law();
+    Ok(Prepared {
+        program,
+        rewritten,
+        layout,
+        budget,
+    })
+}
