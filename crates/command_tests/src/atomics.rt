@@ -149,6 +149,9 @@ fn counts_by_two_processors(rt: HostRuntime) -> Result<(), Fail> {
         "one IN --nodes 2",
         "one IN --nodes 2 --order 1",
         "one IN --nodes 2 --order 77",
+        "sim IN --nodes 2 --brief",
+        "sim IN --nodes 2 --brief --order 1",
+        "sim IN --nodes 2 --brief --order 7",
     ] {
         try_call(alloc, &file, words, &COUNTED)?;
     }

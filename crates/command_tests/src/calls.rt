@@ -15,7 +15,7 @@ const FILE_HEADER: &str = "464c457f 00010101 00000000 00000000 00f30002 00000001
     00000000 00000000 00200034 00000002 00000000";
 
 /// Appends words, each of eight hexadecimal digits, with spaces between them.
-fn push_words(bytes: &mut Vec<u8>, words: &str) -> Result<(), Fail> {
+pub fn push_words(bytes: &mut Vec<u8>, words: &str) -> Result<(), Fail> {
     for word in words.split_whitespace() {
         let word = u32::from_str_radix(word, 16)?;
         bytes.extend_from_slice(&word.to_le_bytes())?;
@@ -141,8 +141,8 @@ pub fn try_call(alloc: Global, file: &[u8], words: &str, answer: &Answer<'_>) ->
     try_held(alloc, &[("IN", file)], words, answer)
 }
 
-/// Executes a program that prints nothing, on one memory and rewritten, and fails the test where it
-/// ends otherwise or its node counts otherwise.
+/// Executes a program that prints nothing, on one memory and rewritten, by `run` and by `sim`, and
+/// fails the test where it ends otherwise or its node counts otherwise.
 pub fn try_program(
     alloc: Global,
     code: &str,
@@ -165,5 +165,8 @@ pub fn try_program(
         out: &run,
         err: "",
     };
-    try_call(alloc, &file, "run IN", &of_run)
+    for words in ["run IN", "sim IN"] {
+        try_call(alloc, &file, words, &of_run)?;
+    }
+    Ok(())
 }

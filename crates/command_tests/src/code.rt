@@ -20,8 +20,8 @@ fn rewritten(alloc: Global, file: &[u8]) -> Result<Vec<u8>, Fail> {
     }
 }
 
-/// Calls `run` on an executable with a file of code and the layout of a text, and fails the test
-/// where it answers otherwise.
+/// Calls `run` and `sim` on an executable with a file of code and the layout of a text, and fails
+/// the test where one answers otherwise.
 fn try_code(
     alloc: Global,
     file: &[u8],
@@ -30,7 +30,13 @@ fn try_code(
     answer: &Answer<'_>,
 ) -> Result<(), Fail> {
     let held = [("IN", file), ("OUT", code), ("L", text.as_bytes())];
-    try_held(alloc, &held, "run --layout L IN --code OUT", answer)
+    for words in [
+        "run --layout L IN --code OUT",
+        "sim --layout L IN --code OUT",
+    ] {
+        try_held(alloc, &held, words, answer)?;
+    }
+    Ok(())
 }
 
 #[test]
@@ -58,8 +64,8 @@ const CHANGES: [(usize, u8, &str); 5] = [
     (0, 0x80, "shasta: code refused 2 NotElf\n"),
 ];
 
-/// Calls `run` on an executable with a file of code, of which a byte is changed, and fails the test
-/// where it tells another line. The layout is judged behind the code.
+/// Calls `run` and `sim` on an executable with a file of code, of which a byte is changed, and
+/// fails the test where one tells another line. The layout is judged behind the code.
 fn try_change(
     alloc: Global,
     file: &[u8],
@@ -127,6 +133,7 @@ fn reads_the_code_before_the_layout(rt: HostRuntime) -> Result<(), Fail> {
     for (words, err) in [
         ("run IN --layout a --code b", "shasta: cannot read b\n"),
         ("run IN --code IN --layout a", "shasta: cannot read a\n"),
+        ("sim IN --layout a --code b", "shasta: cannot read b\n"),
     ] {
         let answer = Answer {
             status: 3,

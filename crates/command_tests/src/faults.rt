@@ -15,7 +15,7 @@ const USAGE: &str = "usage: shasta rewrite IN OUT [--no-batch]
 ";
 
 /// Words that ask for no command.
-const FAULTY: [&str; 12] = [
+const FAULTY: [&str; 16] = [
     "",
     "run",
     "run IN --nodes 17",
@@ -25,6 +25,10 @@ const FAULTY: [&str; 12] = [
     "run IN --layout=",
     "run IN --code -x",
     "run IN --code=",
+    "run IN --brief=x",
+    "run IN --brief --brief",
+    "one IN --brief",
+    "sim IN --nodes 17",
     "one IN --nodes 17",
     "one IN --code a",
     "list IN --layout a",

@@ -58,19 +58,22 @@ const CASES: [Case; 7] = [
     },
 ];
 
-/// Calls `run` and `one` on a file with a layout, and fails the test where one answers otherwise.
-/// The text behind the output of `run` is the line of its node.
+/// Calls `one`, `run` and `sim` on a file with a layout, and fails the test where one answers
+/// otherwise. The text behind the output of the others is the line of the node.
 fn try_layout(alloc: Global, file: &[u8], layout: &str, answer: &Answer<'_>) -> Result<(), Fail> {
     let held = [("IN", file), ("-x", layout.as_bytes())];
     try_held(alloc, &held, "one --layout=-x IN", answer)?;
     let node = if answer.out.is_empty() { "" } else { NODE };
     let out = text_of(alloc, &[answer.out, node])?;
-    let of_run = Answer {
+    let of_node = Answer {
         status: answer.status,
         out: &out,
         err: answer.err,
     };
-    try_held(alloc, &held, "run --layout=-x IN", &of_run)
+    for words in ["run --layout=-x IN", "sim --layout=-x IN"] {
+        try_held(alloc, &held, words, &of_node)?;
+    }
+    Ok(())
 }
 
 #[test]
@@ -106,8 +109,25 @@ fn reads_the_layout_first(rt: HostRuntime) -> Result<(), Fail> {
         out: "",
         err: "shasta: cannot read a\n",
     };
-    for words in ["run IN --layout a", "one IN --layout a"] {
+    for words in [
+        "run IN --layout a",
+        "one IN --layout a",
+        "sim IN --layout a",
+    ] {
         try_call(rt.alloc(), b"", words, &answer)?;
+    }
+    Ok(())
+}
+
+/// Calls `one` and `sim` for two processors on a file with a layout, and fails the test where one
+/// answers otherwise. What the nodes count isn't told.
+fn try_both(alloc: Global, file: &[u8], layout: &str, answer: &Answer<'_>) -> Result<(), Fail> {
+    let held = [("IN", file), ("L", layout.as_bytes())];
+    for words in [
+        "one IN --layout L --nodes 2",
+        "sim IN --layout L --nodes 2 --brief",
+    ] {
+        try_held(alloc, &held, words, answer)?;
     }
     Ok(())
 }
@@ -123,9 +143,8 @@ fn judges_homes_for_the_nodes(rt: HostRuntime) -> Result<(), Fail> {
         ("0x20000 0x40 64 1", 1, both, ""),
         ("0x20000 0x40 64 2", 6, "", line),
     ] {
-        let held = [("IN", file.as_slice()), ("L", text.as_bytes())];
         let answer = Answer { status, out, err };
-        try_held(alloc, &held, "one IN --layout L --nodes 2", &answer)?;
+        try_both(alloc, &file, text, &answer)?;
     }
     Ok(())
 }
@@ -154,13 +173,12 @@ fn reserves_a_block(rt: HostRuntime) -> Result<(), Fail> {
             "output 0\n\nprocessor 0 exit 1\nprocessor 1 exit 0\n",
         ),
     ] {
-        let held = [("IN", file.as_slice()), ("L", text.as_bytes())];
         let answer = Answer {
             status,
             out,
             err: "",
         };
-        try_held(alloc, &held, "one IN --layout L --nodes 2", &answer)?;
+        try_both(alloc, &file, text, &answer)?;
     }
     Ok(())
 }
@@ -170,8 +188,7 @@ fn counts_whatever_the_blocks(rt: HostRuntime) -> Result<(), Fail> {
     let alloc = rt.alloc();
     let file = executable(alloc, COUNTER, b"", 128)?;
     for text in ["", "0x20000 0x80 128 1", "0x20040 0x40 64 0"] {
-        let held = [("IN", file.as_slice()), ("L", text.as_bytes())];
-        try_held(alloc, &held, "one IN --layout L --nodes 2", &COUNTED)?;
+        try_both(alloc, &file, text, &COUNTED)?;
     }
     Ok(())
 }

@@ -16,6 +16,8 @@ mod instructions;
 #[cfg(test)]
 mod layouts;
 #[cfg(test)]
+mod nodes;
+#[cfg(test)]
 mod orders;
 #[cfg(test)]
 mod programs;

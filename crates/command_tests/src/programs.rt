@@ -17,12 +17,30 @@ struct Row {
     node: &'static str,
 }
 
-const ROWS: [Row; 6] = [
+const ROWS: [Row; 9] = [
     Row {
         words: "run IN",
         status: 0,
         output: "output 3\nhi\n\nprocessor 0 exit 0\n",
         node: NODE,
+    },
+    Row {
+        words: "run IN --brief",
+        status: 0,
+        output: "output 3\nhi\n\nprocessor 0 exit 0\n",
+        node: "",
+    },
+    Row {
+        words: "sim IN --order 3",
+        status: 0,
+        output: "output 3\nhi\n\nprocessor 0 exit 0\n",
+        node: NODE,
+    },
+    Row {
+        words: "sim IN --brief --budget 1",
+        status: 1,
+        output: "output 0\n\nprocessor 0 stopped 1\n",
+        node: "",
     },
     Row {
         words: "run IN --budget 1",

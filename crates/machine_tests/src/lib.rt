@@ -2,6 +2,8 @@
 //! What the layers below the commands give for small programs: rewritten words, orders, steps.
 
 #[cfg(test)]
+mod cores;
+#[cfg(test)]
 mod files;
 #[cfg(test)]
 mod images;
