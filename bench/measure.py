@@ -2,37 +2,44 @@
 """Measures the speed of the program on the executables of this folder, beside the rod's.
 
     cc -O2 -o rod rod.c
-    ./measure.py PROGRAM
+    ./measure.py PROGRAM [ROUNDS]
 
 PROGRAM is the built program (crates/shasta/out/shasta). Each row has the rod's rate in million
 instructions a second, then `run`'s in rewritten words and `one`'s in instructions, each with its
-ratio to the rod. A run is stopped by its budget, so its count is known. Rounds alternate and the
+ratio to the rod; then `sim`'s in words of all nodes together, on 1, 4 and 16 nodes, each with its
+ratio to `run`. A run is stopped by its budget, so its count is known. Rounds alternate and the
 medians are given: nothing else should run meanwhile."""
-import pathlib, re, statistics, subprocess, sys, time
+import pathlib, re, resource, statistics, subprocess, sys
 
 WORDS = 200_000_000
-ROUNDS = 7
+ROUNDS = int(sys.argv[2]) if len(sys.argv) > 2 else 7
 here = pathlib.Path(__file__).resolve().parent
 
 def seconds(words):
-    start = time.monotonic()
+    """The processor time of a call."""
+    before = resource.getrusage(resource.RUSAGE_CHILDREN).ru_utime
     subprocess.run(words, stdout=subprocess.DEVNULL, check=False)
-    return time.monotonic() - start
+    return resource.getrusage(resource.RUSAGE_CHILDREN).ru_utime - before
 
-def rate(program, command, file):
-    short = seconds([program, command, file, "--budget", "1000"])
-    return WORDS / 1e6 / (seconds([program, command, file, "--budget", str(WORDS)]) - short)
+def rate(command, file, nodes=1):
+    words = [program, *command.split(), file] + (["--nodes", str(nodes)] if nodes > 1 else [])
+    short = seconds([*words, "--budget", "1000"])
+    return WORDS / 1e6 / (seconds([*words, "--budget", str(WORDS // nodes)]) - short)
 
 def rod_rate(file):
     text = subprocess.run([str(here / "rod"), file, str(WORDS)], capture_output=True, text=True).stdout
     return float(re.search(r"(\d+) million", text).group(1))
 
 program = sys.argv[1]
-print(f"{'':10}{'rod':>8}{'run':>8}{'ratio':>7}{'one':>8}{'ratio':>7}")
+heads = ("run", "one", "sim", "sim 4", "sim 16")
+print(f"{'':10}{'rod':>8}" + "".join(f"{head:>8}{'ratio':>7}" for head in heads))
 for name in ("count", "loop", "readonly", "call", "bigcall"):
     file = str(here / f"{name}.elf")
-    rows = [(rod_rate(file), rate(program, "run", file), rate(program, "one", file)) for _ in range(ROUNDS)]
-    rod, run, one = (statistics.median(row[k] for row in rows) for k in range(3))
-    run_ratio = statistics.median(row[1] / row[0] for row in rows)
-    one_ratio = statistics.median(row[2] / row[0] for row in rows)
-    print(f"{name:10}{rod:8.0f}{run:8.0f}{run_ratio:7.2f}{one:8.0f}{one_ratio:7.2f}")
+    rounds = []
+    for _ in range(ROUNDS):
+        rod = rod_rate(file)
+        run, one = rate("run", file), rate("one", file)
+        sims = [rate("sim", file, nodes) for nodes in (1, 4, 16)]
+        rounds.append([rod, run, run / rod, one, one / rod] + [x for sim in sims for x in (sim, sim / run)])
+    row = [statistics.median(column) for column in zip(*rounds)]
+    print(f"{name:10}{row[0]:8.0f}" + "".join(f"{row[k]:8.0f}{row[k + 1]:7.2f}" for k in range(1, 11, 2)))
