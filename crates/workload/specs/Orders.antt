@@ -1,5 +1,5 @@
 -- The choices of an order: a linear congruential sequence modulo 2^32, of whose numbers the upper half is used.
-use Rattle.std.specs.Prelude.{ℕ, zero, suc, ◌+◌, ◌*◌, ◌/◌, ◌%◌, ◌^◌}
+use Rattle.std.specs.Prelude.{ℕ, zero, suc, ◌+◌, ◌*◌, ◌/◌, ◌%◌, ◌^◌, ◌==◌, if◌then◌else◌}
 
 -- the number that follows a number
 abbrev pub following : ℕ → ℕ
@@ -13,3 +13,10 @@ choice count number = number / 2 ^ 16 % count
 abbrev pub after_turns : (turns number : ℕ) → ℕ
 after_turns zero number = number
 after_turns (suc turns) number = after_turns turns (following number)
+
+-- how often so many turns choose this place among so many
+abbrev pub how_often : (place count turns number : ℕ) → ℕ
+how_often place count zero number = 0
+how_often place count (suc turns) number =
+    (if choice count (following number) == place then 1 else 0)
+    + how_often place count turns (following number)

@@ -1,36 +1,56 @@
 #![tactic(auto)]
 //! Orders: the choices by which a run on one thread is made, from a number.
 
-ghost use Rattle.std.specs.Prelude.{◌≡◌, ◌^◌, ◌<◌, ◌≤◌, ℕ};
-ghost use Rattle.workload.specs.Orders.{following, choice, after_turns};
+ghost use Rattle.std.specs.Prelude.{◌≡◌, ◌^◌, ◌<◌, ◌≤◌, ◌+◌, ◌/◌, ℕ, slice_index_or};
+ghost use Rattle.workload.specs.Orders.{following, choice, after_turns, how_often};
 
 use std::marker::Model;
 
 /// A sequence of choices. Contracts see its number.
+///
+/// The next choice is made before it is asked for, among as many as at the last time: so it is known
+/// by the time that a caller needs it, where it chooses among as many again.
 #[derive(Debug, Drop)]
 pub struct Order {
     number: u32,
+    /// The number that follows.
+    ahead: u32,
+    /// Among how many the next choice was made.
+    count: u32,
+    /// The next choice among so many.
+    place: u32,
 }
 
 impl Model for Order {
-    ghost use Rattle.std.specs.Prelude.{ℕ, ◌<◌, ◌^◌};
+    ghost use Rattle.std.specs.Prelude.{ℕ, ◌<◌, ◌^◌, ◌≡◌, ◌≤◌};
+    ghost use Rattle.workload.specs.Orders.{following, choice};
 
     ghost Value = { ℕ };
 
     ghost view = { λ o. o.number };
 
-    ghost invariant = { λ o. o.number < 2 ^ 32 };
+    ghost invariant = { λ o. (o.number < 2 ^ 32)
+        × (o.ahead ≡ following o.number)
+        × (1 ≤ o.count)
+        × (o.place ≡ choice o.count o.ahead) };
 }
 
 /// The order that begins with a number.
 pub fn order_of(number: u32) -> Order
     ensures { result ≡ number }
 {
-    Order { number }
+    let ahead = after(number);
+    Order {
+        number,
+        ahead,
+        count: 1,
+        place: 0,
+    }
 }
 
 impl Order {
     /// The next choice among `count`, from 0 on.
+    #[inline]
     pub fn next(&mut self, count: u32) -> u32
         requires some { 1 ≤ count }
         requires few { count ≤ 65536 }
@@ -38,8 +58,17 @@ impl Order {
         ensures chooses { result ≡ choice count (following self.old) }
         ensures among { result < count }
     {
-        self.number = self.number.wrapping_mul(FACTOR).wrapping_add(STEP);
-        (self.number >> 16) % count
+        let place = if count == self.count {
+            self.place
+        } else {
+            choose(self.ahead, count)
+        };
+        let ahead = after(self.ahead);
+        self.number = self.ahead;
+        self.ahead = ahead;
+        self.count = count;
+        self.place = choose(ahead, count);
+        place
     }
 
     /// Goes on by so many turns, as if the next choice had been asked for as often. The map of twice
@@ -59,8 +88,87 @@ impl Order {
             factor = factor.wrapping_mul(factor);
             left /= 2;
         }
+        let ahead = after(number);
         self.number = number;
+        self.ahead = ahead;
+        self.place = choose(ahead, self.count);
     }
+
+    /// How often the next so many turns choose each place among `count`. The order stays where it is.
+    pub fn tally(&self, turns: u32, count: u32) -> [u32; 16]
+        requires some { 1 ≤ count }
+        requires few { count ≤ 16 }
+        ensures often { (place : ℕ) → place < 16
+            → slice_index_or result place 0 ≡ how_often place count turns self.now }
+    {
+        let reciprocal = reciprocal_of(count);
+        let mut tally = [0; 16];
+        let mut number = self.number;
+        for _turn in 0..turns {
+            number = after(number);
+            tally[choose_by(number, count, reciprocal) as usize] += 1;
+        }
+        tally
+    }
+
+    /// How many turns, at most so many, choose a place among `count` no more often than `times`.
+    pub fn turns_until(&self, place: u32, times: u64, count: u32, most: u32) -> u32
+        requires some { 1 ≤ count }
+        ensures most { result ≤ most }
+        ensures within { how_often place count result self.now ≤ times }
+    {
+        let reciprocal = reciprocal_of(count);
+        let mut number = self.number;
+        let mut often = 0;
+        for turn in 0..most {
+            number = after(number);
+            if choose_by(number, count, reciprocal) == place {
+                if often == times {
+                    return turn;
+                }
+                often += 1;
+            }
+        }
+        most
+    }
+}
+
+/// The number that follows a number.
+#[inline(always)]
+fn after(number: u32) -> u32
+    ensures { result ≡ following number }
+{
+    number.wrapping_mul(FACTOR).wrapping_add(STEP)
+}
+
+/// What a number chooses among so many.
+#[inline(always)]
+fn choose(number: u32, count: u32) -> u32
+    requires { 1 ≤ count }
+    ensures { result ≡ choice count number }
+{
+    (number >> 16) % count
+}
+
+/// What a number is multiplied by in place of a division by so many.
+fn reciprocal_of(count: u32) -> u64
+    requires some { 1 ≤ count }
+    ensures { result ≡ 2 ^ 32 / count + 1 }
+{
+    (1 << 32) / count as u64 + 1
+}
+
+/// What a number chooses among so many, by their reciprocal: a multiplication takes less time than a
+/// division.
+#[inline(always)]
+fn choose_by(number: u32, count: u32, reciprocal: u64) -> u32
+    requires some { 1 ≤ count }
+    requires reciprocal { reciprocal ≡ 2 ^ 32 / count + 1 }
+    ensures { result ≡ choice count number }
+{
+    let upper = (number >> 16) as u64;
+    let quotient = (upper * reciprocal) >> 32;
+    (upper - quotient * count as u64) as u32
 }
 
 /// What a number is multiplied by to make the one that follows.
