@@ -226,7 +226,7 @@ impl<'a> Frame<'a> {
 const STAMPS: u64 = 1 << 56;
 
 /// The lesser of two numbers of words.
-fn most_words(a: u64, b: u64) -> u64
+pub fn most_words(a: u64, b: u64) -> u64
     ensures first { result ≤ a }
     ensures second { result ≤ b }
 {
@@ -234,7 +234,7 @@ fn most_words(a: u64, b: u64) -> u64
 }
 
 /// The phase of a node that may execute words, after so many that go on.
-fn phase_on(phase: Phase, words: u64) -> Phase
+pub fn phase_on(phase: Phase, words: u64) -> Phase
     ensures { phase_of result ≡ phase_on (phase_of phase) words }
 {
     if words == 0 { phase } else { Phase::Running }

@@ -9,11 +9,14 @@ ghost use Rattle.home_directory.specs.Home.{count_of};
 ghost use Rattle.node_model.specs.Node as model;
 ghost use Rattle.node_model.specs.Turns as turns;
 ghost use Rattle.node_machine.specs.Frame.{node_of, work_of, HasRoom};
-ghost use Rattle.node_machine.specs.Runs.{HasExecuted};
+ghost use Rattle.node_machine.specs.Runs.{HasExecuted, GoesOnBy};
+ghost use Rattle.node_machine.specs.Trails.{TakesNodeBack};
+ghost use Rattle.node_machine.specs.declared.frame.Frame.{Frame as Stored};
 
 use crate::desk::Desk;
 use crate::frame::{Frame, Phase, Turn};
 use crate::opening::first_local;
+use crate::trail::Trail;
 use block_layout::Layout;
 use buf_pool::Pool;
 use byte_range::Window;
@@ -206,6 +209,32 @@ impl<'a> Node<'a> {
         ensures work { work_of self.new ≡ work_of self.old }
     {
         self.frame.pass()
+    }
+
+    /// Executes words by their micro-ops, as long as those serve them and the trail has room, at
+    /// most so many, and fewer than the budget has left; it gives how many. They print nothing and
+    /// send nothing, and the trail takes them back.
+    pub fn pass_on(&mut self, most: u32, trail: &mut Trail) -> u64
+        requires may { 1 ≤ most → model.can_execute (node_of self.old).phase ≡ true }
+        requires stamp { (node_of self.old).stamp < 2 ^ 56 }
+        ensures goes_on { GoesOnBy (work_of self.old) result (node_of self.old) (node_of self.new) }
+        ensures may { model.can_execute (node_of self.old).phase ≡ true
+            → model.can_execute (node_of self.new).phase ≡ true }
+        ensures most { result ≤ most }
+        ensures back { TakesNodeBack trail.new self.new self.old }
+        ensures work { work_of self.new ≡ work_of self.old }
+    {
+        self.frame.pass_on(most, trail)
+    }
+
+    /// Takes back the words of a trail.
+    pub fn take_back(&mut self, trail: &mut Trail)
+        requires back { (first : Stored) × TakesNodeBack trail.old self.old first }
+        ensures back { (first : Stored) → TakesNodeBack trail.old self.old first
+            → node_of self.new ≡ node_of first }
+        ensures work { work_of self.new ≡ work_of self.old }
+    {
+        self.frame.take_back(trail);
     }
 
     /// Executes words, of which those before the last print nothing and send nothing: as many as

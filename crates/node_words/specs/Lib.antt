@@ -3,3 +3,4 @@ pub mod Kept
 pub mod Runs
 pub mod GoingOn
 pub mod Blocks
+pub mod Trails

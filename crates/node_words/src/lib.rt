@@ -12,8 +12,10 @@ mod local;
 mod rare;
 mod region;
 mod serve;
+mod trail;
 
 pub use body::Body;
 pub use lane::{Lane, Resume, Want, address_of, index_of};
 pub use local::Local;
 pub use serve::{Following, Served, Stretch};
+pub use trail::{Note, Saved, Trail};

@@ -1,0 +1,94 @@
+use Rattle.std.proofs.Common.{◌+◌, ◌*◌, ◌∙◌, ap, sym, subst, refl, length, arith}
+use Rattle.block_layout.specs.Layout.{Shape}
+use Rattle.exec_map.specs.Contents.{program_of}
+use Rattle.node_words.specs.declared.body.Body.{Body}
+use Rattle.node_model.specs.Node.{can_execute}
+use Rattle.node_words.specs.GoingOn.{BodyGoesOn}
+use Rattle.node_words.specs.Kept.{Ground, ground_of}
+use Rattle.node_words.specs.Trails.{TakesBack}
+use Rattle.node_machine.specs.Frame.{layout_of, phase_of, IsDesk, AreCountsBelow, WaitsInPhase}
+use Rattle.node_words.proofs.WordLemmas.{still_may}
+use Rattle.node_machine.proofs.FrameLemmas.{counts_up}
+use Rattle.node_machine.proofs.TrailLemmas.{goes_on_noted, left_after, noted_waits}
+use Rattle.node_machine.proofs.frame.Frame.pass_on.Goals as goal
+
+pub returns-clause-goes_on : goal.returns-clause-goes_on
+returns-clause-goes_on c =
+    let i = c.args.self.now in
+    let run = c.run_noting-stretch in
+    let most = c.most_words-most.result in
+    let body = c.deref_mut.ensures.value in
+    let on = subst (λ (x : Body). BodyGoesOn i.image.now most i.at x run.result.words run.result.at run.new.self) body run.ensures.words in
+    let counts = run.ensures.counts ∙ ap (λ (x : Body). x.counts) body in
+    let few = run.ensures.most in
+    let first = c.most_words-most.ensures.first in
+    let from = c.from.ensures in
+    let second = c.most_words-most.ensures.second in
+    let left = c.saturating_sub-left.ensures in
+    let budget = c.number.ensures.value in
+    goes_on_noted i run.new.self run.result.at most run.result.words c.phase_on-self.result on
+    (λ some. (c.requires.may (omega (arith, some, few, first, from)), (let low = c.requires.node.going (c.requires.may (omega (arith, some, few, first, from))) in omega (arith, low, second, left, budget))))
+    counts c.phase_on-self.ensures
+
+pub returns-clause-may : goal.returns-clause-may
+returns-clause-may c may =
+    let i = c.args.self.now in
+    ap can_execute c.phase_on-self.ensures ∙ still_may (phase_of i.phase) c.run_noting-stretch.result.words may
+
+pub returns-clause-back : goal.returns-clause-back
+returns-clause-back c =
+    let run = c.run_noting-stretch in
+    let body = c.deref_mut.ensures.value in
+    record {
+      words = subst (λ (x : Body). TakesBack run.new.trail.saved run.new.trail.notes.items run.new.self.lane run.new.self.local x.lane x.local) body run.ensures.back;
+      counts = run.ensures.counts ∙ ap (λ (x : Body). x.counts) body;
+      at = refl;
+      executed = refl;
+      stamp = refl;
+      phase = refl;
+      image = refl;
+      budget = refl;
+      desk = refl;
+      byes = refl;
+      journal = refl;
+      noted = refl;
+      output = refl;
+      is_node = c.requires.node;
+    }
+
+pub returns-clause-work : goal.returns-clause-work
+returns-clause-work c =
+    let i = c.args.self.now in
+    let g = c.run_noting-stretch.ensures.back.ground_same ∙ ap (λ (x : Body). ground_of x.local) c.deref_mut.ensures.value in
+    λ t. record { program = program_of (g t).program; image = i.image.now; layout = (g t).layout; budget = i.budget }
+
+pub returns-clause-node : goal.returns-clause-node
+returns-clause-node c =
+    let i = c.args.self.now in
+    let n = c.requires.node in
+    let run = c.run_noting-stretch in
+    let most = c.most_words-most.result in
+    let words = run.result.words in
+    let behind = n.behind in
+    let within = n.within in
+    let few = run.ensures.most in
+    let first = c.most_words-most.ensures.first in
+    let from = c.from.ensures in
+    let second = c.most_words-most.ensures.second in
+    let left = c.saturating_sub-left.ensures in
+    let budget = c.number.ensures.value in
+    let layout = ap (λ (g : Ground). g.layout) run.ensures.back.ground_same ∙ ap layout_of c.deref_mut.ensures.value in
+    let counts = run.ensures.counts ∙ ap (λ (b : Body). b.counts) c.deref_mut.ensures.value in
+    record {
+      within = omega (arith, within, few, second, left, budget);
+      going = λ may. left_after i words most n few (omega (arith, second, left, budget)) (ap can_execute (sym c.phase_on-self.ensures) ∙ may);
+      range = n.range;
+      short = n.short;
+      desk = subst (λ (l : Shape). IsDesk l i.desk) (sym layout) n.desk;
+      waits = subst (λ p. WaitsInPhase p (length i.desk.waits.waits)) (sym c.phase_on-self.ensures)
+          (noted_waits (phase_of i.phase) words (length i.desk.waits.waits) (λ some. c.requires.may (omega (arith, some, few, first, from))) n.waits);
+      noted = n.noted;
+      behind = omega (arith, behind);
+      counts = counts_up (18 * i.stamp) (18 * (i.stamp + words)) run.new.self.counts (omega arith)
+          (subst (AreCountsBelow (18 * i.stamp)) (sym counts) n.counts);
+    }
