@@ -9,3 +9,6 @@ pub mod Told
 pub mod Lists
 pub mod Stamps
 pub mod Theorem
+pub mod Gathered
+pub mod Apart
+pub mod Takes

@@ -179,7 +179,7 @@ ascends (x ∷ xs) s = (before_from x xs s.0, ascends xs s.1)
 -- 4. What fits in one order fits in another
 
 -- what k takes is told by its own events, and what j sends by j's
-taken_of : (j k : ℕ) (es : List Deed) → taken j k (of k es) ≡ taken j k es
+pub taken_of : (j k : ℕ) (es : List Deed) → taken j k (of k es) ≡ taken j k es
 taken_of j k [] = refl
 taken_of j k (e ∷ es) = ⊎_elim
     (λ (p : e.node ≡ k). rw (eq-eqb e.node k p) (rw (eq-eqb k e.node (sym p))
@@ -187,7 +187,7 @@ taken_of j k (e ∷ es) = ⊎_elim
     (λ (p : e.node ≢ k). rw (ne_eqb e.node k p) (rw (ne_eqb k e.node (λ q. p (sym q)))
     (taken_of j k es))) (cases_eq e.node k)
 
-sent_of : (j k : ℕ) (es : List Deed) → sent j k (of j es) ≡ sent j k es
+pub sent_of : (j k : ℕ) (es : List Deed) → sent j k (of j es) ≡ sent j k es
 sent_of j k [] = refl
 sent_of j k (e ∷ es) = ⊎_elim
     (λ (p : e.node ≡ j). rw (eq-eqb e.node j p) (rw (eq-eqb j e.node (sym p))
@@ -230,18 +230,24 @@ module _ (Moves : Node → Deed → Node → Type 0)
         ap (λ l. l ++ t.list j k) (sym a) ∙ fit.1 j k ∙ ap (λ l. s.list j k ++ l) b,
   )
 
+  fits_climbs : (s t : Core) (es : List Deed) → Fits Moves s es t → (i : ℕ) → Climbs (of i es)
+  fits_climbs s t es fit i =
+      (local_from (s.nodes i) (of i es) (t.nodes i) 0 (fit.0 i) (omega arith)).1
+
   -- each node's events have growing stamps
   pub run_climbs : (s t : Core) (es : List Deed) → Run Moves s es t → (i : ℕ) → Climbs (of i es)
-  run_climbs s t es r i =
-      (local_from (s.nodes i) (of i es) (t.nodes i) 0 ((run_fits Moves es s t r).0 i)
-      (omega arith)).1
+  run_climbs s t es r i = fits_climbs s t es (run_fits Moves es s t r) i
 
-  -- The events of a run, in whatever order it made them, are a run in the order of their stamps.
-  pub reordered : (s t : Core) (es : List Deed) → Run Moves s es t → Run Moves s (order es) t
-  reordered s t es r =
-      let fit = run_fits Moves es s t r in let up = run_climbs s t es r in
+  -- Events that fit are a run in the order of their stamps.
+  pub ordered : (s t : Core) (es : List Deed) → Fits Moves s es t → Run Moves s (order es) t
+  ordered s t es fit =
+      let up = fits_climbs s t es fit in
       let same = of_order es up in
       merge Moves (order es) s t (ascends (order es) (sorted_order es up))
       (later_of (order es) (λ i. subst (λ l. AreLater l) (sym (same i))
       (local_from (s.nodes i) (of i es) (t.nodes i) 0 (fit.0 i) (omega arith)).2))
       (fits_of s t es (order es) (λ i. sym (same i)) fit)
+
+  -- The events of a run, in whatever order it made them, are a run in the order of their stamps.
+  pub reordered : (s t : Core) (es : List Deed) → Run Moves s es t → Run Moves s (order es) t
+  reordered s t es r = ordered s t es (run_fits Moves es s t r)

@@ -15,7 +15,8 @@ use Rattle.run_order.proofs.Told.{TellsMore, node_tells, opening_tells}
 use Rattle.run_order.proofs.Lists.{events_by, stamped_sorted, run_below, same_events, bytes_by, bytes_below, bytes_sorted}
 
 -- the nodes of a run from the start tell of its events
-run_tells : (work : Work) (ds : List Deed) (c : Core) → Run (Moves work) (opening_core work) ds c
+pub run_tells : (work : Work) (ds : List Deed) (c : Core)
+    → Run (Moves work) (opening_core work) ds c
     → (i : ℕ) → TellsMore i (kept (opening_node work i)) (kept (c.nodes i)) (map stamped (of i ds))
     (prints (of i ds))
 run_tells work ds c r i = node_tells work i ds (opening_node work i) (c.nodes i)
@@ -84,7 +85,7 @@ adds work run more may i b =
 
 -- 3. The bytes merged
 
-own_deeds : (work : Work) (c : Core) (events : List Stamped) → StandsForOwnRun work c events
+pub own_deeds : (work : Work) (c : Core) (events : List Stamped) → StandsForOwnRun work c events
     → (ds : List Deed) × (events ≡ map stamped ds)
     × Run (Moves work) (opening_core work) ds (after work (opening_core work) (run_of events))
 own_deeds work c events stands =

@@ -83,7 +83,7 @@ move_tells work s d t (Some p) m h =
     } in
     subst (λ k. MoveTells s d (Some p) k) (sym same) more
 
-abbrev AreOf : ℕ → List Deed → Type 0
+abbrev pub AreOf : ℕ → List Deed → Type 0
 AreOf i [] = Unit {0}
 AreOf i (d ∷ ds) = (d.node ≡ i) × AreOf i ds
 

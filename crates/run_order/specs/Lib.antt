@@ -1,3 +1,5 @@
 pub mod Sorted
 pub mod OwnRun
 pub mod Merge
+pub mod Apart
+pub mod Takes

@@ -5,7 +5,9 @@ ghost use Rattle.std.specs.Prelude.{◌≡◌, ◌<◌, ◌≤◌, ◌++◌, ℕ
 ghost use Rattle.node_model.specs.Node.{Work};
 ghost use Rattle.node_model.specs.Core.{Core, Event, IsCoreRun, opening_core, after, printed_by};
 ghost use Rattle.run_order.specs.OwnRun.{Stamped, StandsForOwnRun, OnlyAdds, run_of};
+ghost use Rattle.run_order.specs.Apart.{Deed, HaveDone};
 ghost use Rattle.run_order.specs.Merge.{Printed, AreMerged, byte_in};
+ghost use Rattle.run_order.specs.Takes.{AreTakesWithin};
 
 /// The law of stamps, which the callers use by its clauses; the call does nothing. It holds of
 /// whatever the nodes run.
@@ -23,6 +25,11 @@ pub fn stamp_law()
         → IsCoreRun work (opening_core work) (run ++ more)
         → OnlyAdds work.layout.nodes (after work (opening_core work) run)
         (after work (opening_core work) (run ++ more)) }
+    // Nodes that made events apart, with what is left of each list, stand for their own run where
+    // the core that they come from does; and they only add to its events.
+    ensures apart { (work : Work) (c d : Core) (events : List Stamped) (deeds : ℕ → List Deed)
+        → StandsForOwnRun work c events → HaveDone work c d deeds
+        → (own : List Stamped) × StandsForOwnRun work d own × OnlyAdds work.layout.nodes c d }
     // No stamp is above the number of events.
     ensures few { (work : Work) (run : List Event) (i : ℕ)
         → IsCoreRun work (opening_core work) run → i < work.layout.nodes
@@ -40,4 +47,14 @@ pub fn stamp_law()
     ensures merged { (work : Work) (c : Core) (events : List Stamped) (bytes : List Printed)
         → StandsForOwnRun work c events → AreMerged work.layout.nodes c.nodes bytes
         → map byte_in bytes ≡ printed_by work (opening_core work) (run_of events) }
+{}
+
+/// The law of journals, which the callers use by its clauses; the call does nothing.
+pub fn journal_law()
+    // After a core run the takes in each journal are one behind another, from nodes of the core,
+    // with stamps that are no more than the number of events.
+    ensures takes { (work : Work) (run : List Event) (i : ℕ)
+        → IsCoreRun work (opening_core work) run → i < work.layout.nodes
+        → AreTakesWithin work.layout.nodes 0 (length run)
+        ((after work (opening_core work) run).nodes i).journal }
 {}

@@ -3,6 +3,7 @@ use Rattle.run_order.specs.OwnRun.{events_of, stamp_in, maker}
 use Rattle.run_order.proofs.Unique.{one_sorted}
 use Rattle.run_order.proofs.Stamps.{opening_up, all_up}
 use Rattle.run_order.proofs.Theorem.{own_run, adds, bytes, merged}
+use Rattle.run_order.proofs.Apart.{apart}
 use Rattle.run_order.proofs.stamp_law.Goals as goal
 
 pub returns-clause-own_run : goal.returns-clause-own_run
@@ -15,6 +16,10 @@ returns-clause-one c = λ work core events others a b.
 
 pub returns-clause-adds : goal.returns-clause-adds
 returns-clause-adds c = λ work run more may. adds work run more may
+
+pub returns-clause-apart : goal.returns-clause-apart
+returns-clause-apart c = λ work core other events deeds stands did.
+    apart work core other events deeds stands did
 
 pub returns-clause-few : goal.returns-clause-few
 returns-clause-few c = λ work run i may b. (opening_up work run may).nodes i b
