@@ -15,7 +15,7 @@ use Rattle.node_machine.specs.declared.frame.Frame.{Frame}
 use Rattle.node_machine.specs.Frame.{node_of, work_of as work_at}
 use Rattle.node_machine.specs.Runs.{HasExecuted, GoesOnBy as HasGoneBy}
 use Rattle.dsm_protocol.specs.Queue.{Queue, SameWires, IsSent}
-use Rattle.dsm_core.specs.CoreParts.{core_with, HaveWork, GoesOnTo}
+use Rattle.dsm_core.specs.CoreParts.{core_with, GoesOnTo}
 use Rattle.dsm_core.specs.CoreWords.{GoesOnBy, HasExecutedOn, HasPassed}
 use Rattle.dsm_core.specs.CoreSteps.{node_or, SameNodes, HavePassed, HaveExecutedOn, GoesOnFor}
 use Rattle.dsm_core.proofs.CoreSteps.{same_node, same_work, set_node, turned}
@@ -64,7 +64,7 @@ ran_stamp work n m sends output r =
 
 -- 2. A word that sends nothing changes the node alone
 
-record IsNodeAlone (n i : ℕ) (m : Node) (c d : Core) : Type 0 where
+pub record IsNodeAlone (n i : ℕ) (m : Node) (c d : Core) : Type 0 where
   pub node : d.nodes i ≡ m
   pub others : (k : ℕ) → k ≢ i → d.nodes k ≡ c.nodes k
   pub lists : (j k : ℕ) → d.list j k ≡ c.list j k
@@ -126,12 +126,12 @@ pub may_word : (work : Work) (c : Core) (i : ℕ) (n : Node) → i < work.layout
 may_word work c i n bi e can =
     (bi, may_by work (c.nodes i) (c.nodes i).phase (ap (λ (z : Node). can_execute z.phase) e ∙ can))
 
-record GoesWithNode (work : Work) (i k : ℕ) (m : Node) (c : Core) : Type 0 where
+pub record GoesWithNode (work : Work) (i k : ℕ) (m : Node) (c : Core) : Type 0 where
   pub last : Core
   pub goes : GoesOnBy work i k c last
   pub alone : IsNodeAlone work.layout.nodes i m c last
 
-node_goes : (work : Work) (i k : ℕ) (c : Core) (n m : Node) → i < work.layout.nodes
+pub node_goes : (work : Work) (i k : ℕ) (c : Core) (n m : Node) → i < work.layout.nodes
     → c.nodes i ≡ n → HasGoneBy work k n m → GoesWithNode work i k m c
 node_goes work i zero c n m bi is e = record {
   last = c;

@@ -1,6 +1,7 @@
 -- Words of one node of a core, one after another.
-use Rattle.std.specs.Prelude.{◌≡◌, ℕ, zero, suc, ◌+◌}
+use Rattle.std.specs.Prelude.{◌≡◌, ℕ, zero, suc, ◌+◌, ◌<◌}
 use Rattle.node_model.specs.Node.{Work}
+use Rattle.node_machine.specs.Runs.{GoesOnBy as NodeGoesOnBy}
 use Rattle.node_model.specs.Turns.{quiet, word_turn}
 use Rattle.node_model.specs.Core.{Core, Exec, May, AreAlike, event_step}
 
@@ -26,3 +27,10 @@ pub record HasPassed (work : Work) (i : ℕ) (c d : Core) : Type 0 where
   pub quiet : word_turn work (c.nodes i) ≡ quiet (word_turn work (c.nodes i)).node
   pub event : AreAlike work.layout.nodes d (event_step work c (Exec i))
   pub may : May work d (Exec i)
+
+-- each node has executed so many words, by number, of which each printed nothing and sent nothing, and
+-- what may execute a word still may
+pub record HaveEachPassed (work : Work) (words : ℕ → ℕ) (c d : Core) : Type 0 where
+  pub nodes : (i : ℕ) → i < work.layout.nodes → NodeGoesOnBy work (words i) (c.nodes i) (d.nodes i)
+  pub may : (i : ℕ) → May work c (Exec i) → May work d (Exec i)
+  pub lists : (j i : ℕ) → j < work.layout.nodes → i < work.layout.nodes → d.list j i ≡ c.list j i

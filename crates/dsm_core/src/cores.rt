@@ -1,6 +1,6 @@
 //! n nodes that run rewritten code, and the n × n lists of messages between them.
 
-ghost use Rattle.std.specs.Prelude.{◌≡◌, ◌≢◌, ◌<◌, ◌≤◌, ◌^◌, ◌↔◌, ℕ, List, [], ◌∷◌, true, false, length, IfOk, OnOk, OnErr};
+ghost use Rattle.std.specs.Prelude.{◌≡◌, ◌≢◌, ◌<◌, ◌≤◌, ◌^◌, ◌↔◌, ℕ, List, [], ◌∷◌, true, false, length, slice_index_or, IfOk, OnOk, OnErr};
 ghost use Rattle.node_model.specs.declared.Standing.TheVariants.{Over};
 ghost use Rattle.node_model.specs.Node.{Resume, Waiting, standing_of};
 ghost use Rattle.node_model.specs.Core as model;
@@ -8,12 +8,13 @@ ghost use Rattle.node_model.specs.Core.{May, AreAlike, IsOver, IsCoreRun, event_
 ghost use Rattle.run_order.specs.OwnRun.{Stamped, StandsForOwnRun, OnlyAdds};
 ghost use Rattle.rewriting_law.specs.Bounds.{RunsRewritten, most_events};
 ghost use Rattle.dsm_core.specs.CoreParts.{work_of, work_with, core_of, event_of, AreParts, GoesOnTo};
-ghost use Rattle.dsm_core.specs.CoreWords.{HasPassed, HasExecutedOn};
+ghost use Rattle.dsm_core.specs.CoreWords.{HasPassed, HasExecutedOn, HaveEachPassed};
 ghost use Rattle.dsm_core.specs.CoreSteps.{GoesOnFor, AreInRange};
 ghost use Rattle.node_machine.specs.Frame.{node_of, work_of as work_at};
 
 use crate::parts::Parts;
 use crate::steps::first_nodes;
+use crate::trails::{Stop, Trails};
 use block_layout::Layout;
 use dsm_protocol::lists::empty_lists;
 use exec_map::Program;
@@ -189,6 +190,25 @@ impl<'a> Core<'a> {
         self.parts.pass(node)
     }
 
+    /// Each node executes so many words, by its number, where their micro-ops serve all of them: such
+    /// words print nothing and send nothing, and a node that may execute a word still may. Otherwise
+    /// nothing changes, and the answer tells a node that stopped early.
+    pub fn pass_each(&mut self, words: &[u32; 16], trails: &mut Trails) -> Result<(), Stop>
+        requires trails { trails.old ≡ self.old.layout.nodes }
+        requires nodes { self.old.layout.nodes ≤ 16 }
+        requires enabled { (i : ℕ) → i < self.old.layout.nodes
+            → 1 ≤ slice_index_or words.now i 0
+            → May (work_of self.old) (core_of self.old) (model.Exec i) }
+        ensures passed { IfOk result (λ u. HaveEachPassed (work_of self.old)
+            (λ i. slice_index_or words.now i 0) (core_of self.old) (core_of self.new)) }
+        ensures kept { OnErr result (core_of self.new ≡ core_of self.old) }
+        ensures trails { trails.new ≡ trails.old }
+        ensures work { work_of self.new ≡ work_of self.old }
+    {
+        self.bounds();
+        self.parts.pass_each(words, trails)
+    }
+
     /// Executes words of a node, of which those before the last print nothing and send nothing, and
     /// gives how many. It takes its memory first.
     pub fn execute_on(&mut self, node: u8) -> Result<u64, AllocError>
@@ -209,6 +229,15 @@ impl<'a> Core<'a> {
             → (core_of self.now).list j node ≡ []) }
     {
         self.parts.has_mail(node)
+    }
+
+    /// Whether a message is on its way from one node to another.
+    pub fn has_wire(&self, from: u8, to: u8) -> bool
+        requires from { from < self.now.layout.nodes }
+        requires to { to < self.now.layout.nodes }
+        ensures value { (result ≡ true) ↔ ((core_of self.now).list from to ≢ []) }
+    {
+        self.parts.has_wire(from, to)
     }
 
     /// Its nodes and lists.

@@ -6,8 +6,10 @@ mod finish;
 mod outcome;
 mod parts;
 mod steps;
+mod trails;
 
 pub use cores::{Core, Event};
 pub use dsm_protocol::Protocol;
 pub use outcome::Outcome;
 pub use parts::Parts;
+pub use trails::{Stop, Trails};

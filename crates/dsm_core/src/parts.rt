@@ -1,15 +1,16 @@
 //! The nodes and lists of a core, as they are stored, and their events.
 
-ghost use Rattle.std.specs.Prelude.{◌≡◌, ◌<◌, ◌↔◌, ℕ, [], true, false, IfOk, OnOk, OnErr};
+ghost use Rattle.std.specs.Prelude.{◌≡◌, ◌≢◌, ◌<◌, ◌≤◌, ◌↔◌, ℕ, [], true, false, IfOk, OnOk, OnErr, slice_index_or};
 ghost use Rattle.node_model.specs.Core as model;
 ghost use Rattle.node_model.specs.Core.{May, IsOver, AreAlike, event_step};
 ghost use Rattle.node_machine.specs.Frame.{node_of, work_of as work_at};
 ghost use Rattle.dsm_core.specs.CoreParts.{work_of, core_of, event_of, AreParts};
-ghost use Rattle.dsm_core.specs.CoreWords.{HasPassed, HasExecutedOn};
+ghost use Rattle.dsm_core.specs.CoreWords.{HasPassed, HasExecutedOn, HaveEachPassed};
 ghost use Rattle.dsm_core.specs.CoreSteps.{AreInRange};
 
 use crate::cores::Event;
-use crate::steps::{are_over, execute_on, has_mail, is_enabled, make, pass};
+use crate::steps::{are_over, execute_on, has_mail, has_wire, is_enabled, make, pass};
+use crate::trails::{Stop, Trails, pass_each};
 use block_layout::Layout;
 use dsm_protocol::Queue;
 use exec_map::Program;
@@ -119,6 +120,27 @@ impl<'a> Parts<'a> {
         pass(&mut self.nodes, count, node)
     }
 
+    /// Each node executes so many words, by its number, where their micro-ops serve all of them;
+    /// otherwise nothing changes.
+    pub(crate) fn pass_each(&mut self, words: &[u32; 16], trails: &mut Trails) -> Result<(), Stop>
+        requires parts { AreParts self.old }
+        requires range { AreInRange self.old.layout.nodes (core_of self.old) }
+        requires trails { trails.old ≡ self.old.layout.nodes }
+        requires nodes { self.old.layout.nodes ≤ 16 }
+        requires enabled { (i : ℕ) → i < self.old.layout.nodes
+            → 1 ≤ slice_index_or words.now i 0
+            → May (work_of self.old) (core_of self.old) (model.Exec i) }
+        ensures parts { AreParts self.new }
+        ensures work { work_of self.new ≡ work_of self.old }
+        ensures passed { IfOk result (λ u. HaveEachPassed (work_of self.old)
+            (λ i. slice_index_or words.now i 0) (core_of self.old) (core_of self.new)) }
+        ensures kept { OnErr result (core_of self.new ≡ core_of self.old) }
+        ensures trails { trails.new ≡ trails.old }
+    {
+        let count = self.layout.nodes();
+        pass_each(&mut self.nodes, &mut trails.trails, count, words)
+    }
+
     /// A node executes words, of which those before the last print nothing and send nothing.
     pub(crate) fn execute_on(&mut self, node: u8) -> Result<u64, AllocError>
         requires parts { AreParts self.old }
@@ -143,5 +165,16 @@ impl<'a> Parts<'a> {
     {
         let count = self.layout.nodes();
         has_mail(&self.lists, count, node)
+    }
+
+    /// Whether a message is on its way from one node to another.
+    pub(crate) fn has_wire(&self, from: u8, to: u8) -> bool
+        requires parts { AreParts self.now }
+        requires from { from < self.now.layout.nodes }
+        requires to { to < self.now.layout.nodes }
+        ensures value { (result ≡ true) ↔ ((core_of self.now).list from to ≢ []) }
+    {
+        let count = self.layout.nodes();
+        has_wire(&self.lists, count, from, to)
     }
 }

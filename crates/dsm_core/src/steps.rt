@@ -63,7 +63,7 @@ fn may_take(standing: Standing) -> bool
 }
 
 /// Whether there is a message from one node to another.
-fn has_wire(lists: &[Queue], count: u8, from: u8, to: u8) -> bool
+pub(crate) fn has_wire(lists: &[Queue], count: u8, from: u8, to: u8) -> bool
     requires lists { AreQueues lists.now count }
     requires from { from < count }
     requires to { to < count }
