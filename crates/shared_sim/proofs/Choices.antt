@@ -27,7 +27,7 @@ below_append : (n : ℕ) (xs ys : List Event) → AllBelow n xs → AllBelow n y
 below_append n [] ys a b = b
 below_append n (x ∷ xs) ys a b = (a.0, below_append n xs ys a.1 b)
 
-takes_below : (n i a k : ℕ) → i < n → a + k ≤ n
+pub takes_below : (n i a k : ℕ) → i < n → a + k ≤ n
     → AllBelow n (map (λ j. Take i j) (range_with_len a k))
 takes_below n i a zero low room = tt
 takes_below n i a (suc k) low room =
@@ -41,31 +41,32 @@ events_below n a (suc k) room =
     (omega arith, takes_below n a 0 n (omega arith) (omega arith))
     (events_below n (a + 1) k (omega arith))
 
-all_below : (n : ℕ) → AllBelow n (all_events n)
+pub all_below : (n : ℕ) → AllBelow n (all_events n)
 all_below n = events_below n 0 n (omega arith)
 
-same_filtered : (n : ℕ) (p q : Event → Bool) (xs : List Event) → AllBelow n xs
+pub same_filtered : (n : ℕ) (p q : Event → Bool) (xs : List Event) → AllBelow n xs
     → ((e : Event) → IsBelow n e → p e ≡ q e) → filter p xs ≡ filter q xs
 same_filtered n p q [] below same = refl
 same_filtered n p q (x ∷ xs) below same =
     let rest = same_filtered n p q xs below.1 same in
     λ t. cond (same x below.0 t) (x ∷ rest t) (rest t)
 
+pub allowed_alike : (work : Work) (c d : Core) → AreAlike work.layout.nodes c d → (e : Event)
+    → IsBelow work.layout.nodes e → is_allowed work c e ≡ is_allowed work d e
+allowed_alike work c d a (Exec i) low = ap (λ (n : Node). may_execute (standing_of work n)) (a.nodes i low)
+allowed_alike work c d a (Take i j) low =
+    λ t. may_take (standing_of work (a.nodes i low.0 t)) && has_wire (a.lists j i low.1 low.0 t)
+
 -- cores that are alike have the same choices
 pub choices_alike : (work : Work) (c d : Core) → AreAlike work.layout.nodes c d
     → choices work c ≡ choices work d
 choices_alike work c d a =
     same_filtered work.layout.nodes (is_allowed work c) (is_allowed work d)
-    (all_events work.layout.nodes) (all_below work.layout.nodes) same
-  where
-    same : (e : Event) → IsBelow work.layout.nodes e → is_allowed work c e ≡ is_allowed work d e
-    same (Exec i) low = ap (λ (n : Node). may_execute (standing_of work n)) (a.nodes i low)
-    same (Take i j) low =
-        λ t. may_take (standing_of work (a.nodes i low.0 t)) && has_wire (a.lists j i low.1 low.0 t)
+    (all_events work.layout.nodes) (all_below work.layout.nodes) (allowed_alike work c d a)
 
 -- 2. A choice is an event that is allowed
 
-both_true : (x y : Bool) → (x && y) ≡ true → (x ≡ true) × (y ≡ true)
+pub both_true : (x y : Bool) → (x && y) ≡ true → (x ≡ true) × (y ≡ true)
 both_true true true e = (refl, refl)
 both_true true false e = absurd (cc)
 both_true false y e = absurd (cc)
@@ -74,11 +75,11 @@ pub and_false : (x y : Bool) → y ≡ false → (x && y) ≡ false
 and_false true y e = e
 and_false false y e = refl
 
-some_wire : (ws : List Wire) → has_wire ws ≡ true → ws ≢ []
+pub some_wire : (ws : List Wire) → has_wire ws ≡ true → ws ≢ []
 some_wire [] e none = absurd (cc)
 some_wire (w ∷ ws) e none = absurd (cc)
 
-has_some : (ws : List Wire) → ws ≢ [] → has_wire ws ≡ true
+pub has_some : (ws : List Wire) → ws ≢ [] → has_wire ws ≡ true
 has_some [] some = absurd (some refl)
 has_some (w ∷ ws) some = refl
 
@@ -128,7 +129,7 @@ choice_may work c k e here =
 
 -- 3. Where there is no choice, no event is allowed
 
-nil_parts : (xs ys : List Event) → xs ++ ys ≡ [] → (xs ≡ []) × (ys ≡ [])
+pub nil_parts : {A : Type 0} (xs ys : List A) → xs ++ ys ≡ [] → (xs ≡ []) × (ys ≡ [])
 nil_parts [] ys e = (refl, e)
 nil_parts (x ∷ xs) ys e = absurd (cc)
 
@@ -199,18 +200,17 @@ kept_list work c i j k still = elim (eqb_tells j i) [
   | inr e ↦ rw e.0 refl
 ]
 
-kept_node : (work : Work) (c : Core) (i k : ℕ) → k ≢ i
+pub kept_node : (work : Work) (c : Core) (i k : ℕ) → k ≢ i
     → (after_word work c i).nodes k ≡ c.nodes k
 kept_node work c i k apart = elim (eqb_tells k i) [ inl e ↦ absurd (apart e.1) | inr e ↦ rw e.0 refl ]
 
--- leaves the choices as they are, where its node has no mail and may execute another
-pub kept_choices : (work : Work) (c : Core) (i : ℕ) → IsQuiet work c i
+-- the same is allowed behind it, where its node has no mail and may execute another
+pub kept_allowed : (work : Work) (c : Core) (i : ℕ) → IsQuiet work c i
     → HasNoMail work.layout.nodes c i → May work c (Exec i)
     → may_execute (standing_of work ((after_word work c i).nodes i)) ≡ true
-    → choices work (after_word work c i) ≡ choices work c
-kept_choices work c i still none may again =
-    same_filtered work.layout.nodes (is_allowed work (after_word work c i)) (is_allowed work c)
-    (all_events work.layout.nodes) (all_below work.layout.nodes) same
+    → (e : Event) → IsBelow work.layout.nodes e
+    → is_allowed work (after_word work c i) e ≡ is_allowed work c e
+kept_allowed work c i still none may again = same
   where
     same_take : (k j : ℕ) → j < work.layout.nodes
         → is_allowed work (after_word work c i) (Take k j) ≡ is_allowed work c (Take k j)
@@ -234,6 +234,14 @@ kept_choices work c i still none may again =
       | inr e ↦ ap (λ (n : Node). may_execute (standing_of work n)) (kept_node work c i k e.1)
     ]
     same (Take k j) low = same_take k j low.1
+
+pub kept_choices : (work : Work) (c : Core) (i : ℕ) → IsQuiet work c i
+    → HasNoMail work.layout.nodes c i → May work c (Exec i)
+    → may_execute (standing_of work ((after_word work c i).nodes i)) ≡ true
+    → choices work (after_word work c i) ≡ choices work c
+kept_choices work c i still none may again =
+    same_filtered work.layout.nodes (is_allowed work (after_word work c i)) (is_allowed work c)
+    (all_events work.layout.nodes) (all_below work.layout.nodes) (kept_allowed work c i still none may again)
 
 -- 5. Longer lists
 

@@ -1,16 +1,16 @@
 //! A core whose events follow an order.
 
-ghost use Rattle.std.specs.Prelude.{◌≡◌, ◌≤◌, ◌<◌, ◌+◌, ◌*◌, ◌++◌, ℕ, [], ◌∷◌, true, false, map, filter, length, IfOk, OnOk, MatchOption};
-ghost use Rattle.std.specs.Vec.{vec_capacity};
-ghost use Rattle.std.specs.List.{range_with_len};
-ghost use Rattle.node_model.specs.Core.{Exec, Take, May, IsOver, AreAlike, event_step, opening_core};
+ghost use Rattle.std.specs.Prelude.{◌≡◌, ◌≤◌, ◌<◌, ℕ, [], ◌∷◌, true, false, length, slice_get, Some, IfOk, OnOk, OnErr, MatchOption};
+ghost use Rattle.node_model.specs.Core.{Exec, May, IsOver, AreAlike, event_step, opening_core};
 ghost use Rattle.rewriting_law.specs.Bounds.{RunsRewritten};
 ghost use Rattle.dsm_core.specs.CoreParts.{work_of, work_with, core_of, event_of, outcome_of};
-ghost use Rattle.shared_sim.specs.ByOrder.{IsOutcomeByOrder, choices, events_at, is_allowed};
-ghost use Rattle.shared_sim.specs.Turns.{IsReady, LeadsOn, HasNoMail, AreWithoutMail};
+ghost use Rattle.shared_sim.specs.ByOrder.{IsOutcomeByOrder, choices};
+ghost use Rattle.shared_sim.specs.Listing.{Lists, IsCalm};
+ghost use Rattle.shared_sim.specs.Turns.{IsReady, LeadsOn, HasNoMail, maker};
 
+use crate::listing::Listing;
 use block_layout::Layout;
-use dsm_core::{Core, Event, Outcome};
+use dsm_core::{Core, Event, Outcome, Stop, Trails};
 use exec_map::Program;
 use jump_map::Image;
 use rewriting_law::progress_law;
@@ -39,20 +39,26 @@ pub fn simulate(
         if run.is_over() {
             return run.core.outcome(alloc);
         }
-        run.turn()?;
+        run.turns()?;
     }
     unreachable!()
 }
+
+/// The fewest turns that are made at once.
+const LEAST_WINDOW: u32 = 16;
+
+/// The most turns that are made at once.
+const MOST_WINDOW: u32 = 4096;
 
 /// A core on its way, the order that picks its events, and those that are allowed now.
 #[derive(Drop)]
 struct Run<'a> {
     core: Core<'a>,
     order: Order,
-    /// The events that are allowed, node by node.
-    choices: Vec<Event>,
-    /// The nodes to which no message is on its way.
-    no_mail: [bool; 16],
+    listing: Listing,
+    trails: Trails,
+    /// How many turns are tried at once, where no message is on its way.
+    window: u32,
 }
 
 impl<'a> Run<'a> {
@@ -73,15 +79,14 @@ impl<'a> Run<'a> {
         ensures order { IfOk result (λ r. r.order ≡ order) }
     {
         let core = Core::new(alloc, image, program, layout, budget)?;
-        let nodes = layout.nodes() as usize;
-        let mut choices = Vec::with_capacity(alloc, nodes + nodes * nodes)?;
-        let mut no_mail = [false; 16];
-        list_choices(&core, &mut choices, &mut no_mail);
+        let listing = Listing::new(alloc, &core)?;
+        let trails = Trails::new(alloc, core.layout().nodes())?;
         Ok(Run {
             core,
             order: order_of(order),
-            choices,
-            no_mail,
+            listing,
+            trails,
+            window: LEAST_WINDOW,
         })
     }
 
@@ -89,37 +94,50 @@ impl<'a> Run<'a> {
     fn is_over(&self) -> bool
         requires ready { IsReady self.now }
         ensures over { result ≡ true → IsOver (work_of self.now.core) (core_of self.now.core) }
-        ensures none { result ≡ true → self.now.choices.items ≡ [] }
-        ensures some { result ≡ false → 1 ≤ length self.now.choices.items }
+        ensures none { result ≡ true
+            → choices (work_of self.now.core) (core_of self.now.core) ≡ [] }
+        ensures some { result ≡ false
+            → 1 ≤ length (choices (work_of self.now.core) (core_of self.now.core)) }
     {
-        if !self.choices.is_empty() {
+        if self.listing.count > 0 {
             return false;
         }
         self.core.promises();
         true
     }
 
-    /// Makes the event that the order picks, or more: where one event is left, the order picks it
-    /// again and again.
-    fn turn(&mut self) -> Result<(), AllocError>
+    /// Makes the events that the order picks next, one at least.
+    fn turns(&mut self) -> Result<(), AllocError>
         requires ready { IsReady self.old }
-        requires some { 1 ≤ length self.old.choices.items }
+        requires some { 1 ≤ length (choices (work_of self.old.core) (core_of self.old.core)) }
         ensures ready { OnOk result (IsReady self.new) }
         ensures work { OnOk result (work_of self.new.core ≡ work_of self.old.core) }
         ensures leads { OnOk result (LeadsOn (work_of self.old.core) 1
             self.old.order (core_of self.old.core) self.new.order (core_of self.new.core)) }
     {
         if let Some(node) = self.lone_node() {
-            return self.turn_on(node);
+            return self.turns_on(node);
         }
-        let place = self.order.next(self.choices.len() as u32);
-        let event = self.choices[place as usize];
-        if pass(&mut self.core, event, &self.no_mail) {
+        if self.listing.calm {
+            return self.calm_turns();
+        }
+        self.turn()
+    }
+
+    /// Makes the events that the order picks next, one at least, where no message is on its way.
+    fn calm_turns(&mut self) -> Result<(), AllocError>
+        requires ready { IsReady self.old }
+        requires some { 1 ≤ length (choices (work_of self.old.core) (core_of self.old.core)) }
+        requires calm { IsCalm self.old.core.layout.nodes (core_of self.old.core) }
+        ensures ready { OnOk result (IsReady self.new) }
+        ensures work { OnOk result (work_of self.new.core ≡ work_of self.old.core) }
+        ensures leads { OnOk result (LeadsOn (work_of self.old.core) 1
+            self.old.order (core_of self.old.core) self.new.order (core_of self.new.core)) }
+    {
+        if self.pass_some() {
             return Ok(());
         }
-        self.core.step(event)?;
-        list_choices(&self.core, &mut self.choices, &mut self.no_mail);
-        Ok(())
+        self.turn()
     }
 
     /// The node whose word is the one event that is allowed, where no message is on its way to it.
@@ -129,17 +147,17 @@ impl<'a> Run<'a> {
             (choices (work_of self.now.core) (core_of self.now.core) ≡ Exec node ∷ [])
             × HasNoMail self.now.core.layout.nodes (core_of self.now.core) node) }
     {
-        if self.choices.len() != 1 {
+        if self.listing.count != 1 {
             return None;
         }
-        match self.choices[0] {
-            Event::Exec(node) if self.no_mail[node as usize] => Some(node),
+        match self.listing.at(&self.core, 0) {
+            Event::Exec(node) if self.listing.no_mail[node as usize] => Some(node),
             _ => None,
         }
     }
 
     /// Executes words of a node, one each turn, as long as each is the one event that is allowed.
-    fn turn_on(&mut self, node: u8) -> Result<(), AllocError>
+    fn turns_on(&mut self, node: u8) -> Result<(), AllocError>
         requires ready { IsReady self.old }
         requires alone { choices (work_of self.old.core) (core_of self.old.core) ≡ Exec node ∷ [] }
         requires mail { HasNoMail self.old.core.layout.nodes (core_of self.old.core) node }
@@ -150,89 +168,141 @@ impl<'a> Run<'a> {
     {
         let words = self.core.execute_on(node)?;
         self.order.skip(words);
-        list_choices(&self.core, &mut self.choices, &mut self.no_mail);
+        self.listing.list_after(&self.core, node);
+        Ok(())
+    }
+
+    /// Makes the event that the order picks.
+    fn turn(&mut self) -> Result<(), AllocError>
+        requires ready { IsReady self.old }
+        requires some { 1 ≤ length (choices (work_of self.old.core) (core_of self.old.core)) }
+        ensures ready { OnOk result (IsReady self.new) }
+        ensures work { OnOk result (work_of self.new.core ≡ work_of self.old.core) }
+        ensures leads { OnOk result (LeadsOn (work_of self.old.core) 1
+            self.old.order (core_of self.old.core) self.new.order (core_of self.new.core)) }
+    {
+        let place = self.order.next(self.listing.count);
+        let event = self.listing.at(&self.core, place);
+        if self.pass(event) {
+            return Ok(());
+        }
+        self.core.step(event)?;
+        self.listing.list_after(&self.core, node_of(event));
+        Ok(())
+    }
+
+    /// Makes an event that is allowed, where it is a word by a micro-op. Otherwise nothing changes.
+    fn pass(&mut self, event: Event) -> bool
+        requires ready { IsReady self.old }
+        requires may { May (work_of self.old.core) (core_of self.old.core) (event_of event) }
+        ensures event { result ≡ true → AreAlike self.old.core.layout.nodes (core_of self.new.core)
+            (event_step (work_of self.old.core) (core_of self.old.core) (event_of event)) }
+        ensures kept { result ≡ false → core_of self.new.core ≡ core_of self.old.core }
+        ensures ready { IsReady self.new }
+        ensures work { work_of self.new.core ≡ work_of self.old.core }
+        ensures order { self.new.order ≡ self.old.order }
+    {
+        match event {
+            Event::Exec(node) => self.pass_on(node),
+            Event::Take { .. } => false,
+        }
+    }
+
+    /// Executes a word of a node by a micro-op, where that serves it. Otherwise nothing changes.
+    fn pass_on(&mut self, node: u8) -> bool
+        requires ready { IsReady self.old }
+        requires may { May (work_of self.old.core) (core_of self.old.core) (Exec node) }
+        ensures event { result ≡ true → AreAlike self.old.core.layout.nodes (core_of self.new.core)
+            (event_step (work_of self.old.core) (core_of self.old.core) (Exec node)) }
+        ensures kept { result ≡ false → core_of self.new.core ≡ core_of self.old.core }
+        ensures ready { IsReady self.new }
+        ensures work { work_of self.new.core ≡ work_of self.old.core }
+        ensures order { self.new.order ≡ self.old.order }
+    {
+        if !self.core.pass(node) {
+            return false;
+        }
+        if self.listing.no_mail[node as usize] {
+            return true;
+        }
+        self.listing.list_again(&self.core, node);
+        true
+    }
+
+    /// Makes some of the turns that come next at once, where no message is on its way: as many as
+    /// the window, or those before a node stops. It says whether it made the whole window.
+    fn pass_some(&mut self) -> bool
+        requires ready { IsReady self.old }
+        requires some { 1 ≤ length (choices (work_of self.old.core) (core_of self.old.core)) }
+        requires calm { IsCalm self.old.core.layout.nodes (core_of self.old.core) }
+        ensures ready { IsReady self.new }
+        ensures work { work_of self.new.core ≡ work_of self.old.core }
+        ensures some { 1 ≤ length (choices (work_of self.new.core) (core_of self.new.core)) }
+        ensures made { result ≡ true → LeadsOn (work_of self.old.core) 1
+            self.old.order (core_of self.old.core) self.new.order (core_of self.new.core) }
+        ensures leads { LeadsOn (work_of self.old.core) 0
+            self.old.order (core_of self.old.core) self.new.order (core_of self.new.core) }
+    {
+        let turns = self.window.max(LEAST_WINDOW);
+        if let Err(stop) = self.pass_turns(turns) {
+            self.window = turns / 2;
+            self.pass_before(stop, turns);
+            return false;
+        }
+        self.window = turns.saturating_mul(2).min(MOST_WINDOW);
+        true
+    }
+
+    /// Makes the turns before a node stops, where these aren't few.
+    fn pass_before(&mut self, stop: Stop, most: u32)
+        requires ready { IsReady self.old }
+        requires some { 1 ≤ length (choices (work_of self.old.core) (core_of self.old.core)) }
+        requires calm { IsCalm self.old.core.layout.nodes (core_of self.old.core) }
+        ensures ready { IsReady self.new }
+        ensures work { work_of self.new.core ≡ work_of self.old.core }
+        ensures some { 1 ≤ length (choices (work_of self.new.core) (core_of self.new.core)) }
+        ensures leads { LeadsOn (work_of self.old.core) 0
+            self.old.order (core_of self.old.core) self.new.order (core_of self.new.core) }
+    {
+        let place = self.listing.place(stop.node);
+        let turns = self
+            .order
+            .turns_until(place, stop.words, self.listing.count, most);
+        if turns >= LEAST_WINDOW / 2 {
+            let _ = self.pass_turns(turns);
+        }
+    }
+
+    /// Makes so many turns at once, where no message is on its way and each of them is a word by a
+    /// micro-op. Otherwise nothing changes, and the answer tells a node that stops before.
+    fn pass_turns(&mut self, turns: u32) -> Result<(), Stop>
+        requires ready { IsReady self.old }
+        requires some { 1 ≤ length (choices (work_of self.old.core) (core_of self.old.core)) }
+        requires calm { IsCalm self.old.core.layout.nodes (core_of self.old.core) }
+        ensures ready { IsReady self.new }
+        ensures work { work_of self.new.core ≡ work_of self.old.core }
+        ensures some { 1 ≤ length (choices (work_of self.new.core) (core_of self.new.core)) }
+        ensures leads { IfOk result (λ u. LeadsOn (work_of self.old.core) turns
+            self.old.order (core_of self.old.core) self.new.order (core_of self.new.core)) }
+        ensures calm { IsCalm self.new.core.layout.nodes (core_of self.new.core) }
+        ensures on { LeadsOn (work_of self.old.core) 0
+            self.old.order (core_of self.old.core) self.new.order (core_of self.new.core) }
+        ensures window { self.new.window ≡ self.old.window }
+    {
+        let tally = self.order.tally(turns, self.listing.count);
+        let words = self.listing.words(&self.core, &tally);
+        self.core.pass_each(&words, &mut self.trails)?;
+        self.order.skip(turns as u64);
         Ok(())
     }
 }
 
-/// Makes an event that is allowed, where it is a word after which the same events are allowed.
-/// Otherwise nothing changes.
-fn pass(core: &mut Core<'_>, event: Event, no_mail: &[bool; 16]) -> bool
-    requires nodes { core.old.layout.nodes ≤ 16 }
-    requires mail { AreWithoutMail core.old.layout.nodes (core_of core.old) no_mail.now }
-    requires may { May (work_of core.old) (core_of core.old) (event_of event) }
-    ensures event { result ≡ true → AreAlike core.old.layout.nodes (core_of core.new)
-        (event_step (work_of core.old) (core_of core.old) (event_of event)) }
-    ensures same { result ≡ true → choices (work_of core.new) (core_of core.new)
-        ≡ choices (work_of core.old) (core_of core.old) }
-    ensures mail { result ≡ true
-        → AreWithoutMail core.old.layout.nodes (core_of core.new) no_mail.now }
-    ensures kept { result ≡ false → core_of core.new ≡ core_of core.old }
-    ensures work { work_of core.new ≡ work_of core.old }
+/// The node of an event.
+fn node_of(event: Event) -> u8
+    ensures { result ≡ maker (event_of event) }
 {
     match event {
-        Event::Exec(node) => no_mail[node as usize] && core.pass(node),
-        Event::Take { .. } => false,
-    }
-}
-
-/// Lists the events that are allowed: for each node, ascending, its word and then its takes by
-/// sender. Tells the nodes to which no message is on its way.
-fn list_choices(core: &Core<'_>, events: &mut Vec<Event>, no_mail: &mut [bool; 16])
-    requires nodes { core.now.layout.nodes ≤ 16 }
-    requires room { core.now.layout.nodes + core.now.layout.nodes * core.now.layout.nodes
-        ≤ vec_capacity events.old }
-    ensures listed { map event_of events.new.items ≡ choices (work_of core.now) (core_of core.now) }
-    ensures few { length events.new.items
-        ≤ core.now.layout.nodes + core.now.layout.nodes * core.now.layout.nodes }
-    ensures room { vec_capacity events.new ≡ vec_capacity events.old }
-    ensures mail { AreWithoutMail core.now.layout.nodes (core_of core.now) no_mail.new }
-{
-    events.clear();
-    for node in 0..core.layout().nodes() {
-        let mail = core.has_mail(node);
-        no_mail[node as usize] = !mail;
-        list_events(core, node, mail, events);
-    }
-}
-
-/// Adds the events of a node that are allowed; none but a node with mail may take any.
-fn list_events(core: &Core<'_>, node: u8, mail: bool, events: &mut Vec<Event>)
-    requires node { node < core.now.layout.nodes }
-    requires mail { mail ≡ false → HasNoMail core.now.layout.nodes (core_of core.now) node }
-    requires nodes { core.now.layout.nodes ≤ 16 }
-    requires room { length events.old.items + 1 + core.now.layout.nodes ≤ vec_capacity events.old }
-    ensures listed { map event_of events.new.items ≡ map event_of events.old.items
-        ++ filter (is_allowed (work_of core.now) (core_of core.now))
-        (events_at core.now.layout.nodes node) }
-    ensures few { length events.new.items
-        ≤ length events.old.items + 1 + core.now.layout.nodes }
-    ensures room { vec_capacity events.new ≡ vec_capacity events.old }
-{
-    let word = Event::Exec(node);
-    if core.enabled(word) {
-        events.push_reserved(word);
-    }
-    if mail {
-        list_takes(core, node, events);
-    }
-}
-
-/// Adds the takes of a node that are allowed.
-fn list_takes(core: &Core<'_>, node: u8, events: &mut Vec<Event>)
-    requires node { node < core.now.layout.nodes }
-    requires nodes { core.now.layout.nodes ≤ 16 }
-    requires room { length events.old.items + core.now.layout.nodes ≤ vec_capacity events.old }
-    ensures listed { map event_of events.new.items ≡ map event_of events.old.items
-        ++ filter (is_allowed (work_of core.now) (core_of core.now))
-        (map (λ j. Take node j) (range_with_len 0 core.now.layout.nodes)) }
-    ensures few { length events.new.items ≤ length events.old.items + core.now.layout.nodes }
-    ensures room { vec_capacity events.new ≡ vec_capacity events.old }
-{
-    for from in 0..core.layout().nodes() {
-        let take = Event::Take { node, from };
-        if core.enabled(take) {
-            events.push_reserved(take);
-        }
+        Event::Exec(node) => node,
+        Event::Take { node, .. } => node,
     }
 }

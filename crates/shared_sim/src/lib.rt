@@ -2,6 +2,7 @@
 #![tactic(auto)]
 
 mod by_order;
+mod listing;
 
 pub use by_order::simulate;
 pub use rewriting_law::{conditional_law, interleaving_law, progress_law};

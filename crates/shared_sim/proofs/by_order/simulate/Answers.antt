@@ -1,4 +1,4 @@
-use Rattle.std.proofs.Common.{◌+◌, ap, sym, subst, ◌∙◌, map, List, IfOk}
+use Rattle.std.proofs.Common.{◌+◌, sym, subst, ◌∙◌, List, IfOk}
 use Rattle.std.proofs.lemmas.Result.{IfOk-weaker}
 use Rattle.node_model.specs.Node.{Work}
 use Rattle.node_model.specs.Core.{Core, opening_core}
@@ -6,7 +6,7 @@ use Rattle.node_model.specs.Outcome.{IsOutcomeOf}
 use Rattle.run_order.specs.OwnRun.{Stamped, StandsForOwnRun, run_of}
 use Rattle.rewriting_law.specs.Bounds.{RunsRewritten}
 use Rattle.dsm_core.specs.declared.outcome.Outcome.{Outcome}
-use Rattle.dsm_core.specs.CoreParts.{work_of, core_of, event_of, outcome_of}
+use Rattle.dsm_core.specs.CoreParts.{work_of, core_of, outcome_of}
 use Rattle.shared_sim.specs.ByOrder.{IsOutcomeByOrder}
 use Rattle.shared_sim.specs.Turns.{LeadsOn}
 use Rattle.shared_sim.proofs.Turns.{leads_none, leads_also, not_so_long, outcome_by_order}
@@ -29,8 +29,8 @@ pub loop-turn-preserved : goal.loop-turn-preserved
 loop-turn-preserved c =
     let l = c.loop-turn in
     let r = l.run in
-    let n = c.turn.new.self in
-    let t = c.in_ok-turn.ensures in
+    let n = c.turns.new.self in
+    let t = c.in_ok-turns.ensures in
     let all = leads_also (work_of r.core) l._turn 1 c.args.order r.order n.order (opening_core (work_of r.core))
     (core_of r.core) (core_of n.core) l.invariant.leads t.leads in
     record {
@@ -54,7 +54,7 @@ returns-then-is_over c =
     let l = c.loop-turn in
     let r = l.run in
     let work = work_of r.core in
-    let none = sym l.invariant.ready.listed ∙ ap (map event_of) (c.is_over.ensures.none c.if-is_over.true) in
+    let none = c.is_over.ensures.none c.if-is_over.true in
     let over = c.is_over.ensures.over c.if-is_over.true in
     record {
       outcome = subst (λ (w : Work). IfOk c.outcome.result (λ (o : Outcome). IsOutcomeByOrder w c.args.order (outcome_of o))) l.invariant.work

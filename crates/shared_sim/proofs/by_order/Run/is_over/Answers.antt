@@ -1,17 +1,12 @@
-use Rattle.std.proofs.Common.{◌≡◌, ap, sym, ◌∙◌, map, List, [], ◌∷◌, length, refl, arith}
-use Rattle.std.proofs.lemmas.Bool.Decides.{nat_tests}
-use Rattle.dsm_core.specs.declared.cores.Event.{Event}
-use Rattle.dsm_core.specs.CoreParts.{work_of, core_of, event_of}
-use Rattle.shared_sim.proofs.Turns.{over_without}
+-- Where nothing is listed, every node is over.
+use Rattle.std.proofs.Common.{◌≡◌, length, arith}
+use Rattle.dsm_core.specs.CoreParts.{work_of, core_of}
+use Rattle.shared_sim.specs.ByOrder.{choices}
+use Rattle.shared_sim.proofs.Turns.{over_without, none_listed}
 use Rattle.shared_sim.proofs.by_order.Run.is_over.Goals as goal
-
-nothing_in : (events : List Event) → length events ≡ 0 → events ≡ []
-nothing_in [] none = refl
-nothing_in (e ∷ es) none = absurd (omega (arith, none))
 
 pub returns-clause-over : goal.returns-clause-over
 returns-clause-over c = λ sure.
     let r = c.args.self.now in
-    let len : length r.choices.items ≡ 0 = grind (arith, nat_tests, c.is_empty.ensures, c.if-not-is_empty.false, r.choices.ok) in
-    over_without (work_of r.core) (core_of r.core)
-    (sym c.requires.ready.listed ∙ ap (map event_of) (nothing_in r.choices.items len)) c.promises.ensures.goes_on
+    let none : length (choices (work_of r.core) (core_of r.core)) ≡ 0 = omega (arith, c.requires.ready.lists.count, c.if-self-gt0.false) in
+    over_without (work_of r.core) (core_of r.core) (none_listed (choices (work_of r.core) (core_of r.core)) none) c.promises.ensures.goes_on

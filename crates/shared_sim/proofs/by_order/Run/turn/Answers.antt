@@ -1,50 +1,97 @@
-use Rattle.std.proofs.Common.{◌≡◌, ℕ, ◌<◌, get_or, sym, subst, refl, length, Some, arith}
-use Rattle.std.specs.Vec.{vec_len}
-use Rattle.workload.specs.Orders.{following, choice}
+-- The event at the place that the order chooses is the one that it picks.
+use Rattle.std.proofs.Common.{◌<◌, sym, ap, ◌∙◌, subst, refl, arith}
+use Rattle.workload.specs.Orders.{following}
 use Rattle.node_model.specs.Node.{Work}
 use Rattle.node_model.specs.Core.{Core, May}
-use Rattle.dsm_core.specs.declared.cores.Event.{Event}
-use Rattle.shared_sim.specs.declared.by_order.Run.{Run}
 use Rattle.dsm_core.specs.CoreParts.{work_of, core_of, event_of}
-use Rattle.shared_sim.specs.ByOrder.{choices, pick_among}
-use Rattle.shared_sim.specs.Turns.{IsReady}
-use Rattle.shared_sim.proofs.Turns.{picked_at, picked_may, turn_leads}
+use Rattle.shared_sim.specs.ByOrder.{choices}
+use Rattle.shared_sim.specs.Turns.{maker}
+use Rattle.shared_sim.proofs.Rows.{tells_after, shape_kept}
+use Rattle.shared_sim.proofs.Turns.{picked_at, picked_may, turn_leads, few_kept, maker_low}
 use Rattle.shared_sim.proofs.by_order.Run.turn.Goals as goal
 
-picked_here : (r : Run) (place count : ℕ) (e : Event) → IsReady r → count ≡ vec_len r.choices
-    → place < count → place ≡ choice count (following r.order) → e ≡ get_or r.choices.items place e
-    → pick_among (choices (work_of r.core) (core_of r.core)) (following r.order) ≡ Some (event_of e)
-picked_here r place count e ready len among chosen is =
-    let whole : count ≡ length r.choices.items = omega (arith, len, r.choices.ok) in
-    picked_at r.choices.items (choices (work_of r.core) (core_of r.core)) place count (following r.order) e
-    ready.listed whole among chosen is
+pub next-place-requires-clause-few : goal.next-place-requires-clause-few
+next-place-requires-clause-few c = omega (arith, c.requires.ready.lists.few)
 
-pub pass-requires : goal.pass-requires
-pass-requires c =
+pub at-event-requires-clause-place : goal.at-event-requires-clause-place
+at-event-requires-clause-place c =
     let r = c.args.self.now in
-    record { nodes = c.requires.ready.nodes; mail = c.requires.ready.mail; may = picked_may (work_of r.core) (core_of r.core) (following r.order) (event_of c.index-event.result.now) (picked_here r c.next-place.result c.len.result c.index-event.result.now c.requires.ready c.len.ensures c.next-place.ensures.among c.next-place.ensures.chooses c.index-event.ensures) }
+    omega (arith, c.next-place.ensures.among, c.requires.ready.lists.count)
 
-pub step-requires : goal.step-requires
-step-requires c =
+pub pass-requires-clause-may : goal.pass-requires-clause-may
+pass-requires-clause-may c =
     let r = c.args.self.now in
-    let e = event_of c.index-event.result.now in
-    let may = picked_may (work_of r.core) (core_of r.core) (following r.order) e (picked_here r c.next-place.result c.len.result c.index-event.result.now c.requires.ready c.len.ensures c.next-place.ensures.among c.next-place.ensures.chooses c.index-event.ensures) in
-    let kept = c.pass.ensures.kept c.if-pass.false in
-    record {
-      enabled = subst (λ (w : Work). May w (core_of c.pass.new.core) e) (sym c.pass.ensures.work)
-          (subst (λ (z : Core). May (work_of r.core) z e) (sym kept) may);
-    }
+    let e = event_of c.at-event.result in
+    picked_may (work_of r.core) (core_of r.core) (following r.order) e
+    (picked_at (choices (work_of r.core) (core_of r.core)) c.next-place.result r.listing.count (following r.order) e
+    c.requires.ready.lists.count c.next-place.ensures.chooses c.at-event.ensures.picked)
 
 pub returns-then-pass-clause-leads : goal.returns-then-pass-clause-leads
 returns-then-pass-clause-leads c =
     let r = c.args.self.now in
-    turn_leads (work_of r.core) (work_of r.core) r.order c.next-place.new.self (core_of r.core) (core_of r.core)
-    (core_of c.pass.new.core) (event_of c.index-event.result.now) refl refl c.next-place.ensures.goes_on
-    (picked_here r c.next-place.result c.len.result c.index-event.result.now c.requires.ready c.len.ensures c.next-place.ensures.among c.next-place.ensures.chooses c.index-event.ensures) (c.pass.ensures.event c.if-pass.true)
+    let n = c.pass.new.self in
+    let e = event_of c.at-event.result in
+    let picked = picked_at (choices (work_of r.core) (core_of r.core)) c.next-place.result r.listing.count (following r.order) e
+    c.requires.ready.lists.count c.next-place.ensures.chooses c.at-event.ensures.picked in
+    turn_leads (work_of r.core) (work_of r.core) r.order n.order (core_of r.core) (core_of r.core) (core_of n.core) e
+    refl refl (c.pass.ensures.order ∙ c.next-place.ensures.goes_on) picked (c.pass.ensures.event c.if-pass.true)
+
+pub step-requires : goal.step-requires
+step-requires c =
+    let r = c.args.self.now in
+    let n = c.pass.new.self in
+    let e = event_of c.at-event.result in
+    let picked = picked_at (choices (work_of r.core) (core_of r.core)) c.next-place.result r.listing.count (following r.order) e
+    c.requires.ready.lists.count c.next-place.ensures.chooses c.at-event.ensures.picked in
+    let may = picked_may (work_of r.core) (core_of r.core) (following r.order) e picked in
+    record {
+      enabled = subst (λ (w : Work). May w (core_of n.core) e) (sym c.pass.ensures.work)
+          (subst (λ (z : Core). May (work_of r.core) z e) (sym (c.pass.ensures.kept c.if-pass.false)) may);
+    }
+
+pub list_after-requires : goal.list_after-requires
+list_after-requires c =
+    let r = c.args.self.now in
+    let n = c.pass.new.self in
+    let q = c.step.new.self in
+    let e = event_of c.at-event.result in
+    let picked = picked_at (choices (work_of r.core) (core_of r.core)) c.next-place.result r.listing.count (following r.order) e
+    c.requires.ready.lists.count c.next-place.ensures.chooses c.at-event.ensures.picked in
+    let may = picked_may (work_of r.core) (core_of r.core) (following r.order) e picked in
+    let low = maker_low (work_of r.core) (core_of r.core) e may in
+    let made : maker e < n.core.layout.nodes = subst (λ (w : Work). maker e < w.layout.nodes) (sym c.pass.ensures.work) low in
+    let ready = c.pass.ensures.ready in
+    let s = c.in_ok-step.ensures in
+    let is = c.node_of.ensures in
+    record {
+      few = few_kept n.core q s.work ready.few;
+      node = subst (λ k. k < q.layout.nodes) (sym is)
+          (subst (λ (w : Work). maker e < w.layout.nodes) (sym s.work) made);
+      shape = shape_kept n.core q n.listing s.work ready.lists.shape;
+      others = λ i below apart none.
+          let here : i < n.core.layout.nodes = subst (λ (w : Work). i < w.layout.nodes) s.work below in
+          tells_after n.core q n.listing e i s.work here made s.event (λ same. apart (same ∙ sym is))
+          (ap (λ x. (core_of q).list x i) (sym is) ∙ none) (ready.lists.tells i here);
+    }
 
 pub returns-clause-leads : goal.returns-clause-leads
 returns-clause-leads c =
     let r = c.args.self.now in
-    turn_leads (work_of r.core) (work_of c.pass.new.core) r.order c.next-place.new.self (core_of r.core) (core_of c.pass.new.core)
-    (core_of c.step.new.self) (event_of c.index-event.result.now) c.pass.ensures.work (c.pass.ensures.kept c.if-pass.false)
-    c.next-place.ensures.goes_on (picked_here r c.next-place.result c.len.result c.index-event.result.now c.requires.ready c.len.ensures c.next-place.ensures.among c.next-place.ensures.chooses c.index-event.ensures) c.in_ok-step.ensures.event
+    let n = c.pass.new.self in
+    let e = event_of c.at-event.result in
+    let picked = picked_at (choices (work_of r.core) (core_of r.core)) c.next-place.result r.listing.count (following r.order) e
+    c.requires.ready.lists.count c.next-place.ensures.chooses c.at-event.ensures.picked in
+    turn_leads (work_of r.core) (work_of n.core) r.order n.order (core_of r.core) (core_of n.core) (core_of c.step.new.self) e
+    c.pass.ensures.work (c.pass.ensures.kept c.if-pass.false)
+    (c.pass.ensures.order ∙ c.next-place.ensures.goes_on) picked c.in_ok-step.ensures.event
+
+pub returns-clause-ready : goal.returns-clause-ready
+returns-clause-ready c =
+    let n = c.pass.new.self in
+    let q = c.step.new.self in
+    let s = c.in_ok-step.ensures in
+    record {
+      lists = c.list_after.ensures.lists;
+      few = few_kept n.core q s.work c.pass.ensures.ready.few;
+      trails = c.pass.ensures.ready.trails ∙ sym (ap (λ (w : Work). w.layout.nodes) s.work);
+    }

@@ -5,7 +5,7 @@ use Rattle.std.specs.Vec.{vec_capacity}
 use Rattle.node_model.specs.Core.{Take}
 use Rattle.dsm_core.specs.CoreParts.{work_of, core_of, event_of}
 use Rattle.shared_sim.specs.ByOrder.{is_allowed}
-use Rattle.shared_sim.proofs.by_order.list_takes.Given as goal
+use Rattle.shared_sim.proofs.listing.list_takes.Given as goal
 
 abbrev pub invariant-loop-from : goal.invariant-loop-from
 invariant-loop-from l = record {

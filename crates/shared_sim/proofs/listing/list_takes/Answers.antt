@@ -7,8 +7,8 @@ use Rattle.block_layout.specs.Layout.{Shape}
 use Rattle.node_model.specs.Core.{Take}
 use Rattle.dsm_core.specs.CoreParts.{work_of, core_of, event_of}
 use Rattle.shared_sim.proofs.Choices.{told, one_take_more}
-use Rattle.shared_sim.proofs.by_order.list_takes.Goals as goal
-use Rattle.shared_sim.proofs.by_order.list_takes.Goals.{then-enabled, else-enabled}
+use Rattle.shared_sim.proofs.listing.list_takes.Goals as goal
+use Rattle.shared_sim.proofs.listing.list_takes.Goals.{then-enabled, else-enabled}
 
 pub loop-from-preserved : goal.loop-from-preserved
 loop-from-preserved c =

@@ -7,8 +7,8 @@ use Rattle.node_model.specs.Core.{Exec, Take}
 use Rattle.dsm_core.specs.CoreParts.{work_of, core_of, event_of}
 use Rattle.shared_sim.specs.ByOrder.{is_allowed}
 use Rattle.shared_sim.proofs.Choices.{told, one_node, no_takes}
-use Rattle.shared_sim.proofs.by_order.list_events.Goals as goal
-use Rattle.shared_sim.proofs.by_order.list_events.Goals.{then-enabled, else-enabled}
+use Rattle.shared_sim.proofs.listing.list_events.Goals as goal
+use Rattle.shared_sim.proofs.listing.list_events.Goals.{then-enabled, else-enabled}
 
 pub returns-else-mail-clause-listed : goal.returns-else-mail-clause-listed
 returns-else-mail-clause-listed c =

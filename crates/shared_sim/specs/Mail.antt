@@ -1,0 +1,7 @@
+-- Helps the code alone: messages on their way.
+use Rattle.std.specs.Prelude.{◌≡◌, ℕ, ◌<◌, []}
+use Rattle.node_model.specs.Core.{Core}
+
+-- no message is on its way to node i
+abbrev pub HasNoMail : (n : ℕ) → Core → ℕ → Type 0
+HasNoMail n c i = (j : ℕ) → j < n → c.list j i ≡ []
