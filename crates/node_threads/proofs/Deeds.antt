@@ -1,0 +1,51 @@
+-- Deeds of a node, one after another.
+use Rattle.std.proofs.Common.{◌≡◌, ℕ, Bool, true, false, cond, eqb, List, [], ◌∷◌, ◌++◌, refl, ap, ◌∙◌, sym, subst, append_assoc}
+use Rattle.home_directory.specs.declared.messages.Wire.{Wire}
+use Rattle.node_model.specs.declared.Standing.TheVariants as standing
+use Rattle.node_model.specs.Node.{Work, Node, Phase, Running, Resumed, Waiting, Ended, standing_in, is_at_poll, has_all_byes, can_execute}
+use Rattle.node_model.specs.Core.{wires_to, may_execute}
+use Rattle.run_order.specs.Apart.{Deed, Executes, Takes, MayDo, LeadsBy, turn_of, taken_from, sent_to}
+
+pub leads_append : (work : Work) (n u m : Node) (ds es : List Deed) → LeadsBy work n ds u
+    → LeadsBy work u es m → LeadsBy work n (ds ++ es) m
+leads_append work n u m [] es a b = subst (λ x. LeadsBy work x es m) (sym a) b
+leads_append work n u m (d ∷ ds) es a b =
+    (a.0, leads_append work (turn_of work n d).node u m ds es a.1 b)
+
+push : (t : Bool) (w : Wire) (a b : List Wire)
+    → cond t (w ∷ (a ++ b)) (a ++ b) ≡ cond t (w ∷ a) a ++ b
+push true w a b = refl
+push false w a b = refl
+
+pub taken_append : (j : ℕ) (ds es : List Deed)
+    → taken_from j (ds ++ es) ≡ taken_from j ds ++ taken_from j es
+taken_append j [] es = refl
+taken_append j (Executes ∷ ds) es = taken_append j ds es
+taken_append j (Takes i wire ∷ ds) es =
+    ap (λ l. cond (eqb i j) (wire ∷ l) l) (taken_append j ds es)
+    ∙ push (eqb i j) wire (taken_from j ds) (taken_from j es)
+
+pub sent_append : (work : Work) (k : ℕ) (n u : Node) (ds es : List Deed) → LeadsBy work n ds u
+    → sent_to work k n (ds ++ es) ≡ sent_to work k n ds ++ sent_to work k u es
+sent_append work k n u [] es a = ap (λ x. sent_to work k x es) a
+sent_append work k n u (d ∷ ds) es a =
+    let t = turn_of work n d in
+    ap (λ l. wires_to t.node.stamp k t.sends ++ l) (sent_append work k t.node u ds es a.1)
+    ∙ sym (append_assoc (wires_to t.node.stamp k t.sends) (sent_to work k t.node ds)
+    (sent_to work k u es))
+
+end_cannot : (byes : Bool) → may_execute (cond byes standing.Over standing.Ended) ≡ false
+end_cannot true = refl
+end_cannot false = refl
+
+poll_may : (polls : Bool) → may_execute (cond polls standing.AtPoll standing.Running) ≡ true
+poll_may true = refl
+poll_may false = refl
+
+-- a node that may execute a word has a phase of execution
+pub can_by : (work : Work) (n : Node) (p : Phase) → may_execute (standing_in work n p) ≡ true
+    → can_execute p ≡ true
+can_by work n Running may = refl
+can_by work n Resumed may = refl
+can_by work n (Waiting resume) may = may
+can_by work n (Ended end) may = sym (end_cannot (has_all_byes work n)) ∙ may

@@ -1,0 +1,12 @@
+pub mod Deeds
+pub mod Entries
+pub mod Flat
+pub mod Fronts
+pub mod Gathering
+pub mod Hiring
+pub mod MeshRows
+pub mod Parting
+pub mod Posts
+pub mod Races
+pub mod Squares
+pub mod Working

@@ -1,0 +1,240 @@
+-- What workers do, one thing after another.
+use Rattle.std.proofs.Common.{◌≡◌, ◌≢◌, ℕ, ◌<◌, true, None, Result, Ok, Err, OnOk, List, [], ◌∷◌, ◌++◌, set, get_or, length, length-set, cond, eqb, eq-eqb, ne_eqb, refl, ap, ap₂, ◌∙◌, sym, subst, append_assoc, append-nil, ⊎_elim, Global}
+use Rattle.std.proofs.lemmas.Bool.{cases_eq}
+use Rattle.std.proofs.lemmas.List.{length-map}
+use Rattle.std.specs.declared.collections.VecDeque.{VecDeque}
+use Rattle.home_directory.specs.declared.messages.Post.{Post}
+use Rattle.home_directory.specs.declared.messages.Wire.{Wire}
+use Rattle.node_model.specs.Node.{Work, Node}
+use Rattle.node_model.specs.Turns.{Turn, quiet, word_turn}
+use Rattle.node_model.specs.Core.{wires_to, may_execute}
+use Rattle.node_machine.specs.declared.frame.Frame.{Frame}
+use Rattle.node_machine.specs.Frame.{node_of, work_of}
+use Rattle.run_order.specs.Apart.{Deed, Executes, MayDo, LeadsBy, turn_of, taken_from, sent_to}
+use Rattle.fifo_link.specs.End.{End}
+use Rattle.node_threads.specs.Rows.{wires_at}
+use Rattle.node_threads.specs.Works.{Works, HasRows, standing, through, waiting, links_of, in_hand}
+use Rattle.node_threads.specs.declared.worker.Worker.{Worker}
+use Rattle.node_threads.proofs.Entries.{wires_same, wires_other, wires_get, map_same}
+use Rattle.node_threads.proofs.Deeds.{leads_append, taken_append, sent_append}
+
+-- no deed, and no wire was moved
+pub works_still : (a b : Worker) → b.hand ≡ None → work_of b.node ≡ work_of a.node
+    → node_of b.node ≡ node_of a.node → b.sends ≡ a.sends → b.outs ≡ a.outs
+    → ((j : ℕ) → through b.takes.items j ≡ through a.takes.items j)
+    → links_of b.takes.items ≡ links_of a.takes.items → Works a b
+works_still a b none work node sends outs takes links = record {
+  deeds = [];
+  work = work;
+  leads = sym node;
+  takes = λ j. takes j
+      ∙ sym (ap (λ h. (through a.takes.items j ++ []) ++ in_hand j h) none
+      ∙ append-nil (through a.takes.items j ++ []) ∙ append-nil (through a.takes.items j));
+  pushed = λ k. [];
+  sends = λ k. ap (λ s. through s.items k) sends ∙ sym (append-nil (through a.sends.items k));
+  outs = λ k lt. append-nil (waiting a.outs.items k) ∙ ap (λ o. waiting o.items k) (sym outs);
+  same_sends = ap (λ s. links_of s.items) sends;
+  same_takes = links;
+  same_outs = ap (λ o. length o.items) outs;
+}
+
+pub works_none : (a : Worker) → a.hand ≡ None → Works a a
+works_none a none = works_still a a none refl refl refl refl (λ j. refl) refl
+
+pub works_trans : (a b c : Worker) → Works a b → b.hand ≡ None → Works b c → Works a c
+works_trans a b c x none y =
+    let w : Work = work_of a.node in
+    let n : Node = node_of a.node in
+    let m : Node = node_of b.node in
+    let leads : LeadsBy w m y.deeds (node_of c.node) =
+    subst (λ v. LeadsBy v m y.deeds (node_of c.node)) x.work y.leads in
+    let outs : (k : ℕ) → k < w.layout.nodes → waiting b.outs.items k ++ sent_to w k m y.deeds
+    ≡ y.pushed k ++ waiting c.outs.items k =
+    subst (λ v. (k : ℕ) → k < v.layout.nodes → waiting b.outs.items k ++ sent_to v k m y.deeds
+    ≡ y.pushed k ++ waiting c.outs.items k) x.work y.outs in
+    let takes : (j : ℕ) → through b.takes.items j
+    ≡ through a.takes.items j ++ taken_from j x.deeds =
+    λ j. x.takes j
+    ∙ ap (λ h. (through a.takes.items j ++ taken_from j x.deeds) ++ in_hand j h) none
+    ∙ append-nil (through a.takes.items j ++ taken_from j x.deeds) in
+    record {
+      deeds = x.deeds ++ y.deeds;
+      work = y.work ∙ x.work;
+      leads = leads_append w n m (node_of c.node) x.deeds y.deeds x.leads leads;
+      takes = λ j. y.takes j
+          ∙ ap (λ l. l ++ taken_from j y.deeds ++ in_hand j c.hand) (takes j)
+          ∙ ap (λ l. l ++ in_hand j c.hand)
+          (append_assoc (through a.takes.items j) (taken_from j x.deeds) (taken_from j y.deeds)
+          ∙ ap (λ l. through a.takes.items j ++ l) (sym (taken_append j x.deeds y.deeds)));
+      pushed = λ k. x.pushed k ++ y.pushed k;
+      sends = λ k. y.sends k ∙ ap (λ l. l ++ y.pushed k) (x.sends k)
+          ∙ append_assoc (through a.sends.items k) (x.pushed k) (y.pushed k);
+      outs = λ k lt.
+          ap (λ l. waiting a.outs.items k ++ l) (sent_append w k n m x.deeds y.deeds x.leads)
+          ∙ sym (append_assoc (waiting a.outs.items k) (sent_to w k n x.deeds)
+          (sent_to w k m y.deeds))
+          ∙ ap (λ l. l ++ sent_to w k m y.deeds) (x.outs k lt)
+          ∙ append_assoc (x.pushed k) (waiting b.outs.items k) (sent_to w k m y.deeds)
+          ∙ ap (λ l. x.pushed k ++ l) (outs k lt)
+          ∙ sym (append_assoc (x.pushed k) (y.pushed k) (waiting c.outs.items k));
+      same_sends = y.same_sends ∙ x.same_sends;
+      same_takes = y.same_takes ∙ x.same_takes;
+      same_outs = y.same_outs ∙ x.same_outs;
+    }
+
+-- the same, where what came last is known first
+pub works_before : (a b c : Worker) → Works b c → b.hand ≡ None → Works a b → Works a c
+works_before a b c y none x = works_trans a b c x none y
+
+-- wires move from the outbox for node k to its link
+pub works_flush : (b w : Worker) (k : ℕ) (end next : End) (out left : VecDeque Wire Global)
+    → b.hand ≡ None → w.node ≡ b.node → w.takes.items ≡ b.takes.items → w.hand ≡ None
+    → w.sends.items ≡ set b.sends.items k next → w.outs.items ≡ set b.outs.items k left
+    → k < length b.sends.items → k < length b.outs.items
+    → end ≡ get_or b.sends.items k end → out ≡ get_or b.outs.items k out
+    → next.link ≡ end.link → next.capacity ≡ end.capacity
+    → (pushed : List Wire) × (next.wires ≡ end.wires ++ pushed) × (out.items ≡ pushed ++ left.items)
+    → Works b w
+works_flush b w k end next out left none node takes hand sends outs ks ko is_end is_out link cap p =
+    let F : End → List Wire = λ e. e.wires in
+    let G : VecDeque Wire Global → List Wire = λ o. o.items in
+    let ps : ℕ → List Wire = λ i. cond (eqb i k) p.0 [] in
+    record {
+      deeds = [];
+      work = ap work_of node;
+      leads = sym (ap node_of node);
+      takes = λ j. ap (λ l. through l j) takes
+          ∙ sym (ap (λ h. (through b.takes.items j ++ []) ++ in_hand j h) hand
+          ∙ append-nil (through b.takes.items j ++ []) ∙ append-nil (through b.takes.items j));
+      pushed = ps;
+      sends = λ i. ap (λ l. through l i) sends
+          ∙ ⊎_elim
+          (λ (e : i ≡ k). rw (eq-eqb i k e)
+          (subst (λ x. through (set b.sends.items k next) x ≡ through b.sends.items x ++ p.0)
+          (sym e) (wires_same End Wire F b.sends.items k next ks ∙ p.1
+          ∙ ap (λ l. l ++ p.0) (sym (wires_get End Wire F b.sends.items k end ks is_end)))))
+          (λ (e : i ≢ k). rw (ne_eqb i k e)
+          (wires_other End Wire F b.sends.items k i next e
+          ∙ sym (append-nil (through b.sends.items i))))
+          (cases_eq i k);
+      outs = λ i lt. append-nil (waiting b.outs.items i)
+          ∙ ⊎_elim
+          (λ (e : i ≡ k). rw (eq-eqb i k e)
+          (subst (λ x. waiting b.outs.items x ≡ p.0 ++ waiting w.outs.items x) (sym e)
+          (wires_get (VecDeque Wire Global) Wire G b.outs.items k out ko is_out ∙ p.2
+          ∙ ap (λ l. p.0 ++ l) (sym (ap (λ l. waiting l k) outs
+          ∙ wires_same (VecDeque Wire Global) Wire G b.outs.items k left ko)))))
+          (λ (e : i ≢ k). rw (ne_eqb i k e)
+          (sym (ap (λ l. waiting l i) outs
+          ∙ wires_other (VecDeque Wire Global) Wire G b.outs.items k i left e)))
+          (cases_eq i k);
+      same_sends = ap links_of sends ∙ map_same End _ (λ (e : End). (e.link, e.capacity))
+          b.sends.items k end next ks is_end (ap₂ (λ x y. (x, y)) link cap);
+      same_takes = ap links_of takes;
+      same_outs = ap length outs ∙ length-set b.outs.items k left;
+    }
+
+-- the node has made a deed
+pub works_deed : (b w : Worker) (d : Deed) → w.hand ≡ None → work_of w.node ≡ work_of b.node
+    → MayDo (work_of b.node) (node_of b.node) d
+    → node_of w.node ≡ (turn_of (work_of b.node) (node_of b.node) d).node
+    → ((j : ℕ) → through w.takes.items j ≡ through b.takes.items j ++ taken_from j (d ∷ []))
+    → links_of w.takes.items ≡ links_of b.takes.items
+    → w.sends ≡ b.sends
+    → ((k : ℕ) → k < (work_of b.node).layout.nodes → waiting w.outs.items k
+    ≡ waiting b.outs.items k
+    ++ wires_to (node_of w.node).stamp k (turn_of (work_of b.node) (node_of b.node) d).sends)
+    → length w.outs.items ≡ length b.outs.items
+    → Works b w
+works_deed b w d hand work may node took same_takes sends outs len =
+    let t = turn_of (work_of b.node) (node_of b.node) d in
+    record {
+      deeds = d ∷ [];
+      work = work;
+      leads = (may, sym node);
+      takes = λ j. took j
+          ∙ sym (ap (λ h. (through b.takes.items j ++ taken_from j (d ∷ [])) ++ in_hand j h) hand
+          ∙ append-nil (through b.takes.items j ++ taken_from j (d ∷ [])));
+      pushed = λ k. [];
+      sends = λ k. ap (λ s. through s.items k) sends ∙ sym (append-nil (through b.sends.items k));
+      outs = λ k lt.
+          ap (λ l. waiting b.outs.items k ++ l) (append-nil (wires_to t.node.stamp k t.sends))
+          ∙ ap (λ (z : Node). waiting b.outs.items k ++ wires_to z.stamp k t.sends) (sym node)
+          ∙ sym (outs k lt);
+      same_sends = ap (λ s. links_of s.items) sends;
+      same_takes = same_takes;
+      same_outs = len;
+    }
+
+-- the same, where the node stands for the same as before its deed
+pub works_turn : (b w : Worker) (x : Frame) (d : Deed) (stamp : ℕ) (posts : List Post)
+    → w.hand ≡ None → HasRows b → MayDo (work_of b.node) (node_of b.node) d
+    → work_of x ≡ work_of b.node → node_of x ≡ node_of b.node → work_of w.node ≡ work_of x
+    → node_of w.node ≡ (turn_of (work_of x) (node_of x) d).node
+    → posts ≡ (turn_of (work_of x) (node_of x) d).sends → stamp ≡ (node_of w.node).stamp
+    → ((j : ℕ) → through w.takes.items j ≡ through b.takes.items j ++ taken_from j (d ∷ []))
+    → links_of w.takes.items ≡ links_of b.takes.items
+    → w.sends ≡ b.sends
+    → ((k : ℕ) → k < length b.outs.items → waiting w.outs.items k
+    ≡ waiting b.outs.items k ++ wires_to stamp k posts)
+    → length w.outs.items ≡ length b.outs.items
+    → Works b w
+works_turn b w x d stamp posts hand rows may wx nx work node sends at_stamp took links same outs len =
+    let e : turn_of (work_of x) (node_of x) d ≡ turn_of (work_of b.node) (node_of b.node) d =
+    ap₂ (λ v n. turn_of v n d) wx nx in
+    works_deed b w d hand (work ∙ wx) may (node ∙ ap (λ (t : Turn). t.node) e) took links same
+    (λ k lt. outs k (subst (λ i. k < i) (sym rows.outs) lt)
+    ∙ ap (λ s. waiting b.outs.items k ++ wires_to s k posts) at_stamp
+    ∙ ap (λ l. waiting b.outs.items k ++ wires_to (node_of w.node).stamp k l)
+    (sends ∙ ap (λ (t : Turn). t.sends) e))
+    len
+
+-- a word that sends nothing
+pub works_pass : (b w : Worker) → w.hand ≡ None → may_execute (standing b.node) ≡ true
+    → work_of w.node ≡ work_of b.node
+    → word_turn (work_of b.node) (node_of b.node) ≡ quiet (node_of w.node)
+    → w.sends ≡ b.sends → w.takes ≡ b.takes → w.outs ≡ b.outs → Works b w
+works_pass b w hand may work turn sends takes outs =
+    works_deed b w Executes hand work may (sym (ap (λ (t : Turn). t.node) turn))
+    (λ j. ap (λ v. through v.items j) takes ∙ sym (append-nil (through b.takes.items j)))
+    (ap (λ v. links_of v.items) takes) sends
+    (λ k lt. ap (λ o. waiting o.items k) outs ∙ sym (append-nil (waiting b.outs.items k))
+    ∙ ap (λ l. waiting b.outs.items k ++ wires_to (node_of w.node).stamp k l)
+    (sym (ap (λ (t : Turn). t.sends) turn)))
+    (ap (λ o. length o.items) outs)
+
+-- a message was left in hand
+pub works_hand : (b w : Worker) → w.node ≡ b.node → w.sends ≡ b.sends → w.outs ≡ b.outs
+    → ((j : ℕ) → through w.takes.items j ≡ through b.takes.items j ++ in_hand j w.hand)
+    → links_of w.takes.items ≡ links_of b.takes.items
+    → Works b w
+works_hand b w node sends outs took links = record {
+  deeds = [];
+  work = ap work_of node;
+  leads = sym (ap node_of node);
+  takes = λ j. took j
+      ∙ ap (λ l. l ++ in_hand j w.hand) (sym (append-nil (through b.takes.items j)));
+  pushed = λ k. [];
+  sends = λ k. ap (λ s. through s.items k) sends ∙ sym (append-nil (through b.sends.items k));
+  outs = λ k lt. append-nil (waiting b.outs.items k) ∙ ap (λ o. waiting o.items k) (sym outs);
+  same_sends = ap (λ s. links_of s.items) sends;
+  same_takes = links;
+  same_outs = ap (λ o. length o.items) outs;
+}
+
+pub on_ok : {A E P Q : Type 0} (r : Result A E) → (P → Q) → OnOk r P → OnOk r Q
+on_ok (Ok a) f p = f p
+on_ok (Err e) f p = p
+
+pub links_len : (xs ys : List End) → links_of xs ≡ links_of ys → length xs ≡ length ys
+links_len xs ys e = sym (length-map xs _) ∙ ap length e ∙ length-map ys _
+
+pub rows_kept : (a b : Worker) → Works a b → HasRows a → HasRows b
+rows_kept a b x h =
+    let n : (work_of a.node).layout.nodes ≡ (work_of b.node).layout.nodes =
+    sym (ap (λ (v : Work). v.layout.nodes) x.work) in
+    record {
+      sends = links_len b.sends.items a.sends.items x.same_sends ∙ h.sends ∙ n;
+      takes = links_len b.takes.items a.takes.items x.same_takes ∙ h.takes ∙ n;
+      outs = x.same_outs ∙ h.outs ∙ n;
+    }

@@ -1,0 +1,66 @@
+-- What a worker has done: from the one handed in to the one given.
+use Rattle.std.specs.Prelude.{◌≡◌, ℕ, ◌<◌, ◌==◌, if◌then◌else◌, List, [], ◌∷◌, ◌++◌, map, length, Option, None, Some, Vec}
+use Rattle.std.specs.declared.alloc.Global.{Global}
+use Rattle.std.specs.declared.collections.VecDeque.{VecDeque}
+use Rattle.atomic_table.specs.Seated.{TableId}
+use Rattle.home_directory.specs.declared.messages.Wire.{Wire}
+use Rattle.node_model.specs.declared.Standing.{Standing}
+use Rattle.node_model.specs.Node.{standing_of}
+use Rattle.node_machine.specs.declared.frame.Frame.{Frame}
+use Rattle.node_machine.specs.Frame.{node_of, work_of}
+use Rattle.run_order.specs.Apart.{Deed, LeadsBy, taken_from, sent_to}
+use Rattle.fifo_link.specs.End.{End}
+use Rattle.node_threads.specs.Rows.{wires_at}
+use Rattle.node_threads.specs.declared.worker.Worker.{Worker}
+
+-- what a node may do next
+abbrev pub standing : Frame → Standing
+standing f = standing_of (work_of f) (node_of f)
+
+-- the wires that went through the end for node k
+abbrev pub through : List End → ℕ → List Wire
+through ends k = wires_at (λ (e : End). e.wires) ends k
+
+-- the wires in the outbox for node k
+abbrev pub waiting : List (VecDeque Wire Global) → ℕ → List Wire
+waiting outs k = wires_at (λ (o : VecDeque Wire Global). o.items) outs k
+
+-- the wire in hand, where it is from node j
+abbrev pub in_hand : (j : ℕ) → Option (ℕ × Wire) → List Wire
+in_hand j None = []
+in_hand j (Some p) = if p.0 == j then p.1 ∷ [] else []
+
+-- which links these are the ends of, and how wide they are
+abbrev pub links_of : List End → List (TableId × ℕ)
+links_of ends = map (λ (e : End). (e.link, e.capacity)) ends
+
+-- an end of a link to each node and of one from each, and an outbox for each
+pub record HasRows (w : Worker) : Type 0 where
+  pub sends : length w.sends.items ≡ (work_of w.node).layout.nodes
+  pub takes : length w.takes.items ≡ (work_of w.node).layout.nodes
+  pub outs : length w.outs.items ≡ (work_of w.node).layout.nodes
+
+-- it may begin to work
+pub record IsReady (w : Worker) : Type 0 where
+  pub rows : HasRows w
+  pub hand : w.hand ≡ None
+
+-- The node has made some deeds. What each end took is what they took from its node, and then the
+-- wire in hand where it is from that node. What was in each outbox and what they sent to its node
+-- is what its end sent, and then what is in the outbox.
+pub record Works (old new : Worker) : Type 0 where
+  pub deeds : List Deed
+  pub work : work_of new.node ≡ work_of old.node
+  pub leads : LeadsBy (work_of old.node) (node_of old.node) deeds (node_of new.node)
+  pub takes : (j : ℕ) → through new.takes.items j
+      ≡ through old.takes.items j ++ taken_from j deeds ++ in_hand j new.hand
+  -- what each end sent
+  pub pushed : ℕ → List Wire
+  pub sends : (k : ℕ) → through new.sends.items k ≡ through old.sends.items k ++ pushed k
+  pub outs : (k : ℕ) → k < (work_of old.node).layout.nodes
+      → waiting old.outs.items k ++ sent_to (work_of old.node) k (node_of old.node) deeds
+      ≡ pushed k ++ waiting new.outs.items k
+  -- each end given is that handed in, of the same link
+  pub same_sends : links_of new.sends.items ≡ links_of old.sends.items
+  pub same_takes : links_of new.takes.items ≡ links_of old.takes.items
+  pub same_outs : length new.outs.items ≡ length old.outs.items

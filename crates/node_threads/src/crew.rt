@@ -1,0 +1,111 @@
+//! Workers from the parts of a core, and the parts again.
+
+ghost use Rattle.std.specs.Prelude.{◌≡◌, Ok, IfOk, length, map};
+ghost use Rattle.node_threads.specs.Crew.{AllIdle};
+
+use crate::worker::Worker;
+use fifo_link::{SendEnd, TakeEnd};
+use home_directory::Wire;
+use node_machine::Node;
+use std::alloc::{AllocError, Global};
+use std::collections::VecDeque;
+
+/// What workers are made of, an entry for each.
+#[derive(Drop)]
+pub struct Gear<'a> {
+    /// Their nodes.
+    pub nodes: Vec<Node<'a>>,
+    /// The sending ends of each.
+    pub sends: Vec<Vec<SendEnd>>,
+    /// The taking ends of each.
+    pub takes: Vec<Vec<TakeEnd>>,
+    /// The outboxes of each.
+    pub outs: Vec<Vec<VecDeque<Wire>>>,
+    /// The wire in hand of each.
+    pub hands: Vec<Option<(u8, Wire)>>,
+}
+
+/// A worker for each node, with nothing in hand.
+pub fn hire<'a>(
+    alloc: Global,
+    nodes: Vec<Node<'a>>,
+    sends: Vec<Vec<SendEnd>>,
+    takes: Vec<Vec<TakeEnd>>,
+    outs: Vec<Vec<VecDeque<Wire>>>,
+) -> Result<Vec<Worker<'a>>, AllocError>
+    requires sends { length sends.items ≡ length nodes.items }
+    requires takes { length takes.items ≡ length nodes.items }
+    requires outs { length outs.items ≡ length nodes.items }
+    ensures nodes { IfOk result (λ r. map (λ w. w.node) r.items ≡ nodes.entry.items) }
+    ensures sends { IfOk result (λ r. map (λ w. w.sends) r.items ≡ sends.items) }
+    ensures takes { IfOk result (λ r. map (λ w. w.takes) r.items ≡ takes.items) }
+    ensures outs { IfOk result (λ r. map (λ w. w.outs) r.items ≡ outs.items) }
+    ensures idle { IfOk result (λ r. AllIdle r.items) }
+{
+    let mut nodes = nodes;
+    let mut sends = sends;
+    let mut takes = takes;
+    let mut outs = outs;
+    let mut workers = Vec::new(alloc);
+    let mut number: u8 = 0;
+    'nodes: while !nodes.is_empty() {
+        workers.push(Worker {
+            node: nodes.remove(0),
+            number,
+            events: 0,
+            sends: sends.remove(0),
+            takes: takes.remove(0),
+            outs: outs.remove(0),
+            hand: None,
+        })?;
+        number = number.wrapping_add(1);
+    }
+    Ok(workers)
+}
+
+/// The workers, if all came back.
+pub fn all_back<'a>(
+    alloc: Global,
+    results: Vec<Result<Worker<'a>, AllocError>>,
+) -> Result<Vec<Worker<'a>>, AllocError>
+    ensures all { IfOk result (λ r. map (λ w. Ok w) r.items ≡ results.entry.items) }
+{
+    let mut results = results;
+    let mut workers = Vec::new(alloc);
+    'results: while !results.is_empty() {
+        let worker = results.remove(0)?;
+        workers.push(worker)?;
+    }
+    Ok(workers)
+}
+
+/// What the workers were made of.
+pub fn dismiss<'a>(alloc: Global, workers: Vec<Worker<'a>>) -> Result<Gear<'a>, AllocError>
+    ensures nodes { IfOk result (λ g. g.nodes.items ≡ map (λ w. w.node) workers.entry.items) }
+    ensures sends { IfOk result (λ g. g.sends.items ≡ map (λ w. w.sends) workers.entry.items) }
+    ensures takes { IfOk result (λ g. g.takes.items ≡ map (λ w. w.takes) workers.entry.items) }
+    ensures outs { IfOk result (λ g. g.outs.items ≡ map (λ w. w.outs) workers.entry.items) }
+    ensures hands { IfOk result (λ g. g.hands.items ≡ map (λ w. w.hand) workers.entry.items) }
+{
+    let mut workers = workers;
+    let mut nodes = Vec::new(alloc);
+    let mut sends = Vec::new(alloc);
+    let mut takes = Vec::new(alloc);
+    let mut outs = Vec::new(alloc);
+    let mut hands = Vec::new(alloc);
+    'workers: while !workers.is_empty() {
+        let worker = workers.remove(0);
+        nodes.push(worker.node)?;
+        sends.push(worker.sends)?;
+        takes.push(worker.takes)?;
+        outs.push(worker.outs)?;
+        hands.push(worker.hand)?;
+    }
+    Ok(Gear {
+        nodes,
+        sends,
+        takes,
+        outs,
+        hands,
+    })
+}

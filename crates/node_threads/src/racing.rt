@@ -1,0 +1,189 @@
+//! The nodes of a core in threads of their own.
+
+ghost use Rattle.std.specs.Prelude.{◌≡◌, ◌≤◌, ℕ, Some, IfOk, All, length, slice_get};
+ghost use Rattle.node_model.specs.Node.{Work};
+ghost use Rattle.node_model.specs.Core.{IsOver};
+ghost use Rattle.run_order.specs.OwnRun.{OnlyAdds};
+ghost use Rattle.dsm_core.specs.CoreParts.{AreParts, work_of, core_of};
+ghost use Rattle.node_threads.specs.Works.{Works, IsReady};
+ghost use Rattle.node_threads.specs.Crew.{RowsOf, AreNodesOf};
+ghost use Rattle.node_threads.specs.Races.{HaveRaced, HaveGoneApart};
+
+use crate::crew::{Gear, all_back, dismiss, hire};
+use crate::gather::gather;
+use crate::hands::put_hands;
+use crate::mesh::mesh;
+use crate::rows::{lists, rows};
+use crate::worker::Worker;
+use dsm_core::{Core, Parts};
+use dsm_io::Gate;
+use home_directory::Wire;
+use node_machine::Node;
+use run_order::stamp_law;
+use std::alloc::{AllocError, Global};
+use std::collections::VecDeque;
+use std::sync::Wait;
+use std::thread;
+use std::thread::Threads;
+
+/// How many wires a link has room for.
+const CAPACITY: usize = 64;
+
+/// Runs each node of a core in a thread of its own, and then finishes what they left.
+pub fn race<'a, R: Threads + Wait + Sync, G: Gate + Sync>(
+    rt: &R,
+    alloc: Global,
+    core: Core<'a>,
+    gate: &G,
+) -> Result<Core<'a>, AllocError>
+    ensures over { IfOk result (λ c. IsOver (work_of c) (core_of c)) }
+    ensures work { IfOk result (λ c. work_of c ≡ work_of core.entry) }
+    ensures adds { IfOk result (λ c.
+        OnlyAdds core.entry.layout.nodes (core_of core.entry) (core_of c)) }
+{
+    race_with(rt, alloc, core, CAPACITY, gate)
+}
+
+/// The same, with links that have room for so many wires. A node that is alone needs neither a
+/// thread nor a link.
+pub fn race_with<'a, R: Threads + Wait + Sync, G: Gate + Sync>(
+    rt: &R,
+    alloc: Global,
+    core: Core<'a>,
+    capacity: usize,
+    gate: &G,
+) -> Result<Core<'a>, AllocError>
+    requires capacity { (1 ≤ capacity) × (capacity ≤ 4096) }
+    ensures over { IfOk result (λ c. IsOver (work_of c) (core_of c)) }
+    ensures work { IfOk result (λ c. work_of c ≡ work_of core.entry) }
+    ensures adds { IfOk result (λ c.
+        OnlyAdds core.entry.layout.nodes (core_of core.entry) (core_of c)) }
+{
+    if core.layout().nodes() == 1 {
+        finish(core)
+    } else {
+        race_apart(rt, alloc, core, capacity, gate)
+    }
+}
+
+/// Makes the events of a core until every node is over.
+fn finish<'a>(core: Core<'a>) -> Result<Core<'a>, AllocError>
+    ensures over { IfOk result (λ c. IsOver (work_of c) (core_of c)) }
+    ensures work { IfOk result (λ c. work_of c ≡ work_of core.entry) }
+    ensures adds { IfOk result (λ c.
+        OnlyAdds core.entry.layout.nodes (core_of core.entry) (core_of c)) }
+{
+    let mut core = core;
+    core.finish()?;
+    Ok(core)
+}
+
+/// Runs the nodes apart, and then finishes what they left.
+fn race_apart<'a, R: Threads + Wait + Sync, G: Gate + Sync>(
+    rt: &R,
+    alloc: Global,
+    core: Core<'a>,
+    capacity: usize,
+    gate: &G,
+) -> Result<Core<'a>, AllocError>
+    requires capacity { (1 ≤ capacity) × (capacity ≤ 4096) }
+    ensures over { IfOk result (λ c. IsOver (work_of c) (core_of c)) }
+    ensures work { IfOk result (λ c. work_of c ≡ work_of core.entry) }
+    ensures adds { IfOk result (λ c.
+        OnlyAdds core.entry.layout.nodes (core_of core.entry) (core_of c)) }
+{
+    let parts = go_apart(rt, alloc, core.take_apart(), capacity, gate)?;
+    stamp_law();
+    let mut core = Core::put_together(parts);
+    core.finish()?;
+    Ok(core)
+}
+
+/// The nodes and lists after each node has made events by itself.
+fn go_apart<'a, R: Threads + Wait + Sync, G: Gate + Sync>(
+    rt: &R,
+    alloc: Global,
+    parts: Parts<'a>,
+    capacity: usize,
+    gate: &G,
+) -> Result<Parts<'a>, AllocError>
+    requires capacity { (1 ≤ capacity) × (capacity ≤ 4096) }
+    requires parts { AreParts parts }
+    ensures parts { IfOk result (λ p. AreParts p) }
+    ensures apart { IfOk result (λ p. HaveGoneApart parts.entry p) }
+{
+    let Parts {
+        image,
+        program,
+        layout,
+        budget,
+        nodes,
+        lists: queues,
+    } = parts;
+    let rows = rows(alloc, queues, layout.nodes())?;
+    let (nodes, rows) = race_nodes(rt, alloc, nodes, rows, capacity, gate)?;
+    Ok(Parts {
+        image,
+        program,
+        layout,
+        budget,
+        nodes,
+        lists: lists(alloc, rows)?,
+    })
+}
+
+/// The nodes after each has made events by itself, and the rows of lists between them then.
+fn race_nodes<'a, R: Threads + Wait + Sync, G: Gate + Sync>(
+    rt: &R,
+    alloc: Global,
+    nodes: Vec<Node<'a>>,
+    rows: Vec<Vec<VecDeque<Wire>>>,
+    capacity: usize,
+    gate: &G,
+) -> Result<(Vec<Node<'a>>, Vec<Vec<VecDeque<Wire>>>), AllocError>
+    requires capacity { (1 ≤ capacity) × (capacity ≤ 4096) }
+    requires count { length rows.items ≡ length nodes.items }
+    requires rows { RowsOf (length nodes.items) rows.items }
+    requires works { (work : Work) × (work.layout.nodes ≡ length nodes.items)
+        × AreNodesOf work nodes.items }
+    ensures raced { IfOk result (λ r. (work : Work)
+        → work.layout.nodes ≡ length nodes.entry.items → AreNodesOf work nodes.entry.items
+        → HaveRaced work nodes.entry.items rows.items r.0.items r.1.items) }
+{
+    let (sends, takes) = mesh(alloc, capacity, nodes.len())?;
+    let workers = hire(alloc, nodes, sends, takes, rows)?;
+    let results = run_all(rt, workers, gate)?;
+    let workers = all_back(alloc, results)?;
+    let Gear {
+        nodes,
+        sends,
+        takes,
+        outs,
+        hands,
+    } = dismiss(alloc, workers)?;
+    let lists = gather(rt, alloc, sends, outs, takes)?;
+    let lists = put_hands(lists, hands)?;
+    Ok((nodes, lists))
+}
+
+/// What each worker gives, in their order.
+fn run_all<'a, R: Threads + Wait + Sync, G: Gate + Sync>(
+    rt: &R,
+    workers: Vec<Worker<'a>>,
+    gate: &G,
+) -> Result<Vec<Result<Worker<'a>, AllocError>>, AllocError>
+    requires ready { All IsReady workers.items }
+    ensures len { IfOk result (λ v. length v.items ≡ length workers.entry.items) }
+    ensures each { IfOk result (λ v. (i : ℕ) (w : _) (x : _)
+        → slice_get workers.entry.items i ≡ Some w → slice_get v.items i ≡ Some x
+        → IfOk x (λ y. Works w y)) }
+{
+    thread::map_vec(
+        rt,
+        workers,
+        &|worker|
+            requires { IsReady worker }
+            ensures { IfOk result (λ w. Works worker.entry w) }
+        { worker.work(rt, gate) },
+    )
+}
