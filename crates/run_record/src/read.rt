@@ -1,0 +1,256 @@
+//! Reads a record's text.
+
+ghost use Rattle.std.specs.Prelude.{◌≡◌, ℕ, ◌+◌, ◌<◌, ◌≤◌, ◌^◌, ◌++◌, [], length, All, codes, IfOk, IfErr, IfSome, IsErrOf, MatchResult, MatchOption};
+ghost use Rattle.run_limits.specs.Ranges.{IsNodeCount, IsBudget};
+ghost use Rattle.run_record.specs.Lists.{items_of};
+ghost use Rattle.run_record.specs.Reading.{IsRead, IsFault};
+ghost use Rattle.run_record.specs.Record.{IsRecord, IsBlockLine, IsTakeBehind, AreTakesBehind};
+ghost use Rattle.run_record.specs.Rules.{Version, Nodes, Batch, Range, Node, Take, Nothing, node_awaited, IsFirstFault};
+ghost use Rattle.run_record.specs.Rules as awaits;
+ghost use Rattle.run_record.specs.Telling.{HasWords, IsOfWords};
+ghost use Rattle.run_record.specs.Text as model;
+ghost use Rattle.run_record.specs.declared.Record.{Record as Records};
+ghost use Rattle.run_record.specs.declared.refused.RecordRule.{RecordRule as Rules};
+ghost use Rattle.run_record.specs.declared.refused.RecordRefused.TheVariants.{OutOfMemory};
+
+use crate::Record;
+use crate::line::{batch_of, number_line, range_of, take_of};
+use crate::lines::Lines;
+use crate::parts::{Blocks, Journals};
+use crate::refused::{RecordRefused, RecordRule};
+use block_layout::BlockRange;
+use node_model::Entry;
+use run_limits::{Budget, NodeCount};
+use std::alloc::Global;
+
+/// The version of records.
+const VERSION: u64 = 1;
+
+/// Reads the line of the version.
+fn read_version(lines: &mut Lines<'_>) -> Result<(), RecordRefused>
+    ensures ok { IfOk result (λ _. IsRead Version lines.old
+        (codes "shasta-record 1\n") Nodes lines.new) }
+    ensures err { IfErr result (IsFault Version lines.old) }
+{
+    let line = lines.next_line()?;
+    let Some(version) = number_line(line.text, b"shasta-record ") else {
+        return Err(RecordRule::Syntax.at(line.number));
+    };
+    if version != VERSION {
+        return Err(RecordRule::Version.at(line.number));
+    }
+    Ok(())
+}
+
+/// Reads the line of the number of nodes.
+fn read_nodes(lines: &mut Lines<'_>) -> Result<u8, RecordRefused>
+    ensures count { IfOk result IsNodeCount }
+    ensures ok { IfOk result (λ n. IsRead Nodes lines.old
+        (model.number_line (codes "nodes ") n) (awaits.Budget n) lines.new) }
+    ensures err { IfErr result (IsFault Nodes lines.old) }
+{
+    let line = lines.next_line()?;
+    let Some(number) = number_line(line.text, b"nodes ") else {
+        return Err(RecordRule::Syntax.at(line.number));
+    };
+    match NodeCount::of(number) {
+        Some(nodes) => Ok(nodes.number()),
+        None => Err(RecordRule::Node.at(line.number)),
+    }
+}
+
+/// Reads the line of the budget.
+fn read_budget(lines: &mut Lines<'_>) -> Result<u64, RecordRefused>
+    ensures budget { IfOk result IsBudget }
+    ensures ok { (nodes : ℕ) → IfOk result (λ n. IsRead (awaits.Budget nodes) lines.old
+        (model.number_line (codes "budget ") n) (Batch nodes) lines.new) }
+    ensures err { (nodes : ℕ) → IfErr result (IsFault (awaits.Budget nodes) lines.old) }
+{
+    let line = lines.next_line()?;
+    let Some(number) = number_line(line.text, b"budget ") else {
+        return Err(RecordRule::Syntax.at(line.number));
+    };
+    match Budget::of(number) {
+        Some(budget) => Ok(budget.number()),
+        None => Err(RecordRule::Syntax.at(line.number)),
+    }
+}
+
+/// Reads the line of the batching.
+fn read_batch(lines: &mut Lines<'_>) -> Result<bool, RecordRefused>
+    ensures ok { (nodes : ℕ) → IfOk result (λ b. IsRead (Batch nodes) lines.old
+        (model.batch_line b) (Range nodes) lines.new) }
+    ensures err { (nodes : ℕ) → IfErr result (IsFault (Batch nodes) lines.old) }
+{
+    let line = lines.next_line()?;
+    match batch_of(line.text) {
+        Some(batch) => Ok(batch),
+        None => Err(RecordRule::Syntax.at(line.number)),
+    }
+}
+
+/// Reads the line of a range, where there is one.
+fn read_range(lines: &mut Lines<'_>) -> Result<Option<BlockRange>, RecordRefused>
+    ensures ok { (nodes : ℕ) → IfOk result (λ next. MatchOption next
+        (IsRead (Range nodes) lines.old [] (Node nodes 0) lines.new)
+        (λ r. IsRead (Range nodes) lines.old (model.block_line r) (Range nodes) lines.new)) }
+    ensures range { IfOk result (λ next. IfSome next (λ r. IsBlockLine r × HasWords r)) }
+    ensures err { (nodes : ℕ) → IfErr result (IsFault (Range nodes) lines.old) }
+{
+    if !lines.begin_with(b"block ") {
+        return Ok(None);
+    }
+    let line = lines.next_line()?;
+    match range_of(line.text) {
+        Some(range) => Ok(Some(range)),
+        None => Err(RecordRule::Syntax.at(line.number)),
+    }
+}
+
+/// Reads the lines of the ranges.
+fn read_ranges(alloc: Global, lines: &mut Lines<'_>) -> Result<Vec<BlockRange>, RecordRefused>
+    ensures ok { (nodes : ℕ) → IfOk result (λ v. IsRead (Range nodes) lines.old
+        (model.block_lines v.items) (Node nodes 0) lines.new) }
+    ensures digits { IfOk result (λ v. All IsBlockLine v.items) }
+    ensures words { IfOk result (λ v. All HasWords v.items) }
+    ensures err { (nodes : ℕ) → IfErr result (IsFault (Range nodes) lines.old) }
+{
+    let mut ranges = Vec::new(alloc);
+    while let Some(range) = read_range(lines)? {
+        ranges.push(range)?;
+    }
+    Ok(ranges)
+}
+
+/// Reads the line of a node's number.
+fn read_node(lines: &mut Lines<'_>, node: u8) -> Result<(), RecordRefused>
+    ensures ok { (nodes : ℕ) → IfOk result (λ _. IsRead (Node nodes node) lines.old
+        (model.number_line (codes "node ") node) (Take nodes node 0) lines.new) }
+    ensures err { (nodes : ℕ) → IfErr result (IsFault (Node nodes node) lines.old) }
+{
+    let line = lines.next_line()?;
+    let Some(number) = number_line(line.text, b"node ") else {
+        return Err(RecordRule::Syntax.at(line.number));
+    };
+    if number != u64::from(node) {
+        return Err(RecordRule::Node.at(line.number));
+    }
+    Ok(())
+}
+
+/// Reads a take behind a stamp, or the end of its node.
+fn read_take(lines: &mut Lines<'_>, nodes: u8, last: u64) -> Result<Option<Entry>, RecordRefused>
+    requires few { nodes ≤ 16 }
+    requires low { last < 2 ^ 63 }
+    ensures ok { (node : ℕ) → IfOk result (λ next. MatchOption next
+        (IsRead (Take nodes node last) lines.old (codes "end\n")
+        (node_awaited nodes (node + 1)) lines.new)
+        (λ e. IsRead (Take nodes node last) lines.old (model.take_line e)
+        (Take nodes node e.stamp) lines.new)) }
+    ensures take { IfOk result (λ next. IfSome next (IsTakeBehind nodes last)) }
+    ensures err { (node : ℕ) → IfErr result (IsFault (Take nodes node last) lines.old) }
+{
+    let line = lines.next_line()?;
+    if line.text == b"end\n".as_slice() {
+        return Ok(None);
+    }
+    let Some(take) = take_of(line.text) else {
+        return Err(RecordRule::Syntax.at(line.number));
+    };
+    if take.stamp <= last || take.stamp - last <= take.words {
+        return Err(RecordRule::Stamps.at(line.number));
+    }
+    if take.from >= u64::from(nodes) {
+        return Err(RecordRule::Node.at(line.number));
+    }
+    Ok(Some(Entry {
+        stamp: take.stamp,
+        from: take.from as u8,
+        words: take.words,
+    }))
+}
+
+/// Reads the takes of a node, and its end.
+fn read_takes(alloc: Global, lines: &mut Lines<'_>, nodes: u8) -> Result<Vec<Entry>, RecordRefused>
+    requires few { nodes ≤ 16 }
+    ensures ok { (node : ℕ) → IfOk result (λ v. IsRead (Take nodes node 0) lines.old
+        (model.take_lines v.items ++ codes "end\n") (node_awaited nodes (node + 1)) lines.new) }
+    ensures takes { IfOk result (λ v. AreTakesBehind nodes 0 v.items) }
+    ensures err { (node : ℕ) → IfErr result (IsFault (Take nodes node 0) lines.old) }
+{
+    let mut takes = Vec::new(alloc);
+    let mut last = 0;
+    while let Some(entry) = read_take(lines, nodes, last)? {
+        last = entry.stamp;
+        takes.push(entry)?;
+    }
+    Ok(takes)
+}
+
+/// Reads the lines of each node.
+fn read_journals(
+    alloc: Global,
+    lines: &mut Lines<'_>,
+    nodes: u8,
+) -> Result<Vec<Vec<Entry>>, RecordRefused>
+    requires { IsNodeCount nodes }
+    ensures ok { IfOk result (λ v. IsRead (Node nodes 0) lines.old
+        (model.journal_lines 0 (items_of v.items)) Nothing lines.new) }
+    ensures each { IfOk result (λ v. length (items_of v.items) ≡ nodes) }
+    ensures takes { IfOk result (λ v. All (AreTakesBehind nodes 0) (items_of v.items)) }
+    ensures err { IfErr result (IsFault (Node nodes 0) lines.old) }
+{
+    let mut journals = Vec::new(alloc);
+    for node in 0..nodes {
+        read_node(lines, node)?;
+        journals.push(read_takes(alloc, lines, nodes)?)?;
+    }
+    Ok(journals)
+}
+
+/// Reads the record of a text.
+fn record_of(alloc: Global, text: &[u8]) -> Result<Record, RecordRefused>
+    ensures text { IfOk result (λ r. text.now ≡ model.record_text r) }
+    ensures record { IfOk result IsRecord }
+    ensures words { IfOk result IsOfWords }
+    ensures err { IfErr result (IsFault Version (record { bytes = text.now; number = 1 })) }
+{
+    let mut lines = Lines::of(text);
+    read_version(&mut lines)?;
+    let nodes = read_nodes(&mut lines)?;
+    let budget = read_budget(&mut lines)?;
+    let batch = read_batch(&mut lines)?;
+    let ranges = read_ranges(alloc, &mut lines)?;
+    let journals = read_journals(alloc, &mut lines, nodes)?;
+    lines.end()?;
+    Ok(Record {
+        nodes,
+        budget,
+        batch,
+        blocks: Blocks::of(ranges),
+        journals: Journals::of(journals),
+    })
+}
+
+/// Reads the record of a text, which is the text that `write_record` would write of it.
+///
+/// Each line ends with a line feed, and has fields with one space between them. Numbers are decimal
+/// without leading zeros, and below 2^63. The lines are `shasta-record 1`; `nodes` and 1 to 16;
+/// `budget` and 1 to 4294967296; `batch 0` or `batch 1`; for each range of the layout `block`, its
+/// start and its length, each `0x` and eight hexadecimal digits in lower case, the bytes of a
+/// block, up to 99999, and the home, up to 99, or `*`; and for each node `node` and its number, a
+/// line `take` for each of its takes, with the stamp, the sender and the words executed since the
+/// take before, and `end`. Nothing follows.
+///
+/// Fails with the first line that breaks a rule, and the first rule that it breaks. A line that is
+/// lacking has the number after the last line's.
+pub fn read_record(alloc: Global, text: &[u8]) -> Result<Record, RecordRefused>
+    ensures ok { IfOk result (λ r. (text.now ≡ model.record_text r) × IsRecord r) }
+    ensures words { IfOk result IsOfWords }
+    ensures refused { (rule : Rules) (line : ℕ) → IsErrOf result (RecordRefused.Broken rule line)
+        → IsFirstFault text.now rule line }
+    ensures complete { (r : Records) → IsRecord r → IsOfWords r → text.now ≡ model.record_text r
+        → MatchResult result (λ s. s ≡ r) (λ e. e ≡ OutOfMemory) }
+{
+    record_of(alloc, text)
+}
