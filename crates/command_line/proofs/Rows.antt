@@ -7,12 +7,12 @@ use Rattle.command_line.specs.declared.table.Access.TheVariants.{Read, Write}
 use Rattle.command_line.specs.declared.table.Kind.{Kind}
 use Rattle.command_line.specs.declared.table.Kind.TheVariants.{Number, File, Flag}
 use Rattle.command_line.specs.declared.table.Setting.{Setting}
-use Rattle.command_line.specs.declared.table.Setting.TheVariants.{Nodes, Order, Budget, Layout, Code, Brief}
+use Rattle.command_line.specs.declared.table.Setting.TheVariants.{Nodes, Order, Budget, Layout, Code, Record, Brief}
 use Rattle.command_line.specs.declared.table.Role.{Role}
 use Rattle.command_line.specs.declared.table.Role.TheVariants as role
 use Rattle.command_line.specs.declared.table.CommandWord.{CommandWord}
 use Rattle.command_line.specs.declared.table.CommandWord.TheVariants as word
-use Rattle.command_line.specs.Commands.{Command, Rewrite, Run, Listing, One, Sim, Named, Value, Amount, Name, Switch, name_or_none, Row, row_of, kind_of, settings_in}
+use Rattle.command_line.specs.Commands.{Command, Rewrite, Run, Listing, One, Sim, Named, Value, Amount, Name, Switch, name_or_none, Row, row_of, IsFit, kind_of, settings_in}
 use Rattle.command_line.specs.Asks.{Argument, IsNumber, ArePlaced, IsSet, AreSet, AreOfRow, Asks}
 use Rattle.command_line.specs.declared.Command.{Command as OfCode}
 use Rattle.command_line.specs.Meaning.{meaning_of}
@@ -196,15 +196,16 @@ other_second v w e h = h (ap (λ x. get_or x 1 0) e)
 pub as_rewrite : (g : Given) (c : Command) → Completes (codes "rewrite") g c → (x : List ℕ)
     × (y : List ℕ) × IsOfRow (row_of (Rewrite x y)) g
 as_rewrite g (Rewrite x y) h = (x, y, h.of_row)
-as_rewrite g (Run f b k l t) h = absurd (other_second _ _ h.word_is (omega arith))
+as_rewrite g (Run f n b w k l t) h = absurd (other_second _ _ h.word_is (omega arith))
 as_rewrite g (Listing f) h = absurd (other_first _ _ h.word_is (omega arith))
 as_rewrite g (One f n o b l) h = absurd (other_first _ _ h.word_is (omega arith))
 as_rewrite g (Sim f n o b k l t) h = absurd (other_first _ _ h.word_is (omega arith))
 
 pub as_run : (g : Given) (c : Command) → Completes (codes "run") g c → (f : List ℕ)
-    × (b : ℕ) × (k l : Option (List ℕ)) × (t : Bool) × IsOfRow (row_of (Run f b k l t)) g
+    × (n b : ℕ) × (w k l : Option (List ℕ)) × (t : Bool)
+    × IsOfRow (row_of (Run f n b w k l t)) g × IsFit (Run f n b w k l t)
 as_run g (Rewrite f o) h = absurd (other_second _ _ h.word_is (omega arith))
-as_run g (Run f b k l t) h = (f, b, k, l, t, h.of_row)
+as_run g (Run f n b w k l t) h = (f, n, b, w, k, l, t, h.of_row, h.fits)
 as_run g (Listing f) h = absurd (other_first _ _ h.word_is (omega arith))
 as_run g (One f n o b l) h = absurd (other_first _ _ h.word_is (omega arith))
 as_run g (Sim f n o b k l t) h = absurd (other_first _ _ h.word_is (omega arith))
@@ -212,7 +213,7 @@ as_run g (Sim f n o b k l t) h = absurd (other_first _ _ h.word_is (omega arith)
 pub as_list : (g : Given) (c : Command) → Completes (codes "list") g c →
     (f : List ℕ) × IsOfRow (row_of (Listing f)) g
 as_list g (Rewrite f o) h = absurd (other_first _ _ h.word_is (omega arith))
-as_list g (Run f b k l t) h = absurd (other_first _ _ h.word_is (omega arith))
+as_list g (Run f n b w k l t) h = absurd (other_first _ _ h.word_is (omega arith))
 as_list g (Listing f) h = (f, h.of_row)
 as_list g (One f n o b l) h = absurd (other_first _ _ h.word_is (omega arith))
 as_list g (Sim f n o b k l t) h = absurd (other_first _ _ h.word_is (omega arith))
@@ -220,7 +221,7 @@ as_list g (Sim f n o b k l t) h = absurd (other_first _ _ h.word_is (omega arith
 pub as_one : (g : Given) (c : Command) → Completes (codes "one") g c → (f : List ℕ)
     × (n : ℕ) × (o : ℕ) × (b : ℕ) × (l : Option (List ℕ)) × IsOfRow (row_of (One f n o b l)) g
 as_one g (Rewrite f o) h = absurd (other_first _ _ h.word_is (omega arith))
-as_one g (Run f b k l t) h = absurd (other_first _ _ h.word_is (omega arith))
+as_one g (Run f n b w k l t) h = absurd (other_first _ _ h.word_is (omega arith))
 as_one g (Listing f) h = absurd (other_first _ _ h.word_is (omega arith))
 as_one g (One f n o b l) h = (f, n, o, b, l, h.of_row)
 as_one g (Sim f n o b k l t) h = absurd (other_first _ _ h.word_is (omega arith))
@@ -229,7 +230,7 @@ pub as_sim : (g : Given) (c : Command) → Completes (codes "sim") g c → (f : 
     × (n : ℕ) × (o : ℕ) × (b : ℕ) × (k l : Option (List ℕ)) × (t : Bool)
     × IsOfRow (row_of (Sim f n o b k l t)) g
 as_sim g (Rewrite f o) h = absurd (other_first _ _ h.word_is (omega arith))
-as_sim g (Run f b k l t) h = absurd (other_first _ _ h.word_is (omega arith))
+as_sim g (Run f n b w k l t) h = absurd (other_first _ _ h.word_is (omega arith))
 as_sim g (Listing f) h = absurd (other_first _ _ h.word_is (omega arith))
 as_sim g (One f n o b l) h = absurd (other_first _ _ h.word_is (omega arith))
 as_sim g (Sim f n o b k l t) h = (f, n, o, b, k, l, t, h.of_row)
@@ -247,12 +248,14 @@ one_row : (g : Given) (c d : Command) → IsOfRow (row_of c) g → IsOfRow (row_
 one_row g (Rewrite x y) (Rewrite v w) p q e =
     let same = same_files x y v w _ p.places q.places in
     ap (λ f. Rewrite f y) same.0 ∙ ap (λ f. Rewrite v f) same.1
-one_row g (Run x n c k s) (Run y m d l t) p q e =
+one_row g (Run x n b u c k s) (Run y m r v d l t) p q e =
     let file = same_file x y _ p.places q.places in
-    let budget = says_one g Budget n m p.options.0 q.options.0 in
-    let code = names_one g Code c d p.options.1.0 q.options.1.0 in
-    let layout = names_one g Layout k l p.options.1.1.0 q.options.1.1.0 in
-    let brief = flag_one g s t p.options.1.1.1.0 q.options.1.1.1.0 in
+    let nodes = says_one g Nodes n m p.options.0 q.options.0 in
+    let budget = says_one g Budget b r p.options.1.0 q.options.1.0 in
+    let recorded = names_one g Record u v p.options.1.1.0 q.options.1.1.0 in
+    let code = names_one g Code c d p.options.1.1.1.0 q.options.1.1.1.0 in
+    let layout = names_one g Layout k l p.options.1.1.1.1.0 q.options.1.1.1.1.0 in
+    let brief = flag_one g s t p.options.1.1.1.1.1.0 q.options.1.1.1.1.1.0 in
     cc
 one_row g (Listing x) (Listing y) p q e = ap Listing (same_file x y _ p.places q.places)
 one_row g (One x n o b k) (One y m r d l) p q e =
@@ -271,24 +274,24 @@ one_row g (Sim x n o b c k s) (Sim y m r d f l t) p q e =
     let layout = names_one g Layout k l p.options.1.1.1.1.0 q.options.1.1.1.1.0 in
     let brief = flag_one g s t p.options.1.1.1.1.1.0 q.options.1.1.1.1.1.0 in
     cc
-one_row g (Rewrite x y) (Run v m d l t) p q e = absurd (other_second _ _ e (omega arith))
+one_row g (Rewrite x y) (Run v m r z d l t) p q e = absurd (other_second _ _ e (omega arith))
 one_row g (Rewrite x y) (Listing v) p q e = absurd (other_first _ _ e (omega arith))
 one_row g (Rewrite x y) (One v m r d l) p q e = absurd (other_first _ _ e (omega arith))
 one_row g (Rewrite x y) (Sim v m r d f l t) p q e = absurd (other_first _ _ e (omega arith))
-one_row g (Run x n c k s) (Rewrite v w) p q e = absurd (other_second _ _ e (omega arith))
-one_row g (Run x n c k s) (Listing v) p q e = absurd (other_first _ _ e (omega arith))
-one_row g (Run x n c k s) (One v m r d l) p q e = absurd (other_first _ _ e (omega arith))
-one_row g (Run x n c k s) (Sim v m r d f l t) p q e = absurd (other_first _ _ e (omega arith))
+one_row g (Run x n b u c k s) (Rewrite v w) p q e = absurd (other_second _ _ e (omega arith))
+one_row g (Run x n b u c k s) (Listing v) p q e = absurd (other_first _ _ e (omega arith))
+one_row g (Run x n b u c k s) (One v m r d l) p q e = absurd (other_first _ _ e (omega arith))
+one_row g (Run x n b u c k s) (Sim v m r d f l t) p q e = absurd (other_first _ _ e (omega arith))
 one_row g (Listing x) (Rewrite v w) p q e = absurd (other_first _ _ e (omega arith))
-one_row g (Listing x) (Run v m d l t) p q e = absurd (other_first _ _ e (omega arith))
+one_row g (Listing x) (Run v m r z d l t) p q e = absurd (other_first _ _ e (omega arith))
 one_row g (Listing x) (One v m r d l) p q e = absurd (other_first _ _ e (omega arith))
 one_row g (Listing x) (Sim v m r d f l t) p q e = absurd (other_first _ _ e (omega arith))
 one_row g (One x n o b k) (Rewrite v w) p q e = absurd (other_first _ _ e (omega arith))
-one_row g (One x n o b k) (Run v m d l t) p q e = absurd (other_first _ _ e (omega arith))
+one_row g (One x n o b k) (Run v m r z d l t) p q e = absurd (other_first _ _ e (omega arith))
 one_row g (One x n o b k) (Listing v) p q e = absurd (other_first _ _ e (omega arith))
 one_row g (One x n o b k) (Sim v m r d f l t) p q e = absurd (other_first _ _ e (omega arith))
 one_row g (Sim x n o b c k s) (Rewrite v w) p q e = absurd (other_first _ _ e (omega arith))
-one_row g (Sim x n o b c k s) (Run v m d l t) p q e = absurd (other_first _ _ e (omega arith))
+one_row g (Sim x n o b c k s) (Run v m r z d l t) p q e = absurd (other_first _ _ e (omega arith))
 one_row g (Sim x n o b c k s) (Listing v) p q e = absurd (other_first _ _ e (omega arith))
 one_row g (Sim x n o b c k s) (One v m r d l) p q e = absurd (other_first _ _ e (omega arith))
 
@@ -327,7 +330,7 @@ row_given row words r g e = record {
 -- the word of a command, with its options
 pub command_word : Command → CommandWord
 command_word (Rewrite x y) = word.Rewrite
-command_word (Run f b k l t) = word.Run
+command_word (Run f n b w k l t) = word.Run
 command_word (Listing f) = word.List
 command_word (One f n o b l) = word.One
 command_word (Sim f n o b k l t) = word.Sim
@@ -335,7 +338,7 @@ command_word (Sim f n o b k l t) = word.Sim
 pub word_is : (c : Command) → text_of (command_word c) ≡ (row_of c).word
 unfolding command_word
 word_is (Rewrite x y) = refl
-word_is (Run f b k l t) = refl
+word_is (Run f n b w k l t) = refl
 word_is (Listing f) = refl
 word_is (One f n o b l) = refl
 word_is (Sim f n o b k l t) = refl
@@ -343,11 +346,11 @@ word_is (Sim f n o b k l t) = refl
 word_settings : (w : CommandWord) (c : Command) → text_of w ≡ (row_of c).word →
     settings_in (row_of c).options ≡ settings_of w
 word_settings word.Rewrite (Rewrite x y) e = refl
-word_settings word.Run (Run f b k l t) e = refl
+word_settings word.Run (Run f n b w k l t) e = refl
 word_settings word.List (Listing f) e = refl
 word_settings word.One (One f n o b l) e = refl
 word_settings word.Sim (Sim f n o b k l t) e = refl
-word_settings word.Rewrite (Run f b k l t) e = absurd (other_second _ _ e (omega arith))
+word_settings word.Rewrite (Run f n b w k l t) e = absurd (other_second _ _ e (omega arith))
 word_settings word.Rewrite (Listing f) e = absurd (other_first _ _ e (omega arith))
 word_settings word.Rewrite (One f n o b l) e = absurd (other_first _ _ e (omega arith))
 word_settings word.Rewrite (Sim f n o b k l t) e = absurd (other_first _ _ e (omega arith))
@@ -356,15 +359,15 @@ word_settings word.Run (Listing f) e = absurd (other_first _ _ e (omega arith))
 word_settings word.Run (One f n o b l) e = absurd (other_first _ _ e (omega arith))
 word_settings word.Run (Sim f n o b k l t) e = absurd (other_first _ _ e (omega arith))
 word_settings word.List (Rewrite x y) e = absurd (other_first _ _ e (omega arith))
-word_settings word.List (Run f b k l t) e = absurd (other_first _ _ e (omega arith))
+word_settings word.List (Run f n b w k l t) e = absurd (other_first _ _ e (omega arith))
 word_settings word.List (One f n o b l) e = absurd (other_first _ _ e (omega arith))
 word_settings word.List (Sim f n o b k l t) e = absurd (other_first _ _ e (omega arith))
 word_settings word.One (Rewrite x y) e = absurd (other_first _ _ e (omega arith))
-word_settings word.One (Run f b k l t) e = absurd (other_first _ _ e (omega arith))
+word_settings word.One (Run f n b w k l t) e = absurd (other_first _ _ e (omega arith))
 word_settings word.One (Listing f) e = absurd (other_first _ _ e (omega arith))
 word_settings word.One (Sim f n o b k l t) e = absurd (other_first _ _ e (omega arith))
 word_settings word.Sim (Rewrite x y) e = absurd (other_first _ _ e (omega arith))
-word_settings word.Sim (Run f b k l t) e = absurd (other_first _ _ e (omega arith))
+word_settings word.Sim (Run f n b w k l t) e = absurd (other_first _ _ e (omega arith))
 word_settings word.Sim (Listing f) e = absurd (other_first _ _ e (omega arith))
 word_settings word.Sim (One f n o b l) e = absurd (other_first _ _ e (omega arith))
 
@@ -378,6 +381,7 @@ same_tail v w vs ws e = cc
 pub record Behind (w : CommandWord) (words : List (List ℕ)) (c : Command) : Type 0 where
   pub word_is : (row_of c).word ≡ text_of w
   pub of_row : AreOfRow (row_of c) words
+  pub fits : IsFit c
 
 pub behind : (first : List ℕ) (rest words : List (List ℕ)) (w : CommandWord) (c : Command) →
     words ≡ first ∷ rest → text_of w ≡ first → Asks words c → Behind w rest c
@@ -386,6 +390,7 @@ behind first rest words w c e f h =
     record {
       word_is = same_head _ _ _ _ g ∙ sym f;
       of_row = subst (AreOfRow (row_of c)) (same_tail _ _ _ _ g) h.of_row;
+      fits = h.fits;
     }
 
 -- the words behind are arguments of the command's options
@@ -402,6 +407,7 @@ completed w words c m r h =
     record {
       word_is = h.word_is;
       of_row = row_given (row_of c) words h.of_row (given_by m) (λ x. r.gives x ∙ ap (words_for x) same);
+      fits = h.fits;
     }
 
 pub asked : (first : List ℕ) (rest words : List (List ℕ)) (w : CommandWord) (c : Command) (m : ArgMatches) →
@@ -417,6 +423,7 @@ asked first rest words w c m e f r h = record {
     places = subst (ArePlaced (row_of c).places) (r.gives role.Operand) h.of_row.places;
     options = given_set (given_by m) (row_of c).options r.arguments r.gives h.of_row.options;
   };
+  fits = h.fits;
 }
 
 pub only_one : (words : List (List ℕ)) (c d : Command) → Asks words c → Asks words d → c ≡ d
@@ -424,9 +431,13 @@ only_one words c d p q =
     let e = sym p.words_are ∙ q.words_are in
     let row = subst (AreOfRow (row_of d)) (sym (same_tail _ _ _ _ e)) q.of_row in
     let w = command_word c in
-    let b : Behind w p.behind c = record { word_is = sym (word_is c); of_row = p.of_row } in
+    let b : Behind w p.behind c = record { word_is = sym (word_is c); of_row = p.of_row; fits = p.fits } in
     let k : Behind w p.behind d =
-    record { word_is = sym (same_head _ _ _ _ e) ∙ sym (word_is c); of_row = row } in
+    record {
+      word_is = sym (same_head _ _ _ _ e) ∙ sym (word_is c);
+      of_row = row;
+      fits = q.fits;
+    } in
     let same = same_cut (settings_of w) p.behind p.of_row.arguments row.arguments
     (behind_cut w p.behind c b) (behind_cut w p.behind d k) in
     one_row (of p.of_row.arguments) c d

@@ -5,7 +5,7 @@ use Rattle.std.specs.Str.Parse.{IsNumeral, digits_value}
 use Rattle.command_line.specs.declared.table.Kind.{Kind}
 use Rattle.command_line.specs.declared.table.Kind.TheVariants.{Number, File, Flag}
 use Rattle.command_line.specs.declared.table.Setting.{Setting}
-use Rattle.command_line.specs.Commands.{Command, Place, Named, Between, Value, Amount, Name, NoName, Switch, Row, row_of, option_word, kind_of, settings_in}
+use Rattle.command_line.specs.Commands.{Command, Place, Named, Between, Value, Amount, Name, NoName, Switch, Row, row_of, IsFit, option_word, kind_of, settings_in}
 
 -- an argument behind the command's word: an operand, which is a word of its own; or an option with
 -- its value, as two words or as one; or a flag
@@ -123,8 +123,10 @@ pub record AreOfRow (row : Row) (words : List (List ℕ)) : Type 0 where
   pub places : ArePlaced row.places (operands_of arguments)
   pub options : AreSet row.options arguments
 
--- the first word is the command's, and the words behind it are of the command's row
+-- the first word is the command's, the words behind it are of the command's row, and the command
+-- lacks nothing that it may not go without
 pub record Asks (words : List (List ℕ)) (command : Command) : Type 0 where
   pub behind : List (List ℕ)
   pub words_are : words ≡ (row_of command).word ∷ behind
   pub of_row : AreOfRow (row_of command) behind
+  pub fits : IsFit command

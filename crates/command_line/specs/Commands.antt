@@ -1,21 +1,23 @@
 -- The commands of the program, in one table: of each its word, what stands in its places, and its
 -- options.
-use Rattle.std.specs.Prelude.{ℕ, ◌-◌, ◌^◌, Bool, List, [], ◌∷◌, ◌++◌, Option, None, Some, codes}
+use Rattle.std.specs.Prelude.{◌≡◌, ℕ, ◌-◌, ◌^◌, Bool, List, [], ◌∷◌, ◌++◌, Option, None, Some, codes}
 use Rattle.std.specs.List.{flat_map}
 use Rattle.command_line.specs.declared.table.Access.{Access}
 use Rattle.command_line.specs.declared.table.Access.TheVariants.{Read, Write}
 use Rattle.command_line.specs.declared.table.Kind.{Kind}
 use Rattle.command_line.specs.declared.table.Kind.TheVariants.{Number, File, Flag}
 use Rattle.command_line.specs.declared.table.Setting.{Setting}
-use Rattle.command_line.specs.declared.table.Setting.TheVariants.{Nodes, Order, Budget, Layout, Code, Brief}
+use Rattle.command_line.specs.declared.table.Setting.TheVariants.{Nodes, Order, Budget, Layout, Code, Record, Brief}
 
 pub data Command : Type 0 where
   -- write the rewritten executable of the one in a file into another
   Rewrite : (input output : List ℕ) → Command
-  -- run the rewritten code of the executable in a file, at most so many words of each processor;
-  -- where they are named, the code is that of the executable in a file, and the blocks are those of
-  -- the layout in a file; a brief text has no counts
-  Run : (file : List ℕ) (budget : ℕ) (code layout : Option (List ℕ)) (brief : Bool) → Command
+  -- run so many nodes of the rewritten code of the executable in a file, each in a thread of its
+  -- own, at most so many words of each processor; where they are named, the record of the run goes
+  -- into a file, the code is that of the executable in a file, and the blocks are those of the
+  -- layout in a file; a brief text has no counts
+  Run : (file : List ℕ) (nodes budget : ℕ) (record_file code layout : Option (List ℕ))
+      (brief : Bool) → Command
   -- list its code words
   Listing : (file : List ℕ) → Command
   -- run so many processors of the original on one memory, by the order of a number, at most so
@@ -33,6 +35,7 @@ option_word Order = codes "--order"
 option_word Budget = codes "--budget"
 option_word Layout = codes "--layout"
 option_word Code = codes "--code"
+option_word Record = codes "--record"
 option_word Brief = codes "--brief"
 
 -- what an option is given
@@ -42,6 +45,7 @@ kind_of Order = Number 0 (2 ^ 32 - 1) 0
 kind_of Budget = Number 1 (2 ^ 32) 100000000
 kind_of Layout = File Read
 kind_of Code = File Read
+kind_of Record = File Write
 kind_of Brief = Flag
 
 -- the place of an operand, which stands behind the command's word without an option: the name of
@@ -75,12 +79,12 @@ row_of (Rewrite input output) = record {
   places = (Named Read, Name input) ∷ (Named Write, Name output) ∷ [];
   options = [];
 }
-row_of (Run file budget code layout brief) = record {
+row_of (Run file nodes budget record_file code layout brief) = record {
   word = codes "run";
   places = (Named Read, Name file) ∷ [];
   options =
-      (Budget, Amount budget) ∷ (Code, name_or_none code) ∷ (Layout, name_or_none layout)
-      ∷ (Brief, Switch brief) ∷ [];
+      (Nodes, Amount nodes) ∷ (Budget, Amount budget) ∷ (Record, name_or_none record_file)
+      ∷ (Code, name_or_none code) ∷ (Layout, name_or_none layout) ∷ (Brief, Switch brief) ∷ [];
 }
 row_of (Listing file) = record {
   word = codes "list";
@@ -101,6 +105,11 @@ row_of (Sim file nodes order budget code layout brief) = record {
       (Nodes, Amount nodes) ∷ (Order, Amount order) ∷ (Budget, Amount budget)
       ∷ (Code, name_or_none code) ∷ (Layout, name_or_none layout) ∷ (Brief, Switch brief) ∷ [];
 }
+
+-- only a run of one node may go without the record of it
+abbrev pub IsFit : Command → Type 0
+IsFit (Run file nodes budget None code layout brief) = nodes ≡ 1
+IsFit command = Unit {0}
 
 -- the options that a command has
 abbrev pub settings_in : List (Setting × Value) → List Setting

@@ -11,8 +11,8 @@ file_name name = option_map (λ n. n.now) name
 
 abbrev pub meaning_of : OfCode → Command
 meaning_of (asked.Rewrite input output) = Rewrite input.now output.now
-meaning_of (asked.Run file budget code layout brief) =
-    Run file.now budget (file_name code) (file_name layout) brief
+meaning_of (asked.Run file nodes budget record_file code layout brief) =
+    Run file.now nodes budget (file_name record_file) (file_name code) (file_name layout) brief
 meaning_of (asked.List file) = Listing file.now
 meaning_of (asked.One file nodes order budget layout) =
     One file.now nodes order budget (file_name layout)

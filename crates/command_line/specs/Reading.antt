@@ -6,14 +6,14 @@ use Rattle.clap.specs.declared.parser.matches.ArgMatches.{ArgMatches}
 use Rattle.clap.specs.Words.{App, Rule, all_of, found_of, new_rule, rows_of}
 use Rattle.clap.specs.Simple.{new_shape}
 use Rattle.command_line.specs.declared.table.Setting.{Setting}
-use Rattle.command_line.specs.declared.table.Setting.TheVariants.{Nodes, Order, Budget, Layout, Code, Brief}
+use Rattle.command_line.specs.declared.table.Setting.TheVariants.{Nodes, Order, Budget, Layout, Code, Record, Brief}
 use Rattle.command_line.specs.declared.table.CommandWord.{CommandWord}
 use Rattle.command_line.specs.declared.table.CommandWord.TheVariants as word
 use Rattle.command_line.specs.declared.table.Role.{Role}
 use Rattle.command_line.specs.declared.table.Role.TheVariants as role
 use Rattle.command_line.specs.declared.parsing.Given.{Given}
 use Rattle.command_line.specs.declared.parsing.Given.TheVariants as are
-use Rattle.command_line.specs.Commands.{Command, Value, Row, Amount, Switch, name_or_none, option_word, kind_of, row_of}
+use Rattle.command_line.specs.Commands.{Command, Value, Row, Amount, Switch, name_or_none, option_word, kind_of, row_of, IsFit}
 use Rattle.command_line.specs.Asks.{IsPlain, IsSet, ArePlaced, Argument, words_of, AreArguments, operands_of, values_of, takes_value}
 
 -- the text of a command's word, and the command's options
@@ -26,7 +26,7 @@ text_of word.Sim = codes "sim"
 
 abbrev pub settings_of : CommandWord → List Setting
 settings_of word.Rewrite = []
-settings_of word.Run = Budget ∷ Code ∷ Layout ∷ Brief ∷ []
+settings_of word.Run = Nodes ∷ Budget ∷ Record ∷ Code ∷ Layout ∷ Brief ∷ []
 settings_of word.List = []
 settings_of word.One = Nodes ∷ Order ∷ Budget ∷ Layout ∷ []
 settings_of word.Sim = Nodes ∷ Order ∷ Budget ∷ Code ∷ Layout ∷ Brief ∷ []
@@ -122,11 +122,12 @@ abbrev pub SaysFlag : (Role → List (List ℕ)) → Setting → Bool → Type 0
 SaysFlag given setting there =
     IsSet (kind_of setting) (given (role.Option setting)) (Switch there)
 
--- a command's word, and what is given, are of the command's row
+-- a command's word, and what is given, are of the command's row, and the command lacks nothing
 pub record Completes (word : List ℕ) (given : Role → List (List ℕ)) (command : Command) : Type 0
   where
     pub word_is : (row_of command).word ≡ word
     pub of_row : IsOfRow (row_of command) given
+    pub fits : IsFit command
 
 -- two dashes and more behind them
 pub record IsLong (word : List ℕ) : Type 0 where

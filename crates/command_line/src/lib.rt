@@ -29,12 +29,15 @@ pub enum Command<'a> {
         input: &'a str,
         output: &'a str,
     },
-    /// Run its rewritten code, at most `budget` words of each processor. Where they are named, the
-    /// code is that of the executable in the file `code`, and the blocks are those of the layout in the
-    /// file `layout`. A `brief` text has no counts.
+    /// Run `nodes` nodes of its rewritten code, each in a thread of its own, at most `budget` words
+    /// of each processor. Where they are named, the record of the run goes into the file
+    /// `record_file`, the code is that of the executable in the file `code`, and the blocks are those
+    /// of the layout in the file `layout`. A `brief` text has no counts.
     Run {
         file: &'a str,
+        nodes: NodeCount,
         budget: Budget,
+        record_file: Option<&'a str>,
         code: Option<&'a str>,
         layout: Option<&'a str>,
         brief: bool,
@@ -188,20 +191,27 @@ fn rewrite_of<'a>(matches: &ArgMatches<'a>) -> Option<Command<'a>>
     Some(Command::Rewrite { input, output })
 }
 
-/// The command `run`.
+/// The command `run`, which goes without a record for one node alone.
 fn run_of<'a>(matches: &ArgMatches<'a>) -> Option<Command<'a>>
     ensures { MatchOption result
         ((c : model.Command) → Completes (codes "run") (given_by matches.now) c → ⊥)
         (λ c. Completes (codes "run") (given_by matches.now) (meaning_of c)) }
 {
     let file = file_in(matches)?;
+    let nodes = nodes_in(matches)?;
     let budget = budget_in(matches)?;
+    let record_file = name_in(matches, Setting::Record)?;
     let code = name_in(matches, Setting::Code)?;
     let layout = name_in(matches, Setting::Layout)?;
     let brief = brief_in(matches)?;
+    if record_file.is_none() && nodes.number() != 1 {
+        return None;
+    }
     Some(Command::Run {
         file,
+        nodes,
         budget,
+        record_file,
         code,
         layout,
         brief,

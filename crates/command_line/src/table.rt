@@ -31,6 +31,7 @@ pub(crate) enum Setting {
     Budget,
     Layout,
     Code,
+    Record,
     Brief,
 }
 
@@ -74,7 +75,9 @@ impl CommandWord {
     {
         match self {
             CommandWord::Run => &[
+                Setting::Nodes,
                 Setting::Budget,
+                Setting::Record,
                 Setting::Code,
                 Setting::Layout,
                 Setting::Brief,
@@ -109,6 +112,7 @@ impl Setting {
             Setting::Budget => "budget",
             Setting::Layout => "layout",
             Setting::Code => "code",
+            Setting::Record => "record",
             Setting::Brief => "brief",
         }
     }
@@ -134,6 +138,7 @@ impl Setting {
                 default: 100_000_000,
             },
             Setting::Layout | Setting::Code => Kind::File(Access::Read),
+            Setting::Record => Kind::File(Access::Write),
             Setting::Brief => Kind::Flag,
         }
     }

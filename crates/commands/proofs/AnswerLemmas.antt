@@ -11,7 +11,7 @@ use Rattle.commands.specs.declared.failure.Failure.TheVariants.{Input, NotWritte
 use Rattle.commands.specs.Answers.{SinkState, FilesState, IsFault, IsLeft, IsTooLong, file_limit}
 use Rattle.commands.specs.Refusals.{IsRefused, IsLayoutRefused}
 use Rattle.commands.specs.Failures.{status_of, line_of, IsReadFailure, FailsAs, Puts, IsFailure, IsPerformFailure, IsRewriteFailure, IsSuccess, IsNoRefusal, IsInputFailure, IsNamedFailure, AreInputs, AreKept, AreLeft, AreWritten}
-use Rattle.commands.specs.Headline.{AreTold, IsText, IsRewrittenFile, IsRewrittenText, PrintsPrefix}
+use Rattle.commands.specs.Headline.{AreTold, IsText, IsTextBeside, IsRewrittenFile, IsRewrittenText, PrintsPrefix}
 use Rattle.commands.specs.Inputs.{Inputs, inputs_of}
 use Rattle.commands.proofs.InputLemmas.{only_of}
 
@@ -32,25 +32,27 @@ low_status : (b : Bool) → (if b then 0 else 1) ≤ 1
 low_status true = omega arith
 low_status false = omega arith
 
-pub is_low : (c : Command) (inputs : Inputs) (text : List ℕ) (status : ℕ)
-    → IsText c inputs text status → status ≤ 1
-is_low (Rewrite input output) inputs text status h = let zero = h.status_is in omega (arith, zero)
-is_low (Run file budget code layout brief) inputs text status h =
+pub is_low : (c : Command) (held : List ℕ → Option (List ℕ)) (inputs : Inputs) (text : List ℕ)
+    (status : ℕ) → IsTextBeside c held inputs text status → status ≤ 1
+is_low (Rewrite input output) held inputs text status h =
+    let zero = h.status_is in omega (arith, zero)
+is_low (Run file nodes budget record_file code layout brief) held inputs text status h =
     subst (λ s. s ≤ 1) (sym h.status_is) (low_status _)
-is_low (One file nodes order budget layout) inputs text status h =
+is_low (One file nodes order budget layout) held inputs text status h =
     subst (λ s. s ≤ 1) (sym h.status_is) (low_status _)
-is_low (Sim file nodes order budget code layout brief) inputs text status h =
+is_low (Sim file nodes order budget code layout brief) held inputs text status h =
     subst (λ s. s ≤ 1) (sym h.status_is) (low_status _)
-is_low (Listing file) inputs text status h = let zero = h.1 in omega (arith, zero)
+is_low (Listing file) held inputs text status h = let zero = h.1 in omega (arith, zero)
 
-pub succeeds : (c : Command) (files : FilesState) (before now : SinkState) (inputs : Inputs)
-    (status : ℕ) → AreInputs c files.held inputs → Puts (IsText c inputs) status before.taken now.taken
-    → IsSuccess c files before now status
-succeeds c files before now inputs status read put = record {
-  low = is_low c inputs put.0 status put.1;
+pub succeeds : (c : Command) (files files_now : FilesState) (before now : SinkState) (inputs : Inputs)
+    (status : ℕ) → AreInputs c files.held inputs
+    → Puts (IsTextBeside c files_now.held inputs) status before.taken now.taken
+    → IsSuccess c files files_now before now status
+succeeds c files files_now before now inputs status read put = record {
+  low = is_low c files_now.held inputs put.0 status put.1;
   prints = λ contents told. record {
     text = put.0;
-    is = subst (λ i. IsText c i put.0 status) (read contents told) put.1;
+    is = subst (λ i. IsTextBeside c files_now.held i put.0 status) (read contents told) put.1;
     put = put.2;
   };
 }
@@ -372,10 +374,13 @@ plain_failure c inputs fb fn before now r h =
     err_as (FailsAs (IsText c inputs) (IsRefused c inputs) (IsLayoutRefused c inputs) before now)
     (IsPerformFailure c inputs fb fn before now) r (plain_fails c inputs fb fn before now) h
 
-pub puts_nothing : (c : Command) (inputs : Inputs) (t : Option (List ℕ)) (r : Result ℕ Failure)
-    → ((status : ℕ) → IsRewrittenText inputs.executable [] status → IsText c inputs [] status)
+pub puts_nothing : (c : Command) (held : List ℕ → Option (List ℕ)) (inputs : Inputs)
+    (t : Option (List ℕ)) (r : Result ℕ Failure)
+    → ((status : ℕ) → IsRewrittenText inputs.executable [] status
+    → IsTextBeside c held inputs [] status)
     → IfOk r (IsRewrittenText inputs.executable [])
-    → IfOk r (λ status. Puts (IsText c inputs) status t t)
-puts_nothing c inputs t r is h =
-    ok_as (IsRewrittenText inputs.executable []) (λ status. Puts (IsText c inputs) status t t) r
+    → IfOk r (λ status. Puts (IsTextBeside c held inputs) status t t)
+puts_nothing c held inputs t r is h =
+    ok_as (IsRewrittenText inputs.executable [])
+    (λ status. Puts (IsTextBeside c held inputs) status t t) r
     (λ status k. ([], is status k, same_taken t)) h

@@ -8,7 +8,7 @@ use Rattle.commands.specs.Failures.{AreContents, AreInputs, AreRead, IsContent}
 use Rattle.commands.specs.Inputs.{Inputs, input_of, code_of, layout_of}
 
 -- the file of a name that may be left out
-abbrev named : Option (List ℕ) → List (List ℕ)
+abbrev pub named : Option (List ℕ) → List (List ℕ)
 named None = []
 named (Some name) = name ∷ []
 
@@ -18,10 +18,10 @@ files_of c = (input_of c ∷ []) ++ (named (code_of c) ++ named (layout_of c))
 
 reads_are : (c : Command) → reads c ≡ files_of c
 reads_are (Rewrite input output) = refl
-reads_are (Run file budget None None brief) = refl
-reads_are (Run file budget None (Some layout) brief) = refl
-reads_are (Run file budget (Some code) None brief) = refl
-reads_are (Run file budget (Some code) (Some layout) brief) = refl
+reads_are (Run file nodes budget record_file None None brief) = refl
+reads_are (Run file nodes budget record_file None (Some layout) brief) = refl
+reads_are (Run file nodes budget record_file (Some code) None brief) = refl
+reads_are (Run file nodes budget record_file (Some code) (Some layout) brief) = refl
 reads_are (Listing file) = refl
 reads_are (One file nodes order budget None) = refl
 reads_are (One file nodes order budget (Some layout)) = refl
@@ -39,10 +39,10 @@ only_of file name h =
 first_of : (name : List ℕ) → Contains (name ∷ []) name
 first_of name = (0, omega arith, refl)
 
-among : (o : Option (List ℕ)) (name : List ℕ) → o ≡ Some name → Contains (named o) name
+pub among : (o : Option (List ℕ)) (name : List ℕ) → o ≡ Some name → Contains (named o) name
 among o name e = subst (λ x. Contains (named x) name) (sym e) (first_of name)
 
-of_named : (o : Option (List ℕ)) (name : List ℕ) → Contains (named o) name → o ≡ Some name
+pub of_named : (o : Option (List ℕ)) (name : List ℕ) → Contains (named o) name → o ≡ Some name
 of_named None name h = absurd (omega (arith, h.1))
 of_named (Some other) name h = ap Some (sym (only_of other name h))
 

@@ -3,3 +3,5 @@ pub mod ListingLemmas
 pub mod InputLemmas
 pub mod AnswerLemmas
 pub mod RunLemmas
+pub mod RecordLemmas
+pub mod Recorded

@@ -1,5 +1,5 @@
 -- A run of nodes, by the law of rewriting.
-use Rattle.std.proofs.Common.{◌≡◌, ℕ, ◌<◌, ◌≤◌, ◌^◌, Bool, true, List, Option, None, Some, refl, sym, ap, ◌∙◌, subst}
+use Rattle.std.proofs.Common.{◌≡◌, ℕ, ◌<◌, ◌≤◌, ◌^◌, Bool, true, List, [], ◌∷◌, ◌++◌, Option, None, Some, refl, sym, ap, ◌∙◌, subst}
 use Rattle.std.specs.Prelude.{IfOk, Result, Ok, Err}
 use Rattle.rv32_program.specs.declared.Class.{Class}
 use Rattle.rv32_program.specs.declared.Class.TheVariants as class
@@ -12,9 +12,9 @@ use Rattle.templates.specs.declared.plans.PlanEntry.{PlanEntry}
 use Rattle.templates.specs.WholePlan.{IsPlanOf}
 use Rattle.jump_map.specs.Image.{Cell, IsRewriting}
 use Rattle.rewriter.specs.RewrittenFile.{rewritten_elf}
-use Rattle.node_model.specs.Node.{Work, IsLaidOver, Ended, standing_of}
+use Rattle.node_model.specs.Node.{Work, Resume, IsLaidOver, Ended, Waiting, standing_of}
 use Rattle.node_model.specs.Outcome.{Outcome, IsOutcomeOf}
-use Rattle.node_model.specs.Core.{Core, Event, AreAlike, IsCoreRun, IsOver, opening_core, after}
+use Rattle.node_model.specs.Core.{Core, Event, AreAlike, IsCoreRun, IsOver, opening_core, after, event_step}
 use Rattle.run_order.specs.OwnRun.{Stamped, StandsForOwnRun, events_of, run_of}
 use Rattle.rewriting_law.specs.Bounds.{RunsRewritten}
 use Rattle.rewriting_law.specs.Licence.{AllLicensed}
@@ -25,6 +25,7 @@ use Rattle.commands.specs.Executables.{IsProgramOf}
 use Rattle.commands.specs.Failures.{GivesRuns, IsOwnOutcome}
 use Rattle.commands.specs.Inputs.{Inputs}
 use Rattle.commands.specs.Layouts.{IsLayoutBy, IsLayoutFor}
+use Rattle.commands.specs.Outcomes.{HasMail}
 
 -- ---- the layout
 
@@ -92,6 +93,29 @@ StopsLate = (work : Work) (events : List Event) (i budget : ℕ)
     → (budget ≡ work.budget)
     × (((after work (opening_core work) events).nodes i).executed ≡ work.budget)
 
+abbrev pub WaitsForMail : Type 0
+WaitsForMail = (work : Work) (plan : List PlanEntry) (events : List Event) (i : ℕ)
+    (resume : Resume) → IsAccepted work.program → IsValid work.layout
+    → IsLaidOver work.program work.layout → IsRewriting work.program plan work.image
+    → IsCoreRun work (opening_core work) events → i < work.layout.nodes
+    → ((after work (opening_core work) events).nodes i).phase ≡ Waiting resume
+    → HasMail work.layout.nodes (after work (opening_core work) events)
+
+abbrev pub EndsEmpty : Type 0
+EndsEmpty = (work : Work) (plan : List PlanEntry) (events : List Event) (j k : ℕ)
+    → IsAccepted work.program → IsValid work.layout → IsLaidOver work.program work.layout
+    → IsRewriting work.program plan work.image → IsCoreRun work (opening_core work) events
+    → IsOver work (after work (opening_core work) events)
+    → j < work.layout.nodes → k < work.layout.nodes
+    → (after work (opening_core work) events).list j k ≡ []
+
+-- the front of a run is a run
+run_front : (work : Work) (before behind : List Event) (c : Core)
+    → IsCoreRun work c (before ++ behind) → IsCoreRun work c before
+run_front work [] behind c may = tt
+run_front work (e ∷ es) behind c may =
+    (may.0, run_front work es behind (event_step work c e) may.1)
+
 -- the parts of a run: an accepted program, its rewriting, the file of code and the layout
 pub record AreReady (inputs : Inputs) (nodes : ℕ) (elf : Elf) (plan : List PlanEntry)
     (image : List Cell) (layout : Shape) : Type 0 where
@@ -143,14 +167,16 @@ module _ (inputs : Inputs) (nodes budget : ℕ) (elf : Elf) (plan : List PlanEnt
   pub gives_runs : AllRuns Interleaves
       → AllRuns (λ work plan events. AllLicensed work plan (opening_core work) events)
       → AllRuns (λ work plan events. IsCoherent work (after work (opening_core work) events)
-      (original_after work plan events).shared) → StopsLate
+      (original_after work plan events).shared) → StopsLate → WaitsForMail → EndsEmpty
       → GivesRuns inputs nodes budget (work_with elf image layout budget)
-  gives_runs law licensed coherent stopped core own o stands ended outcome =
+  gives_runs law licensed coherent stopped waits empty core own o stands ended outcome =
       let work : Work = work_with elf image layout budget in
       let events : List Event = run_of own in
       let rewriting = r.rewritten.rewriting in
       let same : Interleaves work plan events =
       law work plan events r.accepted r.valid over rewriting stands.is_run in
+      let all_over : IsOver work (after work (opening_core work) events) =
+      over_after work core (after work (opening_core work) events) stands.ends ended in
       record {
         elf = elf;
         executable = r.rewritten.executable;
@@ -163,7 +189,7 @@ module _ (inputs : Inputs) (nodes budget : ℕ) (elf : Elf) (plan : List PlanEnt
         rewriting = rewriting;
         code = r.code;
         stands = own_after work core own stands;
-        over = over_after work core (after work (opening_core work) events) stands.ends ended;
+        over = all_over;
         whole = record {
           run = stands.is_run;
           ends = outcome.ends;
@@ -173,6 +199,13 @@ module _ (inputs : Inputs) (nodes budget : ℕ) (elf : Elf) (plan : List PlanEnt
           licensed = licensed work plan events r.accepted r.valid over rewriting stands.is_run;
           coherent = coherent work plan events r.accepted r.valid over rewriting stands.is_run;
           stopped = λ i b low phase. stopped work events i b stands.is_run phase;
+          waits = λ before behind i resume is low phase.
+              waits work plan before i resume r.accepted r.valid over rewriting
+              (run_front work before behind (opening_core work)
+              (subst (IsCoreRun work (opening_core work)) (sym is) stands.is_run)) low phase;
+          empty = λ j k from to.
+              empty work plan events j k r.accepted r.valid over rewriting stands.is_run all_over
+              from to;
         };
       }
 

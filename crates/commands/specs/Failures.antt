@@ -4,6 +4,7 @@ use Rattle.node_model.specs.Node.{Work}
 use Rattle.node_model.specs.Core.{Core, IsOver}
 use Rattle.node_model.specs.Outcome.{Outcome, IsOutcomeOf}
 use Rattle.run_order.specs.OwnRun.{Stamped, StandsForOwnRun, run_of}
+use Rattle.run_record.specs.Text.{record_text}
 use Rattle.dsm_core.specs.CoreParts.{work_with}
 use Rattle.dsm_io.specs.Causes.{Rose, Appends, AppendsPrefix}
 use Rattle.commands.specs.declared.failure.Failure.{Failure}
@@ -14,6 +15,7 @@ use Rattle.commands.specs.Outcomes as outcomes
 use Rattle.command_line.specs.Commands.{Command, reads, writes}
 use Rattle.commands.specs.Answers.{SinkState, FilesState, file_limit, IsTooLong, IsReadFault, IsWriteFault, IsPutFault, IsLeft}
 use Rattle.commands.specs.Executables.{IsUnrewritten}
+use Rattle.commands.specs.Records.{record_at}
 use Rattle.commands.specs.Refusals.{IsRefused, IsLayoutRefused}
 use Rattle.commands.specs.Headline.{AreTold, IsRunOf, IsText, IsWritten, Prints, PrintsPrefix}
 use Rattle.commands.specs.Inputs.{Inputs, input_of, code_of, layout_of, inputs_of}
@@ -137,6 +139,15 @@ pub record IsOwnOutcome (work : Work) (o : Outcome) : Type 0 where
   pub over : IsOver work core
   pub outcome : IsOutcomeOf work (run_of own) o
 
+-- the same of a core whose record is what the file of the record holds, where that is told
+pub record IsOwnRecorded (work : Work) (held : Option (List ℕ)) (o : Outcome) : Type 0 where
+  pub core : Core
+  pub own : List Stamped
+  pub stands : StandsForOwnRun work core own
+  pub over : IsOver work core
+  pub outcome : IsOutcomeOf work (run_of own) o
+  pub is_recorded : IfSome held (λ bytes. bytes ≡ record_text (record_at work core))
+
 -- the own runs of cores of this work whose nodes are over are runs of the inputs
 abbrev pub GivesRuns : Inputs → (nodes budget : ℕ) → Work → Type 0
 GivesRuns inputs nodes budget work =
@@ -163,11 +174,11 @@ IsFailure command files files_now before now OutOfMemory =
     → (now.taken ≡ before.taken) ⊎ PrintsPrefix command contents before.taken now.taken
 
 -- how a command succeeds: its whole text was put
-pub record IsSuccess (command : Command) (files : FilesState) (before now : SinkState)
+pub record IsSuccess (command : Command) (files files_now : FilesState) (before now : SinkState)
     (status : ℕ) : Type 0 where
   pub low : status ≤ 1
   pub prints : (contents : List ℕ → List ℕ) → AreTold command files.held contents
-      → Prints command contents before.taken now.taken status
+      → Prints command contents files_now.held before.taken now.taken status
 
 -- a failure that isn't a refusal
 abbrev pub IsNoRefusal : Failure → Type 0
@@ -181,6 +192,12 @@ IsWriteFailure before now name OutOfMemory =
     (now.held name ≡ before.held name)
     ⊎ Rose (before.failed_writes name) (now.failed_writes name)
 IsWriteFailure before now name f = ⊥
+
+-- why a run gave no outcome, or its record wasn't written into the file that is named for it, and
+-- what that holds then
+abbrev pub IsRecordFailure : Option (List ℕ) → FilesState → FilesState → Failure → Type 0
+IsRecordFailure None before now f = f ≡ OutOfMemory
+IsRecordFailure (Some name) before now f = IsWriteFailure before now name f
 
 -- why a rewritten file wasn't written
 abbrev pub IsRewriteFailure : List ℕ → FilesState → FilesState → List ℕ → Failure → Type 0

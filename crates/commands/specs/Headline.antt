@@ -1,5 +1,5 @@
 -- What the program promises of each command.
-use Rattle.std.specs.Prelude.{◌≡◌, ℕ, ◌^◌, Bool, false, List, [], Option, Some, Contains, filter}
+use Rattle.std.specs.Prelude.{◌≡◌, ℕ, ◌^◌, Bool, false, List, [], Option, None, Some, Contains, IfSome, filter}
 use Rattle.std.specs.List.{flat_map, range_with_len}
 use Rattle.elf32_read.specs.Elf.{Elf}
 use Rattle.exec_map.specs.Contents.{program_of, is_code_word, word_of}
@@ -13,6 +13,7 @@ use Rattle.node_model.specs.Node.{Work}
 use Rattle.node_model.specs.Core.{Event, IsOver, opening_core, after}
 use Rattle.node_model.specs.Outcome.{Outcome}
 use Rattle.run_order.specs.OwnRun.{Stamped, StandsForOwnRun, run_of}
+use Rattle.run_record.specs.Text.{record_text}
 use Rattle.shared_sim.specs.ByOrder.{FollowsOrder}
 use Rattle.block_layout.specs.Layout.{Shape}
 use Rattle.one_memory.specs.ByOrder.{IsRunByOrder}
@@ -23,6 +24,7 @@ use Rattle.commands.specs.Executables.{IsProgramOf}
 use Rattle.commands.specs.Inputs.{Inputs, inputs_of}
 use Rattle.commands.specs.Layouts.{IsLayoutFor}
 use Rattle.commands.specs.Outcomes.{status_of, told, IsWholeRun}
+use Rattle.commands.specs.Records.{record_of}
 use Rattle.commands.specs.Text.{text_of}
 
 -- The outcome of a run of the executable's rewritten code on so many nodes. The code is the
@@ -51,6 +53,23 @@ pub record IsOutcomeOfRun (inputs : Inputs) (nodes budget : ℕ) (outcome : Outc
   pub work : Work
   pub own : List Stamped
   pub is_run : IsRunOf inputs nodes budget work own outcome
+
+-- the bytes are the record of some such run
+pub record IsRecordOfRun (inputs : Inputs) (nodes budget : ℕ) (bytes : List ℕ) : Type 0 where
+  pub work : Work
+  pub own : List Stamped
+  pub outcome : Outcome
+  pub is_run : IsRunOf inputs nodes budget work own outcome
+  pub bytes_are : bytes ≡ record_text (record_of work own)
+
+-- The outcome of some such run, of which this is the record, where the bytes of one are told: one
+-- and the same run has this outcome, and was recorded.
+pub record IsOutcomeRecorded (inputs : Inputs) (nodes budget : ℕ) (recorded : Option (List ℕ))
+    (outcome : Outcome) : Type 0 where
+  pub work : Work
+  pub own : List Stamped
+  pub is_run : IsRunOf inputs nodes budget work own outcome
+  pub is_recorded : IfSome recorded (λ bytes. bytes ≡ record_text (record_of work own))
 
 -- The outcome of the run by the order of a number: at each turn it picks one of the events that are
 -- allowed, until each node is over. The core that these events lead to stands for its own run,
@@ -124,24 +143,36 @@ pub record IsTextWith (Is : Outcome → Type 0) (brief : Bool) (text : List ℕ)
 abbrev pub IsText : Command → Inputs → List ℕ → ℕ → Type 0
 IsText (Rewrite input output) inputs text status =
     IsRewrittenText inputs.executable text status
-IsText (Run file budget code layout brief) inputs text status =
-    IsTextWith (IsOutcomeOfRun inputs 1 budget) brief text status
+IsText (Run file nodes budget record_file code layout brief) inputs text status =
+    IsTextWith (IsOutcomeOfRun inputs nodes budget) brief text status
 IsText (One file nodes order budget layout) inputs text status =
     IsTextWith (IsOutcomeByOrder inputs nodes order budget) false text status
 IsText (Sim file nodes order budget code layout brief) inputs text status =
     IsTextWith (IsOutcomeOfSim inputs nodes order budget) brief text status
 IsText (Listing file) inputs text status = IsListingText inputs.executable text status
 
+-- what a file that may be left out holds, where it is named and that is told
+abbrev pub held_by : (List ℕ → Option (List ℕ)) → Option (List ℕ) → Option (List ℕ)
+held_by held None = None
+held_by held (Some name) = held name
+
+-- the same beside what the files hold then: of a run that is recorded, the text is of the run whose
+-- record the file holds
+abbrev pub IsTextBeside : Command → (List ℕ → Option (List ℕ)) → Inputs → List ℕ → ℕ → Type 0
+IsTextBeside (Run file nodes budget record_file code layout brief) held inputs text status =
+    IsTextWith (IsOutcomeRecorded inputs nodes budget (held_by held record_file)) brief text status
+IsTextBeside command held inputs text status = IsText command inputs text status
+
 -- each file that the command reads is told to have its content
 abbrev pub AreTold : Command → (List ℕ → Option (List ℕ)) → (List ℕ → List ℕ) → Type 0
 AreTold command held contents =
     (name : List ℕ) → Contains (reads command) name → held name ≡ Some (contents name)
 
--- the whole text was put
+-- the whole text was put, and the files hold what goes with it
 pub record Prints (command : Command) (contents : List ℕ → List ℕ)
-    (before now : Option (List ℕ)) (status : ℕ) : Type 0 where
+    (held : List ℕ → Option (List ℕ)) (before now : Option (List ℕ)) (status : ℕ) : Type 0 where
   pub text : List ℕ
-  pub is : IsText command (inputs_of command contents) text status
+  pub is : IsTextBeside command held (inputs_of command contents) text status
   pub put : Appends before now text
 
 -- a prefix of the text was put
@@ -155,4 +186,6 @@ pub record PrintsPrefix (command : Command) (contents : List ℕ → List ℕ)
 -- the bytes that a command writes into its file
 abbrev pub IsWritten : Command → Inputs → List ℕ → Type 0
 IsWritten (Rewrite input output) inputs bytes = IsRewrittenFile inputs.executable bytes
+IsWritten (Run file nodes budget record_file code layout brief) inputs bytes =
+    IsRecordOfRun inputs nodes budget bytes
 IsWritten command inputs bytes = ⊥

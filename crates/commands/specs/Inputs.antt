@@ -12,20 +12,20 @@ pub record Inputs : Type 0 where
 -- the file that a command reads as an executable
 abbrev pub input_of : Command → List ℕ
 input_of (Rewrite input output) = input
-input_of (Run file budget code layout brief) = file
+input_of (Run file nodes budget record_file code layout brief) = file
 input_of (Listing file) = file
 input_of (One file nodes order budget layout) = file
 input_of (Sim file nodes order budget code layout brief) = file
 
 -- the file that a command reads as the rewritten executable
 abbrev pub code_of : Command → Option (List ℕ)
-code_of (Run file budget code layout brief) = code
+code_of (Run file nodes budget record_file code layout brief) = code
 code_of (Sim file nodes order budget code layout brief) = code
 code_of command = None
 
 -- the file that a command reads as a layout
 abbrev pub layout_of : Command → Option (List ℕ)
-layout_of (Run file budget code layout brief) = layout
+layout_of (Run file nodes budget record_file code layout brief) = layout
 layout_of (One file nodes order budget layout) = layout
 layout_of (Sim file nodes order budget code layout brief) = layout
 layout_of command = None

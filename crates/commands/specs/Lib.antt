@@ -6,6 +6,8 @@ pub mod Layouts
 pub mod Refusals
 pub mod Given
 pub mod Outcomes
+pub mod Records
 pub mod Headline
 pub mod Answers
 pub mod Failures
+pub mod Runs

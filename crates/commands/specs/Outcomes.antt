@@ -1,12 +1,12 @@
 -- What is told of an outcome, and when events are a whole run of the nodes.
-use Rattle.std.specs.Prelude.{◌≡◌, ℕ, ◌<◌, Bool, true, false, if◌then◌else◌, ◌==◌, List, [], Some, map}
+use Rattle.std.specs.Prelude.{◌≡◌, ◌≢◌, ℕ, ◌<◌, Bool, true, false, if◌then◌else◌, ◌==◌, List, [], ◌++◌, Some, map}
 use Rattle.std.specs.List.{list_all}
 use Rattle.rv32_program.specs.declared.Exit.TheVariants.{Code}
 use Rattle.rv32_program.specs.declared.End.{End}
 use Rattle.rv32_program.specs.declared.End.TheVariants.{Exited, Stopped}
 use Rattle.templates.specs.declared.plans.PlanEntry.{PlanEntry}
-use Rattle.node_model.specs.Node.{Work, Ended}
-use Rattle.node_model.specs.Core.{Event, IsCoreRun, opening_core, after}
+use Rattle.node_model.specs.Node.{Work, Resume, Ended, Waiting}
+use Rattle.node_model.specs.Core.{Core, Event, IsCoreRun, opening_core, after}
 use Rattle.node_model.specs.Outcome.{Outcome, ends_after, counts_after}
 use Rattle.rewriting_law.specs.Interleaving.{Interleaves, IsCoherent, original_after}
 use Rattle.rewriting_law.specs.Licence.{AllLicensed}
@@ -24,6 +24,10 @@ status_of o = if list_all is_success o.ends then 0 else 1
 abbrev pub told : (brief : Bool) → Outcome → Outcome
 told true o = record { output = o.output; ends = o.ends; counts = [] }
 told false o = o
+
+-- one of the lists between n nodes holds a message
+abbrev pub HasMail : ℕ → Core → Type 0
+HasMail n c = (j : ℕ) × (k : ℕ) × (j < n) × (k < n) × (c.list j k ≢ [])
 
 -- the events are a whole run of the nodes, from the start until each has ended, with this outcome
 pub record IsWholeRun (work : Work) (plan : List PlanEntry) (events : List Event) (o : Outcome) :
@@ -45,3 +49,10 @@ pub record IsWholeRun (work : Work) (plan : List PlanEntry) (events : List Event
       → ((after work (opening_core work) events).nodes i).phase ≡ Ended (Stopped b)
       → (b ≡ work.budget)
       × (((after work (opening_core work) events).nodes i).executed ≡ work.budget)
+  -- whenever a node waits, some list holds a message; at the end none does
+  pub waits : (before behind : List Event) (i : ℕ) (resume : Resume) → before ++ behind ≡ events
+      → i < work.layout.nodes
+      → ((after work (opening_core work) before).nodes i).phase ≡ Waiting resume
+      → HasMail work.layout.nodes (after work (opening_core work) before)
+  pub empty : (j k : ℕ) → j < work.layout.nodes → k < work.layout.nodes
+      → (after work (opening_core work) events).list j k ≡ []

@@ -14,14 +14,16 @@ IsRunRefused inputs line = IsUnrewritten inputs.executable line ⊎ IsCodeRefuse
 -- a command's executable, or its file of code, is refused with this line
 abbrev pub IsRefused : Command → Inputs → List ℕ → Type 0
 IsRefused (Rewrite input output) inputs line = IsUnrewritten inputs.executable line
-IsRefused (Run file budget code layout brief) inputs line = IsRunRefused inputs line
+IsRefused (Run file nodes budget record_file code layout brief) inputs line =
+    IsRunRefused inputs line
 IsRefused (Listing file) inputs line = IsUnaccepted inputs.executable line
 IsRefused (One file nodes order budget layout) inputs line = IsUnaccepted inputs.executable line
 IsRefused (Sim file nodes order budget code layout brief) inputs line = IsRunRefused inputs line
 
 -- a command's layout is refused with this line
 abbrev pub IsLayoutRefused : Command → Inputs → List ℕ → Type 0
-IsLayoutRefused (Run file budget code layout brief) inputs line = IsBadRunLayout inputs 1 line
+IsLayoutRefused (Run file nodes budget record_file code layout brief) inputs line =
+    IsBadRunLayout inputs nodes line
 IsLayoutRefused (One file nodes order budget layout) inputs line = IsBadLayout inputs nodes line
 IsLayoutRefused (Sim file nodes order budget code layout brief) inputs line =
     IsBadRunLayout inputs nodes line

@@ -10,6 +10,7 @@ mod one;
 mod outcome;
 mod output;
 mod prepare;
+mod record;
 mod refusal;
 mod rewrite;
 mod run;

@@ -1,12 +1,14 @@
-//! Puts texts to the output.
+//! Puts texts to the output, and writes files.
 
-ghost use Rattle.std.specs.Prelude.{◌≡◌, ◌++◌, IfErr, OnOk};
+ghost use Rattle.std.specs.Prelude.{◌≡◌, ◌≢◌, ◌++◌, ℕ, List, IfErr, IfOk, IfSome, OnOk};
 ghost use Rattle.dsm_io.specs.Causes.{Appends};
-ghost use Rattle.commands.specs.Answers.{sink_of};
-ghost use Rattle.commands.specs.Failures.{IsPutFailure};
+ghost use Rattle.commands.specs.Answers.{files_of, sink_of};
+ghost use Rattle.commands.specs.Failures.{IsPutFailure, IsWriteFailure};
+ghost use Rattle.commands.specs.Text as model;
 
 use crate::failure::Failure;
-use dsm_io::{Sink, SinkError};
+use dsm_io::{FileError, Files, Sink, SinkError};
+use std::alloc::{AllocError, Global};
 
 /// Puts a piece of a command's text.
 pub fn put<O: Sink>(out: &mut O, piece: &[u8]) -> Result<(), Failure>
@@ -22,4 +24,38 @@ pub fn put<O: Sink>(out: &mut O, piece: &[u8]) -> Result<(), Failure>
         Err(SinkError::Failed) => Err(Failure::Output),
         Err(SinkError::OutOfMemory) => Err(Failure::OutOfMemory),
     }
+}
+
+/// Makes a file hold these bytes.
+pub fn write_file<F: Files>(
+    alloc: Global,
+    files: &mut F,
+    name: &str,
+    bytes: &[u8],
+) -> Result<(), Failure>
+    ensures holds { OnOk result
+        (IfSome (F.held files.new name.now) (λ content. content ≡ bytes.now)) }
+    ensures failure { IfErr result (IsWriteFailure
+        (files_of (F.held files.old) (F.failed_reads files.old) (F.failed_writes files.old))
+        (files_of (F.held files.new) (F.failed_reads files.new) (F.failed_writes files.new))
+        name.now) }
+    ensures others { (n : List ℕ) → n ≢ name.now → F.held files.new n ≡ F.held files.old n }
+{
+    match files.write(name, bytes) {
+        Ok(()) => Ok(()),
+        Err(FileError::Failed) => Err(Failure::NotWritten(cannot_write(alloc, name)?)),
+        Err(FileError::TooLong { limit: _ }) => Err(Failure::OutOfMemory),
+        Err(FileError::OutOfMemory) => Err(Failure::OutOfMemory),
+    }
+}
+
+/// The line that says which file could not be written.
+fn cannot_write(alloc: Global, name: &str) -> Result<Vec<u8>, AllocError>
+    ensures { IfOk result (λ line. line.items ≡ model.cannot_write name.now) }
+{
+    let mut line = Vec::new(alloc);
+    line.extend_from_slice(b"shasta: cannot write ")?;
+    line.extend_from_slice(name.as_bytes())?;
+    line.extend_from_slice(b"\n")?;
+    Ok(line)
 }

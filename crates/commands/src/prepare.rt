@@ -16,7 +16,7 @@ use block_layout::Layout;
 use elf32_read::Elf;
 use exec_map::Program;
 use rewriter::Rewritten;
-use rewriting_law::interleaving_law;
+use rewriting_law::{interleaving_law, progress_law};
 use run_limits::{Budget, NodeCount};
 use std::alloc::Global;
 
@@ -50,6 +50,7 @@ pub fn prepare<'a>(
     let layout = layout_for(alloc, &program, inputs.layout, nodes)?;
     let _words = budget.number();
     interleaving_law();
+    progress_law();
     Ok(Prepared {
         program,
         rewritten,

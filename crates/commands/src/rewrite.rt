@@ -1,18 +1,18 @@
 //! `rewrite`: the rewritten executable of an executable, into a file.
 
 ghost use Rattle.std.specs.Prelude.{◌≡◌, ◌≢◌, ℕ, List, [], IfOk, OnOk, IfErr, IfSome};
-ghost use Rattle.commands.specs.Text as model;
 ghost use Rattle.commands.specs.Answers.{files_of};
 ghost use Rattle.commands.specs.Executables.{IsUnrewritten};
-ghost use Rattle.commands.specs.Failures.{IsRefusal, IsNever, IsWriteFailure, IsRewriteFailure};
+ghost use Rattle.commands.specs.Failures.{IsRefusal, IsNever, IsRewriteFailure};
 ghost use Rattle.commands.specs.Headline.{IsRewrittenFile, IsRewrittenText};
 
 use crate::code::rewriting_of;
 use crate::failure::Failure;
 use crate::input::{elf_of, program_of};
+use crate::output::write_file;
 use crate::refusal::Subject;
-use dsm_io::{FileError, Files};
-use std::alloc::{AllocError, Global};
+use dsm_io::Files;
+use std::alloc::Global;
 
 /// Writes the rewritten executable of the one that a file holds into the file `output`.
 pub fn rewrite_into<F: Files>(
@@ -46,38 +46,4 @@ fn rewritten_file(alloc: Global, file: &[u8]) -> Result<Vec<u8>, Failure>
     let mut bytes = Vec::new(alloc);
     rewritten.to_elf(alloc, &elf, &mut bytes)?;
     Ok(bytes)
-}
-
-/// Makes a file hold these bytes.
-fn write_file<F: Files>(
-    alloc: Global,
-    files: &mut F,
-    name: &str,
-    bytes: &[u8],
-) -> Result<(), Failure>
-    ensures holds { OnOk result
-        (IfSome (F.held files.new name.now) (λ content. content ≡ bytes.now)) }
-    ensures failure { IfErr result (IsWriteFailure
-        (files_of (F.held files.old) (F.failed_reads files.old) (F.failed_writes files.old))
-        (files_of (F.held files.new) (F.failed_reads files.new) (F.failed_writes files.new))
-        name.now) }
-    ensures others { (n : List ℕ) → n ≢ name.now → F.held files.new n ≡ F.held files.old n }
-{
-    match files.write(name, bytes) {
-        Ok(()) => Ok(()),
-        Err(FileError::Failed) => Err(Failure::NotWritten(cannot_write(alloc, name)?)),
-        Err(FileError::TooLong { limit: _ }) => Err(Failure::OutOfMemory),
-        Err(FileError::OutOfMemory) => Err(Failure::OutOfMemory),
-    }
-}
-
-/// The line that says which file could not be written.
-fn cannot_write(alloc: Global, name: &str) -> Result<Vec<u8>, AllocError>
-    ensures { IfOk result (λ line. line.items ≡ model.cannot_write name.now) }
-{
-    let mut line = Vec::new(alloc);
-    line.extend_from_slice(b"shasta: cannot write ")?;
-    line.extend_from_slice(name.as_bytes())?;
-    line.extend_from_slice(b"\n")?;
-    Ok(line)
 }

@@ -1,62 +1,126 @@
-//! `run`: the executable's rewritten code on one node.
+//! `run`: the executable's rewritten code on nodes in threads, and the record of the run.
 
-ghost use Rattle.std.specs.Prelude.{◌≡◌, ℕ, IfOk, IfErr};
+ghost use Rattle.std.specs.Prelude.{◌≡◌, ◌≢◌, ℕ, List, Option, Some, Contains, IfOk, IfErr};
 ghost use Rattle.rewriting_law.specs.Bounds.{RunsRewritten};
-ghost use Rattle.dsm_core.specs.CoreParts.{outcome_of};
-ghost use Rattle.commands.specs.Answers.{sink_of};
-ghost use Rattle.commands.specs.Headline.{IsTextWith, IsOutcomeOfRun};
-ghost use Rattle.commands.specs.Failures.{Puts, FailsAs, IsOwnOutcome, work_for};
+ghost use Rattle.node_model.specs.Core.{IsOver};
+ghost use Rattle.dsm_core.specs.CoreParts.{work_of, core_of, outcome_of};
+ghost use Rattle.command_line.specs.Commands.{writes};
+ghost use Rattle.command_line.specs.Meaning.{file_name};
+ghost use Rattle.commands.specs.Answers.{files_of, sink_of};
+ghost use Rattle.commands.specs.Headline.{IsTextBeside, held_by};
+ghost use Rattle.commands.specs.Failures.{Puts, IsOwnRecorded, IsRecordFailure, IsPerformFailure, AreKept, AreLeft, AreWritten, work_for};
 ghost use Rattle.commands.specs.Given.{bytes_of};
-ghost use Rattle.commands.specs.Layouts.{IsBadRunLayout};
-ghost use Rattle.commands.specs.Refusals.{IsRunRefused};
+ghost use Rattle.commands.specs.Runs.{asked_by};
 
 use crate::failure::Failure;
 use crate::input::{Inputs, elf_of};
 use crate::outcome::put_told;
 use crate::prepare::{Prepared, prepare};
+use crate::record::write_record_of;
 use crate::refusal::Subject;
 use dsm_core::{Core, Outcome};
-use dsm_io::Sink;
+use dsm_io::{Files, Gate, Sink};
+use node_threads::race;
 use run_limits::{Budget, NodeCount};
 use std::alloc::{AllocError, Global};
+use std::sync::Wait;
+use std::thread::Threads;
 
-/// Runs the rewritten code of the executable among these files, which a file of code may hold, and
-/// puts the text of the outcome.
-pub fn run<O: Sink>(
-    alloc: Global,
-    inputs: &Inputs<'_>,
-    budget: Budget,
-    brief: bool,
-    out: &mut O,
-) -> Result<u8, Failure>
-    ensures ok { IfOk result (λ status.
-        Puts (IsTextWith (IsOutcomeOfRun (bytes_of inputs.now) 1 budget) brief) status
-        (O.taken out.old) (O.taken out.new)) }
-    ensures failure { IfErr result (FailsAs
-        (IsTextWith (IsOutcomeOfRun (bytes_of inputs.now) 1 budget) brief)
-        (IsRunRefused (bytes_of inputs.now)) (IsBadRunLayout (bytes_of inputs.now) 1)
-        (sink_of (O.taken out.old) (O.faults out.old) (O.refusals out.old))
-        (sink_of (O.taken out.new) (O.faults out.new) (O.refusals out.new))) }
-{
-    let elf = elf_of(alloc, Subject::Executable, inputs.executable)?;
-    let prepared = prepare(alloc, &elf, inputs, NodeCount::ONE, budget)?;
-    let outcome = execute(alloc, &prepared)?;
-    put_told(alloc, &outcome, brief, out)
+/// What a run is asked to be, but for the files that it reads.
+#[derive(Clone, Copy)]
+pub struct RunOptions<'a> {
+    pub nodes: NodeCount,
+    pub budget: Budget,
+    /// The file that the record goes into, where one is named.
+    pub record_file: Option<&'a str>,
+    /// Whether the text has no counts.
+    pub brief: bool,
 }
 
-/// Runs the nodes of the layout to their ends.
-fn execute(alloc: Global, prepared: &Prepared<'_>) -> Result<Outcome, AllocError>
+/// Runs the rewritten code of the executable among these files, which a file of code may hold, on
+/// nodes in threads of their own; writes the record of the run, where a file is named for it; and
+/// puts the text of the outcome. The clauses hold however the files that were read are named.
+pub fn run<R: Threads + Wait + Sync, F: Files, O: Sink, G: Gate + Sync>(
+    rt: &R,
+    alloc: Global,
+    inputs: &Inputs<'_>,
+    options: RunOptions<'_>,
+    files: &mut F,
+    out: &mut O,
+    gate: &G,
+) -> Result<u8, Failure>
+    ensures ok { (file : List ℕ) (code layout : Option (List ℕ)) → IfOk result (λ status.
+        Puts (IsTextBeside (asked_by options.entry file code layout) (F.held files.new)
+        (bytes_of inputs.now)) status (O.taken out.old) (O.taken out.new)) }
+    ensures failure { (file : List ℕ) (code layout : Option (List ℕ)) → IfErr result
+        (IsPerformFailure (asked_by options.entry file code layout) (bytes_of inputs.now)
+        (files_of (F.held files.old) (F.failed_reads files.old) (F.failed_writes files.old))
+        (files_of (F.held files.new) (F.failed_reads files.new) (F.failed_writes files.new))
+        (sink_of (O.taken out.old) (O.faults out.old) (O.refusals out.old))
+        (sink_of (O.taken out.new) (O.faults out.new) (O.refusals out.new))) }
+    ensures others { (file : List ℕ) (code layout : Option (List ℕ)) (name : List ℕ)
+        → (Contains (writes (asked_by options.entry file code layout)) name → ⊥)
+        → F.held files.new name ≡ F.held files.old name }
+    ensures kept { IfErr result (AreKept
+        (files_of (F.held files.old) (F.failed_reads files.old) (F.failed_writes files.old))
+        (files_of (F.held files.new) (F.failed_reads files.new) (F.failed_writes files.new))) }
+    ensures written { (file : List ℕ) (code layout : Option (List ℕ)) → IfOk result (λ status.
+        AreWritten (asked_by options.entry file code layout) (bytes_of inputs.now)
+        (files_of (F.held files.new) (F.failed_reads files.new) (F.failed_writes files.new))) }
+    ensures left { (file : List ℕ) (code layout : Option (List ℕ)) → IfErr result (λ f.
+        AreLeft (asked_by options.entry file code layout) (bytes_of inputs.now)
+        (files_of (F.held files.old) (F.failed_reads files.old) (F.failed_writes files.old))
+        (files_of (F.held files.new) (F.failed_reads files.new) (F.failed_writes files.new))) }
+{
+    let elf = elf_of(alloc, Subject::Executable, inputs.executable)?;
+    let prepared = prepare(alloc, &elf, inputs, options.nodes, options.budget)?;
+    let outcome = execute(rt, alloc, &prepared, options.record_file, files, gate)?;
+    put_told(alloc, &outcome, options.brief, out)
+}
+
+/// Runs the nodes of the layout to their ends, writes the record of the run into a file, where one
+/// is named, and gives the outcome.
+fn execute<R: Threads + Wait + Sync, F: Files, G: Gate + Sync>(
+    rt: &R,
+    alloc: Global,
+    prepared: &Prepared<'_>,
+    record_file: Option<&str>,
+    files: &mut F,
+    gate: &G,
+) -> Result<Outcome, Failure>
     requires rewritten { RunsRewritten (work_for prepared.now) }
-    ensures outcome { IfOk result (λ o. IsOwnOutcome (work_for prepared.now) (outcome_of o)) }
+    ensures outcome { IfOk result (λ o. IsOwnRecorded (work_for prepared.now)
+        (held_by (F.held files.new) (file_name record_file.entry)) (outcome_of o)) }
+    ensures failure { IfErr result (IsRecordFailure (file_name record_file.entry)
+        (files_of (F.held files.old) (F.failed_reads files.old) (F.failed_writes files.old))
+        (files_of (F.held files.new) (F.failed_reads files.new) (F.failed_writes files.new))) }
+    ensures others { (n : List ℕ) → (file_name record_file.entry ≢ Some n)
+        → F.held files.new n ≡ F.held files.old n }
+{
+    let core = raced_core(rt, alloc, prepared, gate)?;
+    let outcome = core.outcome(alloc)?;
+    write_record_of(alloc, &core, prepared, record_file, files)?;
+    Ok(outcome)
+}
+
+/// The nodes of the layout at their ends, where each ran in a thread of its own.
+fn raced_core<'a, R: Threads + Wait + Sync, G: Gate + Sync>(
+    rt: &R,
+    alloc: Global,
+    prepared: &'a Prepared<'a>,
+    gate: &G,
+) -> Result<Core<'a>, AllocError>
+    requires rewritten { RunsRewritten (work_for prepared.now) }
+    ensures work { IfOk result (λ core. work_of core ≡ work_for prepared.now) }
+    ensures over { IfOk result (λ core. IsOver (work_of core) (core_of core)) }
 {
     let image = prepared.rewritten.image();
-    let mut core = Core::new(
+    let core = Core::new(
         alloc,
         image,
         &prepared.program,
         &prepared.layout,
         prepared.budget,
     )?;
-    core.finish()?;
-    core.outcome(alloc)
+    race(rt, alloc, core, gate)
 }

@@ -4,7 +4,7 @@ ghost use Rattle.std.specs.Prelude.{◌≡◌, ◌≢◌, ◌≤◌, ◌⊎◌, 
 ghost use Rattle.command_line.specs.Commands.{Command as Asked, reads, writes};
 ghost use Rattle.command_line.specs.Asks.{Asks};
 ghost use Rattle.command_line.specs.Meaning.{meaning_of};
-ghost use Rattle.commands.specs.Headline.{AreTold, IsText, Prints, PrintsPrefix};
+ghost use Rattle.commands.specs.Headline.{AreTold, IsTextBeside, Prints, PrintsPrefix};
 ghost use Rattle.commands.specs.Inputs.{inputs_of};
 ghost use Rattle.commands.specs.Given.{bytes_of};
 ghost use Rattle.commands.specs.Failures.{IsSuccess, IsFailure, IsPerformFailure, IsNoRefusal, Puts, AreKept, AreLeft, AreWritten};
@@ -17,24 +17,27 @@ use crate::input::{Inputs, read_inputs};
 use crate::list::list;
 use crate::one::one;
 use crate::rewrite::rewrite_into;
-use crate::run::run;
+use crate::run::{RunOptions, run};
 use crate::sim::sim;
 use crate::text::USAGE;
 use command_line::{Command, command_of};
 use dsm_io::{Files, Gate, Sink, SinkError, Text};
 use std::alloc::Global;
+use std::sync::Wait;
+use std::thread::Threads;
 
 /// Does what the words ask for, and answers the status: 0 where every processor ended by itself
 /// with code 0, or none runs; 1 where some processor ended otherwise; 2 for a faulty command line;
 /// 3 where a file or the output failed; 4 where the executable, or a file of its rewritten code, is
 /// refused; 5 where it was out of memory; 6 where the layout is refused.
-pub fn shasta<F: Files, O: Sink, E: Sink, G: Gate + Sync>(
+pub fn shasta<R: Threads + Wait + Sync, F: Files, O: Sink, E: Sink, G: Gate + Sync>(
+    rt: &R,
     alloc: Global,
     words: &[Text],
     files: &mut F,
     out: &mut O,
     err: &mut E,
-    _gate: &G,
+    gate: &G,
 ) -> u8
     ensures range { result ≤ 6 }
 
@@ -48,10 +51,11 @@ pub fn shasta<F: Files, O: Sink, E: Sink, G: Gate + Sync>(
         usage }
 
     // With status 0 and 1 the text is what the command asks for: of `run` and `sim`, that of a run
-    // of the original on one memory. `err` took nothing.
+    // of the original on one memory. Where `run` writes a record, the file holds that of the very
+    // run whose text this is. `err` took nothing.
     ensures prints { (c : Asked) (contents : List ℕ → List ℕ) → Asks words.now c
         → AreTold c (F.held files.old) contents → result ≤ 1
-        → Prints c contents (O.taken out.old) (O.taken out.new) result }
+        → Prints c contents (F.held files.new) (O.taken out.old) (O.taken out.new) result }
     ensures quiet { result ≤ 1 → E.taken err.new ≡ E.taken err.old }
 
     // Status 4 is for a refused executable, or one that isn't the rewritten one; the refusal is
@@ -122,7 +126,7 @@ pub fn shasta<F: Files, O: Sink, E: Sink, G: Gate + Sync>(
         }
         Err(_) => return tell_out_of_memory(err),
     };
-    match answer(alloc, &command, files, out) {
+    match answer(rt, alloc, &command, files, out, gate) {
         Ok(status) => status,
         Err(failure) => {
             tell(err, failure.line());
@@ -132,14 +136,17 @@ pub fn shasta<F: Files, O: Sink, E: Sink, G: Gate + Sync>(
 }
 
 /// Reads the files of a command, and does what the command asks for.
-fn answer<F: Files, O: Sink>(
+fn answer<R: Threads + Wait + Sync, F: Files, O: Sink, G: Gate + Sync>(
+    rt: &R,
     alloc: Global,
     command: &Command<'_>,
     files: &mut F,
     out: &mut O,
+    gate: &G,
 ) -> Result<u8, Failure>
     ensures ok { IfOk result (IsSuccess (meaning_of command.now)
         (files_of (F.held files.old) (F.failed_reads files.old) (F.failed_writes files.old))
+        (files_of (F.held files.new) (F.failed_reads files.new) (F.failed_writes files.new))
         (sink_of (O.taken out.old) (O.faults out.old) (O.refusals out.old))
         (sink_of (O.taken out.new) (O.faults out.new) (O.refusals out.new))) }
     ensures failure { IfErr result (IsFailure (meaning_of command.now)
@@ -166,18 +173,21 @@ fn answer<F: Files, O: Sink>(
         (files_of (F.held files.new) (F.failed_reads files.new) (F.failed_writes files.new))) }
 {
     let inputs = read_inputs(alloc, command, files)?;
-    perform(alloc, command, &inputs.lend(), files, out)
+    perform(rt, alloc, command, &inputs.lend(), files, out, gate)
 }
 
 /// Does what a command asks for, with the files that it reads.
-fn perform<F: Files, O: Sink>(
+fn perform<R: Threads + Wait + Sync, F: Files, O: Sink, G: Gate + Sync>(
+    rt: &R,
     alloc: Global,
     command: &Command<'_>,
     inputs: &Inputs<'_>,
     files: &mut F,
     out: &mut O,
+    gate: &G,
 ) -> Result<u8, Failure>
-    ensures ok { IfOk result (λ status. Puts (IsText (meaning_of command.now) (bytes_of inputs.now))
+    ensures ok { IfOk result (λ status.
+        Puts (IsTextBeside (meaning_of command.now) (F.held files.new) (bytes_of inputs.now))
         status (O.taken out.old) (O.taken out.new)) }
     ensures failure { IfErr result (IsPerformFailure (meaning_of command.now) (bytes_of inputs.now)
         (files_of (F.held files.old) (F.failed_reads files.old) (F.failed_writes files.old))
@@ -199,7 +209,21 @@ fn perform<F: Files, O: Sink>(
     let file = inputs.executable;
     match command {
         Command::Rewrite { input: _, output } => rewrite_into(alloc, file, output, files),
-        Command::Run { budget, brief, .. } => run(alloc, inputs, *budget, *brief, out),
+        Command::Run {
+            nodes,
+            budget,
+            record_file,
+            brief,
+            ..
+        } => {
+            let options = RunOptions {
+                nodes: *nodes,
+                budget: *budget,
+                record_file: *record_file,
+                brief: *brief,
+            };
+            run(rt, alloc, inputs, options, files, out, gate)
+        }
         Command::List { file: _ } => list(alloc, file, out),
         Command::One {
             nodes,

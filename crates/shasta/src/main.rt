@@ -14,6 +14,7 @@ fn main(rt: HostRuntime) -> ExitCode {
     let mut err = StdSink::errors(rt);
     let status = match words(&rt) {
         Ok(words) => shasta(
+            &rt,
             rt.alloc(),
             &words,
             &mut files,

@@ -12,5 +12,6 @@ returns-in_err-file c =
 pub returns : goal.returns
 returns c = record {
   word_is = refl;
+  fits = tt;
   of_row = record { places = placed_file c.in_ok-file.file.now _ c.in_ok-file.ensures; options = tt };
 }

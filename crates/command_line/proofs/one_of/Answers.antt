@@ -36,6 +36,7 @@ returns-in_err-layout c =
 pub returns : goal.returns
 returns c = record {
   word_is = refl;
+  fits = tt;
   of_row = record {
     places = placed_file c.in_ok-file.file.now _ c.in_ok-file.ensures;
     options = (c.in_ok-nodes.ensures, (c.in_ok-order.ensures, (c.in_ok-budget.ensures, (c.in_ok-layout.ensures, tt))));

@@ -48,6 +48,7 @@ returns-in_err-brief c =
 pub returns : goal.returns
 returns c = record {
   word_is = refl;
+  fits = tt;
   of_row = record {
     places = placed_file c.in_ok-file.file.now _ c.in_ok-file.ensures;
     options = (

@@ -126,3 +126,4 @@ returns-clause-runs c =
     gives_runs inputs c.args.nodes c.args.budget p plan image layout ready
     c.interleaving_law.ensures.interleaves c.interleaving_law.ensures.licensed
     c.interleaving_law.ensures.coherent c.interleaving_law.ensures.stopped
+    c.progress_law.ensures.moves c.progress_law.ensures.over

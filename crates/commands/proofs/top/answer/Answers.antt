@@ -1,7 +1,7 @@
 use Rattle.std.proofs.Common.{ℕ, List, sym, subst}
 use Rattle.command_line.specs.Meaning.{meaning_of}
 use Rattle.commands.specs.Answers.{SinkState, FilesState}
-use Rattle.commands.specs.Headline.{AreTold, IsText}
+use Rattle.commands.specs.Headline.{AreTold, IsTextBeside}
 use Rattle.commands.specs.Inputs.{inputs_of}
 use Rattle.commands.specs.Given.{bytes_of}
 use Rattle.commands.specs.Failures.{Puts, IsSuccess, IsFailure, IsPerformFailure, AreInputs, AreKept, AreLeft, AreWritten}
@@ -13,14 +13,16 @@ returns-clause-ok g c =
     let before : SinkState = record { taken = g.O.Sink.taken c.args.out.now; faults = g.O.Sink.faults c.args.out.now; refusals = g.O.Sink.refusals c.args.out.now } in
     let now : SinkState = record { taken = g.O.Sink.taken c.perform.new.out; faults = g.O.Sink.faults c.perform.new.out; refusals = g.O.Sink.refusals c.perform.new.out } in
     let files : FilesState = record { held = g.F.Files.held c.args.files.now; failed_reads = g.F.Files.failed_reads c.args.files.now; failed_writes = g.F.Files.failed_writes c.args.files.now } in
+    let files_now : FilesState = record { held = g.F.Files.held c.perform.new.files; failed_reads = g.F.Files.failed_reads c.perform.new.files; failed_writes = g.F.Files.failed_writes c.perform.new.files } in
     let cmd = meaning_of c.args.command.now in
     let held = g.F.Files.held c.args.files.now in
     let bytes = bytes_of c.lend.result in
     let read : AreInputs cmd held bytes =
     subst (AreInputs cmd held) (sym c.lend.ensures.value) c.in_ok-inputs.ensures.ok in
-    ok_as (λ status. Puts (IsText cmd bytes) status before.taken now.taken)
-    (IsSuccess cmd files before now) c.perform.result
-    (λ status put. succeeds cmd files before now bytes status read put) c.perform.ensures.ok
+    ok_as (λ status. Puts (IsTextBeside cmd files_now.held bytes) status before.taken now.taken)
+    (IsSuccess cmd files files_now before now) c.perform.result
+    (λ status put. succeeds cmd files files_now before now bytes status read put)
+    c.perform.ensures.ok
 
 pub returns-clause-failure : goal.returns-clause-failure
 returns-clause-failure g c =

@@ -1,4 +1,4 @@
-use Rattle.command_line.specs.Meaning.{meaning_of}
+use Rattle.command_line.specs.Meaning.{meaning_of, file_name}
 use Rattle.commands.specs.Answers.{SinkState, FilesState}
 use Rattle.commands.specs.Given.{bytes_of}
 use Rattle.commands.proofs.AnswerLemmas.{plain_failure, puts_nothing}
@@ -6,16 +6,9 @@ use Rattle.commands.proofs.top.perform.Goals as goal
 
 pub returns-in-Rewrite-clause-ok : goal.returns-in-Rewrite-clause-ok
 returns-in-Rewrite-clause-ok g c =
-    puts_nothing (meaning_of c.args.command.now) (bytes_of c.args.inputs.now) (g.O.Sink.taken c.args.out.now)
+    puts_nothing (meaning_of c.args.command.now) (g.F.Files.held c.rewrite_into.new.files)
+    (bytes_of c.args.inputs.now) (g.O.Sink.taken c.args.out.now)
     c.rewrite_into.result (λ status h. rw c.in-Rewrite.is h) c.rewrite_into.ensures.text
-
-pub returns-in-Run-clause-failure : goal.returns-in-Run-clause-failure
-returns-in-Run-clause-failure g c =
-    let files : FilesState = record { held = g.F.Files.held c.args.files.now; failed_reads = g.F.Files.failed_reads c.args.files.now; failed_writes = g.F.Files.failed_writes c.args.files.now } in
-    let before : SinkState = record { taken = g.O.Sink.taken c.args.out.now; faults = g.O.Sink.faults c.args.out.now; refusals = g.O.Sink.refusals c.args.out.now } in
-    let now : SinkState = record { taken = g.O.Sink.taken c.run.new.out; faults = g.O.Sink.faults c.run.new.out; refusals = g.O.Sink.refusals c.run.new.out } in
-    plain_failure (meaning_of c.args.command.now) (bytes_of c.args.inputs.now) files files before now
-    c.run.result (rw c.in-Run.is c.run.ensures.failure)
 
 pub returns-in-List-clause-failure : goal.returns-in-List-clause-failure
 returns-in-List-clause-failure g c =
@@ -40,3 +33,28 @@ returns-in-Sim-clause-failure g c =
     let now : SinkState = record { taken = g.O.Sink.taken c.sim.new.out; faults = g.O.Sink.faults c.sim.new.out; refusals = g.O.Sink.refusals c.sim.new.out } in
     plain_failure (meaning_of c.args.command.now) (bytes_of c.args.inputs.now) files files before now
     c.sim.result (rw c.in-Sim.is c.sim.ensures.failure)
+
+pub returns-in-Run-clause-ok : goal.returns-in-Run-clause-ok
+returns-in-Run-clause-ok g c =
+    rw c.in-Run.is (c.run.ensures.ok c.in-Run.file.now (file_name c.in-Run.code)
+    (file_name c.in-Run.layout))
+
+pub returns-in-Run-clause-failure : goal.returns-in-Run-clause-failure
+returns-in-Run-clause-failure g c =
+    rw c.in-Run.is (c.run.ensures.failure c.in-Run.file.now (file_name c.in-Run.code)
+    (file_name c.in-Run.layout))
+
+pub returns-in-Run-clause-written : goal.returns-in-Run-clause-written
+returns-in-Run-clause-written g c =
+    rw c.in-Run.is (c.run.ensures.written c.in-Run.file.now (file_name c.in-Run.code)
+    (file_name c.in-Run.layout))
+
+pub returns-in-Run-clause-left : goal.returns-in-Run-clause-left
+returns-in-Run-clause-left g c =
+    rw c.in-Run.is (c.run.ensures.left c.in-Run.file.now (file_name c.in-Run.code)
+    (file_name c.in-Run.layout))
+
+pub returns-in-Run-clause-others : goal.returns-in-Run-clause-others
+returns-in-Run-clause-others g c =
+    rw c.in-Run.is (c.run.ensures.others c.in-Run.file.now (file_name c.in-Run.code)
+    (file_name c.in-Run.layout))

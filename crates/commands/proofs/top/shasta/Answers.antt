@@ -29,8 +29,9 @@ returns-in-Ok-clause-prints g c = λ d contents asks told low.
     let before : SinkState = record { taken = g.O.Sink.taken c.args.out.now; faults = g.O.Sink.faults c.args.out.now; refusals = g.O.Sink.refusals c.args.out.now } in
     let now : SinkState = record { taken = g.O.Sink.taken c.answer.new.out; faults = g.O.Sink.faults c.answer.new.out; refusals = g.O.Sink.refusals c.answer.new.out } in
     let files : FilesState = record { held = g.F.Files.held c.args.files.now; failed_reads = g.F.Files.failed_reads c.args.files.now; failed_writes = g.F.Files.failed_writes c.args.files.now } in
-    let success : IsSuccess d files before now c.in-Ok.status =
-    subst (λ x. IsSuccess x files before now c.in-Ok.status) same c.in-Ok.ensures.ok in
+    let files_now : FilesState = record { held = g.F.Files.held c.answer.new.files; failed_reads = g.F.Files.failed_reads c.answer.new.files; failed_writes = g.F.Files.failed_writes c.answer.new.files } in
+    let success : IsSuccess d files files_now before now c.in-Ok.status =
+    subst (λ x. IsSuccess x files files_now before now c.in-Ok.status) same c.in-Ok.ensures.ok in
     success.prints contents told
 
 pub returns-in-Ok-clause-longer : goal.returns-in-Ok-clause-longer

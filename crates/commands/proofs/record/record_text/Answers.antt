@@ -1,0 +1,23 @@
+use Rattle.std.proofs.Common.{◌≡◌, List, ap, ◌∙◌, sym, map}
+use Rattle.std.specs.List.{range_with_len}
+use Rattle.block_layout.specs.Layout.{Shape}
+use Rattle.block_layout.specs.declared.layout.BlockRange.{BlockRange}
+use Rattle.node_model.specs.declared.Entry.{Entry}
+use Rattle.node_model.specs.Node.{Work}
+use Rattle.dsm_core.specs.CoreParts.{core_of, work_of}
+use Rattle.commands.proofs.RecordLemmas.{is_record}
+use Rattle.commands.proofs.record.record_text.Goals as goal
+
+-- the record is that of the core, which stands for its own run
+pub write_record-requires-clause-record : goal.write_record-requires-clause-record
+write_record-requires-clause-record c =
+    let work : Work = work_of c.args.core.now in
+    let core = core_of c.args.core.now in
+    let own = c.promises.ensures.own_run in
+    let nodes = c.nodes.ensures.nodes ∙ ap (λ (s : Shape). s.nodes) c.layout-layout.ensures.value in
+    let budget = c.number.ensures.value ∙ sym (ap (λ (w : Work). w.budget) c.requires.same) in
+    let blocks = c.of.ensures ∙ c.in_ok-from_slice.ensures.items ∙ c.ranges-2.ensures
+    ∙ ap (λ (s : Shape). s.named) c.layout-layout.ensures.value in
+    let journals = c.of-2.ensures ∙ c.in_ok-journals.ensures in
+    rw (nodes, budget, blocks, journals) (is_record work core own.0 c.journal_law.ensures.takes
+    c.progress_law.ensures.short c.promises.ensures.rewritten own.1)
