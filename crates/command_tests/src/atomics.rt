@@ -1,8 +1,9 @@
 //! LR, SC and the AMOs on one memory and rewritten, and processors that share a counter.
 
 use crate::calls::{Answer, NODE, executable, text_of, try_call, try_program, words_of};
-use std::alloc::Global;
+use std::sync::Wait;
 use std::test::Fail;
+use std::thread::Threads;
 
 /// Programs whose data's memory has 64 bytes of zeros, and how each ends.
 const CASES: [(&str, &str); 15] = [
@@ -70,7 +71,7 @@ const CASES: [(&str, &str); 15] = [
 #[test]
 fn reserves_and_stores_where_reserved(rt: HostRuntime) -> Result<(), Fail> {
     for (code, end) in CASES {
-        try_program(rt.alloc(), code, b"", end, NODE)?;
+        try_program(&rt, code, b"", end, NODE)?;
     }
     Ok(())
 }
@@ -110,16 +111,22 @@ const UPDATES: [(&str, &str, &str); 10] = [
 
 /// Executes an AMO on the word 0x80000001 with an operand, and fails the test where it leaves another
 /// word or gives another value.
-fn try_update(alloc: Global, word: &str, operand: &str, new: &str) -> Result<(), Fail> {
+fn try_update(
+    rt: &(impl Threads + Wait + Sync + AllocGlobal),
+    word: &str,
+    operand: &str,
+    new: &str,
+) -> Result<(), Fail> {
+    let alloc = rt.alloc();
     let code = text_of(alloc, &[BEFORE, word, BEHIND])?;
     let data = text_of(alloc, &["80000001 00000000 ", operand, " ", new])?;
-    try_program(alloc, &code, &words_of(alloc, &data)?, "exit 0", NODE)
+    try_program(rt, &code, &words_of(alloc, &data)?, "exit 0", NODE)
 }
 
 #[test]
 fn updates_a_word_and_gives_the_old_one(rt: HostRuntime) -> Result<(), Fail> {
     for (word, operand, new) in UPDATES {
-        try_update(rt.alloc(), word, operand, new)?;
+        try_update(&rt, word, operand, new)?;
     }
     Ok(())
 }
@@ -153,7 +160,7 @@ fn counts_by_two_processors(rt: HostRuntime) -> Result<(), Fail> {
         "sim IN --nodes 2 --brief --order 1",
         "sim IN --nodes 2 --brief --order 7",
     ] {
-        try_call(alloc, &file, words, &COUNTED)?;
+        try_call(&rt, &file, words, &COUNTED)?;
     }
     let out = text_of(alloc, &["output 0\n\nprocessor 0 exit 62\n", NODE])?;
     let answer = Answer {
@@ -161,5 +168,5 @@ fn counts_by_two_processors(rt: HostRuntime) -> Result<(), Fail> {
         out: &out,
         err: "",
     };
-    try_call(alloc, &file, "run IN", &answer)
+    try_call(&rt, &file, "run IN", &answer)
 }

@@ -1,10 +1,12 @@
 //! Calls of the program on files in memory.
 
 use commands::shasta;
-use dsm_io::{MemFiles, MemSink, OpenGate, Text};
+use dsm_io::{Gate, MemFiles, MemSink, OpenGate, Text};
 use std::alloc::{AllocError, Global};
 use std::str::from_utf8;
+use std::sync::Wait;
 use std::test::Fail;
+use std::thread::Threads;
 
 /// The line of a node that counted nothing.
 pub const NODE: &str =
@@ -86,18 +88,30 @@ pub struct Called {
 /// Calls the program on files with these words, with spaces between them. The puts to the output
 /// with these numbers fail.
 pub fn call_on(
-    alloc: Global,
+    rt: &(impl Threads + Wait + Sync + AllocGlobal),
     files: &mut MemFiles,
     words: &str,
     put_fails: &[u64],
 ) -> Result<Called, Fail> {
+    call_by(rt, files, words, put_fails, &OpenGate)
+}
+
+/// The same, with a gate that each worker passes before its events.
+pub fn call_by(
+    rt: &(impl Threads + Wait + Sync + AllocGlobal),
+    files: &mut MemFiles,
+    words: &str,
+    put_fails: &[u64],
+    gate: &(impl Gate + Sync),
+) -> Result<Called, Fail> {
+    let alloc = rt.alloc();
     let mut line = Vec::new(alloc);
     for word in words.split_whitespace() {
         line.push(Text::of(String::from_str(alloc, word)?))?;
     }
     let mut out = MemSink::new(alloc, put_fails.to_vec(alloc)?);
     let mut err = MemSink::new(alloc, Vec::new(alloc));
-    let status = shasta(alloc, &line, files, &mut out, &mut err, &OpenGate);
+    let status = shasta(rt, alloc, &line, files, &mut out, &mut err, gate);
     Ok(Called { status, out, err })
 }
 
@@ -125,31 +139,38 @@ impl Called {
 /// Calls the program with these words where these files are held, and fails the test where it
 /// answers otherwise.
 pub fn try_held(
-    alloc: Global,
+    rt: &(impl Threads + Wait + Sync + AllocGlobal),
     held: &[(&str, &[u8])],
     words: &str,
     answer: &Answer<'_>,
 ) -> Result<(), Fail> {
+    let alloc = rt.alloc();
     let mut files = files_of(alloc, held, &[])?;
-    let called = call_on(alloc, &mut files, words, &[])?;
+    let called = call_on(rt, &mut files, words, &[])?;
     called.expect(words, answer)
 }
 
 /// Calls the program with these words where IN is the only file, and fails the test where it
 /// answers otherwise.
-pub fn try_call(alloc: Global, file: &[u8], words: &str, answer: &Answer<'_>) -> Result<(), Fail> {
-    try_held(alloc, &[("IN", file)], words, answer)
+pub fn try_call(
+    rt: &(impl Threads + Wait + Sync + AllocGlobal),
+    file: &[u8],
+    words: &str,
+    answer: &Answer<'_>,
+) -> Result<(), Fail> {
+    try_held(rt, &[("IN", file)], words, answer)
 }
 
 /// Executes a program that prints nothing, on one memory and rewritten, by `run` and by `sim`, and
 /// fails the test where it ends otherwise or its node counts otherwise.
 pub fn try_program(
-    alloc: Global,
+    rt: &(impl Threads + Wait + Sync + AllocGlobal),
     code: &str,
     data: &[u8],
     end: &str,
     node: &str,
 ) -> Result<(), Fail> {
+    let alloc = rt.alloc();
     let file = executable(alloc, code, data, 64)?;
     let status = u8::from(end != "exit 0");
     let one = text_of(alloc, &["output 0\n\nprocessor 0 ", end, "\n"])?;
@@ -159,14 +180,14 @@ pub fn try_program(
         out: &one,
         err: "",
     };
-    try_call(alloc, &file, "one IN", &of_one)?;
+    try_call(rt, &file, "one IN", &of_one)?;
     let of_run = Answer {
         status,
         out: &run,
         err: "",
     };
     for words in ["run IN", "sim IN"] {
-        try_call(alloc, &file, words, &of_run)?;
+        try_call(rt, &file, words, &of_run)?;
     }
     Ok(())
 }

@@ -2,8 +2,9 @@
 
 use crate::calls::{Answer, NODE, call_on, executable, files_of, text_of, try_held};
 use dsm_io::Files;
-use std::alloc::Global;
+use std::sync::Wait;
 use std::test::Fail;
+use std::thread::Threads;
 
 /// A program that writes its three bytes of data and exits with code 0: `lui x11, 0x20;
 /// addi x10, x0, 1; addi x12, x0, 3; addi x17, x0, 64; ecall; addi x10, x0, 0; addi x17, x0, 93;
@@ -11,9 +12,13 @@ use std::test::Fail;
 const HI: &str = "000205b7 00100513 00300613 04000893 00000073 00000513 05d00893 00000073";
 
 /// The file that `rewrite` makes of an executable.
-fn rewritten(alloc: Global, file: &[u8]) -> Result<Vec<u8>, Fail> {
+fn rewritten(
+    rt: &(impl Threads + Wait + Sync + AllocGlobal),
+    file: &[u8],
+) -> Result<Vec<u8>, Fail> {
+    let alloc = rt.alloc();
     let mut files = files_of(alloc, &[("IN", file)], &[])?;
-    let _called = call_on(alloc, &mut files, "rewrite IN OUT", &[])?;
+    let _called = call_on(rt, &mut files, "rewrite IN OUT", &[])?;
     match files.read(alloc, "OUT", 0x200_0000) {
         Ok(bytes) => Ok(bytes),
         Err(_) => Ok(Vec::new(alloc)),
@@ -23,7 +28,7 @@ fn rewritten(alloc: Global, file: &[u8]) -> Result<Vec<u8>, Fail> {
 /// Calls `run` and `sim` on an executable with a file of code and the layout of a text, and fails
 /// the test where one answers otherwise.
 fn try_code(
-    alloc: Global,
+    rt: &(impl Threads + Wait + Sync + AllocGlobal),
     file: &[u8],
     code: &[u8],
     text: &str,
@@ -34,7 +39,7 @@ fn try_code(
         "run --layout L IN --code OUT",
         "sim --layout L IN --code OUT",
     ] {
-        try_held(alloc, &held, words, answer)?;
+        try_held(rt, &held, words, answer)?;
     }
     Ok(())
 }
@@ -43,14 +48,14 @@ fn try_code(
 fn runs_the_code_of_a_file(rt: HostRuntime) -> Result<(), Fail> {
     let alloc = rt.alloc();
     let file = executable(alloc, HI, b"hi\n", 3)?;
-    let code = rewritten(alloc, &file)?;
+    let code = rewritten(&rt, &file)?;
     let out = text_of(alloc, &["output 3\nhi\n\nprocessor 0 exit 0\n", NODE])?;
     let answer = Answer {
         status: 0,
         out: &out,
         err: "",
     };
-    try_code(alloc, &file, &code, "", &answer)
+    try_code(&rt, &file, &code, "", &answer)
 }
 
 /// A byte of the rewritten file that is changed, and what is told of it. The code begins at 0x3000 in
@@ -67,12 +72,13 @@ const CHANGES: [(usize, u8, &str); 5] = [
 /// Calls `run` and `sim` on an executable with a file of code, of which a byte is changed, and
 /// fails the test where one tells another line. The layout is judged behind the code.
 fn try_change(
-    alloc: Global,
+    rt: &(impl Threads + Wait + Sync + AllocGlobal),
     file: &[u8],
     code: &[u8],
     change: (usize, u8),
     err: &str,
 ) -> Result<(), Fail> {
+    let alloc = rt.alloc();
     let mut code = code.to_vec(alloc)?;
     if let Some(byte) = code.get_mut(change.0) {
         *byte ^= change.1;
@@ -82,16 +88,16 @@ fn try_change(
         out: "",
         err,
     };
-    try_code(alloc, file, &code, "?", &answer)
+    try_code(rt, file, &code, "?", &answer)
 }
 
 #[test]
 fn tells_why_a_file_of_code_is_refused(rt: HostRuntime) -> Result<(), Fail> {
     let alloc = rt.alloc();
     let file = executable(alloc, HI, b"hi\n", 3)?;
-    let code = rewritten(alloc, &file)?;
+    let code = rewritten(&rt, &file)?;
     for (offset, change, err) in CHANGES {
-        try_change(alloc, &file, &code, (offset, change), err)?;
+        try_change(&rt, &file, &code, (offset, change), err)?;
     }
     Ok(())
 }
@@ -100,7 +106,7 @@ fn tells_why_a_file_of_code_is_refused(rt: HostRuntime) -> Result<(), Fail> {
 fn judges_what_it_reads_in_order(rt: HostRuntime) -> Result<(), Fail> {
     let alloc = rt.alloc();
     let file = executable(alloc, HI, b"hi\n", 3)?;
-    let code = rewritten(alloc, &file)?;
+    let code = rewritten(&rt, &file)?;
     for (input, code, status, err) in [
         (
             b"".as_slice(),
@@ -122,7 +128,7 @@ fn judges_what_it_reads_in_order(rt: HostRuntime) -> Result<(), Fail> {
             out: "",
             err,
         };
-        try_code(alloc, input, code, "?", &answer)?;
+        try_code(&rt, input, code, "?", &answer)?;
     }
     Ok(())
 }
@@ -140,7 +146,7 @@ fn reads_the_code_before_the_layout(rt: HostRuntime) -> Result<(), Fail> {
             out: "",
             err,
         };
-        try_held(rt.alloc(), &[("IN", b"")], words, &answer)?;
+        try_held(&rt, &[("IN", b"")], words, &answer)?;
     }
     Ok(())
 }

@@ -1,8 +1,9 @@
 //! What is told where a command does no work.
 
 use crate::calls::{Answer, call_on, executable, files_of, text_of, try_call};
-use std::alloc::Global;
+use std::sync::Wait;
 use std::test::Fail;
+use std::thread::Threads;
 
 /// How the program is called.
 const USAGE: &str = "usage: shasta rewrite IN OUT [--no-batch]
@@ -42,7 +43,7 @@ fn tells_its_use(rt: HostRuntime) -> Result<(), Fail> {
         err: USAGE,
     };
     for words in FAULTY {
-        try_call(rt.alloc(), b"", words, &answer)?;
+        try_call(&rt, b"", words, &answer)?;
     }
     Ok(())
 }
@@ -50,25 +51,32 @@ fn tells_its_use(rt: HostRuntime) -> Result<(), Fail> {
 /// Calls a command on a name, where IN is a file, and fails the test where it prints something or
 /// answers otherwise.
 fn try_command(
-    alloc: Global,
+    rt: &(impl Threads + Wait + Sync + AllocGlobal),
     file: &[u8],
     command: &str,
     name: &str,
     answer: &Answer<'_>,
 ) -> Result<(), Fail> {
+    let alloc = rt.alloc();
     let words = text_of(alloc, &[command, " ", name])?;
-    try_call(alloc, file, &words, answer)
+    try_call(rt, file, &words, answer)
 }
 
 /// The same for each command that reads an executable.
-fn try_commands(alloc: Global, file: &[u8], name: &str, status: u8, err: &str) -> Result<(), Fail> {
+fn try_commands(
+    rt: &(impl Threads + Wait + Sync + AllocGlobal),
+    file: &[u8],
+    name: &str,
+    status: u8,
+    err: &str,
+) -> Result<(), Fail> {
     let answer = Answer {
         status,
         out: "",
         err,
     };
     for command in ["list", "run", "one"] {
-        try_command(alloc, file, command, name, &answer)?;
+        try_command(rt, file, command, name, &answer)?;
     }
     Ok(())
 }
@@ -88,15 +96,20 @@ const WORDS: [(&str, &str); 2] = [
 ];
 
 /// Calls the commands on a program of one word.
-fn try_word(alloc: Global, word: &str, line: &str) -> Result<(), Fail> {
+fn try_word(
+    rt: &(impl Threads + Wait + Sync + AllocGlobal),
+    word: &str,
+    line: &str,
+) -> Result<(), Fail> {
+    let alloc = rt.alloc();
     let file = executable(alloc, word, b"", 64)?;
-    try_commands(alloc, &file, "IN", 4, line)
+    try_commands(rt, &file, "IN", 4, line)
 }
 
 #[test]
 fn tells_which_word_is_no_instruction(rt: HostRuntime) -> Result<(), Fail> {
     for (word, line) in WORDS {
-        try_word(rt.alloc(), word, line)?;
+        try_word(&rt, word, line)?;
     }
     Ok(())
 }
@@ -107,15 +120,15 @@ fn tells_what_is_wrong_with_a_file(rt: HostRuntime) -> Result<(), Fail> {
     let mut long = Vec::new(alloc);
     long.resize(33_554_433, 0)?;
     try_commands(
-        alloc,
+        &rt,
         b"text",
         "IN",
         4,
         "shasta: executable refused 1 Short\n",
     )?;
-    try_commands(alloc, b"", "a", 3, "shasta: cannot read a\n")?;
+    try_commands(&rt, b"", "a", 3, "shasta: cannot read a\n")?;
     try_commands(
-        alloc,
+        &rt,
         &long,
         "IN",
         3,
@@ -124,9 +137,14 @@ fn tells_what_is_wrong_with_a_file(rt: HostRuntime) -> Result<(), Fail> {
 }
 
 /// Calls the program with these words on a file, where the first put to the output fails.
-fn try_output(alloc: Global, file: &[u8], words: &str) -> Result<(), Fail> {
+fn try_output(
+    rt: &(impl Threads + Wait + Sync + AllocGlobal),
+    file: &[u8],
+    words: &str,
+) -> Result<(), Fail> {
+    let alloc = rt.alloc();
     let mut files = files_of(alloc, &[("IN", file)], &[])?;
-    let called = call_on(alloc, &mut files, words, &[1])?;
+    let called = call_on(rt, &mut files, words, &[1])?;
     let answer = Answer {
         status: 3,
         out: "",
@@ -140,7 +158,7 @@ fn tells_that_the_output_failed(rt: HostRuntime) -> Result<(), Fail> {
     let alloc = rt.alloc();
     let file = executable(alloc, "00100073", b"", 64)?;
     for words in ["list IN", "run IN", "one IN"] {
-        try_output(alloc, &file, words)?;
+        try_output(&rt, &file, words)?;
     }
     Ok(())
 }

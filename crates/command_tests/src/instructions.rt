@@ -8,7 +8,7 @@ use std::test::Fail;
 #[test]
 fn executes_each_instruction(rt: HostRuntime) -> Result<(), Fail> {
     for (code, end) in PROGRAMS {
-        try_program(rt.alloc(), code, b"", end, NODE)?;
+        try_program(&rt, code, b"", end, NODE)?;
     }
     Ok(())
 }

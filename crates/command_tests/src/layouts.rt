@@ -2,8 +2,9 @@
 
 use crate::atomics::{COUNTED, COUNTER};
 use crate::calls::{Answer, NODE, executable, text_of, try_call, try_held};
-use std::alloc::Global;
+use std::sync::Wait;
 use std::test::Fail;
+use std::thread::Threads;
 
 /// EBREAK alone.
 const STOP: &str = "00100073";
@@ -60,9 +61,15 @@ const CASES: [Case; 7] = [
 
 /// Calls `one`, `run` and `sim` on a file with a layout, and fails the test where one answers
 /// otherwise. The text behind the output of the others is the line of the node.
-fn try_layout(alloc: Global, file: &[u8], layout: &str, answer: &Answer<'_>) -> Result<(), Fail> {
+fn try_layout(
+    rt: &(impl Threads + Wait + Sync + AllocGlobal),
+    file: &[u8],
+    layout: &str,
+    answer: &Answer<'_>,
+) -> Result<(), Fail> {
+    let alloc = rt.alloc();
     let held = [("IN", file), ("-x", layout.as_bytes())];
-    try_held(alloc, &held, "one --layout=-x IN", answer)?;
+    try_held(rt, &held, "one --layout=-x IN", answer)?;
     let node = if answer.out.is_empty() { "" } else { NODE };
     let out = text_of(alloc, &[answer.out, node])?;
     let of_node = Answer {
@@ -71,7 +78,7 @@ fn try_layout(alloc: Global, file: &[u8], layout: &str, answer: &Answer<'_>) -> 
         err: answer.err,
     };
     for words in ["run --layout=-x IN", "sim --layout=-x IN"] {
-        try_held(alloc, &held, words, &of_node)?;
+        try_held(rt, &held, words, &of_node)?;
     }
     Ok(())
 }
@@ -86,7 +93,7 @@ fn judges_the_layout(rt: HostRuntime) -> Result<(), Fail> {
             out: if case.status == 6 { "" } else { STOPPED },
             err: case.line,
         };
-        try_layout(alloc, &file, case.text, &answer)?;
+        try_layout(&rt, &file, case.text, &answer)?;
     }
     Ok(())
 }
@@ -98,7 +105,7 @@ fn judges_the_executable_first(rt: HostRuntime) -> Result<(), Fail> {
         out: "",
         err: "shasta: executable refused 1 Short\n",
     };
-    try_layout(rt.alloc(), b"", "?", &answer)
+    try_layout(&rt, b"", "?", &answer)
 }
 
 /// All files are read before one is judged.
@@ -114,20 +121,25 @@ fn reads_the_layout_first(rt: HostRuntime) -> Result<(), Fail> {
         "one IN --layout a",
         "sim IN --layout a",
     ] {
-        try_call(rt.alloc(), b"", words, &answer)?;
+        try_call(&rt, b"", words, &answer)?;
     }
     Ok(())
 }
 
 /// Calls `one` and `sim` for two processors on a file with a layout, and fails the test where one
 /// answers otherwise. What the nodes count isn't told.
-fn try_both(alloc: Global, file: &[u8], layout: &str, answer: &Answer<'_>) -> Result<(), Fail> {
+fn try_both(
+    rt: &(impl Threads + Wait + Sync + AllocGlobal),
+    file: &[u8],
+    layout: &str,
+    answer: &Answer<'_>,
+) -> Result<(), Fail> {
     let held = [("IN", file), ("L", layout.as_bytes())];
     for words in [
         "one IN --layout L --nodes 2",
         "sim IN --layout L --nodes 2 --brief",
     ] {
-        try_held(alloc, &held, words, answer)?;
+        try_held(rt, &held, words, answer)?;
     }
     Ok(())
 }
@@ -144,7 +156,7 @@ fn judges_homes_for_the_nodes(rt: HostRuntime) -> Result<(), Fail> {
         ("0x20000 0x40 64 2", 6, "", line),
     ] {
         let answer = Answer { status, out, err };
-        try_both(alloc, &file, text, &answer)?;
+        try_both(&rt, &file, text, &answer)?;
     }
     Ok(())
 }
@@ -178,7 +190,7 @@ fn reserves_a_block(rt: HostRuntime) -> Result<(), Fail> {
             out,
             err: "",
         };
-        try_both(alloc, &file, text, &answer)?;
+        try_both(&rt, &file, text, &answer)?;
     }
     Ok(())
 }
@@ -188,7 +200,7 @@ fn counts_whatever_the_blocks(rt: HostRuntime) -> Result<(), Fail> {
     let alloc = rt.alloc();
     let file = executable(alloc, COUNTER, b"", 128)?;
     for text in ["", "0x20000 0x80 128 1", "0x20040 0x40 64 0"] {
-        try_both(alloc, &file, text, &COUNTED)?;
+        try_both(&rt, &file, text, &COUNTED)?;
     }
     Ok(())
 }

@@ -25,3 +25,5 @@ mod programs;
 mod refusals;
 #[cfg(test)]
 mod rewriting;
+#[cfg(test)]
+mod threads;

@@ -2,7 +2,9 @@
 
 use crate::calls::{Answer, push_words, text_of, try_call};
 use std::alloc::Global;
+use std::sync::Wait;
 use std::test::Fail;
+use std::thread::Threads;
 
 /// A program that exits with code 0: `addi x10, x0, 0; addi x17, x0, 93; ecall`.
 const CODE: &str = "00000513 05d00893 00000073";
@@ -202,40 +204,54 @@ fn break_by(file: &mut Vec<u8>, rule: &Rule) {
 }
 
 /// Calls the program on a refused file, and fails the test where another refusal is told.
-fn try_refused(alloc: Global, file: &[u8], words: &str, line: &str) -> Result<(), Fail> {
+fn try_refused(
+    rt: &(impl Threads + Wait + Sync + AllocGlobal),
+    file: &[u8],
+    words: &str,
+    line: &str,
+) -> Result<(), Fail> {
+    let alloc = rt.alloc();
     let err = text_of(alloc, &["shasta: executable refused ", line, "\n"])?;
     let answer = Answer {
         status: 4,
         out: "",
         err: &err,
     };
-    try_call(alloc, file, words, &answer)
+    try_call(rt, file, words, &answer)
 }
 
 /// Lists a file that breaks both rules.
-fn try_both(alloc: Global, lower: &Rule, higher: &Rule) -> Result<(), Fail> {
+fn try_both(
+    rt: &(impl Threads + Wait + Sync + AllocGlobal),
+    lower: &Rule,
+    higher: &Rule,
+) -> Result<(), Fail> {
+    let alloc = rt.alloc();
     let mut file = file_of(alloc, 0)?;
     break_by(&mut file, higher);
     break_by(&mut file, lower);
-    try_refused(alloc, &file, "list IN", lower.line)
+    try_refused(rt, &file, "list IN", lower.line)
 }
 
 #[test]
 fn tells_the_lowest_refusal(rt: HostRuntime) -> Result<(), Fail> {
-    let alloc = rt.alloc();
     for (count, higher) in RULES.iter().enumerate() {
         for lower in RULES.iter().take(count + 1) {
-            try_both(alloc, lower, higher)?;
+            try_both(&rt, lower, higher)?;
         }
     }
     Ok(())
 }
 
 /// Runs a file that breaks a rule and has too many rewritten words.
-fn try_with_many_words(alloc: Global, rule: &Rule) -> Result<(), Fail> {
+fn try_with_many_words(
+    rt: &(impl Threads + Wait + Sync + AllocGlobal),
+    rule: &Rule,
+) -> Result<(), Fail> {
+    let alloc = rt.alloc();
     let mut file = file_of(alloc, MANY)?;
     break_by(&mut file, rule);
-    try_refused(alloc, &file, "run IN", rule.line)
+    try_refused(rt, &file, "run IN", rule.line)
 }
 
 /// What a program is refused for is told before its rewritten words are counted.
@@ -243,8 +259,8 @@ fn try_with_many_words(alloc: Global, rule: &Rule) -> Result<(), Fail> {
 fn counts_the_words_last(rt: HostRuntime) -> Result<(), Fail> {
     let alloc = rt.alloc();
     for rule in &RULES {
-        try_with_many_words(alloc, rule)?;
+        try_with_many_words(&rt, rule)?;
     }
     let file = file_of(alloc, MANY)?;
-    try_refused(alloc, &file, "run IN", "20 CodeTooLarge 270005 words")
+    try_refused(&rt, &file, "run IN", "20 CodeTooLarge 270005 words")
 }

@@ -1,8 +1,9 @@
 //! Small programs whose whole answers are known.
 
 use crate::calls::{Answer, NODE, executable, text_of, try_call, try_program};
-use std::alloc::Global;
+use std::sync::Wait;
 use std::test::Fail;
+use std::thread::Threads;
 
 /// A program that writes its three bytes of data and exits with code 0:
 /// `lui x11, 0x20; addi x10, x0, 1; addi x12, x0, 3; addi x17, x0, 64; ecall;
@@ -91,14 +92,19 @@ processor 2 exit 0
 ];
 
 /// Makes a call, and fails the test where it answers otherwise.
-fn try_row(alloc: Global, file: &[u8], row: &Row) -> Result<(), Fail> {
+fn try_row(
+    rt: &(impl Threads + Wait + Sync + AllocGlobal),
+    file: &[u8],
+    row: &Row,
+) -> Result<(), Fail> {
+    let alloc = rt.alloc();
     let out = text_of(alloc, &[row.output, row.node])?;
     let answer = Answer {
         status: row.status,
         out: &out,
         err: "",
     };
-    try_call(alloc, file, row.words, &answer)
+    try_call(rt, file, row.words, &answer)
 }
 
 #[test]
@@ -106,7 +112,7 @@ fn answers_for_a_program_that_writes(rt: HostRuntime) -> Result<(), Fail> {
     let alloc = rt.alloc();
     let file = executable(alloc, HI, b"hi\n", 3)?;
     for row in &ROWS {
-        try_row(alloc, &file, row)?;
+        try_row(&rt, &file, row)?;
     }
     Ok(())
 }
@@ -215,9 +221,8 @@ const ENDINGS: [Ending; 12] = [
 
 #[test]
 fn ends_without_output(rt: HostRuntime) -> Result<(), Fail> {
-    let alloc = rt.alloc();
     for ending in &ENDINGS {
-        try_program(alloc, ending.code, ending.data, ending.end, ending.node)?;
+        try_program(&rt, ending.code, ending.data, ending.end, ending.node)?;
     }
     Ok(())
 }

@@ -2,7 +2,9 @@
 
 use crate::calls::{Answer, NODE, executable, text_of, try_call};
 use std::alloc::Global;
+use std::sync::Wait;
 use std::test::Fail;
+use std::thread::Threads;
 
 /// A program that exits with code 0: `addi x10, x0, 0; addi x17, x0, 93; ecall`.
 const CODE: &str = "00000513 05d00893 00000073";
@@ -140,7 +142,8 @@ fn changed(alloc: Global, len: usize, bytes: &[(usize, u8)]) -> Result<Vec<u8>, 
 }
 
 /// Calls `list` on the file of a case, and fails the test where another line is told.
-fn try_case(alloc: Global, case: &Case) -> Result<(), Fail> {
+fn try_case(rt: &(impl Threads + Wait + Sync + AllocGlobal), case: &Case) -> Result<(), Fail> {
+    let alloc = rt.alloc();
     let file = changed(alloc, case.len, case.bytes)?;
     let line = text_of(alloc, &["shasta: executable refused ", case.line, "\n"])?;
     let answer = Answer {
@@ -148,13 +151,13 @@ fn try_case(alloc: Global, case: &Case) -> Result<(), Fail> {
         out: "",
         err: &line,
     };
-    try_call(alloc, &file, "list IN", &answer)
+    try_call(rt, &file, "list IN", &answer)
 }
 
 #[test]
 fn tells_why_a_file_is_refused(rt: HostRuntime) -> Result<(), Fail> {
     for case in &CASES {
-        try_case(rt.alloc(), case)?;
+        try_case(&rt, case)?;
     }
     Ok(())
 }
@@ -169,5 +172,5 @@ fn accepts_total_store_order(rt: HostRuntime) -> Result<(), Fail> {
         out: &out,
         err: "",
     };
-    try_call(alloc, &file, "run IN", &answer)
+    try_call(&rt, &file, "run IN", &answer)
 }

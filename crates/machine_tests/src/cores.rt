@@ -1,6 +1,6 @@
 //! Nodes that run rewritten code, event by event and to the end.
 
-ghost use Rattle.std.specs.Prelude.{◌≡◌, IfOk};
+ghost use Rattle.std.specs.Prelude.{◌≡◌, ◌<◌, ◌≤◌, IfOk};
 ghost use Rattle.exec_map.specs.Contents.{program_of};
 ghost use Rattle.jump_map.specs.Image.{IsRewriting};
 
@@ -17,7 +17,7 @@ use std::test::Fail;
 
 /// A processor other than 0 loads a shared word; each exits with code 0:
 /// `lui x5, 0x20; beq x10, x0, 8; lw x6, 0(x5); addi x10, x0, 0; addi x17, x0, 93; ecall`.
-const ROW: [u32; 6] = [
+pub const ROW: [u32; 6] = [
     0x000202b7, 0x00050463, 0x0002a303, 0x00000513, 0x05d00893, 0x00000073,
 ];
 
@@ -35,7 +35,7 @@ fn take(stamp: u64, from: u8, words: u64) -> Entry {
 }
 
 /// What a node counts that sent so many messages, and nothing else.
-fn sent(messages: u64) -> NodeCounts {
+pub fn sent(messages: u64) -> NodeCounts {
     NodeCounts {
         read: 0,
         exclusive: 0,
@@ -47,13 +47,16 @@ fn sent(messages: u64) -> NodeCounts {
     }
 }
 
-/// Two nodes at the start, over the default layout.
-fn two_nodes<'a>(
+/// So many nodes at the start, over the default layout.
+pub fn core_of<'a>(
     alloc: Global,
     rewritten: &'a Rewritten,
     program: &'a Program<'a>,
+    nodes: u8,
 ) -> Result<Core<'a>, Fail>
-    requires { IsRewriting (program_of program.now) rewritten.now.plan rewritten.now.image }
+    requires some { 0 < nodes }
+    requires few { nodes ≤ 16 }
+    requires rewriting { IsRewriting (program_of program.now) rewritten.now.plan rewritten.now.image }
 {
     let Some(budget) = Budget::of(1000) else {
         return Err(Fail::from("a thousand is a budget"));
@@ -61,7 +64,7 @@ fn two_nodes<'a>(
     let _ = program.entry();
     let _ = budget.number();
     let ranges = program.shared_ranges(alloc)?;
-    let layout = default_layout(alloc, &ranges, 2)?;
+    let layout = default_layout(alloc, &ranges, nodes)?;
     let core = Core::new(alloc, rewritten.image(), program, &layout, budget)?;
     Ok(core)
 }
@@ -238,7 +241,7 @@ fn try_nodes(
 ) -> Result<(), Fail>
     requires { IsRewriting (program_of program.now) rewritten.now.plan rewritten.now.image }
 {
-    let mut core = two_nodes(alloc, rewritten, program)?;
+    let mut core = core_of(alloc, rewritten, program, 2)?;
     match case {
         Case::Print => try_printing(&mut core, alloc)?,
         Case::Read => try_row(core)?,

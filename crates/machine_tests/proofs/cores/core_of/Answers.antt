@@ -5,7 +5,7 @@ use Rattle.rv32_program.specs.declared.Class.{Class}
 use Rattle.rv32_program.specs.declared.Class.TheVariants as class
 use Rattle.exec_map.specs.Contents.{class_of_line, is_shared, program_of}
 use Rattle.jump_map.specs.Image.{Cell, IsRewriting}
-use Rattle.machine_tests.proofs.cores.two_nodes.Goals as goal
+use Rattle.machine_tests.proofs.cores.core_of.Goals as goal
 
 shared_as : (layout : Shape) (line : ℕ) → is_shared_line layout line ≡ is_in layout.shared line
 unfolding is_shared_line
@@ -32,7 +32,7 @@ new-requires c =
             ∙ c.in_ok-ranges.ensures.ranges.lines line);
         plan = c.args.rewritten.now.plan;
         rewriting = subst (λ (i : List Cell). IsRewriting (program_of c.args.program.now)
-            c.args.rewritten.now.plan i) (sym image) c.requires;
+            c.args.rewritten.now.plan i) (sym image) c.requires.rewriting;
         some = subst (λ b. 0 < b) c.number.ensures.value c.number.ensures.range.0;
         few = subst (λ b. b ≤ 2 ^ 32) c.number.ensures.value c.number.ensures.range.1;
       };

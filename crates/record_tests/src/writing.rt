@@ -1,0 +1,118 @@
+//! Texts of records, byte by byte.
+
+ghost use Rattle.std.specs.Prelude.{◌≡◌, IfOk};
+ghost use Rattle.run_record.specs.Record.{IsRecord};
+
+use block_layout::BlockRange;
+use node_model::Entry;
+use run_record::{Blocks, Journals, Record, write_record};
+use std::alloc::{AllocError, Global};
+use std::test::Fail;
+
+/// The record of a run of two nodes that print.
+const TWO_NODES: &str = concat!(
+    "shasta-record 1\n",
+    "nodes 2\n",
+    "budget 100000000\n",
+    "batch 1\n",
+    "node 0\n",
+    "take 7 0 6\n",
+    "take 9 1 0\n",
+    "take 10 0 0\n",
+    "take 12 1 0\n",
+    "take 16 1 0\n",
+    "end\n",
+    "node 1\n",
+    "take 9 0 8\n",
+    "take 11 0 0\n",
+    "take 16 1 4\n",
+    "end\n",
+);
+
+/// The record of a run of one node, over two ranges of a layout.
+const TWO_RANGES: &str = concat!(
+    "shasta-record 1\n",
+    "nodes 1\n",
+    "budget 4294967296\n",
+    "batch 0\n",
+    "block 0x00100000 0x0000a000 4096 0\n",
+    "block 0x7f00bfc0 0x00000040 64 *\n",
+    "node 0\n",
+    "end\n",
+);
+
+fn entry(stamp: u64, from: u8, words: u64) -> Entry
+    ensures { result ≡ record { stamp = stamp; from = from; words = words } }
+{
+    Entry { stamp, from, words }
+}
+
+fn two_nodes(alloc: Global) -> Result<Record, AllocError>
+    ensures { IfOk result IsRecord }
+{
+    let first = Vec::from_array(
+        alloc,
+        [
+            entry(7, 0, 6),
+            entry(9, 1, 0),
+            entry(10, 0, 0),
+            entry(12, 1, 0),
+            entry(16, 1, 0),
+        ],
+    )?;
+    let second = Vec::from_array(alloc, [entry(9, 0, 8), entry(11, 0, 0), entry(16, 1, 4)])?;
+    Ok(Record {
+        nodes: 2,
+        budget: 100_000_000,
+        batch: true,
+        blocks: Blocks::of(Vec::new(alloc)),
+        journals: Journals::of(Vec::from_array(alloc, [first, second])?),
+    })
+}
+
+fn two_ranges(alloc: Global) -> Result<Record, AllocError>
+    ensures { IfOk result IsRecord }
+{
+    let ranges = Vec::from_array(
+        alloc,
+        [
+            BlockRange {
+                start: 0x0010_0000,
+                length: 0xa000,
+                block: 4096,
+                home: Some(0),
+            },
+            BlockRange {
+                start: 0x7f00_bfc0,
+                length: 64,
+                block: 64,
+                home: None,
+            },
+        ],
+    )?;
+    Ok(Record {
+        nodes: 1,
+        budget: 1 << 32,
+        batch: false,
+        blocks: Blocks::of(ranges),
+        journals: Journals::of(Vec::from_array(alloc, [Vec::new(alloc)])?),
+    })
+}
+
+#[test]
+fn two_nodes_have_this_text(rt: HostRuntime) -> Result<(), Fail> {
+    let record = two_nodes(rt.alloc())?;
+    let mut text = Vec::new(rt.alloc());
+    write_record(&record, &mut text)?;
+    assert_eq!(rt; text.as_slice(), TWO_NODES.as_bytes());
+    Ok(())
+}
+
+#[test]
+fn two_ranges_have_this_text(rt: HostRuntime) -> Result<(), Fail> {
+    let record = two_ranges(rt.alloc())?;
+    let mut text = Vec::new(rt.alloc());
+    write_record(&record, &mut text)?;
+    assert_eq!(rt; text.as_slice(), TWO_RANGES.as_bytes());
+    Ok(())
+}
