@@ -61,3 +61,8 @@ odd_turns m f s k x odd =
 pub order_turns : (turns number : ℕ) → turned_often 4294967296 1664525 1013904223 turns number ≡ after_turns turns number
 order_turns zero number = refl
 order_turns (suc turns) number = order_turns turns (following number)
+
+-- two turns of an order by one map
+pub two_turns : (number : ℕ)
+    → (389569705 * number + 1196435762) % 4294967296 ≡ following (following number)
+two_turns number = turned_twice 4294967296 1664525 1013904223 number

@@ -1,1 +1,3 @@
+pub mod Assembler
+pub mod Generated
 pub mod Orders

@@ -1,9 +1,14 @@
 #![tactic(auto)]
-//! Orders: the choices by which a run on one thread is made, from a number.
+//! What a number makes: an order, which is the choices of a run on one thread; and an executable.
 
 ghost use Rattle.std.specs.Prelude.{◌≡◌, ◌^◌, ◌<◌, ◌≤◌, ◌+◌, ◌/◌, ℕ, slice_index_or};
 ghost use Rattle.workload.specs.Orders.{following, choice, after_turns, how_often};
 
+mod assembler;
+mod code;
+mod generated;
+
+pub use generated::{Generated, program_of};
 use std::marker::Model;
 
 /// A sequence of choices. Contracts see its number.
@@ -101,14 +106,13 @@ impl Order {
         ensures often { (place : ℕ) → place < 16
             → slice_index_or result place 0 ≡ how_often place count turns self.now }
     {
-        let reciprocal = reciprocal_of(count);
-        let mut tally = [0; 16];
-        let mut number = self.number;
-        for _turn in 0..turns {
-            number = after(number);
-            tally[choose_by(number, count, reciprocal) as usize] += 1;
+        match count {
+            2 => tally_known(self.number, turns, 2),
+            4 => tally_known(self.number, turns, 4),
+            8 => tally_known(self.number, turns, 8),
+            16 => tally_known(self.number, turns, 16),
+            _ => tally_any(self.number, turns, count),
         }
-        tally
     }
 
     /// How many turns, at most so many, choose a place among `count` no more often than `times`.
@@ -139,6 +143,57 @@ fn after(number: u32) -> u32
     ensures { result ≡ following number }
 {
     number.wrapping_mul(FACTOR).wrapping_add(STEP)
+}
+
+/// The number that follows the one that follows a number.
+#[inline(always)]
+#[tactic(auto, using(crate::proofs::Turns::two_turns))]
+fn after_two(number: u32) -> u32
+    ensures { result ≡ following (following number) }
+{
+    number.wrapping_mul(FACTOR_TWICE).wrapping_add(STEP_TWICE)
+}
+
+/// How often the turns behind a number choose each place among `count`, which is known where the call
+/// stands: a remainder by a power of two is then a mask. Each number is made from the last but one,
+/// so two of them are under way at a time.
+#[inline(always)]
+fn tally_known(number: u32, turns: u32, count: u32) -> [u32; 16]
+    requires some { 1 ≤ count }
+    requires few { count ≤ 16 }
+    ensures often { (place : ℕ) → place < 16
+        → slice_index_or result place 0 ≡ how_often place count turns number }
+{
+    let mut tally = [0; 16];
+    let mut next = after(number);
+    let mut second = after(next);
+    for _turn in 0..turns {
+        tally[choose(next, count) as usize] += 1;
+        let third = after_two(next);
+        next = second;
+        second = third;
+    }
+    tally
+}
+
+/// The same among any count, by its reciprocal.
+fn tally_any(number: u32, turns: u32, count: u32) -> [u32; 16]
+    requires some { 1 ≤ count }
+    requires few { count ≤ 16 }
+    ensures often { (place : ℕ) → place < 16
+        → slice_index_or result place 0 ≡ how_often place count turns number }
+{
+    let reciprocal = reciprocal_of(count);
+    let mut tally = [0; 16];
+    let mut next = after(number);
+    let mut second = after(next);
+    for _turn in 0..turns {
+        tally[choose_by(next, count, reciprocal) as usize] += 1;
+        let third = after_two(next);
+        next = second;
+        second = third;
+    }
+    tally
 }
 
 /// What a number chooses among so many.
@@ -176,3 +231,9 @@ const FACTOR: u32 = 1_664_525;
 
 /// What is added then.
 const STEP: u32 = 1_013_904_223;
+
+/// What a number is multiplied by to make the one after two turns.
+const FACTOR_TWICE: u32 = 389_569_705;
+
+/// What is added then.
+const STEP_TWICE: u32 = 1_196_435_762;
