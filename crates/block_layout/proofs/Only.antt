@@ -8,7 +8,7 @@ use Rattle.block_layout.specs.declared.layout.BlockRange.{BlockRange}
 use Rattle.block_layout.specs.declared.refused.Rule.{Rule}
 use Rattle.block_layout.specs.declared.refused.Rule.TheVariants.{Syntax, BlockSize, Unaligned, NotShared, Overlap, Home}
 use Rattle.block_layout.specs.Layout.{Shape, IsValid, IsRange, AreApart, names}
-use Rattle.block_layout.specs.Text.{text_lines, says_nothing, spaces, is_decimal_digit, number_behind, IsHexadecimal, IsDecimal, IsHomeWord, HasFields, Name, IsLayoutOf, Violates, Breaks, number_of, IsFirstFault}
+use Rattle.block_layout.specs.Text.{text_lines, says_nothing, spaces, is_decimal_digit, number_behind, IsHexadecimal, IsDecimal, IsHomeWord, HasFields, Name, IsLayoutOf, Violates, Breaks, number_of, IsFirstFault, IsFirstBroken}
 use Rattle.block_layout.specs.Parts.{is_mark, SplitsAtGap, AreWords}
 use Rattle.block_layout.proofs.Words.{IsGap, is_gap}
 use Rattle.block_layout.proofs.Fields.{words_of_fields}
@@ -268,3 +268,42 @@ empty_has_no_fault shared n rule line f =
       apart = λ i j d a b. absurd (omega arith);
     } in
     layout_or_fault [] shared n (record { shared = shared; named = []; nodes = n }) rule line (record { shared_is = refl; nodes_is = refl; named = inl (refl, refl); valid = valid }) f
+
+-- ---- a list of ranges
+
+pub ranges_or_broken : (ranges : List BlockRange) (shared : List Lines) (n : ℕ) (rule : Rule) (number : ℕ) → IsFirstBroken ranges shared n rule number → IsValid (record { shared = shared; named = ranges; nodes = n }) → ⊥
+ranges_or_broken ranges shared n rule number f v =
+    let V : List BlockRange → Type 0 = λ z. IsValid (record { shared = shared; named = z; nodes = n }) in
+    violates_none shared n f.before f.behind f.range rule (subst V f.ranges_are v) f.violates
+
+-- a range that breaks a rule isn't among those before another
+broken_before : (ranges : List BlockRange) (shared : List Lines) (n : ℕ) (rule other : Rule) (i j : ℕ) (f : IsFirstBroken ranges shared n rule i) (g : IsFirstBroken ranges shared n other j) → length f.before < length g.before → ⊥
+broken_before ranges shared n rule other i j f g less =
+    let t = cut_longer f.before g.before f.behind g.behind f.range g.range (sym f.ranges_are ∙ g.ranges_are) less in
+    let V : List BlockRange → Type 0 = λ z. IsValid (record { shared = shared; named = z; nodes = n }) in
+    violates_none shared n f.before t.0 f.range rule (subst V t.1 g.valid) f.violates
+
+-- the rule that the first of the ranges breaks
+broken_rule_once : (ranges : List BlockRange) (shared : List Lines) (n : ℕ) (rule other : Rule) (i j : ℕ) (f : IsFirstBroken ranges shared n rule i) (g : IsFirstBroken ranges shared n other j) → f.before ≡ g.before → f.range ≡ g.range → number_of rule < number_of other → ⊥
+broken_rule_once ranges shared n rule other i j f g before range less =
+    let B : List BlockRange → Type 0 = λ z. Violates shared n z f.range rule in
+    let R : BlockRange → Type 0 = λ z. Violates shared n g.before z rule in
+    g.lowest rule less (subst R range (subst B before f.violates))
+
+pub broken_once : (ranges : List BlockRange) (shared : List Lines) (n : ℕ) (rule other : Rule) (i j : ℕ) → IsFirstBroken ranges shared n rule i → IsFirstBroken ranges shared n other j → (rule ≡ other) × (i ≡ j)
+broken_once ranges shared n rule other i j f g = elim (cases_lt (length f.before) (length g.before)) [
+  | inl less ↦ absurd (broken_before ranges shared n rule other i j f g less)
+  | inr more ↦ elim (cases_lt (length g.before) (length f.before)) [
+    | inl less ↦ absurd (broken_before ranges shared n other rule j i g f less)
+    | inr same ↦
+        let t = cut_same f.before g.before f.behind g.behind f.range g.range (sym f.ranges_are ∙ g.ranges_are) (omega arith) in
+        let number : i ≡ j = omega (arith, f.number_is, g.number_is) in
+        elim (cases_lt (number_of rule) (number_of other)) [
+          | inl low ↦ absurd (broken_rule_once ranges shared n rule other i j f g t.0 t.1 low)
+          | inr high ↦ elim (cases_lt (number_of other) (number_of rule)) [
+            | inl low ↦ absurd (broken_rule_once ranges shared n other rule j i g f (sym t.0) (sym t.1) low)
+            | inr equal ↦ (same_rule rule other (omega arith), number)
+          ]
+        ]
+  ]
+]

@@ -13,8 +13,8 @@ use Rattle.block_layout.specs.declared.layout.BlockRange.{BlockRange}
 use Rattle.block_layout.specs.declared.refused.Rule.{Rule}
 use Rattle.block_layout.specs.declared.refused.Rule.TheVariants.{Syntax, BlockSize, Unaligned, NotShared, Overlap, Home}
 use Rattle.block_layout.specs.Layout.{IsValid, IsRange, AreApart, names}
-use Rattle.block_layout.specs.Text.{text_lines, says_nothing, HasFields, Name, Violates, Breaks, number_of, IsLayoutOf, IsFirstFault}
-use Rattle.block_layout.specs.Reading.{IsSound, IsBroken, IsFault, IsTaken, IsReadUpTo, bytes_left}
+use Rattle.block_layout.specs.Text.{text_lines, says_nothing, HasFields, Name, Violates, Breaks, number_of, IsLayoutOf, IsFirstFault, IsFirstBroken}
+use Rattle.block_layout.specs.Reading.{IsSound, IsBroken, IsAdded, IsFault, IsTaken, IsReadUpTo, bytes_left}
 
 all_prefix : {X : Type 0} (q : X → Bool) (xs : List X) → length xs ≤ prefix_len q xs → All (λ x. q x ≡ true) xs
 all_prefix q [] h = λ k d less. absurd (omega arith)
@@ -71,7 +71,7 @@ find_none p (x ∷ xs) (suc k) d h less = elim (cases_Bool (p x)) [
   | inr n ↦ find_none p xs k d (rw n at h) (omega arith)
 ]
 
--- a line that says nothing adds nothing, and one with fields adds its range
+-- a line that says nothing adds nothing
 pub taken_none : (shared : List Lines) (nodes : ℕ) (earlier : List BlockRange) (line : List ℕ) → says_nothing line ≡ true → IsValid (record { shared = shared; named = earlier; nodes = nodes }) → IsTaken shared nodes earlier line earlier
 taken_none shared nodes earlier line h v = record {
   added = [];
@@ -80,22 +80,21 @@ taken_none shared nodes earlier line h v = record {
   valid = v;
 }
 
-pub taken_one : (shared : List Lines) (nodes : ℕ) (earlier : List BlockRange) (line : List ℕ) (r : BlockRange) → HasFields line r → IsSound shared nodes earlier r → IsValid (record { shared = shared; named = earlier; nodes = nodes }) → IsTaken shared nodes earlier line (earlier ++ r ∷ [])
-taken_one shared nodes earlier line r h sound v = record {
-  added = r ∷ [];
-  named_is = refl;
-  names_are = inr (r, [], refl, h, refl);
-  valid = record {
-    some_node = v.some_node;
-    few_nodes = v.few_nodes;
-    shared = v.shared;
-    named = All-push (IsRange shared nodes) earlier r v.named sound.range;
-    apart = all_pairs_push AreApart earlier r v.apart (λ k d less. λ x e. elim (cases_Bool (names x r)) [
-      | inl y ↦ absurd (false≢true (sym (find_none (names x) earlier k d (sound.new x y) less) ∙ e))
-      | inr n ↦ n
-    ]);
-  };
-}
+-- a sound range is added to a valid layout
+pub added_one : (shared : List Lines) (nodes : ℕ) (earlier named : List BlockRange) (r : BlockRange) → named ≡ earlier ++ r ∷ [] → IsSound shared nodes earlier r → IsValid (record { shared = shared; named = earlier; nodes = nodes }) → IsAdded shared nodes earlier r named
+added_one shared nodes earlier named r is sound v =
+    let P : List BlockRange → Type 0 = λ rs. IsValid (record { shared = shared; named = rs; nodes = nodes }) in
+    let valid : IsValid (record { shared = shared; named = earlier ++ r ∷ []; nodes = nodes }) = record {
+      some_node = v.some_node;
+      few_nodes = v.few_nodes;
+      shared = v.shared;
+      named = All-push (IsRange shared nodes) earlier r v.named sound.range;
+      apart = all_pairs_push AreApart earlier r v.apart (λ k d less. λ x e. elim (cases_Bool (names x r)) [
+        | inl y ↦ absurd (false≢true (sym (find_none (names x) earlier k d (sound.new x y) less) ∙ e))
+        | inr n ↦ n
+      ]);
+    } in
+    record { named_is = is; valid = subst P (sym is) valid }
 
 number_low : (rule : Rule) → 30 ≤ number_of rule
 number_low Syntax = omega arith
@@ -176,3 +175,25 @@ read_all text shared nodes named left number none h =
 pub bytes_shorter : (o : Option (Bor (List ℕ))) (n : ℕ) → IfSome o (λ b. length b.now < n) → bytes_left o ≤ n
 bytes_shorter None n h = omega arith
 bytes_shorter (Some b) n h = omega arith
+
+-- ---- a list of ranges, one after another
+
+-- ranges are taken up to a place
+pub record AreTaken (ranges : List BlockRange) (shared : List Lines) (nodes : ℕ) (named : List BlockRange) (place : ℕ) : Type 0 where
+  pub named_is : named ≡ take place ranges
+  pub valid : IsValid (record { shared = shared; named = named; nodes = nodes })
+
+pub ranges_broken : (ranges : List BlockRange) (shared : List Lines) (nodes : ℕ) (named : List BlockRange) (place : ℕ) (r d : BlockRange) (rule : Rule) → place < length ranges → r ≡ get_or ranges place d → AreTaken ranges shared nodes named place → IsBroken shared nodes named r rule → IsFirstBroken ranges shared nodes rule (place + 1)
+ranges_broken ranges shared nodes named place r d rule less is taken broken = record {
+  before = named;
+  range = r;
+  behind = drop (place + 1) ranges;
+  ranges_are =
+      sym (take-append-drop place ranges) ∙ ap (λ rs. take place ranges ++ rs) (drop_more ranges place d less)
+      ∙ ap (λ q. take place ranges ++ q ∷ drop (place + 1) ranges) (sym is)
+      ∙ ap (λ rs. rs ++ r ∷ drop (place + 1) ranges) (sym taken.named_is);
+  number_is = omega (arith, ap length taken.named_is, length-take-le place ranges (omega arith));
+  valid = taken.valid;
+  violates = broken.violates;
+  lowest = broken.lowest;
+}

@@ -46,6 +46,12 @@ pub record IsBroken (shared : List Lines) (nodes : ℕ) (earlier : List BlockRan
   pub lowest : (other : Rule) → number_of other < number_of rule →
       Violates shared nodes earlier r other → ⊥
 
+-- the range breaks no rule, and is added behind the earlier ones
+pub record IsAdded (shared : List Lines) (nodes : ℕ) (earlier : List BlockRange) (r : BlockRange)
+    (named : List BlockRange) : Type 0 where
+  pub named_is : named ≡ earlier ++ r ∷ []
+  pub valid : IsValid (record { shared = shared; named = named; nodes = nodes })
+
 -- the rule is the lowest that the line breaks
 pub record IsFault (shared : List Lines) (nodes : ℕ) (earlier : List BlockRange) (line : List ℕ)
     (rule : Rule) : Type 0 where

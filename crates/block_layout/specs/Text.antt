@@ -129,3 +129,16 @@ pub record IsFirstFault (text : List ℕ) (shared : List Lines) (nodes : ℕ) (r
   pub breaks : Breaks shared nodes earlier line rule
   pub lowest : (other : Rule) → number_of other < number_of rule →
       Breaks shared nodes earlier line other → ⊥
+
+-- the first of the ranges that breaks a rule, counted from 1, and the lowest rule that it breaks.
+pub record IsFirstBroken (ranges : List BlockRange) (shared : List Lines) (nodes : ℕ) (rule : Rule)
+    (number : ℕ) : Type 0 where
+  pub before : List BlockRange
+  pub range : BlockRange
+  pub behind : List BlockRange
+  pub ranges_are : ranges ≡ before ++ range ∷ behind
+  pub number_is : number ≡ length before + 1
+  pub valid : IsValid (record { shared = shared; named = before; nodes = nodes })
+  pub violates : Violates shared nodes before range rule
+  pub lowest : (other : Rule) → number_of other < number_of rule
+      → Violates shared nodes before range other → ⊥

@@ -3,7 +3,8 @@
 ghost use Rattle.std.specs.Prelude.{◌≡◌, ℕ, ◌+◌, ◌-◌, ◌^◌, ◌<◌, ◌≤◌, ◌↔◌, List, [], true, Some, IsSome};
 ghost use Rattle.block_layout.specs.Layout.{Shape, IsValid, is_shared, has_line, shared_before};
 ghost use Rattle.block_layout.specs.Layout as model;
-ghost use Rattle.block_layout.specs.Text.{IsLayoutOf, IsFirstFault};
+ghost use Rattle.block_layout.specs.Text.{IsLayoutOf, IsFirstFault, IsFirstBroken};
+ghost use Rattle.block_layout.specs.declared.layout.BlockRange.{BlockRange};
 ghost use Rattle.block_layout.specs.declared.ranges.Lines.{Lines};
 ghost use Rattle.block_layout.specs.declared.refused.Rule.{Rule};
 
@@ -52,4 +53,15 @@ pub fn text_law()
         → s.named ≡ [] }
     ensures default { (shared : List Lines) (n : ℕ) (rule : Rule) (line : ℕ)
         → IsFirstFault [] shared n rule line → ⊥ }
+{}
+
+/// Ranges are a layout's or have one that breaks a rule first, over the same shared lines and nodes.
+/// A caller uses the clauses; the call does nothing.
+pub fn range_list_law()
+    ensures either { (ranges : List BlockRange) (shared : List Lines) (n : ℕ) (rule : Rule)
+        (number : ℕ) → IsFirstBroken ranges shared n rule number
+        → IsValid (record { shared = shared; named = ranges; nodes = n }) → ⊥ }
+    ensures first { (ranges : List BlockRange) (shared : List Lines) (n : ℕ) (rule other : Rule)
+        (number place : ℕ) → IsFirstBroken ranges shared n rule number
+        → IsFirstBroken ranges shared n other place → (rule ≡ other) × (number ≡ place) }
 {}

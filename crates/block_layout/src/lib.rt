@@ -11,12 +11,10 @@ mod named;
 mod ranges;
 mod read;
 mod refused;
-#[cfg(test)]
-mod tests;
 mod text;
 
-pub use law::{layout_law, text_law};
+pub use law::{layout_law, range_list_law, text_law};
 pub use layout::{Block, BlockRange, Layout};
 pub use ranges::{Lines, Ranges};
-pub use read::{default_layout, read_layout};
+pub use read::{default_layout, layout_with, read_layout};
 pub use refused::{LayoutRefused, Rule};

@@ -3,9 +3,9 @@
 ghost use Rattle.std.specs.Prelude.{◌≡◌, ℕ, ◌+◌, ◌<◌, ◌≤◌, ◌^◌, true, false, ◌∷◌, [], length, find, position, ◌==◌, IsSome, IfSome, IfOk, IsErrOf, IfErr, MatchBool, MatchOption};
 ghost use Rattle.block_layout.specs.Layout as model;
 ghost use Rattle.block_layout.specs.Layout.{Shape, IsValid, names, is_in};
-ghost use Rattle.block_layout.specs.Text.{text_lines, IsLayoutOf, IsFirstFault};
+ghost use Rattle.block_layout.specs.Text.{text_lines, IsLayoutOf, IsFirstFault, IsFirstBroken};
 ghost use Rattle.block_layout.specs.Index.{IsIndexBelow};
-ghost use Rattle.block_layout.specs.Reading.{IsCutRange, IsNew, IsAllShared, LacksShared, Overlaps, IsSound, IsBroken, IsFault, IsTaken, lines_left};
+ghost use Rattle.block_layout.specs.Reading.{IsCutRange, IsNew, IsAllShared, LacksShared, Overlaps, IsSound, IsBroken, IsAdded, IsFault, IsTaken, lines_left};
 ghost use Rattle.block_layout.specs.declared.refused.Rule.{Rule as Rules};
 
 use crate::index::Index;
@@ -84,6 +84,25 @@ fn rule_broken(shared: &Ranges, nodes: u8, named: &NamedRanges, range: &BlockRan
     None
 }
 
+/// The ranges named with one more. The range has a number: that of its line, or its own.
+fn with_range(
+    shared: &Ranges,
+    nodes: u8,
+    named: NamedRanges,
+    range: BlockRange,
+    number: usize,
+) -> Result<NamedRanges, LayoutRefused>
+    requires { IsValid (record { shared = shared.now; named = named; nodes = nodes }) }
+    ensures ok { IfOk result (IsAdded shared.now nodes named range) }
+    ensures broken { (rule : Rules) (n : ℕ) → IsErrOf result (LayoutRefused.Broken rule n)
+        → (n ≡ number) × IsBroken shared.now nodes named range rule }
+{
+    if let Some(rule) = rule_broken(shared, nodes, &named, &range) {
+        return Err(LayoutRefused::Broken { rule, line: number });
+    }
+    Ok(named.with(range)?)
+}
+
 /// The ranges named with what a line adds. The line has a number.
 fn with_line(
     shared: &Ranges,
@@ -106,10 +125,7 @@ fn with_line(
             line: number,
         });
     };
-    if let Some(rule) = rule_broken(shared, nodes, &named, &range) {
-        return Err(LayoutRefused::Broken { rule, line: number });
-    }
-    Ok(named.with(range)?)
+    with_range(shared, nodes, named, range, number)
 }
 
 /// The place of the first line feed.
@@ -208,4 +224,30 @@ pub fn read_layout(
     let shared = ranges.copy(alloc)?;
     let named = named_in(alloc, text, ranges, n)?;
     Ok(layout_of(alloc, shared, named, n)?)
+}
+
+/// The layout with these ranges, over ranges of shared lines and 1 to 16 nodes.
+///
+/// Fails with the first range that breaks a rule, counted from 1, and the first rule that it breaks.
+pub fn layout_with(
+    alloc: Global,
+    named: &[BlockRange],
+    ranges: &Ranges,
+    n: u8,
+) -> Result<Layout, LayoutRefused>
+    requires some { 0 < n }
+    requires few { n ≤ 16 }
+    ensures value { IfOk result
+        (λ l. l ≡ record { shared = ranges.now; named = named.now; nodes = n }) }
+    ensures valid { IfOk result IsValid }
+    ensures refused { (rule : Rules) (number : ℕ)
+        → IsErrOf result (LayoutRefused.Broken rule number)
+        → IsFirstBroken named.now ranges.now n rule number }
+{
+    let shared = ranges.copy(alloc)?;
+    let mut taken = NamedRanges::new(alloc);
+    for (place, range) in named.iter().enumerate() {
+        taken = with_range(ranges, n, taken, *range, place + 1)?;
+    }
+    Ok(layout_of(alloc, shared, taken, n)?)
 }

@@ -44,7 +44,7 @@ impl Rule {
 /// Why there is no layout.
 #[derive(Debug, Drop, Error)]
 pub enum LayoutRefused {
-    /// A line of the text, counted from 1, breaks a rule.
+    /// A line of the text, or a range of a list, counted from 1, breaks a rule.
     #[error("{rule:?} at line {line}")]
     Broken { rule: Rule, line: usize },
     /// There was no memory for the layout.
