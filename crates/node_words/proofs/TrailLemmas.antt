@@ -39,7 +39,7 @@ use Rattle.node_words.specs.declared.trail.Note.{Note}
 use Rattle.node_words.specs.declared.trail.Saved.{Saved}
 use Rattle.node_words.specs.Address.{word_address}
 use Rattle.node_words.specs.Kept.{Shelf, Ground, Follows, LeavesBehind, StepsTo, ground_of, lane_of, local_of}
-use Rattle.node_words.specs.Trails.{Held, held_of, held_stored, undone, taken_back, IsAlignedNote, store_width, HasBytes, NotesOr, Saves, TakesBack, AreSame, TouchesOnly}
+use Rattle.node_words.specs.Trails.{Held, held_of, held_stored, undone, taken_back, IsAlignedNote, IsPlain, store_width, HasBytes, NotesOr, Saves, TakesBack, AreSame, TouchesOnly}
 
 -- 1. Bytes that are put back
 
@@ -425,6 +425,31 @@ pub taken_by : (op : MicroOp) (image : List Cell) (at : ℕ) (o : Option ℕ) (l
     → TakesBack saved old l s first seen → TakesBack saved new l' s' first seen
 taken_by op image at None l s l' s' saved old new first seen low steps notes back = taken_still op at l s l' s' saved old new first seen steps.0 steps.1 notes back
 taken_by op image at (Some k) l s l' s' saved old new first seen low steps notes back = taken_on image op at k l s l' s' saved old new first seen low steps notes back
+
+-- a micro-op that was executed without its store has nothing to be noted
+pub plain_notes : (f : ℕ → ℕ) (w : Option Width) (k a : ℕ) (notes : List Note) → IsPlain w (Some k) → NotesOr f w a notes notes
+plain_notes f None k a notes plain = refl
+plain_notes f (Some w) k a notes plain = absurd (cc)
+
+-- a micro-op that wasn't executed changed nothing
+pub unmoved : (image : List Cell) (m : Meaning) (at : ℕ) (l : kept.Lane) (s : Shelf) (l' : kept.Lane) (s' : Shelf) (o : Option ℕ)
+    → StepsTo image m at l s l' s' o → ((k : ℕ) → o ≡ Some k → ⊥) → (l' ≡ l) × (s' ≡ s)
+unmoved image m at l s l' s' None steps none = steps
+unmoved image m at l s l' s' (Some k) steps none = absurd (none k refl)
+
+-- what is the same may stand for it
+pub steps_from : (image : List Cell) (op : MicroOp) (at : ℕ) (l l1 : kept.Lane) (s s1 : Shelf) (l2 : kept.Lane) (s2 : Shelf) (o : Option ℕ)
+    → l1 ≡ l → s1 ≡ s → StepsTo image (meaning_of image_base op (registers_of l1.registers)) at l1 s1 l2 s2 o
+    → StepsTo image (meaning_of image_base op (registers_of l.registers)) at l s l2 s2 o
+steps_from image op at l l1 s s1 l2 s2 o lane local steps =
+    subst (λ (x : Shelf). StepsTo image (meaning_of image_base op (registers_of l.registers)) at l x l2 s2 o) local
+    (subst (λ (x : kept.Lane). StepsTo image (meaning_of image_base op (registers_of x.registers)) at x s1 l2 s2 o) lane steps)
+
+pub takes_from : (saved : Saved) (notes : List Note) (l l1 : kept.Lane) (s s1 : Shelf) (first : kept.Lane) (seen : Shelf)
+    → l1 ≡ l → s1 ≡ s → TakesBack saved notes l s first seen → TakesBack saved notes l1 s1 first seen
+takes_from saved notes l l1 s s1 first seen lane local back =
+    subst (λ (x : Shelf). TakesBack saved notes l1 x first seen) (sym local)
+    (subst (λ (x : kept.Lane). TakesBack saved notes x s first seen) (sym lane) back)
 
 -- no word is taken back by an empty trail
 pub taken_none : (saved : Saved) (l : kept.Lane) (s : Shelf) → Saves saved l → TakesBack saved [] l s l s

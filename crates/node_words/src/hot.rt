@@ -1,6 +1,6 @@
 //! Micro-ops: the words that are executed most, by one match a word.
 
-ghost use Rattle.std.specs.Prelude.{◌≡◌, ◌+◌, ◌*◌, ◌/◌, ◌%◌, ◌^◌, ◌<◌, ◌≤◌, ℕ, Option, Some, None, List};
+ghost use Rattle.std.specs.Prelude.{◌≡◌, ◌+◌, ◌*◌, ◌/◌, ◌%◌, ◌^◌, ◌<◌, ◌≤◌, ℕ, Option, Some, None, List, false};
 ghost use Rattle.rv32_step.specs.Registers.{registers_of};
 ghost use Rattle.rv32_step.specs.Demands.{branch_demand};
 ghost use Rattle.rv32_step.specs.declared.Demand.TheVariants.{Sets, Continues, Jumps, Branches, Loads, Stores};
@@ -8,6 +8,7 @@ ghost use Rattle.micro_op.specs.Micro.{Demands, Enters, meaning_of};
 ghost use Rattle.jump_map.specs.Image.{Cell, image_base};
 ghost use Rattle.jump_map.specs.Maps.{new_of};
 ghost use Rattle.node_words.specs.Kept.{StepsTo, Shelf};
+ghost use Rattle.node_words.specs.Trails.{IsPlain, store_width};
 ghost use Rattle.node_words.specs.Address.{word_address};
 ghost use Rattle.node_words.specs.declared.lane.Lane.{Lane};
 
@@ -19,12 +20,14 @@ use rv32_ops::{alu, taken};
 
 impl<'a> Body<'a> {
     /// Executes a micro-op at an index, and gives the index of the word that follows. `None` where
-    /// the path that serves every word has to; then nothing changed.
+    /// the path that serves every word has to, and where it stores and stores aren't to be made; then
+    /// nothing changed.
     #[inline(always)]
-    pub(crate) fn step(&mut self, image: &Image, op: &MicroOp, at: u32) -> Option<u32>
+    pub(crate) fn step(&mut self, image: &Image, op: &MicroOp, at: u32, stores: bool) -> Option<u32>
         ensures steps { StepsTo image.now
             (meaning_of image_base op.now (registers_of self.old.lane.registers)) at
             self.old.lane self.old.local self.new.lane self.new.local result }
+        ensures plain { stores ≡ false → IsPlain (store_width op.now.kind) result }
         ensures counts { self.new.counts ≡ self.old.counts }
     {
         let a = self.lane.registers.get(op.rs1);
@@ -49,9 +52,15 @@ impl<'a> Body<'a> {
             MicroKind::LoadHalfU => {
                 self.load_at(LoadKind::HalfU, op.rd, a.wrapping_add(op.imm), at)
             }
-            MicroKind::StoreByte => self.store_at(Width::Byte, a.wrapping_add(op.imm), b, at),
-            MicroKind::StoreHalf => self.store_at(Width::Half, a.wrapping_add(op.imm), b, at),
-            MicroKind::StoreWord => self.store_at(Width::Word, a.wrapping_add(op.imm), b, at),
+            MicroKind::StoreByte => {
+                self.store_at(Width::Byte, a.wrapping_add(op.imm), b, at, stores)
+            }
+            MicroKind::StoreHalf => {
+                self.store_at(Width::Half, a.wrapping_add(op.imm), b, at, stores)
+            }
+            MicroKind::StoreWord => {
+                self.store_at(Width::Word, a.wrapping_add(op.imm), b, at, stores)
+            }
             MicroKind::AddImm => self.set(op.rd, alu(Op::Add, a, op.imm), at),
             MicroKind::SltImm => self.set(op.rd, alu(Op::Slt, a, op.imm), at),
             MicroKind::SltuImm => self.set(op.rd, alu(Op::Sltu, a, op.imm), at),
@@ -138,15 +147,24 @@ impl<'a> Body<'a> {
         Some(at.wrapping_add(1))
     }
 
-    /// Stores at an address; a misaligned one is left to the path that serves every word.
+    /// Stores at an address, where stores are to be made; a misaligned one is left to the path that
+    /// serves every word.
     #[inline(always)]
-    fn store_at(&mut self, width: Width, address: u32, value: u32, at: u32) -> Option<u32>
+    fn store_at(
+        &mut self,
+        width: Width,
+        address: u32,
+        value: u32,
+        at: u32,
+        stores: bool,
+    ) -> Option<u32>
         ensures steps { (image : List Cell) →
             StepsTo image (Demands (Stores width address value)) at
             self.old.lane self.old.local self.new.lane self.new.local result }
+        ensures plain { stores ≡ false → result ≡ None }
         ensures counts { self.new.counts ≡ self.old.counts }
     {
-        if width.is_aligned(address) {
+        if stores && width.is_aligned(address) {
             self.store(width, address, value);
             Some(at.wrapping_add(1))
         } else {

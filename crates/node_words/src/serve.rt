@@ -56,7 +56,7 @@ impl<'a> Body<'a> {
         ensures counts { self.new.counts ≡ self.old.counts }
     {
         match image.micro(at) {
-            Some(op) => self.step(image, op, at),
+            Some(op) => self.step(image, op, at, true),
             None => None,
         }
     }

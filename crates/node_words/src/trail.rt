@@ -1,14 +1,14 @@
 //! What takes back words that were executed by their micro-ops.
 
-ghost use Rattle.std.specs.Prelude.{◌≡◌, ◌+◌, ◌*◌, ◌/◌, ◌%◌, ◌^◌, ◌<◌, ◌≤◌, ℕ, [], true, false, All, IfOk, length, slice_index};
+ghost use Rattle.std.specs.Prelude.{◌≡◌, ◌+◌, ◌*◌, ◌/◌, ◌%◌, ◌^◌, ◌<◌, ◌≤◌, ℕ, [], true, false, None, All, IfOk, length, slice_index};
 ghost use Rattle.rv32_decode.specs.Widths.{is_aligned};
 ghost use Rattle.rv32_step.specs.Registers.{registers_of};
 ghost use Rattle.exec_map.specs.Contents.{program_of};
-ghost use Rattle.jump_map.specs.Image.{most_words};
-ghost use Rattle.micro_op.specs.Micro.{sum_address};
+ghost use Rattle.jump_map.specs.Image.{most_words, image_base};
+ghost use Rattle.micro_op.specs.Micro.{sum_address, meaning_of};
 ghost use Rattle.node_model.specs.Node as model;
 ghost use Rattle.node_words.specs.Address.{word_address};
-ghost use Rattle.node_words.specs.Kept.{Shelf, StepsOr, ground_of, local_of, lane_of};
+ghost use Rattle.node_words.specs.Kept.{Shelf, StepsOr, StepsTo, ground_of, local_of, lane_of};
 ghost use Rattle.node_words.specs.GoingOn.{BodyGoesOn};
 ghost use Rattle.node_words.specs.Trails.{Saves, TakesBack, AreSame, HasBytes, Notes, NotesOr, IsAlignedNote, held_of, taken_back, store_width};
 ghost use Rattle.node_words.specs.declared.lane.Lane as kept;
@@ -123,7 +123,8 @@ impl<'a> Body<'a> {
     }
 
     /// Executes the word with an index by its micro-op, as `step_at` does, and notes first what it
-    /// overwrites. `None` also where there is no room for that.
+    /// overwrites. `None` also where there is no room for that. A word that stores is tried once
+    /// without its store: so no other word is asked whether it stores.
     #[inline(always)]
     fn step_noting(
         &mut self,
@@ -142,16 +143,42 @@ impl<'a> Body<'a> {
         ensures counts { self.new.counts ≡ self.old.counts }
     {
         let op = image.micro(at)?;
+        let _ = op.rd.number();
+        if let Some(next) = self.step(image, op, at, false) {
+            return Some(next);
+        }
+        self.store_noting(image, op, at, saved, notes)
+    }
+
+    /// Executes a micro-op at an index, and notes first what it overwrites. `None` also where there is
+    /// no room for that.
+    #[inline(never)]
+    fn store_noting(
+        &mut self,
+        image: &Image,
+        op: &MicroOp,
+        at: u32,
+        saved: &Saved,
+        notes: &mut Vec<Note>,
+    ) -> Option<u32>
+        ensures steps { StepsTo image.now
+            (meaning_of image_base op.now (registers_of self.old.lane.registers)) at
+            self.old.lane self.old.local self.new.lane self.new.local result }
+        ensures back { (first : kept.Lane) (seen : Shelf)
+            → TakesBack saved.now notes.old.items self.old.lane self.old.local first seen
+            → TakesBack saved.now notes.new.items self.new.lane self.new.local first seen }
+        ensures counts { self.new.counts ≡ self.old.counts }
+    {
+        let _ = saved;
+        let _ = op.rd.number();
         if !self.note(op, notes) {
             return None;
         }
-        let _ = op.rd.number();
-        self.step(image, op, at)
+        self.step(image, op, at, true)
     }
 
     /// Notes what a micro-op overwrites, and says whether there was room for it; else nothing is
     /// noted.
-    #[inline(always)]
     fn note(&self, op: &MicroOp, notes: &mut Vec<Note>) -> bool
         ensures noted { result ≡ true → (at : ℕ)
             → NotesOr (model.byte_at (program_of self.now.local.program)
