@@ -28,6 +28,10 @@ const SPINS: u32 = 200;
 /// How many words are executed between two looks, at most.
 const WORDS: u32 = 1000;
 
+/// After how many rounds a worker lets other threads run: with more nodes than processors, a node
+/// that spins at its polls would keep the one that it waits for from running.
+const ROUNDS: u32 = 1000;
+
 /// A node that makes its events by itself, with links to and from all nodes.
 #[derive(Drop)]
 pub struct Worker<'a> {
@@ -116,9 +120,14 @@ impl<'a> Worker<'a> {
     {
         let mut worker = self;
         let mut idle = 0;
+        let mut rounds: u32 = 0;
         for _ in rt.forever() {
             if worker.is_done() || idle >= LOOKS {
                 return Ok(worker);
+            }
+            rounds = rounds.wrapping_add(1);
+            if rounds % ROUNDS == 0 {
+                thread::yield_now();
             }
             if worker.round(rt, gate)? {
                 idle = 0;
