@@ -1,0 +1,4 @@
+pub mod Refusals
+pub mod Replay
+pub mod Told
+pub mod Way

@@ -1,0 +1,124 @@
+-- Helps the code alone: how far the journals of a record were followed, and a core on its way.
+use Rattle.std.specs.Prelude.{◌≡◌, ◌≢◌, ℕ, zero, suc, ◌+◌, ◌-◌, ◌<◌, ◌⊎◌, List, [], ◌∷◌, ◌++◌, drop, map, length, slice_index_or, Option, Some, None}
+use Rattle.node_model.specs.declared.Entry.{Entry as JournalEntry}
+use Rattle.node_model.specs.Node.{Work}
+use Rattle.node_model.specs.Core.{Core, AreAlike, opening_core, after}
+use Rattle.run_order.specs.Sorted.{made_by}
+use Rattle.run_record.specs.declared.Record.{Record}
+use Rattle.run_record.specs.Record.{IsRecord, AreTakesBehind}
+use Rattle.dsm_core.specs.CoreParts.{work_of, core_of}
+use Rattle.replay.specs.declared.cursor.Cursor.{Cursor}
+use Rattle.replay.specs.declared.cursor.Cursors.{Cursors}
+use Rattle.replay.specs.declared.cursor.Next.{Next}
+use Rattle.replay.specs.declared.events.Run.{Run}
+use Rattle.replay.specs.Told.{Told, told_in, entries_of, stamp_told, maker_told, what_told, AreToldBy, events_told, AreMadeAs}
+
+-- the entries, the first without so many of its words
+abbrev pub without : (words : ℕ) → List JournalEntry → List JournalEntry
+without words [] = []
+without words (e ∷ es) = record e { words = e.words - words } ∷ es
+
+-- what is left of a journal
+abbrev pub left_of : Cursor → List JournalEntry → List JournalEntry
+left_of c es = without c.words (drop c.takes es)
+
+abbrev pub start_of : Cursor
+start_of = record { takes = 0; words = 0; last = 0 }
+
+-- how far the journal of node i was followed
+abbrev pub cursor_at : Cursors → ℕ → Cursor
+cursor_at w i = slice_index_or w.cursors i start_of
+
+abbrev pub entries_at : Cursors → ℕ → List JournalEntry
+entries_at w i = entries_of w.rec.now i
+
+-- the next entry of a node's journal
+abbrev pub IsEntryOf : Cursors → (node : ℕ) → JournalEntry → Type 0
+IsEntryOf w node e = drop (cursor_at w node).takes (entries_at w node)
+    ≡ e ∷ drop ((cursor_at w node).takes + 1) (entries_at w node)
+
+-- the events of node i that are still told of
+abbrev pub left_at : Cursors → ℕ → List Told
+left_at w i =
+    told_in i ((cursor_at w i).takes + 1) (cursor_at w i).last
+    (left_of (cursor_at w i) (entries_at w i))
+
+-- the stamp of node i's last event
+abbrev pub last_at : Cursors → ℕ → ℕ
+last_at w i = (cursor_at w i).last
+
+-- of a record; what is left of each journal is of takes one behind another
+pub record AreLawful (w : Cursors) : Type 0 where
+  pub is_record : IsRecord w.rec.now
+  pub left : (i : ℕ) → i < w.rec.now.nodes
+      → AreTakesBehind w.rec.now.nodes (last_at w i) (left_of (cursor_at w i) (entries_at w i))
+
+-- the first of the events of node i has this stamp
+pub record IsNext (i stamp : ℕ) (left : List Told) : Type 0 where
+  pub event : Told
+  pub behind : List Told
+  pub left_is : left ≡ event ∷ behind
+  pub stamp_is : stamp_told event ≡ stamp
+  pub maker_is : maker_told event ≡ i
+
+-- an event of a node with this stamp comes before those of node i
+abbrev pub ComesBefore : (stamp node i : ℕ) → List Told → Type 0
+ComesBefore stamp node i left = (s : ℕ) → IsNext i s left
+    → (stamp < s) ⊎ ((stamp ≡ s) × (node < i))
+
+-- it comes before those of all other nodes below m
+abbrev pub ComesFirst : (w : Cursors) (m stamp node : ℕ) → Type 0
+ComesFirst w m stamp node = (i : ℕ) → i < m → i ≢ node → ComesBefore stamp node i (left_at w i)
+
+-- of the nodes below m, this one's next event, with this stamp, is the first
+pub record IsFirst (w : Cursors) (m stamp node : ℕ) : Type 0 where
+  pub below : node < m
+  pub next : IsNext node stamp (left_at w node)
+  pub others : ComesFirst w m stamp node
+
+-- the first of the next events of the nodes below m, if there is any
+abbrev pub IsLeast : (w : Cursors) (m : ℕ) → Option Next → Type 0
+IsLeast w m None = (i : ℕ) → i < m → left_at w i ≡ []
+IsLeast w m (Some x) = IsFirst w m x.stamp x.node
+
+-- one node's journal was followed to here, and no other
+pub record HasFollowed (old : Cursors) (node : ℕ) (c : Cursor) (new : Cursors) : Type 0 where
+  pub rec_is : new.rec.now ≡ old.rec.now
+  pub own : cursor_at new node ≡ c
+  pub others : (i : ℕ) → i ≢ node → cursor_at new i ≡ cursor_at old i
+
+-- The core has made the first events that the record tells of, as they are told of, and these are
+-- left to each node, behind its event with this stamp.
+pub record IsOnWay (work : Work) (r : Record) (left : ℕ → List Told) (last : ℕ → ℕ) (c : Core)
+    : Type 0 where
+  pub before : List Told
+  pub rest : List Told
+  pub are_told : AreToldBy r (before ++ rest)
+  pub made : AreMadeAs work (opening_core work) (map what_told before)
+  pub alike : AreAlike work.layout.nodes c (after work (opening_core work) (events_told before))
+  pub each : (i : ℕ) → i < work.layout.nodes → made_by stamp_told maker_told i rest ≡ left i
+  pub stamps : (i : ℕ) → i < work.layout.nodes → (c.nodes i).stamp ≡ last i
+
+-- the core of a run has made the events that its record tells of up to where it was followed
+pub record IsRunning (r : Run) : Type 0 where
+  pub lawful : AreLawful r.cursors
+  pub nodes : r.core.layout.nodes ≡ r.cursors.rec.now.nodes
+  pub way : IsOnWay (work_of r.core) r.cursors.rec.now (left_at r.cursors) (last_at r.cursors)
+      (core_of r.core)
+
+-- no journal tells of more
+abbrev pub AreThrough : Run → Type 0
+AreThrough r = (i : ℕ) → i < r.core.layout.nodes → left_at r.cursors i ≡ []
+
+-- how many events are left to the nodes below m
+abbrev pub count_left : Cursors → (m : ℕ) → ℕ
+count_left w zero = 0
+count_left w (suc m) = count_left w m + length (left_at w m)
+
+abbrev pub all_left : Cursors → ℕ
+all_left w = count_left w w.rec.now.nodes
+
+-- the same record and rewritten code
+pub record IsSame (old new : Run) : Type 0 where
+  pub work : work_of new.core ≡ work_of old.core
+  pub rec_is : new.cursors.rec.now ≡ old.cursors.rec.now

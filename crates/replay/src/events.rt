@@ -1,0 +1,235 @@
+//! Makes the events that a record tells of.
+
+use crate::cursor::Cursors;
+use crate::refused::{ReplayRefused, ReplayRule};
+use block_layout::Layout;
+use dsm_core::{Core, Event, Outcome};
+use exec_map::Program;
+use jump_map::Image;
+use node_model::{Entry, Standing};
+use run_limits::Budget;
+use run_record::Record;
+use std::alloc::{AllocError, Global};
+
+/// A core, and how far the journals of a record were followed to it.
+#[derive(Drop)]
+pub(crate) struct Run<'a> {
+    core: Core<'a>,
+    cursors: Cursors<'a>,
+}
+
+impl<'a> Run<'a> {
+    ghost use Rattle.std.specs.Prelude.{◌≡◌, ◌≤◌, ◌<◌, ◌+◌, ◌↔◌, ℕ, true, length, IfOk, OnOk, IsErrOf};
+    ghost use Rattle.node_model.specs.Core.{Exec, May};
+    ghost use Rattle.rewriting_law.specs.Bounds.{RunsRewritten};
+    ghost use Rattle.dsm_core.specs.CoreParts.{work_with, work_of, core_of, outcome_of};
+    ghost use Rattle.run_record.specs.Record.{IsRecord};
+    ghost use Rattle.replay.specs.Refusals.{IsFirstBroken, IsUnfinished};
+    ghost use Rattle.replay.specs.Replay.{IsReplay};
+    ghost use Rattle.replay.specs.Way.{IsRunning, AreThrough, IsSame, IsEntryOf, IsFirst, ComesFirst, HasFollowed, cursor_at, last_at, entries_at, all_left};
+    ghost use Rattle.replay.specs.declared.refused.ReplayRule.{ReplayRule as Rules};
+    ghost use Rattle.replay.specs.declared.refused.ReplayRule.TheVariants.{NotThere};
+    ghost use Rattle.replay.specs.declared.refused.ReplayRefused.TheVariants.{Broken};
+
+    /// The core at the start, and the journals at theirs.
+    pub(crate) fn new(
+        alloc: Global,
+        program: &'a Program<'a>,
+        image: &'a Image,
+        layout: &Layout,
+        rec: &'a Record,
+    ) -> Result<Run<'a>, AllocError>
+        requires rewritten { RunsRewritten
+            (work_with program.now image.now layout.now rec.now.budget) }
+        requires record { IsRecord rec.now }
+        requires nodes { layout.now.nodes ≡ rec.now.nodes }
+        ensures running { IfOk result IsRunning }
+        ensures work { IfOk result (λ r. work_of r.core
+            ≡ work_with program.now image.now layout.now rec.now.budget) }
+        ensures rec { IfOk result (λ r. r.cursors.rec.now ≡ rec.now) }
+    {
+        let Some(budget) = Budget::of(rec.budget) else {
+            unreachable!()
+        };
+        let core = Core::new(alloc, image, program, layout, budget)?;
+        let cursors = Cursors::new(rec);
+        Ok(Run { core, cursors })
+    }
+
+    /// Makes all events, by (stamp, node). Fails with the first that can't be made as it is told
+    /// of.
+    pub(crate) fn make_all(&mut self) -> Result<(), ReplayRefused>
+        requires running { IsRunning self.old }
+        ensures running { OnOk result (IsRunning self.new) }
+        ensures through { OnOk result (AreThrough self.new) }
+        ensures same { OnOk result (IsSame self.old self.new) }
+        ensures refused { (rule : Rules) (node entry : ℕ)
+            → IsErrOf result (Broken rule node entry) → IsFirstBroken (work_of self.old.core)
+            self.old.cursors.rec.now rule node entry }
+    {
+        while let Some(node) = self.cursors.first() {
+            self.make(node)?;
+        }
+        Ok(())
+    }
+
+    /// Makes the next event of the node that comes first, and more of its words that do.
+    fn make(&mut self, node: u8) -> Result<(), ReplayRefused>
+        requires running { IsRunning self.old }
+        requires first { (stamp : ℕ) × IsFirst self.old.cursors self.old.cursors.rec.now.nodes
+            stamp node }
+        ensures running { OnOk result (IsRunning self.new) }
+        ensures fewer { OnOk result (all_left self.new.cursors < all_left self.old.cursors) }
+        ensures same { OnOk result (IsSame self.old self.new) }
+        ensures refused { (rule : Rules) (i entry : ℕ)
+            → IsErrOf result (Broken rule i entry) → IsFirstBroken (work_of self.old.core)
+            self.old.cursors.rec.now rule i entry }
+    {
+        let Some(entry) = self.cursors.entry(node) else {
+            unreachable!()
+        };
+        let done = self.cursors.at(node).words;
+        if done < entry.words {
+            let words = self.cursors.words_first(node, entry.words - done);
+            return self.execute(node, entry, words);
+        }
+        self.take(node, entry)
+    }
+
+    /// A node executes so many words of an entry, which come before the events of all others.
+    fn execute(&mut self, node: u8, entry: Entry, words: u64) -> Result<(), ReplayRefused>
+        requires running { IsRunning self.old }
+        requires node { node < self.old.cursors.rec.now.nodes }
+        requires entry { IsEntryOf self.old.cursors node entry }
+        requires words { (cursor_at self.old.cursors node).words + words ≤ entry.words }
+        requires first { ComesFirst self.old.cursors self.old.cursors.rec.now.nodes
+            (last_at self.old.cursors node + words) node }
+        ensures running { OnOk result (IsRunning self.new) }
+        ensures followed { let c = cursor_at self.old.cursors node in OnOk result (HasFollowed
+            self.old.cursors node
+            (record { takes = c.takes; words = c.words + words; last = c.last + words })
+            self.new.cursors) }
+        ensures same { OnOk result (IsSame self.old self.new) }
+        ensures refused { (rule : Rules) (i number : ℕ)
+            → IsErrOf result (Broken rule i number) → IsFirstBroken (work_of self.old.core)
+            self.old.cursors.rec.now rule i number }
+    {
+        let mut may = self.core.enabled(Event::Exec(node));
+        for _word in 0..words {
+            if !may {
+                return Err(self.broken(ReplayRule::NotThere, node));
+            }
+            may = self.word(node, entry)?;
+        }
+        Ok(())
+    }
+
+    /// A node executes a word of an entry, which comes before the events of all others, and whether
+    /// it may execute another.
+    fn word(&mut self, node: u8, entry: Entry) -> Result<bool, AllocError>
+        requires running { IsRunning self.old }
+        requires node { node < self.old.cursors.rec.now.nodes }
+        requires entry { IsEntryOf self.old.cursors node entry }
+        requires word { (cursor_at self.old.cursors node).words < entry.words }
+        requires first { ComesFirst self.old.cursors self.old.cursors.rec.now.nodes
+            (last_at self.old.cursors node + 1) node }
+        requires may { May (work_of self.old.core) (core_of self.old.core) (Exec node) }
+        ensures running { IfOk result (λ _. IsRunning self.new) }
+        ensures followed { let c = cursor_at self.old.cursors node in IfOk result (λ _. HasFollowed
+            self.old.cursors node
+            (record { takes = c.takes; words = c.words + 1; last = c.last + 1 })
+            self.new.cursors) }
+        ensures same { IfOk result (λ _. IsSame self.old self.new) }
+        ensures may { IfOk result (λ may. (may ≡ true)
+            ↔ May (work_of self.new.core) (core_of self.new.core) (Exec node)) }
+    {
+        if self.core.pass(node) {
+            self.cursors.pass_word(node, entry);
+            return Ok(true);
+        }
+        self.core.step(Event::Exec(node))?;
+        self.cursors.pass_word(node, entry);
+        Ok(self.core.enabled(Event::Exec(node)))
+    }
+
+    /// A node makes the take of an entry, which comes before the events of all others.
+    fn take(&mut self, node: u8, entry: Entry) -> Result<(), ReplayRefused>
+        requires running { IsRunning self.old }
+        requires node { node < self.old.cursors.rec.now.nodes }
+        requires entry { IsEntryOf self.old.cursors node entry }
+        requires words { entry.words ≤ (cursor_at self.old.cursors node).words }
+        requires first { ComesFirst self.old.cursors self.old.cursors.rec.now.nodes
+            entry.stamp node }
+        ensures running { OnOk result (IsRunning self.new) }
+        ensures followed { let c = cursor_at self.old.cursors node in OnOk result (HasFollowed
+            self.old.cursors node
+            (record { takes = c.takes + 1; words = 0; last = entry.stamp })
+            self.new.cursors) }
+        ensures same { OnOk result (IsSame self.old self.new) }
+        ensures refused { (rule : Rules) (i number : ℕ)
+            → IsErrOf result (Broken rule i number) → IsFirstBroken (work_of self.old.core)
+            self.old.cursors.rec.now rule i number }
+    {
+        let from = entry.from;
+        if !self.core.has_wire(from, node) {
+            return Err(self.broken(ReplayRule::NoMessage, node));
+        }
+        if !self.core.enabled(Event::Take { node, from }) {
+            return Err(self.broken(ReplayRule::NotThere, node));
+        }
+        self.core.step(Event::Take { node, from })?;
+        if self.core.node(node).stamp() != entry.stamp {
+            return Err(self.broken(ReplayRule::Stamp, node));
+        }
+        self.cursors.pass_take(node, entry);
+        Ok(())
+    }
+
+    /// The refusal of a node's next event.
+    fn broken(&self, rule: ReplayRule, node: u8) -> ReplayRefused
+        requires record { IsRecord self.now.cursors.rec.now }
+        requires node { node < self.now.cursors.rec.now.nodes }
+        requires left { (cursor_at self.now.cursors node).takes
+            < length (entries_at self.now.cursors node) }
+        ensures value { result
+            ≡ Broken rule node ((cursor_at self.now.cursors node).takes + 1) }
+    {
+        ReplayRefused::Broken {
+            rule,
+            node,
+            entry: self.cursors.number(node),
+        }
+    }
+
+    /// What the core gives, where all events were made. Fails with the least node that isn't over.
+    pub(crate) fn outcome(&self, alloc: Global) -> Result<Outcome, ReplayRefused>
+        requires running { IsRunning self.now }
+        requires through { AreThrough self.now }
+        ensures ok { IfOk result (λ o. IsReplay (work_of self.now.core)
+            self.now.cursors.rec.now (outcome_of o)) }
+        ensures refused { (rule : Rules) (node entry : ℕ)
+            → IsErrOf result (Broken rule node entry) → IsUnfinished (work_of self.now.core)
+            self.now.cursors.rec.now rule node entry }
+    {
+        for node in 0..self.core.layout().nodes() {
+            let Standing::Over = self.core.node(node).standing() else {
+                return Err(self.unfinished(node));
+            };
+        }
+        Ok(self.core.outcome(alloc)?)
+    }
+
+    /// The refusal of a node whose journal ends too early.
+    fn unfinished(&self, node: u8) -> ReplayRefused
+        requires record { IsRecord self.now.cursors.rec.now }
+        requires node { node < self.now.cursors.rec.now.nodes }
+        ensures value { result
+            ≡ Broken NotThere node (length (entries_at self.now.cursors node) + 1) }
+    {
+        ReplayRefused::Broken {
+            rule: ReplayRule::NotThere,
+            node,
+            entry: self.cursors.journal(node).len() + 1,
+        }
+    }
+}
