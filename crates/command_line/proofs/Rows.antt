@@ -1,8 +1,9 @@
 -- What is given says of a command's row one command, and nothing else.
-use Rattle.std.proofs.Common.{◌≡◌, ◌≢◌, ℕ, Bool, true, false, ◌<◌, length, MatchOption, List, [], ◌∷◌, map, codes, get_or, refl, sym, ap, ◌∙◌, subst, arith, Option, Some, None, Bor, option_map, unwrap_or}
+use Rattle.std.proofs.Common.{◌≡◌, ◌≢◌, ℕ, ◌-◌, ◌^◌, Bool, true, false, ◌<◌, length, MatchOption, List, [], ◌∷◌, map, codes, get_or, refl, sym, ap, ◌∙◌, subst, arith, Option, Some, None, Bor, option_map, unwrap_or}
 use Rattle.clap.specs.declared.parser.matches.ArgMatches.{ArgMatches}
 use Rattle.clap.specs.Words.{found_of, matched_of, raw_values}
 use Rattle.clap.proofs.WalkLemmas.{raw_values-rows}
+use Rattle.command_line.specs.declared.table.Access.{Access}
 use Rattle.command_line.specs.declared.table.Access.TheVariants.{Read, Write}
 use Rattle.command_line.specs.declared.table.Kind.{Kind}
 use Rattle.command_line.specs.declared.table.Kind.TheVariants.{Number, File, Flag}
@@ -12,7 +13,7 @@ use Rattle.command_line.specs.declared.table.Role.{Role}
 use Rattle.command_line.specs.declared.table.Role.TheVariants as role
 use Rattle.command_line.specs.declared.table.CommandWord.{CommandWord}
 use Rattle.command_line.specs.declared.table.CommandWord.TheVariants as word
-use Rattle.command_line.specs.Commands.{Command, Rewrite, Run, Listing, One, Sim, Named, Value, Amount, Name, Switch, name_or_none, Row, row_of, IsFit, kind_of, settings_in}
+use Rattle.command_line.specs.Commands.{Command, Rewrite, Run, Listing, One, Sim, Replay, Generate, Named, Between, Value, Amount, Name, Switch, name_or_none, Row, row_of, IsFit, kind_of, settings_in}
 use Rattle.command_line.specs.Asks.{Argument, IsNumber, ArePlaced, IsSet, AreSet, AreOfRow, Asks}
 use Rattle.command_line.specs.declared.Command.{Command as OfCode}
 use Rattle.command_line.specs.Meaning.{meaning_of}
@@ -163,35 +164,77 @@ pub placed_file : (f : List ℕ) (words : List (List ℕ)) → words ≡ f ∷ [
     ArePlaced ((Named Read, Name f) ∷ []) words
 placed_file f words e = subst (ArePlaced ((Named Read, Name f) ∷ [])) (sym e) (refl, tt)
 
-pub two_files : (x y : List ℕ) (words : List (List ℕ)) →
-    ArePlaced ((Named Read, Name x) ∷ (Named Write, Name y) ∷ []) words → words ≡ x ∷ y ∷ []
-two_files x y [] h = absurd h
-two_files x y (w ∷ []) h = absurd h.1
-two_files x y (w ∷ v ∷ []) h =
+pub two_files : (a : Access) (x y : List ℕ) (words : List (List ℕ)) →
+    ArePlaced ((Named Read, Name x) ∷ (Named a, Name y) ∷ []) words → words ≡ x ∷ y ∷ []
+two_files a x y [] h = absurd h
+two_files a x y (w ∷ []) h = absurd h.1
+two_files a x y (w ∷ v ∷ []) h =
     let one = same_name x w h.0 in
     let other = same_name y v h.1.0 in
     cc
-two_files x y (w ∷ v ∷ u ∷ more) h = absurd h.1.1
+two_files a x y (w ∷ v ∷ u ∷ more) h = absurd h.1.1
 
-pub placed_files : (x y : List ℕ) (words : List (List ℕ)) → words ≡ x ∷ y ∷ [] →
-    ArePlaced ((Named Read, Name x) ∷ (Named Write, Name y) ∷ []) words
-placed_files x y words e =
-    subst (ArePlaced ((Named Read, Name x) ∷ (Named Write, Name y) ∷ [])) (sym e) (refl, (refl, tt))
+pub placed_files : (a : Access) (x y : List ℕ) (words : List (List ℕ)) → words ≡ x ∷ y ∷ [] →
+    ArePlaced ((Named Read, Name x) ∷ (Named a, Name y) ∷ []) words
+placed_files a x y words e =
+    subst (ArePlaced ((Named Read, Name x) ∷ (Named a, Name y) ∷ [])) (sym e) (refl, (refl, tt))
 
-same_files : (x y v w : List ℕ) (words : List (List ℕ)) →
-    ArePlaced ((Named Read, Name x) ∷ (Named Write, Name y) ∷ []) words →
-    ArePlaced ((Named Read, Name v) ∷ (Named Write, Name w) ∷ []) words → (x ≡ v) × (y ≡ w)
-same_files x y v w words h k =
-    let e = sym (two_files x y words h) ∙ two_files v w words k in
+same_files : (a : Access) (x y v w : List ℕ) (words : List (List ℕ)) →
+    ArePlaced ((Named Read, Name x) ∷ (Named a, Name y) ∷ []) words →
+    ArePlaced ((Named Read, Name v) ∷ (Named a, Name w) ∷ []) words → (x ≡ v) × (y ≡ w)
+same_files a x y v w words h k =
+    let e = sym (two_files a x y words h) ∙ two_files a v w words k in
     (ap (λ xs. get_or xs 0 []) e, ap (λ xs. get_or xs 1 []) e)
+
+-- a word that is a number, and a file
+abbrev pub IsSeedWord : List ℕ → ℕ → Type 0
+IsSeedWord word n = IsNumber 0 (2 ^ 32 - 1) word n
+
+pub seed_and_file : (n : ℕ) (y : List ℕ) (words : List (List ℕ)) →
+    ArePlaced ((Between 0 (2 ^ 32 - 1), Amount n) ∷ (Named Write, Name y) ∷ []) words →
+    (word : List ℕ) × (words ≡ word ∷ y ∷ []) × IsSeedWord word n
+seed_and_file n y [] h = absurd h
+seed_and_file n y (w ∷ []) h = absurd h.1
+seed_and_file n y (w ∷ v ∷ []) h =
+    let same = same_amount n h.0.0 h.0.2 in
+    let other = same_name y v h.1.0 in
+    (w, (cc), subst (IsSeedWord w) (sym same) h.0.1)
+seed_and_file n y (w ∷ v ∷ u ∷ more) h = absurd h.1.1
+
+pub placed_seed : (word : List ℕ) (n : ℕ) (y : List ℕ) (words : List (List ℕ)) →
+    words ≡ word ∷ y ∷ [] → IsSeedWord word n →
+    ArePlaced ((Between 0 (2 ^ 32 - 1), Amount n) ∷ (Named Write, Name y) ∷ []) words
+placed_seed word n y words e h =
+    subst (ArePlaced ((Between 0 (2 ^ 32 - 1), Amount n) ∷ (Named Write, Name y) ∷ [])) (sym e)
+    ((n, h, refl), (refl, tt))
+
+seed_one : (word : List ℕ) (n m : ℕ) → IsSeedWord word n → IsSeedWord word m → n ≡ m
+seed_one word n m h k = sym h.value ∙ k.value
+
+same_seeds : (n m : ℕ) (y w : List ℕ) (words : List (List ℕ)) →
+    ArePlaced ((Between 0 (2 ^ 32 - 1), Amount n) ∷ (Named Write, Name y) ∷ []) words →
+    ArePlaced ((Between 0 (2 ^ 32 - 1), Amount m) ∷ (Named Write, Name w) ∷ []) words →
+    (n ≡ m) × (y ≡ w)
+same_seeds n m y w words h k =
+    let one = seed_and_file n y words h in
+    let other = seed_and_file m w words k in
+    let e = sym one.1 ∙ other.1 in
+    let word = ap (λ xs. get_or xs 0 []) e in (
+      seed_one other.0 n m (subst (λ x. IsSeedWord x n) word one.2) other.2,
+      ap (λ xs. get_or xs 1 []) e,
+    )
 
 -- commands of one word are of one kind
 other_first : (v w : List ℕ) → v ≡ w → get_or v 0 0 ≢ get_or w 0 0 → ⊥
 other_first v w e h = h (ap (λ x. get_or x 0 0) e)
 
--- `rewrite` and `run` differ in their second letter
+-- `rewrite` and `replay` differ from `run` in their second letter, and from each other in their
+-- third
 other_second : (v w : List ℕ) → v ≡ w → get_or v 1 0 ≢ get_or w 1 0 → ⊥
 other_second v w e h = h (ap (λ x. get_or x 1 0) e)
+
+other_third : (v w : List ℕ) → v ≡ w → get_or v 2 0 ≢ get_or w 2 0 → ⊥
+other_third v w e h = h (ap (λ x. get_or x 2 0) e)
 
 pub as_rewrite : (g : Given) (c : Command) → Completes (codes "rewrite") g c → (x : List ℕ)
     × (y : List ℕ) × IsOfRow (row_of (Rewrite x y)) g
@@ -200,6 +243,8 @@ as_rewrite g (Run f n b w k l t) h = absurd (other_second _ _ h.word_is (omega a
 as_rewrite g (Listing f) h = absurd (other_first _ _ h.word_is (omega arith))
 as_rewrite g (One f n o b l) h = absurd (other_first _ _ h.word_is (omega arith))
 as_rewrite g (Sim f n o b k l t) h = absurd (other_first _ _ h.word_is (omega arith))
+as_rewrite g (Replay f w t) h = absurd (other_third _ _ h.word_is (omega arith))
+as_rewrite g (Generate n y) h = absurd (other_first _ _ h.word_is (omega arith))
 
 pub as_run : (g : Given) (c : Command) → Completes (codes "run") g c → (f : List ℕ)
     × (n b : ℕ) × (w k l : Option (List ℕ)) × (t : Bool)
@@ -209,6 +254,8 @@ as_run g (Run f n b w k l t) h = (f, n, b, w, k, l, t, h.of_row, h.fits)
 as_run g (Listing f) h = absurd (other_first _ _ h.word_is (omega arith))
 as_run g (One f n o b l) h = absurd (other_first _ _ h.word_is (omega arith))
 as_run g (Sim f n o b k l t) h = absurd (other_first _ _ h.word_is (omega arith))
+as_run g (Replay f w t) h = absurd (other_second _ _ h.word_is (omega arith))
+as_run g (Generate n y) h = absurd (other_first _ _ h.word_is (omega arith))
 
 pub as_list : (g : Given) (c : Command) → Completes (codes "list") g c →
     (f : List ℕ) × IsOfRow (row_of (Listing f)) g
@@ -217,6 +264,8 @@ as_list g (Run f n b w k l t) h = absurd (other_first _ _ h.word_is (omega arith
 as_list g (Listing f) h = (f, h.of_row)
 as_list g (One f n o b l) h = absurd (other_first _ _ h.word_is (omega arith))
 as_list g (Sim f n o b k l t) h = absurd (other_first _ _ h.word_is (omega arith))
+as_list g (Replay f w t) h = absurd (other_first _ _ h.word_is (omega arith))
+as_list g (Generate n y) h = absurd (other_first _ _ h.word_is (omega arith))
 
 pub as_one : (g : Given) (c : Command) → Completes (codes "one") g c → (f : List ℕ)
     × (n : ℕ) × (o : ℕ) × (b : ℕ) × (l : Option (List ℕ)) × IsOfRow (row_of (One f n o b l)) g
@@ -225,6 +274,8 @@ as_one g (Run f n b w k l t) h = absurd (other_first _ _ h.word_is (omega arith)
 as_one g (Listing f) h = absurd (other_first _ _ h.word_is (omega arith))
 as_one g (One f n o b l) h = (f, n, o, b, l, h.of_row)
 as_one g (Sim f n o b k l t) h = absurd (other_first _ _ h.word_is (omega arith))
+as_one g (Replay f w t) h = absurd (other_first _ _ h.word_is (omega arith))
+as_one g (Generate n y) h = absurd (other_first _ _ h.word_is (omega arith))
 
 pub as_sim : (g : Given) (c : Command) → Completes (codes "sim") g c → (f : List ℕ)
     × (n : ℕ) × (o : ℕ) × (b : ℕ) × (k l : Option (List ℕ)) × (t : Bool)
@@ -234,6 +285,28 @@ as_sim g (Run f n b w k l t) h = absurd (other_first _ _ h.word_is (omega arith)
 as_sim g (Listing f) h = absurd (other_first _ _ h.word_is (omega arith))
 as_sim g (One f n o b l) h = absurd (other_first _ _ h.word_is (omega arith))
 as_sim g (Sim f n o b k l t) h = (f, n, o, b, k, l, t, h.of_row)
+as_sim g (Replay f w t) h = absurd (other_first _ _ h.word_is (omega arith))
+as_sim g (Generate n y) h = absurd (other_first _ _ h.word_is (omega arith))
+
+pub as_replay : (g : Given) (c : Command) → Completes (codes "replay") g c → (f w : List ℕ)
+    × (t : Bool) × IsOfRow (row_of (Replay f w t)) g
+as_replay g (Rewrite x y) h = absurd (other_third _ _ h.word_is (omega arith))
+as_replay g (Run f n b w k l t) h = absurd (other_second _ _ h.word_is (omega arith))
+as_replay g (Listing f) h = absurd (other_first _ _ h.word_is (omega arith))
+as_replay g (One f n o b l) h = absurd (other_first _ _ h.word_is (omega arith))
+as_replay g (Sim f n o b k l t) h = absurd (other_first _ _ h.word_is (omega arith))
+as_replay g (Replay f w t) h = (f, w, t, h.of_row)
+as_replay g (Generate n y) h = absurd (other_first _ _ h.word_is (omega arith))
+
+pub as_generate : (g : Given) (c : Command) → Completes (codes "gen") g c → (n : ℕ)
+    × (y : List ℕ) × IsOfRow (row_of (Generate n y)) g
+as_generate g (Rewrite x y) h = absurd (other_first _ _ h.word_is (omega arith))
+as_generate g (Run f n b w k l t) h = absurd (other_first _ _ h.word_is (omega arith))
+as_generate g (Listing f) h = absurd (other_first _ _ h.word_is (omega arith))
+as_generate g (One f n o b l) h = absurd (other_first _ _ h.word_is (omega arith))
+as_generate g (Sim f n o b k l t) h = absurd (other_first _ _ h.word_is (omega arith))
+as_generate g (Replay f w t) h = absurd (other_first _ _ h.word_is (omega arith))
+as_generate g (Generate n y) h = (n, y, h.of_row)
 
 same_file : (x y : List ℕ) (words : List (List ℕ)) → ArePlaced ((Named Read, Name x) ∷ []) words →
     ArePlaced ((Named Read, Name y) ∷ []) words → x ≡ y
@@ -246,7 +319,7 @@ says_one g s n m h k = set_one (kind_of s) (g (role.Option s)) n m h k
 one_row : (g : Given) (c d : Command) → IsOfRow (row_of c) g → IsOfRow (row_of d) g →
     (row_of c).word ≡ (row_of d).word → c ≡ d
 one_row g (Rewrite x y) (Rewrite v w) p q e =
-    let same = same_files x y v w _ p.places q.places in
+    let same = same_files Write x y v w _ p.places q.places in
     ap (λ f. Rewrite f y) same.0 ∙ ap (λ f. Rewrite v f) same.1
 one_row g (Run x n b u c k s) (Run y m r v d l t) p q e =
     let file = same_file x y _ p.places q.places in
@@ -274,6 +347,13 @@ one_row g (Sim x n o b c k s) (Sim y m r d f l t) p q e =
     let layout = names_one g Layout k l p.options.1.1.1.1.0 q.options.1.1.1.1.0 in
     let brief = flag_one g s t p.options.1.1.1.1.1.0 q.options.1.1.1.1.1.0 in
     cc
+one_row g (Replay x y s) (Replay v w t) p q e =
+    let files = same_files Read x y v w _ p.places q.places in
+    let brief = flag_one g s t p.options.0 q.options.0 in
+    ap (λ f. Replay f y s) files.0 ∙ ap (λ f. Replay v f s) files.1 ∙ ap (λ b. Replay v w b) brief
+one_row g (Generate n y) (Generate m w) p q e =
+    let same = same_seeds n m y w _ p.places q.places in
+    ap (λ k. Generate k y) same.0 ∙ ap (λ f. Generate m f) same.1
 one_row g (Rewrite x y) (Run v m r z d l t) p q e = absurd (other_second _ _ e (omega arith))
 one_row g (Rewrite x y) (Listing v) p q e = absurd (other_first _ _ e (omega arith))
 one_row g (Rewrite x y) (One v m r d l) p q e = absurd (other_first _ _ e (omega arith))
@@ -294,6 +374,28 @@ one_row g (Sim x n o b c k s) (Rewrite v w) p q e = absurd (other_first _ _ e (o
 one_row g (Sim x n o b c k s) (Run v m r z d l t) p q e = absurd (other_first _ _ e (omega arith))
 one_row g (Sim x n o b c k s) (Listing v) p q e = absurd (other_first _ _ e (omega arith))
 one_row g (Sim x n o b c k s) (One v m r d l) p q e = absurd (other_first _ _ e (omega arith))
+one_row g (Rewrite x y) (Replay v w t) p q e = absurd (other_third _ _ e (omega arith))
+one_row g (Rewrite x y) (Generate m w) p q e = absurd (other_first _ _ e (omega arith))
+one_row g (Run x n b u c k s) (Replay v w t) p q e = absurd (other_second _ _ e (omega arith))
+one_row g (Run x n b u c k s) (Generate m w) p q e = absurd (other_first _ _ e (omega arith))
+one_row g (Listing x) (Replay v w t) p q e = absurd (other_first _ _ e (omega arith))
+one_row g (Listing x) (Generate m w) p q e = absurd (other_first _ _ e (omega arith))
+one_row g (One x n o b k) (Replay v w t) p q e = absurd (other_first _ _ e (omega arith))
+one_row g (One x n o b k) (Generate m w) p q e = absurd (other_first _ _ e (omega arith))
+one_row g (Sim x n o b c k s) (Replay v w t) p q e = absurd (other_first _ _ e (omega arith))
+one_row g (Sim x n o b c k s) (Generate m w) p q e = absurd (other_first _ _ e (omega arith))
+one_row g (Replay x u s) (Rewrite v w) p q e = absurd (other_third _ _ e (omega arith))
+one_row g (Replay x u s) (Run v m r z d l t) p q e = absurd (other_second _ _ e (omega arith))
+one_row g (Replay x u s) (Listing v) p q e = absurd (other_first _ _ e (omega arith))
+one_row g (Replay x u s) (One v m r d l) p q e = absurd (other_first _ _ e (omega arith))
+one_row g (Replay x u s) (Sim v m r d f l t) p q e = absurd (other_first _ _ e (omega arith))
+one_row g (Replay x u s) (Generate m w) p q e = absurd (other_first _ _ e (omega arith))
+one_row g (Generate n y) (Rewrite v w) p q e = absurd (other_first _ _ e (omega arith))
+one_row g (Generate n y) (Run v m r z d l t) p q e = absurd (other_first _ _ e (omega arith))
+one_row g (Generate n y) (Listing v) p q e = absurd (other_first _ _ e (omega arith))
+one_row g (Generate n y) (One v m r d l) p q e = absurd (other_first _ _ e (omega arith))
+one_row g (Generate n y) (Sim v m r d f l t) p q e = absurd (other_first _ _ e (omega arith))
+one_row g (Generate n y) (Replay v w t) p q e = absurd (other_first _ _ e (omega arith))
 
 -- ---- words of a row, and what they give
 
@@ -334,6 +436,8 @@ command_word (Run f n b w k l t) = word.Run
 command_word (Listing f) = word.List
 command_word (One f n o b l) = word.One
 command_word (Sim f n o b k l t) = word.Sim
+command_word (Replay f w t) = word.Replay
+command_word (Generate n y) = word.Generate
 
 pub word_is : (c : Command) → text_of (command_word c) ≡ (row_of c).word
 unfolding command_word
@@ -342,6 +446,8 @@ word_is (Run f n b w k l t) = refl
 word_is (Listing f) = refl
 word_is (One f n o b l) = refl
 word_is (Sim f n o b k l t) = refl
+word_is (Replay f w t) = refl
+word_is (Generate n y) = refl
 
 word_settings : (w : CommandWord) (c : Command) → text_of w ≡ (row_of c).word →
     settings_in (row_of c).options ≡ settings_of w
@@ -350,6 +456,8 @@ word_settings word.Run (Run f n b w k l t) e = refl
 word_settings word.List (Listing f) e = refl
 word_settings word.One (One f n o b l) e = refl
 word_settings word.Sim (Sim f n o b k l t) e = refl
+word_settings word.Replay (Replay f w t) e = refl
+word_settings word.Generate (Generate n y) e = refl
 word_settings word.Rewrite (Run f n b w k l t) e = absurd (other_second _ _ e (omega arith))
 word_settings word.Rewrite (Listing f) e = absurd (other_first _ _ e (omega arith))
 word_settings word.Rewrite (One f n o b l) e = absurd (other_first _ _ e (omega arith))
@@ -370,6 +478,28 @@ word_settings word.Sim (Rewrite x y) e = absurd (other_first _ _ e (omega arith)
 word_settings word.Sim (Run f n b w k l t) e = absurd (other_first _ _ e (omega arith))
 word_settings word.Sim (Listing f) e = absurd (other_first _ _ e (omega arith))
 word_settings word.Sim (One f n o b l) e = absurd (other_first _ _ e (omega arith))
+word_settings word.Rewrite (Replay f w t) e = absurd (other_third _ _ e (omega arith))
+word_settings word.Rewrite (Generate n y) e = absurd (other_first _ _ e (omega arith))
+word_settings word.Run (Replay f w t) e = absurd (other_second _ _ e (omega arith))
+word_settings word.Run (Generate n y) e = absurd (other_first _ _ e (omega arith))
+word_settings word.List (Replay f w t) e = absurd (other_first _ _ e (omega arith))
+word_settings word.List (Generate n y) e = absurd (other_first _ _ e (omega arith))
+word_settings word.One (Replay f w t) e = absurd (other_first _ _ e (omega arith))
+word_settings word.One (Generate n y) e = absurd (other_first _ _ e (omega arith))
+word_settings word.Sim (Replay f w t) e = absurd (other_first _ _ e (omega arith))
+word_settings word.Sim (Generate n y) e = absurd (other_first _ _ e (omega arith))
+word_settings word.Replay (Rewrite x y) e = absurd (other_third _ _ e (omega arith))
+word_settings word.Replay (Run f n b w k l t) e = absurd (other_second _ _ e (omega arith))
+word_settings word.Replay (Listing f) e = absurd (other_first _ _ e (omega arith))
+word_settings word.Replay (One f n o b l) e = absurd (other_first _ _ e (omega arith))
+word_settings word.Replay (Sim f n o b k l t) e = absurd (other_first _ _ e (omega arith))
+word_settings word.Replay (Generate n y) e = absurd (other_first _ _ e (omega arith))
+word_settings word.Generate (Rewrite x y) e = absurd (other_first _ _ e (omega arith))
+word_settings word.Generate (Run f n b w k l t) e = absurd (other_first _ _ e (omega arith))
+word_settings word.Generate (Listing f) e = absurd (other_first _ _ e (omega arith))
+word_settings word.Generate (One f n o b l) e = absurd (other_first _ _ e (omega arith))
+word_settings word.Generate (Sim f n o b k l t) e = absurd (other_first _ _ e (omega arith))
+word_settings word.Generate (Replay f w t) e = absurd (other_first _ _ e (omega arith))
 
 same_head : (v w : List ℕ) (vs ws : List (List ℕ)) → v ∷ vs ≡ w ∷ ws → v ≡ w
 same_head v w vs ws e = cc

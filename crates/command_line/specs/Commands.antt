@@ -27,6 +27,11 @@ pub data Command : Type 0 where
   -- processor; the code, the blocks and the text are as of a run
   Sim : (file : List ℕ) (nodes order budget : ℕ) (code layout : Option (List ℕ)) (brief : Bool)
       → Command
+  -- make the run of a record once more: a file holds the executable, and another the record; the
+  -- text is as of a run
+  Replay : (file record_file : List ℕ) (brief : Bool) → Command
+  -- write the executable that a number makes into a file
+  Generate : (number : ℕ) (output : List ℕ) → Command
 
 -- the word of an option
 abbrev pub option_word : Setting → List ℕ
@@ -104,6 +109,16 @@ row_of (Sim file nodes order budget code layout brief) = record {
   options =
       (Nodes, Amount nodes) ∷ (Order, Amount order) ∷ (Budget, Amount budget)
       ∷ (Code, name_or_none code) ∷ (Layout, name_or_none layout) ∷ (Brief, Switch brief) ∷ [];
+}
+row_of (Replay file record_file brief) = record {
+  word = codes "replay";
+  places = (Named Read, Name file) ∷ (Named Read, Name record_file) ∷ [];
+  options = (Brief, Switch brief) ∷ [];
+}
+row_of (Generate number output) = record {
+  word = codes "gen";
+  places = (Between 0 (2 ^ 32 - 1), Amount number) ∷ (Named Write, Name output) ∷ [];
+  options = [];
 }
 
 -- only a run of one node may go without the record of it

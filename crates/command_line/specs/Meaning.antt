@@ -3,7 +3,7 @@ use Rattle.std.specs.Prelude.{ℕ, List, Option, option_map}
 use Rattle.std.specs.Borrow.{Bor}
 use Rattle.command_line.specs.declared.Command.{Command as OfCode}
 use Rattle.command_line.specs.declared.Command.TheVariants as asked
-use Rattle.command_line.specs.Commands.{Command, Rewrite, Run, Listing, One, Sim}
+use Rattle.command_line.specs.Commands.{Command, Rewrite, Run, Listing, One, Sim, Replay, Generate}
 
 -- the name of a file that may be left out
 abbrev pub file_name : Option (Bor (List ℕ)) → Option (List ℕ)
@@ -18,3 +18,5 @@ meaning_of (asked.One file nodes order budget layout) =
     One file.now nodes order budget (file_name layout)
 meaning_of (asked.Sim file nodes order budget code layout brief) =
     Sim file.now nodes order budget (file_name code) (file_name layout) brief
+meaning_of (asked.Replay file record_file brief) = Replay file.now record_file.now brief
+meaning_of (asked.Generate number output) = Generate number output.now

@@ -23,6 +23,8 @@ text_of word.Run = codes "run"
 text_of word.List = codes "list"
 text_of word.One = codes "one"
 text_of word.Sim = codes "sim"
+text_of word.Replay = codes "replay"
+text_of word.Generate = codes "gen"
 
 abbrev pub settings_of : CommandWord → List Setting
 settings_of word.Rewrite = []
@@ -30,6 +32,8 @@ settings_of word.Run = Nodes ∷ Budget ∷ Record ∷ Code ∷ Layout ∷ Brief
 settings_of word.List = []
 settings_of word.One = Nodes ∷ Order ∷ Budget ∷ Layout ∷ []
 settings_of word.Sim = Nodes ∷ Order ∷ Budget ∷ Code ∷ Layout ∷ Brief ∷ []
+settings_of word.Replay = Brief ∷ []
+settings_of word.Generate = []
 
 -- the name of an option, without its dashes
 abbrev pub name_of : Setting → List ℕ

@@ -1,9 +1,9 @@
 #![tactic(auto)]
 //! The words of the command line, and what they ask for.
 
-ghost use Rattle.std.specs.Prelude.{◌≡◌, ℕ, Bool, List, [], ◌∷◌, codes, Option, option_map, IfOk, MatchOption};
+ghost use Rattle.std.specs.Prelude.{◌≡◌, ℕ, ◌-◌, ◌^◌, Bool, List, [], ◌∷◌, codes, Option, option_map, IfOk, MatchOption};
 ghost use Rattle.command_line.specs.Commands as model;
-ghost use Rattle.command_line.specs.Asks.{Asks};
+ghost use Rattle.command_line.specs.Asks.{Asks, IsNumber};
 ghost use Rattle.command_line.specs.Meaning.{meaning_of};
 ghost use Rattle.command_line.specs.Reading.{Completes, SaysFlag, SaysName, SaysNumber, given_by, text_of};
 
@@ -21,18 +21,18 @@ mod table;
 #[cfg(test)]
 mod tests;
 
-/// What the program is to do with the executable in a file.
+/// What the program is to do.
 #[derive(Clone, Copy, Debug, PartialEq, Eq)]
 pub enum Command<'a> {
-    /// Write its rewritten executable into the file `output`.
+    /// Write the rewritten executable of the one in the file `input` into the file `output`.
     Rewrite {
         input: &'a str,
         output: &'a str,
     },
-    /// Run `nodes` nodes of its rewritten code, each in a thread of its own, at most `budget` words
-    /// of each processor. Where they are named, the record of the run goes into the file
-    /// `record_file`, the code is that of the executable in the file `code`, and the blocks are those
-    /// of the layout in the file `layout`. A `brief` text has no counts.
+    /// Run `nodes` nodes of the rewritten code of the executable in a file, each in a thread of its
+    /// own, at most `budget` words of each processor. Where they are named, the record of the run
+    /// goes into the file `record_file`, the code is that of the executable in the file `code`, and
+    /// the blocks are those of the layout in the file `layout`. A `brief` text has no counts.
     Run {
         file: &'a str,
         nodes: NodeCount,
@@ -42,7 +42,7 @@ pub enum Command<'a> {
         layout: Option<&'a str>,
         brief: bool,
     },
-    /// List its code words.
+    /// List the code words of the executable in a file.
     List {
         file: &'a str,
     },
@@ -66,6 +66,18 @@ pub enum Command<'a> {
         layout: Option<&'a str>,
         brief: bool,
     },
+    /// Make the run of the record in the file `record_file` once more, of the executable in `file`.
+    /// The text is as of `Run`.
+    Replay {
+        file: &'a str,
+        record_file: &'a str,
+        brief: bool,
+    },
+    /// Write the executable that a number makes into the file `output`.
+    Generate {
+        number: u32,
+        output: &'a str,
+    },
 }
 
 /// The one operand, the name of a file.
@@ -80,8 +92,8 @@ fn file_in<'a>(matches: &ArgMatches<'a>) -> Option<&'a str>
     }
 }
 
-/// The two operands, each the name of a file.
-fn two_files_in<'a>(matches: &ArgMatches<'a>) -> Option<(&'a str, &'a str)>
+/// The two operands.
+fn two_operands_in<'a>(matches: &ArgMatches<'a>) -> Option<(&'a str, &'a str)>
     ensures { MatchOption result
         ((f g : List ℕ) → given_by matches.now Role.Operand ≡ f ∷ g ∷ [] → ⊥)
         (λ p. given_by matches.now Role.Operand ≡ p.0.now ∷ p.1.now ∷ []) }
@@ -187,7 +199,7 @@ fn rewrite_of<'a>(matches: &ArgMatches<'a>) -> Option<Command<'a>>
         ((c : model.Command) → Completes (codes "rewrite") (given_by matches.now) c → ⊥)
         (λ c. Completes (codes "rewrite") (given_by matches.now) (meaning_of c)) }
 {
-    let (input, output) = two_files_in(matches)?;
+    let (input, output) = two_operands_in(matches)?;
     Some(Command::Rewrite { input, output })
 }
 
@@ -272,6 +284,44 @@ fn sim_of<'a>(matches: &ArgMatches<'a>) -> Option<Command<'a>>
     })
 }
 
+/// The command `replay`.
+fn replay_of<'a>(matches: &ArgMatches<'a>) -> Option<Command<'a>>
+    ensures { MatchOption result
+        ((c : model.Command) → Completes (codes "replay") (given_by matches.now) c → ⊥)
+        (λ c. Completes (codes "replay") (given_by matches.now) (meaning_of c)) }
+{
+    let (file, record_file) = two_operands_in(matches)?;
+    let brief = brief_in(matches)?;
+    Some(Command::Replay {
+        file,
+        record_file,
+        brief,
+    })
+}
+
+/// The number of a word that makes an executable.
+fn seed_of(word: &str) -> Option<u32>
+    ensures { MatchOption result ((n : ℕ) → IsNumber 0 (2 ^ 32 - 1) word.now n → ⊥)
+        (λ n. IsNumber 0 (2 ^ 32 - 1) word.now n) }
+{
+    let number = number_of(word, 0, u32::MAX as u64)?;
+    match u32::try_from(number) {
+        Ok(seed) => Some(seed),
+        Err(_) => None,
+    }
+}
+
+/// The command `gen`.
+fn generate_of<'a>(matches: &ArgMatches<'a>) -> Option<Command<'a>>
+    ensures { MatchOption result
+        ((c : model.Command) → Completes (codes "gen") (given_by matches.now) c → ⊥)
+        (λ c. Completes (codes "gen") (given_by matches.now) (meaning_of c)) }
+{
+    let (word, output) = two_operands_in(matches)?;
+    let number = seed_of(word)?;
+    Some(Command::Generate { number, output })
+}
+
 /// The command of a word that is a command's, with these arguments.
 fn command_in<'a>(word: CommandWord, matches: &ArgMatches<'a>) -> Option<Command<'a>>
     ensures { MatchOption result
@@ -284,6 +334,8 @@ fn command_in<'a>(word: CommandWord, matches: &ArgMatches<'a>) -> Option<Command
         CommandWord::List => list_of(matches),
         CommandWord::One => one_of(matches),
         CommandWord::Sim => sim_of(matches),
+        CommandWord::Replay => replay_of(matches),
+        CommandWord::Generate => generate_of(matches),
     }
 }
 

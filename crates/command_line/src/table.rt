@@ -51,6 +51,8 @@ pub(crate) enum CommandWord {
     List,
     One,
     Sim,
+    Replay,
+    Generate,
 }
 
 impl CommandWord {
@@ -65,6 +67,8 @@ impl CommandWord {
             "list" => Some(CommandWord::List),
             "one" => Some(CommandWord::One),
             "sim" => Some(CommandWord::Sim),
+            "replay" => Some(CommandWord::Replay),
+            "gen" => Some(CommandWord::Generate),
             _ => None,
         }
     }
@@ -83,6 +87,8 @@ impl CommandWord {
                 Setting::Brief,
             ],
             CommandWord::Rewrite | CommandWord::List => &[],
+            CommandWord::Replay => &[Setting::Brief],
+            CommandWord::Generate => &[],
             CommandWord::One => &[
                 Setting::Nodes,
                 Setting::Order,

@@ -28,6 +28,12 @@ fn parts_of(command: Command<'_>) -> (&str, u8, u32, u64) {
             brief: _,
         } => (file, nodes.number(), 0, budget.number()),
         Command::List { file } => (file, 0, 0, 0),
+        Command::Replay {
+            file,
+            record_file: _,
+            brief: _,
+        } => (file, 0, 0, 0),
+        Command::Generate { number, output } => (output, 0, number, 0),
         Command::One {
             file,
             nodes,
@@ -126,6 +132,17 @@ fn reads_the_words_that_are_commands(rt: HostRuntime) -> Result<(), Fail> {
         ("one --help", None),
         ("list a --version", None),
         ("list a a", None),
+        ("replay a r", Some((0, 0, 0))),
+        ("replay --brief a r", Some((0, 0, 0))),
+        ("replay a", None),
+        ("replay a r --nodes 2", None),
+        ("gen 0 a", Some((0, 0, 0))),
+        ("gen 4294967295 a", Some((0, u32::MAX, 0))),
+        ("gen 4294967296 a", None),
+        ("gen 00000000000 a", None),
+        ("gen a 0", None),
+        ("gen 0", None),
+        ("gen 0 a --brief", None),
     ] {
         let words = words_of(rt.alloc(), line)?;
         assert_eq!(rt;

@@ -2,14 +2,14 @@
 use Rattle.std.proofs.Common.{◌≡◌, ◌⊎◌, ℕ, ◌<◌, ◌≤◌, Bool, true, false, List, [], ◌++◌, length, Option, Some, None, append-nil, option_map, refl, sym, ap, ◌∙◌, subst, inl, inr, arith}
 use Rattle.std.specs.Prelude.{Contains, IfSome, IfOk, IfErr, MatchOption, Result, Ok, Err, if◌then◌else◌}
 use Rattle.dsm_io.specs.Causes.{Rose}
-use Rattle.command_line.specs.Commands.{Command, Rewrite, Run, Listing, One, Sim, reads, writes}
+use Rattle.command_line.specs.Commands.{Command, Rewrite, Run, Listing, One, Sim, Replay, Generate, reads, writes}
 use Rattle.command_line.specs.declared.Command.{Command as OfCode}
 use Rattle.command_line.specs.Asks.{Asks}
 use Rattle.command_line.specs.Meaning.{meaning_of}
 use Rattle.commands.specs.declared.failure.Failure.{Failure}
-use Rattle.commands.specs.declared.failure.Failure.TheVariants.{Input, NotWritten, Refused, Layout, Output, OutOfMemory}
+use Rattle.commands.specs.declared.failure.Failure.TheVariants.{Input, NotWritten, Refused, Layout, Record, Output, OutOfMemory}
 use Rattle.commands.specs.Answers.{SinkState, FilesState, IsFault, IsLeft, IsTooLong, file_limit}
-use Rattle.commands.specs.Refusals.{IsRefused, IsLayoutRefused}
+use Rattle.commands.specs.Refusals.{IsRefused, IsLayoutRefused, IsRecordRefused}
 use Rattle.commands.specs.Failures.{status_of, line_of, IsReadFailure, FailsAs, Puts, IsFailure, IsPerformFailure, IsRewriteFailure, IsSuccess, IsNoRefusal, IsInputFailure, IsNamedFailure, AreInputs, AreKept, AreLeft, AreWritten}
 use Rattle.commands.specs.Headline.{AreTold, IsText, IsTextBeside, IsRewrittenFile, IsRewrittenText, PrintsPrefix}
 use Rattle.commands.specs.Inputs.{Inputs, inputs_of}
@@ -43,6 +43,10 @@ is_low (One file nodes order budget layout) held inputs text status h =
 is_low (Sim file nodes order budget code layout brief) held inputs text status h =
     subst (λ s. s ≤ 1) (sym h.status_is) (low_status _)
 is_low (Listing file) held inputs text status h = let zero = h.1 in omega (arith, zero)
+is_low (Replay file record_file brief) held inputs text status h =
+    subst (λ s. s ≤ 1) (sym h.status_is) (low_status _)
+is_low (Generate number output) held inputs text status h =
+    let zero = h.1 in omega (arith, zero)
 
 pub succeeds : (c : Command) (files files_now : FilesState) (before now : SinkState) (inputs : Inputs)
     (status : ℕ) → AreInputs c files.held inputs
@@ -89,6 +93,10 @@ fails_with c files read_files files_now before now inputs (Layout line) read low
   h.1,
   λ contents told. subst (λ i. IsLayoutRefused c i line.items) (read contents told) h.0,
 )
+fails_with c files read_files files_now before now inputs (Record line) read low h = (
+  h.1,
+  λ contents told. subst (λ i. IsRecordRefused c i line.items) (read contents told) h.0,
+)
 fails_with c files read_files files_now before now inputs Output read low h =
     (h.0, prefix_as c files inputs before now read h.1)
 fails_with c files read_files files_now before now inputs OutOfMemory read low h = λ contents told.
@@ -123,6 +131,7 @@ later_read files between now name (Input line) same low h = elim h [
 later_read files between now name (NotWritten line) same low h = h
 later_read files between now name (Refused line) same low h = h
 later_read files between now name (Layout line) same low h = h
+later_read files between now name (Record line) same low h = h
 later_read files between now name Output same low h = h
 later_read files between now name OutOfMemory same low h = h
 
@@ -132,6 +141,7 @@ fails_to_read c files files_now state (Input line) h = (refl, (h.0, h.1, h.2))
 fails_to_read c files files_now state (NotWritten line) h = absurd h.2
 fails_to_read c files files_now state (Refused line) h = absurd h.2
 fails_to_read c files files_now state (Layout line) h = absurd h.2
+fails_to_read c files files_now state (Record line) h = absurd h.2
 fails_to_read c files files_now state Output h = absurd h.2
 fails_to_read c files files_now state OutOfMemory h = λ contents told. inl refl
 
@@ -141,6 +151,7 @@ no_refusal files files_now name (Input line) h = inl refl
 no_refusal files files_now name (NotWritten line) h = absurd h
 no_refusal files files_now name (Refused line) h = absurd h
 no_refusal files files_now name (Layout line) h = absurd h
+no_refusal files files_now name (Record line) h = absurd h
 no_refusal files files_now name Output h = absurd h
 no_refusal files files_now name OutOfMemory h = inr refl
 
@@ -159,11 +170,12 @@ kept_unread c files files_now f h = no_refusal files files_now h.0 f h.2
 
 -- what the status of a failure says
 
-pub failure_range : (f : Failure) → (3 ≤ status_of f) × (status_of f ≤ 6)
+pub failure_range : (f : Failure) → (3 ≤ status_of f) × (status_of f ≤ 7)
 failure_range (Input line) = (omega arith, omega arith)
 failure_range (NotWritten line) = (omega arith, omega arith)
 failure_range (Refused line) = (omega arith, omega arith)
 failure_range (Layout line) = (omega arith, omega arith)
+failure_range (Record line) = (omega arith, omega arith)
 failure_range Output = (omega arith, omega arith)
 failure_range OutOfMemory = (omega arith, omega arith)
 
@@ -188,6 +200,7 @@ fault_of c files files_now before now (NotWritten line) Told h told three =
     inl (h.0, inr (fault.0, fault.1, fault.2, subst Told fault.3 told))
 fault_of c files files_now before now (Refused line) Told h told three = absurd (omega (arith, three))
 fault_of c files files_now before now (Layout line) Told h told three = absurd (omega (arith, three))
+fault_of c files files_now before now (Record line) Told h told three = absurd (omega (arith, three))
 fault_of c files files_now before now Output Told h told three = inr (h, told)
 fault_of c files files_now before now OutOfMemory Told h told three = absurd (omega (arith, three))
 
@@ -202,6 +215,8 @@ refusal_of c files files_now before now (NotWritten line) Told h told four conte
 refusal_of c files files_now before now (Refused line) Told h told four contents known =
     (line.items, h.1 contents known, told)
 refusal_of c files files_now before now (Layout line) Told h told four contents known =
+    absurd (omega (arith, four))
+refusal_of c files files_now before now (Record line) Told h told four contents known =
     absurd (omega (arith, four))
 refusal_of c files files_now before now Output Told h told four contents known =
     absurd (omega (arith, four))
@@ -220,18 +235,41 @@ layout_refusal_of c files files_now before now (Refused line) Told h told six co
     absurd (omega (arith, six))
 layout_refusal_of c files files_now before now (Layout line) Told h told six contents known =
     (line.items, h.1 contents known, told)
+layout_refusal_of c files files_now before now (Record line) Told h told six contents known =
+    absurd (omega (arith, six))
 layout_refusal_of c files files_now before now Output Told h told six contents known =
     absurd (omega (arith, six))
 layout_refusal_of c files files_now before now OutOfMemory Told h told six contents known =
     absurd (omega (arith, six))
 
+pub record_refusal_of : (c : Command) (files files_now : FilesState) (before now : SinkState)
+    (f : Failure) (Told : List ℕ → Type 0) → IsFailure c files files_now before now f → Told (line_of f)
+    → status_of f ≡ 7 → (contents : List ℕ → List ℕ) → AreTold c files.held contents
+    → (line : List ℕ) × IsRecordRefused c (inputs_of c contents) line × Told line
+record_refusal_of c files files_now before now (Input line) Told h told seven contents known =
+    absurd (omega (arith, seven))
+record_refusal_of c files files_now before now (NotWritten line) Told h told seven contents known =
+    absurd (omega (arith, seven))
+record_refusal_of c files files_now before now (Refused line) Told h told seven contents known =
+    absurd (omega (arith, seven))
+record_refusal_of c files files_now before now (Layout line) Told h told seven contents known =
+    absurd (omega (arith, seven))
+record_refusal_of c files files_now before now (Record line) Told h told seven contents known =
+    (line.items, h.1 contents known, told)
+record_refusal_of c files files_now before now Output Told h told seven contents known =
+    absurd (omega (arith, seven))
+record_refusal_of c files files_now before now OutOfMemory Told h told seven contents known =
+    absurd (omega (arith, seven))
+
 pub nothing_of : (c : Command) (files files_now : FilesState) (before now : SinkState) (f : Failure)
     → IsFailure c files files_now before now f
-    → (status_of f ≡ 2) ⊎ ((status_of f ≡ 4) ⊎ (status_of f ≡ 6)) → now.taken ≡ before.taken
+    → (status_of f ≡ 2) ⊎ ((status_of f ≡ 4) ⊎ ((status_of f ≡ 6) ⊎ (status_of f ≡ 7)))
+    → now.taken ≡ before.taken
 nothing_of c files files_now before now (Input line) h s = h.0
 nothing_of c files files_now before now (NotWritten line) h s = h.0
 nothing_of c files files_now before now (Refused line) h s = h.0
 nothing_of c files files_now before now (Layout line) h s = h.0
+nothing_of c files files_now before now (Record line) h s = h.0
 nothing_of c files files_now before now Output h s = absurd (omega (arith, s))
 nothing_of c files files_now before now OutOfMemory h s = absurd (omega (arith, s))
 
@@ -247,6 +285,8 @@ prefix_of_failure c files files_now before now (Refused line) h five contents to
     absurd (omega (arith, five))
 prefix_of_failure c files files_now before now (Layout line) h five contents told =
     absurd (omega (arith, five))
+prefix_of_failure c files files_now before now (Record line) h five contents told =
+    absurd (omega (arith, five))
 prefix_of_failure c files files_now before now Output h five contents told =
     absurd (omega (arith, five))
 prefix_of_failure c files files_now before now OutOfMemory h five contents told = h contents told
@@ -256,6 +296,7 @@ line_five (Input line) five = absurd (omega (arith, five))
 line_five (NotWritten line) five = absurd (omega (arith, five))
 line_five (Refused line) five = absurd (omega (arith, five))
 line_five (Layout line) five = absurd (omega (arith, five))
+line_five (Record line) five = absurd (omega (arith, five))
 line_five Output five = absurd (omega (arith, five))
 line_five OutOfMemory five = refl
 
@@ -312,6 +353,7 @@ rewrite_left input output inputs before now (NotWritten line) h =
 rewrite_left input output inputs before now (Refused line) h =
     left_at input output inputs before now (inl (h.1 output))
 rewrite_left input output inputs before now (Layout line) h = absurd h
+rewrite_left input output inputs before now (Record line) h = absurd h
 rewrite_left input output inputs before now Output h = absurd h
 rewrite_left input output inputs before now OutOfMemory h = left_at input output inputs before now h
 
@@ -321,6 +363,7 @@ rewrite_kept output file before now (Input line) h four = absurd h
 rewrite_kept output file before now (NotWritten line) h four = absurd (omega (arith, four))
 rewrite_kept output file before now (Refused line) h four = h.1
 rewrite_kept output file before now (Layout line) h four = absurd h
+rewrite_kept output file before now (Record line) h four = absurd h
 rewrite_kept output file before now Output h four = absurd h
 rewrite_kept output file before now OutOfMemory h four = absurd (omega (arith, four))
 
@@ -332,6 +375,7 @@ rewrite_fails input output inputs before now state (NotWritten line) h =
     (refl, (output, has_output input output, h.0, h.1))
 rewrite_fails input output inputs before now state (Refused line) h = (h.0, refl)
 rewrite_fails input output inputs before now state (Layout line) h = absurd h
+rewrite_fails input output inputs before now state (Record line) h = absurd h
 rewrite_fails input output inputs before now state Output h = absurd h
 rewrite_fails input output inputs before now state OutOfMemory h = inl refl
 
@@ -347,6 +391,7 @@ plain_fails c inputs fb fn before now (Input line) h = h
 plain_fails c inputs fb fn before now (NotWritten line) h = absurd h
 plain_fails c inputs fb fn before now (Refused line) h = h
 plain_fails c inputs fb fn before now (Layout line) h = h
+plain_fails c inputs fb fn before now (Record line) h = absurd h
 plain_fails c inputs fb fn before now Output h = h
 plain_fails c inputs fb fn before now OutOfMemory h = h
 

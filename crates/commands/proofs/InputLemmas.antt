@@ -2,19 +2,20 @@
 use Rattle.std.proofs.Common.{◌≡◌, ◌⊎◌, ℕ, ◌<◌, ◌≤◌, List, [], ◌∷◌, ◌++◌, length, Option, Some, None, option_map, refl, sym, ap, ◌∙◌, subst, inl, inr, arith}
 use Rattle.std.specs.Prelude.{Contains, IfSome}
 use Rattle.std.proofs.lemmas.List.Elements.{Contains-append_left, Contains-append_right, Contains-append_cases}
-use Rattle.command_line.specs.Commands.{Command, Rewrite, Run, Listing, One, Sim, reads}
+use Rattle.command_line.specs.Commands.{Command, Rewrite, Run, Listing, One, Sim, Replay, Generate, reads}
 use Rattle.commands.specs.Answers.{file_limit}
-use Rattle.commands.specs.Failures.{AreContents, AreInputs, AreRead, IsContent}
-use Rattle.commands.specs.Inputs.{Inputs, input_of, code_of, layout_of}
+use Rattle.commands.specs.Failures.{AreBytes, AreContents, AreInputs, AreRead, IsContent}
+use Rattle.commands.specs.Inputs.{Inputs, input_of, code_of, layout_of, recorded_of, bytes_in}
 
 -- the file of a name that may be left out
 abbrev pub named : Option (List ℕ) → List (List ℕ)
 named None = []
 named (Some name) = name ∷ []
 
--- a command reads its executable, its code and its layout
+-- a command reads its executable, its code, its layout and its record
 abbrev files_of : Command → List (List ℕ)
-files_of c = (input_of c ∷ []) ++ (named (code_of c) ++ named (layout_of c))
+files_of c =
+    named (input_of c) ++ (named (code_of c) ++ (named (layout_of c) ++ named (recorded_of c)))
 
 reads_are : (c : Command) → reads c ≡ files_of c
 reads_are (Rewrite input output) = refl
@@ -29,6 +30,8 @@ reads_are (Sim file nodes order budget None None brief) = refl
 reads_are (Sim file nodes order budget None (Some layout) brief) = refl
 reads_are (Sim file nodes order budget (Some code) None brief) = refl
 reads_are (Sim file nodes order budget (Some code) (Some layout) brief) = refl
+reads_are (Replay file record_file brief) = refl
+reads_are (Generate number output) = refl
 
 -- a list of one name
 pub only_of : (file name : List ℕ) → Contains (file ∷ []) name → name ≡ file
@@ -46,35 +49,62 @@ pub of_named : (o : Option (List ℕ)) (name : List ℕ) → Contains (named o) 
 of_named None name h = absurd (omega (arith, h.1))
 of_named (Some other) name h = ap Some (sym (only_of other name h))
 
-pub reads_input : (c : Command) → Contains (reads c) (input_of c)
-reads_input c =
-    subst (λ ns. Contains ns (input_of c)) (sym (reads_are c))
-    (Contains-append_left (input_of c ∷ []) (named (code_of c) ++ named (layout_of c)) (input_of c)
-    (first_of (input_of c)))
+pub reads_input : (c : Command) (name : List ℕ) → input_of c ≡ Some name → Contains (reads c) name
+reads_input c name e =
+    subst (λ ns. Contains ns name) (sym (reads_are c))
+    (Contains-append_left (named (input_of c))
+    (named (code_of c) ++ (named (layout_of c) ++ named (recorded_of c))) name
+    (among (input_of c) name e))
+
+-- behind its executable
+reads_behind : (c : Command) (name : List ℕ)
+    → Contains (named (code_of c) ++ (named (layout_of c) ++ named (recorded_of c))) name
+    → Contains (reads c) name
+reads_behind c name h =
+    subst (λ ns. Contains ns name) (sym (reads_are c))
+    (Contains-append_right (named (input_of c))
+    (named (code_of c) ++ (named (layout_of c) ++ named (recorded_of c))) name h)
 
 pub reads_code : (c : Command) (name : List ℕ) → code_of c ≡ Some name → Contains (reads c) name
 reads_code c name e =
-    subst (λ ns. Contains ns name) (sym (reads_are c))
-    (Contains-append_right (input_of c ∷ []) (named (code_of c) ++ named (layout_of c)) name
-    (Contains-append_left (named (code_of c)) (named (layout_of c)) name (among (code_of c) name e)))
+    reads_behind c name (Contains-append_left (named (code_of c))
+    (named (layout_of c) ++ named (recorded_of c)) name (among (code_of c) name e))
 
 pub reads_layout : (c : Command) (name : List ℕ) → layout_of c ≡ Some name → Contains (reads c) name
 reads_layout c name e =
-    subst (λ ns. Contains ns name) (sym (reads_are c))
-    (Contains-append_right (input_of c ∷ []) (named (code_of c) ++ named (layout_of c)) name
-    (Contains-append_right (named (code_of c)) (named (layout_of c)) name (among (layout_of c) name e)))
+    reads_behind c name (Contains-append_right (named (code_of c))
+    (named (layout_of c) ++ named (recorded_of c)) name
+    (Contains-append_left (named (layout_of c)) (named (recorded_of c)) name
+    (among (layout_of c) name e)))
+
+pub reads_record : (c : Command) (name : List ℕ) → recorded_of c ≡ Some name
+    → Contains (reads c) name
+reads_record c name e =
+    reads_behind c name (Contains-append_right (named (code_of c))
+    (named (layout_of c) ++ named (recorded_of c)) name
+    (Contains-append_right (named (layout_of c)) (named (recorded_of c)) name
+    (among (recorded_of c) name e)))
 
 -- and nothing else
-reads_only : (c : Command) (name : List ℕ) → Contains (reads c) name
-    → (name ≡ input_of c) ⊎ ((code_of c ≡ Some name) ⊎ (layout_of c ≡ Some name))
+abbrev IsRead : Command → List ℕ → Type 0
+IsRead c name = (input_of c ≡ Some name)
+    ⊎ ((code_of c ≡ Some name) ⊎ ((layout_of c ≡ Some name) ⊎ (recorded_of c ≡ Some name)))
+
+reads_only : (c : Command) (name : List ℕ) → Contains (reads c) name → IsRead c name
 reads_only c name h =
-    elim (Contains-append_cases (input_of c ∷ []) (named (code_of c) ++ named (layout_of c)) name
+    elim (Contains-append_cases (named (input_of c))
+    (named (code_of c) ++ (named (layout_of c) ++ named (recorded_of c))) name
     (subst (λ ns. Contains ns name) (reads_are c) h)) [
-      | inl first ↦ inl (only_of (input_of c) name first)
-      | inr more ↦ inr (elim (Contains-append_cases (named (code_of c)) (named (layout_of c)) name more) [
-        | inl k ↦ inl (of_named (code_of c) name k)
-        | inr k ↦ inr (of_named (layout_of c) name k)
-      ])
+      | inl first ↦ inl (of_named (input_of c) name first)
+      | inr more ↦ inr (elim (Contains-append_cases (named (code_of c))
+          (named (layout_of c) ++ named (recorded_of c)) name more) [
+            | inl k ↦ inl (of_named (code_of c) name k)
+            | inr last ↦ inr (elim (Contains-append_cases (named (layout_of c)) (named (recorded_of c))
+                name last) [
+                  | inl k ↦ inl (of_named (layout_of c) name k)
+                  | inr k ↦ inr (of_named (recorded_of c) name k)
+                ])
+          ])
     ]
 
 -- what was read is what the files are told to have
@@ -93,21 +123,36 @@ named_is held contents (Some name) None h told = absurd h
 named_is held contents (Some name) (Some bytes) h told =
     ap Some (content_is (held name) bytes (contents name) h (told name refl))
 
-abbrev inputs : List ℕ → Option (List ℕ) → Option (List ℕ) → Inputs
-inputs executable code layout = record { executable = executable; code = code; layout = layout }
+bytes_are : (held : List ℕ → Option (List ℕ)) (contents : List ℕ → List ℕ)
+    (o : Option (List ℕ)) (bytes : List ℕ) → AreBytes held o bytes
+    → ((name : List ℕ) → o ≡ Some name → held name ≡ Some (contents name))
+    → bytes ≡ bytes_in contents o
+bytes_are held contents None bytes h told = h
+bytes_are held contents (Some name) bytes h told =
+    content_is (held name) bytes (contents name) h (told name refl)
+
+abbrev inputs : List ℕ → Option (List ℕ) → Option (List ℕ) → List ℕ → Inputs
+inputs executable code layout recorded =
+    record { executable = executable; code = code; layout = layout; recorded = recorded }
 
 pub inputs_read : (c : Command) (held : List ℕ → Option (List ℕ)) (i : Inputs) → AreRead c held i
     → AreInputs c held i
 inputs_read c held i h contents told =
-    let one = content_is (held (input_of c)) i.executable (contents (input_of c)) h.executable
-    (told (input_of c) (reads_input c)) in
+    let one = bytes_are held contents (input_of c) i.executable h.executable
+    (λ name e. told name (reads_input c name e)) in
     let two = named_is held contents (code_of c) i.code h.code
     (λ name e. told name (reads_code c name e)) in
     let three = named_is held contents (layout_of c) i.layout h.layout
     (λ name e. told name (reads_layout c name e)) in
-    ap (λ x. inputs x i.code i.layout) one
-    ∙ ap (λ x. inputs (contents (input_of c)) x i.layout) two
-    ∙ ap (λ x. inputs (contents (input_of c)) (option_map contents (code_of c)) x) three
+    let four = bytes_are held contents (recorded_of c) i.recorded h.recorded
+    (λ name e. told name (reads_record c name e)) in
+    let first = bytes_in contents (input_of c) in
+    let second = option_map contents (code_of c) in
+    let third = option_map contents (layout_of c) in
+    ap (λ x. inputs x i.code i.layout i.recorded) one
+    ∙ ap (λ x. inputs first x i.layout i.recorded) two
+    ∙ ap (λ x. inputs first second x i.recorded) three
+    ∙ ap (λ x. inputs first second third x) four
 
 -- no file that was read is too long
 short_content : (o : Option (List ℕ)) (bytes content : List ℕ) → IsContent o bytes
@@ -128,14 +173,24 @@ short_named held (Some other) (Some bytes) name content h e is long =
     same_inside : (x y : List ℕ) → Some x ≡ Some y → x ≡ y
     same_inside x y e = cc
 
+short_bytes : (held : List ℕ → Option (List ℕ)) (o : Option (List ℕ)) (bytes name content : List ℕ)
+    → AreBytes held o bytes → o ≡ Some name → held name ≡ Some content
+    → file_limit < length content → ⊥
+short_bytes held None bytes name content h e is long = absurd (cc)
+short_bytes held (Some other) bytes name content h e is long =
+    short_content (held other) bytes content h (ap held (same_inside other name e) ∙ is) long
+  where
+    same_inside : (x y : List ℕ) → Some x ≡ Some y → x ≡ y
+    same_inside x y e = cc
+
 pub none_long : (c : Command) (held : List ℕ → Option (List ℕ)) (i : Inputs) (name content : List ℕ)
     → AreRead c held i → Contains (reads c) name → held name ≡ Some content
     → file_limit < length content → ⊥
 none_long c held i name content h there is long = elim (reads_only c name there) [
-  | inl e ↦
-      short_content (held (input_of c)) i.executable content h.executable (ap held (sym e) ∙ is) long
+  | inl e ↦ short_bytes held (input_of c) i.executable name content h.executable e is long
   | inr (inl e) ↦ short_named held (code_of c) i.code name content h.code e is long
-  | inr (inr e) ↦ short_named held (layout_of c) i.layout name content h.layout e is long
+  | inr (inr (inl e)) ↦ short_named held (layout_of c) i.layout name content h.layout e is long
+  | inr (inr (inr e)) ↦ short_bytes held (recorded_of c) i.recorded name content h.recorded e is long
 ]
 
 -- files are read after others, which leaves what each holds
@@ -144,4 +199,10 @@ pub content_before : (held between : List ℕ → Option (List ℕ)) (o bytes : 
 content_before held between None bytes same h = h
 content_before held between (Some name) None same h = h
 content_before held between (Some name) (Some bytes) same h =
+    subst (λ o. IsContent o bytes) (same name) h
+
+pub bytes_before : (held between : List ℕ → Option (List ℕ)) (o : Option (List ℕ)) (bytes : List ℕ)
+    → ((n : List ℕ) → between n ≡ held n) → AreBytes between o bytes → AreBytes held o bytes
+bytes_before held between None bytes same h = h
+bytes_before held between (Some name) bytes same h =
     subst (λ o. IsContent o bytes) (same name) h

@@ -5,3 +5,5 @@ pub mod AnswerLemmas
 pub mod RunLemmas
 pub mod RecordLemmas
 pub mod Recorded
+pub mod ReplayLemmas
+pub mod GenerateLemmas

@@ -9,7 +9,7 @@ use Rattle.run_order.specs.OwnRun.{Stamped, StandsForOwnRun, run_of}
 use Rattle.run_record.specs.Text.{record_text}
 use Rattle.command_line.specs.Commands.{Command, Run, writes}
 use Rattle.commands.specs.declared.failure.Failure.{Failure}
-use Rattle.commands.specs.declared.failure.Failure.TheVariants.{Input, NotWritten, Refused, Layout, Output, OutOfMemory}
+use Rattle.commands.specs.declared.failure.Failure.TheVariants.{Input, NotWritten, Refused, Layout, Record, Output, OutOfMemory}
 use Rattle.commands.specs.Answers.{SinkState, FilesState, IsLeft}
 use Rattle.commands.specs.Failures.{FailsAs, IsNever, GivesRuns, IsOwnRecorded, IsRecordFailure, IsPerformFailure, AreKept, AreLeft, AreWritten}
 use Rattle.commands.specs.Headline.{IsRecordOfRun, IsOutcomeRecorded, IsOutcomeOfRun, held_by}
@@ -114,6 +114,7 @@ module _ (file : List ℕ) (nodes budget : ℕ) (o : Option (List ℕ)) (code la
       (refl, (name, names_record name e, h.0, h.1))
   fails_by (Some name) e inputs before now state (Refused line) h = absurd h
   fails_by (Some name) e inputs before now state (Layout line) h = absurd h
+  fails_by (Some name) e inputs before now state (Record line) h = absurd h
   fails_by (Some name) e inputs before now state Output h = absurd h
   fails_by (Some name) e inputs before now state OutOfMemory h = inl refl
 
@@ -141,6 +142,7 @@ module _ (file : List ℕ) (nodes budget : ℕ) (o : Option (List ℕ)) (code la
       left_at inputs before now name e (inr h.0)
   left_by (Some name) e inputs before now (Refused line) h = absurd h
   left_by (Some name) e inputs before now (Layout line) h = absurd h
+  left_by (Some name) e inputs before now (Record line) h = absurd h
   left_by (Some name) e inputs before now Output h = absurd h
   left_by (Some name) e inputs before now OutOfMemory h = left_at inputs before now name e h
 
@@ -156,6 +158,7 @@ record_kept (Some name) before now (Input line) h = absurd h
 record_kept (Some name) before now (NotWritten line) h = λ four. absurd (omega (arith, four))
 record_kept (Some name) before now (Refused line) h = absurd h
 record_kept (Some name) before now (Layout line) h = absurd h
+record_kept (Some name) before now (Record line) h = absurd h
 record_kept (Some name) before now Output h = absurd h
 record_kept (Some name) before now OutOfMemory h = λ four. absurd (omega (arith, four))
 
@@ -171,6 +174,7 @@ put_kept IsTextFor state out before now (Input line) h = absurd h
 put_kept IsTextFor state out before now (NotWritten line) h = absurd h
 put_kept IsTextFor state out before now (Refused line) h = absurd h.0
 put_kept IsTextFor state out before now (Layout line) h = absurd h.0
+put_kept IsTextFor state out before now (Record line) h = absurd h
 put_kept IsTextFor state out before now Output h = λ four. absurd (omega (arith, four))
 put_kept IsTextFor state out before now OutOfMemory h = λ four. absurd (omega (arith, four))
 

@@ -16,16 +16,18 @@ use Rattle.node_model.specs.Node.{Work, Resume, IsLaidOver, Ended, Waiting, stan
 use Rattle.node_model.specs.Outcome.{Outcome, IsOutcomeOf}
 use Rattle.node_model.specs.Core.{Core, Event, AreAlike, IsCoreRun, IsOver, opening_core, after, event_step}
 use Rattle.run_order.specs.OwnRun.{Stamped, StandsForOwnRun, events_of, run_of}
+use Rattle.run_record.specs.declared.Record.{Record}
 use Rattle.rewriting_law.specs.Bounds.{RunsRewritten}
 use Rattle.rewriting_law.specs.Licence.{AllLicensed}
 use Rattle.rewriting_law.specs.Interleaving.{Interleaves, IsCoherent, original_after}
 use Rattle.dsm_core.specs.CoreParts.{work_with}
 use Rattle.commands.specs.Code.{IsRewritingOf, IsFileOf}
 use Rattle.commands.specs.Executables.{IsProgramOf}
-use Rattle.commands.specs.Failures.{GivesRuns, IsOwnOutcome}
+use Rattle.commands.specs.Failures.{GivesCode, GivesRuns, IsOwnOutcome}
 use Rattle.commands.specs.Inputs.{Inputs}
 use Rattle.commands.specs.Layouts.{IsLayoutBy, IsLayoutFor}
 use Rattle.commands.specs.Outcomes.{HasMail}
+use Rattle.commands.specs.Replays.{IsLayoutOfBlocks}
 
 -- ---- the layout
 
@@ -56,6 +58,15 @@ laid_over elf text nodes layout h line =
     laid_by (class_of_line elf line) (is_shared_line layout line)
     (shared_as layout line
     ∙ ap (λ rs. is_in rs line) (shape_facts text h.shared nodes layout h.reads).0
+    ∙ h.lines.lines line)
+
+-- likewise the layout of a record's blocks
+pub laid_over_blocks : (elf : Elf) (kept : Record) (layout : Shape)
+    → IsLayoutOfBlocks elf kept layout → IsLaidOver (program_of elf) layout
+laid_over_blocks elf kept layout h line =
+    laid_by (class_of_line elf line) (is_shared_line layout line)
+    (shared_as layout line
+    ∙ ap (λ (s : Shape). is_in s.shared line) h.layout_is
     ∙ h.lines.lines line)
 
 -- ---- the run
@@ -116,47 +127,50 @@ run_front work [] behind c may = tt
 run_front work (e ∷ es) behind c may =
     (may.0, run_front work es behind (event_step work c e) may.1)
 
--- the parts of a run: an accepted program, its rewriting, the file of code and the layout
-pub record AreReady (inputs : Inputs) (nodes : ℕ) (elf : Elf) (plan : List PlanEntry)
-    (image : List Cell) (layout : Shape) : Type 0 where
-  pub rewritten : IsRewritingOf inputs.executable elf plan image
+-- the parts of a run: an accepted program, its rewriting and the layout
+pub record AreReady (file : List ℕ) (elf : Elf) (plan : List PlanEntry) (image : List Cell)
+    (layout : Shape) : Type 0 where
+  pub rewritten : IsRewritingOf file elf plan image
   pub accepted : IsAccepted (program_of elf)
-  pub code : IsFileOf (rewritten_elf elf image plan) inputs.code
-  pub laid_out : IsLayoutFor elf inputs.layout nodes layout
+  pub over : IsLaidOver (program_of elf) layout
   pub valid : IsValid layout
 
 -- the program is that of the executable that was read
-pub are_ready : (inputs : Inputs) (nodes : ℕ) (original elf : Elf) (plan : List PlanEntry)
-    (image : List Cell) (layout : Shape) → elf ≡ original → IsProgramOf inputs.executable original
+pub are_ready : (file : List ℕ) (original elf : Elf) (plan : List PlanEntry) (image : List Cell)
+    (layout : Shape) → elf ≡ original → IsProgramOf file original
     → IsAccepted (program_of original) → IsPlanOf (program_of elf).code plan
-    → IsRewriting (program_of elf) plan image
-    → IsFileOf (rewritten_elf original image plan) inputs.code
-    → IsLayoutFor elf inputs.layout nodes layout → IsValid layout
-    → AreReady inputs nodes elf plan image layout
-are_ready inputs nodes original elf plan image layout is executable accepted the_plan rewriting code laid_out valid =
+    → IsRewriting (program_of elf) plan image → IsLaidOver (program_of elf) layout
+    → IsValid layout → AreReady file elf plan image layout
+are_ready file original elf plan image layout is executable accepted the_plan rewriting over valid =
     record {
       rewritten = record {
-        executable = subst (IsProgramOf inputs.executable) (sym is) executable;
+        executable = subst (IsProgramOf file) (sym is) executable;
         the_plan = the_plan;
         rewriting = rewriting;
       };
       accepted = subst (λ e. IsAccepted (program_of e)) (sym is) accepted;
-      code = subst (λ e. IsFileOf (rewritten_elf e image plan) inputs.code) (sym is) code;
-      laid_out = laid_out;
+      over = over;
       valid = valid;
     }
 
-module _ (inputs : Inputs) (nodes budget : ℕ) (elf : Elf) (plan : List PlanEntry)
-    (image : List Cell) (layout : Shape) (r : AreReady inputs nodes elf plan image layout) where
-  over : IsLaidOver (program_of elf) layout
-  over = laid_over elf inputs.layout nodes layout r.laid_out
+-- the laws of rewriting and of progress
+pub record HaveLaws : Type 0 where
+  pub law : AllRuns Interleaves
+  pub licensed : AllRuns (λ work plan events. AllLicensed work plan (opening_core work) events)
+  pub coherent : AllRuns (λ work plan events. IsCoherent work
+      (after work (opening_core work) events) (original_after work plan events).shared)
+  pub stopped : StopsLate
+  pub waits : WaitsForMail
+  pub empty : EndsEmpty
 
+module _ (file : List ℕ) (budget : ℕ) (elf : Elf) (plan : List PlanEntry) (image : List Cell)
+    (layout : Shape) (r : AreReady file elf plan image layout) where
   pub runs_rewritten : 0 < budget → budget ≤ 2 ^ 32
       → RunsRewritten (work_with elf image layout budget)
   runs_rewritten some few = record {
     accepted = r.accepted;
     valid = r.valid;
-    laid_over = over;
+    laid_over = r.over;
     plan = plan;
     rewriting = r.rewritten.rewriting;
     some = some;
@@ -164,30 +178,18 @@ module _ (inputs : Inputs) (nodes budget : ℕ) (elf : Elf) (plan : List PlanEnt
   }
 
   -- by the law of rewriting
-  pub gives_runs : AllRuns Interleaves
-      → AllRuns (λ work plan events. AllLicensed work plan (opening_core work) events)
-      → AllRuns (λ work plan events. IsCoherent work (after work (opening_core work) events)
-      (original_after work plan events).shared) → StopsLate → WaitsForMail → EndsEmpty
-      → GivesRuns inputs nodes budget (work_with elf image layout budget)
-  gives_runs law licensed coherent stopped waits empty core own o stands ended outcome =
+  pub gives_code : HaveLaws → GivesCode file elf plan (work_with elf image layout budget)
+  gives_code laws core own o stands ended outcome =
       let work : Work = work_with elf image layout budget in
       let events : List Event = run_of own in
       let rewriting = r.rewritten.rewriting in
       let same : Interleaves work plan events =
-      law work plan events r.accepted r.valid over rewriting stands.is_run in
+      laws.law work plan events r.accepted r.valid r.over rewriting stands.is_run in
       let all_over : IsOver work (after work (opening_core work) events) =
       over_after work core (after work (opening_core work) events) stands.ends ended in
       record {
-        elf = elf;
-        executable = r.rewritten.executable;
+        rewritten = r.rewritten;
         program = refl;
-        laid_out = r.laid_out;
-        count = nodes_of elf inputs.layout nodes layout r.laid_out;
-        limit = refl;
-        plan = plan;
-        the_plan = r.rewritten.the_plan;
-        rewriting = rewriting;
-        code = r.code;
         stands = own_after work core own stands;
         over = all_over;
         whole = record {
@@ -196,18 +198,37 @@ module _ (inputs : Inputs) (nodes budget : ℕ) (elf : Elf) (plan : List PlanEnt
           counts = outcome.counts;
           original = same;
           output = outcome.output ∙ sym same.output;
-          licensed = licensed work plan events r.accepted r.valid over rewriting stands.is_run;
-          coherent = coherent work plan events r.accepted r.valid over rewriting stands.is_run;
-          stopped = λ i b low phase. stopped work events i b stands.is_run phase;
+          licensed = laws.licensed work plan events r.accepted r.valid r.over rewriting
+              stands.is_run;
+          coherent = laws.coherent work plan events r.accepted r.valid r.over rewriting
+              stands.is_run;
+          stopped = λ i b low phase. laws.stopped work events i b stands.is_run phase;
           waits = λ before behind i resume is low phase.
-              waits work plan before i resume r.accepted r.valid over rewriting
+              laws.waits work plan before i resume r.accepted r.valid r.over rewriting
               (run_front work before behind (opening_core work)
               (subst (IsCoreRun work (opening_core work)) (sym is) stands.is_run)) low phase;
           empty = λ j k from to.
-              empty work plan events j k r.accepted r.valid over rewriting stands.is_run all_over
-              from to;
+              laws.empty work plan events j k r.accepted r.valid r.over rewriting stands.is_run
+              all_over from to;
         };
       }
+
+-- a run of the code is a run of the inputs, where a file of code is that, and the layout is theirs
+pub gives_runs : (inputs : Inputs) (nodes budget : ℕ) (elf : Elf) (plan : List PlanEntry)
+    (image : List Cell) (layout : Shape) → IsFileOf (rewritten_elf elf image plan) inputs.code
+    → IsLayoutFor elf inputs.layout nodes layout
+    → GivesCode inputs.executable elf plan (work_with elf image layout budget)
+    → GivesRuns inputs nodes budget (work_with elf image layout budget)
+gives_runs inputs nodes budget elf plan image layout code laid_out gives core own o stands ended outcome =
+    record {
+      elf = elf;
+      plan = plan;
+      of_code = gives core own o stands ended outcome;
+      code = code;
+      laid_out = laid_out;
+      count = nodes_of elf inputs.layout nodes layout laid_out;
+      limit = refl;
+    }
 
 -- the outcome of a core, by another name of its work
 pub own_outcome : {T E : Type 0} (outcome_of : T → Outcome) (w work : Work) (core : Core)

@@ -1,24 +1,29 @@
 -- Helps the code alone: failures of commands, and what each says of the files and the output.
-use Rattle.std.specs.Prelude.{◌≡◌, ℕ, ◌≤◌, ◌⊎◌, List, length, Option, None, Some, Contains, IfSome}
+use Rattle.std.specs.Prelude.{◌≡◌, ℕ, ◌≤◌, ◌⊎◌, Bool, List, [], length, Option, None, Some, Contains, IfSome}
+use Rattle.elf32_read.specs.Elf.{Elf}
+use Rattle.templates.specs.declared.plans.PlanEntry.{PlanEntry}
 use Rattle.node_model.specs.Node.{Work}
 use Rattle.node_model.specs.Core.{Core, IsOver}
 use Rattle.node_model.specs.Outcome.{Outcome, IsOutcomeOf}
 use Rattle.run_order.specs.OwnRun.{Stamped, StandsForOwnRun, run_of}
+use Rattle.run_record.specs.declared.Record.{Record as Kept}
 use Rattle.run_record.specs.Text.{record_text}
 use Rattle.dsm_core.specs.CoreParts.{work_with}
 use Rattle.dsm_io.specs.Causes.{Rose, Appends, AppendsPrefix}
 use Rattle.commands.specs.declared.failure.Failure.{Failure}
-use Rattle.commands.specs.declared.failure.Failure.TheVariants.{Input, NotWritten, Refused, Layout, Output, OutOfMemory}
+use Rattle.commands.specs.declared.failure.Failure.TheVariants.{Input, NotWritten, Refused, Layout, Record, Output, OutOfMemory}
 use Rattle.commands.specs.Text.{text_of, cannot_read, cannot_write, too_long, cannot_write_output, out_of_memory}
 use Rattle.commands.specs.declared.prepare.Prepared.{Prepared}
 use Rattle.commands.specs.Outcomes as outcomes
+use Rattle.commands.specs.Outcomes.{IsRunOfCode}
 use Rattle.command_line.specs.Commands.{Command, reads, writes}
 use Rattle.commands.specs.Answers.{SinkState, FilesState, file_limit, IsTooLong, IsReadFault, IsWriteFault, IsPutFault, IsLeft}
 use Rattle.commands.specs.Executables.{IsUnrewritten}
 use Rattle.commands.specs.Records.{record_at}
-use Rattle.commands.specs.Refusals.{IsRefused, IsLayoutRefused}
-use Rattle.commands.specs.Headline.{AreTold, IsRunOf, IsText, IsWritten, Prints, PrintsPrefix}
-use Rattle.commands.specs.Inputs.{Inputs, input_of, code_of, layout_of, inputs_of}
+use Rattle.commands.specs.Refusals.{IsRefused, IsLayoutRefused, IsRecordRefused}
+use Rattle.commands.specs.Replays.{IsWorkOf, IsOutcomeOfReplay, IsReplayRefused, IsBadReplayLayout, IsBadRecord}
+use Rattle.commands.specs.Headline.{AreTold, IsRunOf, IsText, IsTextWith, IsWritten, Prints, PrintsPrefix}
+use Rattle.commands.specs.Inputs.{Inputs, input_of, code_of, layout_of, recorded_of, inputs_of}
 
 -- the status and the line of a failure
 abbrev pub status_of : Failure → ℕ
@@ -26,6 +31,7 @@ status_of (Input line) = 3
 status_of (NotWritten line) = 3
 status_of (Refused line) = 4
 status_of (Layout line) = 6
+status_of (Record line) = 7
 status_of Output = 3
 status_of OutOfMemory = 5
 
@@ -34,6 +40,7 @@ line_of (Input line) = line.items
 line_of (NotWritten line) = line.items
 line_of (Refused line) = line.items
 line_of (Layout line) = line.items
+line_of (Record line) = line.items
 line_of Output = cannot_write_output
 line_of OutOfMemory = out_of_memory
 
@@ -45,6 +52,7 @@ IsReadFailure before now name (Input line) =
 IsReadFailure before now name (NotWritten line) = ⊥
 IsReadFailure before now name (Refused line) = ⊥
 IsReadFailure before now name (Layout line) = ⊥
+IsReadFailure before now name (Record line) = ⊥
 IsReadFailure before now name Output = ⊥
 IsReadFailure before now name OutOfMemory = Unit {0}
 
@@ -59,12 +67,18 @@ AreContents held None bytes = bytes ≡ None
 AreContents held (Some name) None = ⊥
 AreContents held (Some name) (Some bytes) = IsContent (held name) bytes
 
+-- likewise where the bytes are none without a name
+abbrev pub AreBytes : (List ℕ → Option (List ℕ)) → Option (List ℕ) → List ℕ → Type 0
+AreBytes held None bytes = bytes ≡ []
+AreBytes held (Some name) bytes = IsContent (held name) bytes
+
 -- the inputs are the contents of the command's files
 pub record AreRead (command : Command) (held : List ℕ → Option (List ℕ)) (inputs : Inputs) : Type 0
   where
-    pub executable : IsContent (held (input_of command)) inputs.executable
+    pub executable : AreBytes held (input_of command) inputs.executable
     pub code : AreContents held (code_of command) inputs.code
     pub layout : AreContents held (layout_of command) inputs.layout
+    pub recorded : AreBytes held (recorded_of command) inputs.recorded
 
 -- a file that is named wasn't read
 abbrev pub IsNamedFailure : FilesState → FilesState → Option (List ℕ) → Failure → Type 0
@@ -78,8 +92,15 @@ IsRefusal Reason OfLayout (Input line) = ⊥
 IsRefusal Reason OfLayout (NotWritten line) = ⊥
 IsRefusal Reason OfLayout (Refused line) = Reason line.items
 IsRefusal Reason OfLayout (Layout line) = OfLayout line.items
+IsRefusal Reason OfLayout (Record line) = ⊥
 IsRefusal Reason OfLayout Output = ⊥
 IsRefusal Reason OfLayout OutOfMemory = Unit {0}
+
+-- a refusal of a record, by the reasons that a line tells; or a failure because it is out of memory
+abbrev pub IsRecordRefusal : (List ℕ → Type 0) → Failure → Type 0
+IsRecordRefusal OfRecord (Record line) = OfRecord line.items
+IsRecordRefusal OfRecord OutOfMemory = Unit {0}
+IsRecordRefusal OfRecord f = ⊥
 
 -- why a piece wasn't put whole
 abbrev pub IsPutFailure : SinkState → SinkState → List ℕ → Failure → Type 0
@@ -87,6 +108,7 @@ IsPutFailure before now piece (Input line) = ⊥
 IsPutFailure before now piece (NotWritten line) = ⊥
 IsPutFailure before now piece (Refused line) = ⊥
 IsPutFailure before now piece (Layout line) = ⊥
+IsPutFailure before now piece (Record line) = ⊥
 IsPutFailure before now piece Output =
     Rose before.faults now.faults × AppendsPrefix before.taken now.taken piece
 IsPutFailure before now piece OutOfMemory = now.taken ≡ before.taken
@@ -106,6 +128,7 @@ FailsAs IsTextFor Reason OfLayout before now (Refused line) =
     Reason line.items × (now.taken ≡ before.taken)
 FailsAs IsTextFor Reason OfLayout before now (Layout line) =
     OfLayout line.items × (now.taken ≡ before.taken)
+FailsAs IsTextFor Reason OfLayout before now (Record line) = ⊥
 FailsAs IsTextFor Reason OfLayout before now Output =
     Rose before.faults now.faults × PutsPrefix IsTextFor before.taken now.taken
 FailsAs IsTextFor Reason OfLayout before now OutOfMemory =
@@ -148,11 +171,40 @@ pub record IsOwnRecorded (work : Work) (held : Option (List ℕ)) (o : Outcome) 
   pub outcome : IsOutcomeOf work (run_of own) o
   pub is_recorded : IfSome held (λ bytes. bytes ≡ record_text (record_at work core))
 
--- the own runs of cores of this work whose nodes are over are runs of the inputs
+-- the own runs of cores of this work whose nodes are over are runs of the code of the executable in
+-- a file
+abbrev pub GivesCode : List ℕ → Elf → List PlanEntry → Work → Type 0
+GivesCode file elf plan work =
+    (core : Core) (own : List Stamped) (o : Outcome) → StandsForOwnRun work core own
+    → IsOver work core → IsOutcomeOf work (run_of own) o
+    → IsRunOfCode file elf plan work own o
+
+-- and runs of the inputs
 abbrev pub GivesRuns : Inputs → (nodes budget : ℕ) → Work → Type 0
 GivesRuns inputs nodes budget work =
     (core : Core) (own : List Stamped) (o : Outcome) → StandsForOwnRun work core own
     → IsOver work core → IsOutcomeOf work (run_of own) o → IsRunOf inputs nodes budget work own o
+
+-- the work is what the record asks to be run
+pub record IsReadyFor (inputs : Inputs) (kept : Kept) (work : Work) : Type 0 where
+  pub elf : Elf
+  pub plan : List PlanEntry
+  pub asked : IsWorkOf inputs kept elf plan work
+  pub gives : GivesCode inputs.executable elf plan work
+
+-- what a record asks to be run is refused, or the record is
+abbrev pub IsReplayRefusal : Inputs → Failure → Type 0
+IsReplayRefusal inputs (Record line) = IsBadRecord inputs line.items
+IsReplayRefusal inputs f =
+    IsRefusal (IsReplayRefused inputs) (IsBadReplayLayout inputs) f
+
+-- how a record's run isn't made once more, or its text isn't put
+abbrev pub IsReplayFailure : Inputs → Bool → SinkState → SinkState → Failure → Type 0
+IsReplayFailure inputs brief before now (Record line) =
+    IsBadRecord inputs line.items × (now.taken ≡ before.taken)
+IsReplayFailure inputs brief before now f =
+    FailsAs (IsTextWith (IsOutcomeOfReplay inputs) brief) (IsReplayRefused inputs)
+    (IsBadReplayLayout inputs) before now f
 
 -- how a command fails, with its file read by it
 abbrev pub IsFailure : Command → FilesState → FilesState → SinkState → SinkState → Failure → Type 0
@@ -168,6 +220,10 @@ IsFailure command files files_now before now (Layout line) =
     (now.taken ≡ before.taken)
     × ((contents : List ℕ → List ℕ) → AreTold command files.held contents
     → IsLayoutRefused command (inputs_of command contents) line.items)
+IsFailure command files files_now before now (Record line) =
+    (now.taken ≡ before.taken)
+    × ((contents : List ℕ → List ℕ) → AreTold command files.held contents
+    → IsRecordRefused command (inputs_of command contents) line.items)
 IsFailure command files files_now before now Output = IsPutFault command files before now
 IsFailure command files files_now before now OutOfMemory =
     (contents : List ℕ → List ℕ) → AreTold command files.held contents
@@ -210,6 +266,8 @@ abbrev pub IsPerformFailure : Command → Inputs → FilesState → FilesState �
     → Failure → Type 0
 IsPerformFailure command inputs files files_now before now (NotWritten line) =
     (now.taken ≡ before.taken) × IsWriteFault command files files_now (λ l. line.items ≡ l)
+IsPerformFailure command inputs files files_now before now (Record line) =
+    IsRecordRefused command inputs line.items × (now.taken ≡ before.taken)
 IsPerformFailure command inputs files files_now before now f =
     FailsAs (IsText command inputs) (IsRefused command inputs) (IsLayoutRefused command inputs)
     before now f
@@ -238,4 +296,5 @@ AreLeft command inputs before now =
 -- where a command is refused, no file changes
 abbrev pub AreKept : FilesState → FilesState → Failure → Type 0
 AreKept before now f =
-    (status_of f ≡ 4) ⊎ (status_of f ≡ 6) → (name : List ℕ) → now.held name ≡ before.held name
+    (status_of f ≡ 4) ⊎ ((status_of f ≡ 6) ⊎ (status_of f ≡ 7))
+    → (name : List ℕ) → now.held name ≡ before.held name

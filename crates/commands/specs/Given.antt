@@ -9,6 +9,7 @@ bytes_of inputs = record {
   executable = inputs.executable.now;
   code = option_map (λ file. file.now) inputs.code;
   layout = option_map (λ file. file.now) inputs.layout;
+  recorded = inputs.recorded.now;
 }
 
 abbrev pub contents_of : InputFiles → Inputs
@@ -16,4 +17,5 @@ contents_of files = record {
   executable = files.executable.items;
   code = option_map (λ file. file.items) files.code;
   layout = option_map (λ file. file.items) files.layout;
+  recorded = files.recorded.items;
 }

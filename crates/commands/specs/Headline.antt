@@ -12,41 +12,35 @@ use Rattle.rewriter.specs.RewrittenFile.{rewritten_elf}
 use Rattle.node_model.specs.Node.{Work}
 use Rattle.node_model.specs.Core.{Event, IsOver, opening_core, after}
 use Rattle.node_model.specs.Outcome.{Outcome}
-use Rattle.run_order.specs.OwnRun.{Stamped, StandsForOwnRun, run_of}
+use Rattle.run_order.specs.OwnRun.{Stamped, StandsForOwnRun}
 use Rattle.run_record.specs.Text.{record_text}
 use Rattle.shared_sim.specs.ByOrder.{FollowsOrder}
 use Rattle.block_layout.specs.Layout.{Shape}
 use Rattle.one_memory.specs.ByOrder.{IsRunByOrder}
-use Rattle.command_line.specs.Commands.{Command, Rewrite, Run, Listing, One, Sim, reads}
+use Rattle.workload.specs.Generated.{generated_elf}
+use Rattle.command_line.specs.Commands.{Command, Rewrite, Run, Listing, One, Sim, Replay, Generate, reads}
 use Rattle.dsm_io.specs.Causes.{Appends, AppendsPrefix}
 use Rattle.commands.specs.Code.{IsFileOf}
 use Rattle.commands.specs.Executables.{IsProgramOf}
 use Rattle.commands.specs.Inputs.{Inputs, inputs_of}
 use Rattle.commands.specs.Layouts.{IsLayoutFor}
-use Rattle.commands.specs.Outcomes.{status_of, told, IsWholeRun}
+use Rattle.commands.specs.Outcomes.{status_of, told, IsRunOfCode}
 use Rattle.commands.specs.Records.{record_of}
+use Rattle.commands.specs.Replays.{IsOutcomeOfReplay}
 use Rattle.commands.specs.Text.{text_of}
 
--- The outcome of a run of the executable's rewritten code on so many nodes. The code is the
--- rewriting by the plan of the program, which a file of code that is given holds; and the blocks of
--- the shared lines are those of a layout that is given, or each line is one. The events are the
--- nodes' own, as their journals tell them, by stamp, and at one stamp by node; after them each node
--- is over.
+-- The outcome of a run of the executable's rewritten code on so many nodes. A file of code that is
+-- given holds that code; and the blocks of the shared lines are those of a layout that is given, or
+-- each line is one.
 pub record IsRunOf (inputs : Inputs) (nodes budget : ℕ) (work : Work) (own : List Stamped)
     (outcome : Outcome) : Type 0 where
   pub elf : Elf
-  pub executable : IsProgramOf inputs.executable elf
-  pub program : work.program ≡ program_of elf
+  pub plan : List PlanEntry
+  pub of_code : IsRunOfCode inputs.executable elf plan work own outcome
+  pub code : IsFileOf (rewritten_elf elf work.image plan) inputs.code
   pub laid_out : IsLayoutFor elf inputs.layout nodes work.layout
   pub count : work.layout.nodes ≡ nodes
   pub limit : work.budget ≡ budget
-  pub plan : List PlanEntry
-  pub the_plan : IsPlanOf work.program.code plan
-  pub rewriting : IsRewriting work.program plan work.image
-  pub code : IsFileOf (rewritten_elf elf work.image plan) inputs.code
-  pub stands : StandsForOwnRun work (after work (opening_core work) (run_of own)) own
-  pub over : IsOver work (after work (opening_core work) (run_of own))
-  pub whole : IsWholeRun work plan (run_of own) outcome
 
 -- the outcome of some such run
 pub record IsOutcomeOfRun (inputs : Inputs) (nodes budget : ℕ) (outcome : Outcome) : Type 0 where
@@ -131,6 +125,10 @@ pub record IsRewrittenText (file text : List ℕ) (status : ℕ) : Type 0 where
   pub text_is : text ≡ []
   pub status_is : status ≡ 0
 
+-- nothing is printed
+abbrev pub IsNoText : List ℕ → ℕ → Type 0
+IsNoText text status = (text ≡ []) × (status ≡ 0)
+
 -- the text of an outcome with these facts, which may be brief, and its status
 pub record IsTextWith (Is : Outcome → Type 0) (brief : Bool) (text : List ℕ) (status : ℕ) : Type 0
   where
@@ -150,6 +148,9 @@ IsText (One file nodes order budget layout) inputs text status =
 IsText (Sim file nodes order budget code layout brief) inputs text status =
     IsTextWith (IsOutcomeOfSim inputs nodes order budget) brief text status
 IsText (Listing file) inputs text status = IsListingText inputs.executable text status
+IsText (Replay file record_file brief) inputs text status =
+    IsTextWith (IsOutcomeOfReplay inputs) brief text status
+IsText (Generate number output) inputs text status = IsNoText text status
 
 -- what a file that may be left out holds, where it is named and that is told
 abbrev pub held_by : (List ℕ → Option (List ℕ)) → Option (List ℕ) → Option (List ℕ)
@@ -188,4 +189,5 @@ abbrev pub IsWritten : Command → Inputs → List ℕ → Type 0
 IsWritten (Rewrite input output) inputs bytes = IsRewrittenFile inputs.executable bytes
 IsWritten (Run file nodes budget record_file code layout brief) inputs bytes =
     IsRecordOfRun inputs nodes budget bytes
+IsWritten (Generate number output) inputs bytes = bytes ≡ file_of (generated_elf number)
 IsWritten command inputs bytes = ⊥

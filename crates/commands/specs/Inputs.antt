@@ -1,21 +1,24 @@
 -- The files that commands read.
-use Rattle.std.specs.Prelude.{ℕ, List, Option, None, option_map}
-use Rattle.command_line.specs.Commands.{Command, Rewrite, Run, Listing, One, Sim}
+use Rattle.std.specs.Prelude.{ℕ, List, [], Option, None, Some, option_map}
+use Rattle.command_line.specs.Commands.{Command, Rewrite, Run, Listing, One, Sim, Replay, Generate}
 
--- the bytes of the executable; and those of the rewritten one and of the layout, where they are
--- named
+-- the bytes of the executable and of the record, which are none where a command reads none; and
+-- those of the rewritten executable and of the layout, where they are named
 pub record Inputs : Type 0 where
   pub executable : List ℕ
   pub code : Option (List ℕ)
   pub layout : Option (List ℕ)
+  pub recorded : List ℕ
 
--- the file that a command reads as an executable
-abbrev pub input_of : Command → List ℕ
-input_of (Rewrite input output) = input
-input_of (Run file nodes budget record_file code layout brief) = file
-input_of (Listing file) = file
-input_of (One file nodes order budget layout) = file
-input_of (Sim file nodes order budget code layout brief) = file
+-- the file that a command reads as an executable, where it reads one
+abbrev pub input_of : Command → Option (List ℕ)
+input_of (Rewrite input output) = Some input
+input_of (Run file nodes budget record_file code layout brief) = Some file
+input_of (Listing file) = Some file
+input_of (One file nodes order budget layout) = Some file
+input_of (Sim file nodes order budget code layout brief) = Some file
+input_of (Replay file record_file brief) = Some file
+input_of (Generate number output) = None
 
 -- the file that a command reads as the rewritten executable
 abbrev pub code_of : Command → Option (List ℕ)
@@ -30,10 +33,21 @@ layout_of (One file nodes order budget layout) = layout
 layout_of (Sim file nodes order budget code layout brief) = layout
 layout_of command = None
 
+-- the file that a command reads as a record
+abbrev pub recorded_of : Command → Option (List ℕ)
+recorded_of (Replay file record_file brief) = Some record_file
+recorded_of command = None
+
+-- the bytes of a file, which are none where there is no file
+abbrev pub bytes_in : (List ℕ → List ℕ) → Option (List ℕ) → List ℕ
+bytes_in contents None = []
+bytes_in contents (Some name) = contents name
+
 -- what a command reads, where the files have these contents
 abbrev pub inputs_of : Command → (List ℕ → List ℕ) → Inputs
 inputs_of command contents = record {
-  executable = contents (input_of command);
+  executable = bytes_in contents (input_of command);
   code = option_map contents (code_of command);
   layout = option_map contents (layout_of command);
+  recorded = bytes_in contents (recorded_of command);
 }

@@ -7,6 +7,7 @@ pub mod Refusals
 pub mod Given
 pub mod Outcomes
 pub mod Records
+pub mod Replays
 pub mod Headline
 pub mod Answers
 pub mod Failures

@@ -1,4 +1,4 @@
--- What is told of an outcome, and when events are a whole run of the nodes.
+-- What is told of an outcome, and when events are a whole run of an executable's rewritten code.
 use Rattle.std.specs.Prelude.{◌≡◌, ◌≢◌, ℕ, ◌<◌, Bool, true, false, if◌then◌else◌, ◌==◌, List, [], ◌++◌, Some, map}
 use Rattle.std.specs.List.{list_all}
 use Rattle.rv32_program.specs.declared.Exit.TheVariants.{Code}
@@ -6,8 +6,12 @@ use Rattle.rv32_program.specs.declared.End.{End}
 use Rattle.rv32_program.specs.declared.End.TheVariants.{Exited, Stopped}
 use Rattle.templates.specs.declared.plans.PlanEntry.{PlanEntry}
 use Rattle.node_model.specs.Node.{Work, Resume, Ended, Waiting}
-use Rattle.node_model.specs.Core.{Core, Event, IsCoreRun, opening_core, after}
+use Rattle.node_model.specs.Core.{Core, Event, IsCoreRun, IsOver, opening_core, after}
 use Rattle.node_model.specs.Outcome.{Outcome, ends_after, counts_after}
+use Rattle.run_order.specs.OwnRun.{Stamped, StandsForOwnRun, run_of}
+use Rattle.elf32_read.specs.Elf.{Elf}
+use Rattle.exec_map.specs.Contents.{program_of}
+use Rattle.commands.specs.Code.{IsRewritingOf}
 use Rattle.rewriting_law.specs.Interleaving.{Interleaves, IsCoherent, original_after}
 use Rattle.rewriting_law.specs.Licence.{AllLicensed}
 
@@ -56,3 +60,14 @@ pub record IsWholeRun (work : Work) (plan : List PlanEntry) (events : List Event
       → HasMail work.layout.nodes (after work (opening_core work) before)
   pub empty : (j k : ℕ) → j < work.layout.nodes → k < work.layout.nodes
       → (after work (opening_core work) events).list j k ≡ []
+
+-- The outcome of a run of the rewritten code of the executable in a file, which is the rewriting by
+-- the plan of the program. The events are the nodes' own, as their journals tell them, by stamp,
+-- and at one stamp by node; after them each node is over.
+pub record IsRunOfCode (file : List ℕ) (elf : Elf) (plan : List PlanEntry) (work : Work)
+    (own : List Stamped) (outcome : Outcome) : Type 0 where
+  pub rewritten : IsRewritingOf file elf plan work.image
+  pub program : work.program ≡ program_of elf
+  pub stands : StandsForOwnRun work (after work (opening_core work) (run_of own)) own
+  pub over : IsOver work (after work (opening_core work) (run_of own))
+  pub whole : IsWholeRun work plan (run_of own) outcome

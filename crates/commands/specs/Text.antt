@@ -20,6 +20,10 @@ use Rattle.rewriter.specs.declared.file.Part.{Part}
 use Rattle.rewriter.specs.declared.file.Part.TheVariants as part
 use Rattle.block_layout.specs.Text as layouts
 use Rattle.block_layout.specs.declared.refused.Rule.{Rule}
+use Rattle.run_record.specs.Rules as records
+use Rattle.run_record.specs.declared.refused.RecordRule.{RecordRule}
+use Rattle.replay.specs.Refusals as replays
+use Rattle.replay.specs.declared.refused.ReplayRule.{ReplayRule}
 use Rattle.commands.specs.declared.refusal.Subject.{Subject}
 use Rattle.commands.specs.declared.refusal.Subject.TheVariants as subject
 
@@ -170,3 +174,17 @@ abbrev pub layout_line : Rule → ℕ → List ℕ
 layout_line rule line =
     codes "shasta: layout refused " ++ (decimal (layouts.number_of rule)
     ++ (codes " at line " ++ (decimal line ++ codes "\n")))
+
+-- the line of a rule that refuses the text of a record, and of the line that breaks it
+abbrev pub record_line : RecordRule → ℕ → List ℕ
+record_line rule line =
+    codes "shasta: record refused " ++ (decimal (records.number_of rule)
+    ++ (codes " at line " ++ (decimal line ++ codes "\n")))
+
+-- the line of a rule that refuses the events of a record: the node and its entry that tells of the
+-- event that breaks it
+abbrev pub event_line : ReplayRule → (node entry : ℕ) → List ℕ
+event_line rule node entry =
+    codes "shasta: record refused " ++ (decimal (replays.number_of rule)
+    ++ (codes " at node " ++ (decimal node
+    ++ (codes " entry " ++ (decimal entry ++ codes "\n")))))

@@ -16,6 +16,8 @@ pub enum Failure {
     Refused(Vec<u8>),
     /// The layout is refused; the line says where.
     Layout(Vec<u8>),
+    /// The record is refused; the line says where.
+    Record(Vec<u8>),
     /// The output failed.
     Output,
     OutOfMemory,
@@ -42,6 +44,7 @@ impl Failure {
             Failure::Refused(_) => 4,
             Failure::OutOfMemory => 5,
             Failure::Layout(_) => 6,
+            Failure::Record(_) => 7,
         }
     }
 
@@ -53,7 +56,8 @@ impl Failure {
             Failure::Input(line)
             | Failure::NotWritten(line)
             | Failure::Refused(line)
-            | Failure::Layout(line) => line,
+            | Failure::Layout(line)
+            | Failure::Record(line) => line,
             Failure::Output => b"shasta: cannot write output\n",
             Failure::OutOfMemory => b"shasta: out of memory\n",
         }

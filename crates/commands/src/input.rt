@@ -3,12 +3,12 @@
 ghost use Rattle.std.specs.Prelude.{◌≡◌, ◌⊎◌, ◌<◌, ◌≤◌, ℕ, List, length, Option, Some, Contains, option_map, IfOk, OnOk, IfErr, IfSome, MatchResult};
 ghost use Rattle.command_line.specs.Commands.{reads};
 ghost use Rattle.command_line.specs.Meaning.{meaning_of, file_name};
-ghost use Rattle.commands.specs.Inputs.{input_of as model_input_of, code_of as model_code_of, layout_of as model_layout_of};
+ghost use Rattle.commands.specs.Inputs.{input_of as model_input_of, code_of as model_code_of, layout_of as model_layout_of, recorded_of as model_recorded_of};
 ghost use Rattle.commands.specs.Given.{bytes_of, contents_of};
 ghost use Rattle.commands.specs.Text as model;
 ghost use Rattle.commands.specs.Answers.{FilesState, file_limit, files_of};
 ghost use Rattle.commands.specs.Executables.{ReadsAs, IsUnread, IsRejection};
-ghost use Rattle.commands.specs.Failures.{AreContents, AreInputs, IsContent, IsInputFailure, IsNamedFailure, IsNever, IsNoRefusal, IsReadFailure, IsRefusal};
+ghost use Rattle.commands.specs.Failures.{AreBytes, AreContents, AreInputs, IsContent, IsInputFailure, IsNamedFailure, IsNever, IsNoRefusal, IsReadFailure, IsRefusal};
 ghost use Rattle.exec_map.specs.Contents.{program_of as model_program_of};
 ghost use Rattle.exec_map.specs.Refusals.{IsAcceptable};
 ghost use Rattle.rv32_program.specs.Program.{IsAccepted};
@@ -27,16 +27,20 @@ pub struct InputFiles {
     executable: Vec<u8>,
     code: Option<Vec<u8>>,
     layout: Option<Vec<u8>>,
+    recorded: Vec<u8>,
 }
 
 /// The bytes of the files that a command reads.
 #[derive(Clone, Copy)]
 pub struct Inputs<'a> {
+    /// None where the command reads no executable.
     pub executable: &'a [u8],
     /// None where the command names no file of rewritten code.
     pub code: Option<&'a [u8]>,
     /// None where the command names no layout.
     pub layout: Option<&'a [u8]>,
+    /// The text of the record. None where the command reads no record.
+    pub recorded: &'a [u8],
 }
 
 impl InputFiles {
@@ -48,6 +52,7 @@ impl InputFiles {
             executable: &self.executable,
             code: lent(&self.code),
             layout: lent(&self.layout),
+            recorded: &self.recorded,
         }
     }
 }
@@ -63,15 +68,17 @@ fn lent(file: &Option<Vec<u8>>) -> Option<&[u8]>
 }
 
 /// The name of the file that a command reads as an executable.
-fn input_of<'a>(command: &Command<'a>) -> &'a str
-    ensures { result.now ≡ model_input_of (meaning_of command.now) }
+fn input_of<'a>(command: &Command<'a>) -> Option<&'a str>
+    ensures { file_name result ≡ model_input_of (meaning_of command.now) }
 {
     match command {
-        Command::Rewrite { input, output: _ } => input,
+        Command::Rewrite { input, output: _ } => Some(*input),
         Command::Run { file, .. }
         | Command::List { file }
         | Command::One { file, .. }
-        | Command::Sim { file, .. } => file,
+        | Command::Sim { file, .. }
+        | Command::Replay { file, .. } => Some(*file),
+        Command::Generate { .. } => None,
     }
 }
 
@@ -81,7 +88,11 @@ fn code_of<'a>(command: &Command<'a>) -> Option<&'a str>
 {
     match command {
         Command::Run { code, .. } | Command::Sim { code, .. } => *code,
-        Command::Rewrite { .. } | Command::List { .. } | Command::One { .. } => None,
+        Command::Rewrite { .. }
+        | Command::List { .. }
+        | Command::One { .. }
+        | Command::Replay { .. }
+        | Command::Generate { .. } => None,
     }
 }
 
@@ -92,11 +103,30 @@ fn layout_of<'a>(command: &Command<'a>) -> Option<&'a str>
     match command {
         Command::Run { layout, .. } | Command::One { layout, .. } | Command::Sim { layout, .. } =>
             *layout,
-        Command::Rewrite { .. } | Command::List { .. } => None,
+        Command::Rewrite { .. }
+        | Command::List { .. }
+        | Command::Replay { .. }
+        | Command::Generate { .. } => None,
     }
 }
 
-/// Reads the files of a command: the executable, that of its code, and the layout, in this order.
+/// The name of the file that a command reads as a record.
+fn recorded_of<'a>(command: &Command<'a>) -> Option<&'a str>
+    ensures { file_name result ≡ model_recorded_of (meaning_of command.now) }
+{
+    match command {
+        Command::Replay { record_file, .. } => Some(*record_file),
+        Command::Rewrite { .. }
+        | Command::Run { .. }
+        | Command::List { .. }
+        | Command::One { .. }
+        | Command::Sim { .. }
+        | Command::Generate { .. } => None,
+    }
+}
+
+/// Reads the files of a command: the executable, that of its code, the layout, and the record, in
+/// this order.
 pub fn read_inputs<F: Files>(
     alloc: Global,
     command: &Command<'_>,
@@ -113,14 +143,41 @@ pub fn read_inputs<F: Files>(
     ensures contents { (n : List ℕ) → F.held files.new n ≡ F.held files.old n }
     ensures writes { (n : List ℕ) → F.failed_writes files.old n ≤ F.failed_writes files.new n }
 {
-    let executable = read_file(alloc, files, input_of(command))?;
+    let executable = read_bytes(alloc, files, input_of(command))?;
     let code = read_named(alloc, files, code_of(command))?;
     let layout = read_named(alloc, files, layout_of(command))?;
+    let recorded = read_bytes(alloc, files, recorded_of(command))?;
     Ok(InputFiles {
         executable,
         code,
         layout,
+        recorded,
     })
+}
+
+/// The bytes of a file that may be left out. There are none where it has no name.
+fn read_bytes<F: Files>(
+    alloc: Global,
+    files: &mut F,
+    name: Option<&str>,
+) -> Result<Vec<u8>, Failure>
+    ensures ok { IfOk result (λ bytes. AreBytes (F.held files.old) (file_name name.entry)
+        bytes.items) }
+    ensures failure { IfErr result (IsNamedFailure
+        (files_of (F.held files.old) (F.failed_reads files.old) (F.failed_writes files.old))
+        (files_of (F.held files.new) (F.failed_reads files.new) (F.failed_writes files.new))
+        (file_name name.entry)) }
+    ensures contents { (n : List ℕ) → F.held files.new n ≡ F.held files.old n }
+    ensures reads { (n : List ℕ) → F.failed_reads files.old n ≤ F.failed_reads files.new n }
+    ensures writes { (n : List ℕ) → F.failed_writes files.old n ≤ F.failed_writes files.new n }
+{
+    match name {
+        Some(name) => {
+            let bytes = read_file(alloc, files, name)?;
+            Ok(bytes)
+        }
+        None => Ok(Vec::new(alloc)),
+    }
 }
 
 /// The bytes of a file that may be left out. None where it has no name.

@@ -3,6 +3,7 @@
 
 mod code;
 mod failure;
+mod generate;
 mod input;
 mod layout;
 mod list;
@@ -12,6 +13,7 @@ mod output;
 mod prepare;
 mod record;
 mod refusal;
+mod rerun;
 mod rewrite;
 mod run;
 mod sim;

@@ -3,7 +3,7 @@
 ghost use Rattle.std.specs.Prelude.{◌≡◌, ℕ, IfOk, IfErr};
 ghost use Rattle.rewriting_law.specs.Bounds.{RunsRewritten};
 ghost use Rattle.commands.specs.Executables.{ReadsAs};
-ghost use Rattle.commands.specs.Failures.{IsRefusal, GivesRuns, work_for};
+ghost use Rattle.commands.specs.Failures.{IsReadyFor, IsRefusal, IsReplayRefusal, GivesRuns, work_for};
 ghost use Rattle.commands.specs.Given.{bytes_of};
 ghost use Rattle.commands.specs.Layouts.{IsBadRunLayout};
 ghost use Rattle.commands.specs.Refusals.{IsRunRefused};
@@ -11,13 +11,15 @@ ghost use Rattle.commands.specs.Refusals.{IsRunRefused};
 use crate::code::{judge_code, rewriting_of};
 use crate::failure::Failure;
 use crate::input::{Inputs, program_of};
-use crate::layout::layout_for;
+use crate::layout::{layout_for, layout_of_blocks};
+use crate::record::record_in;
 use block_layout::Layout;
 use elf32_read::Elf;
 use exec_map::Program;
 use rewriter::Rewritten;
 use rewriting_law::{interleaving_law, progress_law};
 use run_limits::{Budget, NodeCount};
+use run_record::Record;
 use std::alloc::Global;
 
 /// The parts of a run.
@@ -57,4 +59,34 @@ pub fn prepare<'a>(
         layout,
         budget,
     })
+}
+
+/// Judges the executable, which was read, the text of the record, the rewriting and the layout of
+/// the record's blocks, in this order, and gives the parts of the record's run.
+pub fn prepare_replay<'a>(
+    alloc: Global,
+    elf: &'a Elf<'_>,
+    inputs: &Inputs<'_>,
+) -> Result<(Prepared<'a>, Record), Failure>
+    requires reads { ReadsAs (bytes_of inputs.now).executable elf.now }
+    ensures rewritten { IfOk result (λ p. RunsRewritten (work_for p.0)) }
+    ensures ready { IfOk result (λ p. IsReadyFor (bytes_of inputs.now) p.1 (work_for p.0)) }
+    ensures refused { IfErr result (IsReplayRefusal (bytes_of inputs.now)) }
+{
+    let program = program_of(alloc, elf)?;
+    let kept = record_in(alloc, inputs.recorded)?;
+    let rewritten = rewriting_of(alloc, &program)?;
+    let layout = layout_of_blocks(alloc, &program, &kept)?;
+    let Some(budget) = Budget::of(kept.budget) else {
+        unreachable!();
+    };
+    interleaving_law();
+    progress_law();
+    let prepared = Prepared {
+        program,
+        rewritten,
+        layout,
+        budget,
+    };
+    Ok((prepared, kept))
 }

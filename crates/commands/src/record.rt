@@ -1,4 +1,4 @@
-//! The record of a run, into a file.
+//! The record of a run: into a file, and out of a text.
 
 ghost use Rattle.std.specs.Prelude.{◌≡◌, ◌≢◌, ℕ, List, Some, map, IfErr, IfOk, IfSome, OnOk};
 ghost use Rattle.std.specs.List.{range_with_len};
@@ -7,19 +7,21 @@ ghost use Rattle.run_record.specs.Lists.{items_of};
 ghost use Rattle.run_record.specs.Text as model;
 ghost use Rattle.command_line.specs.Meaning.{file_name};
 ghost use Rattle.commands.specs.Answers.{files_of};
-ghost use Rattle.commands.specs.Failures.{IsRecordFailure, work_for};
+ghost use Rattle.commands.specs.Failures.{IsRecordFailure, IsRecordRefusal, work_for};
 ghost use Rattle.commands.specs.Headline.{held_by};
 ghost use Rattle.commands.specs.Records.{record_at};
+ghost use Rattle.commands.specs.Replays.{IsFaultyText, IsTextOf};
 
 use crate::failure::Failure;
 use crate::output::write_file;
 use crate::prepare::Prepared;
+use crate::refusal::record_line;
 use dsm_core::Core;
 use dsm_io::Files;
 use node_model::Entry;
 use rewriting_law::progress_law;
 use run_order::journal_law;
-use run_record::{Blocks, Journals, Record, write_record};
+use run_record::{Blocks, Journals, Record, RecordRefused, read_record, write_record};
 use std::alloc::{AllocError, Global};
 
 /// Writes the record of a core's run into a file, where one is named.
@@ -83,4 +85,18 @@ fn journals(alloc: Global, core: &Core<'_>) -> Result<Vec<Vec<Entry>>, AllocErro
         journals.push(Vec::from_slice(alloc, core.node(node).journal())?)?;
     }
     Ok(journals)
+}
+
+/// The record that a text is.
+pub fn record_in(alloc: Global, text: &[u8]) -> Result<Record, Failure>
+    ensures ok { IfOk result (λ kept. IsTextOf kept text.now) }
+    ensures refused { IfErr result (IsRecordRefusal (IsFaultyText text.now)) }
+{
+    match read_record(alloc, text) {
+        Ok(kept) => Ok(kept),
+        Err(RecordRefused::Broken { rule, line }) => {
+            Err(Failure::Record(record_line(alloc, rule, line)?))
+        }
+        Err(RecordRefused::OutOfMemory) => Err(Failure::OutOfMemory),
+    }
 }

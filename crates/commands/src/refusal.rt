@@ -1,4 +1,4 @@
-//! The lines that say why an executable, a file of code or a layout is refused.
+//! The lines that say why an executable, a file of code, a layout or a record is refused.
 
 ghost use Rattle.std.specs.Prelude.{◌≡◌, ◌++◌, IfOk, OnOk};
 ghost use Rattle.std.specs.Fmt.{decimal};
@@ -8,7 +8,9 @@ use crate::text::{push_address, push_number};
 use block_layout::Rule;
 use elf32_read::FileRule;
 use exec_map::{Class, ProgramRule};
+use replay::ReplayRule;
 use rewriter::Part;
+use run_record::RecordRule;
 use std::alloc::{AllocError, Global};
 
 /// What a file is read for.
@@ -94,6 +96,40 @@ pub fn layout_line(alloc: Global, rule: Rule, number: usize) -> Result<Vec<u8>, 
     push_number(&mut line, u64::from(rule.number()))?;
     line.extend_from_slice(b" at line ")?;
     push_number(&mut line, number as u64)?;
+    line.extend_from_slice(b"\n")?;
+    Ok(line)
+}
+
+/// The line of a rule that refuses the text of a record, and of the line that breaks it.
+pub fn record_line(alloc: Global, rule: RecordRule, number: usize) -> Result<Vec<u8>, AllocError>
+    ensures { IfOk result (λ line. line.items ≡ model.record_line rule number) }
+{
+    let mut line = Vec::new(alloc);
+    line.extend_from_slice(b"shasta: record refused ")?;
+    push_number(&mut line, u64::from(rule.number()))?;
+    line.extend_from_slice(b" at line ")?;
+    push_number(&mut line, number as u64)?;
+    line.extend_from_slice(b"\n")?;
+    Ok(line)
+}
+
+/// The line of a rule that refuses the events of a record, and of the entry that tells of the event
+/// that breaks it.
+pub fn event_line(
+    alloc: Global,
+    rule: ReplayRule,
+    node: u8,
+    entry: usize,
+) -> Result<Vec<u8>, AllocError>
+    ensures { IfOk result (λ line. line.items ≡ model.event_line rule node entry) }
+{
+    let mut line = Vec::new(alloc);
+    line.extend_from_slice(b"shasta: record refused ")?;
+    push_number(&mut line, u64::from(rule.number()))?;
+    line.extend_from_slice(b" at node ")?;
+    push_number(&mut line, u64::from(node))?;
+    line.extend_from_slice(b" entry ")?;
+    push_number(&mut line, entry as u64)?;
     line.extend_from_slice(b"\n")?;
     Ok(line)
 }

@@ -8,14 +8,16 @@ ghost use Rattle.commands.specs.Headline.{AreTold, IsTextBeside, Prints, PrintsP
 ghost use Rattle.commands.specs.Inputs.{inputs_of};
 ghost use Rattle.commands.specs.Given.{bytes_of};
 ghost use Rattle.commands.specs.Failures.{IsSuccess, IsFailure, IsPerformFailure, IsNoRefusal, Puts, AreKept, AreLeft, AreWritten};
-ghost use Rattle.commands.specs.Refusals.{IsRefused, IsLayoutRefused};
+ghost use Rattle.commands.specs.Refusals.{IsRefused, IsLayoutRefused, IsRecordRefused};
 ghost use Rattle.commands.specs.Answers.{Tells, IsFault, file_limit, files_of, sink_of};
 ghost use Rattle.commands.specs.Text.{usage, out_of_memory};
 
 use crate::failure::Failure;
+use crate::generate::generate_into;
 use crate::input::{Inputs, read_inputs};
 use crate::list::list;
 use crate::one::one;
+use crate::rerun::put_replay;
 use crate::rewrite::rewrite_into;
 use crate::run::{RunOptions, run};
 use crate::sim::sim;
@@ -29,7 +31,7 @@ use std::thread::Threads;
 /// Does what the words ask for, and answers the status: 0 where every processor ended by itself
 /// with code 0, or none runs; 1 where some processor ended otherwise; 2 for a faulty command line;
 /// 3 where a file or the output failed; 4 where the executable, or a file of its rewritten code, is
-/// refused; 5 where it was out of memory; 6 where the layout is refused.
+/// refused; 5 where it was out of memory; 6 where the layout is refused; 7 where the record is.
 pub fn shasta<R: Threads + Wait + Sync, F: Files, O: Sink, E: Sink, G: Gate + Sync>(
     rt: &R,
     alloc: Global,
@@ -39,7 +41,7 @@ pub fn shasta<R: Threads + Wait + Sync, F: Files, O: Sink, E: Sink, G: Gate + Sy
     err: &mut E,
     gate: &G,
 ) -> u8
-    ensures range { result ≤ 6 }
+    ensures range { result ≤ 7 }
 
     // Status 2 is for words that ask for nothing, and where there is memory for exactly those; the
     // usage text is told.
@@ -50,9 +52,10 @@ pub fn shasta<R: Threads + Wait + Sync, F: Files, O: Sink, E: Sink, G: Gate + Sy
         (sink_of (E.taken err.new) (E.faults err.new) (E.refusals err.new))
         usage }
 
-    // With status 0 and 1 the text is what the command asks for: of `run` and `sim`, that of a run
-    // of the original on one memory. Where `run` writes a record, the file holds that of the very
-    // run whose text this is. `err` took nothing.
+    // With status 0 and 1 the text is what the command asks for: of `run`, `sim` and `replay`, that
+    // of a run of the original on one memory. Where `run` writes a record, the file holds that of
+    // the very run whose text this is; and `replay` makes the very run that the record tells of.
+    // `err` took nothing.
     ensures prints { (c : Asked) (contents : List ℕ → List ℕ) → Asks words.now c
         → AreTold c (F.held files.old) contents → result ≤ 1
         → Prints c contents (F.held files.new) (O.taken out.old) (O.taken out.new) result }
@@ -66,13 +69,22 @@ pub fn shasta<R: Threads + Wait + Sync, F: Files, O: Sink, E: Sink, G: Gate + Sy
         (sink_of (E.taken err.old) (E.faults err.old) (E.refusals err.old))
         (sink_of (E.taken err.new) (E.faults err.new) (E.refusals err.new))
         line }
-    ensures nothing { (result ≡ 2) ⊎ ((result ≡ 4) ⊎ (result ≡ 6))
+    ensures nothing { (result ≡ 2) ⊎ ((result ≡ 4) ⊎ ((result ≡ 6) ⊎ (result ≡ 7)))
         → O.taken out.new ≡ O.taken out.old }
 
     // Status 6 is for a refused layout of an executable that isn't refused; the refusal is told.
     ensures layout { (c : Asked) (contents : List ℕ → List ℕ) → Asks words.now c
         → AreTold c (F.held files.old) contents → result ≡ 6
         → (line : List ℕ) × IsLayoutRefused c (inputs_of c contents) line × Tells
+        (sink_of (E.taken err.old) (E.faults err.old) (E.refusals err.old))
+        (sink_of (E.taken err.new) (E.faults err.new) (E.refusals err.new))
+        line }
+
+    // Status 7 is for a refused record, by its text or by the events that it tells of; the refusal
+    // is told.
+    ensures record { (c : Asked) (contents : List ℕ → List ℕ) → Asks words.now c
+        → AreTold c (F.held files.old) contents → result ≡ 7
+        → (line : List ℕ) × IsRecordRefused c (inputs_of c contents) line × Tells
         (sink_of (E.taken err.old) (E.faults err.old) (E.refusals err.old))
         (sink_of (E.taken err.new) (E.faults err.new) (E.refusals err.new))
         line }
@@ -107,7 +119,7 @@ pub fn shasta<R: Threads + Wait + Sync, F: Files, O: Sink, E: Sink, G: Gate + Sy
     ensures files { (name : List ℕ)
         → ((c : Asked) → Asks words.now c → Contains (writes c) name → ⊥)
         → F.held files.new name ≡ F.held files.old name }
-    ensures kept { (result ≡ 2) ⊎ ((result ≡ 4) ⊎ (result ≡ 6))
+    ensures kept { (result ≡ 2) ⊎ ((result ≡ 4) ⊎ ((result ≡ 6) ⊎ (result ≡ 7)))
         → (name : List ℕ) → F.held files.new name ≡ F.held files.old name }
     ensures written { (c : Asked) (contents : List ℕ → List ℕ) → Asks words.now c
         → AreTold c (F.held files.old) contents → result ≤ 1 → AreWritten c (inputs_of c contents)
@@ -238,6 +250,8 @@ fn perform<R: Threads + Wait + Sync, F: Files, O: Sink, G: Gate + Sync>(
             brief,
             ..
         } => sim(alloc, inputs, *nodes, *order, *budget, *brief, out),
+        Command::Replay { brief, .. } => put_replay(alloc, inputs, *brief, out),
+        Command::Generate { number, output } => generate_into(alloc, *number, output, files),
     }
 }
 

@@ -1,17 +1,29 @@
 use Rattle.std.proofs.lemmas.Result.{err_from_is_err_and}
-use Rattle.std.proofs.Common.{◌≤◌, ◌∙◌, ℕ, List, option_map, arith, subst}
+use Rattle.std.proofs.Common.{◌≤◌, ◌≡◌, ◌∙◌, ℕ, List, option_map, arith, refl, subst}
 use Rattle.command_line.specs.Meaning.{meaning_of}
 use Rattle.commands.specs.Answers.{FilesState}
-use Rattle.commands.specs.Inputs.{code_of, layout_of}
-use Rattle.commands.specs.Failures.{AreContents, AreRead, IsContent, IsNamedFailure}
+use Rattle.commands.specs.Inputs.{input_of, code_of, layout_of, recorded_of, Inputs}
+use Rattle.commands.specs.Failures.{AreBytes, AreContents, AreRead, IsNamedFailure}
 use Rattle.commands.proofs.AnswerLemmas.{named_fails}
-use Rattle.commands.proofs.InputLemmas.{content_before, inputs_read, none_long, reads_code, reads_layout}
+use Rattle.commands.proofs.InputLemmas.{bytes_before, content_before, inputs_read, none_long, reads_input, reads_code, reads_layout, reads_record}
 use Rattle.commands.proofs.input.read_inputs.Goals as goal
+
+pub returns-in_err-executable-clause-failure : goal.returns-in_err-executable-clause-failure
+returns-in_err-executable-clause-failure g c =
+    let files : FilesState = record { held = g.F.Files.held c.args.files.now; failed_reads = g.F.Files.failed_reads c.args.files.now; failed_writes = g.F.Files.failed_writes c.args.files.now } in
+    let files_now : FilesState = record { held = g.F.Files.held c.read_bytes.new.files; failed_reads = g.F.Files.failed_reads c.read_bytes.new.files; failed_writes = g.F.Files.failed_writes c.read_bytes.new.files } in
+    let cmd = meaning_of c.args.command.now in
+    let f = c.in_err-executable.field-0.0 in
+    let failed : IsNamedFailure files files_now (input_of cmd) f =
+    subst (λ o. IsNamedFailure files files_now o f) c.input_of.ensures c.in_err-executable.ensures.failure in
+    let p = err_from_is_err_and c.from_residual.result c.from_residual.ensures.1 in
+    rw (p.1, p.2) (named_fails cmd files files files_now (input_of cmd) f (λ n. refl)
+    (λ n. omega arith) (reads_input cmd) failed)
 
 pub returns-in_err-code-clause-failure : goal.returns-in_err-code-clause-failure
 returns-in_err-code-clause-failure g c =
     let files : FilesState = record { held = g.F.Files.held c.args.files.now; failed_reads = g.F.Files.failed_reads c.args.files.now; failed_writes = g.F.Files.failed_writes c.args.files.now } in
-    let between : FilesState = record { held = g.F.Files.held c.read_file.new.files; failed_reads = g.F.Files.failed_reads c.read_file.new.files; failed_writes = g.F.Files.failed_writes c.read_file.new.files } in
+    let between : FilesState = record { held = g.F.Files.held c.read_bytes.new.files; failed_reads = g.F.Files.failed_reads c.read_bytes.new.files; failed_writes = g.F.Files.failed_writes c.read_bytes.new.files } in
     let files_now : FilesState = record { held = g.F.Files.held c.read_named.new.files; failed_reads = g.F.Files.failed_reads c.read_named.new.files; failed_writes = g.F.Files.failed_writes c.read_named.new.files } in
     let cmd = meaning_of c.args.command.now in
     let f = c.in_err-code.field-0.0 in
@@ -24,7 +36,6 @@ returns-in_err-code-clause-failure g c =
 pub returns-in_err-layout-clause-failure : goal.returns-in_err-layout-clause-failure
 returns-in_err-layout-clause-failure g c =
     let files : FilesState = record { held = g.F.Files.held c.args.files.now; failed_reads = g.F.Files.failed_reads c.args.files.now; failed_writes = g.F.Files.failed_writes c.args.files.now } in
-    let first : FilesState = record { held = g.F.Files.held c.read_file.new.files; failed_reads = g.F.Files.failed_reads c.read_file.new.files; failed_writes = g.F.Files.failed_writes c.read_file.new.files } in
     let between : FilesState = record { held = g.F.Files.held c.read_named.new.files; failed_reads = g.F.Files.failed_reads c.read_named.new.files; failed_writes = g.F.Files.failed_writes c.read_named.new.files } in
     let files_now : FilesState = record { held = g.F.Files.held c.read_named-2.new.files; failed_reads = g.F.Files.failed_reads c.read_named-2.new.files; failed_writes = g.F.Files.failed_writes c.read_named-2.new.files } in
     let cmd = meaning_of c.args.command.now in
@@ -39,41 +50,82 @@ returns-in_err-layout-clause-failure g c =
     (λ n. c.in_ok-code.ensures.contents n ∙ c.in_ok-executable.ensures.contents n) low
     (reads_layout cmd) failed)
 
+pub returns-in_err-recorded-clause-failure : goal.returns-in_err-recorded-clause-failure
+returns-in_err-recorded-clause-failure g c =
+    let files : FilesState = record { held = g.F.Files.held c.args.files.now; failed_reads = g.F.Files.failed_reads c.args.files.now; failed_writes = g.F.Files.failed_writes c.args.files.now } in
+    let between : FilesState = record { held = g.F.Files.held c.read_named-2.new.files; failed_reads = g.F.Files.failed_reads c.read_named-2.new.files; failed_writes = g.F.Files.failed_writes c.read_named-2.new.files } in
+    let files_now : FilesState = record { held = g.F.Files.held c.read_bytes-2.new.files; failed_reads = g.F.Files.failed_reads c.read_bytes-2.new.files; failed_writes = g.F.Files.failed_writes c.read_bytes-2.new.files } in
+    let cmd = meaning_of c.args.command.now in
+    let f = c.in_err-recorded.field-0.0 in
+    let failed : IsNamedFailure between files_now (recorded_of cmd) f =
+    subst (λ o. IsNamedFailure between files_now o f) c.recorded_of.ensures c.in_err-recorded.ensures.failure in
+    let low : (n : List ℕ) → files.failed_reads n ≤ between.failed_reads n =
+    λ n. let one = c.in_ok-executable.ensures.reads n in
+    let two = c.in_ok-code.ensures.reads n in
+    let three = c.in_ok-layout.ensures.reads n in omega (arith, one, two, three) in
+    let p = err_from_is_err_and c.from_residual-in_err-recorded.result c.from_residual-in_err-recorded.ensures.1 in
+    rw (p.1, p.2) (named_fails cmd files between files_now (recorded_of cmd) f
+    (λ n. c.in_ok-layout.ensures.contents n ∙ c.in_ok-code.ensures.contents n
+    ∙ c.in_ok-executable.ensures.contents n) low (reads_record cmd) failed)
+
 pub returns-clause-ok : goal.returns-clause-ok
 returns-clause-ok g c =
     let cmd = meaning_of c.args.command.now in
     let held = g.F.Files.held c.args.files.now in
-    let first = g.F.Files.held c.read_file.new.files in
+    let first = g.F.Files.held c.read_bytes.new.files in
     let second = g.F.Files.held c.read_named.new.files in
+    let third = g.F.Files.held c.read_named-2.new.files in
     let code = option_map (λ b. b.items) c.in_ok-code.code in
     let layout = option_map (λ b. b.items) c.in_ok-layout.layout in
-    let read : AreRead cmd held (record { executable = c.in_ok-executable.executable.items; code = code; layout = layout }) = record {
-      executable = subst (λ n. IsContent (held n) c.in_ok-executable.executable.items) c.input_of.ensures
+    let same_second : (n : List ℕ) → second n ≡ held n =
+    λ n. c.in_ok-code.ensures.contents n ∙ c.in_ok-executable.ensures.contents n in
+    let given : Inputs = record {
+      executable = c.in_ok-executable.executable.items;
+      code = code;
+      layout = layout;
+      recorded = c.in_ok-recorded.recorded.items;
+    } in
+    let read : AreRead cmd held given = record {
+      executable = subst (λ o. AreBytes held o given.executable) c.input_of.ensures
           c.in_ok-executable.ensures.ok;
       code = content_before held first (code_of cmd) code c.in_ok-executable.ensures.contents
           (subst (λ o. AreContents first o code) c.code_of.ensures c.in_ok-code.ensures.ok);
-      layout = content_before held second (layout_of cmd) layout
-          (λ n. c.in_ok-code.ensures.contents n ∙ c.in_ok-executable.ensures.contents n)
+      layout = content_before held second (layout_of cmd) layout same_second
           (subst (λ o. AreContents second o layout) c.layout_of.ensures c.in_ok-layout.ensures.ok);
+      recorded = bytes_before held third (recorded_of cmd) given.recorded
+          (λ n. c.in_ok-layout.ensures.contents n ∙ same_second n)
+          (subst (λ o. AreBytes third o given.recorded) c.recorded_of.ensures
+          c.in_ok-recorded.ensures.ok);
     } in
-    inputs_read cmd held (record { executable = c.in_ok-executable.executable.items; code = code; layout = layout }) read
+    inputs_read cmd held given read
 
 pub returns-clause-longer : goal.returns-clause-longer
 returns-clause-longer g c = λ name content there is long.
     let cmd = meaning_of c.args.command.now in
     let held = g.F.Files.held c.args.files.now in
-    let first = g.F.Files.held c.read_file.new.files in
+    let first = g.F.Files.held c.read_bytes.new.files in
     let second = g.F.Files.held c.read_named.new.files in
+    let third = g.F.Files.held c.read_named-2.new.files in
     let code = option_map (λ b. b.items) c.in_ok-code.code in
     let layout = option_map (λ b. b.items) c.in_ok-layout.layout in
-    let read : AreRead cmd held (record { executable = c.in_ok-executable.executable.items; code = code; layout = layout }) = record {
-      executable = subst (λ n. IsContent (held n) c.in_ok-executable.executable.items) c.input_of.ensures
+    let same_second : (n : List ℕ) → second n ≡ held n =
+    λ n. c.in_ok-code.ensures.contents n ∙ c.in_ok-executable.ensures.contents n in
+    let given : Inputs = record {
+      executable = c.in_ok-executable.executable.items;
+      code = code;
+      layout = layout;
+      recorded = c.in_ok-recorded.recorded.items;
+    } in
+    let read : AreRead cmd held given = record {
+      executable = subst (λ o. AreBytes held o given.executable) c.input_of.ensures
           c.in_ok-executable.ensures.ok;
       code = content_before held first (code_of cmd) code c.in_ok-executable.ensures.contents
           (subst (λ o. AreContents first o code) c.code_of.ensures c.in_ok-code.ensures.ok);
-      layout = content_before held second (layout_of cmd) layout
-          (λ n. c.in_ok-code.ensures.contents n ∙ c.in_ok-executable.ensures.contents n)
+      layout = content_before held second (layout_of cmd) layout same_second
           (subst (λ o. AreContents second o layout) c.layout_of.ensures c.in_ok-layout.ensures.ok);
+      recorded = bytes_before held third (recorded_of cmd) given.recorded
+          (λ n. c.in_ok-layout.ensures.contents n ∙ same_second n)
+          (subst (λ o. AreBytes third o given.recorded) c.recorded_of.ensures
+          c.in_ok-recorded.ensures.ok);
     } in
-    none_long cmd held (record { executable = c.in_ok-executable.executable.items; code = code; layout = layout })
-    name content read there is long
+    none_long cmd held given name content read there is long

@@ -8,7 +8,7 @@ use Rattle.commands.specs.Given.{bytes_of}
 use Rattle.commands.specs.Layouts.{IsBadRunLayout, IsFaultyLayout}
 use Rattle.commands.specs.Refusals.{IsRunRefused}
 use Rattle.commands.proofs.Pieces.{never, refused_too}
-use Rattle.commands.proofs.RunLemmas.{AreReady, are_ready, gives_runs, runs_rewritten}
+use Rattle.commands.proofs.RunLemmas.{AreReady, HaveLaws, are_ready, gives_code, gives_runs, laid_over, runs_rewritten}
 use Rattle.commands.proofs.prepare.prepare.Goals as goal
 
 pub returns-in_err-program-clause-refused : goal.returns-in_err-program-clause-refused
@@ -99,13 +99,14 @@ returns-clause-rewritten c =
     let layout = c.in_ok-layout.layout in
     let reads : IsProgramOf inputs.executable c.args.elf.now =
     record { reads = c.requires.reads; accepted = c.in_ok-program.ensures.acceptable } in
-    let ready : AreReady inputs c.args.nodes p plan image layout =
-    are_ready inputs c.args.nodes c.args.elf.now p plan image layout c.in_ok-program.ensures.ok reads
+    let ready : AreReady inputs.executable p plan image layout =
+    are_ready inputs.executable c.args.elf.now p plan image layout c.in_ok-program.ensures.ok reads
     c.in_ok-program.ensures.accepted c.in_ok-rewritten.ensures.plan
-    c.in_ok-rewritten.ensures.rewriting c.in_ok-judge_code.ensures.ok c.in_ok-layout.ensures.ok
+    c.in_ok-rewritten.ensures.rewriting
+    (laid_over p inputs.layout c.args.nodes layout c.in_ok-layout.ensures.ok)
     c.in_ok-layout.ensures.valid in
     let number = c.number-words.ensures.value in
-    runs_rewritten inputs c.args.nodes c.args.budget p plan image layout ready
+    runs_rewritten inputs.executable c.args.budget p plan image layout ready
     (subst (λ n. 0 < n) number c.number-words.ensures.range.0)
     (subst (λ n. n ≤ 2 ^ 32) number c.number-words.ensures.range.1)
 
@@ -118,12 +119,22 @@ returns-clause-runs c =
     let layout = c.in_ok-layout.layout in
     let reads : IsProgramOf inputs.executable c.args.elf.now =
     record { reads = c.requires.reads; accepted = c.in_ok-program.ensures.acceptable } in
-    let ready : AreReady inputs c.args.nodes p plan image layout =
-    are_ready inputs c.args.nodes c.args.elf.now p plan image layout c.in_ok-program.ensures.ok reads
+    let ready : AreReady inputs.executable p plan image layout =
+    are_ready inputs.executable c.args.elf.now p plan image layout c.in_ok-program.ensures.ok reads
     c.in_ok-program.ensures.accepted c.in_ok-rewritten.ensures.plan
-    c.in_ok-rewritten.ensures.rewriting c.in_ok-judge_code.ensures.ok c.in_ok-layout.ensures.ok
+    c.in_ok-rewritten.ensures.rewriting
+    (laid_over p inputs.layout c.args.nodes layout c.in_ok-layout.ensures.ok)
     c.in_ok-layout.ensures.valid in
-    gives_runs inputs c.args.nodes c.args.budget p plan image layout ready
-    c.interleaving_law.ensures.interleaves c.interleaving_law.ensures.licensed
-    c.interleaving_law.ensures.coherent c.interleaving_law.ensures.stopped
-    c.progress_law.ensures.moves c.progress_law.ensures.over
+    let laws : HaveLaws = record {
+      law = c.interleaving_law.ensures.interleaves;
+      licensed = c.interleaving_law.ensures.licensed;
+      coherent = c.interleaving_law.ensures.coherent;
+      stopped = c.interleaving_law.ensures.stopped;
+      waits = c.progress_law.ensures.moves;
+      empty = c.progress_law.ensures.over;
+    } in
+    let code : IsFileOf (rewritten_elf p image plan) inputs.code =
+    subst (λ e. IsFileOf (rewritten_elf e image plan) inputs.code) (sym c.in_ok-program.ensures.ok)
+    c.in_ok-judge_code.ensures.ok in
+    gives_runs inputs c.args.nodes c.args.budget p plan image layout code c.in_ok-layout.ensures.ok
+    (gives_code inputs.executable c.args.budget p plan image layout ready laws)

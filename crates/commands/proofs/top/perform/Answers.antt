@@ -1,7 +1,11 @@
+use Rattle.command_line.specs.Commands.{Replay}
 use Rattle.command_line.specs.Meaning.{meaning_of, file_name}
 use Rattle.commands.specs.Answers.{SinkState, FilesState}
+use Rattle.commands.specs.Failures.{IsPerformFailure, IsReplayFailure}
 use Rattle.commands.specs.Given.{bytes_of}
-use Rattle.commands.proofs.AnswerLemmas.{plain_failure, puts_nothing}
+use Rattle.commands.proofs.AnswerLemmas.{err_as, plain_failure, puts_nothing}
+use Rattle.commands.proofs.GenerateLemmas.{generates}
+use Rattle.commands.proofs.ReplayLemmas.{replay_fails}
 use Rattle.commands.proofs.top.perform.Goals as goal
 
 pub returns-in-Rewrite-clause-ok : goal.returns-in-Rewrite-clause-ok
@@ -33,6 +37,25 @@ returns-in-Sim-clause-failure g c =
     let now : SinkState = record { taken = g.O.Sink.taken c.sim.new.out; faults = g.O.Sink.faults c.sim.new.out; refusals = g.O.Sink.refusals c.sim.new.out } in
     plain_failure (meaning_of c.args.command.now) (bytes_of c.args.inputs.now) files files before now
     c.sim.result (rw c.in-Sim.is c.sim.ensures.failure)
+
+pub returns-in-Replay-clause-failure : goal.returns-in-Replay-clause-failure
+returns-in-Replay-clause-failure g c =
+    let files : FilesState = record { held = g.F.Files.held c.args.files.now; failed_reads = g.F.Files.failed_reads c.args.files.now; failed_writes = g.F.Files.failed_writes c.args.files.now } in
+    let before : SinkState = record { taken = g.O.Sink.taken c.args.out.now; faults = g.O.Sink.faults c.args.out.now; refusals = g.O.Sink.refusals c.args.out.now } in
+    let now : SinkState = record { taken = g.O.Sink.taken c.put_replay.new.out; faults = g.O.Sink.faults c.put_replay.new.out; refusals = g.O.Sink.refusals c.put_replay.new.out } in
+    let inputs = bytes_of c.args.inputs.now in
+    let brief = c.in-Replay.brief in
+    let asked = Replay c.in-Replay.file.now c.in-Replay.record_file.now brief in
+    rw c.in-Replay.is (err_as (IsReplayFailure inputs brief before now)
+    (IsPerformFailure asked inputs files files before now) c.put_replay.result
+    (replay_fails c.in-Replay.file.now c.in-Replay.record_file.now brief inputs files files before now)
+    c.put_replay.ensures.failure)
+
+pub returns-in-Generate-clause-ok : goal.returns-in-Generate-clause-ok
+returns-in-Generate-clause-ok g c =
+    rw c.in-Generate.is (generates c.in-Generate.number c.in-Generate.output.now
+    (g.F.Files.held c.generate_into.new.files) (bytes_of c.args.inputs.now)
+    (g.O.Sink.taken c.args.out.now) c.generate_into.result c.generate_into.ensures.status)
 
 pub returns-in-Run-clause-ok : goal.returns-in-Run-clause-ok
 returns-in-Run-clause-ok g c =

@@ -7,7 +7,7 @@ use Rattle.commands.specs.Failures.{IsFailure, IsSuccess, AreLeft, AreWritten, l
 use Rattle.commands.specs.Headline.{AreTold}
 use Rattle.commands.specs.Inputs.{inputs_of}
 use Rattle.commands.specs.Text.{usage}
-use Rattle.commands.proofs.AnswerLemmas.{fault_of, refusal_of, layout_refusal_of, prefix_of_failure, asked_as, none_as}
+use Rattle.commands.proofs.AnswerLemmas.{fault_of, refusal_of, layout_refusal_of, record_refusal_of, prefix_of_failure, asked_as, none_as}
 use Rattle.commands.proofs.top.shasta.Goals as goal
 
 pub returns-in-Ok-None-clause-usage : goal.returns-in-Ok-None-clause-usage
@@ -77,6 +77,24 @@ returns-in-Err-answer-clause-layout g c = λ d contents asks known six.
     subst (Tells err_before err_now) c.line.ensures.value c.tell-in-Err-answer.ensures in
     layout_refusal_of d files files_now before now c.in-Err-answer.failure (Tells err_before err_now) failure told
     (sym c.status.ensures.value ∙ six) contents known
+
+pub returns-in-Err-answer-clause-record : goal.returns-in-Err-answer-clause-record
+returns-in-Err-answer-clause-record g c = λ d contents asks known seven.
+    let cmd = meaning_of c.in-Ok-Some.command in
+    let same : cmd ≡ d = c.in-Ok-Some.ensures.only cmd d
+    (asked_as c.args.words.now _ c.in-Ok-Some.command (search rules) c.in-Ok-Some.ensures.asks) asks in
+    let before : SinkState = record { taken = g.O.Sink.taken c.args.out.now; faults = g.O.Sink.faults c.args.out.now; refusals = g.O.Sink.refusals c.args.out.now } in
+    let now : SinkState = record { taken = g.O.Sink.taken c.answer.new.out; faults = g.O.Sink.faults c.answer.new.out; refusals = g.O.Sink.refusals c.answer.new.out } in
+    let files : FilesState = record { held = g.F.Files.held c.args.files.now; failed_reads = g.F.Files.failed_reads c.args.files.now; failed_writes = g.F.Files.failed_writes c.args.files.now } in
+    let files_now : FilesState = record { held = g.F.Files.held c.answer.new.files; failed_reads = g.F.Files.failed_reads c.answer.new.files; failed_writes = g.F.Files.failed_writes c.answer.new.files } in
+    let failure : IsFailure d files files_now before now c.in-Err-answer.failure =
+    subst (λ x. IsFailure x files files_now before now c.in-Err-answer.failure) same c.in-Err-answer.ensures.failure in
+    let err_before : SinkState = record { taken = g.E.Sink.taken c.args.err.now; faults = g.E.Sink.faults c.args.err.now; refusals = g.E.Sink.refusals c.args.err.now } in
+    let err_now : SinkState = record { taken = g.E.Sink.taken c.tell-in-Err-answer.new.err; faults = g.E.Sink.faults c.tell-in-Err-answer.new.err; refusals = g.E.Sink.refusals c.tell-in-Err-answer.new.err } in
+    let told : Tells err_before err_now (line_of c.in-Err-answer.failure) =
+    subst (Tells err_before err_now) c.line.ensures.value c.tell-in-Err-answer.ensures in
+    record_refusal_of d files files_now before now c.in-Err-answer.failure (Tells err_before err_now) failure told
+    (sym c.status.ensures.value ∙ seven) contents known
 
 pub returns-in-Err-answer-clause-fault : goal.returns-in-Err-answer-clause-fault
 returns-in-Err-answer-clause-fault g c = λ d asks three.

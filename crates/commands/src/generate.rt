@@ -1,0 +1,46 @@
+//! `gen`: the executable that a number makes, into a file.
+
+ghost use Rattle.std.specs.Prelude.{◌≡◌, ◌≢◌, ℕ, List, IfOk, IfErr, IfSome, OnOk};
+ghost use Rattle.elf32_write.specs.Layout.{file_of};
+ghost use Rattle.workload.specs.Generated.{generated_elf};
+ghost use Rattle.commands.specs.Answers.{files_of};
+ghost use Rattle.commands.specs.Failures.{IsWriteFailure};
+
+use crate::failure::Failure;
+use crate::output::write_file;
+use dsm_io::Files;
+use elf32_write::write_elf;
+use std::alloc::{AllocError, Global};
+use workload::program_of;
+
+/// Writes the executable that a number makes into the file `output`; the status is 0.
+pub fn generate_into<F: Files>(
+    alloc: Global,
+    number: u32,
+    output: &str,
+    files: &mut F,
+) -> Result<u8, Failure>
+    ensures status { IfOk result (λ status. status ≡ 0) }
+    ensures holds { OnOk result
+        (IfSome (F.held files.new output.now) (λ bytes. bytes ≡ file_of (generated_elf number))) }
+    ensures failure { IfErr result (IsWriteFailure
+        (files_of (F.held files.old) (F.failed_reads files.old) (F.failed_writes files.old))
+        (files_of (F.held files.new) (F.failed_reads files.new) (F.failed_writes files.new))
+        output.now) }
+    ensures others { (n : List ℕ) → n ≢ output.now → F.held files.new n ≡ F.held files.old n }
+{
+    let bytes = generated_file(alloc, number)?;
+    write_file(alloc, files, output, &bytes)?;
+    Ok(0)
+}
+
+/// The file of the executable that a number makes.
+fn generated_file(alloc: Global, number: u32) -> Result<Vec<u8>, AllocError>
+    ensures { IfOk result (λ bytes. bytes.items ≡ file_of (generated_elf number)) }
+{
+    let generated = program_of(alloc, number)?;
+    let elf = generated.elf(alloc)?;
+    let mut bytes = Vec::new(alloc);
+    write_elf(&elf, &mut bytes)?;
+    Ok(bytes)
+}
