@@ -1,12 +1,11 @@
 //! LR, SC and the AMOs on one memory and rewritten, and processors that share a counter.
 
-use crate::calls::{Answer, NODE, executable, text_of, try_call, try_program, words_of};
-use std::sync::Wait;
+use crate::calls::{NODE, text_of};
+use crate::cases::{Case, Input, try_case, try_program};
 use std::test::Fail;
-use std::thread::Threads;
 
 /// Programs whose data's memory has 64 bytes of zeros, and how each ends.
-const CASES: [(&str, &str); 15] = [
+const RESERVATIONS: [(&str, &str); 15] = [
     // lui x5, 0x20; lr.w x6, (x5); sc.w x7, x6, (x5); sc.w x10, x6, (x5); slli x7, x7, 4;
     // add x10, x10, x7; addi x17, x0, 93; ecall: the first SC stores and leaves no reservation
     (
@@ -70,8 +69,8 @@ const CASES: [(&str, &str); 15] = [
 
 #[test]
 fn reserves_and_stores_where_reserved(rt: HostRuntime) -> Result<(), Fail> {
-    for (code, end) in CASES {
-        try_program(&rt, code, b"", end, NODE)?;
+    for (code, end) in RESERVATIONS {
+        try_program(&rt, code, "", end)?;
     }
     Ok(())
 }
@@ -109,24 +108,13 @@ const UPDATES: [(&str, &str, &str); 10] = [
     ("c065a3af", "80000001", "80000001"),
 ];
 
-/// Executes an AMO on the word 0x80000001 with an operand, and fails the test where it leaves another
-/// word or gives another value.
-fn try_update(
-    rt: &(impl Threads + Wait + Sync + AllocGlobal),
-    word: &str,
-    operand: &str,
-    new: &str,
-) -> Result<(), Fail> {
-    let alloc = rt.alloc();
-    let code = text_of(alloc, &[BEFORE, word, BEHIND])?;
-    let data = text_of(alloc, &["80000001 00000000 ", operand, " ", new])?;
-    try_program(rt, &code, &words_of(alloc, &data)?, "exit 0", NODE)
-}
-
 #[test]
 fn updates_a_word_and_gives_the_old_one(rt: HostRuntime) -> Result<(), Fail> {
+    let alloc = rt.alloc();
     for (word, operand, new) in UPDATES {
-        try_update(&rt, word, operand, new)?;
+        let code = text_of(alloc, &[BEFORE, word, BEHIND])?;
+        let data = text_of(alloc, &["80000001 00000000 ", operand, " ", new])?;
+        try_program(&rt, &code, &data, "exit 0")?;
     }
     Ok(())
 }
@@ -141,32 +129,40 @@ pub const COUNTER: &str = "000202b7 3e800313 1002a3af 00138393 1872ae2f fe0e1ae3
     04028e93 00100f13 01eea02f 00051e63 000eaf83 febf9ee3 0002a303 00435513 05d00893 00000073
     00000513 05d00893 00000073";
 
-/// What the counter ends with, of two processors.
-pub const COUNTED: Answer<'static> = Answer {
-    status: 1,
-    out: "output 0\n\nprocessor 0 exit 125\nprocessor 1 exit 0\n",
-    err: "",
-};
+/// What two processors that count print.
+pub const COUNTED: &str = "output 0\n\nprocessor 0 exit 125\nprocessor 1 exit 0\n";
+
+/// Two processors that count, and one.
+const CASES: [Case; 2] = [
+    Case {
+        input: Input::Program(COUNTER, b"", 128),
+        text: "",
+        calls: &[
+            "one IN --nodes 2",
+            "one IN --nodes 2 --order 1",
+            "one IN --nodes 2 --order 77",
+            "sim IN --nodes 2 --brief",
+            "sim IN --nodes 2 --brief --order 1",
+            "sim IN --nodes 2 --brief --order 7",
+        ],
+        status: 1,
+        out: &[COUNTED],
+        err: "",
+    },
+    Case {
+        input: Input::Program(COUNTER, b"", 128),
+        text: "",
+        calls: &["run IN"],
+        status: 1,
+        out: &["output 0\n\nprocessor 0 exit 62\n", NODE],
+        err: "",
+    },
+];
 
 #[test]
 fn counts_by_two_processors(rt: HostRuntime) -> Result<(), Fail> {
-    let alloc = rt.alloc();
-    let file = executable(alloc, COUNTER, b"", 128)?;
-    for words in [
-        "one IN --nodes 2",
-        "one IN --nodes 2 --order 1",
-        "one IN --nodes 2 --order 77",
-        "sim IN --nodes 2 --brief",
-        "sim IN --nodes 2 --brief --order 1",
-        "sim IN --nodes 2 --brief --order 7",
-    ] {
-        try_call(&rt, &file, words, &COUNTED)?;
+    for case in &CASES {
+        try_case(&rt, case)?;
     }
-    let out = text_of(alloc, &["output 0\n\nprocessor 0 exit 62\n", NODE])?;
-    let answer = Answer {
-        status: 1,
-        out: &out,
-        err: "",
-    };
-    try_call(&rt, &file, "run IN", &answer)
+    Ok(())
 }

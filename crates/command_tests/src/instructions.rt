@@ -2,13 +2,13 @@
 //! memory and rewritten. Above each stands its assembly without the last two instructions, which
 //! are `addi x17, x0, 93; ecall`; a branch's target is a distance.
 
-use crate::calls::{NODE, try_program};
+use crate::cases::try_program;
 use std::test::Fail;
 
 #[test]
 fn executes_each_instruction(rt: HostRuntime) -> Result<(), Fail> {
     for (code, end) in PROGRAMS {
-        try_program(&rt, code, b"", end, NODE)?;
+        try_program(&rt, code, "", end)?;
     }
     Ok(())
 }

@@ -8,6 +8,8 @@ mod atomics;
 #[cfg(test)]
 mod calls;
 #[cfg(test)]
+mod cases;
+#[cfg(test)]
 mod code;
 #[cfg(test)]
 mod faults;
@@ -18,12 +20,12 @@ mod layouts;
 #[cfg(test)]
 mod nodes;
 #[cfg(test)]
-mod orders;
-#[cfg(test)]
 mod programs;
 #[cfg(test)]
 mod refusals;
 #[cfg(test)]
-mod rewriting;
+mod replays;
 #[cfg(test)]
 mod threads;
+#[cfg(test)]
+mod watch;

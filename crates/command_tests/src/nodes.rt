@@ -1,9 +1,7 @@
 //! `sim` on two nodes: how their processors end, and what they count.
 
-use crate::calls::{Answer, executable, try_call};
-use std::sync::Wait;
+use crate::cases::{Case, Input, try_case};
 use std::test::Fail;
-use std::thread::Threads;
 
 /// Processor 1 reads a word: `lui x5, 0x20; beq x10, x0, 8; lw x6, 0(x5); addi x10, x0, 0;
 /// addi x17, x0, 93; ecall`.
@@ -40,43 +38,66 @@ node 0 read 0 exclusive 0 upgrade 0 false 0 invalidations 0 fallbacks 0 messages
 node 1 read 1 exclusive 0 upgrade 0 false 0 invalidations 0 fallbacks 0 messages 2
 ";
 
-/// A program, the words of a call, and its status and output.
-const ROWS: [(&str, &str, u8, &str); 11] = [
-    (READS, "sim IN --nodes 2", 0, READ),
-    (READS, "sim --order 1 IN --nodes=2", 0, READ),
-    (READS, "sim IN --nodes 2 --order 77", 0, READ),
-    (READS, "sim IN --nodes 2 --order 4294967295", 0, READ),
-    (WAITS, "sim IN --nodes 2 --brief", 0, WAITED),
-    (WAITS, "sim --brief --nodes 2 --order 1 IN", 0, WAITED),
-    (WAITS, "sim --brief --nodes 2 --order 5 IN", 0, WAITED),
-    (STAYS, "sim IN --nodes 2 --budget 1000", 1, STAYED),
-    (STAYS, "sim IN --nodes 2 --budget 1000 --order 9", 1, STAYED),
-    (READS, "one IN --nodes 2", 0, WAITED),
-    (WAITS, "one IN --nodes 2", 0, WAITED),
-];
-
-/// Makes a call on a program whose data is zeros, and fails the test where it answers otherwise.
-fn try_row(
-    rt: &(impl Threads + Wait + Sync + AllocGlobal),
-    code: &str,
-    words: &str,
-    status: u8,
-    out: &str,
-) -> Result<(), Fail> {
-    let alloc = rt.alloc();
-    let file = executable(alloc, code, b"", 64)?;
-    let answer = Answer {
-        status,
-        out,
+/// Programs whose data is zeros.
+const CASES: [Case; 5] = [
+    Case {
+        input: Input::Program(READS, b"", 64),
+        text: "",
+        calls: &[
+            "sim IN --nodes 2",
+            "sim --order 1 IN --nodes=2",
+            "sim IN --nodes 2 --order 77",
+            "sim IN --nodes 2 --order 4294967295",
+        ],
+        status: 0,
+        out: &[READ],
         err: "",
-    };
-    try_call(rt, &file, words, &answer)
-}
+    },
+    Case {
+        input: Input::Program(WAITS, b"", 64),
+        text: "",
+        calls: &[
+            "sim IN --nodes 2 --brief",
+            "sim --brief --nodes 2 --order 1 IN",
+            "sim --brief --nodes 2 --order 5 IN",
+        ],
+        status: 0,
+        out: &[WAITED],
+        err: "",
+    },
+    Case {
+        input: Input::Program(STAYS, b"", 64),
+        text: "",
+        calls: &[
+            "sim IN --nodes 2 --budget 1000",
+            "sim IN --nodes 2 --budget 1000 --order 9",
+        ],
+        status: 1,
+        out: &[STAYED],
+        err: "",
+    },
+    Case {
+        input: Input::Program(READS, b"", 64),
+        text: "",
+        calls: &["one IN --nodes 2"],
+        status: 0,
+        out: &[WAITED],
+        err: "",
+    },
+    Case {
+        input: Input::Program(WAITS, b"", 64),
+        text: "",
+        calls: &["one IN --nodes 2"],
+        status: 0,
+        out: &[WAITED],
+        err: "",
+    },
+];
 
 #[test]
 fn runs_two_nodes(rt: HostRuntime) -> Result<(), Fail> {
-    for (code, words, status, out) in ROWS {
-        try_row(&rt, code, words, status, out)?;
+    for case in &CASES {
+        try_case(&rt, case)?;
     }
     Ok(())
 }

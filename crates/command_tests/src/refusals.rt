@@ -1,6 +1,6 @@
-//! Each refusal of a file with its line, on changed copies of one executable.
+//! Each refusal of a file with its line, alone and with another: the one that is judged first is told.
 
-use crate::calls::{Answer, NODE, executable, text_of, try_call};
+use crate::calls::{Answer, NODE, executable, push_sizes, push_words, text_of, try_held};
 use std::alloc::Global;
 use std::sync::Wait;
 use std::test::Fail;
@@ -9,78 +9,79 @@ use std::thread::Threads;
 /// A program that exits with code 0: `addi x10, x0, 0; addi x17, x0, 93; ecall`.
 const CODE: &str = "00000513 05d00893 00000073";
 
-/// The length of its file with three bytes of data.
-const FILE_SIZE: usize = 8195;
+/// A file that isn't cut.
+const WHOLE: usize = usize::MAX;
 
-/// A file that is cut to a length and changed at some offsets, and what is told of it.
-struct Case {
+/// A rule: the length to which it cuts the file, the bytes that it changes, and what is told.
+struct Rule {
     len: usize,
     bytes: &'static [(usize, u8)],
     line: &'static str,
 }
 
-const CASES: [Case; 18] = [
-    Case {
+/// Rules that a file of 8195 bytes breaks, with two program headers and three bytes of data.
+const SMALL: [Rule; 18] = [
+    Rule {
         len: 51,
         bytes: &[],
         line: "1 Short",
     },
-    Case {
-        len: FILE_SIZE,
+    Rule {
+        len: WHOLE,
         bytes: &[(0, 0x7e)],
         line: "2 NotElf",
     },
-    Case {
-        len: FILE_SIZE,
+    Rule {
+        len: WHOLE,
         bytes: &[(4, 2)],
         line: "3 NotElf32",
     },
-    Case {
-        len: FILE_SIZE,
+    Rule {
+        len: WHOLE,
         bytes: &[(5, 2)],
         line: "3 NotElf32",
     },
     // e_type, and e_flags behind it
-    Case {
-        len: FILE_SIZE,
+    Rule {
+        len: WHOLE,
         bytes: &[(16, 3), (36, 1)],
         line: "4 NotExec type 3",
     },
-    Case {
-        len: FILE_SIZE,
+    Rule {
+        len: WHOLE,
         bytes: &[(18, 62), (19, 1)],
         line: "5 NotRiscv machine 318",
     },
-    Case {
-        len: FILE_SIZE,
+    Rule {
+        len: WHOLE,
         bytes: &[(36, 1)],
         line: "6 Flags 0x00000001",
     },
     // e_phnum 0, in a whole file and where the file ends behind its header; e_phentsize
-    Case {
-        len: FILE_SIZE,
+    Rule {
+        len: WHOLE,
         bytes: &[(44, 0)],
         line: "7 ProgramTable",
     },
-    Case {
+    Rule {
         len: 52,
         bytes: &[(44, 0)],
         line: "7 ProgramTable",
     },
-    Case {
-        len: FILE_SIZE,
+    Rule {
+        len: WHOLE,
         bytes: &[(42, 56)],
         line: "7 ProgramTable",
     },
     // one section header at offset 0, of no bytes
-    Case {
-        len: FILE_SIZE,
+    Rule {
+        len: WHOLE,
         bytes: &[(48, 1)],
         line: "8 SectionTable",
     },
     // e_shoff 0xfffffff0 with one section header of 40 bytes
-    Case {
-        len: FILE_SIZE,
+    Rule {
+        len: WHOLE,
         bytes: &[
             (32, 0xf0),
             (33, 0xff),
@@ -92,85 +93,281 @@ const CASES: [Case; 18] = [
         line: "8 SectionTable",
     },
     // PT_INTERP second, and the first outside: the lower number is told
-    Case {
-        len: FILE_SIZE,
+    Rule {
+        len: WHOLE,
         bytes: &[(59, 0xff), (84, 3)],
         line: "9 Dynamic header 1",
     },
     // p_offset 0xfffffff0
-    Case {
-        len: FILE_SIZE,
+    Rule {
+        len: WHOLE,
         bytes: &[(88, 0xf0), (89, 0xff), (90, 0xff), (91, 0xff)],
         line: "10 SegmentOutside header 1",
     },
     // p_filesz 0xffffffff: the sum with the offset is above 2^32
-    Case {
-        len: FILE_SIZE,
+    Rule {
+        len: WHOLE,
         bytes: &[(100, 0xff), (101, 0xff), (102, 0xff), (103, 0xff)],
         line: "10 SegmentOutside header 1",
     },
     // the file ends within the last segment
-    Case {
+    Rule {
         len: 8194,
         bytes: &[],
         line: "10 SegmentOutside header 1",
     },
     // p_memsz 2, of three bytes
-    Case {
-        len: FILE_SIZE,
+    Rule {
+        len: WHOLE,
         bytes: &[(104, 2)],
         line: "11 SegmentSizes header 1",
     },
     // p_vaddr 0xfffffffe and p_memsz 3
-    Case {
-        len: FILE_SIZE,
+    Rule {
+        len: WHOLE,
         bytes: &[(92, 0xfe), (93, 0xff), (94, 0xff), (95, 0xff)],
         line: "11 SegmentSizes header 1",
     },
 ];
 
-/// The executable, cut and changed.
-fn changed(alloc: Global, len: usize, bytes: &[(usize, u8)]) -> Result<Vec<u8>, Fail> {
-    let mut file = executable(alloc, CODE, b"hi\n", 3)?;
-    for (offset, byte) in bytes {
+/// Has a file break a rule.
+fn break_by(file: &mut Vec<u8>, rule: &Rule) {
+    for (offset, byte) in rule.bytes {
         if let Some(place) = file.get_mut(*offset) {
             *place = *byte;
         }
     }
-    file.truncate(len);
-    Ok(file)
+    file.truncate(rule.len);
 }
 
-/// Calls `list` on the file of a case, and fails the test where another line is told.
-fn try_case(rt: &(impl Threads + Wait + Sync + AllocGlobal), case: &Case) -> Result<(), Fail> {
-    let alloc = rt.alloc();
-    let file = changed(alloc, case.len, case.bytes)?;
-    let line = text_of(alloc, &["shasta: executable refused ", case.line, "\n"])?;
+/// Calls the program on a refused file, and fails the test where another refusal is told.
+fn try_refused(
+    rt: &(impl Threads + Wait + Sync + AllocGlobal),
+    file: &[u8],
+    words: &str,
+    line: &str,
+) -> Result<(), Fail> {
+    let err = text_of(rt.alloc(), &["shasta: executable refused ", line, "\n"])?;
     let answer = Answer {
         status: 4,
-        out: "",
-        err: &line,
+        out: &[],
+        err: &err,
     };
-    try_call(rt, &file, "list IN", &answer)
+    try_held(rt, &[("IN", file)], &[words], &answer)
 }
 
 #[test]
 fn tells_why_a_file_is_refused(rt: HostRuntime) -> Result<(), Fail> {
-    for case in &CASES {
-        try_case(&rt, case)?;
+    for rule in &SMALL {
+        let mut file = executable(rt.alloc(), CODE, b"hi\n", 3)?;
+        break_by(&mut file, rule);
+        try_refused(&rt, &file, "list IN", rule.line)?;
     }
     Ok(())
 }
 
+/// The flag of total store order breaks no rule.
+const ACCEPTED: Rule = Rule {
+    len: WHOLE,
+    bytes: &[(36, 0x10)],
+    line: "",
+};
+
 #[test]
 fn accepts_total_store_order(rt: HostRuntime) -> Result<(), Fail> {
-    let alloc = rt.alloc();
-    let file = changed(alloc, FILE_SIZE, &[(36, 0x10)])?;
-    let out = text_of(alloc, &["output 0\n\nprocessor 0 exit 0\n", NODE])?;
+    let mut file = executable(rt.alloc(), CODE, b"hi\n", 3)?;
+    break_by(&mut file, &ACCEPTED);
     let answer = Answer {
         status: 0,
-        out: &out,
+        out: &["output 0\n\nprocessor 0 exit 0\n", NODE],
         err: "",
     };
-    try_call(&rt, &file, "run IN", &answer)
+    try_held(&rt, &[("IN", &file)], &["run IN"], &answer)
+}
+
+/// The file header, with two of a thousand program headers and a section table that isn't there, and
+/// the code's program header before its sizes.
+const FILE_HEADER: &str = "464c457f 00010101 00000000 00000000 00f30002 00000001 00010000 00000034
+    00000000 00000000 00200034 00000002 00000000 00000001 00008000 00010000 00010000";
+
+/// The rest of that, and the program header of three bytes of data, which stand at 0x7f00.
+const DATA_HEADER: &str = "00000005 00001000
+    00000001 00007f00 00040000 00040000 00000003 00000003 00000006 00001000";
+
+/// A program header of an empty segment.
+const EMPTY_HEADER: &str =
+    "00000001 00000000 00000000 00000000 00000000 00000000 00000004 00000000";
+
+/// A section of code whose size is no multiple of 4.
+const CODE_SECTION: &str = "00000000 00000001 00000006 00010000 00008000 0000000a 00000000 00000000
+    00000004 00000000";
+
+/// So many instructions `lw x5, 0(x5)` have more rewritten words than there may be.
+const MANY: usize = 30_000;
+
+/// The rules, ascending.
+const RULES: [Rule; 20] = [
+    Rule {
+        len: 51,
+        bytes: &[],
+        line: "1 Short",
+    },
+    Rule {
+        len: WHOLE,
+        bytes: &[(0, 0x7e)],
+        line: "2 NotElf",
+    },
+    Rule {
+        len: WHOLE,
+        bytes: &[(4, 2)],
+        line: "3 NotElf32",
+    },
+    Rule {
+        len: WHOLE,
+        bytes: &[(16, 3)],
+        line: "4 NotExec type 3",
+    },
+    Rule {
+        len: WHOLE,
+        bytes: &[(18, 62)],
+        line: "5 NotRiscv machine 62",
+    },
+    Rule {
+        len: WHOLE,
+        bytes: &[(36, 1)],
+        line: "6 Flags 0x00000001",
+    },
+    // e_phentsize 56
+    Rule {
+        len: WHOLE,
+        bytes: &[(42, 56)],
+        line: "7 ProgramTable",
+    },
+    // a section header, of no bytes
+    Rule {
+        len: WHOLE,
+        bytes: &[(46, 0), (48, 1)],
+        line: "8 SectionTable",
+    },
+    // PT_INTERP second
+    Rule {
+        len: WHOLE,
+        bytes: &[(84, 3)],
+        line: "9 Dynamic header 1",
+    },
+    // the first p_offset 0xff008000
+    Rule {
+        len: WHOLE,
+        bytes: &[(59, 0xff)],
+        line: "10 SegmentOutside header 0",
+    },
+    // the last byte of the first p_memsz 8, of twelve bytes or 120,012
+    Rule {
+        len: WHOLE,
+        bytes: &[(72, 8)],
+        line: "11 SegmentSizes header 0",
+    },
+    // the second p_vaddr 0x7fff0000
+    Rule {
+        len: WHOLE,
+        bytes: &[(94, 0xff), (95, 0x7f)],
+        line: "12 TooHigh segment 1",
+    },
+    // the first p_vaddr 0x00040000, which is the second too
+    Rule {
+        len: WHOLE,
+        bytes: &[(62, 4)],
+        line: "13 Overlap segments 0 1",
+    },
+    // the second p_flags 7
+    Rule {
+        len: WHOLE,
+        bytes: &[(108, 7)],
+        line: "14 WritableCode segment 1",
+    },
+    // the first p_flags 4
+    Rule {
+        len: WHOLE,
+        bytes: &[(76, 4)],
+        line: "15 NoCode",
+    },
+    // the second p_memsz 0x01000003
+    Rule {
+        len: WHOLE,
+        bytes: &[(107, 1)],
+        line: "16 TooMuch shared",
+    },
+    // e_entry 0x00010001
+    Rule {
+        len: WHOLE,
+        bytes: &[(24, 1)],
+        line: "17 EntryNotCode 0x00010001",
+    },
+    // csrrs x5, cycle, x0
+    Rule {
+        len: WHOLE,
+        bytes: &[(0x8000, 0xf3), (0x8001, 0x22), (0x8002, 0), (0x8003, 0xc0)],
+        line: "18 Unsupported 0x00010000 word 0xc00022f3",
+    },
+    // two section headers at 0x7e00, of which the second is of ten bytes of code
+    Rule {
+        len: WHOLE,
+        bytes: &[(33, 0x7e), (46, 40), (48, 2)],
+        line: "19 CodeAlign section 0",
+    },
+    // e_phnum 1000
+    Rule {
+        len: WHOLE,
+        bytes: &[(44, 0xe8), (45, 3)],
+        line: "22 TooManySegments 1000 segments",
+    },
+];
+
+/// A file that breaks no rule but where it has many loads: a thousand program headers, of which two
+/// count, the header of a section, the data, and so many loads before the code.
+fn file_of(alloc: Global, loads: usize) -> Result<Vec<u8>, Fail> {
+    let mut code = Vec::new(alloc);
+    for _ in 0..loads {
+        push_words(&mut code, "0002a283")?;
+    }
+    push_words(&mut code, CODE)?;
+    let mut file = Vec::new(alloc);
+    push_words(&mut file, FILE_HEADER)?;
+    push_sizes(&mut file, code.len(), u32::try_from(code.len())?)?;
+    push_words(&mut file, DATA_HEADER)?;
+    for _ in 2..1000 {
+        push_words(&mut file, EMPTY_HEADER)?;
+    }
+    file.resize(0x7e00 + 40, 0)?;
+    push_words(&mut file, CODE_SECTION)?;
+    file.resize(0x7f00, 0)?;
+    file.extend_from_slice(b"hi\n")?;
+    file.resize(0x8000, 0)?;
+    file.extend_from_slice(&code)?;
+    Ok(file)
+}
+
+#[test]
+fn tells_the_lowest_refusal(rt: HostRuntime) -> Result<(), Fail> {
+    for (count, higher) in RULES.iter().enumerate() {
+        for lower in RULES.iter().take(count + 1) {
+            let mut file = file_of(rt.alloc(), 0)?;
+            break_by(&mut file, higher);
+            break_by(&mut file, lower);
+            try_refused(&rt, &file, "list IN", lower.line)?;
+        }
+    }
+    Ok(())
+}
+
+/// What a program is refused for is told before its rewritten words are counted.
+#[test]
+fn counts_the_words_last(rt: HostRuntime) -> Result<(), Fail> {
+    let many = file_of(rt.alloc(), MANY)?;
+    for rule in &RULES {
+        let mut file = many.as_slice().to_vec(rt.alloc())?;
+        break_by(&mut file, rule);
+        try_refused(&rt, &file, "run IN", rule.line)?;
+    }
+    try_refused(&rt, &many, "run IN", "20 CodeTooLarge 270005 words")
 }

@@ -1,14 +1,13 @@
 //! `run` on two nodes in threads of their own, its record, and what a gate is told.
 
-use crate::calls::{Answer, call_by, call_on, executable, files_of, try_call};
+use crate::calls::{Answer, call, executable, sure};
+use crate::cases::{Case, Input, try_case};
+use crate::faults::USAGE;
 use crate::nodes::{READ, READS, STAYED, STAYS, WAITED, WAITS};
-use dsm_io::{Files, Gate, OpenGate};
-use std::alloc::Global;
+use crate::watch::Watch;
 use std::str::from_utf8;
 use std::sync::Wait;
-use std::sync::atomic::{AtomicBool, AtomicU64, Ordering};
 use std::test::Fail;
-use std::thread;
 use std::thread::Threads;
 
 /// Each of two processors adds 1 to a word a thousand times, by LR and SC, and says by an AMO on
@@ -46,80 +45,22 @@ node 0
 /// The lines of its record before those of the takes, which depend on the order of events.
 const HEAD: &str = "shasta-record 1\nnodes 2\nbudget 100000000\nbatch 1\nnode 0\n";
 
-/// The executable of the program that reads.
-fn reader(alloc: Global) -> Result<Vec<u8>, Fail> {
-    executable(alloc, READS, b"\x07\x00\x00\x00", 64)
-}
-
-/// A gate that counts the calls of each of two nodes, and keeps the greatest number of events that
-/// node 1 was told to have made. It may hold back the second event of node 0 until node 1 has made
-/// one, for a million turns at most; where these were not enough it is late.
-#[derive(Drop)]
-struct Watch {
-    holds: bool,
-    calls: [AtomicU64; 2],
-    made: AtomicU64,
-    late: AtomicBool,
-}
-
-impl Watch {
-    fn new(holds: bool) -> Watch {
-        Watch {
-            holds,
-            calls: [AtomicU64::new(0), AtomicU64::new(0)],
-            made: AtomicU64::new(0),
-            late: AtomicBool::new(false),
-        }
-    }
-
-    /// How often a node came by.
-    fn calls(&self, node: usize) -> u64 {
-        match self.calls.get(node) {
-            Some(calls) => calls.load(Ordering::SeqCst),
-            None => 0,
-        }
-    }
-}
-
-impl Gate for Watch {
-    fn turn(&self, node: u8, events: u64) {
-        if let Some(calls) = self.calls.get(usize::from(node)) {
-            calls.fetch_add(1, Ordering::SeqCst);
-        }
-        if node == 1 {
-            self.made.fetch_max(events, Ordering::SeqCst);
-        }
-        if self.holds && node == 0 && events == 1 {
-            for _turn in 0..1_000_000 {
-                if self.made.load(Ordering::SeqCst) > 0 {
-                    return;
-                }
-                thread::yield_now();
-            }
-            self.late.store(true, Ordering::SeqCst);
-        }
-    }
-}
-
 /// Runs the program that reads on two nodes, with this gate, and fails the test where its text
 /// isn't that of every order, or the head of its record is another.
 fn try_run(
     rt: &(impl Threads + Wait + Sync + AllocGlobal),
-    gate: &(impl Gate + Sync),
+    file: &[u8],
+    gate: &Watch,
 ) -> Result<(), Fail> {
-    let alloc = rt.alloc();
-    let file = reader(alloc)?;
-    let mut files = files_of(alloc, &[("IN", &file)], &[])?;
-    let words = "run IN --nodes 2 --record R";
-    let called = call_by(rt, &mut files, words, &[], gate)?;
+    let line = "run IN --nodes 2 --record R";
+    let called = call(rt, sure(&[("IN", file)]), line, "R", gate)?;
     let answer = Answer {
         status: 0,
-        out: READ,
+        out: &[READ],
         err: "",
     };
-    called.expect(words, &answer)?;
-    let record = files.read(alloc, "R", 0x10000)?;
-    let text = from_utf8(&record)?;
+    called.expect(rt.alloc(), line, &answer)?;
+    let text = from_utf8(&called.written)?;
     if text.starts_with(HEAD) && text.ends_with("end\n") && text.contains("end\nnode 1\ntake ") {
         return Ok(());
     }
@@ -127,105 +68,13 @@ fn try_run(
 }
 
 #[test]
-fn runs_two_nodes_with_a_record(rt: HostRuntime) -> Result<(), Fail> {
-    try_run(&rt, &OpenGate)
-}
-
-#[test]
-fn gives_the_text_of_sim(rt: HostRuntime) -> Result<(), Fail> {
-    let file = reader(rt.alloc())?;
-    let answer = Answer {
-        status: 0,
-        out: READ,
-        err: "",
-    };
-    for words in ["sim IN --nodes 2", "run IN --nodes 2 --record R"] {
-        try_call(&rt, &file, words, &answer)?;
-    }
-    Ok(())
-}
-
-#[test]
-fn asks_for_the_record_of_two_nodes(rt: HostRuntime) -> Result<(), Fail> {
-    let file = reader(rt.alloc())?;
-    for words in [
-        "run IN --nodes 2",
-        "run IN --nodes=16 --brief",
-        "run IN --nodes 2 --record=",
-        "run IN --nodes 17 --record R",
-        "sim IN --nodes 2 --record R",
-    ] {
-        let mut files = files_of(rt.alloc(), &[("IN", &file)], &[])?;
-        let called = call_on(&rt, &mut files, words, &[])?;
-        assert_eq!(rt; called.status, 2, "at {words}");
-    }
-    Ok(())
-}
-
-#[test]
-fn tells_that_the_record_is_not_written(rt: HostRuntime) -> Result<(), Fail> {
-    let file = reader(rt.alloc())?;
-    let answer = Answer {
-        status: 3,
-        out: "",
-        err: "shasta: cannot write R\n",
-    };
-    for words in ["run IN --nodes 2 --record R", "run IN --record R"] {
-        let mut files = files_of(rt.alloc(), &[("IN", &file)], &[2])?;
-        call_on(&rt, &mut files, words, &[])?.expect(words, &answer)?;
-    }
-    Ok(())
-}
-
-/// Calls the program with these words on two processors that count, and fails the test where it
-/// answers otherwise.
-fn try_counting(
-    rt: &(impl Threads + Wait + Sync + AllocGlobal),
-    words: &str,
-    gate: &(impl Gate + Sync),
-) -> Result<(), Fail> {
-    let alloc = rt.alloc();
-    let file = executable(alloc, COUNTS, b"", 128)?;
-    let mut files = files_of(alloc, &[("IN", &file)], &[])?;
-    let called = call_by(rt, &mut files, words, &[], gate)?;
-    if called.status == 0 && called.out.taken() == COUNTED && called.err.taken().is_empty() {
-        return Ok(());
-    }
-    let status = called.status;
-    Err(Fail::new(format_args!("{words}: {status}")))
-}
-
-#[test]
-fn counts_on_two_nodes(rt: HostRuntime) -> Result<(), Fail> {
-    for words in [
-        "one IN --nodes 2",
-        "sim IN --nodes 2 --brief",
-        "run IN --nodes 2 --record R --brief",
-    ] {
-        try_counting(&rt, words, &OpenGate)?;
-    }
-    Ok(())
-}
-
-#[test]
-fn passes_the_gate_before_each_event(rt: HostRuntime) -> Result<(), Fail> {
-    let gate = Watch::new(true);
-    try_counting(&rt, "run IN --nodes 2 --record R --brief", &gate)?;
-    assert!(rt; !gate.late.load(Ordering::SeqCst), "node 1 made no event");
-    for node in 0..2 {
-        let calls = gate.calls(node);
-        assert!(rt; calls >= 10, "node {node}: {calls}");
-    }
-    Ok(())
-}
-
-#[test]
 fn makes_events_in_threads(rt: HostRuntime) -> Result<(), Fail> {
+    let file = executable(rt.alloc(), READS, b"\x07\x00\x00\x00", 64)?;
     let mut runs_through: u64 = 0;
     for _run in 0..100 {
         let gate = Watch::new(false);
-        try_run(&rt, &gate)?;
-        if gate.made.load(Ordering::SeqCst) >= 14 {
+        try_run(&rt, &file, &gate)?;
+        if gate.made() >= 14 {
             runs_through = runs_through.saturating_add(1);
         }
     }
@@ -233,28 +82,90 @@ fn makes_events_in_threads(rt: HostRuntime) -> Result<(), Fail> {
     Ok(())
 }
 
-/// Programs whose data is zeros, the words of a run, and its status and output.
-const ENDS: [(&str, &str, u8, &str); 2] = [
-    (WAITS, "run IN --nodes 2 --record R --brief", 0, WAITED),
-    (
-        STAYS,
-        "run IN --nodes 2 --record R --budget 1000",
-        1,
-        STAYED,
-    ),
+/// Calls the program with these words on two processors that count, and fails the test where it
+/// answers otherwise.
+fn try_counting(
+    rt: &(impl Threads + Wait + Sync + AllocGlobal),
+    file: &[u8],
+    words: &str,
+    gate: &Watch,
+) -> Result<(), Fail> {
+    let called = call(rt, sure(&[("IN", file)]), words, "", gate)?;
+    if called.status == 0 && called.out.as_slice() == COUNTED && called.err.is_empty() {
+        return Ok(());
+    }
+    let status = called.status;
+    Err(Fail::new(format_args!("{words}: {status}")))
+}
+
+/// Two nodes count in any order, also where node 0 is held back until node 1 has made an event; each
+/// node of a run comes by the gate before its events.
+#[test]
+fn passes_the_gate_before_each_event(rt: HostRuntime) -> Result<(), Fail> {
+    let file = executable(rt.alloc(), COUNTS, b"", 128)?;
+    for (words, holds, least) in [
+        ("one IN --nodes 2", false, 0),
+        ("sim IN --nodes 2 --brief", false, 0),
+        ("run IN --nodes 2 --record R --brief", false, 10),
+        ("run IN --nodes 2 --record R --brief", true, 10),
+    ] {
+        let gate = Watch::new(holds);
+        try_counting(&rt, &file, words, &gate)?;
+        assert!(rt; !gate.is_late(), "node 1 made no event");
+        for calls in gate.calls() {
+            assert!(rt; calls >= least, "{words}: {calls}");
+        }
+    }
+    Ok(())
+}
+
+/// The text of `sim`, words that lack the record of two nodes, a node that takes messages at its
+/// polls, and a processor that is stopped at its budget.
+const CASES: [Case; 4] = [
+    Case {
+        input: Input::Program(READS, b"\x07\x00\x00\x00", 64),
+        text: "",
+        calls: &["sim IN --nodes 2", "run IN --nodes 2 --record R"],
+        status: 0,
+        out: &[READ],
+        err: "",
+    },
+    Case {
+        input: Input::Program(READS, b"\x07\x00\x00\x00", 64),
+        text: "",
+        calls: &[
+            "run IN --nodes 2",
+            "run IN --nodes=16 --brief",
+            "run IN --nodes 2 --record=",
+            "run IN --nodes 17 --record R",
+            "sim IN --nodes 2 --record R",
+        ],
+        status: 2,
+        out: &[],
+        err: USAGE,
+    },
+    Case {
+        input: Input::Program(WAITS, b"", 64),
+        text: "",
+        calls: &["run IN --nodes 2 --record R --brief"],
+        status: 0,
+        out: &[WAITED],
+        err: "",
+    },
+    Case {
+        input: Input::Program(STAYS, b"", 64),
+        text: "",
+        calls: &["run IN --nodes 2 --record R --budget 1000"],
+        status: 1,
+        out: &[STAYED],
+        err: "",
+    },
 ];
 
-/// A node takes messages at its polls, and a processor is stopped at its budget.
 #[test]
-fn waits_and_stops(rt: HostRuntime) -> Result<(), Fail> {
-    for (code, words, status, out) in ENDS {
-        let file = executable(rt.alloc(), code, b"", 64)?;
-        let answer = Answer {
-            status,
-            out,
-            err: "",
-        };
-        try_call(&rt, &file, words, &answer)?;
+fn runs_with_a_record(rt: HostRuntime) -> Result<(), Fail> {
+    for case in &CASES {
+        try_case(&rt, case)?;
     }
     Ok(())
 }
@@ -276,13 +187,11 @@ fn writes_bytes_that_another_stores(rt: HostRuntime) -> Result<(), Fail> {
     let data = vec![in alloc; b'A'; 8192]?;
     let file = executable(alloc, STORES, &data, 8192)?;
     let held = [("IN", file.as_slice()), ("BLOCKS", BLOCKS.as_bytes())];
-    let mut files = files_of(alloc, &held, &[])?;
-    let words = "run IN --nodes 2 --record R --layout BLOCKS --brief";
-    let called = call_on(&rt, &mut files, words, &[])?;
-    let out = from_utf8(called.out.taken())?;
+    let line = "run IN --nodes 2 --record R --layout BLOCKS --brief";
+    let called = call(&rt, sure(&held), line, "R", &Watch::new(false))?;
+    let out = from_utf8(&called.out)?;
     assert!(rt; called.status == 0 && is_mixed(out), "{out}");
-    let record = files.read(alloc, "R", 0x10000)?;
-    let text = from_utf8(&record)?;
+    let text = from_utf8(&called.written)?;
     assert!(rt; text.contains(RECORDED), "{text}");
     Ok(())
 }

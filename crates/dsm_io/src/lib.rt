@@ -16,8 +16,6 @@ mod real;
 mod schedule;
 mod store;
 mod sure;
-#[cfg(test)]
-mod tests;
 mod text;
 
 pub use memory::{MemFiles, MemSink};

@@ -1,33 +1,10 @@
 //! What is written, byte by byte, and what it reads as.
 
+use crate::files::{CODE, example, push_words};
 use elf32_read::{Elf, Section, Segment, read_elf};
 use elf32_write::{writable, write_elf};
-use std::alloc::{AllocError, Global};
+use std::alloc::Global;
 use std::test::Fail;
-
-/// The headers of an executable with 32 bytes of code and 3 of data, as little-endian words.
-const HEADERS: [u32; 29] = [
-    // e_ident, e_type and e_machine, e_version, e_entry, e_phoff, e_shoff, e_flags
-    0x464c457f, 0x00010101, 0, 0, 0x00f30002, 1, 0x10000, 52, 0, 0,
-    // e_ehsize and e_phentsize, e_phnum and e_shentsize, e_shnum and e_shstrndx
-    0x00200034, 2, 0,
-    // the code's program header
-    1, 0x1000, 0x10000, 0x10000, 32, 32, 5, 0x1000,
-    // the data's program header
-    1, 0x2000, 0x20000, 0x20000, 3, 3, 6, 0x1000,
-];
-
-/// The code of a program that writes `hi` and ends.
-const CODE: [u32; 8] = [
-    0x000205b7, 0x00100513, 0x00300613, 0x04000893, 0x00000073, 0x00000513, 0x05d00893, 0x00000073,
-];
-
-fn push_words(bytes: &mut Vec<u8>, words: &[u32]) -> Result<(), AllocError> {
-    for word in words {
-        bytes.extend_from_slice(&word.to_le_bytes())?;
-    }
-    Ok(())
-}
 
 /// The segments of a code and of data, of which the data's memory has so many bytes.
 fn segments<'a>(
@@ -71,12 +48,7 @@ fn writes_code_and_data(rt: HostRuntime) -> Result<(), Fail> {
     let parts = segments(alloc, &code, b"hi\n", 3)?;
     let e = Elf::make(0x10000, 0, parts, Vec::new(alloc)).ok_or("not made")?;
     let out = written(alloc, &e)?;
-    let mut expected = Vec::new(alloc);
-    push_words(&mut expected, &HEADERS)?;
-    expected.resize(0x1000, 0)?;
-    push_words(&mut expected, &CODE)?;
-    expected.resize(0x2000, 0)?;
-    expected.extend_from_slice(b"hi\n")?;
+    let expected = example(alloc, &CODE)?;
     assert_eq!(rt; out.len(), 8195);
     assert_eq!(rt; out.as_slice(), expected.as_slice());
     Ok(())

@@ -1,4 +1,4 @@
-//! Nodes that run rewritten code, event by event and to the end.
+//! Nodes that run rewritten code, event by event, to the end, and in threads of their own.
 
 ghost use Rattle.std.specs.Prelude.{◌≡◌, ◌<◌, ◌≤◌, IfOk};
 ghost use Rattle.exec_map.specs.Contents.{program_of};
@@ -7,17 +7,21 @@ ghost use Rattle.jump_map.specs.Image.{IsRewriting};
 use crate::files::{HI, executable};
 use block_layout::default_layout;
 use dsm_core::{Core, Event};
+use dsm_io::OpenGate;
 use elf32_read::read_elf;
 use exec_map::{End, Exit, Program, accept};
 use node_machine::{Entry, Node, NodeCounts, Standing};
+use node_threads::race_with;
 use rewriter::{Rewritten, rewrite};
 use run_limits::Budget;
 use std::alloc::{AllocError, Global};
+use std::sync::Wait;
 use std::test::Fail;
+use std::thread::Threads;
 
 /// A processor other than 0 loads a shared word; each exits with code 0:
 /// `lui x5, 0x20; beq x10, x0, 8; lw x6, 0(x5); addi x10, x0, 0; addi x17, x0, 93; ecall`.
-pub const ROW: [u32; 6] = [
+const ROW: [u32; 6] = [
     0x000202b7, 0x00050463, 0x0002a303, 0x00000513, 0x05d00893, 0x00000073,
 ];
 
@@ -29,13 +33,8 @@ const SHARERS: [u32; 11] = [
     0x00000513, 0x05d00893, 0x00000073,
 ];
 
-/// A take of a journal.
-fn take(stamp: u64, from: u8, words: u64) -> Entry {
-    Entry { stamp, from, words }
-}
-
 /// What a node counts that sent so many messages, and nothing else.
-pub fn sent(messages: u64) -> NodeCounts {
+fn sent(messages: u64) -> NodeCounts {
     NodeCounts {
         read: 0,
         exclusive: 0,
@@ -48,7 +47,7 @@ pub fn sent(messages: u64) -> NodeCounts {
 }
 
 /// So many nodes at the start, over the default layout.
-pub fn core_of<'a>(
+fn core_of<'a>(
     alloc: Global,
     rewritten: &'a Rewritten,
     program: &'a Program<'a>,
@@ -69,207 +68,262 @@ pub fn core_of<'a>(
     Ok(core)
 }
 
-/// Makes an event, or fails where it isn't allowed.
-fn make(core: &mut Core<'_>, event: Event) -> Result<(), Fail> {
-    if !core.enabled(event) {
-        return Err(Fail::from("an event that is allowed"));
-    }
-    core.step(event)?;
-    Ok(())
-}
-
-/// Makes an event where it is allowed.
-fn try_event(core: &mut Core<'_>, event: Event) -> Result<(), AllocError> {
+/// Makes an event where it is allowed, and tells whether it is.
+fn make(core: &mut Core<'_>, event: Event) -> Result<bool, AllocError> {
     if core.enabled(event) {
         core.step(event)?;
+        return Ok(true);
     }
-    Ok(())
+    Ok(false)
 }
 
 /// Each of two nodes takes a message from each where it may, and executes a word where it may.
 fn round(core: &mut Core<'_>) -> Result<(), AllocError> {
     for node in 0..2 {
-        for from in 0..2 {
-            try_event(core, Event::Take { node, from })?;
-        }
-        try_event(core, Event::Exec(node))?;
+        make(core, Event::Take { node, from: 0 })?;
+        make(core, Event::Take { node, from: 1 })?;
+        make(core, Event::Exec(node))?;
     }
     Ok(())
 }
 
-/// A node executes words until it stands at a poll or waits.
-fn execute(core: &mut Core<'_>, node: u8) -> Result<(), Fail> {
-    make(core, Event::Exec(node))?;
+/// Whether a node printed the three bytes, ended with code 0, and is over.
+fn has_ended(node: &Node<'_>) -> bool {
+    for (out, byte) in node.output().iter().zip(b"hi\n") {
+        if out.byte != *byte {
+            return false;
+        }
+    }
+    node.output().len() == 3
+        && node.end() == Some(End::Exited(Exit::Code(0)))
+        && node.standing() == Standing::Over
+}
+
+/// Whether two nodes print until they are over, where neither is at the start.
+fn have_printed(core: &mut Core<'_>) -> Result<bool, AllocError> {
+    if core.is_over() || core.enabled(Event::Exec(2)) || core.enabled(TAKE) {
+        return Ok(false);
+    }
+    for _ in 0..100 {
+        round(core)?;
+    }
+    let all = core.is_over() && core.layout().nodes() == 2;
+    Ok(all && has_ended(core.node(0)) && has_ended(core.node(1)))
+}
+
+/// What may not happen at the start, where no message is there.
+const TAKE: Event = Event::Take { node: 0, from: 1 };
+
+/// What two sharers do that then both want to write. A node that executes goes on until it stands at
+/// a poll or waits.
+const SHARING: [Event; 18] = [
+    Event::Exec(0),
+    Event::Exec(1),
+    // the Read, as it is forwarded; the Data; the Done
+    Event::Take { node: 0, from: 1 },
+    Event::Take { node: 0, from: 0 },
+    Event::Take { node: 1, from: 0 },
+    Event::Take { node: 0, from: 1 },
+    Event::Exec(1),
+    Event::Exec(0),
+    Event::Exec(1),
+    // the Write of node 0, which makes the home busy; the Write of node 1, which waits there
+    Event::Take { node: 0, from: 0 },
+    Event::Take { node: 0, from: 1 },
+    // the Inval; the Grant; the Ack, by which node 0 has the block
+    Event::Take { node: 1, from: 0 },
+    Event::Take { node: 0, from: 0 },
+    Event::Take { node: 0, from: 1 },
+    Event::Exec(0),
+    // the Done; the Write of node 1, as it is forwarded; the Data
+    Event::Take { node: 0, from: 0 },
+    Event::Take { node: 0, from: 0 },
+    Event::Take { node: 1, from: 0 },
+];
+
+/// Makes events, and fails where one isn't allowed.
+fn play(core: &mut Core<'_>, events: &[Event]) -> Result<(), Fail> {
+    for event in events {
+        if !make(core, *event)? {
+            return Err(Fail::from("an event that is allowed"));
+        }
+        if let Event::Exec(node) = event {
+            go_on(core, *node)?;
+        }
+    }
+    Ok(())
+}
+
+/// A node executes words until it stands at a poll or waits, a hundred at most.
+fn go_on(core: &mut Core<'_>, node: u8) -> Result<(), AllocError> {
     for _ in 0..100 {
         if node >= core.layout().nodes() || core.node(node).standing() != Standing::Running {
             return Ok(());
         }
         make(core, Event::Exec(node))?;
     }
-    Err(Fail::from("a node that stops"))
-}
-
-/// Nodes take messages: of each pair the first takes one from the second.
-fn take_from(core: &mut Core<'_>, takes: &[(u8, u8)]) -> Result<(), Fail> {
-    for (node, from) in takes {
-        make(
-            core,
-            Event::Take {
-                node: *node,
-                from: *from,
-            },
-        )?;
-    }
     Ok(())
 }
 
-/// The bytes that a node printed.
-fn printed(alloc: Global, node: &Node<'_>) -> Result<Vec<u8>, AllocError> {
-    let mut bytes = Vec::new(alloc);
-    for out in node.output() {
-        bytes.push(out.byte)?;
-    }
-    Ok(bytes)
-}
-
-/// Whether a node printed the three bytes, ended with code 0, and is over.
-fn has_ended(alloc: Global, node: &Node<'_>) -> Result<bool, AllocError> {
-    let bytes = printed(alloc, node)?;
-    let ended = bytes.as_slice() == b"hi\n".as_slice()
-        && node.end() == Some(End::Exited(Exit::Code(0)))
-        && node.standing() == Standing::Over;
-    Ok(ended)
-}
-
-/// Runs two nodes that print until they are over.
-fn try_printing(core: &mut Core<'_>, alloc: Global) -> Result<(), Fail> {
-    if core.is_over() {
-        return Err(Fail::from("no node is over at the start"));
-    }
-    if core.enabled(Event::Exec(2)) || core.enabled(Event::Take { node: 0, from: 1 }) {
-        return Err(Fail::from("no node 2 and no message is there"));
-    }
-    for _ in 0..100 {
-        round(core)?;
-    }
-    if !core.is_over() || core.layout().nodes() < 2 {
-        return Err(Fail::from("two nodes are over"));
-    }
-    if !has_ended(alloc, core.node(0))? || !has_ended(alloc, core.node(1))? {
-        return Err(Fail::from("each node prints three bytes and exits"));
-    }
-    Ok(())
-}
-
-/// Both nodes share a block, and then both want to write it.
-fn try_sharers(core: &mut Core<'_>) -> Result<(), Fail> {
-    execute(core, 0)?;
-    execute(core, 1)?;
-    // the Read, as it is forwarded; the Data; the Done
-    take_from(core, &[(0, 1), (0, 0), (1, 0), (0, 1)])?;
-    execute(core, 1)?;
-    execute(core, 0)?;
-    execute(core, 1)?;
-    // the Write of node 0, which makes the home busy; the Write of node 1, which waits there
-    take_from(core, &[(0, 0), (0, 1)])?;
-    // the Inval; the Grant; the Ack, by which node 0 has the block
-    take_from(core, &[(1, 0), (0, 0), (0, 1)])?;
-    execute(core, 0)?;
-    // the Done; the Write of node 1, as it is forwarded; the Data
-    take_from(core, &[(0, 0), (0, 0), (1, 0)])?;
+/// Whether two nodes share a block, and each then writes it in its turn.
+fn have_shared(core: &mut Core<'_>) -> Result<bool, Fail> {
+    play(core, &SHARING)?;
     core.finish()?;
-    if core.layout().nodes() < 2 {
-        return Err(Fail::from("two nodes"));
+    if core.layout().nodes() != 2 {
+        return Ok(false);
     }
     for node in 0..2 {
         let counts = core.node(node).counts();
         if counts.upgrade != 1 || counts.exclusive != 0 || counts.invalidations != 1 {
-            return Err(Fail::from("each counts one upgrade and gives up the block once"));
+            return Ok(false);
         }
     }
-    Ok(())
+    Ok(true)
 }
 
-/// Whether these are the takes and the counts of two nodes that are over.
+/// The takes of the node that has a block, and of the node that reads it.
+const HOME: [Entry; 5] = [
+    Entry {
+        stamp: 7,
+        from: 0,
+        words: 6,
+    },
+    Entry {
+        stamp: 9,
+        from: 1,
+        words: 0,
+    },
+    Entry {
+        stamp: 10,
+        from: 0,
+        words: 0,
+    },
+    Entry {
+        stamp: 12,
+        from: 1,
+        words: 0,
+    },
+    Entry {
+        stamp: 16,
+        from: 1,
+        words: 0,
+    },
+];
+
+const READER: [Entry; 3] = [
+    Entry {
+        stamp: 9,
+        from: 0,
+        words: 8,
+    },
+    Entry {
+        stamp: 11,
+        from: 0,
+        words: 0,
+    },
+    Entry {
+        stamp: 16,
+        from: 1,
+        words: 4,
+    },
+];
+
+/// Whether each node ended with code 0, the first sent so many messages and counted nothing else, and
+/// each other read one block and sent two messages.
+fn have_read(core: &Core<'_>, messages: u64) -> bool {
+    let reader = NodeCounts { read: 1, ..sent(2) };
+    for node in 0..core.layout().nodes() {
+        let counts = if node == 0 { sent(messages) } else { reader };
+        let end = core.node(node).end();
+        if end != Some(End::Exited(Exit::Code(0))) || core.node(node).counts() != counts {
+            return false;
+        }
+    }
+    core.is_over()
+}
+
+/// Whether two nodes have read, with these takes.
 fn is_row(core: &Core<'_>) -> bool {
-    if !core.is_over() || core.layout().nodes() < 2 {
-        return false;
-    }
-    let home = core.node(0);
-    let reader = core.node(1);
-    let home_takes = [
-        take(7, 0, 6),
-        take(9, 1, 0),
-        take(10, 0, 0),
-        take(12, 1, 0),
-        take(16, 1, 0),
-    ];
-    let reader_takes = [take(9, 0, 8), take(11, 0, 0), take(16, 1, 4)];
-    home.journal() == home_takes.as_slice()
-        && reader.journal() == reader_takes.as_slice()
-        && home.counts() == sent(2)
-        && reader.counts() == NodeCounts { read: 1, ..sent(2) }
+    core.layout().nodes() == 2
+        && have_read(core, 2)
+        && core.node(0).journal() == HOME.as_slice()
+        && core.node(1).journal() == READER.as_slice()
 }
 
-/// Finishes two nodes, of which one reads what the other has.
-fn try_row(mut core: Core<'_>) -> Result<(), Fail> {
+/// Whether two nodes that are finished have read, also where the core is put together again.
+fn is_kept(mut core: Core<'_>) -> Result<bool, Fail> {
     core.finish()?;
-    if !is_row(&core) {
-        return Err(Fail::from("the takes and counts of a read"));
-    }
+    let before = is_row(&core);
     let again = Core::put_together(core.take_apart());
-    if !is_row(&again) {
-        return Err(Fail::from("the same core, put together again"));
-    }
-    Ok(())
+    Ok(before && is_row(&again))
 }
 
-/// What two nodes are to do.
+/// What nodes are to do.
 #[derive(Clone, Copy)]
 enum Case {
     Print,
     Read,
     Share,
+    /// In threads, over links that hold one wire.
+    Race,
 }
 
-/// Has two nodes of a rewritten program do so.
-fn try_nodes(
-    alloc: Global,
+/// Has so many nodes of a rewritten program do so, and tells whether they did.
+fn has_come(
+    rt: &(impl Threads + Wait + Sync + AllocGlobal),
     rewritten: &Rewritten,
     program: &Program<'_>,
+    nodes: u8,
     case: Case,
-) -> Result<(), Fail>
-    requires { IsRewriting (program_of program.now) rewritten.now.plan rewritten.now.image }
+) -> Result<bool, Fail>
+    requires some { 0 < nodes }
+    requires few { nodes ≤ 16 }
+    requires rewriting { IsRewriting (program_of program.now) rewritten.now.plan rewritten.now.image }
 {
-    let mut core = core_of(alloc, rewritten, program, 2)?;
-    match case {
-        Case::Print => try_printing(&mut core, alloc)?,
-        Case::Read => try_row(core)?,
-        Case::Share => try_sharers(&mut core)?,
-    }
-    Ok(())
+    let alloc = rt.alloc();
+    let mut core = core_of(alloc, rewritten, program, nodes)?;
+    let come = match case {
+        Case::Print => have_printed(&mut core)?,
+        Case::Read => is_kept(core)?,
+        Case::Share => have_shared(&mut core)?,
+        Case::Race => have_read(&race_with(rt, alloc, core, 1, &OpenGate)?, 30),
+    };
+    Ok(come)
 }
 
-/// Has two nodes of the program with this code and data do so.
-fn try_case(alloc: Global, code: &[u32], data: &[u8], size: u32, case: Case) -> Result<(), Fail> {
-    let file = executable(alloc, code, data, size)?;
+/// Has nodes of the program with this code and data do so, and fails the test where they don't.
+fn try_case(
+    rt: &(impl Threads + Wait + Sync + AllocGlobal),
+    code: &[u32],
+    data: (&[u8], u32),
+    nodes: u8,
+    case: Case,
+) -> Result<(), Fail>
+    requires some { 0 < nodes }
+    requires few { nodes ≤ 16 }
+{
+    let alloc = rt.alloc();
+    let file = executable(alloc, code, data.0, data.1)?;
     let elf = read_elf(alloc, &file)?;
     let program = accept(alloc, &elf)?;
     let rewritten = rewrite(alloc, &program)?;
-    try_nodes(alloc, &rewritten, &program, case)
+    if has_come(rt, &rewritten, &program, nodes, case)? {
+        return Ok(());
+    }
+    Err(Fail::from("the end of each node, its output, its takes and its counts"))
+}
+
+/// A word of data, and the size of its memory.
+const SEVEN: (&[u8], u32) = (&[7, 0, 0, 0], 64);
+
+#[test]
+fn two_nodes_print_read_and_share(rt: HostRuntime) -> Result<(), Fail> {
+    try_case(&rt, &HI, (b"hi\n", 3), 2, Case::Print)?;
+    try_case(&rt, &ROW, SEVEN, 2, Case::Read)?;
+    try_case(&rt, &SHARERS, SEVEN, 2, Case::Share)
 }
 
 #[test]
-fn two_nodes_print_and_are_over(rt: HostRuntime) -> Result<(), Fail> {
-    try_case(rt.alloc(), &HI, b"hi\n", 3, Case::Print)
-}
-
-#[test]
-fn two_nodes_finish(rt: HostRuntime) -> Result<(), Fail> {
-    try_case(rt.alloc(), &ROW, &[7, 0, 0, 0], 64, Case::Read)
-}
-
-#[test]
-fn two_sharers_want_to_write(rt: HostRuntime) -> Result<(), Fail> {
-    try_case(rt.alloc(), &SHARERS, &[7, 0, 0, 0], 64, Case::Share)
+fn sixteen_nodes_over_links_of_one_wire(rt: HostRuntime) -> Result<(), Fail> {
+    try_case(&rt, &ROW, SEVEN, 16, Case::Race)
 }

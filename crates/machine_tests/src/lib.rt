@@ -12,8 +12,4 @@ mod machines;
 #[cfg(test)]
 mod plans;
 #[cfg(test)]
-mod races;
-#[cfg(test)]
-mod reservations;
-#[cfg(test)]
 mod rewritten_files;

@@ -1,4 +1,4 @@
-//! Steps of the original on one memory, and what an order chooses.
+//! Steps of the original on one memory, reservations and breaks, and what an order chooses.
 
 ghost use Rattle.std.specs.Prelude.{◌≡◌, ◌<◌};
 ghost use Rattle.one_memory.specs.Machine.{original_of};
@@ -9,14 +9,12 @@ use elf32_read::read_elf;
 use exec_map::{Exit, accept};
 use one_memory::{OneMemory, StepRefused};
 use run_limits::NodeCount;
+use std::alloc::{AllocError, Global};
 use std::test::Fail;
 use workload::order_of;
 
-/// The steps of a whole run of the program: 4 instructions, 4 steps of the write, 3 instructions.
-const WHOLE: usize = 11;
-
 /// So many steps of a processor.
-pub fn run(machine: &mut OneMemory<'_>, p: u8, steps: usize) -> Result<(), StepRefused>
+fn run(machine: &mut OneMemory<'_>, p: u8, steps: usize) -> Result<(), StepRefused>
     requires { p < (original_of machine.old).nodes }
     ensures { original_of machine.new ≡ original_of machine.old }
 {
@@ -26,10 +24,206 @@ pub fn run(machine: &mut OneMemory<'_>, p: u8, steps: usize) -> Result<(), StepR
     Ok(())
 }
 
-#[test]
-fn two_processors_print_and_end(rt: HostRuntime) -> Result<(), Fail> {
-    let alloc = rt.alloc();
-    let file = executable(alloc, &HI, b"hi\n", 3)?;
+/// The steps of a whole run of the program: 4 instructions, 4 steps of the write, 3 instructions.
+const WHOLE: usize = 11;
+
+/// Whether two processors printed these bytes and have these exits.
+fn stand(machine: &OneMemory<'_>, output: &[u8], exits: [Option<Exit>; 2]) -> bool
+    requires { (original_of machine.now).nodes ≡ 2 }
+{
+    machine.output() == output && [machine.exit(0), machine.exit(1)] == exits
+}
+
+/// Whether processor 1 prints and ends, and then processor 0.
+fn print_and_end(machine: &mut OneMemory<'_>) -> Result<bool, Fail>
+    requires { (original_of machine.old).nodes ≡ 2 }
+{
+    let exit = Some(Exit::Code(0));
+    run(machine, 1, WHOLE)?;
+    let first = stand(machine, b"hi\n", [None, exit]);
+    let ended = machine.step(1) == Err(StepRefused::Ended(1));
+    run(machine, 0, WHOLE)?;
+    Ok(first && ended && stand(machine, b"hi\nhi\n", [exit, exit]))
+}
+
+/// What processor 1 does while processor 0 has a reservation: so many instructions that do nothing,
+/// and a word. Whether the word ends the reservation, and whether processor 1 may break it before.
+struct Case {
+    /// Puts the address to be reserved in x7; x5 is 0x20000.
+    address: u32,
+    nothing: usize,
+    word: u32,
+    ends: bool,
+    breaks: bool,
+}
+
+const CASES: [Case; 9] = [
+    // addi x7, x5, 0; sw x0, 4(x5): into the block
+    Case {
+        address: 0x00028393,
+        nothing: 0,
+        word: 0x0002a223,
+        ends: true,
+        breaks: true,
+    },
+    // sw x0, 64(x5): into the next block
+    Case {
+        address: 0x00028393,
+        nothing: 0,
+        word: 0x0402a023,
+        ends: false,
+        breaks: false,
+    },
+    // amoadd.w x0, x0, (x5)
+    Case {
+        address: 0x00028393,
+        nothing: 0,
+        word: 0x0002a02f,
+        ends: true,
+        breaks: true,
+    },
+    // sc.w x0, x0, (x5): it fails, since processor 1 has no reservation
+    Case {
+        address: 0x00028393,
+        nothing: 0,
+        word: 0x1802a02f,
+        ends: false,
+        breaks: true,
+    },
+    // addi x7, x2, -16; sw x0, -16(x2): each in its own window
+    Case {
+        address: 0xff010393,
+        nothing: 0,
+        word: 0xfe012823,
+        ends: false,
+        breaks: false,
+    },
+    // the same, and sw x0, 4(x5)
+    Case {
+        address: 0xff010393,
+        nothing: 0,
+        word: 0x0002a223,
+        ends: false,
+        breaks: false,
+    },
+    // a stretch of 16 instructions
+    Case {
+        address: 0x00028393,
+        nothing: 15,
+        word: 0x0002a223,
+        ends: true,
+        breaks: true,
+    },
+    // a stretch of 17
+    Case {
+        address: 0x00028393,
+        nothing: 16,
+        word: 0x0002a223,
+        ends: true,
+        breaks: false,
+    },
+    // an AMO behind another instruction
+    Case {
+        address: 0x00028393,
+        nothing: 1,
+        word: 0x0002a02f,
+        ends: true,
+        breaks: false,
+    },
+];
+
+/// Both processors: lui x5, 0x20; the address; bne x10, x0, 20. Processor 0: lr.w x6, (x7);
+/// sc.w x10, x6, (x7); addi x17, x0, 93; ecall. Processor 1: what the case says; ebreak.
+fn code_of(alloc: Global, case: &Case) -> Result<Vec<u32>, AllocError> {
+    let mut code = Vec::new(alloc);
+    code.extend_from_slice(&[
+        0x000202b7,
+        case.address,
+        0x00051a63,
+        0x1003a32f,
+        0x1863a52f,
+        0x05d00893,
+        0x00000073,
+    ])?;
+    for _ in 0..case.nothing {
+        code.push(0x00000013)?;
+    }
+    code.push(case.word)?;
+    code.push(0x00100073)?;
+    Ok(code)
+}
+
+/// Tries to break the reservation of processor `p` by processor `q`, and fails the test where that
+/// may be done otherwise.
+fn try_break(machine: &mut OneMemory<'_>, p: u8, q: u8, may: bool) -> Result<(), Fail>
+    requires own { p < (original_of machine.old).nodes }
+    requires other { q < (original_of machine.old).nodes }
+    ensures { original_of machine.new ≡ original_of machine.old }
+{
+    if machine.break_reservation(p, q).is_ok() == may {
+        Ok(())
+    } else {
+        Err(Fail::from("a break that may be made otherwise"))
+    }
+}
+
+/// What processor 1 does while processor 0 has its reservation.
+fn act(machine: &mut OneMemory<'_>, case: &Case, breaks: bool) -> Result<(), Fail>
+    requires { (original_of machine.old).nodes ≡ 2 }
+    ensures { original_of machine.new ≡ original_of machine.old }
+{
+    if breaks {
+        return try_break(machine, 0, 1, case.breaks);
+    }
+    run(machine, 1, case.nothing)?;
+    run(machine, 1, 1)?;
+    Ok(())
+}
+
+/// How processor 0 ends, where processor 1 acts behind its LR.
+fn end_of(machine: &mut OneMemory<'_>, case: &Case, breaks: bool) -> Result<Option<Exit>, Fail>
+    requires { (original_of machine.old).nodes ≡ 2 }
+{
+    run(machine, 0, 4)?;
+    run(machine, 1, 3)?;
+    act(machine, case, breaks)?;
+    try_break(machine, 0, 0, false)?;
+    try_break(machine, 1, 0, false)?;
+    run(machine, 0, 3)?;
+    Ok(machine.exit(0))
+}
+
+/// What two processors do.
+#[derive(Clone, Copy)]
+enum Play<'a> {
+    Print,
+    /// Processor 1 makes the steps of the case.
+    Act(&'a Case),
+    /// Processor 1 tries to break the reservation.
+    Break(&'a Case),
+}
+
+/// Whether two processors do so as they should.
+fn does(machine: &mut OneMemory<'_>, what: Play<'_>) -> Result<bool, Fail>
+    requires { (original_of machine.old).nodes ≡ 2 }
+{
+    match what {
+        Play::Print => print_and_end(machine),
+        Play::Act(case) => {
+            let end = end_of(machine, case, false)?;
+            Ok(end == Some(Exit::Code(u8::from(case.ends))))
+        }
+        Play::Break(case) => {
+            let end = end_of(machine, case, true)?;
+            Ok(end == Some(Exit::Code(u8::from(case.breaks))))
+        }
+    }
+}
+
+/// Fails the test where two processors of this program, whose data's memory has 128 bytes, do
+/// otherwise than they should.
+fn try_play(alloc: Global, code: &[u32], what: Play<'_>) -> Result<(), Fail> {
+    let file = executable(alloc, code, b"hi\n", 128)?;
     let elf = read_elf(alloc, &file)?;
     let program = accept(alloc, &elf)?;
     let Some(nodes) = NodeCount::of(2) else {
@@ -38,27 +232,35 @@ fn two_processors_print_and_end(rt: HostRuntime) -> Result<(), Fail> {
     let ranges = program.shared_ranges(alloc)?;
     let layout = default_layout(alloc, &ranges, 2)?;
     let mut machine = OneMemory::new(alloc, &program, &layout, nodes)?;
-    run(&mut machine, 1, WHOLE)?;
-    assert_eq!(rt; machine.output(), b"hi\n".as_slice());
-    assert_eq!(rt; machine.exit(1), Some(Exit::Code(0)));
-    assert_eq!(rt; machine.exit(0), None);
-    assert_eq!(rt; machine.step(1), Err(StepRefused::Ended(1)));
-    run(&mut machine, 0, WHOLE)?;
-    assert_eq!(rt; machine.output(), b"hi\nhi\n".as_slice());
+    if does(&mut machine, what)? {
+        return Ok(());
+    }
+    Err(Fail::from("two processors that do otherwise"))
+}
+
+#[test]
+fn two_processors_print_and_end(rt: HostRuntime) -> Result<(), Fail> {
+    try_play(rt.alloc(), &HI, Play::Print)
+}
+
+#[test]
+fn others_end_reservations(rt: HostRuntime) -> Result<(), Fail> {
+    let alloc = rt.alloc();
+    for case in &CASES {
+        let code = code_of(alloc, case)?;
+        try_play(alloc, &code, Play::Act(case))?;
+        try_play(alloc, &code, Play::Break(case))?;
+    }
     Ok(())
 }
 
 #[test]
 fn an_order_chooses(rt: HostRuntime) -> Result<(), Fail> {
-    let mut order = order_of(0);
-    assert_eq!(rt; order.next(65536), 0x3c6e);
-    assert_eq!(rt; order.next(65536), 0x4750);
-    assert_eq!(rt; order.next(65536), 0xd1cc);
-    assert_eq!(rt; order.next(65536), 0xaaf9);
-    let mut among_two = order_of(0);
-    assert_eq!(rt; among_two.next(2), 0);
-    assert_eq!(rt; among_two.next(2), 0);
-    assert_eq!(rt; among_two.next(2), 0);
-    assert_eq!(rt; among_two.next(2), 1);
+    for (count, choices) in [(65536, [0x3c6e, 0x4750, 0xd1cc, 0xaaf9]), (2, [0, 0, 0, 1])] {
+        let mut order = order_of(0);
+        for choice in choices {
+            assert_eq!(rt; order.next(count), choice, "among {count}");
+        }
+    }
     Ok(())
 }

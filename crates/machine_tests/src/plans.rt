@@ -6,11 +6,11 @@ use crate::files::executable;
 use check_plan::plan_checks;
 use elf32_read::read_elf;
 use exec_map::accept;
-use flow_graph::{Graph, Next};
+use flow_graph::Graph;
 use liveness::Live;
 use rv32_decode::Reg;
 use std::test::Fail;
-use templates::{Scratch, Scratches};
+use templates::{Plan, Scratch};
 
 /// addi x5, x0, 3; addi x5, x5, -1; bne x5, x0, 0x00010004; addi x6, x0, 1; sw x6, 0(x7);
 /// jal x0, 0x00010014
@@ -24,218 +24,153 @@ const CALL: [u32; 5] = [0x00000513, 0x05d00893, 0x00000073, 0x0002a303, 0x000000
 /// lb x6, 0(x5); beq x5, x6, 0x00010006; addi x7, x0, 1; jalr x0, 0(x1); ebreak
 const ODD_BRANCH: [u32; 5] = [0x00028303, 0x00628163, 0x00100393, 0x00008067, 0x00100073];
 
-/// A place of a program, and the sets of the registers that are dead after it and at it, as bits:
-/// x0 is among them.
-struct Dead {
+/// The successors of a code word, whether it goes back, and whether anywhere.
+type Edges = (Option<u32>, Option<u32>, bool, bool);
+
+/// The sets of the registers that are dead after and at a code word, as bits with x0 among them, and
+/// whether x10 is dead after and at it.
+type Dead = (u32, u32, bool, bool);
+
+/// A scratch register: its number, and whether it is spilled.
+type Chosen = (u8, bool);
+
+/// What is known of a program, at addresses: its edges, its dead registers, and the scratch registers
+/// s and t of its sequences.
+struct Known {
     code: &'static [u32],
-    address: u32,
-    after: u32,
-    at: u32,
+    edges: &'static [(u32, Option<Edges>)],
+    dead: &'static [(u32, Option<Dead>)],
+    scratches: &'static [(u32, Option<(Chosen, Chosen)>)],
 }
 
-const DEAD: [Dead; 12] = [
-    // x5 and x7 are used in the loop and behind it; the loop's head defines x5
-    Dead {
+const KNOWN: [Known; 3] = [
+    Known {
         code: &LOOP,
-        address: 0x00010000,
-        after: 0xffffff5f,
-        at: 0xffffff7f,
+        edges: &[
+            (
+                0x00010008,
+                Some((Some(0x0001000c), Some(0x00010004), true, false)),
+            ),
+            (0x00010018, None),
+        ],
+        dead: &[
+            // x5 and x7 are used in the loop and behind it; the loop's head defines x5
+            (0x00010000, Some((0xffffff5f, 0xffffff7f, true, true))),
+            (0x00010004, Some((0xffffff5f, 0xffffff5f, true, true))),
+            (0x00010008, Some((0xffffff5f, 0xffffff5f, true, true))),
+            (0x0001000c, Some((0xffffff3f, 0xffffff7f, true, true))),
+            // what follows jumps to itself for ever
+            (0x00010010, Some((0xffffffff, 0xffffff3f, true, true))),
+        ],
+        scratches: &[
+            // all are dead behind the store
+            (0x00010010, Some(((1, false), (2, false)))),
+        ],
     },
-    Dead {
-        code: &LOOP,
-        address: 0x00010004,
-        after: 0xffffff5f,
-        at: 0xffffff5f,
-    },
-    Dead {
-        code: &LOOP,
-        address: 0x00010008,
-        after: 0xffffff5f,
-        at: 0xffffff5f,
-    },
-    Dead {
-        code: &LOOP,
-        address: 0x0001000c,
-        after: 0xffffff3f,
-        at: 0xffffff7f,
-    },
-    // what follows jumps to itself for ever
-    Dead {
-        code: &LOOP,
-        address: 0x00010010,
-        after: 0xffffffff,
-        at: 0xffffff3f,
-    },
-    // a call uses every register, and goes on
-    Dead {
+    Known {
         code: &CALL,
-        address: 0x00010000,
-        after: 0x00020001,
-        at: 0x00020401,
+        edges: &[],
+        dead: &[
+            // a call uses every register, and goes on
+            (0x00010000, Some((0x00020001, 0x00020401, false, true))),
+            (0x00010004, Some((0x00000001, 0x00020001, false, false))),
+            (0x00010008, Some((0x00000041, 0x00000001, false, false))),
+            (0x0001000c, Some((0x00000001, 0x00000041, false, false))),
+        ],
+        scratches: &[
+            // none is dead behind the load, which takes one
+            (0x0001000c, Some(((1, true), (0, false)))),
+        ],
     },
-    Dead {
-        code: &CALL,
-        address: 0x00010004,
-        after: 0x00000001,
-        at: 0x00020001,
-    },
-    Dead {
-        code: &CALL,
-        address: 0x00010008,
-        after: 0x00000041,
-        at: 0x00000001,
-    },
-    Dead {
-        code: &CALL,
-        address: 0x0001000c,
-        after: 0x00000001,
-        at: 0x00000041,
-    },
-    // a target that isn't a multiple of four is no successor
-    Dead {
+    Known {
         code: &ODD_BRANCH,
-        address: 0x00010004,
-        after: 0x00000081,
-        at: 0x00000081,
-    },
-    // nothing is dead after an indirect jump and a break
-    Dead {
-        code: &ODD_BRANCH,
-        address: 0x0001000c,
-        after: 0x00000001,
-        at: 0x00000001,
-    },
-    Dead {
-        code: &ODD_BRANCH,
-        address: 0x00010010,
-        after: 0x00000001,
-        at: 0x00000001,
+        edges: &[],
+        dead: &[
+            // a target that isn't a multiple of four is no successor
+            (0x00010004, Some((0x00000081, 0x00000081, false, false))),
+            // nothing is dead after an indirect jump and a break
+            (0x0001000c, Some((0x00000001, 0x00000001, false, false))),
+            (0x00010010, Some((0x00000001, 0x00000001, false, false))),
+        ],
+        scratches: &[
+            // x7 alone is dead
+            (0x00010000, Some(((7, false), (1, true)))),
+            (0x00010014, Some(((0, false), (0, false)))),
+        ],
     },
 ];
 
-#[test]
-fn dead_registers(rt: HostRuntime) -> Result<(), Fail> {
-    let alloc = rt.alloc();
-    for dead in &DEAD {
-        let file = executable(alloc, dead.code, b"\x05", 64)?;
-        let elf = read_elf(alloc, &file)?;
-        let program = accept(alloc, &elf)?;
-        let graph = Graph::of(alloc, &program)?;
-        let live = Live::of(alloc, &graph)?;
-        assert_eq!(rt; sets(&live, dead.address), Some((dead.after, dead.at)));
-    }
-    Ok(())
-}
-
-/// The registers that are dead after and at the code word at an address, and x0, as bits.
-fn sets(live: &Live<'_>, address: u32) -> Option<(u32, u32)> {
-    let _instruction = live.graph().code().at(address)?;
-    Some((
-        live.all_dead(address).bits() | 1,
-        live.all_dead_at(address).bits() | 1,
-    ))
-}
-
-#[test]
-fn successors_and_one_register(rt: HostRuntime) -> Result<(), Fail> {
-    let alloc = rt.alloc();
-    let file = executable(alloc, &LOOP, b"\x05", 64)?;
-    let elf = read_elf(alloc, &file)?;
-    let program = accept(alloc, &elf)?;
-    let graph = Graph::of(alloc, &program)?;
-    let live = Live::of(alloc, &graph)?;
-    let branch = Next {
-        first: Some(0x0001000c),
-        second: Some(0x00010004),
-    };
-    assert_eq!(rt; edges(&graph, 0x00010008), Some((branch, true, false)));
-    assert_eq!(rt; edges(&graph, 0x00010018), None);
-    assert_eq!(rt; of_one(&live, 0x0001000c, Reg::A0), Some((true, true)));
-    Ok(())
-}
-
-/// The successors of the code word at an address, whether it goes back, and whether anywhere.
-fn edges(graph: &Graph, address: u32) -> Option<(Next, bool, bool)> {
+/// The edges of the code word at an address.
+fn edges_of(graph: &Graph, address: u32) -> Option<Edges> {
     let _instruction = graph.code().at(address)?;
+    let next = graph.next(address);
+    let goes_back = graph.back(address);
     Some((
-        graph.next(address),
-        graph.back(address),
+        next.first,
+        next.second,
+        goes_back,
         graph.any_target(address),
     ))
 }
 
-/// Whether a register is dead after and at the code word at an address.
-fn of_one(live: &Live<'_>, address: u32, r: Reg) -> Option<(bool, bool)>
+/// The registers that are dead after and at the code word at an address, and whether one is.
+fn dead_of(live: &Live<'_>, address: u32, r: Reg) -> Option<Dead>
     requires nonzero { r ≡ 10 }
 {
     let _instruction = live.graph().code().at(address)?;
-    Some((live.dead(address, r), live.dead_at(address, r)))
+    let after = live.all_dead(address).bits() | 1;
+    let at = live.all_dead_at(address).bits() | 1;
+    Some((after, at, live.dead(address, r), live.dead_at(address, r)))
 }
 
-/// A place of a program, and the scratch registers s and t of its sequence: each number, and
-/// whether it is spilled.
-struct Chosen {
-    code: &'static [u32],
-    address: u32,
-    s: (u8, bool),
-    t: (u8, bool),
+/// The scratch registers s and t at an address.
+fn scratches_of(plan: &Plan, address: u32) -> Option<(Chosen, Chosen)> {
+    for entry in plan.entries() {
+        if entry.address == address {
+            return Some((chosen(&entry.single.s), chosen(&entry.single.t)));
+        }
+    }
+    None
 }
 
-const CHOSEN: [Chosen; 4] = [
-    // all are dead behind the store
-    Chosen {
-        code: &LOOP,
-        address: 0x00010010,
-        s: (1, false),
-        t: (2, false),
-    },
-    // none is dead behind the load, which takes one
-    Chosen {
-        code: &CALL,
-        address: 0x0001000c,
-        s: (1, true),
-        t: (0, false),
-    },
-    // x7 alone is dead
-    Chosen {
-        code: &ODD_BRANCH,
-        address: 0x00010000,
-        s: (7, false),
-        t: (1, true),
-    },
-    Chosen {
-        code: &ODD_BRANCH,
-        address: 0x00010014,
-        s: (0, false),
-        t: (0, false),
-    },
-];
+fn chosen(scratch: &Scratch) -> Chosen {
+    (scratch.register.number(), scratch.spilled)
+}
+
+/// Whether all that is known of a program is so.
+fn is_known(live: &Live<'_>, plan: &Plan, known: &Known) -> bool {
+    for (address, edges) in known.edges {
+        if edges_of(live.graph(), *address) != *edges {
+            return false;
+        }
+    }
+    for (address, dead) in known.dead {
+        if dead_of(live, *address, Reg::A0) != *dead {
+            return false;
+        }
+    }
+    for (address, scratches) in known.scratches {
+        if scratches_of(plan, *address) != *scratches {
+            return false;
+        }
+    }
+    true
+}
 
 #[test]
-fn scratch_registers(rt: HostRuntime) -> Result<(), Fail> {
+fn edges_dead_registers_and_scratches(rt: HostRuntime) -> Result<(), Fail> {
     let alloc = rt.alloc();
-    for chosen in &CHOSEN {
-        let file = executable(alloc, chosen.code, b"\x05", 64)?;
+    for known in &KNOWN {
+        let file = executable(alloc, known.code, b"\x05", 64)?;
         let elf = read_elf(alloc, &file)?;
         let program = accept(alloc, &elf)?;
         let graph = Graph::of(alloc, &program)?;
         let live = Live::of(alloc, &graph)?;
         let plan = plan_checks(alloc, &live)?;
-        let single = plan
-            .entries()
-            .iter()
-            .find(|e| e.address == chosen.address)
-            .map(|e| numbers(&e.single));
-        assert_eq!(rt; single, Some((chosen.s, chosen.t)));
+        if !is_known(&live, &plan, known) {
+            let words = known.code.len();
+            return Err(Fail::new(format_args!("the program of {words} words")));
+        }
     }
     Ok(())
-}
-
-/// The scratch registers s and t: each number, and whether it is spilled.
-fn numbers(scratches: &Scratches) -> ((u8, bool), (u8, bool)) {
-    (number(&scratches.s), number(&scratches.t))
-}
-
-fn number(scratch: &Scratch) -> (u8, bool) {
-    (scratch.register.number(), scratch.spilled)
 }

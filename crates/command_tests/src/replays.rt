@@ -1,0 +1,210 @@
+//! `replay` of records, and the executables that `gen` writes.
+
+use crate::calls::{Answer, Called, call, executable, sure, text_of, try_held};
+use crate::nodes::{READ, READS, WAITED};
+use crate::watch::Watch;
+use std::alloc::Global;
+use std::str::from_utf8;
+use std::sync::Wait;
+use std::test::Fail;
+use std::thread::Threads;
+
+/// A record of the program that reads, on two nodes: the last word of node 0 has the stamp 6. Then it
+/// takes its own Bye, the Read that node 1 sends at 8, its own FwdRead, Done and the Bye of node 1.
+const RECORD: &str = "shasta-record 1
+nodes 2
+budget 100000000
+batch 1
+node 0
+take 7 0 6
+take 9 1 0
+take 10 0 0
+take 12 1 0
+take 16 1 0
+end
+node 1
+take 9 0 8
+take 11 0 0
+take 16 1 4
+end
+";
+
+/// A part of the record, what stands in its place, and why it is refused then.
+const RECORDS: [(&str, &str, &str); 8] = [
+    ("take 16 1 4\nend\n", "take 16 1 4\n", "40 at line 16"),
+    ("take 7 0 6", "take 5 0 6", "41 at line 6"),
+    ("nodes 2", "nodes 17", "42 at line 2"),
+    ("record 1", "record 9", "43 at line 1"),
+    // the Read is not yet sent
+    ("take 9 1 0", "take 8 1 0", "44 at node 0 entry 2"),
+    // node 1 ends with its fourth word
+    ("take 16 1 4", "take 20 1 8", "45 at node 1 entry 3"),
+    // node 0 has not taken the Bye of node 1
+    ("take 16 1 0\n", "", "45 at node 0 entry 5"),
+    // the Bye has the stamp 15
+    ("take 16 1 0", "take 17 1 0", "46 at node 0 entry 5"),
+];
+
+/// Blocks in the record, and why its layout is refused then: a start that is no multiple of the size,
+/// and two blocks of one line.
+const LAYOUTS: [(&str, &str); 2] = [
+    (
+        "batch 1\nblock 0x00020020 0x00000040 64 *\n",
+        "32 at line 1",
+    ),
+    (
+        "batch 1\nblock 0x00020000 0x00000040 64 *\nblock 0x00020000 0x00000040 64 1\n",
+        "34 at line 2",
+    ),
+];
+
+/// Processor 0 writes the 200 bytes from 0x20ffc, and processor 1 stores 0x42 to each of them:
+/// `lui x5, 0x21; addi x5, x5, -4; bne x10, x0, 28; addi x10, x0, 1; addi x11, x5, 0;
+/// addi x12, x0, 200; addi x17, x0, 64; ecall; jal x0, 28; addi x6, x0, 200; addi x7, x0, 0x42;
+/// sb x7, 0(x5); addi x5, x5, 1; addi x6, x6, -1; bne x6, x0, -12; addi x10, x0, 0;
+/// addi x17, x0, 93; ecall`.
+const STORES: &str = "000212b7 ffc28293 00051e63 00100513 00028593 0c800613 04000893 00000073
+    01c0006f 0c800313 04200393 00728023 00128293 fff30313 fe031ae3 00000513 05d00893 00000073";
+
+/// Its layout: the bytes lie in blocks of 4096, of 128 and of 64 bytes.
+const BLOCKS: &str = "0x20000 0x1000 4096 0\n0x21000 0x80 128 *\n";
+
+/// The first instructions of the executable of 0: four pages, two rounds, and three groups.
+const FIRST: &str = "00010000: 00200437 lui x8, 0x200
+00010004: 00201937 lui x18, 0x201
+00010008: 002029b7 lui x19, 0x202
+0001000c: 00203a37 lui x20, 0x203
+00010010: 00200493 addi x9, x0, 2
+00010014: 00000693 addi x13, x0, 0
+00010018: 1b8a2603 lw x12, 440(x20)
+0001001c: 02900693 addi x13, x0, 41
+00010020: 54090713 addi x14, x18, 1344
+00010024: 00d7202f amoadd.w x0, x13, (x14)
+00010028: 8cd12623 sw x13, -1844(x2)
+";
+
+/// What it prints on one node: twice the sum that it adds, which is 250078.
+const SUM: &str = "output 9\n0007a1bc\n\nprocessor 0 exit 0\n";
+
+/// What it prints on two: as much of each.
+const SUM_OF_TWO: &str = "output 9\n000f4378\n\nprocessor 0 exit 0\nprocessor 1 exit 0\n";
+
+/// The executable of the program that reads.
+fn reader(alloc: Global) -> Result<Vec<u8>, Fail> {
+    executable(alloc, READS, b"\x07\x00\x00\x00", 64)
+}
+
+/// Makes a call, and fails the test where it answers otherwise.
+fn try_words(
+    rt: &(impl Threads + Wait + Sync + AllocGlobal),
+    files: &[(&str, &[u8])],
+    words: &str,
+    status: u8,
+    out: &str,
+    err: &str,
+) -> Result<(), Fail> {
+    let answer = Answer {
+        status,
+        out: &[out],
+        err,
+    };
+    try_held(rt, files, &[words], &answer)
+}
+
+#[test]
+fn replays_a_record(rt: HostRuntime) -> Result<(), Fail> {
+    let file = reader(rt.alloc())?;
+    let held = [("IN", file.as_slice()), ("R", RECORD.as_bytes())];
+    for (words, out) in [("replay IN R", READ), ("replay --brief IN R", WAITED)] {
+        try_words(&rt, &held, words, 0, out, "")?;
+    }
+    Ok(())
+}
+
+/// Replays the record with another part, and fails the test where another line is told.
+fn try_refused(
+    rt: &(impl Threads + Wait + Sync + AllocGlobal),
+    old: &str,
+    new: &str,
+    status: u8,
+    line: &[&str],
+) -> Result<(), Fail> {
+    let alloc = rt.alloc();
+    let record = RECORD.replace(alloc, old, new)?;
+    let err = text_of(alloc, line)?;
+    let file = reader(alloc)?;
+    let held = [("IN", file.as_slice()), ("R", record.as_bytes())];
+    try_words(rt, &held, "replay IN R", status, "", &err)
+}
+
+#[test]
+fn refuses_records(rt: HostRuntime) -> Result<(), Fail> {
+    for (old, new, why) in RECORDS {
+        let line = ["shasta: record refused ", why, "\n"];
+        try_refused(&rt, old, new, 7, &line)?;
+    }
+    for (new, why) in LAYOUTS {
+        let line = ["shasta: layout refused ", why, "\n"];
+        try_refused(&rt, "batch 1\n", new, 6, &line)?;
+    }
+    Ok(())
+}
+
+/// Calls the program with these words on these files, and gives what it did. Fails the test where the
+/// status isn't 0.
+fn done(
+    rt: &(impl Threads + Wait + Sync + AllocGlobal),
+    files: &[(&str, &[u8])],
+    words: &str,
+    written: &str,
+) -> Result<Called, Fail> {
+    let called = call(rt, sure(files), words, written, &Watch::new(false))?;
+    if called.status == 0 && called.err.is_empty() {
+        return Ok(called);
+    }
+    let status = called.status;
+    Err(Fail::new(format_args!("{words}: {status}")))
+}
+
+#[test]
+fn replays_what_ran(rt: HostRuntime) -> Result<(), Fail> {
+    let alloc = rt.alloc();
+    let data = vec![in alloc; b'A'; 8192]?;
+    let file = executable(alloc, STORES, &data, 8192)?;
+    let held = [("IN", file.as_slice()), ("BLOCKS", BLOCKS.as_bytes())];
+    let words = "run IN --nodes 2 --record R --layout BLOCKS";
+    let ran = done(&rt, &held, words, "R")?;
+    let held = [("IN", file.as_slice()), ("R", ran.written.as_slice())];
+    let again = done(&rt, &held, "replay IN R", "")?;
+    let text = from_utf8(&ran.out)?;
+    assert!(rt; text.starts_with("output 200\n"), "{text}");
+    assert_eq!(rt; text, from_utf8(&again.out)?);
+    Ok(())
+}
+
+#[test]
+fn lists_a_generated_executable(rt: HostRuntime) -> Result<(), Fail> {
+    let made = done(&rt, &[], "gen 0 OUT", "OUT")?;
+    let list = done(&rt, &[("OUT", made.written.as_slice())], "list OUT", "")?;
+    assert!(rt; made.out.is_empty());
+    assert!(rt; from_utf8(&list.out)?.starts_with(FIRST));
+    Ok(())
+}
+
+/// No addition is lost: on one node by `run` and `replay`, and on two by `sim`.
+#[test]
+fn runs_a_generated_executable(rt: HostRuntime) -> Result<(), Fail> {
+    let made = done(&rt, &[], "gen 0 OUT", "OUT")?;
+    let held = [("OUT", made.written.as_slice())];
+    let ran = done(&rt, &held, "run OUT --record R --brief", "R")?;
+    assert_eq!(rt; from_utf8(&ran.out)?, SUM);
+    let both = done(&rt, &held, "sim OUT --nodes 2 --brief", "")?;
+    assert_eq!(rt; from_utf8(&both.out)?, SUM_OF_TWO);
+    let held = [
+        ("OUT", made.written.as_slice()),
+        ("R", ran.written.as_slice()),
+    ];
+    let again = done(&rt, &held, "replay OUT R --brief", "")?;
+    assert_eq!(rt; from_utf8(&again.out)?, SUM);
+    Ok(())
+}
