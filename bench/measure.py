@@ -33,7 +33,7 @@ def rod_rate(file):
 program = sys.argv[1]
 heads = ("run", "one", "sim", "sim 4", "sim 16")
 print(f"{'':10}{'rod':>8}" + "".join(f"{head:>8}{'ratio':>7}" for head in heads))
-for name in ("count", "loop", "readonly", "call", "bigcall"):
+for name in ("count", "loop", "apart", "readonly", "call", "bigcall"):
     file = str(here / f"{name}.elf")
     rounds = []
     for _ in range(ROUNDS):
