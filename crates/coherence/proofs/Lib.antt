@@ -1,3 +1,5 @@
+pub mod View
+pub mod Picture
 pub mod Counts
 pub mod Weights
 pub mod Frame
@@ -14,6 +16,7 @@ pub mod Store
 pub mod Moves
 pub mod Settled
 pub mod Takers
+pub mod Waiters
 pub mod Room
 pub mod Keeps
 pub mod Steps

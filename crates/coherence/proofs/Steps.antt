@@ -1,13 +1,13 @@
 -- Every event keeps the invariant.
-use Rattle.std.proofs.Common.{◌≡◌, ◌≢◌, ℕ, zero, suc, ◌<◌, ◌≤◌, ltb, length, Bool, true, false, not, cond, eqb, Option, Some, None, List, [], ◌∷◌, ◌++◌, ◌&&◌, ◌⊎◌, inl, inr, sym, refl, ap, ◌∙◌, subst, arith, append-nil}
+use Rattle.std.proofs.Common.{◌≡◌, ◌≢◌, ℕ, zero, suc, ◌+◌, ◌<◌, ◌≤◌, ltb, length, Bool, true, false, not, cond, eqb, Option, Some, None, List, [], ◌∷◌, ◌++◌, ◌&&◌, ◌⊎◌, inl, inr, sym, refl, ap, ◌∙◌, subst, arith, append-nil}
 use Rattle.std.proofs.lemmas.Bool.Decides.{nat_tests, eqb_tells, leb_tells}
 use Rattle.coherence.specs.Messages.{Need, Message, ToHome, Forward, Response, HomeMessage, Ask, Done, ForwardMessage, ResponseMessage, Wait, can_write, is_none, meets}
-use Rattle.coherence.specs.Table.{Queueing, Stays, Joins, FirstLeaves, Effect, effect_or, count, has_from, home_row, row}
-use Rattle.coherence.specs.Machine.{Wire, Core, Setting, Proper, Event, Store, Want, Take, update2, send_all, those_to, in_block, requeue, local, apply, row_of, take_in, store_in, waits, may_want, want_in, step, steps, opening, after}
-use Rattle.coherence.specs.View.{View, if_to_home, if_forward, if_response, part, sent_part, view, at_node, view_after}
-use Rattle.coherence.specs.Picture.{Idle, Picture, sum_below, Once, is_some, HasPicture}
+use Rattle.coherence.specs.Table.{Stays, Effect, effect_or, count, sum_below, has_from, home_row, row}
+use Rattle.coherence.specs.Machine.{Wire, Core, Setting, Proper, Event, Store, Want, Take, update2, send_all, those_to, waiting_at, local, apply, row_of, take_in, store_in, waits, may_want, want_in, step, steps, opening, after}
+use Rattle.coherence.proofs.View.{View, if_to_home, if_forward, if_response, part, sent_part, view, at_node, view_after}
+use Rattle.coherence.proofs.Picture.{Idle, Picture, Once, is_some, HasPicture}
 use Rattle.coherence.proofs.Counts.{count_same, count_less, count_none, count_fewer}
-use Rattle.coherence.proofs.Frame.{Like, part_append, at_own, at_own2, at_other, at_other2, queue_at, requeue_other, view_own, view_other}
+use Rattle.coherence.proofs.Frame.{Like, part_append, at_own, at_own2, at_other, at_other2, view_own, view_other}
 use Rattle.coherence.proofs.Likes.{like_pictured}
 use Rattle.coherence.proofs.Keeps.{NoNewWait, Away, some_of, forward_away, response_away, home_keeps}
 use Rattle.coherence.proofs.Asks.{asking_view, ask_pictured, asking, asked_of, asked_waits}
@@ -15,7 +15,7 @@ use Rattle.coherence.proofs.Forwards.{forward_goes}
 use Rattle.coherence.proofs.Responses.{response_goes}
 use Rattle.coherence.proofs.Home.{at_home, home_goes, GoesAtHome}
 use Rattle.coherence.proofs.Store.{store_view, store_pictured}
-use Rattle.coherence.proofs.Room.{has_request, has_pair, distinct, has_room, at_most}
+use Rattle.coherence.proofs.Room.{has_room, at_most, queue_counted}
 
 -- no message of the block is in flight, and no request waits
 pub record Quiet {C : Type 0} (v : View C) : Type 0 where
@@ -65,7 +65,7 @@ parts_like v i a b c d f g e p q r = record {
 
 module _ {C : Type 0} (s : Setting C) where
   abbrev pub seen : Core C → ℕ → View C
-  seen k b = view k (s.home b) b
+  seen k b = view k b
 
   abbrev pub pictured : View C → ℕ → Type 0
   pictured v b = HasPicture s.flag s.nodes (s.home b) v
@@ -73,9 +73,8 @@ module _ {C : Type 0} (s : Setting C) where
   -- the invariant of all blocks
   pub record Holds (k : Core C) : Type 0 where
     pub pictures : (b : ℕ) → pictured (seen k b) b
-    -- requests wait only at their home
-    pub strangers : (x b : ℕ) → x ≢ s.home b → in_block b (k.waiting x) ≡ []
-    pub two : (i : ℕ) → waits s k i ≤ 2
+    pub counted : (i : ℕ) → k.occupancy i ≡ waiting_at s.home k.waiting s.blocks i
+    pub few_waits : (i : ℕ) → waits s k i ≤ s.most
     pub beyond : (b : ℕ) → s.blocks ≤ b → Quiet (seen k b)
 
   quiet_like : (u v : View C) → Like u v → Quiet v → Quiet u
@@ -114,14 +113,17 @@ module _ {C : Type 0} (s : Setting C) (proper : Proper s) (k : Core C) (holds : 
   abbrev has_wait : ℕ → ℕ → Bool
   has_wait x b = not (is_none (k.wait x b))
 
-  -- the requests that wait at node i
-  once_at : (i b : ℕ) → Once (in_block b (k.waiting i))
-  once_at i b = elim (eqb_tells i (s.home b)) [
-    | inl e ↦ (let h = holds.pictures b in
-        subst (λ z. Once (in_block b (k.waiting z))) (sym e.1)
-        (subst Once (sym h.2.queue) h.3.directory.once))
-    | inr o ↦ subst Once (sym (holds.strangers i b o.1)) tt
-  ]
+  -- the requests for block b that wait at node i
+  abbrev here : ℕ → ℕ → List (ℕ × Need)
+  here i b = cond (eqb (s.home b) i) (k.waiting b) []
+
+  once_at : (i b : ℕ) → Once (here i b)
+  once_at i b =
+      let h = holds.pictures b in
+      (elim (eqb (s.home b) i) as (λ t. Once (cond t (k.waiting b) [])) [
+        | true ↦ subst Once (sym h.2.queue) h.3.directory.once
+        | false ↦ tt
+      ])
 
   asked_here : (b x : ℕ) → is_some ((holds.pictures b).0.requests x) ≡ true → (x < s.nodes)
       × (has_wait x b ≡ true)
@@ -137,30 +139,23 @@ module _ {C : Type 0} (s : Setting C) (proper : Proper s) (k : Core C) (holds : 
             ]) refl,
       )
 
-  among : (i b x : ℕ) → has_request b x (k.waiting i) ≡ true → (x < s.nodes) × (b < s.blocks)
-      × (has_wait x b ≡ true)
-  among i b x e =
-      let a : has_from x (in_block b (k.waiting i)) ≡ true = sym (has_pair b x (k.waiting i)) ∙ e in
-      elim (eqb_tells i (s.home b)) [
-        | inl h ↦ (let p = holds.pictures b in
-            let q : has_from x (in_block b (k.waiting (s.home b)))
-            ≡ true = subst (λ z. has_from x (in_block b (k.waiting z)) ≡ true) h.1 a in
-            let some = asked_of p.0.requests p.0.queue x p.3.directory.queue_asks
-            (ap (has_from x) (sym p.2.queue) ∙ q) in
-            let got = asked_here b x some in
-            let block : b < s.blocks = elim (leb_tells s.blocks b) [
-              | inl l ↦ absurd (let c = ap (has_from x) (holds.beyond b l.1).queue in let d : true
-                  ≡ false = sym q ∙ c in cc)
-              | inr l ↦ omega arith
-            ] in
-            (got.0, block, got.1))
-        | inr o ↦ absurd (let c = ap (has_from x) (holds.strangers i b o.1) in let d : true
-            ≡ false = sym a ∙ c in cc)
-      ]
+  among : (i b x : ℕ) → has_from x (here i b) ≡ true → (x < s.nodes) × (has_wait x b ≡ true)
+  among i b x =
+      let p = holds.pictures b in
+      (elim (eqb (s.home b) i) as (λ t. has_from x (cond t (k.waiting b) []) ≡ true
+      → (x < s.nodes) × (has_wait x b ≡ true)) [
+        | true ↦ (λ e. asked_here b x (asked_of p.0.requests p.0.queue x p.3.directory.queue_asks
+            (ap (has_from x) (sym p.2.queue) ∙ e)))
+        | false ↦ (λ e. absurd cc)
+      ])
 
-  pub few_requests : (i : ℕ) → length (k.waiting i) ≤ 32
-  few_requests i = at_most has_wait s.nodes s.blocks (k.waiting i) proper.nodes holds.two
-      (distinct (k.waiting i) (once_at i)) (among i)
+  pub few_requests : (i : ℕ) → (k.occupancy i ≡ waiting_at s.home k.waiting s.blocks i)
+      × (k.occupancy i ≤ 32)
+  few_requests i =
+      let all = holds.counted i in
+      let few = at_most has_wait s.nodes s.blocks s.most proper.room holds.few_waits (here i)
+      (once_at i) (among i) in
+      (all, subst (λ z. z ≤ 32) (sym all) few)
 
   module _ (i j : ℕ) (w : Wire C) (rest : List (Wire C)) (front : k.list j i ≡ w ∷ rest) where
     abbrev b : ℕ
@@ -170,13 +165,13 @@ module _ {C : Type 0} (s : Setting C) (proper : Proper s) (k : Core C) (holds : 
     v = seen s k w.block
 
     abbrev room : Bool
-    room = ltb (length (k.waiting i)) 32
+    room = ltb (k.occupancy i) 32
 
     block_test : ltb w.block s.blocks ≡ true
     block_test = let l = below s k holds w j i rest front in grind (arith, nat_tests)
 
     -- a request finds room
-    roomy : (need : Need) → w.body ≡ ToHome (Ask need) → ltb (length (k.waiting i)) 32 ≡ true
+    roomy : (need : Need) → w.body ≡ ToHome (Ask need) → room ≡ true
     roomy need is =
         let h = holds.pictures w.block in
         let f : v.to_home j i ≡ Ask need ∷ part if_to_home w.block rest =
@@ -185,12 +180,17 @@ module _ {C : Type 0} (s : Setting C) (proper : Proper s) (k : Core C) (holds : 
         let o = at_home s.flag s.nodes (s.home w.block) v h.0 h.1 j i (Ask need) _ h.2 f in
         let a = asking h.0 h.1 j need _ o.1 in
         let got = asked_here w.block j (ap is_some a.2) in
-        let out : has_request w.block j (k.waiting i) ≡ false = has_pair w.block j (k.waiting i)
-        ∙ ap (λ z. has_from j (in_block w.block (k.waiting z))) o.0 ∙ ap (has_from j) h.2.queue
-        ∙ a.1 in
-        let l = has_room has_wait s.nodes s.blocks (k.waiting i) proper.nodes holds.two
-        (distinct (k.waiting i) (once_at i)) (among i) w.block j need got.0
+        let out : has_from j (here i w.block) ≡ false =
+        (elim (eqb (s.home w.block) i)
+        as (λ t. has_from j (cond t (k.waiting w.block) []) ≡ false) [
+          | true ↦ ap (has_from j) h.2.queue ∙ a.1
+          | false ↦ refl
+        ]) in
+        let all = holds.counted i in
+        let l = has_room has_wait s.nodes s.blocks s.most proper.room holds.few_waits (here i)
+        (once_at i) (among i) w.block j need got.0
         (below s k holds w j i rest front) got.1 out in
+        let few : k.occupancy i < 32 = omega (arith, all, l) in
         grind (arith, nat_tests)
 
     abbrev after_take : Effect C → View C
@@ -200,7 +200,7 @@ module _ {C : Type 0} (s : Setting C) (proper : Proper s) (k : Core C) (holds : 
 
     abbrev TakeGoes : Message C → Type 0
     TakeGoes m = (e : Effect C)
-        × (row s.flag s.nodes (s.home w.block) i j room (in_block w.block (k.waiting i))
+        × (row s.flag s.nodes (s.home w.block) i j room (k.waiting w.block)
         (local k i w.block) m ≡ Some e)
         × pictured s (after_take e) w.block × (e.queueing ≢ Stays → i ≡ s.home w.block)
         × NoNewWait (local k i w.block) e
@@ -264,14 +264,14 @@ module _ {C : Type 0} (s : Setting C) (proper : Proper s) (k : Core C) (holds : 
         )
 
     home_row_if : (h : ℕ) (e : Effect C) (m : HomeMessage) → i ≡ h → j < s.nodes
-        → home_row s.nodes j room (in_block w.block (k.waiting h)) (local k h w.block) m ≡ Some e
-        → row s.flag s.nodes h i j room (in_block w.block (k.waiting i)) (local k i w.block)
+        → home_row s.nodes j room (k.waiting w.block) (local k h w.block) m ≡ Some e
+        → row s.flag s.nodes h i j room (k.waiting w.block) (local k i w.block)
         (ToHome m) ≡ Some e
     home_row_if h e m is node row_is =
         let t : (eqb h h && ltb j s.nodes) ≡ true = grind (arith, nat_tests) in
-        subst (λ z. row s.flag s.nodes h z j room (in_block w.block (k.waiting z))
+        subst (λ z. row s.flag s.nodes h z j room (k.waiting w.block)
         (local k z w.block) (ToHome m) ≡ Some e) (sym is)
-        (ap (λ z. cond z (home_row s.nodes j room (in_block w.block (k.waiting h))
+        (ap (λ z. cond z (home_row s.nodes j room (k.waiting w.block)
         (local k h w.block) m) None) t ∙ row_is)
 
     home_by : (m : HomeMessage) → w.body ≡ ToHome m → (i ≡ s.home w.block)
@@ -304,7 +304,7 @@ module _ {C : Type 0} (s : Setting C) (proper : Proper s) (k : Core C) (holds : 
         let same : NoNewWait (local k (s.home w.block) w.block) e =
         some_of (NoNewWait (local k (s.home w.block) w.block)) _ e got.1.1.1
         (home_keeps (local k (s.home w.block) w.block) s.nodes j room
-        (in_block w.block (k.waiting (s.home w.block))) m) in (
+        (k.waiting w.block) m) in (
           e,
           home_row_if (s.home w.block) e m at got.1.0 got.1.1.1,
           like_pictured s.flag s.nodes (s.home w.block) _ _ l picture,
@@ -322,7 +322,7 @@ module _ {C : Type 0} (s : Setting C) (proper : Proper s) (k : Core C) (holds : 
 
     row_is : row_of s k i j w ≡ Some takes.0
     row_is = ap
-        (λ z. cond z (row s.flag s.nodes (s.home w.block) i j room (in_block w.block (k.waiting i))
+        (λ z. cond z (row s.flag s.nodes (s.home w.block) i j room (k.waiting w.block)
         (local k i w.block) w.body) None) block_test ∙ takes.1
 
     -- the message has its row
@@ -336,27 +336,14 @@ module _ {C : Type 0} (s : Setting C) (proper : Proper s) (k : Core C) (holds : 
     take_pictures d = elim (eqb_tells d w.block) [
       | inl e ↦ subst (λ z. pictured s (seen s next z) z) (sym e.1)
           (like_pictured s.flag s.nodes (s.home w.block) _ _
-          (view_own k j i w.block rest takes.0 (s.home w.block) takes.3) takes.2)
+          (view_own k j i w.block rest takes.0) takes.2)
       | inr o ↦ like_pictured s.flag s.nodes (s.home d) _ _
-          (view_other k j i w rest takes.0 front (s.home d) d o.1) (holds.pictures d)
+          (view_other k j i w rest takes.0 front d o.1) (holds.pictures d)
     ]
 
-    same_queue : (x d : ℕ) → x ≢ s.home d → i ≡ x
-        → in_block d (requeue w.block takes.0.queueing (k.waiting i)) ≡ in_block d (k.waiting i)
-    same_queue x d o is = elim (eqb_tells d w.block) [
-      | inr other ↦ requeue_other w.block d takes.0.queueing (k.waiting i) other.1
-      | inl same ↦ by_change takes.0.queueing (λ c. o (sym is ∙ takes.3 c ∙ ap s.home (sym same.1)))
-    ]
-      where
-        by_change : (c : Queueing) → (c ≢ Stays → ⊥) → in_block d (requeue w.block c (k.waiting i))
-            ≡ in_block d (k.waiting i)
-        by_change Stays h = refl
-        by_change (Joins r need) h = absurd (h (λ e. cc))
-        by_change FirstLeaves h = absurd (h (λ e. cc))
-
-    take_strangers : (x d : ℕ) → x ≢ s.home d → in_block d (next.waiting x) ≡ []
-    take_strangers x d o = queue_at k.waiting i x d (requeue w.block takes.0.queueing (k.waiting i))
-        (same_queue x d o) ∙ holds.strangers x d o
+    take_counted : (x : ℕ) → next.occupancy x ≡ waiting_at s.home next.waiting s.blocks x
+    take_counted = queue_counted s.home k.waiting k.occupancy s.blocks i w.block
+        (below s k holds w j i rest front) holds.counted takes.0.queueing takes.3
 
     no_more_waits : (x d : ℕ) → not (is_none (update2 k.wait i w.block takes.0.after.wait x d))
         ≡ true → not (is_none (k.wait x d)) ≡ true
@@ -379,17 +366,17 @@ module _ {C : Type 0} (s : Setting C) (proper : Proper s) (k : Core C) (holds : 
             ≡ true = ap not (sym a) ∙ f in cc)
         by_wait (Some y) e f = ap (λ z. not (is_none z)) e
 
-    take_two : (x : ℕ) → waits s next x ≤ 2
-    take_two x =
+    take_few : (x : ℕ) → waits s next x ≤ s.most
+    take_few x =
         let more = count_fewer (λ d. not (is_none (next.wait x d)))
         (λ d. not (is_none (k.wait x d))) s.blocks (no_more_waits x) in
-        let t = holds.two x in omega arith
+        let t = holds.few_waits x in omega arith
 
     take_beyond : (d : ℕ) → s.blocks ≤ d → Quiet (seen s next d)
     take_beyond d far =
         let l = below s k holds w j i rest front in
         let other : d ≢ w.block = (λ e. omega arith) in
-        quiet_like s _ _ (view_other k j i w rest takes.0 front (s.home d) d other)
+        quiet_like s _ _ (view_other k j i w rest takes.0 front d other)
         (holds.beyond d far)
 
     pub take_holds : Holds s (apply k j i w.block rest
@@ -399,8 +386,8 @@ module _ {C : Type 0} (s : Setting C) (proper : Proper s) (k : Core C) (holds : 
         (sym row_is)
         (record {
           pictures = take_pictures;
-          strangers = take_strangers;
-          two = take_two;
+          counted = take_counted;
+          few_waits = take_few;
           beyond =
               take_beyond;
         })
@@ -411,9 +398,9 @@ module _ {C : Type 0} (s : Setting C) (proper : Proper s) where
   take_all k i j [] holds e = holds
   take_all k i j (w ∷ rest) holds e = take_holds s proper k holds i j w rest e
 
-  store_other : (k : Core C) (i b : ℕ) (write : C → C) (h d : ℕ) → d ≢ b
-      → Like (view (store_in s k i b write) h d) (view k h d)
-  store_other k i b write h d o = record {
+  store_other : (k : Core C) (i b : ℕ) (write : C → C) (d : ℕ) → d ≢ b
+      → Like (view (store_in s k i b write) d) (view k d)
+  store_other k i b write d o = record {
     owner = refl;
     sharers = refl;
     busy = refl;
@@ -428,9 +415,9 @@ module _ {C : Type 0} (s : Setting C) (proper : Proper s) where
     tally = refl;
   }
 
-  store_own : (k : Core C) (i b : ℕ) (write : C → C) (h : ℕ)
-      → Like (view (store_in s k i b write) h b) (store_view (view k h b) i write)
-  store_own k i b write h = record {
+  store_own : (k : Core C) (i b : ℕ) (write : C → C)
+      → Like (view (store_in s k i b write) b) (store_view (view k b) i write)
+  store_own k i b write = record {
     owner = refl;
     sharers = refl;
     busy = refl;
@@ -452,13 +439,13 @@ module _ {C : Type 0} (s : Setting C) (proper : Proper s) where
     pictures = λ d. elim (eqb_tells d b) [
       | inl q ↦ subst (λ z. pictured s (seen s (store_in s k i b write) z) z) (sym q.1)
           (let h = holds.pictures b in like_pictured s.flag s.nodes (s.home b) _ _
-          (store_own k i b write (s.home b))
+          (store_own k i b write)
           (store_pictured s.flag s.nodes (s.home b) (seen s k b) h.0 h.1 h.2 h.3 i write e))
       | inr o ↦ like_pictured s.flag s.nodes (s.home d) _ _
-          (store_other k i b write (s.home d) d o.1) (holds.pictures d)
+          (store_other k i b write d o.1) (holds.pictures d)
     ];
-    strangers = holds.strangers;
-    two = holds.two;
+    counted = holds.counted;
+    few_waits = holds.few_waits;
     beyond = λ d far. record {
       queue = (holds.beyond d far).queue;
       to_home =
@@ -503,9 +490,9 @@ module _ {C : Type 0} (s : Setting C) (proper : Proper s) where
         | false ↦ refl
       ])
 
-  want_other : (k : Core C) (i b : ℕ) (need : Need) (h d : ℕ) → d ≢ b
-      → Like (view (want_in s k i b need) h d) (view k h d)
-  want_other k i b need h d o = let w : Wire C = record { block = b; body = ToHome (Ask need) } in
+  want_other : (k : Core C) (i b : ℕ) (need : Need) (d : ℕ) → d ≢ b
+      → Like (view (want_in s k i b need) d) (view k d)
+  want_other k i b need d o = let w : Wire C = record { block = b; body = ToHome (Ask need) } in
       record {
         owner = refl;
         sharers = refl;
@@ -522,8 +509,8 @@ module _ {C : Type 0} (s : Setting C) (proper : Proper s) where
       }
 
   want_own : (k : Core C) (i b : ℕ) (need : Need)
-      → Like (view (want_in s k i b need) (s.home b) b)
-      (asking_view (view k (s.home b) b) s.nodes (s.home b) i need)
+      → Like (view (want_in s k i b need) b)
+      (asking_view (view k b) s.nodes (s.home b) i need)
   want_own k i b need = let w : Wire C = record { block = b; body = ToHome (Ask need) } in record {
     owner = refl;
     sharers = refl;
@@ -550,23 +537,23 @@ module _ {C : Type 0} (s : Setting C) (proper : Proper s) where
     free : k.wait i b ≡ None
     free = grind (arith, nat_tests)
 
-    few : waits s k i < 2
+    few : waits s k i < s.most
     few = grind (arith, nat_tests)
 
     unmet : meets need (k.state i b) ≡ false
     unmet = grind (arith, nat_tests)
 
-    want_two : (x : ℕ) → waits s (want_in s k i b need) x ≤ 2
+    want_few : (x : ℕ) → waits s (want_in s k i b need) x ≤ s.most
     unfolding update2
-    want_two x =
+    want_few x =
         let new : ℕ → ℕ → Bool = λ y d. not (is_none ((want_in s k i b need).wait y d)) in
         let old : ℕ → ℕ → Bool = λ y d. not (is_none (k.wait y d)) in
         elim (eqb_tells x i) [
           | inl e ↦ (let c = count_less (new i) (old i) s.blocks b block (grind (arith, nat_tests))
               (ap (λ z. not (is_none z)) free) (λ d o. grind (arith, nat_tests)) in
-              let f = few in subst (λ z. count (new z) s.blocks ≤ 2) (sym e.1) (omega arith))
+              let f = few in subst (λ z. count (new z) s.blocks ≤ s.most) (sym e.1) (omega arith))
           | inr o ↦ (let c = count_same (new x) (old x) s.blocks (λ d l. grind (arith, nat_tests))
-              in let t = holds.two x in omega arith)
+              in let t = holds.few_waits x in omega arith)
         ]
 
     want_holds : Holds s (want_in s k i b need)
@@ -578,11 +565,11 @@ module _ {C : Type 0} (s : Setting C) (proper : Proper s) where
             (ask_pictured s.flag s.nodes (s.home b) (seen s k b) h.0 h.1 i need h.2 h.3 node free
             unmet))
         | inr o ↦ like_pictured s.flag s.nodes (s.home d) _ _
-            (want_other k i b need (s.home d) d o.1) (holds.pictures d)
+            (want_other k i b need d o.1) (holds.pictures d)
       ];
-      strangers = holds.strangers;
-      two = want_two;
-      beyond = λ d far. quiet_like s _ _ (want_other k i b need (s.home d) d
+      counted = holds.counted;
+      few_waits = want_few;
+      beyond = λ d far. quiet_like s _ _ (want_other k i b need d
           (λ e. let l = block in omega arith)) (holds.beyond d far);
     }
 
@@ -603,6 +590,13 @@ module _ {C : Type 0} (s : Setting C) (proper : Proper s) where
   zeros : (n : ℕ) → sum_below (λ x. 0) n ≡ 0
   zeros zero = refl
   zeros (suc n) = let e = zeros n in omega arith
+
+  none_waiting : (i n : ℕ) → waiting_at s.home (λ b. []) n i ≡ 0
+  none_waiting i zero = refl
+  none_waiting i (suc n) =
+      let e = none_waiting i n in
+      (elim (eqb (s.home n) i) as (λ t. length {A = ℕ × Need} (cond t [] [])
+      + waiting_at s.home (λ b. []) n i ≡ 0) [ true ↦ omega (arith, e) | false ↦ omega (arith, e) ])
 
   opening_holds : Holds s (opening s)
   opening_holds = record {
@@ -647,8 +641,8 @@ module _ {C : Type 0} (s : Setting C) (proper : Proper s) where
             phase = refl;
           },
         );
-    strangers = λ x b o. refl;
-    two = λ i. (let e = count_none (λ b. false) s.blocks (λ x l. refl) in omega arith);
+    counted = λ i. sym (none_waiting i s.blocks);
+    few_waits = λ i. (let e = count_none (λ b. false) s.blocks (λ x l. refl) in omega arith);
     beyond = λ b far. record {
       queue = refl;
       to_home = λ j i. refl;

@@ -3,9 +3,10 @@ use Rattle.std.proofs.Common.{◌≡◌, ℕ, ◌+◌, ◌*◌, ◌<◌, ◌≤�
 use Rattle.std.proofs.lemmas.Bool.Decides.{leb_tells, nat_tests}
 use Rattle.coherence.specs.Messages.{Need, Read, Write, HomeMessage, Done, ToHome, Forward, Wait, is_none}
 use Rattle.coherence.specs.Machine.{Core, Setting, Proper, Event, after}
-use Rattle.coherence.specs.View.{View, if_to_home, if_forward, if_response, part}
-use Rattle.coherence.specs.Picture.{Phase, Idle, ReadOpen, WriteOpen, ReadDone, WriteDone, Picture, wait_for, wait_in, to_home_in, Shows, WellFormed}
-use Rattle.coherence.specs.Claims.{Coherent, OneWriter, HaveRows, Moves, Settles, TakersWait, TwoWaits, FewAcks, FewRequests, Costs, Frugal}
+use Rattle.coherence.proofs.View.{View, if_to_home, if_forward, if_response, part}
+use Rattle.coherence.proofs.Picture.{Phase, Idle, ReadOpen, WriteOpen, ReadDone, WriteDone, Picture, wait_for, wait_in, to_home_in, Shows, WellFormed}
+use Rattle.coherence.specs.Claims.{Coherent, OneWriter, HaveRows, Moves, Settles, TakersWait, WaitersRead, FewWaits, FewAcks, FewRequests, Costs, Frugal}
+use Rattle.coherence.proofs.Waiters.{waiter_reads}
 use Rattle.coherence.proofs.Store.{one_writer, reads_memory, else_flagged}
 use Rattle.coherence.proofs.Moves.{waits_move}
 use Rattle.coherence.proofs.Settled.{no_messages, dones}
@@ -104,6 +105,11 @@ module _ {C : Type 0} (s : Setting C) (proper : Proper s) (k : Core C) (holds : 
       (front_part if_forward (k.list j i) (record { block = b; body = Forward m }) rest e) r named
       in (t.below, t.other, t.wait.0, t.wait.1, t.wait.2)
 
+  waiters : WaitersRead s k
+  waiters i b w e =
+      let h = holds.pictures b in
+      waiter_reads s.flag s.nodes (s.home b) (seen s k b) h.0 h.1 h.2 h.3 i w e
+
   acks : FewAcks s k
   acks i b w e = let h = holds.pictures b in
       few_counted (k.memory b) s.nodes h.0 h.1 i w proper.nodes h.3 (sym (h.2.waits i) ∙ e)
@@ -141,8 +147,11 @@ module _ (C : Type 0) (s : Setting C) (proper : Proper s) (es : List (Event C)) 
   pub all_takers : TakersWait s (after s es)
   all_takers = takers s proper (after s es) (list_holds s proper es)
 
-  pub all_two_waits : TwoWaits s (after s es)
-  all_two_waits = (list_holds s proper es).two
+  pub all_waiters : WaitersRead s (after s es)
+  all_waiters = waiters s proper (after s es) (list_holds s proper es)
+
+  pub all_few_waits : FewWaits s (after s es)
+  all_few_waits = (list_holds s proper es).few_waits
 
   pub all_acks : FewAcks s (after s es)
   all_acks = acks s proper (after s es) (list_holds s proper es)

@@ -1,8 +1,8 @@
 -- What holds after every protocol list.
-use Rattle.std.specs.Prelude.{◌≡◌, ◌≢◌, ℕ, ◌+◌, ◌*◌, ◌<◌, ◌≤◌, true, false, Option, Some, None, List, [], ◌∷◌, ◌⊎◌, length}
+use Rattle.std.specs.Prelude.{◌≡◌, ◌≢◌, ℕ, ◌+◌, ◌*◌, ◌<◌, ◌≤◌, true, false, Option, Some, None, List, [], ◌∷◌, ◌⊎◌}
 use Rattle.coherence.specs.Messages.{Read, Write, ForwardMessage, FwdRead, FwdWrite, Inval, Grant, ToHome, Forward, Done, Wait, can_read, can_write}
 use Rattle.coherence.specs.Table.{Effect}
-use Rattle.coherence.specs.Machine.{Wire, Core, Setting, Proper, Event, row_of, waits, after}
+use Rattle.coherence.specs.Machine.{Wire, Core, Setting, Proper, Event, waiting_at, row_of, waits, after}
 
 -- the node for which a message takes the block away from another
 abbrev pub taker : ForwardMessage → Option ℕ
@@ -48,15 +48,22 @@ module _ {C : Type 0} where
       → k.list j i ≡ record { block = b; body = Forward m } ∷ rest → taker m ≡ Some r
       → (r < s.nodes) × (r ≢ i) × (w : Wait C) × (k.wait r b ≡ Some w) × (w.need ≡ Write)
 
-  abbrev pub TwoWaits : Setting C → Core C → Type 0
-  TwoWaits s k = (i : ℕ) → waits s k i ≤ 2
+  -- a node that waits for a block may not write it
+  abbrev pub WaitersRead : Setting C → Core C → Type 0
+  WaitersRead s k = (i b : ℕ) (w : Wait C) → k.wait i b ≡ Some w → can_write (k.state i b) ≡ false
+
+  -- a node waits for no more blocks than it may
+  abbrev pub FewWaits : Setting C → Core C → Type 0
+  FewWaits s k = (i : ℕ) → waits s k i ≤ s.most
 
   abbrev pub FewAcks : Setting C → Core C → Type 0
   FewAcks s k = (i b : ℕ) (w : Wait C) → k.wait i b ≡ Some w → w.acks < 16
 
-  -- so an array of 32 places serves; `HaveRows` says that a request that comes finds room in it
+  -- The requests that wait at a node are counted, and at most 32: so an array of 32 places serves.
+  -- `HaveRows` says that a request that comes finds room in it.
   abbrev pub FewRequests : Setting C → Core C → Type 0
-  FewRequests s k = (i : ℕ) → length (k.waiting i) ≤ 32
+  FewRequests s k = (i : ℕ) → (k.occupancy i ≡ waiting_at s.home k.waiting s.blocks i)
+      × (k.occupancy i ≤ 32)
 
   -- Where a Done comes the home is busy for its sender; a read has cost exactly four messages, and
   -- a write at most 2n + 1.

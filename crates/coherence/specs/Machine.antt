@@ -1,7 +1,7 @@
 -- n nodes, their blocks, and the n × n lists of messages between them; and what happens there.
-use Rattle.std.specs.Prelude.{ℕ, ◌+◌, ◌<◌, ◌≤◌, Bool, true, false, not, cond, eqb, ltb, Option, Some, None, List, [], ◌∷◌, ◌++◌, ◌&&◌, length}
-use Rattle.coherence.specs.Messages.{Need, State, Exclusive, Invalid, Message, ToHome, Forward, Response, Ask, Unanswered, Wait, Request, can_write, is_none, meets, while_asked, allowance_for}
-use Rattle.coherence.specs.Table.{Local, Queueing, Stays, Joins, FirstLeaves, Effect, effect_or, update, count, row}
+use Rattle.std.specs.Prelude.{ℕ, ◌+◌, ◌-◌, ◌*◌, ◌<◌, ◌≤◌, Bool, true, false, not, cond, eqb, ltb, Option, Some, None, List, [], ◌∷◌, ◌++◌, ◌&&◌, length}
+use Rattle.coherence.specs.Messages.{Need, State, Exclusive, Invalid, Message, ToHome, Forward, Response, Ask, Unanswered, Wait, can_write, is_none, meets, while_asked, allowance_for}
+use Rattle.coherence.specs.Table.{Local, Queueing, Stays, Joins, FirstLeaves, Effect, effect_or, update, count, sum_below, row}
 
 -- a message about a block
 pub record Wire (C : Type 0) : Type 0 where
@@ -16,13 +16,15 @@ pub record Tally : Type 0 where
   pub allowance : ℕ
   pub cost : ℕ
 
--- What the nodes keep: the entry of a block by the block, the requests that wait by their home, the
--- rest by node and block. `list j i` are the messages from j to i, and `memory` is the one memory.
+-- What the nodes keep: the entry of a block and the requests for it that wait at its home, in order
+-- of arrival, by the block; how many requests wait at a node in all, by the node; the rest by node
+-- and block. `list j i` are the messages from j to i, and `memory` is the one memory.
 pub record Core (C : Type 0) : Type 0 where
   pub owner : ℕ → ℕ
   pub sharers : ℕ → ℕ → Bool
   pub busy : ℕ → Option (Need × ℕ)
-  pub waiting : ℕ → List Request
+  pub waiting : ℕ → List (ℕ × Need)
+  pub occupancy : ℕ → ℕ
   pub state : ℕ → ℕ → State
   pub copy : ℕ → ℕ → C
   pub wait : ℕ → ℕ → Option (Wait C)
@@ -30,19 +32,21 @@ pub record Core (C : Type 0) : Type 0 where
   pub memory : ℕ → C
   pub tally : ℕ → Tally
 
--- the number of nodes and of blocks, the home of each block, its first contents, and the contents
--- whose every word is the flag word
+-- the number of nodes and of blocks, the home of each block, its first contents, the contents whose
+-- every word is the flag word, and how many blocks a node may wait for at a time
 pub record Setting (C : Type 0) : Type 0 where
   pub nodes : ℕ
   pub blocks : ℕ
   pub home : ℕ → ℕ
   pub first : ℕ → C
   pub flag : C
+  pub most : ℕ
 
--- up to 16 nodes, and each home is one of them
+-- up to 16 nodes, each home is one of them, and they have up to 32 waits in all
 pub record Proper {C : Type 0} (s : Setting C) : Type 0 where
   pub nodes : s.nodes ≤ 16
   pub homes : (b : ℕ) → s.home b < s.nodes
+  pub room : s.nodes * s.most ≤ 32
 
 -- A node stores to a block that it may write (`write` is what becomes of the contents), wants a
 -- block, or takes the first message of a list.
@@ -69,20 +73,24 @@ abbrev pub wires : {C : Type 0} → ℕ → List (ℕ × Message C) → List (�
 wires b [] = []
 wires b (p ∷ ps) = (p.0, record { block = b; body = p.1 }) ∷ wires b ps
 
--- the requests for block b, in order of arrival
-abbrev pub in_block : ℕ → List Request → List (ℕ × Need)
-in_block b [] = []
-in_block b (q ∷ qs) = cond (eqb q.block b) ((q.from, q.need) ∷ in_block b qs) (in_block b qs)
+-- the requests for a block that wait, after a row
+abbrev pub queue_after : Queueing → List (ℕ × Need) → List (ℕ × Need)
+queue_after Stays q = q
+queue_after (Joins r need) q = q ++ (r, need) ∷ []
+queue_after FirstLeaves [] = []
+queue_after FirstLeaves (p ∷ q) = q
 
--- without the first for block b
-abbrev pub without_first : ℕ → List Request → List Request
-without_first b [] = []
-without_first b (q ∷ qs) = cond (eqb q.block b) qs (q ∷ without_first b qs)
+-- how many requests wait at the home in all then, where q waited for the block, and n in all
+abbrev pub occupancy_after : Queueing → List (ℕ × Need) → ℕ → ℕ
+occupancy_after Stays q n = n
+occupancy_after (Joins r need) q n = n + 1
+occupancy_after FirstLeaves [] n = n
+occupancy_after FirstLeaves (p ∷ q) n = n - 1
 
-abbrev pub requeue : ℕ → Queueing → List Request → List Request
-requeue b Stays qs = qs
-requeue b (Joins r need) qs = qs ++ record { block = b; from = r; need = need } ∷ []
-requeue b FirstLeaves qs = without_first b qs
+-- the number of the requests for the first m blocks that wait at node i, each at its block's home
+abbrev pub waiting_at : (home : ℕ → ℕ) → (ℕ → List (ℕ × Need)) → (m i : ℕ) → ℕ
+waiting_at home waiting m i =
+    sum_below (λ b. length (cond (eqb (home b) i) (waiting b) [])) m
 
 abbrev pub is_forward : {C : Type 0} → Message C → Bool
 is_forward (ToHome m) = false
@@ -121,7 +129,9 @@ module _ {C : Type 0} where
     owner = update k.owner b e.after.owner;
     sharers = update k.sharers b e.after.sharers;
     busy = update k.busy b e.after.busy;
-    waiting = update k.waiting i (requeue b e.queueing (k.waiting i));
+    waiting = update k.waiting b (queue_after e.queueing (k.waiting b));
+    occupancy = update k.occupancy i
+        (occupancy_after e.queueing (k.waiting b) (k.occupancy i));
     state = update2 k.state i b e.after.state;
     copy = update2 k.copy i b e.after.copy;
     wait = update2 k.wait i b e.after.wait;
@@ -135,8 +145,8 @@ module _ {C : Type 0} (s : Setting C) where
   abbrev pub row_of : Core C → (i j : ℕ) → Wire C → Option (Effect C)
   row_of k i j w =
       cond (ltb w.block s.blocks)
-      (row s.flag s.nodes (s.home w.block) i j (ltb (length (k.waiting i)) 32)
-      (in_block w.block (k.waiting i)) (local k i w.block) w.body) None
+      (row s.flag s.nodes (s.home w.block) i j (ltb (k.occupancy i) 32) (k.waiting w.block)
+      (local k i w.block) w.body) None
 
   abbrev pub take_in : Core C → (i j : ℕ) → List (Wire C) → Core C
   take_in k i j [] = k
@@ -153,12 +163,12 @@ module _ {C : Type 0} (s : Setting C) where
   abbrev pub waits : Core C → ℕ → ℕ
   waits k i = count (λ b. not (is_none (k.wait i b))) s.blocks
 
-  -- a node may want a block of the layout that doesn't meet its need, while it has fewer than two
-  -- waits and none for this block
+  -- a node may want a block of the layout that doesn't meet its need, while it has fewer waits
+  -- than it may have, and none for this block
   abbrev pub may_want : Core C → (i b : ℕ) → Need → Bool
   may_want k i b need =
       (ltb i s.nodes && ltb b s.blocks)
-      && ((is_none (k.wait i b) && ltb (waits k i) 2) && not (meets need (k.state i b)))
+      && ((is_none (k.wait i b) && ltb (waits k i) s.most) && not (meets need (k.state i b)))
 
   abbrev pub want_in : Core C → (i b : ℕ) → Need → Core C
   want_in k i b need = record k {
@@ -188,7 +198,8 @@ module _ {C : Type 0} (s : Setting C) where
     owner = s.home;
     sharers = λ b x. eqb x (s.home b);
     busy = λ b. None;
-    waiting = λ i. [];
+    waiting = λ b. [];
+    occupancy = λ i. 0;
     state = λ i b. cond (eqb i (s.home b)) Exclusive Invalid;
     copy = λ i b. cond (eqb i (s.home b)) (s.first b) s.flag;
     wait = λ i b. None;

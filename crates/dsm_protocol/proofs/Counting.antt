@@ -11,7 +11,8 @@ use Rattle.dsm_protocol.specs.Nodes.{Nodes, no_node, node_at, world_of, AreReach
 use Rattle.miss_handlers.specs.declared.Waiting.{Waiting}
 use Rattle.miss_handlers.specs.Waits.{wait_in, AreWaits}
 
-count_alike : (p q : ℕ → Bool) (n : ℕ) → ((i : ℕ) → i < n → p i ≡ q i) → count_of p n ≡ count_of q n
+pub count_alike : (p q : ℕ → Bool) (n : ℕ) → ((i : ℕ) → i < n → p i ≡ q i)
+    → count_of p n ≡ count_of q n
 count_alike p q zero h = refl
 count_alike p q (suc n) h = let e = count_alike p q n (λ i l. h i (omega arith)) in let a =
     h n (omega arith) in grind (arith, nat_tests)

@@ -1,5 +1,5 @@
 -- The promises, by the law of the protocol.
-use Rattle.std.proofs.Common.{◌≡◌, ◌≢◌, ℕ, ◌<◌, ◌≤◌, Bool, true, false, cond, ltb, List, ◌∷◌, get_or, refl, sym, ap, ◌∙◌, subst, Option, Some, None, arith}
+use Rattle.std.proofs.Common.{◌≡◌, ◌≢◌, ℕ, ◌*◌, ◌<◌, ◌≤◌, Bool, true, false, cond, ltb, List, ◌∷◌, get_or, refl, sym, ap, ◌∙◌, subst, Option, Some, None, arith}
 use Rattle.std.proofs.lemmas.Bool.Decides.{nat_tests}
 use Rattle.block_layout.specs.Layout.{Shape, blocks, home}
 use Rattle.state_table.specs.declared.State.{State}
@@ -11,7 +11,7 @@ use Rattle.coherence.specs.Messages as m
 use Rattle.coherence.specs.Machine as k
 use Rattle.coherence.specs.Claims as claims
 use Rattle.dsm_protocol.specs.World.{World}
-use Rattle.dsm_protocol.specs.Abstraction.{Contents, contents, state_of, wait_of, wires_of, setting_of}
+use Rattle.dsm_protocol.specs.Abstraction.{Contents, contents, state_of, wait_of, wires_of, setting_of, most_waits}
 use Rattle.dsm_protocol.specs.Sound.{IsLaid, Sound, HasNoBye, NoByes, size}
 use Rattle.dsm_protocol.specs.Events.{Leads}
 use Rattle.dsm_protocol.specs.Promises.{ReadsMemory, OneWriter, Flagged, RowsCome, NeverStuck}
@@ -31,8 +31,33 @@ write_same Shared = refl
 write_same Invalid = refl
 write_same Pending = refl
 
+-- up to 16 nodes wait for up to 32 blocks in all
+waits_room : (n : ℕ) → n ≤ 16 → n * most_waits n ≤ 32
+waits_room n few = go (ltb n 5) (ltb n 6) (ltb n 9) refl refl refl
+  where
+    go : (a b c : Bool) → ltb n 5 ≡ a → ltb n 6 ≡ b → ltb n 9 ≡ c
+        → n * cond a 8 (cond b 6 (cond c 4 2)) ≤ 32
+    go true b c e f g = let low : n < 5 = grind (arith, nat_tests) in omega (arith, low)
+    go false true c e f g = let low : n < 6 = grind (arith, nat_tests) in omega (arith, low)
+    go false false true e f g = let low : n < 9 = grind (arith, nat_tests) in omega (arith, low)
+    go false false false e f g = omega (arith, few)
+
+-- a node may wait for two blocks, among however many nodes
+pub two_of_most : (n k : ℕ) → k < 2 → k < most_waits n
+two_of_most n k low = go (ltb n 5) (ltb n 6) (ltb n 9)
+  where
+    go : (a b c : Bool) → k < cond a 8 (cond b 6 (cond c 4 2))
+    go true b c = omega (arith, low)
+    go false true c = omega (arith, low)
+    go false false true = omega (arith, low)
+    go false false false = low
+
 pub proper : (l : Shape) → IsLaid l → (first : ℕ → Contents) → k.Proper (setting_of l first)
-proper l laid first = record { nodes = laid.few; homes = λ b. below b (ltb b (blocks l)) refl }
+proper l laid first = record {
+  nodes = laid.few;
+  homes = λ b. below b (ltb b (blocks l)) refl;
+  room = waits_room l.nodes laid.few;
+}
   where
     below : (b : ℕ) (t : Bool) → ltb b (blocks l) ≡ t → cond t (home l b) 0 < l.nodes
     below b true e = laid.homes b (grind (arith, nat_tests))

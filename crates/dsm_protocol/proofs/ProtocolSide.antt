@@ -23,18 +23,18 @@ use Rattle.home_directory.specs.declared.wait.Wait.{Wait}
 use Rattle.home_directory.specs.Table.{meets, state_in_wait, request, first_wait, Miss, want_row}
 use Rattle.home_directory.specs.Home.{post}
 use Rattle.miss_handlers.specs.Effects.{block_facts as facts}
-use Rattle.miss_handlers.specs.Rows.{Row, AtHome, AtNode}
+use Rattle.miss_handlers.specs.Rows.{Row, AtHome, AtNode, taker_in, is_bye}
 use Rattle.coherence.specs.Messages as m
 use Rattle.coherence.specs.Machine as k
 use Rattle.coherence.specs.Table.{update}
 use Rattle.coherence.specs.Claims as claims
-use Rattle.coherence.proofs.Theorem.{all_coherent, all_one_writer, all_rows, all_moves, all_settles, all_takers, all_two_waits}
+use Rattle.coherence.proofs.Theorem.{all_coherent, all_one_writer, all_rows, all_moves, all_settles, all_takers, all_few_waits, all_waiters}
 use Rattle.dsm_protocol.specs.World.{World, local_block, messages_to, after_miss}
-use Rattle.dsm_protocol.specs.Abstraction.{page, Contents, contents, need_of, wait_of, wire_of, wires_of, setting_of}
-use Rattle.dsm_protocol.specs.Sound.{IsLaid, IsRoomy, IsSound, AreSound, is_bye, size}
+use Rattle.dsm_protocol.specs.Abstraction.{page, Contents, contents, need_of, wait_of, wire_of, wires_of, setting_of, most_waits}
+use Rattle.dsm_protocol.specs.Sound.{IsLaid, IsRoomy, IsSound, AreSound, size}
 use Rattle.dsm_protocol.specs.Events.{row_of, after_row, sends_in, pending}
 use Rattle.dsm_protocol.specs.Memory.{address_of, memory_at, byte_in, store_in}
-use Rattle.dsm_protocol.specs.Holds.{HoldsBy, Holds, Opens, after_store, SameBut, wanted, AfterWant, taker_in, NoneIs, AreByes, AfterTake, after_bye, after_byes, AreSettled, has_message}
+use Rattle.dsm_protocol.specs.Holds.{HoldsBy, Holds, Opens, after_store, SameBut, wanted, AfterWant, NoneIs, AreByes, AfterTake, after_bye, after_byes, AreSettled, has_message}
 use Rattle.dsm_protocol.proofs.Bytes.{store_get, contents_get}
 use Rattle.dsm_protocol.proofs.Openings.{LineLaws, contents_in, world_opens, get_from, len_from}
 use Rattle.dsm_protocol.proofs.Alike.{Alike, alike_stands, alike_sound}
@@ -99,6 +99,12 @@ place_other c i b v x d o = elim (eqb_tells x i) [
 place_node : {A : Type 0} (c : ℕ → ℕ → A) (i b : ℕ) (v : A) (d : ℕ) → d ≢ b
     → changed c i (changed (c i) b v) i d ≡ c i d
 place_node c i b v d o = place_other c i b v i d (λ e f. o f)
+
+writes_in_wait : (s : State) → can_write s ≡ true → can_write (state_in_wait s) ≡ true
+writes_in_wait Exclusive e = refl
+writes_in_wait Shared e = absurd cc
+writes_in_wait Invalid e = absurd cc
+writes_in_wait Pending e = absurd cc
 
 reads_in_wait : (s : State) → can_read s ≡ true → can_read (state_in_wait s) ≡ true
 reads_in_wait Exclusive e = refl
@@ -384,7 +390,8 @@ module _ (laws : LineLaws) (l : Shape) (valid : IsValid l) (laid : IsLaid l) whe
 
     -- a node wants a block that doesn't meet its need
     pub wants : (i b : ℕ) (need : Need) (buf : Buffer) → i < l.nodes → b < blocks l
-        → w.wait i b ≡ None → pending l w i < 2 → meets need (w.state i b) ≡ false → IsRoomy buf
+        → w.wait i b ≡ None → pending l w i < most_waits l.nodes
+        → meets need (w.state i b) ≡ false → IsRoomy buf
         → (miss : Miss) × (want_row (facts l b) (local_block w i b) b need buf ≡ Some miss)
         × HoldsBy l h.first (h.events ++ k.Want i b (need_of need) ∷ []) (after_miss w i b miss)
         memory
@@ -418,8 +425,28 @@ module _ (laws : LineLaws) (l : Shape) (valid : IsValid l) (laid : IsLaid l) whe
                   ∙ reads_in_wait (w.state i b) (ap (λ z. can_read (w.state i z)) (sym q.1) ∙ r)
               | inr q ↦ ap can_read (place_node w.state i b state d q.1) ∙ r
             ];
+            writes = λ d r. elim (eqb_tells d b) [
+              | inl q ↦ ap (λ z. can_write (changed w.state i (changed (w.state i) b state) i z))
+                  q.1 ∙ ap can_write (place_own w.state i b state)
+                  ∙ writes_in_wait (w.state i b) (ap (λ z. can_write (w.state i z)) (sym q.1) ∙ r)
+              | inr q ↦ ap can_write (place_node w.state i b state d q.1) ∙ r
+            ];
           },
         )
+
+    -- a node that may write a block doesn't wait for it
+    no_writer_waits : (i b : ℕ) → i < l.nodes → b < blocks l → can_write (w.state i b) ≡ true
+        → w.wait i b ≡ None
+    no_writer_waits i b bi bb can = go (w.wait i b) refl
+      where
+        go : (o : Option Wait) → w.wait i b ≡ o → w.wait i b ≡ None
+        go None e = e
+        go (Some x) e =
+            let waits = h.by.leads.wait i b bi bb ∙ ap wait_of e in
+            let may_not = all_waiters Contents s p h.events i b _ waits in
+            let may = ap m.can_write (h.by.leads.state i b bi bb)
+            ∙ write_same (w.state i b) ∙ can in
+            let bad : false ≡ true = sym may_not ∙ may in cc
 
     -- a block is taken away for another node
     taken_for : (i j b r : ℕ) (fm : m.ForwardMessage) (ws : List (k.Wire Contents))
@@ -461,6 +488,7 @@ module _ (laws : LineLaws) (l : Shape) (valid : IsValid l) (laid : IsLaid l) whe
       own = λ d. inl refl;
       grants = λ d need e gone. absurd (still_wanted (w.wait i d) need e gone);
       reads = λ d r. inl r;
+      writes = λ d r. inl r;
       taker = λ t. absurd cc;
       says = no_byes l row.sends posts;
       calm = λ e. f.1;
@@ -498,6 +526,15 @@ module _ (laws : LineLaws) (l : Shape) (valid : IsValid l) (laid : IsLaid l) whe
               | inr e ↦ inr (e, q.1)
             ]
             | inr q ↦ inl (ap can_read (place_node w.state i b state d q.1) ∙ r)
+          ];
+          writes = λ d r. elim (eqb_tells d b) [
+            | inl q ↦ (let r' : can_write (w.state i b) ≡ true =
+                ap (λ z. can_write (w.state i z)) (sym q.1) ∙ r in
+                elim (f.2.writes r' (no_writer_waits i b bi f.0 r')) [
+                  | inl e ↦ inl (ap (λ z. can_write (states i z)) q.1 ∙ ap can_write state_is ∙ e)
+                  | inr e ↦ inr e
+                ])
+            | inr q ↦ inl (ap can_write (place_node w.state i b state d q.1) ∙ r)
           ];
           taker = λ t.
               let r = f.2.taker t in
@@ -555,6 +592,7 @@ module _ (laws : LineLaws) (l : Shape) (valid : IsValid l) (laid : IsLaid l) whe
             sharers = h.by.leads.sharers;
             busy = h.by.leads.busy;
             waiting = h.by.leads.waiting;
+            occupancy = h.by.leads.occupancy;
             state = h.by.leads.state;
             copy = h.by.leads.copy;
             wait = h.by.leads.wait;
@@ -589,6 +627,7 @@ module _ (laws : LineLaws) (l : Shape) (valid : IsValid l) (laid : IsLaid l) whe
         sharers = h.by.leads.sharers;
         busy = h.by.leads.busy;
         waiting = h.by.leads.waiting;
+        occupancy = h.by.leads.occupancy;
         state = h.by.leads.state;
         copy = h.by.leads.copy;
         wait = h.by.leads.wait;
@@ -630,7 +669,7 @@ module _ (laws : LineLaws) (l : Shape) (valid : IsValid l) (laid : IsLaid l) whe
         (all_settles Contents s p h.events b
         (λ i bi bb. h.by.leads.wait i b bi bb ∙ ap wait_of (idle i b bi bb)) x y))
 
-    -- a node waits for two blocks at most
-    pub few_waits : (i : ℕ) → i < l.nodes → pending l w i ≤ 2
-    few_waits i bi = subst (λ z. z ≤ 2) (sym (pending_is l h.first w c i h.by.leads bi))
-        (all_two_waits Contents s p h.events i)
+    -- a node waits for few blocks
+    pub few_waits : (i : ℕ) → i < l.nodes → pending l w i ≤ most_waits l.nodes
+    few_waits i bi = subst (λ z. z ≤ most_waits l.nodes)
+        (sym (pending_is l h.first w c i h.by.leads bi)) (all_few_waits Contents s p h.events i)

@@ -3,7 +3,7 @@ use Rattle.std.proofs.Common.{◌≡◌, ℕ, zero, suc, ◌<◌, Bool, true, fa
 use Rattle.std.proofs.lemmas.Bool.Decides.{nat_tests}
 use Rattle.block_layout.specs.Layout.{Shape, blocks, home}
 use Rattle.buf_pool.specs.Pool.{Buffer}
-use Rattle.state_table.specs.StateByte.{can_read}
+use Rattle.state_table.specs.StateByte.{can_read, can_write}
 use Rattle.home_directory.specs.declared.messages.Need.{Need}
 use Rattle.home_directory.specs.declared.messages.Need.TheVariants as want
 use Rattle.home_directory.specs.declared.messages.Message.{Message}
@@ -13,13 +13,13 @@ use Rattle.home_directory.specs.declared.wait.Wait.{Wait}
 use Rattle.home_directory.specs.declared.wait.Answer.TheVariants.{ByData, ByGrant}
 use Rattle.home_directory.specs.declared.directory.Busy.{Busy}
 use Rattle.home_directory.specs.declared.directory.Request.{Request}
-use Rattle.home_directory.specs.Home.{Entry, Home, others, done_with, post, invals, first_for}
-use Rattle.home_directory.specs.Table.{BlockFacts, LocalBlock, NodeRow, HomeRow, Start, meets, state_for, bytes_by, is_complete, completion, with_answer, one_ack_more, data_row, grant_row, ack_row, node_row, read_start, grant_start, write_start, start_row, start_at, ask_when, ask_row, next_start, start_or, done_when, done_row}
+use Rattle.home_directory.specs.Home.{Entry, Home, others, done_with, post, invals}
+use Rattle.home_directory.specs.Table.{BlockFacts, LocalBlock, NodeRow, HomeRow, Start, meets, state_for, bytes_by, is_complete, completion, with_answer, one_ack_more, data_row, grant_row, ack_row, node_row, read_start, grant_start, write_start, start_row, start_at, ask_when, ask_row, start_or, next_or, done_when, done_row}
 use Rattle.miss_handlers.specs.Effects.{block_facts as facts}
-use Rattle.miss_handlers.specs.Rows.{Row, AtHome, AtNode, home_of, if_home, at_home, at_node, node_row_of}
+use Rattle.miss_handlers.specs.Rows.{Row, AtHome, AtNode, home_of, if_home, at_home, at_node, node_row_of, taker_in, takes_away}
 use Rattle.dsm_protocol.specs.World.{World, local_block}
 use Rattle.dsm_protocol.specs.Events.{holding, row_of}
-use Rattle.dsm_protocol.specs.Holds.{wanted, taker_in, is_for_home, NoneIs}
+use Rattle.dsm_protocol.specs.Holds.{wanted, is_for_home, NoneIs}
 use Rattle.dsm_protocol.proofs.SoundRows.{IfSome, if_cond, if_when, IsAbout}
 
 abbrev pub Calm : List Post → Type 0
@@ -31,6 +31,8 @@ pub record NodeFacts (old : LocalBlock) (message : Message) (row : NodeRow) : Ty
   pub grants : (need : Need) → wanted old.wait ≡ Some need → row.block.wait ≡ None
       → meets need row.block.state ≡ true
   pub reads : can_read old.state ≡ true → (can_read row.block.state ≡ true) ⊎ (row.clears ≡ true)
+  pub writes : can_write old.state ≡ true → old.wait ≡ None
+      → (can_write row.block.state ≡ true) ⊎ (takes_away message ≡ true)
   pub taker : row.clears ≡ true → (r : ℕ) × (taker_in message ≡ Some r)
   pub calm : old.wait ≡ None → Calm row.sends
 
@@ -68,6 +70,7 @@ module _ (f : BlockFacts) (old : LocalBlock) (b : ℕ) (message : Message) where
               let y : w.need ≡ need = same ∙ cc in
               subst (λ u. meets u (state_for w.need) ≡ true) y (meets_for w.need));
           reads = λ r. inl (reads_for w.need);
+          writes = λ c e. absurd (let z : Some x ≡ None = sym is ∙ e in cc);
           taker = λ c. absurd cc;
           calm = λ e. absurd (let z : Some x ≡ None = sym is ∙ e in cc);
         }
@@ -75,6 +78,7 @@ module _ (f : BlockFacts) (old : LocalBlock) (b : ℕ) (message : Message) where
           own = inl (ap (λ n. Some n) same ∙ sym (ap wanted is));
           grants = λ need e gone. absurd cc;
           reads = λ r. inl r;
+          writes = λ c e. inl c;
           taker = λ c. absurd cc;
           calm = λ e. absurd (let z : Some x ≡ None = sym is ∙ e in cc);
         }
@@ -109,6 +113,7 @@ node_facts f j old (FwdRead b r buf) = if_cond (NodeFacts old (FwdRead b r buf))
   own = inl refl;
   grants = λ need e gone. absurd (stays old.wait need e gone);
   reads = λ c. inl refl;
+  writes = λ c e. inr refl;
   taker = λ c. absurd cc;
   calm = λ e. (refl, tt);
 })
@@ -116,6 +121,7 @@ node_facts f j old (FwdWrite b r k buf) = if_cond (NodeFacts old (FwdWrite b r k
   own = inl refl;
   grants = λ need e gone. absurd (stays old.wait need e gone);
   reads = λ c. inr refl;
+  writes = λ c e. inr refl;
   taker = λ c. (r, refl);
   calm = λ e. (refl, tt);
 })
@@ -123,6 +129,7 @@ node_facts f j old (Inval b r) = if_cond (NodeFacts old (Inval b r)) _ _ (record
   own = inl refl;
   grants = λ need e gone. absurd (stays old.wait need e gone);
   reads = λ c. inr refl;
+  writes = λ c e. inr refl;
   taker = λ c. (r, refl);
   calm = λ e. (refl, tt);
 })
@@ -164,24 +171,22 @@ calm_start n e b r want.Write buf =
       | false ↦ calm_append _ _ (calm_invals (others e.sharers e.owner) b r n) (refl, tt)
     ])
 
-calm_at : (waiting : List Request) (o : Option Start) → IfSome CalmStart o
-    → IfSome CalmHome (start_at waiting o)
-calm_at waiting None s = tt
-calm_at waiting (Some x) s = s
+calm_at : (h : Home) (o : Option Start) → IfSome CalmStart o → IfSome CalmHome (start_at h o)
+calm_at h None s = tt
+calm_at h (Some x) s = s
 
 calm_when : (n : ℕ) (h : Home) (b r : ℕ) (need : Need) (buf : Buffer) (o : Option Busy)
     → IfSome CalmHome (ask_when n h b r need buf o)
-calm_when n h b r need buf None = calm_at h.waiting _ (calm_start n h.entry b r need buf)
+calm_when n h b r need buf None = calm_at h _ (calm_start n h.entry b r need buf)
 calm_when n h b r need buf (Some busy) = if_cond CalmHome _ _ tt
 
 calm_ask : (n : ℕ) (h : Home) (b r : ℕ) (need : Need) (buf : Buffer)
     → IfSome CalmHome (ask_row n h b r need buf)
 calm_ask n h b r need buf = if_when CalmHome _ _ (calm_when n h b r need buf h.entry.busy)
 
-calm_next : (n : ℕ) (e : Entry) (b : ℕ) (o : Option Request)
-    → Calm (start_or e (next_start n e b o)).sends
-calm_next n e b None = tt
-calm_next n e b (Some q) = go _ (if_when CalmStart (ltb q.from n) _
+calm_next : (n : ℕ) (e : Entry) (b : ℕ) (qs : List Request) → Calm (next_or n e b qs).sends
+calm_next n e b [] = tt
+calm_next n e b (q ∷ qs) = go _ (if_when CalmStart (ltb q.from n) _
     (calm_start n e b q.from q.need q.buf))
   where
     go : (o : Option Start) → IfSome CalmStart o → Calm (start_or e o).sends
@@ -194,7 +199,7 @@ calm_done n h b r = if_when CalmHome _ _ (by h.entry.busy)
     by : (o : Option Busy) → IfSome CalmHome (done_when n h b r o)
     by None = tt
     by (Some busy) = if_cond CalmHome _ _
-        (calm_next n (done_with h.entry busy.need r) b (first_for b h.waiting))
+        (calm_next n (done_with h.entry busy.need r) b h.waiting)
 
 -- of a row at its home, and of a row at another node
 abbrev pub RowFacts : Shape → World → ℕ → Message → Row → Type 0

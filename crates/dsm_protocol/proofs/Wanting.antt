@@ -19,7 +19,7 @@ use Rattle.coherence.specs.Messages as m
 use Rattle.coherence.specs.Table.{count}
 use Rattle.coherence.specs.Machine as k
 use Rattle.dsm_protocol.specs.World.{World, with_sends, after_miss}
-use Rattle.dsm_protocol.specs.Abstraction.{Contents, contents, need_of, state_of, wait_of, wire_of, wires_of, setting_of, StandsFor}
+use Rattle.dsm_protocol.specs.Abstraction.{Contents, contents, need_of, state_of, wait_of, wire_of, wires_of, setting_of, StandsFor, most_waits}
 use Rattle.dsm_protocol.specs.Sound.{IsLaid, IsRoomy, AreSound, HasNoBye, NoByes, Sound, size}
 use Rattle.miss_handlers.specs.Effects.{block_facts as facts}
 use Rattle.dsm_protocol.specs.Events.{pending, Leads}
@@ -114,7 +114,8 @@ module _ (l : Shape) (laid : IsLaid l) (first : ℕ → Contents) (es : List (k.
   }
 
   module _ (bs : List ℕ) (need : Need) (buf : Buffer) (idle : w.wait i b ≡ None)
-      (few : pending l w i < 2) (unmet : meets need (w.state i b) ≡ false) (roomy : IsRoomy buf)
+      (few : pending l w i < most_waits l.nodes) (unmet : meets need (w.state i b) ≡ false)
+      (roomy : IsRoomy buf)
     where
       may : k.may_want s c i b (need_of need) ≡ true
       may =
@@ -124,7 +125,7 @@ module _ (l : Shape) (laid : IsLaid l) (first : ℕ → Contents) (es : List (k.
           let u : m.meets (need_of need) (c.state i b)
           ≡ false = ap (m.meets (need_of need)) (st.state i b node block)
           ∙ sym (meets_same need (w.state i b)) ∙ unmet in
-          let f : k.waits s c i < 2 = omega arith in grind (arith, nat_tests)
+          let f : k.waits s c i < most_waits l.nodes = omega arith in grind (arith, nat_tests)
 
       want_stands : StandsFor l (after_miss w i b (miss_of bs need buf))
           (k.want_in s c i b (need_of need))
@@ -135,6 +136,7 @@ module _ (l : Shape) (laid : IsLaid l) (first : ℕ → Contents) (es : List (k.
             sharers = st.sharers;
             busy = st.busy;
             waiting = st.waiting;
+            occupancy = st.occupancy;
             state = λ x d bx bd. at_place state_of c.state w.state i b _ (state_in_wait (w.state i b))
                 (ap m.while_asked (st.state i b node block) ∙ wait_same (w.state i b)) x d
                 (st.state x d bx bd);
@@ -192,7 +194,7 @@ module _ (l : Shape) (laid : IsLaid l) (first : ℕ → Contents) (es : List (k.
 
   -- a want of a block that doesn't meet the need
   pub want_leads : (bs : List ℕ) (need : Need) (buf : Buffer) (miss : Miss) → w.wait i b ≡ None
-      → pending l w i < 2 → IsRoomy buf → want_row (facts l b)
+      → pending l w i < most_waits l.nodes → IsRoomy buf → want_row (facts l b)
       (record { state = w.state i b; bytes = bs; wait = w.wait i b }) b need buf ≡ Some miss
       → Leads l first (es ++ k.Want i b (need_of need) ∷ []) (after_miss w i b miss)
       × Sound l (after_miss w i b miss) × (NoByes l w → NoByes l (after_miss w i b miss))
@@ -265,6 +267,7 @@ module _ (l : Shape) (laid : IsLaid l) (first : ℕ → Contents) (es : List (k.
             sharers = st.sharers;
             busy = st.busy;
             waiting = st.waiting;
+            occupancy = st.occupancy;
             state = st.state;
             copy = store_copy;
             wait = st.wait;

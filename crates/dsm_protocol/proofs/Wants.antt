@@ -8,7 +8,7 @@ use Rattle.state_table.specs.States.{state_of}
 use Rattle.flag_memory.specs.Copy.{bytes_of}
 use Rattle.home_directory.specs.declared.messages.Need.{Need}
 use Rattle.home_directory.specs.declared.messages.Post.{Post}
-use Rattle.home_directory.specs.Effects.{Directory, entry_at}
+use Rattle.home_directory.specs.Effects.{Directory, entry_at, entries_of}
 use Rattle.home_directory.specs.Table.{meets, Miss, want_row}
 use Rattle.miss_handlers.specs.Waits.{wait_of}
 use Rattle.miss_handlers.specs.Effects.{miss_of, states_after, waits_after}
@@ -24,6 +24,7 @@ use Rattle.dsm_protocol.specs.Nodes.{Nodes, no_node, node_in, node_at, world_of,
 use Rattle.dsm_protocol.specs.Want.{posts_of, HasWanted}
 use Rattle.dsm_protocol.proofs.Alike.{Alike, alike_stands, alike_sound, alike_no_byes, node_set}
 use Rattle.dsm_protocol.proofs.Wanting.{want_leads, want_met}
+use Rattle.dsm_protocol.proofs.Promised.{two_of_most}
 
 module _ (l : Shape) (ns : List BareNode) (q0 q1 q2 : List Queue) (i b : ℕ) (need : Need)
     (old new : BareNode) (posts : List Post)
@@ -85,8 +86,10 @@ module _ (l : Shape) (ns : List BareNode) (q0 q1 q2 : List Queue) (i b : ℕ) (n
   none_alike e = record {
     entry = λ x d bx bd. ap (λ f. f d) (same_by (λ n. entry_at n.directory.entries)
         (ap (λ (z : Directory). entry_at z.entries) did.directory) x);
-    waiting = λ x bx. same_by (λ n. n.directory.waiting)
-        (ap (λ (z : Directory). z.waiting) did.directory) x;
+    waiting = λ x d bx. ap (λ f. f d) (same_by (λ n. (entries_of n.directory).waiting)
+        (ap (λ (z : Directory). (entries_of z).waiting) did.directory) x);
+    occupancy = λ x bx. same_by (λ n. (entries_of n.directory).occupancy)
+        (ap (λ (z : Directory). (entries_of z).occupancy) did.directory) x;
     state = λ x d bx bd. ap (λ f. f d) (same_by (λ n. state_of n.states)
         (did.state ∙ ap (states_after (state_of old.states) b) e) x);
     bytes = λ x d bx bd. ap (λ f. f d) (same_by (λ n. bytes_of n.copy) (ap bytes_of did.copy) x);
@@ -101,8 +104,10 @@ module _ (l : Shape) (ns : List BareNode) (q0 q1 q2 : List Queue) (i b : ℕ) (n
   some_alike ms e = record {
     entry = λ x d bx bd. ap (λ f. f d) (same_by (λ n. entry_at n.directory.entries)
         (ap (λ (z : Directory). entry_at z.entries) did.directory) x);
-    waiting = λ x bx. same_by (λ n. n.directory.waiting)
-        (ap (λ (z : Directory). z.waiting) did.directory) x;
+    waiting = λ x d bx. ap (λ f. f d) (same_by (λ n. (entries_of n.directory).waiting)
+        (ap (λ (z : Directory). (entries_of z).waiting) did.directory) x);
+    occupancy = λ x bx. same_by (λ n. (entries_of n.directory).occupancy)
+        (ap (λ (z : Directory). (entries_of z).occupancy) did.directory) x;
     state = λ x d bx bd. ap (λ (z : BareNode). state_of z.states d) (at x) ∙ (elim (eqb_tells x i) [
       | inl q ↦ rw q.0 (ap (λ f. f d) (did.state ∙ ap (states_after (state_of old.states) b) e)
           ∙ ap (λ f. cond (eqb d b) ms.block.state (f d)) own_state)
@@ -150,7 +155,8 @@ module _ (l : Shape) (ns : List BareNode) (q0 q1 q2 : List Queue) (i b : ℕ) (n
   goes_by (Some x) e first es st =
       let roomy : 4096 ≤ old.pool.bytes = (let z = node_is.room in omega arith) in
       let got = want_leads l reached.laid first es (world_of p0) reached.sound st i b bi bb [] need
-      (empty_buffer old.pool.bytes) x idle few roomy (row_of x e) in (
+      (empty_buffer old.pool.bytes) x idle
+      (two_of_most l.nodes (pending l (world_of p0) i) few) roomy (row_of x e) in (
         alike_stands l reached.laid _ _ _ (some_alike x e) got.0,
         alike_sound l _ _ (some_alike x e) got.1,
         alike_no_byes l _ _ (some_alike x e) (got.2 reached.no_byes),

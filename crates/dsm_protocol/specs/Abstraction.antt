@@ -55,10 +55,10 @@ wait_of None = None
 wait_of (Some w) =
     Some (record { need = need_of w.need; answer = answer_of w.answer; acks = w.counted })
 
-abbrev pub requests_of : List Request → List m.Request
+-- requests for a block
+abbrev pub requests_of : List Request → List (ℕ × m.Need)
 requests_of [] = []
-requests_of (q ∷ qs) =
-    record { block = q.block; from = q.from; need = need_of q.need } ∷ requests_of qs
+requests_of (q ∷ qs) = (q.from, need_of q.need) ∷ requests_of qs
 
 abbrev pub about : ℕ → m.Message Contents → List (Wire Contents)
 about b message = record { block = b; body = message } ∷ []
@@ -95,6 +95,12 @@ local_of e l = record {
 abbrev pub home_in : Shape → ℕ → ℕ
 home_in l b = if nat_lt b (blocks l) then home l b else 0
 
+-- how many blocks each of n nodes may wait for at a time: enough for two of each processor, with up
+-- to four processors on a node and 16 in all; so all nodes together wait for 32 at most
+abbrev pub most_waits : ℕ → ℕ
+most_waits n =
+    if nat_lt n 5 then 8 else (if nat_lt n 6 then 6 else (if nat_lt n 9 then 4 else 2))
+
 -- `first` are the first contents of the blocks
 abbrev pub setting_of : Shape → (ℕ → Contents) → Setting Contents
 setting_of l first = record {
@@ -103,6 +109,7 @@ setting_of l first = record {
   home = home_in l;
   first = first;
   flag = flags page;
+  most = most_waits l.nodes;
 }
 
 -- the nodes and lists are those of this core
@@ -110,7 +117,8 @@ pub record StandsFor (l : Shape) (w : World) (k : Core Contents) : Type 0 where
   pub owner : (b : ℕ) → b < blocks l → k.owner b ≡ (w.entry (home_in l b) b).owner
   pub sharers : (b : ℕ) → b < blocks l → k.sharers b ≡ (w.entry (home_in l b) b).sharers
   pub busy : (b : ℕ) → b < blocks l → k.busy b ≡ busy_of (w.entry (home_in l b) b).busy
-  pub waiting : (i : ℕ) → i < l.nodes → k.waiting i ≡ requests_of (w.waiting i)
+  pub waiting : (b : ℕ) → b < blocks l → k.waiting b ≡ requests_of (w.waiting (home_in l b) b)
+  pub occupancy : (i : ℕ) → i < l.nodes → k.occupancy i ≡ w.occupancy i
   pub state : (i b : ℕ) → i < l.nodes → b < blocks l → k.state i b ≡ state_of (w.state i b)
   pub copy : (i b : ℕ) → i < l.nodes → b < blocks l → k.copy i b ≡ contents (w.bytes i b)
   pub wait : (i b : ℕ) → i < l.nodes → b < blocks l → k.wait i b ≡ wait_of (w.wait i b)

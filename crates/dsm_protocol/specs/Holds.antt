@@ -5,22 +5,22 @@ use Rattle.block_layout.specs.Layout.{Shape, blocks, home, block_of}
 use Rattle.block_layout.specs.Update.{changed}
 use Rattle.rv32_decode.specs.declared.Width.{Width}
 use Rattle.state_table.specs.declared.State.TheVariants.{Exclusive, Invalid}
-use Rattle.state_table.specs.StateByte.{can_read}
+use Rattle.state_table.specs.StateByte.{can_read, can_write}
 use Rattle.flag_memory.specs.Copy.{bytes_from}
 use Rattle.flag_memory.specs.Flag.{flags}
 use Rattle.home_directory.specs.declared.messages.Need.{Need}
 use Rattle.home_directory.specs.declared.messages.Need.TheVariants as need
 use Rattle.home_directory.specs.declared.messages.Message.{Message}
-use Rattle.home_directory.specs.declared.messages.Message.TheVariants.{Read, Write, FwdWrite, Inval, Done}
+use Rattle.home_directory.specs.declared.messages.Message.TheVariants.{Read, Write, Done}
 use Rattle.home_directory.specs.declared.messages.Post.{Post}
 use Rattle.home_directory.specs.declared.wait.Wait.{Wait}
 use Rattle.home_directory.specs.Home.{first_entry}
 use Rattle.home_directory.specs.Table.{meets}
-use Rattle.miss_handlers.specs.Rows.{Row, AtHome, AtNode}
+use Rattle.miss_handlers.specs.Rows.{Row, block_in, clears, taker_in, takes_away, is_bye}
 use Rattle.coherence.specs.Machine.{Event, after}
 use Rattle.dsm_protocol.specs.World.{World, with_list, with_sends}
 use Rattle.dsm_protocol.specs.Abstraction.{Contents, setting_of}
-use Rattle.dsm_protocol.specs.Sound.{is_bye, Sound, size}
+use Rattle.dsm_protocol.specs.Sound.{Sound, size}
 use Rattle.dsm_protocol.specs.Events.{Leads, sends_in}
 use Rattle.dsm_protocol.specs.Memory.{address_of, memory_at, store_in}
 
@@ -42,7 +42,8 @@ pub record Holds (l : Shape) (w : World) (memory : ℕ → ℕ) : Type 0 where
 -- home, and invalid and flagged elsewhere; no node waits, and the lists are empty
 pub record Opens (l : Shape) (first : ℕ → ℕ) (w : World) : Type 0 where
   pub entry : (i b : ℕ) → i < l.nodes → b < blocks l → w.entry i b ≡ first_entry i
-  pub waiting : (i : ℕ) → i < l.nodes → w.waiting i ≡ []
+  pub waiting : (i b : ℕ) → i < l.nodes → w.waiting i b ≡ []
+  pub occupancy : (i : ℕ) → i < l.nodes → w.occupancy i ≡ 0
   pub state : (i b : ℕ) → i < l.nodes → b < blocks l
       → w.state i b ≡ (if home l b == i then Exclusive else Invalid)
   pub bytes : (i b : ℕ) → i < l.nodes → b < blocks l
@@ -73,21 +74,7 @@ pub record AfterWant (i b : ℕ) (need : Need) (old new : World) : Type 0 where
   pub states : SameBut i b old.state new.state
   pub bytes : (x d : ℕ) → new.bytes x d ≡ old.bytes x d
   pub reads : (d : ℕ) → can_read (old.state i d) ≡ true → can_read (new.state i d) ≡ true
-
-abbrev pub block_in : Row → ℕ
-block_in (AtHome b row) = b
-block_in (AtNode b row) = b
-
--- the row gives up the block, so that a reservation in it ends
-abbrev pub clears : Row → Bool
-clears (AtHome b row) = false
-clears (AtNode b row) = row.clears
-
--- the node for which a message takes the block away
-abbrev pub taker_in : Message → Option ℕ
-taker_in (FwdWrite b r k buf) = Some r
-taker_in (Inval b r) = Some r
-taker_in m = None
+  pub writes : (d : ℕ) → can_write (old.state i d) ≡ true → can_write (new.state i d) ≡ true
 
 -- a message for a block's home
 abbrev pub is_for_home : Message → Bool
@@ -121,6 +108,9 @@ pub record AfterTake (l : Shape) (i : ℕ) (m : Message) (row : Row) (old new : 
   -- and then for another node, which waits to write it
   pub taker : clears row ≡ true → (r : ℕ) × (taker_in m ≡ Some r) × (r < l.nodes) × (r ≢ i)
       × (wanted (old.wait r (block_in row)) ≡ Some need.Write)
+  -- what was writable stays so, unless the message takes something away
+  pub writes : (d : ℕ) → can_write (old.state i d) ≡ true
+      → (can_write (new.state i d) ≡ true) ⊎ (takes_away m ≡ true)
   -- no row says Bye, and a node that doesn't wait for the block sends nothing to its home
   pub says : NoneIs is_bye (sends_in row)
   pub calm : old.wait i (block_in row) ≡ None → NoneIs is_for_home (sends_in row)

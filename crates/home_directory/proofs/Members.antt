@@ -1,5 +1,5 @@
 -- A list seen as a function, with one place changed.
-use Rattle.std.proofs.Common.{◌≡◌, ℕ, ◌<◌, Bool, true, false, cond, List, length, get_or, set, replicate, refl, ap, ◌∙◌, Option, Some, None, arith, inl, inr, zero, suc}
+use Rattle.std.proofs.Common.{◌≡◌, ◌≢◌, ℕ, ◌<◌, Bool, true, false, cond, List, length, get_or, set, replicate, refl, ap, ◌∙◌, subst, Option, Some, None, arith, inl, inr, zero, suc}
 use Rattle.std.proofs.Math.Path.{fun_ext}
 use Rattle.std.proofs.lemmas.List.{get_or-set_same, get_or-set_other, get_or_default, get_or-replicate, length-replicate}
 use Rattle.std.proofs.lemmas.Bool.Decides.{eqb_tells, nat_tests}
@@ -11,8 +11,8 @@ use Rattle.home_directory.specs.declared.messages.Need.TheVariants.{Write as wri
 use Rattle.block_layout.specs.Update.{changed}
 use Rattle.home_directory.specs.Home.{alone, first_entry, done_with, Entry, Home}
 use Rattle.home_directory.specs.Table.{HomeRow}
-use Rattle.home_directory.specs.Rows.{home_of, row_or}
-use Rattle.home_directory.specs.Effects.{Directory, is_home, members, entry_of, entry_at, home_at, entries_of, home_effect, no_entry}
+use Rattle.home_directory.specs.Rows.{home_of, row_or, AreAfter}
+use Rattle.home_directory.specs.Effects.{Directory, is_home, members, entry_of, entry_at, home_at, entries_of, requests_for, home_effect, no_entry}
 
 pub members_set : (xs : List Bool) (r : ℕ) → r < length xs → members (set xs r true) ≡ changed (members xs) r true
 members_set xs r within = fun_ext (λ i. elim (eqb_tells i r) [
@@ -43,22 +43,51 @@ unchanged f b a is = fun_ext (λ x. elim (eqb_tells x b) [
   | inr q ↦ rw q.0 refl
 ])
 
--- a row for b changes the entry of b
-pub effect_is : (d : Directory) (b : ℕ) (e : stored.Entry) (w : List Request) (row : Option HomeRow) → b < length d.entries → entry_of e ≡ (row_or (home_at (entries_of d) b) row).home.entry → w ≡ (row_or (home_at (entries_of d) b) row).home.waiting → entries_of (record { layout = d.layout; me = d.me; entries = set d.entries b e; waiting = w }) ≡ (home_effect (entries_of d) b row).entries
-effect_is d b e w None within is_e is_w =
+-- the requests by block, where those of one block have changed
+waiting_set : (old new : List Request) (b : ℕ) (qs : List Request) → requests_for b new ≡ qs
+    → ((d : ℕ) → d ≢ b → requests_for d new ≡ requests_for d old)
+    → (λ d. requests_for d new) ≡ changed (λ d. requests_for d old) b qs
+waiting_set old new b qs own others = fun_ext (λ d. elim (eqb_tells d b) [
+  | inl q ↦ rw q.0 (ap (λ z. requests_for z new) q.1 ∙ own)
+  | inr q ↦ rw q.0 (others d q.1)
+])
+
+-- a row for b changes the entry and the requests of b
+pub effect_is : (d : Directory) (b : ℕ) (e : stored.Entry) (w : List Request) (row : Option HomeRow)
+    → b < length d.entries → entry_of e ≡ (row_or (home_at (entries_of d) b) row).home.entry
+    → AreAfter b d.waiting w (row_or (home_at (entries_of d) b) row).home
+    → entries_of (record { layout = d.layout; me = d.me; entries = set d.entries b e; waiting = w })
+    ≡ (home_effect (entries_of d) b row).entries
+effect_is d b e w None within is_e are =
     let p = entries_set d.entries b e within ∙ unchanged (entry_at d.entries) b (entry_of e) is_e in
-    λ t. record { entry = p t; waiting = is_w t }
-effect_is d b e w (Some row) within is_e is_w =
+    let q = waiting_set d.waiting w b (requests_for b d.waiting) are.waiting are.others
+    ∙ unchanged (λ x. requests_for x d.waiting) b (requests_for b d.waiting) refl in
+    λ t. record { entry = p t; waiting = q t; occupancy = are.occupancy t }
+effect_is d b e w (Some row) within is_e are =
     let p = entries_set d.entries b e within ∙ ap (changed (entry_at d.entries) b) is_e in
-    λ t. record { entry = p t; waiting = is_w t }
+    let q = waiting_set d.waiting w b row.home.waiting are.waiting are.others in
+    λ t. record { entry = p t; waiting = q t; occupancy = are.occupancy t }
 
 -- the same of a row that was found for the entry of b
-pub row_at : (d : Directory) (row : ℕ → Home → Option HomeRow) (n b : ℕ) (e0 e : stored.Entry) (w : List Request) → is_home d b ≡ true → b < length d.entries → n ≡ d.layout.nodes → e0 ≡ get_or d.entries b e0 → entry_of e ≡ (row_or (home_of e0 d.waiting) (row n (home_of e0 d.waiting))).home.entry → w ≡ (row_or (home_of e0 d.waiting) (row n (home_of e0 d.waiting))).home.waiting → entries_of (record { layout = d.layout; me = d.me; entries = set d.entries b e; waiting = w }) ≡ (home_effect (entries_of d) b (cond (is_home d b) (row d.layout.nodes (home_at (entries_of d) b)) None)).entries
-row_at d row n b e0 e w here within nodes old is_e is_w =
-    let first : e0 ≡ get_or d.entries b no_entry = old ∙ get_or_default d.entries b e0 no_entry within in
-    let found : (row_or (home_of e0 d.waiting) (row n (home_of e0 d.waiting))) ≡ (row_or (home_at (entries_of d) b) (row d.layout.nodes (home_at (entries_of d) b))) =
+pub row_at : (d : Directory) (row : ℕ → Home → Option HomeRow) (n b : ℕ) (e0 e : stored.Entry)
+    (w : List Request) → is_home d b ≡ true → b < length d.entries → n ≡ d.layout.nodes
+    → e0 ≡ get_or d.entries b e0
+    → entry_of e
+    ≡ (row_or (home_of e0 d.waiting b) (row n (home_of e0 d.waiting b))).home.entry
+    → AreAfter b d.waiting w
+    (row_or (home_of e0 d.waiting b) (row n (home_of e0 d.waiting b))).home
+    → entries_of (record { layout = d.layout; me = d.me; entries = set d.entries b e; waiting = w })
+    ≡ (home_effect (entries_of d) b
+    (cond (is_home d b) (row d.layout.nodes (home_at (entries_of d) b)) None)).entries
+row_at d row n b e0 e w here within nodes old is_e are =
+    let first : e0 ≡ get_or d.entries b no_entry =
+    old ∙ get_or_default d.entries b e0 no_entry within in
+    let found : (row_or (home_of e0 d.waiting b) (row n (home_of e0 d.waiting b)))
+    ≡ (row_or (home_at (entries_of d) b) (row d.layout.nodes (home_at (entries_of d) b))) =
     rw (nodes, first) refl in
-    rw here (effect_is d b e w (row d.layout.nodes (home_at (entries_of d) b)) within (is_e ∙ (λ t. (found t).home.entry)) (is_w ∙ (λ t. (found t).home.waiting)))
+    rw here (effect_is d b e w (row d.layout.nodes (home_at (entries_of d) b)) within
+    (is_e ∙ (λ t. (found t).home.entry))
+    (subst (λ (r : HomeRow). AreAfter b d.waiting w r.home) found are))
 
 pub home_within : (d : Directory) (b : ℕ) → is_home d b ≡ true → b < blocks d.layout
 home_within d b here = grind (arith, nat_tests)

@@ -1,5 +1,5 @@
 -- What contracts see of a directory, and what the table's rows change in it.
-use Rattle.std.specs.Prelude.{ℕ, Bool, false, if◌then◌else◌, ◌==◌, ◌&&◌, nat_lt, List, [], slice_index_or, Option, None, Some}
+use Rattle.std.specs.Prelude.{ℕ, Bool, false, if◌then◌else◌, ◌==◌, ◌&&◌, nat_lt, List, [], slice_index_or, length, filter, Option, None, Some}
 use Rattle.block_layout.specs.Layout.{Shape, blocks, home}
 use Rattle.block_layout.specs.Update.{changed}
 use Rattle.buf_pool.specs.Pool.{Buffer}
@@ -11,7 +11,7 @@ use Rattle.home_directory.specs.Home.{Entry, Home}
 use Rattle.home_directory.specs.Table.{HomeRow, ask_row, done_row}
 
 -- a directory: the layout that it was made with, its node, the entries by block, and the requests
--- that wait, in order of arrival
+-- that wait, where those for one block stand in order of arrival
 pub record Directory : Type 0 where
   pub layout : Shape
   pub me : ℕ
@@ -31,16 +31,25 @@ entry_of e = record { owner = e.owner; sharers = members e.sharers; busy = e.bus
 abbrev pub entry_at : List stored.Entry → ℕ → Entry
 entry_at entries b = entry_of (slice_index_or entries b no_entry)
 
--- the entries by block, and the requests that wait
+-- the requests for block b, in their order
+abbrev pub requests_for : ℕ → List Request → List Request
+requests_for b qs = filter (λ q. q.block == b) qs
+
+-- the entries and the requests that wait, by block, and how many requests wait in all
 pub record Entries : Type 0 where
   pub entry : ℕ → Entry
-  pub waiting : List Request
+  pub waiting : ℕ → List Request
+  pub occupancy : ℕ
 
 abbrev pub entries_of : Directory → Entries
-entries_of d = record { entry = entry_at d.entries; waiting = d.waiting }
+entries_of d = record {
+  entry = entry_at d.entries;
+  waiting = λ b. requests_for b d.waiting;
+  occupancy = length d.waiting;
+}
 
 abbrev pub home_at : Entries → ℕ → Home
-home_at es b = record { entry = es.entry b; waiting = es.waiting }
+home_at es b = record { entry = es.entry b; waiting = es.waiting b; occupancy = es.occupancy }
 
 -- the block is one of the layout, and this node is its home
 abbrev pub is_home : Directory → ℕ → Bool
@@ -51,11 +60,16 @@ pub record HomeEffect : Type 0 where
   pub entries : Entries
   pub sends : List Post
 
--- a row changes the entry of its block alone; without a row nothing changes and nothing is sent
+-- a row changes its block's entry and requests alone; without a row nothing changes and nothing is
+-- sent
 abbrev pub home_effect : Entries → ℕ → Option HomeRow → HomeEffect
 home_effect es b None = record { entries = es; sends = [] }
 home_effect es b (Some row) = record {
-  entries = record { entry = changed es.entry b row.home.entry; waiting = row.home.waiting };
+  entries = record {
+    entry = changed es.entry b row.home.entry;
+    waiting = changed es.waiting b row.home.waiting;
+    occupancy = row.home.occupancy;
+  };
   sends = row.sends;
 }
 

@@ -1,5 +1,5 @@
 -- What a home keeps of a block (Shasta, section 2: the directory of a block's home).
-use Rattle.std.specs.Prelude.{ℕ, ◌+◌, zero, suc, Bool, true, false, not, if◌then◌else◌, ◌==◌, ◌&&◌, ◌||◌, List, [], ◌∷◌, ◌++◌, Option, Some, None}
+use Rattle.std.specs.Prelude.{ℕ, ◌+◌, ◌-◌, zero, suc, Bool, true, false, not, if◌then◌else◌, ◌==◌, ◌&&◌, ◌||◌, List, [], ◌∷◌, ◌++◌, Option, Some, None}
 use Rattle.block_layout.specs.Update.{changed}
 use Rattle.home_directory.specs.declared.messages.Need.{Need}
 use Rattle.home_directory.specs.declared.messages.Need.TheVariants.{Read as reading, Write as writing}
@@ -16,11 +16,12 @@ pub record Entry : Type 0 where
   pub sharers : ℕ → Bool
   pub busy : Option Busy
 
--- what the rows of a block see at its home: the entry, and all requests that wait there, in order
--- of arrival
+-- what the rows of a block see at its home: the entry, the requests for the block that wait there,
+-- in order of arrival, and how many requests wait there in all
 pub record Home : Type 0 where
   pub entry : Entry
   pub waiting : List Request
+  pub occupancy : ℕ
 
 -- the set of one node
 abbrev pub alone : ℕ → ℕ → Bool
@@ -60,17 +61,17 @@ abbrev pub invals : (ℕ → Bool) → (b r n : ℕ) → List Post
 invals set b r zero = []
 invals set b r (suc n) = invals set b r n ++ (if set n then post n (Inval b r) ∷ [] else [])
 
--- a request of r for b waits
-abbrev pub waits : List Request → (b r : ℕ) → Bool
-waits [] b r = false
-waits (q ∷ qs) b r = (q.block == b && q.from == r) || waits qs b r
+-- one of these requests is of r
+abbrev pub waits : List Request → ℕ → Bool
+waits [] r = false
+waits (q ∷ qs) r = q.from == r || waits qs r
 
--- the first request for b that waits
-abbrev pub first_for : ℕ → List Request → Option Request
-first_for b [] = None
-first_for b (q ∷ qs) = if q.block == b then Some q else first_for b qs
+-- the requests without the first
+abbrev pub without_first : List Request → List Request
+without_first [] = []
+without_first (q ∷ qs) = qs
 
--- the requests without the first for b
-abbrev pub without_first : ℕ → List Request → List Request
-without_first b [] = []
-without_first b (q ∷ qs) = if q.block == b then qs else q ∷ without_first b qs
+-- how many requests wait at the home once the first of these has left, where there is one
+abbrev pub occupancy_then : List Request → ℕ → ℕ
+occupancy_then [] occupancy = occupancy
+occupancy_then (q ∷ qs) occupancy = occupancy - 1

@@ -1,15 +1,26 @@
 -- Helps the code alone: the entry, the requests that wait and the posts after a row or none.
-use Rattle.std.specs.Prelude.{ℕ, Bool, List, [], Option, None, Some}
+use Rattle.std.specs.Prelude.{◌≡◌, ◌≢◌, ℕ, Bool, List, [], length, Option, None, Some}
 use Rattle.buf_pool.specs.Pool.{Buffer}
 use Rattle.home_directory.specs.declared.messages.Need.{Need}
 use Rattle.home_directory.specs.declared.directory.Entry as stored
 use Rattle.home_directory.specs.declared.directory.Request.{Request}
 use Rattle.home_directory.specs.Home.{Home, others}
 use Rattle.home_directory.specs.Table.{HomeRow, Start, start_row, start_or, next_or, ask_row, done_row}
-use Rattle.home_directory.specs.Effects.{entry_of}
+use Rattle.home_directory.specs.Effects.{entry_of, requests_for}
 
-abbrev pub home_of : stored.Entry → List Request → Home
-home_of e waiting = record { entry = entry_of e; waiting = waiting }
+-- what the rows of block b see of its stored entry and of the stored requests
+abbrev pub home_of : stored.Entry → List Request → ℕ → Home
+home_of e stored b = record {
+  entry = entry_of e;
+  waiting = requests_for b stored;
+  occupancy = length stored;
+}
+
+-- the stored requests for block b are those that a row left, and the others are as before
+pub record AreAfter (b : ℕ) (old new : List Request) (h : Home) : Type 0 where
+  pub waiting : requests_for b new ≡ h.waiting
+  pub others : (d : ℕ) → d ≢ b → requests_for d new ≡ requests_for d old
+  pub occupancy : length new ≡ h.occupancy
 
 -- where there is no row all is as before
 abbrev pub row_or : Home → Option HomeRow → HomeRow
@@ -20,9 +31,9 @@ row_or h (Some row) = row
 abbrev pub sharers_but : stored.Entry → ℕ → ℕ → Bool
 sharers_but e but = others (entry_of e).sharers but
 
--- the start of the first request that waits
+-- the start of the first request that waits for block b
 abbrev pub next_of : ℕ → stored.Entry → ℕ → List Request → Start
-next_of n e b waiting = next_or n (entry_of e) b waiting
+next_of n e b stored = next_or n (entry_of e) b (requests_for b stored)
 
 -- the start of a request, or none
 abbrev pub start_of : ℕ → stored.Entry → (b r : ℕ) → Need → Buffer → Start

@@ -18,7 +18,7 @@ use Rattle.home_directory.specs.declared.directory.Request.{Request}
 use Rattle.home_directory.specs.declared.wait.Wait.{Wait}
 use Rattle.home_directory.specs.declared.wait.Answer.{Answer}
 use Rattle.home_directory.specs.declared.wait.Answer.TheVariants.{ByData, ByGrant}
-use Rattle.home_directory.specs.Home.{Entry, Home, others, count_of, busy_with, done_with, post, invals, waits, first_for, without_first}
+use Rattle.home_directory.specs.Home.{Entry, Home, others, count_of, busy_with, done_with, post, invals, waits, without_first, occupancy_then}
 
 -- 1. At the home of the block
 
@@ -62,32 +62,33 @@ pub record HomeRow : Type 0 where
   pub home : Home
   pub sends : List Post
 
-abbrev pub start_home : List Request → Start → HomeRow
-start_home waiting s = record {
-  home = record { entry = s.entry; waiting = waiting };
+abbrev pub start_home : Home → Start → HomeRow
+start_home h s = record {
+  home = record { entry = s.entry; waiting = h.waiting; occupancy = h.occupancy };
   sends = s.sends;
 }
 
-abbrev pub start_at : List Request → Option Start → Option HomeRow
-start_at waiting None = None
-start_at waiting (Some s) = Some (start_home waiting s)
+abbrev pub start_at : Home → Option Start → Option HomeRow
+start_at h None = None
+start_at h (Some s) = Some (start_home h s)
 
--- the request waits behind those that wait already
+-- the request waits behind those for the block that wait already
 abbrev pub wait_home : Home → (b r : ℕ) → Need → Buffer → HomeRow
 wait_home h b r need buf = record {
   home = record {
     entry = h.entry;
     waiting = h.waiting ++ (record { block = b; from = r; need = need; buf = buf }) ∷ [];
+    occupancy = h.occupancy + 1;
   };
   sends = [];
 }
 
 -- at a busy block it waits where the home is busy for another node, no request of r for b waits,
--- and fewer than 32 requests wait
+-- and fewer than 32 requests wait at the home
 abbrev pub ask_when : ℕ → Home → (b r : ℕ) → Need → Buffer → Option Busy → Option HomeRow
-ask_when n h b r need buf None = start_at h.waiting (start_row n h.entry b r need buf)
+ask_when n h b r need buf None = start_at h (start_row n h.entry b r need buf)
 ask_when n h b r need buf (Some busy) =
-    if not (busy.node == r) && (not (waits h.waiting b r) && nat_lt (length h.waiting) 32)
+    if not (busy.node == r) && (not (waits h.waiting r) && nat_lt h.occupancy 32)
     then Some (wait_home h b r need buf)
     else None
 
@@ -97,9 +98,9 @@ ask_row n h b r need buf =
     if nat_lt r n then ask_when n h b r need buf h.entry.busy else None
 
 -- the first request that waits for the block is treated next
-abbrev pub next_start : ℕ → Entry → ℕ → Option Request → Option Start
-next_start n e b None = None
-next_start n e b (Some q) = if nat_lt q.from n then start_row n e b q.from q.need q.buf else None
+abbrev pub next_start : ℕ → Entry → ℕ → List Request → Option Start
+next_start n e b [] = None
+next_start n e b (q ∷ qs) = if nat_lt q.from n then start_row n e b q.from q.need q.buf else None
 
 -- where it meets no row it is dropped
 abbrev pub start_or : Entry → Option Start → Start
@@ -107,12 +108,20 @@ start_or e None = record { entry = e; sends = [] }
 start_or e (Some s) = s
 
 abbrev pub next_or : ℕ → Entry → ℕ → List Request → Start
-next_or n e b waiting = start_or e (next_start n e b (first_for b waiting))
+next_or n e b waiting = start_or e (next_start n e b waiting)
+
+-- the home once the first request that waits for the block has left
+abbrev pub first_leaves : Home → Home
+first_leaves h = record {
+  entry = h.entry;
+  waiting = without_first h.waiting;
+  occupancy = occupancy_then h.waiting h.occupancy;
+}
 
 -- the request of r is done: r shares the block after a Read, and owns it alone after a Write
 abbrev pub done_home : ℕ → Home → (b r : ℕ) → Need → HomeRow
 done_home n h b r need =
-    start_home (without_first b h.waiting) (next_or n (done_with h.entry need r) b h.waiting)
+    start_home (first_leaves h) (next_or n (done_with h.entry need r) b h.waiting)
 
 -- Done from r, for whom the home is busy
 abbrev pub done_when : ℕ → Home → (b r : ℕ) → Option Busy → Option HomeRow

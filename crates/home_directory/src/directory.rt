@@ -3,10 +3,11 @@
 ghost use Rattle.std.specs.Prelude.{◌≡◌, ◌<◌, ◌≤◌, ℕ, [], IfOk, length};
 ghost use Rattle.std.specs.Vec.{vec_capacity};
 ghost use Rattle.block_layout.specs.Layout.{blocks};
-ghost use Rattle.home_directory.specs.Home.{count_of, invals, waits, first_for, without_first, done_with, first_entry};
-ghost use Rattle.home_directory.specs.Effects.{entry_of, entries_of, is_home, ask_effect, done_effect};
+ghost use Rattle.home_directory.specs.Home.{count_of, invals, waits, done_with, first_entry};
+ghost use Rattle.home_directory.specs.Table.{first_leaves};
+ghost use Rattle.home_directory.specs.Effects.{entry_of, entries_of, is_home, requests_for, ask_effect, done_effect};
 ghost use Rattle.home_directory.specs.Search.{IsFirstFor};
-ghost use Rattle.home_directory.specs.Rows.{home_of, start_of, next_of, sharers_but, after_ask, after_done};
+ghost use Rattle.home_directory.specs.Rows.{home_of, AreAfter, start_of, next_of, sharers_but, after_ask, after_done};
 
 use crate::messages::{Message, Need, Post, Sends};
 use block_layout::{Block, Layout};
@@ -151,11 +152,12 @@ fn ask_at(
 ) -> Sends
     requires few { nodes ≤ 16 }
     requires room { 32 ≤ vec_capacity waiting.old }
-    ensures entry { let home = home_of entry.old waiting.old.items in
+    ensures entry { let home = home_of entry.old waiting.old.items block in
         entry_of entry.new ≡ (after_ask nodes home block from need buf).home.entry }
-    ensures waiting { let home = home_of entry.old waiting.old.items in
-        waiting.new.items ≡ (after_ask nodes home block from need buf).home.waiting }
-    ensures sends { let home = home_of entry.old waiting.old.items in
+    ensures waiting { let home = home_of entry.old waiting.old.items block in
+        AreAfter block waiting.old.items waiting.new.items
+        (after_ask nodes home block from need buf).home }
+    ensures sends { let home = home_of entry.old waiting.old.items block in
         result.items ≡ (after_ask nodes home block from need buf).sends }
     ensures capacity { vec_capacity waiting.new ≡ vec_capacity waiting.old }
 {
@@ -187,11 +189,12 @@ fn done_at(
     from: u8,
 ) -> Sends
     requires few { nodes ≤ 16 }
-    ensures entry { let home = home_of entry.old waiting.old.items in
+    ensures entry { let home = home_of entry.old waiting.old.items block in
         entry_of entry.new ≡ (after_done nodes home block from).home.entry }
-    ensures waiting { let home = home_of entry.old waiting.old.items in
-        waiting.new.items ≡ (after_done nodes home block from).home.waiting }
-    ensures sends { let home = home_of entry.old waiting.old.items in
+    ensures waiting { let home = home_of entry.old waiting.old.items block in
+        AreAfter block waiting.old.items waiting.new.items
+        (after_done nodes home block from).home }
+    ensures sends { let home = home_of entry.old waiting.old.items block in
         result.items ≡ (after_done nodes home block from).sends }
     ensures capacity { vec_capacity waiting.new ≡ vec_capacity waiting.old }
 {
@@ -287,7 +290,8 @@ fn invalidate(
 fn start_next(entry: &mut Entry, waiting: &mut Vec<Request>, nodes: u8, block: Block) -> Sends
     requires few { nodes ≤ 16 }
     ensures entry { entry_of entry.new ≡ (next_of nodes entry.old block waiting.old.items).entry }
-    ensures waiting { waiting.new.items ≡ without_first block waiting.old.items }
+    ensures waiting { let home = home_of entry.old waiting.old.items block in
+        AreAfter block waiting.old.items waiting.new.items (first_leaves home) }
     ensures sends { result.items ≡ (next_of nodes entry.old block waiting.old.items).sends }
     ensures capacity { vec_capacity waiting.new ≡ vec_capacity waiting.old }
 {
@@ -305,7 +309,7 @@ fn start_next(entry: &mut Entry, waiting: &mut Vec<Request>, nodes: u8, block: B
 
 /// Whether a request of a node for a block waits.
 fn waits(waiting: &[Request], block: Block, from: u8) -> bool
-    ensures { result ≡ waits waiting.now block from }
+    ensures { result ≡ waits (requests_for block waiting.now) from }
 {
     for request in waiting {
         if request.block == block && request.from == from {

@@ -1,5 +1,5 @@
--- The row of the table of messages that a message has at a node.
-use Rattle.std.specs.Prelude.{ℕ, nat_lt, ◌==◌, ◌&&◌, if◌then◌else◌, List, Option, Some, None}
+-- The row of the table of messages that a message has at a node, and what a row or a message says.
+use Rattle.std.specs.Prelude.{ℕ, Bool, true, false, nat_lt, ◌==◌, ◌&&◌, if◌then◌else◌, List, Option, Some, None}
 use Rattle.block_layout.specs.Layout.{Shape, blocks, home}
 use Rattle.home_directory.specs.declared.directory.Request.{Request}
 use Rattle.buf_pool.specs.Pool.{Buffer}
@@ -11,11 +11,12 @@ use Rattle.home_directory.specs.Home.{Entry, Home}
 use Rattle.home_directory.specs.Table.{LocalBlock, HomeRow, NodeRow, ask_row, done_row, node_row}
 use Rattle.miss_handlers.specs.Effects.{block_facts}
 
--- what a node has of all blocks: the entries of those whose home it is, the requests that wait
--- there, and each block as it is at the node
+-- what a node has of all blocks: the entries of those whose home it is, the requests for them that
+-- wait there, how many these are in all, and each block as it is at the node
 pub record Holding : Type 0 where
   pub entry : ℕ → Entry
-  pub waiting : List Request
+  pub waiting : ℕ → List Request
+  pub occupancy : ℕ
   pub block : ℕ → LocalBlock
 
 -- a row of block b: at its home, or at a node that has it or waits for it
@@ -23,8 +24,34 @@ pub data Row : Type 0 where
   AtHome : (b : ℕ) (row : HomeRow) → Row
   AtNode : (b : ℕ) (row : NodeRow) → Row
 
+abbrev pub block_in : Row → ℕ
+block_in (AtHome b row) = b
+block_in (AtNode b row) = b
+
+-- the row gives up the block, so that a reservation in it ends
+abbrev pub clears : Row → Bool
+clears (AtHome b row) = false
+clears (AtNode b row) = row.clears
+
+-- the node for which a message takes the block away
+abbrev pub taker_in : Message → Option ℕ
+taker_in (FwdWrite b r k buf) = Some r
+taker_in (Inval b r) = Some r
+taker_in m = None
+
+-- the message takes a copy of its block away from the node, or the right to write it
+abbrev pub takes_away : Message → Bool
+takes_away (FwdRead b r buf) = true
+takes_away (FwdWrite b r k buf) = true
+takes_away (Inval b r) = true
+takes_away m = false
+
+abbrev pub is_bye : Message → Bool
+is_bye Bye = true
+is_bye m = false
+
 abbrev pub home_of : Holding → ℕ → Home
-home_of h b = record { entry = h.entry b; waiting = h.waiting }
+home_of h b = record { entry = h.entry b; waiting = h.waiting b; occupancy = h.occupancy }
 
 -- a row of the home, where b is a block of the layout and node `me` is its home
 abbrev pub if_home : Shape → (me b : ℕ) → Option HomeRow → Option HomeRow
