@@ -1,21 +1,23 @@
 -- The words of sequences as they are laid out are those of the definition.
 use Rattle.std.proofs.Common.{◌≡◌, ℕ, zero, suc, ◌+◌, ◌*◌, ◌<◌, ◌≤◌, List, [], ◌∷◌, ◌++◌, length, get_or, drop, refl, sym, ap, ◌∙◌, arith}
 use Rattle.rv32_program.specs.Program.{Program}
-use Rattle.templates.specs.declared.places.Part.TheVariants.{Single}
+use Rattle.templates.specs.declared.places.Part.{Part}
 use Rattle.templates.specs.declared.plans.PlanEntry.{PlanEntry}
 use Rattle.templates.specs.Sequences.{SequenceItem}
 use Rattle.templates.specs.Expansion.{words_of}
 use Rattle.jump_map.specs.Image.{PlacedItem, placed_items, entry_items, plan_items, words_at}
 use Rattle.jump_map.specs.Laying.{laid_words}
 
-pub laid_same : (head : ℕ → ℕ) (at a k : ℕ) (items : List SequenceItem)
-    → laid_words head at a k (words_of items) ≡ words_at head at (placed_items a Single k items)
-laid_same head at a k [] = refl
-laid_same head at a k (i ∷ is) = λ t. laid_words head at a k (words_of (i ∷ [])) ++ laid_same head (at + 4) a (k + 1) is t
+pub laid_same : (head : ℕ → ℕ) (at : ℕ) (address : ℕ → ℕ) (part : Part) (k : ℕ) (items : List SequenceItem)
+    → laid_words head at address part k (words_of items) ≡ words_at head at (placed_items address part k items)
+laid_same head at address part k [] = refl
+laid_same head at address part k (i ∷ is) =
+    λ t. laid_words head at address part k (words_of (i ∷ [])) ++ laid_same head (at + 4) address part (k + 1) is t
 
-pub placed_length : (a k : ℕ) (items : List SequenceItem) → length (placed_items a Single k items) ≡ length items
-placed_length a k [] = refl
-placed_length a k (i ∷ is) = let more = placed_length a (k + 1) is in omega arith
+pub placed_length : (address : ℕ → ℕ) (part : Part) (k : ℕ) (items : List SequenceItem)
+    → length (placed_items address part k items) ≡ length items
+placed_length address part k [] = refl
+placed_length address part k (i ∷ is) = let more = placed_length address part (k + 1) is in omega arith
 
 pub at_append : (head : ℕ → ℕ) (at : ℕ) (xs ys : List PlacedItem)
     → words_at head at (xs ++ ys) ≡ words_at head at xs ++ words_at head (at + 4 * length xs) ys

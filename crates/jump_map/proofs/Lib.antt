@@ -5,3 +5,4 @@ mod LayingLemmas
 mod ExpansionLemmas
 mod StartLemmas
 mod MicroLemmas
+pub mod ImageLemmas

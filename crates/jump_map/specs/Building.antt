@@ -1,14 +1,19 @@
 -- Helps the code alone: an image while it is made.
-use Rattle.std.specs.Prelude.{◌≡◌, ℕ, ◌+◌, ◌<◌, ◌++◌, List, [], ◌∷◌, Option, map, length}
+use Rattle.std.specs.Prelude.{◌≡◌, ◌≢◌, ℕ, ◌+◌, ◌<◌, ◌++◌, List, [], ◌∷◌, Option, map, length}
 use Rattle.std.specs.Option.{option_map}
+use Rattle.rv32_program.specs.Program.{Program}
 use Rattle.templates.specs.declared.runtime_words.RtWord.{RtWord}
 use Rattle.templates.specs.declared.code.CodeWord.{CodeWord}
+use Rattle.templates.specs.declared.places.Part.{Part}
+use Rattle.templates.specs.declared.places.Part.TheVariants.{Head, Fast, Fallback}
 use Rattle.templates.specs.declared.places.Place.{Place}
 use Rattle.templates.specs.declared.plans.PlanEntry.{PlanEntry}
 use Rattle.templates.specs.declared.words.Item.{Item}
+use Rattle.templates.specs.Code.{code_of}
+use Rattle.templates.specs.Runs.{IsRun}
 use Rattle.templates.specs.Expansion.{reads}
 use Rattle.jump_map.specs.declared.heads.PlaceStart.{PlaceStart}
-use Rattle.jump_map.specs.Image.{Cell, read_cell, item_word, plan_items, image_words, address_of_word, most_words}
+use Rattle.jump_map.specs.Image.{Cell, PlacedItem, read_cell, item_word, address_in, part_of_entry, plan_items, words_at, image_words, address_of_word, most_words}
 use Rattle.jump_map.specs.HeadsValue.{HeadsValue}
 use Rattle.jump_map.specs.Heads.{program_with, starts_from, head_address}
 use Rattle.jump_map.specs.Laying.{laid_word, laid_words}
@@ -42,9 +47,26 @@ AddsItem heads place item old new =
     ≡ map read_cell old
     ++ laid_word (head_address heads) (address_of_word (length old)) place (reads item) ∷ []
 
--- the words of a place's single sequence were appended
-abbrev pub AddsSequence : HeadsValue → ℕ → List Item → List Cell → List Cell → Type 0
-AddsSequence heads address items old new =
+-- the words of a part of an entry's sequences were appended
+abbrev pub AddsPart : HeadsValue → PlanEntry → Part → List Item → List Cell → List Cell → Type 0
+AddsPart heads e part items old new =
     map read_cell new
     ≡ map read_cell old
-    ++ laid_words (head_address heads) (address_of_word (length old)) address 0 (map reads items)
+    ++ laid_words (head_address heads) (address_of_word (length old)) (address_in e part) part 0
+    (map reads items)
+
+-- the words of these items were appended
+abbrev pub AddsItems : HeadsValue → List PlacedItem → List Cell → List Cell → Type 0
+AddsItems heads items old new =
+    map read_cell new
+    ≡ map read_cell old ++ words_at (head_address heads) (address_of_word (length old)) items
+
+-- the items of the batch of an entry
+abbrev pub batch_items : Program → PlanEntry → List PlacedItem
+batch_items program e =
+    part_of_entry program e Head
+    ++ (part_of_entry program e Fast ++ part_of_entry program e Fallback)
+
+-- where a run starts at the entry's place, it is one of this code
+abbrev pub HasRunOf : List CodeWord → PlanEntry → Type 0
+HasRunOf words e = e.run ≢ 0 → IsRun (code_of words) e.address e.run

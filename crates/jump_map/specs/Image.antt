@@ -1,20 +1,24 @@
 -- Rewritten code: the words of a plan, in their order, and the place of each.
-use Rattle.std.specs.Prelude.{◌≡◌, ℕ, ◌+◌, ◌-◌, ◌*◌, ◌%◌, ◌^◌, ◌<◌, ◌≤◌, ◌++◌, ◌==◌, if◌then◌else◌, List, [], ◌∷◌, Option, Some, None, map, length}
+use Rattle.std.specs.Prelude.{◌≡◌, ◌≢◌, ℕ, ◌+◌, ◌-◌, ◌*◌, ◌%◌, ◌^◌, ◌<◌, ◌≤◌, ◌++◌, ◌==◌, ◌&&◌, Bool, true, nat_le, nat_lt, if◌then◌else◌, List, [], ◌∷◌, Option, Some, None, map, length, Contains}
+use Rattle.std.specs.List.{list_all}
 use Rattle.rv32_decode.specs.Fields.{signed}
 use Rattle.rv32_decode.specs.declared.Instr.TheVariants.{Jal}
 use Rattle.rv32_program.specs.Program.{Program}
 use Rattle.templates.specs.declared.runtime_words.RtWord.{RtWord}
 use Rattle.templates.specs.declared.runtime_words.RtWord.TheVariants.{Native, TrapOff}
 use Rattle.templates.specs.declared.places.Part.{Part}
-use Rattle.templates.specs.declared.places.Part.TheVariants.{Single}
+use Rattle.templates.specs.declared.places.Part.TheVariants.{Single, Head, Fast, Fallback}
 use Rattle.templates.specs.declared.places.Place.{Place}
 use Rattle.templates.specs.declared.plans.PlanEntry.{PlanEntry}
 use Rattle.templates.specs.RuntimeWords.{read_word}
 pub use Rattle.jump_map.specs.declared.image.ImageWord.{ImageWord}
+use Rattle.jump_map.specs.declared.image.TheConstants.{MOST_WORDS}
 use Rattle.templates.specs.declared.code.CodeWord.{CodeWord}
-use Rattle.templates.specs.Code.{HasCode}
+use Rattle.templates.specs.Code.{HasCode, code_of}
+use Rattle.templates.specs.Runs.{IsRun}
 use Rattle.templates.specs.Plans.{IsAdmissible}
-use Rattle.templates.specs.Sequences.{ItemWord, Runs, GoesTo, SequenceItem}
+use Rattle.templates.specs.declared.plans.Scratches.{Scratches}
+use Rattle.templates.specs.Sequences.{ItemWord, Runs, GoesTo, SequenceItem, reloads_of_run}
 use Rattle.templates.specs.Commits.{part_items}
 
 -- a word of an image, and its place; word 0 has none
@@ -25,6 +29,10 @@ pub record Cell : Type 0 where
 -- a word of an image, read
 abbrev pub read_cell : Cell → ImageWord
 read_cell c = record { what = read_word c.word; place = c.place }
+
+-- the word has 32 bits
+abbrev pub is_word : Cell → Bool
+is_word c = nat_lt c.word (2 ^ 32)
 
 -- where the rewritten code begins
 abbrev pub image_base : ℕ
@@ -38,16 +46,33 @@ pub record PlacedItem : Type 0 where
   pub item : ItemWord
   pub place : Place
 
--- the items of a part, of which the first has number k
-abbrev pub placed_items : ℕ → Part → ℕ → List SequenceItem → List PlacedItem
-placed_items a part k [] = []
-placed_items a part k (i ∷ is) =
-    record { item = i.what; place = record { address = a; part = part; word = k } }
-    ∷ placed_items a part (k + 1) is
+-- the items of a part, of which the first has number k, each at the place that its number gives
+abbrev pub placed_items : (ℕ → ℕ) → Part → ℕ → List SequenceItem → List PlacedItem
+placed_items address part k [] = []
+placed_items address part k (i ∷ is) =
+    record { item = i.what; place = record { address = address k; part = part; word = k } }
+    ∷ placed_items address part (k + 1) is
 
--- the words of an entry's place. No entry has other parts than its single sequence as yet
+-- how many registers come back at the start of a run's fast part
+abbrev pub reload_count : Scratches → ℕ
+reload_count x = length (reloads_of_run x [])
+
+-- where a word of a part belongs: each original word of a run's fast part to its own place, and
+-- every other word to the entry's
+abbrev pub address_in : PlanEntry → Part → ℕ → ℕ
+address_in e Fast k =
+    if nat_le (reload_count e.batch) k && nat_lt k (reload_count e.batch + e.run)
+    then e.address + 4 * (k - reload_count e.batch) else e.address
+address_in e part k = e.address
+
+abbrev pub part_of_entry : Program → PlanEntry → Part → List PlacedItem
+part_of_entry program e part = placed_items (address_in e part) part 0 (part_items program e part)
+
+-- the words of an entry's place: those of the batch that starts there, and the single sequence
 abbrev pub entry_items : Program → PlanEntry → List PlacedItem
-entry_items program e = placed_items e.address Single 0 (part_items program e Single)
+entry_items program e =
+    part_of_entry program e Head ++ (part_of_entry program e Fast
+    ++ (part_of_entry program e Fallback ++ part_of_entry program e Single))
 
 -- how many words stand before a place's, but for word 0
 abbrev pub words_before : Program → List PlanEntry → ℕ → ℕ
@@ -64,7 +89,8 @@ head_of program plan a = address_of_word (1 + words_before program plan a)
 abbrev pub distance : ℕ → ℕ → ℕ
 distance at target = (target + (2 ^ 32 - at)) % 2 ^ 32
 
--- the word of an item at its own address: a jump is a JAL that keeps no link
+-- the word of an item at its own address: a jump is a JAL that keeps no link. An image of most_words
+-- lies within its reach; a larger one would want a case more here, a runtime word for a far jump
 abbrev pub item_word : (ℕ → ℕ) → ℕ → ItemWord → RtWord
 item_word head at (Runs w) = w
 item_word head at (GoesTo place to_head) = Native (Jal 0 (signed 32 (distance at (head place))))
@@ -91,13 +117,19 @@ image_words program plan =
     off_word ∷ words_at (head_of program plan) (address_of_word 1) (plan_items program plan)
 
 abbrev pub most_words : ℕ
-most_words = 262143
+most_words = MOST_WORDS
+
+-- each run of the plan is one of this code
+pub record HasRunsOf (words : List CodeWord) (plan : List PlanEntry) : Type 0 where
+  pub each : (e : PlanEntry) → Contains plan e → e.run ≢ 0
+      → IsRun (code_of words) e.address e.run
 
 -- the image has the words of this plan
 pub record IsExpansion (program : Program) (plan : List PlanEntry) (image : List Cell) : Type 0
   where
     pub words : map read_cell image ≡ image_words program plan
     pub few : length image ≤ most_words
+    pub low : list_all is_word image ≡ true
 
 -- the image has the words of this plan, in every program that has this code
 abbrev pub Expands : List CodeWord → List PlanEntry → List Cell → Type 0

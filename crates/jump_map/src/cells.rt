@@ -1,8 +1,9 @@
 //! The words of an image, each beside what it reads as.
 
-ghost use Rattle.std.specs.Prelude.{◌≡◌, ◌<◌, ◌≤◌, ◌++◌, ◌∷◌, [], length, slice_get, option_and_then, OnOk, OnErr};
+ghost use Rattle.std.specs.Prelude.{◌≡◌, ◌<◌, ◌≤◌, ◌++◌, ◌∷◌, [], length, slice_get, option_and_then, OnOk, OnErr, true};
+ghost use Rattle.std.specs.List.{list_all};
 ghost use Rattle.std.specs.Option.{option_map};
-ghost use Rattle.jump_map.specs.Image.{read_cell, most_words};
+ghost use Rattle.jump_map.specs.Image.{is_word, read_cell, most_words};
 ghost use Rattle.jump_map.specs.Storage.{cell};
 
 use crate::image::ImageWord;
@@ -25,19 +26,21 @@ pub(crate) struct Cells {
 }
 
 impl Model for Cells {
-    ghost use Rattle.std.specs.Prelude.{List, ◌≡◌, ◌≤◌, map, length};
+    ghost use Rattle.std.specs.Prelude.{List, ◌≡◌, ◌≤◌, map, length, true};
+    ghost use Rattle.std.specs.List.{list_all};
     ghost use Rattle.jump_map.specs.Image.{Cell};
 
     ghost Value = { List Cell };
 
-    ghost use Rattle.jump_map.specs.Image.{most_words};
+    ghost use Rattle.jump_map.specs.Image.{is_word, most_words};
     ghost use Rattle.jump_map.specs.Storage.{shown, reading, stored};
 
     ghost view = { λ c. map shown c.cells.items };
 
     ghost invariant = { λ c.
         (map reading c.cells.items ≡ map stored c.cells.items)
-        × (length c.cells.items ≤ most_words) };
+        × (length c.cells.items ≤ most_words)
+        × (list_all is_word (map shown c.cells.items) ≡ true) };
 }
 
 impl Cells {
@@ -62,6 +65,13 @@ impl Cells {
             place,
         })?;
         Ok(())
+    }
+
+    /// Each word has 32 bits.
+    pub(crate) fn words_law(&self)
+        ensures { list_all is_word self.now ≡ true }
+    {
+        let _ = &self.cells;
     }
 
     /// The number of words.

@@ -1,17 +1,19 @@
 //! Where the words of each place begin, by halving.
 
 ghost use Rattle.std.specs.Prelude.{◌≡◌, ◌+◌, ◌<◌, ◌≤◌, ◌++◌, ◌∷◌, [], length, OnOk, OnErr, IfSome};
-ghost use Rattle.jump_map.specs.Heads.{start, start_of, end_of, head_number};
+ghost use Rattle.jump_map.specs.Heads.{start, start_of, head_start, single_start, end_of, head_number};
 ghost use Rattle.jump_map.specs.Image.{most_words};
 
 use std::alloc::{AllocError, Global};
 use std::marker::Model;
 
-/// Where the words of a place begin: the number of the first.
+/// Where the words of a place begin: the number of the first, at its head, and that of the first of
+/// its single sequence.
 #[derive(Clone, Copy, Debug)]
 pub(crate) struct PlaceStart {
     address: u32,
-    word: u32,
+    head: u32,
+    single: u32,
 }
 
 /// Where the words of each place begin. Contracts see the list of the places.
@@ -44,23 +46,52 @@ impl PlaceIndex {
     }
 
     /// Appends a place, which is above the last one.
-    pub(crate) fn push(&mut self, address: u32, word: u32) -> Result<(), AllocError>
+    pub(crate) fn push(&mut self, address: u32, head: u32, single: u32) -> Result<(), AllocError>
         requires above { end_of self.old ≤ address }
-        requires low { word ≤ most_words }
-        ensures ok { OnOk result (self.new ≡ self.old ++ start address word ∷ []) }
+        requires head { head ≤ most_words }
+        requires single { single ≤ most_words }
+        ensures ok { OnOk result (self.new ≡ self.old ++ start address head single ∷ []) }
         ensures err { OnErr result (self.new ≡ self.old) }
     {
-        self.starts.push(PlaceStart { address, word })?;
+        self.starts.push(PlaceStart {
+            address,
+            head,
+            single,
+        })?;
         Ok(())
     }
 
     /// The number of the first word of a place; None where the address is no place.
-    pub(crate) fn find(&self, address: u32) -> Option<u32>
-        ensures value { result ≡ start_of self.now address }
+    pub(crate) fn head(&self, address: u32) -> Option<u32>
+        ensures value { result ≡ head_start self.now address }
         ensures low { IfSome result (λ k. k ≤ most_words) }
     {
+        match self.find(address) {
+            Some(start) => Some(start.head),
+            None => None,
+        }
+    }
+
+    /// The number of the first word of a place's single sequence; None where the address is no
+    /// place.
+    pub(crate) fn single(&self, address: u32) -> Option<u32>
+        ensures value { result ≡ single_start self.now address }
+        ensures low { IfSome result (λ k. k ≤ most_words) }
+    {
+        match self.find(address) {
+            Some(start) => Some(start.single),
+            None => None,
+        }
+    }
+
+    /// Where the words of a place begin; None where the address is no place.
+    fn find(&self, address: u32) -> Option<PlaceStart>
+        ensures value { result ≡ start_of self.now address }
+        ensures head { IfSome result (λ s. s.head ≤ most_words) }
+        ensures single { IfSome result (λ s. s.single ≤ most_words) }
+    {
         match self.starts.binary_search_by_key(&address, |s| s.address) {
-            Ok(k) => Some(self.starts[k].word),
+            Ok(k) => Some(self.starts[k]),
             Err(_) => None,
         }
     }
@@ -100,7 +131,7 @@ impl Heads {
         ensures value { result ≡ head_number self.now address }
         ensures few { result ≤ most_words }
     {
-        match self.index.find(address) {
+        match self.index.head(address) {
             Some(word) => word,
             None => self.total,
         }

@@ -1,8 +1,10 @@
 //! Rewritten code, and the maps between original and rewritten addresses.
 
-ghost use Rattle.std.specs.Prelude.{◌≡◌, ◌≤◌, ℕ, length, option_copied, IfOk, IsErrOf};
+ghost use Rattle.std.specs.Prelude.{◌≡◌, ◌≤◌, ℕ, List, length, option_copied, IfOk, IsErrOf};
+ghost use Rattle.rv32_program.specs.Program.{Program};
+ghost use Rattle.templates.specs.declared.plans.PlanEntry.{PlanEntry};
 ghost use Rattle.templates.specs.Plans.{AscendsFrom};
-ghost use Rattle.jump_map.specs.Image.{most_words, Expands, IsTooLong};
+ghost use Rattle.jump_map.specs.Image.{Cell, most_words, HasRunsOf, Expands, IsRewriting, IsTooLong};
 ghost use Rattle.jump_map.specs.Micro.{IsMicroAnswer};
 ghost use Rattle.jump_map.specs.Maps.{index_of, new_of, old_of, word_at, fetch};
 
@@ -66,13 +68,13 @@ impl Model for Image {
     ghost Value = { List Cell };
 
     ghost use Rattle.jump_map.specs.Maps.{begins_at};
-    ghost use Rattle.jump_map.specs.Heads.{start_of};
+    ghost use Rattle.jump_map.specs.Heads.{single_start};
     ghost use Rattle.jump_map.specs.Decoding.{HasMicros};
 
     ghost view = { λ i. i.cells };
 
     ghost invariant = { λ i.
-        ((a : ℕ) → start_of i.index a ≡ position (begins_at a) i.cells)
+        ((a : ℕ) → single_start i.index a ≡ position (begins_at a) i.cells)
         × HasMicros i.cells i.micros.items };
 }
 
@@ -82,6 +84,7 @@ impl Image {
     /// Fails with the number of words where they are more than rewritten code may have.
     pub fn of(alloc: Global, code: &Code, plan: &Plan) -> Result<Image, ImageRefused>
         requires ascends { AscendsFrom 0 plan.now }
+        requires runs { HasRunsOf code.now plan.now }
         ensures ok { IfOk result (λ image. Expands code.now plan.now image) }
         ensures entries { IfOk result (λ image. length plan.now ≤ length image) }
         ensures too_large { (w : ℕ) →
@@ -89,6 +92,7 @@ impl Image {
     {
         match build(alloc, code, plan) {
             Ok((cells, index)) => {
+                cells.words_law();
                 let micros = decode_cells(alloc, &cells)?;
                 Ok(Image {
                     cells,
@@ -113,7 +117,7 @@ impl Image {
     pub fn new_of(&self, address: u32) -> Option<u32>
         ensures value { result ≡ new_of self.now address }
     {
-        match self.index.find(address) {
+        match self.index.single(address) {
             Some(k) => Some(IMAGE_BASE + 4 * k),
             None => None,
         }
@@ -160,3 +164,10 @@ fn index_of(new: u32) -> Option<usize>
         None
     }
 }
+
+/// A program has at most one rewriting by a plan.
+#[tactic(auto, using(crate::proofs::ImageLemmas::one_image))]
+pub fn image_law()
+    ensures one { (program : Program) (plan : List PlanEntry) (one other : List Cell) →
+        IsRewriting program plan one → IsRewriting program plan other → one ≡ other }
+{}

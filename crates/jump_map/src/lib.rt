@@ -9,4 +9,4 @@ mod heads;
 pub mod image;
 mod micros;
 
-pub use image::{IMAGE_BASE, Image, ImageRefused, ImageWord};
+pub use image::{IMAGE_BASE, Image, ImageRefused, ImageWord, image_law};

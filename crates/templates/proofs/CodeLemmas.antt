@@ -1,8 +1,8 @@
 -- Code words in ascending order: what stands at an address.
-use Rattle.std.proofs.Common.{◌≡◌, ◌≢◌, nat_cmp, subst, cond, ℕ, zero, suc, ◌+◌, ◌%◌, ◌^◌, ◌<◌, ◌≤◌, List, [], ◌∷◌, ◌++◌, length, Some, None, refl, sym, ap, ◌∙◌, arith}
+use Rattle.std.proofs.Common.{◌≡◌, ◌≢◌, nat_cmp, subst, cond, ℕ, zero, suc, ◌+◌, ◌%◌, ◌^◌, ◌<◌, ◌≤◌, ◌==◌, Bool, true, false, List, [], ◌∷◌, ◌++◌, length, Option, Some, None, refl, sym, ap, ◌∙◌, arith}
 use Rattle.std.specs.Prelude.{Ok, Err, slice_index_or}
 use Rattle.std.specs.List.Sorted.{IsSearchInRange, IsBinarySearchResult}
-use Rattle.std.proofs.lemmas.Bool.{eq-eqb}
+use Rattle.std.proofs.lemmas.Bool.{eq-eqb, eqb-true}
 use Rattle.rv32_decode.specs.declared.Instr.{Instr}
 use Rattle.templates.specs.declared.code.CodeWord.{CodeWord}
 use Rattle.templates.specs.Code.{Ascends, code_word, code_of, end_from}
@@ -75,3 +75,20 @@ at_none (w ∷ ws) xs k a up same within found =
     (λ i j d le lt. rises 0 (w ∷ ws) d up i j le lt)
     (subst (λ l. k ≤ length l) same within)
     (subst (λ l. IsBinarySearchResult (λ y. nat_cmp y.address a) l (Err k)) same found) n w lt)
+
+-- no code word stands near the end of the addresses
+pub code_below : (low : ℕ) (ws : List CodeWord) (a : ℕ) (i : Instr) → Ascends low ws → code_of ws a ≡ Some i
+    → a + 4 < 2 ^ 32
+code_below low [] a i up h = let bad : ◌≡◌ {A = Option Instr} None (Some i) = h in absurd (cc)
+code_below low (w ∷ ws) a i up h = go (code_below (w.address + 4) ws a i up.3) (w.address == a) refl
+  where
+    go : (code_of ws a ≡ Some i → a + 4 < 2 ^ 32) → (b : Bool) → (w.address == a) ≡ b → a + 4 < 2 ^ 32
+    go more true f = let same = eqb-true w.address a f in let lt = up.2 in omega (arith, same, lt)
+    go more false f = more (ap (λ b. cond b (Some w.instruction) (code_of ws a)) (sym f) ∙ h)
+
+pub none_above : (ws : List CodeWord) (a : ℕ) → Ascends 0 ws → 2 ^ 32 ≤ a → None ≡ code_of ws a
+none_above ws a up le = go (code_of ws a) refl
+  where
+    go : (o : Option Instr) → code_of ws a ≡ o → None ≡ code_of ws a
+    go None f = sym f
+    go (Some i) f = let lt = code_below 0 ws a i up f in absurd (omega (arith, lt, le))

@@ -1,6 +1,6 @@
 -- The one word of each sequence that commits.
-use Rattle.std.proofs.Common.{◌≡◌, ℕ, ℤ, zero, suc, ◌+◌, Bool, true, false, ◌==◌, cond, List, [], ◌∷◌, refl, ◌∙◌, subst, arith}
-use Rattle.std.specs.Prelude.{if◌then◌else◌}
+use Rattle.std.proofs.Common.{◌≡◌, ℕ, ℤ, zero, suc, ◌+◌, ◌-◌, ◌*◌, ◌<◌, ◌≤◌, Bool, true, false, ◌==◌, cond, List, [], ◌∷◌, length, refl, sym, ◌∙◌, subst, arith}
+use Rattle.std.specs.Prelude.{if◌then◌else◌, ◌&&◌, nat_le, nat_lt}
 use Rattle.std.proofs.lemmas.Bool.Decides.{nat_tests}
 use Rattle.rv32_decode.specs.declared.Instr.{Instr}
 use Rattle.rv32_decode.specs.declared.Cond.{Cond}
@@ -8,10 +8,13 @@ use Rattle.rv32_decode.specs.declared.LoadKind.{LoadKind}
 use Rattle.rv32_decode.specs.declared.Width.{Width}
 use Rattle.templates.specs.declared.commits.CommitKind.{CommitKind}
 use Rattle.templates.specs.declared.commits.CommitKind.TheVariants.{Never, Always, IfNotFlag}
+use Rattle.templates.specs.declared.places.Part.TheVariants.{Head, Fast, Fallback}
 use Rattle.templates.specs.declared.plans.Scratches.{Scratches}
-use Rattle.templates.specs.Sequences.{ItemWord, SequenceItem, spill_by, reload_by, reloads, flag_load_sequence, state_load_sequence, read_sequence, write_sequence, store_sequence, branch_sequence, jump_sequence}
+use Rattle.templates.specs.Runs.{Reach, reach_of}
+use Rattle.templates.specs.Sequences.{ItemWord, SequenceItem, spill_by, reload_by, reloads, flag_load_sequence, state_load_sequence, read_sequence, write_sequence, store_sequence, branch_sequence, jump_sequence, to_head, reloads_of_run, mask_readable, head_items, run_items, fast_items, fallback_items, batch_items}
 use Rattle.templates.specs.Counting.{spilled_count}
 use Rattle.templates.specs.Committing.{kind_at, CommitsAt, CommitsTwice}
+use Rattle.templates.proofs.BatchLemmas.{reloads_length}
 
 -- no word commits
 record Quiet (items : List SequenceItem) : Type 0 where
@@ -151,3 +154,115 @@ branch_commits true c rs1 rs2 target = first (quiet_more quiet_none)
 branch_commits false c rs1 rs2 target = one_commits _ Always
 
 pub ruleset all_commits = (load_commits, store_commits, read_commits, write_commits, one_commits, second_commits, jump_commits, branch_commits)
+
+-- the words of a batch
+quiet_spill : (b : Bool) (n r : ℕ) (rest : List SequenceItem) → Quiet rest → Quiet (spill_by b n r rest)
+quiet_spill true n r rest h = quiet_more h
+quiet_spill false n r rest h = h
+
+quiet_mask : (b : Bool) (s : ℕ) (rest : List SequenceItem) → Quiet rest → Quiet (mask_readable b s rest)
+quiet_mask true s rest h = h
+quiet_mask false s rest h = quiet_more h
+
+quiet_head : (x : Scratches) (reach : Reach) (fast : ℕ) → Quiet (head_items x reach fast)
+quiet_head x reach fast =
+    quiet_spill x.s.spilled 0 x.s.register _ (quiet_spill x.t.spilled 1 x.t.register _ (quiet_spill x.u.spilled 2 x.u.register _
+    (quiet_more (quiet_more (quiet_more (quiet_more (quiet_more (quiet_more (quiet_more (quiet_more (quiet_more (quiet_more
+    (quiet_mask reach.stores x.s.register _ (quiet_more (quiet_more (quiet_more (quiet_more (quiet_more quiet_none))))))))))))))))))
+
+quiet_fallback : (x : Scratches) → Quiet (fallback_items x)
+quiet_fallback x =
+    quiet_reload x.s.spilled 0 x.s.register _ (quiet_reload x.t.spilled 1 x.t.register _ (quiet_reload x.u.spilled 2 x.u.register [] quiet_none))
+
+pub head_never : (a : ℕ) (x : Scratches) (is : List Instr) (k : ℕ) → Never ≡ kind_at (batch_items a x is Head) k
+head_never a x [] k = refl
+head_never a x (i ∷ is) k = sym ((quiet_head x (reach_of (i ∷ is)) (length (fast_items x (i ∷ is) (a + 4 * length (i ∷ is))))).each k)
+
+pub fallback_never : (a : ℕ) (x : Scratches) (is : List Instr) (k : ℕ) → Never ≡ kind_at (batch_items a x is Fallback) k
+fallback_never a x [] k = refl
+fallback_never a x (i ∷ is) k = sym ((quiet_fallback x).each k)
+
+-- so many words from a number on commit, and no other
+pub record CommitsFrom (items : List SequenceItem) (n m : ℕ) : Type 0 where
+  pub each : (k : ℕ) → kind_at items k ≡ (if nat_le n k && nat_lt k (n + m) then Always else Never)
+
+none_within : (n k : ℕ) → Never ≡ (if nat_le n k && nat_lt k (n + 0) then Always else Never)
+none_within n k = grind (arith, nat_tests)
+
+one_within : (m : ℕ) → Always ≡ (if nat_le 0 0 && nat_lt 0 (0 + suc m) then Always else Never)
+one_within m = grind (arith, nat_tests)
+
+shift_within : (k m : ℕ) → (if nat_le 0 k && nat_lt k (0 + m) then Always else Never)
+    ≡ (if nat_le 0 (suc k) && nat_lt (suc k) (0 + suc m) then Always else Never)
+shift_within k m = grind (arith, nat_tests)
+
+before_within : (n m : ℕ) → Never ≡ (if nat_le (n + 1) 0 && nat_lt 0 (n + 1 + m) then Always else Never)
+before_within n m = grind (arith, nat_tests)
+
+behind_within : (k n m : ℕ) → (if nat_le n k && nat_lt k (n + m) then Always else Never)
+    ≡ (if nat_le (n + 1) (suc k) && nat_lt (suc k) (n + 1 + m) then Always else Never)
+behind_within k n m = grind (arith, nat_tests)
+
+run_commits : (is : List Instr) (after : ℕ) → CommitsFrom (run_items is (to_head after)) 0 (length is)
+run_commits [] after = record { each = go }
+  where
+    go : (k : ℕ) → kind_at (to_head after) k ≡ (if nat_le 0 k && nat_lt k (0 + 0) then Always else Never)
+    go zero = none_within 0 0
+    go (suc k) = none_within 0 (suc k)
+run_commits (i ∷ is) after = record { each = go (run_commits is after) }
+  where
+    go : CommitsFrom (run_items is (to_head after)) 0 (length is) → (k : ℕ)
+        → kind_at (run_items (i ∷ is) (to_head after)) k ≡ (if nat_le 0 k && nat_lt k (0 + suc (length is)) then Always else Never)
+    go more zero = one_within (length is)
+    go more (suc k) = more.each k ∙ shift_within k (length is)
+
+reload_before : (b : Bool) (i r : ℕ) (rest : List SequenceItem) (n m : ℕ) → CommitsFrom rest n m
+    → CommitsFrom (reload_by b i r rest) (n + cond b 1 0) m
+reload_before true i r rest n m h = record { each = go }
+  where
+    go : (k : ℕ) → kind_at (reload_by true i r rest) k ≡ (if nat_le (n + 1) k && nat_lt k (n + 1 + m) then Always else Never)
+    go zero = before_within n m
+    go (suc k) = h.each k ∙ behind_within k n m
+reload_before false i r rest n m h = subst (λ j. CommitsFrom rest j m) (omega arith) h
+
+fast_commits : (x : Scratches) (is : List Instr) (after : ℕ)
+    → CommitsFrom (fast_items x is after) (length (reloads_of_run x [])) (length is)
+fast_commits x is after =
+    let long = reloads_length x [] in
+    subst (λ n. CommitsFrom (fast_items x is after) n (length is)) {x = 0 + cond x.u.spilled 1 0 + cond x.t.spilled 1 0 + cond x.s.spilled 1 0} (omega (arith, long))
+    (reload_before x.s.spilled 0 x.s.register _ (0 + cond x.u.spilled 1 0 + cond x.t.spilled 1 0) (length is)
+    (reload_before x.t.spilled 1 x.t.register _ (0 + cond x.u.spilled 1 0) (length is)
+    (reload_before x.u.spilled 2 x.u.register _ 0 (length is) (run_commits is after))))
+
+fast_kinds : (a : ℕ) (x : Scratches) (is : List Instr)
+    → CommitsFrom (batch_items a x is Fast) (length (reloads_of_run x [])) (length is)
+fast_kinds a x [] = record { each = λ k. none_within (length (reloads_of_run x [])) k }
+fast_kinds a x (i ∷ is) = fast_commits x (i ∷ is) (a + 4 * length (i ∷ is))
+
+within : (n m k : ℕ) → n ≤ k → k - n < m → (if nat_le n k && nat_lt k (n + m) then Always else Never) ≡ Always
+within n m k le lt = grind (arith, nat_tests)
+
+below_all : (n m k : ℕ) → k < n → (if nat_le n k && nat_lt k (n + m) then Always else Never) ≡ Never
+below_all n m k lt = grind (arith, nat_tests)
+
+behind_all : (n m k : ℕ) → n ≤ k → m ≤ k - n → (if nat_le n k && nat_lt k (n + m) then Always else Never) ≡ Never
+behind_all n m k le few = grind (arith, nat_tests)
+
+-- when a word of the fast part commits
+pub fast_always : (a : ℕ) (x : Scratches) (is : List Instr) (n m k : ℕ) → n ≡ length (reloads_of_run x []) → m ≡ length is
+    → n ≤ k → k - n < m → Always ≡ kind_at (batch_items a x is Fast) k
+fast_always a x is n m k e f le lt =
+    let h = (fast_kinds a x is).each k in
+    sym (h ∙ within (length (reloads_of_run x [])) (length is) k (omega (arith, e, le)) (omega (arith, e, f, lt, le)))
+
+pub fast_before : (a : ℕ) (x : Scratches) (is : List Instr) (n k : ℕ) → n ≡ length (reloads_of_run x [])
+    → k < n → Never ≡ kind_at (batch_items a x is Fast) k
+fast_before a x is n k e lt =
+    let h = (fast_kinds a x is).each k in
+    sym (h ∙ below_all (length (reloads_of_run x [])) (length is) k (omega (arith, e, lt)))
+
+pub fast_behind : (a : ℕ) (x : Scratches) (is : List Instr) (n m k : ℕ) → n ≡ length (reloads_of_run x []) → m ≡ length is
+    → n ≤ k → m ≤ k - n → Never ≡ kind_at (batch_items a x is Fast) k
+fast_behind a x is n m k e f le few =
+    let h = (fast_kinds a x is).each k in
+    sym (h ∙ behind_all (length (reloads_of_run x [])) (length is) k (omega (arith, e, le)) (omega (arith, e, f, few, le)))

@@ -1,5 +1,10 @@
 pub mod ReadingLemmas
+pub mod WordLemmas
 pub mod SearchLemmas
 pub mod CodeLemmas
 pub mod PlaceLemmas
+pub mod ReachLemmas
+pub mod RunLemmas
+pub mod BatchLemmas
+pub mod ExpandLemmas
 pub mod CommitLemmas

@@ -1,5 +1,6 @@
 -- What the words of sequences read as.
-use Rattle.std.proofs.Common.{◌≡◌, ◌≢◌, ℕ, ℤ, ◌+◌, ◌*◌, ◌^◌, ◌<◌, eqb, false, cond, Option, Some, None, refl, sym, ap, ◌∙◌, inl, inr, arith}
+use Rattle.std.proofs.Common.{◌≡◌, ◌≢◌, ℕ, ℤ, ◌+◌, ◌*◌, ◌^◌, ◌<◌, eqb, Bool, true, false, cond, Option, Some, None, refl, sym, ap, ◌∙◌, inl, inr, arith}
+use Rattle.std.specs.Prelude.{◌&&◌, nat_lt}
 use Rattle.std.specs.Option.{option_map}
 use Rattle.std.proofs.lemmas.Bool.Decides.{eqb_tells}
 use Rattle.std.proofs.lemmas.Bool.{eq-eqb}
@@ -8,8 +9,8 @@ use Rattle.rv32_decode.specs.Rows.{instruction_of}
 use Rattle.rv32_decode.specs.declared.Instr.{Instr}
 use Rattle.rv32_decode.specs.declared.Width.{Width}
 use Rattle.rv32_decode.proofs.Custom.{custom_0-None, custom_1-None}
-use Rattle.templates.specs.declared.runtime_words.RtWord.TheVariants.{Native, MissR, MissW, Xjalr, Prepare, Poll, Call, TrapFetch, TrapOff, TrapIllegal, TrapEbreak}
-use Rattle.templates.specs.RuntimeWords.{read_word, custom_0, custom_1, prepare_of, width_of_log}
+use Rattle.templates.specs.declared.runtime_words.RtWord.TheVariants.{Native, MissR, MissW, Xjalr, Batch, Prepare, Poll, Call, TrapFetch, TrapOff, TrapIllegal, TrapEbreak}
+use Rattle.templates.specs.RuntimeWords.{read_word, custom_0, custom_1, batch_of, prepare_of, width_of_log}
 
 pub reads_poll : read_word 0x200b ≡ Some Poll
 unfolding read_word
@@ -94,3 +95,37 @@ reads_xjalr w rd rs1 imm e f d r i =
     ∙ ap (λ b. cond b (Some Poll) (cond (eqb w 0x300b) (Some Call) (Some (Xjalr (field w 7 5) (field w 15 5) (imm_i w))))) (unequal w 0x200b (λ h. let g : field w 12 3 ≡ 2 = ap (λ x. field x 12 3) h in omega (arith, f, g)))
     ∙ ap (λ b. cond b (Some Call) (Some (Xjalr (field w 7 5) (field w 15 5) (imm_i w)))) (unequal w 0x300b (λ h. let g : field w 12 3 ≡ 3 = ap (λ x. field x 12 3) h in omega (arith, f, g)))
     ∙ ap (λ n. Some (Xjalr n (field w 15 5) (imm_i w))) d ∙ ap (λ n. Some (Xjalr rd n (imm_i w))) r ∙ ap (λ n. Some (Xjalr rd rs1 n)) i
+
+batch_fields : (w n rs1 rs2 : ℕ) → field w 7 5 ≡ n → field w 25 7 ≡ 0 → field w 15 5 ≡ rs1 → field w 20 5 ≡ rs2
+    → batch_of w ≡ cond (nat_lt n 2 && eqb 0 0) (Some (Batch (eqb n 1) rs1 rs2)) None
+batch_fields w n rs1 rs2 d z r q = λ t. cond (nat_lt (d t) 2 && eqb (z t) 0) (Some (Batch (eqb (d t) 1) (r t) (q t))) None
+
+pub reads_batch : (w n rs1 rs2 : ℕ) → n < 2 → rs1 < 32 → rs2 < 32 → w ≡ rs2 * 2 ^ 20 + rs1 * 2 ^ 15 + n * 2 ^ 7 + 0x500b
+    → read_word w ≡ cond (nat_lt n 2 && eqb 0 0) (Some (Batch (eqb n 1) rs1 rs2)) None
+reads_batch w n rs1 rs2 few low1 low2 is =
+    let e : field w 0 7 ≡ 0x0b = omega (arith, is) in
+    let f : field w 12 3 ≡ 5 = omega (arith, is, few) in
+    let d : field w 7 5 ≡ n = omega (arith, is, few) in
+    let z : field w 25 7 ≡ 0 = omega (arith, is, few, low1, low2) in
+    let r : field w 15 5 ≡ rs1 = omega (arith, is, few, low1) in
+    let q : field w 20 5 ≡ rs2 = omega (arith, is, few, low1, low2) in
+    reads_custom_0 w 5 e f
+    ∙ ap (λ b. cond b (Some Poll) (cond (eqb w 0x300b) (Some Call) (batch_of w))) (unequal w 0x200b (λ h. let g : field w 12 3 ≡ 2 = ap (λ x. field x 12 3) h in omega (arith, f, g)))
+    ∙ ap (λ b. cond b (Some Call) (batch_of w)) (unequal w 0x300b (λ h. let g : field w 12 3 ≡ 3 = ap (λ x. field x 12 3) h in omega (arith, f, g)))
+    ∙ batch_fields w n rs1 rs2 d z r q
+
+pub byte_small : (b : Bool) → cond b 1 0 < 2
+byte_small true = omega arith
+byte_small false = omega arith
+
+stores_is : (b : Bool) (rs1 rs2 : ℕ)
+    → cond (nat_lt (cond b 1 0) 2 && eqb 0 0) (Some (Batch (eqb (cond b 1 0) 1) rs1 rs2)) None ≡ Some (Batch b rs1 rs2)
+stores_is true rs1 rs2 = refl
+stores_is false rs1 rs2 = refl
+
+pub reads_batch_of : (w n rs1 rs2 : ℕ) (stores : Bool) → n ≡ cond stores 1 0 → rs1 < 32 → rs2 < 32
+    → w ≡ rs2 * 2 ^ 20 + rs1 * 2 ^ 15 + n * 2 ^ 7 + 0x500b → read_word w ≡ Some (Batch stores rs1 rs2)
+reads_batch_of w n rs1 rs2 stores byte low1 low2 is =
+    let small = byte_small stores in
+    reads_batch w n rs1 rs2 (omega (arith, byte, small)) low1 low2 is
+    ∙ (λ t. cond (nat_lt (byte t) 2 && eqb 0 0) (Some (Batch (eqb (byte t) 1) rs1 rs2)) None) ∙ stores_is stores rs1 rs2

@@ -3,16 +3,10 @@ use Rattle.std.specs.Prelude.{◌≡◌, ℕ, ℤ, ◌==◌, if◌then◌else◌
 use Rattle.std.specs.Option.{option_map_or}
 use Rattle.templates.specs.declared.commits.CommitKind.{CommitKind}
 use Rattle.templates.specs.declared.commits.CommitKind.TheVariants.{Never, Always, IfNotFlag}
-use Rattle.templates.specs.declared.places.Part.TheVariants.{Single}
-use Rattle.templates.specs.declared.places.Place.{Place}
 use Rattle.templates.specs.declared.plans.Scratches.{Scratches}
 use Rattle.rv32_decode.specs.declared.LoadKind.{LoadKind}
 use Rattle.templates.specs.Plans.{looks_at_value}
 use Rattle.templates.specs.Sequences.{SequenceItem, load_sequence, flag_load_sequence}
-
--- a word of a place's single sequence
-abbrev pub single_place : ℕ → ℕ → Place
-single_place a k = record { address = a; part = Single; word = k }
 
 -- the kind of commit of the word of a number
 abbrev pub kind_at : List SequenceItem → ℕ → CommitKind

@@ -1,6 +1,8 @@
 pub mod RuntimeWords
 pub mod Code
 pub mod Places
+pub mod Runs
+pub mod Reaches
 pub mod Plans
 pub mod WholePlan
 pub mod Sequences

@@ -1,6 +1,6 @@
 -- A plan says of each place which template serves it, and which scratch registers its sequences
 -- take; an admissible one is what rewritten code may rest on.
-use Rattle.std.specs.Prelude.{◌≡◌, ◌≢◌, ℕ, zero, suc, ◌+◌, ◌<◌, ◌≤◌, Bool, true, false, not, ◌||◌, ◌==◌, nat_le, IsTrue, if◌then◌else◌, is_some, List, [], ◌∷◌, Option, Some, None, map, Contains}
+use Rattle.std.specs.Prelude.{◌≡◌, ◌≢◌, ℕ, zero, suc, ◌+◌, ◌<◌, ◌≤◌, ◌⊎◌, Bool, true, false, not, ◌||◌, ◌==◌, nat_le, IsTrue, if◌then◌else◌, is_some, List, [], ◌∷◌, Option, Some, None, map, Contains}
 use Rattle.std.specs.Option.{option_map_or}
 use Rattle.rv32_decode.specs.Registers.{destination}
 use Rattle.rv32_decode.specs.declared.LoadKind.{LoadKind}
@@ -16,6 +16,7 @@ use Rattle.templates.specs.declared.plans.Scratch.{Scratch}
 use Rattle.templates.specs.declared.plans.Scratches.{Scratches}
 use Rattle.templates.specs.declared.plans.PlanEntry.{PlanEntry}
 use Rattle.templates.specs.Places.{IsPlace}
+use Rattle.templates.specs.Runs.{IsRun, IsInRun, HasRunScratches, reach_at}
 
 -- the template of a direct branch or jump at a: its target is a multiple of four, or isn't
 abbrev pub by_target : Instr → ℕ → Template → Template → Template
@@ -120,14 +121,23 @@ abbrev pub closes_loop_at : ℕ → Option Instr → Bool
 closes_loop_at a None = false
 closes_loop_at a (Some i) = closes_loop i a
 
--- the entry serves its place. No run starts anywhere as yet
+-- no run starts at the entry's place
+pub record StartsNoRun (e : PlanEntry) : Type 0 where
+  pub run : e.run ≡ 0
+  pub batch : e.batch ≡ no_scratches
+
+-- a run starts there
+pub record StartsRun (code : ℕ → Option Instr) (e : PlanEntry) : Type 0 where
+  pub run : IsRun code e.address e.run
+  pub batch : HasRunScratches code e.address (reach_at code e.address e.run).base e.batch
+
+-- the entry serves its place
 pub record Serves (code : ℕ → Option Instr) (e : PlanEntry) : Type 0 where
   pub template : e.template ≡ template_at e.address (code e.address)
   pub single : HasScratchesAt e.template code e.address (code e.address) e.single
   pub may_poll : IsTrue e.polls → IsTrue (may_poll e.template)
   pub polls : IsTrue (closes_loop_at e.address (code e.address)) → IsTrue e.polls
-  pub run : e.run ≡ 0
-  pub batch : e.batch ≡ no_scratches
+  pub run : StartsNoRun e ⊎ StartsRun code e
 
 -- the addresses ascend, from this one on
 abbrev pub AscendsFrom : ℕ → List PlanEntry → Type 0
@@ -137,9 +147,16 @@ AscendsFrom low (e ∷ es) = (low ≤ e.address) × AscendsFrom (e.address + 1) 
 abbrev pub addresses : List PlanEntry → List ℕ
 addresses plan = map (λ e. e.address) plan
 
--- the plan has an entry for each place, in ascending order, and no other; and each serves its place
+-- no address lies in two runs
+abbrev pub RunsApart : List PlanEntry → Type 0
+RunsApart plan = (e f : PlanEntry) (a : ℕ) → Contains plan e → Contains plan f → IsInRun e a
+    → IsInRun f a → e ≡ f
+
+-- the plan has an entry for each place, in ascending order, and no other; each serves its place;
+-- and no two runs share a place
 pub record IsAdmissible (program : Program) (plan : List PlanEntry) : Type 0 where
   pub ascends : AscendsFrom 0 plan
   pub complete : (a : ℕ) → IsPlace program.code a → Contains (addresses plan) a
   pub sound : (a : ℕ) → Contains (addresses plan) a → IsPlace program.code a
   pub serves : (e : PlanEntry) → Contains plan e → Serves program.code e
+  pub apart : RunsApart plan

@@ -1,5 +1,5 @@
 -- The templates: the sequence of words that stands for each place.
-use Rattle.std.specs.Prelude.{ℕ, ℤ, pos, ◌+◌, ◌-◌, ◌*◌, ◌/◌, ◌%◌, ◌^◌, Bool, true, false, ◌==◌, List, [], ◌∷◌, Option, Some, None}
+use Rattle.std.specs.Prelude.{ℕ, ℤ, pos, ◌+◌, ◌-◌, ◌*◌, ◌/◌, ◌%◌, ◌^◌, ◌++◌, Bool, true, false, ◌==◌, List, [], ◌∷◌, length, Option, Some, None}
 use Rattle.rv32_decode.specs.Fields.{signed}
 use Rattle.rv32_decode.specs.Widths.{width_of}
 use Rattle.rv32_decode.specs.declared.Cond.{Cond}
@@ -15,13 +15,16 @@ use Rattle.rv32_decode.specs.declared.Instr.{Instr}
 use Rattle.rv32_decode.specs.declared.Instr.TheVariants.{Lui, Auipc, Jal, Jalr, Branch, Load, Store, OpImm, ShiftImm, Op, Ecall, Lr, Sc, Amo, Ebreak, Illegal}
 use Rattle.rv32_program.specs.Targets.{offset_address}
 use Rattle.templates.specs.declared.runtime_words.RtWord.{RtWord}
-use Rattle.templates.specs.declared.runtime_words.RtWord.TheVariants.{Native, MissR, MissW, Poll, Call, Xjalr, Prepare, TrapFetch, TrapIllegal, TrapEbreak}
+use Rattle.templates.specs.declared.runtime_words.RtWord.TheVariants.{Native, MissR, MissW, Poll, Call, Xjalr, Batch, Prepare, TrapFetch, TrapIllegal, TrapEbreak}
 use Rattle.templates.specs.declared.commits.CommitKind.{CommitKind}
 use Rattle.templates.specs.declared.commits.CommitKind.TheVariants.{Never, Always, IfNotFlag, IfNoWait}
 use Rattle.templates.specs.declared.plans.Scratch.{Scratch}
 use Rattle.templates.specs.declared.plans.Scratches.{Scratches}
 use Rattle.templates.specs.declared.plans.PlanEntry.{PlanEntry}
+use Rattle.templates.specs.declared.places.Part.{Part}
+use Rattle.templates.specs.declared.places.Part.TheVariants.{Single, Head, Fast, Fallback}
 use Rattle.templates.specs.Plans.{looks_at_value}
+use Rattle.templates.specs.Runs.{Reach, reach_of, code_from}
 
 -- a word of a sequence: a word that is executed, or a jump to a place, there to the head of its
 -- sequences or to its single sequence
@@ -115,9 +118,9 @@ state_look x rs1 imm rest =
 abbrev pub flag_word : ℕ
 flag_word = 0xffffff03
 
--- the flag check of Shasta (Scales, Gharachorloo and Thekkath, ASPLOS 1996): a load that looks at its
--- value, which is the flag word where the line may not be read. Only then, and for an address of the
--- upper half, the line's state is looked at, and the word loaded again
+-- the flag check of Shasta (Scales, Gharachorloo and Thekkath, ASPLOS 1996): a load that looks at
+-- its value, which is the flag word where the line may not be read. Only then, and for an address of
+-- the upper half, the line's state is looked at, and the word loaded again
 abbrev pub flag_load_sequence : Scratches → ℕ → ℕ → ℤ → List SequenceItem
 flag_load_sequence x rd rs1 imm =
     spill 0 x.s
@@ -130,8 +133,8 @@ flag_load_sequence x rd rs1 imm =
     (committing (Native (Load load_kind.Word rd rs1 imm))
     (reload 0 x.s []))))))))
 
--- a load, or an LR, whose line's state is tested: the second bit of the state byte is set where the line isn't
--- readable
+-- a load, or an LR, whose line's state is tested: the second bit of the state byte is set where the
+-- line isn't readable
 abbrev pub read_sequence : Scratches → Width → ℕ → ℤ → Instr → List SequenceItem
 read_sequence x w rs1 imm i =
     spills x (state_look x rs1 imm
@@ -210,3 +213,68 @@ poll_first false rest = rest
 -- the single sequence of a place, by its plan's entry
 abbrev pub items_of : PlanEntry → Option Instr → List SequenceItem
 items_of e code = poll_first e.polls (place_items e.address e.single code)
+
+-- Batches: a run that starts at a place has a sequence before the place's single one, by which
+-- direct jumps go (Scales, Gharachorloo and Thekkath, ASPLOS 1996: the batching of miss checks). Its
+-- head tests the states of the two lines that the run reaches, its fast part has the run's own words,
+-- and its fallback leads to the single sequence behind it.
+
+abbrev pub spills_of_run : Scratches → List SequenceItem → List SequenceItem
+spills_of_run x rest = spill 0 x.s (spill 1 x.t (spill 2 x.u rest))
+
+abbrev pub reloads_of_run : Scratches → List SequenceItem → List SequenceItem
+reloads_of_run x rest = reload 0 x.s (reload 1 x.t (reload 2 x.u rest))
+
+-- a run that only loads wants both lines readable: the second bit of both state bytes is clear. One
+-- that stores wants them writable: both state bytes are 0
+abbrev pub mask_readable : Bool → ℕ → List SequenceItem → List SequenceItem
+mask_readable true s rest = rest
+mask_readable false s rest = own (OpImm imm_op.And s s (pos 2)) rest
+
+-- the check of a run: past it stands the fast part, and so many words behind that the fallback
+abbrev pub head_items : Scratches → Reach → ℕ → List SequenceItem
+head_items x reach fast =
+    spills_of_run x (state_look x reach.base reach.low
+    (own (OpImm imm_op.Add x.u.register reach.base reach.high)
+    (own (ShiftImm shift_op.Srl x.u.register x.u.register 6)
+    (own (Op op.Add x.u.register x.u.register x.t.register)
+    (own (Load load_kind.ByteU x.u.register x.u.register (pos 0))
+    (own (Op op.Or x.s.register x.s.register x.u.register)
+    (mask_readable reach.stores x.s.register
+    (own (Branch Eq x.s.register 0 (pos 20))
+    (own (OpImm imm_op.Add x.s.register reach.base reach.low)
+    (own (OpImm imm_op.Add x.u.register reach.base reach.high)
+    (checking (Batch reach.stores x.s.register x.u.register)
+    (own (Jal 0 (pos (4 * (fast + 1)))) []))))))))))))
+
+-- the words of a run, each of which commits
+abbrev pub run_items : List Instr → List SequenceItem → List SequenceItem
+run_items [] rest = rest
+run_items (i ∷ is) rest = committing (Native i) (run_items is rest)
+
+-- the run's words, and a jump to the head of the place behind the run
+abbrev pub fast_items : Scratches → List Instr → ℕ → List SequenceItem
+fast_items x instructions behind =
+    reloads_of_run x (run_items instructions (to_head behind))
+
+abbrev pub fallback_items : Scratches → List SequenceItem
+fallback_items x = reloads_of_run x []
+
+-- the words of a part of a batch, of a run of these instructions from a on; without a run there are
+-- none
+abbrev pub batch_items : ℕ → Scratches → List Instr → Part → List SequenceItem
+batch_items a x [] part = []
+batch_items a x (i ∷ is) Head =
+    head_items x (reach_of (i ∷ is)) (length (fast_items x (i ∷ is) (a + 4 * length (i ∷ is))))
+batch_items a x (i ∷ is) Fast = fast_items x (i ∷ is) (a + 4 * length (i ∷ is))
+batch_items a x (i ∷ is) Fallback = fallback_items x
+batch_items a x (i ∷ is) Single = []
+
+-- the words of a part of an entry's sequences, in this code
+abbrev pub items_in : (ℕ → Option Instr) → PlanEntry → Part → List SequenceItem
+items_in code e Single = items_of e (code e.address)
+items_in code e part = batch_items e.address e.batch (code_from code e.address e.run) part
+
+-- the batch sequence of an entry: the words of its three parts, one behind another
+abbrev pub batch_sequence : (ℕ → Option Instr) → PlanEntry → List SequenceItem
+batch_sequence code e = items_in code e Head ++ (items_in code e Fast ++ items_in code e Fallback)

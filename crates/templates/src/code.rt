@@ -2,6 +2,7 @@
 
 ghost use Rattle.std.specs.Prelude.{◌≡◌, ◌+◌, ◌*◌, ◌%◌, ◌^◌, ◌<◌, ◌≤◌, ◌++◌, ◌∷◌, [], length, OnOk, OnErr};
 ghost use Rattle.templates.specs.Code.{Ascends, code_word, end_of, code_of};
+ghost use Rattle.templates.specs.Runs.{code_from};
 
 use rv32_decode::Instr;
 use std::alloc::{AllocError, Global};
@@ -63,6 +64,27 @@ impl Code {
         ensures ascends { Ascends 0 self.now }
     {
         &self.words
+    }
+
+    /// The instruction so many words behind an address; None exactly where no code word stands
+    /// there.
+    pub(crate) fn behind(&self, address: u32, words: u8) -> Option<Instr>
+        ensures value { result ≡ code_of self.now (address + 4 * words) }
+    {
+        let _ = &self.words;
+        match address.checked_add(4 * u32::from(words)) {
+            Some(there) => self.at(there),
+            None => None,
+        }
+    }
+
+    /// The address behind so many code words, one behind another.
+    pub fn address_behind(&self, address: u32, words: u8) -> u32
+        requires coded { length (code_from (code_of self.now) address words) ≡ words }
+        ensures value { result ≡ address + 4 * words }
+    {
+        let _ = &self.words;
+        address + 4 * u32::from(words)
     }
 
     /// The instruction at an address; None exactly where no code word stands there.

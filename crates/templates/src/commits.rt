@@ -1,12 +1,14 @@
 //! When a word of rewritten code commits a step of the original.
 
-ghost use Rattle.std.specs.Prelude.{◌≡◌, ℕ, List, Some, option_copied};
-ghost use Rattle.templates.specs.Sequences.{SequenceItem, items_of, place_items, instruction_items, jump_sequence, is_multiple_of_four};
-ghost use Rattle.templates.specs.Commits.{entry_at, IsCommitKind};
-ghost use Rattle.templates.specs.Committing.{CommitsAt, IsLoadCommit, IsFlagLoadCommit, kind_at, single_place};
+ghost use Rattle.std.specs.Prelude.{◌≡◌, ℕ, List, find, length, option_copied};
+ghost use Rattle.templates.specs.Code.{code_of};
+ghost use Rattle.templates.specs.Runs.{code_from};
+ghost use Rattle.templates.specs.Sequences.{SequenceItem, items_of, items_in, place_items, instruction_items, jump_sequence, is_multiple_of_four};
+ghost use Rattle.templates.specs.Commits.{is_word_of, IsCommitKind};
+ghost use Rattle.templates.specs.Committing.{CommitsAt, IsLoadCommit, IsFlagLoadCommit, kind_at};
 
 use crate::code::Code;
-use crate::counting::spilled_count;
+use crate::counting::{reload_count, spilled_count};
 use crate::places::{Part, Place};
 use crate::plans::{Plan, PlanEntry, Scratches, looks_at_value};
 use rv32_decode::{Instr, LoadKind, Reg};
@@ -26,27 +28,66 @@ pub enum CommitKind {
 pub fn commit_at(plan: &Plan, code: &Code, place: Place) -> CommitKind
     ensures value { IsCommitKind plan.now code.now place result }
 {
-    match place.part {
-        Part::Single => commit_of_single(plan, code, place.address, place.word),
-        Part::Head | Part::Fast | Part::Fallback => CommitKind::Never,
-    }
-}
-
-/// When a word of a place's single sequence commits.
-fn commit_of_single(plan: &Plan, code: &Code, address: u32, word: u8) -> CommitKind
-    ensures value { IsCommitKind plan.now code.now (single_place address word) result }
-{
-    match entry_at(plan.entries(), address) {
-        Some(entry) => commit_of(entry, code.at(entry.address), word),
+    match entry_of(plan.entries(), place) {
+        Some(entry) => commit_in(entry, code, place.part, place.word),
         None => CommitKind::Never,
     }
 }
 
-/// The entry of a place.
-fn entry_at(entries: &[PlanEntry], address: u32) -> Option<&PlanEntry>
-    ensures value { option_copied result ≡ entry_at entries.now address }
+/// The entry of which a place's word is one.
+fn entry_of(entries: &[PlanEntry], place: Place) -> Option<&PlanEntry>
+    ensures value { option_copied result ≡ find (is_word_of place) entries.now }
 {
-    entries.iter().find(|e| e.address == address)
+    entries.iter().find(|e| is_word_of(e, place))
+}
+
+/// Whether a place's word is one of the entry's.
+fn is_word_of(entry: &PlanEntry, place: Place) -> bool
+    ensures value { result ≡ is_word_of place entry.now }
+{
+    match place.part {
+        Part::Fast => {
+            let behind = u64::from(entry.address) + 4 * u64::from(entry.run);
+            entry.address <= place.address && u64::from(place.address) < behind
+        }
+        Part::Single | Part::Head | Part::Fallback => entry.address == place.address,
+    }
+}
+
+/// When a word of a part of an entry's sequences commits.
+fn commit_in(entry: &PlanEntry, code: &Code, part: Part, word: u8) -> CommitKind
+    ensures value { result ≡ kind_at (items_in (code_of code.now) entry.now part) word }
+{
+    match part {
+        Part::Single => commit_of(entry, code.at(entry.address), word),
+        Part::Fast => commit_of_fast(entry, code, word),
+        Part::Head | Part::Fallback => CommitKind::Never,
+    }
+}
+
+/// When a word of the fast part of an entry's batch commits.
+fn commit_of_fast(entry: &PlanEntry, code: &Code, word: u8) -> CommitKind
+    ensures value { result ≡ kind_at (items_in (code_of code.now) entry.now Part.Fast) word }
+{
+    let first = reload_count(&entry.batch);
+    if first <= word && word - first < words_of_run(code, entry.address, entry.run) {
+        CommitKind::Always
+    } else {
+        CommitKind::Never
+    }
+}
+
+/// The number of code words among so many places, one behind another.
+fn words_of_run(code: &Code, address: u32, count: u8) -> u8
+    ensures value { result ≡ length (code_from (code_of code.now) address count) }
+{
+    let mut words = 0;
+    for k in 0..count {
+        if code.behind(address, k).is_some() {
+            words += 1;
+        }
+    }
+    words
 }
 
 /// When a word of an entry's single sequence commits.

@@ -1,8 +1,8 @@
 //! How many words a sequence has.
 
-ghost use Rattle.std.specs.Prelude.{◌≡◌, ◌+◌, ◌%◌, ◌≤◌, ℕ, length};
+ghost use Rattle.std.specs.Prelude.{◌≡◌, ◌+◌, ◌%◌, ◌≤◌, ℕ, [], length};
 ghost use Rattle.templates.specs.Counting.{spilled_count, IsLoadLength, IsJumpLength, IsBranchLength};
-ghost use Rattle.templates.specs.Sequences.{items_of, place_items, instruction_items};
+ghost use Rattle.templates.specs.Sequences.{items_of, place_items, instruction_items, reloads_of_run};
 
 use crate::plans::{PlanEntry, Scratches, looks_at_value};
 use rv32_decode::{Instr, LoadKind, Reg};
@@ -70,6 +70,14 @@ fn branch_length(target: u32) -> u8
     ensures small { result ≤ 2 }
 {
     if target % 4 == 0 { 2 } else { 1 }
+}
+
+/// How many registers of a run's check are spilled, and come back behind it.
+pub fn reload_count(scratches: &Scratches) -> u8
+    ensures value { result ≡ length (reloads_of_run scratches.now []) }
+    ensures small { result ≤ 3 }
+{
+    u8::from(scratches.s.spilled) + u8::from(scratches.t.spilled) + u8::from(scratches.u.spilled)
 }
 
 /// How many of the registers are spilled.

@@ -3,21 +3,25 @@
 
 ghost use Rattle.std.specs.Prelude.{◌≡◌, ℕ};
 
+pub mod batches;
 pub mod code;
 pub mod commits;
 pub mod counting;
 pub mod numbers;
 mod places;
 pub mod plans;
+pub mod reaches;
 pub mod runtime_words;
 pub mod sequences;
 pub mod words;
 
+pub use batches::{BatchLengths, batch_lengths, expand_batch};
 pub use code::{Code, CodeWord};
 pub use commits::{CommitKind, commit_at};
-pub use counting::sequence_length;
+pub use counting::{reload_count, sequence_length};
 pub use places::{Part, Place, list_places};
 pub use plans::{Plan, PlanEntry, Scratch, Scratches, Template, looks_at_value, template_of};
+pub use reaches::Reach;
 pub use runtime_words::{RtWord, read_word};
 pub use sequences::expand;
 pub use words::{Item, Words, encode_word};

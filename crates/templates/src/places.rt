@@ -18,13 +18,15 @@ pub enum Part {
     Single,
     /// The check of a run of accesses that starts at the place.
     Head,
-    /// The run's accesses behind one check.
+    /// The run's own words behind one check.
     Fast,
     /// The way from the check to the single sequences.
     Fallback,
 }
 
-/// Where a rewritten word stands: its place, the part there, and its number in the part, from 0.
+/// Where a rewritten word stands: its place, the part there, and its number in the part, from 0. In
+/// the fast part of a run each of the run's own words has its own address; every other word of a
+/// batch has that of the run's first place.
 #[derive(Clone, Copy, Debug, PartialEq, Eq)]
 pub struct Place {
     pub address: u32,

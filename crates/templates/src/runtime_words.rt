@@ -4,7 +4,7 @@ ghost use Rattle.std.specs.Prelude.{◌≡◌, ◌^◌, ◌<◌, ℕ, Some};
 ghost use Rattle.std.specs.Option.{option_map};
 ghost use Rattle.rv32_decode.specs.Rows.{instruction_of};
 ghost use Rattle.rv32_decode.specs.Fields.{field, imm_i, signed};
-ghost use Rattle.templates.specs.RuntimeWords.{read_word, custom_0, custom_1, prepare_of, width_of_log};
+ghost use Rattle.templates.specs.RuntimeWords.{read_word, custom_0, custom_1, batch_of, prepare_of, width_of_log};
 
 use rv32_decode::{Imm12, Instr, Reg, Width, decode};
 
@@ -19,6 +19,9 @@ pub(crate) const POLL: u32 = 0x200b;
 
 /// The word of `Call`.
 pub(crate) const CALL: u32 = 0x300b;
+
+/// The word of `Batch` of a run that only loads, with x0 twice.
+const BATCH: u32 = 0x500b;
 
 /// The word of `Prepare` with x0.
 const PREPARE: u32 = 0x600b;
@@ -50,6 +53,8 @@ pub enum RtWord {
     Call,
     /// An indirect jump: to rewritten code, with the next original address in rd.
     Xjalr { rd: Reg, rs1: Reg, imm: Imm12 },
+    /// Looks whether the lines of rs1 and rs2 may be read by a run, or written where it stores.
+    Batch { stores: bool, rs1: Reg, rs2: Reg },
     /// Looks whether the line of rs1 may be written, where that address is reserved.
     Prepare { rs1: Reg },
     /// Ends the processor with `Fetch` at the word's place.
@@ -97,6 +102,16 @@ pub(crate) fn xjalr_word(rd: Reg, rs1: Reg, imm: Imm12) -> u32
     custom_0_word(4, u32::from(rd.number()), rs1, imm)
 }
 
+/// The word of `Batch`.
+pub(crate) fn batch_word(stores: bool, rs1: Reg, rs2: Reg) -> u32
+    ensures again { read_word result ≡ Some (RtWord.Batch stores rs1 rs2) }
+{
+    (u32::from(rs2.number()) << 20)
+        + (u32::from(rs1.number()) << 15)
+        + (u32::from(stores) << 7)
+        + BATCH
+}
+
 /// The word of `Prepare`.
 pub(crate) fn prepare_word(rs1: Reg) -> u32
     ensures { read_word result ≡ Some (RtWord.Prepare rs1) }
@@ -139,8 +154,25 @@ fn read_custom_0(word: u32) -> Option<RtWord>
         _ if word == POLL => Some(RtWord::Poll),
         _ if word == CALL => Some(RtWord::Call),
         4 => Some(RtWord::Xjalr { rd, rs1, imm }),
+        5 => read_batch(word),
         6 => read_prepare(word),
         _ => None,
+    }
+}
+
+/// What a word of custom-0 with the funct3 of batch is.
+fn read_batch(word: u32) -> Option<RtWord>
+    ensures value { result ≡ batch_of word }
+{
+    let stores = (word >> 7) & 0x1f;
+    if stores < 2 && word >> 25 == 0 {
+        Some(RtWord::Batch {
+            stores: stores == 1,
+            rs1: register(word, 15),
+            rs2: register(word, 20),
+        })
+    } else {
+        None
     }
 }
 

@@ -275,8 +275,12 @@ fn push_reloads(sequence: &mut ArrayVec<Item, 14>, scratches: &Scratches)
 }
 
 /// Appends the spill of a register to a spill word, where it is spilled.
-fn push_spill(sequence: &mut ArrayVec<Item, 14>, word: u8, scratch: Scratch)
-    requires room { array_vec_len sequence.old < 14 }
+pub(crate) fn push_spill<const N: usize>(
+    sequence: &mut ArrayVec<Item, N>,
+    word: u8,
+    scratch: Scratch,
+)
+    requires room { array_vec_len sequence.old < N }
     requires word { word < 3 }
     ensures words { IsLonger sequence.old.items sequence.new.items (spill word scratch []) }
     ensures count { array_vec_len sequence.new ≤ array_vec_len sequence.old + 1 }
@@ -295,8 +299,12 @@ fn push_spill(sequence: &mut ArrayVec<Item, 14>, word: u8, scratch: Scratch)
 }
 
 /// Appends the reload of a register from a spill word, where it is spilled.
-fn push_reload(sequence: &mut ArrayVec<Item, 14>, word: u8, scratch: Scratch)
-    requires room { array_vec_len sequence.old < 14 }
+pub(crate) fn push_reload<const N: usize>(
+    sequence: &mut ArrayVec<Item, N>,
+    word: u8,
+    scratch: Scratch,
+)
+    requires room { array_vec_len sequence.old < N }
     requires word { word < 3 }
     ensures words { IsLonger sequence.old.items sequence.new.items (reload word scratch []) }
     ensures count { array_vec_len sequence.new ≤ array_vec_len sequence.old + 1 }
@@ -316,8 +324,13 @@ fn spill_offset(word: u8) -> Imm12
 }
 
 /// Appends what reads the state byte of an address's line into s.
-fn push_state_look(sequence: &mut ArrayVec<Item, 14>, scratches: &Scratches, rs1: Reg, imm: Imm12)
-    requires room { array_vec_len sequence.old ≤ 9 }
+pub(crate) fn push_state_look<const N: usize>(
+    sequence: &mut ArrayVec<Item, N>,
+    scratches: &Scratches,
+    rs1: Reg,
+    imm: Imm12,
+)
+    requires room { array_vec_len sequence.old + 5 ≤ N }
     ensures words { let x = scratches.now in
         IsLonger sequence.old.items sequence.new.items (state_look x rs1 imm []) }
     ensures count { array_vec_len sequence.new ≡ array_vec_len sequence.old + 5 }
@@ -411,8 +424,8 @@ fn push_branch(sequence: &mut ArrayVec<Item, 14>, cond: Cond, rs1: Reg, rs2: Reg
 }
 
 /// Appends an instruction of the original machine.
-fn push_native(sequence: &mut ArrayVec<Item, 14>, i: Instr)
-    requires room { array_vec_len sequence.old < 14 }
+pub(crate) fn push_native<const N: usize>(sequence: &mut ArrayVec<Item, N>, i: Instr)
+    requires room { array_vec_len sequence.old < N }
     ensures words { IsLonger sequence.old.items sequence.new.items (own i []) }
     ensures count { array_vec_len sequence.new ≡ array_vec_len sequence.old + 1 }
 {
@@ -420,8 +433,8 @@ fn push_native(sequence: &mut ArrayVec<Item, 14>, i: Instr)
 }
 
 /// Appends a word that is executed.
-fn push(sequence: &mut ArrayVec<Item, 14>, what: RtWord)
-    requires room { array_vec_len sequence.old < 14 }
+pub(crate) fn push<const N: usize>(sequence: &mut ArrayVec<Item, N>, what: RtWord)
+    requires room { array_vec_len sequence.old < N }
     ensures words { IsLonger sequence.old.items sequence.new.items (checking what []) }
     ensures count { array_vec_len sequence.new ≡ array_vec_len sequence.old + 1 }
 {
@@ -429,15 +442,15 @@ fn push(sequence: &mut ArrayVec<Item, 14>, what: RtWord)
 }
 
 /// Appends a jump to the head of a place.
-fn push_to_head(sequence: &mut ArrayVec<Item, 14>, place: u32)
-    requires room { array_vec_len sequence.old < 14 }
+pub(crate) fn push_to_head<const N: usize>(sequence: &mut ArrayVec<Item, N>, place: u32)
+    requires room { array_vec_len sequence.old < N }
     ensures words { IsLonger sequence.old.items sequence.new.items (to_head place) }
 {
     sequence.push(Item::Jump { place, head: true });
 }
 
 /// Adds an immediate to a register.
-fn add_immediate(rd: Reg, rs1: Reg, imm: Imm12) -> Instr
+pub(crate) fn add_immediate(rd: Reg, rs1: Reg, imm: Imm12) -> Instr
     ensures { result ≡ Instr.OpImm ImmOp.Add rd rs1 imm }
 {
     Instr::OpImm {
@@ -461,7 +474,7 @@ fn load_word(rd: Reg, rs1: Reg, imm: Imm12) -> Instr
 }
 
 /// Branches so many bytes on.
-fn branch_by(cond: Cond, rs1: Reg, rs2: Reg, offset: u8) -> Instr
+pub(crate) fn branch_by(cond: Cond, rs1: Reg, rs2: Reg, offset: u8) -> Instr
     requires even { offset % 2 ≡ 0 }
     ensures { result ≡ Instr.Branch cond rs1 rs2 (pos offset) }
 {

@@ -11,9 +11,13 @@ returns-in-Ok-clause-value c =
     (facts.position (λ s. s.address) (answers_always _ _ _ (λ f a r g called. search rules))) c.index.ensures
     ∙ ap (λ ss. start_of ss c.args.address) c.self.view_is
 
-pub returns-in-Ok-clause-low : goal.returns-in-Ok-clause-low
-returns-in-Ok-clause-low c =
-    at_low c.self.inside.starts.items _ c.in-Ok.k c.index.result.now c.self.invariant c.deref.ensures.value c.in-Ok.ensures.bound c.index.ensures
+pub returns-in-Ok-clause-head : goal.returns-in-Ok-clause-head
+returns-in-Ok-clause-head c =
+    (at_low c.self.inside.starts.items _ c.in-Ok.k c.index.result.now c.self.invariant c.deref.ensures.value c.in-Ok.ensures.bound c.index.ensures).0
+
+pub returns-in-Ok-clause-single : goal.returns-in-Ok-clause-single
+returns-in-Ok-clause-single c =
+    (at_low c.self.inside.starts.items _ c.in-Ok.k c.index.result.now c.self.invariant c.deref.ensures.value c.in-Ok.ensures.bound c.index.ensures).1
 
 pub returns-in-Err-clause-value : goal.returns-in-Err-clause-value
 returns-in-Err-clause-value c =

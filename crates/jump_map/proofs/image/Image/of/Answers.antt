@@ -15,7 +15,7 @@ invariant_of-result c =
 pub returns-in_ok-micros-in-Ok-clause-ok : goal.returns-in_ok-micros-in-Ok-clause-ok
 returns-in_ok-micros-in-Ok-clause-ok c =
     let h = c.in-Ok.ensures in
-    expands c.args.code.now c.args.plan.now c.in-Ok.cells h.words h.few
+    expands c.args.code.now c.args.plan.now c.in-Ok.cells h.words h.few c.words_law.ensures
 
 pub returns-in-Err-clause-too_large : goal.returns-in-Err-clause-too_large
 returns-in-Err-clause-too_large c = λ w is.
