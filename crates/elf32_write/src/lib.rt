@@ -1,7 +1,7 @@
 #![tactic(auto)]
 //! Writes ELF32 executables in a layout of this project's own.
 
-ghost use Rattle.std.specs.Prelude.{◌≡◌, [], true, OnOk};
+ghost use Rattle.std.specs.Prelude.{◌≡◌, [], true, OnErr, OnOk};
 ghost use Rattle.elf32_write.specs.Layout.{file_of};
 ghost use Rattle.elf32_write.specs.Writable.{HasWords, is_writable};
 ghost use Rattle.elf32_read.specs.Elf.{Elf as Fields};
@@ -19,10 +19,26 @@ use elf32_read::Elf;
 pub use plain::writable;
 use std::alloc::AllocError;
 
-/// Writes the file of an executable.
+/// Writes the file of an executable. Where memory is wanted, `out` is left empty.
 ///
-/// Where memory is wanted, `out` may have some of it. Takes time in proportion to the file.
+/// Takes time in proportion to the file.
 pub fn write_elf(e: &Elf<'_>, out: &mut Vec<u8>) -> Result<(), AllocError>
+    requires writable { is_writable e.now ≡ true }
+    requires empty { out.old.items ≡ [] }
+    ensures ok { OnOk result (out.new.items ≡ file_of e.now) }
+    ensures readable { OnOk result (IsReadable out.new.items) }
+    ensures reads_back { OnOk result (elf_of out.new.items ≡ e.now) }
+    ensures err { OnErr result (out.new.items ≡ []) }
+{
+    let outcome = push_file(e, out);
+    if outcome.is_err() {
+        out.clear();
+    }
+    outcome
+}
+
+/// Appends the file of an executable, or a part of it where memory is wanted.
+fn push_file(e: &Elf<'_>, out: &mut Vec<u8>) -> Result<(), AllocError>
     requires writable { is_writable e.now ≡ true }
     requires empty { out.old.items ≡ [] }
     ensures ok { OnOk result (out.new.items ≡ file_of e.now) }

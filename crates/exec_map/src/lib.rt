@@ -1,7 +1,7 @@
 #![tactic(auto)]
 //! The program of an executable: the class of each line, the bytes that it starts with, its code.
 
-ghost use Rattle.std.specs.Prelude.{◌≡◌, ◌+◌, ◌%◌, ◌^◌, ◌<◌, ◌≤◌, ◌++◌, ℕ, false, length, slice_index, map, IfOk, OnOk, IsErrOf, IfSome, IfNone};
+ghost use Rattle.std.specs.Prelude.{◌≡◌, ◌+◌, ◌%◌, ◌^◌, ◌<◌, ◌≤◌, ◌++◌, ℕ, false, length, slice_index, map, take, IfOk, OnErr, OnOk, IsErrOf, IfSome, IfNone};
 ghost use Rattle.rv32_decode.specs.Widths.{size_of};
 ghost use Rattle.byte_range.specs.Memory.{raw};
 ghost use Rattle.rv32_program.specs.Program.{IsAccepted};
@@ -130,13 +130,28 @@ impl<'a> Program<'a> {
         segments::load(&self.segments, width, address)
     }
 
-    /// Appends the bytes that so many addresses from one on start with.
-    ///
-    /// Where memory is wanted, `out` may have some of them.
+    /// Appends the bytes that so many addresses from one on start with. Where memory is wanted,
+    /// nothing is appended.
     pub fn bytes0(&self, address: u32, count: usize, out: &mut Vec<u8>) -> Result<(), AllocError>
         requires { address + count ≤ 2 ^ 32 }
-        ensures { OnOk result
+        ensures ok { OnOk result
             (out.new.items ≡ out.old.items ++ model.first_bytes self.now address count) }
+        ensures err { OnErr result (out.new.items ≡ out.old.items) }
+    {
+        let start = out.len();
+        let outcome = self.push_bytes0(address, count, out);
+        if outcome.is_err() {
+            out.truncate(start);
+        }
+        outcome
+    }
+
+    /// Appends these bytes, or some of them where memory is wanted.
+    fn push_bytes0(&self, address: u32, count: usize, out: &mut Vec<u8>) -> Result<(), AllocError>
+        requires { address + count ≤ 2 ^ 32 }
+        ensures ok { OnOk result
+            (out.new.items ≡ out.old.items ++ model.first_bytes self.now address count) }
+        ensures err { OnErr result (take (length out.old.items) out.new.items ≡ out.old.items) }
     {
         for place in 0..count {
             out.push(self.byte0((address as usize + place) as u32))?;

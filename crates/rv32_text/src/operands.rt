@@ -106,10 +106,10 @@ fn digit_count(n: u32) -> usize
     }
 }
 
-/// A word in eight hexadecimal digits.
+/// A word in eight hexadecimal digits. Where memory runs out, nothing is appended.
 pub fn push_word(out: &mut Vec<u8>, word: u32) -> Result<(), AllocError>
     ensures ok { OnOk result (out.new.items ≡ out.old.items ++ word_digits word) }
-    ensures err { OnErr result (Extends out.old.items out.new.items) }
+    ensures err { OnErr result (out.new.items ≡ out.old.items) }
 {
     out.extend_from_slice(&word_digits(word))?;
     Ok(())

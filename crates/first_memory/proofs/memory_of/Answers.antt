@@ -21,7 +21,7 @@ loop-lines-preserved c =
     let r = get_or rs i no_lines in
     record {
       ranges = rw (more, ranges_push (take i rs) r) (c.in_ok-push.ensures.items ∙ ap (λ (qs : List LineRange). qs ++ line_range r ∷ []) c.loop-lines.invariant.ranges);
-      bytes = rw (more, bytes_push e (take i rs) r) (c.in_ok-bytes0.ensures ∙ ap (λ (bs : List ℕ). bs ++ first_bytes e (64 * r.first) (64 * r.lines)) c.loop-lines.invariant.bytes);
+      bytes = rw (more, bytes_push e (take i rs) r) (c.in_ok-bytes0.ensures.ok ∙ ap (λ (bs : List ℕ). bs ++ first_bytes e (64 * r.first) (64 * r.lines)) c.loop-lines.invariant.bytes);
     }
 
 pub of-requires-clause-ascend : goal.of-requires-clause-ascend

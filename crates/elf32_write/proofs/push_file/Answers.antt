@@ -10,7 +10,7 @@ use Rattle.elf32_write.specs.Writable.{HasWords, has_segment_words, has_section_
 use Rattle.elf32_write.proofs.Law.{readable, reads_back}
 use Rattle.elf32_write.proofs.LayoutLemmas.{file_written}
 use Rattle.elf32_write.proofs.RoomLemmas.{limits, room_left}
-use Rattle.elf32_write.proofs.write_elf.Goals as goal
+use Rattle.elf32_write.proofs.push_file.Goals as goal
 
 pub segments_end-end-requires-clause-room : goal.segments_end-end-requires-clause-room
 segments_end-end-requires-clause-room c =
