@@ -1,27 +1,25 @@
 -- Scratch registers that are chosen among the candidates, and that they may be taken.
-use Rattle.std.proofs.Common.{◌≡◌, ◌≢◌, ℕ, zero, suc, ◌<◌, ◌≤◌, Bool, true, false, ◌==◌, cond, List, [], ◌∷◌, ◌++◌, length, Option, Some, None, refl, sym, ap, ◌∙◌, subst, inl, inr, arith}
-use Rattle.std.specs.Prelude.{Contains, IsTrue, nat_le, not, ◌||◌, map, take, filter, slice_index_or, is_some}
+use Rattle.std.proofs.Common.{◌≡◌, ℕ, zero, suc, ◌<◌, ◌≤◌, ◌⊎◌, Bool, true, false, ◌==◌, cond, length, Option, Some, None, refl, sym, ap, ◌∙◌, subst, inl, inr, arith}
+use Rattle.std.specs.Prelude.{Contains, IsTrue, nat_le, not, ◌||◌, take, filter, slice_index_or, is_some}
 use Rattle.std.specs.List.{list_any, range_with_len}
-use Rattle.std.specs.List.Sorted.{IsStrictlyIncreasing}
 use Rattle.std.specs.Option.{option_map_or}
 use Rattle.std.proofs.lemmas.Bool.{false≢true, eq-eqb}
-use Rattle.std.proofs.lemmas.List.{get_or-take, get_or_past, length-take-le, length-map, length-append}
+use Rattle.std.proofs.lemmas.List.{get_or-take, get_or_past, length-take-le}
 use Rattle.std.proofs.lemmas.List.Filters.{length-filter_both}
 use Rattle.std.proofs.lemmas.List.FromFn.{length-range_with_len}
-use Rattle.std.proofs.lemmas.List.Kept.{IsStrictlyIncreasing-filter}
 use Rattle.rv32_decode.specs.declared.Instr.{Instr}
 use Rattle.rv32_decode.specs.declared.Instr.TheVariants.{Lui, Auipc, Jal, Jalr, Branch, Load, Store, OpImm, ShiftImm, Op, Fence, Ecall, Ebreak, Lr, Sc, Amo, Illegal}
 use Rattle.rv32_decode.specs.Registers.{sources, destination}
-use Rattle.rv32_program.specs.Program.{Program}
 use Rattle.rv32_program.specs.Targets.{aligned_target}
 use Rattle.rv32_program.specs.Liveness.{uses_all, IsDeadAfter}
 use Rattle.templates.specs.declared.plans.Scratch.{Scratch}
 use Rattle.templates.specs.declared.plans.Scratches.{Scratches}
 use Rattle.templates.specs.declared.plans.PlanEntry.{PlanEntry}
 use Rattle.templates.specs.declared.plans.Template.TheVariants as template
-use Rattle.templates.specs.Plans.{may_poll, closes_loop, closes_loop_at, IsScratch, HasSoMany, HasScratchesAt, Serves, IsAdmissible, template_of, template_at, looks_at_value, scratch_count, no_scratch}
-use Rattle.templates.specs.WholePlan.{is_own, candidates, unspilled, spilled, in_order, scratches_of, IsChoice, IsSingle, IsEntry, IsPlanOf}
-use Rattle.check_plan.proofs.ListLemmas.{passed, was_there, range_within, range_increases, once, either, nothing, among_few, any_of}
+use Rattle.templates.specs.Plans.{may_poll, closes_loop, closes_loop_at, IsScratch, HasSoMany, HasScratchesAt, StartsNoRun, StartsRun, Serves, template_of, template_at, looks_at_value, scratch_count, no_scratch}
+use Rattle.templates.specs.WholePlan.{is_own, candidates, in_order, scratches_of, IsChoice, IsSingle, IsEntry}
+use Rattle.check_plan.proofs.ListLemmas.{passed, was_there, range_within, once, either, nothing, among_few, any_of}
+use Rattle.check_plan.proofs.OrderLemmas.{IsGood, order_length, each_good, order_apart, rises_filter, rises_range}
 
 own_destination : (o : Option ℕ) → length (filter (λ r. option_map_or (λ q. r == q) o false) (range_with_len 1 31)) ≤ 1
 own_destination None = let none = ap (λ xs. length xs) (nothing (range_with_len 1 31)) in omega (arith, none)
@@ -37,61 +35,6 @@ many i few =
     let own = either (λ r. list_any (λ q. r == q) (sources i)) (λ r. option_map_or (λ q. r == q) (destination i) false) (range_with_len 1 31) in
     omega (arith, few, whole, all, read, written, own)
 
-order_length : (dead : ℕ → Bool) (i : Instr) → length (in_order dead i) ≡ length (candidates i)
-order_length dead i =
-    let these = filter dead (candidates i) in
-    let others = filter (λ r. not (dead r)) (candidates i) in
-    let whole = length-filter_both dead (λ r. not (dead r)) (λ r. refl) (candidates i) in
-    let sum = length-append (map unspilled these) (map spilled others) in
-    let left = length-map these unspilled in
-    let right = length-map others spilled in
-    omega (arith, whole, sum, left, right)
-
--- a candidate, which is dead where it isn't spilled
-abbrev IsGood : (ℕ → Bool) → Instr → Scratch → Type 0
-IsGood dead i x = Contains (candidates i) x.register × (x.spilled ≡ false → dead x.register ≡ true)
-
-good_kept : (dead : ℕ → Bool) (i : Instr) (others : List ℕ) → ((r : ℕ) → Contains others r → Contains (candidates i) r)
-    → (k : ℕ) → k < length (map spilled others) → IsGood dead i (slice_index_or (map spilled others) k no_scratch)
-good_kept dead i [] there k lt = absurd (omega (arith, lt))
-good_kept dead i (r ∷ rs) there zero lt = (there r (0, omega arith, refl), λ h. cc)
-good_kept dead i (r ∷ rs) there (suc k) lt = good_kept dead i rs (λ q h. there q (suc h.0, (let l = h.1 in omega arith), h.2)) k (omega (arith, lt))
-
-good : (dead : ℕ → Bool) (i : Instr) (these others : List ℕ) → ((r : ℕ) → Contains these r → Contains (candidates i) r × (dead r ≡ true)) → ((r : ℕ) → Contains others r → Contains (candidates i) r)
-    → (k : ℕ) → k < length (map unspilled these ++ map spilled others) → IsGood dead i (slice_index_or (map unspilled these ++ map spilled others) k no_scratch)
-good dead i [] others there other k lt = good_kept dead i others other k lt
-good dead i (r ∷ rs) others there other zero lt = let h = there r (0, omega arith, refl) in (h.0, λ e. h.1)
-good dead i (r ∷ rs) others there other (suc k) lt = good dead i rs others (λ q h. there q (suc h.0, (let l = h.1 in omega arith), h.2)) other k (omega (arith, lt))
-
-each_good : (dead : ℕ → Bool) (i : Instr) (k : ℕ) → k < length (in_order dead i) → IsGood dead i (slice_index_or (in_order dead i) k no_scratch)
-each_good dead i k lt =
-    good dead i (filter dead (candidates i)) (filter (λ r. not (dead r)) (candidates i))
-    (λ r h. (was_there dead (candidates i) r h, passed dead (candidates i) r h))
-    (λ r h. was_there (λ q. not (dead q)) (candidates i) r h) k lt
-
--- the first two differ
-two : (dead : ℕ → Bool) (these others : List ℕ) → IsStrictlyIncreasing these → IsStrictlyIncreasing others
-    → ((r : ℕ) → Contains these r → dead r ≡ true) → ((r : ℕ) → Contains others r → not (dead r) ≡ true)
-    → 2 ≤ length (map unspilled these ++ map spilled others)
-    → (slice_index_or (map unspilled these ++ map spilled others) 0 no_scratch).register ≢ (slice_index_or (map unspilled these ++ map spilled others) 1 no_scratch).register
-two dead [] [] up vp there other lt = absurd (omega (arith, lt))
-two dead [] (a ∷ []) up vp there other lt = absurd (omega (arith, lt))
-two dead [] (a ∷ b ∷ rest) up vp there other lt = let less : a < b = vp 0 (omega arith) in λ e. omega (arith, less, e)
-two dead (a ∷ []) [] up vp there other lt = absurd (omega (arith, lt))
-two dead (a ∷ []) (b ∷ rest) up vp there other lt =
-    let these : dead a ≡ true = there a (0, omega arith, refl) in
-    let others : not (dead b) ≡ true = other b (0, omega arith, refl) in
-    λ e. let same : a ≡ b = e in false≢true (ap not (sym these ∙ ap dead same) ∙ others)
-two dead (a ∷ b ∷ rest) others up vp there other lt = let less : a < b = up 0 (omega arith) in λ e. omega (arith, less, e)
-
-apart : (dead : ℕ → Bool) (i : Instr) → 2 ≤ length (in_order dead i)
-    → (slice_index_or (in_order dead i) 0 no_scratch).register ≢ (slice_index_or (in_order dead i) 1 no_scratch).register
-apart dead i lt =
-    let up = IsStrictlyIncreasing-filter (λ r. not (is_own i r)) (range_with_len 1 31) (range_increases 1 31) in
-    two dead (filter dead (candidates i)) (filter (λ r. not (dead r)) (candidates i))
-    (IsStrictlyIncreasing-filter dead (candidates i) up) (IsStrictlyIncreasing-filter (λ r. not (dead r)) (candidates i) up)
-    (λ r h. passed dead (candidates i) r h) (λ r h. passed (λ q. not (dead q)) (candidates i) r h) lt
-
 neither : (b c : Bool) → not (b || c) ≡ true → (b ≡ false) × (c ≡ false)
 neither true c h = cc
 neither false true h = cc
@@ -99,7 +42,7 @@ neither false false h = (refl, refl)
 
 -- a good one may be taken
 taken : (code : ℕ → Option Instr) (a : ℕ) (i : Instr) (dead : ℕ → Bool) (x : Scratch) → uses_all i ≡ false
-    → ((r : ℕ) → Contains (candidates i) r → IsTrue (dead r) → IsDeadAfter code r a i) → IsGood dead i x → IsScratch code a i x
+    → ((r : ℕ) → Contains (candidates i) r → IsTrue (dead r) → IsDeadAfter code r a i) → IsGood dead (candidates i) x → IsScratch code a i x
 taken code a i dead x stays tells h =
     let r = x.register in
     let bounds = range_within 1 31 r (was_there (λ q. not (is_own i q)) (range_with_len 1 31) r h.0) in
@@ -120,25 +63,25 @@ chosen : (code : ℕ → Option Instr) (a : ℕ) (i : Instr) (count : ℕ) (x : 
     → length (sources i) ≤ 2 → IsChoice code a i count x → HasSoMany count code a i x
 chosen code a i count x small stays few h = subst (HasSoMany count code a i) (sym h.chosen) (go count small stays)
   where
-    long : 28 ≤ length (in_order h.dead i)
-    long = let e = order_length h.dead i in let m = many i few in omega (arith, e, m)
+    long : 28 ≤ length (in_order h.dead (candidates i))
+    long = let e = order_length h.dead (candidates i) in let m = many i few in omega (arith, e, m)
 
-    at : (n k : ℕ) → k < n → slice_index_or (take n (in_order h.dead i)) k no_scratch ≡ slice_index_or (in_order h.dead i) k no_scratch
-    at n k lt = get_or-take n (in_order h.dead i) k no_scratch lt
+    at : (n k : ℕ) → k < n → slice_index_or (take n (in_order h.dead (candidates i))) k no_scratch ≡ slice_index_or (in_order h.dead (candidates i)) k no_scratch
+    at n k lt = get_or-take n (in_order h.dead (candidates i)) k no_scratch lt
 
-    past : (n k : ℕ) → n ≤ 28 → n ≤ k → slice_index_or (take n (in_order h.dead i)) k no_scratch ≡ no_scratch
+    past : (n k : ℕ) → n ≤ 28 → n ≤ k → slice_index_or (take n (in_order h.dead (candidates i))) k no_scratch ≡ no_scratch
     past n k le lt =
         let m = long in
-        let len = length-take-le n (in_order h.dead i) (omega (arith, le, m)) in
-        get_or_past (take n (in_order h.dead i)) k no_scratch (omega (arith, len, lt))
+        let len = length-take-le n (in_order h.dead (candidates i)) (omega (arith, le, m)) in
+        get_or_past (take n (in_order h.dead (candidates i))) k no_scratch (omega (arith, len, lt))
 
-    may : (n k : ℕ) → k < n → k < 28 → uses_all i ≡ false → IsScratch code a i (slice_index_or (take n (in_order h.dead i)) k no_scratch)
+    may : (n k : ℕ) → k < n → k < 28 → uses_all i ≡ false → IsScratch code a i (slice_index_or (take n (in_order h.dead (candidates i))) k no_scratch)
     may n k lt low all =
         let m = long in
         subst (IsScratch code a i) (sym (at n k lt))
-        (taken code a i h.dead (slice_index_or (in_order h.dead i) k no_scratch) all (λ r c t. (h.dead_is r c).0 t) (each_good h.dead i k (omega (arith, low, m))))
+        (taken code a i h.dead (slice_index_or (in_order h.dead (candidates i)) k no_scratch) all (λ r c t. (h.dead_is r c).0 t) (each_good h.dead (candidates i) k (omega (arith, low, m))))
 
-    go : (n : ℕ) → n ≤ 2 → (0 < n → uses_all i ≡ false) → HasSoMany n code a i (scratches_of (take n (in_order h.dead i)))
+    go : (n : ℕ) → n ≤ 2 → (0 < n → uses_all i ≡ false) → HasSoMany n code a i (scratches_of (take n (in_order h.dead (candidates i))))
     go zero le all = refl
     go (suc zero) le all = record {
       s = may 1 0 (omega arith) (omega arith) (all (omega arith));
@@ -150,7 +93,7 @@ chosen code a i count x small stays few h = subst (HasSoMany count code a i) (sy
       t = may 2 1 (omega arith) (omega arith) (all (omega arith));
       apart = λ e.
           let m = long in
-          apart h.dead i (omega (arith, m)) (sym (ap (λ y. y.register) (at 2 0 (omega arith))) ∙ e ∙ ap (λ y. y.register) (at 2 1 (omega arith)));
+          order_apart h.dead (candidates i) (rises_filter (λ r. not (is_own i r)) 0 (range_with_len 1 31) (rises_range 0 1 31 (omega arith))) 0 1 (omega arith) (omega (arith, m)) (sym (ap (λ y. y.register) (at 2 0 (omega arith))) ∙ e ∙ ap (λ y. y.register) (at 2 1 (omega arith)));
       u = past 2 2 (omega arith) (omega arith);
     }
     go (suc (suc (suc n))) le all = absurd (omega (arith, le))
@@ -224,21 +167,12 @@ polls_there : (a : ℕ) (o : Option Instr) → closes_loop_at a o ≡ true → m
 polls_there a None h = absurd (false≢true h)
 polls_there a (Some i) h = closing_polls i a h
 
-serves : (code : ℕ → Option Instr) (e : PlanEntry) → IsEntry code (closes_loop_at e.address (code e.address)) e → Serves code e
-serves code e h = record {
+pub serves : (code : ℕ → Option Instr) (e : PlanEntry) → IsEntry code (closes_loop_at e.address (code e.address)) e
+    → StartsNoRun e ⊎ StartsRun code e → Serves code e
+serves code e h run = record {
   template = h.template;
   single = subst (λ t. HasScratchesAt t code e.address (code e.address) e.single) (sym h.template) (single code e.address (code e.address) e.single h.single);
   may_poll = λ p. ap may_poll h.template ∙ polls_there e.address (code e.address) (sym h.polls ∙ p);
   polls = λ p. h.polls ∙ p;
-  run = h.run;
-  batch = h.batch;
-}
-
--- the plan of a program is admissible
-pub admissible : (p : Program) (plan : List PlanEntry) → IsPlanOf p.code plan → IsAdmissible p plan
-admissible p plan h = record {
-  ascends = h.ascends;
-  complete = h.places.complete;
-  sound = h.places.sound;
-  serves = λ e c. serves p.code e (h.each e c);
+  run = run;
 }

@@ -1,5 +1,7 @@
 mod ListLemmas
+mod OrderLemmas
 mod ChoiceLemmas
 mod OneLemmas
-mod MemberLemmas
+mod RunLemmas
+pub mod MemberLemmas
 mod PlanLemmas

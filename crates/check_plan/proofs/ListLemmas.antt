@@ -1,8 +1,7 @@
 -- Registers in ascending order, some of them left out.
 use Rattle.std.proofs.Common.{◌≡◌, ℕ, zero, suc, ◌+◌, ◌<◌, ◌≤◌, ◌⊎◌, Bool, true, false, ◌==◌, cond, List, [], ◌∷◌, length, refl, sym, ap, ◌∙◌, subst, inl, inr, arith}
-use Rattle.std.specs.Prelude.{Contains, not, ◌&&◌, ◌||◌, filter, slice_index, slice_index_or}
+use Rattle.std.specs.Prelude.{Contains, ◌&&◌, ◌||◌, filter, slice_index_or}
 use Rattle.std.specs.List.{list_any, range_with_len}
-use Rattle.std.specs.List.Sorted.{IsStrictlyIncreasing}
 use Rattle.std.proofs.lemmas.Bool.{eqb-true, eq-eqb}
 use Rattle.std.proofs.lemmas.Bool.Decides.{eqb_tells}
 use Rattle.std.proofs.lemmas.List.Elements.{filter_passes, All-contains}
@@ -53,16 +52,20 @@ agree p q (x ∷ xs) h =
     ∙ ap (λ ys. cond (q x) (x ∷ ys) ys) (agree p q xs (λ y c. h y (behind x y xs c)))
 
 -- a test of two parts filters by one after the other
-pub two_tests : (p own q : ℕ → Bool) (xs : List ℕ) → ((r : ℕ) → Contains xs r → p r ≡ (not (own r) && q r)) → filter p xs ≡ filter q (filter (λ r. not (own r)) xs)
-two_tests p own q [] h = refl
-two_tests p own q (x ∷ xs) h =
+pub two_tests : (p q s : ℕ → Bool) (xs : List ℕ) → ((r : ℕ) → Contains xs r → p r ≡ (q r && s r))
+    → filter p xs ≡ filter s (filter q xs)
+two_tests p q s [] h = refl
+two_tests p q s (x ∷ xs) h =
     ap (λ b. cond b (x ∷ filter p xs) (filter p xs)) (h x (in_front x xs))
-    ∙ ap (λ ys. cond (not (own x) && q x) (x ∷ ys) ys) (two_tests p own q xs (λ y c. h y (behind x y xs c)))
-    ∙ split (own x) (q x) refl
+    ∙ ap (λ ys. cond (q x && s x) (x ∷ ys) ys) (two_tests p q s xs (λ y c. h y (behind x y xs c)))
+    ∙ split (q x) (s x) refl
   where
-    split : (a b : Bool) → q x ≡ b → cond (not a && b) (x ∷ filter q (filter (λ r. not (own r)) xs)) (filter q (filter (λ r. not (own r)) xs)) ≡ filter q (cond (not a) (x ∷ filter (λ r. not (own r)) xs) (filter (λ r. not (own r)) xs))
-    split true b e = refl
-    split false b e = ap (λ c. cond c (x ∷ filter q (filter (λ r. not (own r)) xs)) (filter q (filter (λ r. not (own r)) xs))) (sym e)
+    split : (a b : Bool) → s x ≡ b
+        → cond (a && b) (x ∷ filter s (filter q xs)) (filter s (filter q xs))
+        ≡ filter s (cond a (x ∷ filter q xs) (filter q xs))
+    split true b e =
+        ap (λ c. cond c (x ∷ filter s (filter q xs)) (filter s (filter q xs))) (sym e)
+    split false b e = refl
 
 -- the numbers of a range
 pub range_within : (a n r : ℕ) → Contains (range_with_len a n) r → (a ≤ r) × (r < a + n)
@@ -70,13 +73,6 @@ range_within a n r h =
     let len = length-range_with_len a n in
     let lt : h.0 < n = let l = h.1 in omega (arith, l, len) in
     let is = sym (get_or-range_with_len a n h.0 r lt) ∙ h.2 in (omega (arith, is), omega (arith, is, lt))
-
-pub range_increases : (a n : ℕ) → IsStrictlyIncreasing (range_with_len a n)
-range_increases a n k lt =
-    let len = length-range_with_len a n in
-    let low : slice_index (range_with_len a n) k ≡ a + k = get_or-range_with_len a n k _ (omega (arith, lt, len)) in
-    let high : slice_index (range_with_len a n) (k + 1) ≡ a + (k + 1) = get_or-range_with_len a n (k + 1) _ (omega (arith, lt, len)) in
-    omega (arith, low, high)
 
 -- a number is once in a range
 pub once : (a n q : ℕ) → length (filter (λ r. r == q) (range_with_len a n)) ≤ 1

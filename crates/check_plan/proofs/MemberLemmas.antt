@@ -13,7 +13,7 @@ use Rattle.templates.specs.declared.plans.Scratch.{Scratch}
 use Rattle.templates.specs.Plans.{no_scratch}
 use Rattle.templates.specs.WholePlan.{is_own, candidates, unspilled, spilled, in_order}
 use Rattle.check_plan.specs.Members.{members, both, IsPassed}
-use Rattle.check_plan.proofs.ListLemmas.{same_test, two_tests, range_within, any_of, of_any}
+use Rattle.check_plan.proofs.ListLemmas.{same_test, two_tests, agree, was_there, range_within, any_of, of_any}
 
 -- the members from a number on
 abbrev pub from : ℕ → ℕ → List ℕ
@@ -125,59 +125,111 @@ is_own_by i r h = elim h [
   | inr writes ↦ or_right (list_any (λ q. r == q) (sources i)) _ (ap (λ o. option_map_or (λ q. r == q) o false) writes ∙ eq-eqb r r refl)
 ]
 
-both_parts : (a b : Bool) → (not a && b) ≡ true → (a ≡ true → ⊥) × (b ≡ true)
-both_parts true b h = cc
-both_parts false b h = ((λ e. cc), h)
+both_parts : (a b : Bool) → (a && b) ≡ true → (a ≡ true) × (b ≡ true)
+both_parts true b h = (refl, h)
+both_parts false b h = cc
 
-both_hold : (a b : Bool) → (a ≡ true → ⊥) → b ≡ true → (not a && b) ≡ true
-both_hold true b no_a h = absurd (no_a refl)
-both_hold false b no_a h = h
+both_hold : (a b : Bool) → a ≡ true → b ≡ true → (a && b) ≡ true
+both_hold true b one h = h
+both_hold false b one h = cc
 
--- the sets of the instruction's own registers, of the dead candidates and of the others
-pub record AreSets (i : Instr) (dead own these others : ℕ) : Type 0 where
-  pub own_is : (r : ℕ) → r < 32 → (IsMember own r ↔ (Reads i r ⊎ Writes i r))
-  pub these_are : (r : ℕ) → r < 32 → (IsMember these r ↔ (IsMember dead r × ¬ IsMember own r))
-  pub others_are : (r : ℕ) → r < 32 → (IsMember others r ↔ ((¬ IsMember own r) × ¬ IsMember dead r))
+negated : (b : Bool) → not b ≡ true → b ≡ true → ⊥
+negated true n t = cc
+negated false n t = cc
 
-pub order_is : (i : Instr) (dead own these others : ℕ) → AreSets i dead own these others → both these others ≡ in_order (bit dead) i
+negates : (b : Bool) → (b ≡ true → ⊥) → not b ≡ true
+negates true f = absurd (f refl)
+negates false f = refl
+
+pub bit_of : (set r : ℕ) → IsMember set r → bit set r ≡ true
+bit_of set r m = eq-eqb (field set r 1) 1 m
+
+pub of_bit : (set r : ℕ) → bit set r ≡ true → IsMember set r
+of_bit set r t = eqb-true (field set r 1) 1 t
+
+bounds : (r : ℕ) → Contains (range_with_len 1 31) r → (r ≢ 0) × (r < 32)
+bounds r c =
+    let b = range_within 1 31 r c in
+    let low = b.0 in
+    let high = b.1 in
+    ((λ e. omega (arith, low, e)), omega (arith, high))
+
+-- registers that pass a test
+pub passing_bounds : (p : ℕ → Bool) (r : ℕ) → Contains (filter p (range_with_len 1 31)) r
+    → (r ≢ 0) × (r < 32)
+passing_bounds p r c = bounds r (was_there p (range_with_len 1 31) r c)
+
+-- the members of a set are those that pass a test
+pub members_by : (set : ℕ) (p : ℕ → Bool)
+    → ((r : ℕ) → r ≢ 0 → r < 32 → (IsMember set r ↔ (p r ≡ true)))
+    → members set ≡ filter p (range_with_len 1 31)
 unfolding members
-order_is i dead own these others h =
-    ap (λ xs. map unspilled xs ++ map spilled (members others)) (two_tests (bit these) (is_own i) (bit dead) (range_with_len 1 31) first)
-    ∙ ap (λ xs. map unspilled (filter (bit dead) (candidates i)) ++ map spilled xs) (two_tests (bit others) (is_own i) (λ r. not (bit dead r)) (range_with_len 1 31) second)
+members_by set p h = agree (bit set) p (range_with_len 1 31) each
   where
-    bounds : (r : ℕ) → Contains (range_with_len 1 31) r → (r ≢ 0) × (r < 32)
-    bounds r c = let b = range_within 1 31 r c in let low = b.0 in let high = b.1 in ((λ e. omega (arith, low, e)), omega (arith, high))
+    each : (r : ℕ) → Contains (range_with_len 1 31) r → bit set r ≡ p r
+    each r c =
+        let b = bounds r c in
+        let m = h r b.0 b.1 in
+        same_test _ _ (λ t. m.0 (of_bit set r t)) (λ t. bit_of set r (m.1 t))
 
-    owned : (r : ℕ) → r ≢ 0 → r < 32 → is_own i r ≡ true → IsMember own r
-    owned r nz lt t = (h.own_is r lt).1 (elim (own_of i r t) [ inl c ↦ inl (nz, c) | inr d ↦ inr (nz, d) ])
+-- what is no register of the instruction's own is a candidate
+pub candidates_are : (i : Instr) (own set : ℕ)
+    → ((r : ℕ) → r < 32 → (IsMember own r ↔ (Reads i r ⊎ Writes i r)))
+    → ((r : ℕ) → r < 32 → (IsMember set r ↔ ¬ IsMember own r)) → members set ≡ candidates i
+candidates_are i own set own_is set_is = members_by set (λ r. not (is_own i r)) (λ r nz lt. (
+  λ m. negates (is_own i r) (λ t. (set_is r lt).0 m ((own_is r lt).1 (owned r nz t))),
+  λ t. (set_is r lt).1 (λ m. negated (is_own i r) t (owns r ((own_is r lt).0 m))),
+))
+  where
+    owned : (r : ℕ) → r ≢ 0 → is_own i r ≡ true → Reads i r ⊎ Writes i r
+    owned r nz t = elim (own_of i r t) [ inl c ↦ inl (nz, c) | inr d ↦ inr (nz, d) ]
 
-    owns : (r : ℕ) → r < 32 → IsMember own r → is_own i r ≡ true
-    owns r lt m = is_own_by i r (elim ((h.own_is r lt).0 m) [ inl c ↦ inl c.1 | inr d ↦ inr d.1 ])
+    owns : (r : ℕ) → Reads i r ⊎ Writes i r → is_own i r ≡ true
+    owns r h = is_own_by i r (elim h [ inl c ↦ inl c.1 | inr d ↦ inr d.1 ])
 
-    bit_of : (set r : ℕ) → IsMember set r → bit set r ≡ true
-    bit_of set r m = eq-eqb (field set r 1) 1 m
+-- the dead ones of some candidates, and the others
+pub order_is : (set dead these others : ℕ)
+    → ((r : ℕ) → r < 32 → (IsMember these r ↔ (IsMember set r × ¬ IsMember others r)))
+    → ((r : ℕ) → r < 32 → (IsMember others r ↔ (IsMember set r × ¬ IsMember dead r)))
+    → both these others ≡ in_order (bit dead) (members set)
+unfolding members
+order_is set dead these others these_are others_are =
+    ap (λ xs. map unspilled xs ++ map spilled (members others))
+    (two_tests (bit these) (bit set) (bit dead) (range_with_len 1 31) first)
+    ∙ ap (λ xs. map unspilled (filter (bit dead) (members set)) ++ map spilled xs)
+    (two_tests (bit others) (bit set) (λ r. not (bit dead r)) (range_with_len 1 31) second)
+  where
+    dead_or : (b : Bool) → (b ≡ true) ⊎ (b ≡ true → ⊥)
+    dead_or true = inl refl
+    dead_or false = inr (λ e. cc)
 
-    of_bit : (set r : ℕ) → bit set r ≡ true → IsMember set r
-    of_bit set r t = eqb-true (field set r 1) 1 t
-
-    first : (r : ℕ) → Contains (range_with_len 1 31) r → bit these r ≡ (not (is_own i r) && bit dead r)
+    first : (r : ℕ) → Contains (range_with_len 1 31) r → bit these r ≡ (bit set r && bit dead r)
     first r c =
-        let b = bounds r c in
+        let lt = (bounds r c).1 in
         same_test _ _
-        (λ t. let m = (h.these_are r b.1).0 (of_bit these r t) in both_hold (is_own i r) (bit dead r) (λ e. m.1 (owned r b.0 b.1 e)) (bit_of dead r m.0))
-        (λ t. let p = both_parts (is_own i r) (bit dead r) t in bit_of these r ((h.these_are r b.1).1 (of_bit dead r p.1, λ m. p.0 (owns r b.1 m))))
+        (λ t.
+        let m = (these_are r lt).0 (of_bit these r t) in
+        both_hold (bit set r) (bit dead r) (bit_of set r m.0)
+        (elim (dead_or (bit dead r)) [
+          | inl is ↦ is
+          | inr out ↦
+              absurd (m.1 ((others_are r lt).1 (m.0, λ d. out (bit_of dead r d))))
+        ]))
+        (λ t.
+        let p = both_parts (bit set r) (bit dead r) t in
+        bit_of these r ((these_are r lt).1
+        (of_bit set r p.0, λ m. ((others_are r lt).0 m).1 (of_bit dead r p.1))))
 
-    negated : (b : Bool) → not b ≡ true → b ≡ true → ⊥
-    negated true n t = cc
-    negated false n t = cc
-
-    negates : (b : Bool) → (b ≡ true → ⊥) → not b ≡ true
-    negates true f = absurd (f refl)
-    negates false f = refl
-
-    second : (r : ℕ) → Contains (range_with_len 1 31) r → bit others r ≡ (not (is_own i r) && not (bit dead r))
+    second : (r : ℕ) → Contains (range_with_len 1 31) r
+        → bit others r ≡ (bit set r && not (bit dead r))
     second r c =
-        let b = bounds r c in
+        let lt = (bounds r c).1 in
         same_test _ _
-        (λ t. let m = (h.others_are r b.1).0 (of_bit others r t) in both_hold (is_own i r) (not (bit dead r)) (λ e. m.0 (owned r b.0 b.1 e)) (negates (bit dead r) (λ e. m.1 (of_bit dead r e))))
-        (λ t. let p = both_parts (is_own i r) (not (bit dead r)) t in bit_of others r ((h.others_are r b.1).1 ((λ m. p.0 (owns r b.1 m)), λ m. negated (bit dead r) p.1 (bit_of dead r m))))
+        (λ t.
+        let m = (others_are r lt).0 (of_bit others r t) in
+        both_hold (bit set r) (not (bit dead r)) (bit_of set r m.0)
+        (negates (bit dead r) (λ e. m.1 (of_bit dead r e))))
+        (λ t.
+        let p = both_parts (bit set r) (not (bit dead r)) t in
+        bit_of others r ((others_are r lt).1
+        (of_bit set r p.0, λ m. negated (bit dead r) p.1 (bit_of dead r m))))

@@ -15,22 +15,20 @@ use Rattle.templates.specs.declared.plans.Template.{Template}
 use Rattle.templates.specs.declared.plans.Scratches.{Scratches}
 use Rattle.templates.specs.declared.plans.PlanEntry.{PlanEntry}
 use Rattle.templates.specs.Places.{HasPlaces}
-use Rattle.templates.specs.Plans.{template_of, template_at, scratch_count, no_scratches, AscendsFrom, addresses}
-use Rattle.templates.specs.WholePlan.{is_own, in_order, scratches_of, IsChoice, IsSingle, IsEntry, IsCheckPlan}
+use Rattle.templates.specs.Plans.{template_of, template_at, scratch_count, AscendsFrom, addresses, StartsNoRun}
+use Rattle.templates.specs.WholePlan.{is_own, candidates, in_order, scratches_of, IsChoice, IsSingle, IsEntry, IsCheckPlan}
 use Rattle.check_plan.proofs.ListLemmas.{was_there, range_within}
 
 -- the entry of a code word
 pub entry_some : (code : ℕ → Option Instr) (a : ℕ) (i : Instr) (dead count : ℕ) (t : Template) (x : Scratches) (e : PlanEntry)
     → code a ≡ Some i → t ≡ template_of i a → count ≡ scratch_count t
     → ((r : ℕ) → r ≢ 0 → r < 32 → (IsMember dead r ↔ IsDeadAfter code r a i))
-    → x ≡ scratches_of (take count (in_order (bit dead) i))
-    → e.address ≡ a → e.template ≡ t → e.single ≡ x → e.polls ≡ false → e.run ≡ 0 → e.batch ≡ no_scratches → IsEntry code false e
-entry_some code a i dead count t x e at template many members chosen address is_template is_single polls run batch = record {
+    → x ≡ scratches_of (take count (in_order (bit dead) (candidates i)))
+    → e.address ≡ a → e.template ≡ t → e.single ≡ x → e.polls ≡ false → IsEntry code false e
+entry_some code a i dead count t x e at template many members chosen address is_template is_single polls = record {
   template = is_template ∙ template ∙ sym (ap (template_at e.address) here ∙ ap (template_of i) address);
   single = subst (λ o. IsSingle code e.address o e.single) (sym here) (subst (λ b. IsChoice code b i (scratch_count (template_of i b)) e.single) (sym address) choice);
   polls = polls;
-  run = run;
-  batch = batch;
 }
   where
     here : code e.address ≡ Some i
@@ -45,7 +43,7 @@ entry_some code a i dead count t x e at template many members chosen address is_
           let high = bounds.1 in
           let m = members r (λ z. omega (arith, low, z)) (omega (arith, high)) in
           (λ b. m.0 (eqb-true (field dead r 1) 1 b), λ d. eq-eqb (field dead r 1) 1 (m.1 d));
-      chosen = is_single ∙ chosen ∙ ap (λ n. scratches_of (take n (in_order (bit dead) i))) (many ∙ ap scratch_count template);
+      chosen = is_single ∙ chosen ∙ ap (λ n. scratches_of (take n (in_order (bit dead) (candidates i)))) (many ∙ ap scratch_count template);
     }
 
 -- the plan so far
@@ -53,23 +51,26 @@ pub record IsPlanned (code : ℕ → Option Instr) (places : List ℕ) (k : ℕ)
   pub so_far : addresses plan ≡ take k places
   pub count : length plan ≡ k
   pub each : (e : PlanEntry) → Contains plan e → IsEntry code false e
+  pub runs : (e : PlanEntry) → Contains plan e → StartsNoRun e
 
 pub planned_none : (code : ℕ → Option Instr) (places : List ℕ) (plan : List PlanEntry) → plan ≡ [] → IsPlanned code places 0 plan
 planned_none code places plan is = subst (IsPlanned code places 0) (sym is) (record {
   so_far = refl;
   count = refl;
   each = λ e c. absurd (let lt = c.1 in omega (arith, lt));
+  runs = λ e c. absurd (let lt = c.1 in omega (arith, lt));
 })
 
 pub planned_more : (code : ℕ → Option Instr) (places : List ℕ) (k : ℕ) (old new : List PlanEntry) (e : PlanEntry) → k < length places
-    → e.address ≡ get_or places k 0 → IsEntry code false e → new ≡ old ++ e ∷ [] → IsPlanned code places k old → IsPlanned code places (k + 1) new
-planned_more code places k old new e lt address entry is h = subst (IsPlanned code places (k + 1)) (sym is) (record {
+    → e.address ≡ get_or places k 0 → IsEntry code false e → StartsNoRun e → new ≡ old ++ e ∷ [] → IsPlanned code places k old → IsPlanned code places (k + 1) new
+planned_more code places k old new e lt address entry run is h = subst (IsPlanned code places (k + 1)) (sym is) (record {
   so_far = map-append (λ x. x.address) old (e ∷ [])
       ∙ ap (λ xs. xs ++ e.address ∷ []) h.so_far
       ∙ ap (λ x. take k places ++ x ∷ []) address
       ∙ sym (ap (λ n. take n places) one_more ∙ take-suc places k 0 lt);
   count = let sum = length-append old (e ∷ []) in let count = h.count in omega (arith, sum, count);
   each = λ f c. elim (Contains-push_cases old e f c) [ inl before ↦ h.each f before | inr same ↦ subst (IsEntry code false) same entry ];
+  runs = λ f c. elim (Contains-push_cases old e f c) [ inl before ↦ h.runs f before | inr same ↦ subst StartsNoRun same run ];
 })
   where
     one_more : k + 1 ≡ suc k
@@ -97,9 +98,12 @@ ascends low (e ∷ es) le h = (
 
 -- the entries of the places are the plan
 pub is_plan : (code : ℕ → Option Instr) (places : List ℕ) (plan : List PlanEntry) → IsStrictlyIncreasing places → HasPlaces code places
-    → addresses plan ≡ places → ((e : PlanEntry) → Contains plan e → IsEntry code false e) → IsCheckPlan code plan
-is_plan code places plan up h is each = record {
-  ascends = ascends 0 plan (λ some. omega arith) (subst IsStrictlyIncreasing (sym is) up);
-  places = subst (HasPlaces code) (sym is) h;
-  each = each;
+    → addresses plan ≡ places → ((e : PlanEntry) → Contains plan e → IsEntry code false e) → ((e : PlanEntry) → Contains plan e → StartsNoRun e) → IsCheckPlan code plan
+is_plan code places plan up h is each runs = record {
+  entries = record {
+    ascends = ascends 0 plan (λ some. omega arith) (subst IsStrictlyIncreasing (sym is) up);
+    places = subst (HasPlaces code) (sym is) h;
+    each = each;
+  };
+  runs = runs;
 }

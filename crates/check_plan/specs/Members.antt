@@ -1,4 +1,4 @@
--- Helps the code alone: sets of registers as lists of their members.
+-- Sets of registers as lists of their members.
 use Rattle.std.specs.Prelude.{◌≡◌, ℕ, ◌+◌, List, ◌++◌, length, map, filter}
 use Rattle.std.specs.List.{range_with_len}
 use Rattle.rv32_decode.specs.Fields.{bit}

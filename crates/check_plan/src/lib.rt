@@ -9,3 +9,4 @@ mod scratches;
 
 pub use laws::plan_law;
 pub use planning::plan_checks;
+pub use scratches::{NO_SCRATCHES, choose};

@@ -3,11 +3,13 @@
 ghost use Rattle.std.specs.Prelude.{◌≡◌, ◌*◌, ◌^◌, ◌≤◌, length, false, IfOk, Contains};
 ghost use Rattle.templates.specs.declared.plans.PlanEntry.{PlanEntry as Entry};
 ghost use Rattle.templates.specs.Code.{code_of};
-ghost use Rattle.templates.specs.Plans.{addresses, scratch_count, no_scratches};
-ghost use Rattle.templates.specs.WholePlan.{IsCheckPlan, IsEntry};
+ghost use Rattle.templates.specs.Plans.{addresses, scratch_count, StartsNoRun};
+ghost use Rattle.templates.specs.WholePlan.{IsCheckPlan, IsEntry, candidates};
+ghost use Rattle.check_plan.specs.Members.{members};
 
 use crate::scratches::{NO_SCRATCHES, choose};
 use liveness::Live;
+use rv32_decode::{Instr, RegSet, defs, uses};
 use std::alloc::{AllocError, Global};
 use templates::{Plan, PlanEntry, Scratches, Template, list_places, template_of};
 
@@ -27,6 +29,7 @@ fn plan_of_places(alloc: Global, live: &Live<'_>, places: &[u32]) -> Result<Plan
     ensures places { IfOk result (λ plan. addresses plan ≡ places.now) }
     ensures each { IfOk result (λ plan. (e : Entry) → Contains plan e
         → IsEntry (code_of live.now) false e) }
+    ensures runs { IfOk result (λ plan. (e : Entry) → Contains plan e → StartsNoRun e) }
 {
     let mut plan = Plan::new(alloc);
     for address in places {
@@ -39,13 +42,14 @@ fn plan_of_places(alloc: Global, live: &Live<'_>, places: &[u32]) -> Result<Plan
 fn check_entry(live: &Live<'_>, address: u32) -> PlanEntry
     ensures address { result.address ≡ address }
     ensures entry { IsEntry (code_of live.now) false result }
+    ensures run { StartsNoRun result }
 {
     match live.graph().code().at(address) {
         None => entry(address, Template::Stop, NO_SCRATCHES),
         Some(i) => {
             let template = template_of(&i, address);
             let dead = live.all_dead(address);
-            let single = choose(&i, scratch_count(template), dead);
+            let single = choose(candidates(&i), dead, scratch_count(template));
             entry(address, template, single)
         }
     }
@@ -57,8 +61,7 @@ fn entry(address: u32, template: Template, single: Scratches) -> PlanEntry
     ensures template { result.template ≡ template }
     ensures single { result.single ≡ single }
     ensures polls { result.polls ≡ false }
-    ensures run { result.run ≡ 0 }
-    ensures batch { result.batch ≡ no_scratches }
+    ensures run { StartsNoRun result }
 {
     PlanEntry {
         address,
@@ -68,6 +71,14 @@ fn entry(address: u32, template: Template, single: Scratches) -> PlanEntry
         run: 0,
         batch: NO_SCRATCHES,
     }
+}
+
+/// The registers that may be scratch registers of an instruction: those other than its own.
+fn candidates(i: &Instr) -> RegSet
+    ensures value { members result ≡ candidates i.now }
+{
+    let own = uses(*i).union(defs(*i));
+    RegSet::all().difference(own)
 }
 
 /// How many scratch registers the single sequence of a template takes.

@@ -6,7 +6,7 @@ ghost use Rattle.templates.specs.Plans.{no_scratch};
 ghost use Rattle.templates.specs.WholePlan.{in_order, scratches_of};
 ghost use Rattle.check_plan.specs.Members.{members, both, IsPassed};
 
-use rv32_decode::{Instr, Reg, RegSet, defs, uses};
+use rv32_decode::{Reg, RegSet};
 use templates::{Scratch, Scratches};
 
 /// No scratch register.
@@ -16,22 +16,22 @@ const NO_SCRATCH: Scratch = Scratch {
 };
 
 /// No scratch registers.
-pub(crate) const NO_SCRATCHES: Scratches = Scratches {
+pub const NO_SCRATCHES: Scratches = Scratches {
     s: NO_SCRATCH,
     t: NO_SCRATCH,
     u: NO_SCRATCH,
 };
 
-/// So many scratch registers of an instruction, of which those of the dead ones come first.
-pub(crate) fn choose(i: &Instr, count: u8, dead: RegSet) -> Scratches
-    ensures value { result ≡ scratches_of (take count (in_order (bit dead) i.now)) }
+/// So many scratch registers of these candidates but x0, of which the dead ones come first.
+pub fn choose(candidates: RegSet, dead: RegSet, count: u8) -> Scratches
+    ensures value { result
+        ≡ scratches_of (take count (in_order (bit dead) (members candidates))) }
 {
     if count == 0 {
         return NO_SCRATCHES;
     }
-    let own = uses(*i).union(defs(*i));
-    let others = RegSet::all().difference(own).difference(dead);
-    let dead = dead.difference(own);
+    let others = candidates.difference(dead);
+    let dead = candidates.difference(others);
     Scratches {
         s: scratch(dead, others, 0, count),
         t: scratch(dead, others, 1, count),

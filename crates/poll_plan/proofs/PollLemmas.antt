@@ -4,7 +4,7 @@ use Rattle.std.specs.Prelude.{Contains, map, slice_get, slice_set, slice_index_o
 use Rattle.rv32_decode.specs.declared.Instr.{Instr}
 use Rattle.templates.specs.declared.plans.PlanEntry.{PlanEntry}
 use Rattle.templates.specs.Places.{HasPlaces}
-use Rattle.templates.specs.Plans.{AscendsFrom, addresses, closes_loop_at}
+use Rattle.templates.specs.Plans.{AscendsFrom, addresses, closes_loop_at, StartsNoRun}
 use Rattle.templates.specs.WholePlan.{IsEntry, IsCheckPlan, IsPlanOf}
 use Rattle.poll_plan.specs.Polls.{with_polls}
 
@@ -69,14 +69,20 @@ ascends code low (e ∷ es) h = (h.0, ascends code (e.address + 1) es h.1)
 
 -- an entry with its poll
 entry : (code : ℕ → Option Instr) (e : PlanEntry) → IsEntry code false e → IsEntry code (closes_loop_at e.address (code e.address)) (with_polls code e)
-entry code e h = record { template = h.template; single = h.single; polls = refl; run = h.run; batch = h.batch }
+entry code e h = record { template = h.template; single = h.single; polls = refl }
+
+no_run : (code : ℕ → Option Instr) (e : PlanEntry) → StartsNoRun e → StartsNoRun (with_polls code e)
+no_run code e h = record { run = h.run; batch = h.batch }
 
 -- the plan of the checks, with polls, is the plan
-pub whole : (code : ℕ → Option Instr) (old new : List PlanEntry) → new ≡ map (with_polls code) old → IsCheckPlan code old → IsPlanOf code new
-whole code old new is h = subst (IsPlanOf code) (sym is) (record {
-  ascends = ascends code 0 old h.ascends;
-  places = subst (HasPlaces code) (sym (same_addresses code old)) h.places;
-  each = λ e c.
-      let r = mapped (with_polls code) old e c in
-      subst (λ x. IsEntry code (closes_loop_at x.address (code x.address)) x) r.2 (entry code r.0 (h.each r.0 r.1));
+pub whole : (code : ℕ → Option Instr) (old new : List PlanEntry) → new ≡ map (with_polls code) old → IsCheckPlan code old → IsPlanOf false code new
+whole code old new is h = subst (IsPlanOf false code) (sym is) (record {
+  entries = record {
+    ascends = ascends code 0 old h.entries.ascends;
+    places = subst (HasPlaces code) (sym (same_addresses code old)) h.entries.places;
+    each = λ e c.
+        let r = mapped (with_polls code) old e c in
+        subst (λ x. IsEntry code (closes_loop_at x.address (code x.address)) x) r.2 (entry code r.0 (h.entries.each r.0 r.1));
+  };
+  runs = λ e c. let r = mapped (with_polls code) old e c in subst StartsNoRun r.2 (no_run code r.0 (h.runs r.0 r.1));
 })

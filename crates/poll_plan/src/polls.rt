@@ -1,6 +1,6 @@
 //! Which places poll.
 
-ghost use Rattle.std.specs.Prelude.{◌≡◌, ◌^◌, ◌<◌, ◌≤◌, length, map};
+ghost use Rattle.std.specs.Prelude.{◌≡◌, ◌^◌, ◌<◌, ◌≤◌, false, length, map};
 ghost use Rattle.templates.specs.Code.{code_of};
 ghost use Rattle.templates.specs.Plans.{closes_loop, closes_loop_at};
 ghost use Rattle.templates.specs.WholePlan.{IsCheckPlan, IsPlanOf};
@@ -12,11 +12,12 @@ use rv32_program::aligned_target;
 use templates::Plan;
 
 /// Sets of each entry whether it polls: where a loop may close by the code of the graph. Nothing
-/// else of the plan changes; the plan of that code's checks becomes the plan of that code.
+/// else of the plan changes; the plan of that code's checks becomes the plan of that code without
+/// batches.
 pub fn plan_polls(graph: &Graph, plan: &mut Plan)
     ensures polls { plan.new ≡ map (with_polls (code_of graph.now)) plan.old }
     ensures plan { IsCheckPlan (code_of graph.now) plan.old
-        → IsPlanOf (code_of graph.now) plan.new }
+        → IsPlanOf false (code_of graph.now) plan.new }
 {
     for k in 0..plan.len() {
         let mut entry = plan.get(k);

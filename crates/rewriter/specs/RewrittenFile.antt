@@ -1,6 +1,6 @@
 -- The file of a rewritten program: the original's segments, none of which can be executed; the
 -- rewritten code; and the plan and the map of addresses, each in a section.
-use Rattle.std.specs.Prelude.{◌≡◌, ◌≢◌, slice_get, ℕ, ◌+◌, ◌-◌, ◌%◌, if◌then◌else◌, List, [], ◌∷◌, ◌++◌, map, length, codes, unwrap_or}
+use Rattle.std.specs.Prelude.{◌≡◌, ◌≢◌, slice_get, ℕ, ◌+◌, ◌-◌, ◌%◌, Bool, if◌then◌else◌, List, [], ◌∷◌, ◌++◌, map, length, codes, unwrap_or}
 use Rattle.std.specs.List.{flat_map}
 use Rattle.std.specs.Int.{bytes_low_first}
 use Rattle.elf32_read.specs.Elf.{Elf, Segment, Section}
@@ -102,10 +102,11 @@ IsFirstDifference wanted e Code =
     (slice_get e.sections 0 ≡ slice_get wanted.sections 0)
     × (slice_get e.sections 1 ≡ slice_get wanted.sections 1) × (e ≢ wanted)
 
--- an executable isn't that of the rewriting of an original, and this is the first part that differs
-pub record IsOtherCode (original e : Elf) (part : Part) : Type 0 where
+-- an executable isn't that of the rewriting of an original, with batches or without, and this is
+-- the first part that differs
+pub record IsOtherCode (batches : Bool) (original e : Elf) (part : Part) : Type 0 where
   pub plan : List PlanEntry
   pub image : List Cell
-  pub the_plan : IsPlanOf (program_of original).code plan
+  pub the_plan : IsPlanOf batches (program_of original).code plan
   pub rewriting : IsRewriting (program_of original) plan image
   pub differs : IsFirstDifference (rewritten_elf original image plan) e part

@@ -1,6 +1,6 @@
 //! The file of a rewritten program.
 
-ghost use Rattle.std.specs.Prelude.{◌≡◌, ◌++◌, ◌∷◌, ◌^◌, ◌<◌, ◌≤◌, [], ℕ, map, IfOk, IsErrOf, MatchOption, OnOk, length, codes, true};
+ghost use Rattle.std.specs.Prelude.{◌≡◌, ◌++◌, ◌∷◌, ◌^◌, ◌<◌, ◌≤◌, [], ℕ, map, IfOk, IsErrOf, MatchOption, OnErr, OnOk, length, codes, true};
 ghost use Rattle.exec_map.specs.Contents.{program_of};
 ghost use Rattle.exec_map.specs.Refusals.{IsAcceptable};
 ghost use Rattle.jump_map.specs.Image.{IsRewriting};
@@ -15,7 +15,7 @@ ghost use Rattle.rewriter.specs.RewrittenFile.{IsFirstDifference, IsOtherCode, r
 
 use crate::comparing::{are_segments, has_section};
 use crate::file_bytes::{code_bytes, map_bytes, new_address, plan_bytes};
-use crate::rewriting::{Rewritten, rewrite};
+use crate::rewriting::{Options, Rewritten, rewrite};
 use elf32_read::{Elf, Section, Segment};
 use elf32_write::write_elf;
 use exec_map::Program;
@@ -192,9 +192,7 @@ impl Rewritten {
     }
 
     /// Writes the file of the rewritten program, with what it takes from the original, from which the
-    /// program was accepted.
-    ///
-    /// Where memory is wanted, `out` may have some of the file.
+    /// program was accepted. Where memory is wanted, `out` is left empty.
     pub fn to_elf(
         &self,
         alloc: Global,
@@ -205,6 +203,7 @@ impl Rewritten {
         requires empty { out.old.items ≡ [] }
         ensures ok { OnOk result (out.new.items
             ≡ file_of (rewritten_elf original.now self.now.image self.now.plan)) }
+        ensures err { OnErr result (out.new.items ≡ []) }
     {
         let plan = plan_bytes(alloc, self.plan())?;
         let map = map_bytes(alloc, self.image(), self.plan())?;
@@ -214,25 +213,28 @@ impl Rewritten {
         write_elf(&elf, out)
     }
 
-    /// Takes an executable for the rewriting of a program that was accepted from the original.
+    /// Takes an executable for the rewriting, by these options, of a program that was accepted from
+    /// the original.
     ///
     /// Fails with the first part that differs where it isn't the one that `to_elf` writes.
     pub fn of_elf(
         alloc: Global,
         program: &Program<'_>,
         original: &Elf<'_>,
+        options: Options,
         elf: &Elf<'_>,
     ) -> Result<Rewritten, CodeRefused>
         requires accepted { program.now ≡ original.now }
-        ensures plan { IfOk result (λ r. IsPlanOf (program_of program.now).code r.plan) }
+        ensures plan { IfOk result
+            (λ r. IsPlanOf options.batch (program_of program.now).code r.plan) }
         ensures rewriting { IfOk result (λ r. IsRewriting (program_of program.now) r.plan r.image) }
         ensures same { IfOk result (λ r. elf.now ≡ rewritten_elf original.now r.image r.plan) }
         ensures differs { (part : Part) → IsErrOf result (CodeRefused.PlanRefused part)
-            → IsOtherCode original.now elf.now part }
+            → IsOtherCode options.batch original.now elf.now part }
         ensures too_large { (w : ℕ) → IsErrOf result (CodeRefused.CodeTooLarge w)
-            → IsTooLarge (program_of program.now) w }
+            → IsTooLarge options.batch (program_of program.now) w }
     {
-        let rewritten = match rewrite(alloc, program) {
+        let rewritten = match rewrite(alloc, program, options) {
             Ok(rewritten) => rewritten,
             Err(ImageRefused::CodeTooLarge(words)) => return Err(CodeRefused::CodeTooLarge(words)),
             Err(ImageRefused::OutOfMemory) => return Err(CodeRefused::OutOfMemory),

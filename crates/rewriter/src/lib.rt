@@ -9,4 +9,4 @@ mod file_bytes;
 mod rewriting;
 
 pub use file::{CodeRefused, Part};
-pub use rewriting::{Rewritten, rewrite};
+pub use rewriting::{Options, Rewritten, rewrite, rewrite_law};

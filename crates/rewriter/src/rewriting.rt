@@ -1,21 +1,32 @@
 //! Rewritten programs.
 
-ghost use Rattle.std.specs.Prelude.{◌≡◌, ◌≤◌, ℕ, length, IfOk, IsErrOf};
+ghost use Rattle.std.specs.Prelude.{◌≡◌, ◌≤◌, ℕ, Bool, false, length, IfOk, IsErrOf};
 ghost use Rattle.exec_map.specs.Contents.{program_of};
 ghost use Rattle.jump_map.specs.Image.{IsRewriting, most_words};
 ghost use Rattle.jump_map.specs.declared.image.ImageRefused.TheVariants as refused;
+ghost use Rattle.rv32_program.specs.Program.{Program as Original};
+ghost use Rattle.templates.specs.Code.{code_of};
 ghost use Rattle.templates.specs.WholePlan.{IsPlanOf};
+ghost use Rattle.rewriter.specs.Parts.{Parts, IsRewritten};
 ghost use Rattle.rewriter.specs.TooLarge.{IsTooLarge};
 
+use batch_plan::plan_batches;
 use check_plan::{plan_checks, plan_law};
 use exec_map::Program;
 use flow_graph::Graph;
-use jump_map::{Image, ImageRefused};
+use jump_map::{Image, ImageRefused, image_law};
 use liveness::Live;
 use poll_plan::plan_polls;
-use std::alloc::Global;
+use std::alloc::{AllocError, Global};
 use std::marker::Model;
 use templates::Plan;
+
+/// How a program is rewritten.
+#[derive(Clone, Copy, Debug, PartialEq, Eq)]
+pub struct Options {
+    /// Whether the accesses of a run are checked once.
+    pub batch: bool,
+}
 
 /// A rewritten program: its image, and the plan of which that is the image.
 #[derive(Drop)]
@@ -57,19 +68,52 @@ impl Rewritten {
 /// Rewrites a program by its plan.
 ///
 /// Fails with the number of words where the plan has more than an image may have.
-pub fn rewrite(alloc: Global, program: &Program<'_>) -> Result<Rewritten, ImageRefused>
-    ensures plan { IfOk result (λ r. IsPlanOf (program_of program.now).code r.plan) }
+pub fn rewrite(
+    alloc: Global,
+    program: &Program<'_>,
+    options: Options,
+) -> Result<Rewritten, ImageRefused>
+    ensures plan { IfOk result (λ r. IsPlanOf options.batch (program_of program.now).code r.plan) }
     ensures rewriting { IfOk result (λ r. IsRewriting (program_of program.now) r.plan r.image) }
-    ensures too_large { (w : ℕ) →
-        IsErrOf result (refused.CodeTooLarge w) → IsTooLarge (program_of program.now) w }
+    ensures too_large { (w : ℕ) → IsErrOf result (refused.CodeTooLarge w)
+        → IsTooLarge options.batch (program_of program.now) w }
 {
     plan_law();
     let graph = Graph::of(alloc, program)?;
-    let live = Live::of(alloc, &graph)?;
-    let mut plan = plan_checks(alloc, &live)?;
-    plan_polls(&graph, &mut plan);
+    let plan = plan_of(alloc, &graph, options)?;
     match Image::of(alloc, graph.code(), &plan) {
         Ok(image) => Ok(Rewritten { image, plan }),
         Err(refused) => Err(refused),
+    }
+}
+
+/// A program has at most one rewriting with batches, and at most one without: one plan, and one
+/// image.
+pub fn rewrite_law()
+    ensures one { (batches : Bool) (program : Original) (one other : Parts) →
+        IsRewritten batches program one → IsRewritten batches program other → one ≡ other }
+{
+    plan_law();
+    image_law();
+}
+
+/// The plan of the code of a graph.
+fn plan_of(alloc: Global, graph: &Graph, options: Options) -> Result<Plan, AllocError>
+    ensures value { IfOk result (λ plan. IsPlanOf options.batch (code_of graph.now) plan) }
+{
+    let live = Live::of(alloc, graph)?;
+    let mut plan = plan_checks(alloc, &live)?;
+    plan_polls(graph, &mut plan);
+    add_batches(&live, options, &mut plan);
+    Ok(plan)
+}
+
+/// Sets the runs of a plan, where batches are wanted.
+fn add_batches(live: &Live<'_>, options: Options, plan: &mut Plan)
+    ensures plan { IsPlanOf false (code_of live.now) plan.old
+        → IsPlanOf options.batch (code_of live.now) plan.new }
+{
+    if options.batch {
+        plan_batches(live, plan);
     }
 }

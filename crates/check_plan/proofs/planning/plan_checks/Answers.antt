@@ -11,5 +11,5 @@ returns c =
     let q = c.in_ok-places.ensures in
     let whole = ap code_of (c.code.ensures.value ∙ c.graph.ensures.value) in
     record {
-      value = is_plan code places c.in_ok-plan.plan q.ascending (subst (λ f. HasPlaces f places) whole q.places) (c.in_ok-plan.ensures.places ∙ c.deref.ensures.value) c.in_ok-plan.ensures.each;
+      value = is_plan code places c.in_ok-plan.plan q.ascending (subst (λ f. HasPlaces f places) whole q.places) (c.in_ok-plan.ensures.places ∙ c.deref.ensures.value) c.in_ok-plan.ensures.each c.in_ok-plan.ensures.runs;
     }

@@ -1,0 +1,6 @@
+mod ReachLemmas
+mod StretchLemmas
+mod StepLemmas
+mod RunLemmas
+mod ScratchLemmas
+mod BatchLemmas

@@ -1,0 +1,50 @@
+//! The longest run from an address on.
+
+ghost use Rattle.std.specs.Prelude.{◌≡◌, ◌≢◌, ◌+◌, ◌*◌, ◌^◌, ◌<◌};
+ghost use Rattle.templates.specs.Code.{Ascends, code_of};
+ghost use Rattle.templates.specs.Runs.{reach_at};
+ghost use Rattle.templates.specs.WholePlan.{IsLongestRun};
+
+use crate::stretches::Stretch;
+use rv32_decode::Reg;
+use templates::Code;
+
+/// A run, or none.
+#[derive(Clone, Copy, Debug, PartialEq, Eq)]
+pub(crate) struct Run {
+    /// 0 where there is none.
+    pub words: u8,
+    /// The base register of its accesses.
+    pub base: Reg,
+}
+
+/// The longest run from an address on.
+pub(crate) fn longest_run(code: &Code, address: u32) -> Run
+    requires ascends { Ascends 0 code.now }
+    ensures longest { IsLongestRun (code_of code.now) address result.words }
+    ensures base { result.words ≢ 0
+        → result.base ≡ (reach_at (code_of code.now) address result.words).base }
+    ensures low { address + 4 * result.words < 2 ^ 32 }
+{
+    let mut longest = Run {
+        words: 0,
+        base: Reg::ZERO,
+    };
+    let mut stretch = match Stretch::begin(code, address) {
+        Some(stretch) => stretch,
+        None => return longest,
+    };
+    for words in 1..16 {
+        stretch = match stretch.longer(code, address, words) {
+            Some(stretch) => stretch,
+            None => return longest,
+        };
+        if stretch.ends {
+            longest = Run {
+                words: words + 1,
+                base: stretch.base(),
+            };
+        }
+    }
+    longest
+}

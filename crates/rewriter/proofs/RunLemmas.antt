@@ -1,0 +1,18 @@
+-- The runs of a plan are runs of its code.
+use Rattle.std.proofs.Common.{◌≡◌, ℕ, List, subst, inl, inr}
+use Rattle.rv32_program.specs.Program.{Program}
+use Rattle.templates.specs.declared.code.CodeWord.{CodeWord}
+use Rattle.templates.specs.declared.plans.PlanEntry.{PlanEntry}
+use Rattle.templates.specs.Code.{code_of}
+use Rattle.templates.specs.Plans.{IsAdmissible}
+use Rattle.templates.specs.Runs.{IsRun}
+use Rattle.jump_map.specs.Image.{HasRunsOf}
+
+pub runs_of : (program : Program) (words : List CodeWord) (plan : List PlanEntry)
+    → program.code ≡ code_of words → IsAdmissible program plan → HasRunsOf words plan
+runs_of program words plan same h = record {
+  each = λ e c some. elim (h.serves e c).run [
+    | inl none ↦ absurd (some none.run)
+    | inr starts ↦ subst (λ f. IsRun f e.address e.run) same starts.run
+  ];
+}
