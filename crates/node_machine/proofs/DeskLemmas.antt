@@ -1,11 +1,14 @@
 -- A message or a want at a node, by what the node stores.
-use Rattle.std.proofs.Common.{◌≡◌, ℕ, ◌≤◌, ◌<◌, ◌+◌, ◌&&◌, ◌⊎◌, Bool, true, false, cond, eqb, ltb, List, [], ◌∷◌, length, refl, sym, ap, ◌∙◌, subst, inl, inr, Option, Some, None, arith}
+use Rattle.std.proofs.Common.{◌≡◌, ℕ, ◌≤◌, ◌<◌, ◌+◌, ◌&&◌, ◌⊎◌, Bool, true, false, cond, eqb, ltb, List, [], ◌∷◌, ◌++◌, length, refl, sym, ap, ◌∙◌, subst, inl, inr, Option, Some, None, arith}
 use Rattle.std.proofs.Math.Path.{fun_ext}
 use Rattle.std.proofs.lemmas.Bool.Decides.{eqb_tells, nat_tests}
-use Rattle.block_layout.specs.Layout.{Shape, blocks, home, block_of}
+use Rattle.std.proofs.lemmas.List.{append-nil}
+use Rattle.std.specs.Option.{option_map_or}
+use Rattle.block_layout.specs.Layout.{Shape, IsValid, blocks, home, block_of, has_line}
 use Rattle.block_layout.specs.Update.{changed}
 use Rattle.buf_pool.specs.Pool.{Buffer, Slots, empty_buffer}
 use Rattle.exec_map.specs.Contents.{class_of_line, is_shared as is_shared_class}
+use Rattle.rv32_program.specs.Program.{line_of}
 use Rattle.rv32_program.specs.declared.Class.{Class}
 use Rattle.rv32_program.specs.declared.Class.TheVariants as class
 use Rattle.state_table.specs.declared.State.{State}
@@ -22,13 +25,13 @@ use Rattle.home_directory.specs.Home.{Entry, Home, first_entry, post}
 use Rattle.home_directory.specs.Effects.{Directory, HomeEffect, entry_at, entries_of, home_at, home_effect, is_home, ask_effect, done_effect}
 use Rattle.home_directory.specs.Table.{BlockFacts, LocalBlock, HomeRow, NodeRow, Miss, node_row, ask_row, done_row, want_row, meets, state_in_wait, first_wait, request}
 use Rattle.miss_handlers.specs.Waits.{NodeWaits, wait_of}
-use Rattle.miss_handlers.specs.Effects.{NodeBlocks, block_facts, local_block, row_effect, node_row_at, message_effect, miss_of, states_after, waits_after, pool_after}
+use Rattle.miss_handlers.specs.Effects.{NodeBlocks, block_facts, local_block, row_effect, node_row_at, message_effect, miss_of, states_after, waits_after, buffers, pool_after, pool_after_miss}
 use Rattle.miss_handlers.specs.Rows.{AtHome, AtNode, at_home, at_node, if_home, home_of, node_row_of, row_of}
 use Rattle.node_model.specs.declared.NodeCounts.{NodeCounts}
 use Rattle.node_words.specs.declared.body.Body.{Body}
 use Rattle.node_machine.specs.declared.desk.Desk.{Desk}
-use Rattle.node_model.specs.Node.{Node, first_state}
-use Rattle.node_model.specs.Turns.{quiet, holding, block_at, by_row, by_row_or, count_row, count_want, with_state, with_miss, want_in}
+use Rattle.node_model.specs.Node.{Node, Want, first_state}
+use Rattle.node_model.specs.Turns.{quiet, holding, block_at, by_row, by_row_or, count_row, count_want, with_state, with_miss, want_in, is_same_want}
 use Rattle.node_words.specs.Kept.{Shelf, copy_of, local_of}
 use Rattle.node_words.specs.Blocks.{ShelfLaws, blocks_at}
 use Rattle.node_machine.specs.Frame.{entries_in, layout_of, with_parts, IsDesk}
@@ -126,7 +129,8 @@ module _ (laws : LineLaws) (n : Node) (body body' : Body) (d d' : Desk) (posts :
           };
           entry = entries_in (sym side.directory t).layout (sym side.directory t).me
               (entry_at (sym side.directory t).entries);
-          waiting = (sym side.directory t).waiting;
+          waiting = (entries_of (sym side.directory t)).waiting;
+          occupancy = (entries_of (sym side.directory t)).occupancy;
           wait = sym e.wait t;
           counts = sym count t;
         };
@@ -154,7 +158,8 @@ module _ (laws : LineLaws) (n : Node) (body body' : Body) (d d' : Desk) (posts :
           };
           entry = entries_in (sym side.directory t).layout (sym side.directory t).me
               (entry_at (sym side.directory t).entries);
-          waiting = (sym side.directory t).waiting;
+          waiting = (entries_of (sym side.directory t)).waiting;
+          occupancy = (entries_of (sym side.directory t)).occupancy;
           wait = sym e.wait t;
           counts = sym count t;
         };
@@ -211,6 +216,7 @@ module _ (laws : LineLaws) (n : Node) (body body' : Body) (d d' : Desk) (posts :
           local = local_of (sym side.shelf t);
           entry = entries_in (sym side.layout t) (sym side.me t) (sym side.entries t).entry;
           waiting = (sym side.entries t).waiting;
+          occupancy = (sym side.entries t).occupancy;
           wait = wait_of (sym side.waits t);
           counts = sym count t;
         };
@@ -244,6 +250,7 @@ module _ (laws : LineLaws) (n : Node) (body body' : Body) (d d' : Desk) (posts :
           local = local_of (sym side.shelf t);
           entry = whole t;
           waiting = (sym side.entries t).waiting;
+          occupancy = (sym side.entries t).occupancy;
           wait = wait_of (sym side.waits t);
           counts = sym count t;
         };
@@ -271,7 +278,11 @@ module _ (laws : LineLaws) (n : Node) (body body' : Body) (d d' : Desk) (posts :
       ∙ go (ltb b (blocks d.directory.layout))
     where
       go : (t : Bool) → at_home b (cond (t && eqb (home d.directory.layout b) d.directory.me) (row d.directory.layout.nodes
-          (record { entry = cond t (entry_at d.directory.entries b) (first_entry d.directory.me); waiting = d.directory.waiting })) None)
+          (record {
+            entry = cond t (entry_at d.directory.entries b) (first_entry d.directory.me);
+            waiting = (entries_of d.directory).waiting b;
+            occupancy = (entries_of d.directory).occupancy;
+          })) None)
           ≡ at_home b (cond (t && eqb (home d.directory.layout b) d.directory.me) (row d.directory.layout.nodes (home_at (entries_of d.directory) b)) None)
       go true = refl
       go false = refl
@@ -389,14 +400,15 @@ abbrev pub counts_if : Option Miss → Need → State → NodeCounts → NodeCou
 counts_if None need state c = c
 counts_if (Some miss) need state c = count_want need state c
 
-module _ (laws : LineLaws) (n : Node) (p : Option ℕ) (body body' : Body) (d d' : Desk) (posts : List Post) (b : ℕ) (need : Need)
+module _ (laws : LineLaws) (n : Node) (before : List Post) (p : Option ℕ) (body body' : Body) (d d' : Desk) (posts : List Post) (b : ℕ) (need : Need)
     (desk : IsDesk (layout_of body) d) (old : ShelfLaws body.local) (bb : b < blocks (layout_of body)) where
   met_turn : meets need (state_of body.local.states b) ≡ true → HasWanted d d' body.local body'.local b need posts None
       → body'.counts ≡ body.counts
-      → turn_by (with_parts n body d) [] p ≡ turn_by (with_parts n body' d') posts p
+      → turn_by (with_parts n body d) before p ≡ turn_by (with_parts n body' d') (before ++ posts) p
   met_turn met w counts =
       let state = same_states laws (layout_of body) old.valid body.local.states body'.local.states
       old.lines.one (w.states_layout ∙ old.lines.one) w.classes w.state in
+      let sends : before ≡ before ++ posts = sym (append-nil before) ∙ ap (λ (xs : List Post). before ++ xs) (sym w.sends) in
       λ t. record {
         node = record n {
           local = record {
@@ -405,11 +417,12 @@ module _ (laws : LineLaws) (n : Node) (p : Option ℕ) (body body' : Body) (d d'
             reservation = sym w.reservation t;
           };
           entry = entries_in (sym w.directory t).layout (sym w.directory t).me (entry_at (sym w.directory t).entries);
-          waiting = (sym w.directory t).waiting;
+          waiting = (entries_of (sym w.directory t)).waiting;
+          occupancy = (entries_of (sym w.directory t)).occupancy;
           wait = sym w.wait t;
           counts = sym counts t;
         };
-        sends = sym w.sends t;
+        sends = sends t;
         printed = p;
       }
 
@@ -421,7 +434,7 @@ module _ (laws : LineLaws) (n : Node) (p : Option ℕ) (body body' : Body) (d d'
         local = record (local_of body.local) { state = with_state (layout_of body) b (state_in_wait st) (line_byte body.local.states) };
         wait = changed (wait_of d.waits) b miss.block.wait;
         counts = count_want need st body.counts;
-      }) (miss.post ∷ []) p ≡ turn_by (with_parts n body' d') posts p
+      }) (before ++ miss.post ∷ []) p ≡ turn_by (with_parts n body' d') (before ++ posts) p
   missed_turn miss is w st same counts =
       let state = set_states laws (layout_of body) old.valid body.local.states body'.local.states b miss.block.state bb
       old.lines.one (w.states_layout ∙ old.lines.one) w.classes w.state in
@@ -436,17 +449,18 @@ module _ (laws : LineLaws) (n : Node) (p : Option ℕ) (body body' : Body) (d d'
             reservation = sym w.reservation t;
           };
           entry = entries_in (sym w.directory t).layout (sym w.directory t).me (entry_at (sym w.directory t).entries);
-          waiting = (sym w.directory t).waiting;
+          waiting = (entries_of (sym w.directory t)).waiting;
+          occupancy = (entries_of (sym w.directory t)).occupancy;
           wait = sym w.wait t;
           counts = count t;
         };
-        sends = sym w.sends t;
+        sends = before ++ sym w.sends t;
         printed = p;
       }
 
   pub want_turn : HasWanted d d' body.local body'.local b need posts (miss_of d.waits body.local.states d.pool b need)
       → body'.counts ≡ counts_if (miss_of d.waits body.local.states d.pool b need) need (state_of body.local.states b) body.counts
-      → want_in (layout_of body) (turn_by (with_parts n body d) [] p) need (Some b) ≡ turn_by (with_parts n body' d') posts p
+      → want_in (layout_of body) (turn_by (with_parts n body d) before p) need (Some b) ≡ turn_by (with_parts n body' d') (before ++ posts) p
   want_turn w counts = go (meets need (state_of body.local.states b)) refl
     where
       same : state_of body.local.states b ≡ (block_at (layout_of body) (with_parts n body d) b).state
@@ -454,14 +468,14 @@ module _ (laws : LineLaws) (n : Node) (p : Option ℕ) (body body' : Body) (d d'
           old.lines.one refl old.copy refl refl)
 
       go : (t : Bool) → meets need (state_of body.local.states b) ≡ t
-          → with_miss (layout_of body) b need (turn_by (with_parts n body d) [] p)
+          → with_miss (layout_of body) b need (turn_by (with_parts n body d) before p)
           (want_row (block_facts (layout_of body) b) (block_at (layout_of body) (with_parts n body d) b) b need (empty_buffer 4096))
-          ≡ turn_by (with_parts n body' d') posts p
+          ≡ turn_by (with_parts n body' d') (before ++ posts) p
       go true e =
           let none : miss_of d.waits body.local.states d.pool b need ≡ None =
           want_met (block_facts d.waits.layout b) (record { state = state_of body.local.states b; bytes = []; wait = wait_of d.waits b })
           b need (empty_buffer d.pool.bytes) e in
-          ap (with_miss (layout_of body) b need (turn_by (with_parts n body d) [] p))
+          ap (with_miss (layout_of body) b need (turn_by (with_parts n body d) before p))
           (want_met (block_facts (layout_of body) b) (block_at (layout_of body) (with_parts n body d) b) b need (empty_buffer 4096)
           (ap (meets need) (sym same) ∙ e))
           ∙ met_turn e (subst (λ (x : Option Miss). HasWanted d d' body.local body'.local b need posts x) none w)
@@ -474,14 +488,14 @@ module _ (laws : LineLaws) (n : Node) (p : Option ℕ) (body body' : Body) (d d'
           b need (empty_buffer d.pool.bytes) e in
           let sent : post (home (layout_of body) b) (request need b (empty_buffer 4096)) ≡ miss.post =
           λ t. post (home (sym desk.waits t) b) (request need b (empty_buffer (sym desk.bytes t))) in
-          ap (with_miss (layout_of body) b need (turn_by (with_parts n body d) [] p))
+          ap (with_miss (layout_of body) b need (turn_by (with_parts n body d) before p))
           (want_missed (block_facts (layout_of body) b) (block_at (layout_of body) (with_parts n body d) b) b need (empty_buffer 4096)
           (ap (meets need) (sym same) ∙ e))
           ∙ ap (λ (q : Post). turn_by (record (with_parts n body d) {
             local = record (local_of body.local) { state = with_state (layout_of body) b (state_in_wait (block_at (layout_of body) (with_parts n body d) b).state) (line_byte body.local.states) };
             wait = changed (wait_of d.waits) b (Some (first_wait need));
             counts = count_want need (block_at (layout_of body) (with_parts n body d) b).state body.counts;
-          }) (q ∷ []) p) sent
+          }) (before ++ q ∷ []) p) sent
           ∙ missed_turn miss refl (subst (λ (x : Option Miss). HasWanted d d' body.local body'.local b need posts x) some w)
           (block_at (layout_of body) (with_parts n body d) b).state (sym same)
           (counts ∙ ap (λ (x : Option Miss). counts_if x need (state_of body.local.states b) body.counts) some)
@@ -498,7 +512,62 @@ begun d d' s s' b need posts w e =
     let there : changed (wait_of d.waits) b (Some (first_wait need)) b ≡ Some (first_wait need) = rw z refl in
     some_waits d'.waits.waits b (first_wait need) (ap (λ (g : ℕ → Option Wait). g b) wait ∙ there)
 
--- 5. A message that isn't for a home
+-- no wait for another block is begun or ends
+pub others_wait : (f : ℕ → Option Wait) (b x : ℕ) (miss : Option Miss) → (x ≡ b → ⊥) → waits_after f b miss x ≡ f x
+others_wait f b x None apart = refl
+others_wait f b x (Some m) apart = elim (eqb_tells x b) [
+  | inl q ↦ absurd (apart q.1)
+  | inr q ↦ rw q.0 refl
+]
+
+-- a want begins at most one wait, with a buffer of the pool
+pub waits_grow : (pool pool' : Slots) (w w' : NodeWaits) (miss : Option Miss) → pool' ≡ pool_after_miss pool miss
+    → buffers pool' w' ≡ buffers pool w → 0 < pool.free
+    → (length w.waits ≤ length w'.waits) × (length w'.waits ≤ length w.waits + 1)
+waits_grow pool pool' w w' None is count some =
+    let free = ap (λ (q : Slots). q.free) is in
+    (omega (arith, free, count), omega (arith, free, count))
+waits_grow pool pool' w w' (Some m) is count some =
+    let free = ap (λ (q : Slots). q.free) is in
+    (omega (arith, free, count, some), omega (arith, free, count, some))
+
+-- 5. Two wants
+
+true_false : true ≡ false → ⊥
+true_false e = cc
+
+itself : (b : ℕ) → eqb b b ≡ true
+itself b = grind (arith, nat_tests)
+
+-- the first's line is in a block
+same_line : (l : Shape) (w v : Want) (b : ℕ) → block_of l (line_of w.at) ≡ Some b
+    → is_same_want l w v ≡ has_line l b (line_of v.at)
+same_line l w v b is = ap (λ (o : Option ℕ). option_map_or (λ c. has_line l c (line_of v.at)) o false) is
+
+module _ (laws : LineLaws) (l : Shape) (valid : IsValid l) (w v : Want) (b : ℕ) (in_block : block_of l (line_of w.at) ≡ Some b) where
+  -- the second's line is in this block, or in none
+  pub same_by : (o : Option ℕ) → block_of l (line_of v.at) ≡ o
+      → is_same_want l w v ≡ option_map_or (λ c. eqb c b) o false
+  same_by o also = same_line l w v b in_block ∙ go (has_line l b (line_of v.at)) refl
+    where
+      low : b < blocks l
+      low = (laws.found l b (line_of w.at) valid in_block).0
+
+      none : (x : Option ℕ) → x ≡ Some b → option_map_or (λ c. eqb c b) x false ≡ true
+      none x e = ap (λ (y : Option ℕ). option_map_or (λ c. eqb c b) y false) e ∙ itself b
+
+      other : (x : Option ℕ) → (x ≡ Some b → ⊥) → option_map_or (λ c. eqb c b) x false ≡ false
+      other None apart = refl
+      other (Some c) apart = elim (eqb_tells c b) [
+        | inl q ↦ absurd (apart (ap (λ z. Some z) q.1))
+        | inr q ↦ q.0
+      ]
+
+      go : (t : Bool) → has_line l b (line_of v.at) ≡ t → t ≡ option_map_or (λ c. eqb c b) o false
+      go true e = sym (none o (sym also ∙ laws.has l b (line_of v.at) valid low e))
+      go false e = sym (other o (λ q. true_false (sym (laws.found l b (line_of v.at) valid (also ∙ q)).1 ∙ e)))
+
+-- 6. A message that isn't for a home
 
 pub others_routed : (d d' : Desk) (s s' : Shelf) (posts : List Post) (j : ℕ) (m : Message)
     → ((b : ℕ) (buf : Buffer) → m ≡ Read b buf → ⊥) → ((b : ℕ) (buf : Buffer) → m ≡ Write b buf → ⊥)

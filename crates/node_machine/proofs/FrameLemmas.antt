@@ -13,8 +13,8 @@ use Rattle.node_words.specs.declared.serve.Served as kept_served
 use Rattle.node_words.specs.declared.serve.Following.{Following}
 use Rattle.node_words.specs.declared.serve.Following.TheVariants as following_by
 use Rattle.node_words.specs.Address.{word_address}
-use Rattle.node_model.specs.Node.{Node, Work, Phase, Running, Resumed, Waiting, Ended, Tally, Nothing_counted, FalseMiss, can_execute, counts_after, printed_also, stop_at, stop_or, word_outcome}
-use Rattle.node_model.specs.Turns.{quiet, want_all, with_byes, byes_to, is_ended, after_word, word_turn}
+use Rattle.node_model.specs.Node.{Node, Work, Phase, Running, Resumed, Waiting, Ended, Tally, Nothing_counted, FalseMiss, FallsBack, can_execute, counts_after, printed_also, stop_at, stop_or, word_outcome}
+use Rattle.node_model.specs.Turns.{quiet, want_all, each_block_once, with_byes, byes_to, is_ended, after_word, word_turn}
 use Rattle.node_words.specs.Kept.{Shelf, Ground, Follows, Serves, phase_by, wants_by, ground_of, lane_of, local_of}
 use Rattle.node_machine.specs.Frame.{work_of, node_of, layout_of, with_parts, AreCountsBelow, WaitsInPhase, HasBegun}
 use Rattle.node_machine.specs.Desk.{turn_by}
@@ -73,7 +73,7 @@ served_node work n l s counts done = record n {
 pub cold_turn : (work : Work) (n : Node) (g : Ground) (l : kept.Lane) (s : Shelf) (counts : NodeCounts) (done : kept_served.Served)
     → Serves work.image (word_outcome work n) g n.counts l s counts done
     → word_turn work n ≡ ending work.layout.nodes
-    (want_all work.layout (turn_by (served_node work n l s counts done) [] done.output) (wants_by done.following))
+    (want_all work.layout (turn_by (served_node work n l s counts done) [] done.output) (each_block_once work.layout (wants_by done.following)))
 cold_turn work n g l s counts done f =
     let word : after_word work n ≡ turn_by (served_node work n l s counts done) [] done.output = λ t. record {
       node = record n {
@@ -89,19 +89,19 @@ cold_turn work n g l s counts done f =
       printed = sym f.output t;
     } in
     ap (ending work.layout.nodes)
-    (λ t. want_all work.layout (word t) (sym f.wants t))
+    (λ t. want_all work.layout (word t) (each_block_once work.layout (sym f.wants t)))
 
 -- after a word that was served, and whose wants were asked for
 pub served_turn : (i : Frame) (b b' : Body) (d : Desk) (done : kept_served.Served) (posts : List Post) (last : Node)
     → Serves i.image.now (word_outcome (work_of i) (node_of i)) (ground_of i.body.value.local) i.body.value.counts b.lane b.local b.counts done
-    → ((m : Node) (p : Option ℕ) → want_all (layout_of b) (turn_by (with_parts m b i.desk) [] p) (wants_by done.following)
+    → ((m : Node) (p : Option ℕ) → want_all (layout_of b) (turn_by (with_parts m b i.desk) [] p) (each_block_once (layout_of b) (wants_by done.following))
     ≡ turn_by (with_parts m b' d) posts p)
     → last ≡ with_parts (served_node (work_of i) (node_of i) b.lane b.local b.counts done) b' d
     → ending (layout_of i.body.value).nodes (turn_by last posts done.output) ≡ word_turn (work_of i) (node_of i)
 served_turn i b b' d done posts last s ask is =
     let before = served_node (work_of i) (node_of i) b.lane b.local b.counts done in
-    let wants : want_all (layout_of i.body.value) (turn_by before [] done.output) (wants_by done.following) ≡ turn_by last posts done.output =
-    ap (λ (g : Ground). want_all g.layout (turn_by before [] done.output) (wants_by done.following)) (sym s.ground_same)
+    let wants : want_all (layout_of i.body.value) (turn_by before [] done.output) (each_block_once (layout_of i.body.value) (wants_by done.following)) ≡ turn_by last posts done.output =
+    ap (λ (g : Ground). want_all g.layout (turn_by before [] done.output) (each_block_once g.layout (wants_by done.following))) (sym s.ground_same)
     ∙ ask before done.output
     ∙ ap (λ (x : Node). turn_by x posts done.output) (sym is) in
     sym (cold_turn (work_of i) (node_of i) (ground_of i.body.value.local) b.lane b.local b.counts done s
@@ -116,10 +116,11 @@ counts_up m k c h a = record {
   upgrade = let x = a.upgrade in omega (arith, h, x);
   falses = let x = a.falses in omega (arith, h, x);
   invalidations = let x = a.invalidations in omega (arith, h, x);
+  fallbacks = let x = a.fallbacks in omega (arith, h, x);
   messages = let x = a.messages in omega (arith, h, x);
 }
 
-tally_below : (t : Tally) (m : ℕ) (c : NodeCounts) → AreCountsBelow m c → AreCountsBelow (m + 1) (counts_after t c)
+pub tally_below : (t : Tally) (m : ℕ) (c : NodeCounts) → AreCountsBelow m c → AreCountsBelow (m + 1) (counts_after t c)
 tally_below Nothing_counted m c a = counts_up m (m + 1) c (omega arith) a
 tally_below FalseMiss m c a =
     let up = counts_up m (m + 1) c (omega arith) a in
@@ -130,6 +131,19 @@ tally_below FalseMiss m c a =
       upgrade = up.upgrade;
       falses = omega (arith, x);
       invalidations = up.invalidations;
+      fallbacks = up.fallbacks;
+      messages = up.messages;
+    }
+tally_below FallsBack m c a =
+    let up = counts_up m (m + 1) c (omega arith) a in
+    let x = a.fallbacks in
+    record {
+      read = up.read;
+      exclusive = up.exclusive;
+      upgrade = up.upgrade;
+      falses = up.falses;
+      invalidations = up.invalidations;
+      fallbacks = omega (arith, x);
       messages = up.messages;
     }
 

@@ -19,10 +19,13 @@ use Rattle.node_words.specs.declared.body.Body.{Body}
 use Rattle.node_machine.specs.declared.desk.Desk.{Desk}
 use Rattle.node_machine.specs.declared.frame.Frame.{Frame}
 use Rattle.node_model.specs.declared.Entry.{Entry}
-use Rattle.node_model.specs.Node.{Node, Work, Phase, Running, Resumed, Waiting, Ended, PastWord, SameWord, can_execute, stop_or}
+use Rattle.node_model.specs.declared.NodeCounts.{NodeCounts}
+use Rattle.node_model.specs.Node.{Node, Work, Local, Phase, Running, Resumed, Waiting, Ended, can_execute, stop_or, tally_resumed}
 use Rattle.node_model.specs.Turns.{Turn, treated, journaled, later, resumed, has_no_wait, after_message, take_turn, with_byes, is_ended, by_row_or, holding, words_before}
-use Rattle.node_machine.specs.Frame.{work_of, node_of, layout_of, with_all, phase_resumed, at_resumed, WaitsInPhase}
+use Rattle.node_machine.specs.Frame.{work_of, node_of, layout_of, with_all, phase_resumed, lane_after_wait, counts_after_wait, AreCountsBelow, WaitsInPhase}
 use Rattle.node_machine.specs.Desk.{turn_by}
+use Rattle.node_words.specs.Kept.{local_of}
+use Rattle.node_machine.proofs.FrameLemmas.{counts_up, tally_below}
 use Rattle.node_machine.proofs.WaitLemmas.{waits_count}
 
 pub members_set : (xs : List Bool) (r : ℕ) → r < length xs → members (set xs r true) ≡ changed (members xs) r true
@@ -54,16 +57,15 @@ no_wait_is l w pending layout are is =
 
 resumed_by : (work : Work) (n : Node) (p : Phase) (idle : Bool) → n.phase ≡ p → has_no_wait work.layout n ≡ idle
     → resumed work n p ≡ record n {
-      lane = record n.lane { at = at_resumed idle p n.lane.at };
+      lane = lane_after_wait n.local idle p n.lane;
       phase = phase_resumed work.budget n.executed idle p;
+      counts = counts_after_wait n.local idle p n.counts;
     }
 resumed_by work n Running idle is none = λ t. record n { phase = is t }
 resumed_by work n Resumed idle is none = λ t. record n { phase = is t }
 resumed_by work n (Ended e) idle is none = λ t. record n { phase = is t }
-resumed_by work n (Waiting PastWord) true is none = rw none refl
-resumed_by work n (Waiting SameWord) true is none = rw none refl
-resumed_by work n (Waiting PastWord) false is none = rw none (λ t. record n { phase = is t })
-resumed_by work n (Waiting SameWord) false is none = rw none (λ t. record n { phase = is t })
+resumed_by work n (Waiting r) true is none = rw none refl
+resumed_by work n (Waiting r) false is none = rw none (λ t. record n { phase = is t })
 
 -- a message that was treated
 pub taken : (i : Frame) (from : ℕ) (wire : Wire) (b : Body) (d : Desk) (byes : List Bool) (posts : List Post)
@@ -72,14 +74,24 @@ pub taken : (i : Frame) (from : ℕ) (wire : Wire) (b : Body) (d : Desk) (byes :
     ≡ turn_by (with_all n b d byes) posts None)
     → eqb (count_of (λ x. is_some (wait_of d.waits x)) (blocks (layout_of i.body.value))) 0 ≡ idle
     → last ≡ record (with_all (journaled (node_of i) from wire) b d byes) {
-      lane = record (node_of i).lane { at = at_resumed idle (node_of i).phase (node_of i).lane.at };
+      lane = lane_after_wait (local_of b.local) idle (node_of i).phase (node_of i).lane;
       phase = phase_resumed i.budget i.executed idle (node_of i).phase;
+      counts = counts_after_wait (local_of b.local) idle (node_of i).phase b.counts;
     }
     → after_message (work_of i) (node_of i) from wire ≡ turn_by last posts None
 taken i from wire b d byes posts idle last treat none is =
     let after = with_all (journaled (node_of i) from wire) b d byes in
     ap (λ (t : Turn). turn_by (resumed (work_of i) t.node t.node.phase) t.sends t.printed) (treat (journaled (node_of i) from wire) refl)
     ∙ ap (λ (n : Node). turn_by n posts None) (resumed_by (work_of i) after (node_of i).phase idle refl none ∙ sym is)
+
+-- the counts after a message
+pub wait_below : (n : Local) (idle : Bool) (p : Phase) (m : ℕ) (c : NodeCounts) → AreCountsBelow m c
+    → AreCountsBelow (m + 1) (counts_after_wait n idle p c)
+wait_below n idle Running m c a = counts_up m (m + 1) c (omega arith) a
+wait_below n idle Resumed m c a = counts_up m (m + 1) c (omega arith) a
+wait_below n idle (Ended e) m c a = counts_up m (m + 1) c (omega arith) a
+wait_below n true (Waiting r) m c a = tally_below (tally_resumed n r) m c a
+wait_below n false (Waiting r) m c a = counts_up m (m + 1) c (omega arith) a
 
 and_false : (b : Bool) → (b && false) ≡ false
 and_false true = refl

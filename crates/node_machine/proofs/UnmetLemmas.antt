@@ -1,5 +1,5 @@
 -- A word that waits wants what its node doesn't meet.
-use Rattle.std.proofs.Common.{◌≡◌, ℕ, ◌%◌, ◌*◌, ◌/◌, Bool, true, false, not, ◌&&◌, eqb, cond, List, Option, Some, None, refl, sym, subst}
+use Rattle.std.proofs.Common.{◌≡◌, ℕ, ◌%◌, ◌*◌, ◌/◌, Bool, true, false, not, ◌&&◌, ◌||◌, eqb, cond, List, [], ◌∷◌, ◌++◌, Option, Some, None, refl, sym, subst}
 use Rattle.std.specs.Prelude.{pos}
 use Rattle.rv32_program.specs.Targets.{offset_address}
 use Rattle.rv32_program.specs.declared.Exit.TheVariants.{Misaligned}
@@ -18,14 +18,17 @@ use Rattle.rv32_step.specs.declared.CallStep.TheVariants.{Ends, Returns, Puts}
 use Rattle.rv32_step.specs.Demands.{demand_of, call_step}
 use Rattle.rv32_step.specs.Memory.{load_value}
 use Rattle.templates.specs.declared.runtime_words.RtWord.{RtWord}
-use Rattle.templates.specs.declared.runtime_words.RtWord.TheVariants.{Native, MissR, MissW, Poll, Call, Xjalr, Prepare, TrapFetch, TrapOff, TrapIllegal, TrapEbreak}
+use Rattle.templates.specs.declared.runtime_words.RtWord.TheVariants.{Native, MissR, MissW, Poll, Call, Xjalr, Batch, Prepare, TrapFetch, TrapOff, TrapIllegal, TrapEbreak}
 use Rattle.templates.specs.declared.places.Place.{Place}
 use Rattle.jump_map.specs.declared.image.ImageWord.{ImageWord}
 use Rattle.jump_map.specs.Maps.{fetch}
 use Rattle.llsc.specs.Reservation.{holds}
-use Rattle.node_model.specs.Node.{Node, Work, Lane, Local, Outcome, Move, Next, Enters, Want, set_register, native, store, load, region_of, go_on, exit_by, put_byte, make_call, miss_r, miss_r_by, miss_w, miss_w_by, prepare, prepare_by, indirect, execute, execute_read, execute_at, place_address, word_outcome, is_mapped_state, is_readable_state, is_fixed_state, is_writable_state, store_if, byte_at}
+use Rattle.node_model.specs.Node.{Node, Work, Lane, Local, Outcome, Move, Next, Enters, Want, set_register, native, store, load, region_of, go_on, exit_by, put_byte, make_call, miss_r, miss_r_by, miss_w, miss_w_by, prepare, prepare_by, indirect, execute, execute_read, execute_at, place_address, word_outcome, is_mapped_state, is_readable_state, is_fixed_state, is_writable_state, store_if, byte_at, batch, batch_by, fall_back, unmet, meets_need, refuses_need, need_of_run}
 use Rattle.node_model.specs.Turns.{wants_of}
-use Rattle.node_machine.specs.Desk.{AreUnmet}
+use Rattle.std.proofs.lemmas.List.{append-nil}
+use Rattle.home_directory.specs.declared.messages.Need.{Need}
+use Rattle.home_directory.specs.declared.messages.Need.TheVariants.{Read, Write}
+use Rattle.node_machine.specs.Desk.{AreUnmet, is_unmet}
 use Rattle.node_words.proofs.StepLemmas.{load_next, store_next}
 
 -- an outcome's wants are unmet in what words see after it
@@ -94,6 +97,15 @@ write_unmet place l n a =
     let s = n.state (line_of a) in
     by_case (is_fixed_state s) _ _ (λ f. tt) (λ f. by_case (is_writable_state s) _ _ (λ w. tt) (λ w. (unmet_write s f w, tt)))
 
+not_false : (a : Bool) → not a ≡ false → a ≡ true
+not_false true e = refl
+not_false false e = cc
+
+or_false : (a b : Bool) → (a || b) ≡ false → (a ≡ false) × (b ≡ false)
+or_false false false e = (refl, refl)
+or_false false true e = absurd (cc)
+or_false true b e = absurd (cc)
+
 and_not : (a b : Bool) → (a && not b) ≡ true → b ≡ false
 and_not true true e = cc
 and_not true false e = refl
@@ -118,6 +130,34 @@ prepared_unmet place l n a = by_test (is_aligned Word a) (prepare_by (n.state (l
 indirect_quiet : (place : ℕ) (l : Lane) (n : Local) (rd target : ℕ) → IsUnmet (indirect place l n rd target)
 indirect_quiet place l n rd target = by_test (eqb (target % 4) 0) (go_on (set_register l rd (next_pc place)) n (Enters target)) (exit_by l n (Misaligned place)) tt tt
 
+need_unmet : (need : Need) (s : ℕ) → refuses_need need s ≡ false → meets_need need s ≡ false → is_unmet need s ≡ true
+need_unmet Read s r m = unmet_read s (not_false (is_mapped_state s) r) m
+need_unmet Write s r m = unmet_write s r m
+
+-- what a batch wants of a line that doesn't refuse it
+line_unmet : (n : Local) (need : Need) (a : ℕ) (rest : List Want) → refuses_need need (n.state (line_of a)) ≡ false
+    → AreUnmet n rest → AreUnmet n (unmet n need a ++ rest)
+line_unmet n need a rest r others = go (meets_need need (n.state (line_of a))) refl
+  where
+    go : (t : Bool) → meets_need need (n.state (line_of a)) ≡ t
+        → AreUnmet n (cond t [] (record { at = a; need = need } ∷ []) ++ rest)
+    go true m = others
+    go false m = (need_unmet need (n.state (line_of a)) r m, others)
+
+waits_unmet : (l : Lane) (n : Local) (need : Need) (low high : ℕ) (ws : List Want) → AreUnmet n ws
+    → IsUnmet (batch_by l n need low high ws)
+waits_unmet l n need low high [] are = tt
+waits_unmet l n need low high (w ∷ ws) are = are
+
+batch_unmet : (l : Lane) (n : Local) (need : Need) (low high : ℕ) → IsUnmet (batch l n need low high)
+batch_unmet l n need low high =
+    let first = refuses_need need (n.state (line_of low)) in
+    let last = refuses_need need (n.state (line_of high)) in
+    by_case (first || last) (fall_back l n) (batch_by l n need low high (unmet n need low ++ unmet n need high)) (λ r. tt)
+    (λ r. let neither = or_false first last r in
+    let behind = subst (AreUnmet n) (append-nil (unmet n need high)) (line_unmet n need high [] neither.1 tt) in
+    waits_unmet l n need low high (unmet n need low ++ unmet n need high) (line_unmet n need low (unmet n need high) neither.0 behind))
+
 execute_unmet : (program : Program) (place at : ℕ) (w : RtWord) (l : Lane) (n : Local) → IsUnmet (execute program place at w l n)
 execute_unmet program place at (Native i) l n = native_quiet program place at l n (demand_of i l.registers at)
 execute_unmet program place at (MissR w rs1 imm) l n = miss_r_unmet place l n w (offset_address (reg l.registers rs1) imm)
@@ -125,6 +165,7 @@ execute_unmet program place at (MissW w rs1 imm) l n = miss_w_unmet place l n w 
 execute_unmet program place at Poll l n = tt
 execute_unmet program place at Call l n = call_unmet program l n (call_step l.registers l.written)
 execute_unmet program place at (Xjalr rd rs1 imm) l n = indirect_quiet place l n rd (offset_address (reg l.registers rs1) imm / 2 * 2)
+execute_unmet program place at (Batch stores low high) l n = batch_unmet l n (need_of_run stores) (reg l.registers low) (reg l.registers high)
 execute_unmet program place at (Prepare rs1) l n = prepared_unmet place l n (offset_address (reg l.registers rs1) (pos 0))
 execute_unmet program place at TrapFetch l n = tt
 execute_unmet program place at TrapOff l n = tt

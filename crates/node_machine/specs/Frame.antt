@@ -2,11 +2,10 @@
 use Rattle.std.specs.Prelude.{◌≡◌, ℕ, ◌+◌, ◌*◌, ◌<◌, ◌≤◌, Bool, true, if◌then◌else◌, nat_lt, List, length}
 use Rattle.std.specs.Vec.{vec_capacity}
 use Rattle.block_layout.specs.Layout.{Shape, blocks}
-use Rattle.rv32_step.specs.OneMemory.{next_pc}
 use Rattle.run_limits.specs.Ranges.{IsBudget}
 use Rattle.exec_map.specs.Contents.{program_of}
 use Rattle.home_directory.specs.Home.{Entry, first_entry}
-use Rattle.home_directory.specs.Effects.{entry_at, members}
+use Rattle.home_directory.specs.Effects.{entry_at, entries_of, members}
 use Rattle.miss_handlers.specs.Waits.{wait_of}
 use Rattle.jump_map.specs.Image.{most_words}
 use Rattle.node_words.specs.Address.{word_address}
@@ -18,7 +17,7 @@ use Rattle.node_machine.specs.declared.frame.Phase as kept
 use Rattle.node_machine.specs.declared.frame.Phase.TheVariants as kept_phase
 use Rattle.node_words.specs.declared.serve.Following.{Following}
 use Rattle.node_words.specs.declared.serve.Following.TheVariants as following_by
-use Rattle.node_model.specs.Node.{Node, Work, Phase, Running, Resumed, Waiting, Ended, PastWord, can_execute, stop_or}
+use Rattle.node_model.specs.Node.{Node, Work, Lane, Local, Phase, Running, Resumed, Waiting, Ended, can_execute, counts_after, lane_resumed, tally_resumed, stop_or}
 use Rattle.node_model.specs.Turns.{words_before}
 use Rattle.node_words.specs.Kept.{lane_of, local_of, resume_of}
 
@@ -41,7 +40,8 @@ abbrev pub with_parts : Node → Body → Desk → Node
 with_parts n b d = record n {
   local = local_of b.local;
   entry = entries_in d.directory.layout d.directory.me (entry_at d.directory.entries);
-  waiting = d.directory.waiting;
+  waiting = (entries_of d.directory).waiting;
+  occupancy = (entries_of d.directory).occupancy;
   wait = wait_of d.waits;
   counts = b.counts;
 }
@@ -64,7 +64,8 @@ node_of f = record {
   executed = f.executed;
   phase = phase_of f.phase;
   entry = entries_in f.desk.directory.layout f.desk.directory.me (entry_at f.desk.directory.entries);
-  waiting = f.desk.directory.waiting;
+  waiting = (entries_of f.desk.directory).waiting;
+  occupancy = (entries_of f.desk.directory).occupancy;
   wait = wait_of f.desk.waits;
   byes = members f.byes;
   stamp = f.stamp;
@@ -94,6 +95,7 @@ pub record AreCountsBelow (most : ℕ) (c : NodeCounts) : Type 0 where
   pub upgrade : c.upgrade ≤ most
   pub falses : c.falses ≤ most
   pub invalidations : c.invalidations ≤ most
+  pub fallbacks : c.fallbacks ≤ most
   pub messages : c.messages ≤ most
 
 -- a node that waits has a wait, and no other has one
@@ -119,7 +121,7 @@ pub record IsNode (f : Frame) : Type 0 where
   pub waits : WaitsInPhase (phase_of f.phase) (length f.desk.waits.waits)
   pub noted : f.noted ≡ words_before f.journal.items
   pub behind : f.noted ≤ f.executed
-  pub counts : AreCountsBelow (18 * f.stamp) f.body.value.counts
+  pub counts : AreCountsBelow (19 * f.stamp) f.body.value.counts
 
 -- the node with what it has of blocks, its counts and the Byes, as they are stored here
 abbrev pub with_all : Node → Body → Desk → List Bool → Node
@@ -131,7 +133,13 @@ phase_resumed budget executed idle (Waiting resume) =
     if idle then stop_or budget executed Resumed else Waiting resume
 phase_resumed budget executed idle phase = phase
 
--- the address of the next word then
-abbrev pub at_resumed : (idle : Bool) → Phase → ℕ → ℕ
-at_resumed idle (Waiting PastWord) at = if idle then next_pc at else at
-at_resumed idle phase at = at
+-- the processor then, at its next word, by its node's lines
+abbrev pub lane_after_wait : Local → (idle : Bool) → Phase → Lane → Lane
+lane_after_wait n idle (Waiting resume) l = if idle then lane_resumed l n resume else l
+lane_after_wait n idle phase l = l
+
+-- the counts then
+abbrev pub counts_after_wait : Local → (idle : Bool) → Phase → NodeCounts → NodeCounts
+counts_after_wait n idle (Waiting resume) c =
+    if idle then counts_after (tally_resumed n resume) c else c
+counts_after_wait n idle phase c = c

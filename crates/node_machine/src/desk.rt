@@ -1,14 +1,17 @@
 //! What a node keeps of blocks beside their states and bytes: its part of the protocol.
 
-ghost use Rattle.std.specs.Prelude.{◌≡◌, ◌+◌, ◌/◌, ◌^◌, ◌≤◌, ◌<◌, ◌⊎◌, ◌&&◌, nat_lt, ℕ, [], ◌∷◌, None, Some, true, false, Option, length};
+ghost use Rattle.std.specs.Prelude.{◌≡◌, ◌+◌, ◌/◌, ◌^◌, ◌≤◌, ◌<◌, ◌⊎◌, ◌&&◌, nat_lt, ℕ, [], ◌∷◌, ◌++◌, None, Some, true, false, List, Option, length};
+ghost use Rattle.std.specs.Option.{option_to_list};
 ghost use Rattle.state_table.specs.States.{state_of};
 ghost use Rattle.block_layout.specs.Layout.{blocks, block_of};
 ghost use Rattle.home_directory.specs.Table.{meets};
 ghost use Rattle.rv32_program.specs.Program.{line_of};
+ghost use Rattle.home_directory.specs.declared.messages.Post.{Post};
+ghost use Rattle.miss_handlers.specs.Waits.{wait_of};
 ghost use Rattle.miss_handlers.specs.Rows.{row_of};
 ghost use Rattle.node_model.specs.Node as model;
 ghost use Rattle.node_model.specs.Turns as turns;
-ghost use Rattle.node_words.specs.Kept.{ground_of, local_of};
+ghost use Rattle.node_words.specs.Kept.{ground_of, local_of, want_of, others_of, all_wants};
 ghost use Rattle.node_words.specs.Blocks.{ShelfLaws};
 ghost use Rattle.node_machine.specs.Frame.{layout_of, with_parts, IsDesk, AreCountsBelow};
 ghost use Rattle.node_machine.specs.Desk.{HasRouted, turn_by, is_unmet, is_order};
@@ -18,7 +21,7 @@ use buf_pool::Pool;
 use home_directory::{Directory, Message, Need, Post, Sends};
 use miss_handlers::Waits;
 use node_model::NodeCounts;
-use node_words::{Body, Local, Want};
+use node_words::{Body, Local, Want, Wants};
 use state_table::State;
 
 /// A node's part of the protocol: the entries of the blocks whose home it is, its waits, and the
@@ -31,18 +34,53 @@ pub struct Desk {
 }
 
 impl Desk {
-    /// A word wants a line: the node asks the home of its block, and waits. Nothing where the line
-    /// isn't shared, or its block meets the need.
-    pub fn want(&mut self, body: &mut Body<'_>, want: Want) -> Sends
+    /// A word wants lines: the node asks the home of the block of each, once, and waits.
+    pub fn want(&mut self, body: &mut Body<'_>, wants: Wants) -> Sends
         requires desk { IsDesk (layout_of body.old) self.old }
         requires idle { length self.old.waits.waits ≡ 0 }
-        requires counts { AreCountsBelow (2 ^ 63) body.old.counts }
+        requires counts { AreCountsBelow (2 ^ 62) body.old.counts }
         ensures turn { (n : model.Node) (p : Option ℕ) →
-            turns.want_in (layout_of body.old) (turn_by (with_parts n body.old self.old) [] p)
-            want.need (block_of (layout_of body.old) (line_of want.at))
+            turns.want_all (layout_of body.old) (turn_by (with_parts n body.old self.old) [] p)
+            (turns.each_block_once (layout_of body.old) (all_wants wants))
             ≡ turn_by (with_parts n body.new self.new) result.items p }
+        ensures begun { let state = (local_of body.old.local).state (line_of wants.first.at) in
+            is_unmet wants.first.need state ≡ true → 0 < length self.new.waits.waits }
+        ensures desk { IsDesk (layout_of body.old) self.new }
+        ensures directory { self.new.directory ≡ self.old.directory }
+        ensures lane { body.new.lane ≡ body.old.lane }
+        ensures ground { ground_of body.new.local ≡ ground_of body.old.local }
+        ensures counts { (most : ℕ) → AreCountsBelow most body.old.counts
+            → AreCountsBelow (most + 2) body.new.counts }
+    {
+        layout_law();
+        body.local.laws();
+        let post = self.want_line(body, wants.first);
+        let Some(other) = want_of_other_block(&body.local, wants) else {
+            return sends_of(post, None);
+        };
+        let other = self.want_line(body, other);
+        sends_of(post, other)
+    }
+
+    /// A word wants a line: the node asks the home of its block, and waits. Nothing where the line
+    /// isn't shared, or its block meets the need.
+    fn want_line(&mut self, body: &mut Body<'_>, want: Want) -> Option<Post>
+        requires desk { IsDesk (layout_of body.old) self.old }
+        requires none { (b : ℕ) → block_of (layout_of body.old) (line_of want.at) ≡ Some b
+            → wait_of self.old.waits b ≡ None }
+        requires few { length self.old.waits.waits < 2 }
+        requires counts { AreCountsBelow (2 ^ 63) body.old.counts }
+        ensures turn { (n : model.Node) (posts : List Post) (p : Option ℕ) →
+            turns.want_in (layout_of body.old) (turn_by (with_parts n body.old self.old) posts p)
+            want.need (block_of (layout_of body.old) (line_of want.at))
+            ≡ turn_by (with_parts n body.new self.new) (posts ++ option_to_list result) p }
         ensures begun { is_unmet want.need ((local_of body.old.local).state (line_of want.at)) ≡ true
             → 0 < length self.new.waits.waits }
+        ensures more { length self.old.waits.waits ≤ length self.new.waits.waits }
+        ensures one { length self.new.waits.waits ≤ length self.old.waits.waits + 1 }
+        ensures others { (b : ℕ)
+            → (block_of (layout_of body.old) (line_of want.at) ≡ Some b → ⊥)
+            → wait_of self.new.waits b ≡ wait_of self.old.waits b }
         ensures desk { IsDesk (layout_of body.old) self.new }
         ensures directory { self.new.directory ≡ self.old.directory }
         ensures lane { body.new.lane ≡ body.old.lane }
@@ -53,22 +91,28 @@ impl Desk {
         layout_law();
         body.local.laws();
         match body.local.block_of(want.at) {
-            None => Sends::new(),
+            None => None,
             Some(block) => self.want_block(body, block, want.need),
         }
     }
 
     /// A word wants a block.
-    fn want_block(&mut self, body: &mut Body<'_>, block: Block, need: Need) -> Sends
+    fn want_block(&mut self, body: &mut Body<'_>, block: Block, need: Need) -> Option<Post>
         requires desk { IsDesk (layout_of body.old) self.old }
-        requires idle { length self.old.waits.waits ≡ 0 }
+        requires none { wait_of self.old.waits block ≡ None }
+        requires few { length self.old.waits.waits < 2 }
         requires counts { AreCountsBelow (2 ^ 63) body.old.counts }
         requires block { block < blocks (layout_of body.old) }
-        ensures turn { (n : model.Node) (p : Option ℕ) →
-            turns.want_in (layout_of body.old) (turn_by (with_parts n body.old self.old) [] p)
-            need (Some block) ≡ turn_by (with_parts n body.new self.new) result.items p }
+        ensures turn { (n : model.Node) (posts : List Post) (p : Option ℕ) →
+            turns.want_in (layout_of body.old) (turn_by (with_parts n body.old self.old) posts p)
+            need (Some block)
+            ≡ turn_by (with_parts n body.new self.new) (posts ++ option_to_list result) p }
         ensures begun { meets need (state_of body.old.local.states block) ≡ false
             → 0 < length self.new.waits.waits }
+        ensures more { length self.old.waits.waits ≤ length self.new.waits.waits }
+        ensures one { length self.new.waits.waits ≤ length self.old.waits.waits + 1 }
+        ensures others { (b : ℕ) → (b ≡ block → ⊥)
+            → wait_of self.new.waits b ≡ wait_of self.old.waits b }
         ensures desk { IsDesk (layout_of body.old) self.new }
         ensures directory { self.new.directory ≡ self.old.directory }
         ensures lane { body.new.lane ≡ body.old.lane }
@@ -83,10 +127,10 @@ impl Desk {
             .local
             .want(block, need, &mut self.waits, &mut self.pool)
         {
-            None => Sends::new(),
+            None => None,
             Some(post) => {
                 body.counts = count_want(need, state, body.counts);
-                one(post)
+                Some(post)
             }
         }
     }
@@ -198,11 +242,53 @@ fn is_order(message: &Message) -> bool
     }
 }
 
-/// One message to send.
-fn one(post: Post) -> Sends
-    ensures { result.items ≡ post ∷ [] }
+/// The second of a word's wants, where that is of another block than the first.
+fn want_of_other_block(local: &Local<'_>, wants: Wants) -> Option<Want>
+    ensures once { turns.each_block_once local.now.copy.layout (all_wants wants)
+        ≡ want_of wants.first ∷ others_of result }
+    ensures apart { (other : Want) (b : ℕ) → result ≡ Some other
+        → block_of local.now.copy.layout (line_of wants.first.at) ≡ Some b
+        → block_of local.now.copy.layout (line_of other.at) ≡ Some b → ⊥ }
+{
+    let Some(other) = wants.other else {
+        return None;
+    };
+    if is_same_block(local, wants.first, other) {
+        None
+    } else {
+        Some(other)
+    }
+}
+
+/// Whether two wanted lines are of one block.
+fn is_same_block(local: &Local<'_>, first: Want, other: Want) -> bool
+    ensures value { result ≡
+        turns.is_same_want local.now.copy.layout (want_of first) (want_of other) }
+    ensures apart { (b : ℕ) → result ≡ false
+        → block_of local.now.copy.layout (line_of first.at) ≡ Some b
+        → block_of local.now.copy.layout (line_of other.at) ≡ Some b → ⊥ }
+{
+    layout_law();
+    local.laws();
+    let Some(block) = local.block_of(first.at) else {
+        return false;
+    };
+    match local.block_of(other.at) {
+        Some(also) => also == block,
+        None => false,
+    }
+}
+
+/// What is sent: two messages, of which each may be missing.
+fn sends_of(first: Option<Post>, other: Option<Post>) -> Sends
+    ensures value { result.items ≡ option_to_list first ++ option_to_list other }
 {
     let mut sends = Sends::new();
-    sends.push(post);
+    if let Some(post) = first {
+        sends.push(post);
+    }
+    if let Some(post) = other {
+        sends.push(post);
+    }
     sends
 }

@@ -6,8 +6,8 @@ ghost use Rattle.std.specs.Vec.{vec_capacity};
 ghost use Rattle.node_model.specs.Node as model;
 ghost use Rattle.node_model.specs.Turns as turns;
 ghost use Rattle.node_words.specs.Address.{word_address};
-ghost use Rattle.node_words.specs.Kept.{ground_of, local_of, phase_by, wants_by, resume_of};
-ghost use Rattle.node_machine.specs.Frame.{work_of, node_of, layout_of, with_parts, phase_of, HasRoom, IsNode, IsDesk, AreCountsBelow, HasBegun, with_all, phase_resumed, at_resumed};
+ghost use Rattle.node_words.specs.Kept.{ground_of, local_of, lane_of, phase_by, wants_by};
+ghost use Rattle.node_machine.specs.Frame.{work_of, node_of, layout_of, with_parts, phase_of, HasRoom, IsNode, IsDesk, AreCountsBelow, HasBegun, with_all, phase_resumed, lane_after_wait, counts_after_wait};
 ghost use Rattle.node_words.specs.GoingOn.{phase_on};
 ghost use Rattle.node_machine.specs.Desk.{turn_by, AreUnmet};
 ghost use Rattle.node_machine.specs.Runs.{HasExecuted};
@@ -169,7 +169,14 @@ impl<'a> Frame<'a> {
             wire.message,
         );
         let pending = self.desk.waits.pending();
-        let position = resumed(self.phase, self.at, pending, self.budget, self.executed);
+        let position = resumed(
+            &mut self.body,
+            self.phase,
+            self.at,
+            pending,
+            self.budget,
+            self.executed,
+        );
         self.at = position.at;
         self.phase = position.phase;
         if was_ended {
@@ -280,19 +287,32 @@ pub struct Position {
     pub phase: Phase,
 }
 
-/// Where a processor is after a message, with so many waits left: where none is left it runs on, or
-/// is stopped by its budget.
-fn resumed(phase: Phase, at: u32, pending: u8, budget: Budget, executed: u64) -> Position
+/// Where a processor is after a message, with so many waits left: where none is left it goes on by
+/// what its word's lines allow now, or is stopped by its budget.
+fn resumed(
+    body: &mut Body<'_>,
+    phase: Phase,
+    at: u32,
+    pending: u8,
+    budget: Budget,
+    executed: u64,
+) -> Position
+    requires counts { AreCountsBelow (2 ^ 63) body.old.counts }
     ensures phase { phase_of result.phase
         ≡ phase_resumed budget executed (pending == 0) (phase_of phase) }
-    ensures at { word_address result.at
-        ≡ at_resumed (pending == 0) (phase_of phase) (word_address at) }
+    ensures resumed { let old = lane_of body.old.lane (word_address at) in
+        lane_of body.new.lane (word_address result.at)
+        ≡ lane_after_wait (local_of body.old.local) (pending == 0) (phase_of phase) old }
+    ensures counts { body.new.counts ≡ counts_after_wait (local_of body.old.local) (pending == 0)
+        (phase_of phase) body.old.counts }
+    ensures lane { body.new.lane ≡ body.old.lane }
+    ensures local { body.new.local ≡ body.old.local }
 {
     match phase {
         Phase::Waiting(resume) => {
             if pending == 0 {
                 Position {
-                    at: index_resumed(resume, at),
+                    at: body.resume(resume, at),
                     phase: stop_or(budget, executed, Phase::Resumed),
                 }
             } else {
@@ -300,17 +320,6 @@ fn resumed(phase: Phase, at: u32, pending: u8, budget: Budget, executed: u64) ->
             }
         }
         Phase::Running | Phase::Resumed | Phase::Ended(_) => Position { at, phase },
-    }
-}
-
-/// The index of the word at which a processor goes on.
-fn index_resumed(resume: Resume, at: u32) -> u32
-    ensures { word_address result
-        ≡ at_resumed true (model.Waiting (resume_of resume)) (word_address at) }
-{
-    match resume {
-        Resume::PastWord => at.wrapping_add(1),
-        Resume::SameWord => at,
     }
 }
 
@@ -369,9 +378,10 @@ fn print(output: &mut Vec<OutByte>, stamp: u64, byte: Option<u8>)
 fn ask(desk: &mut Desk, body: &mut Body<'_>, following: Following) -> Sends
     requires desk { IsDesk (layout_of body.old) desk.old }
     requires idle { length desk.old.waits.waits ≡ 0 }
-    requires counts { AreCountsBelow (2 ^ 63) body.old.counts }
+    requires counts { AreCountsBelow (2 ^ 62) body.old.counts }
     ensures turn { (n : model.Node) (p : Option ℕ) → turns.want_all (layout_of body.old)
-        (turn_by (with_parts n body.old desk.old) [] p) (wants_by following)
+        (turn_by (with_parts n body.old desk.old) [] p)
+        (turns.each_block_once (layout_of body.old) (wants_by following))
         ≡ turn_by (with_parts n body.new desk.new) result.items p }
     ensures begun { AreUnmet (local_of body.old.local) (wants_by following) →
         HasBegun following (length desk.new.waits.waits) }
@@ -381,10 +391,10 @@ fn ask(desk: &mut Desk, body: &mut Body<'_>, following: Following) -> Sends
     ensures lane { body.new.lane ≡ body.old.lane }
     ensures ground { ground_of body.new.local ≡ ground_of body.old.local }
     ensures counts { (most : ℕ) → AreCountsBelow most body.old.counts
-        → AreCountsBelow (most + 1) body.new.counts }
+        → AreCountsBelow (most + 2) body.new.counts }
 {
     match following {
-        Following::Waits(_, want) => desk.want(body, want),
+        Following::Waits(_, wants) => desk.want(body, wants),
         Following::GoesOn | Following::Leaves(_) => Sends::new(),
     }
 }

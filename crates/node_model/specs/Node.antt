@@ -36,7 +36,7 @@ use Rattle.rv32_step.specs.Demands.{demand_of, call_step, cut_short}
 use Rattle.rv32_step.specs.Memory.{load_value, byte_by, shared_after, private_after}
 use Rattle.rv32_step.specs.OneMemory.{Access, Nothing, Reads, Writes, WritesIf, Exchanges, next_pc}
 use Rattle.templates.specs.declared.runtime_words.RtWord.{RtWord}
-use Rattle.templates.specs.declared.runtime_words.RtWord.TheVariants.{Native, MissR, MissW, Poll, Call, Xjalr, Prepare, TrapFetch, TrapOff, TrapIllegal, TrapEbreak}
+use Rattle.templates.specs.declared.runtime_words.RtWord.TheVariants.{Native, MissR, MissW, Poll, Call, Xjalr, Batch, Prepare, TrapFetch, TrapOff, TrapIllegal, TrapEbreak}
 use Rattle.templates.specs.declared.places.Place.{Place}
 use Rattle.jump_map.specs.declared.image.ImageWord.{ImageWord}
 use Rattle.jump_map.specs.Image.{Cell, image_base}
@@ -97,10 +97,12 @@ pub record Want : Type 0 where
   pub at : ℕ
   pub need : Need
 
--- where a processor goes on once it has what its word wanted: behind the word, or at the word again
+-- where a processor goes on once nothing that its word wanted is on its way: behind the word; at
+-- the word again; or by what the lines of two addresses allow then
 pub data Resume : Type 0 where
   PastWord : Resume
   SameWord : Resume
+  ByLines : (need : Need) (low high : ℕ) → Resume
 
 -- where a processor goes after a word: to the next word, to the same word again, to a word's
 -- address, to the sequence of an original address; or it waits for blocks; or it is ended
@@ -116,6 +118,7 @@ pub data Move : Type 0 where
 pub data Tally : Type 0 where
   Nothing_counted : Tally
   FalseMiss : Tally
+  FallsBack : Tally
 
 -- what a word leaves, what it accesses, prints and counts, and where the processor goes
 pub record Outcome : Type 0 where
@@ -323,6 +326,52 @@ prepare place l n a =
     if is_aligned Word a then prepare_by (n.state (line_of a)) place l n a
     else exit_by l n (Misaligned place)
 
+-- the state byte of a line meets a need
+abbrev pub meets_need : Need → ℕ → Bool
+meets_need Read state = is_readable_state state
+meets_need Write state = is_writable_state state
+
+-- it says that the need can't be met by any message: the line isn't mapped, or nobody may write it
+abbrev pub refuses_need : Need → ℕ → Bool
+refuses_need Read state = not (is_mapped_state state)
+refuses_need Write state = is_fixed_state state
+
+-- the lines of two addresses meet a need, or one of them refuses it
+abbrev pub both_meet : Local → Need → ℕ → ℕ → Bool
+both_meet n need low high =
+    meets_need need (n.state (line_of low)) && meets_need need (n.state (line_of high))
+
+abbrev pub one_refuses : Local → Need → ℕ → ℕ → Bool
+one_refuses n need low high =
+    refuses_need need (n.state (line_of low)) || refuses_need need (n.state (line_of high))
+
+-- what a batch wants of the line of an address
+abbrev pub unmet : Local → Need → ℕ → List Want
+unmet n need a =
+    if meets_need need (n.state (line_of a)) then [] else record { at = a; need = need } ∷ []
+
+-- the batch's run goes on by its fast part, past the next word; or by its single sequences, to
+-- which the next word leads
+abbrev pub past_next : ℕ → ℕ
+past_next at = next_pc (next_pc at)
+
+abbrev pub fall_back : Lane → Local → Outcome
+fall_back l n = record (go_on l n Next) { tally = FallsBack }
+
+abbrev pub batch_by : Lane → Local → Need → ℕ → ℕ → List Want → Outcome
+batch_by l n need low high [] = go_on l n (To (past_next l.at))
+batch_by l n need low high (want ∷ more) = go_on l n (Waits (ByLines need low high) want more)
+
+-- the check of a run that reaches from one address to another: where a line refuses the need the
+-- run falls back; else each line that doesn't meet it is wanted
+abbrev pub batch : Lane → Local → Need → ℕ → ℕ → Outcome
+batch l n need low high =
+    if one_refuses n need low high then fall_back l n
+    else batch_by l n need low high (unmet n need low ++ unmet n need high)
+
+abbrev pub need_of_run : Bool → Need
+need_of_run stores = if stores then Write else Read
+
 -- an indirect jump at a place: the register gets the next original address
 abbrev pub indirect : ℕ → Lane → Local → ℕ → ℕ → Outcome
 indirect place l n rd target =
@@ -344,6 +393,8 @@ execute program place at Poll l n = go_on l n Next
 execute program place at Call l n = make_call program l n (call_step l.registers l.written)
 execute program place at (Xjalr rd rs1 imm) l n =
     indirect place l n rd (offset_address (reg l.registers rs1) imm / 2 * 2)
+execute program place at (Batch stores low high) l n =
+    batch l n (need_of_run stores) (reg l.registers low) (reg l.registers high)
 execute program place at (Prepare rs1) l n =
     prepare place l n (offset_address (reg l.registers rs1) (pos 0))
 execute program place at TrapFetch l n = exit_by l n (Fetch place)
@@ -370,10 +421,18 @@ abbrev pub enter : Lane → ℕ → Option ℕ → Lane
 enter l original (Some new) = record l { at = new }
 enter l original None = record l { at = image_base; off = original }
 
--- the processor at the word that follows a wait
-abbrev pub lane_resumed : Lane → Resume → Lane
-lane_resumed l PastWord = record l { at = next_pc l.at }
-lane_resumed l SameWord = l
+-- the processor at the word that follows a wait, by its node's lines then
+abbrev pub lane_resumed : Lane → Local → Resume → Lane
+lane_resumed l n PastWord = record l { at = next_pc l.at }
+lane_resumed l n SameWord = l
+lane_resumed l n (ByLines need low high) =
+    record l { at = if both_meet n need low high then past_next l.at else next_pc l.at }
+
+-- what is counted where a wait is over
+abbrev pub tally_resumed : Local → Resume → Tally
+tally_resumed n (ByLines need low high) =
+    if both_meet n need low high then Nothing_counted else FallsBack
+tally_resumed n resume = Nothing_counted
 
 -- the processor after its word; one that waits stays at it until it has what it wants
 abbrev pub lane_after : List Cell → Lane → Move → Lane
@@ -424,16 +483,17 @@ no_counts = record {
   messages = 0;
 }
 
--- the counts after a word
+-- the counts after a word, or after a wait
 abbrev pub counts_after : Tally → NodeCounts → NodeCounts
 counts_after Nothing_counted c = c
 counts_after FalseMiss c = record c { falses = c.falses + 1 }
+counts_after FallsBack c = record c { fallbacks = c.fallbacks + 1 }
 
 -- a node: its number; its processor's part, what words see of the node, how many words its
 -- processor has executed, and whether it goes on; for the protocol the entries of the blocks whose
--- home it is, the requests that wait there, and what it waits for itself; the nodes whose Byes it
--- has taken; the stamp of its last event; and what is kept of its events: the takes, the bytes
--- printed, and the counts
+-- home it is, the requests for these that wait there, how many they are in all, and what it waits
+-- for itself; the nodes whose Byes it has taken; the stamp of its last event; and what is kept of
+-- its events: the takes, the bytes printed, and the counts
 pub record Node : Type 0 where
   pub me : ℕ
   pub lane : Lane
@@ -441,7 +501,8 @@ pub record Node : Type 0 where
   pub executed : ℕ
   pub phase : Phase
   pub entry : ℕ → Entry
-  pub waiting : List Request
+  pub waiting : ℕ → List Request
+  pub occupancy : ℕ
   pub wait : ℕ → Option Wait
   pub byes : ℕ → Bool
   pub stamp : ℕ
@@ -493,7 +554,8 @@ opening_node work me = record {
   executed = 0;
   phase = Running;
   entry = λ b. first_entry me;
-  waiting = [];
+  waiting = λ b. [];
+  occupancy = 0;
   wait = λ b. None;
   byes = λ j. false;
   stamp = 0;

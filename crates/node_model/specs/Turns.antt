@@ -1,6 +1,7 @@
 -- What a node does in an event: it executes a word and asks for what the word wants, or it takes a
 -- message. Either way it may send messages.
-use Rattle.std.specs.Prelude.{ℕ, zero, suc, ◌+◌, ◌-◌, ◌*◌, Bool, true, false, not, if◌then◌else◌, ◌==◌, ◌&&◌, nat_lt, List, [], ◌∷◌, ◌++◌, length, slice_index, Option, Some, None, is_some}
+use Rattle.std.specs.Prelude.{ℕ, zero, suc, ◌+◌, ◌-◌, ◌*◌, Bool, true, false, not, if◌then◌else◌, ◌==◌, ◌&&◌, nat_lt, List, [], ◌∷◌, ◌++◌, length, slice_index, filter, Option, Some, None, is_some}
+use Rattle.std.specs.Option.{option_map_or}
 use Rattle.block_layout.specs.Layout.{Shape, blocks, block_of, has_line, first_line, lines}
 use Rattle.block_layout.specs.Update.{changed}
 use Rattle.buf_pool.specs.Pool.{empty_buffer}
@@ -21,7 +22,7 @@ use Rattle.miss_handlers.specs.Rows.{Holding, Row, AtHome, AtNode, row_of}
 use Rattle.rv32_program.specs.Program.{line_of}
 use Rattle.node_model.specs.declared.NodeCounts.{NodeCounts}
 use Rattle.node_model.specs.declared.Entry.{Entry as JournalEntry}
-use Rattle.node_model.specs.Node.{Want, Move, Waits, Phase, Resumed, Waiting, Ended, Node, Work, word_outcome, word_step, lane_resumed, stop_or}
+use Rattle.node_model.specs.Node.{Want, Move, Waits, Phase, Resumed, Waiting, Ended, Node, Work, word_outcome, word_step, lane_resumed, tally_resumed, counts_after, stop_or}
 
 -- what a node did in an event: the node after it, what it sent, in order, and the byte that it
 -- printed
@@ -54,6 +55,7 @@ abbrev pub holding : Shape → Node → Holding
 holding layout n = record {
   entry = n.entry;
   waiting = n.waiting;
+  occupancy = n.occupancy;
   block = block_at layout n;
 }
 
@@ -93,6 +95,17 @@ want_all layout t [] = t
 want_all layout t (w ∷ ws) =
     want_all layout (want_in layout t w.need (block_of layout (line_of w.at))) ws
 
+-- the blocks of two wanted lines are the same
+abbrev pub is_same_want : Shape → Want → Want → Bool
+is_same_want layout v w =
+    option_map_or (λ b. has_line layout b (line_of w.at)) (block_of layout (line_of v.at)) false
+
+-- the wants, but for those of a block that an earlier one is of
+abbrev pub each_block_once : Shape → List Want → List Want
+each_block_once layout [] = []
+each_block_once layout (w ∷ ws) =
+    w ∷ filter (λ v. not (is_same_want layout w v)) (each_block_once layout ws)
+
 abbrev pub wants_of : Move → List Want
 wants_of (Waits resume want more) = want ∷ more
 wants_of move = []
@@ -122,7 +135,8 @@ after_word work n = record {
 
 abbrev pub after_wants : Work → Node → Turn
 after_wants work n =
-    want_all work.layout (after_word work n) (wants_of (word_outcome work n).move)
+    want_all work.layout (after_word work n)
+    (each_block_once work.layout (wants_of (word_outcome work n).move))
 
 -- the node executes its next word, and asks for the blocks that it wants
 abbrev pub word_turn : Work → Node → Turn
@@ -143,7 +157,8 @@ abbrev pub by_row : Shape → Node → Row → Turn
 by_row layout n (AtHome b row) = record {
   node = record n {
     entry = changed n.entry b row.home.entry;
-    waiting = row.home.waiting;
+    waiting = changed n.waiting b row.home.waiting;
+    occupancy = row.home.occupancy;
     counts = count_row false (length row.sends) n.counts;
   };
   sends = row.sends;
@@ -183,8 +198,9 @@ abbrev pub resumed : Work → Node → Phase → Node
 resumed work n (Waiting resume) =
     if has_no_wait work.layout n
     then record n {
-      lane = lane_resumed n.lane resume;
+      lane = lane_resumed n.lane n.local resume;
       phase = stop_or work.budget n.executed Resumed;
+      counts = counts_after (tally_resumed n.local resume) n.counts;
     }
     else n
 resumed work n phase = n

@@ -6,8 +6,8 @@ use Rattle.jump_map.specs.Image.{Cell}
 use Rattle.node_words.specs.declared.body.Body.{Body}
 use Rattle.node_words.specs.declared.lane.Lane as kept
 use Rattle.node_words.specs.Address.{word_address}
-use Rattle.node_model.specs.Node.{Node, Work, Phase, Running, Outcome, can_execute, counts_after, printed_also, stop_at, next_outcome, word_outcome}
-use Rattle.node_model.specs.Turns.{Turn, quiet, want_all, with_byes, is_ended, after_word, after_wants, word_turn}
+use Rattle.node_model.specs.Node.{Node, Work, Phase, Running, Want, Outcome, can_execute, counts_after, printed_also, stop_at, next_outcome, word_outcome}
+use Rattle.node_model.specs.Turns.{Turn, quiet, want_all, each_block_once, with_byes, is_ended, after_word, after_wants, word_turn}
 use Rattle.node_words.specs.Kept.{Shelf, Ground, Follows, ground_of, lane_of, local_of}
 use Rattle.node_words.specs.GoingOn.{BodyGoesOn, node_on, phase_on}
 use Rattle.node_words.specs.Runs.{GoesOnBy}
@@ -32,7 +32,7 @@ pub hot_turn : (work : Work) (n : Node) (g : Ground) (l : kept.Lane) (s : Shelf)
     → word_turn work n ≡ ending work.layout.nodes (quiet (moved work n l s k))
 hot_turn work n g l s k f =
     let wants : after_wants work n ≡ after_word work n =
-    ap (want_all work.layout (after_word work n)) f.wants in
+    ap (λ (ws : List Want). want_all work.layout (after_word work n) (each_block_once work.layout ws)) f.wants in
     let word : after_word work n ≡ quiet (moved work n l s k) = λ t. record {
       node = record n {
         lane = sym f.lane t;

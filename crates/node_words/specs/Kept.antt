@@ -1,5 +1,5 @@
 -- Helps the code alone: what a node keeps, what that stands for, and what one word does to it.
-use Rattle.std.specs.Prelude.{◌≡◌, ℕ, ◌+◌, ◌-◌, ◌^◌, ◌/◌, ◌<◌, ◌≤◌, Bool, true, false, if◌then◌else◌, List, [], ◌∷◌, Option, Some, None, slice_index}
+use Rattle.std.specs.Prelude.{◌≡◌, ℕ, ◌+◌, ◌-◌, ◌^◌, ◌/◌, ◌<◌, ◌≤◌, true, false, if◌then◌else◌, List, [], ◌∷◌, Option, Some, None, slice_index}
 use Rattle.elf32_read.specs.Elf.{Elf}
 use Rattle.block_layout.specs.Layout.{Shape, is_shared}
 use Rattle.byte_range.specs.Lines.{LineBytes, lines_memory}
@@ -23,13 +23,16 @@ use Rattle.node_words.specs.declared.lane.Move.TheVariants as kept_to
 use Rattle.node_words.specs.declared.lane.Resume as kept_resume
 use Rattle.node_words.specs.declared.lane.Resume.TheVariants as kept_on
 use Rattle.node_words.specs.declared.lane.Want as kept_want
+use Rattle.node_words.specs.declared.lane.Wants as kept_wants
+use Rattle.node_words.specs.declared.lane.Tally as kept_tally
+use Rattle.node_words.specs.declared.lane.Tally.TheVariants as kept_count
 use Rattle.node_words.specs.declared.lane.Outcome as kept_outcome
 use Rattle.node_words.specs.declared.serve.Following as kept_following
 use Rattle.node_words.specs.declared.serve.Following.TheVariants as kept_after
 use Rattle.node_words.specs.declared.serve.Served as kept_served
 use Rattle.node_words.specs.declared.region.Region as kept_region
 use Rattle.node_words.specs.declared.region.Region.TheVariants as kept_at
-use Rattle.node_model.specs.Node.{Lane, Local, Phase, Waiting, Ended, Outcome, Move, Next, Again, To, Enters, Waits, Leaves, Resume, PastWord, SameWord, Want, Tally, Nothing_counted, FalseMiss, Region, Memory, StateOf, Spill, Elsewhere, first_state, native, indirect, lane_after, phase_after, stop_at, counts_after}
+use Rattle.node_model.specs.Node.{Lane, Local, Phase, Waiting, Ended, Outcome, Move, Next, Again, To, Enters, Waits, Leaves, Resume, PastWord, SameWord, ByLines, Want, Tally, Nothing_counted, FalseMiss, FallsBack, Region, Memory, StateOf, Spill, Elsewhere, first_state, native, indirect, lane_after, phase_after, stop_at, counts_after}
 use Rattle.node_model.specs.Turns.{wants_of}
 
 -- what contracts see of what words see of their node
@@ -108,21 +111,36 @@ region_by kept_at.Elsewhere = Elsewhere
 abbrev pub resume_of : kept_resume.Resume → Resume
 resume_of kept_on.PastWord = PastWord
 resume_of kept_on.SameWord = SameWord
+resume_of (kept_on.ByLines need low high) = ByLines need low high
 
 abbrev pub want_of : kept_want.Want → Want
 want_of w = record { at = w.at; need = w.need }
+
+-- the wants behind the first
+abbrev pub others_of : Option kept_want.Want → List Want
+others_of None = []
+others_of (Some w) = want_of w ∷ []
+
+abbrev pub all_wants : kept_wants.Wants → List Want
+all_wants w = want_of w.first ∷ others_of w.other
+
+abbrev pub wants_in : Option kept_wants.Wants → List Want
+wants_in None = []
+wants_in (Some w) = all_wants w
 
 abbrev pub move_of : kept_move.Move → Move
 move_of kept_to.Next = Next
 move_of kept_to.Again = Again
 move_of (kept_to.To k) = To (word_address k)
 move_of (kept_to.Enters original) = Enters original
-move_of (kept_to.Waits resume want) = Waits (resume_of resume) (want_of want) []
+move_of (kept_to.Waits resume wants) =
+    Waits (resume_of resume) (want_of wants.first) (others_of wants.other)
 move_of (kept_to.Leaves exit) = Leaves exit
 
-abbrev pub tally_of : Bool → Tally
-tally_of true = FalseMiss
-tally_of false = Nothing_counted
+abbrev pub tally_of : kept_tally.Tally → Tally
+tally_of kept_count.Nothing = Nothing_counted
+tally_of kept_count.FalseMiss = FalseMiss
+tally_of kept_count.FallsBack = FallsBack
 
 -- what a word leaves of the processor and of what words see
 pub record LeavesBehind (outcome : Outcome) (ground : Ground) (at : ℕ) (l : kept.Lane) (s : Shelf)
@@ -136,7 +154,7 @@ pub record Does (outcome : Outcome) (ground : Ground) (at : ℕ) (l : kept.Lane)
     (done : kept_outcome.Outcome) : Type 0 where
   pub leaves : LeavesBehind outcome ground at l s
   pub output : done.output ≡ outcome.printed
-  pub tally : tally_of done.false_miss ≡ outcome.tally
+  pub tally : tally_of done.tally ≡ outcome.tally
   pub move : move_of done.next ≡ outcome.move
 
 -- a word that prints and counts nothing, after which the word at an address follows
@@ -169,13 +187,13 @@ StepsTo image Unserved at l s l' s' (Some k) = ⊥
 -- the phase after a word, by what follows it
 abbrev pub phase_by : ℕ → ℕ → kept_following.Following → Phase
 phase_by budget executed kept_after.GoesOn = stop_at budget executed
-phase_by budget executed (kept_after.Waits resume want) = Waiting (resume_of resume)
+phase_by budget executed (kept_after.Waits resume wants) = Waiting (resume_of resume)
 phase_by budget executed (kept_after.Leaves e) = Ended (Exited e)
 
 -- the wants of a word, by what follows it
 abbrev pub wants_by : kept_following.Following → List Want
 wants_by kept_after.GoesOn = []
-wants_by (kept_after.Waits resume want) = want_of want ∷ []
+wants_by (kept_after.Waits resume wants) = all_wants wants
 wants_by (kept_after.Leaves e) = []
 
 -- the word was served, and its move was made

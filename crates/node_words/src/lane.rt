@@ -1,6 +1,6 @@
 //! What is a processor's own, and what a word did.
 
-ghost use Rattle.std.specs.Prelude.{◌≡◌, ◌+◌, ◌*◌, ◌%◌, ◌^◌, ℕ, None, false};
+ghost use Rattle.std.specs.Prelude.{◌≡◌, ◌+◌, ◌*◌, ◌%◌, ◌^◌, ℕ, None};
 ghost use Rattle.node_words.specs.Address.{word_address};
 
 use byte_range::Window;
@@ -23,13 +23,16 @@ pub struct Lane {
     pub spills: [u32; 3],
 }
 
-/// Where a processor goes on once it has what its word wanted.
+/// Where a processor goes on once nothing that its word wanted is on its way.
 #[derive(Clone, Copy, PartialEq, Eq)]
 pub enum Resume {
     /// Behind the word.
     PastWord,
     /// At the word again.
     SameWord,
+    /// Past the next word, where the lines of two addresses meet the need then; else at the next
+    /// word.
+    ByLines { need: Need, low: u32, high: u32 },
 }
 
 /// What a word wants: that the line of an address may be read, or written.
@@ -37,6 +40,13 @@ pub enum Resume {
 pub struct Want {
     pub at: u32,
     pub need: Need,
+}
+
+/// What a word wants that waits: a line, and maybe another.
+#[derive(Clone, Copy, PartialEq, Eq)]
+pub struct Wants {
+    pub first: Want,
+    pub other: Option<Want>,
 }
 
 /// Where a processor goes after a word.
@@ -50,28 +60,37 @@ pub enum Move {
     To(u32),
     /// To the sequence of an original address.
     Enters(u32),
-    /// Nowhere yet: it waits for a block.
-    Waits(Resume, Want),
+    /// Nowhere yet: it waits for blocks.
+    Waits(Resume, Wants),
     /// Nowhere: it is ended.
     Leaves(Exit),
 }
 
-/// What a word printed, whether it was a miss check of a readable line, and where the processor
-/// goes.
+/// What a word counts.
+#[derive(Clone, Copy, PartialEq, Eq)]
+pub enum Tally {
+    Nothing,
+    /// A miss check for reading found a readable line.
+    FalseMiss,
+    /// A run goes to its single-checked sequences.
+    FallsBack,
+}
+
+/// What a word printed and counts, and where the processor goes.
 #[derive(Clone, Copy, PartialEq, Eq)]
 pub struct Outcome {
     pub output: Option<u8>,
-    pub false_miss: bool,
+    pub tally: Tally,
     pub next: Move,
 }
 
 /// The processor goes on so, and nothing else happens.
 pub fn go_on(next: Move) -> Outcome
-    ensures { result ≡ record { output = None; false_miss = false; next = next } }
+    ensures { result ≡ record { output = None; tally = Tally.Nothing; next = next } }
 {
     Outcome {
         output: None,
-        false_miss: false,
+        tally: Tally::Nothing,
         next,
     }
 }
@@ -80,16 +99,17 @@ pub fn go_on(next: Move) -> Outcome
 pub fn wait_for(resume: Resume, at: u32, need: Need) -> Outcome
     ensures { result ≡ record {
       output = None;
-      false_miss = false;
-      next = Move.Waits resume (record { at = at; need = need });
+      tally = Tally.Nothing;
+      next = Move.Waits resume (record { first = record { at = at; need = need }; other = None });
     } }
 {
-    go_on(Move::Waits(resume, Want { at, need }))
+    let first = Want { at, need };
+    go_on(Move::Waits(resume, Wants { first, other: None }))
 }
 
 /// The word ended the processor.
 pub fn exit_by(exit: Exit) -> Outcome
-    ensures { result ≡ record { output = None; false_miss = false; next = Move.Leaves exit } }
+    ensures { result ≡ record { output = None; tally = Tally.Nothing; next = Move.Leaves exit } }
 {
     go_on(Move::Leaves(exit))
 }

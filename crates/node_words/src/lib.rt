@@ -8,6 +8,7 @@
 mod body;
 mod hot;
 mod lane;
+mod lines;
 mod local;
 mod rare;
 mod region;
@@ -15,7 +16,7 @@ mod serve;
 mod trail;
 
 pub use body::Body;
-pub use lane::{Lane, Resume, Want, address_of, index_of};
+pub use lane::{Lane, Resume, Tally, Want, Wants, address_of, index_of};
 pub use local::Local;
 pub use serve::{Following, Served, Stretch};
 pub use trail::{Note, Saved, Trail};

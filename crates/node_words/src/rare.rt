@@ -1,6 +1,6 @@
 //! The path that serves every word.
 
-ghost use Rattle.std.specs.Prelude.{◌≡◌, ◌+◌, ◌*◌, ◌/◌, ◌%◌, ◌^◌, ◌<◌, ◌≤◌, ℕ, true};
+ghost use Rattle.std.specs.Prelude.{◌≡◌, ◌+◌, ◌*◌, ◌/◌, ◌%◌, ◌^◌, ◌<◌, ◌≤◌, ℕ, true, None};
 ghost use Rattle.exec_map.specs.Contents.{program_of};
 ghost use Rattle.rv32_program.specs.Targets.{offset_address};
 ghost use Rattle.rv32_step.specs.declared.Demand.TheVariants.{Sets, Jumps, Branches, Loads, Stores, Reserves, StoresIf, Updates};
@@ -11,30 +11,31 @@ ghost use Rattle.byte_range.specs.Memory.{raw};
 ghost use Rattle.rv32_decode.specs.Widths.{is_aligned};
 ghost use Rattle.rv32_step.specs.Memory.{load_value};
 ghost use Rattle.node_model.specs.Node as model;
+ghost use Rattle.node_words.specs.Address.{word_address};
 ghost use Rattle.node_words.specs.Kept.{Does, Shelf, ground_of, local_of, lane_of};
 ghost use Rattle.node_words.specs.declared.lane.Lane.{Lane};
 
 use crate::body::Body;
-use crate::lane::{Move, Outcome, Resume, exit_by, go_on, index_of, wait_for};
+use crate::lane::{Move, Outcome, Resume, Tally, address_of, exit_by, go_on, index_of, wait_for};
+use crate::lines::{is_fixed, is_mapped, is_readable, is_writable};
 use exec_map::Exit;
 use home_directory::Need;
 use jump_map::{Image, ImageWord};
 use rv32_decode::{AmoOp, Imm12, Instr, LoadKind, Reg, Width};
 use rv32_ops::amo;
 use rv32_step::{CallStep, Demand, call_step, cut_short, demand_of};
-use state_table::{EXCLUSIVE, READ_ONLY, UNMAPPED};
 use templates::{Place, RtWord};
 
 impl<'a> Body<'a> {
-    /// Executes the word at an address, and doesn't go on yet.
+    /// Executes the word with an index, and doesn't go on yet.
     pub(crate) fn execute_at(&mut self, image: &Image, at: u32) -> Outcome
         ensures does { Does (model.next_outcome (program_of self.old.local.program) image.now
-            (lane_of self.old.lane at) (local_of self.old.local))
-            (ground_of self.old.local) at self.new.lane self.new.local result }
+            (lane_of self.old.lane (word_address at)) (local_of self.old.local))
+            (ground_of self.old.local) (word_address at) self.new.lane self.new.local result }
         ensures counts { self.new.counts ≡ self.old.counts }
     {
-        match image.fetch(at) {
-            None => exit_by(Exit::Fetch(at)),
+        match image.fetch(address_of(at)) {
+            None => exit_by(Exit::Fetch(address_of(at))),
             Some(fetched) => self.execute_read(fetched, at),
         }
     }
@@ -42,31 +43,33 @@ impl<'a> Body<'a> {
     /// Executes a word that was fetched.
     fn execute_read(&mut self, fetched: ImageWord, at: u32) -> Outcome
         ensures does { Does (model.execute_read (program_of self.old.local.program) fetched.place
-            fetched.what (lane_of self.old.lane at) (local_of self.old.local))
-            (ground_of self.old.local) at self.new.lane self.new.local result }
+            fetched.what (lane_of self.old.lane (word_address at)) (local_of self.old.local))
+            (ground_of self.old.local) (word_address at) self.new.lane self.new.local result }
         ensures counts { self.new.counts ≡ self.old.counts }
     {
-        let place = address_of(fetched.place);
+        let place = place_address(fetched.place);
         match fetched.what {
-            None => exit_by(Exit::Fetch(at)),
+            None => exit_by(Exit::Fetch(address_of(at))),
             Some(what) => self.execute(place, what, at),
         }
     }
 
     /// Executes a word of a place.
     fn execute(&mut self, place: u32, what: RtWord, at: u32) -> Outcome
-        ensures does { Does (model.execute (program_of self.old.local.program) place at what
-            (lane_of self.old.lane at) (local_of self.old.local))
-            (ground_of self.old.local) at self.new.lane self.new.local result }
+        ensures does { let address = word_address at in
+            Does (model.execute (program_of self.old.local.program) place address what
+            (lane_of self.old.lane address) (local_of self.old.local))
+            (ground_of self.old.local) address self.new.lane self.new.local result }
         ensures counts { self.new.counts ≡ self.old.counts }
     {
         match what {
-            RtWord::Native(i) => self.native(place, i, at),
+            RtWord::Native(i) => self.native(place, i, address_of(at)),
             RtWord::MissR { width, rs1, imm } => self.miss_r(place, width, self.sum(rs1, imm)),
             RtWord::MissW { width, rs1, imm } => self.miss_w(place, width, self.sum(rs1, imm)),
             RtWord::Poll => go_on(Move::Next),
             RtWord::Call => self.call(),
             RtWord::Xjalr { rd, rs1, imm } => self.indirect(place, rd, self.sum(rs1, imm)),
+            RtWord::Batch { stores, rs1, rs2 } => self.batch(stores, rs1, rs2, at),
             RtWord::Prepare { rs1 } => self.prepare(place, self.lane.registers.get(rs1)),
             RtWord::TrapFetch => exit_by(Exit::Fetch(place)),
             RtWord::TrapOff => exit_by(Exit::Fetch(self.lane.off)),
@@ -292,7 +295,7 @@ impl<'a> Body<'a> {
         } else if is_readable(state) {
             Outcome {
                 output: None,
-                false_miss: true,
+                tally: Tally::FalseMiss,
                 next: Move::Next,
             }
         } else {
@@ -316,6 +319,34 @@ impl<'a> Body<'a> {
             go_on(Move::Next)
         } else {
             wait_for(Resume::PastWord, address, Need::Write)
+        }
+    }
+
+    /// Checks the two lines that a run reaches, by the addresses in two registers.
+    fn batch(&self, stores: bool, rs1: Reg, rs2: Reg, at: u32) -> Outcome
+        ensures does { let registers = registers_of self.now.lane.registers in
+            Does (model.batch (lane_of self.now.lane (word_address at)) (local_of self.now.local)
+            (model.need_of_run stores) (reg registers rs1) (reg registers rs2))
+            (ground_of self.now.local) (word_address at) self.now.lane self.now.local result }
+    {
+        let low = self.lane.registers.get(rs1);
+        let high = self.lane.registers.get(rs2);
+        self.check_lines(need_of_run(stores), low, high, at)
+    }
+
+    /// Looks whether the lines of two addresses meet a need: then the run goes on past the next
+    /// word. Where one refuses it the run falls back; else what isn't met is waited for.
+    fn check_lines(&self, need: Need, low: u32, high: u32, at: u32) -> Outcome
+        ensures does { Does (model.batch (lane_of self.now.lane (word_address at))
+            (local_of self.now.local) need low high)
+            (ground_of self.now.local) (word_address at) self.now.lane self.now.local result }
+    {
+        if self.local.one_refuses(need, low, high) {
+            return fall_back();
+        }
+        match self.local.unmet_wants(need, low, high) {
+            None => go_on(Move::To(at.wrapping_add(2))),
+            Some(wants) => go_on(Move::Waits(Resume::ByLines { need, low, high }, wants)),
         }
     }
 
@@ -366,7 +397,7 @@ impl<'a> Body<'a> {
         self.lane.written += 1;
         Outcome {
             output: Some(byte),
-            false_miss: false,
+            tally: Tally::Nothing,
             next: Move::Again,
         }
     }
@@ -394,7 +425,7 @@ fn branch_to(place: u32, target: u32) -> Outcome
 }
 
 /// The address of a place, or 0 for word 0, which has none.
-fn address_of(place: Option<Place>) -> u32
+fn place_address(place: Option<Place>) -> u32
     ensures { result ≡ model.place_address place }
 {
     match place {
@@ -403,30 +434,24 @@ fn address_of(place: Option<Place>) -> u32
     }
 }
 
-/// Whether a line with this state byte is mapped.
-fn is_mapped(state: u8) -> bool
-    ensures { result ≡ model.is_mapped_state state }
+/// What a run needs of its lines.
+fn need_of_run(stores: bool) -> Need
+    ensures value { result ≡ model.need_of_run stores }
 {
-    state != UNMAPPED
+    if stores { Need::Write } else { Need::Read }
 }
 
-/// Whether it may be read.
-fn is_readable(state: u8) -> bool
-    ensures { result ≡ model.is_readable_state state }
+/// A run goes to its single-checked sequences, by the next word.
+fn fall_back() -> Outcome
+    ensures value { result ≡ record {
+      output = None;
+      tally = Tally.FallsBack;
+      next = Move.Next;
+    } }
 {
-    state & 2 == 0
-}
-
-/// Whether it may not be written by anyone.
-fn is_fixed(state: u8) -> bool
-    ensures { result ≡ model.is_fixed_state state }
-{
-    state == READ_ONLY || state == UNMAPPED
-}
-
-/// Whether it may be written.
-fn is_writable(state: u8) -> bool
-    ensures { result ≡ model.is_writable_state state }
-{
-    state == EXCLUSIVE
+    Outcome {
+        output: None,
+        tally: Tally::FallsBack,
+        next: Move::Next,
+    }
 }

@@ -5,12 +5,12 @@ ghost use Rattle.exec_map.specs.Contents.{program_of};
 ghost use Rattle.jump_map.specs.Image.{most_words};
 ghost use Rattle.node_model.specs.Node as model;
 ghost use Rattle.node_words.specs.Address.{word_address};
-ghost use Rattle.node_words.specs.Kept.{StepsOr, Serves, ground_of, local_of, lane_of, move_of, tally_of, phase_by, wants_by};
+ghost use Rattle.node_words.specs.Kept.{StepsOr, Serves, ground_of, local_of, lane_of, move_of, resume_of, tally_of, phase_by, wants_by};
 ghost use Rattle.node_model.specs.Turns.{wants_of};
 ghost use Rattle.node_words.specs.GoingOn.{BodyGoesOn};
 
 use crate::body::Body;
-use crate::lane::{Move, Resume, Want, address_of};
+use crate::lane::{Move, Resume, Tally, Wants, address_of};
 use exec_map::Exit;
 use jump_map::{IMAGE_BASE, Image};
 use node_model::NodeCounts;
@@ -21,7 +21,7 @@ pub enum Following {
     /// Another word.
     GoesOn,
     /// A wait.
-    Waits(Resume, Want),
+    Waits(Resume, Wants),
     /// Nothing: the processor is ended.
     Leaves(Exit),
 }
@@ -86,18 +86,44 @@ impl<'a> Body<'a> {
     /// Executes the word with an index, whichever it is.
     #[inline(never)]
     pub fn serve(&mut self, image: &Image, at: u32) -> Served
-        requires { self.old.counts.falses + 1 < 2 ^ 64 }
+        requires falses { self.old.counts.falses + 1 < 2 ^ 64 }
+        requires fallbacks { self.old.counts.fallbacks + 1 < 2 ^ 64 }
         ensures { Serves image.now (model.next_outcome (program_of self.old.local.program)
             image.now (lane_of self.old.lane (word_address at)) (local_of self.old.local))
             (ground_of self.old.local) self.old.counts self.new.lane self.new.local self.new.counts
             result }
     {
-        let outcome = self.execute_at(image, address_of(at));
-        self.counts = count(self.counts, outcome.false_miss);
+        let outcome = self.execute_at(image, at);
+        self.counts = count(self.counts, outcome.tally);
         Served {
             at: self.go(image, at, outcome.next),
             following: what_follows(outcome.next),
             output: outcome.output,
+        }
+    }
+
+    /// Goes on after a wait, by what the lines of its word allow now: the index of the word that
+    /// follows. A run that doesn't find both lines as it needs them falls back.
+    pub fn resume(&mut self, resume: Resume, at: u32) -> u32
+        requires fallbacks { self.old.counts.fallbacks + 1 < 2 ^ 64 }
+        ensures resumed { lane_of self.new.lane (word_address result) ≡ model.lane_resumed
+            (lane_of self.old.lane (word_address at)) (local_of self.old.local) (resume_of resume) }
+        ensures counts { self.new.counts ≡ model.counts_after
+            (model.tally_resumed (local_of self.old.local) (resume_of resume)) self.old.counts }
+        ensures lane { self.new.lane ≡ self.old.lane }
+        ensures local { self.new.local ≡ self.old.local }
+    {
+        match resume {
+            Resume::PastWord => at.wrapping_add(1),
+            Resume::SameWord => at,
+            Resume::ByLines { need, low, high } => {
+                if self.local.both_meet(need, low, high) {
+                    at.wrapping_add(2)
+                } else {
+                    self.counts.fallbacks += 1;
+                    at.wrapping_add(1)
+                }
+            }
         }
     }
 
@@ -123,18 +149,22 @@ impl<'a> Body<'a> {
     }
 }
 
-/// The counts after a word that was a miss check of a readable line, or wasn't.
-fn count(counts: NodeCounts, false_miss: bool) -> NodeCounts
-    requires { counts.falses + 1 < 2 ^ 64 }
-    ensures { result ≡ model.counts_after (tally_of false_miss) counts }
+/// The counts after a word.
+fn count(counts: NodeCounts, tally: Tally) -> NodeCounts
+    requires falses { counts.falses + 1 < 2 ^ 64 }
+    requires fallbacks { counts.fallbacks + 1 < 2 ^ 64 }
+    ensures { result ≡ model.counts_after (tally_of tally) counts }
 {
-    if false_miss {
-        NodeCounts {
+    match tally {
+        Tally::Nothing => counts,
+        Tally::FalseMiss => NodeCounts {
             falses: counts.falses + 1,
             ..counts
-        }
-    } else {
-        counts
+        },
+        Tally::FallsBack => NodeCounts {
+            fallbacks: counts.fallbacks + 1,
+            ..counts
+        },
     }
 }
 
@@ -145,7 +175,7 @@ fn what_follows(next: Move) -> Following
     ensures wants { wants_by result ≡ wants_of (move_of next) }
 {
     match next {
-        Move::Waits(resume, want) => Following::Waits(resume, want),
+        Move::Waits(resume, wants) => Following::Waits(resume, wants),
         Move::Leaves(exit) => Following::Leaves(exit),
         _ => Following::GoesOn,
     }

@@ -10,8 +10,8 @@ use Rattle.miss_handlers.specs.Rows.{Row, AtHome, AtNode}
 use Rattle.rv32_program.specs.Program.{line_of}
 use Rattle.node_model.specs.declared.Entry.{Entry as JournalEntry}
 use Rattle.node_model.specs.declared.OutByte.{OutByte}
-use Rattle.node_model.specs.Node.{Work, Node, Phase, Running, Resumed, Waiting, Ended, Want, word_outcome, word_step, lane_resumed, stop_or}
-use Rattle.node_model.specs.Turns.{Turn, with_miss, want_in, want_all, with_byes, word_turn, by_row_or, treated, has_no_wait, resumed, take_turn, after_word, after_wants, wants_of, after_message, journaled}
+use Rattle.node_model.specs.Node.{Work, Node, Phase, Running, Resumed, Waiting, Ended, Want, word_outcome, word_step, counts_after, lane_resumed, tally_resumed, stop_or}
+use Rattle.node_model.specs.Turns.{Turn, with_miss, want_in, want_all, each_block_once, with_byes, word_turn, by_row_or, treated, has_no_wait, resumed, take_turn, after_word, after_wants, wants_of, after_message, journaled}
 
 pub record Kept : Type 0 where
   pub stamp : ℕ
@@ -48,7 +48,7 @@ byes_kept k t false = refl
 
 pub word_kept : (work : Work) (n : Node) → kept (word_turn work n).node ≡ kept (word_step work n)
 word_kept work n = byes_kept work.layout.nodes (after_wants work n) _
-    ∙ wants_kept work.layout (after_word work n) (wants_of (word_outcome work n).move)
+    ∙ wants_kept work.layout (after_word work n) (each_block_once work.layout (wants_of (word_outcome work n).move))
 
 row_kept : (l : Shape) (n : Node) (o : Option Row) → kept (by_row_or l n o).node ≡ kept n
 row_kept l n None = refl
@@ -73,8 +73,9 @@ resumed_kept work n Running = refl
 resumed_kept work n Resumed = refl
 resumed_kept work n (Ended e) = refl
 resumed_kept work n (Waiting r) = either (has_no_wait work.layout n) (record n {
-  lane = lane_resumed n.lane r;
+  lane = lane_resumed n.lane n.local r;
   phase = stop_or work.budget n.executed Resumed;
+  counts = counts_after (tally_resumed n.local r) n.counts;
 }) refl
   where
     either : (b : Bool) (m : Node) → kept m ≡ kept n → kept (cond b m n) ≡ kept n

@@ -1,38 +1,16 @@
-use Rattle.std.proofs.Common.{◌/◌, ◌∙◌, ap, sym, [], List}
-use Rattle.home_directory.specs.declared.messages.Post.{Post}
-use Rattle.node_model.specs.Turns.{want_in}
-use Rattle.node_machine.specs.Frame.{layout_of, with_parts}
-use Rattle.node_machine.specs.Desk.{turn_by}
-use Rattle.node_machine.proofs.BlockLemmas.{LineLaws}
-use Rattle.node_machine.proofs.DeskLemmas.{unmet_none, unmet_some}
+use Rattle.std.proofs.Common.{◌+◌, ◌^◌, arith}
+use Rattle.node_machine.proofs.FrameLemmas.{counts_up}
 use Rattle.node_machine.proofs.desk.Desk.want.Goals as goal
 
-pub want_block-requires-clause-block : goal.want_block-requires-clause-block
-want_block-requires-clause-block c =
-    (c.layout_law.ensures.found c.args.body.now.local.copy.layout c.in-Some.block (c.args.want.at / 64) c.laws.ensures.valid (sym c.in-Some.ensures)).0
+pub want_line-other-requires-clause-counts : goal.want_line-other-requires-clause-counts
+want_line-other-requires-clause-counts c =
+    counts_up (2 ^ 62 + 1) (2 ^ 63) _ (omega arith) (c.want_line-post.ensures.counts (2 ^ 62) c.requires.counts)
 
-pub returns-in-None-clause-turn : goal.returns-in-None-clause-turn
-returns-in-None-clause-turn c n p =
-    let body = c.args.body.now in
-    let d = c.args.self.now in
-    ap (want_in (layout_of body) (turn_by (with_parts n body d) [] p) c.args.want.need) (sym c.in-None.ensures)
-    ∙ ap (λ (x : List Post). turn_by (with_parts n body d) x p) (sym c.new.ensures)
+pub returns-in_default-clause-counts : goal.returns-in_default-clause-counts
+returns-in_default-clause-counts c most below =
+    counts_up (most + 1) (most + 2) _ (omega arith) (c.want_line-post.ensures.counts most below)
 
-pub returns-in-None-clause-begun : goal.returns-in-None-clause-begun
-returns-in-None-clause-begun c unmet =
-    let law = c.layout_law.ensures in
-    let laws : LineLaws = record { ends = law.ends; has = law.has; found = law.found; shared = law.shared; some = law.some } in
-    absurd (unmet_none laws c.args.body.now.local c.laws.ensures c.args.want.need (c.args.want.at / 64) (sym c.in-None.ensures) unmet)
-
-pub returns-in-Some-clause-turn : goal.returns-in-Some-clause-turn
-returns-in-Some-clause-turn c n p =
-    let body = c.args.body.now in
-    let d = c.args.self.now in
-    ap (want_in (layout_of body) (turn_by (with_parts n body d) [] p) c.args.want.need) (sym c.in-Some.ensures)
-    ∙ c.want_block.ensures.turn n p
-
-pub returns-in-Some-clause-begun : goal.returns-in-Some-clause-begun
-returns-in-Some-clause-begun c unmet =
-    let law = c.layout_law.ensures in
-    let laws : LineLaws = record { ends = law.ends; has = law.has; found = law.found; shared = law.shared; some = law.some } in
-    c.want_block.ensures.begun (unmet_some laws c.args.body.now.local c.laws.ensures c.args.want.need (c.args.want.at / 64) c.in-Some.block (sym c.in-Some.ensures) unmet)
+pub returns-clause-counts : goal.returns-clause-counts
+returns-clause-counts c most below =
+    counts_up (most + 1 + 1) (most + 2) _ (omega arith)
+    (c.want_line-other.ensures.counts (most + 1) (c.want_line-post.ensures.counts most below))

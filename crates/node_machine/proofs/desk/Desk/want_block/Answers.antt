@@ -1,8 +1,10 @@
-use Rattle.std.proofs.Common.{◌≡◌, ◌∙◌, ap, sym, refl, [], ◌∷◌, Option, Some, None}
+use Rattle.std.proofs.Common.{◌≡◌, ◌∙◌, ℕ, ap, sym, refl, [], ◌∷◌, Option, Some, None, arith}
 use Rattle.home_directory.specs.declared.messages.Post.{Post}
+use Rattle.home_directory.specs.declared.wait.Wait.{Wait}
 use Rattle.home_directory.specs.Table.{Miss}
 use Rattle.state_table.specs.States.{state_of}
 use Rattle.miss_handlers.specs.Effects.{miss_of, post_of}
+use Rattle.miss_handlers.specs.Waits.{wait_of}
 use Rattle.node_model.specs.declared.NodeCounts.{NodeCounts}
 use Rattle.home_directory.specs.declared.messages.Need.{Need}
 use Rattle.state_table.specs.declared.State.{State}
@@ -10,7 +12,7 @@ use Rattle.node_words.specs.declared.body.Body.{Body}
 use Rattle.node_machine.specs.declared.desk.Desk.{Desk}
 use Rattle.node_model.specs.Turns.{count_want}
 use Rattle.node_machine.proofs.BlockLemmas.{LineLaws}
-use Rattle.node_machine.proofs.DeskLemmas.{HasWanted, want_turn, posts_of, counts_if}
+use Rattle.node_machine.proofs.DeskLemmas.{HasWanted, want_turn, posts_of, counts_if, others_wait, waits_grow}
 use Rattle.node_machine.proofs.desk.Desk.want_block.Goals as goal
 
 none_post : (miss : Option Miss) → None ≡ post_of miss → miss ≡ None
@@ -27,7 +29,7 @@ some_counts None p need st c e = absurd (cc)
 some_counts (Some m) p need st c e = refl
 
 pub returns-in-None-clause-turn : goal.returns-in-None-clause-turn
-returns-in-None-clause-turn c n p =
+returns-in-None-clause-turn c n before p =
     let body = c.args.body.now in
     let d = c.args.self.now in
     let law = c.layout_law.ensures in
@@ -36,8 +38,8 @@ returns-in-None-clause-turn c n p =
     let d' : Desk = record { directory = d.directory; waits = c.want.new.waits; pool = c.want.new.pool } in
     let miss = miss_of d.waits body.local.states d.pool c.args.block c.args.need in
     let none : miss ≡ None = none_post miss c.in-None.ensures.post in
-    let w : HasWanted d d' body.local c.want.new.self c.args.block c.args.need c.new.result.items miss = record {
-      sends = c.new.ensures ∙ sym (ap posts_of none);
+    let w : HasWanted d d' body.local c.want.new.self c.args.block c.args.need [] miss = record {
+      sends = sym (ap posts_of none);
       state = c.in-None.ensures.state;
       wait = c.in-None.ensures.wait;
       directory = refl;
@@ -46,11 +48,11 @@ returns-in-None-clause-turn c n p =
       copy = c.in-None.ensures.copy;
       reservation = c.in-None.ensures.reservation;
     } in
-    want_turn laws n p body body' d d' c.new.result.items c.args.block c.args.need c.requires.desk c.laws.ensures c.requires.block w
+    want_turn laws n before p body body' d d' [] c.args.block c.args.need c.requires.desk c.laws.ensures c.requires.block w
     (sym (ap (λ (x : Option Miss). counts_if x c.args.need (state_of body.local.states c.args.block) body.counts) none))
 
 pub returns-in-Some-clause-turn : goal.returns-in-Some-clause-turn
-returns-in-Some-clause-turn c n p =
+returns-in-Some-clause-turn c n before p =
     let body = c.args.body.now in
     let d = c.args.self.now in
     let law = c.layout_law.ensures in
@@ -58,8 +60,8 @@ returns-in-Some-clause-turn c n p =
     let body' : Body = record { lane = body.lane; local = c.want.new.self; counts = c.count_want-body.result } in
     let d' : Desk = record { directory = d.directory; waits = c.want.new.waits; pool = c.want.new.pool } in
     let miss = miss_of d.waits body.local.states d.pool c.args.block c.args.need in
-    let w : HasWanted d d' body.local c.want.new.self c.args.block c.args.need c.one.result.items miss = record {
-      sends = c.one.ensures ∙ sym (some_post miss c.in-Some.post c.in-Some.ensures.post);
+    let w : HasWanted d d' body.local c.want.new.self c.args.block c.args.need (c.in-Some.post ∷ []) miss = record {
+      sends = sym (some_post miss c.in-Some.post c.in-Some.ensures.post);
       state = c.in-Some.ensures.state;
       wait = c.in-Some.ensures.wait;
       directory = refl;
@@ -68,6 +70,50 @@ returns-in-Some-clause-turn c n p =
       copy = c.in-Some.ensures.copy;
       reservation = c.in-Some.ensures.reservation;
     } in
-    want_turn laws n p body body' d d' c.one.result.items c.args.block c.args.need c.requires.desk c.laws.ensures c.requires.block w
+    want_turn laws n before p body body' d d' (c.in-Some.post ∷ []) c.args.block c.args.need c.requires.desk c.laws.ensures c.requires.block w
     (c.count_want-body.ensures ∙ ap (λ (x : State). count_want c.args.need x body.counts) c.block_state-state.ensures
     ∙ sym (some_counts miss c.in-Some.post c.args.need (state_of body.local.states c.args.block) body.counts c.in-Some.ensures.post))
+
+pub returns-in-None-clause-more : goal.returns-in-None-clause-more
+returns-in-None-clause-more c =
+    let d = c.args.self.now in
+    let few = c.requires.few in
+    let buffers = c.requires.desk.buffers in
+    (waits_grow d.pool c.want.new.pool d.waits c.want.new.waits (miss_of d.waits c.args.body.now.local.states d.pool c.args.block c.args.need)
+    c.in-None.ensures.pool c.in-None.ensures.count (omega (arith, few, buffers))).0
+
+pub returns-in-None-clause-one : goal.returns-in-None-clause-one
+returns-in-None-clause-one c =
+    let d = c.args.self.now in
+    let few = c.requires.few in
+    let buffers = c.requires.desk.buffers in
+    (waits_grow d.pool c.want.new.pool d.waits c.want.new.waits (miss_of d.waits c.args.body.now.local.states d.pool c.args.block c.args.need)
+    c.in-None.ensures.pool c.in-None.ensures.count (omega (arith, few, buffers))).1
+
+pub returns-in-None-clause-others : goal.returns-in-None-clause-others
+returns-in-None-clause-others c b apart =
+    let d = c.args.self.now in
+    ap (λ (g : ℕ → Option Wait). g b) c.in-None.ensures.wait
+    ∙ others_wait (wait_of d.waits) c.args.block b (miss_of d.waits c.args.body.now.local.states d.pool c.args.block c.args.need) apart
+
+pub returns-in-Some-clause-more : goal.returns-in-Some-clause-more
+returns-in-Some-clause-more c =
+    let d = c.args.self.now in
+    let few = c.requires.few in
+    let buffers = c.requires.desk.buffers in
+    (waits_grow d.pool c.want.new.pool d.waits c.want.new.waits (miss_of d.waits c.args.body.now.local.states d.pool c.args.block c.args.need)
+    c.in-Some.ensures.pool c.in-Some.ensures.count (omega (arith, few, buffers))).0
+
+pub returns-in-Some-clause-one : goal.returns-in-Some-clause-one
+returns-in-Some-clause-one c =
+    let d = c.args.self.now in
+    let few = c.requires.few in
+    let buffers = c.requires.desk.buffers in
+    (waits_grow d.pool c.want.new.pool d.waits c.want.new.waits (miss_of d.waits c.args.body.now.local.states d.pool c.args.block c.args.need)
+    c.in-Some.ensures.pool c.in-Some.ensures.count (omega (arith, few, buffers))).1
+
+pub returns-in-Some-clause-others : goal.returns-in-Some-clause-others
+returns-in-Some-clause-others c b apart =
+    let d = c.args.self.now in
+    ap (λ (g : ℕ → Option Wait). g b) c.in-Some.ensures.wait
+    ∙ others_wait (wait_of d.waits) c.args.block b (miss_of d.waits c.args.body.now.local.states d.pool c.args.block c.args.need) apart

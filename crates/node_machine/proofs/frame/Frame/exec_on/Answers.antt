@@ -37,8 +37,8 @@ serve_word-requires-clause-node c =
       waits = subst (λ p. WaitsInPhase p (length i.desk.waits.waits)) (sym c.phase_on-self.ensures) (on_waits (phase_of i.phase) c.run-stretch.result.words (length i.desk.waits.waits) c.requires.may n.waits);
       noted = n.noted;
       behind = omega (arith, behind);
-      counts = counts_up (18 * i.stamp) (18 * (i.stamp + c.run-stretch.result.words)) c.run-stretch.new.self.counts (omega arith)
-          (subst (AreCountsBelow (18 * i.stamp)) (sym counts) n.counts);
+      counts = counts_up (19 * i.stamp) (19 * (i.stamp + c.run-stretch.result.words)) c.run-stretch.new.self.counts (omega arith)
+          (subst (AreCountsBelow (19 * i.stamp)) (sym counts) n.counts);
     }
 
 pub returns-clause-ran : goal.returns-clause-ran

@@ -45,8 +45,8 @@ returns-in-Some-clause-node c =
       waits = may_waits (phase_of i.phase) (length i.desk.waits.waits) c.requires.may n.waits;
       noted = n.noted;
       behind = omega (arith, behind);
-      counts = counts_up (18 * i.stamp) (18 * (i.stamp + 1)) c.step_at.new.self.counts (omega arith)
-          (subst (AreCountsBelow (18 * i.stamp)) (sym counts) n.counts);
+      counts = counts_up (19 * i.stamp) (19 * (i.stamp + 1)) c.step_at.new.self.counts (omega arith)
+          (subst (AreCountsBelow (19 * i.stamp)) (sym counts) n.counts);
     }
 
 -- where the micro-op served nothing, the frame is as it was

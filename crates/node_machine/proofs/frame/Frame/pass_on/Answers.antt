@@ -89,6 +89,6 @@ returns-clause-node c =
           (noted_waits (phase_of i.phase) words (length i.desk.waits.waits) (λ some. c.requires.may (omega (arith, some, few, first, from))) n.waits);
       noted = n.noted;
       behind = omega (arith, behind);
-      counts = counts_up (18 * i.stamp) (18 * (i.stamp + words)) run.new.self.counts (omega arith)
-          (subst (AreCountsBelow (18 * i.stamp)) (sym counts) n.counts);
+      counts = counts_up (19 * i.stamp) (19 * (i.stamp + words)) run.new.self.counts (omega arith)
+          (subst (AreCountsBelow (19 * i.stamp)) (sym counts) n.counts);
     }

@@ -1,12 +1,12 @@
 use Rattle.std.proofs.Common.{◌≡◌, ◌+◌, ◌*◌, ◌≤◌, ◌∙◌, ap, sym, subst, length, ℕ, [], Option, ◌^◌, arith}
 use Rattle.block_layout.specs.Layout.{Shape}
 use Rattle.exec_map.specs.Contents.{program_of}
-use Rattle.home_directory.specs.Effects.{entry_at, members}
+use Rattle.home_directory.specs.Effects.{entry_at, entries_of, members}
 use Rattle.miss_handlers.specs.Waits.{wait_of}
 use Rattle.node_words.specs.declared.body.Body.{Body}
 use Rattle.node_words.specs.Address.{word_address}
 use Rattle.node_model.specs.Node.{Node, next_outcome, word_outcome}
-use Rattle.node_model.specs.Turns.{want_all, is_ended}
+use Rattle.node_model.specs.Turns.{want_all, each_block_once, is_ended}
 use Rattle.node_words.specs.Kept.{Ground, Serves, ground_of, lane_of, local_of, wants_by}
 use Rattle.node_machine.specs.Frame.{node_of, work_of, layout_of, phase_of, with_parts, entries_in, IsDesk, AreCountsBelow, WaitsInPhase}
 use Rattle.node_machine.specs.Desk.{turn_by, AreUnmet}
@@ -15,13 +15,21 @@ use Rattle.node_machine.proofs.FrameLemmas.{served_node, served_turn, counts_up,
 use Rattle.node_machine.proofs.UnmetLemmas.{word_unmet}
 use Rattle.node_machine.proofs.frame.Frame.serve_word.Goals as goal
 
-pub serve-served-requires : goal.serve-served-requires
-serve-served-requires c =
+pub serve-served-requires-clause-falses : goal.serve-served-requires-clause-falses
+serve-served-requires-clause-falses c =
     let i = c.args.self.now in
-    let falses : c.deref_mut.result.now.counts.falses ≤ 18 * i.stamp =
-    subst (λ (b : Body). b.counts.falses ≤ 18 * i.stamp) (sym c.deref_mut.ensures.value) c.requires.node.counts.falses in
+    let falses : c.deref_mut.result.now.counts.falses ≤ 19 * i.stamp =
+    subst (λ (b : Body). b.counts.falses ≤ 19 * i.stamp) (sym c.deref_mut.ensures.value) c.requires.node.counts.falses in
     let stamp = c.requires.stamp in
     omega (arith, falses, stamp)
+
+pub serve-served-requires-clause-fallbacks : goal.serve-served-requires-clause-fallbacks
+serve-served-requires-clause-fallbacks c =
+    let i = c.args.self.now in
+    let fallbacks : c.deref_mut.result.now.counts.fallbacks ≤ 19 * i.stamp =
+    subst (λ (b : Body). b.counts.fallbacks ≤ 19 * i.stamp) (sym c.deref_mut.ensures.value) c.requires.node.counts.fallbacks in
+    let stamp = c.requires.stamp in
+    omega (arith, fallbacks, stamp)
 
 pub ask-sends-requires-clause-desk : goal.ask-sends-requires-clause-desk
 ask-sends-requires-clause-desk c =
@@ -36,10 +44,10 @@ pub ask-sends-requires-clause-counts : goal.ask-sends-requires-clause-counts
 ask-sends-requires-clause-counts c =
     let i = c.args.self.now in
     let stamp = c.requires.stamp in
-    let old = subst (λ (b : Body). AreCountsBelow (18 * i.stamp) b.counts) (sym c.deref_mut.ensures.value) c.requires.node.counts in
-    let below = served_below _ (18 * i.stamp) c.deref_mut.result.now.counts c.serve-served.new.self.counts c.serve-served.ensures.counts_after old in
-    subst (λ (b : Body). AreCountsBelow (2 ^ 63) b.counts) (sym c.deref_mut-2.ensures.value)
-    (counts_up (18 * i.stamp + 1) (2 ^ 63) c.serve-served.new.self.counts (omega (arith, stamp)) below)
+    let old = subst (λ (b : Body). AreCountsBelow (19 * i.stamp) b.counts) (sym c.deref_mut.ensures.value) c.requires.node.counts in
+    let below = served_below _ (19 * i.stamp) c.deref_mut.result.now.counts c.serve-served.new.self.counts c.serve-served.ensures.counts_after old in
+    subst (λ (b : Body). AreCountsBelow (2 ^ 62) b.counts) (sym c.deref_mut-2.ensures.value)
+    (counts_up (19 * i.stamp + 1) (2 ^ 62) c.serve-served.new.self.counts (omega (arith, stamp)) below)
 
 pub turn-requires : goal.turn-requires
 turn-requires c = record {
@@ -61,9 +69,9 @@ returns-clause-turn c =
     let s : Serves i.image.now (word_outcome (work_of i) (node_of i)) (ground_of i.body.value.local) i.body.value.counts b.lane b.local b.counts done =
     subst (λ (x : Body). Serves i.image.now (next_outcome (program_of x.local.program) i.image.now (lane_of x.lane (word_address i.at)) (local_of x.local))
     (ground_of x.local) x.counts b.lane b.local b.counts done) c.deref_mut.ensures.value c.serve-served.ensures in
-    let ask : (m : Node) (p : Option ℕ) → want_all (layout_of b) (turn_by (with_parts m b i.desk) [] p) (wants_by done.following)
+    let ask : (m : Node) (p : Option ℕ) → want_all (layout_of b) (turn_by (with_parts m b i.desk) [] p) (each_block_once (layout_of b) (wants_by done.following))
     ≡ turn_by (with_parts m b' d) posts p =
-    λ m p. subst (λ (x : Body). want_all (layout_of x) (turn_by (with_parts m x i.desk) [] p) (wants_by done.following)
+    λ m p. subst (λ (x : Body). want_all (layout_of x) (turn_by (with_parts m x i.desk) [] p) (each_block_once (layout_of x) (wants_by done.following))
     ≡ turn_by (with_parts m b' d) posts p) c.deref_mut-2.ensures.value (c.ask-sends.ensures.turn m p) in
     let lane = c.ask-sends.ensures.lane ∙ ap (λ (x : Body). x.lane) c.deref_mut-2.ensures.value in
     let last : Node = record {
@@ -73,7 +81,8 @@ returns-clause-turn c =
       executed = i.executed + 1;
       phase = phase_of c.phase_by-self.result;
       entry = entries_in d.directory.layout d.directory.me (entry_at d.directory.entries);
-      waiting = d.directory.waiting;
+      waiting = (entries_of d.directory).waiting;
+      occupancy = (entries_of d.directory).occupancy;
       wait = wait_of d.waits;
       byes = members i.byes;
       stamp = i.stamp + 1;
@@ -107,9 +116,9 @@ returns-clause-node c =
     let low = n.going c.requires.may in
     let behind = n.behind in
     let layout = ap (λ (x : Ground). x.layout) c.ask-sends.ensures.ground in
-    let old = subst (λ (x : Body). AreCountsBelow (18 * i.stamp) x.counts) (sym c.deref_mut.ensures.value) n.counts in
-    let served = served_below _ (18 * i.stamp) c.deref_mut.result.now.counts b.counts c.serve-served.ensures.counts_after old in
-    let asked = c.ask-sends.ensures.counts (18 * i.stamp + 1) (subst (λ (x : Body). AreCountsBelow (18 * i.stamp + 1) x.counts) (sym c.deref_mut-2.ensures.value) served) in
+    let old = subst (λ (x : Body). AreCountsBelow (19 * i.stamp) x.counts) (sym c.deref_mut.ensures.value) n.counts in
+    let served = served_below _ (19 * i.stamp) c.deref_mut.result.now.counts b.counts c.serve-served.ensures.counts_after old in
+    let asked = c.ask-sends.ensures.counts (19 * i.stamp + 1) (subst (λ (x : Body). AreCountsBelow (19 * i.stamp + 1) x.counts) (sym c.deref_mut-2.ensures.value) served) in
     let s : Serves i.image.now (word_outcome (work_of i) (node_of i)) (ground_of i.body.value.local) i.body.value.counts b.lane b.local b.counts done =
     subst (λ (x : Body). Serves i.image.now (next_outcome (program_of x.local.program) i.image.now (lane_of x.lane (word_address i.at)) (local_of x.local))
     (ground_of x.local) x.counts b.lane b.local b.counts done) c.deref_mut.ensures.value c.serve-served.ensures in
@@ -125,5 +134,5 @@ returns-clause-node c =
           (begun_waits i.budget (i.executed + 1) _ done.following begun);
       noted = n.noted;
       behind = omega (arith, behind);
-      counts = counts_up (18 * i.stamp + 1 + 1) (18 * (i.stamp + 1)) c.ask-sends.new.body.counts (omega arith) asked;
+      counts = counts_up (19 * i.stamp + 1 + 2) (19 * (i.stamp + 1)) c.ask-sends.new.body.counts (omega arith) asked;
     }

@@ -3,7 +3,7 @@ use Rattle.block_layout.specs.Layout.{Shape}
 use Rattle.exec_map.specs.Contents.{program_of}
 use Rattle.run_limits.specs.Ranges.{IsBudget}
 use Rattle.jump_map.specs.Image.{Cell, most_words}
-use Rattle.home_directory.specs.Effects.{entry_at, members}
+use Rattle.home_directory.specs.Effects.{entry_at, entries_of, members}
 use Rattle.miss_handlers.specs.Waits.{wait_of}
 use Rattle.node_words.specs.declared.body.Body.{Body}
 use Rattle.node_words.specs.Address.{word_address}
@@ -35,7 +35,8 @@ returns-clause-back c first back =
       executed = back.executed t;
       phase = phase_of (back.phase t);
       entry = entries_in (back.desk t).directory.layout (back.desk t).directory.me (entry_at (back.desk t).directory.entries);
-      waiting = (back.desk t).directory.waiting;
+      waiting = (entries_of (back.desk t).directory).waiting;
+      occupancy = (entries_of (back.desk t).directory).occupancy;
       wait = wait_of (back.desk t).waits;
       byes = members (back.byes t);
       stamp = back.stamp t;
@@ -75,5 +76,5 @@ returns-clause-node c =
           (subst (λ (p : kept.Phase). WaitsInPhase (phase_of p) (length first.desk.waits.waits)) (sym back.phase) n.waits);
       noted = noted ∙ n.noted ∙ ap words_before (sym back.journal);
       behind = omega (arith, behind, noted, executed);
-      counts = subst (AreCountsBelow (18 * t.stamp)) (sym counts) (subst (λ s. AreCountsBelow (18 * s) first.body.value.counts) (sym back.stamp) n.counts);
+      counts = subst (AreCountsBelow (19 * t.stamp)) (sym counts) (subst (λ s. AreCountsBelow (19 * s) first.body.value.counts) (sym back.stamp) n.counts);
     }

@@ -1,4 +1,4 @@
-use Rattle.std.proofs.Common.{◌≡◌, ℕ, List, [], ◌∷◌, Option, get_or, replicate, false, zero, suc, ap, sym, ◌∙◌, subst, refl}
+use Rattle.std.proofs.Common.{◌≡◌, ℕ, List, [], ◌∷◌, Option, length, get_or, replicate, false, zero, suc, ap, sym, ◌∙◌, subst, refl}
 use Rattle.std.specs.Prelude.{unwrap_or, slice_index}
 use Rattle.std.proofs.Math.Path.{fun_ext}
 use Rattle.elf32_read.specs.Elf.{Elf}
@@ -6,7 +6,7 @@ use Rattle.block_layout.specs.Layout.{Shape}
 use Rattle.rv32_step.specs.Registers.{registers_of, first_values}
 use Rattle.exec_map.specs.Contents.{program_of}
 use Rattle.jump_map.specs.Maps.{new_of}
-use Rattle.home_directory.specs.Effects.{entry_at, members}
+use Rattle.home_directory.specs.Effects.{entry_at, entries_of, requests_for, members}
 use Rattle.miss_handlers.specs.Waits.{wait_of}
 use Rattle.node_words.specs.declared.body.Body.{Body}
 use Rattle.node_model.specs.Node.{Node, Work, Running, opening_node}
@@ -48,7 +48,8 @@ returns-clause-opening c =
       executed = 0;
       phase = Running;
       entry = entries_in d.layout d.me (entry_at d.entries);
-      waiting = d.waiting;
+      waiting = (entries_of d).waiting;
+      occupancy = (entries_of d).occupancy;
       wait = wait_of c.in_ok-new-2.field-0;
       byes = members (replicate 256 false);
       stamp = 0;
@@ -71,7 +72,8 @@ returns-clause-opening c =
       executed = 0;
       phase = Running;
       entry = opening_entries d l me c.in_ok-new.ensures.layout c.in_ok-new.ensures.me c.in_ok-new.ensures.entries t;
-      waiting = c.in_ok-new.ensures.waiting t;
+      waiting = λ b. requests_for b (c.in_ok-new.ensures.waiting t);
+      occupancy = length (c.in_ok-new.ensures.waiting t);
       wait = ap wait_of c.in_ok-new-2.ensures t;
       byes = fun_ext (none_of 256) t;
       stamp = 0;

@@ -3,6 +3,7 @@ use Rattle.exec_map.specs.Contents.{program_of}
 use Rattle.node_model.specs.Node.{Outcome, Next, go_on, lane_after_call, put_byte, is_mapped_state, is_readable_state}
 use Rattle.node_words.specs.Kept.{ground_of, Does, local_of, lane_of}
 use Rattle.node_words.specs.declared.lane.Move.TheVariants as again
+use Rattle.node_words.specs.declared.lane.Tally.TheVariants as counted
 use Rattle.node_words.proofs.StepLemmas.{put_mapped, put_unmapped, put_waits}
 use Rattle.node_words.proofs.body.Body.put.Goals as goal
 
@@ -46,7 +47,7 @@ returns-clause-does c at =
     let mapped : is_mapped_state x ≡ true = sym c.is_mapped.ensures ∙ c.if-not-is_mapped.false in
     let readable : is_readable_state x ≡ true = sym c.is_readable.ensures ∙ c.if-not-is_readable.false in
     let is = sym (put_mapped program l n c.args.address x mapped readable) ∙ ap (put_byte program l n c.args.address) c.state-state.ensures in
-    subst (λ (o : Outcome). Does o (ground_of b.local) at (record b.lane { written = b.lane.written + 1 }) b.local (record { output = Some c.byte-byte.result; false_miss = false; next = again.Again })) is
+    subst (λ (o : Outcome). Does o (ground_of b.local) at (record b.lane { written = b.lane.written + 1 }) b.local (record { output = Some c.byte-byte.result; tally = counted.Nothing; next = again.Again })) is
     (record {
       leaves = record { lane = refl; local = refl; ground_same = refl };
       output = ap (λ (v : ℕ). Some v) (c.byte-byte.ensures at);

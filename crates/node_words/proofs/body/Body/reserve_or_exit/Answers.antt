@@ -23,6 +23,6 @@ returns-then-is_aligned-clause-does c at =
         ground_same = c.reserve.ensures.ground ∙ left.ground_same;
       };
       output = ap (λ (o : Outcome). o.output) c.go_on.ensures ∙ sym next.1;
-      tally = ap (λ (o : Outcome). tally_of o.false_miss) c.go_on.ensures ∙ sym next.2;
+      tally = ap (λ (o : Outcome). tally_of o.tally) c.go_on.ensures ∙ sym next.2;
       move = ap (λ (o : Outcome). move_of o.next) c.go_on.ensures ∙ sym next.0;
     })

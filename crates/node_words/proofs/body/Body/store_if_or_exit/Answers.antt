@@ -27,6 +27,6 @@ returns-clause-does c at =
         ground_same = c.end_reservation-2.ensures.ground ∙ left.ground_same;
       };
       output = ap (λ (o : Outcome). o.output) c.go_on-2.ensures ∙ sym next.1;
-      tally = ap (λ (o : Outcome). tally_of o.false_miss) c.go_on-2.ensures ∙ sym next.2;
+      tally = ap (λ (o : Outcome). tally_of o.tally) c.go_on-2.ensures ∙ sym next.2;
       move = ap (λ (o : Outcome). move_of o.next) c.go_on-2.ensures ∙ sym next.0;
     })

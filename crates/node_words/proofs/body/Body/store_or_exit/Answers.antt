@@ -12,4 +12,4 @@ returns-then-is_aligned-clause-does c at =
     let b = c.args.self.now in
     let next = store_next (program_of b.local.program) (lane_of b.lane at) (local_of b.local) c.args.width c.args.address c.args.value (region_of c.args.address) in
     let aligned : is_aligned (c.args.width) c.args.address ≡ true = sym c.if-is_aligned.ensures.value in
-    rw aligned (record { leaves = c.store.ensures.leaves at; output = ap (λ (o : Outcome). o.output) c.go_on.ensures ∙ sym next.1; tally = ap (λ (o : Outcome). tally_of o.false_miss) c.go_on.ensures ∙ sym next.2; move = ap (λ (o : Outcome). move_of o.next) c.go_on.ensures ∙ sym next.0 })
+    rw aligned (record { leaves = c.store.ensures.leaves at; output = ap (λ (o : Outcome). o.output) c.go_on.ensures ∙ sym next.1; tally = ap (λ (o : Outcome). tally_of o.tally) c.go_on.ensures ∙ sym next.2; move = ap (λ (o : Outcome). move_of o.next) c.go_on.ensures ∙ sym next.0 })
