@@ -15,6 +15,7 @@ ghost use Rattle.node_model.specs.Core.{Core, Event, May, IsCoreRun, opening_cor
 ghost use Rattle.rewriting_law.specs.Licence.{AllLicensed};
 ghost use Rattle.rewriting_law.specs.Bounds.{most_events};
 ghost use Rattle.rewriting_law.specs.Conditionals.{IsConditional, IsLostBy};
+ghost use Rattle.rewriting_law.specs.ProtocolLists.{HasProtocolList};
 ghost use Rattle.rewriting_law.specs.Interleaving.{Interleaves, IsCoherent, GoesAlone, SameReservations, HaveRows, original_after};
 
 use block_layout::layout_law;
@@ -40,6 +41,13 @@ pub fn interleaving_law()
         → IsAccepted work.program → IsValid work.layout → IsLaidOver work.program work.layout
         → IsRewriting work.program plan work.image → IsCoreRun work (opening_core work) events
         → IsCoherent work (after work (opening_core work) events)
+        (original_after work plan events).shared }
+    // And the nodes, and the lists between them, are those to which some protocol list leads, of
+    // licensed stores, wants and takes, with the memory of the interleaved run.
+    ensures lists { (work : Work) (plan : List PlanEntry) (events : List Event)
+        → IsAccepted work.program → IsValid work.layout → IsLaidOver work.program work.layout
+        → IsRewriting work.program plan work.image → IsCoreRun work (opening_core work) events
+        → HasProtocolList work (after work (opening_core work) events)
         (original_after work plan events).shared }
     // And the processors have the same addresses reserved on both sides.
     ensures reservations { (work : Work) (plan : List PlanEntry) (events : List Event)
@@ -112,7 +120,8 @@ pub fn progress_law()
 
 /// The law of reservations, which the callers use by its clauses; the call does nothing.
 pub fn conditional_law()
-    // A conditional store of a node stores exactly where the processor's reservation is its address.
+    // A conditional store of a node stores exactly where the processor's reservation is its
+    // address.
     ensures stores { (work : Work) (n : Node) (a value : ℕ) (stores : Bool)
         → (word_outcome work n).access ≡ WritesIf a value stores
         → IsConditional work n a value stores }

@@ -1,0 +1,8 @@
+-- That core runs go on, and how long they can.
+pub mod Farewells
+pub mod Calm
+pub mod Closing
+pub mod Stuck
+pub mod Stops
+pub mod Budgets
+pub mod Short

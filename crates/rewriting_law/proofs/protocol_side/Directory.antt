@@ -1,0 +1,132 @@
+-- The directory protocol beside what words see of the nodes: what the nodes keep for it, and what a
+-- want and a message change of that.
+use Rattle.std.specs.Prelude.{ℕ, Bool, true, false, if◌then◌else◌, List, [], ◌∷◌, Option, Some, None}
+use Rattle.block_layout.specs.Layout.{Shape, first_line}
+use Rattle.block_layout.specs.Update.{changed}
+use Rattle.buf_pool.specs.Pool.{empty_buffer}
+use Rattle.llsc.specs.Reservation.{cleared}
+use Rattle.state_table.specs.StateByte.{state_with}
+use Rattle.home_directory.specs.declared.messages.Need.{Need}
+use Rattle.home_directory.specs.declared.messages.Message.{Message}
+use Rattle.home_directory.specs.declared.wait.Wait.{Wait}
+use Rattle.home_directory.specs.declared.directory.Request.{Request}
+use Rattle.home_directory.specs.Home.{Entry}
+use Rattle.home_directory.specs.Table.{Miss, want_row}
+use Rattle.miss_handlers.specs.Effects.{block_facts}
+use Rattle.miss_handlers.specs.Rows.{Row, AtHome, AtNode, taker_in}
+use Rattle.dsm_protocol.specs.World.{World, local_block, with_list, with_sends}
+use Rattle.dsm_protocol.specs.Events.{row_of}
+use Rattle.dsm_protocol.specs.Holds.{wanted}
+use Rattle.dsm_protocol.proofs.ByAddress.{bytes_in}
+use Rattle.node_model.specs.Node.{Local}
+use Rattle.node_model.specs.Turns.{with_state, with_bytes}
+use Rattle.rewriting_law.specs.CoreRun.{Order, order_by}
+use Rattle.rewriting_law.proofs.protocol_side.ProtocolSide.{Treated, Protocol}
+use Rattle.rewriting_law.proofs.protocol_side.Spending.{Counts, asks_more, takes_more}
+
+-- what the nodes keep of blocks beside their bytes and states, by node, and the lists of messages
+pub record Rest : Type 0 where
+  pub entry : ℕ → ℕ → Entry
+  pub waiting : ℕ → ℕ → List Request
+  pub occupancy : ℕ → ℕ
+  pub wait : ℕ → ℕ → Option Wait
+  pub list : ℕ → ℕ → List Message
+  -- what was wanted and taken so far, which no event depends on
+  pub counts : Counts
+
+module _ (layout : Shape) where
+  -- the nodes and lists, by block
+  abbrev pub world_of : (ℕ → Local) → Rest → World
+  world_of locals rest = record {
+    entry = rest.entry;
+    waiting = rest.waiting;
+    occupancy = rest.occupancy;
+    state = λ i b. state_with ((locals i).state (first_line layout b));
+    bytes = λ i. bytes_in layout (locals i).copy;
+    wait = rest.wait;
+    list = rest.list;
+  }
+
+  -- node i has begun a wait, or the block met the need
+  abbrev pub missed : Local → Rest → (i b : ℕ) → Option Miss → Treated Rest
+  missed n rest i b None = record { local = n; rest = rest }
+  missed n rest i b (Some miss) = record {
+    local = record n { state = with_state layout b miss.block.state n.state };
+    rest = record {
+      entry = rest.entry;
+      waiting = rest.waiting;
+      occupancy = rest.occupancy;
+      wait = changed rest.wait i (changed (rest.wait i) b miss.block.wait);
+      list = with_sends rest.list i (miss.post ∷ []);
+      counts = asks_more rest.counts;
+    };
+  }
+
+  abbrev pub miss_in : World → (i b : ℕ) → Need → Option Miss
+  miss_in w i b need =
+      want_row (block_facts layout b) (local_block w i b) b need (empty_buffer 4096)
+
+  -- node i has taken the first message of the list from j, and `ms` are left of the list
+  abbrev pub took : Local → Rest → (i j : ℕ) → List Message → Option Row → Treated Rest
+  took n rest i j ms None = record {
+    local = n;
+    rest = record {
+      entry = rest.entry;
+      waiting = rest.waiting;
+      occupancy = rest.occupancy;
+      wait = rest.wait;
+      list = with_list rest.list j i ms;
+      counts = rest.counts;
+    };
+  }
+  took n rest i j ms (Some (AtHome b row)) = record {
+    local = n;
+    rest = record {
+      entry = changed rest.entry i (changed (rest.entry i) b row.home.entry);
+      waiting = changed rest.waiting i (changed (rest.waiting i) b row.home.waiting);
+      occupancy = changed rest.occupancy i row.home.occupancy;
+      wait = rest.wait;
+      list = with_sends (with_list rest.list j i ms) i row.sends;
+      counts = takes_more rest.counts;
+    };
+  }
+  took n rest i j ms (Some (AtNode b row)) = record {
+    local = record {
+      copy = with_bytes layout b row.block.bytes n.copy;
+      state = with_state layout b row.block.state n.state;
+      reservation = if row.clears then cleared layout b n.reservation else n.reservation;
+    };
+    rest = record {
+      entry = rest.entry;
+      waiting = rest.waiting;
+      occupancy = rest.occupancy;
+      wait = changed rest.wait i (changed (rest.wait i) b row.block.wait);
+      list = with_sends (with_list rest.list j i ms) i row.sends;
+      counts = takes_more rest.counts;
+    };
+  }
+
+  abbrev pub take_from : (ℕ → Local) → Rest → (i j : ℕ) → List Message → Treated Rest
+  take_from locals rest i j [] = record { local = locals i; rest = rest }
+  take_from locals rest i j (m ∷ ms) =
+      took (locals i) rest i j ms (row_of layout (world_of locals rest) i j m)
+
+  abbrev pub order_from : (ℕ → Local) → Rest → (i j : ℕ) → List Message → Option Order
+  order_from locals rest i j [] = None
+  order_from locals rest i j (m ∷ ms) =
+      order_by (taker_in m) (row_of layout (world_of locals rest) i j m)
+
+  abbrev pub is_some_list : List Message → Bool
+  is_some_list [] = false
+  is_some_list (m ∷ ms) = true
+
+  abbrev pub directory : Protocol
+  directory = record {
+    Rest = Rest;
+    wait = λ rest i b. wanted (rest.wait i b);
+    want = λ locals rest i b need.
+        missed (locals i) rest i b (miss_in (world_of locals rest) i b need);
+    has_message = λ rest i j. is_some_list (rest.list j i);
+    take = λ locals rest i j. take_from locals rest i j (rest.list j i);
+    order = λ locals rest i j. order_from locals rest i j (rest.list j i);
+  }
