@@ -2,7 +2,6 @@
 use Rattle.std.proofs.Common.{◌≡◌, ℕ, ◌+◌, ◌*◌, ◌^◌, ◌<◌, ◌≤◌, List, ◌∷◌, ◌++◌, length, sym, subst, arith, length-append, ◌∙◌}
 use Rattle.std.specs.Prelude.{All}
 use Rattle.std.proofs.lemmas.Nat.{mul-le}
-use Rattle.std.proofs.lemmas.List.Elements.{All-head}
 use Rattle.block_layout.specs.Layout.{IsValid}
 use Rattle.rv32_program.specs.Program.{IsAccepted}
 use Rattle.templates.specs.declared.plans.PlanEntry.{PlanEntry}
@@ -12,8 +11,8 @@ use Rattle.node_model.specs.Node.{Work, Node, IsLaidOver}
 use Rattle.node_model.specs.Core.{Core, Event, IsCoreRun, opening_core, after, AreAlike}
 use Rattle.run_order.specs.OwnRun.{Stamped, OnlyAdds, events_of}
 use Rattle.rewriting_law.specs.Bounds.{RunsRewritten, most_events}
-use Rattle.dsm_core.specs.CoreParts.{CoreParts, work_of, core_of, IsCore, GoesOnTo}
-use Rattle.dsm_core.specs.CoreSteps.{GoesOnFor, AreInRange}
+use Rattle.dsm_core.specs.CoreParts.{CoreParts, work_of, core_of, IsCore, IsLedTo, GoesOnTo, HasStampsInRange}
+use Rattle.dsm_core.specs.CoreSteps.{GoesOnFor}
 use Rattle.dsm_core.proofs.CoreRuns.{goes_also, run_append, run_alike}
 
 -- the law of short runs
@@ -75,22 +74,18 @@ AreFewWires = (work : Work) (run : List Event) (j k : ℕ) → IsCoreRun work (o
     → All (λ (wire : Wire). wire.stamp ≤ length run)
     ((after work (opening_core work) run).list j k)
 
-pub in_range : (p : CoreParts) → AreShort → AreFewStamps → AreFewWires → IsCore p
-    → AreInRange p.layout.nodes (core_of p)
-in_range p short stamps wires is =
+pub in_range : (p : CoreParts) (d : Core) → AreShort → AreFewStamps → AreFewWires → IsCore p
+    → IsLedTo (work_of p) d → HasStampsInRange p.layout.nodes d
+in_range p d short stamps wires is l =
     let work = work_of p in
-    let l = is.led_to in
-    let last = after work (opening_core work) l.run in
     let few = short_run p l.run short is l.is_run in
     record {
       nodes = λ i bi. subst (λ (n : Node). n.stamp < 2 ^ 56) (sym (l.leads.nodes i bi))
           (let a = stamps work l.run i l.is_run bi in omega (arith, a, few));
-      wires = λ j i w rest bj bi e.
-          let a : All (λ (wire : Wire). wire.stamp ≤ length l.run) (w ∷ rest) =
-          subst (All (λ (wire : Wire). wire.stamp ≤ length l.run))
-          (sym (l.leads.lists j i bj bi) ∙ e) (wires work l.run j i l.is_run bj bi) in
-          let b : w.stamp ≤ length l.run =
-          All-head (λ (wire : Wire). wire.stamp ≤ length l.run) w rest a in omega (arith, b, few);
+      wires = λ j i bj bi. subst (All (λ (wire : Wire). wire.stamp < 2 ^ 56))
+          (sym (l.leads.lists j i bj bi))
+          (λ k w below. let a = wires work l.run j i l.is_run bj bi k w below in
+          omega (arith, a, few));
     }
 
 pub runs_end : (p : CoreParts) (k : ℕ) (d : Core) → AreShort → IsCore p

@@ -1,7 +1,9 @@
 -- A core run leads to every core.
 use Rattle.std.proofs.Common.{◌≡◌, ◌≢◌, ℕ, ◌+◌, ◌^◌, ◌<◌, ◌≤◌, Bool, true, false, cond, eqb, ◌&&◌, List, [], ◌∷◌, ◌++◌, map, length, get_or, Result, Ok, Err, OnOk, OnErr, refl, sym, ap, ◌∙◌, subst, arith, length-append}
+use Rattle.std.specs.Prelude.{All}
 use Rattle.std.proofs.Math.Path.{fun_ext}
 use Rattle.std.proofs.lemmas.List.{get_or_default, length-map}
+use Rattle.std.proofs.lemmas.List.Elements.{All-head}
 use Rattle.home_directory.specs.declared.messages.Wire.{Wire}
 use Rattle.node_model.specs.declared.Standing.TheVariants as standing
 use Rattle.node_model.specs.Node.{Work, Node, Phase, Running, Resumed, Waiting, Ended, opening_node, standing_in, standing_of, can_execute, has_all_byes}
@@ -11,8 +13,8 @@ use Rattle.node_machine.specs.declared.frame.Frame.{Frame}
 use Rattle.node_machine.specs.Frame.{node_of}
 use Rattle.dsm_protocol.specs.Queue.{Queue, wires_of, AreQueues}
 use Rattle.rewriting_law.specs.Bounds.{RunsRewritten}
-use Rattle.dsm_core.specs.CoreParts.{CoreParts, work_of, core_with, core_of, HaveWork, IsLedTo, IsCore, AreParts, GoesOnTo}
-use Rattle.dsm_core.specs.CoreSteps.{node_or, SameWorks, MayExecute, IsStamped, IsFirstStamped, CanMake, HaveMade, HaveKept, AreFirst, GoesOnFor, AreInRange}
+use Rattle.dsm_core.specs.CoreParts.{CoreParts, work_of, core_with, core_of, HaveWork, IsLedTo, IsCore, AreParts, GoesOnTo, HasStampsInRange}
+use Rattle.dsm_core.specs.CoreSteps.{node_or, SameWorks, MayExecute, IsStamped, IsFirstStamped, CanMake, HaveMade, HaveKept, AreFirst, GoesOnFor}
 
 -- 1. Cores that are alike make the same events
 
@@ -235,14 +237,14 @@ may_execute_at p i are may d =
     (any_node p.nodes i (opening_node (work_of p) i) d (subst (λ z. i < z) (sym are.count) may.0))
     (can_execute_by (work_of p) (core_of p) i may)
 
-pub stamped : (p : CoreParts) (i : ℕ) → AreParts p → AreInRange p.layout.nodes (core_of p)
+pub stamped : (p : CoreParts) (i : ℕ) → AreParts p → HasStampsInRange p.layout.nodes (core_of p)
     → i < p.layout.nodes → IsStamped p.nodes i
 stamped p i are range bi d =
     subst (λ (n : Node). n.stamp < 2 ^ 56)
     (any_node p.nodes i (opening_node (work_of p) i) d (subst (λ z. i < z) (sym are.count) bi))
     (range.nodes i bi)
 
-pub can_make : (p : CoreParts) (e : Event) → AreParts p → AreInRange p.layout.nodes (core_of p)
+pub can_make : (p : CoreParts) (e : Event) → AreParts p → HasStampsInRange p.layout.nodes (core_of p)
     → May (work_of p) (core_of p) e → CanMake p.layout.nodes p.nodes p.lists e
 can_make p (Exec i) are range may =
     (may.0, may_execute_at p i are may, stamped p i are range may.0)
@@ -251,7 +253,8 @@ can_make p (Take i j) are range may = (
   may.1,
   may.3,
   stamped p i are range may.0,
-  λ w rest e. range.wires j i w rest may.1 may.0 e,
+  λ w rest e. All-head (λ (wire : Wire). wire.stamp < 2 ^ 56) w rest
+      (subst (All (λ (wire : Wire). wire.stamp < 2 ^ 56)) e (range.wires j i may.1 may.0)),
 )
 
 -- 5. The start

@@ -9,7 +9,7 @@ use Rattle.home_directory.specs.Table.{Miss}
 use Rattle.rv32_program.specs.Program.{line_of}
 use Rattle.node_model.specs.declared.Standing.TheVariants as standing
 use Rattle.node_model.specs.Node.{Work, Node, Phase, Running, Resumed, Waiting, Ended, Want, opening_node, word_outcome, standing_in, is_at_poll, can_execute}
-use Rattle.node_model.specs.Turns.{Turn, quiet, with_miss, want_in, want_all, with_byes, word_turn, after_word, after_wants, wants_of}
+use Rattle.node_model.specs.Turns.{Turn, quiet, with_miss, want_in, want_all, each_block_once, with_byes, word_turn, after_word, after_wants, wants_of}
 use Rattle.node_model.specs.Core.{Core, Exec, May, may_execute, wires_to, with_turn, event_step, AreAlike}
 use Rattle.node_machine.specs.declared.frame.Frame.{Frame}
 use Rattle.node_machine.specs.Frame.{node_of, work_of as work_at}
@@ -44,7 +44,7 @@ byes_stamp k t false = refl
 
 word_stamp : (work : Work) (n : Node) → (word_turn work n).node.stamp ≡ n.stamp + 1
 word_stamp work n = byes_stamp work.layout.nodes (after_wants work n) _
-    ∙ wants_stamp work.layout (after_word work n) (wants_of (word_outcome work n).move)
+    ∙ wants_stamp work.layout (after_word work n) (each_block_once work.layout (wants_of (word_outcome work n).move))
 
 words_stamp : (work : Work) (k : ℕ) (n m : Node) → HasGoneBy work k n m → m.stamp ≡ n.stamp + k
 words_stamp work zero n m e = let s = ap (λ (z : Node). z.stamp) e in omega (arith, s)

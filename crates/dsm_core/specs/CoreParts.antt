@@ -1,9 +1,10 @@
 -- Nodes that run rewritten code and the lists between them, as they are stored, and the core that
 -- they stand for.
-use Rattle.std.specs.Prelude.{◌≡◌, ℕ, ◌<◌, ◌++◌, List, map, length, slice_index_or}
+use Rattle.std.specs.Prelude.{◌≡◌, ℕ, ◌^◌, ◌<◌, List, map, length, slice_index_or, All}
 use Rattle.elf32_read.specs.Elf.{Elf}
 use Rattle.block_layout.specs.Layout.{Shape}
 use Rattle.exec_map.specs.Contents.{program_of}
+use Rattle.home_directory.specs.declared.messages.Wire.{Wire}
 use Rattle.jump_map.specs.Image.{Cell}
 use Rattle.node_model.specs.Node.{Work, opening_node}
 use Rattle.node_model.specs.Core.{Core, Event, Exec, Take, AreAlike, opening_core, IsCoreRun, after}
@@ -14,6 +15,7 @@ use Rattle.rewriting_law.specs.Bounds.{RunsRewritten}
 use Rattle.dsm_core.specs.declared.cores.Event as chosen
 use Rattle.dsm_core.specs.declared.cores.Event.TheVariants as choice
 use Rattle.dsm_core.specs.declared.outcome.Outcome.{Outcome as Given}
+use Rattle.dsm_core.specs.declared.work.Work.{Work as Asked}
 use Rattle.dsm_protocol.specs.Queue.{Queue, wires_of, AreQueues}
 
 -- what the nodes run; the nodes, and the lists
@@ -28,6 +30,9 @@ pub record CoreParts : Type 0 where
 abbrev pub work_with : Elf → List Cell → Shape → ℕ → Work
 work_with e image layout budget =
     record { program = program_of e; image = image; layout = layout; budget = budget }
+
+abbrev pub work_in : Asked → Work
+work_in w = work_with w.program.now w.image.now w.layout.now w.budget
 
 abbrev pub work_of : CoreParts → Work
 work_of p = work_with p.program p.image p.layout p.budget
@@ -61,6 +66,11 @@ pub record GoesOnTo (work : Work) (c d : Core) : Type 0 where
   pub more : List Event
   pub is_run : IsCoreRun work c more
   pub leads : AreAlike work.layout.nodes d (after work c more)
+
+-- the stamps of n nodes, and of the messages between them, are in range
+pub record HasStampsInRange (n : ℕ) (c : Core) : Type 0 where
+  pub nodes : (i : ℕ) → i < n → (c.nodes i).stamp < 2 ^ 56
+  pub wires : (j i : ℕ) → j < n → i < n → All (λ (wire : Wire). wire.stamp < 2 ^ 56) (c.list j i)
 
 -- n nodes, n × n lists, and every node runs the rewritten code
 pub record AreParts (p : CoreParts) : Type 0 where

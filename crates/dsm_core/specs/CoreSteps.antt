@@ -99,9 +99,3 @@ TakesNone work i c = (j : ℕ) → May work c (Take i j) → ⊥
 pub record IsStill (work : Work) (i : ℕ) (c : Core) : Type 0 where
   pub word : May work c (Exec i) → ⊥
   pub takes : TakesNone work i c
-
--- the stamps of the core are in range
-pub record AreInRange (n : ℕ) (c : Core) : Type 0 where
-  pub nodes : (i : ℕ) → i < n → (c.nodes i).stamp < 2 ^ 56
-  pub wires : (j i : ℕ) (w : Wire) (rest : List Wire) → j < n → i < n → c.list j i ≡ w ∷ rest
-      → w.stamp < 2 ^ 56

@@ -7,21 +7,19 @@ ghost use Rattle.node_model.specs.Core as model;
 ghost use Rattle.node_model.specs.Core.{May, AreAlike, IsOver, IsCoreRun, event_step, opening_core};
 ghost use Rattle.run_order.specs.OwnRun.{Stamped, StandsForOwnRun, OnlyAdds};
 ghost use Rattle.rewriting_law.specs.Bounds.{RunsRewritten, most_events};
-ghost use Rattle.dsm_core.specs.CoreParts.{work_of, work_with, core_of, event_of, AreParts, GoesOnTo};
+ghost use Rattle.dsm_core.specs.CoreParts.{work_of, work_in, core_of, event_of, AreParts, GoesOnTo, HasStampsInRange};
 ghost use Rattle.dsm_core.specs.CoreWords.{HasPassed, HasExecutedOn, HaveEachPassed};
-ghost use Rattle.dsm_core.specs.CoreSteps.{GoesOnFor, AreInRange};
+ghost use Rattle.dsm_core.specs.CoreSteps.{GoesOnFor};
 ghost use Rattle.node_machine.specs.Frame.{node_of, work_of as work_at};
 
 use crate::parts::Parts;
 use crate::steps::first_nodes;
 use crate::trails::{Stop, Trails};
+use crate::work::Work;
 use block_layout::Layout;
 use dsm_protocol::lists::empty_lists;
-use exec_map::Program;
-use jump_map::Image;
 use node_machine::Node;
 use rewriting_law::progress_law;
-use run_limits::Budget;
 use run_order::stamp_law;
 use std::alloc::{AllocError, Global};
 use std::marker::Model;
@@ -58,31 +56,24 @@ impl<'a> Model for Core<'a> {
 }
 
 impl<'a> Core<'a> {
-    /// The nodes of a layout at the start, and empty lists. Each node executes at most `budget`
-    /// words.
-    pub fn new(
-        alloc: Global,
-        image: &'a Image,
-        program: &'a Program<'a>,
-        layout: &Layout,
-        budget: Budget,
-    ) -> Result<Core<'a>, AllocError>
-        requires rewritten { RunsRewritten (work_with program.now image.now layout.now budget) }
+    /// The nodes of a layout at the start, and empty lists.
+    pub fn new(alloc: Global, work: &Work<'a>) -> Result<Core<'a>, AllocError>
+        requires rewritten { RunsRewritten (work_in work.now) }
         ensures opening { IfOk result (λ c. core_of c ≡ opening_core (work_of c)) }
-        ensures work { IfOk result (λ c. work_of c
-            ≡ work_with program.now image.now layout.now budget) }
+        ensures work { IfOk result (λ c. work_of c ≡ work_in work.now) }
     {
-        let _ = image.len();
-        let _ = program.entry();
-        let _ = budget.number();
-        let count = layout.nodes();
-        let nodes = first_nodes(alloc, image, program, layout, budget)?;
+        // For the proof alone.
+        let _ = work.image.len();
+        let _ = work.program.entry();
+        let _ = work.budget.number();
+        let count = work.layout.nodes();
+        let nodes = first_nodes(alloc, work)?;
         let lists = empty_lists(alloc, count)?;
         let parts = Parts {
-            image,
-            program,
-            layout: layout.copy(alloc)?,
-            budget,
+            image: work.image,
+            program: work.program,
+            layout: work.layout.copy(alloc)?,
+            budget: work.budget,
             nodes,
             lists,
         };
@@ -113,16 +104,22 @@ impl<'a> Core<'a> {
             → (core_of self.now).list j i ≡ [] }
         // The nodes run rewritten code.
         ensures rewritten { RunsRewritten (work_of self.now) }
+        // Its stamps are in range.
+        ensures range { HasStampsInRange self.now.layout.nodes (core_of self.now) }
+        // And so are those of every core that it goes on to.
+        ensures stays { (d : model.Core) → GoesOnTo (work_of self.now) (core_of self.now) d
+            → HasStampsInRange self.now.layout.nodes d }
     {
         progress_law();
         stamp_law();
+        // For the proof alone.
         let _layout = self.parts.layout();
     }
 
     /// What holds of the stamps of every core, and of the runs that go on from it; the call does
     /// nothing.
     pub(crate) fn bounds(&self)
-        ensures range { AreInRange self.now.layout.nodes (core_of self.now) }
+        ensures range { HasStampsInRange self.now.layout.nodes (core_of self.now) }
         ensures runs { (k : ℕ) (d : model.Core)
             → GoesOnFor (work_of self.now) k (core_of self.now) d → k < 2 ^ 56 }
         ensures adds { (d : model.Core) → GoesOnTo (work_of self.now) (core_of self.now) d
@@ -130,6 +127,7 @@ impl<'a> Core<'a> {
     {
         progress_law();
         stamp_law();
+        // For the proof alone.
         let _layout = self.parts.layout();
     }
 

@@ -7,9 +7,11 @@ mod outcome;
 mod parts;
 mod steps;
 mod trails;
+mod work;
 
 pub use cores::{Core, Event};
 pub use dsm_protocol::Protocol;
 pub use outcome::Outcome;
 pub use parts::Parts;
 pub use trails::{Stop, Trails};
+pub use work::Work;

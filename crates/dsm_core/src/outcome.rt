@@ -62,6 +62,7 @@ impl<'a> Core<'a> {
             (run_of events)) }
     {
         stamp_law();
+        // For the proof alone.
         let _ = self.layout().nodes();
         let mut printed = self.printed(alloc)?;
         printed.sort_unstable_by_key(|byte| place(byte));

@@ -4,9 +4,8 @@ ghost use Rattle.std.specs.Prelude.{◌≡◌, ◌≢◌, ◌<◌, ◌≤◌, �
 ghost use Rattle.node_model.specs.Core as model;
 ghost use Rattle.node_model.specs.Core.{May, IsOver, AreAlike, event_step};
 ghost use Rattle.node_machine.specs.Frame.{node_of, work_of as work_at};
-ghost use Rattle.dsm_core.specs.CoreParts.{work_of, core_of, event_of, AreParts};
+ghost use Rattle.dsm_core.specs.CoreParts.{work_of, core_of, event_of, AreParts, HasStampsInRange};
 ghost use Rattle.dsm_core.specs.CoreWords.{HasPassed, HasExecutedOn, HaveEachPassed};
-ghost use Rattle.dsm_core.specs.CoreSteps.{AreInRange};
 
 use crate::cores::Event;
 use crate::steps::{are_over, execute_on, has_mail, has_wire, is_enabled, make, pass};
@@ -93,7 +92,7 @@ impl<'a> Parts<'a> {
     /// Makes an event that is allowed, where its stamps are in range.
     pub(crate) fn make(&mut self, event: Event) -> Result<(), AllocError>
         requires parts { AreParts self.old }
-        requires range { AreInRange self.old.layout.nodes (core_of self.old) }
+        requires range { HasStampsInRange self.old.layout.nodes (core_of self.old) }
         requires enabled { May (work_of self.old) (core_of self.old) (event_of event) }
         ensures parts { AreParts self.new }
         ensures work { work_of self.new ≡ work_of self.old }
@@ -108,7 +107,7 @@ impl<'a> Parts<'a> {
     /// A node executes its next word by its micro-op, where that serves it.
     pub(crate) fn pass(&mut self, node: u8) -> bool
         requires parts { AreParts self.old }
-        requires range { AreInRange self.old.layout.nodes (core_of self.old) }
+        requires range { HasStampsInRange self.old.layout.nodes (core_of self.old) }
         requires enabled { May (work_of self.old) (core_of self.old) (model.Exec node) }
         ensures parts { AreParts self.new }
         ensures work { work_of self.new ≡ work_of self.old }
@@ -124,7 +123,7 @@ impl<'a> Parts<'a> {
     /// otherwise nothing changes.
     pub(crate) fn pass_each(&mut self, words: &[u32; 16], trails: &mut Trails) -> Result<(), Stop>
         requires parts { AreParts self.old }
-        requires range { AreInRange self.old.layout.nodes (core_of self.old) }
+        requires range { HasStampsInRange self.old.layout.nodes (core_of self.old) }
         requires trails { trails.old ≡ self.old.layout.nodes }
         requires nodes { self.old.layout.nodes ≤ 16 }
         requires enabled { (i : ℕ) → i < self.old.layout.nodes
@@ -144,7 +143,7 @@ impl<'a> Parts<'a> {
     /// A node executes words, of which those before the last print nothing and send nothing.
     pub(crate) fn execute_on(&mut self, node: u8) -> Result<u64, AllocError>
         requires parts { AreParts self.old }
-        requires range { AreInRange self.old.layout.nodes (core_of self.old) }
+        requires range { HasStampsInRange self.old.layout.nodes (core_of self.old) }
         requires enabled { May (work_of self.old) (core_of self.old) (model.Exec node) }
         ensures parts { AreParts self.new }
         ensures work { work_of self.new ≡ work_of self.old }

@@ -1,43 +1,38 @@
 //! Events of nodes that run rewritten code, and of the lists between them.
 
 ghost use Rattle.std.specs.Prelude.{◌≡◌, ◌≢◌, ◌<◌, ◌↔◌, ℕ, List, [], true, false, length, IfOk, OnOk, OnErr};
-ghost use Rattle.exec_map.specs.Contents.{program_of};
 ghost use Rattle.node_model.specs.Node.{Work, IsLaidOver, standing_of};
 ghost use Rattle.node_model.specs.Core as model;
 ghost use Rattle.dsm_protocol.specs.Queue.{Queue as Stored, AreQueues, SameWires, HasRoom, wires_of};
-ghost use Rattle.dsm_core.specs.CoreParts.{work_with, core_with, event_of, HaveWork};
+ghost use Rattle.dsm_core.specs.CoreParts.{work_in, core_with, event_of, HaveWork};
 ghost use Rattle.node_model.specs.Core.{IsOver};
 ghost use Rattle.dsm_core.specs.CoreSteps.{SameNodes, SameWorks, HasNodeRoom, MayExecute, IsStamped, IsFirstStamped, HaveMade, HaveKept, HavePassed, HaveExecutedOn, AreFirst, CanMake};
 
 use crate::cores::Event;
-use block_layout::Layout;
+use crate::work;
 use dsm_protocol::Queue;
 use dsm_protocol::lists::{first_wire, reserve_from, send, take_first};
-use exec_map::Program;
-use jump_map::Image;
 use node_machine::{Node, Standing};
-use run_limits::Budget;
 use std::alloc::{AllocError, Global};
 
-/// The nodes of a layout at the start.
+/// The nodes at the start.
 pub(crate) fn first_nodes<'a>(
     alloc: Global,
-    image: &'a Image,
-    program: &'a Program<'a>,
-    layout: &Layout,
-    budget: Budget,
+    work: &work::Work<'a>,
 ) -> Result<Vec<Node<'a>>, AllocError>
-    requires layout { IsLaidOver (program_of program.now) layout.now }
-    ensures count { IfOk result (λ ns. length ns.items ≡ layout.now.nodes) }
-    ensures first { IfOk result (λ ns.
-        AreFirst (work_with program.now image.now layout.now budget) ns.items) }
-    ensures works { IfOk result (λ ns.
-        HaveWork (work_with program.now image.now layout.now budget) ns.items) }
+    requires layout { IsLaidOver (work_in work.now).program (work_in work.now).layout }
+    ensures count { IfOk result (λ ns. length ns.items ≡ (work_in work.now).layout.nodes) }
+    ensures first { IfOk result (λ ns. AreFirst (work_in work.now) ns.items) }
+    ensures works { IfOk result (λ ns. HaveWork (work_in work.now) ns.items) }
 {
+    let image = work.image;
+    let program = work.program;
+    let layout = work.layout;
     let count = layout.nodes();
     let mut nodes = Vec::with_capacity(alloc, count as usize)?;
     for me in 0..count {
-        nodes.push_reserved(Node::new(alloc, image, program, layout, me, budget)?);
+        let node = Node::new(alloc, image, program, layout, me, work.budget)?;
+        nodes.push_reserved(node);
     }
     Ok(nodes)
 }

@@ -2,6 +2,7 @@
 //! Nodes of a core in threads of their own, with links between them.
 
 mod crew;
+mod gate;
 mod gather;
 mod hands;
 mod mesh;
@@ -9,5 +10,6 @@ mod racing;
 mod rows;
 mod worker;
 
+pub use gate::{Gate, OpenGate};
 pub use racing::{race, race_with};
 pub use worker::Worker;

@@ -10,13 +10,13 @@ ghost use Rattle.node_threads.specs.Crew.{RowsOf, AreNodesOf};
 ghost use Rattle.node_threads.specs.Races.{HaveRaced, HaveGoneApart};
 
 use crate::crew::{Gear, all_back, dismiss, hire};
+use crate::gate::Gate;
 use crate::gather::gather;
 use crate::hands::put_hands;
 use crate::mesh::mesh;
 use crate::rows::{lists, rows};
 use crate::worker::Worker;
 use dsm_core::{Core, Parts};
-use dsm_io::Gate;
 use home_directory::Wire;
 use node_machine::Node;
 use run_order::stamp_law;
@@ -29,7 +29,8 @@ use std::thread::Threads;
 /// How many wires a link has room for.
 const CAPACITY: usize = 64;
 
-/// Runs each node of a core in a thread of its own, and then finishes what they left.
+/// Runs each node of a core in a thread of its own, and then finishes what they left. A node that is
+/// alone runs in the caller's thread, and its events pass no gate.
 pub fn race<'a, R: Threads + Wait + Sync, G: Gate + Sync>(
     rt: &R,
     alloc: Global,

@@ -7,7 +7,7 @@ ghost use Rattle.node_model.specs.Core.{may_execute, may_take, wires_to};
 ghost use Rattle.node_machine.specs.Frame.{node_of};
 ghost use Rattle.node_threads.specs.Works.{Works, HasRows, standing, waiting};
 
-use dsm_io::Gate;
+use crate::gate::Gate;
 use fifo_link::{Full, SendEnd, TakeEnd};
 use home_directory::Wire;
 use node_machine::{Node, Standing, Turn};

@@ -2,12 +2,8 @@
 
 use crate::cursor::Cursors;
 use crate::refused::{ReplayRefused, ReplayRule};
-use block_layout::Layout;
-use dsm_core::{Core, Event, Outcome};
-use exec_map::Program;
-use jump_map::Image;
+use dsm_core::{Core, Event, Outcome, Work};
 use node_model::{Entry, Standing};
-use run_limits::Budget;
 use run_record::Record;
 use std::alloc::{AllocError, Global};
 
@@ -22,7 +18,7 @@ impl<'a> Run<'a> {
     ghost use Rattle.std.specs.Prelude.{◌≡◌, ◌≤◌, ◌<◌, ◌+◌, ◌↔◌, ℕ, true, length, IfOk, OnOk, IsErrOf};
     ghost use Rattle.node_model.specs.Core.{Exec, May};
     ghost use Rattle.rewriting_law.specs.Bounds.{RunsRewritten};
-    ghost use Rattle.dsm_core.specs.CoreParts.{work_with, work_of, core_of, outcome_of};
+    ghost use Rattle.dsm_core.specs.CoreParts.{work_in, work_of, core_of, outcome_of};
     ghost use Rattle.run_record.specs.Record.{IsRecord};
     ghost use Rattle.replay.specs.Refusals.{IsFirstBroken, IsUnfinished};
     ghost use Rattle.replay.specs.Replay.{IsReplay};
@@ -34,24 +30,17 @@ impl<'a> Run<'a> {
     /// The core at the start, and the journals at theirs.
     pub(crate) fn new(
         alloc: Global,
-        program: &'a Program<'a>,
-        image: &'a Image,
-        layout: &Layout,
+        work: &Work<'a>,
         rec: &'a Record,
     ) -> Result<Run<'a>, AllocError>
-        requires rewritten { RunsRewritten
-            (work_with program.now image.now layout.now rec.now.budget) }
+        requires rewritten { RunsRewritten (work_in work.now) }
         requires record { IsRecord rec.now }
-        requires nodes { layout.now.nodes ≡ rec.now.nodes }
+        requires nodes { (work_in work.now).layout.nodes ≡ rec.now.nodes }
         ensures running { IfOk result IsRunning }
-        ensures work { IfOk result (λ r. work_of r.core
-            ≡ work_with program.now image.now layout.now rec.now.budget) }
+        ensures work { IfOk result (λ r. work_of r.core ≡ work_in work.now) }
         ensures rec { IfOk result (λ r. r.cursors.rec.now ≡ rec.now) }
     {
-        let Some(budget) = Budget::of(rec.budget) else {
-            unreachable!()
-        };
-        let core = Core::new(alloc, image, program, layout, budget)?;
+        let core = Core::new(alloc, work)?;
         let cursors = Cursors::new(rec);
         Ok(Run { core, cursors })
     }

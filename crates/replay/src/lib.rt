@@ -3,7 +3,7 @@
 
 ghost use Rattle.std.specs.Prelude.{◌≡◌, ℕ, ◌⊎◌, IfOk, IsErrOf};
 ghost use Rattle.rewriting_law.specs.Bounds.{RunsRewritten};
-ghost use Rattle.dsm_core.specs.CoreParts.{work_with, outcome_of};
+ghost use Rattle.dsm_core.specs.CoreParts.{work_in, outcome_of};
 ghost use Rattle.run_record.specs.Record.{IsRecord};
 ghost use Rattle.replay.specs.Refusals.{IsFirstBroken, IsUnfinished};
 ghost use Rattle.replay.specs.Replay.{IsReplay};
@@ -15,41 +15,29 @@ mod events;
 mod law;
 mod refused;
 
-use block_layout::Layout;
-use dsm_core::Outcome;
+use dsm_core::{Outcome, Work};
 use events::Run;
-use exec_map::Program;
-use jump_map::Image;
 pub use law::replay_law;
 pub use refused::{ReplayRefused, ReplayRule};
 use run_record::Record;
 use std::alloc::Global;
 
-/// Makes the events that a record tells of, by (stamp, node), on a core of this image, and gives
-/// what the run gives. The layout is that of the record's blocks and number of nodes.
+/// Makes the events that a record tells of, by (stamp, node), on a core that runs this, and gives
+/// what the run gives. The layout has as many nodes as the record.
 ///
 /// Fails with the first event that can't be made as it is told of, and the lowest rule that it
 /// breaks; or, where all can be made, with the least node that isn't over then.
-pub fn replay(
-    alloc: Global,
-    program: &Program<'_>,
-    image: &Image,
-    layout: &Layout,
-    rec: &Record,
-) -> Result<Outcome, ReplayRefused>
-    requires rewritten { RunsRewritten (work_with program.now image.now layout.now rec.now.budget) }
+pub fn replay(alloc: Global, work: &Work<'_>, rec: &Record) -> Result<Outcome, ReplayRefused>
+    requires rewritten { RunsRewritten (work_in work.now) }
     requires record { IsRecord rec.now }
-    requires nodes { layout.now.nodes ≡ rec.now.nodes }
-    ensures ok { IfOk result (λ o. IsReplay
-        (work_with program.now image.now layout.now rec.now.budget) rec.now (outcome_of o)) }
+    requires nodes { (work_in work.now).layout.nodes ≡ rec.now.nodes }
+    ensures ok { IfOk result (λ o. IsReplay (work_in work.now) rec.now (outcome_of o)) }
     ensures refused { (rule : Rules) (node entry : ℕ)
         → IsErrOf result (Broken rule node entry)
-        → IsFirstBroken (work_with program.now image.now layout.now rec.now.budget) rec.now
-        rule node entry
-        ⊎ IsUnfinished (work_with program.now image.now layout.now rec.now.budget) rec.now
-        rule node entry }
+        → IsFirstBroken (work_in work.now) rec.now rule node entry
+        ⊎ IsUnfinished (work_in work.now) rec.now rule node entry }
 {
-    let mut run = Run::new(alloc, program, image, layout, rec)?;
+    let mut run = Run::new(alloc, work, rec)?;
     run.make_all()?;
     run.outcome(alloc)
 }

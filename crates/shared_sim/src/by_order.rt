@@ -3,38 +3,26 @@
 ghost use Rattle.std.specs.Prelude.{◌≡◌, ◌≤◌, ◌<◌, ℕ, [], ◌∷◌, true, false, length, slice_get, Some, IfOk, OnOk, OnErr, MatchOption};
 ghost use Rattle.node_model.specs.Core.{Exec, May, IsOver, AreAlike, event_step, opening_core};
 ghost use Rattle.rewriting_law.specs.Bounds.{RunsRewritten};
-ghost use Rattle.dsm_core.specs.CoreParts.{work_of, work_with, core_of, event_of, outcome_of};
+ghost use Rattle.dsm_core.specs.CoreParts.{work_of, work_in, core_of, event_of, outcome_of};
 ghost use Rattle.shared_sim.specs.ByOrder.{IsOutcomeByOrder, choices};
 ghost use Rattle.shared_sim.specs.Listing.{Lists, IsCalm};
 ghost use Rattle.shared_sim.specs.Turns.{IsReady, LeadsOn, HasNoMail, maker};
 
 use crate::listing::Listing;
-use block_layout::Layout;
-use dsm_core::{Core, Event, Outcome, Stop, Trails};
-use exec_map::Program;
-use jump_map::Image;
+use dsm_core::{Core, Event, Outcome, Stop, Trails, Work};
 use rewriting_law::progress_law;
-use run_limits::Budget;
 use std::alloc::{AllocError, Global};
 use workload::{Order, order_of};
 
 /// Runs the nodes of a layout to their ends, on one thread: at each turn the order of a number picks
 /// one of the events that are allowed, which are listed node by node, its word and then its takes by
-/// sender. Each node executes at most `budget` words.
-pub fn simulate(
-    alloc: Global,
-    program: &Program<'_>,
-    image: &Image,
-    layout: &Layout,
-    budget: Budget,
-    order: u32,
-) -> Result<Outcome, AllocError>
-    requires rewritten { RunsRewritten (work_with program.now image.now layout.now budget) }
-    ensures outcome { IfOk result (λ o. IsOutcomeByOrder
-        (work_with program.now image.now layout.now budget) order (outcome_of o)) }
+/// sender.
+pub fn simulate(alloc: Global, work: &Work<'_>, order: u32) -> Result<Outcome, AllocError>
+    requires rewritten { RunsRewritten (work_in work.now) }
+    ensures outcome { IfOk result (λ o. IsOutcomeByOrder (work_in work.now) order (outcome_of o)) }
 {
     progress_law();
-    let mut run = Run::new(alloc, program, image, layout, budget, order)?;
+    let mut run = Run::new(alloc, work, order)?;
     for _turn in 0..u64::MAX {
         if run.is_over() {
             return run.core.outcome(alloc);
@@ -63,22 +51,14 @@ struct Run<'a> {
 
 impl<'a> Run<'a> {
     /// The core at the start, and the order of a number.
-    fn new(
-        alloc: Global,
-        program: &'a Program<'a>,
-        image: &'a Image,
-        layout: &Layout,
-        budget: Budget,
-        order: u32,
-    ) -> Result<Run<'a>, AllocError>
-        requires rewritten { RunsRewritten (work_with program.now image.now layout.now budget) }
+    fn new(alloc: Global, work: &Work<'a>, order: u32) -> Result<Run<'a>, AllocError>
+        requires rewritten { RunsRewritten (work_in work.now) }
         ensures ready { IfOk result IsReady }
         ensures opening { IfOk result (λ r. core_of r.core ≡ opening_core (work_of r.core)) }
-        ensures work { IfOk result (λ r. work_of r.core
-            ≡ work_with program.now image.now layout.now budget) }
+        ensures work { IfOk result (λ r. work_of r.core ≡ work_in work.now) }
         ensures order { IfOk result (λ r. r.order ≡ order) }
     {
-        let core = Core::new(alloc, image, program, layout, budget)?;
+        let core = Core::new(alloc, work)?;
         let listing = Listing::new(alloc, &core)?;
         let trails = Trails::new(alloc, core.layout().nodes())?;
         Ok(Run {

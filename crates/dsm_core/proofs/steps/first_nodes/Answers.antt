@@ -3,19 +3,19 @@ use Rattle.std.proofs.Common.{◌≤◌, ◌∷◌, [], ◌+◌, map, get_or, le
 use Rattle.std.proofs.lemmas.List.{length-append}
 use Rattle.node_model.specs.Node.{opening_node}
 use Rattle.node_machine.specs.Frame.{node_of, work_of as work_at}
-use Rattle.dsm_core.specs.CoreParts.{work_with}
+use Rattle.dsm_core.specs.CoreParts.{work_in}
 use Rattle.dsm_core.proofs.CoreSteps.{first_more}
 use Rattle.dsm_core.proofs.steps.first_nodes.Goals as goal
 
 pub loop-me-preserved : goal.loop-me-preserved
 loop-me-preserved c =
-    let work = work_with c.args.program.now c.args.image.now c.args.layout.now c.args.budget in
+    let work = work_in c.args.work.now in
     let ns = c.loop-me.nodes.items in
-    let x = c.in_ok-new.field-0 in
+    let x = c.in_ok-node.node in
     let me = c.loop-me.me in
     let is = c.push_reserved.ensures.items in
-    let runs = c.in_ok-new.ensures.work in
-    let opens = c.in_ok-new.ensures.opening ∙ ap (λ z. opening_node z me) runs in
+    let runs = c.in_ok-node.ensures.work in
+    let opens = c.in_ok-node.ensures.opening ∙ ap (λ z. opening_node z me) runs in
     record {
       len = ap length is ∙ length-append ns (x ∷ []) ∙ ap (λ z. z + 1) c.loop-me.invariant.len;
       room = subst (λ z. c.nodes-count.result ≤ z) (sym c.push_reserved.ensures.capacity)

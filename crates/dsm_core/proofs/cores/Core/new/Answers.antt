@@ -12,18 +12,18 @@ invariant_of-result c =
     let e = c.nodes-count.ensures.nodes in
     let lists = c.in_ok-lists.lists.items in
     subst (λ (l : Shape). IsCore (record {
-      program = c.args.program.now;
-      image = c.args.image.now;
+      program = c.args.work.now.program.now;
+      image = c.args.work.now.image.now;
       layout = l;
-      budget = c.args.budget;
+      budget = c.args.work.now.budget;
       nodes = c.in_ok-nodes.nodes.items;
       lists = lists;
     })) (sym c.in_ok-copy.ensures)
     (opened (record {
-      program = c.args.program.now;
-      image = c.args.image.now;
-      layout = c.args.layout.now;
-      budget = c.args.budget;
+      program = c.args.work.now.program.now;
+      image = c.args.work.now.image.now;
+      layout = c.args.work.now.layout.now;
+      budget = c.args.work.now.budget;
       nodes = c.in_ok-nodes.nodes.items;
       lists = lists;
     }) c.in_ok-nodes.ensures.count (subst (AreQueues lists) e c.in_ok-lists.ensures.queues)
@@ -35,10 +35,10 @@ returns-clause-opening c =
     let e = c.nodes-count.ensures.nodes in
     let nodes = c.in_ok-nodes.nodes.items in
     let lists = c.in_ok-lists.lists.items in
-    let program = c.args.program.now in
-    let image = c.args.image.now in
-    subst (λ (l : Shape). core_with (work_with program image l c.args.budget) nodes lists
-    ≡ opening_core (work_with program image l c.args.budget)) (sym c.in_ok-copy.ensures)
-    (opened_core (work_with program image c.args.layout.now c.args.budget) nodes lists
+    let program = c.args.work.now.program.now in
+    let image = c.args.work.now.image.now in
+    subst (λ (l : Shape). core_with (work_with program image l c.args.work.now.budget) nodes lists
+    ≡ opening_core (work_with program image l c.args.work.now.budget)) (sym c.in_ok-copy.ensures)
+    (opened_core (work_with program image c.args.work.now.layout.now c.args.work.now.budget) nodes lists
     c.in_ok-nodes.ensures.first
     (λ j i. ap (λ n. wires_of lists n j i) (sym e) ∙ c.in_ok-lists.ensures.empty j i))

@@ -1,7 +1,8 @@
 -- By the laws of progress and of stamps.
 use Rattle.std.proofs.Common.{subst}
-use Rattle.dsm_core.specs.CoreParts.{CoreParts, IsCore}
-use Rattle.dsm_core.proofs.Bounds.{few_more}
+use Rattle.dsm_core.specs.CoreParts.{core_of, work_of, IsCore}
+use Rattle.dsm_core.proofs.Bounds.{few_more, in_range}
+use Rattle.dsm_core.proofs.CoreRuns.{led_on}
 use Rattle.dsm_core.proofs.Promised.{own_run, goes_on, moves, lists_empty}
 use Rattle.dsm_core.proofs.cores.Core.promises.Goals as goal
 
@@ -34,3 +35,18 @@ pub returns-clause-short : goal.returns-clause-short
 returns-clause-short c =
     let is = subst IsCore c.self.view_is c.self.invariant in
     λ more run. few_more c.args.self.now more c.progress_law.ensures.short is run
+
+pub returns-clause-range : goal.returns-clause-range
+returns-clause-range c =
+    let p = c.args.self.now in
+    let is = subst IsCore c.self.view_is c.self.invariant in
+    in_range p (core_of p) c.progress_law.ensures.short c.stamp_law.ensures.few
+    c.stamp_law.ensures.wires is is.led_to
+
+pub returns-clause-stays : goal.returns-clause-stays
+returns-clause-stays c =
+    let p = c.args.self.now in
+    let work = work_of p in
+    let is = subst IsCore c.self.view_is c.self.invariant in
+    λ d goes. in_range p d c.progress_law.ensures.short c.stamp_law.ensures.few
+    c.stamp_law.ensures.wires is (led_on work (core_of p) d is.led_to goes)

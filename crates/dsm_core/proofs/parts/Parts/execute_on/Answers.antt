@@ -2,9 +2,9 @@
 use Rattle.std.proofs.Common.{◌≡◌, ℕ, ◌<◌, ◌∙◌, refl, sym, subst}
 use Rattle.node_model.specs.Core.{Exec, May}
 use Rattle.dsm_protocol.specs.Queue.{AreQueues}
-use Rattle.dsm_core.specs.CoreParts.{CoreParts, work_of, core_with, core_of, AreParts}
+use Rattle.dsm_core.specs.CoreParts.{CoreParts, work_of, core_with, core_of, AreParts, HasStampsInRange}
 use Rattle.dsm_core.specs.CoreWords.{HasExecutedOn}
-use Rattle.dsm_core.specs.CoreSteps.{HaveExecutedOn, HaveKept, AreInRange}
+use Rattle.dsm_core.specs.CoreSteps.{HaveExecutedOn, HaveKept}
 use Rattle.dsm_core.proofs.CoreSteps.{if_ok, on_err}
 use Rattle.dsm_core.proofs.CoreRuns.{parts_kept, may_execute_at, stamped}
 use Rattle.dsm_core.proofs.parts.Parts.execute_on.Goals as goal
@@ -41,7 +41,7 @@ execute_on-requires-clause-stamp c =
       lists = c.self.inside.lists.items;
     } in
     let are = subst AreParts (sym c.self.view_is) c.requires.parts in
-    let range = subst (λ (q : CoreParts). AreInRange q.layout.nodes (core_of q))
+    let range = subst (λ (q : CoreParts). HasStampsInRange q.layout.nodes (core_of q))
     (sym c.self.view_is) c.requires.range in
     let may = subst (λ (q : CoreParts). May (work_of q) (core_of q) (Exec c.args.node))
     (sym c.self.view_is) c.requires.enabled in

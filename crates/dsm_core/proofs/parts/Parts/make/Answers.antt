@@ -2,8 +2,8 @@
 use Rattle.std.proofs.Common.{◌≡◌, ◌∙◌, refl, sym, subst}
 use Rattle.node_model.specs.Core.{May, event_step, AreAlike}
 use Rattle.dsm_protocol.specs.Queue.{AreQueues}
-use Rattle.dsm_core.specs.CoreParts.{CoreParts, work_of, core_with, core_of, event_of, AreParts}
-use Rattle.dsm_core.specs.CoreSteps.{CanMake, HaveMade, HaveKept, AreInRange}
+use Rattle.dsm_core.specs.CoreParts.{CoreParts, work_of, core_with, core_of, event_of, AreParts, HasStampsInRange}
+use Rattle.dsm_core.specs.CoreSteps.{CanMake, HaveMade, HaveKept}
 use Rattle.dsm_core.proofs.CoreSteps.{on_ok, on_err}
 use Rattle.dsm_core.proofs.CoreRuns.{parts_kept, can_make}
 use Rattle.dsm_core.proofs.parts.Parts.make.Goals as goal
@@ -20,7 +20,7 @@ make-requires-clause-allowed c =
     } in
     let e = event_of c.args.event in
     let are = subst AreParts (sym c.self.view_is) c.requires.parts in
-    let range = subst (λ (q : CoreParts). AreInRange q.layout.nodes (core_of q))
+    let range = subst (λ (q : CoreParts). HasStampsInRange q.layout.nodes (core_of q))
     (sym c.self.view_is) c.requires.range in
     let may = subst (λ (q : CoreParts). May (work_of q) (core_of q) e) (sym c.self.view_is)
     c.requires.enabled in

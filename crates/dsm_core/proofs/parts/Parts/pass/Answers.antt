@@ -1,9 +1,8 @@
 -- A word of the nodes and lists is one of the core.
 use Rattle.std.proofs.Common.{◌≡◌, ◌<◌, ◌∙◌, sym, subst}
 use Rattle.node_model.specs.Core.{Exec, May}
-use Rattle.dsm_core.specs.CoreParts.{CoreParts, work_of, core_with, core_of, AreParts}
+use Rattle.dsm_core.specs.CoreParts.{CoreParts, work_of, core_with, core_of, AreParts, HasStampsInRange}
 use Rattle.dsm_core.specs.CoreWords.{HasPassed}
-use Rattle.dsm_core.specs.CoreSteps.{AreInRange}
 use Rattle.dsm_core.proofs.CoreSteps.{core_same}
 use Rattle.dsm_core.proofs.CoreRuns.{parts_kept, may_execute_at, stamped}
 use Rattle.dsm_core.proofs.parts.Parts.pass.Goals as goal
@@ -40,7 +39,7 @@ pass-requires-clause-stamp c =
       lists = c.self.inside.lists.items;
     } in
     let are = subst AreParts (sym c.self.view_is) c.requires.parts in
-    let range = subst (λ (q : CoreParts). AreInRange q.layout.nodes (core_of q))
+    let range = subst (λ (q : CoreParts). HasStampsInRange q.layout.nodes (core_of q))
     (sym c.self.view_is) c.requires.range in
     let may = subst (λ (q : CoreParts). May (work_of q) (core_of q) (Exec c.args.node))
     (sym c.self.view_is) c.requires.enabled in

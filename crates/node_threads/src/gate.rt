@@ -1,0 +1,17 @@
+//! What a worker passes before each of its events.
+
+/// What a worker passes before each of its events. The node of a core that has one node alone has no
+/// worker, and what a core does once its workers are done it does by itself: no gate is called then.
+pub trait Gate {
+    /// Is called with the worker's node and the number of events that it has made. It means nothing
+    /// to any contract: an implementation may hold the worker up, or let it pass.
+    fn turn(&self, node: u8, events: u64);
+}
+
+/// The gate that lets every worker pass at once.
+#[derive(Clone, Copy, Debug)]
+pub struct OpenGate;
+
+impl Gate for OpenGate {
+    fn turn(&self, _node: u8, _events: u64) {}
+}
