@@ -13,7 +13,7 @@ use Rattle.clap.specs.declared.parser.matches.ValueSource.TheVariants.{CommandLi
 use Rattle.clap.specs.Faults.{fault_of, built_fault}
 use Rattle.clap.proofs.FaultLemmas.{leaf_fault}
 use Rattle.command_line.specs.declared.table.Setting.{Setting}
-use Rattle.command_line.specs.declared.table.Setting.TheVariants.{Nodes, Order, Budget, Layout, Code, Record, Brief}
+use Rattle.command_line.specs.declared.table.Setting.TheVariants.{Nodes, Order, Budget, Layout, Code, Record, Brief, NoBatch}
 use Rattle.command_line.specs.declared.table.Role.{Role}
 use Rattle.command_line.specs.declared.table.Role.TheVariants as role
 use Rattle.command_line.specs.Commands.{option_word}
@@ -71,6 +71,7 @@ no_operand Layout = refl
 no_operand Code = refl
 no_operand Record = refl
 no_operand Brief = refl
+no_operand NoBatch = refl
 
 no_option : (s : Setting) → bytes_eq (name_of s) (codes "operand") ≡ false
 no_option Nodes = refl
@@ -80,6 +81,7 @@ no_option Layout = refl
 no_option Code = refl
 no_option Record = refl
 no_option Brief = refl
+no_option NoBatch = refl
 
 same_names : (s t : Setting) → bytes_eq (name_of s) (name_of t) ≡ is_same s t
 same_names s t = sym (ap (λ w. bytes_eq w (option_word t)) (dashed s)
@@ -175,6 +177,8 @@ module _ (settings : List Setting) where
       record { more = omega (arith, length-append (codes "--record") (61 ∷ v)); first = refl; second = refl }
   long_joined Brief v =
       record { more = omega (arith, length-append (codes "--brief") (61 ∷ v)); first = refl; second = refl }
+  long_joined NoBatch v =
+      record { more = omega (arith, length-append (codes "--no-batch") (61 ∷ v)); first = refl; second = refl }
 
   long_alone : (s : Setting) → IsLong (option_word s)
   long_alone Nodes = record { more = omega arith; first = refl; second = refl }
@@ -184,6 +188,7 @@ module _ (settings : List Setting) where
   long_alone Code = record { more = omega arith; first = refl; second = refl }
   long_alone Record = record { more = omega arith; first = refl; second = refl }
   long_alone Brief = record { more = omega arith; first = refl; second = refl }
+  long_alone NoBatch = record { more = omega arith; first = refl; second = refl }
 
   readable : (arguments : List Argument) → AreArguments settings arguments →
       AreReadable (flat_map words_of arguments)

@@ -8,7 +8,7 @@ use Rattle.command_line.specs.declared.table.Access.TheVariants.{Read, Write}
 use Rattle.command_line.specs.declared.table.Kind.{Kind}
 use Rattle.command_line.specs.declared.table.Kind.TheVariants.{Number, File, Flag}
 use Rattle.command_line.specs.declared.table.Setting.{Setting}
-use Rattle.command_line.specs.declared.table.Setting.TheVariants.{Nodes, Order, Budget, Layout, Code, Record, Brief}
+use Rattle.command_line.specs.declared.table.Setting.TheVariants.{Nodes, Order, Budget, Layout, Code, Record, Brief, NoBatch}
 use Rattle.command_line.specs.declared.table.Role.{Role}
 use Rattle.command_line.specs.declared.table.Role.TheVariants as role
 use Rattle.command_line.specs.declared.table.CommandWord.{CommandWord}
@@ -126,16 +126,27 @@ switch_one [] b d h k = same_switch b d (h ∙ sym k)
 switch_one (x ∷ []) b d h k = same_switch b d (h ∙ sym k)
 switch_one (x ∷ y ∷ more) b d h k = absurd h
 
-flag_one : (g : Given) (b d : Bool) → SaysFlag g Brief b → SaysFlag g Brief d → b ≡ d
-flag_one g b d h k = switch_one (g (role.Option Brief)) b d h k
+abbrev IsFlag : Setting → Type 0
+IsFlag s = kind_of s ≡ Flag
 
-pub flag_at : (g : Given) (values : List (List ℕ)) (b : Bool) →
-    g (role.Option Brief) ≡ values → IsSet Flag values (Switch b) → SaysFlag g Brief b
-flag_at g values b e h = subst (λ vs. IsSet Flag vs (Switch b)) (sym e) h
+flag_set : (g : Given) (s : Setting) (b : Bool) → IsFlag s → SaysFlag g s b
+    → IsSet Flag (g (role.Option s)) (Switch b)
+flag_set g s b k h = subst (λ x. IsSet x (g (role.Option s)) (Switch b)) k h
 
-pub flag_few : (g : Given) (b : Bool) → 1 < length (g (role.Option Brief)) →
-    SaysFlag g Brief b → ⊥
-flag_few g b lt h = set_few Flag (g (role.Option Brief)) (Switch b) h lt
+flag_one : (g : Given) (s : Setting) (b d : Bool) → IsFlag s → SaysFlag g s b → SaysFlag g s d
+    → b ≡ d
+flag_one g s b d e h k =
+    switch_one (g (role.Option s)) b d (flag_set g s b e h) (flag_set g s d e k)
+
+pub flag_at : (g : Given) (s : Setting) (values : List (List ℕ)) (b : Bool) → IsFlag s
+    → g (role.Option s) ≡ values → IsSet Flag values (Switch b) → SaysFlag g s b
+flag_at g s values b k e h =
+    subst (λ x. IsSet x (g (role.Option s)) (Switch b)) (sym k)
+    (subst (λ vs. IsSet Flag vs (Switch b)) (sym e) h)
+
+pub flag_few : (g : Given) (s : Setting) (b : Bool) → 1 < length (g (role.Option s))
+    → SaysFlag g s b → ⊥
+flag_few g s b lt h = set_few (kind_of s) (g (role.Option s)) (Switch b) h lt
 
 pub nothing : (xs : List (Bor (List ℕ))) → length xs ≡ 0 → map (λ v. v.now) xs ≡ []
 nothing [] e = refl
@@ -237,74 +248,74 @@ other_third : (v w : List ℕ) → v ≡ w → get_or v 2 0 ≢ get_or w 2 0 →
 other_third v w e h = h (ap (λ x. get_or x 2 0) e)
 
 pub as_rewrite : (g : Given) (c : Command) → Completes (codes "rewrite") g c → (x : List ℕ)
-    × (y : List ℕ) × IsOfRow (row_of (Rewrite x y)) g
-as_rewrite g (Rewrite x y) h = (x, y, h.of_row)
-as_rewrite g (Run f n b w k l t) h = absurd (other_second _ _ h.word_is (omega arith))
+    × (y : List ℕ) × (nb : Bool) × IsOfRow (row_of (Rewrite x y nb)) g
+as_rewrite g (Rewrite x y nb) h = (x, y, nb, h.of_row)
+as_rewrite g (Run f n b w k l t nb) h = absurd (other_second _ _ h.word_is (omega arith))
 as_rewrite g (Listing f) h = absurd (other_first _ _ h.word_is (omega arith))
 as_rewrite g (One f n o b l) h = absurd (other_first _ _ h.word_is (omega arith))
-as_rewrite g (Sim f n o b k l t) h = absurd (other_first _ _ h.word_is (omega arith))
+as_rewrite g (Sim f n o b k l t nb) h = absurd (other_first _ _ h.word_is (omega arith))
 as_rewrite g (Replay f w t) h = absurd (other_third _ _ h.word_is (omega arith))
 as_rewrite g (Generate n y) h = absurd (other_first _ _ h.word_is (omega arith))
 
 pub as_run : (g : Given) (c : Command) → Completes (codes "run") g c → (f : List ℕ)
-    × (n b : ℕ) × (w k l : Option (List ℕ)) × (t : Bool)
-    × IsOfRow (row_of (Run f n b w k l t)) g × IsFit (Run f n b w k l t)
-as_run g (Rewrite f o) h = absurd (other_second _ _ h.word_is (omega arith))
-as_run g (Run f n b w k l t) h = (f, n, b, w, k, l, t, h.of_row, h.fits)
+    × (n b : ℕ) × (w k l : Option (List ℕ)) × (t nb : Bool)
+    × IsOfRow (row_of (Run f n b w k l t nb)) g × IsFit (Run f n b w k l t nb)
+as_run g (Rewrite f o nb) h = absurd (other_second _ _ h.word_is (omega arith))
+as_run g (Run f n b w k l t nb) h = (f, n, b, w, k, l, t, nb, h.of_row, h.fits)
 as_run g (Listing f) h = absurd (other_first _ _ h.word_is (omega arith))
 as_run g (One f n o b l) h = absurd (other_first _ _ h.word_is (omega arith))
-as_run g (Sim f n o b k l t) h = absurd (other_first _ _ h.word_is (omega arith))
+as_run g (Sim f n o b k l t nb) h = absurd (other_first _ _ h.word_is (omega arith))
 as_run g (Replay f w t) h = absurd (other_second _ _ h.word_is (omega arith))
 as_run g (Generate n y) h = absurd (other_first _ _ h.word_is (omega arith))
 
 pub as_list : (g : Given) (c : Command) → Completes (codes "list") g c →
     (f : List ℕ) × IsOfRow (row_of (Listing f)) g
-as_list g (Rewrite f o) h = absurd (other_first _ _ h.word_is (omega arith))
-as_list g (Run f n b w k l t) h = absurd (other_first _ _ h.word_is (omega arith))
+as_list g (Rewrite f o nb) h = absurd (other_first _ _ h.word_is (omega arith))
+as_list g (Run f n b w k l t nb) h = absurd (other_first _ _ h.word_is (omega arith))
 as_list g (Listing f) h = (f, h.of_row)
 as_list g (One f n o b l) h = absurd (other_first _ _ h.word_is (omega arith))
-as_list g (Sim f n o b k l t) h = absurd (other_first _ _ h.word_is (omega arith))
+as_list g (Sim f n o b k l t nb) h = absurd (other_first _ _ h.word_is (omega arith))
 as_list g (Replay f w t) h = absurd (other_first _ _ h.word_is (omega arith))
 as_list g (Generate n y) h = absurd (other_first _ _ h.word_is (omega arith))
 
 pub as_one : (g : Given) (c : Command) → Completes (codes "one") g c → (f : List ℕ)
     × (n : ℕ) × (o : ℕ) × (b : ℕ) × (l : Option (List ℕ)) × IsOfRow (row_of (One f n o b l)) g
-as_one g (Rewrite f o) h = absurd (other_first _ _ h.word_is (omega arith))
-as_one g (Run f n b w k l t) h = absurd (other_first _ _ h.word_is (omega arith))
+as_one g (Rewrite f o nb) h = absurd (other_first _ _ h.word_is (omega arith))
+as_one g (Run f n b w k l t nb) h = absurd (other_first _ _ h.word_is (omega arith))
 as_one g (Listing f) h = absurd (other_first _ _ h.word_is (omega arith))
 as_one g (One f n o b l) h = (f, n, o, b, l, h.of_row)
-as_one g (Sim f n o b k l t) h = absurd (other_first _ _ h.word_is (omega arith))
+as_one g (Sim f n o b k l t nb) h = absurd (other_first _ _ h.word_is (omega arith))
 as_one g (Replay f w t) h = absurd (other_first _ _ h.word_is (omega arith))
 as_one g (Generate n y) h = absurd (other_first _ _ h.word_is (omega arith))
 
 pub as_sim : (g : Given) (c : Command) → Completes (codes "sim") g c → (f : List ℕ)
-    × (n : ℕ) × (o : ℕ) × (b : ℕ) × (k l : Option (List ℕ)) × (t : Bool)
-    × IsOfRow (row_of (Sim f n o b k l t)) g
-as_sim g (Rewrite f o) h = absurd (other_first _ _ h.word_is (omega arith))
-as_sim g (Run f n b w k l t) h = absurd (other_first _ _ h.word_is (omega arith))
+    × (n : ℕ) × (o : ℕ) × (b : ℕ) × (k l : Option (List ℕ)) × (t nb : Bool)
+    × IsOfRow (row_of (Sim f n o b k l t nb)) g
+as_sim g (Rewrite f o nb) h = absurd (other_first _ _ h.word_is (omega arith))
+as_sim g (Run f n b w k l t nb) h = absurd (other_first _ _ h.word_is (omega arith))
 as_sim g (Listing f) h = absurd (other_first _ _ h.word_is (omega arith))
 as_sim g (One f n o b l) h = absurd (other_first _ _ h.word_is (omega arith))
-as_sim g (Sim f n o b k l t) h = (f, n, o, b, k, l, t, h.of_row)
+as_sim g (Sim f n o b k l t nb) h = (f, n, o, b, k, l, t, nb, h.of_row)
 as_sim g (Replay f w t) h = absurd (other_first _ _ h.word_is (omega arith))
 as_sim g (Generate n y) h = absurd (other_first _ _ h.word_is (omega arith))
 
 pub as_replay : (g : Given) (c : Command) → Completes (codes "replay") g c → (f w : List ℕ)
     × (t : Bool) × IsOfRow (row_of (Replay f w t)) g
-as_replay g (Rewrite x y) h = absurd (other_third _ _ h.word_is (omega arith))
-as_replay g (Run f n b w k l t) h = absurd (other_second _ _ h.word_is (omega arith))
+as_replay g (Rewrite x y nb) h = absurd (other_third _ _ h.word_is (omega arith))
+as_replay g (Run f n b w k l t nb) h = absurd (other_second _ _ h.word_is (omega arith))
 as_replay g (Listing f) h = absurd (other_first _ _ h.word_is (omega arith))
 as_replay g (One f n o b l) h = absurd (other_first _ _ h.word_is (omega arith))
-as_replay g (Sim f n o b k l t) h = absurd (other_first _ _ h.word_is (omega arith))
+as_replay g (Sim f n o b k l t nb) h = absurd (other_first _ _ h.word_is (omega arith))
 as_replay g (Replay f w t) h = (f, w, t, h.of_row)
 as_replay g (Generate n y) h = absurd (other_first _ _ h.word_is (omega arith))
 
 pub as_generate : (g : Given) (c : Command) → Completes (codes "gen") g c → (n : ℕ)
     × (y : List ℕ) × IsOfRow (row_of (Generate n y)) g
-as_generate g (Rewrite x y) h = absurd (other_first _ _ h.word_is (omega arith))
-as_generate g (Run f n b w k l t) h = absurd (other_first _ _ h.word_is (omega arith))
+as_generate g (Rewrite x y nb) h = absurd (other_first _ _ h.word_is (omega arith))
+as_generate g (Run f n b w k l t nb) h = absurd (other_first _ _ h.word_is (omega arith))
 as_generate g (Listing f) h = absurd (other_first _ _ h.word_is (omega arith))
 as_generate g (One f n o b l) h = absurd (other_first _ _ h.word_is (omega arith))
-as_generate g (Sim f n o b k l t) h = absurd (other_first _ _ h.word_is (omega arith))
+as_generate g (Sim f n o b k l t nb) h = absurd (other_first _ _ h.word_is (omega arith))
 as_generate g (Replay f w t) h = absurd (other_first _ _ h.word_is (omega arith))
 as_generate g (Generate n y) h = (n, y, h.of_row)
 
@@ -318,17 +329,20 @@ says_one g s n m h k = set_one (kind_of s) (g (role.Option s)) n m h k
 
 one_row : (g : Given) (c d : Command) → IsOfRow (row_of c) g → IsOfRow (row_of d) g →
     (row_of c).word ≡ (row_of d).word → c ≡ d
-one_row g (Rewrite x y) (Rewrite v w) p q e =
+one_row g (Rewrite x y nb) (Rewrite v w nc) p q e =
     let same = same_files Write x y v w _ p.places q.places in
-    ap (λ f. Rewrite f y) same.0 ∙ ap (λ f. Rewrite v f) same.1
-one_row g (Run x n b u c k s) (Run y m r v d l t) p q e =
+    let batch = flag_one g NoBatch nb nc refl p.options.0 q.options.0 in
+    ap (λ f. Rewrite f y nb) same.0 ∙ ap (λ f. Rewrite v f nb) same.1
+    ∙ ap (λ z. Rewrite v w z) batch
+one_row g (Run x n b u c k s nb) (Run y m r v d l t nc) p q e =
     let file = same_file x y _ p.places q.places in
     let nodes = says_one g Nodes n m p.options.0 q.options.0 in
     let budget = says_one g Budget b r p.options.1.0 q.options.1.0 in
     let recorded = names_one g Record u v p.options.1.1.0 q.options.1.1.0 in
     let code = names_one g Code c d p.options.1.1.1.0 q.options.1.1.1.0 in
     let layout = names_one g Layout k l p.options.1.1.1.1.0 q.options.1.1.1.1.0 in
-    let brief = flag_one g s t p.options.1.1.1.1.1.0 q.options.1.1.1.1.1.0 in
+    let brief = flag_one g Brief s t refl p.options.1.1.1.1.1.0 q.options.1.1.1.1.1.0 in
+    let batch = flag_one g NoBatch nb nc refl p.options.1.1.1.1.1.1.0 q.options.1.1.1.1.1.1.0 in
     cc
 one_row g (Listing x) (Listing y) p q e = ap Listing (same_file x y _ p.places q.places)
 one_row g (One x n o b k) (One y m r d l) p q e =
@@ -338,63 +352,64 @@ one_row g (One x n o b k) (One y m r d l) p q e =
     let budget = says_one g Budget b d p.options.1.1.0 q.options.1.1.0 in
     let layout = names_one g Layout k l p.options.1.1.1.0 q.options.1.1.1.0 in
     cc
-one_row g (Sim x n o b c k s) (Sim y m r d f l t) p q e =
+one_row g (Sim x n o b c k s nb) (Sim y m r d f l t nc) p q e =
     let file = same_file x y _ p.places q.places in
     let nodes = says_one g Nodes n m p.options.0 q.options.0 in
     let order = says_one g Order o r p.options.1.0 q.options.1.0 in
     let budget = says_one g Budget b d p.options.1.1.0 q.options.1.1.0 in
     let code = names_one g Code c f p.options.1.1.1.0 q.options.1.1.1.0 in
     let layout = names_one g Layout k l p.options.1.1.1.1.0 q.options.1.1.1.1.0 in
-    let brief = flag_one g s t p.options.1.1.1.1.1.0 q.options.1.1.1.1.1.0 in
+    let brief = flag_one g Brief s t refl p.options.1.1.1.1.1.0 q.options.1.1.1.1.1.0 in
+    let batch = flag_one g NoBatch nb nc refl p.options.1.1.1.1.1.1.0 q.options.1.1.1.1.1.1.0 in
     cc
 one_row g (Replay x y s) (Replay v w t) p q e =
     let files = same_files Read x y v w _ p.places q.places in
-    let brief = flag_one g s t p.options.0 q.options.0 in
+    let brief = flag_one g Brief s t refl p.options.0 q.options.0 in
     ap (λ f. Replay f y s) files.0 ∙ ap (λ f. Replay v f s) files.1 ∙ ap (λ b. Replay v w b) brief
 one_row g (Generate n y) (Generate m w) p q e =
     let same = same_seeds n m y w _ p.places q.places in
     ap (λ k. Generate k y) same.0 ∙ ap (λ f. Generate m f) same.1
-one_row g (Rewrite x y) (Run v m r z d l t) p q e = absurd (other_second _ _ e (omega arith))
-one_row g (Rewrite x y) (Listing v) p q e = absurd (other_first _ _ e (omega arith))
-one_row g (Rewrite x y) (One v m r d l) p q e = absurd (other_first _ _ e (omega arith))
-one_row g (Rewrite x y) (Sim v m r d f l t) p q e = absurd (other_first _ _ e (omega arith))
-one_row g (Run x n b u c k s) (Rewrite v w) p q e = absurd (other_second _ _ e (omega arith))
-one_row g (Run x n b u c k s) (Listing v) p q e = absurd (other_first _ _ e (omega arith))
-one_row g (Run x n b u c k s) (One v m r d l) p q e = absurd (other_first _ _ e (omega arith))
-one_row g (Run x n b u c k s) (Sim v m r d f l t) p q e = absurd (other_first _ _ e (omega arith))
-one_row g (Listing x) (Rewrite v w) p q e = absurd (other_first _ _ e (omega arith))
-one_row g (Listing x) (Run v m r z d l t) p q e = absurd (other_first _ _ e (omega arith))
+one_row g (Rewrite x y nb) (Run v m r z d l t nc) p q e = absurd (other_second _ _ e (omega arith))
+one_row g (Rewrite x y nb) (Listing v) p q e = absurd (other_first _ _ e (omega arith))
+one_row g (Rewrite x y nb) (One v m r d l) p q e = absurd (other_first _ _ e (omega arith))
+one_row g (Rewrite x y nb) (Sim v m r d f l t nc) p q e = absurd (other_first _ _ e (omega arith))
+one_row g (Run x n b u c k s nb) (Rewrite v w nc) p q e = absurd (other_second _ _ e (omega arith))
+one_row g (Run x n b u c k s nb) (Listing v) p q e = absurd (other_first _ _ e (omega arith))
+one_row g (Run x n b u c k s nb) (One v m r d l) p q e = absurd (other_first _ _ e (omega arith))
+one_row g (Run x n b u c k s nb) (Sim v m r d f l t nc) p q e = absurd (other_first _ _ e (omega arith))
+one_row g (Listing x) (Rewrite v w nb) p q e = absurd (other_first _ _ e (omega arith))
+one_row g (Listing x) (Run v m r z d l t nb) p q e = absurd (other_first _ _ e (omega arith))
 one_row g (Listing x) (One v m r d l) p q e = absurd (other_first _ _ e (omega arith))
-one_row g (Listing x) (Sim v m r d f l t) p q e = absurd (other_first _ _ e (omega arith))
-one_row g (One x n o b k) (Rewrite v w) p q e = absurd (other_first _ _ e (omega arith))
-one_row g (One x n o b k) (Run v m r z d l t) p q e = absurd (other_first _ _ e (omega arith))
+one_row g (Listing x) (Sim v m r d f l t nb) p q e = absurd (other_first _ _ e (omega arith))
+one_row g (One x n o b k) (Rewrite v w nb) p q e = absurd (other_first _ _ e (omega arith))
+one_row g (One x n o b k) (Run v m r z d l t nb) p q e = absurd (other_first _ _ e (omega arith))
 one_row g (One x n o b k) (Listing v) p q e = absurd (other_first _ _ e (omega arith))
-one_row g (One x n o b k) (Sim v m r d f l t) p q e = absurd (other_first _ _ e (omega arith))
-one_row g (Sim x n o b c k s) (Rewrite v w) p q e = absurd (other_first _ _ e (omega arith))
-one_row g (Sim x n o b c k s) (Run v m r z d l t) p q e = absurd (other_first _ _ e (omega arith))
-one_row g (Sim x n o b c k s) (Listing v) p q e = absurd (other_first _ _ e (omega arith))
-one_row g (Sim x n o b c k s) (One v m r d l) p q e = absurd (other_first _ _ e (omega arith))
-one_row g (Rewrite x y) (Replay v w t) p q e = absurd (other_third _ _ e (omega arith))
-one_row g (Rewrite x y) (Generate m w) p q e = absurd (other_first _ _ e (omega arith))
-one_row g (Run x n b u c k s) (Replay v w t) p q e = absurd (other_second _ _ e (omega arith))
-one_row g (Run x n b u c k s) (Generate m w) p q e = absurd (other_first _ _ e (omega arith))
+one_row g (One x n o b k) (Sim v m r d f l t nb) p q e = absurd (other_first _ _ e (omega arith))
+one_row g (Sim x n o b c k s nb) (Rewrite v w nc) p q e = absurd (other_first _ _ e (omega arith))
+one_row g (Sim x n o b c k s nb) (Run v m r z d l t nc) p q e = absurd (other_first _ _ e (omega arith))
+one_row g (Sim x n o b c k s nb) (Listing v) p q e = absurd (other_first _ _ e (omega arith))
+one_row g (Sim x n o b c k s nb) (One v m r d l) p q e = absurd (other_first _ _ e (omega arith))
+one_row g (Rewrite x y nb) (Replay v w t) p q e = absurd (other_third _ _ e (omega arith))
+one_row g (Rewrite x y nb) (Generate m w) p q e = absurd (other_first _ _ e (omega arith))
+one_row g (Run x n b u c k s nb) (Replay v w t) p q e = absurd (other_second _ _ e (omega arith))
+one_row g (Run x n b u c k s nb) (Generate m w) p q e = absurd (other_first _ _ e (omega arith))
 one_row g (Listing x) (Replay v w t) p q e = absurd (other_first _ _ e (omega arith))
 one_row g (Listing x) (Generate m w) p q e = absurd (other_first _ _ e (omega arith))
 one_row g (One x n o b k) (Replay v w t) p q e = absurd (other_first _ _ e (omega arith))
 one_row g (One x n o b k) (Generate m w) p q e = absurd (other_first _ _ e (omega arith))
-one_row g (Sim x n o b c k s) (Replay v w t) p q e = absurd (other_first _ _ e (omega arith))
-one_row g (Sim x n o b c k s) (Generate m w) p q e = absurd (other_first _ _ e (omega arith))
-one_row g (Replay x u s) (Rewrite v w) p q e = absurd (other_third _ _ e (omega arith))
-one_row g (Replay x u s) (Run v m r z d l t) p q e = absurd (other_second _ _ e (omega arith))
+one_row g (Sim x n o b c k s nb) (Replay v w t) p q e = absurd (other_first _ _ e (omega arith))
+one_row g (Sim x n o b c k s nb) (Generate m w) p q e = absurd (other_first _ _ e (omega arith))
+one_row g (Replay x u s) (Rewrite v w nb) p q e = absurd (other_third _ _ e (omega arith))
+one_row g (Replay x u s) (Run v m r z d l t nb) p q e = absurd (other_second _ _ e (omega arith))
 one_row g (Replay x u s) (Listing v) p q e = absurd (other_first _ _ e (omega arith))
 one_row g (Replay x u s) (One v m r d l) p q e = absurd (other_first _ _ e (omega arith))
-one_row g (Replay x u s) (Sim v m r d f l t) p q e = absurd (other_first _ _ e (omega arith))
+one_row g (Replay x u s) (Sim v m r d f l t nb) p q e = absurd (other_first _ _ e (omega arith))
 one_row g (Replay x u s) (Generate m w) p q e = absurd (other_first _ _ e (omega arith))
-one_row g (Generate n y) (Rewrite v w) p q e = absurd (other_first _ _ e (omega arith))
-one_row g (Generate n y) (Run v m r z d l t) p q e = absurd (other_first _ _ e (omega arith))
+one_row g (Generate n y) (Rewrite v w nb) p q e = absurd (other_first _ _ e (omega arith))
+one_row g (Generate n y) (Run v m r z d l t nb) p q e = absurd (other_first _ _ e (omega arith))
 one_row g (Generate n y) (Listing v) p q e = absurd (other_first _ _ e (omega arith))
 one_row g (Generate n y) (One v m r d l) p q e = absurd (other_first _ _ e (omega arith))
-one_row g (Generate n y) (Sim v m r d f l t) p q e = absurd (other_first _ _ e (omega arith))
+one_row g (Generate n y) (Sim v m r d f l t nb) p q e = absurd (other_first _ _ e (omega arith))
 one_row g (Generate n y) (Replay v w t) p q e = absurd (other_first _ _ e (omega arith))
 
 -- ---- words of a row, and what they give
@@ -431,51 +446,51 @@ row_given row words r g e = record {
 
 -- the word of a command, with its options
 pub command_word : Command → CommandWord
-command_word (Rewrite x y) = word.Rewrite
-command_word (Run f n b w k l t) = word.Run
+command_word (Rewrite x y nb) = word.Rewrite
+command_word (Run f n b w k l t nb) = word.Run
 command_word (Listing f) = word.List
 command_word (One f n o b l) = word.One
-command_word (Sim f n o b k l t) = word.Sim
+command_word (Sim f n o b k l t nb) = word.Sim
 command_word (Replay f w t) = word.Replay
 command_word (Generate n y) = word.Generate
 
 pub word_is : (c : Command) → text_of (command_word c) ≡ (row_of c).word
 unfolding command_word
-word_is (Rewrite x y) = refl
-word_is (Run f n b w k l t) = refl
+word_is (Rewrite x y nb) = refl
+word_is (Run f n b w k l t nb) = refl
 word_is (Listing f) = refl
 word_is (One f n o b l) = refl
-word_is (Sim f n o b k l t) = refl
+word_is (Sim f n o b k l t nb) = refl
 word_is (Replay f w t) = refl
 word_is (Generate n y) = refl
 
 word_settings : (w : CommandWord) (c : Command) → text_of w ≡ (row_of c).word →
     settings_in (row_of c).options ≡ settings_of w
-word_settings word.Rewrite (Rewrite x y) e = refl
-word_settings word.Run (Run f n b w k l t) e = refl
+word_settings word.Rewrite (Rewrite x y nb) e = refl
+word_settings word.Run (Run f n b w k l t nb) e = refl
 word_settings word.List (Listing f) e = refl
 word_settings word.One (One f n o b l) e = refl
-word_settings word.Sim (Sim f n o b k l t) e = refl
+word_settings word.Sim (Sim f n o b k l t nb) e = refl
 word_settings word.Replay (Replay f w t) e = refl
 word_settings word.Generate (Generate n y) e = refl
-word_settings word.Rewrite (Run f n b w k l t) e = absurd (other_second _ _ e (omega arith))
+word_settings word.Rewrite (Run f n b w k l t nb) e = absurd (other_second _ _ e (omega arith))
 word_settings word.Rewrite (Listing f) e = absurd (other_first _ _ e (omega arith))
 word_settings word.Rewrite (One f n o b l) e = absurd (other_first _ _ e (omega arith))
-word_settings word.Rewrite (Sim f n o b k l t) e = absurd (other_first _ _ e (omega arith))
-word_settings word.Run (Rewrite x y) e = absurd (other_second _ _ e (omega arith))
+word_settings word.Rewrite (Sim f n o b k l t nb) e = absurd (other_first _ _ e (omega arith))
+word_settings word.Run (Rewrite x y nb) e = absurd (other_second _ _ e (omega arith))
 word_settings word.Run (Listing f) e = absurd (other_first _ _ e (omega arith))
 word_settings word.Run (One f n o b l) e = absurd (other_first _ _ e (omega arith))
-word_settings word.Run (Sim f n o b k l t) e = absurd (other_first _ _ e (omega arith))
-word_settings word.List (Rewrite x y) e = absurd (other_first _ _ e (omega arith))
-word_settings word.List (Run f n b w k l t) e = absurd (other_first _ _ e (omega arith))
+word_settings word.Run (Sim f n o b k l t nb) e = absurd (other_first _ _ e (omega arith))
+word_settings word.List (Rewrite x y nb) e = absurd (other_first _ _ e (omega arith))
+word_settings word.List (Run f n b w k l t nb) e = absurd (other_first _ _ e (omega arith))
 word_settings word.List (One f n o b l) e = absurd (other_first _ _ e (omega arith))
-word_settings word.List (Sim f n o b k l t) e = absurd (other_first _ _ e (omega arith))
-word_settings word.One (Rewrite x y) e = absurd (other_first _ _ e (omega arith))
-word_settings word.One (Run f n b w k l t) e = absurd (other_first _ _ e (omega arith))
+word_settings word.List (Sim f n o b k l t nb) e = absurd (other_first _ _ e (omega arith))
+word_settings word.One (Rewrite x y nb) e = absurd (other_first _ _ e (omega arith))
+word_settings word.One (Run f n b w k l t nb) e = absurd (other_first _ _ e (omega arith))
 word_settings word.One (Listing f) e = absurd (other_first _ _ e (omega arith))
-word_settings word.One (Sim f n o b k l t) e = absurd (other_first _ _ e (omega arith))
-word_settings word.Sim (Rewrite x y) e = absurd (other_first _ _ e (omega arith))
-word_settings word.Sim (Run f n b w k l t) e = absurd (other_first _ _ e (omega arith))
+word_settings word.One (Sim f n o b k l t nb) e = absurd (other_first _ _ e (omega arith))
+word_settings word.Sim (Rewrite x y nb) e = absurd (other_first _ _ e (omega arith))
+word_settings word.Sim (Run f n b w k l t nb) e = absurd (other_first _ _ e (omega arith))
 word_settings word.Sim (Listing f) e = absurd (other_first _ _ e (omega arith))
 word_settings word.Sim (One f n o b l) e = absurd (other_first _ _ e (omega arith))
 word_settings word.Rewrite (Replay f w t) e = absurd (other_third _ _ e (omega arith))
@@ -488,17 +503,17 @@ word_settings word.One (Replay f w t) e = absurd (other_first _ _ e (omega arith
 word_settings word.One (Generate n y) e = absurd (other_first _ _ e (omega arith))
 word_settings word.Sim (Replay f w t) e = absurd (other_first _ _ e (omega arith))
 word_settings word.Sim (Generate n y) e = absurd (other_first _ _ e (omega arith))
-word_settings word.Replay (Rewrite x y) e = absurd (other_third _ _ e (omega arith))
-word_settings word.Replay (Run f n b w k l t) e = absurd (other_second _ _ e (omega arith))
+word_settings word.Replay (Rewrite x y nb) e = absurd (other_third _ _ e (omega arith))
+word_settings word.Replay (Run f n b w k l t nb) e = absurd (other_second _ _ e (omega arith))
 word_settings word.Replay (Listing f) e = absurd (other_first _ _ e (omega arith))
 word_settings word.Replay (One f n o b l) e = absurd (other_first _ _ e (omega arith))
-word_settings word.Replay (Sim f n o b k l t) e = absurd (other_first _ _ e (omega arith))
+word_settings word.Replay (Sim f n o b k l t nb) e = absurd (other_first _ _ e (omega arith))
 word_settings word.Replay (Generate n y) e = absurd (other_first _ _ e (omega arith))
-word_settings word.Generate (Rewrite x y) e = absurd (other_first _ _ e (omega arith))
-word_settings word.Generate (Run f n b w k l t) e = absurd (other_first _ _ e (omega arith))
+word_settings word.Generate (Rewrite x y nb) e = absurd (other_first _ _ e (omega arith))
+word_settings word.Generate (Run f n b w k l t nb) e = absurd (other_first _ _ e (omega arith))
 word_settings word.Generate (Listing f) e = absurd (other_first _ _ e (omega arith))
 word_settings word.Generate (One f n o b l) e = absurd (other_first _ _ e (omega arith))
-word_settings word.Generate (Sim f n o b k l t) e = absurd (other_first _ _ e (omega arith))
+word_settings word.Generate (Sim f n o b k l t nb) e = absurd (other_first _ _ e (omega arith))
 word_settings word.Generate (Replay f w t) e = absurd (other_first _ _ e (omega arith))
 
 same_head : (v w : List ℕ) (vs ws : List (List ℕ)) → v ∷ vs ≡ w ∷ ws → v ≡ w

@@ -7,17 +7,18 @@ use Rattle.command_line.specs.declared.table.Access.TheVariants.{Read, Write}
 use Rattle.command_line.specs.declared.table.Kind.{Kind}
 use Rattle.command_line.specs.declared.table.Kind.TheVariants.{Number, File, Flag}
 use Rattle.command_line.specs.declared.table.Setting.{Setting}
-use Rattle.command_line.specs.declared.table.Setting.TheVariants.{Nodes, Order, Budget, Layout, Code, Record, Brief}
+use Rattle.command_line.specs.declared.table.Setting.TheVariants.{Nodes, Order, Budget, Layout, Code, Record, Brief, NoBatch}
 
 pub data Command : Type 0 where
-  -- write the rewritten executable of the one in a file into another
-  Rewrite : (input output : List ℕ) → Command
+  -- write the rewritten executable of the one in a file into another, without batches where these
+  -- are not wanted
+  Rewrite : (input output : List ℕ) (no_batch : Bool) → Command
   -- run so many nodes of the rewritten code of the executable in a file, each in a thread of its
   -- own, at most so many words of each processor; where they are named, the record of the run goes
   -- into a file, the code is that of the executable in a file, and the blocks are those of the
-  -- layout in a file; a brief text has no counts
+  -- layout in a file; a brief text has no counts; the code has no batches where these aren't wanted
   Run : (file : List ℕ) (nodes budget : ℕ) (record_file code layout : Option (List ℕ))
-      (brief : Bool) → Command
+      (brief no_batch : Bool) → Command
   -- list its code words
   Listing : (file : List ℕ) → Command
   -- run so many processors of the original on one memory, by the order of a number, at most so
@@ -25,8 +26,8 @@ pub data Command : Type 0 where
   One : (file : List ℕ) (nodes order budget : ℕ) (layout : Option (List ℕ)) → Command
   -- run so many nodes of the rewritten code by the order of a number, at most so many words of each
   -- processor; the code, the blocks and the text are as of a run
-  Sim : (file : List ℕ) (nodes order budget : ℕ) (code layout : Option (List ℕ)) (brief : Bool)
-      → Command
+  Sim : (file : List ℕ) (nodes order budget : ℕ) (code layout : Option (List ℕ))
+      (brief no_batch : Bool) → Command
   -- make the run of a record once more: a file holds the executable, and another the record; the
   -- text is as of a run
   Replay : (file record_file : List ℕ) (brief : Bool) → Command
@@ -42,6 +43,7 @@ option_word Layout = codes "--layout"
 option_word Code = codes "--code"
 option_word Record = codes "--record"
 option_word Brief = codes "--brief"
+option_word NoBatch = codes "--no-batch"
 
 -- what an option is given
 abbrev pub kind_of : Setting → Kind
@@ -52,6 +54,7 @@ kind_of Layout = File Read
 kind_of Code = File Read
 kind_of Record = File Write
 kind_of Brief = Flag
+kind_of NoBatch = Flag
 
 -- the place of an operand, which stands behind the command's word without an option: the name of
 -- a file, or a number
@@ -79,17 +82,18 @@ pub record Row : Type 0 where
 
 -- the table
 abbrev pub row_of : Command → Row
-row_of (Rewrite input output) = record {
+row_of (Rewrite input output no_batch) = record {
   word = codes "rewrite";
   places = (Named Read, Name input) ∷ (Named Write, Name output) ∷ [];
-  options = [];
+  options = (NoBatch, Switch no_batch) ∷ [];
 }
-row_of (Run file nodes budget record_file code layout brief) = record {
+row_of (Run file nodes budget record_file code layout brief no_batch) = record {
   word = codes "run";
   places = (Named Read, Name file) ∷ [];
   options =
       (Nodes, Amount nodes) ∷ (Budget, Amount budget) ∷ (Record, name_or_none record_file)
-      ∷ (Code, name_or_none code) ∷ (Layout, name_or_none layout) ∷ (Brief, Switch brief) ∷ [];
+      ∷ (Code, name_or_none code) ∷ (Layout, name_or_none layout) ∷ (Brief, Switch brief)
+      ∷ (NoBatch, Switch no_batch) ∷ [];
 }
 row_of (Listing file) = record {
   word = codes "list";
@@ -103,12 +107,13 @@ row_of (One file nodes order budget layout) = record {
       (Nodes, Amount nodes) ∷ (Order, Amount order) ∷ (Budget, Amount budget)
       ∷ (Layout, name_or_none layout) ∷ [];
 }
-row_of (Sim file nodes order budget code layout brief) = record {
+row_of (Sim file nodes order budget code layout brief no_batch) = record {
   word = codes "sim";
   places = (Named Read, Name file) ∷ [];
   options =
       (Nodes, Amount nodes) ∷ (Order, Amount order) ∷ (Budget, Amount budget)
-      ∷ (Code, name_or_none code) ∷ (Layout, name_or_none layout) ∷ (Brief, Switch brief) ∷ [];
+      ∷ (Code, name_or_none code) ∷ (Layout, name_or_none layout) ∷ (Brief, Switch brief)
+      ∷ (NoBatch, Switch no_batch) ∷ [];
 }
 row_of (Replay file record_file brief) = record {
   word = codes "replay";
@@ -123,7 +128,7 @@ row_of (Generate number output) = record {
 
 -- only a run of one node may go without the record of it
 abbrev pub IsFit : Command → Type 0
-IsFit (Run file nodes budget None code layout brief) = nodes ≡ 1
+IsFit (Run file nodes budget None code layout brief no_batch) = nodes ≡ 1
 IsFit command = Unit {0}
 
 -- the options that a command has

@@ -24,15 +24,18 @@ mod tests;
 /// What the program is to do.
 #[derive(Clone, Copy, Debug, PartialEq, Eq)]
 pub enum Command<'a> {
-    /// Write the rewritten executable of the one in the file `input` into the file `output`.
+    /// Write the rewritten executable of the one in the file `input` into the file `output`: with
+    /// `no_batch`, no run of accesses shares a check.
     Rewrite {
         input: &'a str,
         output: &'a str,
+        no_batch: bool,
     },
     /// Run `nodes` nodes of the rewritten code of the executable in a file, each in a thread of its
     /// own, at most `budget` words of each processor. Where they are named, the record of the run
     /// goes into the file `record_file`, the code is that of the executable in the file `code`, and
     /// the blocks are those of the layout in the file `layout`. A `brief` text has no counts.
+    /// `no_batch` is as of `Rewrite`.
     Run {
         file: &'a str,
         nodes: NodeCount,
@@ -41,6 +44,7 @@ pub enum Command<'a> {
         code: Option<&'a str>,
         layout: Option<&'a str>,
         brief: bool,
+        no_batch: bool,
     },
     /// List the code words of the executable in a file.
     List {
@@ -65,6 +69,7 @@ pub enum Command<'a> {
         code: Option<&'a str>,
         layout: Option<&'a str>,
         brief: bool,
+        no_batch: bool,
     },
     /// Make the run of the record in the file `record_file` once more, of the executable in `file`.
     /// The text is as of `Run`.
@@ -179,13 +184,14 @@ fn order_in(matches: &ArgMatches<'_>) -> Option<u32>
     }
 }
 
-/// Whether the text is to be brief.
-fn brief_in(matches: &ArgMatches<'_>) -> Option<bool>
-    ensures { MatchOption result
-        ((b : Bool) → SaysFlag (given_by matches.now) Setting.Brief b → ⊥)
-        (λ b. SaysFlag (given_by matches.now) Setting.Brief b) }
+/// Whether a flag is there.
+fn flag_in(matches: &ArgMatches<'_>, setting: Setting) -> Option<bool>
+    requires flag { model.kind_of setting ≡ Kind.Flag }
+    ensures there { MatchOption result
+        ((b : Bool) → SaysFlag (given_by matches.now) setting b → ⊥)
+        (λ b. SaysFlag (given_by matches.now) setting b) }
 {
-    match given_for(matches, Role::Option(Setting::Brief)) {
+    match given_for(matches, Role::Option(setting)) {
         Given::Nothing => Some(false),
         Given::One(_) => Some(true),
         Given::Two(_, _) => None,
@@ -200,7 +206,12 @@ fn rewrite_of<'a>(matches: &ArgMatches<'a>) -> Option<Command<'a>>
         (λ c. Completes (codes "rewrite") (given_by matches.now) (meaning_of c)) }
 {
     let (input, output) = two_operands_in(matches)?;
-    Some(Command::Rewrite { input, output })
+    let no_batch = flag_in(matches, Setting::NoBatch)?;
+    Some(Command::Rewrite {
+        input,
+        output,
+        no_batch,
+    })
 }
 
 /// The command `run`, which goes without a record for one node alone.
@@ -215,7 +226,8 @@ fn run_of<'a>(matches: &ArgMatches<'a>) -> Option<Command<'a>>
     let record_file = name_in(matches, Setting::Record)?;
     let code = name_in(matches, Setting::Code)?;
     let layout = name_in(matches, Setting::Layout)?;
-    let brief = brief_in(matches)?;
+    let brief = flag_in(matches, Setting::Brief)?;
+    let no_batch = flag_in(matches, Setting::NoBatch)?;
     if record_file.is_none() && nodes.number() != 1 {
         return None;
     }
@@ -227,6 +239,7 @@ fn run_of<'a>(matches: &ArgMatches<'a>) -> Option<Command<'a>>
         code,
         layout,
         brief,
+        no_batch,
     })
 }
 
@@ -272,7 +285,8 @@ fn sim_of<'a>(matches: &ArgMatches<'a>) -> Option<Command<'a>>
     let budget = budget_in(matches)?;
     let code = name_in(matches, Setting::Code)?;
     let layout = name_in(matches, Setting::Layout)?;
-    let brief = brief_in(matches)?;
+    let brief = flag_in(matches, Setting::Brief)?;
+    let no_batch = flag_in(matches, Setting::NoBatch)?;
     Some(Command::Sim {
         file,
         nodes,
@@ -281,6 +295,7 @@ fn sim_of<'a>(matches: &ArgMatches<'a>) -> Option<Command<'a>>
         code,
         layout,
         brief,
+        no_batch,
     })
 }
 
@@ -291,7 +306,7 @@ fn replay_of<'a>(matches: &ArgMatches<'a>) -> Option<Command<'a>>
         (λ c. Completes (codes "replay") (given_by matches.now) (meaning_of c)) }
 {
     let (file, record_file) = two_operands_in(matches)?;
-    let brief = brief_in(matches)?;
+    let brief = flag_in(matches, Setting::Brief)?;
     Some(Command::Replay {
         file,
         record_file,

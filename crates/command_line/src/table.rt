@@ -33,6 +33,7 @@ pub(crate) enum Setting {
     Code,
     Record,
     Brief,
+    NoBatch,
 }
 
 /// What an argument is for.
@@ -85,8 +86,10 @@ impl CommandWord {
                 Setting::Code,
                 Setting::Layout,
                 Setting::Brief,
+                Setting::NoBatch,
             ],
-            CommandWord::Rewrite | CommandWord::List => &[],
+            CommandWord::Rewrite => &[Setting::NoBatch],
+            CommandWord::List => &[],
             CommandWord::Replay => &[Setting::Brief],
             CommandWord::Generate => &[],
             CommandWord::One => &[
@@ -102,6 +105,7 @@ impl CommandWord {
                 Setting::Code,
                 Setting::Layout,
                 Setting::Brief,
+                Setting::NoBatch,
             ],
         }
     }
@@ -120,6 +124,7 @@ impl Setting {
             Setting::Code => "code",
             Setting::Record => "record",
             Setting::Brief => "brief",
+            Setting::NoBatch => "no-batch",
         }
     }
 
@@ -145,7 +150,7 @@ impl Setting {
             },
             Setting::Layout | Setting::Code => Kind::File(Access::Read),
             Setting::Record => Kind::File(Access::Write),
-            Setting::Brief => Kind::Flag,
+            Setting::Brief | Setting::NoBatch => Kind::Flag,
         }
     }
 

@@ -17,7 +17,11 @@ fn words_of(alloc: Global, line: &str) -> Result<Vec<Text>, Fail> {
 /// The count of nodes, the order and the budget of a command, 0 for what it lacks, with its file.
 fn parts_of(command: Command<'_>) -> (&str, u8, u32, u64) {
     match command {
-        Command::Rewrite { input, output: _ } => (input, 0, 0, 0),
+        Command::Rewrite {
+            input,
+            output: _,
+            no_batch: _,
+        } => (input, 0, 0, 0),
         Command::Run {
             file,
             nodes,
@@ -26,6 +30,7 @@ fn parts_of(command: Command<'_>) -> (&str, u8, u32, u64) {
             code: _,
             layout: _,
             brief: _,
+            no_batch: _,
         } => (file, nodes.number(), 0, budget.number()),
         Command::List { file } => (file, 0, 0, 0),
         Command::Replay {
@@ -49,6 +54,7 @@ fn parts_of(command: Command<'_>) -> (&str, u8, u32, u64) {
             code: _,
             layout: _,
             brief: _,
+            no_batch: _,
         } => (file, nodes.number(), order, budget.number()),
     }
 }
@@ -115,6 +121,12 @@ fn reads_the_words_that_are_commands(rt: HostRuntime) -> Result<(), Fail> {
         ("run --brief a", Some((1, 0, 100_000_000))),
         ("run a --brief=x", None),
         ("run a --brief --brief", None),
+        ("run a --no-batch --brief", Some((1, 0, 100_000_000))),
+        ("run a --no-batch --no-batch", None),
+        ("rewrite --no-batch a b", Some((0, 0, 0))),
+        ("rewrite a b --brief", None),
+        ("one a --no-batch", None),
+        ("sim a --no-batch", Some((1, 0, 100_000_000))),
         ("one a --brief", None),
         ("sim a", Some((1, 0, 100_000_000))),
         (
@@ -135,6 +147,7 @@ fn reads_the_words_that_are_commands(rt: HostRuntime) -> Result<(), Fail> {
         ("replay a r", Some((0, 0, 0))),
         ("replay --brief a r", Some((0, 0, 0))),
         ("replay a", None),
+        ("replay a r --no-batch", None),
         ("replay a r --nodes 2", None),
         ("gen 0 a", Some((0, 0, 0))),
         ("gen 4294967295 a", Some((0, u32::MAX, 0))),

@@ -34,13 +34,13 @@ low_status false = omega arith
 
 pub is_low : (c : Command) (held : List ℕ → Option (List ℕ)) (inputs : Inputs) (text : List ℕ)
     (status : ℕ) → IsTextBeside c held inputs text status → status ≤ 1
-is_low (Rewrite input output) held inputs text status h =
+is_low (Rewrite input output no_batch) held inputs text status h =
     let zero = h.status_is in omega (arith, zero)
-is_low (Run file nodes budget record_file code layout brief) held inputs text status h =
+is_low (Run file nodes budget record_file code layout brief no_batch) held inputs text status h =
     subst (λ s. s ≤ 1) (sym h.status_is) (low_status _)
 is_low (One file nodes order budget layout) held inputs text status h =
     subst (λ s. s ≤ 1) (sym h.status_is) (low_status _)
-is_low (Sim file nodes order budget code layout brief) held inputs text status h =
+is_low (Sim file nodes order budget code layout brief no_batch) held inputs text status h =
     subst (λ s. s ≤ 1) (sym h.status_is) (low_status _)
 is_low (Listing file) held inputs text status h = let zero = h.1 in omega (arith, zero)
 is_low (Replay file record_file brief) held inputs text status h =
@@ -323,61 +323,61 @@ none_written c none inputs before now = (
     nothing_in : (name : List ℕ) → Contains [] name → ⊥
     nothing_in name h = omega (arith, h.1)
 
-pub only_output : (input output name : List ℕ) → Contains (writes (Rewrite input output)) name
+pub only_output : (input output name : List ℕ) (no_batch : Bool) → Contains (writes (Rewrite input output no_batch)) name
     → name ≡ output
-only_output input output name h = only_of output name h
+only_output input output name no_batch h = only_of output name h
 
-pub has_output : (input output : List ℕ) → Contains (writes (Rewrite input output)) output
-has_output input output = (0, omega arith, refl)
+pub has_output : (input output : List ℕ) (no_batch : Bool) → Contains (writes (Rewrite input output no_batch)) output
+has_output input output no_batch = (0, omega arith, refl)
 
-pub rewritten_written : (input output : List ℕ) (inputs : Inputs) (now : FilesState)
-    → IfSome (now.held output) (IsRewrittenFile inputs.executable)
-    → AreWritten (Rewrite input output) inputs now
-rewritten_written input output inputs now h name there =
-    subst (λ n. IfSome (now.held n) (IsRewrittenFile inputs.executable)) (sym (only_output input output name there)) h
+pub rewritten_written : (input output : List ℕ) (no_batch : Bool) (inputs : Inputs) (now : FilesState)
+    → IfSome (now.held output) (IsRewrittenFile inputs.batches inputs.executable)
+    → AreWritten (Rewrite input output no_batch) inputs now
+rewritten_written input output no_batch inputs now h name there =
+    subst (λ n. IfSome (now.held n) (IsRewrittenFile inputs.batches inputs.executable)) (sym (only_output input output name no_batch there)) h
 
-left_at : (input output : List ℕ) (inputs : Inputs) (before now : FilesState)
+left_at : (input output : List ℕ) (no_batch : Bool) (inputs : Inputs) (before now : FilesState)
     → (now.held output ≡ before.held output)
     ⊎ Rose (before.failed_writes output) (now.failed_writes output)
-    → AreLeft (Rewrite input output) inputs before now
-left_at input output inputs before now h name there =
-    subst (IsLeft (Rewrite input output) inputs before now) (sym (only_output input output name there))
+    → AreLeft (Rewrite input output no_batch) inputs before now
+left_at input output no_batch inputs before now h name there =
+    subst (IsLeft (Rewrite input output no_batch) inputs before now) (sym (only_output input output name no_batch there))
     (elim h [ inl same ↦ inl same | inr rose ↦ inr (inr rose) ])
 
-pub rewrite_left : (input output : List ℕ) (inputs : Inputs) (before now : FilesState) (f : Failure)
-    → IsRewriteFailure inputs.executable before now output f
-    → AreLeft (Rewrite input output) inputs before now
-rewrite_left input output inputs before now (Input line) h = absurd h
-rewrite_left input output inputs before now (NotWritten line) h =
-    left_at input output inputs before now (inr h.0)
-rewrite_left input output inputs before now (Refused line) h =
-    left_at input output inputs before now (inl (h.1 output))
-rewrite_left input output inputs before now (Layout line) h = absurd h
-rewrite_left input output inputs before now (Record line) h = absurd h
-rewrite_left input output inputs before now Output h = absurd h
-rewrite_left input output inputs before now OutOfMemory h = left_at input output inputs before now h
+pub rewrite_left : (input output : List ℕ) (no_batch : Bool) (inputs : Inputs) (before now : FilesState) (f : Failure)
+    → IsRewriteFailure inputs.batches inputs.executable before now output f
+    → AreLeft (Rewrite input output no_batch) inputs before now
+rewrite_left input output no_batch inputs before now (Input line) h = absurd h
+rewrite_left input output no_batch inputs before now (NotWritten line) h =
+    left_at input output no_batch inputs before now (inr h.0)
+rewrite_left input output no_batch inputs before now (Refused line) h =
+    left_at input output no_batch inputs before now (inl (h.1 output))
+rewrite_left input output no_batch inputs before now (Layout line) h = absurd h
+rewrite_left input output no_batch inputs before now (Record line) h = absurd h
+rewrite_left input output no_batch inputs before now Output h = absurd h
+rewrite_left input output no_batch inputs before now OutOfMemory h = left_at input output no_batch inputs before now h
 
-pub rewrite_kept : (output file : List ℕ) (before now : FilesState) (f : Failure)
-    → IsRewriteFailure file before now output f → AreKept before now f
-rewrite_kept output file before now (Input line) h four = absurd h
-rewrite_kept output file before now (NotWritten line) h four = absurd (omega (arith, four))
-rewrite_kept output file before now (Refused line) h four = h.1
-rewrite_kept output file before now (Layout line) h four = absurd h
-rewrite_kept output file before now (Record line) h four = absurd h
-rewrite_kept output file before now Output h four = absurd h
-rewrite_kept output file before now OutOfMemory h four = absurd (omega (arith, four))
+pub rewrite_kept : (batches : Bool) (output file : List ℕ) (before now : FilesState) (f : Failure)
+    → IsRewriteFailure batches file before now output f → AreKept before now f
+rewrite_kept batches output file before now (Input line) h four = absurd h
+rewrite_kept batches output file before now (NotWritten line) h four = absurd (omega (arith, four))
+rewrite_kept batches output file before now (Refused line) h four = h.1
+rewrite_kept batches output file before now (Layout line) h four = absurd h
+rewrite_kept batches output file before now (Record line) h four = absurd h
+rewrite_kept batches output file before now Output h four = absurd h
+rewrite_kept batches output file before now OutOfMemory h four = absurd (omega (arith, four))
 
-pub rewrite_fails : (input output : List ℕ) (inputs : Inputs) (before now : FilesState) (state : SinkState)
-    (f : Failure) → IsRewriteFailure inputs.executable before now output f
-    → IsPerformFailure (Rewrite input output) inputs before now state state f
-rewrite_fails input output inputs before now state (Input line) h = absurd h
-rewrite_fails input output inputs before now state (NotWritten line) h =
-    (refl, (output, has_output input output, h.0, h.1))
-rewrite_fails input output inputs before now state (Refused line) h = (h.0, refl)
-rewrite_fails input output inputs before now state (Layout line) h = absurd h
-rewrite_fails input output inputs before now state (Record line) h = absurd h
-rewrite_fails input output inputs before now state Output h = absurd h
-rewrite_fails input output inputs before now state OutOfMemory h = inl refl
+pub rewrite_fails : (input output : List ℕ) (no_batch : Bool) (inputs : Inputs) (before now : FilesState) (state : SinkState)
+    (f : Failure) → IsRewriteFailure inputs.batches inputs.executable before now output f
+    → IsPerformFailure (Rewrite input output no_batch) inputs before now state state f
+rewrite_fails input output no_batch inputs before now state (Input line) h = absurd h
+rewrite_fails input output no_batch inputs before now state (NotWritten line) h =
+    (refl, (output, has_output input output no_batch, h.0, h.1))
+rewrite_fails input output no_batch inputs before now state (Refused line) h = (h.0, refl)
+rewrite_fails input output no_batch inputs before now state (Layout line) h = absurd h
+rewrite_fails input output no_batch inputs before now state (Record line) h = absurd h
+rewrite_fails input output no_batch inputs before now state Output h = absurd h
+rewrite_fails input output no_batch inputs before now state OutOfMemory h = inl refl
 
 pub same_taken : (o : Option (List ℕ)) → o ≡ option_map (λ t. t ++ []) o
 same_taken None = refl
@@ -421,11 +421,11 @@ plain_failure c inputs fb fn before now r h =
 
 pub puts_nothing : (c : Command) (held : List ℕ → Option (List ℕ)) (inputs : Inputs)
     (t : Option (List ℕ)) (r : Result ℕ Failure)
-    → ((status : ℕ) → IsRewrittenText inputs.executable [] status
+    → ((status : ℕ) → IsRewrittenText inputs.batches inputs.executable [] status
     → IsTextBeside c held inputs [] status)
-    → IfOk r (IsRewrittenText inputs.executable [])
+    → IfOk r (IsRewrittenText inputs.batches inputs.executable [])
     → IfOk r (λ status. Puts (IsTextBeside c held inputs) status t t)
 puts_nothing c held inputs t r is h =
-    ok_as (IsRewrittenText inputs.executable [])
+    ok_as (IsRewrittenText inputs.batches inputs.executable [])
     (λ status. Puts (IsTextBeside c held inputs) status t t) r
     (λ status k. ([], is status k, same_taken t)) h

@@ -1,5 +1,5 @@
 -- The files that commands read.
-use Rattle.std.proofs.Common.{◌≡◌, ◌⊎◌, ℕ, ◌<◌, ◌≤◌, List, [], ◌∷◌, ◌++◌, length, Option, Some, None, option_map, refl, sym, ap, ◌∙◌, subst, inl, inr, arith}
+use Rattle.std.proofs.Common.{◌≡◌, ◌⊎◌, ℕ, ◌<◌, ◌≤◌, Bool, List, [], ◌∷◌, ◌++◌, length, Option, Some, None, option_map, refl, sym, ap, ◌∙◌, subst, inl, inr, arith}
 use Rattle.std.specs.Prelude.{Contains, IfSome}
 use Rattle.std.proofs.lemmas.List.Elements.{Contains-append_left, Contains-append_right, Contains-append_cases}
 use Rattle.command_line.specs.Commands.{Command, Rewrite, Run, Listing, One, Sim, Replay, Generate, reads}
@@ -18,18 +18,18 @@ files_of c =
     named (input_of c) ++ (named (code_of c) ++ (named (layout_of c) ++ named (recorded_of c)))
 
 reads_are : (c : Command) → reads c ≡ files_of c
-reads_are (Rewrite input output) = refl
-reads_are (Run file nodes budget record_file None None brief) = refl
-reads_are (Run file nodes budget record_file None (Some layout) brief) = refl
-reads_are (Run file nodes budget record_file (Some code) None brief) = refl
-reads_are (Run file nodes budget record_file (Some code) (Some layout) brief) = refl
+reads_are (Rewrite input output no_batch) = refl
+reads_are (Run file nodes budget record_file None None brief no_batch) = refl
+reads_are (Run file nodes budget record_file None (Some layout) brief no_batch) = refl
+reads_are (Run file nodes budget record_file (Some code) None brief no_batch) = refl
+reads_are (Run file nodes budget record_file (Some code) (Some layout) brief no_batch) = refl
 reads_are (Listing file) = refl
 reads_are (One file nodes order budget None) = refl
 reads_are (One file nodes order budget (Some layout)) = refl
-reads_are (Sim file nodes order budget None None brief) = refl
-reads_are (Sim file nodes order budget None (Some layout) brief) = refl
-reads_are (Sim file nodes order budget (Some code) None brief) = refl
-reads_are (Sim file nodes order budget (Some code) (Some layout) brief) = refl
+reads_are (Sim file nodes order budget None None brief no_batch) = refl
+reads_are (Sim file nodes order budget None (Some layout) brief no_batch) = refl
+reads_are (Sim file nodes order budget (Some code) None brief no_batch) = refl
+reads_are (Sim file nodes order budget (Some code) (Some layout) brief no_batch) = refl
 reads_are (Replay file record_file brief) = refl
 reads_are (Generate number output) = refl
 
@@ -131,9 +131,14 @@ bytes_are held contents None bytes h told = h
 bytes_are held contents (Some name) bytes h told =
     content_is (held name) bytes (contents name) h (told name refl)
 
-abbrev inputs : List ℕ → Option (List ℕ) → Option (List ℕ) → List ℕ → Inputs
-inputs executable code layout recorded =
-    record { executable = executable; code = code; layout = layout; recorded = recorded }
+abbrev inputs : List ℕ → Option (List ℕ) → Option (List ℕ) → List ℕ → Bool → Inputs
+inputs executable code layout recorded batches = record {
+  executable = executable;
+  code = code;
+  layout = layout;
+  recorded = recorded;
+  batches = batches;
+}
 
 pub inputs_read : (c : Command) (held : List ℕ → Option (List ℕ)) (i : Inputs) → AreRead c held i
     → AreInputs c held i
@@ -149,10 +154,12 @@ inputs_read c held i h contents told =
     let first = bytes_in contents (input_of c) in
     let second = option_map contents (code_of c) in
     let third = option_map contents (layout_of c) in
-    ap (λ x. inputs x i.code i.layout i.recorded) one
-    ∙ ap (λ x. inputs first x i.layout i.recorded) two
-    ∙ ap (λ x. inputs first second x i.recorded) three
-    ∙ ap (λ x. inputs first second third x) four
+    let fourth = bytes_in contents (recorded_of c) in
+    ap (λ x. inputs x i.code i.layout i.recorded i.batches) one
+    ∙ ap (λ x. inputs first x i.layout i.recorded i.batches) two
+    ∙ ap (λ x. inputs first second x i.recorded i.batches) three
+    ∙ ap (λ x. inputs first second third x i.batches) four
+    ∙ ap (λ x. inputs first second third fourth x) h.batches
 
 -- no file that was read is too long
 short_content : (o : Option (List ℕ)) (bytes content : List ℕ) → IsContent o bytes

@@ -7,3 +7,4 @@ pub mod RecordLemmas
 pub mod Recorded
 pub mod ReplayLemmas
 pub mod GenerateLemmas
+pub mod InterleavedLemmas

@@ -118,9 +118,9 @@ most n budget few range =
 below : (k m top : ℕ) → k ≤ m → m < top → k < top
 below k m top p q = omega (arith, p, q)
 
-pub is_record : (work : Work) (core : Core) (own : List Stamped) → TellTakes → AreShort
-    → RunsRewritten work → StandsForOwnRun work core own → IsRecord (record_at work core)
-is_record work core own tell short r stands =
+pub is_record : (batches : Bool) (work : Work) (core : Core) (own : List Stamped) → TellTakes → AreShort
+    → RunsRewritten work → StandsForOwnRun work core own → IsRecord (record_at batches work core)
+is_record batches work core own tell short r stands =
     let run : List Event = run_of own in
     let n : ℕ = work.layout.nodes in
     let events : ℕ = length run in
@@ -152,14 +152,14 @@ same_from f g first (suc count) h =
     let more = same_from f g (first + 1) count (λ i low. h i (omega (arith, low))) in
     ap (λ x. x ∷ map f (range_with_len (first + 1) count)) one ∙ ap (λ xs. g first ∷ xs) more
 
-pub own_record : (work : Work) (core : Core) (own : List Stamped) → StandsForOwnRun work core own
-    → record_at work core ≡ record_of work own
-own_record work core own stands =
+pub own_record : (batches : Bool) (work : Work) (core : Core) (own : List Stamped)
+    → StandsForOwnRun work core own → record_at batches work core ≡ record_of batches work own
+own_record batches work core own stands =
     let end : Core = after work (opening_core work) (run_of own) in
     ap (λ js. record {
       nodes = work.layout.nodes;
       budget = work.budget;
-      batch = true;
+      batch = batches;
       blocks = work.layout.named;
       journals = js;
     }) (same_from (λ i. (core.nodes i).journal) (λ i. (end.nodes i).journal) 0 work.layout.nodes

@@ -19,12 +19,12 @@ use Rattle.commands.proofs.InputLemmas.{named, among, of_named}
 use Rattle.commands.proofs.RecordLemmas.{own_record}
 
 -- the outcome and the record of the own run of a core, by another name of its work
-pub own_recorded : (w work : Work) (core : Core) (own : List Stamped) (o : Outcome)
+pub own_recorded : (batches : Bool) (w work : Work) (core : Core) (own : List Stamped) (o : Outcome)
     (held : Option (List ℕ)) → w ≡ work → StandsForOwnRun w core own → IsOver w core
-    → IsOutcomeOf w (run_of own) o → IfSome held (λ bytes. bytes ≡ record_text (record_at w core))
-    → IsOwnRecorded work held o
-own_recorded w work core own o held same stands over outcome bytes =
-    subst (λ x. IsOwnRecorded x held o) same (record {
+    → IsOutcomeOf w (run_of own) o → IfSome held (λ bytes. bytes ≡ record_text (record_at batches w core))
+    → IsOwnRecorded batches work held o
+own_recorded batches w work core own o held same stands over outcome bytes =
+    subst (λ x. IsOwnRecorded batches x held o) same (record {
       core = core;
       own = own;
       stands = stands;
@@ -35,14 +35,15 @@ own_recorded w work core own o held same stands over outcome bytes =
 
 -- it is a run of the inputs
 pub recorded : (inputs : Inputs) (nodes budget : ℕ) (work : Work) (held : Option (List ℕ))
-    (o : Outcome) → GivesRuns inputs nodes budget work → IsOwnRecorded work held o
+    (o : Outcome) → GivesRuns inputs nodes budget work
+    → IsOwnRecorded inputs.batches work held o
     → IsOutcomeRecorded inputs nodes budget held o
 recorded inputs nodes budget work held o runs h = record {
   work = work;
   own = h.own;
   is_run = runs h.core h.own o h.stands h.over h.outcome;
   is_recorded = subst (λ t. IfSome held (λ bytes. bytes ≡ t))
-      (ap (λ r. record_text r) (own_record work h.core h.own h.stands)) h.is_recorded;
+      (ap (λ r. record_text r) (own_record inputs.batches work h.core h.own h.stands)) h.is_recorded;
 }
 
 -- it is an outcome of a run
@@ -60,7 +61,7 @@ some_as P Q (Some x) f h = f x h
 record_held : (inputs : Inputs) (nodes budget : ℕ) (held : Option (List ℕ)) (o : Outcome)
     → IsOutcomeRecorded inputs nodes budget held o → IfSome held (IsRecordOfRun inputs nodes budget)
 record_held inputs nodes budget held o h =
-    some_as (λ bytes. bytes ≡ record_text (record_of h.work h.own))
+    some_as (λ bytes. bytes ≡ record_text (record_of inputs.batches h.work h.own))
     (IsRecordOfRun inputs nodes budget) held (λ bytes is. record {
       work = h.work;
       own = h.own;
@@ -70,14 +71,14 @@ record_held inputs nodes budget held o h =
     }) h.is_recorded
 
 module _ (file : List ℕ) (nodes budget : ℕ) (o : Option (List ℕ)) (code layout : Option (List ℕ))
-    (brief : Bool) where
+    (brief no_batch : Bool) where
   abbrev asked : Command
-  asked = Run file nodes budget o code layout brief
+  asked = Run file nodes budget o code layout brief no_batch
 
   writes_are : writes asked ≡ named o
   writes_are = go o
     where
-      go : (x : Option (List ℕ)) → writes (Run file nodes budget x code layout brief) ≡ named x
+      go : (x : Option (List ℕ)) → writes (Run file nodes budget x code layout brief no_batch) ≡ named x
       go None = refl
       go (Some name) = refl
 

@@ -92,7 +92,7 @@ replay_fails file record_file brief inputs fb fn before now OutOfMemory h = h
 -- the work is what the record asks to be run
 pub ready_for : (inputs : Inputs) (kept : Kept) (elf : Elf) (plan : List PlanEntry)
     (image : List Cell) (layout : Shape) (budget : ℕ)
-    → AreReady inputs.executable elf plan image layout → IsTextOf kept inputs.recorded
+    → AreReady kept.batch inputs.executable elf plan image layout → IsTextOf kept inputs.recorded
     → IsLayoutOfBlocks elf kept layout → budget ≡ kept.budget → HaveLaws
     → IsReadyFor inputs kept (work_with elf image layout budget)
 ready_for inputs kept elf plan image layout budget ready text laid_out limit laws = record {
@@ -106,7 +106,7 @@ ready_for inputs kept elf plan image layout budget ready text laid_out limit law
     valid = ready.valid;
     limit = limit;
   };
-  gives = gives_code inputs.executable budget elf plan image layout ready laws;
+  gives = gives_code kept.batch inputs.executable budget elf plan image layout ready laws;
 }
 
 pub outcome_of_replay : (inputs : Inputs) (kept : Kept) (work : Work) (o : Outcome)

@@ -128,20 +128,20 @@ run_front work (e ∷ es) behind c may =
     (may.0, run_front work es behind (event_step work c e) may.1)
 
 -- the parts of a run: an accepted program, its rewriting and the layout
-pub record AreReady (file : List ℕ) (elf : Elf) (plan : List PlanEntry) (image : List Cell)
-    (layout : Shape) : Type 0 where
-  pub rewritten : IsRewritingOf file elf plan image
+pub record AreReady (batches : Bool) (file : List ℕ) (elf : Elf) (plan : List PlanEntry)
+    (image : List Cell) (layout : Shape) : Type 0 where
+  pub rewritten : IsRewritingOf batches file elf plan image
   pub accepted : IsAccepted (program_of elf)
   pub over : IsLaidOver (program_of elf) layout
   pub valid : IsValid layout
 
 -- the program is that of the executable that was read
-pub are_ready : (file : List ℕ) (original elf : Elf) (plan : List PlanEntry) (image : List Cell)
+pub are_ready : (batches : Bool) (file : List ℕ) (original elf : Elf) (plan : List PlanEntry) (image : List Cell)
     (layout : Shape) → elf ≡ original → IsProgramOf file original
-    → IsAccepted (program_of original) → IsPlanOf (program_of elf).code plan
+    → IsAccepted (program_of original) → IsPlanOf batches (program_of elf).code plan
     → IsRewriting (program_of elf) plan image → IsLaidOver (program_of elf) layout
-    → IsValid layout → AreReady file elf plan image layout
-are_ready file original elf plan image layout is executable accepted the_plan rewriting over valid =
+    → IsValid layout → AreReady batches file elf plan image layout
+are_ready batches file original elf plan image layout is executable accepted the_plan rewriting over valid =
     record {
       rewritten = record {
         executable = subst (IsProgramOf file) (sym is) executable;
@@ -163,8 +163,8 @@ pub record HaveLaws : Type 0 where
   pub waits : WaitsForMail
   pub empty : EndsEmpty
 
-module _ (file : List ℕ) (budget : ℕ) (elf : Elf) (plan : List PlanEntry) (image : List Cell)
-    (layout : Shape) (r : AreReady file elf plan image layout) where
+module _ (batches : Bool) (file : List ℕ) (budget : ℕ) (elf : Elf) (plan : List PlanEntry)
+    (image : List Cell) (layout : Shape) (r : AreReady batches file elf plan image layout) where
   pub runs_rewritten : 0 < budget → budget ≤ 2 ^ 32
       → RunsRewritten (work_with elf image layout budget)
   runs_rewritten some few = record {
@@ -178,7 +178,7 @@ module _ (file : List ℕ) (budget : ℕ) (elf : Elf) (plan : List PlanEntry) (i
   }
 
   -- by the law of rewriting
-  pub gives_code : HaveLaws → GivesCode file elf plan (work_with elf image layout budget)
+  pub gives_code : HaveLaws → GivesCode batches file elf plan (work_with elf image layout budget)
   gives_code laws core own o stands ended outcome =
       let work : Work = work_with elf image layout budget in
       let events : List Event = run_of own in
@@ -217,7 +217,7 @@ module _ (file : List ℕ) (budget : ℕ) (elf : Elf) (plan : List PlanEntry) (i
 pub gives_runs : (inputs : Inputs) (nodes budget : ℕ) (elf : Elf) (plan : List PlanEntry)
     (image : List Cell) (layout : Shape) → IsFileOf (rewritten_elf elf image plan) inputs.code
     → IsLayoutFor elf inputs.layout nodes layout
-    → GivesCode inputs.executable elf plan (work_with elf image layout budget)
+    → GivesCode inputs.batches inputs.executable elf plan (work_with elf image layout budget)
     → GivesRuns inputs nodes budget (work_with elf image layout budget)
 gives_runs inputs nodes budget elf plan image layout code laid_out gives core own o stands ended outcome =
     record {

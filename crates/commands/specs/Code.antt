@@ -1,5 +1,5 @@
 -- The rewritten code of an executable, and how a file of it is refused.
-use Rattle.std.specs.Prelude.{◌≡◌, ℕ, ◌⊎◌, List, Option, None, Some}
+use Rattle.std.specs.Prelude.{◌≡◌, ℕ, ◌⊎◌, Bool, List, Option, None, Some}
 use Rattle.elf32_read.specs.Elf.{Elf}
 use Rattle.exec_map.specs.Contents.{program_of}
 use Rattle.templates.specs.declared.plans.PlanEntry.{PlanEntry}
@@ -12,12 +12,12 @@ use Rattle.commands.specs.Executables.{ReadsAs, IsUnread, IsProgramOf}
 use Rattle.commands.specs.Inputs.{Inputs}
 use Rattle.commands.specs.Text.{code_line}
 
--- the executable in the file is accepted, and the image is the rewriting of its program, by the plan
--- of the program
-pub record IsRewritingOf (file : List ℕ) (elf : Elf) (plan : List PlanEntry) (image : List Cell) :
-    Type 0 where
+-- the executable in the file is accepted, and the image is the rewriting of its program, by the
+-- plan of the program with batches or without
+pub record IsRewritingOf (batches : Bool) (file : List ℕ) (elf : Elf) (plan : List PlanEntry)
+    (image : List Cell) : Type 0 where
   pub executable : IsProgramOf file elf
-  pub the_plan : IsPlanOf (program_of elf).code plan
+  pub the_plan : IsPlanOf batches (program_of elf).code plan
   pub rewriting : IsRewriting (program_of elf) plan image
 
 -- where there is a file of code, it is read as this executable
@@ -38,5 +38,5 @@ pub record IsCodeRefused (inputs : Inputs) (line : List ℕ) : Type 0 where
   pub elf : Elf
   pub plan : List PlanEntry
   pub image : List Cell
-  pub rewritten : IsRewritingOf inputs.executable elf plan image
+  pub rewritten : IsRewritingOf inputs.batches inputs.executable elf plan image
   pub other : IsOtherFile (rewritten_elf elf image plan) inputs.code line

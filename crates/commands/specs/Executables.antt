@@ -1,5 +1,5 @@
 -- The executable in a file, and how a file is refused.
-use Rattle.std.specs.Prelude.{◌≡◌, ℕ, ◌⊎◌, List}
+use Rattle.std.specs.Prelude.{◌≡◌, ℕ, ◌⊎◌, Bool, List}
 use Rattle.elf32_read.specs.Elf.{Elf}
 use Rattle.elf32_read.specs.Reading.{elf_of}
 use Rattle.elf32_read.specs.Refusals.{IsReadable}
@@ -37,12 +37,13 @@ abbrev pub IsUnaccepted : List ℕ → List ℕ → Type 0
 IsUnaccepted file line =
     IsUnread Executable file line ⊎ ((elf : Elf) × ReadsAs file elf × IsRejection elf line)
 
--- the rewritten code of the executable is too large, and this line says so
-abbrev pub HasLongCode : Elf → List ℕ → Type 0
-HasLongCode elf line =
-    (words : ℕ) × IsTooLarge (program_of elf) words × (line ≡ too_many_words words)
+-- the rewritten code of the executable, with batches or without, is too large, and this line says
+-- so
+abbrev pub HasLongCode : Bool → Elf → List ℕ → Type 0
+HasLongCode batches elf line =
+    (words : ℕ) × IsTooLarge batches (program_of elf) words × (line ≡ too_many_words words)
 
 -- the executable isn't accepted, or it is, and its rewritten code is too large
-abbrev pub IsUnrewritten : List ℕ → List ℕ → Type 0
-IsUnrewritten file line =
-    IsUnaccepted file line ⊎ ((elf : Elf) × IsProgramOf file elf × HasLongCode elf line)
+abbrev pub IsUnrewritten : Bool → List ℕ → List ℕ → Type 0
+IsUnrewritten batches file line =
+    IsUnaccepted file line ⊎ ((elf : Elf) × IsProgramOf file elf × HasLongCode batches elf line)

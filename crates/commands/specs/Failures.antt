@@ -1,4 +1,4 @@
--- Helps the code alone: failures of commands, and what each says of the files and the output.
+-- Failures of commands, and what each says of the files and the output.
 use Rattle.std.specs.Prelude.{◌≡◌, ℕ, ◌≤◌, ◌⊎◌, Bool, List, [], length, Option, None, Some, Contains, IfSome}
 use Rattle.elf32_read.specs.Elf.{Elf}
 use Rattle.templates.specs.declared.plans.PlanEntry.{PlanEntry}
@@ -23,7 +23,7 @@ use Rattle.commands.specs.Records.{record_at}
 use Rattle.commands.specs.Refusals.{IsRefused, IsLayoutRefused, IsRecordRefused}
 use Rattle.commands.specs.Replays.{IsWorkOf, IsOutcomeOfReplay, IsReplayRefused, IsBadReplayLayout, IsBadRecord}
 use Rattle.commands.specs.Headline.{AreTold, IsRunOf, IsText, IsTextWith, IsWritten, Prints, PrintsPrefix}
-use Rattle.commands.specs.Inputs.{Inputs, input_of, code_of, layout_of, recorded_of, inputs_of}
+use Rattle.commands.specs.Inputs.{Inputs, input_of, code_of, layout_of, recorded_of, batches_of, inputs_of}
 
 -- the status and the line of a failure
 abbrev pub status_of : Failure → ℕ
@@ -79,6 +79,7 @@ pub record AreRead (command : Command) (held : List ℕ → Option (List ℕ)) (
     pub code : AreContents held (code_of command) inputs.code
     pub layout : AreContents held (layout_of command) inputs.layout
     pub recorded : AreBytes held (recorded_of command) inputs.recorded
+    pub batches : inputs.batches ≡ batches_of command
 
 -- a file that is named wasn't read
 abbrev pub IsNamedFailure : FilesState → FilesState → Option (List ℕ) → Failure → Type 0
@@ -163,21 +164,23 @@ pub record IsOwnOutcome (work : Work) (o : Outcome) : Type 0 where
   pub outcome : IsOutcomeOf work (run_of own) o
 
 -- the same of a core whose record is what the file of the record holds, where that is told
-pub record IsOwnRecorded (work : Work) (held : Option (List ℕ)) (o : Outcome) : Type 0 where
-  pub core : Core
-  pub own : List Stamped
-  pub stands : StandsForOwnRun work core own
-  pub over : IsOver work core
-  pub outcome : IsOutcomeOf work (run_of own) o
-  pub is_recorded : IfSome held (λ bytes. bytes ≡ record_text (record_at work core))
+pub record IsOwnRecorded (batches : Bool) (work : Work) (held : Option (List ℕ)) (o : Outcome)
+    : Type 0
+  where
+    pub core : Core
+    pub own : List Stamped
+    pub stands : StandsForOwnRun work core own
+    pub over : IsOver work core
+    pub outcome : IsOutcomeOf work (run_of own) o
+    pub is_recorded : IfSome held (λ bytes. bytes ≡ record_text (record_at batches work core))
 
 -- the own runs of cores of this work whose nodes are over are runs of the code of the executable in
 -- a file
-abbrev pub GivesCode : List ℕ → Elf → List PlanEntry → Work → Type 0
-GivesCode file elf plan work =
+abbrev pub GivesCode : Bool → List ℕ → Elf → List PlanEntry → Work → Type 0
+GivesCode batches file elf plan work =
     (core : Core) (own : List Stamped) (o : Outcome) → StandsForOwnRun work core own
     → IsOver work core → IsOutcomeOf work (run_of own) o
-    → IsRunOfCode file elf plan work own o
+    → IsRunOfCode batches file elf plan work own o
 
 -- and runs of the inputs
 abbrev pub GivesRuns : Inputs → (nodes budget : ℕ) → Work → Type 0
@@ -190,7 +193,7 @@ pub record IsReadyFor (inputs : Inputs) (kept : Kept) (work : Work) : Type 0 whe
   pub elf : Elf
   pub plan : List PlanEntry
   pub asked : IsWorkOf inputs kept elf plan work
-  pub gives : GivesCode inputs.executable elf plan work
+  pub gives : GivesCode kept.batch inputs.executable elf plan work
 
 -- what a record asks to be run is refused, or the record is
 abbrev pub IsReplayRefusal : Inputs → Failure → Type 0
@@ -256,10 +259,10 @@ IsRecordFailure None before now f = f ≡ OutOfMemory
 IsRecordFailure (Some name) before now f = IsWriteFailure before now name f
 
 -- why a rewritten file wasn't written
-abbrev pub IsRewriteFailure : List ℕ → FilesState → FilesState → List ℕ → Failure → Type 0
-IsRewriteFailure file before now name (Refused line) =
-    IsUnrewritten file line.items × ((n : List ℕ) → now.held n ≡ before.held n)
-IsRewriteFailure file before now name f = IsWriteFailure before now name f
+abbrev pub IsRewriteFailure : Bool → List ℕ → FilesState → FilesState → List ℕ → Failure → Type 0
+IsRewriteFailure batches file before now name (Refused line) =
+    IsUnrewritten batches file line.items × ((n : List ℕ) → now.held n ≡ before.held n)
+IsRewriteFailure batches file before now name f = IsWriteFailure before now name f
 
 -- how a command fails that reads these files
 abbrev pub IsPerformFailure : Command → Inputs → FilesState → FilesState → SinkState → SinkState

@@ -10,6 +10,7 @@ bytes_of inputs = record {
   code = option_map (λ file. file.now) inputs.code;
   layout = option_map (λ file. file.now) inputs.layout;
   recorded = inputs.recorded.now;
+  batches = inputs.batches;
 }
 
 abbrev pub contents_of : InputFiles → Inputs
@@ -18,4 +19,5 @@ contents_of files = record {
   code = option_map (λ file. file.items) files.code;
   layout = option_map (λ file. file.items) files.layout;
   recorded = files.recorded.items;
+  batches = files.batches;
 }

@@ -36,7 +36,7 @@ pub record IsRunOf (inputs : Inputs) (nodes budget : ℕ) (work : Work) (own : L
     (outcome : Outcome) : Type 0 where
   pub elf : Elf
   pub plan : List PlanEntry
-  pub of_code : IsRunOfCode inputs.executable elf plan work own outcome
+  pub of_code : IsRunOfCode inputs.batches inputs.executable elf plan work own outcome
   pub code : IsFileOf (rewritten_elf elf work.image plan) inputs.code
   pub laid_out : IsLayoutFor elf inputs.layout nodes work.layout
   pub count : work.layout.nodes ≡ nodes
@@ -54,7 +54,7 @@ pub record IsRecordOfRun (inputs : Inputs) (nodes budget : ℕ) (bytes : List �
   pub own : List Stamped
   pub outcome : Outcome
   pub is_run : IsRunOf inputs nodes budget work own outcome
-  pub bytes_are : bytes ≡ record_text (record_of work own)
+  pub bytes_are : bytes ≡ record_text (record_of inputs.batches work own)
 
 -- The outcome of some such run, of which this is the record, where the bytes of one are told: one
 -- and the same run has this outcome, and was recorded.
@@ -63,7 +63,8 @@ pub record IsOutcomeRecorded (inputs : Inputs) (nodes budget : ℕ) (recorded : 
   pub work : Work
   pub own : List Stamped
   pub is_run : IsRunOf inputs nodes budget work own outcome
-  pub is_recorded : IfSome recorded (λ bytes. bytes ≡ record_text (record_of work own))
+  pub is_recorded : IfSome recorded
+      (λ bytes. bytes ≡ record_text (record_of inputs.batches work own))
 
 -- The outcome of the run by the order of a number: at each turn it picks one of the events that are
 -- allowed, until each node is over. The core that these events lead to stands for its own run,
@@ -108,20 +109,21 @@ pub record IsListingOf (file text : List ℕ) : Type 0 where
 abbrev pub IsListingText : List ℕ → List ℕ → ℕ → Type 0
 IsListingText file text status = IsListingOf file text × (status ≡ 0)
 
--- the bytes are the file of the rewritten program of the executable in a file
-pub record IsRewrittenFile (file bytes : List ℕ) : Type 0 where
+-- the bytes are the file of the rewritten program of the executable in a file, with batches or
+-- without
+pub record IsRewrittenFile (batches : Bool) (file bytes : List ℕ) : Type 0 where
   pub elf : Elf
   pub executable : IsProgramOf file elf
   pub plan : List PlanEntry
-  pub the_plan : IsPlanOf (program_of elf).code plan
+  pub the_plan : IsPlanOf batches (program_of elf).code plan
   pub image : List Cell
   pub rewriting : IsRewriting (program_of elf) plan image
   pub bytes_are : bytes ≡ file_of (rewritten_elf elf image plan)
 
 -- nothing is printed beside the file
-pub record IsRewrittenText (file text : List ℕ) (status : ℕ) : Type 0 where
+pub record IsRewrittenText (batches : Bool) (file text : List ℕ) (status : ℕ) : Type 0 where
   pub bytes : List ℕ
-  pub is : IsRewrittenFile file bytes
+  pub is : IsRewrittenFile batches file bytes
   pub text_is : text ≡ []
   pub status_is : status ≡ 0
 
@@ -139,13 +141,13 @@ pub record IsTextWith (Is : Outcome → Type 0) (brief : Bool) (text : List ℕ)
 
 -- the text that a command asks for, where it reads these files, and the status
 abbrev pub IsText : Command → Inputs → List ℕ → ℕ → Type 0
-IsText (Rewrite input output) inputs text status =
-    IsRewrittenText inputs.executable text status
-IsText (Run file nodes budget record_file code layout brief) inputs text status =
+IsText (Rewrite input output no_batch) inputs text status =
+    IsRewrittenText inputs.batches inputs.executable text status
+IsText (Run file nodes budget record_file code layout brief no_batch) inputs text status =
     IsTextWith (IsOutcomeOfRun inputs nodes budget) brief text status
 IsText (One file nodes order budget layout) inputs text status =
     IsTextWith (IsOutcomeByOrder inputs nodes order budget) false text status
-IsText (Sim file nodes order budget code layout brief) inputs text status =
+IsText (Sim file nodes order budget code layout brief no_batch) inputs text status =
     IsTextWith (IsOutcomeOfSim inputs nodes order budget) brief text status
 IsText (Listing file) inputs text status = IsListingText inputs.executable text status
 IsText (Replay file record_file brief) inputs text status =
@@ -160,7 +162,8 @@ held_by held (Some name) = held name
 -- the same beside what the files hold then: of a run that is recorded, the text is of the run whose
 -- record the file holds
 abbrev pub IsTextBeside : Command → (List ℕ → Option (List ℕ)) → Inputs → List ℕ → ℕ → Type 0
-IsTextBeside (Run file nodes budget record_file code layout brief) held inputs text status =
+IsTextBeside (Run file nodes budget record_file code layout brief no_batch) held inputs text
+    status =
     IsTextWith (IsOutcomeRecorded inputs nodes budget (held_by held record_file)) brief text status
 IsTextBeside command held inputs text status = IsText command inputs text status
 
@@ -186,8 +189,9 @@ pub record PrintsPrefix (command : Command) (contents : List ℕ → List ℕ)
 
 -- the bytes that a command writes into its file
 abbrev pub IsWritten : Command → Inputs → List ℕ → Type 0
-IsWritten (Rewrite input output) inputs bytes = IsRewrittenFile inputs.executable bytes
-IsWritten (Run file nodes budget record_file code layout brief) inputs bytes =
+IsWritten (Rewrite input output no_batch) inputs bytes =
+    IsRewrittenFile inputs.batches inputs.executable bytes
+IsWritten (Run file nodes budget record_file code layout brief no_batch) inputs bytes =
     IsRecordOfRun inputs nodes budget bytes
 IsWritten (Generate number output) inputs bytes = bytes ≡ file_of (generated_elf number)
 IsWritten command inputs bytes = ⊥

@@ -1,42 +1,51 @@
 -- The files that commands read.
-use Rattle.std.specs.Prelude.{ℕ, List, [], Option, None, Some, option_map}
+use Rattle.std.specs.Prelude.{ℕ, Bool, true, not, List, [], Option, None, Some, option_map}
 use Rattle.command_line.specs.Commands.{Command, Rewrite, Run, Listing, One, Sim, Replay, Generate}
 
--- the bytes of the executable and of the record, which are none where a command reads none; and
--- those of the rewritten executable and of the layout, where they are named
+-- the bytes of the executable and of the record, which are none where a command reads none; those
+-- of the rewritten executable and of the layout, where they are named; and whether code is rewritten
+-- with batches, where no record says so
 pub record Inputs : Type 0 where
   pub executable : List ℕ
   pub code : Option (List ℕ)
   pub layout : Option (List ℕ)
   pub recorded : List ℕ
+  pub batches : Bool
 
 -- the file that a command reads as an executable, where it reads one
 abbrev pub input_of : Command → Option (List ℕ)
-input_of (Rewrite input output) = Some input
-input_of (Run file nodes budget record_file code layout brief) = Some file
+input_of (Rewrite input output no_batch) = Some input
+input_of (Run file nodes budget record_file code layout brief no_batch) = Some file
 input_of (Listing file) = Some file
 input_of (One file nodes order budget layout) = Some file
-input_of (Sim file nodes order budget code layout brief) = Some file
+input_of (Sim file nodes order budget code layout brief no_batch) = Some file
 input_of (Replay file record_file brief) = Some file
 input_of (Generate number output) = None
 
 -- the file that a command reads as the rewritten executable
 abbrev pub code_of : Command → Option (List ℕ)
-code_of (Run file nodes budget record_file code layout brief) = code
-code_of (Sim file nodes order budget code layout brief) = code
+code_of (Run file nodes budget record_file code layout brief no_batch) = code
+code_of (Sim file nodes order budget code layout brief no_batch) = code
 code_of command = None
 
 -- the file that a command reads as a layout
 abbrev pub layout_of : Command → Option (List ℕ)
-layout_of (Run file nodes budget record_file code layout brief) = layout
+layout_of (Run file nodes budget record_file code layout brief no_batch) = layout
 layout_of (One file nodes order budget layout) = layout
-layout_of (Sim file nodes order budget code layout brief) = layout
+layout_of (Sim file nodes order budget code layout brief no_batch) = layout
 layout_of command = None
 
 -- the file that a command reads as a record
 abbrev pub recorded_of : Command → Option (List ℕ)
 recorded_of (Replay file record_file brief) = Some record_file
 recorded_of command = None
+
+-- whether a command asks for code with batches
+abbrev pub batches_of : Command → Bool
+batches_of (Rewrite input output no_batch) = not no_batch
+batches_of (Run file nodes budget record_file code layout brief no_batch) = not no_batch
+batches_of (Sim file nodes order budget code layout brief no_batch) = not no_batch
+batches_of command = true
 
 -- the bytes of a file, which are none where there is no file
 abbrev pub bytes_in : (List ℕ → List ℕ) → Option (List ℕ) → List ℕ
@@ -50,4 +59,5 @@ inputs_of command contents = record {
   code = option_map contents (code_of command);
   layout = option_map contents (layout_of command);
   recorded = bytes_in contents (recorded_of command);
+  batches = batches_of command;
 }

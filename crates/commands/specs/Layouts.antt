@@ -52,6 +52,6 @@ pub record IsBadRunLayout (inputs : Inputs) (nodes : ℕ) (line : List ℕ) : Ty
   pub elf : Elf
   pub plan : List PlanEntry
   pub image : List Cell
-  pub rewritten : IsRewritingOf inputs.executable elf plan image
+  pub rewritten : IsRewritingOf inputs.batches inputs.executable elf plan image
   pub code : IsFileOf (rewritten_elf elf image plan) inputs.code
   pub faulty : IsFaultyLayout elf inputs.layout nodes line

@@ -9,6 +9,7 @@ pub mod Outcomes
 pub mod Records
 pub mod Replays
 pub mod Headline
+pub mod Interleaved
 pub mod Answers
 pub mod Failures
 pub mod Runs

@@ -61,7 +61,7 @@ pub record AreFaultyBlocks (elf : Elf) (kept : Record) (line : List ℕ) : Type 
 pub record IsWorkOf (inputs : Inputs) (kept : Record) (elf : Elf) (plan : List PlanEntry)
     (work : Work) : Type 0 where
   pub text : IsTextOf kept inputs.recorded
-  pub rewritten : IsRewritingOf inputs.executable elf plan work.image
+  pub rewritten : IsRewritingOf kept.batch inputs.executable elf plan work.image
   pub program : work.program ≡ program_of elf
   pub laid_out : IsLayoutOfBlocks elf kept work.layout
   pub valid : IsValid work.layout
@@ -76,7 +76,8 @@ pub record IsOutcomeOfReplay (inputs : Inputs) (outcome : Outcome) : Type 0 wher
   pub asked : IsWorkOf inputs kept elf plan work
   pub told : List Told
   pub tells : TellsWholeRun work kept told
-  pub of_code : IsRunOfCode inputs.executable elf plan work (map what_told told) outcome
+  pub of_code :
+      IsRunOfCode kept.batch inputs.executable elf plan work (map what_told told) outcome
 
 -- the record doesn't tell of a whole run: the line says which entry tells of the first event that
 -- breaks a rule, or which node's journal ends too early
@@ -95,7 +96,7 @@ pub record HasLongReplay (inputs : Inputs) (line : List ℕ) : Type 0 where
   pub executable : IsProgramOf inputs.executable elf
   pub kept : Record
   pub text : IsTextOf kept inputs.recorded
-  pub long : HasLongCode elf line
+  pub long : HasLongCode kept.batch elf line
 
 -- the executable isn't accepted, or not rewritten, and this line says why
 abbrev pub IsReplayRefused : Inputs → List ℕ → Type 0
@@ -109,7 +110,7 @@ pub record IsBadReplayLayout (inputs : Inputs) (line : List ℕ) : Type 0 where
   pub elf : Elf
   pub plan : List PlanEntry
   pub image : List Cell
-  pub rewritten : IsRewritingOf inputs.executable elf plan image
+  pub rewritten : IsRewritingOf kept.batch inputs.executable elf plan image
   pub faulty : AreFaultyBlocks elf kept line
 
 -- the executable is accepted, but the text is refused with this line

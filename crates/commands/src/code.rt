@@ -15,16 +15,20 @@ use crate::refusal::{Subject, code_line, too_many_words};
 use elf32_read::Elf;
 use exec_map::Program;
 use jump_map::ImageRefused;
-use rewriter::{Rewritten, rewrite};
+use rewriter::{Options, Rewritten, rewrite};
 use std::alloc::Global;
 
-/// The rewriting of a program.
-pub fn rewriting_of(alloc: Global, program: &Program<'_>) -> Result<Rewritten, Failure>
-    ensures plan { IfOk result (λ r. IsPlanOf (meaning_of program.now).code r.plan) }
+/// The rewriting of a program, with batches or without.
+pub fn rewriting_of(
+    alloc: Global,
+    program: &Program<'_>,
+    batches: bool,
+) -> Result<Rewritten, Failure>
+    ensures plan { IfOk result (λ r. IsPlanOf batches (meaning_of program.now).code r.plan) }
     ensures rewriting { IfOk result (λ r. IsRewriting (meaning_of program.now) r.plan r.image) }
-    ensures refused { IfErr result (IsRefusal (HasLongCode program.now) IsNever) }
+    ensures refused { IfErr result (IsRefusal (HasLongCode batches program.now) IsNever) }
 {
-    match rewrite(alloc, program) {
+    match rewrite(alloc, program, Options { batch: batches }) {
         Ok(rewritten) => Ok(rewritten),
         Err(ImageRefused::CodeTooLarge(words)) => {
             Err(Failure::Refused(too_many_words(alloc, words)?))

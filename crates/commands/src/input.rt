@@ -3,7 +3,7 @@
 ghost use Rattle.std.specs.Prelude.{◌≡◌, ◌⊎◌, ◌<◌, ◌≤◌, ℕ, List, length, Option, Some, Contains, option_map, IfOk, OnOk, IfErr, IfSome, MatchResult};
 ghost use Rattle.command_line.specs.Commands.{reads};
 ghost use Rattle.command_line.specs.Meaning.{meaning_of, file_name};
-ghost use Rattle.commands.specs.Inputs.{input_of as model_input_of, code_of as model_code_of, layout_of as model_layout_of, recorded_of as model_recorded_of};
+ghost use Rattle.commands.specs.Inputs.{input_of as model_input_of, code_of as model_code_of, layout_of as model_layout_of, recorded_of as model_recorded_of, batches_of as model_batches_of};
 ghost use Rattle.commands.specs.Given.{bytes_of, contents_of};
 ghost use Rattle.commands.specs.Text as model;
 ghost use Rattle.commands.specs.Answers.{FilesState, file_limit, files_of};
@@ -21,16 +21,17 @@ use elf32_read::{Elf, ElfRefused, read_elf};
 use exec_map::{Program, ProgramRefused, accept};
 use std::alloc::{AllocError, Global};
 
-/// The files that a command reads.
+/// What a command is given: the files that it reads, and whether code is rewritten with batches.
 #[derive(Drop)]
 pub struct InputFiles {
     executable: Vec<u8>,
     code: Option<Vec<u8>>,
     layout: Option<Vec<u8>>,
     recorded: Vec<u8>,
+    batches: bool,
 }
 
-/// The bytes of the files that a command reads.
+/// The bytes of the files that a command reads, and whether code is rewritten with batches.
 #[derive(Clone, Copy)]
 pub struct Inputs<'a> {
     /// None where the command reads no executable.
@@ -41,6 +42,8 @@ pub struct Inputs<'a> {
     pub layout: Option<&'a [u8]>,
     /// The text of the record. None where the command reads no record.
     pub recorded: &'a [u8],
+    /// Whether code is rewritten with batches, where no record says so.
+    pub batches: bool,
 }
 
 impl InputFiles {
@@ -53,6 +56,7 @@ impl InputFiles {
             code: lent(&self.code),
             layout: lent(&self.layout),
             recorded: &self.recorded,
+            batches: self.batches,
         }
     }
 }
@@ -72,7 +76,7 @@ fn input_of<'a>(command: &Command<'a>) -> Option<&'a str>
     ensures { file_name result ≡ model_input_of (meaning_of command.now) }
 {
     match command {
-        Command::Rewrite { input, output: _ } => Some(*input),
+        Command::Rewrite { input, .. } => Some(*input),
         Command::Run { file, .. }
         | Command::List { file }
         | Command::One { file, .. }
@@ -125,6 +129,21 @@ fn recorded_of<'a>(command: &Command<'a>) -> Option<&'a str>
     }
 }
 
+/// Whether a command asks for code with batches.
+fn batches_of(command: &Command<'_>) -> bool
+    ensures value { result ≡ model_batches_of (meaning_of command.now) }
+{
+    match command {
+        Command::Rewrite { no_batch, .. }
+        | Command::Run { no_batch, .. }
+        | Command::Sim { no_batch, .. } => !*no_batch,
+        Command::List { .. }
+        | Command::One { .. }
+        | Command::Replay { .. }
+        | Command::Generate { .. } => true,
+    }
+}
+
 /// Reads the files of a command: the executable, that of its code, the layout, and the record, in
 /// this order.
 pub fn read_inputs<F: Files>(
@@ -152,6 +171,7 @@ pub fn read_inputs<F: Files>(
         code,
         layout,
         recorded,
+        batches: batches_of(command),
     })
 }
 

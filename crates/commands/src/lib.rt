@@ -20,4 +20,5 @@ mod sim;
 mod text;
 mod top;
 
+pub use node_threads::{Gate, OpenGate};
 pub use top::{shasta, tell_out_of_memory};

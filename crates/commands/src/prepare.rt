@@ -2,6 +2,7 @@
 
 ghost use Rattle.std.specs.Prelude.{◌≡◌, ℕ, IfOk, IfErr};
 ghost use Rattle.rewriting_law.specs.Bounds.{RunsRewritten};
+ghost use Rattle.dsm_core.specs.CoreParts.{work_in};
 ghost use Rattle.commands.specs.Executables.{ReadsAs};
 ghost use Rattle.commands.specs.Failures.{IsReadyFor, IsRefusal, IsReplayRefusal, GivesRuns, work_for};
 ghost use Rattle.commands.specs.Given.{bytes_of};
@@ -14,6 +15,7 @@ use crate::input::{Inputs, program_of};
 use crate::layout::{layout_for, layout_of_blocks};
 use crate::record::record_in;
 use block_layout::Layout;
+use dsm_core::Work;
 use elf32_read::Elf;
 use exec_map::Program;
 use rewriter::Rewritten;
@@ -29,6 +31,22 @@ pub struct Prepared<'a> {
     pub rewritten: Rewritten,
     pub layout: Layout,
     pub budget: Budget,
+    /// Whether the code was rewritten with batches.
+    pub batches: bool,
+}
+
+impl<'a> Prepared<'a> {
+    /// What the nodes run.
+    pub fn work(&self) -> Work<'_>
+        ensures value { work_in result ≡ work_for self.now }
+    {
+        Work {
+            program: &self.program,
+            image: self.rewritten.image(),
+            layout: &self.layout,
+            budget: self.budget,
+        }
+    }
 }
 
 /// Judges the executable, which was read, its rewriting, the file of code and the layout, in this
@@ -42,12 +60,13 @@ pub fn prepare<'a>(
 ) -> Result<Prepared<'a>, Failure>
     requires reads { ReadsAs (bytes_of inputs.now).executable elf.now }
     ensures rewritten { IfOk result (λ p. RunsRewritten (work_for p)) }
+    ensures batches { IfOk result (λ p. p.batches ≡ inputs.now.batches) }
     ensures runs { IfOk result (λ p. GivesRuns (bytes_of inputs.now) nodes budget (work_for p)) }
     ensures refused { IfErr result (IsRefusal (IsRunRefused (bytes_of inputs.now))
         (IsBadRunLayout (bytes_of inputs.now) nodes)) }
 {
     let program = program_of(alloc, elf)?;
-    let rewritten = rewriting_of(alloc, &program)?;
+    let rewritten = rewriting_of(alloc, &program, inputs.batches)?;
     judge_code(alloc, elf, &rewritten, inputs.code)?;
     let layout = layout_for(alloc, &program, inputs.layout, nodes)?;
     let _words = budget.number();
@@ -58,6 +77,7 @@ pub fn prepare<'a>(
         rewritten,
         layout,
         budget,
+        batches: inputs.batches,
     })
 }
 
@@ -75,7 +95,7 @@ pub fn prepare_replay<'a>(
 {
     let program = program_of(alloc, elf)?;
     let kept = record_in(alloc, inputs.recorded)?;
-    let rewritten = rewriting_of(alloc, &program)?;
+    let rewritten = rewriting_of(alloc, &program, kept.batch)?;
     let layout = layout_of_blocks(alloc, &program, &kept)?;
     let Some(budget) = Budget::of(kept.budget) else {
         unreachable!();
@@ -87,6 +107,7 @@ pub fn prepare_replay<'a>(
         rewritten,
         layout,
         budget,
+        batches: kept.batch,
     };
     Ok((prepared, kept))
 }

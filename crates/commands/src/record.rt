@@ -34,7 +34,8 @@ pub fn write_record_of<F: Files>(
 ) -> Result<(), Failure>
     requires same { work_of core.now ≡ work_for prepared.now }
     ensures holds { OnOk result (IfSome (held_by (F.held files.new) (file_name file.entry))
-        (λ bytes. bytes ≡ model.record_text (record_at (work_of core.now) (core_of core.now)))) }
+        (λ bytes. bytes ≡ model.record_text (record_at prepared.now.batches (work_of core.now)
+        (core_of core.now)))) }
     ensures failure { IfErr result (IsRecordFailure (file_name file.entry)
         (files_of (F.held files.old) (F.failed_reads files.old) (F.failed_writes files.old))
         (files_of (F.held files.new) (F.failed_reads files.new) (F.failed_writes files.new))) }
@@ -56,13 +57,14 @@ fn record_text(
 ) -> Result<Vec<u8>, AllocError>
     requires same { work_of core.now ≡ work_for prepared.now }
     ensures { IfOk result (λ text. text.items
-        ≡ model.record_text (record_at (work_of core.now) (core_of core.now))) }
+        ≡ model.record_text (record_at prepared.now.batches (work_of core.now)
+        (core_of core.now))) }
 {
     let layout = core.layout();
     let record = Record {
         nodes: layout.nodes(),
         budget: prepared.budget.number(),
-        batch: true,
+        batch: prepared.batches,
         blocks: Blocks::of(Vec::from_slice(alloc, layout.ranges())?),
         journals: Journals::of(journals(alloc, core)?),
     };

@@ -48,13 +48,11 @@ fn make_again(alloc: Global, prepared: &Prepared<'_>, kept: &Record) -> Result<O
     requires rewritten { RunsRewritten (work_for prepared.now) }
     requires record { IsRecord kept.now }
     requires nodes { prepared.now.layout.nodes ≡ kept.now.nodes }
-    requires budget { prepared.now.budget ≡ kept.now.budget }
     ensures ok { IfOk result (λ o. IsReplay (work_for prepared.now) kept.now (outcome_of o)) }
     ensures refused { IfErr result
         (IsRecordRefusal (IsBrokenRun (work_for prepared.now) kept.now)) }
 {
-    let image = prepared.rewritten.image();
-    match replay(alloc, &prepared.program, image, &prepared.layout, kept) {
+    match replay(alloc, &prepared.work(), kept) {
         Ok(outcome) => Ok(outcome),
         Err(ReplayRefused::Broken { rule, node, entry }) => {
             Err(Failure::Record(event_line(alloc, rule, node, entry)?))

@@ -14,35 +14,37 @@ use crate::refusal::Subject;
 use dsm_io::Files;
 use std::alloc::Global;
 
-/// Writes the rewritten executable of the one that a file holds into the file `output`.
+/// Writes the rewritten executable of the one that a file holds, with batches or without, into the
+/// file `output`.
 pub fn rewrite_into<F: Files>(
     alloc: Global,
     file: &[u8],
+    batches: bool,
     output: &str,
     files: &mut F,
 ) -> Result<u8, Failure>
-    ensures text { IfOk result (IsRewrittenText file.now []) }
+    ensures text { IfOk result (IsRewrittenText batches file.now []) }
     ensures holds { OnOk result
-        (IfSome (F.held files.new output.now) (IsRewrittenFile file.now)) }
-    ensures failure { IfErr result (IsRewriteFailure file.now
+        (IfSome (F.held files.new output.now) (IsRewrittenFile batches file.now)) }
+    ensures failure { IfErr result (IsRewriteFailure batches file.now
         (files_of (F.held files.old) (F.failed_reads files.old) (F.failed_writes files.old))
         (files_of (F.held files.new) (F.failed_reads files.new) (F.failed_writes files.new))
         output.now) }
     ensures others { (n : List ℕ) → n ≢ output.now → F.held files.new n ≡ F.held files.old n }
 {
-    let bytes = rewritten_file(alloc, file)?;
+    let bytes = rewritten_file(alloc, file, batches)?;
     write_file(alloc, files, output, &bytes)?;
     Ok(0)
 }
 
 /// The file of the rewritten program of the executable in a file.
-fn rewritten_file(alloc: Global, file: &[u8]) -> Result<Vec<u8>, Failure>
-    ensures ok { IfOk result (λ bytes. IsRewrittenFile file.now bytes.items) }
-    ensures refused { IfErr result (IsRefusal (IsUnrewritten file.now) IsNever) }
+fn rewritten_file(alloc: Global, file: &[u8], batches: bool) -> Result<Vec<u8>, Failure>
+    ensures ok { IfOk result (λ bytes. IsRewrittenFile batches file.now bytes.items) }
+    ensures refused { IfErr result (IsRefusal (IsUnrewritten batches file.now) IsNever) }
 {
     let elf = elf_of(alloc, Subject::Executable, file)?;
     let program = program_of(alloc, &elf)?;
-    let rewritten = rewriting_of(alloc, &program)?;
+    let rewritten = rewriting_of(alloc, &program, batches)?;
     let mut bytes = Vec::new(alloc);
     rewritten.to_elf(alloc, &elf, &mut bytes)?;
     Ok(bytes)

@@ -1,6 +1,6 @@
 //! `run`: the executable's rewritten code on nodes in threads, and the record of the run.
 
-ghost use Rattle.std.specs.Prelude.{◌≡◌, ◌≢◌, ℕ, List, Option, Some, Contains, IfOk, IfErr};
+ghost use Rattle.std.specs.Prelude.{◌≡◌, ◌≢◌, ℕ, List, Some, Contains, IfOk, IfErr};
 ghost use Rattle.rewriting_law.specs.Bounds.{RunsRewritten};
 ghost use Rattle.node_model.specs.Core.{IsOver};
 ghost use Rattle.dsm_core.specs.CoreParts.{work_of, core_of, outcome_of};
@@ -10,7 +10,7 @@ ghost use Rattle.commands.specs.Answers.{files_of, sink_of};
 ghost use Rattle.commands.specs.Headline.{IsTextBeside, held_by};
 ghost use Rattle.commands.specs.Failures.{Puts, IsOwnRecorded, IsRecordFailure, IsPerformFailure, AreKept, AreLeft, AreWritten, work_for};
 ghost use Rattle.commands.specs.Given.{bytes_of};
-ghost use Rattle.commands.specs.Runs.{asked_by};
+ghost use Rattle.commands.specs.Runs.{Names, asked_by};
 
 use crate::failure::Failure;
 use crate::input::{Inputs, elf_of};
@@ -19,8 +19,8 @@ use crate::prepare::{Prepared, prepare};
 use crate::record::write_record_of;
 use crate::refusal::Subject;
 use dsm_core::{Core, Outcome};
-use dsm_io::{Files, Gate, Sink};
-use node_threads::race;
+use dsm_io::{Files, Sink};
+use node_threads::{Gate, race};
 use run_limits::{Budget, NodeCount};
 use std::alloc::{AllocError, Global};
 use std::sync::Wait;
@@ -39,7 +39,8 @@ pub struct RunOptions<'a> {
 
 /// Runs the rewritten code of the executable among these files, which a file of code may hold, on
 /// nodes in threads of their own; writes the record of the run, where a file is named for it; and
-/// puts the text of the outcome. The clauses hold however the files that were read are named.
+/// puts the text of the outcome. The clauses hold however the files that were read are named, and
+/// whatever the flag for batches, which is among the inputs.
 pub fn run<R: Threads + Wait + Sync, F: Files, O: Sink, G: Gate + Sync>(
     rt: &R,
     alloc: Global,
@@ -49,26 +50,26 @@ pub fn run<R: Threads + Wait + Sync, F: Files, O: Sink, G: Gate + Sync>(
     out: &mut O,
     gate: &G,
 ) -> Result<u8, Failure>
-    ensures ok { (file : List ℕ) (code layout : Option (List ℕ)) → IfOk result (λ status.
-        Puts (IsTextBeside (asked_by options.entry file code layout) (F.held files.new)
+    ensures ok { (names : Names) → IfOk result (λ status.
+        Puts (IsTextBeside (asked_by options.entry names) (F.held files.new)
         (bytes_of inputs.now)) status (O.taken out.old) (O.taken out.new)) }
-    ensures failure { (file : List ℕ) (code layout : Option (List ℕ)) → IfErr result
-        (IsPerformFailure (asked_by options.entry file code layout) (bytes_of inputs.now)
+    ensures failure { (names : Names) → IfErr result
+        (IsPerformFailure (asked_by options.entry names) (bytes_of inputs.now)
         (files_of (F.held files.old) (F.failed_reads files.old) (F.failed_writes files.old))
         (files_of (F.held files.new) (F.failed_reads files.new) (F.failed_writes files.new))
         (sink_of (O.taken out.old) (O.faults out.old) (O.refusals out.old))
         (sink_of (O.taken out.new) (O.faults out.new) (O.refusals out.new))) }
-    ensures others { (file : List ℕ) (code layout : Option (List ℕ)) (name : List ℕ)
-        → (Contains (writes (asked_by options.entry file code layout)) name → ⊥)
+    ensures others { (names : Names) (name : List ℕ)
+        → (Contains (writes (asked_by options.entry names)) name → ⊥)
         → F.held files.new name ≡ F.held files.old name }
     ensures kept { IfErr result (AreKept
         (files_of (F.held files.old) (F.failed_reads files.old) (F.failed_writes files.old))
         (files_of (F.held files.new) (F.failed_reads files.new) (F.failed_writes files.new))) }
-    ensures written { (file : List ℕ) (code layout : Option (List ℕ)) → IfOk result (λ status.
-        AreWritten (asked_by options.entry file code layout) (bytes_of inputs.now)
+    ensures written { (names : Names) → IfOk result (λ status.
+        AreWritten (asked_by options.entry names) (bytes_of inputs.now)
         (files_of (F.held files.new) (F.failed_reads files.new) (F.failed_writes files.new))) }
-    ensures left { (file : List ℕ) (code layout : Option (List ℕ)) → IfErr result (λ f.
-        AreLeft (asked_by options.entry file code layout) (bytes_of inputs.now)
+    ensures left { (names : Names) → IfErr result (λ f.
+        AreLeft (asked_by options.entry names) (bytes_of inputs.now)
         (files_of (F.held files.old) (F.failed_reads files.old) (F.failed_writes files.old))
         (files_of (F.held files.new) (F.failed_reads files.new) (F.failed_writes files.new))) }
 {
@@ -89,7 +90,7 @@ fn execute<R: Threads + Wait + Sync, F: Files, G: Gate + Sync>(
     gate: &G,
 ) -> Result<Outcome, Failure>
     requires rewritten { RunsRewritten (work_for prepared.now) }
-    ensures outcome { IfOk result (λ o. IsOwnRecorded (work_for prepared.now)
+    ensures outcome { IfOk result (λ o. IsOwnRecorded prepared.now.batches (work_for prepared.now)
         (held_by (F.held files.new) (file_name record_file.entry)) (outcome_of o)) }
     ensures failure { IfErr result (IsRecordFailure (file_name record_file.entry)
         (files_of (F.held files.old) (F.failed_reads files.old) (F.failed_writes files.old))
@@ -114,13 +115,6 @@ fn raced_core<'a, R: Threads + Wait + Sync, G: Gate + Sync>(
     ensures work { IfOk result (λ core. work_of core ≡ work_for prepared.now) }
     ensures over { IfOk result (λ core. IsOver (work_of core) (core_of core)) }
 {
-    let image = prepared.rewritten.image();
-    let core = Core::new(
-        alloc,
-        image,
-        &prepared.program,
-        &prepared.layout,
-        prepared.budget,
-    )?;
+    let core = Core::new(alloc, &prepared.work())?;
     race(rt, alloc, core, gate)
 }

@@ -54,13 +54,5 @@ fn execute(alloc: Global, prepared: &Prepared<'_>, order: u32) -> Result<Outcome
     ensures outcome { IfOk result (λ o.
         IsOutcomeByOrder (work_for prepared.now) order (outcome_of o)) }
 {
-    let image = prepared.rewritten.image();
-    simulate(
-        alloc,
-        &prepared.program,
-        image,
-        &prepared.layout,
-        prepared.budget,
-        order,
-    )
+    simulate(alloc, &prepared.work(), order)
 }

@@ -5,6 +5,7 @@ ghost use Rattle.command_line.specs.Commands.{Command as Asked, reads, writes};
 ghost use Rattle.command_line.specs.Asks.{Asks};
 ghost use Rattle.command_line.specs.Meaning.{meaning_of};
 ghost use Rattle.commands.specs.Headline.{AreTold, IsTextBeside, Prints, PrintsPrefix};
+ghost use Rattle.commands.specs.Interleaved.{PrintsOriginal};
 ghost use Rattle.commands.specs.Inputs.{inputs_of};
 ghost use Rattle.commands.specs.Given.{bytes_of};
 ghost use Rattle.commands.specs.Failures.{IsSuccess, IsFailure, IsPerformFailure, IsNoRefusal, Puts, AreKept, AreLeft, AreWritten};
@@ -23,7 +24,8 @@ use crate::run::{RunOptions, run};
 use crate::sim::sim;
 use crate::text::USAGE;
 use command_line::{Command, command_of};
-use dsm_io::{Files, Gate, Sink, SinkError, Text};
+use dsm_io::{Files, Sink, SinkError, Text};
+use node_threads::Gate;
 use std::alloc::Global;
 use std::sync::Wait;
 use std::thread::Threads;
@@ -60,6 +62,11 @@ pub fn shasta<R: Threads + Wait + Sync, F: Files, O: Sink, E: Sink, G: Gate + Sy
         → AreTold c (F.held files.old) contents → result ≤ 1
         → Prints c contents (F.held files.new) (O.taken out.old) (O.taken out.new) result }
     ensures quiet { result ≤ 1 → E.taken err.new ≡ E.taken err.old }
+    // So the text of `one`, `sim`, `run` and `replay` tells of the original alone: of a run of its
+    // processors on one memory, interleaved instruction by instruction.
+    ensures interleaved { (c : Asked) (contents : List ℕ → List ℕ) → Asks words.now c
+        → AreTold c (F.held files.old) contents → result ≤ 1
+        → PrintsOriginal c contents (O.taken out.old) (O.taken out.new) }
 
     // Status 4 is for a refused executable, or one that isn't the rewritten one; the refusal is
     // told.
@@ -220,7 +227,9 @@ fn perform<R: Threads + Wait + Sync, F: Files, O: Sink, G: Gate + Sync>(
 {
     let file = inputs.executable;
     match command {
-        Command::Rewrite { input: _, output } => rewrite_into(alloc, file, output, files),
+        Command::Rewrite { output, .. } => {
+            rewrite_into(alloc, file, inputs.batches, output, files)
+        }
         Command::Run {
             nodes,
             budget,

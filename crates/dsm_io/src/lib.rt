@@ -1,5 +1,5 @@
 #![tactic(auto)]
-//! The outside of a program: its files, its sinks, the gate of its workers, and its words.
+//! The outside of a program: its files, its sinks, and its words.
 //!
 //! Whatever a program reads or writes goes through the traits [`Files`] and [`Sink`], whose clauses
 //! speak of what a name holds, of the bytes that a sink took, and of counts of faults. An
@@ -158,19 +158,4 @@ pub trait Sink {
             refusals self.new ≡ refusals self.old }
         ensures more_faults { faults self.old ≤ faults self.new }
         ensures more_refusals { refusals self.old ≤ refusals self.new };
-}
-
-/// What a worker passes before each of its events.
-pub trait Gate {
-    /// Is called with the worker's node and the number of events that it has made. It means nothing
-    /// to any contract: an implementation may hold the worker up, or let it pass.
-    fn turn(&self, node: u8, events: u64);
-}
-
-/// The gate that lets every worker pass at once.
-#[derive(Clone, Copy, Debug)]
-pub struct OpenGate;
-
-impl Gate for OpenGate {
-    fn turn(&self, _node: u8, _events: u64) {}
 }

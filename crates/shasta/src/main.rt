@@ -1,8 +1,8 @@
 #![tactic(auto)]
 //! `shasta` lists RV32 executables, and runs their original and their rewritten code.
 
-use commands::{shasta, tell_out_of_memory};
-use dsm_io::{OpenGate, RealFiles, StdSink, Text};
+use commands::{OpenGate, shasta, tell_out_of_memory};
+use dsm_io::{RealFiles, StdSink, Text};
 use std::alloc::AllocError;
 use std::env;
 use std::io::ErrorKind;

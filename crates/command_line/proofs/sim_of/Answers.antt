@@ -7,43 +7,49 @@ pub returns-in_err-file : goal.returns-in_err-file
 returns-in_err-file c =
     rw c.from_residual.ensures (λ d h.
     let r = as_sim (given_by c.args.matches.now) d h in
-    c.in_err-file.ensures r.0 (one_file r.0 _ r.7.places))
+    c.in_err-file.ensures r.0 (one_file r.0 _ r.8.places))
 
 pub returns-in_err-nodes : goal.returns-in_err-nodes
 returns-in_err-nodes c =
     rw c.from_residual-in_err-nodes.ensures (λ d h.
     let r = as_sim (given_by c.args.matches.now) d h in
-    c.in_err-nodes.ensures r.1 r.7.options.0)
+    c.in_err-nodes.ensures r.1 r.8.options.0)
 
 pub returns-in_err-order : goal.returns-in_err-order
 returns-in_err-order c =
     rw c.from_residual-in_err-order.ensures (λ d h.
     let r = as_sim (given_by c.args.matches.now) d h in
-    c.in_err-order.ensures r.2 r.7.options.1.0)
+    c.in_err-order.ensures r.2 r.8.options.1.0)
 
 pub returns-in_err-budget : goal.returns-in_err-budget
 returns-in_err-budget c =
     rw c.from_residual-in_err-budget.ensures (λ d h.
     let r = as_sim (given_by c.args.matches.now) d h in
-    c.in_err-budget.ensures r.3 r.7.options.1.1.0)
+    c.in_err-budget.ensures r.3 r.8.options.1.1.0)
 
 pub returns-in_err-code : goal.returns-in_err-code
 returns-in_err-code c =
     rw c.from_residual-in_err-code.ensures (λ d h.
     let r = as_sim (given_by c.args.matches.now) d h in
-    c.in_err-code.ensures r.4 r.7.options.1.1.1.0)
+    c.in_err-code.ensures r.4 r.8.options.1.1.1.0)
 
 pub returns-in_err-layout : goal.returns-in_err-layout
 returns-in_err-layout c =
     rw c.from_residual-in_err-layout.ensures (λ d h.
     let r = as_sim (given_by c.args.matches.now) d h in
-    c.in_err-layout.ensures r.5 r.7.options.1.1.1.1.0)
+    c.in_err-layout.ensures r.5 r.8.options.1.1.1.1.0)
 
 pub returns-in_err-brief : goal.returns-in_err-brief
 returns-in_err-brief c =
     rw c.from_residual-in_err-brief.ensures (λ d h.
     let r = as_sim (given_by c.args.matches.now) d h in
-    c.in_err-brief.ensures r.6 r.7.options.1.1.1.1.1.0)
+    c.in_err-brief.ensures.there r.6 r.8.options.1.1.1.1.1.0)
+
+pub returns-in_err-no_batch : goal.returns-in_err-no_batch
+returns-in_err-no_batch c =
+    rw c.from_residual-in_err-no_batch.ensures (λ d h.
+    let r = as_sim (given_by c.args.matches.now) d h in
+    c.in_err-no_batch.ensures.there r.7 r.8.options.1.1.1.1.1.1.0)
 
 pub returns : goal.returns
 returns c = record {
@@ -57,7 +63,13 @@ returns c = record {
         c.in_ok-order.ensures,
         (
           c.in_ok-budget.ensures,
-          (c.in_ok-code.ensures, (c.in_ok-layout.ensures, (c.in_ok-brief.ensures, tt))),
+          (
+            c.in_ok-code.ensures,
+            (
+              c.in_ok-layout.ensures,
+              (c.in_ok-brief.ensures.there, (c.in_ok-no_batch.ensures.there, tt)),
+            ),
+          ),
         ),
       ),
     );

@@ -84,6 +84,7 @@ returns-clause-ok g c =
       code = code;
       layout = layout;
       recorded = c.in_ok-recorded.recorded.items;
+      batches = c.batches_of.result;
     } in
     let read : AreRead cmd held given = record {
       executable = subst (λ o. AreBytes held o given.executable) c.input_of.ensures
@@ -96,6 +97,7 @@ returns-clause-ok g c =
           (λ n. c.in_ok-layout.ensures.contents n ∙ same_second n)
           (subst (λ o. AreBytes third o given.recorded) c.recorded_of.ensures
           c.in_ok-recorded.ensures.ok);
+      batches = c.batches_of.ensures.value;
     } in
     inputs_read cmd held given read
 
@@ -115,6 +117,7 @@ returns-clause-longer g c = λ name content there is long.
       code = code;
       layout = layout;
       recorded = c.in_ok-recorded.recorded.items;
+      batches = c.batches_of.result;
     } in
     let read : AreRead cmd held given = record {
       executable = subst (λ o. AreBytes held o given.executable) c.input_of.ensures
@@ -127,5 +130,6 @@ returns-clause-longer g c = λ name content there is long.
           (λ n. c.in_ok-layout.ensures.contents n ∙ same_second n)
           (subst (λ o. AreBytes third o given.recorded) c.recorded_of.ensures
           c.in_ok-recorded.ensures.ok);
+      batches = c.batches_of.ensures.value;
     } in
     none_long cmd held given name content read there is long

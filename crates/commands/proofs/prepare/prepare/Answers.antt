@@ -31,7 +31,7 @@ returns-in_err-rewritten-clause-refused c =
     (record { reads = c.requires.reads; accepted = c.in_ok-program.ensures.acceptable }) in
     let e = err_from_is_err_and c.from_residual-in_err-rewritten.result
     c.from_residual-in_err-rewritten.ensures.1 in
-    rw (e.1, e.2) (refused_too (HasLongCode p) IsNever (IsRunRefused inputs)
+    rw (e.1, e.2) (refused_too (HasLongCode inputs.batches p) IsNever (IsRunRefused inputs)
     (IsBadRunLayout inputs n) c.in_err-rewritten.field-0.0
     (λ line h. inl (inr (p, executable, h))) (never (IsBadRunLayout inputs n))
     c.in_err-rewritten.ensures.refused)
@@ -44,7 +44,7 @@ returns-in_err-judge_code-clause-refused c =
     let same = sym c.in_ok-program.ensures.ok in
     let image = c.in_ok-rewritten.rewritten.image in
     let plan = c.in_ok-rewritten.rewritten.plan in
-    let rewritten : IsRewritingOf inputs.executable p plan image = record {
+    let rewritten : IsRewritingOf inputs.batches inputs.executable p plan image = record {
       executable = subst (IsProgramOf inputs.executable) same
           (record { reads = c.requires.reads; accepted = c.in_ok-program.ensures.acceptable });
       the_plan = c.in_ok-rewritten.ensures.plan;
@@ -70,7 +70,7 @@ returns-in_err-layout-clause-refused c =
     let same = sym c.in_ok-program.ensures.ok in
     let image = c.in_ok-rewritten.rewritten.image in
     let plan = c.in_ok-rewritten.rewritten.plan in
-    let rewritten : IsRewritingOf inputs.executable p plan image = record {
+    let rewritten : IsRewritingOf inputs.batches inputs.executable p plan image = record {
       executable = subst (IsProgramOf inputs.executable) same
           (record { reads = c.requires.reads; accepted = c.in_ok-program.ensures.acceptable });
       the_plan = c.in_ok-rewritten.ensures.plan;
@@ -99,14 +99,14 @@ returns-clause-rewritten c =
     let layout = c.in_ok-layout.layout in
     let reads : IsProgramOf inputs.executable c.args.elf.now =
     record { reads = c.requires.reads; accepted = c.in_ok-program.ensures.acceptable } in
-    let ready : AreReady inputs.executable p plan image layout =
-    are_ready inputs.executable c.args.elf.now p plan image layout c.in_ok-program.ensures.ok reads
+    let ready : AreReady inputs.batches inputs.executable p plan image layout =
+    are_ready inputs.batches inputs.executable c.args.elf.now p plan image layout c.in_ok-program.ensures.ok reads
     c.in_ok-program.ensures.accepted c.in_ok-rewritten.ensures.plan
     c.in_ok-rewritten.ensures.rewriting
     (laid_over p inputs.layout c.args.nodes layout c.in_ok-layout.ensures.ok)
     c.in_ok-layout.ensures.valid in
     let number = c.number-words.ensures.value in
-    runs_rewritten inputs.executable c.args.budget p plan image layout ready
+    runs_rewritten inputs.batches inputs.executable c.args.budget p plan image layout ready
     (subst (λ n. 0 < n) number c.number-words.ensures.range.0)
     (subst (λ n. n ≤ 2 ^ 32) number c.number-words.ensures.range.1)
 
@@ -119,8 +119,8 @@ returns-clause-runs c =
     let layout = c.in_ok-layout.layout in
     let reads : IsProgramOf inputs.executable c.args.elf.now =
     record { reads = c.requires.reads; accepted = c.in_ok-program.ensures.acceptable } in
-    let ready : AreReady inputs.executable p plan image layout =
-    are_ready inputs.executable c.args.elf.now p plan image layout c.in_ok-program.ensures.ok reads
+    let ready : AreReady inputs.batches inputs.executable p plan image layout =
+    are_ready inputs.batches inputs.executable c.args.elf.now p plan image layout c.in_ok-program.ensures.ok reads
     c.in_ok-program.ensures.accepted c.in_ok-rewritten.ensures.plan
     c.in_ok-rewritten.ensures.rewriting
     (laid_over p inputs.layout c.args.nodes layout c.in_ok-layout.ensures.ok)
@@ -137,4 +137,4 @@ returns-clause-runs c =
     subst (λ e. IsFileOf (rewritten_elf e image plan) inputs.code) (sym c.in_ok-program.ensures.ok)
     c.in_ok-judge_code.ensures.ok in
     gives_runs inputs c.args.nodes c.args.budget p plan image layout code c.in_ok-layout.ensures.ok
-    (gives_code inputs.executable c.args.budget p plan image layout ready laws)
+    (gives_code inputs.batches inputs.executable c.args.budget p plan image layout ready laws)

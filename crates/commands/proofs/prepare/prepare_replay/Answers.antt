@@ -38,7 +38,7 @@ returns-in_err-rewritten-clause-refused c =
     (record { reads = c.requires.reads; accepted = c.in_ok-program.ensures.acceptable }) in
     let e = err_from_is_err_and c.from_residual-in_err-rewritten.result
     c.from_residual-in_err-rewritten.ensures.1 in
-    rw (e.1, e.2) (replay_refused inputs (HasLongCode p) IsNever c.in_err-rewritten.field-0.0
+    rw (e.1, e.2) (replay_refused inputs (HasLongCode c.in_ok-kept.kept.batch p) IsNever c.in_err-rewritten.field-0.0
     (λ line h. inr (record {
       elf = p;
       executable = executable;
@@ -53,7 +53,7 @@ returns-in_err-layout-clause-refused c =
     let p = c.in_ok-program.program in
     let image = c.in_ok-rewritten.rewritten.image in
     let plan = c.in_ok-rewritten.rewritten.plan in
-    let rewritten : IsRewritingOf inputs.executable p plan image = record {
+    let rewritten : IsRewritingOf c.in_ok-kept.kept.batch inputs.executable p plan image = record {
       executable = subst (IsProgramOf inputs.executable) (sym c.in_ok-program.ensures.ok)
           (record { reads = c.requires.reads; accepted = c.in_ok-program.ensures.acceptable });
       the_plan = c.in_ok-rewritten.ensures.plan;
@@ -82,14 +82,14 @@ returns-clause-rewritten c =
     let layout = c.in_ok-layout.layout in
     let reads : IsProgramOf inputs.executable c.args.elf.now =
     record { reads = c.requires.reads; accepted = c.in_ok-program.ensures.acceptable } in
-    let ready : AreReady inputs.executable p plan image layout =
-    are_ready inputs.executable c.args.elf.now p plan image layout c.in_ok-program.ensures.ok reads
+    let ready : AreReady c.in_ok-kept.kept.batch inputs.executable p plan image layout =
+    are_ready c.in_ok-kept.kept.batch inputs.executable c.args.elf.now p plan image layout c.in_ok-program.ensures.ok reads
     c.in_ok-program.ensures.accepted c.in_ok-rewritten.ensures.plan
     c.in_ok-rewritten.ensures.rewriting
     (laid_over_blocks p c.in_ok-kept.kept layout c.in_ok-layout.ensures.ok)
     c.in_ok-layout.ensures.valid in
     let budget = c.in-Some.ensures in
-    runs_rewritten inputs.executable c.in-Some.budget p plan image layout ready
+    runs_rewritten c.in_ok-kept.kept.batch inputs.executable c.in-Some.budget p plan image layout ready
     (subst (λ n. 0 < n) (sym budget.0) budget.1.0) (subst (λ n. n ≤ 2 ^ 32) (sym budget.0) budget.1.1)
 
 pub returns-clause-ready : goal.returns-clause-ready
@@ -102,8 +102,8 @@ returns-clause-ready c =
     let layout = c.in_ok-layout.layout in
     let reads : IsProgramOf inputs.executable c.args.elf.now =
     record { reads = c.requires.reads; accepted = c.in_ok-program.ensures.acceptable } in
-    let ready : AreReady inputs.executable p plan image layout =
-    are_ready inputs.executable c.args.elf.now p plan image layout c.in_ok-program.ensures.ok reads
+    let ready : AreReady c.in_ok-kept.kept.batch inputs.executable p plan image layout =
+    are_ready c.in_ok-kept.kept.batch inputs.executable c.args.elf.now p plan image layout c.in_ok-program.ensures.ok reads
     c.in_ok-program.ensures.accepted c.in_ok-rewritten.ensures.plan
     c.in_ok-rewritten.ensures.rewriting
     (laid_over_blocks p kept layout c.in_ok-layout.ensures.ok) c.in_ok-layout.ensures.valid in

@@ -19,5 +19,5 @@ write_record-requires-clause-record c =
     let blocks = c.of.ensures ∙ c.in_ok-from_slice.ensures.items ∙ c.ranges-2.ensures
     ∙ ap (λ (s : Shape). s.named) c.layout-layout.ensures.value in
     let journals = c.of-2.ensures ∙ c.in_ok-journals.ensures in
-    rw (nodes, budget, blocks, journals) (is_record work core own.0 c.journal_law.ensures.takes
+    rw (nodes, budget, blocks, journals) (is_record c.args.prepared.now.batches work core own.0 c.journal_law.ensures.takes
     c.progress_law.ensures.short c.promises.ensures.rewritten own.1)

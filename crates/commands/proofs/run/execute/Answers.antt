@@ -12,7 +12,7 @@ pub returns-clause-outcome : goal.returns-clause-outcome
 returns-clause-outcome g c =
     let core = c.in_ok-core.core in
     let ran = c.in_ok-outcome.ensures.outcome in
-    own_recorded (work_of core) (work_for c.args.prepared.now) (core_of core) ran.0
+    own_recorded c.args.prepared.now.batches (work_of core) (work_for c.args.prepared.now) (core_of core) ran.0
     (outcome_of c.in_ok-outcome.outcome)
     (held_by (g.F.Files.held c.write_record_of.new.files) (file_name c.args.record_file))
     c.in_ok-core.ensures.work ran.1 c.in_ok-core.ensures.over ran.2

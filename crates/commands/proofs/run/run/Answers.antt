@@ -1,4 +1,4 @@
-use Rattle.std.proofs.Common.{ℕ, List, Option, inl, refl}
+use Rattle.std.proofs.Common.{ℕ, List, Option, inl, refl, subst}
 use Rattle.std.proofs.lemmas.Result.{err_from_is_err_and}
 use Rattle.command_line.specs.Meaning.{file_name}
 use Rattle.dsm_core.specs.CoreParts.{outcome_of}
@@ -7,7 +7,7 @@ use Rattle.commands.specs.Answers.{SinkState, FilesState}
 use Rattle.commands.specs.Executables.{IsUnread}
 use Rattle.commands.specs.declared.refusal.Subject.TheVariants.{Executable}
 use Rattle.commands.specs.Headline.{IsOutcomeOfRun, IsOutcomeRecorded, IsTextWith, held_by}
-use Rattle.commands.specs.Failures.{FailsAs, IsNever, IsPerformFailure, IsRecordFailure, IsTextOfOutcome, AreKept, AreLeft, AreWritten, work_for}
+use Rattle.commands.specs.Failures.{FailsAs, IsNever, IsOwnRecorded, IsPerformFailure, IsRecordFailure, IsTextOfOutcome, AreKept, AreLeft, AreWritten, work_for}
 use Rattle.commands.specs.Given.{bytes_of}
 use Rattle.commands.specs.Layouts.{IsBadRunLayout}
 use Rattle.commands.specs.Outcomes.{told}
@@ -19,33 +19,33 @@ use Rattle.commands.proofs.Recorded.{recorded, outcome_of_run, record_written, w
 use Rattle.commands.proofs.run.run.Goals as goal
 
 pub returns-in_err-elf-clause-failure : goal.returns-in_err-elf-clause-failure
-returns-in_err-elf-clause-failure g c = λ file code layout.
+returns-in_err-elf-clause-failure g c = λ names.
     let options = c.args.options in
     let inputs = bytes_of c.args.inputs.now in
     let state : SinkState = record { taken = g.O.Sink.taken c.args.out.now; faults = g.O.Sink.faults c.args.out.now; refusals = g.O.Sink.refusals c.args.out.now } in
     let files : FilesState = record { held = g.F.Files.held c.args.files.now; failed_reads = g.F.Files.failed_reads c.args.files.now; failed_writes = g.F.Files.failed_writes c.args.files.now } in
     let e = err_from_is_err_and c.from_residual.result c.from_residual.ensures.1 in
-    rw (e.1, e.2) (plain_fails (asked_by options file code layout) inputs files files state state
+    rw (e.1, e.2) (plain_fails (asked_by options names) inputs files files state state
     c.in_err-elf.field-0.0
     (refused_first (IsTextWith (IsOutcomeOfRun inputs options.nodes options.budget) options.brief)
     (IsUnread Executable inputs.executable) IsNever (IsRunRefused inputs) (IsBadRunLayout inputs options.nodes) state
     c.in_err-elf.field-0.0 (λ line h. inl (inl (inl h))) (never (IsBadRunLayout inputs options.nodes)) c.in_err-elf.ensures.refused))
 
 pub returns-in_err-prepared-clause-failure : goal.returns-in_err-prepared-clause-failure
-returns-in_err-prepared-clause-failure g c = λ file code layout.
+returns-in_err-prepared-clause-failure g c = λ names.
     let options = c.args.options in
     let inputs = bytes_of c.args.inputs.now in
     let state : SinkState = record { taken = g.O.Sink.taken c.args.out.now; faults = g.O.Sink.faults c.args.out.now; refusals = g.O.Sink.refusals c.args.out.now } in
     let files : FilesState = record { held = g.F.Files.held c.args.files.now; failed_reads = g.F.Files.failed_reads c.args.files.now; failed_writes = g.F.Files.failed_writes c.args.files.now } in
     let e = err_from_is_err_and c.from_residual-in_err-prepared.result c.from_residual-in_err-prepared.ensures.1 in
-    rw (e.1, e.2) (plain_fails (asked_by options file code layout) inputs files files state state
+    rw (e.1, e.2) (plain_fails (asked_by options names) inputs files files state state
     c.in_err-prepared.field-0.0
     (refused_first (IsTextWith (IsOutcomeOfRun inputs options.nodes options.budget) options.brief)
     (IsRunRefused inputs) (IsBadRunLayout inputs options.nodes) (IsRunRefused inputs) (IsBadRunLayout inputs options.nodes) state
     c.in_err-prepared.field-0.0 (λ line h. h) (λ line h. h) c.in_err-prepared.ensures.refused))
 
 pub returns-in_err-outcome-clause-failure : goal.returns-in_err-outcome-clause-failure
-returns-in_err-outcome-clause-failure g c = λ file code layout.
+returns-in_err-outcome-clause-failure g c = λ names.
     let options = c.args.options in
     let inputs = bytes_of c.args.inputs.now in
     let state : SinkState = record { taken = g.O.Sink.taken c.args.out.now; faults = g.O.Sink.faults c.args.out.now; refusals = g.O.Sink.refusals c.args.out.now } in
@@ -53,8 +53,8 @@ returns-in_err-outcome-clause-failure g c = λ file code layout.
     let files_now : FilesState = record { held = g.F.Files.held c.execute.new.files; failed_reads = g.F.Files.failed_reads c.execute.new.files; failed_writes = g.F.Files.failed_writes c.execute.new.files } in
     let e = err_from_is_err_and c.from_residual-in_err-outcome.result
     c.from_residual-in_err-outcome.ensures.1 in
-    rw (e.1, e.2) (record_fails file options.nodes options.budget (file_name options.record_file) code
-    layout options.brief inputs files files_now state c.in_err-outcome.field-0.0
+    rw (e.1, e.2) (record_fails names.file options.nodes options.budget (file_name options.record_file) names.code
+    names.layout options.brief names.no_batch inputs files files_now state c.in_err-outcome.field-0.0
     c.in_err-outcome.ensures.failure)
 
 pub returns-in_err-outcome-clause-kept : goal.returns-in_err-outcome-clause-kept
@@ -69,33 +69,34 @@ returns-in_err-outcome-clause-kept g c =
     c.in_err-outcome.field-0.0 c.in_err-outcome.ensures.failure)
 
 pub returns-in_err-outcome-clause-left : goal.returns-in_err-outcome-clause-left
-returns-in_err-outcome-clause-left g c = λ file code layout.
+returns-in_err-outcome-clause-left g c = λ names.
     let options = c.args.options in
     let inputs = bytes_of c.args.inputs.now in
     let files : FilesState = record { held = g.F.Files.held c.args.files.now; failed_reads = g.F.Files.failed_reads c.args.files.now; failed_writes = g.F.Files.failed_writes c.args.files.now } in
     let files_now : FilesState = record { held = g.F.Files.held c.execute.new.files; failed_reads = g.F.Files.failed_reads c.execute.new.files; failed_writes = g.F.Files.failed_writes c.execute.new.files } in
-    let left : AreLeft (asked_by options file code layout) inputs files files_now =
-    record_left file options.nodes options.budget (file_name options.record_file) code layout
-    options.brief inputs files files_now c.in_err-outcome.field-0.0
+    let left : AreLeft (asked_by options names) inputs files files_now =
+    record_left names.file options.nodes options.budget (file_name options.record_file) names.code names.layout
+    options.brief names.no_batch inputs files files_now c.in_err-outcome.field-0.0
     c.in_err-outcome.ensures.failure in
-    always_err (λ f. AreLeft (asked_by options file code layout) inputs files files_now)
+    always_err (λ f. AreLeft (asked_by options names) inputs files files_now)
     c.from_residual-in_err-outcome.result (λ f. left)
 
 pub returns-clause-ok : goal.returns-clause-ok
-returns-clause-ok g c = λ file code layout.
+returns-clause-ok g c = λ names.
     let options = c.args.options in
     let inputs = bytes_of c.args.inputs.now in
     let o : Outcome = outcome_of c.in_ok-outcome.outcome in
     let held = held_by (g.F.Files.held c.execute.new.files) (file_name options.record_file) in
     let is : IsOutcomeRecorded inputs options.nodes options.budget held o =
     recorded inputs options.nodes options.budget (work_for c.in_ok-prepared.prepared) held o
-    c.in_ok-prepared.ensures.runs c.in_ok-outcome.ensures.outcome in
+    c.in_ok-prepared.ensures.runs (subst (λ b. IsOwnRecorded b (work_for c.in_ok-prepared.prepared)
+    held o) c.in_ok-prepared.ensures.batches c.in_ok-outcome.ensures.outcome) in
     outcome_put (IsOutcomeRecorded inputs options.nodes options.budget held) options.brief o
     (g.O.Sink.taken c.args.out.now) (g.O.Sink.taken c.put_told.new.out) c.put_told.result is
     c.put_told.ensures.ok
 
 pub returns-clause-failure : goal.returns-clause-failure
-returns-clause-failure g c = λ file code layout.
+returns-clause-failure g c = λ names.
     let options = c.args.options in
     let inputs = bytes_of c.args.inputs.now in
     let state : SinkState = record { taken = g.O.Sink.taken c.args.out.now; faults = g.O.Sink.faults c.args.out.now; refusals = g.O.Sink.refusals c.args.out.now } in
@@ -106,8 +107,9 @@ returns-clause-failure g c = λ file code layout.
     let held = held_by (g.F.Files.held c.execute.new.files) (file_name options.record_file) in
     let is : IsOutcomeRecorded inputs options.nodes options.budget held o =
     recorded inputs options.nodes options.budget (work_for c.in_ok-prepared.prepared) held o
-    c.in_ok-prepared.ensures.runs c.in_ok-outcome.ensures.outcome in
-    plain_failure (asked_by options file code layout) inputs files files_now state now
+    c.in_ok-prepared.ensures.runs (subst (λ b. IsOwnRecorded b (work_for c.in_ok-prepared.prepared)
+    held o) c.in_ok-prepared.ensures.batches c.in_ok-outcome.ensures.outcome) in
+    plain_failure (asked_by options names) inputs files files_now state now
     c.put_told.result
     (outcome_fails (IsOutcomeOfRun inputs options.nodes options.budget) options.brief
     (IsRunRefused inputs) (IsBadRunLayout inputs options.nodes) o state now c.put_told.result
@@ -128,7 +130,7 @@ returns-clause-kept g c =
     c.put_told.ensures.failure
 
 pub returns-clause-written : goal.returns-clause-written
-returns-clause-written g c = λ file code layout.
+returns-clause-written g c = λ names.
     let options = c.args.options in
     let inputs = bytes_of c.args.inputs.now in
     let files_now : FilesState = record { held = g.F.Files.held c.execute.new.files; failed_reads = g.F.Files.failed_reads c.execute.new.files; failed_writes = g.F.Files.failed_writes c.execute.new.files } in
@@ -136,15 +138,16 @@ returns-clause-written g c = λ file code layout.
     let held = held_by (g.F.Files.held c.execute.new.files) (file_name options.record_file) in
     let is : IsOutcomeRecorded inputs options.nodes options.budget held o =
     recorded inputs options.nodes options.budget (work_for c.in_ok-prepared.prepared) held o
-    c.in_ok-prepared.ensures.runs c.in_ok-outcome.ensures.outcome in
-    let written : AreWritten (asked_by options file code layout) inputs files_now =
-    record_written file options.nodes options.budget (file_name options.record_file) code layout
-    options.brief inputs files_now o is in
-    always (λ status. AreWritten (asked_by options file code layout) inputs files_now)
+    c.in_ok-prepared.ensures.runs (subst (λ b. IsOwnRecorded b (work_for c.in_ok-prepared.prepared)
+    held o) c.in_ok-prepared.ensures.batches c.in_ok-outcome.ensures.outcome) in
+    let written : AreWritten (asked_by options names) inputs files_now =
+    record_written names.file options.nodes options.budget (file_name options.record_file) names.code names.layout
+    options.brief names.no_batch inputs files_now o is in
+    always (λ status. AreWritten (asked_by options names) inputs files_now)
     c.put_told.result (λ status. written)
 
 pub returns-clause-left : goal.returns-clause-left
-returns-clause-left g c = λ file code layout.
+returns-clause-left g c = λ names.
     let options = c.args.options in
     let inputs = bytes_of c.args.inputs.now in
     let files : FilesState = record { held = g.F.Files.held c.args.files.now; failed_reads = g.F.Files.failed_reads c.args.files.now; failed_writes = g.F.Files.failed_writes c.args.files.now } in
@@ -153,22 +156,23 @@ returns-clause-left g c = λ file code layout.
     let held = held_by (g.F.Files.held c.execute.new.files) (file_name options.record_file) in
     let is : IsOutcomeRecorded inputs options.nodes options.budget held o =
     recorded inputs options.nodes options.budget (work_for c.in_ok-prepared.prepared) held o
-    c.in_ok-prepared.ensures.runs c.in_ok-outcome.ensures.outcome in
-    let written : AreWritten (asked_by options file code layout) inputs files_now =
-    record_written file options.nodes options.budget (file_name options.record_file) code layout
-    options.brief inputs files_now o is in
-    always_err (λ f. AreLeft (asked_by options file code layout) inputs files files_now)
-    c.put_told.result (λ f. written_left file options.nodes options.budget
-    (file_name options.record_file) code layout options.brief inputs files files_now written)
+    c.in_ok-prepared.ensures.runs (subst (λ b. IsOwnRecorded b (work_for c.in_ok-prepared.prepared)
+    held o) c.in_ok-prepared.ensures.batches c.in_ok-outcome.ensures.outcome) in
+    let written : AreWritten (asked_by options names) inputs files_now =
+    record_written names.file options.nodes options.budget (file_name options.record_file) names.code names.layout
+    options.brief names.no_batch inputs files_now o is in
+    always_err (λ f. AreLeft (asked_by options names) inputs files files_now)
+    c.put_told.result (λ f. written_left names.file options.nodes options.budget
+    (file_name options.record_file) names.code names.layout options.brief names.no_batch inputs files files_now written)
 
 pub returns-clause-others : goal.returns-clause-others
-returns-clause-others g c = λ file code layout name unwritten.
-    c.execute.ensures.others name (λ e. unwritten (names_record file c.args.options.nodes
-    c.args.options.budget (file_name c.args.options.record_file) code layout c.args.options.brief
+returns-clause-others g c = λ names name unwritten.
+    c.execute.ensures.others name (λ e. unwritten (names_record names.file c.args.options.nodes
+    c.args.options.budget (file_name c.args.options.record_file) names.code names.layout c.args.options.brief names.no_batch
     name e))
 
 pub returns-in_err-outcome-clause-others : goal.returns-in_err-outcome-clause-others
-returns-in_err-outcome-clause-others g c = λ file code layout name unwritten.
-    c.execute.ensures.others name (λ e. unwritten (names_record file c.args.options.nodes
-    c.args.options.budget (file_name c.args.options.record_file) code layout c.args.options.brief
+returns-in_err-outcome-clause-others g c = λ names name unwritten.
+    c.execute.ensures.others name (λ e. unwritten (names_record names.file c.args.options.nodes
+    c.args.options.budget (file_name c.args.options.record_file) names.code names.layout c.args.options.brief names.no_batch
     name e))

@@ -59,25 +59,45 @@ returns-in-Generate-clause-ok g c =
 
 pub returns-in-Run-clause-ok : goal.returns-in-Run-clause-ok
 returns-in-Run-clause-ok g c =
-    rw c.in-Run.is (c.run.ensures.ok c.in-Run.file.now (file_name c.in-Run.code)
-    (file_name c.in-Run.layout))
+    rw c.in-Run.is (c.run.ensures.ok (record {
+      file = c.in-Run.file.now;
+      code = file_name c.in-Run.code;
+      layout = file_name c.in-Run.layout;
+      no_batch = c.in-Run.no_batch;
+    }))
 
 pub returns-in-Run-clause-failure : goal.returns-in-Run-clause-failure
 returns-in-Run-clause-failure g c =
-    rw c.in-Run.is (c.run.ensures.failure c.in-Run.file.now (file_name c.in-Run.code)
-    (file_name c.in-Run.layout))
+    rw c.in-Run.is (c.run.ensures.failure (record {
+      file = c.in-Run.file.now;
+      code = file_name c.in-Run.code;
+      layout = file_name c.in-Run.layout;
+      no_batch = c.in-Run.no_batch;
+    }))
 
 pub returns-in-Run-clause-written : goal.returns-in-Run-clause-written
 returns-in-Run-clause-written g c =
-    rw c.in-Run.is (c.run.ensures.written c.in-Run.file.now (file_name c.in-Run.code)
-    (file_name c.in-Run.layout))
+    rw c.in-Run.is (c.run.ensures.written (record {
+      file = c.in-Run.file.now;
+      code = file_name c.in-Run.code;
+      layout = file_name c.in-Run.layout;
+      no_batch = c.in-Run.no_batch;
+    }))
 
 pub returns-in-Run-clause-left : goal.returns-in-Run-clause-left
 returns-in-Run-clause-left g c =
-    rw c.in-Run.is (c.run.ensures.left c.in-Run.file.now (file_name c.in-Run.code)
-    (file_name c.in-Run.layout))
+    rw c.in-Run.is (c.run.ensures.left (record {
+      file = c.in-Run.file.now;
+      code = file_name c.in-Run.code;
+      layout = file_name c.in-Run.layout;
+      no_batch = c.in-Run.no_batch;
+    }))
 
 pub returns-in-Run-clause-others : goal.returns-in-Run-clause-others
 returns-in-Run-clause-others g c =
-    rw c.in-Run.is (c.run.ensures.others c.in-Run.file.now (file_name c.in-Run.code)
-    (file_name c.in-Run.layout))
+    rw c.in-Run.is (c.run.ensures.others (record {
+      file = c.in-Run.file.now;
+      code = file_name c.in-Run.code;
+      layout = file_name c.in-Run.layout;
+      no_batch = c.in-Run.no_batch;
+    }))

@@ -8,6 +8,7 @@ use Rattle.commands.specs.Headline.{AreTold}
 use Rattle.commands.specs.Inputs.{inputs_of}
 use Rattle.commands.specs.Text.{usage}
 use Rattle.commands.proofs.AnswerLemmas.{fault_of, refusal_of, layout_refusal_of, record_refusal_of, prefix_of_failure, asked_as, none_as}
+use Rattle.commands.proofs.InterleavedLemmas.{prints_original}
 use Rattle.commands.proofs.top.shasta.Goals as goal
 
 pub returns-in-Ok-None-clause-usage : goal.returns-in-Ok-None-clause-usage
@@ -33,6 +34,12 @@ returns-in-Ok-clause-prints g c = λ d contents asks told low.
     let success : IsSuccess d files files_now before now c.in-Ok.status =
     subst (λ x. IsSuccess x files files_now before now c.in-Ok.status) same c.in-Ok.ensures.ok in
     success.prints contents told
+
+pub returns-in-Ok-clause-interleaved : goal.returns-in-Ok-clause-interleaved
+returns-in-Ok-clause-interleaved g c = λ d contents asks told low.
+    prints_original d contents (g.F.Files.held c.answer.new.files) (g.O.Sink.taken c.args.out.now)
+    (g.O.Sink.taken c.answer.new.out) c.in-Ok.status
+    (returns-in-Ok-clause-prints g c d contents asks told low)
 
 pub returns-in-Ok-clause-longer : goal.returns-in-Ok-clause-longer
 returns-in-Ok-clause-longer g c = λ d name content asks among holds long.

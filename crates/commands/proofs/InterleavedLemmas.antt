@@ -1,0 +1,230 @@
+-- A whole run of nodes is an interleaved run of the original.
+use Rattle.std.proofs.Common.{◌≡◌, ℕ, zero, suc, ◌+◌, ◌<◌, ◌≤◌, ◌&&◌, not, Bool, true, false, List, [], ◌∷◌, ◌++◌, length, map, get_or, Option, Some, None, refl, sym, ap, ◌∙◌, subst, inl, inr, arith}
+use Rattle.std.specs.Prelude.{is_some, nat_lt}
+use Rattle.std.specs.List.{filter, range_with_len}
+use Rattle.std.proofs.Math.Nat.{mod-lt}
+use Rattle.std.proofs.lemmas.Bool.{cases_Bool}
+use Rattle.elf32_read.specs.Elf.{Elf}
+use Rattle.exec_map.specs.Contents.{program_of, AreSharedRanges}
+use Rattle.block_layout.specs.Layout.{Shape}
+use Rattle.rv32_program.specs.Program.{Program}
+use Rattle.rv32_program.specs.declared.Exit.{Exit}
+use Rattle.rv32_program.specs.declared.End.{End}
+use Rattle.rv32_program.specs.declared.End.TheVariants.{Exited, Stopped}
+use Rattle.rv32_step.specs.OneMemory.{Original, State, Step, opening, step, IsRun}
+use Rattle.workload.specs.Orders.{following, choice}
+use Rattle.one_memory.specs.ByOrder.{FollowsOrder, end_by, goes_on, live, one_more}
+use Rattle.templates.specs.declared.plans.PlanEntry.{PlanEntry}
+use Rattle.node_model.specs.Node.{Work, Phase, Running, Resumed, Waiting, Ended, end_of}
+use Rattle.node_model.specs.Core.{Event, opening_core, after}
+use Rattle.node_model.specs.Outcome.{Outcome}
+use Rattle.run_order.specs.OwnRun.{Stamped, run_of}
+use Rattle.rewriting_law.specs.CoreRun.{picks_of}
+use Rattle.rewriting_law.specs.Interleaving.{EndsAs, original_by_node, original_after}
+use Rattle.command_line.specs.Commands.{Command, Rewrite, Run, Listing, One, Sim, Replay, Generate}
+use Rattle.commands.specs.Headline.{IsOutcomeByOrder, IsRunOf, IsTextBeside, Prints}
+use Rattle.commands.specs.Inputs.{Inputs, inputs_of}
+use Rattle.commands.specs.Interleaved.{IsInterleaved, IsLayoutGiven, IsSomeLayout, IsTextOfOriginal, PrintsOriginal, TellsOfOriginal}
+use Rattle.commands.specs.Outcomes.{IsRunOfCode, IsWholeRun, told}
+use Rattle.commands.specs.Text.{outcome_head, outcome_tail, text_of}
+
+-- ---- how processors ended
+
+end_is : (budget : ℕ) (exit : Option Exit) (phase : Phase) (e : End) → EndsAs budget exit phase
+    → end_of phase ≡ Some e → e ≡ end_by budget exit
+end_is budget exit Running e h is = absurd (cc)
+end_is budget exit Resumed e h is = absurd (cc)
+end_is budget exit (Waiting resume) e h is = absurd (cc)
+end_is budget exit (Ended (Exited x)) e h is =
+    let same : Exited x ≡ e = cc in sym same ∙ sym (ap (end_by budget) h)
+end_is budget exit (Ended (Stopped b)) e h is =
+    let same : Stopped b ≡ e = cc in
+    sym same ∙ ap (λ n. Stopped n) h.1 ∙ sym (ap (end_by budget) h.0)
+
+heads : {A : Type 0} (x y : A) (xs ys : List A) → x ∷ xs ≡ y ∷ ys → (x ≡ y) × (xs ≡ ys)
+heads x y xs ys e = (cc, cc)
+
+-- the ends of the processors from one number on
+ends_from : (budget : ℕ) (exit : ℕ → Option Exit) (phase : ℕ → Phase) (a n : ℕ) (es : List End)
+    → ((p : ℕ) → a ≤ p → p < a + n → EndsAs budget (exit p) (phase p))
+    → map (λ i. end_of (phase i)) (range_with_len a n) ≡ map (λ e. Some e) es
+    → es ≡ map (λ p. end_by budget (exit p)) (range_with_len a n)
+ends_from budget exit phase a zero [] h is = refl
+ends_from budget exit phase a zero (e ∷ es) h is = absurd (cc)
+ends_from budget exit phase a (suc n) [] h is = absurd (cc)
+ends_from budget exit phase a (suc n) (e ∷ es) h is =
+    let parts = heads {A = Option End} (end_of (phase a)) (Some e)
+    (map (λ i. end_of (phase i)) (range_with_len (a + 1) n)) (map (λ x. Some x) es) is in
+    let first = end_is budget (exit a) (phase a) e (h a (omega arith) (omega arith)) parts.0 in
+    let rest = ends_from budget exit phase (a + 1) n es
+    (λ p low high. h p (omega (arith, low)) (omega (arith, high))) parts.1 in
+    ap (λ x. x ∷ es) first
+    ∙ ap (λ xs. end_by budget (exit a) ∷ xs) rest
+
+-- ---- runs
+
+-- a whole run of nodes is, by its picks, an interleaved run
+of_whole : (work : Work) (plan : List PlanEntry) (events : List Event) (o : Outcome)
+    → IsWholeRun work plan events o
+    → IsInterleaved (original_by_node work) work.budget o.output o.ends
+of_whole work plan events o whole = record {
+  picks = picks_of work plan (opening_core work) events;
+  allowed = whole.original.allowed;
+  output_is = whole.output;
+  ends_are = ends_from work.budget
+      (λ p. ((original_after work plan events).processors p).exit)
+      (λ p. ((after work (opening_core work) events).nodes p).phase) 0 work.layout.nodes o.ends
+      (λ p low high. whole.original.ends p (omega (arith, high))) whole.ends;
+}
+
+original_as : (program : Program) (layout : Shape) (nodes budget : ℕ) (program' : Program)
+    (nodes' budget' : ℕ) (output : List ℕ) (ends : List End) → program ≡ program'
+    → nodes ≡ nodes' → budget ≡ budget'
+    → IsInterleaved (record { program = program; layout = layout; nodes = nodes }) budget output ends
+    → IsInterleaved (record { program = program'; layout = layout; nodes = nodes' }) budget' output
+    ends
+original_as program layout nodes budget program' nodes' budget' output ends p n b h =
+    subst (λ x. IsInterleaved (record { program = program'; layout = layout; nodes = nodes' }) x output ends) b
+    (subst (λ x. IsInterleaved (record { program = program'; layout = layout; nodes = x }) budget output ends) n
+    (subst (λ x. IsInterleaved (record { program = x; layout = layout; nodes = nodes }) budget output ends) p h))
+
+-- ---- texts
+
+text_as : (brief : Bool) (o : Outcome)
+    → text_of (told brief o) ≡ outcome_head (length o.output)
+    ++ (o.output ++ outcome_tail o.ends (told brief o).counts)
+text_as true o = refl
+text_as false o = refl
+
+of_code : (batches : Bool) (file : List ℕ) (elf : Elf) (plan : List PlanEntry) (work : Work)
+    (own : List Stamped) (o : Outcome) (IsLaidOut : Elf → Shape → Type 0) (nodes budget : ℕ)
+    (brief : Bool) (text : List ℕ) → IsRunOfCode batches file elf plan work own o
+    → IsLaidOut elf work.layout → work.layout.nodes ≡ nodes → work.budget ≡ budget
+    → text ≡ text_of (told brief o) → TellsOfOriginal file IsLaidOut nodes budget text
+of_code batches file elf plan work own o IsLaidOut nodes budget brief text code laid n b is = record {
+  elf = elf;
+  executable = code.rewritten.executable;
+  layout = work.layout;
+  laid_out = laid;
+  output = o.output;
+  ends = o.ends;
+  counts = (told brief o).counts;
+  interleaved = original_as work.program work.layout work.layout.nodes work.budget (program_of elf)
+      nodes budget o.output o.ends code.program n b (of_whole work plan (run_of own) o code.whole);
+  text_is = is ∙ text_as brief o;
+}
+
+of_run : (inputs : Inputs) (nodes budget : ℕ) (work : Work) (own : List Stamped) (o : Outcome)
+    (brief : Bool) (text : List ℕ) → IsRunOf inputs nodes budget work own o
+    → text ≡ text_of (told brief o)
+    → TellsOfOriginal inputs.executable (IsLayoutGiven inputs nodes) nodes budget text
+of_run inputs nodes budget work own o brief text h is =
+    of_code inputs.batches inputs.executable h.elf h.plan work own o (IsLayoutGiven inputs nodes)
+    nodes budget brief text h.of_code h.laid_out h.count h.limit is
+
+-- ---- runs by an order
+
+no_exit : (o : Option Exit) (b : Bool) → (not (is_some o) && b) ≡ true → o ≡ None
+no_exit None b h = refl
+no_exit (Some e) b h = absurd (cc)
+
+-- a number that a test picks of a range
+pub record IsPicked (test : ℕ → Bool) (a n p : ℕ) : Type 0 where
+  pub passes : test p ≡ true
+  pub high : p < a + n
+
+wider : (test : ℕ → Bool) (a n p : ℕ) → IsPicked test (a + 1) n p → IsPicked test a (suc n) p
+wider test a n p h = record { passes = h.passes; high = omega (arith, h.high) }
+
+picked : (test : ℕ → Bool) (a n k : ℕ) → k < length (filter test (range_with_len a n))
+    → IsPicked test a n (get_or (filter test (range_with_len a n)) k 0)
+picked test a zero k lt = absurd (omega (arith, lt))
+picked test a (suc n) zero lt = elim (cases_Bool (test a)) [
+  | inl e ↦ rw e (record { passes = e; high = omega arith })
+  | inr e ↦ rw e (wider test a n _ (picked test (a + 1) n zero (rw e at lt)))
+]
+picked test a (suc n) (suc k) lt = elim (cases_Bool (test a)) [
+  | inl e ↦
+      let more : suc k < suc (length (filter test (range_with_len (a + 1) n))) = rw e at lt in
+      rw e (wider test a n _ (picked test (a + 1) n k (omega (arith, more))))
+  | inr e ↦ rw e (wider test a n _ (picked test (a + 1) n (suc k) (rw e at lt)))
+]
+
+-- a processor that goes on may make a step
+may_step : (o : Original) (budget : ℕ) (steps : ℕ → ℕ) (s : State) (k p : ℕ)
+    → k < length (live o budget steps s) → p ≡ get_or (live o budget steps s) k 0
+    → (p < o.nodes) × ((s.processors p).exit ≡ None)
+may_step o budget steps s k p within at =
+    let here = picked (goes_on budget steps s) 0 o.nodes k within in
+    let goes : goes_on budget steps s p ≡ true = ap (goes_on budget steps s) at ∙ here.passes in
+    let high = here.high in
+    (omega (arith, high, at), no_exit (s.processors p).exit (nat_lt (steps p) budget) goes)
+
+order_runs : (o : Original) (budget number : ℕ) (steps : ℕ → ℕ) (s : State) (ps : List ℕ)
+    → FollowsOrder o budget number steps s ps → IsRun o s (map (λ p. Step p) ps)
+order_runs o budget number steps s [] h = tt
+order_runs o budget number steps s (p ∷ ps) h =
+    let ls = live o budget steps s in
+    let k = choice (length ls) (following number) in
+    let some = h.0 in
+    let within : k < length ls = mod-lt _ some in (
+      may_step o budget steps s k p within h.1,
+      order_runs o budget (following number) (one_more steps p) (step o s p).state ps h.2,
+    )
+
+by_order : (inputs : Inputs) (nodes order budget : ℕ) (o : Outcome) (text : List ℕ)
+    → IsOutcomeByOrder inputs nodes order budget o → text ≡ text_of (told false o)
+    → TellsOfOriginal inputs.executable (IsLayoutGiven inputs nodes) nodes budget text
+by_order inputs nodes order budget o text h is =
+    let original : Original = record { program = program_of h.elf; layout = h.layout; nodes = nodes } in
+    record {
+      elf = h.elf;
+      executable = h.executable;
+      layout = h.layout;
+      laid_out = h.laid_out;
+      output = o.output;
+      ends = o.ends;
+      counts = o.counts;
+      interleaved = record {
+        picks = map (λ p. Step p) h.ordered.picks;
+        allowed = order_runs original budget order (λ p. 0) (opening original) h.ordered.picks h.ordered.ordered;
+        output_is = h.ordered.output_is;
+        ends_are = h.ordered.ends_are;
+      };
+      text_is = is;
+    }
+
+-- ---- what is printed
+
+tells : (c : Command) (held : List ℕ → Option (List ℕ)) (inputs : Inputs) (text : List ℕ)
+    (status : ℕ) → IsTextBeside c held inputs text status → IsTextOfOriginal c inputs text
+tells (Rewrite input output no_batch) held inputs text status h = tt
+tells (Run file nodes budget record_file code layout brief no_batch) held inputs text status h =
+    of_run inputs nodes budget h.is.work h.is.own h.outcome brief text h.is.is_run h.text_is
+tells (One file nodes order budget layout) held inputs text status h =
+    by_order inputs nodes order budget h.outcome text h.is h.text_is
+tells (Sim file nodes order budget code layout brief no_batch) held inputs text status h =
+    of_run inputs nodes budget h.is.work h.is.own h.outcome brief text h.is.is_run h.text_is
+tells (Listing file) held inputs text status h = tt
+tells (Replay file record_file brief) held inputs text status h =
+    let work = h.is.work in
+    let laid = h.is.asked.laid_out in
+    let same = laid.layout_is in
+    let shared : work.layout.shared ≡ laid.shared = ap (λ (s : Shape). s.shared) same in (
+      work.layout.nodes,
+      work.budget,
+      of_code h.is.kept.batch inputs.executable h.is.elf h.is.plan work _ h.outcome IsSomeLayout
+          work.layout.nodes work.budget brief text h.is.of_code
+          (subst (AreSharedRanges h.is.elf) (sym shared) laid.lines, h.is.asked.valid)
+          refl refl h.text_is,
+    )
+tells (Generate number output) held inputs text status h = tt
+
+pub prints_original : (c : Command) (contents : List ℕ → List ℕ) (held : List ℕ → Option (List ℕ))
+    (before now : Option (List ℕ)) (status : ℕ) → Prints c contents held before now status
+    → PrintsOriginal c contents before now
+prints_original c contents held before now status h = record {
+  text = h.text;
+  is = tells c held (inputs_of c contents) h.text status h.is;
+  put = h.put;
+}
