@@ -1,6 +1,7 @@
 //! The adapters of the real system.
 
-use dsm_io::{FileError, Files, Gate, OpenGate, RealFiles, Sink, StdSink, Text};
+use commands::{Gate, OpenGate};
+use dsm_io::{FileError, Files, RealFiles, Sink, StdSink, Text};
 use std::alloc::{AllocError, Global};
 use std::fs;
 use std::test::Fail;

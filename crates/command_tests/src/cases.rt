@@ -16,6 +16,7 @@ pub enum Input {
 
 /// Calls where IN holds an input, and L and -x a text, and the answer of each: its status, the parts
 /// of its output, and its errors.
+#[derive(Drop)]
 pub struct Case {
     pub input: Input,
     pub text: &'static str,

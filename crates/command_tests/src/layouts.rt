@@ -18,100 +18,83 @@ const STOPPED: &str = "output 0\n\nprocessor 0 ebreak 0x00010000\n";
 const NEIGHBOURS: &str = "000202b7 02051263 1002a32f 00100393 1072a023 1042a403 fe040ee3 1872a52f
     05d00893 00000073 1002a403 fe040ee3 0482a023 1082a223 00000513 05d00893 00000073";
 
-const CASES: [Case; 18] = [
-    Case {
-        input: Input::Program(STOP, b"", 64),
-        text: "",
-        calls: &["one --layout=-x IN"],
-        status: 1,
-        out: &[STOPPED],
-        err: "",
-    },
-    Case {
-        input: Input::Program(STOP, b"", 64),
-        text: "",
-        calls: &["run --layout=-x IN", "sim --layout=-x IN"],
-        status: 1,
-        out: &[STOPPED, NODE],
-        err: "",
-    },
-    Case {
-        input: Input::Program(STOP, b"", 64),
-        text: "0x20000 0x40 64 *\n",
-        calls: &["one --layout=-x IN"],
-        status: 1,
-        out: &[STOPPED],
-        err: "",
-    },
-    Case {
-        input: Input::Program(STOP, b"", 64),
-        text: "0x20000 0x40 64 *\n",
-        calls: &["run --layout=-x IN", "sim --layout=-x IN"],
-        status: 1,
-        out: &[STOPPED, NODE],
-        err: "",
-    },
-    Case {
-        input: Input::Program(STOP, b"", 64),
-        text: "# shared data\n0x20000 0x40 65 *\n",
-        calls: &[
-            "one --layout=-x IN",
-            "run --layout=-x IN",
-            "sim --layout=-x IN",
-        ],
-        status: 6,
-        out: &[],
-        err: "shasta: layout refused 31 at line 2\n",
-    },
-    Case {
-        input: Input::Program(STOP, b"", 64),
-        text: "0x20020 0x40 64 *\n",
-        calls: &[
-            "one --layout=-x IN",
-            "run --layout=-x IN",
-            "sim --layout=-x IN",
-        ],
-        status: 6,
-        out: &[],
-        err: "shasta: layout refused 32 at line 1\n",
-    },
+/// A layout of the program that stops, and why it is refused.
+const REFUSED: [(&str, &str); 5] = [
+    (
+        "# shared data\n0x20000 0x40 65 *\n",
+        "shasta: layout refused 31 at line 2\n",
+    ),
+    (
+        "0x20020 0x40 64 *\n",
+        "shasta: layout refused 32 at line 1\n",
+    ),
     // the code isn't shared
-    Case {
-        input: Input::Program(STOP, b"", 64),
-        text: "0x10000 0x40 64 0",
-        calls: &[
-            "one --layout=-x IN",
-            "run --layout=-x IN",
-            "sim --layout=-x IN",
-        ],
-        status: 6,
-        out: &[],
-        err: "shasta: layout refused 33 at line 1\n",
-    },
-    Case {
-        input: Input::Program(STOP, b"", 64),
-        text: "0x20000 0x40 64 0\n0x20000 0x40 64 0\n",
-        calls: &[
-            "one --layout=-x IN",
-            "run --layout=-x IN",
-            "sim --layout=-x IN",
-        ],
-        status: 6,
-        out: &[],
-        err: "shasta: layout refused 34 at line 2\n",
-    },
+    ("0x10000 0x40 64 0", "shasta: layout refused 33 at line 1\n"),
+    (
+        "0x20000 0x40 64 0\n0x20000 0x40 64 0\n",
+        "shasta: layout refused 34 at line 2\n",
+    ),
     // there is one node
+    (
+        "0x20000 0x40 64 1\n",
+        "shasta: layout refused 35 at line 1\n",
+    ),
+];
+
+/// What two processors print that both stop, that both exit, and where the first stored nothing.
+const BOTH_STOPPED: &str =
+    "output 0\n\nprocessor 0 ebreak 0x00010000\nprocessor 1 ebreak 0x00010000\n";
+
+const BOTH_EXITED: &str = "output 0\n\nprocessor 0 exit 0\nprocessor 1 exit 0\n";
+
+const ONE_FAILED: &str = "output 0\n\nprocessor 0 exit 1\nprocessor 1 exit 0\n";
+
+/// A program of two processors, the size of its memory, a layout, and how it ends.
+const ON_TWO: [(&str, u32, &str, u8, &[&str]); 6] = [
+    // the second node may be a home
+    (STOP, 64, "0x20000 0x40 64 1", 1, &[BOTH_STOPPED]),
+    // where both lines are one block, the store ends the reservation
+    (NEIGHBOURS, 320, "", 0, &[BOTH_EXITED]),
+    (NEIGHBOURS, 320, "0x20000 0x80 128 *", 1, &[ONE_FAILED]),
+    // two processors count whatever the blocks
+    (COUNTER, 128, "", 1, &[COUNTED]),
+    (COUNTER, 128, "0x20000 0x80 128 1", 1, &[COUNTED]),
+    (COUNTER, 128, "0x20040 0x40 64 0", 1, &[COUNTED]),
+];
+
+/// Layouts of no line and of one, what is told before a layout, and a home that is no node.
+const CASES: [Case; 7] = [
     Case {
         input: Input::Program(STOP, b"", 64),
-        text: "0x20000 0x40 64 1\n",
-        calls: &[
-            "one --layout=-x IN",
-            "run --layout=-x IN",
-            "sim --layout=-x IN",
-        ],
-        status: 6,
-        out: &[],
-        err: "shasta: layout refused 35 at line 1\n",
+        text: "",
+        calls: &["one --layout=-x IN"],
+        status: 1,
+        out: &[STOPPED],
+        err: "",
+    },
+    Case {
+        input: Input::Program(STOP, b"", 64),
+        text: "",
+        calls: &["run --layout=-x IN", "sim --layout=-x IN"],
+        status: 1,
+        out: &[STOPPED, NODE],
+        err: "",
+    },
+    Case {
+        input: Input::Program(STOP, b"", 64),
+        text: "0x20000 0x40 64 *\n",
+        calls: &["one --layout=-x IN"],
+        status: 1,
+        out: &[STOPPED],
+        err: "",
+    },
+    Case {
+        input: Input::Program(STOP, b"", 64),
+        text: "0x20000 0x40 64 *\n",
+        calls: &["run --layout=-x IN", "sim --layout=-x IN"],
+        status: 1,
+        out: &[STOPPED, NODE],
+        err: "",
     },
     // the executable is judged first
     Case {
@@ -139,18 +122,7 @@ const CASES: [Case; 18] = [
         out: &[],
         err: "shasta: cannot read a\n",
     },
-    // the second node may be a home where there are two, and no third
-    Case {
-        input: Input::Program(STOP, b"", 64),
-        text: "0x20000 0x40 64 1",
-        calls: &[
-            "one IN --layout L --nodes 2",
-            "sim IN --layout L --nodes 2 --brief",
-        ],
-        status: 1,
-        out: &["output 0\n\nprocessor 0 ebreak 0x00010000\nprocessor 1 ebreak 0x00010000\n"],
-        err: "",
-    },
+    // of two nodes there is no third
     Case {
         input: Input::Program(STOP, b"", 64),
         text: "0x20000 0x40 64 2",
@@ -162,69 +134,41 @@ const CASES: [Case; 18] = [
         out: &[],
         err: "shasta: layout refused 35 at line 1\n",
     },
-    // where both lines are one block, the store ends the reservation
-    Case {
-        input: Input::Program(NEIGHBOURS, b"", 320),
-        text: "",
-        calls: &[
-            "one IN --layout L --nodes 2",
-            "sim IN --layout L --nodes 2 --brief",
-        ],
-        status: 0,
-        out: &["output 0\n\nprocessor 0 exit 0\nprocessor 1 exit 0\n"],
-        err: "",
-    },
-    Case {
-        input: Input::Program(NEIGHBOURS, b"", 320),
-        text: "0x20000 0x80 128 *",
-        calls: &[
-            "one IN --layout L --nodes 2",
-            "sim IN --layout L --nodes 2 --brief",
-        ],
-        status: 1,
-        out: &["output 0\n\nprocessor 0 exit 1\nprocessor 1 exit 0\n"],
-        err: "",
-    },
-    // two processors count whatever the blocks
-    Case {
-        input: Input::Program(COUNTER, b"", 128),
-        text: "",
-        calls: &[
-            "one IN --layout L --nodes 2",
-            "sim IN --layout L --nodes 2 --brief",
-        ],
-        status: 1,
-        out: &[COUNTED],
-        err: "",
-    },
-    Case {
-        input: Input::Program(COUNTER, b"", 128),
-        text: "0x20000 0x80 128 1",
-        calls: &[
-            "one IN --layout L --nodes 2",
-            "sim IN --layout L --nodes 2 --brief",
-        ],
-        status: 1,
-        out: &[COUNTED],
-        err: "",
-    },
-    Case {
-        input: Input::Program(COUNTER, b"", 128),
-        text: "0x20040 0x40 64 0",
-        calls: &[
-            "one IN --layout L --nodes 2",
-            "sim IN --layout L --nodes 2 --brief",
-        ],
-        status: 1,
-        out: &[COUNTED],
-        err: "",
-    },
 ];
 
 #[test]
 fn judges_the_layout(rt: HostRuntime) -> Result<(), Fail> {
     for case in &CASES {
         try_case(&rt, case)?;
+    }
+    for (text, err) in REFUSED {
+        let case = Case {
+            input: Input::Program(STOP, b"", 64),
+            text,
+            calls: &[
+                "one --layout=-x IN",
+                "run --layout=-x IN",
+                "sim --layout=-x IN",
+            ],
+            status: 6,
+            out: &[],
+            err,
+        };
+        try_case(&rt, &case)?;
+    }
+    for (code, size, text, status, out) in ON_TWO {
+        let case = Case {
+            input: Input::Program(code, b"", size),
+            text,
+            calls: &[
+                "one IN --layout L --nodes 2",
+                "sim IN --layout L --nodes 2 --brief",
+            ],
+            status,
+            out,
+            err: "",
+        };
+        try_case(&rt, &case)?;
     }
     Ok(())
 }

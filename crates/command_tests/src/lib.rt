@@ -6,6 +6,8 @@ mod adapters;
 #[cfg(test)]
 mod atomics;
 #[cfg(test)]
+mod batches;
+#[cfg(test)]
 mod calls;
 #[cfg(test)]
 mod cases;

@@ -38,6 +38,17 @@ node 0 read 0 exclusive 0 upgrade 0 false 0 invalidations 0 fallbacks 0 messages
 node 1 read 1 exclusive 0 upgrade 0 false 0 invalidations 0 fallbacks 0 messages 2
 ";
 
+/// Processor 0 writes the 200 bytes from 0x20ffc, and processor 1 stores 0x42 to each of them:
+/// `lui x5, 0x21; addi x5, x5, -4; bne x10, x0, 28; addi x10, x0, 1; addi x11, x5, 0;
+/// addi x12, x0, 200; addi x17, x0, 64; ecall; jal x0, 28; addi x6, x0, 200; addi x7, x0, 0x42;
+/// sb x7, 0(x5); addi x5, x5, 1; addi x6, x6, -1; bne x6, x0, -12; addi x10, x0, 0;
+/// addi x17, x0, 93; ecall`.
+pub const STORES: &str = "000212b7 ffc28293 00051e63 00100513 00028593 0c800613 04000893 00000073
+    01c0006f 0c800313 04200393 00728023 00128293 fff30313 fe031ae3 00000513 05d00893 00000073";
+
+/// Its layout: the bytes that are written lie in blocks of 4096, of 128 and of 64 bytes.
+pub const BLOCKS: &str = "0x20000 0x1000 4096 0\n0x21000 0x80 128 *\n";
+
 /// Programs whose data is zeros.
 const CASES: [Case; 5] = [
     Case {

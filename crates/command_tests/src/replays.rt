@@ -1,7 +1,7 @@
 //! `replay` of records, and the executables that `gen` writes.
 
 use crate::calls::{Answer, Called, call, executable, sure, text_of, try_held};
-use crate::nodes::{READ, READS, WAITED};
+use crate::nodes::{BLOCKS, READ, READS, STORES, WAITED};
 use crate::watch::Watch;
 use std::alloc::Global;
 use std::str::from_utf8;
@@ -57,17 +57,6 @@ const LAYOUTS: [(&str, &str); 2] = [
         "34 at line 2",
     ),
 ];
-
-/// Processor 0 writes the 200 bytes from 0x20ffc, and processor 1 stores 0x42 to each of them:
-/// `lui x5, 0x21; addi x5, x5, -4; bne x10, x0, 28; addi x10, x0, 1; addi x11, x5, 0;
-/// addi x12, x0, 200; addi x17, x0, 64; ecall; jal x0, 28; addi x6, x0, 200; addi x7, x0, 0x42;
-/// sb x7, 0(x5); addi x5, x5, 1; addi x6, x6, -1; bne x6, x0, -12; addi x10, x0, 0;
-/// addi x17, x0, 93; ecall`.
-const STORES: &str = "000212b7 ffc28293 00051e63 00100513 00028593 0c800613 04000893 00000073
-    01c0006f 0c800313 04200393 00728023 00128293 fff30313 fe031ae3 00000513 05d00893 00000073";
-
-/// Its layout: the bytes lie in blocks of 4096, of 128 and of 64 bytes.
-const BLOCKS: &str = "0x20000 0x1000 4096 0\n0x21000 0x80 128 *\n";
 
 /// The first instructions of the executable of 0: four pages, two rounds, and three groups.
 const FIRST: &str = "00010000: 00200437 lui x8, 0x200

@@ -3,7 +3,7 @@
 use crate::calls::{Answer, call, executable, sure};
 use crate::cases::{Case, Input, try_case};
 use crate::faults::USAGE;
-use crate::nodes::{READ, READS, STAYED, STAYS, WAITED, WAITS};
+use crate::nodes::{BLOCKS, READ, READS, STAYED, STAYS, STORES, WAITED, WAITS};
 use crate::watch::Watch;
 use std::str::from_utf8;
 use std::sync::Wait;
@@ -24,18 +24,7 @@ const COUNTS: &str = "000202b7 3e800313 1002a3af 00138393 1872ae2f fe0e1ae3 fff3
 /// What it ends with: the word is 2000.
 const COUNTED: &[u8] = b"output 4\n\xd0\x07\x00\x00\nprocessor 0 exit 0\nprocessor 1 exit 0\n";
 
-/// Processor 0 writes the 200 bytes from 0x20ffc, and processor 1 stores 0x42 to each of them:
-/// `lui x5, 0x21; addi x5, x5, -4; bne x10, x0, 28; addi x10, x0, 1; addi x11, x5, 0;
-/// addi x12, x0, 200; addi x17, x0, 64; ecall; jal x0, 28; addi x6, x0, 200; addi x7, x0, 0x42;
-/// sb x7, 0(x5); addi x5, x5, 1; addi x6, x6, -1; bne x6, x0, -12; addi x10, x0, 0;
-/// addi x17, x0, 93; ecall`.
-const STORES: &str = "000212b7 ffc28293 00051e63 00100513 00028593 0c800613 04000893 00000073
-    01c0006f 0c800313 04200393 00728023 00128293 fff30313 fe031ae3 00000513 05d00893 00000073";
-
-/// Its layout: the bytes that are written lie in blocks of 4096, of 128 and of 64 bytes.
-const BLOCKS: &str = "0x20000 0x1000 4096 0\n0x21000 0x80 128 *\n";
-
-/// The lines of its record between those of the budget and of the takes.
+/// The lines of the record of the bytes that are stored, between those of the budget and of the takes.
 const RECORDED: &str = "batch 1
 block 0x00020000 0x00001000 4096 0
 block 0x00021000 0x00000080 128 *
@@ -98,24 +87,35 @@ fn try_counting(
     Err(Fail::new(format_args!("{words}: {status}")))
 }
 
-/// Two nodes count in any order, also where node 0 is held back until node 1 has made an event; each
-/// node of a run comes by the gate before its events.
+/// The words that run two nodes in threads.
+const RUN: &str = "run IN --nodes 2 --record R --brief";
+
+/// Two nodes count in any order; each node of a run comes by the gate before its events, and no other
+/// machine does.
 #[test]
 fn passes_the_gate_before_each_event(rt: HostRuntime) -> Result<(), Fail> {
     let file = executable(rt.alloc(), COUNTS, b"", 128)?;
-    for (words, holds, least) in [
-        ("one IN --nodes 2", false, 0),
-        ("sim IN --nodes 2 --brief", false, 0),
-        ("run IN --nodes 2 --record R --brief", false, 10),
-        ("run IN --nodes 2 --record R --brief", true, 10),
-    ] {
-        let gate = Watch::new(holds);
+    for words in ["one IN --nodes 2", "sim IN --nodes 2 --brief"] {
+        let gate = Watch::new(false);
         try_counting(&rt, &file, words, &gate)?;
-        assert!(rt; !gate.is_late(), "node 1 made no event");
-        for calls in gate.calls() {
-            assert!(rt; calls >= least, "{words}: {calls}");
-        }
+        assert!(rt; gate.calls() == [0, 0], "{words}");
     }
+    let gate = Watch::new(false);
+    try_counting(&rt, &file, RUN, &gate)?;
+    let [home, other] = gate.calls();
+    assert!(rt; home >= 10 && other >= 10, "{home} {other}");
+    Ok(())
+}
+
+/// Two nodes count where node 0 is held back until node 1 has made an event.
+#[test]
+fn counts_behind_a_gate_that_holds(rt: HostRuntime) -> Result<(), Fail> {
+    let file = executable(rt.alloc(), COUNTS, b"", 128)?;
+    let gate = Watch::new(true);
+    try_counting(&rt, &file, RUN, &gate)?;
+    assert!(rt; !gate.is_late(), "node 1 made no event");
+    let [home, other] = gate.calls();
+    assert!(rt; home >= 10 && other >= 10, "{home} {other}");
     Ok(())
 }
 

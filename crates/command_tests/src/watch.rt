@@ -1,6 +1,6 @@
 //! The gate of the tests.
 
-use dsm_io::Gate;
+use commands::Gate;
 use std::sync::atomic::{AtomicBool, AtomicU64, Ordering};
 use std::thread;
 

@@ -1,18 +1,19 @@
 //! Nodes that run rewritten code, event by event, to the end, and in threads of their own.
 
 ghost use Rattle.std.specs.Prelude.{◌≡◌, ◌<◌, ◌≤◌, IfOk};
+ghost use Rattle.block_layout.specs.Layout.{IsValid};
 ghost use Rattle.exec_map.specs.Contents.{program_of};
 ghost use Rattle.jump_map.specs.Image.{IsRewriting};
+ghost use Rattle.node_model.specs.Node.{IsLaidOver};
 
 use crate::files::{HI, executable};
-use block_layout::default_layout;
-use dsm_core::{Core, Event};
-use dsm_io::OpenGate;
+use block_layout::{Layout, default_layout};
+use dsm_core::{Core, Event, Work};
 use elf32_read::read_elf;
 use exec_map::{End, Exit, Program, accept};
 use node_machine::{Entry, Node, NodeCounts, Standing};
-use node_threads::race_with;
-use rewriter::{Rewritten, rewrite};
+use node_threads::{OpenGate, race_with};
+use rewriter::{Options, Rewritten, rewrite};
 use run_limits::Budget;
 use std::alloc::{AllocError, Global};
 use std::sync::Wait;
@@ -23,6 +24,11 @@ use std::thread::Threads;
 /// `lui x5, 0x20; beq x10, x0, 8; lw x6, 0(x5); addi x10, x0, 0; addi x17, x0, 93; ecall`.
 const ROW: [u32; 6] = [
     0x000202b7, 0x00050463, 0x0002a303, 0x00000513, 0x05d00893, 0x00000073,
+];
+
+/// The same, where it stores the word: `sw x6, 0(x5)` in place of the load.
+const STRANGER: [u32; 6] = [
+    0x000202b7, 0x00050463, 0x0062a023, 0x00000513, 0x05d00893, 0x00000073,
 ];
 
 /// Each processor loads a shared word, writes no byte, stores the word and exits with code 0:
@@ -46,25 +52,42 @@ fn sent(messages: u64) -> NodeCounts {
     }
 }
 
-/// So many nodes at the start, over the default layout.
+/// The default layout of so many nodes.
+fn layout_over(alloc: Global, program: &Program<'_>, nodes: u8) -> Result<Layout, Fail>
+    requires some { 0 < nodes }
+    requires few { nodes ≤ 16 }
+    ensures valid { IfOk result IsValid }
+    ensures laid_over { IfOk result (λ layout. IsLaidOver (program_of program.now) layout) }
+{
+    let ranges = program.shared_ranges(alloc)?;
+    let layout = default_layout(alloc, &ranges, nodes)?;
+    Ok(layout)
+}
+
+/// The nodes of a layout at the start.
 fn core_of<'a>(
     alloc: Global,
     rewritten: &'a Rewritten,
     program: &'a Program<'a>,
-    nodes: u8,
+    layout: &'a Layout,
 ) -> Result<Core<'a>, Fail>
-    requires some { 0 < nodes }
-    requires few { nodes ≤ 16 }
+    requires valid { IsValid layout.now }
+    requires laid_over { IsLaidOver (program_of program.now) layout.now }
     requires rewriting { IsRewriting (program_of program.now) rewritten.now.plan rewritten.now.image }
 {
     let Some(budget) = Budget::of(1000) else {
         return Err(Fail::from("a thousand is a budget"));
     };
+    // For the proof alone.
     let _ = program.entry();
     let _ = budget.number();
-    let ranges = program.shared_ranges(alloc)?;
-    let layout = default_layout(alloc, &ranges, nodes)?;
-    let core = Core::new(alloc, rewritten.image(), program, &layout, budget)?;
+    let work = Work {
+        program,
+        image: rewritten.image(),
+        layout,
+        budget,
+    };
+    let core = Core::new(alloc, &work)?;
     Ok(core)
 }
 
@@ -258,9 +281,25 @@ fn is_kept(mut core: Core<'_>) -> Result<bool, Fail> {
     Ok(before && is_row(&again))
 }
 
+/// Whether two nodes that run to their ends print these bytes, end with code 0 and count so.
+fn has_outcome(
+    alloc: Global,
+    mut core: Core<'_>,
+    output: &[u8],
+    counts: &[NodeCounts],
+) -> Result<bool, AllocError> {
+    core.finish()?;
+    let outcome = core.outcome(alloc)?;
+    let ends = [End::Exited(Exit::Code(0)); 2];
+    let told = outcome.output.as_slice() == output && outcome.ends.as_slice() == ends.as_slice();
+    Ok(told && outcome.counts.as_slice() == counts)
+}
+
 /// What nodes are to do.
 #[derive(Clone, Copy)]
 enum Case {
+    /// Two of them finish, print these bytes, and count so.
+    Finish(&'static [u8], [NodeCounts; 2]),
     Print,
     Read,
     Share,
@@ -281,8 +320,10 @@ fn has_come(
     requires rewriting { IsRewriting (program_of program.now) rewritten.now.plan rewritten.now.image }
 {
     let alloc = rt.alloc();
-    let mut core = core_of(alloc, rewritten, program, nodes)?;
+    let layout = layout_over(alloc, program, nodes)?;
+    let mut core = core_of(alloc, rewritten, program, &layout)?;
     let come = match case {
+        Case::Finish(output, counts) => has_outcome(alloc, core, output, counts.as_slice())?,
         Case::Print => have_printed(&mut core)?,
         Case::Read => is_kept(core)?,
         Case::Share => have_shared(&mut core)?,
@@ -306,7 +347,7 @@ fn try_case(
     let file = executable(alloc, code, data.0, data.1)?;
     let elf = read_elf(alloc, &file)?;
     let program = accept(alloc, &elf)?;
-    let rewritten = rewrite(alloc, &program)?;
+    let rewritten = rewrite(alloc, &program, Options { batch: true })?;
     if has_come(rt, &rewritten, &program, nodes, case)? {
         return Ok(());
     }
@@ -321,6 +362,46 @@ fn two_nodes_print_read_and_share(rt: HostRuntime) -> Result<(), Fail> {
     try_case(&rt, &HI, (b"hi\n", 3), 2, Case::Print)?;
     try_case(&rt, &ROW, SEVEN, 2, Case::Read)?;
     try_case(&rt, &SHARERS, SEVEN, 2, Case::Share)
+}
+
+/// The home sends the forwarded request and the data of each miss; and for an upgrade the Inval to
+/// itself, the Grant and the Ack.
+#[test]
+fn outcomes_of_two_nodes(rt: HostRuntime) -> Result<(), Fail> {
+    let reader = NodeCounts { read: 1, ..sent(2) };
+    try_case(
+        &rt,
+        &HI,
+        (b"hi\n", 3),
+        2,
+        Case::Finish(b"hi\nhi\n", [sent(2), reader]),
+    )?;
+    try_case(&rt, &ROW, SEVEN, 2, Case::Finish(b"", [sent(2), reader]))?;
+    let home = NodeCounts {
+        invalidations: 1,
+        ..sent(2)
+    };
+    let stranger = NodeCounts {
+        exclusive: 1,
+        ..sent(2)
+    };
+    try_case(
+        &rt,
+        &STRANGER,
+        SEVEN,
+        2,
+        Case::Finish(b"", [home, stranger]),
+    )?;
+    let home = NodeCounts {
+        invalidations: 1,
+        ..sent(5)
+    };
+    let sharer = NodeCounts {
+        read: 1,
+        upgrade: 1,
+        ..sent(4)
+    };
+    try_case(&rt, &SHARERS, SEVEN, 2, Case::Finish(b"", [home, sharer]))
 }
 
 #[test]

@@ -3,7 +3,7 @@
 use crate::files::{HI, executable};
 use elf32_read::{Elf, Section, read_elf};
 use exec_map::accept;
-use rewriter::{CodeRefused, Part, Rewritten, rewrite};
+use rewriter::{CodeRefused, Options, Part, Rewritten, rewrite};
 use std::alloc::Global;
 use std::test::Fail;
 
@@ -15,7 +15,7 @@ fn rewritten_file(alloc: Global) -> Result<Vec<u8>, Fail> {
     let file = executable(alloc, &HI, b"hi\n", 3)?;
     let elf = read_elf(alloc, &file)?;
     let program = accept(alloc, &elf)?;
-    let rewritten = rewrite(alloc, &program)?;
+    let rewritten = rewrite(alloc, &program, Options { batch: true })?;
     let mut out = Vec::new(alloc);
     rewritten.to_elf(alloc, &elf, &mut out)?;
     Ok(out)
@@ -73,7 +73,7 @@ fn part_refused(alloc: Global, offset: usize) -> Result<Option<Part>, Fail> {
     let original = read_elf(alloc, &file)?;
     let program = accept(alloc, &original)?;
     let elf = read_elf(alloc, &out)?;
-    match Rewritten::of_elf(alloc, &program, &original, &elf) {
+    match Rewritten::of_elf(alloc, &program, &original, Options { batch: true }, &elf) {
         Ok(_) => Ok(None),
         Err(CodeRefused::PlanRefused(part)) => Ok(Some(part)),
         Err(other) => Err(other.into()),

@@ -1,22 +1,8 @@
--- The default layout is over the program's shared lines.
-use Rattle.std.proofs.Common.{◌≡◌, ℕ, ◌<◌, ◌≤◌, ◌^◌, Bool, true, List, sym, ap, ◌∙◌, refl, subst}
-use Rattle.block_layout.specs.Layout.{Shape, is_in, is_shared as is_shared_line}
-use Rattle.rv32_program.specs.declared.Class.{Class}
-use Rattle.rv32_program.specs.declared.Class.TheVariants as class
-use Rattle.exec_map.specs.Contents.{class_of_line, is_shared, program_of}
+-- The nodes run rewritten code.
+use Rattle.std.proofs.Common.{ℕ, ◌<◌, ◌≤◌, ◌^◌, List, sym, subst}
+use Rattle.exec_map.specs.Contents.{program_of}
 use Rattle.jump_map.specs.Image.{Cell, IsRewriting}
 use Rattle.machine_tests.proofs.cores.core_of.Goals as goal
-
-shared_as : (layout : Shape) (line : ℕ) → is_shared_line layout line ≡ is_in layout.shared line
-unfolding is_shared_line
-shared_as layout line = refl
-
-laid_by : (k : Class) (t : Bool) → t ≡ is_shared k
-    → ((k ≡ class.Shared) → (t ≡ true)) × ((t ≡ true) → (k ≡ class.Shared))
-laid_by class.Shared t e = (λ h. e, λ h. refl)
-laid_by class.ReadOnly t e = (λ h. cc, λ h. (let bad = sym e ∙ h in cc))
-laid_by class.Private t e = (λ h. cc, λ h. (let bad = sym e ∙ h in cc))
-laid_by class.Unmapped t e = (λ h. cc, λ h. (let bad = sym e ∙ h in cc))
 
 pub new-requires : goal.new-requires
 new-requires c =
@@ -24,12 +10,8 @@ new-requires c =
     record {
       rewritten = record {
         accepted = c.entry.ensures.accepted;
-        valid = c.in_ok-layout.ensures.valid;
-        laid_over = λ line. laid_by (class_of_line c.args.program.now line)
-            (is_shared_line c.in_ok-layout.layout line)
-            (shared_as c.in_ok-layout.layout line
-            ∙ ap (λ (s : Shape). is_in s.shared line) c.in_ok-layout.ensures.value
-            ∙ c.in_ok-ranges.ensures.ranges.lines line);
+        valid = c.requires.valid;
+        laid_over = c.requires.laid_over;
         plan = c.args.rewritten.now.plan;
         rewriting = subst (λ (i : List Cell). IsRewriting (program_of c.args.program.now)
             c.args.rewritten.now.plan i) (sym image) c.requires.rewriting;
