@@ -1,5 +1,6 @@
 -- What a micro-op does: an instruction with its address worked in, decoded flat for machines that
--- execute it many times (RISC-V Unprivileged ISA, "RV32I Base Integer Instruction Set").
+-- execute it many times (RISC-V Unprivileged ISA, "RV32I Base Integer Instruction Set" and "M" for
+-- multiplication and division).
 use Rattle.std.specs.Prelude.{◌≡◌, ℕ, ◌+◌, ◌*◌, ◌/◌, ◌%◌, ◌^◌, Bool, true, false, not, ◌==◌}
 use Rattle.rv32_decode.specs.declared.Instr.{Instr}
 use Rattle.rv32_decode.specs.declared.Instr.TheVariants as instr
@@ -19,7 +20,7 @@ use Rattle.rv32_step.specs.declared.Demand.{Demand}
 use Rattle.rv32_step.specs.declared.Demand.TheVariants.{Sets, Continues, Jumps, Loads, Stores}
 use Rattle.micro_op.specs.declared.micro_op.MicroOp.{MicroOp}
 use Rattle.micro_op.specs.declared.MicroKind.{MicroKind}
-use Rattle.micro_op.specs.declared.MicroKind.TheVariants.{Rare, Nothing, Constant, Jump, JumpBy, EnterBy, BranchEq, BranchNe, BranchLt, BranchGe, BranchLtu, BranchGeu, LoadByte, LoadHalf, LoadWord, LoadByteU, LoadHalfU, StoreByte, StoreHalf, StoreWord, AddImm, SltImm, SltuImm, XorImm, OrImm, AndImm, SllImm, SrlImm, SraImm, Add, Sub, Sll, Slt, Sltu, Xor, Srl, Sra, Or, And}
+use Rattle.micro_op.specs.declared.MicroKind.TheVariants.{Rare, Nothing, Constant, Jump, JumpBy, EnterBy, BranchEq, BranchNe, BranchLt, BranchGe, BranchLtu, BranchGeu, LoadByte, LoadHalf, LoadWord, LoadByteU, LoadHalfU, StoreByte, StoreHalf, StoreWord, AddImm, SltImm, SltuImm, XorImm, OrImm, AndImm, SllImm, SrlImm, SraImm, Add, Sub, Sll, Slt, Sltu, Xor, Srl, Sra, Or, And, Mul, Mulh, Mulhsu, Mulhu, Div, Divu, Rem, Remu}
 
 -- what a micro-op does: it is left to the path that serves every word; or it demands what an
 -- instruction may demand; or it enters the sequence of an original address
@@ -97,6 +98,14 @@ meaning_by Srl base m registers = by_registers op.Srl m registers
 meaning_by Sra base m registers = by_registers op.Sra m registers
 meaning_by Or base m registers = by_registers op.Or m registers
 meaning_by And base m registers = by_registers op.And m registers
+meaning_by Mul base m registers = by_registers op.Mul m registers
+meaning_by Mulh base m registers = by_registers op.Mulh m registers
+meaning_by Mulhsu base m registers = by_registers op.Mulhsu m registers
+meaning_by Mulhu base m registers = by_registers op.Mulhu m registers
+meaning_by Div base m registers = by_registers op.Div m registers
+meaning_by Divu base m registers = by_registers op.Divu m registers
+meaning_by Rem base m registers = by_registers op.Rem m registers
+meaning_by Remu base m registers = by_registers op.Remu m registers
 
 -- what a micro-op does with these registers
 abbrev pub meaning_of : ℕ → MicroOp → (ℕ → ℕ) → Meaning

@@ -78,5 +78,13 @@ pub(crate) fn operation_kind(op: Op) -> MicroKind
         Op::Sra => MicroKind::Sra,
         Op::Or => MicroKind::Or,
         Op::And => MicroKind::And,
+        Op::Mul => MicroKind::Mul,
+        Op::Mulh => MicroKind::Mulh,
+        Op::Mulhsu => MicroKind::Mulhsu,
+        Op::Mulhu => MicroKind::Mulhu,
+        Op::Div => MicroKind::Div,
+        Op::Divu => MicroKind::Divu,
+        Op::Rem => MicroKind::Rem,
+        Op::Remu => MicroKind::Remu,
     }
 }

@@ -293,3 +293,6 @@ unfolding instruction_of
 no_opcode w a b c d e f g h i j k l m n =
     let other : is_opcode (field w 0 7) ≡ false = grind (arith, nat_tests) in
     rw (none_fits w rows rows_have_opcodes other) refl
+
+-- the instructions that a major opcode alone tells
+pub ruleset opcodes_alone = (lui_is, auipc_is, jal_is, no_opcode)

@@ -14,7 +14,7 @@ use Rattle.rv32_decode.specs.declared.ShiftOp.{ShiftOp}
 use Rattle.rv32_decode.specs.declared.AmoOp.{AmoOp}
 use Rattle.rv32_decode.specs.declared.IllegalWord.TheVariants.{Zeros, Ones, CycleWrite}
 use Rattle.rv32_decode.specs.declared.Instr.TheVariants.{Jalr, Branch, Load, Store, OpImm, ShiftImm, Op, Fence, Ecall, Ebreak, Lr, Amo, Illegal}
-use Rattle.rv32_decode.proofs.Groups.{jalr_is, branch_is, load_is, store_is, imm_is, shift_is, op_is, fence_is, lr_is, amo_is, system_is, zeros_is, ones_is}
+use Rattle.rv32_decode.proofs.Groups.{jalr_is, branch_is, load_is, store_is, imm_is, shift_is, op_is, fence_is, lr_is, amo_is, system_is, zeros_is, ones_is, sc_is}
 
 pub jalr_some : (w : ℕ) → field w 0 7 ≡ 0x67 → field w 12 3 ≡ 0 → instruction_of w ≡ Some (Jalr (field w 7 5) (field w 15 5) (imm_i w))
 jalr_some w e f = jalr_is w e ∙ rw f refl
@@ -110,3 +110,12 @@ all_ones_is w e = rw e refl
 pub illegal_none : (w : ℕ) → (field w 0 7 ≡ 0) ⊎ (field w 0 7 ≡ 0x7f) → w < 2 ^ 32 → w ≢ 0 → w ≢ 0xffffffff → instruction_of w ≡ None
 illegal_none w (inl e) l a b = zeros_is w l e ∙ grind (arith, nat_tests)
 illegal_none w (inr e) l a b = ones_is w l e ∙ grind (arith, nat_tests)
+
+-- the cases of OP-IMM, of AMO, of SYSTEM and of the illegal words
+pub ruleset immediates = (imm_some, shift_some, shift_none)
+
+pub ruleset atomics = (sc_is, amo_some, amo_none)
+
+pub ruleset system_words = (ecall_is, ebreak_is, cycle_write_is, system_none)
+
+pub ruleset illegal_words = (all_zeros_is, all_ones_is, illegal_none)

@@ -67,6 +67,14 @@ op_codes op.Srl = (0, 5)
 op_codes op.Sra = (32, 5)
 op_codes op.Or = (0, 6)
 op_codes op.And = (0, 7)
+op_codes op.Mul = (1, 0)
+op_codes op.Mulh = (1, 1)
+op_codes op.Mulhsu = (1, 2)
+op_codes op.Mulhu = (1, 3)
+op_codes op.Div = (1, 4)
+op_codes op.Divu = (1, 5)
+op_codes op.Rem = (1, 6)
+op_codes op.Remu = (1, 7)
 
 -- funct5 of a read-modify-write of AMO
 abbrev pub amo_code : AmoOp → ℕ

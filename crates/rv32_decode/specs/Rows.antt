@@ -1,4 +1,4 @@
--- The instructions of RV32I and of the A extension, by rows of a mask, a match and the fields
+-- The instructions of RV32I, M and A, by rows of a mask, a match and the fields
 -- (RISC-V Unprivileged ISA, "RV32/64G Instruction Set Listings").
 use Rattle.std.specs.Prelude.{ℕ, ◌+◌, ◌*◌, ◌^◌, Bool, ◌==◌, List, [], ◌∷◌, ◌++◌, map, Option, find, bit_and}
 use Rattle.std.specs.Option.{option_map}
@@ -67,11 +67,13 @@ imm_table =
 abbrev pub shift_table : List (ℕ × ℕ × ShiftOp)
 shift_table = (0, 1, shift_op.Sll) ∷ (0, 5, shift_op.Srl) ∷ (32, 5, shift_op.Sra) ∷ []
 
--- funct7 and funct3 of each operation of OP
+-- funct7 and funct3 of each operation of OP; multiplication and division have funct7 1
 abbrev pub op_table : List (ℕ × ℕ × Operation)
 op_table =
-    (0, 0, op.Add) ∷ (32, 0, op.Sub) ∷ (0, 1, op.Sll) ∷ (0, 2, op.Slt) ∷ (0, 3, op.Sltu) ∷ (0, 4, op.Xor) ∷ (0, 5, op.Srl)
-    ∷ (32, 5, op.Sra) ∷ (0, 6, op.Or) ∷ (0, 7, op.And) ∷ []
+    (0, 0, op.Add) ∷ (32, 0, op.Sub) ∷ (0, 1, op.Sll) ∷ (0, 2, op.Slt) ∷ (0, 3, op.Sltu)
+    ∷ (0, 4, op.Xor) ∷ (0, 5, op.Srl) ∷ (32, 5, op.Sra) ∷ (0, 6, op.Or) ∷ (0, 7, op.And)
+    ∷ (1, 0, op.Mul) ∷ (1, 1, op.Mulh) ∷ (1, 2, op.Mulhsu) ∷ (1, 3, op.Mulhu)
+    ∷ (1, 4, op.Div) ∷ (1, 5, op.Divu) ∷ (1, 6, op.Rem) ∷ (1, 7, op.Remu) ∷ []
 
 -- funct5 of each read-modify-write of AMO
 abbrev pub amo_table : List (ℕ × AmoOp)

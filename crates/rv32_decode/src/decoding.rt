@@ -1,8 +1,10 @@
 //! From words to instructions, by the fields of a word.
 
-ghost use Rattle.std.specs.Prelude.{◌≡◌, ◌+◌, ◌-◌, ◌*◌, ◌/◌, ◌%◌, ◌^◌, ◌<◌, ◌≤◌, ℕ, ◌⊎◌, count_by, Some};
+ghost use Rattle.std.specs.Prelude.{◌≡◌, ◌+◌, ◌-◌, ◌*◌, ◌/◌, ◌%◌, ◌^◌, ◌<◌, ◌≤◌, ℕ, ◌⊎◌, count_by};
+ghost use Rattle.std.specs.Prelude.{Some};
 ghost use Rattle.rv32_decode.specs.Fields.{field, bit};
-ghost use Rattle.rv32_decode.specs.Rows.{instruction_of, rows, fits, branch_table, load_table, store_table, imm_table, shift_table, op_table, amo_table};
+ghost use Rattle.rv32_decode.specs.Rows.{instruction_of, rows, fits, branch_table, load_table};
+ghost use Rattle.rv32_decode.specs.Rows.{store_table, imm_table, shift_table, op_table, amo_table};
 ghost use Rattle.rv32_decode.specs.Tables.{entry, entry_of_two};
 ghost use Rattle.rv32_decode.specs.Words.{IsInRange, word_of};
 ghost use Rattle.rv32_decode.specs.declared.Instr.{Instr};
@@ -11,7 +13,7 @@ use crate::parts::{Amount, BranchOffset, FenceBits, Imm12, JumpOffset, Reg, Uppe
 use crate::{AmoOp, Cond, IllegalWord, ImmOp, Instr, LoadKind, Op, ShiftOp, Width, opcodes};
 
 /// The instruction of a word; None exactly where no row of the instruction table fits the word.
-#[tactic(auto, using(crate::proofs::Groups::lui_is, crate::proofs::Groups::auipc_is, crate::proofs::Groups::jal_is, crate::proofs::Groups::no_opcode))]
+#[tactic(auto, using(crate::proofs::Groups::opcodes_alone))]
 pub fn decode(word: u32) -> Option<Instr>
     ensures { result ≡ instruction_of word }
 {
@@ -186,7 +188,7 @@ fn store_width(funct3: u32) -> Option<Width>
     }
 }
 
-#[tactic(auto, using(crate::proofs::Reading::imm_some, crate::proofs::Reading::shift_some, crate::proofs::Reading::shift_none))]
+#[tactic(auto, using(crate::proofs::Reading::immediates))]
 fn op_imm(word: u32) -> Option<Instr>
     requires { field word 0 7 ≡ 0x13 }
     ensures { result ≡ instruction_of word }
@@ -263,6 +265,14 @@ fn operation(funct7: u32, funct3: u32) -> Option<Op>
         (0x20, 5) => Some(Op::Sra),
         (0, 6) => Some(Op::Or),
         (0, 7) => Some(Op::And),
+        (1, 0) => Some(Op::Mul),
+        (1, 1) => Some(Op::Mulh),
+        (1, 2) => Some(Op::Mulhsu),
+        (1, 3) => Some(Op::Mulhu),
+        (1, 4) => Some(Op::Div),
+        (1, 5) => Some(Op::Divu),
+        (1, 6) => Some(Op::Rem),
+        (1, 7) => Some(Op::Remu),
         _ => None,
     }
 }
@@ -295,8 +305,8 @@ fn amo(word: u32) -> Option<Instr>
     }
 }
 
-#[tactic(auto, using(crate::proofs::Groups::sc_is, crate::proofs::Reading::amo_some, crate::proofs::Reading::amo_none))]
 /// The instructions of AMO on words.
+#[tactic(auto, using(crate::proofs::Reading::atomics))]
 fn atomic(word: u32) -> Option<Instr>
     requires opcode { field word 0 7 ≡ 0x2f }
     requires width { field word 12 3 ≡ 2 }
@@ -361,7 +371,7 @@ fn atomic_operation(funct5: u32) -> Option<AmoOp>
     }
 }
 
-#[tactic(auto, using(crate::proofs::Reading::ecall_is, crate::proofs::Reading::ebreak_is, crate::proofs::Reading::cycle_write_is, crate::proofs::Reading::system_none))]
+#[tactic(auto, using(crate::proofs::Reading::system_words))]
 fn system(word: u32) -> Option<Instr>
     requires { field word 0 7 ≡ 0x73 }
     ensures { result ≡ instruction_of word }
@@ -376,7 +386,7 @@ fn system(word: u32) -> Option<Instr>
     }
 }
 
-#[tactic(auto, using(crate::proofs::Reading::all_zeros_is, crate::proofs::Reading::all_ones_is, crate::proofs::Reading::illegal_none))]
+#[tactic(auto, using(crate::proofs::Reading::illegal_words))]
 fn illegal(word: u32) -> Option<Instr>
     requires { (field word 0 7 ≡ 0) ⊎ (field word 0 7 ≡ 0x7f) }
     ensures { result ≡ instruction_of word }

@@ -249,6 +249,14 @@ fn operation_codes(op: Op) -> (u32, u32)
         Op::Sra => (0x20, 5),
         Op::Or => (0, 6),
         Op::And => (0, 7),
+        Op::Mul => (1, 0),
+        Op::Mulh => (1, 1),
+        Op::Mulhsu => (1, 2),
+        Op::Mulhu => (1, 3),
+        Op::Div => (1, 4),
+        Op::Divu => (1, 5),
+        Op::Rem => (1, 6),
+        Op::Remu => (1, 7),
     }
 }
 

@@ -1,9 +1,10 @@
 #![tactic(auto)]
-//! Words and instructions of RV32I and of the A extension.
+//! Words and instructions of RV32IMA: RV32I, and the extensions M and A.
 //!
-//! A table of rows (`specs/Rows.antt`) says which words are instructions, and which: each row has a mask, a match
-//! and the fields that it reads. [`decode`] and [`encode`] follow the table both ways, and at most one row fits a
-//! word ([`rows_law`]). The ranges of an instruction's parts are in their types.
+//! A table of rows (`specs/Rows.antt`) says which words are instructions, and which: each row has a
+//! mask, a match and the fields that it reads. [`decode`] and [`encode`] follow the table both ways,
+//! and at most one row fits a word ([`rows_law`]). The ranges of an instruction's parts are in their
+//! types.
 //!
 //! An instruction that is used more than once is passed from behind a reference, as `uses(*i)`.
 
@@ -63,6 +64,14 @@ pub enum Op {
     Sra,
     Or,
     And,
+    Mul,
+    Mulh,
+    Mulhsu,
+    Mulhu,
+    Div,
+    Divu,
+    Rem,
+    Remu,
 }
 
 /// An operation of OP-IMM that has a 12-bit immediate.
@@ -109,7 +118,7 @@ pub enum IllegalWord {
     CycleWrite,
 }
 
-/// An instruction of RV32I or of the A extension. `aq` and `rl` are bits 26 and 25 of an atomic instruction.
+/// An instruction of RV32IMA. `aq` and `rl` are bits 26 and 25 of an atomic instruction.
 #[derive(Clone, Copy, Debug, PartialEq, Eq)]
 pub enum Instr {
     Lui {

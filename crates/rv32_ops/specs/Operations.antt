@@ -1,6 +1,7 @@
--- What the instructions of RV32IA compute from words. A word is a number below 2 ^ 32; `signed 32` reads it as two's
--- complement, and `unsigned 32` writes it (RISC-V Unprivileged ISA; each definition names its section).
-use Rattle.std.specs.Prelude.{ℕ, ◌+◌, ◌-◌, ◌*◌, ◌/◌, ◌%◌, ◌^◌, min, max, Bool, not, ◌==◌, if◌then◌else◌, nat_lt, int_lt, bit_and, bit_or, bit_xor}
+-- What the instructions of RV32IMA compute from words. A word is a number below 2 ^ 32; `signed 32`
+-- reads it as two's complement, and `unsigned 32` writes it (RISC-V Unprivileged ISA; each
+-- definition names its section).
+use Rattle.std.specs.Prelude.{ℕ, ◌+◌, ◌-◌, ◌*◌, ◌/◌, ◌%◌, ◌^◌, min, max, Bool, not, ◌==◌, if◌then◌else◌, nat_lt, ℤ, pos, ◌*ℤ◌, int_div, int_rem, int_lt, bit_and, bit_or, bit_xor}
 use Rattle.std.specs.Int.{int_min, int_max, int_shr}
 use Rattle.rv32_decode.specs.Fields.{signed, unsigned}
 use Rattle.rv32_decode.specs.declared.Op.{Op as Operation}
@@ -36,8 +37,37 @@ arithmetic_right_shift a b = unsigned 32 (int_shr (signed 32 a) (b % 32))
 abbrev pub is_signed_below : ℕ → ℕ → Bool
 is_signed_below a b = int_lt (signed 32 a) (signed 32 b)
 
+-- ("Multiplication Operations") MUL: the product, of which the low 32 bits are kept
+abbrev pub word_product : ℕ → ℕ → ℕ
+word_product a b = a * b % 2 ^ 32
+
+-- MULH, MULHSU, MULHU: the high 32 bits of a product, which is divided by 2 ^ 32 and rounded down
+abbrev pub high_half : ℤ → ℕ
+high_half product = unsigned 32 (int_shr product 32)
+
+-- ("Division Operations") DIVU, REMU: by zero the quotient has all bits set, and the remainder is
+-- the dividend
+abbrev pub quotient : ℕ → ℕ → ℕ
+quotient a b = if b == 0 then 2 ^ 32 - 1 else a / b
+
+abbrev pub remainder : ℕ → ℕ → ℕ
+remainder a b = if b == 0 then a else a % b
+
+-- DIV: the quotient of signed numbers, rounded towards zero. -2 ^ 31 divided by -1 is 2 ^ 31, whose
+-- word is that of -2 ^ 31; its remainder is 0
+abbrev pub signed_quotient : ℕ → ℕ → ℕ
+signed_quotient a b =
+    if b == 0 then 2 ^ 32 - 1 else unsigned 32 (int_div (signed 32 a) (signed 32 b))
+
+-- REM: the remainder of that quotient, with the dividend's sign
+abbrev pub signed_remainder : ℕ → ℕ → ℕ
+signed_remainder a b =
+    if b == 0 then a else unsigned 32 (int_rem (signed 32 a) (signed 32 b))
+
 -- the result of an operation on two registers' words, or on a register's word and an immediate's
--- ("Integer Register-Register Operations", "Integer Register-Immediate Instructions")
+-- ("Integer Register-Register Operations", "Integer Register-Immediate Instructions", and those of
+-- the M extension above): MULH multiplies signed numbers, MULHSU a signed and an unsigned one, and
+-- MULHU unsigned ones
 unfoldable pub alu : Operation → ℕ → ℕ → ℕ
 alu op.Add a b = word_sum a b
 alu op.Sub a b = word_difference a b
@@ -49,6 +79,14 @@ alu op.Srl a b = logical_right_shift a b
 alu op.Sra a b = arithmetic_right_shift a b
 alu op.Or a b = bit_or a b
 alu op.And a b = bit_and a b
+alu op.Mul a b = word_product a b
+alu op.Mulh a b = high_half (signed 32 a *ℤ signed 32 b)
+alu op.Mulhsu a b = high_half (signed 32 a *ℤ pos b)
+alu op.Mulhu a b = high_half (pos a *ℤ pos b)
+alu op.Div a b = signed_quotient a b
+alu op.Divu a b = quotient a b
+alu op.Rem a b = signed_remainder a b
+alu op.Remu a b = remainder a b
 
 -- whether a branch on two registers' words is taken ("Conditional Branches"):
 -- on equal or unequal words, or on a comparison of signed or of unsigned numbers

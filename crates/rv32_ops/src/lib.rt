@@ -1,5 +1,6 @@
 #![tactic(auto)]
-//! What the instructions of RV32IA compute from words: operations, branches, atomic operations and loads.
+//! What the instructions of RV32IMA compute from words: operations, branches, atomic operations and
+//! loads.
 
 ghost use Rattle.std.specs.Prelude.{◌≡◌, ◌%◌, ◌^◌};
 ghost use Rattle.rv32_ops.specs.Operations as manual;
@@ -8,7 +9,8 @@ use rv32_decode::{AmoOp, Cond, LoadKind, Op};
 
 /// The result of an operation on two registers' words, or on a register's word and an immediate's.
 ///
-/// Sums and differences wrap, and a shift takes its amount from the low five bits of `b`.
+/// Sums, differences and low products wrap, and a shift takes its amount from the low five bits of
+/// `b`. A division by zero gives a quotient with all bits set, and the dividend as remainder.
 #[tactic(auto, unfolding(crate::specs::Operations::alu))]
 pub fn alu(op: Op, a: u32, b: u32) -> u32
     ensures { result ≡ manual.alu op a b }
@@ -24,6 +26,47 @@ pub fn alu(op: Op, a: u32, b: u32) -> u32
         Op::Sra => (a.cast_signed() >> (b & 31)).cast_unsigned(),
         Op::Or => a | b,
         Op::And => a & b,
+        Op::Mul => a.wrapping_mul(b),
+        Op::Mulh => high_half(i64::from(a.cast_signed()) * i64::from(b.cast_signed())),
+        Op::Mulhsu => high_half(i64::from(a.cast_signed()) * i64::from(b)),
+        Op::Mulhu => ((u64::from(a) * u64::from(b)) >> 32) as u32,
+        Op::Div => signed_quotient(a, b),
+        Op::Divu => a.checked_div(b).unwrap_or(u32::MAX),
+        Op::Rem => signed_remainder(a, b),
+        Op::Remu => a.checked_rem(b).unwrap_or(a),
+    }
+}
+
+/// The high 32 bits of a product of 64 bits.
+fn high_half(product: i64) -> u32
+    ensures { result ≡ manual.high_half product }
+{
+    (product.cast_unsigned() >> 32) as u32
+}
+
+/// The quotient of signed numbers. -2^31 / -1 is 2^31, whose word is that of -2^31.
+fn signed_quotient(a: u32, b: u32) -> u32
+    ensures { result ≡ manual.signed_quotient a b }
+{
+    if b == 0 {
+        u32::MAX
+    } else {
+        a.cast_signed()
+            .wrapping_div(b.cast_signed())
+            .cast_unsigned()
+    }
+}
+
+/// The remainder of signed numbers, which has the dividend's sign.
+fn signed_remainder(a: u32, b: u32) -> u32
+    ensures { result ≡ manual.signed_remainder a b }
+{
+    if b == 0 {
+        a
+    } else {
+        a.cast_signed()
+            .wrapping_rem(b.cast_signed())
+            .cast_unsigned()
     }
 }
 
@@ -42,7 +85,8 @@ pub fn taken(c: Cond, a: u32, b: u32) -> bool
     }
 }
 
-/// The word that an atomic memory operation stores, from the old word in memory and the register's word `b`.
+/// The word that an atomic memory operation stores, from the old word in memory and the register's
+/// word `b`.
 #[tactic(auto, unfolding(crate::specs::Operations::amo))]
 pub fn amo(op: AmoOp, old: u32, b: u32) -> u32
     ensures { result ≡ manual.amo op old b }
@@ -62,7 +106,8 @@ pub fn amo(op: AmoOp, old: u32, b: u32) -> u32
 
 /// The word that a load puts into its register.
 ///
-/// `raw` has what was read in its low bits; a load of a byte or a halfword leaves its other bits out.
+/// `raw` has what was read in its low bits; a load of a byte or a halfword leaves its other bits
+/// out.
 #[tactic(auto, unfolding(crate::specs::Operations::extend))]
 pub fn extend(load: LoadKind, raw: u32) -> u32
     ensures { result ≡ manual.extend load raw }

@@ -1,5 +1,6 @@
 -- What an instruction asks for, apart from any memory: one meaning, which every machine cites
--- (RISC-V Unprivileged ISA, "RV32I Base Integer Instruction Set" and "A" for atomic instructions).
+-- (RISC-V Unprivileged ISA, "RV32I Base Integer Instruction Set", "M" for multiplication and
+-- division, and "A" for atomic instructions).
 use Rattle.std.specs.Prelude.{ℕ, pos, ◌+◌, ◌-◌, ◌*◌, ◌/◌, ◌%◌, ◌^◌, Bool, true, false, if◌then◌else◌, ◌||◌, ◌==◌, nat_lt}
 use Rattle.rv32_decode.specs.Fields.{unsigned}
 use Rattle.rv32_decode.specs.declared.Instr.{Instr}

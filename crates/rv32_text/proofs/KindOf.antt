@@ -59,6 +59,7 @@ kinds =
     ++ map (λ o. OpImm o 0 0 (pos 0)) (imm_op.Add ∷ imm_op.Slt ∷ imm_op.Sltu ∷ imm_op.Xor ∷ imm_op.Or ∷ imm_op.And ∷ [])
     ++ map (λ o. ShiftImm o 0 0 0) (shift_op.Sll ∷ shift_op.Srl ∷ shift_op.Sra ∷ [])
     ++ map (λ o. Op o 0 0 0) (op.Add ∷ op.Sub ∷ op.Sll ∷ op.Slt ∷ op.Sltu ∷ op.Xor ∷ op.Srl ∷ op.Sra ∷ op.Or ∷ op.And ∷ [])
+    ++ map (λ o. Op o 0 0 0) (op.Mul ∷ op.Mulh ∷ op.Mulhsu ∷ op.Mulhu ∷ op.Div ∷ op.Divu ∷ op.Rem ∷ op.Remu ∷ [])
     ++ in_each_order (λ aq rl. Lr 0 0 aq rl) ++ in_each_order (λ aq rl. Sc 0 0 0 aq rl)
     ++ in_each_order (λ aq rl. Amo amo_op.Swap 0 0 0 aq rl) ++ in_each_order (λ aq rl. Amo amo_op.Add 0 0 0 aq rl)
     ++ in_each_order (λ aq rl. Amo amo_op.Xor 0 0 0 aq rl) ++ in_each_order (λ aq rl. Amo amo_op.And 0 0 0 aq rl)
@@ -128,6 +129,14 @@ kind_of_op address op.Srl a b c = refl
 kind_of_op address op.Sra a b c = refl
 kind_of_op address op.Or a b c = refl
 kind_of_op address op.And a b c = refl
+kind_of_op address op.Mul a b c = refl
+kind_of_op address op.Mulh a b c = refl
+kind_of_op address op.Mulhsu a b c = refl
+kind_of_op address op.Mulhu a b c = refl
+kind_of_op address op.Div a b c = refl
+kind_of_op address op.Divu a b c = refl
+kind_of_op address op.Rem a b c = refl
+kind_of_op address op.Remu a b c = refl
 
 kind_of_lr : (address a b : ℕ) (aq rl : Bool) → kind_of (text_of address (Lr a b aq rl)) ≡ Some (Lr 0 0 aq rl)
 unfolding kind_of

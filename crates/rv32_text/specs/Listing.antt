@@ -1,5 +1,5 @@
 -- Lines of a listing: an address, a word, and the text of the word's instruction
--- (mnemonics and operands as in the RISC-V Unprivileged ISA, "RV32I" and "A").
+-- (mnemonics and operands as in the RISC-V Unprivileged ISA, "RV32I", "M" and "A").
 use Rattle.std.specs.Prelude.{ℕ, ◌+◌, ◌/◌, ◌%◌, ◌^◌, Bool, true, false, ℤ, List, [], ◌∷◌, ◌++◌, Option, Some, None, codes}
 use Rattle.std.specs.Fmt.{decimal, signed_decimal, digits, digit_glyph}
 use Rattle.rv32_decode.specs.Fields.{unsigned}
@@ -67,6 +67,14 @@ op_name op.Srl = codes "srl"
 op_name op.Sra = codes "sra"
 op_name op.Or = codes "or"
 op_name op.And = codes "and"
+op_name op.Mul = codes "mul"
+op_name op.Mulh = codes "mulh"
+op_name op.Mulhsu = codes "mulhsu"
+op_name op.Mulhu = codes "mulhu"
+op_name op.Div = codes "div"
+op_name op.Divu = codes "divu"
+op_name op.Rem = codes "rem"
+op_name op.Remu = codes "remu"
 
 abbrev pub amo_name : AmoOp → List ℕ
 amo_name amo_op.Swap = codes "amoswap.w"

@@ -1,5 +1,5 @@
 #![tactic(auto)]
-//! The text of RV32IA instructions, as lines of a listing.
+//! The text of RV32IMA instructions, as lines of a listing.
 
 ghost use Rattle.std.specs.Prelude.{◌≡◌, ◌++◌, OnOk, OnErr};
 ghost use Rattle.rv32_text.specs.Growth.{Extends};

@@ -77,6 +77,14 @@ pub(crate) fn op_name(op: Op) -> &'static [u8]
         Op::Sra => b"sra",
         Op::Or => b"or",
         Op::And => b"and",
+        Op::Mul => b"mul",
+        Op::Mulh => b"mulh",
+        Op::Mulhsu => b"mulhsu",
+        Op::Mulhu => b"mulhu",
+        Op::Div => b"div",
+        Op::Divu => b"divu",
+        Op::Rem => b"rem",
+        Op::Remu => b"remu",
     }
 }
 

@@ -3,7 +3,8 @@
 ghost use Rattle.std.specs.Prelude.{◌≡◌, ◌-◌, ◌++◌, ◌<◌, ◌≤◌, ◌^◌, OnOk, OnErr, drop, false};
 ghost use Rattle.std.specs.Fmt.{decimal, signed_decimal, digits};
 ghost use Rattle.rv32_text.specs.Growth.{Extends};
-ghost use Rattle.rv32_text.specs.Listing.{register, base, indexed, upper_digits, nibble, word_digits, target_address, target};
+ghost use Rattle.rv32_text.specs.Listing.{register, base, indexed, upper_digits, nibble};
+ghost use Rattle.rv32_text.specs.Listing.{word_digits, target_address, target};
 
 use itoa::Buffer;
 use rv32_decode::{Amount, Imm12, Reg, Upper};
@@ -90,8 +91,8 @@ pub(crate) fn push_upper(out: &mut Vec<u8>, upper: Upper) -> Result<(), AllocErr
     Ok(())
 }
 
-#[tactic(auto, using(crate::proofs::Hexadecimal::one_digit, crate::proofs::Hexadecimal::two_digits, crate::proofs::Hexadecimal::three_digits, crate::proofs::Hexadecimal::four_digits, crate::proofs::Hexadecimal::five_digits), unfolding(crate::specs::Listing::word_digits))]
 /// How many hexadecimal digits the number has, with no leading zeros.
+#[tactic(auto, using(crate::proofs::Hexadecimal::digit_counts))]
 fn digit_count(n: u32) -> usize
     requires { n < 2 ^ 20 }
     ensures count { result ≤ 8 }
