@@ -15,6 +15,8 @@ pub struct Lines {
 
 /// Ranges of lines below 2^26, ascending, without overlap and without an empty one. Contracts see
 /// the list of them.
+///
+/// A line is in them or not; `LineClasses` of `state_table` has a byte for each line as well.
 #[derive(Debug, Drop)]
 pub struct Ranges {
     items: Vec<Lines>,

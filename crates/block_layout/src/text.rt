@@ -31,7 +31,7 @@ pub(crate) fn says_nothing(line: &[u8]) -> bool
     is_blank(line) || line[0] == b'#'
 }
 
-/// The value of a hexadecimal digit.
+/// The value of a hexadecimal digit, in either case.
 fn hexadecimal_value(byte: u8) -> Option<u32>
     ensures value { result ≡ hexadecimal_value byte }
     ensures low { IfSome result (λ v. v < 16) }

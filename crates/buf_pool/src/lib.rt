@@ -122,6 +122,7 @@ impl Pool {
         ensures free { result ≡ self.now.free }
         ensures within { self.now.free ≤ self.now.slots }
     {
+        // brings: there are no more buffers than slots
         let _slots = self.slots;
         self.free.len() as u8
     }

@@ -1,3 +1,4 @@
+pub mod ByteLemmas
 mod RangeLemmas
 mod LineLemmas
 mod PieceLemmas

@@ -1,5 +1,5 @@
 -- Where lines stand among the lines of ranges, and what loads and stores there are.
-use Rattle.std.proofs.Common.{◌≡◌, ◌≢◌, ℕ, ◌+◌, ◌-◌, ◌*◌, ◌/◌, ◌%◌, ◌^◌, ◌<◌, ◌≤◌, ◌⊎◌, Bool, true, false, cond, ◌&&◌, eqb, leb, ltb, List, [], ◌∷◌, Option, Some, None, length, get_or, refl, ap, sym, ◌∙◌, arith, inl, inr}
+use Rattle.std.proofs.Common.{◌≡◌, ◌≢◌, ℕ, ◌+◌, ◌-◌, ◌*◌, ◌/◌, ◌%◌, ◌^◌, ◌<◌, ◌≤◌, ◌⊎◌, true, false, leb, ltb, List, [], ◌∷◌, Option, Some, None, length, get_or, refl, ap, sym, ◌∙◌, arith, inl, inr}
 use Rattle.std.proofs.Math.Path.{fun_ext}
 use Rattle.std.specs.Option.{option_map}
 use Rattle.std.proofs.lemmas.List.{get_or_past}
@@ -10,7 +10,6 @@ use Rattle.rv32_decode.specs.declared.Width.TheVariants.{Byte, Half, Word}
 use Rattle.byte_range.specs.Memory.{raw, stored}
 use Rattle.byte_range.specs.Range.{Range, memory_of}
 use Rattle.byte_range.specs.Lines.{LineBytes, has_line, place_of, line_count, lines_memory, Ascend}
-use Rattle.byte_range.specs.Pieces.{offset_in}
 use Rattle.byte_range.specs.declared.lines.LineRange.{LineRange}
 use Rattle.byte_range.proofs.RangeLemmas.{ltb_tells}
 

@@ -1,15 +1,13 @@
 -- Which piece has a line.
-use Rattle.std.proofs.Common.{◌≡◌, ◌≢◌, ℕ, zero, suc, ◌+◌, ◌-◌, ◌*◌, ◌/◌, ◌%◌, ◌^◌, ◌<◌, ◌≤◌, ◌⊎◌, Bool, true, false, cond, eqb, leb, ltb, List, [], ◌∷◌, ◌++◌, Option, Some, None, length, map, get_or, take, refl, ap, sym, ◌∙◌, arith, inl, inr}
+use Rattle.std.proofs.Common.{◌≡◌, ℕ, zero, suc, ◌+◌, ◌-◌, ◌*◌, ◌/◌, ◌%◌, ◌^◌, ◌<◌, ◌≤◌, Bool, true, false, cond, leb, ltb, List, [], ◌∷◌, ◌++◌, Some, None, length, map, get_or, take, refl, ap, arith, inl, inr}
 use Rattle.std.specs.Option.{option_map}
 use Rattle.std.specs.Prelude.{slice_get}
-use Rattle.std.specs.List.{AllWithin}
 use Rattle.std.specs.List.Sorted.{IsPartitionedBy, IsPartitionPoint}
-use Rattle.std.proofs.lemmas.Bool.Decides.{leb_tells, nat_tests}
-use Rattle.byte_range.specs.Lines.{has_line, place_of, line_count, Ascend}
+use Rattle.std.proofs.lemmas.Bool.Decides.{nat_tests}
+use Rattle.byte_range.specs.Lines.{place_of, line_count, Ascend}
 use Rattle.byte_range.specs.Pieces.{lines_of, pieces_from, first_address, first_length, offset_in, IsPieceOf}
 use Rattle.byte_range.specs.declared.lines.LineRange.{LineRange}
 use Rattle.byte_range.specs.declared.lines.Piece.{Piece}
-use Rattle.byte_range.proofs.RangeLemmas.{ltb_tells}
 use Rattle.byte_range.proofs.LineLemmas.{line_tells, count_fits}
 
 -- the first range, by its bytes

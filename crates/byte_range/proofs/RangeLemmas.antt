@@ -1,11 +1,14 @@
--- A write of the list, as a write of the function.
-use Rattle.std.proofs.Common.{◌≡◌, ◌≢◌, ℕ, ◌+◌, ◌-◌, ◌*◌, ◌/◌, ◌%◌, ◌^◌, ◌<◌, ◌≤◌, ◌⊎◌, true, false, cond, ◌&&◌, eqb, leb, ltb, List, length, get_or, set, refl, ap, ◌∙◌, arith, inl, inr}
+-- A load and a store at the place of an address are those of the address.
+use Rattle.std.proofs.Common.{◌≡◌, ℕ, ◌+◌, ◌-◌, ◌*◌, ◌/◌, ◌%◌, ◌^◌, ◌<◌, ◌≤◌, ◌⊎◌, true, false, leb, ltb, List, length, refl, sym, ap, ◌∙◌, arith, inl, inr}
+use Rattle.std.specs.Prelude.{slice_index}
 use Rattle.std.proofs.Math.Path.{fun_ext}
-use Rattle.std.proofs.lemmas.List.{get_or-set_same, get_or-set_other, get_or_default, length-set}
-use Rattle.std.proofs.lemmas.Bool.Decides.{eqb_tells, leb_tells, nat_tests}
+use Rattle.std.proofs.lemmas.Bool.Decides.{leb_tells, nat_tests}
+use Rattle.rv32_decode.specs.declared.Width.{Width}
 use Rattle.rv32_decode.specs.declared.Width.TheVariants.{Byte, Half, Word}
+use Rattle.rv32_decode.specs.Widths.{size_of}
 use Rattle.byte_range.specs.Memory.{raw, stored}
 use Rattle.byte_range.specs.Range.{Range, memory_of}
+use Rattle.byte_range.proofs.ByteLemmas.{stored_in, stored_off, out_or_in}
 
 pub ltb_tells : (a b : ℕ) → ((ltb a b ≡ true) × (a < b)) ⊎ ((ltb a b ≡ false) × (b ≤ a))
 ltb_tells a b = elim (leb_tells b a) [
@@ -14,134 +17,68 @@ ltb_tells a b = elim (leb_tells b a) [
 ]
 
 -- a byte of the memory, by its place in the range
-pub memory_of-inside : (r : Range) (outside : ℕ → ℕ) (a : ℕ) → r.base ≤ a → a < r.base + length r.bytes → get_or r.bytes (a - r.base) 0 ≡ memory_of r outside a
+pub memory_of-inside : (r : Range) (outside : ℕ → ℕ) (a : ℕ) → r.base ≤ a → a < r.base + length r.bytes → slice_index r.bytes (a - r.base) ≡ memory_of r outside a
 unfolding memory_of
 memory_of-inside r outside a low high =
     let l : leb r.base a ≡ true = grind (arith, nat_tests) in
     let h : ltb a (r.base + length r.bytes) ≡ true = grind (arith, nat_tests) in
     rw (l, h) refl
 
-abbrev pub with_byte : (ℕ → ℕ) → ℕ → ℕ → ℕ → ℕ
-with_byte m a b x = cond (eqb x a) b (m x)
+memory_of-outside : (r : Range) (outside : ℕ → ℕ) (a : ℕ) → (a < r.base) ⊎ (r.base + length r.bytes ≤ a) → memory_of r outside a ≡ outside a
+unfolding memory_of
+memory_of-outside r outside a (inl low) = let l : leb r.base a ≡ false = grind (arith, nat_tests) in rw l refl
+memory_of-outside r outside a (inr high) =
+    let l : leb r.base a ≡ true = grind (arith, nat_tests) in
+    let h : ltb a (r.base + length r.bytes) ≡ false = grind (arith, nat_tests) in
+    rw (l, h) refl
+
+-- the byte so many places on
+memory_of-more : (r : Range) (outside : ℕ → ℕ) (a k n : ℕ) → r.base ≤ a → a + n ≤ r.base + length r.bytes → k < n → slice_index r.bytes (a - r.base + k) ≡ memory_of r outside (a + k)
+memory_of-more r outside a k n low high below =
+    let j : a - r.base + k ≡ a + k - r.base = omega arith in
+    rw j (memory_of-inside r outside (a + k) (omega arith) (omega arith))
+
+-- a load at the place of an address
+pub raw_is : (r : Range) (outside : ℕ → ℕ) (w : Width) (a : ℕ) → r.base ≤ a → a + size_of w ≤ r.base + length r.bytes → raw w (slice_index r.bytes) (a - r.base) ≡ raw w (memory_of r outside) a
+unfolding raw
+raw_is r outside Byte a low high = memory_of-inside r outside a low (omega (arith, high))
+raw_is r outside Half a low high =
+    let p = memory_of-inside r outside a low (omega (arith, high)) in
+    let q = memory_of-more r outside a 1 2 low high (omega arith) in
+    omega (arith, p, q)
+raw_is r outside Word a low high =
+    let p = memory_of-inside r outside a low (omega (arith, high)) in
+    let q = memory_of-more r outside a 1 4 low high (omega arith) in
+    let t = memory_of-more r outside a 2 4 low high (omega arith) in
+    let u = memory_of-more r outside a 3 4 low high (omega arith) in
+    omega (arith, p, q, t, u)
 
 abbrev pub with_bytes : Range → List ℕ → Range
 with_bytes r bytes = record r { bytes = bytes }
 
-pub memory_of-set : (r : Range) (outside : ℕ → ℕ) (i b a : ℕ) → a ≡ r.base + i → i < length r.bytes → memory_of (with_bytes r (set r.bytes i b)) outside ≡ with_byte (memory_of r outside) a b
-unfolding memory_of
-memory_of-set r outside i b a at within = fun_ext (λ x. go x (leb_tells r.base x) (ltb_tells x (r.base + length r.bytes)) (eqb_tells x a))
+-- a store at the place of an address
+pub stored_is : (r : Range) (outside : ℕ → ℕ) (w : Width) (bytes : List ℕ) (a v : ℕ) → r.base ≤ a → a + size_of w ≤ r.base + length r.bytes → length bytes ≡ length r.bytes → slice_index bytes ≡ stored w (slice_index r.bytes) (a - r.base) v → memory_of (with_bytes r bytes) outside ≡ stored w (memory_of r outside) a v
+stored_is r outside w bytes a v low high len is = fun_ext (λ x. go x (out_or_in a x (size_of w)) (out_or_in r.base x (length r.bytes)))
   where
-    go : (x : ℕ) → ((leb r.base x ≡ true) × (r.base ≤ x)) ⊎ ((leb r.base x ≡ false) × (x < r.base)) → ((ltb x (r.base + length r.bytes) ≡ true) × (x < r.base + length r.bytes)) ⊎ ((ltb x (r.base + length r.bytes) ≡ false) × (r.base + length r.bytes ≤ x)) → ((eqb x a ≡ true) × (x ≡ a)) ⊎ ((eqb x a ≡ false) × (x ≢ a)) → memory_of (with_bytes r (set r.bytes i b)) outside x ≡ with_byte (memory_of r outside) a b x
-    go x (inl l) (inl h) (inl e) = let j : x - r.base ≡ i = omega arith in rw (length-set, l.0, h.0, e.0, j) (get_or-set_same r.bytes i b 0 within)
-    go x (inl l) (inl h) (inr e) = let j : x - r.base ≢ i = omega arith in rw (length-set, l.0, h.0, e.0) (get_or-set_other r.bytes i (x - r.base) b 0 j)
-    go x (inl l) (inr h) (inl e) = absurd (omega arith)
-    go x (inl l) (inr h) (inr e) = rw (length-set, l.0, h.0, e.0) refl
-    go x (inr l) h (inl e) = absurd (omega arith)
-    go x (inr l) h (inr e) = rw (length-set, l.0, e.0) refl
+    at : (i : ℕ) → slice_index bytes i ≡ stored w (slice_index r.bytes) (a - r.base) v i
+    at i = ap (λ (f : ℕ → ℕ). f i) is
 
--- a byte that was read from the list
-pub byte_read : (r : Range) (outside : ℕ → ℕ) (a i x : ℕ) → a ≡ r.base + i → i < length r.bytes → x ≡ get_or r.bytes i x → x ≡ memory_of r outside a
-byte_read r outside a i x at within is =
-    is ∙ get_or_default r.bytes i x 0 within ∙ (let e : i ≡ a - r.base = omega arith in rw e (memory_of-inside r outside a (omega arith) (omega arith)))
-
-pub load_byte : (r : Range) (outside : ℕ → ℕ) (a i x n : ℕ) → a ≡ r.base + i → i + 1 ≤ length r.bytes → x ≡ get_or r.bytes i x → n ≡ x → n ≡ raw Byte (memory_of r outside) a
-unfolding raw
-load_byte r outside a i x n at within is sum = sum ∙ byte_read r outside a i x at (omega arith) is
-
-pub load_half : (r : Range) (outside : ℕ → ℕ) (a i x y n : ℕ) → a ≡ r.base + i → i + 2 ≤ length r.bytes → x ≡ get_or r.bytes i x → y ≡ get_or r.bytes (i + 1) y → n ≡ x + y * 256 → n ≡ raw Half (memory_of r outside) a
-unfolding raw
-load_half r outside a i x y n at within is_x is_y sum =
-    let p = byte_read r outside a i x at (omega arith) is_x in
-    let q = byte_read r outside (a + 1) (i + 1) y (omega arith) (omega arith) is_y in
-    omega (arith, p, q, sum)
-
-pub load_word : (r : Range) (outside : ℕ → ℕ) (a i x y z t n : ℕ) → a ≡ r.base + i → i + 4 ≤ length r.bytes → x ≡ get_or r.bytes i x → y ≡ get_or r.bytes (i + 1) y → z ≡ get_or r.bytes (i + 2) z → t ≡ get_or r.bytes (i + 3) t → n ≡ x + y * 256 + z * 65536 + t * 16777216 → n ≡ raw Word (memory_of r outside) a
-unfolding raw
-load_word r outside a i x y z t n at within is_x is_y is_z is_t sum =
-    let p = byte_read r outside a i x at (omega arith) is_x in
-    let q = byte_read r outside (a + 1) (i + 1) y (omega arith) (omega arith) is_y in
-    let u = byte_read r outside (a + 2) (i + 2) z (omega arith) (omega arith) is_z in
-    let v = byte_read r outside (a + 3) (i + 3) t (omega arith) (omega arith) is_t in
-    omega (arith, p, q, u, v, sum)
-
--- the byte of a store of n bytes at the address, so many places on
-in_store : (m : ℕ → ℕ) (a n v k x b : ℕ) → x ≡ a + k → k < n → b ≡ v / 2 ^ (8 * k) % 2 ^ 8 → b ≡ cond (leb a x && ltb x (a + n)) (v / 2 ^ (8 * (x - a)) % 2 ^ 8) (m x)
-in_store m a n v k x b at below is =
-    let l : leb a x ≡ true = grind (arith, nat_tests) in
-    let h : ltb x (a + n) ≡ true = grind (arith, nat_tests) in
-    let j : x - a ≡ k = omega arith in
-    rw (l, h, j) is
-
--- a byte elsewhere
-off_store : (m : ℕ → ℕ) (a n x : ℕ) (b : ℕ) → (x < a) ⊎ (a + n ≤ x) → m x ≡ cond (leb a x && ltb x (a + n)) b (m x)
-off_store m a n x b (inl low) = let l : leb a x ≡ false = grind (arith, nat_tests) in rw l refl
-off_store m a n x b (inr high) =
-    let l : leb a x ≡ true = grind (arith, nat_tests) in
-    let h : ltb x (a + n) ≡ false = grind (arith, nat_tests) in
-    rw (l, h) refl
-
--- where a number stands that is none of those from another one on
-out_of_one : (a x : ℕ) → x ≢ a → (x < a) ⊎ (a + 1 ≤ x)
-out_of_one a x none = elim (leb_tells a x) [ inl l ↦ inr (omega arith) | inr l ↦ inl l.1 ]
-
-out_of_two : (a x : ℕ) → x ≢ a → x ≢ a + 1 → (x < a) ⊎ (a + 2 ≤ x)
-out_of_two a x n0 n1 = elim (leb_tells a x) [ inl l ↦ inr (omega arith) | inr l ↦ inl l.1 ]
-
-out_of_four : (a x : ℕ) → x ≢ a → x ≢ a + 1 → x ≢ a + 2 → x ≢ a + 3 → (x < a) ⊎ (a + 4 ≤ x)
-out_of_four a x n0 n1 n2 n3 = elim (leb_tells a x) [ inl l ↦ inr (omega arith) | inr l ↦ inl l.1 ]
-
--- the bytes of a store, one by one
-pub stored_byte : (m : ℕ → ℕ) (a v b : ℕ) → b ≡ v % 2 ^ 8 → with_byte m a b ≡ stored Byte m a v
-unfolding stored
-stored_byte m a v b is = fun_ext (λ x. elim (eqb_tells x a) [
-  | inl e ↦ rw e.0 (in_store m a 1 v 0 x b (omega arith) (omega arith) (omega arith))
-  | inr e ↦ rw e.0 (off_store m a 1 x _ (out_of_one a x e.1))
-])
-
-pub stored_half : (m : ℕ → ℕ) (a v b c : ℕ) → b ≡ v % 2 ^ 8 → c ≡ v / 2 ^ 8 % 2 ^ 8 → with_byte (with_byte m a b) (a + 1) c ≡ stored Half m a v
-unfolding stored
-stored_half m a v b c is_b is_c = fun_ext (λ x. elim (eqb_tells x (a + 1)) [
-  | inl e ↦ rw e.0 (in_store m a 2 v 1 x c (omega arith) (omega arith) (omega arith))
-  | inr e ↦ rw e.0 (elim (eqb_tells x a) [
-    | inl f ↦ rw f.0 (in_store m a 2 v 0 x b (omega arith) (omega arith) (omega arith))
-    | inr f ↦ rw f.0 (off_store m a 2 x _ (out_of_two a x f.1 e.1))
-  ])
-])
-
-pub stored_word : (m : ℕ → ℕ) (a v b c d e : ℕ) → b ≡ v % 2 ^ 8 → c ≡ v / 2 ^ 8 % 2 ^ 8 → d ≡ v / 2 ^ 16 % 2 ^ 8 → e ≡ v / 2 ^ 24 % 2 ^ 8 → with_byte (with_byte (with_byte (with_byte m a b) (a + 1) c) (a + 2) d) (a + 3) e ≡ stored Word m a v
-unfolding stored
-stored_word m a v b c d e is_b is_c is_d is_e = fun_ext (λ x. elim (eqb_tells x (a + 3)) [
-  | inl h ↦ rw h.0 (in_store m a 4 v 3 x e (omega arith) (omega arith) (omega arith))
-  | inr h ↦ rw h.0 (elim (eqb_tells x (a + 2)) [
-    | inl g ↦ rw g.0 (in_store m a 4 v 2 x d (omega arith) (omega arith) (omega arith))
-    | inr g ↦ rw g.0 (elim (eqb_tells x (a + 1)) [
-      | inl f ↦ rw f.0 (in_store m a 4 v 1 x c (omega arith) (omega arith) (omega arith))
-      | inr f ↦ rw f.0 (elim (eqb_tells x a) [
-        | inl k ↦ rw k.0 (in_store m a 4 v 0 x b (omega arith) (omega arith) (omega arith))
-        | inr k ↦ rw k.0 (off_store m a 4 x _ (out_of_four a x k.1 f.1 g.1 h.1))
-      ])
-    ])
-  ])
-])
-
--- writes of the list, as a store
-pub store_byte : (r : Range) (outside : ℕ → ℕ) (a i v b : ℕ) → a ≡ r.base + i → i + 1 ≤ length r.bytes → b ≡ v % 2 ^ 8 → memory_of (with_bytes r (set r.bytes i b)) outside ≡ stored Byte (memory_of r outside) a v
-store_byte r outside a i v b at within is = memory_of-set r outside i b a at (omega arith) ∙ stored_byte (memory_of r outside) a v b is
-
-pub store_half : (r : Range) (outside : ℕ → ℕ) (a i v b c : ℕ) → a ≡ r.base + i → i + 2 ≤ length r.bytes → b ≡ v % 2 ^ 8 → c ≡ v / 2 ^ 8 % 2 ^ 8 → memory_of (with_bytes r (set (set r.bytes i b) (i + 1) c)) outside ≡ stored Half (memory_of r outside) a v
-store_half r outside a i v b c at within is_b is_c =
-    let one = with_bytes r (set r.bytes i b) in
-    memory_of-set one outside (i + 1) c (a + 1) (omega arith) (omega (arith, length-set {A = ℕ}))
-    ∙ ap (λ m. with_byte m (a + 1) c) (memory_of-set r outside i b a at (omega arith))
-    ∙ stored_half (memory_of r outside) a v b c is_b is_c
-
-pub store_word : (r : Range) (outside : ℕ → ℕ) (a i v b c d e : ℕ) → a ≡ r.base + i → i + 4 ≤ length r.bytes → b ≡ v % 2 ^ 8 → c ≡ v / 2 ^ 8 % 2 ^ 8 → d ≡ v / 2 ^ 16 % 2 ^ 8 → e ≡ v / 2 ^ 24 % 2 ^ 8 → memory_of (with_bytes r (set (set (set (set r.bytes i b) (i + 1) c) (i + 2) d) (i + 3) e)) outside ≡ stored Word (memory_of r outside) a v
-store_word r outside a i v b c d e at within is_b is_c is_d is_e =
-    let one = with_bytes r (set r.bytes i b) in
-    let two = with_bytes r (set one.bytes (i + 1) c) in
-    let three = with_bytes r (set two.bytes (i + 2) d) in
-    memory_of-set three outside (i + 3) e (a + 3) (omega arith) (omega (arith, length-set {A = ℕ}))
-    ∙ ap (λ m. with_byte m (a + 3) e) (memory_of-set two outside (i + 2) d (a + 2) (omega arith) (omega (arith, length-set {A = ℕ}))
-    ∙ ap (λ m. with_byte m (a + 2) d) (memory_of-set one outside (i + 1) c (a + 1) (omega arith) (omega (arith, length-set {A = ℕ}))
-    ∙ ap (λ m. with_byte m (a + 1) c) (memory_of-set r outside i b a at (omega arith))))
-    ∙ stored_word (memory_of r outside) a v b c d e is_b is_c is_d is_e
+    go : (x : ℕ) → ((x < a) ⊎ (a + size_of w ≤ x)) ⊎ ((a ≤ x) × (x < a + size_of w)) → ((x < r.base) ⊎ (r.base + length r.bytes ≤ x)) ⊎ ((r.base ≤ x) × (x < r.base + length r.bytes)) → memory_of (with_bytes r bytes) outside x ≡ stored w (memory_of r outside) a v x
+    go x (inr y) (inr on) =
+        let j : x - r.base - (a - r.base) ≡ x - a = omega (arith, y.0, y.1, on.0) in
+        sym (memory_of-inside (with_bytes r bytes) outside x on.0 (omega (arith, on.1, len)))
+        ∙ at (x - r.base)
+        ∙ stored_in w (slice_index r.bytes) (a - r.base) v (x - r.base) (omega (arith, y.0)) (omega (arith, y.1, on.0, low))
+        ∙ ap (λ k. v / 2 ^ (8 * k) % 2 ^ 8) j
+        ∙ sym (stored_in w (memory_of r outside) a v x y.0 y.1)
+    go x (inl out) (inr on) =
+        sym (memory_of-inside (with_bytes r bytes) outside x on.0 (omega (arith, on.1, len)))
+        ∙ at (x - r.base)
+        ∙ stored_off w (slice_index r.bytes) (a - r.base) v (x - r.base) (elim out [ inl p ↦ inl (omega (arith, p, on.0)) | inr p ↦ inr (omega (arith, p, low)) ])
+        ∙ memory_of-inside r outside x on.0 on.1
+        ∙ sym (stored_off w (memory_of r outside) a v x out)
+    go x (inl out) (inl off) =
+        memory_of-outside (with_bytes r bytes) outside x (elim off [ inl p ↦ inl p | inr p ↦ inr (omega (arith, p, len)) ])
+        ∙ sym (memory_of-outside r outside x off)
+        ∙ sym (stored_off w (memory_of r outside) a v x out)
+    go x (inr y) (inl off) = absurd (elim off [ inl p ↦ omega (arith, p, y.0, low) | inr p ↦ omega (arith, p, y.1, high) ])

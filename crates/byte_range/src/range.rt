@@ -1,10 +1,12 @@
 //! A range of bytes that starts at an address.
 
-ghost use Rattle.std.specs.Prelude.{◌≡◌, ◌+◌, ◌-◌, ◌^◌, ◌<◌, ◌≤◌, ◌++◌, ℕ, true, IfOk, length, replicate};
+ghost use Rattle.std.specs.Prelude.{◌≡◌, ◌+◌, ◌-◌, ◌^◌, ◌<◌, ◌≤◌, ◌++◌, ℕ, true, IfOk, length};
+ghost use Rattle.std.specs.Prelude.{replicate};
 ghost use Rattle.rv32_decode.specs.Widths.{size_of};
 ghost use Rattle.byte_range.specs.Memory.{raw, stored};
 ghost use Rattle.byte_range.specs.Range.{holds, memory_of};
 
+use crate::bytes::{load_at, store_at};
 use rv32_decode::Width;
 use std::alloc::{AllocError, Global};
 use std::marker::Model;
@@ -77,15 +79,7 @@ impl ByteRange {
             result ≡ raw width (memory_of self.now outside) address }
         ensures byte { width ≡ Width.Byte → result < 2 ^ 8 }
     {
-        let at = (address - self.base) as usize;
-        let bytes = &self.bytes;
-        match width {
-            Width::Byte => u32::from(bytes[at]),
-            Width::Half => u32::from(u16::from_le_bytes([bytes[at], bytes[at + 1]])),
-            Width::Word => {
-                u32::from_le_bytes([bytes[at], bytes[at + 1], bytes[at + 2], bytes[at + 3]])
-            }
-        }
+        load_at(&self.bytes, (address - self.base) as usize, width)
     }
 
     /// Puts the low bits of a value into the bytes from an address on, little-endian.
@@ -99,20 +93,6 @@ impl ByteRange {
         ensures len { length self.new.bytes ≡ length self.old.bytes }
     {
         let at = (address - self.base) as usize;
-        let [first, second, third, fourth] = value.to_le_bytes();
-        let bytes = &mut self.bytes;
-        match width {
-            Width::Byte => bytes[at] = first,
-            Width::Half => {
-                bytes[at] = first;
-                bytes[at + 1] = second;
-            }
-            Width::Word => {
-                bytes[at] = first;
-                bytes[at + 1] = second;
-                bytes[at + 2] = third;
-                bytes[at + 3] = fourth;
-            }
-        }
+        store_at(&mut self.bytes, at, width, value);
     }
 }

@@ -1,6 +1,7 @@
 //! The bytes of a processor's own window.
 
-ghost use Rattle.std.specs.Prelude.{◌≡◌, ◌+◌, ◌*◌, ◌/◌, ◌%◌, ◌^◌, ◌<◌, ◌≤◌, ℕ, true, Some, None, IfOk, if◌then◌else◌};
+ghost use Rattle.std.specs.Prelude.{◌≡◌, ◌+◌, ◌*◌, ◌/◌, ◌%◌, ◌^◌, ◌<◌, ◌≤◌, ℕ, true, Some, None};
+ghost use Rattle.std.specs.Prelude.{IfOk, if◌then◌else◌};
 ghost use Rattle.rv32_decode.specs.Widths.{is_aligned};
 ghost use Rattle.byte_range.specs.Memory.{raw, stored};
 ghost use Rattle.byte_range.specs.Window.{window_memory, is_in_window};

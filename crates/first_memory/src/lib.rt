@@ -19,6 +19,7 @@ pub fn shared_memory(alloc: Global, program: &Program<'_>) -> Result<LineMemory,
         lines_memory m (first_byte program.now) ≡ first_byte program.now) }
     ensures lines { IfOk result (HasSharedLines program.now) }
 {
+    // brings: the program is one that no rule refuses
     let _ = program.entry();
     let ranges = program.shared_ranges(alloc)?;
     memory_of(alloc, program, ranges.as_slice())
@@ -30,6 +31,7 @@ pub fn read_only_memory(alloc: Global, program: &Program<'_>) -> Result<LineMemo
         lines_memory m (first_byte program.now) ≡ first_byte program.now) }
     ensures lines { IfOk result (HasReadOnlyLines program.now) }
 {
+    // brings: the program is one that no rule refuses
     let _ = program.entry();
     let ranges = program.read_only_ranges(alloc)?;
     memory_of(alloc, program, ranges.as_slice())

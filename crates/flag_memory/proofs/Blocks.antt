@@ -9,6 +9,7 @@ use Rattle.std.proofs.lemmas.Bool.Decides.{eqb_tells, leb_tells, nat_tests}
 use Rattle.std.proofs.lemmas.Grind.{common_steps}
 use Rattle.block_layout.specs.Layout.{Shape, blocks, lines, first_line, start, has_line, is_shared, shared_before, shared_lines}
 use Rattle.block_layout.specs.Update.{changed}
+use Rattle.byte_range.proofs.ByteLemmas.{written}
 use Rattle.flag_memory.specs.Flag.{flags}
 use Rattle.flag_memory.specs.Copy.{Copy, memory, place, block_start, block_end, bytes_in, bytes_of}
 use Rattle.flag_memory.specs.Bytes.{overwritten}
@@ -79,13 +80,7 @@ put_is s ys xs b l len within size = fun_ext (λ x. elim (eqb_tells x b) [
       ] ∙ sym (bytes_at s ys x p.1)
     ]
 
--- a vector whose bytes were written as a slice
-pub written : (ys all : List ℕ) (n : ℕ) → n ≡ length ys → length all ≡ length ys → take n (all ++ drop (length all) ys) ≡ all
-written ys all n is_n len =
-    let e : n ≡ length all = is_n ∙ sym len in
-    rw e (take-append_seam all (drop (length all) ys))
-
--- the same of a vector whose bytes were written as a slice, from a copy of this value
+-- the bytes of a vector that were written as a slice, from a copy of this value
 pub put_in : (s : Shape) (seen : Copy) (ys zs xs all : List ℕ) (b at n : ℕ) → Laws s → copy_with s ys ≡ seen → length ys ≡ 64 * shared_lines s → n ≡ length ys → zs ≡ ys → b < blocks s → length xs ≡ 64 * lines s b → at ≡ start s b → all ≡ overwritten zs (64 * at) xs → bytes_of (copy_with s (take n (all ++ drop (length all) ys))) ≡ changed (bytes_of seen) b xs
 put_in s seen ys zs xs all b at n l view len is_n same within size start_is is =
     let fits : block_start s b + length xs ≤ length ys = omega (arith, l.within b within) in

@@ -1,6 +1,7 @@
 //! The bytes of a node's copy.
 
-ghost use Rattle.std.specs.Prelude.{◌≡◌, ◌+◌, ◌-◌, ◌*◌, ◌/◌, ◌^◌, ◌<◌, ◌≤◌, ℕ, [], true, map, IfOk, length, slice_index};
+ghost use Rattle.std.specs.Prelude.{◌≡◌, ◌+◌, ◌-◌, ◌*◌, ◌/◌, ◌^◌, ◌<◌, ◌≤◌, ℕ, [], true, map, IfOk};
+ghost use Rattle.std.specs.Prelude.{length, slice_index};
 ghost use Rattle.block_layout.specs.Layout.{is_shared, shared_lines, blocks, lines, first_line};
 ghost use Rattle.block_layout.specs.Update.{changed};
 ghost use Rattle.rv32_decode.specs.Widths.{size_of, is_aligned};
@@ -14,12 +15,13 @@ ghost use Rattle.flag_memory.specs.Bytes.{overwritten, IsByteWritten, IsWritten,
 use crate::first::{FirstBytes, FirstRange};
 use block_layout::{Block, Layout, layout_law};
 use buf_pool::Buf;
+use byte_range::{load_at, store_at};
 use rv32_decode::Width;
 use std::alloc::{AllocError, Global};
 use std::marker::Model;
 
-/// A node's copy of the shared memory. Contracts see the layout that it was made with, and the bytes
-/// of the shared lines, ascending.
+/// A node's copy of the shared memory. Contracts see the layout that it was made with, and the
+/// bytes of the shared lines, ascending.
 #[derive(Drop)]
 pub struct Copy32 {
     layout: Layout,
@@ -44,6 +46,7 @@ impl Copy32 {
             memory c a ≡ first_byte first.now a) }
     {
         layout_law();
+        // brings: the layout is valid
         let _blocks = layout.blocks();
         let mut bytes = Vec::new(alloc);
         bytes.resize(64 * layout.shared_lines() as usize, 0)?;
@@ -163,6 +166,7 @@ pub fn copy_law(copy: &Copy32)
         ≡ memory copy.now (64 * first_line copy.now.layout b + k) }
 {
     layout_law();
+    // brings: the copy has 64 bytes of each shared line of a valid layout
     let _layout = &copy.layout;
 }
 
@@ -194,46 +198,11 @@ fn write_byte(bytes: &mut [u8], layout: &Layout, address: u32, byte: u8)
     ensures { IsByteWritten layout.now bytes.old bytes.new address byte }
 {
     layout_law();
+    // brings: the layout is valid
     let _blocks = layout.blocks();
     match layout.place_of(address / 64) {
         Some(place) => bytes[64 * place as usize + (address % 64) as usize] = byte,
         None => {}
-    }
-}
-
-/// The little-endian number that the bytes from a place on make.
-fn load_at(bytes: &[u8], at: usize, width: Width) -> u32
-    requires { at + size_of width ≤ length bytes.now }
-    ensures value { result ≡ raw width (slice_index bytes.now) at }
-    ensures byte { width ≡ Width.Byte → result < 2 ^ 8 }
-{
-    match width {
-        Width::Byte => u32::from(bytes[at]),
-        Width::Half => u32::from(u16::from_le_bytes([bytes[at], bytes[at + 1]])),
-        Width::Word => {
-            u32::from_le_bytes([bytes[at], bytes[at + 1], bytes[at + 2], bytes[at + 3]])
-        }
-    }
-}
-
-/// Puts the low bits of a value into the bytes from a place on, little-endian.
-fn store_at(bytes: &mut [u8], at: usize, width: Width, value: u32)
-    requires { at + size_of width ≤ length bytes.old }
-    ensures { slice_index bytes.new ≡ stored width (slice_index bytes.old) at value }
-{
-    let [first, second, third, fourth] = value.to_le_bytes();
-    match width {
-        Width::Byte => bytes[at] = first,
-        Width::Half => {
-            bytes[at] = first;
-            bytes[at + 1] = second;
-        }
-        Width::Word => {
-            bytes[at] = first;
-            bytes[at + 1] = second;
-            bytes[at + 2] = third;
-            bytes[at + 3] = fourth;
-        }
     }
 }
 

@@ -2,7 +2,7 @@
 use Rattle.std.proofs.Common.{◌≡◌, ◌≢◌, nat_cmp, subst, cond, ℕ, zero, suc, ◌+◌, ◌*◌, ◌^◌, ◌<◌, ◌≤◌, Bool, true, false, ◌==◌, List, [], ◌∷◌, length, Option, Some, None, refl, sym, ap, ◌∙◌, inl, inr, arith}
 use Rattle.std.specs.Prelude.{Ok, Err, slice_index_or, slice_get, option_and_then, nat_lt}
 use Rattle.std.specs.List.Sorted.{IsSearchInRange, IsBinarySearchResult}
-use Rattle.std.proofs.lemmas.Bool.{cases_lt, eqb-true, eq-eqb, lt-ltb, le-ltb}
+use Rattle.std.proofs.lemmas.Bool.{cases_lt, eqb-true, eq-eqb, lt-ltb, le-ltb, ne_eqb}
 use Rattle.std.specs.List.{position_or_len}
 use Rattle.std.proofs.lemmas.List.Sums.{position_or_len_is}
 use Rattle.std.proofs.lemmas.Option.{slice_get-get_or}
@@ -10,7 +10,6 @@ use Rattle.rv32_decode.specs.declared.Instr.{Instr}
 use Rattle.rv32_decode.specs.declared.Instr.TheVariants.{Ecall}
 use Rattle.templates.specs.declared.code.CodeWord.{CodeWord}
 use Rattle.templates.specs.Code.{Ascends, code_word, code_of}
-use Rattle.templates.proofs.ReadingLemmas.{unequal}
 use Rattle.templates.proofs.CodeLemmas.{above, rises}
 use Rattle.templates.proofs.SearchLemmas.{found_by}
 use Rattle.flow_graph.specs.Edges.{ends_flow, next_of, number_at}
@@ -54,7 +53,7 @@ pub number_there : (ws : List CodeWord) (d : CodeWord) (k a : ℕ) → Ascends 0
     → (slice_index_or ws k d).address ≡ a → Some k ≡ number_at ws a
 number_there ws d k a up lt is =
     let first : position_or_len (λ w. w.address == a) ws ≡ k = position_or_len_is (λ w. w.address == a) ws k d (omega (arith, lt))
-    (λ j before. unequal _ a (λ same. (let less = climbs 0 ws d up j k before lt in omega (arith, less, same, is))))
+    (λ j before. ne_eqb _ a (λ same. (let less = climbs 0 ws d up j k before lt in omega (arith, less, same, is))))
     (λ within. eq-eqb _ a is) in
     sym (ap (λ n. cond (nat_lt n (length ws)) (Some n) None) first ∙ ap (λ b. cond b (Some k) None) (lt-ltb k (length ws) lt))
 
@@ -63,7 +62,7 @@ pub no_number : (ws : List CodeWord) (d : CodeWord) (a : ℕ)
     → ((k : ℕ) → k < length ws → (slice_index_or ws k d).address ≢ a) → None ≡ number_at ws a
 no_number ws d a other =
     let past : position_or_len (λ w. w.address == a) ws ≡ length ws = position_or_len_is (λ w. w.address == a) ws (length ws) d (omega arith)
-    (λ j within. unequal _ a (other j within)) (λ lt. absurd (omega (arith, lt))) in
+    (λ j within. ne_eqb _ a (other j within)) (λ lt. absurd (omega (arith, lt))) in
     sym (ap (λ n. cond (nat_lt n (length ws)) (Some n) None) past ∙ ap (λ b. cond b (Some (length ws)) None) (le-ltb (length ws) (length ws) (omega arith)))
 
 -- what a search among code words gives

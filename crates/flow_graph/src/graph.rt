@@ -47,6 +47,7 @@ impl Graph {
     pub fn new(code: Code) -> Graph
         ensures value { result ≡ code }
     {
+        // brings: the code words ascend
         let _words = code.words();
         Graph { code }
     }

@@ -84,6 +84,7 @@ impl Directory {
             (entries_of d).entry b ≡ first_entry me) }
         ensures waiting { IfOk result (λ d. d.waiting ≡ []) }
     {
+        // brings: the layout is valid, so that it has at most 16 nodes
         let _nodes = layout.nodes();
         let mut sharers = [false; 16];
         sharers[me as usize] = true;

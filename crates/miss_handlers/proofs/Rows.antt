@@ -1,31 +1,26 @@
 -- What a message leaves, by the wait.
-use Rattle.std.proofs.Common.{◌≡◌, ℕ, ◌+◌, ◌*◌, ◌<◌, ◌≤◌, Bool, true, false, cond, eqb, leb, ltb, ◌&&◌, List, length, refl, sym, ap, ◌∙◌, subst, Option, Some, None, ◌⊎◌, inl, inr, arith}
+use Rattle.std.proofs.Common.{◌≡◌, ℕ, ◌+◌, ◌*◌, ◌<◌, Bool, true, false, cond, eqb, leb, ltb, ◌&&◌, List, length, refl, sym, ap, ◌∙◌, subst, Option, Some, None, ◌⊎◌, inl, inr, arith}
 use Rattle.std.proofs.lemmas.Bool.Decides.{nat_tests}
 use Rattle.block_layout.specs.Layout.{Shape, blocks, lines, home}
 use Rattle.block_layout.specs.Update.{changed}
-use Rattle.buf_pool.specs.Pool.{Buffer}
 use Rattle.llsc.specs.Reservation.{cleared}
-use Rattle.home_directory.specs.declared.messages.Message.TheVariants.{Data, Ack, Grant}
+use Rattle.state_table.specs.States.{States, state_of}
+use Rattle.flag_memory.specs.Copy.{Copy}
+use Rattle.home_directory.specs.declared.messages.Message.TheVariants.{Ack}
 use Rattle.home_directory.specs.declared.messages.Post.{Post}
 use Rattle.home_directory.specs.declared.wait.Wait.{Wait}
+use Rattle.home_directory.specs.declared.wait.Answer.{Answer}
 use Rattle.home_directory.specs.declared.wait.Answer.TheVariants.{ByData, ByGrant}
-use Rattle.home_directory.specs.Table.{BlockFacts, LocalBlock, NodeRow, completion, is_write, is_shared, is_complete}
+use Rattle.home_directory.specs.Table.{BlockFacts, LocalBlock, NodeRow, completion, with_answer, data_row, grant_row, is_write, is_shared, is_complete}
 use Rattle.std.specs.Prelude.{is_none}
-use Rattle.miss_handlers.specs.Search.{takes_data, takes_ack, takes_grant}
-use Rattle.miss_handlers.specs.Effects.{NodeBlocks, NodeEffect, HasEffect, message_effect, row_effect, local_block, block_facts}
+use Rattle.miss_handlers.specs.Search.{takes_data, takes_ack, takes_grant, takes_answer, bringing}
+use Rattle.miss_handlers.specs.Waits.{NodeWaits, wait_of}
+use Rattle.miss_handlers.specs.Effects.{NodeBlocks, NodeEffect, HasEffect, node_blocks, message_effect, row_effect, local_block, block_facts}
 use Rattle.miss_handlers.proofs.Lists.{changed_twice}
 
 bool_tells : (x : Bool) → (x ≡ true) ⊎ (x ≡ false)
 bool_tells true = inl refl
 bool_tells false = inr refl
-
-pub data_effect : (l : Shape) (m : NodeBlocks) (j b k : ℕ) (buf : Buffer) (w : Wait) → b < blocks l → m.wait b ≡ Some w → takes_data (m.wait b) ≡ true → 4096 ≤ buf.room → length buf.bytes ≡ 64 * lines l b → message_effect l m j (Data b k buf) ≡ row_effect l m b (Some (completion (block_facts l b) (local_block m b) b (record { need = w.need; answer = Some (ByData k buf); counted = w.counted })))
-data_effect l m j b k buf w within is opened room len =
-    let t : ltb b (blocks l) ≡ true = grind (arith, nat_tests) in
-    let r : leb 4096 buf.room ≡ true = grind (arith, nat_tests) in
-    let n : eqb (length buf.bytes) (64 * lines l b) ≡ true = grind (arith, nat_tests) in
-    let o : is_none w.answer ≡ true = ap takes_data (sym is) ∙ opened in
-    rw (t, is, o, r, n) refl
 
 pub ack_effect : (l : Shape) (m : NodeBlocks) (j b : ℕ) (w : Wait) → b < blocks l → m.wait b ≡ Some w → takes_ack (m.wait b) ≡ true → message_effect l m j (Ack b) ≡ row_effect l m b (Some (completion (block_facts l b) (local_block m b) b (record { need = w.need; answer = w.answer; counted = w.counted + 1 })))
 ack_effect l m j b w within is opened =
@@ -33,13 +28,39 @@ ack_effect l m j b w within is opened =
     let o : (is_write w.need && ltb w.counted 16) ≡ true = ap takes_ack (sym is) ∙ opened in
     rw (t, is, o) refl
 
-pub grant_effect : (l : Shape) (m : NodeBlocks) (j b k : ℕ) (buf : Buffer) (w : Wait) → b < blocks l → m.wait b ≡ Some w → takes_grant (m.wait b) ≡ true → 4096 ≤ buf.room → j ≡ home l b → is_shared (m.state b) ≡ true → message_effect l m j (Grant b k buf) ≡ row_effect l m b (Some (completion (block_facts l b) (local_block m b) b (record { need = w.need; answer = Some (ByGrant k buf); counted = w.counted })))
-grant_effect l m j b k buf w within is opened room at shared =
-    let t : ltb b (blocks l) ≡ true = grind (arith, nat_tests) in
-    let r : leb 4096 buf.room ≡ true = grind (arith, nat_tests) in
-    let h : eqb j (home l b) ≡ true = grind (arith, nat_tests) in
-    let o : (is_write w.need && is_none w.answer) ≡ true = ap takes_grant (sym is) ∙ opened in
-    rw (t, is, h, shared, o, r) refl
+data_taken : (l : Shape) (m : NodeBlocks) (b : ℕ) (row : NodeRow) (low room size none : Bool) → (low && (room && (size && none))) ≡ true
+    → row_effect l m b (cond low (cond (none && (room && size)) (Some row) None) None) ≡ row_effect l m b (Some row)
+data_taken l m b row true true true true h = refl
+data_taken l m b row true true true false h = cc
+data_taken l m b row true true false none h = cc
+data_taken l m b row true false size none h = cc
+data_taken l m b row false room size none h = cc
+
+grant_taken : (l : Shape) (m : NodeBlocks) (b : ℕ) (row : NodeRow) (low room at shared fits : Bool) → (low && (room && (at && (shared && fits)))) ≡ true
+    → row_effect l m b (cond low (cond ((at && shared) && (fits && room)) (Some row) None) None) ≡ row_effect l m b (Some row)
+grant_taken l m b row true true true true true h = refl
+grant_taken l m b row true true true true false h = cc
+grant_taken l m b row true true true false fits h = cc
+grant_taken l m b row true true false shared fits h = cc
+grant_taken l m b row true false at shared fits h = cc
+grant_taken l m b row false room at shared fits h = cc
+
+-- an answer that a wait takes
+pub answer_taken : (w : NodeWaits) (s : States) (c : Copy) (r : Option ℕ) (j b : ℕ) (a : Answer) (v : Wait) → wait_of w b ≡ Some v → takes_answer w (state_of s) j b a ≡ true
+    → message_effect w.layout (node_blocks w s c r) j (bringing b a)
+    ≡ row_effect w.layout (node_blocks w s c r) b (Some (completion (block_facts w.layout b) (local_block (node_blocks w s c r) b) b (with_answer v a)))
+answer_taken w s c r j b (ByData k buf) v found h =
+    let m = node_blocks w s c r in
+    let is_open : (ltb b (blocks w.layout) && (leb 4096 buf.room && (eqb (length buf.bytes) (64 * lines w.layout b) && is_none v.answer))) ≡ true =
+    ap (λ (o : Option Wait). ltb b (blocks w.layout) && (leb 4096 buf.room && (eqb (length buf.bytes) (64 * lines w.layout b) && takes_data o))) (sym found) ∙ h in
+    ap (λ (o : Option Wait). row_effect w.layout m b (cond (ltb b (blocks w.layout)) (data_row (block_facts w.layout b) (local_block m b) b k buf o) None)) found
+    ∙ data_taken w.layout m b _ (ltb b (blocks w.layout)) _ _ (is_none v.answer) is_open
+answer_taken w s c r j b (ByGrant k buf) v found h =
+    let m = node_blocks w s c r in
+    let is_open : (ltb b (blocks w.layout) && (leb 4096 buf.room && (eqb j (home w.layout b) && (is_shared (m.state b) && takes_grant (Some v))))) ≡ true =
+    ap (λ (o : Option Wait). ltb b (blocks w.layout) && (leb 4096 buf.room && (eqb j (home w.layout b) && (is_shared (m.state b) && takes_grant o)))) (sym found) ∙ h in
+    ap (λ (o : Option Wait). row_effect w.layout m b (cond (ltb b (blocks w.layout)) (grant_row (block_facts w.layout b) (local_block m b) j b k buf o) None)) found
+    ∙ grant_taken w.layout m b _ (ltb b (blocks w.layout)) _ (eqb j (home w.layout b)) (is_shared (m.state b)) (is_write v.need && is_none v.answer) is_open
 
 pub reserved_same : (l : Shape) (p : BlockFacts) (h : LocalBlock) (b : ℕ) (w : Wait) (o : Option ℕ) → cond (completion p h b w).clears (cleared l b o) o ≡ o
 reserved_same l p h b w o = elim (bool_tells (is_complete w.answer w.counted)) [ inl e ↦ rw e refl | inr e ↦ rw e refl ]

@@ -1,6 +1,7 @@
 //! The rows of the table of messages for a node that has a block or waits for it.
 
-ghost use Rattle.std.specs.Prelude.{◌≡◌, ◌+◌, ◌*◌, ◌<◌, ◌≤◌, [], true, Some, None, is_some, length, if◌then◌else◌};
+ghost use Rattle.std.specs.Prelude.{◌≡◌, ◌+◌, ◌*◌, ◌<◌, ◌≤◌, [], true, Some, None, is_some, length};
+ghost use Rattle.std.specs.Prelude.{if◌then◌else◌};
 ghost use Rattle.std.specs.Option.{option_to_list, ForSome};
 ghost use Rattle.block_layout.specs.Layout.{blocks, lines};
 ghost use Rattle.block_layout.specs.Update.{changed};
@@ -8,10 +9,12 @@ ghost use Rattle.llsc.specs.Reservation.{cleared};
 ghost use Rattle.state_table.specs.States.{state_of};
 ghost use Rattle.flag_memory.specs.Flag.{flags};
 ghost use Rattle.flag_memory.specs.Copy.{bytes_of};
-ghost use Rattle.home_directory.specs.Table.{is_complete, is_shared, state_for, state_without, bytes_by};
+ghost use Rattle.home_directory.specs.Table.{is_complete, is_shared, state_for, state_without};
+ghost use Rattle.home_directory.specs.Table.{bytes_by};
 ghost use Rattle.miss_handlers.specs.Waits.{wait_of, IsWaitFor, IsAnswerFor};
-ghost use Rattle.miss_handlers.specs.Search.{acks_in};
-ghost use Rattle.miss_handlers.specs.Effects.{node_blocks, message_effect, HasEffect, pool_after, buffers};
+ghost use Rattle.miss_handlers.specs.Search.{acks_in, bringing, takes_answer};
+ghost use Rattle.miss_handlers.specs.Effects.{node_blocks, message_effect, HasEffect, pool_after};
+ghost use Rattle.miss_handlers.specs.Effects.{buffers};
 ghost use Rattle.miss_handlers.specs.Completion.{completion_of};
 
 use crate::search::{find, is_waited_for, takes_ack, takes_data, takes_grant};
@@ -67,10 +70,12 @@ impl Waits {
                 self.inval(from, block, requester, states, copy, held)
             }
             Message::Data { block, acks, buf } => {
-                self.data(from, block, acks, buf, states, copy, held, pool)
+                let answer = Answer::ByData { acks, buf };
+                self.answer(from, block, answer, states, copy, held, pool)
             }
             Message::Grant { block, acks, buf } => {
-                self.grant(from, block, acks, buf, states, copy, held, pool)
+                let answer = Answer::ByGrant { acks, buf };
+                self.answer(from, block, answer, states, copy, held, pool)
             }
             Message::Ack { block } => self.ack(from, block, states, copy, held, pool),
             _ => Sends::new(),
@@ -209,14 +214,13 @@ impl Waits {
         held.clear_block(&self.layout, block);
     }
 
-    /// Data.
+    /// Data, or Grant: the message that brings an answer.
     #[tactic(auto, using(crate::proofs::Lists::changed_same, crate::proofs::Lists::changed_twice, crate::proofs::Lists::changed_back))]
-    fn data(
+    fn answer(
         &mut self,
         from: u8,
         block: Block,
-        acks: u8,
-        buf: Buf,
+        answer: Answer,
         states: &mut States,
         copy: &mut Copy32,
         held: &Reservation,
@@ -227,10 +231,10 @@ impl Waits {
         requires copy { copy.old.layout ≡ self.old.layout }
         ensures effect { let old = node_blocks self.old states.old copy.old held.now in
             let new = node_blocks self.new states.new copy.new held.now in
-            let effect = message_effect self.old.layout old from (Message.Data block acks buf) in
+            let effect = message_effect self.old.layout old from (bringing block answer) in
             HasEffect new result.items effect }
         ensures pool { let old = node_blocks self.old states.old copy.old held.now in
-            let effect = message_effect self.old.layout old from (Message.Data block acks buf) in
+            let effect = message_effect self.old.layout old from (bringing block answer) in
             pool.new ≡ pool_after pool.old effect.gives_back }
         ensures count { buffers pool.new self.new ≡ buffers pool.old self.old }
         ensures layout { self.new.layout ≡ self.old.layout }
@@ -238,13 +242,7 @@ impl Waits {
         ensures program { states.new.program ≡ states.old.program }
         ensures copy_layout { copy.new.layout ≡ copy.old.layout }
     {
-        if block >= self.layout.blocks()
-            || buf.room() < 4096
-            || buf.bytes().len() != 64 * self.layout.lines(block) as usize
-        {
-            return Sends::new();
-        }
-        if !takes_data(&self.waits, block) {
+        if !self.takes(from, block, &answer, states) {
             return Sends::new();
         }
         match self.take_out(block) {
@@ -252,7 +250,7 @@ impl Waits {
             Some(wait) => {
                 let wait = Wait {
                     need: wait.need,
-                    answer: Some(Answer::ByData { acks, buf }),
+                    answer: Some(answer),
                     counted: wait.counted,
                 };
                 self.go_on(block, wait, states, copy, pool)
@@ -260,59 +258,26 @@ impl Waits {
         }
     }
 
-    /// Grant.
-    #[tactic(auto, using(crate::proofs::Lists::changed_same, crate::proofs::Lists::changed_twice, crate::proofs::Lists::changed_back))]
-    fn grant(
-        &mut self,
-        from: u8,
-        block: Block,
-        acks: u8,
-        buf: Buf,
-        states: &mut States,
-        copy: &mut Copy32,
-        held: &Reservation,
-        pool: &mut Pool,
-    ) -> Sends
-        requires pool { pool.old.free + length self.old.waits ≤ pool.old.slots }
-        requires states { states.old.layout ≡ self.old.layout }
-        requires copy { copy.old.layout ≡ self.old.layout }
-        ensures effect { let old = node_blocks self.old states.old copy.old held.now in
-            let new = node_blocks self.new states.new copy.new held.now in
-            let effect = message_effect self.old.layout old from (Message.Grant block acks buf) in
-            HasEffect new result.items effect }
-        ensures pool { let old = node_blocks self.old states.old copy.old held.now in
-            let effect = message_effect self.old.layout old from (Message.Grant block acks buf) in
-            pool.new ≡ pool_after pool.old effect.gives_back }
-        ensures count { buffers pool.new self.new ≡ buffers pool.old self.old }
-        ensures layout { self.new.layout ≡ self.old.layout }
-        ensures states_layout { states.new.layout ≡ states.old.layout }
-        ensures program { states.new.program ≡ states.old.program }
-        ensures copy_layout { copy.new.layout ≡ copy.old.layout }
+    /// Whether the wait for a block takes an answer from a node.
+    fn takes(&self, from: u8, block: Block, answer: &Answer, states: &States) -> bool
+        requires { states.now.layout ≡ self.now.layout }
+        ensures value { let state = state_of states.now in
+            result ≡ takes_answer self.now state from block answer.now }
     {
         if block >= self.layout.blocks() {
-            return Sends::new();
+            return false;
         }
-        if buf.room() < 4096 {
-            return Sends::new();
-        }
-        if from != self.layout.home(block) {
-            return Sends::new();
-        }
-        if !is_shared(states.state(block)) {
-            return Sends::new();
-        }
-        if !takes_grant(&self.waits, block) {
-            return Sends::new();
-        }
-        match self.take_out(block) {
-            None => unreachable!(),
-            Some(wait) => {
-                let wait = Wait {
-                    need: wait.need,
-                    answer: Some(Answer::ByGrant { acks, buf }),
-                    counted: wait.counted,
-                };
-                self.go_on(block, wait, states, copy, pool)
+        match answer {
+            Answer::ByData { buf, .. } => {
+                buf.room() >= 4096
+                    && buf.bytes().len() == 64 * self.layout.lines(block) as usize
+                    && takes_data(&self.waits, block)
+            }
+            Answer::ByGrant { buf, .. } => {
+                buf.room() >= 4096
+                    && from == self.layout.home(block)
+                    && is_shared(states.state(block))
+                    && takes_grant(&self.waits, block)
             }
         }
     }
@@ -508,6 +473,7 @@ fn use_answer(answer: Option<Answer>, block: Block, copy: &mut Copy32, pool: &mu
     ensures layout { copy.new.layout ≡ copy.old.layout }
     ensures pool { pool.new ≡ pool_after pool.old true }
 {
+    // brings: the pool's buffers have room for at most 4096 bytes
     let _room = pool.bytes();
     match answer {
         Some(Answer::ByData { buf, .. }) => {

@@ -19,6 +19,8 @@ pub struct LineClass {
 }
 
 /// Classes of lines below 2^26, ascending and without overlap. Contracts see the list of them.
+///
+/// Unlike `Ranges` of `block_layout` they give each line a byte, and an empty class is no fault.
 #[derive(Drop)]
 pub struct LineClasses {
     items: Vec<LineClass>,

@@ -44,6 +44,7 @@ impl States {
         ensures states { IfOk result (λ s. (b : ℕ) → state_of s b ≡ State.Invalid) }
     {
         layout_law();
+        // brings: the layout is valid
         let _blocks = layout.blocks();
         let mut bytes = Vec::new(alloc);
         bytes.resize(layout.shared_lines() as usize, INVALID)?;

@@ -1,9 +1,7 @@
-use Rattle.std.proofs.Common.{◌≡◌, ◌≤◌, ◌-◌, ℕ, zero, suc, List, leb, get_or, map, length, true, false, None, sym, subst, ap, ◌∙◌, arith, rules, refl}
-use Rattle.std.specs.List.Sorted.{IsPartitionedBy, IsPartitionPoint}
+use Rattle.std.proofs.Common.{◌≡◌, ◌≤◌, suc, leb, map, length, sym, subst, arith, rules}
+use Rattle.std.specs.List.Sorted.{IsPartitionedBy}
 use Rattle.std.proofs.lemmas.List.Sorted.{IsPartitionPoint-from_clause}
-use Rattle.byte_range.specs.Lines.{place_of}
 use Rattle.byte_range.specs.Pieces.{lines_of, IsPieceOf}
-use Rattle.byte_range.specs.declared.lines.Piece.{Piece}
 use Rattle.byte_range.proofs.PieceLemmas.{Splits, starts_parted, point_splits, place_none, is_piece_of}
 use Rattle.byte_range.proofs.lines.LineMemory.last_piece.Goals as goal
 

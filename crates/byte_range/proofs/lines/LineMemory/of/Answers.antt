@@ -1,8 +1,7 @@
-use Rattle.std.proofs.Common.{◌≡◌, ◌+◌, ◌*◌, ◌^◌, ◌≤◌, ℕ, List, ◌∷◌, ◌++◌, [], map, length, take, get_or, refl, sym, ap, ◌∙◌, arith, rules}
-use Rattle.std.proofs.lemmas.List.{take_more, length-replicate}
+use Rattle.std.proofs.Common.{◌≡◌, ◌+◌, List, ◌∷◌, ◌++◌, [], length, take, get_or, refl, sym, ap, ◌∙◌, arith, rules}
+use Rattle.std.proofs.lemmas.List.{take_more}
 use Rattle.byte_range.specs.Range.{Range}
 use Rattle.byte_range.specs.Lines.{line_count}
-use Rattle.byte_range.specs.Pieces.{lines_of, pieces_from, first_address, first_length}
 use Rattle.byte_range.specs.declared.lines.LineRange.{LineRange}
 use Rattle.byte_range.specs.declared.lines.Piece.{Piece}
 use Rattle.byte_range.proofs.LineLemmas.{count_fits}

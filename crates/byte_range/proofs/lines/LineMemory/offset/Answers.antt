@@ -1,4 +1,4 @@
-use Rattle.std.proofs.Common.{arith, ◌≡◌, refl}
+use Rattle.std.proofs.Common.{arith, refl}
 use Rattle.byte_range.proofs.PieceLemmas.{offset_in_first}
 use Rattle.byte_range.proofs.lines.LineMemory.offset.Goals as goal
 

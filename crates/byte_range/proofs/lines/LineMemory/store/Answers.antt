@@ -1,4 +1,4 @@
-use Rattle.std.proofs.Common.{◌≡◌, ◌≤◌, ℕ, ◌+◌, ◌*◌, ◌/◌, ◌%◌, length, map, Some, sym, ap, ◌∙◌, arith}
+use Rattle.std.proofs.Common.{◌≡◌, ℕ, ◌+◌, ◌*◌, ◌/◌, ◌%◌, map, sym, ap, ◌∙◌, arith}
 use Rattle.byte_range.specs.Range.{Range, memory_of}
 use Rattle.byte_range.specs.Memory.{stored}
 use Rattle.byte_range.specs.Lines.{LineBytes, place_of}

@@ -1,28 +1,16 @@
-use Rattle.std.proofs.Common.{◌∙◌, arith}
-use Rattle.byte_range.specs.Range.{Range}
-use Rattle.byte_range.proofs.RangeLemmas.{load_byte, load_half, load_word}
+use Rattle.std.proofs.Common.{◌≡◌, ℕ, List, ◌-◌, ◌∙◌, ap, subst}
+use Rattle.std.specs.Prelude.{slice_index}
+use Rattle.byte_range.specs.Memory.{raw}
+use Rattle.byte_range.specs.Range.{Range, memory_of}
+use Rattle.byte_range.proofs.RangeLemmas.{raw_is}
 use Rattle.byte_range.proofs.range.ByteRange.load.Goals as goal
 
-pub returns-in-Byte-clause-value : goal.returns-in-Byte-clause-value
-returns-in-Byte-clause-value c =
+pub returns-clause-value : goal.returns-clause-value
+returns-clause-value c =
     let inside : Range = record { base = c.self.inside.base; bytes = c.self.inside.bytes.items } in
     let starts = rw (← c.self.view_is) at c.requires.starts in
-    let ends = rw (c.in-Byte.is, ← c.self.view_is) at c.requires.ends in
-    λ outside. rw (c.in-Byte.is, ← c.self.view_is)
-    (load_byte inside outside _ _ _ _ (omega arith) (omega arith) c.index.ensures c.from.ensures)
-
-pub returns-in-Half-clause-value : goal.returns-in-Half-clause-value
-returns-in-Half-clause-value c =
-    let inside : Range = record { base = c.self.inside.base; bytes = c.self.inside.bytes.items } in
-    let starts = rw (← c.self.view_is) at c.requires.starts in
-    let ends = rw (c.in-Half.is, ← c.self.view_is) at c.requires.ends in
-    λ outside. rw (c.in-Half.is, ← c.self.view_is)
-    (load_half inside outside _ _ _ _ _ (omega arith) (omega arith) c.index-in-Half.ensures c.index-in-Half-2.ensures (c.from-in-Half.ensures ∙ c.from_le_bytes.ensures))
-
-pub returns-in-Word-clause-value : goal.returns-in-Word-clause-value
-returns-in-Word-clause-value c =
-    let inside : Range = record { base = c.self.inside.base; bytes = c.self.inside.bytes.items } in
-    let starts = rw (← c.self.view_is) at c.requires.starts in
-    let ends = rw (c.in-Word.is, ← c.self.view_is) at c.requires.ends in
-    λ outside. rw (c.in-Word.is, ← c.self.view_is)
-    (load_word inside outside _ _ _ _ _ _ _ (omega arith) (omega arith) c.index-in-Word.ensures c.index-in-Word-2.ensures c.index-in-Word-3.ensures c.index-in-Word-4.ensures c.from_le_bytes-in-Word.ensures)
+    let ends = rw (← c.self.view_is) at c.requires.ends in
+    λ outside. subst (λ (h : Range). c.load_at.result ≡ raw c.args.width (memory_of h outside) c.args.address) c.self.view_is
+    (c.load_at.ensures.value
+    ∙ ap (λ (xs : List ℕ). raw c.args.width (slice_index xs) (c.args.address - inside.base)) c.deref.ensures.value
+    ∙ raw_is inside outside c.args.width c.args.address starts ends)

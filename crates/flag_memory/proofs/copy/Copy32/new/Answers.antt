@@ -1,10 +1,10 @@
 use Rattle.std.proofs.Common.{◌≡◌, ℕ, ◌∙◌, ap, subst, List, length, take, drop, ◌++◌}
 use Rattle.block_layout.specs.Layout.{Shape}
+use Rattle.byte_range.proofs.ByteLemmas.{written}
 use Rattle.flag_memory.specs.Copy.{memory}
 use Rattle.flag_memory.specs.FirstBytes.{FirstRange}
 use Rattle.flag_memory.specs.Bytes.{AreWritten}
 use Rattle.flag_memory.proofs.Words.{copy_with, memory_at}
-use Rattle.flag_memory.proofs.Blocks.{written}
 use Rattle.flag_memory.proofs.copy.Copy32.new.Goals as goal
 
 pub returns-clause-bytes : goal.returns-clause-bytes

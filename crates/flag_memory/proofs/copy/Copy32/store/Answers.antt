@@ -3,10 +3,10 @@ use Rattle.std.specs.Prelude.{slice_index}
 use Rattle.block_layout.specs.Layout.{is_shared, shared_before}
 use Rattle.rv32_decode.specs.Widths.{size_of}
 use Rattle.byte_range.specs.Memory.{stored}
+use Rattle.byte_range.proofs.ByteLemmas.{written}
 use Rattle.flag_memory.specs.Copy.{Copy, memory, place}
 use Rattle.flag_memory.proofs.Places.{Laws, laws, place_some, place_none, place_low, aligned_room}
 use Rattle.flag_memory.proofs.Words.{copy_with, stored_is}
-use Rattle.flag_memory.proofs.Blocks.{written}
 use Rattle.flag_memory.proofs.copy.Copy32.store.Goals as goal
 
 pub store_at-requires : goal.store_at-requires

@@ -1,6 +1,6 @@
 use Rattle.std.proofs.Common.{◌≡◌, ◌/◌, ◌%◌, ◌^◌, get_or, refl}
-use Rattle.flag_memory.proofs.Words.{store_byte, store_half, store_word}
-use Rattle.flag_memory.proofs.copy.store_at.Goals as goal
+use Rattle.byte_range.proofs.ByteLemmas.{store_byte, store_half, store_word}
+use Rattle.byte_range.proofs.bytes.store_at.Goals as goal
 
 pub returns-in-Byte : goal.returns-in-Byte
 returns-in-Byte c =

@@ -1,6 +1,6 @@
 use Rattle.std.proofs.Common.{◌∙◌}
-use Rattle.flag_memory.proofs.Words.{load_byte, load_half, load_word}
-use Rattle.flag_memory.proofs.copy.load_at.Goals as goal
+use Rattle.byte_range.proofs.ByteLemmas.{load_byte, load_half, load_word}
+use Rattle.byte_range.proofs.bytes.load_at.Goals as goal
 
 pub returns-in-Byte-clause-value : goal.returns-in-Byte-clause-value
 returns-in-Byte-clause-value c = rw c.in-Byte.is (load_byte c.args.bytes.now c.args.at _ c.from.ensures)

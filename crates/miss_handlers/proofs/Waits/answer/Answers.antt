@@ -1,0 +1,23 @@
+use Rattle.std.proofs.Common.{◌≡◌, ◌∙◌, sym, true, Some, refl}
+use Rattle.state_table.specs.States.{state_of}
+use Rattle.home_directory.specs.declared.wait.Wait.{Wait}
+use Rattle.home_directory.specs.Table.{with_answer}
+use Rattle.miss_handlers.specs.Search.{bringing, takes_answer}
+use Rattle.miss_handlers.specs.Waits.{wait_of}
+use Rattle.miss_handlers.specs.Effects.{NodeBlocks, node_blocks, message_effect}
+use Rattle.miss_handlers.proofs.Rows.{completion_done, answer_taken}
+use Rattle.miss_handlers.proofs.Waits.answer.Goals as goal
+
+pub returns-clause-effect : goal.returns-clause-effect
+returns-clause-effect c =
+    let block = c.args.block in
+    let answer = c.args.answer in
+    let now = c.args.self.now in
+    let m : NodeBlocks = node_blocks now c.args.states.now c.args.copy.now c.args.held.now in
+    let after : NodeBlocks = node_blocks c.go_on.new.self c.go_on.new.states c.go_on.new.copy c.args.held.now in
+    let old : Wait = c.in-Some.wait in
+    let found : wait_of now block ≡ Some old = sym c.take_out.ensures.found ∙ c.in-Some.is in
+    let taken : takes_answer now (state_of c.args.states.now) c.args.from block answer ≡ true = sym c.takes.ensures.value ∙ c.if-not-takes.false in
+    completion_done now.layout c.take_out.new.self.layout m after block (with_answer old answer) c.go_on.result.items (wait_of c.take_out.new.self) (message_effect now.layout m c.args.from (bringing block answer)) c.take_out.ensures.layout
+    (answer_taken now c.args.states.now c.args.copy.now c.args.held.now c.args.from block answer old found taken)
+    c.take_out.ensures.rest c.go_on.ensures.states c.go_on.ensures.bytes c.go_on.ensures.wait refl c.go_on.ensures.sends
