@@ -4,10 +4,10 @@ use Rattle.std.specs.Prelude.{◌&&◌}
 use Rattle.std.specs.List.{list_all}
 use Rattle.std.proofs.lemmas.Bool.{ltb-true}
 use Rattle.rv32_program.specs.Program.{Program}
-use Rattle.templates.specs.declared.runtime_words.RtWord.{RtWord}
-use Rattle.templates.specs.declared.runtime_words.RtWord.TheVariants.{TrapOff}
+use Rattle.runtime_words.specs.declared.RtWord.{RtWord}
+use Rattle.runtime_words.specs.declared.RtWord.TheVariants.{TrapOff}
 use Rattle.templates.specs.declared.plans.PlanEntry.{PlanEntry}
-use Rattle.templates.proofs.WordLemmas.{one_word}
+use Rattle.runtime_words.proofs.WordLemmas.{one_word}
 use Rattle.jump_map.specs.Image.{Cell, ImageWord, PlacedItem, is_word, read_cell, words_at, head_of, item_word, image_words, address_of_word, plan_items, IsRewriting}
 
 -- each is a word of rewritten code

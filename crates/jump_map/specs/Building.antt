@@ -2,7 +2,7 @@
 use Rattle.std.specs.Prelude.{◌≡◌, ◌≢◌, ℕ, ◌+◌, ◌<◌, ◌++◌, List, [], ◌∷◌, Option, map, length}
 use Rattle.std.specs.Option.{option_map}
 use Rattle.rv32_program.specs.Program.{Program}
-use Rattle.templates.specs.declared.runtime_words.RtWord.{RtWord}
+use Rattle.runtime_words.specs.declared.RtWord.{RtWord}
 use Rattle.templates.specs.declared.code.CodeWord.{CodeWord}
 use Rattle.templates.specs.declared.places.Part.{Part}
 use Rattle.templates.specs.declared.places.Part.TheVariants.{Head, Fast, Fallback}

@@ -4,13 +4,13 @@ use Rattle.std.specs.List.{list_all}
 use Rattle.rv32_decode.specs.Fields.{signed}
 use Rattle.rv32_decode.specs.declared.Instr.TheVariants.{Jal}
 use Rattle.rv32_program.specs.Program.{Program}
-use Rattle.templates.specs.declared.runtime_words.RtWord.{RtWord}
-use Rattle.templates.specs.declared.runtime_words.RtWord.TheVariants.{Native, TrapOff}
+use Rattle.runtime_words.specs.declared.RtWord.{RtWord}
+use Rattle.runtime_words.specs.declared.RtWord.TheVariants.{Native, TrapOff}
 use Rattle.templates.specs.declared.places.Part.{Part}
 use Rattle.templates.specs.declared.places.Part.TheVariants.{Single, Head, Fast, Fallback}
 use Rattle.templates.specs.declared.places.Place.{Place}
 use Rattle.templates.specs.declared.plans.PlanEntry.{PlanEntry}
-use Rattle.templates.specs.RuntimeWords.{read_word}
+use Rattle.runtime_words.specs.Reading.{read_word}
 pub use Rattle.jump_map.specs.declared.image.ImageWord.{ImageWord}
 use Rattle.jump_map.specs.declared.image.TheConstants.{MOST_WORDS}
 use Rattle.templates.specs.declared.code.CodeWord.{CodeWord}

@@ -2,8 +2,8 @@
 -- it many times.
 use Rattle.std.specs.Prelude.{◌≡◌, ℕ, List, Option, Some, None, MatchOption, slice_get}
 use Rattle.rv32_decode.specs.Fields.{unsigned}
-use Rattle.templates.specs.declared.runtime_words.RtWord.{RtWord}
-use Rattle.templates.specs.declared.runtime_words.RtWord.TheVariants.{Native, Poll, Xjalr}
+use Rattle.runtime_words.specs.declared.RtWord.{RtWord}
+use Rattle.runtime_words.specs.declared.RtWord.TheVariants.{Native, Poll, Xjalr}
 use Rattle.micro_op.specs.declared.micro_op.MicroOp.{MicroOp}
 use Rattle.micro_op.specs.declared.MicroKind.TheVariants.{Rare}
 use Rattle.rv32_step.specs.declared.Demand.TheVariants.{Continues}

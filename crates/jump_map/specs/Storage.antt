@@ -1,8 +1,8 @@
 -- Helps the code alone: how an image stores its words, each beside what it reads as.
 use Rattle.std.specs.Prelude.{ℕ, Option}
-use Rattle.templates.specs.declared.runtime_words.RtWord.{RtWord}
+use Rattle.runtime_words.specs.declared.RtWord.{RtWord}
 use Rattle.templates.specs.declared.places.Place.{Place}
-use Rattle.templates.specs.RuntimeWords.{read_word}
+use Rattle.runtime_words.specs.Reading.{read_word}
 use Rattle.jump_map.specs.declared.cells.StoredCell.{StoredCell}
 use Rattle.jump_map.specs.Image.{Cell}
 

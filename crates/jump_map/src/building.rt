@@ -2,7 +2,7 @@
 
 ghost use Rattle.std.specs.Prelude.{◌≡◌, ◌+◌, ◌^◌, ◌<◌, ◌≤◌, ℕ, length, IfOk, OnOk, IsErrOf};
 ghost use Rattle.rv32_decode.specs.Fields.{signed};
-ghost use Rattle.templates.specs.RuntimeWords.{read_word};
+ghost use Rattle.runtime_words.specs.Reading.{read_word};
 ghost use Rattle.templates.specs.Plans.{AscendsFrom};
 ghost use Rattle.templates.specs.Code.{code_of};
 ghost use Rattle.templates.specs.Sequences.{batch_sequence, items_of};
@@ -13,11 +13,12 @@ ghost use Rattle.jump_map.specs.Building.{HasWords, word_count, HasStarts, IsOve
 use crate::cells::Cells;
 use crate::heads::{Heads, PlaceIndex};
 use crate::image::{ImageRefused, MOST_WORDS};
+use runtime_words::{RtWord, encode_word};
 use rv32_decode::{Instr, JumpOffset, Reg};
 use std::alloc::{AllocError, Global};
 use templates::{
-    Code, Item, Part, Place, Plan, PlanEntry, RtWord, Words, batch_lengths, encode_word, expand,
-    expand_batch, reload_count, sequence_length,
+    Code, Item, Part, Place, Plan, PlanEntry, Words, batch_lengths, expand, expand_batch,
+    reload_count, sequence_length,
 };
 
 /// The words of a plan, and where those of each place begin.

@@ -7,9 +7,10 @@ ghost use Rattle.jump_map.specs.Image.{is_word, read_cell, most_words};
 ghost use Rattle.jump_map.specs.Storage.{cell};
 
 use crate::image::ImageWord;
+use runtime_words::{RtWord, read_word};
 use std::alloc::{AllocError, Global};
 use std::marker::Model;
-use templates::{Place, RtWord, read_word};
+use templates::Place;
 
 /// A word, what it reads as, and its place.
 #[derive(Clone, Copy, Debug)]
@@ -71,6 +72,7 @@ impl Cells {
     pub(crate) fn words_law(&self)
         ensures { list_all is_word self.now ≡ true }
     {
+        // brings: each word has 32 bits
         let _ = &self.cells;
     }
 

@@ -13,9 +13,10 @@ use crate::cells::Cells;
 use crate::heads::PlaceIndex;
 use crate::micros::decode_cells;
 use micro_op::MicroOp;
+use runtime_words::RtWord;
 use std::alloc::{AllocError, Global};
 use std::marker::Model;
-use templates::{Code, Place, Plan, RtWord};
+use templates::{Code, Place, Plan};
 use thiserror::Error;
 
 /// The address of word 0 of the rewritten code.

@@ -8,9 +8,9 @@ ghost use Rattle.jump_map.specs.Decoding.{HasMicros};
 use crate::cells::Cells;
 use crate::image::IMAGE_BASE;
 use micro_op::{MicroKind, MicroOp};
+use runtime_words::RtWord;
 use rv32_decode::Reg;
 use std::alloc::{AllocError, Global};
-use templates::RtWord;
 
 /// What a poll does.
 const NOTHING: MicroOp = MicroOp {

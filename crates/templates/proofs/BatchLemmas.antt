@@ -4,7 +4,7 @@ use Rattle.std.proofs.lemmas.List.{map-append}
 use Rattle.rv32_decode.specs.declared.Instr.{Instr}
 use Rattle.templates.specs.declared.places.Part.TheVariants.{Fast}
 use Rattle.templates.specs.declared.plans.Scratches.{Scratches}
-use Rattle.templates.specs.declared.runtime_words.RtWord.TheVariants.{Native}
+use Rattle.runtime_words.specs.declared.RtWord.TheVariants.{Native}
 use Rattle.templates.specs.declared.words.Item.{Item}
 use Rattle.templates.specs.Sequences.{SequenceItem, committing, to_head, reload_by, reloads_of_run, run_items, fast_items, batch_items}
 use Rattle.templates.specs.Expansion.{reads, words_of}

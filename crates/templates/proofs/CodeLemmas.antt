@@ -2,11 +2,10 @@
 use Rattle.std.proofs.Common.{◌≡◌, ◌≢◌, nat_cmp, subst, cond, ℕ, zero, suc, ◌+◌, ◌%◌, ◌^◌, ◌<◌, ◌≤◌, ◌==◌, Bool, true, false, List, [], ◌∷◌, ◌++◌, length, Option, Some, None, refl, sym, ap, ◌∙◌, arith}
 use Rattle.std.specs.Prelude.{Ok, Err, slice_index_or}
 use Rattle.std.specs.List.Sorted.{IsSearchInRange, IsBinarySearchResult}
-use Rattle.std.proofs.lemmas.Bool.{eq-eqb, eqb-true}
+use Rattle.std.proofs.lemmas.Bool.{eq-eqb, eqb-true, ne_eqb}
 use Rattle.rv32_decode.specs.declared.Instr.{Instr}
 use Rattle.templates.specs.declared.code.CodeWord.{CodeWord}
 use Rattle.templates.specs.Code.{Ascends, code_word, code_of, end_from}
-use Rattle.templates.proofs.ReadingLemmas.{unequal}
 use Rattle.templates.proofs.SearchLemmas.{found_by}
 
 -- one word more
@@ -45,7 +44,7 @@ code_there low (w ∷ ws) (suc k) d up lt a is =
     let more = above (w.address + 4) ws k d up.3 (omega arith) in
     let apart : w.address ≢ a = λ e. omega (arith, more, is, e) in
     code_there (w.address + 4) ws k d up.3 (omega arith) a is
-    ∙ sym (ap (λ b. cond b (Some w.instruction) (code_of ws a)) (unequal w.address a apart))
+    ∙ sym (ap (λ b. cond b (Some w.instruction) (code_of ws a)) (ne_eqb w.address a apart))
 
 -- no word stands at the address
 pub no_code : (ws : List CodeWord) (d : CodeWord) (a : ℕ)
@@ -53,7 +52,7 @@ pub no_code : (ws : List CodeWord) (d : CodeWord) (a : ℕ)
 no_code [] d a other = refl
 no_code (w ∷ ws) d a other =
     no_code ws d a (λ k lt. other (suc k) (omega arith))
-    ∙ sym (ap (λ b. cond b (Some w.instruction) (code_of ws a)) (unequal w.address a (other 0 (omega arith))))
+    ∙ sym (ap (λ b. cond b (Some w.instruction) (code_of ws a)) (ne_eqb w.address a (other 0 (omega arith))))
 
 -- what a search among code words gives
 pub at_found : (ws xs : List CodeWord) (k a : ℕ) (x : CodeWord) → Ascends 0 ws → xs ≡ ws

@@ -1,5 +1,3 @@
-pub mod ReadingLemmas
-pub mod WordLemmas
 pub mod SearchLemmas
 pub mod CodeLemmas
 pub mod PlaceLemmas

@@ -3,7 +3,7 @@ use Rattle.std.specs.Prelude.{◌≡◌, ◌++◌, List, Option, Some, map}
 use Rattle.std.specs.Option.{option_map}
 use Rattle.templates.specs.declared.words.Item.{Item}
 use Rattle.templates.specs.declared.words.Item.TheVariants.{Fixed, Jump}
-use Rattle.templates.specs.RuntimeWords.{read_word}
+use Rattle.runtime_words.specs.Reading.{read_word}
 use Rattle.templates.specs.Sequences.{ItemWord, Runs, GoesTo, SequenceItem}
 
 -- what a written item is; None where its word is no word of rewritten code

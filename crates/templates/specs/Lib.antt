@@ -1,4 +1,3 @@
-pub mod RuntimeWords
 pub mod Code
 pub mod Places
 pub mod Runs

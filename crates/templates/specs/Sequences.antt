@@ -14,8 +14,8 @@ use Rattle.rv32_decode.specs.declared.ShiftOp.TheVariants as shift_op
 use Rattle.rv32_decode.specs.declared.Instr.{Instr}
 use Rattle.rv32_decode.specs.declared.Instr.TheVariants.{Lui, Auipc, Jal, Jalr, Branch, Load, Store, OpImm, ShiftImm, Op, Ecall, Lr, Sc, Amo, Ebreak, Illegal}
 use Rattle.rv32_program.specs.Targets.{offset_address}
-use Rattle.templates.specs.declared.runtime_words.RtWord.{RtWord}
-use Rattle.templates.specs.declared.runtime_words.RtWord.TheVariants.{Native, MissR, MissW, Poll, Call, Xjalr, Batch, Prepare, TrapFetch, TrapIllegal, TrapEbreak}
+use Rattle.runtime_words.specs.declared.RtWord.{RtWord}
+use Rattle.runtime_words.specs.declared.RtWord.TheVariants.{Native, MissR, MissW, Poll, Call, Xjalr, Batch, Prepare, TrapFetch, TrapIllegal, TrapEbreak}
 use Rattle.templates.specs.declared.commits.CommitKind.{CommitKind}
 use Rattle.templates.specs.declared.commits.CommitKind.TheVariants.{Never, Always, IfNotFlag, IfNoWait}
 use Rattle.templates.specs.declared.plans.Scratch.{Scratch}
@@ -119,8 +119,8 @@ abbrev pub flag_word : ℕ
 flag_word = 0xffffff03
 
 -- the flag check of Shasta (Scales, Gharachorloo and Thekkath, ASPLOS 1996): a load that looks at
--- its value, which is the flag word where the line may not be read. Only then, and for an address of
--- the upper half, the line's state is looked at, and the word loaded again
+-- its value, which is the flag word where the line may not be read. Only then, and for an address
+-- of the upper half, the line's state is looked at, and the word loaded again
 abbrev pub flag_load_sequence : Scratches → ℕ → ℕ → ℤ → List SequenceItem
 flag_load_sequence x rd rs1 imm =
     spill 0 x.s
@@ -215,9 +215,9 @@ abbrev pub items_of : PlanEntry → Option Instr → List SequenceItem
 items_of e code = poll_first e.polls (place_items e.address e.single code)
 
 -- Batches: a run that starts at a place has a sequence before the place's single one, by which
--- direct jumps go (Scales, Gharachorloo and Thekkath, ASPLOS 1996: the batching of miss checks). Its
--- head tests the states of the two lines that the run reaches, its fast part has the run's own words,
--- and its fallback leads to the single sequence behind it.
+-- direct jumps go (Scales, Gharachorloo and Thekkath, ASPLOS 1996: the batching of miss checks).
+-- Its head tests the states of the two lines that the run reaches, its fast part has the run's own
+-- words, and its fallback leads to the single sequence behind it.
 
 abbrev pub spills_of_run : Scratches → List SequenceItem → List SequenceItem
 spills_of_run x rest = spill 0 x.s (spill 1 x.t (spill 2 x.u rest))

@@ -7,7 +7,7 @@ use Rattle.rv32_decode.specs.declared.ImmOp.TheVariants as imm_op
 use Rattle.rv32_decode.specs.declared.ShiftOp.TheVariants as shift_op
 use Rattle.rv32_decode.specs.declared.Instr.TheVariants.{Jal, Branch, Load, OpImm, ShiftImm, Op}
 use Rattle.templates.specs.declared.plans.Scratches.{Scratches}
-use Rattle.templates.specs.declared.runtime_words.RtWord.TheVariants.{Batch}
+use Rattle.runtime_words.specs.declared.RtWord.TheVariants.{Batch}
 use Rattle.templates.specs.declared.words.Item.{Item}
 use Rattle.rv32_decode.specs.declared.Cond.{Cond}
 use Rattle.templates.specs.Sequences.{SequenceItem, own, checking, state_look, jump_sequence, branch_sequence, is_multiple_of_four}

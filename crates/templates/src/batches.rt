@@ -5,7 +5,8 @@ ghost use Rattle.arrayvec.specs.ArrayVec.{array_vec_len};
 ghost use Rattle.templates.specs.declared.places.Part.TheVariants.{Head, Fast, Fallback};
 ghost use Rattle.templates.specs.Code.{code_of};
 ghost use Rattle.templates.specs.Runs.{IsRun, code_from, reach_at};
-ghost use Rattle.templates.specs.Sequences.{batch_sequence, items_in, head_items, run_items, spills_of_run, reloads_of_run, mask_readable};
+ghost use Rattle.templates.specs.Sequences.{batch_sequence, items_in, head_items, run_items};
+ghost use Rattle.templates.specs.Sequences.{spills_of_run, reloads_of_run, mask_readable};
 ghost use Rattle.templates.specs.Expansion.{Appends};
 ghost use Rattle.templates.specs.Writing.{IsLonger, run_states, run_wait};
 
@@ -13,13 +14,13 @@ use crate::code::Code;
 use crate::counting::reload_count;
 use crate::plans::{PlanEntry, Scratches};
 use crate::reaches::Reach;
-use crate::runtime_words::RtWord;
 use crate::sequences::{
     add_immediate, branch_by, push, push_native, push_reload, push_spill, push_state_look,
     push_to_head,
 };
 use crate::words::{Item, Words};
 use arrayvec::ArrayVec;
+use runtime_words::RtWord;
 use rv32_decode::{Amount, Cond, Imm12, ImmOp, Instr, JumpOffset, LoadKind, Op, Reg, ShiftOp};
 use std::alloc::AllocError;
 
@@ -31,6 +32,9 @@ pub struct BatchLengths {
     pub fallback: u8,
 }
 
+/// The batch sequence of a run while it is put together: no run has more words.
+type BatchSequence = ArrayVec<Item, 42>;
+
 /// Appends the batch sequence of the run that starts at an entry's place.
 ///
 /// Where memory is lacking, `out` is as before.
@@ -41,7 +45,7 @@ pub fn expand_batch(entry: &PlanEntry, code: &Code, out: &mut Words) -> Result<(
     ensures err { OnErr result (out.new ≡ out.old) }
     ensures short { length (batch_sequence (code_of code.now) entry.now) ≤ 42 }
 {
-    let mut sequence = ArrayVec::new();
+    let mut sequence = BatchSequence::new();
     let lengths = batch_lengths(entry, code);
     push_head(&mut sequence, entry, code, lengths.fast);
     push_fast(&mut sequence, entry, code);
@@ -82,7 +86,7 @@ fn reach_of_run(code: &Code, address: u32, count: u8) -> Reach
 }
 
 /// Appends the head of a batch: the check of its run.
-fn push_head(sequence: &mut ArrayVec<Item, 42>, entry: &PlanEntry, code: &Code, fast: u8)
+fn push_head(sequence: &mut BatchSequence, entry: &PlanEntry, code: &Code, fast: u8)
     requires empty { sequence.old.items ≡ [] }
     requires run { IsRun (code_of code.now) entry.now.address entry.now.run }
     requires fast { fast ≡ length (items_in (code_of code.now) entry.now Fast) }
@@ -95,7 +99,7 @@ fn push_head(sequence: &mut ArrayVec<Item, 42>, entry: &PlanEntry, code: &Code, 
 }
 
 /// Appends the check of a run that reaches so far.
-fn push_check(sequence: &mut ArrayVec<Item, 42>, scratches: &Scratches, reach: &Reach, fast: u8)
+fn push_check(sequence: &mut BatchSequence, scratches: &Scratches, reach: &Reach, fast: u8)
     requires empty { sequence.old.items ≡ [] }
     requires ordered { reach.now.low ≤ℤ reach.now.high }
     requires immediate { reach.now.high ≤ℤ pos 2047 }
@@ -116,12 +120,13 @@ fn high_offset(reach: &Reach) -> Imm12
     requires immediate { reach.now.high ≤ℤ pos 2047 }
     ensures value { result ≡ reach.now.high }
 {
+    // brings: the offset of the first byte is at least -2048
     let _ = reach.low.value();
     Imm12::new(reach.high)
 }
 
 /// Appends what reads the state bytes of both lines into s.
-fn push_states(sequence: &mut ArrayVec<Item, 42>, scratches: &Scratches, reach: &Reach, high: Imm12)
+fn push_states(sequence: &mut BatchSequence, scratches: &Scratches, reach: &Reach, high: Imm12)
     requires room { array_vec_len sequence.old ≤ 3 }
     requires high { high ≡ reach.now.high }
     ensures words { let items = run_states scratches.now reach.now [] in
@@ -140,7 +145,7 @@ fn push_states(sequence: &mut ArrayVec<Item, 42>, scratches: &Scratches, reach: 
 }
 
 /// Appends what leaves the second bit of the states alone, where the run only loads.
-fn push_mask(sequence: &mut ArrayVec<Item, 42>, stores: bool, s: Reg)
+fn push_mask(sequence: &mut BatchSequence, stores: bool, s: Reg)
     requires room { array_vec_len sequence.old ≤ 13 }
     ensures words { let items = mask_readable stores s [] in
         IsLonger sequence.old.items sequence.new.items items }
@@ -159,7 +164,7 @@ fn push_mask(sequence: &mut ArrayVec<Item, 42>, stores: bool, s: Reg)
 
 /// Appends what begins a wait unless the states let the run go on, and leads to the fallback.
 fn push_wait(
-    sequence: &mut ArrayVec<Item, 42>,
+    sequence: &mut BatchSequence,
     scratches: &Scratches,
     reach: &Reach,
     high: Imm12,
@@ -188,7 +193,7 @@ fn push_wait(
 }
 
 /// Appends the fast part of a batch: the run's words, and a jump to the place behind them.
-fn push_fast(sequence: &mut ArrayVec<Item, 42>, entry: &PlanEntry, code: &Code)
+fn push_fast(sequence: &mut BatchSequence, entry: &PlanEntry, code: &Code)
     requires room { array_vec_len sequence.old ≤ 19 }
     requires run { IsRun (code_of code.now) entry.now.address entry.now.run }
     ensures words { let items = items_in (code_of code.now) entry.now Fast in
@@ -201,7 +206,7 @@ fn push_fast(sequence: &mut ArrayVec<Item, 42>, entry: &PlanEntry, code: &Code)
 }
 
 /// Appends the words of a run.
-fn push_run(sequence: &mut ArrayVec<Item, 42>, code: &Code, address: u32, count: u8)
+fn push_run(sequence: &mut BatchSequence, code: &Code, address: u32, count: u8)
     requires room { array_vec_len sequence.old ≤ 22 }
     requires few { count ≤ 16 }
     ensures words { let items = run_items (code_from (code_of code.now) address count) [] in
@@ -216,7 +221,7 @@ fn push_run(sequence: &mut ArrayVec<Item, 42>, code: &Code, address: u32, count:
 }
 
 /// Appends the spills of s, t and u.
-fn push_spills(sequence: &mut ArrayVec<Item, 42>, scratches: &Scratches)
+fn push_spills(sequence: &mut BatchSequence, scratches: &Scratches)
     requires room { array_vec_len sequence.old ≤ 39 }
     ensures words { let items = spills_of_run scratches.now [] in
         IsLonger sequence.old.items sequence.new.items items }
@@ -228,7 +233,7 @@ fn push_spills(sequence: &mut ArrayVec<Item, 42>, scratches: &Scratches)
 }
 
 /// Appends the reloads of s, t and u.
-fn push_reloads(sequence: &mut ArrayVec<Item, 42>, scratches: &Scratches)
+fn push_reloads(sequence: &mut BatchSequence, scratches: &Scratches)
     requires room { array_vec_len sequence.old ≤ 39 }
     ensures words { let items = reloads_of_run scratches.now [] in
         IsLonger sequence.old.items sequence.new.items items }

@@ -1,6 +1,7 @@
 //! The code of a program, as the rewriter takes it: its code words, ascending.
 
-ghost use Rattle.std.specs.Prelude.{◌≡◌, ◌+◌, ◌*◌, ◌%◌, ◌^◌, ◌<◌, ◌≤◌, ◌++◌, ◌∷◌, [], length, OnOk, OnErr};
+ghost use Rattle.std.specs.Prelude.{◌≡◌, ◌+◌, ◌*◌, ◌%◌, ◌^◌, ◌<◌, ◌≤◌, ◌++◌, ◌∷◌, [], length, OnOk};
+ghost use Rattle.std.specs.Prelude.{OnErr};
 ghost use Rattle.templates.specs.Code.{Ascends, code_word, end_of, code_of};
 ghost use Rattle.templates.specs.Runs.{code_from};
 
@@ -71,6 +72,7 @@ impl Code {
     pub(crate) fn behind(&self, address: u32, words: u8) -> Option<Instr>
         ensures value { result ≡ code_of self.now (address + 4 * words) }
     {
+        // brings: the code words ascend, and end below 2^32
         let _ = &self.words;
         match address.checked_add(4 * u32::from(words)) {
             Some(there) => self.at(there),
@@ -83,6 +85,7 @@ impl Code {
         requires coded { length (code_from (code_of self.now) address words) ≡ words }
         ensures value { result ≡ address + 4 * words }
     {
+        // brings: the code words ascend, and end below 2^32
         let _ = &self.words;
         address + 4 * u32::from(words)
     }

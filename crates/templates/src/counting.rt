@@ -1,8 +1,10 @@
 //! How many words a sequence has.
 
 ghost use Rattle.std.specs.Prelude.{◌≡◌, ◌+◌, ◌%◌, ◌≤◌, ℕ, [], length};
-ghost use Rattle.templates.specs.Counting.{spilled_count, IsLoadLength, IsJumpLength, IsBranchLength};
-ghost use Rattle.templates.specs.Sequences.{items_of, place_items, instruction_items, reloads_of_run};
+ghost use Rattle.templates.specs.Counting.{spilled_count, IsLoadLength, IsJumpLength};
+ghost use Rattle.templates.specs.Counting.{IsBranchLength};
+ghost use Rattle.templates.specs.Sequences.{items_of, place_items, instruction_items};
+ghost use Rattle.templates.specs.Sequences.{reloads_of_run};
 
 use crate::plans::{PlanEntry, Scratches, looks_at_value};
 use rv32_decode::{Instr, LoadKind, Reg};

@@ -1,5 +1,5 @@
 #![tactic(auto)]
-//! The templates of rewritten code: runtime words, places, plans, and the sequence of each place.
+//! The templates of rewritten code: places, plans, and the sequence of each place.
 
 ghost use Rattle.std.specs.Prelude.{◌≡◌, ℕ};
 
@@ -11,7 +11,6 @@ pub mod numbers;
 mod places;
 pub mod plans;
 pub mod reaches;
-pub mod runtime_words;
 pub mod sequences;
 pub mod words;
 
@@ -22,6 +21,5 @@ pub use counting::{reload_count, sequence_length};
 pub use places::{Part, Place, list_places};
 pub use plans::{Plan, PlanEntry, Scratch, Scratches, Template, looks_at_value, template_of};
 pub use reaches::Reach;
-pub use runtime_words::{RtWord, read_word};
 pub use sequences::expand;
-pub use words::{Item, Words, encode_word};
+pub use words::{Item, Words};

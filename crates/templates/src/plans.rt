@@ -1,7 +1,8 @@
 //! Plans: which template serves each place, and with which scratch registers.
 
 ghost use Rattle.templates.specs.Plans.{template_of, by_target, looks_at_value};
-ghost use Rattle.std.specs.Prelude.{◌≡◌, ◌-◌, ◌^◌, ◌<◌, ◌≤◌, ◌++◌, ◌∷◌, [], length, set, slice_get, Some, OnOk, OnErr, if◌then◌else◌};
+ghost use Rattle.std.specs.Prelude.{◌≡◌, ◌-◌, ◌^◌, ◌<◌, ◌≤◌, ◌++◌, ◌∷◌, [], length, set, slice_get};
+ghost use Rattle.std.specs.Prelude.{Some, OnOk, OnErr, if◌then◌else◌};
 
 use crate::places::aligned_target;
 use rv32_decode::{Instr, LoadKind, Reg};
@@ -164,8 +165,8 @@ pub fn template_of(i: &Instr, address: u32) -> Template
     }
 }
 
-/// Whether a load looks at its value before the state byte: it loads a word, into a register that is
-/// neither x0 nor its base.
+/// Whether a load looks at its value before the state byte: it loads a word, into a register that
+/// is neither x0 nor its base.
 pub fn looks_at_value(kind: LoadKind, rd: Reg, rs1: Reg) -> bool
     ensures value { result ≡ looks_at_value kind rd rs1 }
 {

@@ -1,16 +1,23 @@
 //! The templates: the sequence of each place.
 
-ghost use Rattle.std.specs.Prelude.{◌≡◌, ◌+◌, ◌*◌, ◌%◌, ◌^◌, ◌<◌, ◌≤◌, ◌++◌, ◌∷◌, [], Some, map, length, OnOk, OnErr, pos};
+ghost use Rattle.std.specs.Prelude.{◌≡◌, ◌+◌, ◌*◌, ◌%◌, ◌^◌, ◌<◌, ◌≤◌, ◌++◌, ◌∷◌, [], Some, map};
+ghost use Rattle.std.specs.Prelude.{length, OnOk, OnErr, pos};
 ghost use Rattle.arrayvec.specs.ArrayVec.{array_vec_len};
-ghost use Rattle.templates.specs.Sequences.{upper_part, lower_part, constant, to_head, spill, spills, reload, reloads, state_look, flag_word, flag_load_sequence, read_sequence, write_sequence, load_sequence, store_sequence, branch_sequence, jump_sequence, is_multiple_of_four, checking, own, inverse, spill_offset, items_of, place_items, poll_first, instruction_items};
+ghost use Rattle.templates.specs.Sequences.{upper_part, lower_part, constant, to_head, spill};
+ghost use Rattle.templates.specs.Sequences.{spills, reload, reloads, state_look, flag_word};
+ghost use Rattle.templates.specs.Sequences.{flag_load_sequence, read_sequence, write_sequence};
+ghost use Rattle.templates.specs.Sequences.{load_sequence, store_sequence, branch_sequence};
+ghost use Rattle.templates.specs.Sequences.{jump_sequence, is_multiple_of_four, checking, own};
+ghost use Rattle.templates.specs.Sequences.{inverse, spill_offset, items_of, place_items};
+ghost use Rattle.templates.specs.Sequences.{poll_first, instruction_items};
 ghost use Rattle.templates.specs.Plans.{looks_at_value};
 ghost use Rattle.templates.specs.Expansion.{Appends};
 ghost use Rattle.templates.specs.Writing.{IsWritten, IsLonger, jump_items, branch_items};
 
 use crate::plans::{PlanEntry, Scratch, Scratches, looks_at_value};
-use crate::runtime_words::{RtWord, imm_of_bits};
-use crate::words::{Item, Words, encode_word};
+use crate::words::{Item, Words};
 use arrayvec::ArrayVec;
+use runtime_words::{RtWord, encode_word, imm_of_bits};
 use rv32_decode::{
     Amount, BranchOffset, Cond, Imm12, ImmOp, Instr, JumpOffset, LoadKind, Op, Reg, ShiftOp, Upper,
     Width,
@@ -20,6 +27,9 @@ use std::alloc::AllocError;
 /// The flag word, which a node's copy holds wherever it may not be read.
 const FLAG_WORD: u32 = 0xffff_ff03;
 
+/// The single sequence of a place while it is put together: no template has more words.
+type Sequence = ArrayVec<Item, 14>;
+
 /// Appends the single sequence of a place: of a stop, or of a code word's instruction.
 ///
 /// Where memory is lacking, `out` is as before.
@@ -28,14 +38,14 @@ pub fn expand(entry: &PlanEntry, code: Option<Instr>, out: &mut Words) -> Result
     ensures err { OnErr result (out.new ≡ out.old) }
     ensures short { length (items_of entry.now code) ≤ 14 }
 {
-    let mut sequence = ArrayVec::new();
+    let mut sequence = Sequence::new();
     push_sequence(&mut sequence, entry, code);
     out.extend(sequence.as_slice())?;
     Ok(())
 }
 
 /// Appends the sequence of a place to an empty one.
-fn push_sequence(sequence: &mut ArrayVec<Item, 14>, entry: &PlanEntry, code: Option<Instr>)
+fn push_sequence(sequence: &mut Sequence, entry: &PlanEntry, code: Option<Instr>)
     requires empty { sequence.old.items ≡ [] }
     ensures words { IsWritten sequence.new.items (items_of entry.now code) }
 {
@@ -49,12 +59,7 @@ fn push_sequence(sequence: &mut ArrayVec<Item, 14>, entry: &PlanEntry, code: Opt
 }
 
 /// Appends the sequence of an instruction.
-fn push_instruction(
-    sequence: &mut ArrayVec<Item, 14>,
-    address: u32,
-    scratches: &Scratches,
-    i: &Instr,
-)
+fn push_instruction(sequence: &mut Sequence, address: u32, scratches: &Scratches, i: &Instr)
     requires room { array_vec_len sequence.old ≤ 1 }
     ensures words { let items = instruction_items address scratches.now i.now in
         IsLonger sequence.old.items sequence.new.items items }
@@ -127,7 +132,7 @@ fn push_instruction(
 
 /// Appends a load, by its value or its line's state.
 fn push_load(
-    sequence: &mut ArrayVec<Item, 14>,
+    sequence: &mut Sequence,
     scratches: &Scratches,
     kind: LoadKind,
     rd: Reg,
@@ -148,13 +153,7 @@ fn push_load(
 }
 
 /// Appends a load that looks at its value.
-fn push_flag_load(
-    sequence: &mut ArrayVec<Item, 14>,
-    scratches: &Scratches,
-    rd: Reg,
-    rs1: Reg,
-    imm: Imm12,
-)
+fn push_flag_load(sequence: &mut Sequence, scratches: &Scratches, rd: Reg, rs1: Reg, imm: Imm12)
     requires room { array_vec_len sequence.old ≤ 1 }
     ensures words { let items = flag_load_sequence scratches.now rd rs1 imm in
         IsLonger sequence.old.items sequence.new.items items }
@@ -180,7 +179,7 @@ fn push_flag_load(
 
 /// Appends an instruction that reads, behind a test of its line's state.
 fn push_read(
-    sequence: &mut ArrayVec<Item, 14>,
+    sequence: &mut Sequence,
     scratches: &Scratches,
     width: Width,
     rs1: Reg,
@@ -211,7 +210,7 @@ fn push_read(
 
 /// Appends a store whose line's state is tested.
 fn push_store(
-    sequence: &mut ArrayVec<Item, 14>,
+    sequence: &mut Sequence,
     scratches: &Scratches,
     width: Width,
     rs1: Reg,
@@ -233,7 +232,7 @@ fn push_store(
 
 /// Appends an instruction that writes, behind a test of its line's state.
 fn push_write(
-    sequence: &mut ArrayVec<Item, 14>,
+    sequence: &mut Sequence,
     scratches: &Scratches,
     width: Width,
     rs1: Reg,
@@ -256,7 +255,7 @@ fn push_write(
 }
 
 /// Appends the spills of s and t.
-fn push_spills(sequence: &mut ArrayVec<Item, 14>, scratches: &Scratches)
+fn push_spills(sequence: &mut Sequence, scratches: &Scratches)
     requires room { array_vec_len sequence.old ≤ 12 }
     ensures words { IsLonger sequence.old.items sequence.new.items (spills scratches.now []) }
     ensures count { array_vec_len sequence.new ≤ array_vec_len sequence.old + 2 }
@@ -266,7 +265,7 @@ fn push_spills(sequence: &mut ArrayVec<Item, 14>, scratches: &Scratches)
 }
 
 /// Appends the reloads of s and t.
-fn push_reloads(sequence: &mut ArrayVec<Item, 14>, scratches: &Scratches)
+fn push_reloads(sequence: &mut Sequence, scratches: &Scratches)
     requires room { array_vec_len sequence.old ≤ 12 }
     ensures words { IsLonger sequence.old.items sequence.new.items (reloads scratches.now) }
 {
@@ -375,7 +374,7 @@ pub(crate) fn push_state_look<const N: usize>(
 }
 
 /// Appends the two instructions that put a number into a register.
-fn push_constant(sequence: &mut ArrayVec<Item, 14>, rd: Reg, number: u32)
+fn push_constant(sequence: &mut Sequence, rd: Reg, number: u32)
     requires room { array_vec_len sequence.old ≤ 1 }
     ensures words { IsLonger sequence.old.items sequence.new.items (constant rd number []) }
     ensures count { array_vec_len sequence.new ≡ array_vec_len sequence.old + 2 }
@@ -391,7 +390,7 @@ fn push_constant(sequence: &mut ArrayVec<Item, 14>, rd: Reg, number: u32)
 }
 
 /// Appends a jump that puts the next original address into rd, or one that ends the processor.
-fn push_jump(sequence: &mut ArrayVec<Item, 14>, rd: Reg, next: u32, target: u32)
+fn push_jump(sequence: &mut Sequence, rd: Reg, next: u32, target: u32)
     requires room { array_vec_len sequence.old ≤ 1 }
     ensures words { IsLonger sequence.old.items sequence.new.items (jump_items rd next target) }
 {
@@ -410,7 +409,7 @@ fn push_jump(sequence: &mut ArrayVec<Item, 14>, rd: Reg, next: u32, target: u32)
 }
 
 /// Appends a branch past a jump where the original isn't taken, or one that ends the processor.
-fn push_branch(sequence: &mut ArrayVec<Item, 14>, cond: Cond, rs1: Reg, rs2: Reg, target: u32)
+fn push_branch(sequence: &mut Sequence, cond: Cond, rs1: Reg, rs2: Reg, target: u32)
     requires room { array_vec_len sequence.old ≤ 1 }
     ensures words { let items = branch_items cond rs1 rs2 target in
         IsLonger sequence.old.items sequence.new.items items }

@@ -1,13 +1,7 @@
 //! The words of sequences before jumps have their distances.
 
-ghost use Rattle.std.specs.Prelude.{◌≡◌, ◌^◌, ◌<◌, ◌≤◌, ◌++◌, ◌∷◌, [], length, slice_get, ℕ, Some, OnOk, OnErr};
-ghost use Rattle.templates.specs.RuntimeWords.{read_word};
+ghost use Rattle.std.specs.Prelude.{◌≡◌, ◌<◌, ◌++◌, [], length, slice_get, Some, OnOk, OnErr};
 
-use crate::runtime_words::{
-    CALL, POLL, RtWord, TRAP_EBREAK, TRAP_FETCH, TRAP_ILLEGAL, TRAP_OFF, batch_word, miss_r_word,
-    miss_w_word, prepare_word, xjalr_word,
-};
-use rv32_decode::{Instr, encode};
 use std::alloc::{AllocError, Global};
 use std::marker::Model;
 
@@ -89,34 +83,5 @@ impl Words {
     {
         self.items.extend_from_slice(items)?;
         Ok(())
-    }
-}
-
-/// The word that reads as this one: no other word of 32 bits does.
-#[tactic(auto, using(crate::proofs::WordLemmas::one_word))]
-pub fn encode_word(what: RtWord) -> u32
-    ensures again { read_word result ≡ Some what }
-    ensures only { (word : ℕ) → word < 2 ^ 32 → read_word word ≡ Some what → word ≡ result }
-{
-    assembled(what)
-}
-
-/// A word that reads as this one.
-fn assembled(what: RtWord) -> u32
-    ensures again { read_word result ≡ Some what }
-{
-    match what {
-        RtWord::Native(i) => encode(i),
-        RtWord::MissR { width, rs1, imm } => miss_r_word(width, rs1, imm),
-        RtWord::MissW { width, rs1, imm } => miss_w_word(width, rs1, imm),
-        RtWord::Poll => POLL,
-        RtWord::Call => CALL,
-        RtWord::Xjalr { rd, rs1, imm } => xjalr_word(rd, rs1, imm),
-        RtWord::Batch { stores, rs1, rs2 } => batch_word(stores, rs1, rs2),
-        RtWord::Prepare { rs1 } => prepare_word(rs1),
-        RtWord::TrapFetch => TRAP_FETCH,
-        RtWord::TrapOff => TRAP_OFF,
-        RtWord::TrapIllegal => TRAP_ILLEGAL,
-        RtWord::TrapEbreak => TRAP_EBREAK,
     }
 }

@@ -12,9 +12,9 @@ use Rattle.rv32_decode.specs.declared.Instr.{Instr}
 use Rattle.rv32_decode.specs.declared.Width.{Width}
 use Rattle.rv32_decode.specs.declared.Width.TheVariants.{Byte, Half, Word}
 use Rattle.rv32_decode.proofs.Rebuilt.{only_word}
-use Rattle.templates.specs.declared.runtime_words.RtWord.{RtWord}
-use Rattle.templates.specs.declared.runtime_words.RtWord.TheVariants.{Native, MissR, MissW, Poll, Call, Xjalr, Batch, Prepare, TrapFetch, TrapOff, TrapIllegal, TrapEbreak}
-use Rattle.templates.specs.RuntimeWords.{read_word, custom_0, custom_1, miss_r_of, miss_w_of, batch_of, prepare_of, width_of_log}
+use Rattle.runtime_words.specs.declared.RtWord.{RtWord}
+use Rattle.runtime_words.specs.declared.RtWord.TheVariants.{Native, MissR, MissW, Poll, Call, Xjalr, Batch, Prepare, TrapFetch, TrapOff, TrapIllegal, TrapEbreak}
+use Rattle.runtime_words.specs.Reading.{read_word, custom_0, custom_1, miss_r_of, miss_w_of, batch_of, prepare_of, width_of_log}
 
 abbrev log_of : Width → ℕ
 log_of Byte = 0

@@ -1,6 +1,6 @@
 use Rattle.std.proofs.Common.{Some, sym, ap, ◌∙◌}
-use Rattle.templates.proofs.ReadingLemmas.{reads_native, reads_poll, reads_call, reads_trap_fetch, reads_trap_off, reads_trap_illegal, reads_trap_ebreak}
-use Rattle.templates.proofs.words.assembled.Goals as goal
+use Rattle.runtime_words.proofs.ReadingLemmas.{reads_native, reads_poll, reads_call, reads_trap_fetch, reads_trap_off, reads_trap_illegal, reads_trap_ebreak}
+use Rattle.runtime_words.proofs.encoding.assembled.Goals as goal
 
 pub returns-in-Native : goal.returns-in-Native
 returns-in-Native c = record { again = reads_native c.encode.result c.in-Native.i c.encode.ensures.again ∙ ap (λ w. Some w) (sym c.in-Native.is) }

@@ -1,7 +1,7 @@
 use Rattle.std.proofs.Common.{◌≡◌, ◌<◌, ◌+◌, ◌*◌, ◌%◌, ◌^◌, Bool, true, false, cond, refl, ◌∙◌, arith}
 use mir.Val.{bool_byte}
-use Rattle.templates.proofs.ReadingLemmas.{byte_small, reads_batch_of}
-use Rattle.templates.proofs.runtime_words.batch_word.Goals as goal
+use Rattle.runtime_words.proofs.ReadingLemmas.{byte_small, reads_batch_of}
+use Rattle.runtime_words.proofs.encoding.batch_word.Goals as goal
 
 byte_is : (b : Bool) → bool_byte b ≡ cond b 1 0
 byte_is true = refl

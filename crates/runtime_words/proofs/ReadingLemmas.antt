@@ -1,16 +1,15 @@
 -- What the words of sequences read as.
-use Rattle.std.proofs.Common.{◌≡◌, ◌≢◌, ℕ, ℤ, ◌+◌, ◌*◌, ◌^◌, ◌<◌, eqb, Bool, true, false, cond, Option, Some, None, refl, sym, ap, ◌∙◌, inl, inr, arith}
+use Rattle.std.proofs.Common.{◌≡◌, ◌≢◌, ℕ, ℤ, ◌+◌, ◌*◌, ◌^◌, ◌<◌, eqb, Bool, true, false, cond, Option, Some, None, refl, sym, ap, ◌∙◌, arith}
 use Rattle.std.specs.Prelude.{◌&&◌, nat_lt}
 use Rattle.std.specs.Option.{option_map}
-use Rattle.std.proofs.lemmas.Bool.Decides.{eqb_tells}
-use Rattle.std.proofs.lemmas.Bool.{eq-eqb}
+use Rattle.std.proofs.lemmas.Bool.{eq-eqb, ne_eqb}
 use Rattle.rv32_decode.specs.Fields.{field, imm_i}
 use Rattle.rv32_decode.specs.Rows.{instruction_of}
 use Rattle.rv32_decode.specs.declared.Instr.{Instr}
 use Rattle.rv32_decode.specs.declared.Width.{Width}
 use Rattle.rv32_decode.proofs.Custom.{custom_0-None, custom_1-None}
-use Rattle.templates.specs.declared.runtime_words.RtWord.TheVariants.{Native, MissR, MissW, Xjalr, Batch, Prepare, Poll, Call, TrapFetch, TrapOff, TrapIllegal, TrapEbreak}
-use Rattle.templates.specs.RuntimeWords.{read_word, custom_0, custom_1, batch_of, prepare_of, width_of_log}
+use Rattle.runtime_words.specs.declared.RtWord.TheVariants.{Native, MissR, MissW, Xjalr, Batch, Prepare, Poll, Call, TrapFetch, TrapOff, TrapIllegal, TrapEbreak}
+use Rattle.runtime_words.specs.Reading.{read_word, custom_0, custom_1, batch_of, prepare_of, width_of_log}
 
 pub reads_poll : read_word 0x200b ≡ Some Poll
 unfolding read_word
@@ -36,9 +35,6 @@ pub reads_trap_ebreak : read_word 0x302b ≡ Some TrapEbreak
 unfolding read_word
 reads_trap_ebreak = refl
 
-pub unequal : (a b : ℕ) → a ≢ b → eqb a b ≡ false
-unequal a b h = elim (eqb_tells a b) [ inl e ↦ absurd (h e.1) | inr e ↦ e.0 ]
-
 not_custom_0 : (w : ℕ) (i : Instr) → instruction_of w ≡ Some i → field w 0 7 ≢ 0x0b
 not_custom_0 w i h e = let bad : ◌≡◌ {A = Option Instr} None (Some i) = sym (custom_0-None w e) ∙ h in cc
 
@@ -48,12 +44,12 @@ not_custom_1 w i h e = let bad : ◌≡◌ {A = Option Instr} None (Some i) = sy
 -- a word of another opcode reads as its instruction
 pub reads_other : (w : ℕ) → field w 0 7 ≢ 0x0b → field w 0 7 ≢ 0x2b → read_word w ≡ option_map Native (instruction_of w)
 unfolding read_word
-reads_other w e f = rw (unequal (field w 0 7) 0x0b e, unequal (field w 0 7) 0x2b f) refl
+reads_other w e f = rw (ne_eqb (field w 0 7) 0x0b e, ne_eqb (field w 0 7) 0x2b f) refl
 
 -- an instruction's word reads as that instruction
 pub reads_native : (w : ℕ) (i : Instr) → instruction_of w ≡ Some i → read_word w ≡ Some (Native i)
 unfolding read_word
-reads_native w i h = rw (unequal (field w 0 7) 0x0b (not_custom_0 w i h), unequal (field w 0 7) 0x2b (not_custom_1 w i h)) (ap (option_map Native) h)
+reads_native w i h = rw (ne_eqb (field w 0 7) 0x0b (not_custom_0 w i h), ne_eqb (field w 0 7) 0x2b (not_custom_1 w i h)) (ap (option_map Native) h)
 
 -- a word of custom-0 reads by its funct3
 pub reads_custom_0 : (w funct3 : ℕ) → field w 0 7 ≡ 0x0b → field w 12 3 ≡ funct3 → read_word w ≡ custom_0 w funct3
@@ -62,7 +58,7 @@ reads_custom_0 w funct3 e f = rw (eq-eqb (field w 0 7) 0x0b e) (ap (custom_0 w) 
 
 pub reads_custom_1 : (w : ℕ) → field w 0 7 ≡ 0x2b → read_word w ≡ custom_1 w
 unfolding read_word
-reads_custom_1 w e = rw (unequal (field w 0 7) 0x0b (omega (arith, e)), eq-eqb (field w 0 7) 0x2b e) refl
+reads_custom_1 w e = rw (ne_eqb (field w 0 7) 0x0b (omega (arith, e)), eq-eqb (field w 0 7) 0x2b e) refl
 
 pub reads_miss_r : (w rd rs1 : ℕ) (imm : ℤ) (width : Width) → field w 0 7 ≡ 0x0b → field w 12 3 ≡ 0 → field w 7 5 ≡ rd → field w 15 5 ≡ rs1 → imm_i w ≡ imm
     → width_of_log rd ≡ Some width → read_word w ≡ Some (MissR width rs1 imm)
@@ -84,16 +80,16 @@ reads_prepare w rs1 low is =
     let i : field w 20 12 ≡ 0 = omega (arith, is, low) in
     let r : field w 15 5 ≡ rs1 = omega (arith, is, low) in
     reads_custom_0 w 6 e f
-    ∙ ap (λ b. cond b (Some Poll) (cond (eqb w 0x300b) (Some Call) (prepare_of w))) (unequal w 0x200b (λ h. let g : field w 12 3 ≡ 2 = ap (λ x. field x 12 3) h in omega (arith, f, g)))
-    ∙ ap (λ b. cond b (Some Call) (prepare_of w)) (unequal w 0x300b (λ h. let g : field w 12 3 ≡ 3 = ap (λ x. field x 12 3) h in omega (arith, f, g)))
+    ∙ ap (λ b. cond b (Some Poll) (cond (eqb w 0x300b) (Some Call) (prepare_of w))) (ne_eqb w 0x200b (λ h. let g : field w 12 3 ≡ 2 = ap (λ x. field x 12 3) h in omega (arith, f, g)))
+    ∙ ap (λ b. cond b (Some Call) (prepare_of w)) (ne_eqb w 0x300b (λ h. let g : field w 12 3 ≡ 3 = ap (λ x. field x 12 3) h in omega (arith, f, g)))
     ∙ (rw (eq-eqb (field w 7 5) 0 d, eq-eqb (field w 20 12) 0 i) (ap (λ n. Some (Prepare n)) r))
 
 pub reads_xjalr : (w rd rs1 : ℕ) (imm : ℤ) → field w 0 7 ≡ 0x0b → field w 12 3 ≡ 4 → field w 7 5 ≡ rd → field w 15 5 ≡ rs1 → imm_i w ≡ imm
     → read_word w ≡ Some (Xjalr rd rs1 imm)
 reads_xjalr w rd rs1 imm e f d r i =
     reads_custom_0 w 4 e f
-    ∙ ap (λ b. cond b (Some Poll) (cond (eqb w 0x300b) (Some Call) (Some (Xjalr (field w 7 5) (field w 15 5) (imm_i w))))) (unequal w 0x200b (λ h. let g : field w 12 3 ≡ 2 = ap (λ x. field x 12 3) h in omega (arith, f, g)))
-    ∙ ap (λ b. cond b (Some Call) (Some (Xjalr (field w 7 5) (field w 15 5) (imm_i w)))) (unequal w 0x300b (λ h. let g : field w 12 3 ≡ 3 = ap (λ x. field x 12 3) h in omega (arith, f, g)))
+    ∙ ap (λ b. cond b (Some Poll) (cond (eqb w 0x300b) (Some Call) (Some (Xjalr (field w 7 5) (field w 15 5) (imm_i w))))) (ne_eqb w 0x200b (λ h. let g : field w 12 3 ≡ 2 = ap (λ x. field x 12 3) h in omega (arith, f, g)))
+    ∙ ap (λ b. cond b (Some Call) (Some (Xjalr (field w 7 5) (field w 15 5) (imm_i w)))) (ne_eqb w 0x300b (λ h. let g : field w 12 3 ≡ 3 = ap (λ x. field x 12 3) h in omega (arith, f, g)))
     ∙ ap (λ n. Some (Xjalr n (field w 15 5) (imm_i w))) d ∙ ap (λ n. Some (Xjalr rd n (imm_i w))) r ∙ ap (λ n. Some (Xjalr rd rs1 n)) i
 
 batch_fields : (w n rs1 rs2 : ℕ) → field w 7 5 ≡ n → field w 25 7 ≡ 0 → field w 15 5 ≡ rs1 → field w 20 5 ≡ rs2
@@ -110,8 +106,8 @@ reads_batch w n rs1 rs2 few low1 low2 is =
     let r : field w 15 5 ≡ rs1 = omega (arith, is, few, low1) in
     let q : field w 20 5 ≡ rs2 = omega (arith, is, few, low1, low2) in
     reads_custom_0 w 5 e f
-    ∙ ap (λ b. cond b (Some Poll) (cond (eqb w 0x300b) (Some Call) (batch_of w))) (unequal w 0x200b (λ h. let g : field w 12 3 ≡ 2 = ap (λ x. field x 12 3) h in omega (arith, f, g)))
-    ∙ ap (λ b. cond b (Some Call) (batch_of w)) (unequal w 0x300b (λ h. let g : field w 12 3 ≡ 3 = ap (λ x. field x 12 3) h in omega (arith, f, g)))
+    ∙ ap (λ b. cond b (Some Poll) (cond (eqb w 0x300b) (Some Call) (batch_of w))) (ne_eqb w 0x200b (λ h. let g : field w 12 3 ≡ 2 = ap (λ x. field x 12 3) h in omega (arith, f, g)))
+    ∙ ap (λ b. cond b (Some Call) (batch_of w)) (ne_eqb w 0x300b (λ h. let g : field w 12 3 ≡ 3 = ap (λ x. field x 12 3) h in omega (arith, f, g)))
     ∙ batch_fields w n rs1 rs2 d z r q
 
 pub byte_small : (b : Bool) → cond b 1 0 < 2

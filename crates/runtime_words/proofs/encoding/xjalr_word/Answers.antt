@@ -1,6 +1,6 @@
 use Rattle.std.proofs.Common.{◌∙◌}
-use Rattle.templates.proofs.ReadingLemmas.{reads_xjalr}
-use Rattle.templates.proofs.runtime_words.xjalr_word.Goals as goal
+use Rattle.runtime_words.proofs.ReadingLemmas.{reads_xjalr}
+use Rattle.runtime_words.proofs.encoding.xjalr_word.Goals as goal
 
 pub returns : goal.returns
 returns c =

@@ -6,8 +6,8 @@ use Rattle.rv32_decode.specs.Fields.{field, imm_i}
 use Rattle.rv32_decode.specs.Rows.{instruction_of}
 use Rattle.rv32_decode.specs.declared.Width.{Width}
 use Rattle.rv32_decode.specs.declared.Width.TheVariants.{Byte, Half, Word}
-use Rattle.templates.specs.declared.runtime_words.RtWord.{RtWord}
-use Rattle.templates.specs.declared.runtime_words.RtWord.TheVariants.{Native, MissR, MissW, Poll, Call, Xjalr, Batch, Prepare, TrapFetch, TrapOff, TrapIllegal, TrapEbreak}
+use Rattle.runtime_words.specs.declared.RtWord.{RtWord}
+use Rattle.runtime_words.specs.declared.RtWord.TheVariants.{Native, MissR, MissW, Poll, Call, Xjalr, Batch, Prepare, TrapFetch, TrapOff, TrapIllegal, TrapEbreak}
 
 -- the width of which this is the logarithm
 abbrev pub width_of_log : ℕ → Option Width

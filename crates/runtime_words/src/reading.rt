@@ -1,15 +1,17 @@
-//! The words of rewritten code: native instructions, and runtime words.
+//! From words to what they are in rewritten code.
 
-ghost use Rattle.std.specs.Prelude.{◌≡◌, ◌^◌, ◌<◌, ℕ, Some};
+ghost use Rattle.std.specs.Prelude.{◌≡◌, ◌^◌, ◌<◌};
 ghost use Rattle.std.specs.Option.{option_map};
 ghost use Rattle.rv32_decode.specs.Rows.{instruction_of};
 ghost use Rattle.rv32_decode.specs.Fields.{field, imm_i, signed};
-ghost use Rattle.templates.specs.RuntimeWords.{read_word, custom_0, custom_1, batch_of, prepare_of, width_of_log};
+ghost use Rattle.runtime_words.specs.Reading.{read_word, custom_0, custom_1, batch_of, prepare_of};
+ghost use Rattle.runtime_words.specs.Reading.{width_of_log};
 
-use rv32_decode::{Imm12, Instr, Reg, Width, decode};
+use crate::RtWord;
+use rv32_decode::{Imm12, Reg, Width, decode};
 
 /// The major opcode custom-0.
-const CUSTOM_0: u32 = 0x0b;
+pub(crate) const CUSTOM_0: u32 = 0x0b;
 
 /// The major opcode custom-1.
 const CUSTOM_1: u32 = 0x2b;
@@ -19,12 +21,6 @@ pub(crate) const POLL: u32 = 0x200b;
 
 /// The word of `Call`.
 pub(crate) const CALL: u32 = 0x300b;
-
-/// The word of `Batch` of a run that only loads, with x0 twice.
-const BATCH: u32 = 0x500b;
-
-/// The word of `Prepare` with x0.
-const PREPARE: u32 = 0x600b;
 
 /// The word of `TrapFetch`.
 pub(crate) const TRAP_FETCH: u32 = 0x2b;
@@ -38,35 +34,6 @@ pub(crate) const TRAP_ILLEGAL: u32 = 0x202b;
 /// The word of `TrapEbreak`.
 pub(crate) const TRAP_EBREAK: u32 = 0x302b;
 
-/// A word of rewritten code.
-#[derive(Clone, Copy, Debug, PartialEq, Eq)]
-pub enum RtWord {
-    /// An instruction of the original machine.
-    Native(Instr),
-    /// Looks whether the line of rs1 + imm may be read.
-    MissR { width: Width, rs1: Reg, imm: Imm12 },
-    /// Looks whether the line of rs1 + imm may be written.
-    MissW { width: Width, rs1: Reg, imm: Imm12 },
-    /// Does nothing: a place where messages may be taken.
-    Poll,
-    /// One step of an environment call.
-    Call,
-    /// An indirect jump: to rewritten code, with the next original address in rd.
-    Xjalr { rd: Reg, rs1: Reg, imm: Imm12 },
-    /// Looks whether the lines of rs1 and rs2 may be read by a run, or written where it stores.
-    Batch { stores: bool, rs1: Reg, rs2: Reg },
-    /// Looks whether the line of rs1 may be written, where that address is reserved.
-    Prepare { rs1: Reg },
-    /// Ends the processor with `Fetch` at the word's place.
-    TrapFetch,
-    /// Ends the processor with `Fetch` at the address, no place, that it went to.
-    TrapOff,
-    /// Ends the processor with `Illegal` at the word's place.
-    TrapIllegal,
-    /// Ends the processor with `Ebreak` at the word's place.
-    TrapEbreak,
-}
-
 /// What a word is in rewritten code; None where it is no word of it.
 pub fn read_word(word: u32) -> Option<RtWord>
     ensures { result ≡ read_word word }
@@ -79,44 +46,6 @@ pub fn read_word(word: u32) -> Option<RtWord>
     } else {
         read_native(word)
     }
-}
-
-/// The word of `MissR`.
-pub(crate) fn miss_r_word(width: Width, rs1: Reg, imm: Imm12) -> u32
-    ensures { read_word result ≡ Some (RtWord.MissR width rs1 imm) }
-{
-    custom_0_word(0, logarithm(width), rs1, imm)
-}
-
-/// The word of `MissW`.
-pub(crate) fn miss_w_word(width: Width, rs1: Reg, imm: Imm12) -> u32
-    ensures { read_word result ≡ Some (RtWord.MissW width rs1 imm) }
-{
-    custom_0_word(1, logarithm(width), rs1, imm)
-}
-
-/// The word of `Xjalr`.
-pub(crate) fn xjalr_word(rd: Reg, rs1: Reg, imm: Imm12) -> u32
-    ensures { read_word result ≡ Some (RtWord.Xjalr rd rs1 imm) }
-{
-    custom_0_word(4, u32::from(rd.number()), rs1, imm)
-}
-
-/// The word of `Batch`.
-pub(crate) fn batch_word(stores: bool, rs1: Reg, rs2: Reg) -> u32
-    ensures again { read_word result ≡ Some (RtWord.Batch stores rs1 rs2) }
-{
-    (u32::from(rs2.number()) << 20)
-        + (u32::from(rs1.number()) << 15)
-        + (u32::from(stores) << 7)
-        + BATCH
-}
-
-/// The word of `Prepare`.
-pub(crate) fn prepare_word(rs1: Reg) -> u32
-    ensures { read_word result ≡ Some (RtWord.Prepare rs1) }
-{
-    (u32::from(rs1.number()) << 15) + PREPARE
 }
 
 /// The major opcode of a word.
@@ -218,7 +147,7 @@ fn immediate(word: u32) -> Imm12
 }
 
 /// The number of 12 bits of two's complement.
-pub(crate) fn imm_of_bits(bits: u32) -> Imm12
+pub fn imm_of_bits(bits: u32) -> Imm12
     requires { bits < 2 ^ 12 }
     ensures { result ≡ signed 12 bits }
 {
@@ -239,41 +168,4 @@ fn width_of(logarithm: u8) -> Option<Width>
         2 => Some(Width::Word),
         _ => None,
     }
-}
-
-/// The logarithm of a width.
-fn logarithm(width: Width) -> u32
-    ensures value { width_of_log result ≡ Some width }
-    ensures small { result < 32 }
-{
-    match width {
-        Width::Byte => 0,
-        Width::Half => 1,
-        Width::Word => 2,
-    }
-}
-
-/// The word of custom-0 with these fields.
-fn custom_0_word(funct3: u32, rd: u32, rs1: Reg, imm: Imm12) -> u32
-    requires funct3 { funct3 < 8 }
-    requires rd { rd < 32 }
-    ensures opcode { field result 0 7 ≡ 0x0b }
-    ensures rd { field result 7 5 ≡ rd }
-    ensures funct3 { field result 12 3 ≡ funct3 }
-    ensures rs1 { field result 15 5 ≡ rs1 }
-    ensures imm { imm_i result ≡ imm }
-{
-    (immediate_bits(imm) << 20)
-        + (u32::from(rs1.number()) << 15)
-        + (funct3 << 12)
-        + (rd << 7)
-        + CUSTOM_0
-}
-
-/// The immediate as 12 bits of two's complement.
-fn immediate_bits(imm: Imm12) -> u32
-    ensures small { result < 2 ^ 12 }
-    ensures again { signed 12 result ≡ imm }
-{
-    imm.value().cast_unsigned() & 0xfff
 }

@@ -1,6 +1,6 @@
 use Rattle.std.proofs.Common.{refl, sym, ◌∙◌}
-use Rattle.templates.proofs.ReadingLemmas.{reads_custom_0, reads_custom_1, reads_other}
-use Rattle.templates.proofs.runtime_words.read_word.Goals as goal
+use Rattle.runtime_words.proofs.ReadingLemmas.{reads_custom_0, reads_custom_1, reads_other}
+use Rattle.runtime_words.proofs.reading.read_word.Goals as goal
 
 pub returns-then-opcode-eq-CUSTOM_0 : goal.returns-then-opcode-eq-CUSTOM_0
 returns-then-opcode-eq-CUSTOM_0 c = c.read_custom_0.ensures ∙ sym (reads_custom_0 c.args.word _ (sym c.opcode-opcode.ensures ∙ c.if-opcode-eq-CUSTOM_0.true) refl)

@@ -1,6 +1,6 @@
 use Rattle.std.proofs.Common.{◌≡◌, ◌<◌, ◌+◌, ◌*◌, ◌%◌, ◌^◌, arith}
-use Rattle.templates.proofs.ReadingLemmas.{reads_prepare}
-use Rattle.templates.proofs.runtime_words.prepare_word.Goals as goal
+use Rattle.runtime_words.proofs.ReadingLemmas.{reads_prepare}
+use Rattle.runtime_words.proofs.encoding.prepare_word.Goals as goal
 
 pub returns : goal.returns
 returns c =

@@ -1,5 +1,5 @@
-use Rattle.templates.proofs.ReadingLemmas.{reads_miss_w}
-use Rattle.templates.proofs.runtime_words.miss_w_word.Goals as goal
+use Rattle.runtime_words.proofs.ReadingLemmas.{reads_miss_w}
+use Rattle.runtime_words.proofs.encoding.miss_w_word.Goals as goal
 
 pub returns : goal.returns
 returns c =
