@@ -43,8 +43,8 @@ use Rattle.dsm_protocol.proofs.Stores.{fits_line, stored_at, misses}
 use Rattle.dsm_protocol.proofs.Counting.{count_one, count_zero, zero_count}
 use Rattle.dsm_protocol.proofs.Fits.{wires_append}
 use Rattle.dsm_protocol.proofs.SoundRows.{SoundPosts, IsAbout, sound_append}
-use Rattle.dsm_protocol.proofs.Taking.{steps_more, take_leads}
-use Rattle.dsm_protocol.proofs.Wanting.{pending_is, want_leads, store_leads}
+use Rattle.dsm_protocol.proofs.Taking.{IsRowOf, steps_more, take_leads}
+use Rattle.dsm_protocol.proofs.Wanting.{pending_is, may_ask, want_leads, store_leads}
 use Rattle.dsm_protocol.proofs.RowFacts.{RowFacts, row_facts}
 
 -- 1. Memory, and places
@@ -396,6 +396,7 @@ module _ (laws : LineLaws) (l : Shape) (valid : IsValid l) (laid : IsLaid l) whe
         × HoldsBy l h.first (h.events ++ k.Want i b (need_of need) ∷ []) (after_miss w i b miss)
         memory
         × AfterWant i b need w (after_miss w i b miss)
+        × (k.may_want s c i b (need_of need) ≡ true)
     wants i b need buf bi bb idle few unmet roomy =
         let state = state_in_wait (w.state i b) in
         let miss : Miss = record {
@@ -432,6 +433,8 @@ module _ (laws : LineLaws) (l : Shape) (valid : IsValid l) (laid : IsLaid l) whe
               | inr q ↦ ap can_write (place_node w.state i b state d q.1) ∙ r
             ];
           },
+          may_ask l laid h.first h.events w h.by.sound h.by.leads i b bi bb (w.bytes i b) need buf idle
+              few unmet roomy,
         )
 
     -- a node that may write a block doesn't wait for it
@@ -551,6 +554,7 @@ module _ (laws : LineLaws) (l : Shape) (valid : IsValid l) (laid : IsLaid l) whe
         → (row : Row) × (row_of l w i j message ≡ Some row)
         × HoldsBy l h.first (h.events ++ k.Take i j ∷ []) (after_row w j i rest row) memory
         × AfterTake l i message row w (after_row w j i rest row)
+        × IsRowOf l h.first h.events i j rest (sends_in row)
     takes i j message rest bi bj front plain =
         let got = take_leads l laid h.first h.events w i j message rest
         (all_rows Contents s p h.events) h.by.leads h.by.sound bi bj front plain in
@@ -564,6 +568,7 @@ module _ (laws : LineLaws) (l : Shape) (valid : IsValid l) (laid : IsLaid l) whe
                 (sym (take_memory s h.events i j));
           },
           after_take i j message rest bi bj front row (row_facts l w i j row message got.1) got.4,
+          got.5,
         )
 
     -- or it is a Bye

@@ -117,8 +117,8 @@ module _ (l : Shape) (laid : IsLaid l) (first : ℕ → Contents) (es : List (k.
       (few : pending l w i < most_waits l.nodes) (unmet : meets need (w.state i b) ≡ false)
       (roomy : IsRoomy buf)
     where
-      may : k.may_want s c i b (need_of need) ≡ true
-      may =
+      pub may_ask : k.may_want s c i b (need_of need) ≡ true
+      may_ask =
           let a = pending_is l first w c i st node in
           let free : m.is_none (c.wait i b) ≡ true =
           ap m.is_none (st.wait i b node block ∙ ap wait_of idle) in
@@ -187,7 +187,7 @@ module _ (l : Shape) (laid : IsLaid l) (first : ℕ → Contents) (es : List (k.
       want_by = (
         subst (StandsFor l (after_miss w i b (miss_of bs need buf)))
             (sym (steps_more s es (k.Want i b (need_of need)) (k.opening s)
-            ∙ ap (λ z. cond z (k.want_in s c i b (need_of need)) c) may)) want_stands,
+            ∙ ap (λ z. cond z (k.want_in s c i b (need_of need)) c) may_ask)) want_stands,
         want_sound,
         want_no_byes,
       )

@@ -1,5 +1,5 @@
 -- What a run of nodes gives: the bytes printed, how each processor ended, and what each node counted.
-use Rattle.std.specs.Prelude.{◌≡◌, ℕ, List, Option, Some, map}
+use Rattle.std.specs.Prelude.{◌≡◌, ℕ, ◌+◌, ◌*◌, ◌≤◌, List, Option, Some, map, sum_by}
 use Rattle.std.specs.List.{range_with_len}
 use Rattle.rv32_program.specs.declared.End.{End}
 use Rattle.node_model.specs.declared.NodeCounts.{NodeCounts}
@@ -21,6 +21,16 @@ abbrev pub counts_after : Work → List Event → List NodeCounts
 counts_after work events =
     map (λ i. ((after work (opening_core work) events).nodes i).counts)
     (range_with_len 0 work.layout.nodes)
+
+-- Write messages sent
+abbrev pub write_misses : NodeCounts → ℕ
+write_misses c = c.exclusive + c.upgrade
+
+-- what n nodes have sent is no more than their misses may cost: four messages a read miss, and
+-- 2n + 1 a write miss
+abbrev pub AreFrugal : (n : ℕ) → List NodeCounts → Type 0
+AreFrugal n counts = sum_by (λ c. c.messages) counts
+    ≤ 4 * sum_by (λ c. c.read) counts + (2 * n + 1) * sum_by write_misses counts
 
 -- what the events give from the start, once each processor has ended: the bytes in the order of the
 -- events

@@ -6,3 +6,6 @@ pub mod Stuck
 pub mod Stops
 pub mod Budgets
 pub mod Short
+pub mod Costs
+pub mod Steps
+pub mod Ascending

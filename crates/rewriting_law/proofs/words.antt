@@ -2,10 +2,14 @@
 pub mod Plans
 pub mod Fetching
 pub mod Spots
+pub mod Idle
+pub mod Turns
 pub mod Standing
+pub mod Paces
 pub mod Requests
 pub mod Lanes
-pub mod Anew
+pub mod Moves
 pub mod BlocksOnce
 pub mod CodeSide
+pub mod NextWord
 pub mod CodeFollows

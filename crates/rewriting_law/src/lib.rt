@@ -2,7 +2,7 @@
 //! Nodes that run rewritten code over the directory protocol do what the original processors do on
 //! one memory.
 
-ghost use Rattle.std.specs.Prelude.{◌≡◌, ◌≢◌, ℕ, ◌<◌, ◌≤◌, Bool, true, List, [], Some, length};
+ghost use Rattle.std.specs.Prelude.{◌≡◌, ◌≢◌, ℕ, ◌/◌, ◌<◌, ◌≤◌, Bool, true, List, [], Some, length};
 ghost use Rattle.block_layout.specs.Layout.{IsValid};
 ghost use Rattle.rv32_program.specs.declared.End.TheVariants.{Stopped};
 ghost use Rattle.rv32_program.specs.Program.{IsAccepted};
@@ -11,9 +11,12 @@ ghost use Rattle.jump_map.specs.Image.{IsRewriting};
 ghost use Rattle.node_model.specs.declared.Standing.TheVariants.{Over};
 ghost use Rattle.rv32_step.specs.OneMemory.{WritesIf};
 ghost use Rattle.node_model.specs.Node.{Work, Node, Resume, Waiting, Ended, IsLaidOver, can_execute, standing_of, word_outcome};
-ghost use Rattle.node_model.specs.Core.{Core, Event, May, IsCoreRun, opening_core, event_step, after};
+ghost use Rattle.node_model.specs.Core.{Core, Event, Exec, May, IsCoreRun, opening_core, event_step, after};
+ghost use Rattle.node_model.specs.Outcome.{AreFrugal, counts_after};
 ghost use Rattle.rewriting_law.specs.Licence.{AllLicensed};
-ghost use Rattle.rewriting_law.specs.Bounds.{most_events};
+ghost use Rattle.rewriting_law.specs.Bounds.{most_events, steps_of};
+ghost use Rattle.rewriting_law.specs.CoreRun.{commits, picks_of};
+ghost use Rattle.rewriting_law.specs.Ascents.{AscendsBetweenPolls, pc_at};
 ghost use Rattle.rewriting_law.specs.Conditionals.{IsConditional, IsLostBy};
 ghost use Rattle.rewriting_law.specs.ProtocolLists.{HasProtocolList};
 ghost use Rattle.rewriting_law.specs.Interleaving.{Interleaves, IsCoherent, GoesAlone, SameReservations, HaveRows, original_after};
@@ -34,6 +37,14 @@ pub fn interleaving_law()
         → IsAccepted work.program → IsValid work.layout → IsLaidOver work.program work.layout
         → IsRewriting work.program plan work.image → IsCoreRun work (opening_core work) events
         → AllLicensed work plan (opening_core work) events }
+    // And it is of the original address at which its processor is.
+    ensures places { (work : Work) (plan : List PlanEntry) (events : List Event) (i : ℕ)
+        → IsAccepted work.program → IsValid work.layout → IsLaidOver work.program work.layout
+        → IsRewriting work.program plan work.image → IsCoreRun work (opening_core work) events
+        → May work (after work (opening_core work) events) (Exec i)
+        → commits work plan ((after work (opening_core work) events).nodes i) ≡ true
+        → ((original_after work plan events).processors i).pc
+        ≡ pc_at work ((after work (opening_core work) events).nodes i).lane }
     // After each such run the nodes' copies are coherent with the memory of the interleaved run:
     // what a node may read is the memory's, all else is flagged, and a block has one writer or
     // only readers.
@@ -114,6 +125,31 @@ pub fn progress_law()
         → IsAccepted work.program → IsValid work.layout → IsLaidOver work.program work.layout
         → IsRewriting work.program plan work.image → 0 < work.budget
         → IsCoreRun work (opening_core work) events → length events ≤ most_events work }
+{
+    layout_law();
+}
+
+/// The law of bounds, which the callers use by its clauses; the call does nothing.
+pub fn bounds_law()
+    // After every core run of rewritten code the nodes have sent no more messages than their misses
+    // may cost.
+    ensures messages { (work : Work) (plan : List PlanEntry) (events : List Event)
+        → IsAccepted work.program → IsValid work.layout → IsLaidOver work.program work.layout
+        → IsRewriting work.program plan work.image → IsCoreRun work (opening_core work) events
+        → AreFrugal work.layout.nodes (counts_after work events) }
+    // A processor that was stopped has made a step for each 40 words of its budget.
+    ensures work { (work : Work) (plan : List PlanEntry) (events : List Event) (i budget : ℕ)
+        → IsAccepted work.program → IsValid work.layout → IsLaidOver work.program work.layout
+        → IsRewriting work.program plan work.image → IsCoreRun work (opening_core work) events
+        → i < work.layout.nodes
+        → ((after work (opening_core work) events).nodes i).phase ≡ Ended (Stopped budget)
+        → budget / 40 ≤ steps_of i (picks_of work plan (opening_core work) events) }
+    // Between two polls of a node, its steps ascend from the third on: each is of a greater original
+    // address than the one before it. So they are at most one more than the places.
+    ensures polls { (work : Work) (plan : List PlanEntry) (events : List Event) (i : ℕ)
+        → IsAccepted work.program → IsValid work.layout → IsLaidOver work.program work.layout
+        → IsRewriting work.program plan work.image → IsCoreRun work (opening_core work) events
+        → i < work.layout.nodes → AscendsBetweenPolls work plan events i }
 {
     layout_law();
 }

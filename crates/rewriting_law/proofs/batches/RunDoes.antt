@@ -17,7 +17,7 @@ use Rattle.rv32_step.specs.declared.Demand.TheVariants.{Sets}
 use Rattle.rv32_step.specs.Registers.{reg}
 use Rattle.rv32_step.specs.Demands.{branch_demand}
 use Rattle.rv32_step.specs.OneMemory.{Processor, next_pc}
-use Rattle.templates.specs.declared.runtime_words.RtWord.TheVariants.{Native, Batch}
+use Rattle.runtime_words.specs.declared.RtWord.TheVariants.{Native, Batch}
 use Rattle.templates.specs.declared.commits.CommitKind.TheVariants.{Never}
 use Rattle.templates.specs.declared.places.Part.TheVariants.{Head, Fast, Fallback}
 use Rattle.templates.specs.declared.plans.Scratch.{Scratch}

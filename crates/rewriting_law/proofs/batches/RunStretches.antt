@@ -26,7 +26,7 @@ use Rattle.rv32_step.specs.OneMemory.{Processor}
 use Rattle.templates.specs.declared.reaches.Reach.{Reach}
 use Rattle.templates.specs.Runs.{Span, span_of, is_store, lesser, greater, least, greatest, reach_by, reach_of, reach_at, code_from, may_stand, has_access, IsRun}
 use Rattle.rewriting_law.proofs.templates.RegisterLemmas.{apart, equal}
-use Rattle.rewriting_law.proofs.templates.Does.{StandsToStore}
+use Rattle.rewriting_law.proofs.templates.Does.{StandsToStore, may_turn}
 
 -- each of the instructions, and one of them
 abbrev pub Each : (Instr → Type 0) → List Instr → Type 0
@@ -67,6 +67,7 @@ pub record Computes (i : Instr) (rd : ℕ) : Type 0 where
   pub same : (f g : ℕ → ℕ) → ((r : ℕ) → Contains (sources i) r → reg f r ≡ reg g r)
       → value f ≡ value g
   pub plain : is_plain i ≡ true
+  pub leads_on : (a : ℕ) → may_turn i a ≡ false
   pub accesses_nothing : span_of i ≡ None
   pub stores_nothing : is_store i ≡ false
 
@@ -320,6 +321,7 @@ module _ (reach : Reach) where
     demands = λ f at. refl;
     same = λ f g agree. refl;
     plain = refl;
+    leads_on = λ a. refl;
     accesses_nothing = refl;
     stores_nothing = refl;
   }) h
@@ -331,6 +333,7 @@ module _ (reach : Reach) where
     same = λ f g agree. ap (λ z. alu (operation_of o) z (unsigned 32 imm))
         (agree rs1 (0, lit< tt, refl));
     plain = refl;
+    leads_on = λ a. refl;
     accesses_nothing = refl;
     stores_nothing = refl;
   }) h
@@ -342,6 +345,7 @@ module _ (reach : Reach) where
         demands = λ f at. refl;
         same = λ f g agree. ap (λ z. alu (shift_of o) z amount) (agree rs1 (0, lit< tt, refl));
         plain = refl;
+        leads_on = λ a. refl;
         accesses_nothing = refl;
         stores_nothing = refl;
       }) h
@@ -353,6 +357,7 @@ module _ (reach : Reach) where
     same = λ f g agree. ap (λ z. alu o z (reg f rs2)) (agree rs1 (0, lit< tt, refl))
         ∙ ap (λ z. alu o (reg g rs1) z) (agree rs2 (1, lit< tt, refl));
     plain = refl;
+    leads_on = λ a. refl;
     accesses_nothing = refl;
     stores_nothing = refl;
   }) h

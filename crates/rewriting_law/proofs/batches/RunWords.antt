@@ -1,6 +1,7 @@
 -- The words of a run, each of which commits, once the run's lines serve them.
 use Rattle.std.proofs.Common.{◌≡◌, ℕ, suc, ◌+◌, ◌*◌, ◌<◌, Bool, true, false, List, [], ◌∷◌, length, Some, refl, sym, ap, ◌∙◌, subst, inr, arith}
 use Rattle.std.specs.Prelude.{ℤ, pos, ◌+ℤ◌, ◌≤ℤ◌}
+use Rattle.std.specs.Option.{option_map_or}
 use Rattle.std.proofs.lemmas.Option.{same_Some}
 use Rattle.rv32_decode.specs.Widths.{width_of, is_aligned}
 use Rattle.rv32_decode.specs.declared.Width.{Width}
@@ -12,13 +13,13 @@ use Rattle.rv32_program.specs.Liveness.{uses}
 use Rattle.rv32_step.specs.declared.Demand.TheVariants.{Sets}
 use Rattle.rv32_step.specs.Registers.{reg}
 use Rattle.rv32_step.specs.OneMemory.{Processor, Becomes, request, request_for, set_register, after_store, next_pc}
-use Rattle.templates.specs.declared.runtime_words.RtWord.TheVariants.{Native}
+use Rattle.runtime_words.specs.declared.RtWord.TheVariants.{Native}
 use Rattle.templates.specs.declared.commits.CommitKind.TheVariants.{Always}
 use Rattle.templates.specs.declared.reaches.Reach.{Reach}
 use Rattle.templates.specs.Sequences.{SequenceItem, committing, run_items}
 use Rattle.node_model.specs.Node.{Lane, Local, Outcome, Next, go_on, lane_stored, local_stored, native, execute}
 use Rattle.rewriting_law.proofs.templates.RegisterLemmas.{put_other}
-use Rattle.rewriting_law.proofs.templates.Does.{SequenceKind, OfRun, place_of, lane_at, Commits, Leads, Does, does_later}
+use Rattle.rewriting_law.proofs.templates.Does.{SequenceKind, OfRun, place_of, lane_at, may_turn, is_where, Commits, Leads, Does, does_later}
 use Rattle.rewriting_law.proofs.templates.Mids.{Mid, shown, with_reg, mid_at}
 use Rattle.rewriting_law.proofs.templates.Checked.{asks, low_if_mapped, sets_both, seen_value, load_misaligned, load_commits, store_commits}
 use Rattle.rewriting_law.proofs.batches.RunStretches.{Each, StandAt, Within, Computes, RunWord, Sets_register, Loads_by, Stores_by}
@@ -28,13 +29,13 @@ module _ (program : Program) (accepted : IsAccepted program) where
   -- an instruction that sets a register is the processor's step
   computes_commits : (kind : SequenceKind) (s j at a : ℕ) (q : Processor) (l : Lane) (n : Local)
       (i : Instr) (rd : ℕ) (rest : List SequenceItem) → program.code a ≡ Some i
-      → (computes : Computes i rd) → Mid program shown a q l
+      → place_of kind s j ≡ a → (computes : Computes i rd) → Mid program shown a q l
       → ((x y : ℕ) → let v = computes.value q.registers in
       Mid program shown (a + 4) (set_register q rd v) (lane_at x y (with_reg l rd v))
       → Does program kind s (j + 1) (next_pc at) rest 0 (set_register q rd v)
       (lane_at x y (with_reg l rd v)) n)
       → Does program kind s j at (committing (Native i) rest) 0 q l n
-  computes_commits kind s j at a q l n i rd rest c computes m go = λ n' since.
+  computes_commits kind s j at a q l n i rd rest c here computes m go = λ n' since.
       let v = computes.value q.registers in
       let lane = with_reg l rd v in
       let same : computes.value l.registers ≡ v = computes.same l.registers q.registers
@@ -49,6 +50,8 @@ module _ (program : Program) (accepted : IsAccepted program) where
       (computes.next a) refl m in
       subst (λ (r : Outcome). Leads program kind s j at
       (λ z. Does program kind s (j + 1) (next_pc at) rest z) q n' r Always r.move) (sym is) (
+        is_where program kind s j a q here m.place
+            (ap (λ o. option_map_or (λ x. may_turn x a) o false) c ∙ computes.leads_on a),
         tt,
         subst (Commits program (λ p. (x y : ℕ) → Does program kind s (j + 1) (next_pc at) rest 0 p
             (lane_at x y lane) n') q n' (go_on lane n' Next)) (sym ask) (
@@ -88,7 +91,7 @@ module _ (program : Program) (accepted : IsAccepted program) where
         → Does program (OfRun place) s j at (committing (Native i) rest) 0 q l n
     word_does i j at a q l n rest (Sets_register _ rd computes other) c here based serve m go =
         let v = computes.value q.registers in
-        computes_commits (OfRun place) s j at a q l n i rd rest c computes m
+        computes_commits (OfRun place) s j at a q l n i rd rest c here computes m
         (λ x y mid. go (set_register q rd v) (lane_at x y (with_reg l rd v)) n
         (put_other q.registers rd reach.base v (λ e. other (sym e)) ∙ based) serve mid)
     word_does i j at a q l n rest (Loads_by k rd imm other within) c here based serve m go =
@@ -108,7 +111,7 @@ module _ (program : Program) (accepted : IsAccepted program) where
         by false f = load_misaligned program accepted a q shown k rd reach.base imm c refl n
             (OfRun place) s j at l Always rest here f m
         by true f = load_commits program accepted a q shown k rd reach.base imm c refl n
-            (OfRun place) s j at l rest refl f line.mapped line.readable m
+            (OfRun place) s j at l rest here refl f line.mapped line.readable m
             (λ n' later y z mid. go (set_register q rd (v n'))
             (lane_at y z (with_reg l rd (v n'))) n'
             (put_other q.registers rd reach.base (v n') (λ e. other (sym e)) ∙ based)

@@ -1,6 +1,6 @@
 -- Nodes that run code and exchange messages, beside the one memory: what holds between two events,
 -- and that each event keeps it.
-use Rattle.std.proofs.Common.{◌≡◌, ℕ, ◌<◌, ◌⊎◌, cond, eqb, Bool, true, false, List, [], ◌∷◌, Option, Some, None, refl, sym, ap, ◌∙◌, subst, inl, inr, arith}
+use Rattle.std.proofs.Common.{◌≡◌, ℕ, ◌+◌, ◌*◌, ◌<◌, ◌≤◌, ◌⊎◌, cond, eqb, Bool, true, false, List, [], ◌∷◌, Option, Some, None, refl, sym, ap, ◌∙◌, subst, inl, inr, arith}
 use Rattle.std.specs.Prelude.{if◌then◌else◌, ◌==◌, ◌||◌, option_and_then}
 use Rattle.std.specs.Option.{option_to_list}
 use Rattle.block_layout.specs.Layout.{Shape}
@@ -21,7 +21,7 @@ use Rattle.rewriting_law.specs.CoreRun.{Order, break_by, is_exit, commits_by}
 use Rattle.rewriting_law.specs.Licence.{Licensed}
 use Rattle.rewriting_law.proofs.one_memory.Originals.{original_with}
 use Rattle.rewriting_law.proofs.templates.States.{Suits}
-use Rattle.rewriting_law.proofs.words.CodeSide.{AllWanted, CodeSide}
+use Rattle.rewriting_law.proofs.words.CodeSide.{Pace, first_pace, pace_after, pace_at, AllWanted, CodeSide}
 use Rattle.rewriting_law.proofs.one_memory.Sharing.{Sharing, Shares, Onward, with_local, is_same, local_here, shares_like, word_advances}
 use Rattle.rewriting_law.proofs.one_memory.Advances.{Advanced, WordAdvanced, picked, values_of_word, word_advanced}
 use Rattle.rewriting_law.proofs.one_memory.Messages.{AreLaidOut, Taken, message_shares}
@@ -46,12 +46,13 @@ module _ (layout : Shape) (work : Work) (plan : List PlanEntry) (code : CodeSide
 
   -- how a processor fits what its node does. Only where it runs does this speak of the node as it
   -- is
-  abbrev pub StandsIn : Activity → Processor → Lane → Local → Type 0
-  StandsIn Runs q l n = (q.exit ≡ None) × code.Stands q l n
-  StandsIn (Awaits resume want more) q l n =
-      StandsWaiting layout work plan laid code.Stands q l resume (want ∷ more)
-  StandsIn (HasEnded (Exited e)) q l n = q.exit ≡ Some e
-  StandsIn (HasEnded (Stopped b)) q l n = (q.exit ≡ None) × (b ≡ work.budget)
+  abbrev pub StandsIn : Pace → Activity → Processor → Lane → Local → Type 0
+  StandsIn p Runs q l n = (q.exit ≡ None) × code.Stands p q l n
+  StandsIn p (Awaits resume want more) q l n =
+      StandsWaiting layout work plan laid (code.Stands p) q l resume (want ∷ more)
+  StandsIn p (HasEnded (Exited e)) q l n = q.exit ≡ Some e
+  StandsIn p (HasEnded (Stopped b)) q l n =
+      (q.exit ≡ None) × (b ≡ work.budget) × (p.words ≤ 40 * p.commits + 39)
 
   -- what it waits for of a block
   abbrev pub wait_in : Activity → ℕ → Option Need
@@ -59,31 +60,32 @@ module _ (layout : Shape) (work : Work) (plan : List PlanEntry) (code : CodeSide
   wait_in (Awaits resume want more) b = wanted_in layout b (want ∷ more)
   wait_in (HasEnded e) b = None
 
-  pub record Matches (lanes : ℕ → Lane) (doing : ℕ → Activity) (locals : ℕ → Local)
+  pub record Matches (paces : ℕ → Pace) (lanes : ℕ → Lane) (doing : ℕ → Activity) (locals : ℕ → Local)
       (rest : protocol.Rest) (s : State) : Type 0 where
     pub shares : Shares layout work (sharing_at rest) locals s
     pub stands : (i : ℕ) → i < work.layout.nodes
-        → StandsIn (doing i) (s.processors i) (lanes i) (locals i)
+        → StandsIn (paces i) (doing i) (s.processors i) (lanes i) (locals i)
     -- the protocol waits for what the processors wait for
     pub waits : (i b : ℕ) → i < work.layout.nodes → protocol.wait rest i b ≡ wait_in (doing i) b
 
   -- one node has changed, and the protocol
-  matches_with : (lanes : ℕ → Lane) (doing : ℕ → Activity) (locals : ℕ → Local)
-      (rest rest' : protocol.Rest) (s t : State) → Matches lanes doing locals rest s → (i : ℕ)
-      (l : Lane) (a : Activity) (n : Local)
+  matches_with : (paces : ℕ → Pace) (lanes : ℕ → Lane) (doing : ℕ → Activity) (locals : ℕ → Local)
+      (rest rest' : protocol.Rest) (s t : State) → Matches paces lanes doing locals rest s
+      → (i : ℕ) (p : Pace) (l : Lane) (a : Activity) (n : Local)
       → Shares layout work (sharing_at rest') (with_local locals i n) t
-      → StandsIn a (t.processors i) l n
+      → StandsIn p a (t.processors i) l n
       → ((j : ℕ) → eqb j i ≡ false → t.processors j ≡ s.processors j)
       → ((b : ℕ) → protocol.wait rest' i b ≡ wait_in a b)
       → ((j b : ℕ) → eqb j i ≡ false → protocol.wait rest' j b ≡ protocol.wait rest j b)
-      → Matches (with_at lanes i l) (with_at doing i a) (with_local locals i n) rest' t
-  matches_with lanes doing locals rest rest' s t m i l a n shares stands others own waits = record {
+      → Matches (with_at paces i p) (with_at lanes i l) (with_at doing i a) (with_local locals i n)
+      rest' t
+  matches_with paces lanes doing locals rest rest' s t m i p l a n shares stands others own waits = record {
     shares = shares;
     stands = λ j low. (elim (eqb j i) as (λ u. eqb j i ≡ u
-        → StandsIn (cond u a (doing j)) (t.processors j) (cond u l (lanes j))
+        → StandsIn (cond u p (paces j)) (cond u a (doing j)) (t.processors j) (cond u l (lanes j))
         (cond u n (locals j))) [
-          | true ↦ (λ e. subst (λ k. StandsIn a (t.processors k) l n) (sym (is_same j i e)) stands)
-          | false ↦ (λ e. subst (λ q. StandsIn (doing j) q (lanes j) (locals j))
+          | true ↦ (λ e. subst (λ k. StandsIn p a (t.processors k) l n) (sym (is_same j i e)) stands)
+          | false ↦ (λ e. subst (λ q. StandsIn (paces j) (doing j) q (lanes j) (locals j))
               (sym (others j e)) (m.stands j low))
         ]) refl;
     waits = λ j b low. (elim (eqb j i) as (λ u. eqb j i ≡ u
@@ -98,12 +100,12 @@ module _ (layout : Shape) (work : Work) (plan : List PlanEntry) (code : CodeSide
   goes_or_stops executed =
       if executed == work.budget then HasEnded (Stopped work.budget) else Runs
 
-  stands_or_stops : (executed : ℕ) (q : Processor) (l : Lane) (n : Local) → q.exit ≡ None
-      → code.Stands q l n → StandsIn (goes_or_stops executed) q l n
-  stands_or_stops executed q l n e st = go (eqb executed work.budget)
+  stands_or_stops : (p : Pace) (executed : ℕ) (q : Processor) (l : Lane) (n : Local)
+      → q.exit ≡ None → code.Stands p q l n → StandsIn p (goes_or_stops executed) q l n
+  stands_or_stops p executed q l n e st = go (eqb executed work.budget)
     where
-      go : (u : Bool) → StandsIn (cond u (HasEnded (Stopped work.budget)) Runs) q l n
-      go true = (e, refl)
+      go : (u : Bool) → StandsIn p (cond u (HasEnded (Stopped work.budget)) Runs) q l n
+      go true = (e, refl, code.paced p q l n st)
       go false = (e, st)
 
   pub no_wait : (executed b : ℕ) → wait_in (goes_or_stops executed) b ≡ None
@@ -140,10 +142,11 @@ module _ (layout : Shape) (work : Work) (plan : List PlanEntry) (code : CodeSide
   lane_taken l n wait a = l
 
   -- a node that runs may take a message before a poll or a call
-  abbrev pub MayTake : Activity → Lane → Type 0
-  MayTake Runs l =
-      takes_messages (option_and_then (λ w. w.what) (fetch work.image l.at)) ≡ true
-  MayTake a l = Unit {0}
+  abbrev pub MayTake : Pace → Activity → Lane → Type 0
+  MayTake p Runs l =
+      (takes_messages (option_and_then (λ w. w.what) (fetch work.image l.at)) ≡ true)
+      × (p.waited ≡ false)
+  MayTake p a l = Unit {0}
 
   -- the exit of a processor, by what it does
   abbrev pub EndsIn : Activity → Option Exit → Type 0
@@ -152,18 +155,18 @@ module _ (layout : Shape) (work : Work) (plan : List PlanEntry) (code : CodeSide
   EndsIn (HasEnded (Exited e)) exit = exit ≡ Some e
   EndsIn (HasEnded (Stopped b)) exit = (exit ≡ None) × (b ≡ work.budget)
 
-  pub ends_in : (a : Activity) (q : Processor) (l : Lane) (n : Local) → StandsIn a q l n
-      → EndsIn a q.exit
-  ends_in Runs q l n h = h.0
-  ends_in (Awaits resume want more) q l n h = h.runs
-  ends_in (HasEnded (Exited e)) q l n h = h
-  ends_in (HasEnded (Stopped b)) q l n h = h
+  pub ends_in : (p : Pace) (a : Activity) (q : Processor) (l : Lane) (n : Local)
+      → StandsIn p a q l n → EndsIn a q.exit
+  ends_in p Runs q l n h = h.0
+  ends_in p (Awaits resume want more) q l n h = h.runs
+  ends_in p (HasEnded (Exited e)) q l n h = h
+  ends_in p (HasEnded (Stopped b)) q l n h = (h.0, h.1)
 
   -- at the start, with whatever states and copies the protocol begins
   pub opening_matches : (locals : ℕ → Local) (rest : protocol.Rest)
       → side.Holds locals rest work.program.first → ((i : ℕ) → (locals i).reservation ≡ None)
       → ((i b : ℕ) → i < work.layout.nodes → protocol.wait rest i b ≡ None)
-      → Matches (first_lane work) (λ i. Runs) locals rest (opening (original_with layout work))
+      → Matches (λ i. first_pace) (first_lane work) (λ i. Runs) locals rest (opening (original_with layout work))
   opening_matches locals rest held no_reservation no_wants = record {
     shares = record {
       held = held;
@@ -177,8 +180,8 @@ module _ (layout : Shape) (work : Work) (plan : List PlanEntry) (code : CodeSide
     waits = no_wants;
   }
 
-  module _ (lanes : ℕ → Lane) (doing : ℕ → Activity) (locals : ℕ → Local) (rest : protocol.Rest)
-      (s : State) (m : Matches lanes doing locals rest s) (i : ℕ)
+  module _ (paces : ℕ → Pace) (lanes : ℕ → Lane) (doing : ℕ → Activity) (locals : ℕ → Local)
+      (rest : protocol.Rest) (s : State) (m : Matches paces lanes doing locals rest s) (i : ℕ)
       (below : i < work.layout.nodes) where
     abbrev l : Lane
     l = lanes i
@@ -203,26 +206,32 @@ module _ (layout : Shape) (work : Work) (plan : List PlanEntry) (code : CodeSide
       abbrev pub commits : Bool
       commits = is_exit r.move || commits_by kind r
 
-      pub here : (q.exit ≡ None) × code.Stands q l n
-      here = subst (λ a. StandsIn a q l n) runs (m.stands i below)
+      pub here : (q.exit ≡ None) × code.Stands (paces i) q l n
+      here = subst (λ a. StandsIn (paces i) a q l n) runs (m.stands i below)
+
+      abbrev pub pace : Pace
+      pace = pace_after (pace_at work l (paces i)) kind r
+
+      abbrev Then : Processor → Lane → Local → Type 0
+      Then = code.Stands pace
 
       abbrev behind_word : State
-      behind_word = run (original_with layout work) s (picked layout work plan code.Stands
+      behind_word = run (original_with layout work) s (picked layout work plan Then
           (sharing_at rest) locals s m.shares i below here.0 r commits)
 
       abbrev asked : Treated protocol.Rest
       asked = want_all layout work plan protocol (with_local locals i r.local) rest i
           (each_block_once layout (wants_of r.move))
 
-      word : WordAdvanced layout work plan code.Stands (sharing_at rest) locals s m.shares i below
+      word : WordAdvanced layout work plan Then (sharing_at rest) locals s m.shares i below
           here.0 r commits
-      word = word_advanced layout work plan code.Stands (sharing_at rest) locals s m.shares i below
+      word = word_advanced layout work plan Then (sharing_at rest) locals s m.shares i below
           here.0 r commits
-          (word_advances layout work plan code.Stands (sharing_at rest) locals s m.shares i below
-          here.0 r kind (code.word_follows q l n suits here.0 here.1))
+          (word_advances layout work plan Then (sharing_at rest) locals s m.shares i below
+          here.0 r kind (code.word_follows (paces i) q l n suits here.0 here.1))
 
       abbrev OnwardBy : Processor → Move → Type 0
-      OnwardBy p mv = Onward layout work plan code.Stands (sharing_at rest) locals s m.shares i
+      OnwardBy p mv = Onward layout work plan Then (sharing_at rest) locals s m.shares i
           below
           here.0 r p mv
 
@@ -238,15 +247,15 @@ module _ (layout : Shape) (work : Work) (plan : List PlanEntry) (code : CodeSide
           behind_word i below p word.behind.shared none [] tt (omega arith)
 
       goes_there : (p : Processor) (mv : Move) → r.move ≡ mv
-          → (p.exit ≡ None) × code.Stands p (lane_after work.image r.lane r.move) r.local
-          → StandsIn (goes_or_stops executed) p (lane_after work.image r.lane mv)
+          → (p.exit ≡ None) × Then p (lane_after work.image r.lane r.move) r.local
+          → StandsIn pace (goes_or_stops executed) p (lane_after work.image r.lane mv)
           (with_local locals i r.local i)
       goes_there p mv is h =
-          stands_or_stops executed p (lane_after work.image r.lane mv)
+          stands_or_stops pace executed p (lane_after work.image r.lane mv)
           (with_local locals i r.local i) h.0
-          (subst (λ mv. code.Stands p (lane_after work.image r.lane mv)
+          (subst (λ mv. Then p (lane_after work.image r.lane mv)
           (with_local locals i r.local i)) is
-          (subst (code.Stands p (lane_after work.image r.lane r.move))
+          (subst (Then p (lane_after work.image r.lane r.move))
           (sym (local_here locals i r.local)) h.1))
 
       -- the wants of a move
@@ -271,12 +280,12 @@ module _ (layout : Shape) (work : Work) (plan : List PlanEntry) (code : CodeSide
 
       -- how the processor stands then
       stands_after : (p : Processor) (mv : Move) → r.move ≡ mv → OnwardBy p mv
-          → StandsIn (doing_after executed mv) p (lane_after work.image r.lane mv)
+          → StandsIn pace (doing_after executed mv) p (lane_after work.image r.lane mv)
           (want_all layout work plan protocol (with_local locals i r.local) rest i
           (each_block_once layout (wants_of mv))).local
       stands_after p (Leaves e) is h = h
       stands_after p (Waits resume want more) is h =
-          waits_standing layout work plan laid code.Stands p n r resume
+          waits_standing layout work plan laid Then p n r resume
           (each_block_once layout (want ∷ more)) h.0 h.1
       stands_after p Next is h = goes_there p Next is h
       stands_after p Again is h = goes_there p Again is h
@@ -296,11 +305,11 @@ module _ (layout : Shape) (work : Work) (plan : List PlanEntry) (code : CodeSide
       -- what an executed word leaves
       pub record Executed : Type 0 where
         pub advanced : Advanced (original_with layout work) s
-            (picked layout work plan code.Stands (sharing_at rest) locals s m.shares i below here.0
+            (picked layout work plan Then (sharing_at rest) locals s m.shares i below here.0
             r commits)
-            (values_of_word layout work plan code.Stands (sharing_at rest) locals s m.shares i below
+            (values_of_word layout work plan Then (sharing_at rest) locals s m.shares i below
             here.0 r commits) (option_to_list r.printed)
-        pub behind : Matches (with_at lanes i (lane_after work.image r.lane r.move))
+        pub behind : Matches (with_at paces i pace) (with_at lanes i (lane_after work.image r.lane r.move))
             (with_at doing i (doing_after executed r.move)) (with_local locals i asked.local)
             asked.rest behind_word
         pub licensed : commits ≡ true → Licensed n r.access
@@ -312,7 +321,7 @@ module _ (layout : Shape) (work : Work) (plan : List PlanEntry) (code : CodeSide
           record {
             advanced = word.advanced;
             licensed = word.licensed;
-            behind = matches_with lanes doing locals rest asked.rest s behind_word m i
+            behind = matches_with paces lanes doing locals rest asked.rest s behind_word m i pace
                 (lane_after work.image r.lane r.move) (doing_after executed r.move) asked.local
                 (shares_like layout work (sharing_at asked.rest)
                 (with_local (with_local locals i r.local) i asked.local)
@@ -327,7 +336,7 @@ module _ (layout : Shape) (work : Work) (plan : List PlanEntry) (code : CodeSide
           }
 
     -- a node takes a message
-    module _ (executed j : ℕ) (low : j < work.layout.nodes) (may : MayTake (doing i) l)
+    module _ (executed j : ℕ) (low : j < work.layout.nodes) (may : MayTake (paces i) (doing i) l)
         (has : protocol.has_message rest i j ≡ true) where
       abbrev pub taken : Treated protocol.Rest
       taken = protocol.take locals rest i j
@@ -349,7 +358,7 @@ module _ (layout : Shape) (work : Work) (plan : List PlanEntry) (code : CodeSide
           ⊎ RunsToStore work.program layout b (s.processors k).registers (s.processors k).pc)
       waiting k b low e = go (doing k) (m.stands k low) (sym (m.waits k b low) ∙ e)
         where
-          go : (a : Activity) → StandsIn a (s.processors k) (lanes k) (locals k)
+          go : (a : Activity) → StandsIn (paces k) a (s.processors k) (lanes k) (locals k)
               → wait_in a b ≡ Some Write
               → ((s.processors k).exit ≡ None)
               × ((stands_at_store work.program layout b (s.processors k).registers
@@ -359,7 +368,7 @@ module _ (layout : Shape) (work : Work) (plan : List PlanEntry) (code : CodeSide
           go (HasEnded x) h is = let bad : None ≡ Some Write = is in cc
           go (Awaits resume want more) h is = (
             h.runs,
-            waiting_stores layout work plan laid code.Stands (s.processors k) b (want ∷ more)
+            waiting_stores layout work plan laid (code.Stands (paces k)) (s.processors k) b (want ∷ more)
                 h.sought is,
           )
 
@@ -388,35 +397,35 @@ module _ (layout : Shape) (work : Work) (plan : List PlanEntry) (code : CodeSide
           (side.suits (with_local locals i taken.local) taken.rest s.shared left.held i below)
 
       -- a last wait that ends lets the processor go on
-      stands_then : (a : Activity) → doing i ≡ a → MayTake a l → StandsIn a q l n
+      stands_then : (a : Activity) → doing i ≡ a → MayTake (paces i) a l → StandsIn (paces i) a q l n
           → ((b : ℕ) → protocol.wait rest i b ≡ wait_in a b)
-          → StandsIn (doing_taken executed wait_then a) q (lane_taken l taken.local wait_then a)
+          → StandsIn (paces i) (doing_taken executed wait_then a) q (lane_taken l taken.local wait_then a)
           taken.local
       stands_then Runs is can h waits =
-          (h.0, code.messages_keep q l n h.1 can taken.local suits_then)
+          (h.0, code.messages_keep (paces i) q l n h.1 can.0 can.1 taken.local suits_then)
       stands_then (HasEnded (Exited e)) is can h waits = h
       stands_then (HasEnded (Stopped b)) is can h waits = h
       stands_then (Awaits resume want more) is can h waits =
           go (pending layout wait_then (want ∷ more)) refl
         where
           go : (ws : List Want) → pending layout wait_then (want ∷ more) ≡ ws
-              → StandsIn (doing_still executed resume ws) q (lane_still l taken.local resume ws)
+              → StandsIn (paces i) (doing_still executed resume ws) q (lane_still l taken.local resume ws)
               taken.local
           go [] e =
-              stands_or_stops executed q (lane_resumed l taken.local resume) taken.local h.runs
-              (goes_on layout work plan laid code.Stands (protocol.wait rest i) wait_then q l resume
+              stands_or_stops (paces i) executed q (lane_resumed l taken.local resume) taken.local h.runs
+              (goes_on layout work plan laid (code.Stands (paces i)) (protocol.wait rest i) wait_then q l resume
               want more taken.local h suits_then waits
               (λ x b lies was gone. left.granted x.at b x.need lies was gone) e)
           go (w ∷ ws) e =
-              subst (StandsWaiting layout work plan laid code.Stands q l resume) e
-              (waits_on layout work plan laid code.Stands wait_then q l resume (want ∷ more) h)
+              subst (StandsWaiting layout work plan laid (code.Stands (paces i)) q l resume) e
+              (waits_on layout work plan laid (code.Stands (paces i)) wait_then q l resume (want ∷ more) h)
 
       waits_then : (a : Activity) → ((b : ℕ) → protocol.wait rest i b ≡ wait_in a b) → (b : ℕ)
           → wait_then b ≡ wait_in (doing_taken executed wait_then a) b
       waits_then Runs waits b = ended b (waits b)
       waits_then (HasEnded e) waits b = ended b (waits b)
       waits_then (Awaits resume want more) waits b =
-          pending_waits layout work plan laid code.Stands (protocol.wait rest i) wait_then
+          pending_waits layout work plan laid (code.Stands (paces i)) (protocol.wait rest i) wait_then
           (want ∷ more) waits left.own b
           ∙ go (pending layout wait_then (want ∷ more))
         where
@@ -427,17 +436,17 @@ module _ (layout : Shape) (work : Work) (plan : List PlanEntry) (code : CodeSide
       -- what a message leaves
       pub record Took : Type 0 where
         pub advanced : Advanced (original_with layout work) s picks (λ p. []) []
-        pub behind : Matches (with_at lanes i (lane_taken l taken.local wait_then (doing i)))
+        pub behind : Matches (with_at paces i (paces i)) (with_at lanes i (lane_taken l taken.local wait_then (doing i)))
             (with_at doing i (doing_taken executed wait_then (doing i)))
             (with_local locals i taken.local) taken.rest state_then
 
       pub message_event : Took
       message_event = record {
         advanced = message.advanced;
-        behind = matches_with lanes doing locals rest taken.rest s state_then m i
+        behind = matches_with paces lanes doing locals rest taken.rest s state_then m i (paces i)
             (lane_taken l taken.local wait_then (doing i))
             (doing_taken executed wait_then (doing i)) taken.local message.behind
-            (subst (λ (f : ℕ → Processor). StandsIn (doing_taken executed wait_then (doing i)) (f i)
+            (subst (λ (f : ℕ → Processor). StandsIn (paces i) (doing_taken executed wait_then (doing i)) (f i)
             (lane_taken l taken.local wait_then (doing i)) taken.local) (sym message.processors)
             (stands_then (doing i) refl may (m.stands i below) (λ b. m.waits i b below)))
             (λ k e. ap (λ (f : ℕ → Processor). f k) message.processors)

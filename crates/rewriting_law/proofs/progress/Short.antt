@@ -37,7 +37,7 @@ use Rattle.rewriting_law.proofs.protocol_side.DirectorySide.{Layout}
 use Rattle.rewriting_law.proofs.one_memory.Wants.{ask, ask_all}
 use Rattle.rewriting_law.proofs.runs.Turns.{byes_node, wants_same, treated_same, goes_on_from}
 use Rattle.rewriting_law.proofs.runs.TurnTies.{rest_at, locals_of}
-use Rattle.rewriting_law.proofs.runs.Composed.{MatchesCore, counts_of_word, counts_of_take, counts_by, may_run, next_word, event_leads, start_matches, start_counts}
+use Rattle.rewriting_law.proofs.runs.Composed.{MatchesCore, counts_of_word, counts_of_take, counts_by, pace_of_word, may_run, next_word, event_leads, start_matches, start_counts}
 use Rattle.rewriting_law.proofs.runs.Alone.{bye_noted}
 use Rattle.rewriting_law.proofs.progress.Calm.{is_calm, IsCalm}
 use Rattle.rewriting_law.proofs.progress.Closing.{wants_byes, row_byes, treated_by_row, resumed_byes, Closing, event_closing, start_closing}
@@ -51,7 +51,7 @@ scaled zero a b h = omega arith
 scaled (suc c) a b h = let rest = scaled c a b h in omega (arith, rest, h)
 
 -- one of the nodes has changed
-node_total : (field : Node → ℕ) (nodes : ℕ → Node) (i : ℕ) (m : Node) (d n : ℕ) → i < n
+pub node_total : (field : Node → ℕ) (nodes : ℕ → Node) (i : ℕ) (m : Node) (d n : ℕ) → i < n
     → field m ≡ field (nodes i) + d
     → total (λ x. field (changed nodes i m x)) n ≡ total (λ x. field (nodes x)) n + d
 node_total field nodes i m d n low is =
@@ -99,7 +99,7 @@ took_one : (layout : Shape) (n : Local) (rest : Rest) (i j : ℕ) (ms : List Mes
 took_one layout n rest i j ms (AtHome b row) = refl
 took_one layout n rest i j ms (AtNode b row) = refl
 
-resumed_executed : (work : Work) (n : Node) (phase : Phase)
+pub resumed_executed : (work : Work) (n : Node) (phase : Phase)
     → (resumed work n phase).executed ≡ n.executed
 resumed_executed work n Running = refl
 resumed_executed work n Resumed = refl
@@ -146,7 +146,7 @@ module _ (work : Work) (plan : List PlanEntry) (lay : Layout work)
     n = c.nodes i
 
     few_wanted : (q : Processor) (r : Outcome) (kind : CommitKind) (mv : Move)
-        → Follows layout work plan code.Stands q n.local r kind mv
+        → Follows layout work plan (code.Stands (pace_of_word work plan lay code c m.paces i)) q n.local r kind mv
         → length (each_block_once layout (wants_of mv)) ≤ 2
     few_wanted q r kind (Leaves e) f = omega arith
     few_wanted q r kind (Waits resume want more) f = f.1.few

@@ -151,7 +151,7 @@ module _ (work : Work) (plan : List PlanEntry) (lay : Layout work)
         go (HasEnded end) e h = let bad : Ended end ≡ Waiting resume = sym h ∙ is in cc
         go (Awaits r w ws) e h =
             let stands = subst (λ a. StandsIn layout work plan code (directory layout)
-            (directory_side work lay) (laid_out work lay) a (s.processors k) (c.nodes k).lane
+            (directory_side work lay) (laid_out work lay) (m.paces k) a (s.processors k) (c.nodes k).lane
             (c.nodes k).local) e (m.matches.stands k low) in
             let block = (laid_out work lay).found (line_of w.at) stands.sought.0 in
             let b = block.0 in

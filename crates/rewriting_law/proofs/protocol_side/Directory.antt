@@ -1,6 +1,6 @@
 -- The directory protocol beside what words see of the nodes: what the nodes keep for it, and what a
 -- want and a message change of that.
-use Rattle.std.specs.Prelude.{ℕ, Bool, true, false, if◌then◌else◌, List, [], ◌∷◌, Option, Some, None}
+use Rattle.std.specs.Prelude.{ℕ, Bool, true, false, if◌then◌else◌, List, [], ◌∷◌, length, Option, Some, None}
 use Rattle.block_layout.specs.Layout.{Shape, first_line}
 use Rattle.block_layout.specs.Update.{changed}
 use Rattle.buf_pool.specs.Pool.{empty_buffer}
@@ -58,7 +58,7 @@ module _ (layout : Shape) where
       occupancy = rest.occupancy;
       wait = changed rest.wait i (changed (rest.wait i) b miss.block.wait);
       list = with_sends rest.list i (miss.post ∷ []);
-      counts = asks_more rest.counts;
+      counts = asks_more (wanted miss.block.wait) rest.counts;
     };
   }
 
@@ -87,7 +87,7 @@ module _ (layout : Shape) where
       occupancy = changed rest.occupancy i row.home.occupancy;
       wait = rest.wait;
       list = with_sends (with_list rest.list j i ms) i row.sends;
-      counts = takes_more rest.counts;
+      counts = takes_more (length row.sends) rest.counts;
     };
   }
   took n rest i j ms (Some (AtNode b row)) = record {
@@ -102,7 +102,7 @@ module _ (layout : Shape) where
       occupancy = rest.occupancy;
       wait = changed rest.wait i (changed (rest.wait i) b row.block.wait);
       list = with_sends (with_list rest.list j i ms) i row.sends;
-      counts = takes_more rest.counts;
+      counts = takes_more (length row.sends) rest.counts;
     };
   }
 

@@ -1,5 +1,5 @@
 -- The directory protocol keeps what nodes that share a memory rest on.
-use Rattle.std.proofs.Common.{◌≡◌, ℕ, ◌-◌, ◌%◌, ◌<◌, Bool, true, false, cond, eqb, List, [], ◌∷◌, length, get_or, Option, Some, None, refl, sym, ap, ◌∙◌, subst, inl, inr, arith}
+use Rattle.std.proofs.Common.{◌≡◌, ℕ, ◌-◌, ◌%◌, ◌<◌, Bool, true, false, cond, eqb, List, [], ◌∷◌, ◌++◌, length, get_or, Option, Some, None, refl, sym, ap, ◌∙◌, subst, inl, inr, arith}
 use Rattle.std.specs.Prelude.{is_some, IsSome, ◌&&◌}
 use Rattle.std.proofs.lemmas.Bool.Decides.{nat_tests}
 use Rattle.rv32_decode.specs.Widths.{is_aligned}
@@ -24,17 +24,17 @@ use Rattle.llsc.specs.Reservation.{cleared}
 use Rattle.miss_handlers.specs.Rows.{Row, AtHome, AtNode, block_in, clears, taker_in, is_bye, takes_away}
 use Rattle.rv32_program.specs.declared.Class.TheVariants.{Shared}
 use Rattle.rv32_program.specs.Program.{class_at, line_of}
-use Rattle.coherence.specs.Machine.{Event}
+use Rattle.coherence.specs.Machine.{Event, Want as WantsBlock}
 use Rattle.dsm_protocol.proofs.Counting.{count_alike}
-use Rattle.dsm_protocol.specs.Abstraction.{Contents, need_of, wires_of, most_waits}
+use Rattle.dsm_protocol.specs.Abstraction.{Contents, need_of, most_waits}
 use Rattle.dsm_protocol.specs.World.{World, after_miss}
 use Rattle.dsm_protocol.specs.Sound.{IsLaid, size}
 use Rattle.dsm_protocol.specs.Memory.{address_of, store_in}
-use Rattle.dsm_protocol.specs.Events.{row_of, after_row, pending}
+use Rattle.dsm_protocol.specs.Events.{row_of, after_row, sends_in, pending}
 use Rattle.dsm_protocol.specs.Holds.{HoldsBy, Holds, wanted, AfterWant, AfterTake}
 use Rattle.dsm_protocol.proofs.Openings.{LineLaws}
 use Rattle.dsm_protocol.proofs.Alike.{Alike}
-use Rattle.dsm_protocol.proofs.Promised.{proper, two_of_most}
+use Rattle.dsm_protocol.proofs.Promised.{two_of_most}
 use Rattle.dsm_protocol.proofs.ProtocolSide as world
 use Rattle.dsm_protocol.proofs.ByAddress.{byte_of_block, flag_at}
 use Rattle.node_model.specs.Turns.{with_state}
@@ -295,7 +295,8 @@ module _ (work : Work) (lay : Layout work) where
 
       want_leaves : (b : ℕ) (need : Need) (miss : Miss) → b < blocks layout
           → (holds : Holds layout (after_miss w i b miss) memory)
-          → AreCounted layout holds.first holds.events (asks_more rest.counts)
+          → AreCounted layout holds.first holds.events
+          (asks_more (wanted miss.block.wait) rest.counts)
           → AfterWant i b need w (after_miss w i b miss)
           → WantLeaves layout work (directory layout) Held locals rest memory i b need
           (missed layout (locals i) rest i b (Some miss))
@@ -353,8 +354,11 @@ module _ (work : Work) (lay : Layout work) where
           subst (λ o. WantLeaves layout work (directory layout) Held locals rest memory i b need
           (missed layout (locals i) rest i b o)) (sym got.1)
           (want_leaves b need got.0 below (by_list got.2)
+          (subst (λ o. AreCounted layout h.holds.first
+          (h.holds.events ++ WantsBlock i b (need_of need) ∷ []) (asks_more o rest.counts))
+          (sym (ap wanted (sym (place_own w.wait i b got.0.block.wait)) ∙ got.3.own))
           (want_counted layout h.holds.first lay.laid.some h.holds.events rest.counts i b
-          (need_of need) h.counted) got.3)
+          need h.counted got.4)) got.3)
 
       -- what may be written may still be written, where that holds of the block
       writes_kept : (b : ℕ) (state : State) → b < blocks layout
@@ -430,7 +434,8 @@ module _ (work : Work) (lay : Layout work) where
 
         -- another message, by its row
         module _ (row : Row) (holds : Holds layout (after_row w j i ms row) memory)
-            (counted : AreCounted layout holds.first holds.events (takes_more rest.counts))
+            (counted : AreCounted layout holds.first holds.events
+            (takes_more (length (sends_in row)) rest.counts))
             (left : AfterTake layout i m row w (after_row w j i ms row))
           where
             abbrev t : Treated Rest
@@ -546,8 +551,12 @@ module _ (work : Work) (lay : Layout work) where
 
             then_counted : (r : Row) → r ≡ row → AreCounted layout holds.first holds.events
                 (took layout (locals i) rest i j ms (Some r)).rest.counts
-            then_counted (AtHome b r) is = counted
-            then_counted (AtNode b r) is = counted
+            then_counted (AtHome b r) is =
+                subst (λ z. AreCounted layout holds.first holds.events
+                (takes_more (length (sends_in z)) rest.counts)) (sym is) counted
+            then_counted (AtNode b r) is =
+                subst (λ z. AreCounted layout holds.first holds.events
+                (takes_more (length (sends_in z)) rest.counts)) (sym is) counted
 
             row_leaves : Leaves order t
             row_leaves = record {
@@ -617,9 +626,8 @@ module _ (work : Work) (lay : Layout work) where
             lj front plain in
             subst (λ o. Leaves (order_by (taker_in m) o) (took layout (locals i) rest i j ms o))
             (sym got.1) (row_leaves got.0 (by_list got.2)
-            (take_counted layout h.holds.first (proper layout lay.laid h.holds.first)
-            h.holds.events rest.counts i j m ms plain
-            (h.holds.by.leads.list j i lj low ∙ ap wires_of front) h.counted) got.3)
+            (take_counted layout h.holds.first h.holds.events rest.counts i j ms
+            (sends_in got.0) got.4 h.counted) got.3)
         message_leaves true bye =
             let none : row_of layout w i j m ≡ None = bye_row layout w i j m bye in
             subst (λ o. Leaves (order_by (taker_in m) o) (took layout (locals i) rest i j ms o))

@@ -1,30 +1,59 @@
 -- What the wants of a protocol list allow, and what its takes take, over all blocks.
-use Rattle.std.proofs.Common.{◌≡◌, ◌≢◌, ℕ, zero, suc, ◌+◌, ◌*◌, ◌<◌, ◌≤◌, ◌⊎◌, Bool, true, false, cond, eqb, ltb, List, [], ◌∷◌, ◌++◌, length, Some, None, refl, sym, ap, ◌∙◌, subst, inl, inr, arith}
+use Rattle.std.proofs.Common.{◌≡◌, ◌≢◌, ℕ, zero, suc, ◌+◌, ◌*◌, ◌<◌, ◌≤◌, ◌⊎◌, Bool, true, false, cond, eqb, ltb, List, [], ◌∷◌, ◌++◌, length, Option, Some, None, refl, sym, ap, ◌∙◌, subst, inl, inr, arith}
 use Rattle.std.proofs.lemmas.Bool.Decides.{eqb_tells, nat_tests}
 use Rattle.block_layout.specs.Layout.{Shape, blocks}
 use Rattle.coherence.specs.Messages as m
 use Rattle.coherence.specs.Table.{Effect, effect_or, row, update}
-use Rattle.coherence.specs.Machine.{Wire, Tally, Core, Setting, Proper, Event, Store, Want, Take, local, row_of, tally_after, store_in, take_in, want_in, may_want, step, opening, after}
-use Rattle.coherence.proofs.Theorem.{all_rows, all_frugal}
+use Rattle.coherence.specs.Machine.{Wire, Tally, Core, Setting, Proper, Event, Store, Want, Take, local, row_of, tally_after, store_in, take_in, want_in, may_want, apply, step, opening, after}
+use Rattle.coherence.proofs.Theorem.{all_frugal}
+use Rattle.home_directory.specs.declared.messages.Need.{Need}
+use Rattle.home_directory.specs.declared.messages.Need.TheVariants as need
 use Rattle.home_directory.specs.declared.messages.Message.{Message}
-use Rattle.home_directory.specs.declared.messages.Message.TheVariants.{Read, Write, FwdRead, FwdWrite, Inval, Data, Grant, Ack, Done, Bye}
-use Rattle.miss_handlers.specs.Rows.{is_bye}
-use Rattle.dsm_protocol.specs.Abstraction.{Contents, wire_of, wires_of, setting_of}
-use Rattle.dsm_protocol.proofs.Taking.{steps_more}
+use Rattle.home_directory.specs.declared.messages.Post.{Post}
+use Rattle.dsm_protocol.specs.Abstraction.{Contents, need_of, wires_of, setting_of}
+use Rattle.dsm_protocol.proofs.Taking.{IsRowOf, steps_more}
 
--- how many blocks were wanted, and how many messages taken
+-- how many blocks were wanted, to be read and to be written; how many messages were taken, and how
+-- many sent
 pub record Counts : Type 0 where
   pub asked : ℕ
+  pub reads : ℕ
+  pub writes : ℕ
   pub taken : ℕ
+  pub sent : ℕ
 
 abbrev pub no_counts : Counts
-no_counts = record { asked = 0; taken = 0 }
+no_counts = record { asked = 0; reads = 0; writes = 0; taken = 0; sent = 0 }
 
-abbrev pub asks_more : Counts → Counts
-asks_more k = record { asked = k.asked + 1; taken = k.taken }
+abbrev pub reads_in : Option Need → ℕ
+reads_in (Some need.Read) = 1
+reads_in (Some need.Write) = 0
+reads_in None = 0
 
-abbrev pub takes_more : Counts → Counts
-takes_more k = record { asked = k.asked; taken = k.taken + 1 }
+abbrev pub writes_in : Option Need → ℕ
+writes_in (Some need.Read) = 0
+writes_in (Some need.Write) = 1
+writes_in None = 0
+
+-- a request was sent, for this
+abbrev pub asks_more : Option Need → Counts → Counts
+asks_more for k = record {
+  asked = k.asked + 1;
+  reads = k.reads + reads_in for;
+  writes = k.writes + writes_in for;
+  taken = k.taken;
+  sent = k.sent + 1;
+}
+
+-- a message was taken, and so many sent
+abbrev pub takes_more : ℕ → Counts → Counts
+takes_more sends k = record {
+  asked = k.asked;
+  reads = k.reads;
+  writes = k.writes;
+  taken = k.taken + 1;
+  sent = k.sent + sends;
+}
 
 -- 1. Sums
 
@@ -75,10 +104,19 @@ module _ (l : Shape) (first : ℕ → Contents) where
   abbrev allowances_of : Core Contents → ℕ → ℕ
   allowances_of c b = (c.tally b).allowance
 
-  -- the list wants so many blocks at most, and takes so many messages at least
-  pub record AreCounted (es : List (Event Contents)) (k : Counts) : Type 0 where
-    pub allowed : total (allowances_of (after s es)) (blocks l) ≤ (2 * l.nodes + 2) * k.asked
-    pub taken : k.taken ≤ total (takes_of (after s es)) (blocks l)
+  abbrev sends_of : Core Contents → ℕ → ℕ
+  sends_of c b = (c.tally b).sends
+
+  -- so many blocks were wanted at most, and so many messages taken and sent at least
+  pub record CountedIn (c : Core Contents) (k : Counts) : Type 0 where
+    pub allowed : total (allowances_of c) (blocks l) ≤ (2 * l.nodes + 2) * k.asked
+    pub paid : total (allowances_of c) (blocks l) ≤ 4 * k.reads + (2 * l.nodes + 1) * k.writes
+    pub taken : k.taken ≤ total (takes_of c) (blocks l)
+    pub sent : k.sent ≤ total (sends_of c) (blocks l)
+
+  -- by the list
+  abbrev pub AreCounted : List (Event Contents) → Counts → Type 0
+  AreCounted es k = CountedIn (after s es) k
 
   no_total : (n : ℕ) → total (λ b. 0) n ≡ 0
   no_total zero = refl
@@ -87,7 +125,9 @@ module _ (l : Shape) (first : ℕ → Contents) where
   pub start_counted : AreCounted [] no_counts
   start_counted = record {
     allowed = (let none = no_total (blocks l) in omega (arith, none));
+    paid = (let none = no_total (blocks l) in omega (arith, none));
     taken = omega arith;
+    sent = omega arith;
   }
 
   abbrev then : List (Event Contents) → Event Contents → Core Contents
@@ -98,13 +138,21 @@ module _ (l : Shape) (first : ℕ → Contents) where
   is_then es e = steps_more s es e (opening s)
 
   by_step : (es : List (Event Contents)) (e : Event Contents) (k : Counts)
-      → total (allowances_of (then es e)) (blocks l) ≤ (2 * l.nodes + 2) * k.asked
-      → k.taken ≤ total (takes_of (then es e)) (blocks l) → AreCounted (es ++ e ∷ []) k
-  by_step es e k allowed taken = record {
-    allowed = subst (λ (c : Core Contents). total (allowances_of c) (blocks l)
-        ≤ (2 * l.nodes + 2) * k.asked) (sym (is_then es e)) allowed;
-    taken = subst (λ (c : Core Contents). k.taken ≤ total (takes_of c) (blocks l))
-        (sym (is_then es e)) taken;
+      → CountedIn (then es e) k → AreCounted (es ++ e ∷ []) k
+  by_step es e k h = subst (λ (c : Core Contents). CountedIn c k) (sym (is_then es e)) h
+
+  -- no tally has changed
+  still_counted : (c d : Core Contents) (k : Counts) → d.tally ≡ c.tally → CountedIn c k
+      → CountedIn d k
+  still_counted c d k same h = record {
+    allowed = subst (λ (f : ℕ → Tally). total (λ x. (f x).allowance) (blocks l)
+        ≤ (2 * l.nodes + 2) * k.asked) (sym same) h.allowed;
+    paid = subst (λ (f : ℕ → Tally). total (λ x. (f x).allowance) (blocks l)
+        ≤ 4 * k.reads + (2 * l.nodes + 1) * k.writes) (sym same) h.paid;
+    taken = subst (λ (f : ℕ → Tally). k.taken ≤ total (λ x. (f x).takes) (blocks l)) (sym same)
+        h.taken;
+    sent = subst (λ (f : ℕ → Tally). k.sent ≤ total (λ x. (f x).sends) (blocks l)) (sym same)
+        h.sent;
   }
 
   pub store_counted : (es : List (Event Contents)) (k : Counts) (i b : ℕ)
@@ -116,10 +164,7 @@ module _ (l : Shape) (first : ℕ → Contents) where
         | true ↦ refl
         | false ↦ refl
       ]) in
-      by_step es (Store i b write) k
-      (subst (λ (f : ℕ → Tally). total (λ x. (f x).allowance) (blocks l)
-      ≤ (2 * l.nodes + 2) * k.asked) (sym same) h.allowed)
-      (subst (λ (f : ℕ → Tally). k.taken ≤ total (λ x. (f x).takes) (blocks l)) (sym same) h.taken)
+      by_step es (Store i b write) k (still_counted c (then es (Store i b write)) k same h)
 
   -- one block's tally has changed
   module _ (f g : ℕ → Tally) (b : ℕ) (t : Tally) (is : (x : ℕ) → g x ≡ update f b t x) where
@@ -135,29 +180,45 @@ module _ (l : Shape) (first : ℕ → Contents) where
         let other : eqb x b ≡ false = grind (arith, nat_tests) in
         is x ∙ ap (λ z. cond z t (f x)) other
 
-  allowance_most : 0 < l.nodes → (need : m.Need) → m.allowance_for l.nodes need ≤ 2 * l.nodes + 2
+  allowance_most : 0 < l.nodes → (for : m.Need) → m.allowance_for l.nodes for ≤ 2 * l.nodes + 2
   allowance_most some m.Read = omega (arith, some)
   allowance_most some m.Write = omega arith
 
+  pays : (for : Need) (d : ℕ) → m.allowance_for l.nodes (need_of for) ≡ d
+      → d ≤ 4 * reads_in (Some for) + (2 * l.nodes + 1) * writes_in (Some for)
+  pays need.Read d e = let is : 4 ≡ d = e in omega (arith, is)
+  pays need.Write d e = let is : 2 * l.nodes + 1 ≡ d = e in omega (arith, is)
+
+  more_paid : (r w x y t u d : ℕ) → t ≤ 4 * r + (2 * l.nodes + 1) * w
+      → d ≤ 4 * x + (2 * l.nodes + 1) * y → u ≤ t + d
+      → u ≤ 4 * (r + x) + (2 * l.nodes + 1) * (w + y)
+  more_paid r w x y t u d before more is = omega (arith, before, more, is)
+
   pub want_counted : 0 < l.nodes → (es : List (Event Contents)) (k : Counts) (i b : ℕ)
-      (need : m.Need) → AreCounted es k → AreCounted (es ++ Want i b need ∷ []) (asks_more k)
-  want_counted some es k i b need h =
-      by_step es (Want i b need) (asks_more k)
-      (go (may_want s c i b need)).0 (go (may_want s c i b need)).1
+      (for : Need) → AreCounted es k
+      → (may_want s (after s es) i b (need_of for) ≡ true)
+      → AreCounted (es ++ Want i b (need_of for) ∷ []) (asks_more (Some for) k)
+  want_counted some es k i b for h may =
+      by_step es (Want i b (need_of for)) (asks_more (Some for) k)
+      (subst (λ t. CountedIn (cond t (want_in s c i b (need_of for)) c) (asks_more (Some for) k))
+      (sym may) wanted)
     where
       c : Core Contents
       c = after s es
+
+      cost : ℕ
+      cost = m.allowance_for l.nodes (need_of for)
 
       own : Tally
       own = record {
         takes = (c.tally b).takes;
         sends = (c.tally b).sends + 1;
-        allowance = (c.tally b).allowance + m.allowance_for l.nodes need;
+        allowance = (c.tally b).allowance + cost;
         cost = (c.tally b).cost;
       }
 
       d : Core Contents
-      d = want_in s c i b need
+      d = want_in s c i b (need_of for)
 
       there : d.tally b ≡ own
       there = own_tally c.tally d.tally b own (λ x. refl)
@@ -165,48 +226,43 @@ module _ (l : Shape) (first : ℕ → Contents) where
       elsewhere : (x : ℕ) → x ≢ b → d.tally x ≡ c.tally x
       elsewhere = other_tally c.tally d.tally b own (λ x. refl)
 
-      allowed : total (allowances_of d) (blocks l) ≤ (2 * l.nodes + 2) * (k.asked + 1)
-      allowed =
-          let before = h.allowed in
-          let most = allowance_most some need in
-          elim (total_one (allowances_of c) (allowances_of d) b (m.allowance_for l.nodes need)
+      below : b < blocks l
+      below = grind (arith, nat_tests)
+
+      grown : (f g : ℕ → ℕ) (n : ℕ) → g b ≡ f b + n → ((x : ℕ) → x ≢ b → g x ≡ f x)
+          → total g (blocks l) ≡ total f (blocks l) + n
+      grown f g n own other = elim (total_one f g b n own other (blocks l)) [
+        | inl same ↦ (let above = same.0 in absurd (omega (arith, above, below)))
+        | inr more ↦ more.1
+      ]
+
+      dear : total (allowances_of d) (blocks l) ≡ total (allowances_of c) (blocks l) + cost
+      dear = grown (allowances_of c) (allowances_of d) cost
           (ap (λ (t : Tally). t.allowance) there)
-          (λ x apart. ap (λ (t : Tally). t.allowance) (elsewhere x apart)) (blocks l)) [
-            | inl same ↦ (let e = same.1 in omega (arith, e, before))
-            | inr more ↦ (let e = more.1 in omega (arith, e, before, most))
-          ]
+          (λ x apart. ap (λ (t : Tally). t.allowance) (elsewhere x apart))
 
-      taken : k.taken ≤ total (takes_of d) (blocks l)
-      taken =
-          let before = h.taken in
-          elim (total_one (takes_of c) (takes_of d) b 0
+      takes : total (takes_of d) (blocks l) ≡ total (takes_of c) (blocks l) + 0
+      takes = grown (takes_of c) (takes_of d) 0
           (let e = ap (λ (t : Tally). t.takes) there in omega (arith, e))
-          (λ x apart. ap (λ (t : Tally). t.takes) (elsewhere x apart)) (blocks l)) [
-            | inl same ↦ (let e = same.1 in omega (arith, e, before))
-            | inr more ↦ (let e = more.1 in omega (arith, e, before))
-          ]
+          (λ x apart. ap (λ (t : Tally). t.takes) (elsewhere x apart))
 
-      go : (t : Bool)
-          → (total (allowances_of (cond t (want_in s c i b need) c)) (blocks l)
-          ≤ (2 * l.nodes + 2) * (k.asked + 1))
-          × (k.taken ≤ total (takes_of (cond t (want_in s c i b need) c)) (blocks l))
-      go true = (allowed, taken)
-      go false =
-          let before = h.allowed in (omega (arith, before), h.taken)
+      sends : total (sends_of d) (blocks l) ≡ total (sends_of c) (blocks l) + 1
+      sends = grown (sends_of c) (sends_of d) 1
+          (ap (λ (t : Tally). t.sends) there)
+          (λ x apart. ap (λ (t : Tally). t.sends) (elsewhere x apart))
 
-  -- a message that isn't a Bye is about a block
-  plain_wire : (message : Message) → is_bye message ≡ false
-      → (w : Wire Contents) × (wire_of message ≡ w ∷ [])
-  plain_wire (Read b buf) e = (_, refl)
-  plain_wire (Write b buf) e = (_, refl)
-  plain_wire (FwdRead b r buf) e = (_, refl)
-  plain_wire (FwdWrite b r k buf) e = (_, refl)
-  plain_wire (Inval b r) e = (_, refl)
-  plain_wire (Data b k buf) e = (_, refl)
-  plain_wire (Grant b k buf) e = (_, refl)
-  plain_wire (Ack b) e = (_, refl)
-  plain_wire (Done b) e = (_, refl)
-  plain_wire Bye e = let bad : true ≡ false = e in cc
+      wanted : CountedIn d (asks_more (Some for) k)
+      wanted = record {
+        allowed = (
+            let before = h.allowed in
+            let most = allowance_most some (need_of for) in
+            omega (arith, before, most, dear));
+        paid = more_paid k.reads k.writes (reads_in (Some for)) (writes_in (Some for))
+            (total (allowances_of c) (blocks l)) (total (allowances_of d) (blocks l)) cost h.paid
+            (pays for cost refl) (omega (arith, dear));
+        taken = (let before = h.taken in omega (arith, before, takes));
+        sent = (let before = h.sent in omega (arith, before, sends));
+      }
 
   -- one with a row is about a block of the layout
   block_below : (c : Core Contents) (i j : ℕ) (w : Wire Contents) (e : Effect Contents)
@@ -220,27 +276,25 @@ module _ (l : Shape) (first : ℕ → Contents) where
       go true low h = grind (arith, nat_tests)
       go false low h = let bad : None ≡ Some e = h in cc
 
-  wire_counted : Proper s → (es : List (Event Contents)) (k : Counts) (i j : ℕ)
-      (w : Wire Contents) (rest : List (Wire Contents)) → (after s es).list j i ≡ w ∷ rest
-      → AreCounted es k → AreCounted (es ++ Take i j ∷ []) (takes_more k)
-  wire_counted proper es k i j w rest front h =
-      by_step es (Take i j) (takes_more k)
-      (subst (λ ws. total (allowances_of (take_in s c i j ws)) (blocks l)
-      ≤ (2 * l.nodes + 2) * k.asked) (sym front) allowed)
-      (subst (λ ws. k.taken + 1 ≤ total (takes_of (take_in s c i j ws)) (blocks l)) (sym front)
-      taken)
+  wire_counted : (es : List (Event Contents)) (k : Counts) (i j : ℕ) (w : Wire Contents)
+      (rest : List (Wire Contents)) (e : Effect Contents) (sends : ℕ)
+      → (after s es).list j i ≡ w ∷ rest → row_of s (after s es) i j w ≡ Some e
+      → sends ≤ length e.sends → AreCounted es k
+      → AreCounted (es ++ Take i j ∷ []) (takes_more sends k)
+  wire_counted es k i j w rest e sends front is few h =
+      by_step es (Take i j) (takes_more sends k)
+      (subst (λ ws. CountedIn (take_in s c i j ws) (takes_more sends k)) (sym front)
+      (subst (λ o. CountedIn (apply c j i w.block rest (effect_or (local c i w.block) o))
+      (takes_more sends k)) (sym is) counted))
     where
       c : Core Contents
       c = after s es
 
-      effect : Effect Contents
-      effect = effect_or (local c i w.block) (row_of s c i j w)
-
       d : Core Contents
-      d = take_in s c i j (w ∷ rest)
+      d = apply c j i w.block rest e
 
       own : Tally
-      own = tally_after (c.tally w.block) effect.sends
+      own = tally_after (c.tally w.block) e.sends
 
       there : d.tally w.block ≡ own
       there = own_tally c.tally d.tally w.block own (λ x. refl)
@@ -248,36 +302,48 @@ module _ (l : Shape) (first : ℕ → Contents) where
       elsewhere : (x : ℕ) → x ≢ w.block → d.tally x ≡ c.tally x
       elsewhere = other_tally c.tally d.tally w.block own (λ x. refl)
 
-      allowed : total (allowances_of d) (blocks l) ≤ (2 * l.nodes + 2) * k.asked
-      allowed =
-          let before = h.allowed in
-          elim (total_one (allowances_of c) (allowances_of d) w.block 0
+      below : w.block < blocks l
+      below = block_below c i j w e is
+
+      grown : (f g : ℕ → ℕ) (n : ℕ) → g w.block ≡ f w.block + n
+          → ((x : ℕ) → x ≢ w.block → g x ≡ f x)
+          → total g (blocks l) ≡ total f (blocks l) + n
+      grown f g n own other = elim (total_one f g w.block n own other (blocks l)) [
+        | inl same ↦ (let above = same.0 in absurd (omega (arith, above, below)))
+        | inr more ↦ more.1
+      ]
+
+      same : total (allowances_of d) (blocks l) ≡ total (allowances_of c) (blocks l) + 0
+      same = grown (allowances_of c) (allowances_of d) 0
           (let e = ap (λ (t : Tally). t.allowance) there in omega (arith, e))
-          (λ x apart. ap (λ (t : Tally). t.allowance) (elsewhere x apart)) (blocks l)) [
-            | inl same ↦ (let e = same.1 in omega (arith, e, before))
-            | inr more ↦ (let e = more.1 in omega (arith, e, before))
-          ]
+          (λ x apart. ap (λ (t : Tally). t.allowance) (elsewhere x apart))
 
-      taken : k.taken + 1 ≤ total (takes_of d) (blocks l)
-      taken =
-          let before = h.taken in
-          let found = all_rows Contents s proper es i j w rest front in
-          let below = block_below c i j w found.0 found.1 in
-          elim (total_one (takes_of c) (takes_of d) w.block 1
+      one_more : total (takes_of d) (blocks l) ≡ total (takes_of c) (blocks l) + 1
+      one_more = grown (takes_of c) (takes_of d) 1
           (ap (λ (t : Tally). t.takes) there)
-          (λ x apart. ap (λ (t : Tally). t.takes) (elsewhere x apart)) (blocks l)) [
-            | inl same ↦ (let above = same.0 in absurd (omega (arith, above, below)))
-            | inr more ↦ (let e = more.1 in omega (arith, e, before))
-          ]
+          (λ x apart. ap (λ (t : Tally). t.takes) (elsewhere x apart))
 
-  pub take_counted : Proper s → (es : List (Event Contents)) (k : Counts) (i j : ℕ)
-      (message : Message) (ms : List Message) → is_bye message ≡ false
-      → (after s es).list j i ≡ wires_of (message ∷ ms)
-      → AreCounted es k → AreCounted (es ++ Take i j ∷ []) (takes_more k)
-  take_counted proper es k i j message ms plain front h =
-      let wire = plain_wire message plain in
-      wire_counted proper es k i j wire.0 (wires_of ms)
-      (front ∙ ap (λ z. z ++ wires_of ms) wire.1) h
+      sent : total (sends_of d) (blocks l) ≡ total (sends_of c) (blocks l) + length e.sends
+      sent = grown (sends_of c) (sends_of d) (length e.sends)
+          (ap (λ (t : Tally). t.sends) there)
+          (λ x apart. ap (λ (t : Tally). t.sends) (elsewhere x apart))
+
+      counted : CountedIn d (takes_more sends k)
+      counted = record {
+        allowed = (let before = h.allowed in omega (arith, before, same));
+        paid = (let before = h.paid in omega (arith, before, same));
+        taken = (let before = h.taken in omega (arith, before, one_more));
+        sent = (let before = h.sent in omega (arith, before, sent, few));
+      }
+
+  -- the row of a message sends so many messages, no more than the core's row does
+  pub take_counted : (es : List (Event Contents)) (k : Counts) (i j : ℕ)
+      (ms : List Message) (sends : List Post)
+      → IsRowOf l first es i j ms sends → AreCounted es k
+      → AreCounted (es ++ Take i j ∷ []) (takes_more (length sends) k)
+  take_counted es k i j ms sends row h =
+      wire_counted es k i j row.wire (wires_of ms) row.effect (length sends) row.front row.is
+      row.few h
 
   -- the messages taken are no more than the wants allow
   pub few_taken : Proper s → (es : List (Event Contents)) (k : Counts) → AreCounted es k
@@ -288,3 +354,13 @@ module _ (l : Shape) (first : ℕ → Contents) where
       let taken = h.taken in
       let allowed = h.allowed in
       omega (arith, all, taken, allowed)
+
+  -- nor are those sent: four for each block that is wanted to be read, and 2n + 1 to be written
+  pub few_sent : Proper s → (es : List (Event Contents)) (k : Counts) → AreCounted es k
+      → k.sent ≤ 4 * k.reads + (2 * l.nodes + 1) * k.writes
+  few_sent proper es k h =
+      let all = total_most (sends_of (after s es)) (allowances_of (after s es)) (blocks l)
+      (λ b low. (all_frugal Contents s proper es).sends b) in
+      let sent = h.sent in
+      let paid = h.paid in
+      omega (arith, all, sent, paid)

@@ -27,14 +27,14 @@ use Rattle.rewriting_law.specs.CoreRun.{is_wait, commits_by, picks_at}
 use Rattle.rewriting_law.specs.Interleaving.{original_by_node, GoesAlone}
 use Rattle.rewriting_law.proofs.templates.States.{grants}
 use Rattle.rewriting_law.proofs.templates.Does.{local_conditional, Commits}
-use Rattle.rewriting_law.proofs.words.CodeSide.{GoesOn, Follows, CodeSide}
+use Rattle.rewriting_law.proofs.words.CodeSide.{Pace, GoesOn, Follows, CodeSide}
 use Rattle.rewriting_law.proofs.one_memory.Sharing.{readable_if_writable}
 use Rattle.rewriting_law.proofs.templates.RegisterLemmas.{equal}
 use Rattle.rewriting_law.proofs.one_memory.Matching.{Activity, Runs, Awaits, HasEnded}
 use Rattle.rewriting_law.proofs.protocol_side.DirectorySide.{Layout, laid_out}
 use Rattle.rewriting_law.proofs.runs.Turns.{byes_node}
 use Rattle.rewriting_law.proofs.runs.TurnTies.{resumed_blocks}
-use Rattle.rewriting_law.proofs.runs.Composed.{IsPhase, MatchesCore, may_run, next_word, event_leads, start_matches, byes_are}
+use Rattle.rewriting_law.proofs.runs.Composed.{IsPhase, MatchesCore, pace_of_word, may_run, next_word, event_leads, start_matches, byes_are}
 
 -- Byes alone
 abbrev OnlyByes : List Wire → Type 0
@@ -116,32 +116,32 @@ module _ (work : Work) (plan : List PlanEntry) (lay : Layout work)
         ap (λ (x : Local). x.state) h.2 ∙ conditional_state x value (holds n.reservation x)
     commits_state K (UpdatesAt o d x value) h = ap (λ (x : Local). x.state) h.2
 
-    goes_state : (b : Bool) → GoesOn layout work plan code.Stands q n r b
+    goes_state : (x : Pace) (b : Bool) → GoesOn layout work plan (code.Stands x) q n r b
         → r.local.state ≡ n.state
-    goes_state true h = commits_state _ (request work.program q) h.1
-    goes_state false h = ap (λ (x : Local). x.state) h.1
+    goes_state x true h = commits_state _ (request work.program q) h.1
+    goes_state x false h = ap (λ (x : Local). x.state) h.1
 
-    follows_state : (kind : CommitKind) (mv : Move)
-        → Follows layout work plan code.Stands q n r kind mv → r.local.state ≡ n.state
-    follows_state kind (Leaves e) h = ap (λ (x : Local). x.state) h.local
-    follows_state kind (Waits resume want more) h = ap (λ (x : Local). x.state) h.1.local
-    follows_state kind Next h = goes_state (commits_by kind r) h
-    follows_state kind Again h = goes_state (commits_by kind r) h
-    follows_state kind (To target) h = goes_state (commits_by kind r) h
-    follows_state kind (Enters target) h = goes_state (commits_by kind r) h
+    follows_state : (x : Pace) (kind : CommitKind) (mv : Move)
+        → Follows layout work plan (code.Stands x) q n r kind mv → r.local.state ≡ n.state
+    follows_state x kind (Leaves e) h = ap (λ (x : Local). x.state) h.local
+    follows_state x kind (Waits resume want more) h = ap (λ (x : Local). x.state) h.1.local
+    follows_state x kind Next h = goes_state x (commits_by kind r) h
+    follows_state x kind Again h = goes_state x (commits_by kind r) h
+    follows_state x kind (To target) h = goes_state x (commits_by kind r) h
+    follows_state x kind (Enters target) h = goes_state x (commits_by kind r) h
 
     -- and none waits
-    never_waits : (kind : CommitKind) (mv : Move) → HasAll n
-        → Follows layout work plan code.Stands q n r kind mv → is_wait mv ≡ false
-    never_waits kind (Waits resume want more) all h =
+    never_waits : (x : Pace) (kind : CommitKind) (mv : Move) → HasAll n
+        → Follows layout work plan (code.Stands x) q n r kind mv → is_wait mv ≡ false
+    never_waits x kind (Waits resume want more) all h =
         let w = h.1.wanted.0 in
         let bad : false ≡ true = sym w.unmet
         ∙ granted_all want.need (n.state (line_of want.at)) (all (line_of want.at) w.shared) in cc
-    never_waits kind (Leaves e) all h = refl
-    never_waits kind Next all h = refl
-    never_waits kind Again all h = refl
-    never_waits kind (To target) all h = refl
-    never_waits kind (Enters target) all h = refl
+    never_waits x kind (Leaves e) all h = refl
+    never_waits x kind Next all h = refl
+    never_waits x kind Again all h = refl
+    never_waits x kind (To target) all h = refl
+    never_waits x kind (Enters target) all h = refl
 
   module _ (c : Core) (s : State) (m : MatchesCore work plan lay code c s) (a : AllAlone c) (i : ℕ)
       (below : i < layout.nodes) where
@@ -156,7 +156,7 @@ module _ (work : Work) (plan : List PlanEntry) (lay : Layout work)
       kind = commit_at work.program plan (old_of work.image n.lane.at)
 
       no_wait : is_wait r.move ≡ false
-      no_wait = never_waits (s.processors i) n.local r kind r.move (a.writable i below)
+      no_wait = never_waits (s.processors i) n.local r (pace_of_word work plan lay code c m.paces i) kind r.move (a.writable i below)
           (next_word work plan lay code c s m i below runs)
 
       same_turn : after_wants work n ≡ after_word work n
@@ -175,7 +175,7 @@ module _ (work : Work) (plan : List PlanEntry) (lay : Layout work)
       has_all_then line shared =
           ap (λ (x : Node). is_writable_state (x.local.state line)) word_alone.node
           ∙ ap (λ (f : ℕ → ℕ). is_writable_state (f line))
-          (follows_state (s.processors i) n.local r kind r.move
+          (follows_state (s.processors i) n.local r (pace_of_word work plan lay code c m.paces i) kind r.move
           (next_word work plan lay code c s m i below runs))
           ∙ a.writable i below line shared
 

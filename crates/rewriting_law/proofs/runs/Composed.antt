@@ -29,11 +29,11 @@ use Rattle.node_model.specs.Node.{Work, Node, Lane, Local, Want, Move, Next, Aga
 use Rattle.node_model.specs.Turns.{Turn, holding, byes_to, with_byes, is_ended, wants_of, after_word, after_wants, treated, has_no_wait, resumed, journaled, after_message, take_turn, each_block_once}
 use Rattle.node_model.specs.Core.{Core, Event, Exec, Take, May, IsCoreRun, may_execute, may_take, opening_core, with_turn, with_list, take_first, event_step, after, printed_at, printed_by}
 use Rattle.rewriting_law.specs.ProtocolLists.{messages_of}
-use Rattle.rewriting_law.specs.CoreRun.{Order, order_by, break_by, picks_of_take, picks_at, picks_of, values_at, values_of}
+use Rattle.rewriting_law.specs.CoreRun.{Order, is_wait, order_by, break_by, picks_of_take, picks_at, picks_of, values_at, values_of}
 use Rattle.rewriting_law.specs.Licence.{AllLicensed, IsLicensed}
 use Rattle.rewriting_law.specs.Interleaving.{original_by_node, EndsAs}
 use Rattle.rewriting_law.proofs.templates.RegisterLemmas.{equal, apart}
-use Rattle.rewriting_law.proofs.words.CodeSide.{AllWanted, Follows, CodeSide}
+use Rattle.rewriting_law.proofs.words.CodeSide.{Pace, first_pace, pace_after, pace_at, AllWanted, Follows, CodeSide}
 use Rattle.rewriting_law.proofs.one_memory.Sharing.{IsReadable, with_local, is_same, local_here}
 use Rattle.rewriting_law.proofs.one_memory.Advances.{Advanced, FollowsTo, run_append, join}
 use Rattle.rewriting_law.proofs.one_memory.Messages.{AreLaidOut}
@@ -95,20 +95,27 @@ module _ (work : Work) (plan : List PlanEntry) (lay : Layout work)
   IsPhase (Awaits resume want more) phase = phase ≡ Waiting resume
   IsPhase (HasEnded end) phase = phase ≡ Ended end
 
+  -- one that runs has waited last only where it has just got what it waited for
+  abbrev IsCalm : Pace → Phase → Type 0
+  IsCalm p phase = phase ≡ Running → p.waited ≡ false
+
   abbrev lanes_of : Core → ℕ → Lane
   lanes_of c i = (c.nodes i).lane
 
-  abbrev MatchesHere : (ℕ → Lane) → (ℕ → Activity) → (ℕ → Local) → Rest → State → Type 0
-  MatchesHere lanes doing locals rest s =
-      Matches layout work plan code protocol side laid lanes doing locals rest s
+  abbrev MatchesHere : (ℕ → Pace) → (ℕ → Lane) → (ℕ → Activity) → (ℕ → Local) → Rest → State
+      → Type 0
+  MatchesHere paces lanes doing locals rest s =
+      Matches layout work plan code protocol side laid paces lanes doing locals rest s
 
   pub record MatchesCore (c : Core) (s : State) : Type 0 where
+    pub paces : ℕ → Pace
     pub doing : ℕ → Activity
+    pub calm : (i : ℕ) → i < layout.nodes → IsCalm (paces i) (c.nodes i).phase
     pub phases : (i : ℕ) → i < layout.nodes → IsPhase (doing i) (c.nodes i).phase
     pub numbers : (i : ℕ) → i < layout.nodes → (c.nodes i).me ≡ i
     -- what was wanted and taken so far
     pub counts : Counts
-    pub matches : MatchesHere (lanes_of c) doing (locals_of c) (rest_at counts c) s
+    pub matches : MatchesHere paces (lanes_of c) doing (locals_of c) (rest_at counts c) s
 
   -- the same parts, stored otherwise
   held_like : (locals others : ℕ → Local) (old new : Rest) (memory : ℕ → ℕ)
@@ -142,22 +149,22 @@ module _ (work : Work) (plan : List PlanEntry) (lay : Layout work)
     list = h.list;
   }
 
-  matches_like : (lanes lanes' : ℕ → Lane) (doing : ℕ → Activity) (locals others : ℕ → Local)
-      (old new : Rest) (s : State) → MatchesHere lanes doing locals old s
+  matches_like : (paces : ℕ → Pace) (lanes lanes' : ℕ → Lane) (doing : ℕ → Activity) (locals others : ℕ → Local)
+      (old new : Rest) (s : State) → MatchesHere paces lanes doing locals old s
       → ((x : ℕ) → lanes' x ≡ lanes x) → ((x : ℕ) → others x ≡ locals x)
       → Held work lay others new s.shared
       → ((x b : ℕ) → wanted (new.wait x b) ≡ wanted (old.wait x b))
-      → MatchesHere lanes' doing others new s
-  matches_like lanes lanes' doing locals others old new s m same_lanes same held waits = record {
+      → MatchesHere paces lanes' doing others new s
+  matches_like paces lanes lanes' doing locals others old new s m same_lanes same held waits = record {
     shares = record {
       held = held;
       reservations = λ j low. ap (λ (n : Local). n.reservation) (same j)
           ∙ m.shares.reservations j low;
       readable = λ j low. subst (IsReadable layout work) (sym (same j)) (m.shares.readable j low);
     };
-    stands = λ i low. subst (λ l. StandsIn layout work plan code protocol side laid (doing i)
+    stands = λ i low. subst (λ l. StandsIn layout work plan code protocol side laid (paces i) (doing i)
         (s.processors i) l (others i)) (sym (same_lanes i))
-        (subst (StandsIn layout work plan code protocol side laid (doing i) (s.processors i)
+        (subst (StandsIn layout work plan code protocol side laid (paces i) (doing i) (s.processors i)
         (lanes i)) (sym (same i)) (m.stands i low));
     waits = λ i b low. waits i b ∙ m.waits i b low;
   }
@@ -204,8 +211,8 @@ module _ (work : Work) (plan : List PlanEntry) (lay : Layout work)
 
   -- a node's turn, with what it leaves
   module _ (c : Core) (i : ℕ) (t : Turn) (u : Treated Rest) (h : IsTurn c i t u) (ends : Bool)
-      (doing : ℕ → Activity) (l : Lane) (a : Activity) (s : State)
-      (m : MatchesHere (with_at (lanes_of c) i l) (with_at doing i a)
+      (paces : ℕ → Pace) (doing : ℕ → Activity) (p : Pace) (l : Lane) (a : Activity) (s : State)
+      (m : MatchesHere (with_at paces i p) (with_at (lanes_of c) i l) (with_at doing i a)
       (with_local (locals_of c) i u.local) u.rest s) where
     abbrev t' : Turn
     t' = with_byes layout.nodes t ends
@@ -224,14 +231,14 @@ module _ (work : Work) (plan : List PlanEntry) (lay : Layout work)
         ])
 
     matches_then : t.node.lane ≡ l
-        → MatchesHere (lanes_of c') (with_at doing i a) (locals_of c')
+        → MatchesHere (with_at paces i p) (lanes_of c') (with_at doing i a) (locals_of c')
         (rest_at u.rest.counts c') s
     matches_then lane =
         let b = byes_behind c i t u ends h in
         let locals : (x : ℕ) → locals_of c' x ≡ with_local (locals_of c) i u.local x =
         (λ x. local_after c i t' b.left b.turned x
         ∙ ap (λ n. with_local (locals_of c) i n x) b.local) in
-        matches_like (with_at (lanes_of c) i l) (lanes_of c') (with_at doing i a)
+        matches_like (with_at paces i p) (with_at (lanes_of c) i l) (lanes_of c') (with_at doing i a)
         (with_local (locals_of c) i u.local) (locals_of c') u.rest (rest_at u.rest.counts c') s m
         (lane_is lane) locals
         (held_like (with_local (locals_of c) i u.local) (locals_of c') b.left.rest
@@ -241,11 +248,19 @@ module _ (work : Work) (plan : List PlanEntry) (lay : Layout work)
         (λ x d. ap (λ (f : ℕ → Option Wait). wanted (f d)) (b.turned.rest.wait x)
         ∙ ap wanted (b.waits x d))
 
-    pub core_then : t.node.lane ≡ l → IsPhase a t.node.phase → t.node.me ≡ (c.nodes i).me
+    pub core_then : t.node.lane ≡ l → IsCalm p t.node.phase
+        → ((x : ℕ) → x < layout.nodes → IsCalm (paces x) (c.nodes x).phase)
+        → IsPhase a t.node.phase → t.node.me ≡ (c.nodes i).me
         → ((x : ℕ) → x < layout.nodes → IsPhase (doing x) (c.nodes x).phase)
         → ((x : ℕ) → x < layout.nodes → (c.nodes x).me ≡ x) → MatchesCore c' s
-    core_then lane phase me phases numbers = record {
+    core_then lane calm calms phase me phases numbers = record {
+      paces = with_at paces i p;
       doing = with_at doing i a;
+      calm = λ x low. (elim (eqb x i)
+          as (λ z. IsCalm (cond z p (paces x)) (cond z t'.node (c.nodes x)).phase) [
+            | true ↦ subst (λ (n : Node). IsCalm p n.phase) (sym same_node) calm
+            | false ↦ calms x low
+          ]);
       phases = λ x low. (elim (eqb x i)
           as (λ z. IsPhase (cond z a (doing x)) (cond z t'.node (c.nodes x)).phase) [
             | true ↦ subst (λ (n : Node). IsPhase a n.phase) (sym same_node) phase
@@ -283,6 +298,32 @@ module _ (work : Work) (plan : List PlanEntry) (lay : Layout work)
   word_phase executed (To target) = stop_phase executed Running (inl refl)
   word_phase executed (Enters target) = stop_phase executed Running (inl refl)
 
+  -- only a word that doesn't wait leaves a processor running
+  word_calm : (executed : ℕ) (mv : Move) → phase_after work.budget executed mv ≡ Running
+      → is_wait mv ≡ false
+  word_calm executed (Leaves e) h = refl
+  word_calm executed (Waits resume want more) h = let bad : Waiting resume ≡ Running = h in cc
+  word_calm executed Next h = refl
+  word_calm executed Again h = refl
+  word_calm executed (To target) h = refl
+  word_calm executed (Enters target) h = refl
+
+  resumed_calm : (n : Node) (phase : Phase) → n.phase ≡ phase → (resumed work n phase).phase ≡ Running
+      → phase ≡ Running
+  resumed_calm n Running is h = refl
+  resumed_calm n Resumed is h = let bad : Resumed ≡ Running = sym is ∙ h in cc
+  resumed_calm n (Ended end) is h = let bad : Ended end ≡ Running = sym is ∙ h in cc
+  resumed_calm n (Waiting resume) is h = go (has_no_wait work.layout n) h
+    where
+      stops : (b : Bool) → cond b (Ended (Stopped work.budget)) Resumed ≡ Running → ⊥
+      stops true e = cc
+      stops false e = cc
+
+      go : (b : Bool) → (cond b (goes_on_from work n resume) n).phase ≡ Running
+          → Waiting resume ≡ Running
+      go true e = absurd (stops (eqb n.executed work.budget) e)
+      go false e = sym is ∙ e
+
   over_or_ended : (all : Bool) → may_execute (cond all standing.Over standing.Ended) ≡ false
   over_or_ended true = refl
   over_or_ended false = refl
@@ -296,16 +337,18 @@ module _ (work : Work) (plan : List PlanEntry) (lay : Layout work)
       let bad : false ≡ true = sym (over_or_ended (has_all_byes work n))
       ∙ sym (ap (λ q. may_execute (standing_in work n q)) h) ∙ e in cc
 
-  may_take_there : (n : Node) (a : Activity) (p : Phase) → IsPhase a p
+  may_take_there : (n : Node) (x : Pace) (a : Activity) (p : Phase) → IsPhase a p → IsCalm x p
       → may_take (standing_in work n p) ≡ true
-      → MayTake layout work plan code protocol side laid a n.lane
-  may_take_there n (Awaits resume want more) p h e = tt
-  may_take_there n (HasEnded end) p h e = tt
-  may_take_there n Runs p (inr h) e =
+      → MayTake layout work plan code protocol side laid x a n.lane
+  may_take_there n x (Awaits resume want more) p h calm e = tt
+  may_take_there n x (HasEnded end) p h calm e = tt
+  may_take_there n x Runs p (inr h) calm e =
       let bad : false ≡ true = sym (ap (λ q. may_take (standing_in work n q)) h) ∙ e in cc
-  may_take_there n Runs p (inl h) e =
-      go (takes_messages (option_and_then (λ w. w.what) (fetch work.image n.lane.at)))
-      (sym (ap (λ q. may_take (standing_in work n q)) h) ∙ e)
+  may_take_there n x Runs p (inl h) calm e = (
+    go (takes_messages (option_and_then (λ w. w.what) (fetch work.image n.lane.at)))
+        (sym (ap (λ q. may_take (standing_in work n q)) h) ∙ e),
+    calm h,
+  )
     where
       go : (u : Bool) → may_take (cond u standing.AtPoll standing.Running) ≡ true → u ≡ true
       go true e = refl
@@ -339,12 +382,24 @@ module _ (work : Work) (plan : List PlanEntry) (lay : Layout work)
   counts_by counts c (Exec i) = counts_of_word counts c i
   counts_by counts c (Take i j) = counts_of_take counts c i j
 
+  -- the paces behind an event
+  abbrev pub pace_of_word : Core → (ℕ → Pace) → ℕ → Pace
+  pace_of_word c paces i =
+      pace_after (pace_at work (c.nodes i).lane (paces i))
+      (commit_at work.program plan (old_of work.image (c.nodes i).lane.at))
+      (word_outcome work (c.nodes i))
+
+  abbrev pub paces_by : Core → (ℕ → Pace) → Event → ℕ → Pace
+  paces_by c paces (Exec i) = with_at paces i (pace_of_word c paces i)
+  paces_by c paces (Take i j) = with_at paces i (paces i)
+
   -- these picks lead to this core, and what is read and printed is theirs
   pub record LeadsTo (s : State) (ks : List Pick) (values : ℕ → List ℕ) (printed : List ℕ)
-      (counts : Counts) (c' : Core) : Type 0 where
+      (counts : Counts) (paces : ℕ → Pace) (c' : Core) : Type 0 where
     pub advanced : Advanced original s ks values printed
     pub behind : MatchesCore c' (run original s ks)
     pub counted : behind.counts ≡ counts
+    pub paced : behind.paces ≡ paces
 
   module _ (c : Core) (s : State) (m : MatchesCore c s) (i : ℕ) (below : i < layout.nodes) where
     abbrev n : Node
@@ -360,7 +415,7 @@ module _ (work : Work) (plan : List PlanEntry) (lay : Layout work)
     all_found (w ∷ ws) h = (laid.found (line_of w.at) h.0.shared, all_found ws h.2)
 
     follows_found : (r : Outcome) (kind : CommitKind) (mv : Move)
-        → Follows layout work plan code.Stands q n.local r kind mv
+        → Follows layout work plan (code.Stands (pace_of_word c m.paces i)) q n.local r kind mv
         → AllFound c i layout (each_block_once layout (wants_of mv))
     follows_found r kind (Leaves e) h = tt
     follows_found r kind (Waits resume want more) h =
@@ -386,16 +441,16 @@ module _ (work : Work) (plan : List PlanEntry) (lay : Layout work)
           (each_block_once layout (wants_of r.move))
 
       -- what the word does, by its move
-      pub next_word : Follows layout work plan code.Stands q n.local r
+      pub next_word : Follows layout work plan (code.Stands (pace_of_word c m.paces i)) q n.local r
           (commit_at work.program plan (old_of work.image n.lane.at)) r.move
       next_word =
-          let there = here layout work plan code protocol side laid (lanes_of c) m.doing
+          let there = here layout work plan code protocol side laid m.paces (lanes_of c) m.doing
           (locals_of c) (rest_at m.counts c) s m.matches i below runs (n.executed + 1) in
-          code.word_follows q n.lane n.local
+          code.word_follows (m.paces i) q n.lane n.local
           (side.suits (locals_of c) (rest_at m.counts c) s.shared m.matches.shares.held i below)
           there.0 there.1
 
-      found : AllFound c i layout (each_block_once layout (wants_of r.move))
+      pub found : AllFound c i layout (each_block_once layout (wants_of r.move))
       found = follows_found r (commit_at work.program plan (old_of work.image n.lane.at)) r.move
           next_word
 
@@ -409,11 +464,12 @@ module _ (work : Work) (plan : List PlanEntry) (lay : Layout work)
           (sym (local_here (locals_of c) i r.local)) (word_turned c i work m.counts))
 
       word_leads : LeadsTo s (picks_at work plan c (Exec i)) (λ p. values_at work plan p c (Exec i))
-          (printed_at work c (Exec i)) (counts_of_word m.counts c i) (event_step work c (Exec i))
+          (printed_at work c (Exec i)) (counts_of_word m.counts c i)
+          (paces_by c m.paces (Exec i)) (event_step work c (Exec i))
           × IsLicensed work plan c (Exec i)
       unfolding core_then
       word_leads =
-          let w = word_event layout work plan code protocol side laid (lanes_of c) m.doing
+          let w = word_event layout work plan code protocol side laid m.paces (lanes_of c) m.doing
           (locals_of c) (rest_at m.counts c) s m.matches i below runs (n.executed + 1) in
           let t = after_wants work n in
           let same = wants_same layout (each_block_once layout (wants_of r.move))
@@ -421,15 +477,18 @@ module _ (work : Work) (plan : List PlanEntry) (lay : Layout work)
           let ks = picks_at work plan c (Exec i) in (
             record {
               advanced = w.advanced;
-              behind = core_then c i t asked turned (is_ended t.node.phase) m.doing
-                  (lane_after work.image r.lane r.move)
+              behind = core_then c i t asked turned (is_ended t.node.phase) m.paces m.doing
+                  (pace_of_word c m.paces i) (lane_after work.image r.lane r.move)
                   (doing_after layout work plan code protocol side laid (n.executed + 1) r.move)
                   (run original s ks) w.behind same.lane
+                  (λ e. word_calm (n.executed + 1) r.move (sym same.phase ∙ e))
+                  m.calm
                   (subst (IsPhase (doing_after layout work plan code protocol side laid
                   (n.executed + 1) r.move)) (sym same.phase)
                   (word_phase (n.executed + 1) r.move))
                   same.me m.phases m.numbers;
               counted = refl;
+              paced = refl;
             },
             w.licensed,
           )
@@ -437,7 +496,7 @@ module _ (work : Work) (plan : List PlanEntry) (lay : Layout work)
     -- a message
     module _ (j : ℕ) (lj : j < layout.nodes) (wire : Wire) (ws : List Wire)
         (front : c.list j i ≡ wire ∷ ws)
-        (can : MayTake layout work plan code protocol side laid (m.doing i) n.lane) where
+        (can : MayTake layout work plan code protocol side laid (m.paces i) (m.doing i) n.lane) where
       abbrev c1 : Core
       c1 = with_list c j i ws
 
@@ -531,7 +590,7 @@ module _ (work : Work) (plan : List PlanEntry) (lay : Layout work)
       goes_there : (p : Processor) (l : Lane) (x : Local) (resume : Resume) (ws : List Want)
           → n2 ≡ cond (has_no_wait layout t1.node) (on resume) t1.node
           → t1.node.phase ≡ Waiting resume
-          → StandsIn layout work plan code protocol side laid
+          → StandsIn layout work plan code protocol side laid (m.paces i)
           (doing_still layout work plan code protocol side laid n.executed resume ws) p l x
           → WaitsAs (doing_still layout work plan code protocol side laid n.executed resume ws)
           → (n2.lane
@@ -561,7 +620,7 @@ module _ (work : Work) (plan : List PlanEntry) (lay : Layout work)
           (ap (λ (y : Node). y.lane) to ∙ same1.lane, ap (λ (y : Node). y.phase) to ∙ phase)
 
       phases_after : (a : Activity) → IsPhase a n.phase → (p : Processor) (l : Lane) (x : Local)
-          → StandsIn layout work plan code protocol side laid
+          → StandsIn layout work plan code protocol side laid (m.paces i)
           (doing_taken layout work plan code protocol side laid n.executed wait_then a) p l x
           → WaitsAs (doing_taken layout work plan code protocol side laid n.executed wait_then a)
           → phase_there a
@@ -600,42 +659,52 @@ module _ (work : Work) (plan : List PlanEntry) (lay : Layout work)
           (sym front)
 
       message_leads : LeadsTo s (break_by layout i order_there n.local.reservation) (λ p. []) []
-          (counts_of_take m.counts c i j) (with_turn c1 i (take_turn work n j wire))
+          (counts_of_take m.counts c i j) (paces_by c m.paces (Take i j))
+          (with_turn c1 i (take_turn work n j wire))
       unfolding core_then
       message_leads =
-          let e = message_event layout work plan code protocol side laid (lanes_of c) m.doing
+          let e = message_event layout work plan code protocol side laid m.paces (lanes_of c) m.doing
           (locals_of c) (rest_at m.counts c) s m.matches i below n.executed j lj can has in
           let ks = break_by layout i order_there n.local.reservation in
           let at_here : with_at m.doing i a_then i ≡ a_then =
           ap (λ z. cond z a_then (m.doing i)) (equal i i refl) in
+          let same_pace : with_at m.paces i (m.paces i) i ≡ m.paces i =
+          ap (λ z. cond z (m.paces i) (m.paces i)) (equal i i refl) in
           let went = phases_after (m.doing i) (m.phases i below)
           ((run original s ks).processors i) (with_at (lanes_of c) i l_then i)
           (with_local (locals_of c) i taken.local i)
-          (subst (λ a. StandsIn layout work plan code protocol side laid a
+          (subst (λ a. StandsIn layout work plan code protocol side laid (m.paces i) a
           ((run original s ks).processors i) (with_at (lanes_of c) i l_then i)
-          (with_local (locals_of c) i taken.local i)) at_here (e.behind.stands i below))
+          (with_local (locals_of c) i taken.local i)) at_here
+          (subst (λ x. StandsIn layout work plan code protocol side laid x (with_at m.doing i a_then i)
+          ((run original s ks).processors i) (with_at (lanes_of c) i l_then i)
+          (with_local (locals_of c) i taken.local i)) same_pace (e.behind.stands i below)))
           (λ b. e.behind.waits i b below
           ∙ ap (λ a. wait_in layout work plan code protocol side laid a b) at_here) in
           record {
             advanced = e.advanced;
             behind = core_then c1 i (after_message work n j wire) taken turned_on
                 (is_ended (after_message work n j wire).node.phase && not (is_ended n.phase))
-                m.doing l_then a_then (run original s ks) e.behind went.0 went.1
+                m.paces m.doing (m.paces i) l_then a_then (run original s ks) e.behind went.0
+                (λ h. m.calm i below (sym same1.phase ∙ resumed_calm t1.node t1.node.phase refl h))
+                m.calm went.1
                 (resumed_me work t1.node t1.node.phase ∙ same1.me) m.phases m.numbers;
             counted = refl {a = taken.rest.counts};
+            paced = refl;
           }
 
       took_leads : LeadsTo s (picks_of_take work c i j (c.list j i)) (λ p. []) []
-          (counts_of_take m.counts c i j) (take_first work c i j (c.list j i))
+          (counts_of_take m.counts c i j) (paces_by c m.paces (Take i j)) (take_first work c i j (c.list j i))
       took_leads =
           subst (λ ks. LeadsTo s ks (λ p. []) [] (counts_of_take m.counts c i j)
-          (take_first work c i j (c.list j i))) (sym picks_are)
+          (paces_by c m.paces (Take i j)) (take_first work c i j (c.list j i))) (sym picks_are)
           (subst (λ xs. LeadsTo s (break_by layout i order_there n.local.reservation) (λ p. []) []
-          (counts_of_take m.counts c i j) (take_first work c i j xs)) (sym front) message_leads)
+          (counts_of_take m.counts c i j) (paces_by c m.paces (Take i j)) (take_first work c i j xs))
+          (sym front) message_leads)
 
   pub event_leads : (c : Core) (s : State) (m : MatchesCore c s) (e : Event) → May work c e
       → LeadsTo s (picks_at work plan c e) (λ p. values_at work plan p c e) (printed_at work c e)
-      (counts_by m.counts c e) (event_step work c e)
+      (counts_by m.counts c e) (paces_by c m.paces e) (event_step work c e)
       × IsLicensed work plan c e
   event_leads c s m (Exec i) may =
       word_leads c s m i may.0
@@ -644,11 +713,13 @@ module _ (work : Work) (plan : List PlanEntry) (lay : Layout work)
     where
       go : (xs : List Wire) → c.list j i ≡ xs
           → LeadsTo s (picks_of_take work c i j (c.list j i)) (λ p. []) []
-          (counts_of_take m.counts c i j) (take_first work c i j (c.list j i)) × Unit {0}
+          (counts_of_take m.counts c i j) (paces_by c m.paces (Take i j))
+          (take_first work c i j (c.list j i)) × Unit {0}
       go [] e = absurd (may.3 e)
       go (wire ∷ ws) e = (
         took_leads c s m i may.0 j may.1 wire ws e
-            (may_take_there (c.nodes i) (m.doing i) (c.nodes i).phase (m.phases i may.0) may.2),
+            (may_take_there (c.nodes i) (m.paces i) (m.doing i) (c.nodes i).phase (m.phases i may.0)
+            (m.calm i may.0) may.2),
         tt,
       )
 
@@ -676,7 +747,7 @@ module _ (work : Work) (plan : List PlanEntry) (lay : Layout work)
         output = sym (append-nil s.output);
       };
       ends = λ p low. ends_as (m.doing p) (c.nodes p).phase (s.processors p).exit (m.phases p low)
-          (ends_in layout work plan code protocol side laid (m.doing p) (s.processors p)
+          (ends_in layout work plan code protocol side laid (m.paces p) (m.doing p) (s.processors p)
           (c.nodes p).lane (c.nodes p).local (m.matches.stands p low));
     };
     licensed = tt;
@@ -700,7 +771,9 @@ module _ (work : Work) (plan : List PlanEntry) (lay : Layout work)
 
   pub start_matches : MatchesCore (opening_core work) (opening original)
   start_matches = record {
+    paces = λ i. first_pace;
     doing = λ i. Runs;
+    calm = λ i low e. refl;
     phases = λ i low. inl refl;
     numbers = λ i low. refl;
     counts = no_counts;
@@ -712,6 +785,10 @@ module _ (work : Work) (plan : List PlanEntry) (lay : Layout work)
   pub start_counts : start_matches.counts ≡ no_counts
   unfolding start_matches
   start_counts = refl
+
+  pub start_paces : start_matches.paces ≡ (λ i. first_pace)
+  unfolding start_matches
+  start_paces = refl
 
   pub composes_from_start : (es : List Event) → IsCoreRun work (opening_core work) es
       → Composes (opening_core work) (opening original) es

@@ -1,5 +1,6 @@
 -- The composed law, from the code's side and the directory protocol's.
-use Rattle.std.proofs.Common.{◌≡◌, ◌≢◌, ℕ, ◌*◌, ◌<◌, ◌≤◌, true, List, [], length, ap, ◌∙◌, arith}
+use Rattle.std.proofs.Common.{◌≡◌, ◌≢◌, ℕ, ◌*◌, ◌/◌, ◌<◌, ◌≤◌, true, List, [], length, refl, sym, ap, ◌∙◌, subst, inl, arith}
+use Rattle.std.specs.Prelude.{IsSome}
 use Rattle.block_layout.specs.Layout.{Shape, IsValid, blocks, home, lines, block_of}
 use Rattle.rv32_program.specs.Program.{IsAccepted, line_of}
 use Rattle.rv32_step.specs.OneMemory.{opening}
@@ -7,9 +8,9 @@ use Rattle.templates.specs.declared.plans.PlanEntry.{PlanEntry}
 use Rattle.jump_map.specs.Image.{IsRewriting}
 use Rattle.dsm_protocol.proofs.Openings.{LineLaws}
 use Rattle.node_model.specs.declared.Standing.TheVariants.{Over}
-use Rattle.node_model.specs.Node.{Work, Resume, Waiting, is_readable_state, is_writable_state, IsLaidOver, can_execute, standing_of}
-use Rattle.node_model.specs.Core.{Event, May, IsCoreRun, opening_core, after}
-use Rattle.rewriting_law.specs.Bounds.{most_events}
+use Rattle.node_model.specs.Node.{Work, Resume, Waiting, Ended, is_readable_state, is_writable_state, IsLaidOver, can_execute, standing_of}
+use Rattle.node_model.specs.Core.{Event, Exec, May, IsCoreRun, opening_core, after}
+use Rattle.rewriting_law.specs.Bounds.{most_events, steps_of}
 use Rattle.rewriting_law.specs.Licence.{AllLicensed}
 use Rattle.rewriting_law.specs.Interleaving.{Interleaves, IsCoherent, GoesAlone, SameReservations, HaveRows, original_by_node, original_after}
 use Rattle.rewriting_law.specs.ProtocolLists.{HasProtocolList}
@@ -21,6 +22,14 @@ use Rattle.rewriting_law.proofs.runs.Composed.{Composes, composes_from_start}
 use Rattle.rewriting_law.proofs.runs.Alone.{one_alone}
 use Rattle.rewriting_law.proofs.progress.Stuck.{never_stuck, moves, over, rows}
 use Rattle.rewriting_law.proofs.progress.Short as bound
+use Rattle.rewriting_law.proofs.progress.Costs as costs
+use Rattle.rewriting_law.proofs.progress.Steps as steps
+use Rattle.rewriting_law.proofs.progress.Ascending as ascending
+use Rattle.rewriting_law.proofs.progress.Ascending.{Climb, behind_first, climbs_between, ascends_from_third, few_places, some_entry}
+use Rattle.rewriting_law.specs.Ascents.{AscendsBetweenPolls, pc_at, committed}
+use Rattle.rv32_program.specs.declared.End.TheVariants.{Stopped}
+use Rattle.rewriting_law.specs.CoreRun.{commits, picks_of}
+use Rattle.node_model.specs.Outcome.{AreFrugal, counts_after}
 
 -- what the laws of blocks say of a layout
 pub layout_of : LineLaws → ((s : Shape) (b : ℕ) → IsValid s → b < blocks s → 0 < lines s b)
@@ -63,6 +72,15 @@ module _ (work : Work) (plan : List PlanEntry) (accepted : IsAccepted work.progr
 
   pub licensed : AllLicensed work plan (opening_core work) es
   licensed = composed.licensed
+
+  -- each word that commits is of the address where its processor is
+  pub commits_there : (i : ℕ) → May work (after work (opening_core work) es) (Exec i)
+      → commits work plan ((after work (opening_core work) es).nodes i) ≡ true
+      → ((original_after work plan es).processors i).pc
+      ≡ pc_at work ((after work (opening_core work) es).nodes i).lane
+  commits_there i may commits =
+      ascending.commits_there work plan lay code (after work (opening_core work) es)
+      (original_after work plan es) composed.matches i may.0 may commits
 
   pub coherent : IsCoherent work (after work (opening_core work) es)
       (original_after work plan es).shared
@@ -134,3 +152,30 @@ module _ (work : Work) (plan : List PlanEntry) (accepted : IsAccepted work.progr
   -- and the run is short
   pub short : 0 < work.budget → length es ≤ most_events work
   short some = bound.short work plan lay code some es may
+
+  -- and its messages are no more than its misses may cost
+  pub frugal : AreFrugal work.layout.nodes (counts_after work es)
+  frugal = costs.frugal work plan lay code es may
+
+  -- and a processor that was stopped has made a step for each 40 words
+  pub steps_made : (i budget : ℕ) → i < work.layout.nodes
+      → ((after work (opening_core work) es).nodes i).phase ≡ Ended (Stopped budget)
+      → budget / 40 ≤ steps_of i (picks_of work plan (opening_core work) es)
+  steps_made = steps.steps_made work plan lay code es may
+
+  -- and between two polls a node's steps ascend from the third on
+  pub ascends : (i : ℕ) → i < work.layout.nodes → AscendsBetweenPolls work plan es i
+  ascends i low first between rest is none =
+      let admissible = rewriting.admissible in
+      let steps = committed work plan i (after work (opening_core work) first) between in
+      let climbs : Climb work.program (behind_first steps) =
+      climbs_between work plan lay code first between rest i low
+      (subst (IsCoreRun work (opening_core work)) is may) none in
+      record {
+        ascend = ascends_from_third work.program steps climbs;
+        few = few_places work.program plan steps admissible.ascends
+            (λ a place from. admissible.complete a place)
+            (some_entry plan work.program.entry (admissible.complete work.program.entry
+            (inl (subst IsSome (sym accepted.starts) refl))))
+            climbs;
+      }

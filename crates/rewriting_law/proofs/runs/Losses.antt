@@ -25,8 +25,8 @@ use Rattle.rv32_step.specs.Registers.{reg}
 use Rattle.rv32_step.specs.Demands.{demand_of, call_step}
 use Rattle.rv32_step.specs.OneMemory.{Access, WritesIf, Break}
 use Rattle.templates.specs.declared.plans.PlanEntry.{PlanEntry}
-use Rattle.templates.specs.declared.runtime_words.RtWord.{RtWord}
-use Rattle.templates.specs.declared.runtime_words.RtWord.TheVariants.{Native, MissR, MissW, Poll, Call, Xjalr, Prepare, TrapFetch, TrapOff, TrapIllegal, TrapEbreak, Batch}
+use Rattle.runtime_words.specs.declared.RtWord.{RtWord}
+use Rattle.runtime_words.specs.declared.RtWord.TheVariants.{Native, MissR, MissW, Poll, Call, Xjalr, Prepare, TrapFetch, TrapOff, TrapIllegal, TrapEbreak, Batch}
 use Rattle.jump_map.specs.declared.image.ImageWord.{ImageWord}
 use Rattle.jump_map.specs.Maps.{fetch}
 use Rattle.dsm_protocol.specs.World.{World}

@@ -247,7 +247,7 @@ module _ (c : Core) (i : ℕ) where
       }
 
   module _ (layout : Shape) where
-    abbrev block_by : ℕ → Local → (ℕ → Option Wait) → LocalBlock
+    abbrev pub block_by : ℕ → Local → (ℕ → Option Wait) → LocalBlock
     block_by b n wait = record {
       state = state_with (n.state (first_line layout b));
       bytes = bytes_in layout n.copy b;
@@ -291,7 +291,7 @@ module _ (c : Core) (i : ℕ) where
           };
         }
 
-    want_turned : (locals : ℕ → Local) (t : Turn) (u : Treated Rest) (b : ℕ) (need : Need)
+    pub want_turned : (locals : ℕ → Local) (t : Turn) (u : Treated Rest) (b : ℕ) (need : Need)
         → IsTurn c i t u
         → IsTurn c i (want_in layout t need (Some b))
         ((directory layout).want (with_local locals i u.local) u.rest i b need)

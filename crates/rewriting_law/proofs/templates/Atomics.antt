@@ -17,7 +17,7 @@ use Rattle.rv32_step.specs.Registers.{reg}
 use Rattle.rv32_step.specs.Memory.{load_value, private_after}
 use Rattle.rv32_step.specs.declared.Demand.TheVariants.{Reserves, Updates}
 use Rattle.rv32_step.specs.OneMemory.{Processor, Exchanges, ReservesAt, UpdatesAt, exit_of_demand, request, request_unless, set_register, after_exchange, next_pc}
-use Rattle.templates.specs.declared.runtime_words.RtWord.TheVariants.{Native}
+use Rattle.runtime_words.specs.declared.RtWord.TheVariants.{Native}
 use Rattle.templates.specs.declared.commits.CommitKind.TheVariants.{Always}
 use Rattle.templates.specs.declared.plans.Scratches.{Scratches}
 use Rattle.templates.specs.Plans.{HasTwoScratches}
@@ -74,7 +74,7 @@ module _ (program : Program) (accepted : IsAccepted program) (a : ℕ) (q : Proc
             (committing (Native lr) (reloads regs)) q l n'
         go n' readable false f = leaves program accepted OfPlace a j at K q l n'
             (execute program a at (Native lr) l n')
-            Always (Misaligned a) (acts n' ∙ rw f refl)
+            Always (Misaligned a) (acts n' ∙ rw f refl) m.place
             (refused program accepted a q lr (Misaligned a) m.place c
             (rw f (ap (λ z. Some (Misaligned z)) m.place)))
         go n' readable true f =
@@ -98,6 +98,7 @@ module _ (program : Program) (accepted : IsAccepted program) (a : ℕ) (q : Proc
             let mid = sets_both program accepted hides a q l lr rd v c (λ r ne d. ne (cc)) refl
             (destination_shown program accepted a rd lr regs two refl) m in
             subst (λ (r : Outcome). Leads program OfPlace a j at K q n' r Always r.move) (sym is) (
+              m.place,
               readable,
               subst (Commits program (λ s. (x y : ℕ) → K 0 s (lane_at x y done.lane) done.local) q
                   n' done) (sym ask) (
@@ -162,7 +163,7 @@ module _ (program : Program) (accepted : IsAccepted program) (a : ℕ) (q : Proc
             (committing (Native update_word) (reloads regs)) q l n'
         go n' licence false f = leaves program accepted OfPlace a j at K q l n'
             (execute program a at (Native update_word) l n') Always (Misaligned a)
-            (acts n' ∙ rw f refl)
+            (acts n' ∙ rw f refl) m.place
             (refused program accepted a q update_word (Misaligned a) m.place c
             (rw f (ap (λ z. Some (Misaligned z)) m.place)))
         go n' licence true f =
@@ -198,6 +199,7 @@ module _ (program : Program) (accepted : IsAccepted program) (a : ℕ) (q : Proc
               written = m.written;
             } in
             subst (λ (r : Outcome). Leads program OfPlace a j at K q n' r Always r.move) (sym is) (
+              m.place,
               licence,
               subst (Commits program (λ s. (x y : ℕ) → K 0 s (lane_at x y done.lane) done.local) q
                   n' done) (sym ask) (

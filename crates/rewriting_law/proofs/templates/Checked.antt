@@ -26,7 +26,7 @@ use Rattle.rv32_program.specs.Program.{Program, IsAccepted, class_at, is_mapped,
 use Rattle.rv32_program.specs.Liveness.{Uses, Live, uses, passes, Next as Follows}
 use Rattle.rv32_step.specs.Breaks.{stores_in, is_in_block}
 use Rattle.rv32_step.specs.OneMemory.{Processor, Reads, Writes, Becomes, LoadsFrom, StoresTo, exit_of_access, exit_of_demand, request, request_at, request_for, request_unless, with_exit, set_register, after_store, next_pc}
-use Rattle.templates.specs.declared.runtime_words.RtWord.TheVariants.{Native, MissR, MissW}
+use Rattle.runtime_words.specs.declared.RtWord.TheVariants.{Native, MissR, MissW}
 use Rattle.templates.specs.declared.commits.CommitKind.{CommitKind}
 use Rattle.templates.specs.declared.commits.CommitKind.TheVariants.{Never, Always}
 use Rattle.templates.specs.declared.plans.Scratch.{Scratch}
@@ -39,7 +39,7 @@ use Rattle.node_model.specs.Node.{Lane, Local, Outcome, Next, Waits, PastWord, N
 use Rattle.rewriting_law.proofs.templates.RegisterLemmas.{apart, equal, put_other, put_both}
 use Rattle.rewriting_law.specs.CoreRun.{commits_by}
 use Rattle.rewriting_law.proofs.templates.States.{Suits, Later, ReadLook, Gone, Readable, Unreadable, read_look, WriteLook, Fixed, Writable, Unwritable, write_look}
-use Rattle.rewriting_law.proofs.templates.Does.{SequenceKind, OfPlace, place_of, AtHead, Rest, byte_seen, lane_at, StandsToStore, Commits, Continues, Leads, FirstLeads, Does}
+use Rattle.rewriting_law.proofs.templates.Does.{SequenceKind, OfPlace, place_of, AtHead, Rest, byte_seen, lane_at, may_turn, IsWhere, is_where, StandsToStore, Commits, Continues, Leads, FirstLeads, Does}
 use Rattle.rewriting_law.proofs.templates.Mids.{Hide, Shown, Dead, In, Holds, IsHidden, hide, shown, hiding, Free, Mid, with_reg, hide_hidden, spill_0, spill_1, the_only, mid_at, read_shown, spill_does, reload_does}
 
 -- what the processor asks for at a place
@@ -257,10 +257,11 @@ module _ (program : Program) (accepted : IsAccepted program) where
   -- the word of an exit
   pub leaves : (kind : SequenceKind) (a k at : ℕ) (K : Rest) (q : Processor) (l : Lane)
       (n : Local) (r : Outcome) (m : CommitKind) (e : Exit) → r ≡ exit_by l n e
-      → request program q ≡ Becomes (with_exit q e) → Leads program kind a k at K q n r m r.move
-  leaves kind a k at K q l n r m e is h =
+      → IsWhere program kind a k q → request program q ≡ Becomes (with_exit q e)
+      → Leads program kind a k at K q n r m r.move
+  leaves kind a k at K q l n r m e is there h =
       subst (λ (x : Outcome). Leads program kind a k at K q n x m x.move) (sym is)
-      (h, refl, refl, refl)
+      (there, h, refl, refl, refl)
 
   -- a demand that may not be met ends the processor
   pub refused : (a : ℕ) (q : Processor) (i : Instr) (e : Exit) → q.pc ≡ a → program.code a ≡ Some i
@@ -308,7 +309,7 @@ module _ (program : Program) (accepted : IsAccepted program) where
             (checking (MissR w rs1 imm) rest) q l n
         leave e does h = leaves OfPlace a j at K q l n (execute program a at (MissR w rs1 imm) l n)
             Never e
-            (acts ∙ does) (ends e h)
+            (acts ∙ does) place (ends e h)
 
         look : is_aligned w x ≡ true → ReadLook (class_at program x) (n.state (line_of x))
             → FirstLeads program OfPlace a j at (Does program OfPlace a (j + 1) (next_pc at) rest)
@@ -375,7 +376,7 @@ module _ (program : Program) (accepted : IsAccepted program) where
             (checking (MissW w rs1 imm) rest) q l n
         leave e does h = leaves OfPlace a j at K q l n (execute program a at (MissW w rs1 imm) l n)
             Never e
-            (acts ∙ does) (ends e h)
+            (acts ∙ does) place (ends e h)
 
         look : is_aligned w x ≡ true → WriteLook (class_at program x) (n.state (line_of x))
             → FirstLeads program OfPlace a j at (Does program OfPlace a (j + 1) (next_pc at) rest)
@@ -440,6 +441,11 @@ module _ (program : Program) (accepted : IsAccepted program) where
     load_acts n p at l m = ap (λ z. native program p at l n (Loads k rd (offset_address z imm)))
         (same_base l m)
 
+    load_where : (kind : SequenceKind) (s j : ℕ) → place_of kind s j ≡ a → q.pc ≡ a
+        → IsWhere program kind s j q
+    load_where kind s j place pc =
+        is_where program kind s j a q place pc (ap (λ o. option_map_or (λ i. may_turn i a) o false) c)
+
     -- one whose address isn't aligned ends the processor
     pub load_misaligned_now : (n : Local) (kind : SequenceKind) (s j at : ℕ) (l : Lane)
         (commit : CommitKind) (rest : List SequenceItem) → place_of kind s j ≡ a
@@ -453,7 +459,7 @@ module _ (program : Program) (accepted : IsAccepted program) where
         leaves kind s j at (λ z. Does program kind s (j + 1) (next_pc at) rest z) q l n
         (execute program p at (Native (Load k rd rs1 imm)) l n) commit (Misaligned a)
         (load_acts n p at l m ∙ ends ∙ ap (λ z. exit_by l n (Misaligned z)) place)
-        (refused a q (Load k rd rs1 imm) (Misaligned a) m.place c
+        (load_where kind s j place m.place) (refused a q (Load k rd rs1 imm) (Misaligned a) m.place c
         (rw f (ap (λ z. Some (Misaligned z)) m.place)))
 
     pub load_misaligned : (n : Local) (kind : SequenceKind) (s j at : ℕ) (l : Lane)
@@ -484,7 +490,7 @@ module _ (program : Program) (accepted : IsAccepted program) where
 
     -- and where the word commits, that is the processor's step
     pub load_commits_now : (n : Local) (kind : SequenceKind) (s j at : ℕ) (l : Lane)
-        (commit : CommitKind) (rest : List SequenceItem) → h rd ≡ Shown
+        (commit : CommitKind) (rest : List SequenceItem) → place_of kind s j ≡ a → h rd ≡ Shown
         → is_aligned (width_of k) load_address ≡ true
         → is_mapped (class_at program load_address) ≡ true
         → is_readable_state (n.state (line_of load_address)) ≡ true
@@ -496,7 +502,7 @@ module _ (program : Program) (accepted : IsAccepted program) where
         (lane_at x y (with_reg l rd (seen_value n))) n)
         → FirstLeads program kind s j at (Does program kind s (j + 1) (next_pc at) rest)
         (with_word commit (Native (Load k rd rs1 imm)) rest) q l n
-    load_commits_now n kind s j at l commit rest shows f mapped readable commits m go =
+    load_commits_now n kind s j at l commit rest place shows f mapped readable commits m go =
         let K : Rest = λ z. Does program kind s (j + 1) (next_pc at) rest z in
         let done = load_outcome l n k rd load_address (seen_value n) in
         let may : exit_of_demand (class_at program) q.pc (Loads k rd load_address) ≡ None =
@@ -508,8 +514,10 @@ module _ (program : Program) (accepted : IsAccepted program) where
         shows m in
         subst (λ (r : Outcome). Leads program kind s j at K q n r commit r.move)
         (sym (load_sees n (place_of kind s j) at l f mapped m))
-        (subst (Continues program (λ p. (x y : ℕ) → K 0 p (lane_at x y done.lane) n) q n done)
+        (subst (Continues program (IsWhere program kind s j q)
+        (λ p. (x y : ℕ) → K 0 p (lane_at x y done.lane) n) q n done)
         (sym commits) (
+          load_where kind s j place m.place,
           readable,
           subst (Commits program (λ p. (x y : ℕ) → K 0 p (lane_at x y done.lane) n) q n done)
               (sym ask) (
@@ -523,7 +531,7 @@ module _ (program : Program) (accepted : IsAccepted program) where
 
     -- the original load, which commits by whatever it gives
     pub load_commits : (n : Local) (kind : SequenceKind) (s j at : ℕ) (l : Lane)
-        (rest : List SequenceItem) → h rd ≡ Shown
+        (rest : List SequenceItem) → place_of kind s j ≡ a → h rd ≡ Shown
         → is_aligned (width_of k) load_address ≡ true
         → is_mapped (class_at program load_address) ≡ true
         → is_readable_state (n.state (line_of load_address)) ≡ true
@@ -534,8 +542,8 @@ module _ (program : Program) (accepted : IsAccepted program) where
         → Does program kind s (j + 1) (next_pc at) rest 0 (set_register q rd (seen_value m))
         (lane_at x y (with_reg l rd (seen_value m))) m)
         → Does program kind s j at (committing (Native (Load k rd rs1 imm)) rest) 0 q l n
-    load_commits n kind s j at l rest shows f mapped readable m go = λ n' since.
-        load_commits_now n' kind s j at l Always rest shows f mapped
+    load_commits n kind s j at l rest place shows f mapped readable m go = λ n' since.
+        load_commits_now n' kind s j at l Always rest place shows f mapped
         ((since.1 refl).reads (line_of load_address) readable) refl m (go n' (since.1 refl))
 
   -- a store into memory, inside a sequence in which its registers are shown
@@ -586,6 +594,10 @@ module _ (program : Program) (accepted : IsAccepted program) where
         lane : Lane
         lane = lane_stored program l w store_address stored_value
 
+        there : IsWhere program kind s j q
+        there = is_where program kind s j a q place m.place
+            (ap (λ o. option_map_or (λ i. may_turn i a) o false) c)
+
         mid : Mid program h (a + 4) store_after lane
         mid = record {
           place = next_is a q (Store w rs1 rs2 imm) m.place c;
@@ -607,7 +619,7 @@ module _ (program : Program) (accepted : IsAccepted program) where
             leaves kind s j at K q l n' (execute program p at (Native (Store w rs1 rs2 imm)) l n')
             Always (Misaligned a)
             (store_acts n' p at l m ∙ ends ∙ ap (λ z. exit_by l n' (Misaligned z)) place)
-            (refused a q (Store w rs1 rs2 imm) (Misaligned a) m.place c
+            there (refused a q (Store w rs1 rs2 imm) (Misaligned a) m.place c
             (rw f (ap (λ z. Some (Misaligned z)) m.place)))
         by n' licence later true f =
             let done : Outcome = record {
@@ -629,6 +641,7 @@ module _ (program : Program) (accepted : IsAccepted program) where
             asks program a q (Store w rs1 rs2 imm) m.place c
             ∙ ap (request_unless program q (Stores w store_address stored_value)) may in
             subst (λ (r : Outcome). Leads program kind s j at K q n' r Always r.move) (sym is) (
+              there,
               licence,
               subst (Commits program (λ p. (x y : ℕ) → K 0 p (lane_at x y lane) done.local) q n'
                   done) (sym ask) (

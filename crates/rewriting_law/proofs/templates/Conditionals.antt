@@ -16,7 +16,7 @@ use Rattle.rv32_step.specs.Registers.{reg}
 use Rattle.rv32_step.specs.Memory.{private_after}
 use Rattle.rv32_step.specs.declared.Demand.TheVariants.{StoresIf}
 use Rattle.rv32_step.specs.OneMemory.{Processor, StoresWhere, WritesIf, exit_of_demand, request, request_unless, after_conditional, next_pc}
-use Rattle.templates.specs.declared.runtime_words.RtWord.TheVariants.{Native, Prepare}
+use Rattle.runtime_words.specs.declared.RtWord.TheVariants.{Native, Prepare}
 use Rattle.templates.specs.declared.commits.CommitKind.TheVariants.{Never, Always}
 use Rattle.templates.specs.Sequences.{committing, conditional_sequence}
 use Rattle.home_directory.specs.declared.messages.Need.TheVariants.{Write}
@@ -100,6 +100,7 @@ module _ (program : Program) (accepted : IsAccepted program) (a : ℕ) (q : Proc
         λ (p : Processor). (x y : ℕ) → Does program OfPlace a (j + 1) (next_pc at) [] 0 p
         (lane_at x y
         r.lane) r.local in (
+          head.place,
           licence,
           subst (Commits program K q n (store_in program l n rd address value Memory true)) (sym
               ask)
@@ -113,6 +114,7 @@ module _ (program : Program) (accepted : IsAccepted program) (a : ℕ) (q : Proc
         λ (p : Processor). (x y : ℕ) → Does program OfPlace a (j + 1) (next_pc at) [] 0 p
         (lane_at x y
         r.lane) r.local in (
+          head.place,
           licence,
           subst (Commits program K q n (store_in program l n rd address value Memory false)) (sym
               ask)
@@ -145,7 +147,7 @@ module _ (program : Program) (accepted : IsAccepted program) (a : ℕ) (q : Proc
         go false f = leaves program accepted OfPlace a j at K q l n
             (execute program a at (Native sc) l n)
             Always
-            (Misaligned a) (acts ∙ rw f refl) (refused program accepted a q sc (Misaligned a)
+            (Misaligned a) (acts ∙ rw f refl) head.place (refused program accepted a q sc (Misaligned a)
             head.place c (rw f (ap (λ z. Some (Misaligned z)) head.place)))
         go true f =
             let b = holds n.reservation address in
@@ -244,7 +246,7 @@ module _ (program : Program) (accepted : IsAccepted program) (a : ℕ) (q : Proc
           → WriteLook (class_at program address) (n.state (line_of address)) → Prepares at l n
       look n f (Fixed no_store fixed unwritable) = leaves program accepted OfPlace a 0 at K q l n
           (execute program a at (Prepare rs1) l n) Never (NoAccess a) (acts n ∙ rw (f, fixed) refl)
-          (refused program accepted a q sc (NoAccess a) head.place c
+          head.place (refused program accepted a q sc (NoAccess a) head.place c
           (rw (f, no_store) (ap (λ z. Some (NoAccess z)) head.place)))
       look n f (Writable writable mapped free may) =
           passes n (acts n ∙ rw (f, free, may) (rw (and_not (holds n.reservation address)) refl))
@@ -256,7 +258,7 @@ module _ (program : Program) (accepted : IsAccepted program) (a : ℕ) (q : Proc
           → Prepares at l n
       go n suits false f = leaves program accepted OfPlace a 0 at K q l n
           (execute program a at (Prepare rs1) l n)
-          Never (Misaligned a) (acts n ∙ rw f refl)
+          Never (Misaligned a) (acts n ∙ rw f refl) head.place
           (refused program accepted a q sc (Misaligned a) head.place c
           (rw f (ap (λ z. Some (Misaligned z)) head.place)))
       go n suits true f = look n f (write_look (class_at program address)

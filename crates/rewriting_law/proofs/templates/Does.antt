@@ -1,7 +1,9 @@
 -- What the words of a place's sequence do, beside the processor whose next step they make.
-use Rattle.std.proofs.Common.{◌≡◌, ℕ, zero, suc, ◌+◌, ◌-◌, ◌⊎◌, ◌≤◌, Bool, true, false, List, [], ◌∷◌, length, Some, None}
-use Rattle.std.specs.Prelude.{if◌then◌else◌}
+use Rattle.std.proofs.Common.{◌≡◌, ℕ, zero, suc, ◌+◌, ◌-◌, ◌⊎◌, ◌≤◌, Bool, true, false, List, [], ◌∷◌, length, Some, None, sym, ap, ◌∙◌}
+use Rattle.std.specs.Prelude.{if◌then◌else◌, ◌||◌}
+use Rattle.std.specs.Option.{option_map_or}
 use Rattle.rv32_decode.specs.declared.Instr.{Instr}
+use Rattle.rv32_decode.specs.declared.Instr.TheVariants.{Ecall}
 use Rattle.rv32_decode.specs.declared.LoadKind.TheVariants.{ByteU, Word as WordLoad}
 use Rattle.rv32_decode.specs.declared.Width.TheVariants.{Word}
 use Rattle.rv32_ops.specs.Operations.{amo}
@@ -14,12 +16,13 @@ use Rattle.rv32_step.specs.Registers.{reg}
 use Rattle.rv32_step.specs.Memory.{load_value, byte_by}
 use Rattle.rv32_step.specs.Breaks.{is_in_block, stands_at_store, RunsToStore}
 use Rattle.rv32_step.specs.OneMemory.{Processor, Access, Nothing, Reads, Writes, WritesIf, Exchanges, Request, Becomes, Prints, LoadsFrom, StoresTo, ReservesAt, StoresWhere, UpdatesAt, request, with_exit, after_print, after_store, after_exchange, after_conditional, set_register, next_pc}
-use Rattle.templates.specs.declared.runtime_words.RtWord.TheVariants.{MissR, MissW, Poll, Call, Batch, Prepare}
+use Rattle.runtime_words.specs.declared.RtWord.TheVariants.{MissR, MissW, Poll, Call, Batch, Prepare}
 use Rattle.templates.specs.declared.commits.CommitKind.{CommitKind}
 use Rattle.templates.specs.declared.commits.CommitKind.TheVariants.{Never}
 use Rattle.templates.specs.declared.places.Part.TheVariants.{Head, Fast}
 use Rattle.templates.specs.declared.plans.PlanEntry.{PlanEntry}
 use Rattle.templates.specs.Places.{IsPlace}
+use Rattle.templates.specs.Plans.{closes_loop}
 use Rattle.templates.specs.Sequences.{SequenceItem, ItemWord, Runs, GoesTo, items_in}
 use Rattle.jump_map.specs.Image.{address_in}
 use Rattle.home_directory.specs.declared.messages.Need.{Need}
@@ -121,12 +124,13 @@ is_store (Writes width a value) = true
 is_store (WritesIf a value reserved) = reserved
 is_store (Exchanges a old new) = true
 
--- the word commits by a licensed access, or it does nothing that the original sees, and stores
--- nothing
-abbrev pub Continues : Program → (Processor → Type 0) → Processor → Local → Outcome → Bool → Type 0
-Continues program K q n r true =
-    Licensed n r.access × Commits program K q n r (request program q)
-Continues program K q n r false =
+-- the word commits where the processor is, by a licensed access, or it does nothing that the
+-- original sees, and stores nothing
+abbrev pub Continues : Program → Type 0 → (Processor → Type 0) → Processor → Local → Outcome → Bool
+    → Type 0
+Continues program IsThere K q n r true =
+    IsThere × Licensed n r.access × Commits program K q n r (request program q)
+Continues program IsThere K q n r false =
     (r.printed ≡ None) × (r.local ≡ n) × K q × (is_store r.access ≡ false)
 
 -- a place has a sequence of its own, and the batch of a run where one starts there, of whose words
@@ -139,6 +143,32 @@ pub data SequenceKind : Type 0 where
 abbrev pub place_of : SequenceKind → ℕ → ℕ → ℕ
 place_of OfPlace a k = a
 place_of (OfRun place) a k = place k
+
+-- the instruction may lead back: it closes a loop, or is a call, which may be made again
+abbrev pub is_call : Instr → Bool
+is_call Ecall = true
+is_call i = false
+
+abbrev pub may_turn : Instr → ℕ → Bool
+may_turn i a = is_call i || closes_loop i a
+
+abbrev pub turns_at : Program → ℕ → Bool
+turns_at program a = option_map_or (λ i. may_turn i a) (program.code a) false
+
+-- the processor is where word k of a sequence of place a belongs; that of a run leads on
+abbrev pub IsWhere : Program → SequenceKind → ℕ → ℕ → Processor → Type 0
+IsWhere program OfPlace a k q = q.pc ≡ a
+IsWhere program (OfRun place) a k q = (q.pc ≡ place k) × (turns_at program q.pc ≡ false)
+
+pub is_where : (program : Program) (kind : SequenceKind) (a k b : ℕ) (q : Processor)
+    → place_of kind a k ≡ b → q.pc ≡ b → turns_at program b ≡ false → IsWhere program kind a k q
+is_where program OfPlace a k b q place pc on = pc ∙ sym place
+is_where program (OfRun f) a k b q place pc on = (pc ∙ sym place, ap (turns_at program) pc ∙ on)
+
+pub where_is : (program : Program) (kind : SequenceKind) (a k : ℕ) (q : Processor)
+    → IsWhere program kind a k q → q.pc ≡ place_of kind a k
+where_is program OfPlace a k q h = h
+where_is program (OfRun f) a k q h = h.0
 
 -- that of the batch of an entry: an original word belongs to its own place, and every other to the
 -- entry's
@@ -184,18 +214,22 @@ Resumes program kind a k K q l (ByLines need low high) n =
 abbrev pub Leads : Program → SequenceKind → ℕ → ℕ → ℕ → Rest → Processor → Local → Outcome
     → CommitKind → Move → Type 0
 Leads program kind a k at K q n r m (Leaves e) =
-    (request program q ≡ Becomes (with_exit q e)) × (r.access ≡ Nothing) × (r.printed ≡ None)
-    × (r.local ≡ n)
+    IsWhere program kind a k q × (request program q ≡ Becomes (with_exit q e))
+    × (r.access ≡ Nothing) × (r.printed ≡ None) × (r.local ≡ n)
 Leads program kind a k at K q n r m Next =
-    Continues program (λ p. (x y : ℕ) → K 0 p (lane_at x y r.lane) r.local) q n r (commits_by m r)
+    Continues program (IsWhere program kind a k q)
+    (λ p. (x y : ℕ) → K 0 p (lane_at x y r.lane) r.local) q n r (commits_by m r)
 Leads program kind a k at K q n r m Again =
     (kind ≡ OfPlace) × (k ≡ 0)
-    × Continues program (λ p. AtHead program a p r.lane) q n r (commits_by m r)
+    × Continues program (IsWhere program kind a k q) (λ p. AtHead program a p r.lane) q n r
+    (commits_by m r)
 Leads program kind a k at K q n r m (To target) =
     (s : ℕ) × (target ≡ skip_to s (next_pc at))
-    × Continues program (λ p. (x y : ℕ) → K s p (lane_at x y r.lane) r.local) q n r (commits_by m r)
+    × Continues program (IsWhere program kind a k q)
+    (λ p. (x y : ℕ) → K s p (lane_at x y r.lane) r.local) q n r (commits_by m r)
 Leads program kind a k at K q n r m (Enters target) =
-    Continues program (λ p. AtHead program target p r.lane) q n r (commits_by m r)
+    Continues program (IsWhere program kind a k q) (λ p. AtHead program target p r.lane) q n r
+    (commits_by m r)
 Leads program kind a k at K q n r m (Waits resume want more) =
     (commits_by m r ≡ false) × (r.printed ≡ None) × (r.local ≡ n) × (length more ≤ 1)
     × AreWanted program q n (want ∷ more)

@@ -23,7 +23,7 @@ use Rattle.rv32_step.specs.Registers.{reg}
 use Rattle.rv32_step.specs.Demands.{branch_demand}
 use Rattle.rv32_step.specs.Memory.{load_value, byte_by}
 use Rattle.rv32_step.specs.OneMemory.{Processor, set_register, next_pc}
-use Rattle.templates.specs.declared.runtime_words.RtWord.TheVariants.{Native, MissR}
+use Rattle.runtime_words.specs.declared.RtWord.TheVariants.{Native, MissR}
 use Rattle.templates.specs.declared.commits.CommitKind.TheVariants.{Always, IfNotFlag}
 use Rattle.templates.specs.declared.plans.Scratches.{Scratches}
 use Rattle.templates.specs.Plans.{looks_at_value, HasOneScratch}
@@ -33,7 +33,7 @@ use Rattle.node_model.specs.Node.{Lane, Local, Outcome, byte_at, is_readable_sta
 use Rattle.rewriting_law.specs.CoreRun.{commits_by}
 use Rattle.rewriting_law.proofs.templates.RegisterLemmas.{apart, equal, reg_zero, put_here, put_other}
 use Rattle.rewriting_law.proofs.templates.States.{Suits, ReadLook, Gone, Readable, Unreadable, read_look}
-use Rattle.rewriting_law.proofs.templates.Does.{OfPlace, AtHead, Rest, byte_seen, lane_at, Continues, Leads, FirstLeads, Does}
+use Rattle.rewriting_law.proofs.templates.Does.{OfPlace, AtHead, Rest, byte_seen, lane_at, IsWhere, Continues, Leads, FirstLeads, Does}
 use Rattle.rewriting_law.proofs.templates.Mids.{Hide, Shown, IsHidden, hiding, shown, Mid, with_reg, hide_hidden, alu_add, spill_0, next_aligned, mid_at, own_set, own_set_unused, own_next, own_sets, own_jumps, spill_does, reload_does}
 use Rattle.rewriting_law.proofs.templates.Checked.{value_same, not_live, load_outcome, seen_value, same_base, load_misaligned, load_misaligned_now, load_gives, load_sees, load_commits, load_commits_now, refused, read_missed}
 
@@ -172,7 +172,7 @@ module _ (program : Program) (accepted : IsAccepted program) where
             base_shown n' OfPlace a j at l Always last refl f m
         go true f =
             load_commits program accepted a q hides load_kind.Word rd rs1 imm c base_shown n'
-            OfPlace a j at l last destination_shown f mapped readable m
+            OfPlace a j at l last refl destination_shown f mapped readable m
             (λ n2 later x1 y1 mid. ends n2 (j + 1) (next_pc at) _ _ mid)
 
     -- the look at the line's state: it isn't mapped, or the word is loaded again, once it may be
@@ -249,7 +249,8 @@ module _ (program : Program) (accepted : IsAccepted program) where
         let done = load_outcome l n load_kind.Word rd address v in
         let quiet : commits_by IfNotFlag done ≡ false = ap not tells in
         subst (λ (r : Outcome). Leads program OfPlace a j at K q n r IfNotFlag r.move) (sym is)
-        (subst (Continues program (λ p. (x y : ℕ) → K 0 p (lane_at x y done.lane) n) q n done)
+        (subst (Continues program (IsWhere program OfPlace a j q)
+        (λ p. (x y : ℕ) → K 0 p (lane_at x y done.lane) n) q n done)
         (sym quiet) (
           refl,
           refl,
@@ -298,7 +299,7 @@ module _ (program : Program) (accepted : IsAccepted program) where
             let may = readable f mapped tells (read_look (class_at program address)
             (n.state (line_of address)) (suits.states (line_of address))) in
             load_commits_now program accepted a q hides load_kind.Word rd rs1 imm c base_shown n
-            OfPlace a j at l IfNotFlag flag destination_shown f mapped may (ap not tells) m
+            OfPlace a j at l IfNotFlag flag refl destination_shown f mapped may (ap not tells) m
             (λ x1 y1 mid. compares n (j + 1) (next_pc at) (a + 4) (set_register q rd v)
             (lane_at x1 y1 (with_reg l rd v)) v (next_aligned at al)
             (put_here l.registers rd v nonzero) mid false tells

@@ -21,7 +21,7 @@ use Rattle.rv32_decode.specs.Widths.{is_aligned}
 use Rattle.rv32_program.specs.Program.{Program}
 use Rattle.rv32_program.specs.Liveness.{Live}
 use Rattle.rv32_step.specs.OneMemory.{Processor, next_pc}
-use Rattle.templates.specs.declared.runtime_words.RtWord.TheVariants.{Native}
+use Rattle.runtime_words.specs.declared.RtWord.TheVariants.{Native}
 use Rattle.templates.specs.declared.commits.CommitKind.TheVariants.{Never}
 use Rattle.templates.specs.declared.plans.Scratches.{Scratches}
 use Rattle.templates.specs.Sequences.{SequenceItem, own, spill_offset, spill_by, reload_by, state_look}

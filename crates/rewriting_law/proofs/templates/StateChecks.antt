@@ -19,7 +19,7 @@ use Rattle.rv32_program.specs.Program.{Program, IsAccepted, class_at, is_mapped,
 use Rattle.rv32_program.specs.Liveness.{Uses, uses}
 use Rattle.rv32_step.specs.Breaks.{stores_in, is_in_block}
 use Rattle.rv32_step.specs.OneMemory.{Processor, set_register, after_store, next_pc}
-use Rattle.templates.specs.declared.runtime_words.RtWord.TheVariants.{Native, MissR, MissW}
+use Rattle.runtime_words.specs.declared.RtWord.TheVariants.{Native, MissR, MissW}
 use Rattle.templates.specs.declared.commits.CommitKind.TheVariants.{Always}
 use Rattle.templates.specs.declared.plans.Scratches.{Scratches}
 use Rattle.templates.specs.Plans.{HasTwoScratches}
@@ -233,7 +233,7 @@ module _ (program : Program) (accepted : IsAccepted program) where
               Always (reloads regs) refl f m
           go true f =
               load_commits program accepted a q hides k rd rs1 imm c base_shown n' OfPlace a j at l
-              (reloads regs)
+              (reloads regs) refl
               (destination_shown program accepted a rd (Load k rd rs1 imm) regs two refl) f mapped
               readable m
               (λ n2 later x y mid.

@@ -26,8 +26,8 @@ use Rattle.rv32_program.specs.declared.CallKind.TheVariants.{Exit, Write, Unknow
 use Rattle.rv32_program.specs.Program.{Program, IsAccepted, call_of, class_at, is_mapped, line_of}
 use Rattle.rv32_program.specs.Liveness.{uses, passes, Next as Follows}
 use Rattle.rv32_step.specs.OneMemory.{Processor, Reads, Request, Becomes, Prints, request, request_at, request_for, request_unless, request_of_call, with_exit, set_register, to_next, after_jump, after_branch, after_call, next_pc}
-use Rattle.templates.specs.declared.runtime_words.RtWord.{RtWord}
-use Rattle.templates.specs.declared.runtime_words.RtWord.TheVariants.{Native, Call, Xjalr, TrapFetch, TrapIllegal, TrapEbreak}
+use Rattle.runtime_words.specs.declared.RtWord.{RtWord}
+use Rattle.runtime_words.specs.declared.RtWord.TheVariants.{Native, Call, Xjalr, TrapFetch, TrapIllegal, TrapEbreak}
 use Rattle.templates.specs.declared.commits.CommitKind.{CommitKind}
 use Rattle.templates.specs.declared.commits.CommitKind.TheVariants.{Always, IfNoWait}
 use Rattle.templates.specs.declared.plans.PlanEntry.{PlanEntry}
@@ -51,7 +51,7 @@ use Rattle.rewriting_law.proofs.templates.StateChecks.{state_load_does, store_do
 use Rattle.rewriting_law.proofs.templates.Flagged.{flag_load_does}
 
 -- where a code word go_on, a place is
-aligned_place : (program : Program) (a b : ℕ) (i : Instr) → program.code a ≡ Some i
+pub aligned_place : (program : Program) (a b : ℕ) (i : Instr) → program.code a ≡ Some i
     → target_of i a ≡ Some b → b % 4 ≡ 0 → IsPlace program.code b
 aligned_place program a b i h t m = go (program.code b) refl
   where
@@ -123,6 +123,7 @@ module _ (program : Program) (accepted : IsAccepted program) where
         subst (λ (r : Outcome). Leads program OfPlace a k at
         (λ s. Does program OfPlace a (k + 1) (next_pc at) rest s) q m r Always r.move)
         (sym (is m)) (
+          head.place,
           tt,
           subst (Commits program (λ p. (x y : ℕ) → Does program OfPlace a (k + 1) (next_pc at) rest
               0 p (lane_at x y l') m) q m (go_on l' m Next)) (sym ask) (
@@ -143,7 +144,7 @@ module _ (program : Program) (accepted : IsAccepted program) where
         n' (execute program a at w l n') m (execute program a at w l n').move
     ends_here n' k at w m rest e is ask = leaves program accepted OfPlace a k at
         (λ s. Does program OfPlace a (k + 1) (next_pc at) rest s) q l n'
-        (execute program a at w l n') m e is ask
+        (execute program a at w l n') m e is head.place ask
 
     -- an instruction that stands for itself, and sets a register
     plain_does : (rd v : ℕ) (i : Instr) (at : ℕ) → program.code a ≡ Some i
@@ -206,6 +207,7 @@ module _ (program : Program) (accepted : IsAccepted program) where
         subst (λ (r : Outcome). Leads program OfPlace a (k + 1) (next_pc at)
         (λ s. Does program OfPlace a (k + 1 + 1) (next_pc (next_pc at)) rest s) q n' r Always
         r.move) (sym is) (
+          head.place,
           tt,
           subst (Commits program (λ p. (x y : ℕ) → Does program OfPlace a (k + 1 + 1)
               (next_pc (next_pc at)) rest 0 p (lane_at x y l2) n') q n' (go_on l2 n' Next))
@@ -380,6 +382,7 @@ module _ (program : Program) (accepted : IsAccepted program) where
                 1,
                 there,
                 (
+                  head.place,
                   tt,
                   subst (Commits program (λ p. (x y : ℕ) → K 1 p (lane_at x y l) n') q n'
                       (go_on l n' (To (offset_address at (pos 8))))) (sym ask) (
@@ -459,6 +462,7 @@ module _ (program : Program) (accepted : IsAccepted program) where
             let is : execute program a at (Xjalr rd rs1 imm) l n' ≡ go_on l' n' (Enters t) = acts n'
             ∙ rw e refl in
             subst (λ (r : Outcome). Leads program OfPlace a j at K q n' r Always r.move) (sym is) (
+              head.place,
               tt,
               subst (Commits program (λ p. AtHead program t p l') q n' (go_on l' n' (Enters t)))
                   (sym ask) (
@@ -516,6 +520,7 @@ module _ (program : Program) (accepted : IsAccepted program) where
       returns_does : (n : Local) (v : ℕ) → request program q ≡ Becomes (after_call q v)
           → Good n (go_on (lane_after_call l v) n Next)
       returns_does n v ask = (
+        head.place,
         tt,
         subst (Commits program (λ p. (x y : ℕ) → Does program OfPlace a (0 + 1) (next_pc at) [] 0 p
             (lane_at x y (lane_after_call l v)) n) q n (go_on (lane_after_call l v) n Next))
@@ -548,6 +553,7 @@ module _ (program : Program) (accepted : IsAccepted program) where
             refl,
             refl,
             (
+              head.place,
               readable,
               subst (Commits program (λ p. AtHead program a p
                   (print_byte l n x (byte_at program l n x)).lane) q n
@@ -568,7 +574,7 @@ module _ (program : Program) (accepted : IsAccepted program) where
 
       call_step_does : (n : Local) → Suits program n → (c : CallStep)
           → request program q ≡ request_of_call program q c → Good n (make_call program l n c)
-      call_step_does n suits (Ends code) ask = (ask, refl, refl, refl)
+      call_step_does n suits (Ends code) ask = (head.place, ask, refl, refl, refl)
       call_step_does n suits (Returns v) ask = returns_does n v ask
       call_step_does n suits (Puts x) ask = go (read_look (class_at program x) (n.state (line_of x))
           (suits.states (line_of x)))

@@ -1,8 +1,8 @@
 -- The code's side of the composition, as the protocol's side may use it: what the next word of a
 -- node does beside the processor that the node follows, whatever states and copy the node has been
 -- given.
-use Rattle.std.proofs.Common.{◌≡◌, ◌≢◌, ℕ, ◌⊎◌, Bool, true, false, ◌≤◌, eqb, List, [], ◌∷◌, length, Some, None, refl, ap, ◌∙◌}
-use Rattle.std.specs.Prelude.{option_and_then}
+use Rattle.std.proofs.Common.{◌≡◌, ◌≢◌, ℕ, ◌+◌, ◌*◌, ◌⊎◌, Bool, true, false, ◌<◌, ◌≤◌, eqb, List, [], ◌∷◌, length, Some, None, refl, ap, ◌∙◌}
+use Rattle.std.specs.Prelude.{option_and_then, ◌||◌, if◌then◌else◌}
 use Rattle.std.specs.Option.{option_map_or}
 use Rattle.block_layout.specs.Layout.{Shape, block_of}
 use Rattle.rv32_program.specs.declared.Exit.{Exit}
@@ -11,15 +11,17 @@ use Rattle.rv32_step.specs.Breaks.{stands_at_store, RunsToStore}
 use Rattle.rv32_step.specs.OneMemory.{Processor, Nothing, Becomes, first_processor, request, with_exit}
 use Rattle.templates.specs.declared.commits.CommitKind.{CommitKind}
 use Rattle.templates.specs.declared.plans.PlanEntry.{PlanEntry}
+use Rattle.templates.specs.Places.{IsPlace}
 use Rattle.templates.specs.Commits.{commit_at}
 use Rattle.jump_map.specs.Maps.{old_of, fetch}
 use Rattle.node_model.specs.Node.{Work, Lane, Local, Want, Move, Waits, Leaves, Resume, Outcome, next_outcome, lane_after, lane_resumed, first_lane, takes_messages}
 use Rattle.node_model.specs.Turns.{each_block_once}
-use Rattle.rewriting_law.specs.CoreRun.{is_wait, commits_by}
+use Rattle.rewriting_law.specs.CoreRun.{is_exit, is_wait, commits_by}
 use Rattle.rewriting_law.specs.Licence.{Licensed}
+use Rattle.rewriting_law.specs.Ascents.{pc_at}
 use Rattle.rewriting_law.proofs.one_memory.Originals.{original_with}
 use Rattle.rewriting_law.proofs.templates.RegisterLemmas.{equal}
-use Rattle.rewriting_law.proofs.templates.States.{Suits, Later, grants}
+use Rattle.rewriting_law.proofs.templates.States.{Suits, grants}
 use Rattle.rewriting_law.proofs.templates.Does.{StandsToStore, IsWanted, Commits, is_store}
 
 -- the want is one of these
@@ -40,6 +42,53 @@ pub may_break : (program : Program) (layout : Shape) (q : Processor) (x b : ℕ)
     ⊎ RunsToStore program layout b q.registers q.pc
 may_break program layout q x b stores lies =
     stores layout b (ap (λ o. option_map_or (λ c. eqb c b) o false) lies ∙ equal b b refl)
+
+-- how many words a node has executed, how many steps these committed, and whether the last waited
+pub record Pace : Type 0 where
+  pub words : ℕ
+  pub commits : ℕ
+  pub waited : Bool
+  -- how many steps since the last poll or call, and the original addresses of the last step and of
+  -- the word that is executed
+  pub since : ℕ
+  pub last : ℕ
+  pub here : ℕ
+
+abbrev pub first_pace : Pace
+first_pace = record { words = 0; commits = 0; waited = false; since = 0; last = 0; here = 0 }
+
+abbrev pub one_if : Bool → ℕ
+one_if true = 1
+one_if false = 0
+
+-- after a word that commits or doesn't, and this move
+abbrev pub pace_then : Pace → Bool → Move → Pace
+pace_then p commits move = record {
+  words = p.words + 1;
+  commits = p.commits + one_if commits;
+  waited = is_wait move;
+  since = p.since + one_if commits;
+  last = if commits then p.here else p.last;
+  here = p.here;
+}
+
+-- at a processor's next word, which may be a poll or a call
+abbrev pub pace_at : Work → Lane → Pace → Pace
+pace_at work l p = record p {
+  since = if takes_messages (option_and_then (λ w. w.what) (fetch work.image l.at)) then 0
+      else p.since;
+  here = pc_at work l;
+}
+
+-- the last step was at a place, and the processor is at one of a greater address, unless that step
+-- is the only one since the last poll or call
+abbrev pub Rises : Program → Pace → Processor → Type 0
+Rises program p q = (p.since ≤ 1)
+    ⊎ ((p.last < q.pc) × IsPlace program.code p.last × IsPlace program.code q.pc)
+
+-- after a word of this kind of commit
+abbrev pub pace_after : Pace → CommitKind → Outcome → Pace
+pace_after p kind r = pace_then p (is_exit r.move || commits_by kind r) r.move
 
 module _ (layout : Shape) (work : Work) (plan : List PlanEntry) where
   -- what a word waits for is wanted, and each want is of a block of its own
@@ -89,26 +138,37 @@ module _ (layout : Shape) (work : Work) (plan : List PlanEntry) where
     Follows q n r kind m = GoesOn q n r (commits_by kind r)
 
   pub record CodeSide : Type 1 where
-    -- the node stands, by its lane and by what its words see, where its processor does
-    pub Stands : Processor → Lane → Local → Type 0
+    -- the node stands, by its lane and by what its words see, where its processor does, at its pace
+    pub Stands : Pace → Processor → Lane → Local → Type 0
     -- the next word
-    pub word_follows : (q : Processor) (l : Lane) (n : Local) → Suits work.program n
-        → q.exit ≡ None → Stands q l n
-        → Follows Stands q n (next_outcome work.program work.image l n)
+    pub word_follows : (p : Pace) (q : Processor) (l : Lane) (n : Local) → Suits work.program n
+        → q.exit ≡ None → Stands p q l n
+        → Follows (Stands (pace_after (pace_at work l p)
+        (commit_at work.program plan (old_of work.image l.at))
+        (next_outcome work.program work.image l n))) q n
+        (next_outcome work.program work.image l n)
         (commit_at work.program plan (old_of work.image l.at))
         (next_outcome work.program work.image l n).move
-    -- whatever the other processors of the node, and messages that take nothing away, make of what
-    -- it sees, it stands there still
-    pub stays : (q : Processor) (l : Lane) (n m : Local) → Stands q l n → Later n m → Stands q l m
-    -- where the next word waits, it stands there whatever becomes of the node
-    pub anew : (q : Processor) (l : Lane) (n m : Local) → Stands q l n
-        → is_wait (next_outcome work.program work.image l n).move ≡ true
-        → Stands q (next_outcome work.program work.image l n).lane m
-    -- where the next word is one before which messages are taken, it stands there whatever they
-    -- bring
-    pub messages_keep : (q : Processor) (l : Lane) (n : Local) → Stands q l n
+    -- where the next word is one before which messages are taken, and the last didn't wait, it
+    -- stands there whatever they bring
+    pub messages_keep : (p : Pace) (q : Processor) (l : Lane) (n : Local) → Stands p q l n
         → takes_messages (option_and_then (λ w. w.what) (fetch work.image l.at)) ≡ true
-        → (m : Local) → Suits work.program m → Stands q l m
+        → p.waited ≡ false
+        → (m : Local) → Suits work.program m → Stands p q l m
     -- and so it does at the start
     pub starts : (me : ℕ) (n : Local) → Suits work.program n
-        → Stands (first_processor (original_with layout work) me) (first_lane work me) n
+        → Stands first_pace (first_processor (original_with layout work) me) (first_lane work me) n
+    -- a word that commits is of the original address where its processor is
+    pub commits_there : (p : Pace) (q : Processor) (l : Lane) (n : Local) → Suits work.program n
+        → Stands p q l n
+        → (is_exit (next_outcome work.program work.image l n).move
+        || commits_by (commit_at work.program plan (old_of work.image l.at))
+        (next_outcome work.program work.image l n)) ≡ true
+        → q.pc ≡ pc_at work l
+    -- once two steps were made since the last poll or call, the processor is at a place of a greater
+    -- address than the last
+    pub rises : (p : Pace) (q : Processor) (l : Lane) (n : Local) → Stands p q l n
+        → Rises work.program p q
+    -- of 40 words one commits
+    pub paced : (p : Pace) (q : Processor) (l : Lane) (n : Local) → Stands p q l n
+        → p.words ≤ 40 * p.commits + 39

@@ -8,7 +8,7 @@ use Rattle.std.proofs.lemmas.Iterator.Adapters.{position_from-zero}
 use Rattle.std.proofs.lemmas.Bool.Decides.{eqb_tells, nat_tests}
 use Rattle.rv32_program.specs.Program.{Program}
 use Rattle.rv32_step.specs.OneMemory.{next_pc}
-use Rattle.templates.specs.declared.runtime_words.RtWord.TheVariants.{TrapOff}
+use Rattle.runtime_words.specs.declared.RtWord.TheVariants.{TrapOff}
 use Rattle.templates.specs.declared.commits.CommitKind.TheVariants.{Never}
 use Rattle.templates.specs.declared.places.Part.{Part}
 use Rattle.templates.specs.declared.places.Part.TheVariants.{Single, Head, Fast, Fallback}
@@ -344,6 +344,13 @@ module _ (program : Program) where
       pub fetch_off : fetch image image_base ≡ Some (record { what = Some TrapOff; place = None })
       fetch_off = fetch_is 0 off_word (has_word 0 off_word refl)
 
+      -- which belongs to no place
+      pub no_place_off : old_of image image_base ≡ None
+      no_place_off =
+          let c = has_word 0 off_word refl in
+          ap (option_and_then (λ (x : Cell). x.place)) (cell_here image 0 c.cell c.there)
+          ∙ ap (λ (w : ImageWord). w.place) c.is
+
       -- an item of an entry's part, where it stands among the entry's words
       module _ (a : ℕ) (f : EntrySplit plan a) (k : ℕ) (part : Part) (word : ℕ)
           (i : SequenceItem) (h : slice_get (part_items program f.entry part) word ≡ Some i)
@@ -370,14 +377,17 @@ module _ (program : Program) where
             ≡ Some (word_of (head_of program plan) (word_address f k) here)
         fetch_word = fetch_is (suc (words_in f.before + k)) _ item_word_there
 
+        -- the place of that word
+        pub place_of_word : old_of image (word_address f k) ≡ Some here.place
+        place_of_word =
+            let c = item_word_there in
+            ap (option_and_then (λ (x : Cell). x.place)) (cell_here image _ c.cell c.there)
+            ∙ ap (λ (w : ImageWord). w.place) c.is
+
         -- the kind of commit of that word
         pub commit_of_word : commit_at program plan (old_of image (word_address f k)) ≡ i.commit
         commit_of_word =
-            let c = item_word_there in
-            let place : old_of image (word_address f k) ≡ Some here.place =
-            ap (option_and_then (λ (x : Cell). x.place)) (cell_here image _ c.cell c.there)
-            ∙ ap (λ (w : ImageWord). w.place) c.is in
-            ap (commit_at program plan) place
+            ap (commit_at program plan) place_of_word
             ∙ ap (λ o. option_map_or (λ (j : SequenceItem). j.commit)
             (option_and_then (λ e. slice_get (part_items program e part) word) o) Never)
             (entry_is program plan a rewriting.admissible f part word

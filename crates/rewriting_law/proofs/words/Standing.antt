@@ -1,6 +1,6 @@
 -- Where a node stands between two words, beside the processor that it follows.
-use Rattle.std.proofs.Common.{◌≡◌, ℕ, zero, suc, ◌+◌, ◌%◌, ◌^◌, ◌<◌, ◌⊎◌, Bool, true, false, List, [], ◌∷◌, ◌++◌, length, Option, Some, None, refl, sym, ap, ◌∙◌, subst, inl, inr, arith, append-nil, append_assoc, length-append}
-use Rattle.std.specs.Prelude.{ℤ, slice_get, IsSome, IsTrue}
+use Rattle.std.proofs.Common.{◌≡◌, ℕ, suc, ◌+◌, ◌%◌, ◌^◌, ◌<◌, ◌⊎◌, Bool, true, false, List, [], ◌∷◌, ◌++◌, length, Option, Some, None, refl, sym, ap, ◌∙◌, inl, inr, arith, length-append}
+use Rattle.std.specs.Prelude.{ℤ, slice_get}
 use Rattle.std.proofs.lemmas.Bool.Decides.{leb_tells}
 use Rattle.rv32_decode.specs.Fields.{signed}
 use Rattle.rv32_decode.specs.declared.Cond.{Cond}
@@ -12,17 +12,14 @@ use Rattle.rv32_program.specs.Program.{Program, IsAccepted}
 use Rattle.rv32_step.specs.OneMemory.{Processor, next_pc}
 use Rattle.templates.specs.declared.plans.PlanEntry.{PlanEntry}
 use Rattle.templates.specs.declared.plans.Scratches.{Scratches}
-use Rattle.templates.specs.Plans.{looks_at_value, may_poll, HasScratchesAt, template_at, Serves}
+use Rattle.templates.specs.Plans.{looks_at_value, Serves}
 use Rattle.templates.specs.Sequences.{SequenceItem, instruction_items, place_items, poll_first, items_of, spills, spill, spill_by, load_sequence, branch_sequence, jump_sequence, is_multiple_of_four}
 use Rattle.jump_map.specs.Image.{Cell, IsRewriting, image_base, distance}
-use Rattle.jump_map.specs.Maps.{new_of}
-use Rattle.node_model.specs.Node.{Lane, Local, enter}
-use Rattle.rewriting_law.proofs.words.Plans.{EntrySplit, follows, is_contained}
-use Rattle.rewriting_law.proofs.words.Fetching.{word_address, in_range, next_word, next_split, new_of_place, new_of_none, AllApart, member, absent, placed_batch}
-use Rattle.rewriting_law.proofs.words.Spots.{Spot, kind_of, own_kind, sequence, number, next_number, batch_length, no_batch, entry_length, spot}
-use Rattle.rewriting_law.proofs.templates.Does.{AtHead, skip_to, Does, OfPlace, place_of, Falls}
-use Rattle.rewriting_law.proofs.templates.Templates.{entry_does}
-use Rattle.rewriting_law.proofs.batches.RunDoes.{run_does}
+use Rattle.node_model.specs.Node.{Lane, Local}
+use Rattle.rewriting_law.proofs.words.Plans.{EntrySplit, is_contained}
+use Rattle.rewriting_law.proofs.words.Fetching.{word_address, in_range, next_word}
+use Rattle.rewriting_law.proofs.words.Spots.{Spot, kind_of, sequence, number, next_number, spot}
+use Rattle.rewriting_law.proofs.templates.Does.{Does, place_of}
 
 pub get_middle : {X : Type 0} (xs : List X) (y : X) (ys : List X)
     → slice_get (xs ++ y ∷ ys) (length xs) ≡ Some y
@@ -124,9 +121,6 @@ module _ (program : Program) (plan : List PlanEntry) (image : List Cell)
     pub off : l.off ≡ q.pc
     pub no_code : program.code q.pc ≡ None
 
-  abbrev pub Standing : Processor → Lane → Local → Type 0
-  Standing q l n = Stands q l n ⊎ Off q l
-
   pub serves : {a : ℕ} (f : EntrySplit plan a) → Serves program.code f.entry
   serves f = rewriting.admissible.serves f.entry (is_contained f)
 
@@ -147,127 +141,8 @@ module _ (program : Program) (plan : List PlanEntry) (image : List Cell)
   item_there st =
       ap (λ xs. slice_get xs (length st.before)) st.split ∙ get_middle st.before st.item st.after
 
-  head_stands : (b : Bool) (a : ℕ) (q : Processor) (l : Lane) (n : Local) (f : EntrySplit plan a)
-      (i : SequenceItem) (is : List SequenceItem) → sequence program b f.entry ≡ i ∷ is
-      → l.at ≡ address_of f b 0
-      → Does program (kind_of program b f.entry) a 0 (address_of f b 0) (i ∷ is) 0 q l n
-      → Standing q l n
-  head_stands b a q l n f i is e at does = inl (record {
-    place = a;
-    entry = f;
-    in_batch = b;
-    before = [];
-    item = i;
-    after = is;
-    split = e;
-    at = at;
-    does = does;
-  })
-
-  -- at the head of a place, by its own sequence
-  pub from_single : (a : ℕ) (q : Processor) (l : Lane) (n : Local)
-      → (f : EntrySplit plan a) → l.at ≡ address_of f false 0 → AtHead program a q l
-      → Standing q l n
-  from_single a q l n f at head =
-      let here = f.here in
-      let e = f.entry in
-      let o = program.code e.address in
-      let head_at = address_of f false 0 in
-      let entry_serves = serves f in
-      let scratches : HasScratchesAt (template_at e.address o) program.code e.address o e.single =
-      subst (λ t. HasScratchesAt t program.code e.address o e.single) entry_serves.template
-      entry_serves.single in
-      let polls : IsTrue e.polls → IsTrue (may_poll (template_at e.address o)) =
-      λ h. subst (λ t. IsTrue (may_poll t)) entry_serves.template (entry_serves.may_poll h) in
-      let does = entry_does program accepted e q l n head_at o refl scratches polls
-      (subst (λ z. AtHead program z q l) (sym here) head) (omega arith) in
-      go (sequence program false e) refl (some_items e o)
-      (subst (λ z. Does program OfPlace z 0 head_at (sequence program false e) 0 q l n) here does)
-    where
-      go : (is : List SequenceItem) → sequence program false f.entry ≡ is → 0 < length is
-          → Does program OfPlace a 0 (address_of f false 0) is 0 q l n → Standing q l n
-      go [] e some does = absurd (omega (arith, some))
-      go (i ∷ is) e some does = head_stands false a q l n f i is e at does
-
-  -- and by the first word that stands for it: that of its batch, where a run starts there
-  pub from_head : (a : ℕ) (q : Processor) (l : Lane) (n : Local)
-      → (f : EntrySplit plan a) → l.at ≡ word_address program f 0 → AtHead program a q l
-      → Standing q l n
-  from_head a q l n f at head = elim (serves f).run [
-    | inl none ↦ go [] (no_batch program f.entry none.run) head
-    | inr run ↦ (
-        let here = f.here in
-        go (sequence program true f.entry) refl
-        (subst (λ z. Does program (kind_of program true f.entry) z 0 (address_of f true 0)
-        (sequence program true f.entry) 0 q l n) here
-        (run_does program accepted f.entry run q l n (address_of f true 0) (omega arith)
-        (subst (λ z. AtHead program z q l) (sym here) head))))
-  ]
-    where
-      go : (is : List SequenceItem) → sequence program true f.entry ≡ is
-          → Does program (kind_of program true f.entry) a 0 (address_of f true 0) is 0 q l n
-          → Standing q l n
-      go [] e does =
-          let count : length (placed_batch program f.entry) ≡ 0 =
-          sym (batch_length program f.entry) ∙ ap length e in
-          let sum : 0 ≡ length (placed_batch program f.entry) + 0 = omega (arith, count) in
-          from_single a q l n f (at ∙ ap (word_address program f) sum) does
-      go (i ∷ is) e does = head_stands true a q l n f i is e at does
-
-  -- at an original address: at its own sequence's head, or at word 0
-  pub enter_place : (a : ℕ) (q : Processor) (l : Lane) (n : Local)
-      → AtHead program a q l → Standing q (enter l a (new_of image a)) n
-  enter_place a q l n head = elim (member plan a) [
-    | inl f ↦ (
-        let words = length (placed_batch program f.entry) in
-        let first : words ≡ words + 0 = omega arith in
-        let new = new_of_place program plan image rewriting a f
-        (some_items f.entry (program.code f.entry.address))
-        ∙ ap (λ k. Some (word_address program f k)) first in
-        subst (λ o. Standing q (enter l a o) n) (sym new)
-        (from_single a q (record l { at = address_of f false 0 }) n f refl (record {
-          place = head.place;
-          running = head.running;
-          agree = head.agree;
-          private = head.private;
-          written = head.written;
-        })))
-    | inr apart ↦
-        subst (λ o. Standing q (enter l a o) n)
-        (sym (new_of_none program plan image rewriting a apart)) (inr (record {
-          at = refl;
-          off = sym head.place;
-          no_code = ap program.code head.place ∙ no_code apart (program.code a) refl;
-        }))
-  ]
-    where
-      no_code : AllApart plan a → (o : Option Instr) → program.code a ≡ o → program.code a ≡ None
-      no_code apart None e = e
-      no_code apart (Some i) e =
-          let c = rewriting.admissible.complete a (inl (subst IsSome (sym e) refl)) in
-          absurd (absent plan a c.0 apart c.1 c.2)
-
-  -- behind a batch stands the place's own sequence, and behind that the next place's head
-  falls : (b : Bool) (a : ℕ) (q : Processor) (l : Lane) (n : Local)
-      → (f : EntrySplit plan a) (before : List SequenceItem) → sequence program b f.entry ≡ before
-      → l.at ≡ address_of f b (length before) → Falls program (kind_of program b f.entry) a q l
-      → Standing q l n
-  falls true a q l n f before e at head =
-      let count : length before ≡ length (placed_batch program f.entry) =
-      sym (ap length e) ∙ batch_length program f.entry in
-      let sum : length before ≡ length (placed_batch program f.entry) + 0 =
-      omega (arith, count) in
-      from_single a q l n f (at ∙ ap (word_address program f) sum) head
-  falls false a q l n f before e at behind =
-      let next = next_split program plan a f
-      (follows program plan a behind.0.0 accepted rewriting.admissible behind.0.1 f) in
-      from_head (a + 4) q l n next.next
-      (at ∙ ap (λ k. word_address program f k)
-      (ap (λ xs. number program false f.entry (length xs)) (sym e)
-      ∙ sym (entry_length program f.entry)) ∙ sym next.starts) behind.1
-
   -- the word behind
-  next_at : (a : ℕ) (f : EntrySplit plan a) (b : Bool) (before : List SequenceItem)
+  pub next_at : (a : ℕ) (f : EntrySplit plan a) (b : Bool) (before : List SequenceItem)
       (i : SequenceItem) (is : List SequenceItem)
       → sequence program b f.entry ≡ before ++ i ∷ is
       → next_pc (address_of f b (length before)) ≡ address_of f b (length (before ++ i ∷ []))
@@ -279,61 +154,6 @@ module _ (program : Program) (plan : List PlanEntry) (image : List Cell)
       sp.word i sp.item sp.there
       ∙ ap (word_address program f) (next_number program b f.entry (length before)
       ∙ ap (number program b f.entry) (sym (length-append before (i ∷ []))))
-
-  -- so many words on in a sequence, or behind it
-  lands : (s a : ℕ) (q : Processor) (l : Lane) (n : Local)
-      → (f : EntrySplit plan a) (b : Bool) (before after : List SequenceItem)
-      → sequence program b f.entry ≡ before ++ after
-      → l.at ≡ skip_to s (address_of f b (length before))
-      → Does program (kind_of program b f.entry) a (length before) (address_of f b (length before))
-      after s q l n
-      → Standing q l n
-  lands zero a q l n f b before [] e at does =
-      falls b a q l n f before (e ∙ append-nil before) at does
-  lands (suc s) a q l n f b before [] e at does = absurd does
-  lands zero a q l n f b before (i ∷ is) e at does = inl (record {
-    place = a;
-    entry = f;
-    in_batch = b;
-    before = before;
-    item = i;
-    after = is;
-    split = e;
-    at = at;
-    does = does;
-  })
-  lands (suc s) a q l n f b before (i ∷ is) e at does =
-      let count : length before + 1 ≡ length (before ++ i ∷ []) =
-      sym (length-append before (i ∷ [])) in
-      let word = next_at a f b before i is e in
-      lands s a q l n f b (before ++ i ∷ []) is (e ∙ sym (append_assoc before (i ∷ []) is))
-      (at ∙ ap (skip_to s) word)
-      (subst (λ k. Does program (kind_of program b f.entry) a k
-      (address_of f b (length (before ++ i ∷ []))) is s q l n) count
-      (subst (λ x. Does program (kind_of program b f.entry) a (length before + 1) x is s q l n) word
-      does))
-
-  -- from a word on to a later one
-  pub go_further : (q q' : Processor) (l l' : Lane) (n n' : Local)
-      → (st : Stands q l n) (s : ℕ)
-      → l'.at ≡ skip_to s (next_pc (address_of st.entry st.in_batch (length st.before)))
-      → Does program (kind_of program st.in_batch st.entry.entry) st.place (length st.before + 1)
-      (next_pc (address_of st.entry st.in_batch (length st.before))) st.after s q' l' n'
-      → Standing q' l' n'
-  go_further q q' l l' n n' st s at does =
-      lands (suc s) st.place q' l' n' st.entry st.in_batch st.before (st.item ∷ st.after)
-      st.split at does
-
-  -- the node stands at the first word of a place's own sequence: so it stands there with whatever
-  -- states and bytes it gets
-  pub stands_again : (q q' : Processor) (l l' : Lane) (n n' : Local)
-      → (st : Stands q l n) → l'.at ≡ l.at → kind_of program st.in_batch st.entry.entry ≡ OfPlace
-      → length st.before ≡ 0 → AtHead program st.place q' l' → Standing q' l' n'
-  stands_again q q' l l' n n' st same own first head =
-      let single = own_kind program st.in_batch st.entry.entry own in
-      from_single st.place q' l' n' st.entry
-      (same ∙ st.at ∙ ap (λ k. address_of st.entry st.in_batch k) first
-      ∙ ap (λ b. address_of st.entry b 0) single) head
 
   -- the heads of places
   pub head_low : (a : ℕ) (f : EntrySplit plan a) → word_address program f 0 < 2 ^ 31 + 2 ^ 30
