@@ -17,8 +17,8 @@ use Rattle.rv32_step.specs.declared.CallStep.{CallStep}
 use Rattle.rv32_step.specs.declared.CallStep.TheVariants.{Ends, Returns, Puts}
 use Rattle.rv32_step.specs.Demands.{demand_of, call_step}
 use Rattle.rv32_step.specs.Memory.{load_value}
-use Rattle.templates.specs.declared.runtime_words.RtWord.{RtWord}
-use Rattle.templates.specs.declared.runtime_words.RtWord.TheVariants.{Native, MissR, MissW, Poll, Call, Xjalr, Batch, Prepare, TrapFetch, TrapOff, TrapIllegal, TrapEbreak}
+use Rattle.runtime_words.specs.declared.RtWord.{RtWord}
+use Rattle.runtime_words.specs.declared.RtWord.TheVariants.{Native, MissR, MissW, Poll, Call, Xjalr, Batch, Prepare, TrapFetch, TrapOff, TrapIllegal, TrapEbreak}
 use Rattle.templates.specs.declared.places.Place.{Place}
 use Rattle.jump_map.specs.declared.image.ImageWord.{ImageWord}
 use Rattle.jump_map.specs.Maps.{fetch}

@@ -10,7 +10,7 @@ ghost use Rattle.node_words.specs.Kept.{ground_of, local_of, lane_of, phase_by, 
 ghost use Rattle.node_machine.specs.Frame.{work_of, node_of, layout_of, with_parts, phase_of, HasRoom, IsNode, IsDesk, AreCountsBelow, HasBegun, with_all, phase_resumed, lane_after_wait, counts_after_wait};
 ghost use Rattle.node_words.specs.GoingOn.{phase_on};
 ghost use Rattle.node_machine.specs.Desk.{turn_by, AreUnmet};
-ghost use Rattle.node_machine.specs.Runs.{HasExecuted};
+ghost use Rattle.node_machine.specs.Runs.{HasExecuted, GoesOnBy};
 
 use crate::desk::Desk;
 use exec_map::End;
@@ -116,6 +116,33 @@ impl<'a> Frame<'a> {
         }
     }
 
+    /// Executes words by their micro-ops, as long as those serve them: at most so many, fewer than
+    /// the budget has left, and fewer than there are stamps left. It gives how many. They print
+    /// nothing and send nothing.
+    pub fn go_on(&mut self, most: u64) -> u64
+        requires node { IsNode self.old }
+        requires may { model.can_execute (node_of self.old).phase ≡ true }
+        requires stamp { self.old.stamp < 2 ^ 56 }
+        ensures goes_on { GoesOnBy (work_of self.old) result (node_of self.old) (node_of self.new) }
+        ensures may { model.can_execute (node_of self.new).phase ≡ true }
+        ensures most { result ≤ most }
+        ensures stamp { self.new.stamp < 2 ^ 56 }
+        ensures room { HasRoom self.old → HasRoom self.new }
+        ensures work { work_of self.new ≡ work_of self.old }
+        ensures node { IsNode self.new }
+    {
+        let left = most_words(
+            self.budget.number() - self.executed - 1,
+            STAMPS - self.stamp - 1,
+        );
+        let stretch = self.body.run(self.image, self.at, most_words(most, left));
+        self.at = stretch.at;
+        self.executed += stretch.words;
+        self.stamp += stretch.words;
+        self.phase = phase_on(self.phase, stretch.words);
+        stretch.words
+    }
+
     /// Executes words, of which those before the last print nothing and send nothing: as many as
     /// their micro-ops serve, and one more.
     pub fn exec_on(&mut self) -> Turn
@@ -129,15 +156,7 @@ impl<'a> Frame<'a> {
         ensures work { work_of self.new ≡ work_of self.old }
         ensures node { IsNode self.new }
     {
-        let most = most_words(
-            self.budget.number() - self.executed - 1,
-            STAMPS - self.stamp - 1,
-        );
-        let stretch = self.body.run(self.image, self.at, most);
-        self.at = stretch.at;
-        self.executed += stretch.words;
-        self.stamp += stretch.words;
-        self.phase = phase_on(self.phase, stretch.words);
+        self.go_on(u64::MAX);
         self.serve_word()
     }
 

@@ -15,6 +15,7 @@ ghost use Rattle.node_machine.specs.declared.frame.Frame.{Frame as Stored};
 
 use crate::desk::Desk;
 use crate::frame::{Frame, Phase, Turn};
+use crate::mark::Mark;
 use crate::opening::first_local;
 use crate::trail::Trail;
 use block_layout::Layout;
@@ -27,10 +28,10 @@ use miss_handlers::Waits;
 use node_model::{Entry, NodeCounts, OutByte, Standing};
 use node_words::{Body, Lane, address_of, index_of};
 use run_limits::Budget;
+use runtime_words::RtWord;
 use rv32_step::Registers;
 use std::alloc::{AllocError, Global};
 use std::marker::Model;
-use templates::RtWord;
 
 /// A node that runs rewritten code of a program.
 #[derive(Drop)]
@@ -75,7 +76,9 @@ impl<'a> Node<'a> {
           budget = budget;
         }) }
     {
+        // brings: the image's words have 32 bits, and are few enough
         let _ = image.len();
+        // brings: the budget is in its range
         let _ = budget.number();
         let body = Body {
             lane: Lane {
@@ -237,6 +240,21 @@ impl<'a> Node<'a> {
         self.frame.take_back(trail);
     }
 
+    /// Executes words by their micro-ops, as long as those serve them: at most so many, fewer than
+    /// the budget has left, and fewer than there are stamps left. It gives how many. They print
+    /// nothing and send nothing.
+    pub fn go_on(&mut self, most: u64) -> u64
+        requires may { model.can_execute (node_of self.old).phase ≡ true }
+        requires stamp { (node_of self.old).stamp < 2 ^ 56 }
+        ensures goes_on { GoesOnBy (work_of self.old) result (node_of self.old) (node_of self.new) }
+        ensures may { model.can_execute (node_of self.new).phase ≡ true }
+        ensures most { result ≤ most }
+        ensures stamp { (node_of self.new).stamp < 2 ^ 56 }
+        ensures work { work_of self.new ≡ work_of self.old }
+    {
+        self.frame.go_on(most)
+    }
+
     /// Executes words, of which those before the last print nothing and send nothing: as many as
     /// their micro-ops serve, and one more.
     pub fn exec_on(&mut self) -> Turn
@@ -249,6 +267,22 @@ impl<'a> Node<'a> {
         ensures work { work_of self.new ≡ work_of self.old }
     {
         self.frame.exec_on()
+    }
+
+    /// Where the node is.
+    pub fn mark(&self) -> Mark {
+        self.frame.mark()
+    }
+
+    /// Whether the node is where it was, with the same in its registers.
+    pub fn is_at(&self, mark: &Mark) -> bool {
+        self.frame.is_at(mark)
+    }
+
+    /// Whether the next word may change more than what a [`Mark`] keeps. One that waits, or that
+    /// reserves an address, may change more too, and isn't counted.
+    pub fn stirs(&self) -> bool {
+        self.frame.stirs()
     }
 
     /// Takes a message from a node.

@@ -33,7 +33,9 @@ pub fn first_local<'a>(
 {
     layout_law();
     first_bytes_law();
+    // brings: the program is one that no rule refuses
     let _ = program.entry();
+    // brings: the layout is valid
     let _ = layout.nodes();
     let classes = fixed_classes(alloc, program)?;
     let mut states = States::new(alloc, layout, &classes)?;
@@ -48,6 +50,7 @@ pub fn first_local<'a>(
 fn fixed_classes(alloc: Global, program: &Program<'_>) -> Result<LineClasses, AllocError>
     ensures { IfOk result (AreFixedClasses program.now) }
 {
+    // brings: the program is one that no rule refuses
     let _ = program.entry();
     let ranges = program.read_only_ranges(alloc)?;
     Ok(LineClasses::new(all_classes(alloc, ranges.as_slice())?))
@@ -131,6 +134,7 @@ fn open_block(
 {
     layout_law();
     first_bytes_law();
+    // brings: the layout is valid
     let _ = layout.nodes();
     if layout.home(block) != me {
         copy.fill_flag(block);

@@ -29,10 +29,10 @@ use Rattle.rv32_step.specs.declared.Demand.TheVariants.{Continues}
 use Rattle.rv32_step.specs.Registers.{reg}
 use Rattle.micro_op.specs.declared.MicroKind.TheVariants.{Rare}
 use Rattle.micro_op.specs.Micro.{Unserved, Demands, Enters as EntersBy, Meets, EntersAt}
-use Rattle.templates.specs.declared.runtime_words.RtWord.{RtWord}
-use Rattle.templates.specs.declared.runtime_words.RtWord.TheVariants.{Native, Poll, Xjalr}
+use Rattle.runtime_words.specs.declared.RtWord.{RtWord}
+use Rattle.runtime_words.specs.declared.RtWord.TheVariants.{Native, Poll, Xjalr}
 use Rattle.templates.specs.declared.places.Place.{Place}
-use Rattle.templates.specs.RuntimeWords.{read_word}
+use Rattle.runtime_words.specs.Reading.{read_word}
 use Rattle.exec_map.specs.Contents.{program_of}
 use Rattle.jump_map.specs.declared.image.ImageWord.{ImageWord}
 use Rattle.jump_map.specs.Image.{read_cell, most_words}

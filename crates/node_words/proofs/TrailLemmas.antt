@@ -202,6 +202,14 @@ kind_changes kind.Srl base op registers = refl
 kind_changes kind.Sra base op registers = refl
 kind_changes kind.Or base op registers = refl
 kind_changes kind.And base op registers = refl
+kind_changes kind.Mul base op registers = refl
+kind_changes kind.Mulh base op registers = refl
+kind_changes kind.Mulhsu base op registers = refl
+kind_changes kind.Mulhu base op registers = refl
+kind_changes kind.Div base op registers = refl
+kind_changes kind.Divu base op registers = refl
+kind_changes kind.Rem base op registers = refl
+kind_changes kind.Remu base op registers = refl
 
 -- an outcome changes at most one register, and no byte
 pub record ChangesOne (rd : ℕ) (l : Lane) (n : Local) (o : Outcome) : Type 0 where

@@ -80,6 +80,14 @@ impl<'a> Body<'a> {
             MicroKind::Sra => self.set(op.rd, alu(Op::Sra, a, b), at),
             MicroKind::Or => self.set(op.rd, alu(Op::Or, a, b), at),
             MicroKind::And => self.set(op.rd, alu(Op::And, a, b), at),
+            MicroKind::Mul => self.set(op.rd, alu(Op::Mul, a, b), at),
+            MicroKind::Mulh => self.set(op.rd, alu(Op::Mulh, a, b), at),
+            MicroKind::Mulhsu => self.set(op.rd, alu(Op::Mulhsu, a, b), at),
+            MicroKind::Mulhu => self.set(op.rd, alu(Op::Mulhu, a, b), at),
+            MicroKind::Div => self.set(op.rd, alu(Op::Div, a, b), at),
+            MicroKind::Divu => self.set(op.rd, alu(Op::Divu, a, b), at),
+            MicroKind::Rem => self.set(op.rd, alu(Op::Rem, a, b), at),
+            MicroKind::Remu => self.set(op.rd, alu(Op::Remu, a, b), at),
         }
     }
 

@@ -99,6 +99,7 @@ impl<'a> Local<'a> {
     pub fn laws(&self)
         ensures { ShelfLaws self.now }
     {
+        // brings: the layout is valid
         let _layout = self.layout.nodes();
         copy_law(&self.copy);
     }
@@ -193,6 +194,7 @@ impl<'a> Local<'a> {
         ensures { IsPlace self.now.copy.layout address result }
     {
         layout_law();
+        // brings: the layout is valid
         let _ = self.layout.nodes();
         match self.layout.place_of(address / 64) {
             Some(place) => Some(64 * place + address % 64),

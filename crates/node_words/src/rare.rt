@@ -21,10 +21,11 @@ use crate::lines::{is_fixed, is_mapped, is_readable, is_writable};
 use exec_map::Exit;
 use home_directory::Need;
 use jump_map::{Image, ImageWord};
+use runtime_words::RtWord;
 use rv32_decode::{AmoOp, Imm12, Instr, LoadKind, Reg, Width};
 use rv32_ops::amo;
 use rv32_step::{CallStep, Demand, call_step, cut_short, demand_of};
-use templates::{Place, RtWord};
+use templates::Place;
 
 impl<'a> Body<'a> {
     /// Executes the word with an index, and doesn't go on yet.

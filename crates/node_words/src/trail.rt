@@ -143,6 +143,7 @@ impl<'a> Body<'a> {
         ensures counts { self.new.counts ≡ self.old.counts }
     {
         let op = image.micro(at)?;
+        // brings: the register's number is below 32
         let _ = op.rd.number();
         if let Some(next) = self.step(image, op, at, false) {
             return Some(next);
@@ -169,7 +170,9 @@ impl<'a> Body<'a> {
             → TakesBack saved.now notes.new.items self.new.lane self.new.local first seen }
         ensures counts { self.new.counts ≡ self.old.counts }
     {
+        // brings: what the type of the words that are saved says of them
         let _ = saved;
+        // brings: the register's number is below 32
         let _ = op.rd.number();
         if !self.note(op, notes) {
             return None;

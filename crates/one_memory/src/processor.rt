@@ -239,6 +239,14 @@ fn demand_by(op: &MicroOp, registers: &Registers) -> Option<Demand>
         MicroKind::Sra => Demand::Sets(op.rd, alu(Op::Sra, a, b)),
         MicroKind::Or => Demand::Sets(op.rd, alu(Op::Or, a, b)),
         MicroKind::And => Demand::Sets(op.rd, alu(Op::And, a, b)),
+        MicroKind::Mul => Demand::Sets(op.rd, alu(Op::Mul, a, b)),
+        MicroKind::Mulh => Demand::Sets(op.rd, alu(Op::Mulh, a, b)),
+        MicroKind::Mulhsu => Demand::Sets(op.rd, alu(Op::Mulhsu, a, b)),
+        MicroKind::Mulhu => Demand::Sets(op.rd, alu(Op::Mulhu, a, b)),
+        MicroKind::Div => Demand::Sets(op.rd, alu(Op::Div, a, b)),
+        MicroKind::Divu => Demand::Sets(op.rd, alu(Op::Divu, a, b)),
+        MicroKind::Rem => Demand::Sets(op.rd, alu(Op::Rem, a, b)),
+        MicroKind::Remu => Demand::Sets(op.rd, alu(Op::Remu, a, b)),
     };
     Some(demand)
 }

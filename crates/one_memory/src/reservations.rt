@@ -104,6 +104,7 @@ fn after_store(
         return reserved;
     }
     layout_law();
+    // brings: the layout is valid
     let _valid = layout.nodes();
     match layout.block_of(address / 64) {
         Some(block) => after_loss(layout, block, reserved),

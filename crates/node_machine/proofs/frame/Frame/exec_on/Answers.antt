@@ -1,77 +1,15 @@
-use Rattle.std.proofs.Common.{◌≡◌, ◌+◌, ◌*◌, ◌<◌, ◌∙◌, ap, sym, subst, refl, length, arith, add-zero}
-use Rattle.block_layout.specs.Layout.{Shape}
-use Rattle.exec_map.specs.Contents.{program_of}
-use Rattle.node_words.specs.declared.body.Body.{Body}
-use Rattle.node_model.specs.Node.{Node, can_execute}
+use Rattle.std.proofs.Common.{◌∙◌, ap}
 use Rattle.node_model.specs.Turns.{word_turn}
-use Rattle.node_words.specs.GoingOn.{node_on}
-use Rattle.node_words.specs.Runs.{GoesOnBy}
-use Rattle.node_words.specs.Kept.{Ground, ground_of}
-use Rattle.node_machine.specs.Frame.{node_of, work_of, layout_of, phase_of, IsDesk, AreCountsBelow, WaitsInPhase}
-use Rattle.node_words.proofs.WordLemmas.{still_may}
-use Rattle.node_machine.proofs.FrameLemmas.{on_waits, counts_up}
+use Rattle.node_model.specs.Node.{Work}
+use Rattle.node_machine.specs.Frame.{node_of, work_of}
 use Rattle.node_machine.proofs.frame.Frame.exec_on.Goals as goal
 
-pub serve_word-requires-clause-may : goal.serve_word-requires-clause-may
-serve_word-requires-clause-may c =
-    let i = c.args.self.now in
-    ap can_execute c.phase_on-self.ensures ∙ still_may (phase_of i.phase) c.run-stretch.result.words c.requires.may
-
-pub serve_word-requires-clause-node : goal.serve_word-requires-clause-node
-serve_word-requires-clause-node c =
-    let i = c.args.self.now in
-    let n = c.requires.node in
-    let low = n.going c.requires.may in
-    let behind = n.behind in
-    let budget = c.number.ensures.value in
-    let most = c.most_words-most.ensures.first in
-    let words = c.run-stretch.ensures.most in
-    let layout = ap (λ (g : Ground). g.layout) c.run-stretch.ensures.ground ∙ ap layout_of c.deref_mut.ensures.value in
-    let counts = c.run-stretch.ensures.counts ∙ ap (λ (b : Body). b.counts) c.deref_mut.ensures.value in
-    record {
-      within = omega (arith, low, budget, most, words);
-      going = λ may. omega (arith, low, budget, most, words);
-      range = n.range;
-      short = n.short;
-      desk = subst (λ (l : Shape). IsDesk l i.desk) (sym layout) n.desk;
-      waits = subst (λ p. WaitsInPhase p (length i.desk.waits.waits)) (sym c.phase_on-self.ensures) (on_waits (phase_of i.phase) c.run-stretch.result.words (length i.desk.waits.waits) c.requires.may n.waits);
-      noted = n.noted;
-      behind = omega (arith, behind);
-      counts = counts_up (19 * i.stamp) (19 * (i.stamp + c.run-stretch.result.words)) c.run-stretch.new.self.counts (omega arith)
-          (subst (AreCountsBelow (19 * i.stamp)) (sym counts) n.counts);
-    }
-
 pub returns-clause-ran : goal.returns-clause-ran
-returns-clause-ran c =
-    let i = c.args.self.now in
-    let low = c.requires.node.going c.requires.may in
-    let budget = c.number.ensures.value in
-    let first = c.most_words-most.ensures.first in
-    let words = c.run-stretch.result.words in
-    let at = c.run-stretch.result.at in
-    let b = c.run-stretch.new.self in
-    let room : i.executed + c.most_words-most.result < i.budget = omega (arith, low, budget, first) in
-    let on = subst (λ (x : Body). GoesOnBy (work_of i) words (node_on (node_of i) x i.at 0) (node_on (node_of i) b at words)) c.deref_mut.ensures.value
-    (c.run-stretch.ensures.words (work_of i) (node_of i) refl (ap (λ (x : Body). program_of x.local.program) (sym c.deref_mut.ensures.value)) c.requires.may room) in
-    let start : node_on (node_of i) i.body.value i.at 0 ≡ node_of i = λ t. record (node_of i) {
-      executed = add-zero i.executed t;
-      stamp = add-zero i.stamp t;
-    } in
-    let g = c.run-stretch.ensures.ground ∙ ap (λ (x : Body). ground_of x.local) c.deref_mut.ensures.value in
-    let counts = c.run-stretch.ensures.counts ∙ ap (λ (x : Body). x.counts) c.deref_mut.ensures.value in
-    let phase = c.phase_on-self.ensures in
-    record {
-      words = words;
-      last = node_on (node_of i) b at words;
-      goes_on = subst (λ (x : Node). GoesOnBy (work_of i) words x (node_on (node_of i) b at words)) start on;
-      may = still_may (phase_of i.phase) words c.requires.may;
-      turn = c.serve_word.ensures.turn ∙ (λ t. word_turn
-          (record { program = program_of (g t).program; image = i.image.now; layout = (g t).layout; budget = i.budget })
-          (record (node_on (node_of i) b at words) { phase = phase t; counts = counts t }));
-    }
-
-pub returns-clause-work : goal.returns-clause-work
-returns-clause-work c =
-    let i = c.args.self.now in
-    let g = c.run-stretch.ensures.ground ∙ ap (λ (x : Body). ground_of x.local) c.deref_mut.ensures.value in
-    c.serve_word.ensures.work ∙ (λ t. record { program = program_of (g t).program; image = i.image.now; layout = (g t).layout; budget = i.budget })
+returns-clause-ran c = record {
+  words = c.go_on.result;
+  last = node_of c.go_on.new.self;
+  goes_on = c.go_on.ensures.goes_on;
+  may = c.go_on.ensures.may;
+  turn = c.serve_word.ensures.turn
+      ∙ ap (λ (w : Work). word_turn w (node_of c.go_on.new.self)) c.go_on.ensures.work;
+}

@@ -69,6 +69,30 @@ returns-in-Or-clause-steps c = stepped _ kind.Or c.args.op.now _ _ _ _ _ _ _ (De
 pub returns-in-And-clause-steps : goal.returns-in-And-clause-steps
 returns-in-And-clause-steps c = stepped _ kind.And c.args.op.now _ _ _ _ _ _ _ (Demands (Sets c.args.op.now.rd c.alu-in-And.result)) c.in-And.is (c.set-in-And.ensures.steps c.args.image.now) (cc)
 
+pub returns-in-Mul-clause-steps : goal.returns-in-Mul-clause-steps
+returns-in-Mul-clause-steps c = stepped _ kind.Mul c.args.op.now _ _ _ _ _ _ _ (Demands (Sets c.args.op.now.rd c.alu-in-Mul.result)) c.in-Mul.is (c.set-in-Mul.ensures.steps c.args.image.now) (cc)
+
+pub returns-in-Mulh-clause-steps : goal.returns-in-Mulh-clause-steps
+returns-in-Mulh-clause-steps c = stepped _ kind.Mulh c.args.op.now _ _ _ _ _ _ _ (Demands (Sets c.args.op.now.rd c.alu-in-Mulh.result)) c.in-Mulh.is (c.set-in-Mulh.ensures.steps c.args.image.now) (cc)
+
+pub returns-in-Mulhsu-clause-steps : goal.returns-in-Mulhsu-clause-steps
+returns-in-Mulhsu-clause-steps c = stepped _ kind.Mulhsu c.args.op.now _ _ _ _ _ _ _ (Demands (Sets c.args.op.now.rd c.alu-in-Mulhsu.result)) c.in-Mulhsu.is (c.set-in-Mulhsu.ensures.steps c.args.image.now) (cc)
+
+pub returns-in-Mulhu-clause-steps : goal.returns-in-Mulhu-clause-steps
+returns-in-Mulhu-clause-steps c = stepped _ kind.Mulhu c.args.op.now _ _ _ _ _ _ _ (Demands (Sets c.args.op.now.rd c.alu-in-Mulhu.result)) c.in-Mulhu.is (c.set-in-Mulhu.ensures.steps c.args.image.now) (cc)
+
+pub returns-in-Div-clause-steps : goal.returns-in-Div-clause-steps
+returns-in-Div-clause-steps c = stepped _ kind.Div c.args.op.now _ _ _ _ _ _ _ (Demands (Sets c.args.op.now.rd c.alu-in-Div.result)) c.in-Div.is (c.set-in-Div.ensures.steps c.args.image.now) (cc)
+
+pub returns-in-Divu-clause-steps : goal.returns-in-Divu-clause-steps
+returns-in-Divu-clause-steps c = stepped _ kind.Divu c.args.op.now _ _ _ _ _ _ _ (Demands (Sets c.args.op.now.rd c.alu-in-Divu.result)) c.in-Divu.is (c.set-in-Divu.ensures.steps c.args.image.now) (cc)
+
+pub returns-in-Rem-clause-steps : goal.returns-in-Rem-clause-steps
+returns-in-Rem-clause-steps c = stepped _ kind.Rem c.args.op.now _ _ _ _ _ _ _ (Demands (Sets c.args.op.now.rd c.alu-in-Rem.result)) c.in-Rem.is (c.set-in-Rem.ensures.steps c.args.image.now) (cc)
+
+pub returns-in-Remu-clause-steps : goal.returns-in-Remu-clause-steps
+returns-in-Remu-clause-steps c = stepped _ kind.Remu c.args.op.now _ _ _ _ _ _ _ (Demands (Sets c.args.op.now.rd c.alu-in-Remu.result)) c.in-Remu.is (c.set-in-Remu.ensures.steps c.args.image.now) (cc)
+
 pub returns-in-Nothing-clause-steps : goal.returns-in-Nothing-clause-steps
 returns-in-Nothing-clause-steps c = stepped _ kind.Nothing c.args.op.now _ _ _ _ _ _ _ (Demands (branch_demand false (word_address 0))) c.in-Nothing.is (c.branch-at.ensures c.args.image.now _ _) (cc)
 

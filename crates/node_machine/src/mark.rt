@@ -1,0 +1,77 @@
+//! Where a node was, to see whether it comes round in a loop that changes nothing.
+
+use crate::frame::Frame;
+use jump_map::ImageWord;
+use micro_op::{MicroKind, MicroOp};
+use node_words::address_of;
+use runtime_words::RtWord;
+use rv32_decode::{Instr, Reg};
+
+/// Where a node was: the index of its next word, what its registers held, and what the words held
+/// in which sequences keep registers.
+#[derive(Clone, Copy, Debug, PartialEq, Eq)]
+pub struct Mark {
+    at: u32,
+    registers: [u32; 32],
+    spills: [u32; 3],
+}
+
+/// The lowest address of a word in which sequences keep a register.
+const SPILLS: u32 = 0xffff_fff4;
+
+impl<'a> Frame<'a> {
+    /// Where the node is.
+    pub fn mark(&self) -> Mark {
+        let mut registers = [0; 32];
+        for number in 1..32_u8 {
+            registers[number as usize] = self.body.lane.registers.get(Reg::new(number));
+        }
+        Mark {
+            at: self.at,
+            registers,
+            spills: self.body.lane.spills,
+        }
+    }
+
+    /// Whether the node is where it was, with the same in its registers.
+    pub fn is_at(&self, mark: &Mark) -> bool {
+        self.at == mark.at && self.mark() == *mark
+    }
+
+    /// Whether the next word may change more than what a [`Mark`] keeps. One that waits, or that
+    /// reserves an address, may change more too, and isn't counted.
+    pub fn stirs(&self) -> bool {
+        match self.image.micro(self.at) {
+            Some(op) => match op.kind {
+                MicroKind::StoreByte | MicroKind::StoreHalf => true,
+                MicroKind::StoreWord => self.address_by(op) < SPILLS,
+                MicroKind::Rare => word_stirs(self.image.fetch(address_of(self.at))),
+                _ => false,
+            },
+            None => true,
+        }
+    }
+
+    /// The address that a micro-op stores to.
+    fn address_by(&self, op: &MicroOp) -> u32 {
+        self.body.lane.registers.get(op.rs1).wrapping_add(op.imm)
+    }
+}
+
+/// Whether a word that no micro-op serves may change more than registers.
+fn word_stirs(word: Option<ImageWord>) -> bool {
+    match word {
+        Some(word) => !matches!(
+            word.what,
+            Some(
+                RtWord::Native(Instr::Lr { .. } | Instr::Jalr { .. })
+                    | RtWord::MissR { .. }
+                    | RtWord::MissW { .. }
+                    | RtWord::Batch { .. }
+                    | RtWord::Xjalr { .. }
+                    | RtWord::Poll
+            )
+        ),
+        None => true,
+    }
+}
