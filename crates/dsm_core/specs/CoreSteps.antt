@@ -33,9 +33,13 @@ abbrev pub IsFirstStamped : List Queue → (n j i : ℕ) → Type 0
 IsFirstStamped lists n j i = (w : Wire) (rest : List Wire) → wires_of lists n j i ≡ w ∷ rest
     → w.stamp < 2 ^ 56
 
+-- node i is there and may execute a word, and its stamp is in range
+abbrev pub CanExecute : (n : ℕ) → List Frame → ℕ → Type 0
+CanExecute n nodes i = (i < n) × MayExecute nodes i × IsStamped nodes i
+
 -- the event is allowed, and its stamps are in range
 abbrev pub CanMake : (n : ℕ) → List Frame → List Queue → Event → Type 0
-CanMake n nodes lists (Exec i) = (i < n) × MayExecute nodes i × IsStamped nodes i
+CanMake n nodes lists (Exec i) = CanExecute n nodes i
 CanMake n nodes lists (Take i j) = (i < n) × (j < n) × (wires_of lists n j i ≢ [])
     × IsStamped nodes i × IsFirstStamped lists n j i
 

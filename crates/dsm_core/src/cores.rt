@@ -62,9 +62,11 @@ impl<'a> Core<'a> {
         ensures opening { IfOk result (λ c. core_of c ≡ opening_core (work_of c)) }
         ensures work { IfOk result (λ c. work_of c ≡ work_in work.now) }
     {
-        // For the proof alone.
+        // brings: the image's words have 32 bits, and are few enough
         let _ = work.image.len();
+        // brings: the program is one that no rule refuses
         let _ = work.program.entry();
+        // brings: the budget is in its range
         let _ = work.budget.number();
         let count = work.layout.nodes();
         let nodes = first_nodes(alloc, work)?;
@@ -112,7 +114,7 @@ impl<'a> Core<'a> {
     {
         progress_law();
         stamp_law();
-        // For the proof alone.
+        // brings: what the type of a core says of its parts
         let _layout = self.parts.layout();
     }
 
@@ -127,7 +129,7 @@ impl<'a> Core<'a> {
     {
         progress_law();
         stamp_law();
-        // For the proof alone.
+        // brings: what the type of a core says of its parts
         let _layout = self.parts.layout();
     }
 

@@ -12,8 +12,8 @@ ghost use Rattle.dsm_core.specs.CoreSteps.{GoesOnFor, HasGone, TakesNone, IsStil
 use crate::cores::{Core, Event};
 use jump_map::ImageWord;
 use node_machine::{Node, Standing};
+use runtime_words::RtWord;
 use std::alloc::AllocError;
-use templates::RtWord;
 
 impl<'a> Core<'a> {
     /// Makes events in rounds until every node is over. In a round each node, ascending, takes every

@@ -1,10 +1,16 @@
 //! What a core gives once it is over.
 
-ghost use Rattle.std.specs.Prelude.{◌≡◌, ◌++◌, List, Some, map, IfOk, OnOk};
+ghost use Rattle.std.specs.Prelude.{◌≡◌, ℕ, ◌/◌, ◌<◌, ◌≤◌, ◌++◌, List, Some, map, IfOk, OnOk};
 ghost use Rattle.std.specs.List.{range_with_len};
-ghost use Rattle.node_model.specs.Node.{end_of};
+ghost use Rattle.rv32_program.specs.declared.End.TheVariants.{Stopped};
+ghost use Rattle.templates.specs.declared.plans.PlanEntry.{PlanEntry};
+ghost use Rattle.jump_map.specs.Image.{IsRewriting};
+ghost use Rattle.rewriting_law.specs.Ascents.{AscendsBetweenPolls};
+ghost use Rattle.rewriting_law.specs.Bounds.{steps_of};
+ghost use Rattle.rewriting_law.specs.CoreRun.{picks_of};
+ghost use Rattle.node_model.specs.Node.{Ended, end_of};
 ghost use Rattle.node_model.specs.Core.{IsOver, opening_core, printed_by};
-ghost use Rattle.node_model.specs.Outcome.{IsOutcomeOf};
+ghost use Rattle.node_model.specs.Outcome.{IsOutcomeOf, AreFrugal};
 ghost use Rattle.run_order.specs.OwnRun.{Stamped, StandsForOwnRun, run_of};
 ghost use Rattle.dsm_core.specs.CoreParts.{work_of, core_of, outcome_of};
 ghost use Rattle.dsm_core.specs.Printing.{printed_of, printed_below, place_of, byte_of};
@@ -12,6 +18,7 @@ ghost use Rattle.dsm_core.specs.Printing.{printed_of, printed_below, place_of, b
 use crate::cores::Core;
 use exec_map::End;
 use node_machine::{NodeCounts, OutByte};
+use rewriting_law::bounds_law;
 use run_order::stamp_law;
 use std::alloc::{AllocError, Global};
 
@@ -42,8 +49,28 @@ impl<'a> Core<'a> {
         ensures outcome { IfOk result (λ o. (events : List Stamped)
             × StandsForOwnRun (work_of self.now) (core_of self.now) events
             × IsOutcomeOf (work_of self.now) (run_of events) (outcome_of o)) }
+        // The nodes have sent no more messages than their misses may cost.
+        ensures messages { IfOk result
+            (λ o. AreFrugal self.now.layout.nodes (outcome_of o).counts) }
+        // A processor that was stopped has made a step of the original, by its own run, for each 40
+        // words of its budget.
+        ensures work { IfOk result (λ o. (events : List Stamped) (plan : List PlanEntry)
+            (i budget : ℕ) → StandsForOwnRun (work_of self.now) (core_of self.now) events
+            → IsRewriting (work_of self.now).program plan (work_of self.now).image
+            → i < self.now.layout.nodes
+            → ((core_of self.now).nodes i).phase ≡ Ended (Stopped budget)
+            → budget / 40 ≤ steps_of i (picks_of (work_of self.now) plan
+            (opening_core (work_of self.now)) (run_of events))) }
+        // Between two polls of a node, the steps that it makes by the own run are, from the third
+        // on, each of a greater address than the one before it: so they are few.
+        ensures polls { IfOk result (λ o. (events : List Stamped) (plan : List PlanEntry) (i : ℕ)
+            → StandsForOwnRun (work_of self.now) (core_of self.now) events
+            → IsRewriting (work_of self.now).program plan (work_of self.now).image
+            → i < self.now.layout.nodes
+            → AscendsBetweenPolls (work_of self.now) plan (run_of events) i) }
     {
         self.promises();
+        bounds_law();
         let output = self.output(alloc)?;
         let ends = self.ends(alloc)?;
         let counts = self.counts(alloc)?;
@@ -62,7 +89,7 @@ impl<'a> Core<'a> {
             (run_of events)) }
     {
         stamp_law();
-        // For the proof alone.
+        // brings: the layout is valid, so that it has at most 16 nodes
         let _ = self.layout().nodes();
         let mut printed = self.printed(alloc)?;
         printed.sort_unstable_by_key(|byte| place(byte));

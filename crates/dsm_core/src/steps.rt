@@ -6,7 +6,7 @@ ghost use Rattle.node_model.specs.Core as model;
 ghost use Rattle.dsm_protocol.specs.Queue.{Queue as Stored, AreQueues, SameWires, HasRoom, wires_of};
 ghost use Rattle.dsm_core.specs.CoreParts.{work_in, core_with, event_of, HaveWork};
 ghost use Rattle.node_model.specs.Core.{IsOver};
-ghost use Rattle.dsm_core.specs.CoreSteps.{SameNodes, SameWorks, HasNodeRoom, MayExecute, IsStamped, IsFirstStamped, HaveMade, HaveKept, HavePassed, HaveExecutedOn, AreFirst, CanMake};
+ghost use Rattle.dsm_core.specs.CoreSteps.{SameNodes, SameWorks, HasNodeRoom, CanExecute, HaveMade, HaveKept, HavePassed, HaveExecutedOn, AreFirst, CanMake};
 
 use crate::cores::Event;
 use crate::work;
@@ -214,9 +214,7 @@ pub(crate) fn make(
 /// A node executes its next word by its micro-op, where that serves it.
 pub(crate) fn pass(nodes: &mut Vec<Node<'_>>, count: u8, node: u8) -> bool
     requires count { length nodes.old.items ≡ count }
-    requires node { node < count }
-    requires may { MayExecute nodes.old.items node }
-    requires stamp { IsStamped nodes.old.items node }
+    requires allowed { CanExecute count nodes.old.items node }
     ensures count { length nodes.new.items ≡ count }
     ensures works { SameWorks nodes.old.items nodes.new.items }
     ensures passed { result ≡ true → HavePassed count node nodes.old.items nodes.new.items }
@@ -234,9 +232,7 @@ fn execute(
 ) -> Result<(), AllocError>
     requires count { length nodes.old.items ≡ count }
     requires lists { AreQueues lists.old.items count }
-    requires node { node < count }
-    requires may { MayExecute nodes.old.items node }
-    requires stamp { IsStamped nodes.old.items node }
+    requires allowed { CanExecute count nodes.old.items node }
     ensures count { length nodes.new.items ≡ count }
     ensures lists { AreQueues lists.new.items count }
     ensures works { SameWorks nodes.old.items nodes.new.items }
@@ -261,9 +257,7 @@ pub(crate) fn execute_on(
 ) -> Result<u64, AllocError>
     requires count { length nodes.old.items ≡ count }
     requires lists { AreQueues lists.old.items count }
-    requires node { node < count }
-    requires may { MayExecute nodes.old.items node }
-    requires stamp { IsStamped nodes.old.items node }
+    requires allowed { CanExecute count nodes.old.items node }
     ensures count { length nodes.new.items ≡ count }
     ensures lists { AreQueues lists.new.items count }
     ensures works { SameWorks nodes.old.items nodes.new.items }
@@ -290,9 +284,7 @@ fn execute_with_room(
 ) -> Result<(), AllocError>
     requires count { length nodes.old.items ≡ count }
     requires lists { AreQueues lists.old.items count }
-    requires node { node < count }
-    requires may { MayExecute nodes.old.items node }
-    requires stamp { IsStamped nodes.old.items node }
+    requires allowed { CanExecute count nodes.old.items node }
     ensures count { length nodes.new.items ≡ count }
     ensures lists { AreQueues lists.new.items count }
     ensures works { SameWorks nodes.old.items nodes.new.items }
@@ -317,11 +309,7 @@ fn take(
 ) -> Result<(), AllocError>
     requires count { length nodes.old.items ≡ count }
     requires lists { AreQueues lists.old.items count }
-    requires node { node < count }
-    requires from { from < count }
-    requires some { wires_of lists.old.items count from node ≢ [] }
-    requires stamp { IsStamped nodes.old.items node }
-    requires wire { IsFirstStamped lists.old.items count from node }
+    requires allowed { CanMake count nodes.old.items lists.old.items (model.Take node from) }
     ensures count { length nodes.new.items ≡ count }
     ensures lists { AreQueues lists.new.items count }
     ensures works { SameWorks nodes.old.items nodes.new.items }

@@ -80,7 +80,7 @@ impl<'a> Cursors<'a> {
         requires left { (cursor_at self.now node).takes < length (entries_at self.now node) }
         ensures value { result ≡ (cursor_at self.now node).takes + 1 }
     {
-        // For the proof alone.
+        // brings: a journal has fewer than 2^63 entries
         let _entries = self.journal(node).len();
         self.at(node).takes + 1
     }

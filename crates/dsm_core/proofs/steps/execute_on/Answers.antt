@@ -9,19 +9,19 @@ use Rattle.dsm_core.proofs.steps.execute_on.Goals as goal
 pub exec_on-turn-requires-clause-may : goal.exec_on-turn-requires-clause-may
 exec_on-turn-requires-clause-may c =
     let x = c.index_mut-stored.result.now in
-    let below = subst (λ z. c.args.node < z) (sym c.make_room.ensures.count) c.requires.node in
+    let below = subst (λ z. c.args.node < z) (sym c.make_room.ensures.count) c.requires.allowed.0 in
     subst (λ (z : Node). can_execute z.phase ≡ true)
     (sym (same_node c.args.nodes.now.items c.make_room.new.nodes.items c.args.node x (node_of x)
-    below c.make_room.ensures.nodes c.index_mut-stored.ensures.value)) (c.requires.may (node_of x))
+    below c.make_room.ensures.nodes c.index_mut-stored.ensures.value)) (c.requires.allowed.1 (node_of x))
 
 pub exec_on-turn-requires-clause-stamp : goal.exec_on-turn-requires-clause-stamp
 exec_on-turn-requires-clause-stamp c =
     let x = c.index_mut-stored.result.now in
-    let below = subst (λ z. c.args.node < z) (sym c.make_room.ensures.count) c.requires.node in
+    let below = subst (λ z. c.args.node < z) (sym c.make_room.ensures.count) c.requires.allowed.0 in
     subst (λ (z : Node). z.stamp < 2 ^ 56)
     (sym (same_node c.args.nodes.now.items c.make_room.new.nodes.items c.args.node x (node_of x)
     below c.make_room.ensures.nodes c.index_mut-stored.ensures.value))
-    (c.requires.stamp (node_of x))
+    (c.requires.allowed.2 (node_of x))
 
 pub overflow_sub-words : goal.overflow_sub-words
 overflow_sub-words c =
@@ -34,7 +34,7 @@ overflow_sub-words c =
 
 pub returns-clause-works : goal.returns-clause-works
 returns-clause-works c =
-    let below = subst (λ z. c.args.node < z) (sym c.make_room.ensures.count) c.requires.node in
+    let below = subst (λ z. c.args.node < z) (sym c.make_room.ensures.count) c.requires.allowed.0 in
     set_same work_at c.make_room.new.nodes.items c.args.node c.index_mut-stored.result.now
     c.exec_on-turn.new.self below c.index_mut-stored.ensures.value c.exec_on-turn.ensures.work
     ∙ c.make_room.ensures.nodes.works
@@ -51,6 +51,6 @@ returns-clause-ran c =
     executed_on c.args.count c.args.node (turn.stamp - c.stamp-stamp.result)
     c.args.nodes.now.items c.make_room.new.nodes.items x y c.args.lists.now.items
     c.make_room.new.lists.items c.send.new.queues.items turn.stamp turn.sends.items turn.output
-    c.make_room.ensures.count c.requires.node c.make_room.ensures.nodes
+    c.make_room.ensures.count c.requires.allowed.0 c.make_room.ensures.nodes
     c.index_mut-stored.ensures.value c.make_room.ensures.wires c.send.ensures.sent
     c.exec_on-turn.ensures.ran last (omega (arith, ran, last, first))

@@ -11,32 +11,32 @@ pub pass-requires-clause-may : goal.pass-requires-clause-may
 pass-requires-clause-may c =
     let ns = c.args.nodes.now.items in
     let x = c.index_mut.result.now in
-    let below = subst (λ z. c.args.node < z) (sym c.requires.count) c.requires.node in
+    let below = subst (λ z. c.args.node < z) (sym c.requires.count) c.requires.allowed.0 in
     let same : SameNodes ns ns = record { nodes = refl; works = refl } in
     subst (λ (z : Node). can_execute z.phase ≡ true)
     (sym (same_node ns ns c.args.node x (node_of x) below same c.index_mut.ensures.value))
-    (c.requires.may (node_of x))
+    (c.requires.allowed.1 (node_of x))
 
 pub pass-requires-clause-stamp : goal.pass-requires-clause-stamp
 pass-requires-clause-stamp c =
     let ns = c.args.nodes.now.items in
     let x = c.index_mut.result.now in
-    let below = subst (λ z. c.args.node < z) (sym c.requires.count) c.requires.node in
+    let below = subst (λ z. c.args.node < z) (sym c.requires.count) c.requires.allowed.0 in
     let same : SameNodes ns ns = record { nodes = refl; works = refl } in
     subst (λ (z : Node). z.stamp < 2 ^ 56)
     (sym (same_node ns ns c.args.node x (node_of x) below same c.index_mut.ensures.value))
-    (c.requires.stamp (node_of x))
+    (c.requires.allowed.2 (node_of x))
 
 pub returns-clause-works : goal.returns-clause-works
 returns-clause-works c =
-    let below = subst (λ z. c.args.node < z) (sym c.requires.count) c.requires.node in
+    let below = subst (λ z. c.args.node < z) (sym c.requires.count) c.requires.allowed.0 in
     set_same work_at c.args.nodes.now.items c.args.node c.index_mut.result.now c.pass.new.self below
     c.index_mut.ensures.value c.pass.ensures.work
 
 pub returns-clause-passed : goal.returns-clause-passed
 returns-clause-passed c = λ true.
     passed c.args.count c.args.node c.args.nodes.now.items c.index_mut.result.now c.pass.new.self
-    c.requires.count c.requires.node c.index_mut.ensures.value (c.pass.ensures.passed true).0
+    c.requires.count c.requires.allowed.0 c.index_mut.ensures.value (c.pass.ensures.passed true).0
     (c.pass.ensures.passed true).1
 
 pub returns-clause-same : goal.returns-clause-same
@@ -45,7 +45,7 @@ returns-clause-same c = λ false.
     let x = c.index_mut.result.now in
     let y = c.pass.new.self in
     let is = c.index_mut.ensures.value in
-    let below = subst (λ z. c.args.node < z) (sym c.requires.count) c.requires.node in
+    let below = subst (λ z. c.args.node < z) (sym c.requires.count) c.requires.allowed.0 in
     record {
       nodes = set_same node_of ns c.args.node x y below is (c.pass.ensures.same false);
       works = set_same work_at ns c.args.node x y below is c.pass.ensures.work;

@@ -8,14 +8,14 @@ use Rattle.dsm_core.proofs.steps.take.Goals as goal
 pub take-turn-requires-clause-stamp : goal.take-turn-requires-clause-stamp
 take-turn-requires-clause-stamp c =
     let x = c.index_mut.result.now in
-    let below = subst (λ z. c.args.node < z) (sym c.make_room.ensures.count) c.requires.node in
+    let below = subst (λ z. c.args.node < z) (sym c.make_room.ensures.count) c.requires.allowed.0 in
     subst (λ (z : Node). z.stamp < 2 ^ 56)
     (sym (same_node c.args.nodes.now.items c.make_room.new.nodes.items c.args.node x (node_of x)
-    below c.make_room.ensures.nodes c.index_mut.ensures.value)) (c.requires.stamp (node_of x))
+    below c.make_room.ensures.nodes c.index_mut.ensures.value)) (c.requires.allowed.3 (node_of x))
 
 pub returns-clause-works : goal.returns-clause-works
 returns-clause-works c =
-    let below = subst (λ z. c.args.node < z) (sym c.make_room.ensures.count) c.requires.node in
+    let below = subst (λ z. c.args.node < z) (sym c.make_room.ensures.count) c.requires.allowed.0 in
     set_same work_at c.make_room.new.nodes.items c.args.node c.index_mut.result.now
     c.take-turn.new.self below c.index_mut.ensures.value c.take-turn.ensures.work
     ∙ c.make_room.ensures.nodes.works
@@ -26,7 +26,7 @@ returns-clause-event c =
     c.make_room.new.nodes.items c.index_mut.result.now c.take-turn.new.self
     c.args.lists.now.items c.make_room.new.lists.items c.take_first-wire.new.queues.items
     c.send.new.queues.items c.take-turn.result.stamp c.take-turn.result.sends.items
-    c.take_first-wire.result c.make_room.ensures.count c.requires.node c.requires.from
+    c.take_first-wire.result c.make_room.ensures.count c.requires.allowed.0 c.requires.allowed.1
     c.make_room.ensures.nodes c.index_mut.ensures.value c.make_room.ensures.wires
     c.take_first-wire.ensures.taken c.send.ensures.sent c.take-turn.ensures.node
     c.take-turn.ensures.sends c.take-turn.ensures.stamp

@@ -1,7 +1,8 @@
--- By its three parts.
-use Rattle.std.proofs.Common.{◌∙◌, sym}
+-- By its three parts, and by the law of bounds.
+use Rattle.std.proofs.Common.{◌∙◌, sym, ap, subst}
 use Rattle.node_model.specs.Node.{Node, end_of}
 use Rattle.node_model.specs.Core.{opening_core, after}
+use Rattle.node_model.specs.Outcome.{AreFrugal}
 use Rattle.run_order.specs.OwnRun.{run_of}
 use Rattle.dsm_core.specs.CoreParts.{work_of, core_of}
 use Rattle.dsm_core.proofs.Printing.{same_below}
@@ -12,8 +13,12 @@ returns c =
     let p = c.args.self.now in
     let work = work_of p in
     let own = c.promises.ensures.own_run in
-    let last = after work (opening_core work) (run_of own.0) in
+    let run = c.promises.ensures.rewritten in
+    let events = run_of own.0 in
+    let last = after work (opening_core work) events in
     let alike = own.1.ends in
+    let counts = c.in_ok-counts.ensures
+    ∙ sym (same_below work.layout.nodes (λ (n : Node). n.counts) last (core_of p) alike) in
     record {
       outcome = (
         own.0,
@@ -22,8 +27,17 @@ returns c =
           output = c.in_ok-output.ensures own.0 own.1;
           ends = same_below work.layout.nodes (λ (n : Node). end_of n.phase) last (core_of p) alike
               ∙ sym c.in_ok-ends.ensures;
-          counts = c.in_ok-counts.ensures
-              ∙ sym (same_below work.layout.nodes (λ (n : Node). n.counts) last (core_of p) alike);
+          counts = counts;
         },
       );
+      messages = subst (AreFrugal work.layout.nodes) (sym counts)
+          (c.bounds_law.ensures.messages work run.plan events run.accepted run.valid run.laid_over
+          run.rewriting own.1.is_run);
+      work = λ events plan i budget stands rewriting low is.
+          c.bounds_law.ensures.work work plan (run_of events) i budget run.accepted run.valid
+          run.laid_over rewriting stands.is_run low
+          (ap (λ (n : Node). n.phase) (sym (stands.ends.nodes i low)) ∙ is);
+      polls = λ events plan i stands rewriting low.
+          c.bounds_law.ensures.polls work plan (run_of events) i run.accepted run.valid
+          run.laid_over rewriting stands.is_run low;
     }

@@ -1,37 +1,16 @@
 -- Words of the nodes and lists are those of the core.
-use Rattle.std.proofs.Common.{◌≡◌, ℕ, ◌<◌, ◌∙◌, refl, sym, subst}
+use Rattle.std.proofs.Common.{◌≡◌, ℕ, ◌∙◌, refl, sym, subst}
 use Rattle.node_model.specs.Core.{Exec, May}
 use Rattle.dsm_protocol.specs.Queue.{AreQueues}
 use Rattle.dsm_core.specs.CoreParts.{CoreParts, work_of, core_with, core_of, AreParts, HasStampsInRange}
 use Rattle.dsm_core.specs.CoreWords.{HasExecutedOn}
-use Rattle.dsm_core.specs.CoreSteps.{HaveExecutedOn, HaveKept}
+use Rattle.dsm_core.specs.CoreSteps.{CanExecute, HaveExecutedOn, HaveKept}
 use Rattle.dsm_core.proofs.CoreSteps.{if_ok, on_err}
-use Rattle.dsm_core.proofs.CoreRuns.{parts_kept, may_execute_at, stamped}
+use Rattle.dsm_core.proofs.CoreRuns.{parts_kept, can_make}
 use Rattle.dsm_core.proofs.parts.Parts.execute_on.Goals as goal
 
-pub execute_on-requires-clause-node : goal.execute_on-requires-clause-node
-execute_on-requires-clause-node c =
-    let may = subst (λ (q : CoreParts). May (work_of q) (core_of q) (Exec c.args.node))
-    (sym c.self.view_is) c.requires.enabled in
-    subst (λ z. c.args.node < z) (sym c.nodes-count.ensures.nodes) may.0
-
-pub execute_on-requires-clause-may : goal.execute_on-requires-clause-may
-execute_on-requires-clause-may c =
-    let p : CoreParts = record {
-      program = c.self.inside.program.now;
-      image = c.self.inside.image.now;
-      layout = c.self.inside.layout;
-      budget = c.self.inside.budget;
-      nodes = c.self.inside.nodes.items;
-      lists = c.self.inside.lists.items;
-    } in
-    let are = subst AreParts (sym c.self.view_is) c.requires.parts in
-    let may = subst (λ (q : CoreParts). May (work_of q) (core_of q) (Exec c.args.node))
-    (sym c.self.view_is) c.requires.enabled in
-    may_execute_at p c.args.node are may
-
-pub execute_on-requires-clause-stamp : goal.execute_on-requires-clause-stamp
-execute_on-requires-clause-stamp c =
+pub execute_on-requires-clause-allowed : goal.execute_on-requires-clause-allowed
+execute_on-requires-clause-allowed c =
     let p : CoreParts = record {
       program = c.self.inside.program.now;
       image = c.self.inside.image.now;
@@ -45,7 +24,8 @@ execute_on-requires-clause-stamp c =
     (sym c.self.view_is) c.requires.range in
     let may = subst (λ (q : CoreParts). May (work_of q) (core_of q) (Exec c.args.node))
     (sym c.self.view_is) c.requires.enabled in
-    stamped p c.args.node are range may.0
+    subst (λ z. CanExecute z p.nodes c.args.node) (sym c.nodes-count.ensures.nodes)
+    (can_make p (Exec c.args.node) are range may)
 
 pub returns-clause-parts : goal.returns-clause-parts
 returns-clause-parts c =

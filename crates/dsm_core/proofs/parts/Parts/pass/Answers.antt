@@ -1,35 +1,15 @@
 -- A word of the nodes and lists is one of the core.
-use Rattle.std.proofs.Common.{◌≡◌, ◌<◌, ◌∙◌, sym, subst}
+use Rattle.std.proofs.Common.{◌≡◌, ◌∙◌, sym, subst}
 use Rattle.node_model.specs.Core.{Exec, May}
 use Rattle.dsm_core.specs.CoreParts.{CoreParts, work_of, core_with, core_of, AreParts, HasStampsInRange}
 use Rattle.dsm_core.specs.CoreWords.{HasPassed}
+use Rattle.dsm_core.specs.CoreSteps.{CanExecute}
 use Rattle.dsm_core.proofs.CoreSteps.{core_same}
-use Rattle.dsm_core.proofs.CoreRuns.{parts_kept, may_execute_at, stamped}
+use Rattle.dsm_core.proofs.CoreRuns.{parts_kept, can_make}
 use Rattle.dsm_core.proofs.parts.Parts.pass.Goals as goal
 
-pub pass-requires-clause-node : goal.pass-requires-clause-node
-pass-requires-clause-node c =
-    let may = subst (λ (q : CoreParts). May (work_of q) (core_of q) (Exec c.args.node))
-    (sym c.self.view_is) c.requires.enabled in
-    subst (λ z. c.args.node < z) (sym c.nodes-count.ensures.nodes) may.0
-
-pub pass-requires-clause-may : goal.pass-requires-clause-may
-pass-requires-clause-may c =
-    let p : CoreParts = record {
-      program = c.self.inside.program.now;
-      image = c.self.inside.image.now;
-      layout = c.self.inside.layout;
-      budget = c.self.inside.budget;
-      nodes = c.self.inside.nodes.items;
-      lists = c.self.inside.lists.items;
-    } in
-    let are = subst AreParts (sym c.self.view_is) c.requires.parts in
-    let may = subst (λ (q : CoreParts). May (work_of q) (core_of q) (Exec c.args.node))
-    (sym c.self.view_is) c.requires.enabled in
-    may_execute_at p c.args.node are may
-
-pub pass-requires-clause-stamp : goal.pass-requires-clause-stamp
-pass-requires-clause-stamp c =
+pub pass-requires-clause-allowed : goal.pass-requires-clause-allowed
+pass-requires-clause-allowed c =
     let p : CoreParts = record {
       program = c.self.inside.program.now;
       image = c.self.inside.image.now;
@@ -43,7 +23,8 @@ pass-requires-clause-stamp c =
     (sym c.self.view_is) c.requires.range in
     let may = subst (λ (q : CoreParts). May (work_of q) (core_of q) (Exec c.args.node))
     (sym c.self.view_is) c.requires.enabled in
-    stamped p c.args.node are range may.0
+    subst (λ z. CanExecute z p.nodes c.args.node) (sym c.nodes-count.ensures.nodes)
+    (can_make p (Exec c.args.node) are range may)
 
 pub returns-clause-parts : goal.returns-clause-parts
 returns-clause-parts c =
