@@ -1,9 +1,11 @@
 -- Deeds of a node, one after another.
-use Rattle.std.proofs.Common.{◌≡◌, ℕ, Bool, true, false, cond, eqb, List, [], ◌∷◌, ◌++◌, refl, ap, ◌∙◌, sym, subst, append_assoc}
+use Rattle.std.proofs.Common.{◌≡◌, ℕ, zero, suc, Bool, true, false, cond, eqb, List, [], ◌∷◌, ◌++◌, refl, ap, ◌∙◌, sym, subst, append_assoc}
 use Rattle.home_directory.specs.declared.messages.Wire.{Wire}
 use Rattle.node_model.specs.declared.Standing.TheVariants as standing
 use Rattle.node_model.specs.Node.{Work, Node, Phase, Running, Resumed, Waiting, Ended, standing_in, is_at_poll, has_all_byes, can_execute}
+use Rattle.node_model.specs.Turns.{Turn, word_turn}
 use Rattle.node_model.specs.Core.{wires_to, may_execute}
+use Rattle.node_machine.specs.Runs.{GoesOnBy}
 use Rattle.run_order.specs.Apart.{Deed, Executes, Takes, MayDo, LeadsBy, turn_of, taken_from, sent_to}
 
 pub leads_append : (work : Work) (n u m : Node) (ds es : List Deed) → LeadsBy work n ds u
@@ -49,3 +51,35 @@ can_by work n Running may = refl
 can_by work n Resumed may = refl
 can_by work n (Waiting resume) may = may
 can_by work n (Ended end) may = sym (end_cannot (has_all_byes work n)) ∙ may
+
+-- a node with a phase of execution may execute a word
+pub may_by : (work : Work) (n : Node) (p : Phase) → can_execute p ≡ true
+    → may_execute (standing_in work n p) ≡ true
+may_by work n Running can = poll_may (is_at_poll work n)
+may_by work n Resumed can = refl
+may_by work n (Waiting resume) can = can
+may_by work n (Ended end) can = end_cannot (has_all_byes work n) ∙ can
+
+-- so many words
+abbrev pub words_of : ℕ → List Deed
+words_of zero = []
+words_of (suc k) = Executes ∷ words_of k
+
+pub words_lead : (work : Work) (words : ℕ) (n m : Node) → GoesOnBy work words n m
+    → LeadsBy work n (words_of words) m
+words_lead work zero n m on = on
+words_lead work (suc k) n m on =
+    (may_by work n n.phase on.0, words_lead work k (word_turn work n).node m on.2)
+
+pub words_take : (j words : ℕ) → taken_from j (words_of words) ≡ []
+words_take j zero = refl
+words_take j (suc k) = words_take j k
+
+-- words that go on send nothing
+pub words_send : (work : Work) (k words : ℕ) (n m : Node) → GoesOnBy work words n m
+    → sent_to work k n (words_of words) ≡ []
+words_send work k zero n m on = refl
+words_send work k (suc i) n m on =
+    let next = (word_turn work n).node in
+    ap (λ (t : Turn). wires_to next.stamp k t.sends ++ sent_to work k next (words_of i)) on.1
+    ∙ words_send work k i next m on.2

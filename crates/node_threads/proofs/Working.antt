@@ -16,7 +16,8 @@ use Rattle.node_threads.specs.Rows.{wires_at}
 use Rattle.node_threads.specs.Works.{Works, HasRows, standing, through, waiting, links_of, in_hand}
 use Rattle.node_threads.specs.declared.worker.Worker.{Worker}
 use Rattle.node_threads.proofs.Entries.{wires_same, wires_other, wires_get, map_same}
-use Rattle.node_threads.proofs.Deeds.{leads_append, taken_append, sent_append}
+use Rattle.node_machine.specs.Runs.{GoesOnBy}
+use Rattle.node_threads.proofs.Deeds.{leads_append, taken_append, sent_append, words_of, words_lead, words_take, words_send}
 
 -- no deed, and no wire was moved
 pub works_still : (a b : Worker) → b.hand ≡ None → work_of b.node ≡ work_of a.node
@@ -202,6 +203,29 @@ works_pass b w hand may work turn sends takes outs =
     ∙ ap (λ l. waiting b.outs.items k ++ wires_to (node_of w.node).stamp k l)
     (sym (ap (λ (t : Turn). t.sends) turn)))
     (ap (λ o. length o.items) outs)
+
+-- words that send nothing
+pub works_words : (b w : Worker) (words : ℕ) → w.hand ≡ None
+    → work_of w.node ≡ work_of b.node
+    → GoesOnBy (work_of b.node) words (node_of b.node) (node_of w.node)
+    → w.sends ≡ b.sends → w.takes ≡ b.takes → w.outs ≡ b.outs → Works b w
+works_words b w words hand work on sends takes outs = record {
+  deeds = words_of words;
+  work = work;
+  leads = words_lead (work_of b.node) words (node_of b.node) (node_of w.node) on;
+  takes = λ j. ap (λ v. through v.items j) takes
+      ∙ sym (ap (λ l. (through b.takes.items j ++ l) ++ in_hand j w.hand) (words_take j words)
+      ∙ ap (λ h. (through b.takes.items j ++ []) ++ in_hand j h) hand
+      ∙ append-nil (through b.takes.items j ++ []) ∙ append-nil (through b.takes.items j));
+  pushed = λ k. [];
+  sends = λ k. ap (λ s. through s.items k) sends ∙ sym (append-nil (through b.sends.items k));
+  outs = λ k lt. ap (λ l. waiting b.outs.items k ++ l)
+      (words_send (work_of b.node) k words (node_of b.node) (node_of w.node) on)
+      ∙ append-nil (waiting b.outs.items k) ∙ ap (λ o. waiting o.items k) (sym outs);
+  same_sends = ap (λ s. links_of s.items) sends;
+  same_takes = ap (λ v. links_of v.items) takes;
+  same_outs = ap (λ o. length o.items) outs;
+}
 
 -- a message was left in hand
 pub works_hand : (b w : Worker) → w.node ≡ b.node → w.sends ≡ b.sends → w.outs ≡ b.outs

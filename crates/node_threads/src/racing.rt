@@ -9,6 +9,7 @@ ghost use Rattle.node_threads.specs.Works.{Works, IsReady};
 ghost use Rattle.node_threads.specs.Crew.{RowsOf, AreNodesOf};
 ghost use Rattle.node_threads.specs.Races.{HaveRaced, HaveGoneApart};
 
+use crate::bells::Bells;
 use crate::crew::{Gear, all_back, dismiss, hire};
 use crate::gate::Gate;
 use crate::gather::gather;
@@ -153,7 +154,8 @@ fn race_nodes<'a, R: Threads + Wait + Sync, G: Gate + Sync>(
 {
     let (sends, takes) = mesh(alloc, capacity, nodes.len())?;
     let workers = hire(alloc, nodes, sends, takes, rows)?;
-    let results = run_all(rt, workers, gate)?;
+    let bells = Bells::new(alloc, workers.len())?;
+    let results = run_all(rt, workers, gate, &bells)?;
     let workers = all_back(alloc, results)?;
     let Gear {
         nodes,
@@ -172,6 +174,7 @@ fn run_all<'a, R: Threads + Wait + Sync, G: Gate + Sync>(
     rt: &R,
     workers: Vec<Worker<'a>>,
     gate: &G,
+    bells: &Bells,
 ) -> Result<Vec<Result<Worker<'a>, AllocError>>, AllocError>
     requires ready { All IsReady workers.items }
     ensures len { IfOk result (λ v. length v.items ≡ length workers.entry.items) }
@@ -185,6 +188,10 @@ fn run_all<'a, R: Threads + Wait + Sync, G: Gate + Sync>(
         &|worker|
             requires { IsReady worker }
             ensures { IfOk result (λ w. Works worker.entry w) }
-        { worker.work(rt, gate) },
+        {
+            let worked = worker.work(rt, gate, bells);
+            bells.leave();
+            worked
+        },
     )
 }

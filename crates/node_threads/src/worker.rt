@@ -7,30 +7,24 @@ ghost use Rattle.node_model.specs.Core.{may_execute, may_take, wires_to};
 ghost use Rattle.node_machine.specs.Frame.{node_of};
 ghost use Rattle.node_threads.specs.Works.{Works, HasRows, standing, waiting};
 
+use crate::bells::Bells;
 use crate::gate::Gate;
+use crate::pace::Pace;
 use fifo_link::{Full, SendEnd, TakeEnd};
 use home_directory::Wire;
 use node_machine::{Node, Standing, Turn};
 use std::alloc::AllocError;
 use std::collections::VecDeque;
 use std::sync::Wait;
-use std::{hint, thread};
 
 /// No stamp that is taken or given is as great as this.
 const STAMPS: u64 = 1 << 56;
 
-/// How many looks in a row may find nothing to do.
-const LOOKS: u32 = 100_000;
-
-/// How many looks in a row find nothing before a worker lets other threads run between two.
-const SPINS: u32 = 200;
-
-/// How many words are executed between two looks, at most.
+/// How many words a walk has at most.
 const WORDS: u32 = 1000;
 
-/// After how many rounds a worker lets other threads run: with more nodes than processors, a node
-/// that spins at its polls would keep the one that it waits for from running.
-const ROUNDS: u32 = 1000;
+/// How many words a loop that changes nothing has at most, where it is seen.
+const CIRCLE: u32 = 128;
 
 /// A node that makes its events by itself, with links to and from all nodes.
 #[derive(Drop)]
@@ -100,40 +94,36 @@ fn pass_gate<G: Gate>(gate: &G, number: u8, events: &mut u64) {
     *events = events.wrapping_add(1);
 }
 
-/// Rests between two looks, after so many that found nothing. Another worker that runs has answered
-/// within a few of them; for one that doesn't, other threads are let run.
-fn rest(idle: u32) {
-    if idle < SPINS {
-        hint::spin_loop();
-    } else {
-        thread::yield_now();
+/// Tells a node that something was sent to it.
+fn tell<G: Gate>(gate: &G, bells: &Bells, node: usize) {
+    if let Ok(number) = u8::try_from(node) {
+        if gate.tells(number) {
+            bells.ring(node);
+        }
     }
 }
 
 impl<'a> Worker<'a> {
-    /// Works until its node is over and nothing waits for room, or there was nothing to do for
-    /// long, or a stamp is out of range.
-    pub fn work<R: Wait, G: Gate>(self, rt: &R, gate: &G) -> Result<Worker<'a>, AllocError>
+    /// Works until its node is over and nothing waits for room, or all nodes have waited for long,
+    /// or a stamp is out of range.
+    pub fn work<R: Wait, G: Gate>(
+        self,
+        rt: &R,
+        gate: &G,
+        bells: &Bells,
+    ) -> Result<Worker<'a>, AllocError>
         requires rows { HasRows self }
         requires hand { self.hand ≡ None }
         ensures works { IfOk result (λ w. Works self.entry w) }
     {
         let mut worker = self;
-        let mut idle = 0;
-        let mut rounds: u32 = 0;
+        let mut pace = Pace::new();
         for _ in rt.forever() {
-            if worker.is_done() || idle >= LOOKS {
+            if worker.is_done() || pace.is_over() {
                 return Ok(worker);
             }
-            rounds = rounds.wrapping_add(1);
-            if rounds % ROUNDS == 0 {
-                thread::yield_now();
-            }
-            if worker.round(rt, gate)? {
-                idle = 0;
-            } else {
-                idle += 1;
-                rest(idle);
+            if !worker.round(rt, gate, bells, &mut pace)? {
+                pace.rest(rt, bells, worker.number);
             }
         }
         unreachable!()
@@ -149,70 +139,152 @@ impl<'a> Worker<'a> {
             return true;
         }
         match self.node.standing() {
-            Standing::Over => self.outs.iter().all(|out| out.is_empty()),
+            Standing::Over => !self.has_posts(),
             _ => false,
         }
     }
 
+    /// Whether something waits for room.
+    fn has_posts(&self) -> bool {
+        !self.outs.iter().all(|out| out.is_empty())
+    }
+
     /// Moves what waits to the links that have room, and then does what the node may. Says whether
     /// there was anything to do.
-    fn round<R: Wait, G: Gate>(&mut self, rt: &R, gate: &G) -> Result<bool, AllocError>
+    fn round<R: Wait, G: Gate>(
+        &mut self,
+        rt: &R,
+        gate: &G,
+        bells: &Bells,
+        pace: &mut Pace,
+    ) -> Result<bool, AllocError>
         requires rows { HasRows self.old }
         requires hand { self.old.hand ≡ None }
         requires stamp { (node_of self.old.node).stamp < 2 ^ 56 }
         ensures works { OnOk result (Works self.old self.new) }
     {
-        let moved = self.flush_all(rt)?;
+        let moved = self.flush_all(rt, gate, bells, pace)?;
+        pace.hear(bells, self.number);
+        let did = self.act(rt, gate, pace)?;
+        Ok(moved || did)
+    }
+
+    /// Does what the node may. Says whether there was anything to do.
+    fn act<R: Wait, G: Gate>(
+        &mut self,
+        rt: &R,
+        gate: &G,
+        pace: &mut Pace,
+    ) -> Result<bool, AllocError>
+        requires rows { HasRows self.old }
+        requires hand { self.old.hand ≡ None }
+        requires stamp { (node_of self.old.node).stamp < 2 ^ 56 }
+        ensures works { OnOk result (Works self.old self.new) }
+    {
         match self.node.standing() {
-            Standing::Running => {
-                self.run(gate)?;
-                Ok(true)
-            }
-            Standing::AtPoll => {
-                self.poll(rt, gate)?;
-                Ok(true)
-            }
-            Standing::Waiting | Standing::Ended => {
-                let found = self.look_all(rt, gate)?;
-                Ok(moved || found)
-            }
-            Standing::Over => Ok(moved),
+            Standing::Running => self.run(gate, pace),
+            Standing::AtPoll => self.poll(rt, gate, pace),
+            Standing::Waiting | Standing::Ended => self.look_all(rt, gate, pace),
+            Standing::Over => Ok(false),
         }
     }
 
-    /// Moves what waits to the links that have room.
-    fn flush_all<R: Wait>(&mut self, rt: &R) -> Result<bool, AllocError>
+    /// Moves what waits to the links that have room, and tells the nodes that it is for.
+    fn flush_all<R: Wait, G: Gate>(
+        &mut self,
+        rt: &R,
+        gate: &G,
+        bells: &Bells,
+        pace: &mut Pace,
+    ) -> Result<bool, AllocError>
         requires rows { HasRows self.old }
         requires hand { self.old.hand ≡ None }
         ensures hand { self.new.hand ≡ None }
         ensures node { self.new.node ≡ self.old.node }
         ensures works { OnOk result (Works self.old self.new) }
     {
+        if !pace.posted {
+            return Ok(false);
+        }
         let mut moved = false;
         for k in 0..self.sends.len() {
             if flush(rt, &mut self.sends[k], &mut self.outs[k])? {
                 moved = true;
+                tell(gate, bells, k);
             }
         }
+        pace.posted = self.has_posts();
         Ok(moved)
     }
 
-    /// Takes a message that is there, and where there is none passes the poll.
-    fn poll<R: Wait, G: Gate>(&mut self, rt: &R, gate: &G) -> Result<(), AllocError>
+    /// Takes a message that is there, and where there is none goes on through the poll.
+    fn poll<R: Wait, G: Gate>(
+        &mut self,
+        rt: &R,
+        gate: &G,
+        pace: &mut Pace,
+    ) -> Result<bool, AllocError>
         requires rows { HasRows self.old }
         requires hand { self.old.hand ≡ None }
         requires stamp { (node_of self.old.node).stamp < 2 ^ 56 }
         requires at { standing self.old.node ≡ AtPoll }
         ensures works { OnOk result (Works self.old self.new) }
     {
-        if self.look_all(rt, gate)? {
-            return Ok(());
+        if self.look_all(rt, gate, pace)? {
+            return Ok(true);
         }
-        self.run(gate)
+        self.run(gate, pace)
     }
 
-    /// Executes words until one sends or prints something or the node may do something else.
-    fn run<G: Gate>(&mut self, gate: &G) -> Result<(), AllocError>
+    /// Executes words: where a message is there, up to the next poll. A node that only comes round
+    /// executes none until a message is there. Says whether there was anything to do.
+    fn run<G: Gate>(&mut self, gate: &G, pace: &mut Pace) -> Result<bool, AllocError>
+        requires rows { HasRows self.old }
+        requires hand { self.old.hand ≡ None }
+        requires stamp { (node_of self.old.node).stamp < 2 ^ 56 }
+        requires may { may_execute (standing self.old.node) ≡ true }
+        ensures works { OnOk result (Works self.old self.new) }
+    {
+        if pace.still {
+            return Ok(false);
+        }
+        if pace.mail {
+            self.walk(gate, pace)?;
+            return Ok(true);
+        }
+        if pace.may_come_round() {
+            let round = self.circle(gate, pace)?;
+            pace.came_round(round);
+            return Ok(!round);
+        }
+        if gate.is_open() {
+            self.stretch(pace)?;
+        } else {
+            self.walk(gate, pace)?;
+            pace.walked();
+        }
+        Ok(true)
+    }
+
+    /// Executes a stretch of words, through polls, without a call of the gate.
+    fn stretch(&mut self, pace: &mut Pace) -> Result<(), AllocError>
+        requires rows { HasRows self.old }
+        requires hand { self.old.hand ≡ None }
+        requires stamp { (node_of self.old.node).stamp < 2 ^ 56 }
+        requires may { may_execute (standing self.old.node) ≡ true }
+        ensures works { OnOk result (Works self.old self.new) }
+    {
+        let most = pace.words;
+        let words = self.node.go_on(most);
+        pace.stretched(words);
+        if words < most {
+            return self.exec(pace);
+        }
+        Ok(())
+    }
+
+    /// Executes words one by one, up to the next poll.
+    fn walk<G: Gate>(&mut self, gate: &G, pace: &mut Pace) -> Result<(), AllocError>
         requires rows { HasRows self.old }
         requires hand { self.old.hand ≡ None }
         requires stamp { (node_of self.old.node).stamp < 2 ^ 56 }
@@ -220,37 +292,104 @@ impl<'a> Worker<'a> {
         ensures works { OnOk result (Works self.old self.new) }
     {
         for _ in 0..WORDS {
-            pass_gate(gate, self.number, &mut self.events);
-            if !self.node.pass() {
-                return self.exec();
-            }
-            if self.node.stamp() >= STAMPS {
+            self.word(gate, pace)?;
+            if !self.may_go_on() || self.is_at_poll() {
                 return Ok(());
-            }
-            match self.node.standing() {
-                Standing::Running => {}
-                _ => return Ok(()),
             }
         }
         Ok(())
     }
 
-    /// Executes a word.
-    fn exec(&mut self) -> Result<(), AllocError>
+    /// Executes words one by one, until the node is where it was with nothing changed between, or
+    /// until that can't be. Says whether it came round: then it would do so again and again, unless
+    /// it took a message.
+    fn circle<G: Gate>(&mut self, gate: &G, pace: &mut Pace) -> Result<bool, AllocError>
         requires rows { HasRows self.old }
         requires hand { self.old.hand ≡ None }
         requires stamp { (node_of self.old.node).stamp < 2 ^ 56 }
         requires may { may_execute (standing self.old.node) ≡ true }
         ensures works { OnOk result (Works self.old self.new) }
     {
+        let mark = self.node.mark();
+        for _ in 0..CIRCLE {
+            if self.node.stirs() {
+                return Ok(false);
+            }
+            self.word(gate, pace)?;
+            if !self.may_go_on() {
+                return Ok(false);
+            }
+            if self.node.is_at(&mark) {
+                return Ok(true);
+            }
+        }
+        Ok(false)
+    }
+
+    /// Whether the node may execute a word, and has a stamp for it.
+    fn may_go_on(&self) -> bool
+        ensures stamp { result ≡ true → (node_of self.now.node).stamp < 2 ^ 56 }
+        ensures may { result ≡ true → may_execute (standing self.now.node) ≡ true }
+    {
+        if self.node.stamp() >= STAMPS {
+            return false;
+        }
+        match self.node.standing() {
+            Standing::Running => true,
+            Standing::AtPoll => true,
+            _ => false,
+        }
+    }
+
+    /// Whether the node is at a poll.
+    fn is_at_poll(&self) -> bool {
+        match self.node.standing() {
+            Standing::AtPoll => true,
+            _ => false,
+        }
+    }
+
+    /// Passes the gate, and executes a word.
+    fn word<G: Gate>(&mut self, gate: &G, pace: &mut Pace) -> Result<(), AllocError>
+        requires rows { HasRows self.old }
+        requires hand { self.old.hand ≡ None }
+        requires stamp { (node_of self.old.node).stamp < 2 ^ 56 }
+        requires may { may_execute (standing self.old.node) ≡ true }
+        ensures hand { self.new.hand ≡ None }
+        ensures works { OnOk result (Works self.old self.new) }
+    {
+        pass_gate(gate, self.number, &mut self.events);
+        if self.node.pass() {
+            return Ok(());
+        }
+        self.exec(pace)
+    }
+
+    /// Executes a word.
+    fn exec(&mut self, pace: &mut Pace) -> Result<(), AllocError>
+        requires rows { HasRows self.old }
+        requires hand { self.old.hand ≡ None }
+        requires stamp { (node_of self.old.node).stamp < 2 ^ 56 }
+        requires may { may_execute (standing self.old.node) ≡ true }
+        ensures hand { self.new.hand ≡ None }
+        ensures works { OnOk result (Works self.old self.new) }
+    {
         self.node.room()?;
         let turn = self.node.exec();
+        if !turn.sends.is_empty() {
+            pace.posted = true;
+        }
         post(&mut self.outs, turn)
     }
 
     /// Looks at the links by sender, and takes the first message that is there. Says whether there
-    /// was one.
-    fn look_all<R: Wait, G: Gate>(&mut self, rt: &R, gate: &G) -> Result<bool, AllocError>
+    /// was one. Where no bell was rung since the links were empty, it looks at none.
+    fn look_all<R: Wait, G: Gate>(
+        &mut self,
+        rt: &R,
+        gate: &G,
+        pace: &mut Pace,
+    ) -> Result<bool, AllocError>
         requires rows { HasRows self.old }
         requires hand { self.old.hand ≡ None }
         requires stamp { (node_of self.old.node).stamp < 2 ^ 56 }
@@ -259,11 +398,17 @@ impl<'a> Worker<'a> {
         ensures none { result ≡ Ok false
             → (self.new.hand ≡ None) × (self.new.node ≡ self.old.node) }
     {
+        if !pace.mail {
+            return Ok(false);
+        }
         for from in 0..u8::MAX {
             if usize::from(from) >= self.takes.len() {
+                pace.mail = false;
                 return Ok(false);
             }
             if self.look(rt, gate, from)? {
+                pace.took();
+                pace.posted = true;
                 return Ok(true);
             }
         }

@@ -3,14 +3,12 @@ use Rattle.run_order.specs.Apart.{Executes}
 use Rattle.node_threads.proofs.Working.{on_ok, works_turn}
 use Rattle.node_threads.proofs.worker.Worker.exec.Goals as goal
 
-pub returns : goal.returns
-returns c =
+pub returns-clause-works : goal.returns-clause-works
+returns-clause-works c =
     let t = c.exec-turn in
-    record {
-      works = on_ok c.post.result
-          (λ sent. works_turn c.args.self.now _ c.room.new.self Executes t.result.stamp
-          t.result.sends.items c.requires.hand c.requires.rows c.requires.may c.room.ensures.work
-          c.room.ensures.node t.ensures.work t.ensures.node t.ensures.sends t.ensures.stamp
-          (λ j. sym (append-nil _)) refl refl sent c.post.ensures.len)
-          c.post.ensures.wires;
-    }
+    on_ok c.post.result
+    (λ sent. works_turn c.args.self.now _ c.room.new.self Executes t.result.stamp
+    t.result.sends.items c.requires.hand c.requires.rows c.requires.may c.room.ensures.work
+    c.room.ensures.node t.ensures.work t.ensures.node t.ensures.sends t.ensures.stamp
+    (λ j. sym (append-nil _)) refl refl sent c.post.ensures.len)
+    c.post.ensures.wires

@@ -24,3 +24,6 @@ loop-k-preserved g c = record {
       c.index_mut-in-loop-k.ensures.value c.flush.ensures.link c.flush.ensures.capacity
       c.in_ok-flush.ensures.wires);
 }
+
+pub returns-then-not-pace-clause-works : goal.returns-then-not-pace-clause-works
+returns-then-not-pace-clause-works g c = works_none _ c.requires.hand

@@ -19,3 +19,6 @@ loop-from-preserved g c =
       works = works_trans _ _ _ c.loop-from.invariant.works c.loop-from.invariant.hand
           c.in_ok-look.ensures.works;
     }
+
+pub returns-then-not-pace-clause-works : goal.returns-then-not-pace-clause-works
+returns-then-not-pace-clause-works g c = works_none _ c.requires.hand

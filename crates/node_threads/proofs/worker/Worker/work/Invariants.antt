@@ -1,6 +1,5 @@
-use Rattle.std.proofs.Common.{◌≤◌}
 use Rattle.node_threads.specs.Works.{Works}
 use Rattle.node_threads.proofs.worker.Worker.work.Given as goal
 
 abbrev pub invariant-loop : goal.invariant-loop
-invariant-loop g l = record { idle : l.idle ≤ 100000; works : Works l.fn.self l.worker }
+invariant-loop g l = record { works : Works l.fn.self l.worker }

@@ -2,7 +2,7 @@ use Rattle.std.proofs.Common.{◌≡◌, ◌<◌, ◌^◌, true, None}
 use Rattle.node_machine.specs.Frame.{node_of}
 use Rattle.node_model.specs.Core.{may_execute}
 use Rattle.node_threads.specs.Works.{Works, HasRows, standing}
-use Rattle.node_threads.proofs.worker.Worker.run.Given as goal
+use Rattle.node_threads.proofs.worker.Worker.walk.Given as goal
 
 abbrev pub invariant-loop : goal.invariant-loop
 invariant-loop g l = record {

@@ -1,0 +1,14 @@
+use Rattle.std.proofs.Common.{◌≡◌, ◌<◌, ◌^◌, true, None}
+use Rattle.node_machine.specs.Frame.{node_of}
+use Rattle.node_model.specs.Core.{may_execute}
+use Rattle.node_threads.specs.Works.{Works, HasRows, standing}
+use Rattle.node_threads.proofs.worker.Worker.circle.Given as goal
+
+abbrev pub invariant-loop : goal.invariant-loop
+invariant-loop g l = record {
+  rows : HasRows l.self;
+  hand : l.self.hand ≡ None;
+  stamp : (node_of l.self.node).stamp < 2 ^ 56;
+  may : may_execute (standing l.self.node) ≡ true;
+  works : Works l.fn.self l.self;
+}

@@ -1,0 +1,107 @@
+//! Bells, one for each node: who sends something to a node rings its bell.
+//!
+//! They are hints. No contract rests on them, and what is sent is found without them too, later.
+
+use std::alloc::{AllocError, Global};
+use std::sync::Wait;
+use std::sync::atomic::{AtomicU64, Ordering};
+use std::time::Duration;
+
+/// Nothing was sent since the node looked.
+const QUIET: u64 = 0;
+
+/// Something was sent.
+const RUNG: u64 = 1;
+
+/// The node sleeps, and nothing was sent since it looked.
+const ASLEEP: u64 = 2;
+
+/// How many milliseconds a node sleeps at most.
+const NAP: u64 = 4;
+
+/// A word that many threads look at, with nothing else on its lines of the host.
+#[derive(Drop)]
+struct Word {
+    _before: [u64; 16],
+    word: AtomicU64,
+    _after: [u64; 16],
+}
+
+impl Word {
+    fn new() -> Word {
+        Word {
+            _before: [0; 16],
+            word: AtomicU64::new(0),
+            _after: [0; 16],
+        }
+    }
+
+    /// Makes one value of another. Says whether it had that one.
+    fn exchange(&self, from: u64, to: u64) -> bool {
+        self.word
+            .compare_exchange(from, to, Ordering::SeqCst, Ordering::SeqCst)
+            .is_ok()
+    }
+}
+
+/// The bells of nodes.
+#[derive(Drop)]
+pub struct Bells {
+    bells: Vec<Word>,
+    /// How many nodes sleep or work no more.
+    away: Word,
+}
+
+impl Bells {
+    /// The bells of so many nodes, none of which was rung.
+    pub fn new(alloc: Global, nodes: usize) -> Result<Bells, AllocError> {
+        let mut bells = Vec::new(alloc);
+        for _ in 0..nodes {
+            bells.push(Word::new())?;
+        }
+        Ok(Bells {
+            bells,
+            away: Word::new(),
+        })
+    }
+
+    /// Rings a node's bell, and wakes the node where it sleeps.
+    pub fn ring(&self, node: usize) {
+        if let Some(bell) = self.bells.get(node) {
+            let word = &bell.word;
+            if word.load(Ordering::SeqCst) != RUNG && word.swap(RUNG, Ordering::SeqCst) == ASLEEP {
+                word.wake_one();
+            }
+        }
+    }
+
+    /// Whether a node's bell was rung since the last call. What was sent before it was rung is on
+    /// its link by now: so a node that looks at its links after this call misses nothing.
+    pub fn hear(&self, node: u8) -> bool {
+        match self.bells.get(usize::from(node)) {
+            Some(bell) => { bell.word.load(Ordering::SeqCst) == RUNG && bell.exchange(RUNG, QUIET) }
+            None => true,
+        }
+    }
+
+    /// Sleeps until the node's bell is rung, or for some milliseconds. Says whether all nodes slept
+    /// then or work no more.
+    pub fn sleep<R: Wait>(&self, rt: &R, node: u8) -> bool {
+        let Some(bell) = self.bells.get(usize::from(node)) else {
+            return false;
+        };
+        if !bell.exchange(QUIET, ASLEEP) {
+            return false;
+        }
+        self.leave();
+        bell.word
+            .park_timeout(rt, ASLEEP as u32, Duration::from_millis(NAP));
+        let away = self.away.word.fetch_sub(1, Ordering::SeqCst);
+        bell.exchange(ASLEEP, QUIET) && away >= self.bells.len() as u64
+    }
+
+    /// A node works no more.
+    pub fn leave(&self) {
+        self.away.word.fetch_add(1, Ordering::SeqCst);
+    }
+}
