@@ -8,11 +8,12 @@ use Rattle.command_line.specs.Asks.{Asks}
 use Rattle.command_line.specs.Meaning.{meaning_of}
 use Rattle.commands.specs.declared.failure.Failure.{Failure}
 use Rattle.commands.specs.declared.failure.Failure.TheVariants.{Input, NotWritten, Refused, Layout, Record, Output, OutOfMemory}
-use Rattle.commands.specs.Answers.{SinkState, FilesState, IsFault, IsLeft, IsTooLong, file_limit}
+use Rattle.dsm_io.specs.States.{SinkState, FilesState}
+use Rattle.commands.specs.Answers.{HasBytes, IsFault, IsLeft, IsTooLong, IsUnwritten, IsWriteFault, file_limit, AreLeft, AreWritten}
 use Rattle.commands.specs.Refusals.{IsRefused, IsLayoutRefused, IsRecordRefused}
-use Rattle.commands.specs.Failures.{status_of, line_of, IsReadFailure, FailsAs, Puts, IsFailure, IsPerformFailure, IsRewriteFailure, IsSuccess, IsNoRefusal, IsInputFailure, IsNamedFailure, AreInputs, AreKept, AreLeft, AreWritten}
-use Rattle.commands.specs.Headline.{AreTold, IsText, IsTextBeside, IsRewrittenFile, IsRewrittenText, PrintsPrefix}
-use Rattle.commands.specs.Inputs.{Inputs, inputs_of}
+use Rattle.commands.specs.Failures.{status_of, line_of, IsReadFailure, FailsAs, Puts, IsFailure, IsPerformFailure, IsRewriteFailure, IsWriteFailure, IsSuccess, IsNoRefusal, IsInputFailure, IsNamedFailure, PutsPrefix, AreInputs, AreKept}
+use Rattle.commands.specs.Headline.{IsText, IsRewrittenFile, IsRewrittenText, PrintsPrefix}
+use Rattle.commands.specs.Inputs.{Inputs, AreTold, inputs_of}
 use Rattle.commands.proofs.InputLemmas.{only_of}
 
 -- what the words ask for, and where they ask for nothing
@@ -32,44 +33,44 @@ low_status : (b : Bool) → (if b then 0 else 1) ≤ 1
 low_status true = omega arith
 low_status false = omega arith
 
-pub is_low : (c : Command) (held : List ℕ → Option (List ℕ)) (inputs : Inputs) (text : List ℕ)
-    (status : ℕ) → IsTextBeside c held inputs text status → status ≤ 1
-is_low (Rewrite input output no_batch) held inputs text status h =
+pub is_low : (c : Command) (files : FilesState) (inputs : Inputs) (text : List ℕ)
+    (status : ℕ) → IsText c files inputs text status → status ≤ 1
+is_low (Rewrite input output no_batch) files inputs text status h =
     let zero = h.status_is in omega (arith, zero)
-is_low (Run file nodes budget record_file code layout brief no_batch) held inputs text status h =
+is_low (Run file nodes budget record_file code layout brief no_batch) files inputs text status h =
     subst (λ s. s ≤ 1) (sym h.status_is) (low_status _)
-is_low (One file nodes order budget layout) held inputs text status h =
+is_low (One file nodes order budget layout) files inputs text status h =
     subst (λ s. s ≤ 1) (sym h.status_is) (low_status _)
-is_low (Sim file nodes order budget code layout brief no_batch) held inputs text status h =
+is_low (Sim file nodes order budget code layout brief no_batch) files inputs text status h =
     subst (λ s. s ≤ 1) (sym h.status_is) (low_status _)
-is_low (Listing file) held inputs text status h = let zero = h.1 in omega (arith, zero)
-is_low (Replay file record_file brief) held inputs text status h =
+is_low (Listing file) files inputs text status h = let zero = h.1 in omega (arith, zero)
+is_low (Replay file record_file brief) files inputs text status h =
     subst (λ s. s ≤ 1) (sym h.status_is) (low_status _)
-is_low (Generate number output) held inputs text status h =
+is_low (Generate number output) files inputs text status h =
     let zero = h.1 in omega (arith, zero)
 
 pub succeeds : (c : Command) (files files_now : FilesState) (before now : SinkState) (inputs : Inputs)
-    (status : ℕ) → AreInputs c files.held inputs
-    → Puts (IsTextBeside c files_now.held inputs) status before.taken now.taken
+    (status : ℕ) → AreInputs c files inputs
+    → Puts (IsText c files_now inputs) status before now
     → IsSuccess c files files_now before now status
 succeeds c files files_now before now inputs status read put = record {
-  low = is_low c files_now.held inputs put.0 status put.1;
+  low = is_low c files_now inputs put.0 status put.1;
   prints = λ contents told. record {
     text = put.0;
-    is = subst (λ i. IsTextBeside c files_now.held i put.0 status) (read contents told) put.1;
+    is = subst (λ i. IsText c files_now i put.0 status) (read contents told) put.1;
     put = put.2;
   };
 }
 
-prefix_as : (c : Command) (files : FilesState) (inputs : Inputs) (before now : SinkState)
-    → AreInputs c files.held inputs
-    → Rattle.commands.specs.Failures.PutsPrefix (IsText c inputs) before.taken now.taken
-    → (contents : List ℕ → List ℕ) → AreTold c files.held contents
-    → PrintsPrefix c contents before.taken now.taken
-prefix_as c files inputs before now read put contents told = record {
+prefix_as : (c : Command) (files files_now : FilesState) (inputs : Inputs) (before now : SinkState)
+    → AreInputs c files inputs
+    → PutsPrefix (IsText c files_now inputs) before now
+    → (contents : List ℕ → List ℕ) → AreTold c files contents
+    → PrintsPrefix c contents files_now before now
+prefix_as c files files_now inputs before now read put contents told = record {
   text = put.0;
   status = put.1;
-  is = subst (λ i. IsText c i put.0 put.1) (read contents told) put.2;
+  is = subst (λ i. IsText c files_now i put.0 put.1) (read contents told) put.2;
   put = put.3;
 }
 
@@ -78,13 +79,16 @@ rose_before a b c low rose = omega (arith, low, rose)
 
 -- the files were read before the command was done
 pub fails_with : (c : Command) (files read_files files_now : FilesState) (before now : SinkState)
-    (inputs : Inputs) (f : Failure) → AreInputs c files.held inputs
+    (inputs : Inputs) (f : Failure) → AreInputs c files inputs
     → ((n : List ℕ) → files.failed_writes n ≤ read_files.failed_writes n)
     → IsPerformFailure c inputs read_files files_now before now f
     → IsFailure c files files_now before now f
 fails_with c files read_files files_now before now inputs (Input line) read low h = absurd h
 fails_with c files read_files files_now before now inputs (NotWritten line) read low h =
-    (h.0, (h.1.0, h.1.1, rose_before _ _ _ (low h.1.0) h.1.2, h.1.3))
+    let at : IsUnwritten c read_files files_now (λ l. line.items ≡ l) = h.1.1 in
+    let since : IsUnwritten c files files_now (λ l. line.items ≡ l) =
+    (at.0, at.1, rose_before _ _ _ (low at.0) at.2, at.3) in
+    (h.0, (λ contents told. subst (HasBytes c) (read contents told) h.1.0, since))
 fails_with c files read_files files_now before now inputs (Refused line) read low h = (
   h.1,
   λ contents told. subst (λ i. IsRefused c i line.items) (read contents told) h.0,
@@ -98,11 +102,11 @@ fails_with c files read_files files_now before now inputs (Record line) read low
   λ contents told. subst (λ i. IsRecordRefused c i line.items) (read contents told) h.0,
 )
 fails_with c files read_files files_now before now inputs Output read low h =
-    (h.0, prefix_as c files inputs before now read h.1)
+    (h.0, prefix_as c files files_now inputs before now read h.1)
 fails_with c files read_files files_now before now inputs OutOfMemory read low h = λ contents told.
     elim h [
       | inl same ↦ inl same
-      | inr part ↦ inr (prefix_as c files inputs before now read part contents told)
+      | inr part ↦ inr (prefix_as c files files_now inputs before now read part contents told)
     ]
 
 -- a file is read after others
@@ -196,8 +200,10 @@ fault_of c files files_now before now (Input line) Told h told three =
       ),
     )
 fault_of c files files_now before now (NotWritten line) Told h told three =
-    let fault = h.1 in
-    inl (h.0, inr (fault.0, fault.1, fault.2, subst Told fault.3 told))
+    let fault : IsWriteFault c files files_now (λ l. line.items ≡ l) = h.1 in
+    let at : IsUnwritten c files files_now (λ l. line.items ≡ l) = fault.1 in
+    let told_so : IsUnwritten c files files_now Told = (at.0, at.1, at.2, subst Told at.3 told) in
+    inl (h.0, inr (fault.0, told_so))
 fault_of c files files_now before now (Refused line) Told h told three = absurd (omega (arith, three))
 fault_of c files files_now before now (Layout line) Told h told three = absurd (omega (arith, three))
 fault_of c files files_now before now (Record line) Told h told three = absurd (omega (arith, three))
@@ -206,7 +212,7 @@ fault_of c files files_now before now OutOfMemory Told h told three = absurd (om
 
 pub refusal_of : (c : Command) (files files_now : FilesState) (before now : SinkState) (f : Failure)
     (Told : List ℕ → Type 0) → IsFailure c files files_now before now f → Told (line_of f)
-    → status_of f ≡ 4 → (contents : List ℕ → List ℕ) → AreTold c files.held contents
+    → status_of f ≡ 4 → (contents : List ℕ → List ℕ) → AreTold c files contents
     → (line : List ℕ) × IsRefused c (inputs_of c contents) line × Told line
 refusal_of c files files_now before now (Input line) Told h told four contents known =
     absurd (omega (arith, four))
@@ -225,7 +231,7 @@ refusal_of c files files_now before now OutOfMemory Told h told four contents kn
 
 pub layout_refusal_of : (c : Command) (files files_now : FilesState) (before now : SinkState)
     (f : Failure) (Told : List ℕ → Type 0) → IsFailure c files files_now before now f → Told (line_of f)
-    → status_of f ≡ 6 → (contents : List ℕ → List ℕ) → AreTold c files.held contents
+    → status_of f ≡ 6 → (contents : List ℕ → List ℕ) → AreTold c files contents
     → (line : List ℕ) × IsLayoutRefused c (inputs_of c contents) line × Told line
 layout_refusal_of c files files_now before now (Input line) Told h told six contents known =
     absurd (omega (arith, six))
@@ -244,7 +250,7 @@ layout_refusal_of c files files_now before now OutOfMemory Told h told six conte
 
 pub record_refusal_of : (c : Command) (files files_now : FilesState) (before now : SinkState)
     (f : Failure) (Told : List ℕ → Type 0) → IsFailure c files files_now before now f → Told (line_of f)
-    → status_of f ≡ 7 → (contents : List ℕ → List ℕ) → AreTold c files.held contents
+    → status_of f ≡ 7 → (contents : List ℕ → List ℕ) → AreTold c files contents
     → (line : List ℕ) × IsRecordRefused c (inputs_of c contents) line × Told line
 record_refusal_of c files files_now before now (Input line) Told h told seven contents known =
     absurd (omega (arith, seven))
@@ -275,8 +281,8 @@ nothing_of c files files_now before now OutOfMemory h s = absurd (omega (arith, 
 
 pub prefix_of_failure : (c : Command) (files files_now : FilesState) (before now : SinkState)
     (f : Failure) → IsFailure c files files_now before now f → status_of f ≡ 5
-    → (contents : List ℕ → List ℕ) → AreTold c files.held contents
-    → (now.taken ≡ before.taken) ⊎ PrintsPrefix c contents before.taken now.taken
+    → (contents : List ℕ → List ℕ) → AreTold c files contents
+    → (now.taken ≡ before.taken) ⊎ PrintsPrefix c contents files_now before now
 prefix_of_failure c files files_now before now (Input line) h five contents told =
     absurd (omega (arith, five))
 prefix_of_failure c files files_now before now (NotWritten line) h five contents told =
@@ -349,13 +355,25 @@ pub rewrite_left : (input output : List ℕ) (no_batch : Bool) (inputs : Inputs)
     → AreLeft (Rewrite input output no_batch) inputs before now
 rewrite_left input output no_batch inputs before now (Input line) h = absurd h
 rewrite_left input output no_batch inputs before now (NotWritten line) h =
-    left_at input output no_batch inputs before now (inr h.0)
+    left_at input output no_batch inputs before now (inr h.1.0)
 rewrite_left input output no_batch inputs before now (Refused line) h =
     left_at input output no_batch inputs before now (inl (h.1 output))
 rewrite_left input output no_batch inputs before now (Layout line) h = absurd h
 rewrite_left input output no_batch inputs before now (Record line) h = absurd h
 rewrite_left input output no_batch inputs before now Output h = absurd h
 rewrite_left input output no_batch inputs before now OutOfMemory h = left_at input output no_batch inputs before now h
+
+-- a rewritten file wasn't written
+pub rewrite_unwritten : (batches : Bool) (file bytes : List ℕ) (before now : FilesState)
+    (name : List ℕ) (f : Failure) → IsRewrittenFile batches file bytes
+    → IsWriteFailure before now name f → IsRewriteFailure batches file before now name f
+rewrite_unwritten batches file bytes before now name (Input line) is h = absurd h
+rewrite_unwritten batches file bytes before now name (NotWritten line) is h = ((bytes, is), h)
+rewrite_unwritten batches file bytes before now name (Refused line) is h = absurd h
+rewrite_unwritten batches file bytes before now name (Layout line) is h = h
+rewrite_unwritten batches file bytes before now name (Record line) is h = h
+rewrite_unwritten batches file bytes before now name Output is h = h
+rewrite_unwritten batches file bytes before now name OutOfMemory is h = h
 
 pub rewrite_kept : (batches : Bool) (output file : List ℕ) (before now : FilesState) (f : Failure)
     → IsRewriteFailure batches file before now output f → AreKept before now f
@@ -372,7 +390,9 @@ pub rewrite_fails : (input output : List ℕ) (no_batch : Bool) (inputs : Inputs
     → IsPerformFailure (Rewrite input output no_batch) inputs before now state state f
 rewrite_fails input output no_batch inputs before now state (Input line) h = absurd h
 rewrite_fails input output no_batch inputs before now state (NotWritten line) h =
-    (refl, (output, has_output input output no_batch, h.0, h.1))
+    let at : IsUnwritten (Rewrite input output no_batch) before now (λ l. line.items ≡ l) =
+    (output, has_output input output no_batch, h.1.0, h.1.1) in
+    (refl, (h.0, at))
 rewrite_fails input output no_batch inputs before now state (Refused line) h = (h.0, refl)
 rewrite_fails input output no_batch inputs before now state (Layout line) h = absurd h
 rewrite_fails input output no_batch inputs before now state (Record line) h = absurd h
@@ -385,7 +405,7 @@ same_taken (Some t) = ap Some (sym (append-nil t))
 
 -- a failure of a command that writes no file
 pub plain_fails : (c : Command) (inputs : Inputs) (fb fn : FilesState) (before now : SinkState)
-    (f : Failure) → FailsAs (IsText c inputs) (IsRefused c inputs) (IsLayoutRefused c inputs) before now f
+    (f : Failure) → FailsAs (IsText c fn inputs) (IsRefused c inputs) (IsLayoutRefused c inputs) before now f
     → IsPerformFailure c inputs fb fn before now f
 plain_fails c inputs fb fn before now (Input line) h = h
 plain_fails c inputs fb fn before now (NotWritten line) h = absurd h
@@ -413,19 +433,19 @@ kept_before before between now f same h four name = h four name ∙ same name
 
 pub plain_failure : (c : Command) (inputs : Inputs) (fb fn : FilesState) (before now : SinkState)
     (r : Result ℕ Failure)
-    → IfErr r (FailsAs (IsText c inputs) (IsRefused c inputs) (IsLayoutRefused c inputs) before now)
+    → IfErr r (FailsAs (IsText c fn inputs) (IsRefused c inputs) (IsLayoutRefused c inputs) before now)
     → IfErr r (IsPerformFailure c inputs fb fn before now)
 plain_failure c inputs fb fn before now r h =
-    err_as (FailsAs (IsText c inputs) (IsRefused c inputs) (IsLayoutRefused c inputs) before now)
+    err_as (FailsAs (IsText c fn inputs) (IsRefused c inputs) (IsLayoutRefused c inputs) before now)
     (IsPerformFailure c inputs fb fn before now) r (plain_fails c inputs fb fn before now) h
 
-pub puts_nothing : (c : Command) (held : List ℕ → Option (List ℕ)) (inputs : Inputs)
-    (t : Option (List ℕ)) (r : Result ℕ Failure)
+pub puts_nothing : (c : Command) (files : FilesState) (inputs : Inputs) (state : SinkState)
+    (r : Result ℕ Failure)
     → ((status : ℕ) → IsRewrittenText inputs.batches inputs.executable [] status
-    → IsTextBeside c held inputs [] status)
+    → IsText c files inputs [] status)
     → IfOk r (IsRewrittenText inputs.batches inputs.executable [])
-    → IfOk r (λ status. Puts (IsTextBeside c held inputs) status t t)
-puts_nothing c held inputs t r is h =
+    → IfOk r (λ status. Puts (IsText c files inputs) status state state)
+puts_nothing c files inputs state r is h =
     ok_as (IsRewrittenText inputs.batches inputs.executable [])
-    (λ status. Puts (IsTextBeside c held inputs) status t t) r
-    (λ status k. ([], is status k, same_taken t)) h
+    (λ status. Puts (IsText c files inputs) status state state) r
+    (λ status k. ([], is status k, same_taken state.taken)) h

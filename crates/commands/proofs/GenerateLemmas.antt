@@ -7,9 +7,10 @@ use Rattle.workload.specs.Generated.{generated_elf}
 use Rattle.command_line.specs.Commands.{Generate, writes}
 use Rattle.commands.specs.declared.failure.Failure.{Failure}
 use Rattle.commands.specs.declared.failure.Failure.TheVariants.{Input, NotWritten, Refused, Layout, Record, Output, OutOfMemory}
-use Rattle.commands.specs.Answers.{SinkState, FilesState, IsLeft}
-use Rattle.commands.specs.Failures.{IsPerformFailure, IsWriteFailure, Puts, AreKept, AreLeft, AreWritten}
-use Rattle.commands.specs.Headline.{IsTextBeside}
+use Rattle.dsm_io.specs.States.{SinkState, FilesState}
+use Rattle.commands.specs.Answers.{HasBytes, IsLeft, IsUnwritten, AreLeft, AreWritten}
+use Rattle.commands.specs.Failures.{IsPerformFailure, IsWriteFailure, Puts, AreKept}
+use Rattle.commands.specs.Headline.{IsText}
 use Rattle.commands.specs.Inputs.{Inputs}
 use Rattle.commands.proofs.AnswerLemmas.{ok_as, same_taken}
 use Rattle.commands.proofs.InputLemmas.{only_of}
@@ -65,7 +66,10 @@ pub generate_fails : (number : ℕ) (output : List ℕ) (inputs : Inputs) (befor
     → IsPerformFailure (Generate number output) inputs before now state state f
 generate_fails number output inputs before now state (Input line) h = absurd h
 generate_fails number output inputs before now state (NotWritten line) h =
-    (refl, (output, has_generated number output, h.0, h.1))
+    let bytes : HasBytes (Generate number output) inputs = (file_of (generated_elf number), refl) in
+    let at : IsUnwritten (Generate number output) before now (λ l. line.items ≡ l) =
+    (output, has_generated number output, h.0, h.1) in
+    (refl, (bytes, at))
 generate_fails number output inputs before now state (Refused line) h = absurd h
 generate_fails number output inputs before now state (Layout line) h = absurd h
 generate_fails number output inputs before now state (Record line) h = absurd h
@@ -73,10 +77,10 @@ generate_fails number output inputs before now state Output h = absurd h
 generate_fails number output inputs before now state OutOfMemory h = inl refl
 
 -- nothing is put
-pub generates : (number : ℕ) (output : List ℕ) (held : List ℕ → Option (List ℕ)) (inputs : Inputs)
-    (t : Option (List ℕ)) (r : Result ℕ Failure) → IfOk r (λ status. status ≡ 0)
-    → IfOk r (λ status. Puts (IsTextBeside (Generate number output) held inputs) status t t)
-generates number output held inputs t r h =
+pub generates : (number : ℕ) (output : List ℕ) (files : FilesState) (inputs : Inputs)
+    (state : SinkState) (r : Result ℕ Failure) → IfOk r (λ status. status ≡ 0)
+    → IfOk r (λ status. Puts (IsText (Generate number output) files inputs) status state state)
+generates number output files inputs state r h =
     ok_as (λ status. status ≡ 0)
-    (λ status. Puts (IsTextBeside (Generate number output) held inputs) status t t) r
-    (λ status zero. ([], (refl, zero), same_taken t)) h
+    (λ status. Puts (IsText (Generate number output) files inputs) status state state) r
+    (λ status zero. ([], (refl, zero), same_taken state.taken)) h

@@ -2,6 +2,7 @@
 use Rattle.std.proofs.Common.{◌≡◌, ◌⊎◌, ℕ, ◌<◌, ◌≤◌, Bool, List, [], ◌∷◌, ◌++◌, length, Option, Some, None, option_map, refl, sym, ap, ◌∙◌, subst, inl, inr, arith}
 use Rattle.std.specs.Prelude.{Contains, IfSome}
 use Rattle.std.proofs.lemmas.List.Elements.{Contains-append_left, Contains-append_right, Contains-append_cases}
+use Rattle.dsm_io.specs.States.{FilesState}
 use Rattle.command_line.specs.Commands.{Command, Rewrite, Run, Listing, One, Sim, Replay, Generate, reads}
 use Rattle.commands.specs.Answers.{file_limit}
 use Rattle.commands.specs.Failures.{AreBytes, AreContents, AreInputs, AreRead, IsContent}
@@ -114,22 +115,22 @@ content_is : (o : Option (List ℕ)) (bytes content : List ℕ) → IsContent o 
 content_is o bytes content h is =
     subst (λ (x : Option (List ℕ)). IfSome x (λ c. bytes ≡ c)) is h.same
 
-named_is : (held : List ℕ → Option (List ℕ)) (contents : List ℕ → List ℕ)
-    (o bytes : Option (List ℕ)) → AreContents held o bytes
-    → ((name : List ℕ) → o ≡ Some name → held name ≡ Some (contents name))
+named_is : (files : FilesState) (contents : List ℕ → List ℕ)
+    (o bytes : Option (List ℕ)) → AreContents files o bytes
+    → ((name : List ℕ) → o ≡ Some name → files.held name ≡ Some (contents name))
     → bytes ≡ option_map contents o
-named_is held contents None bytes h told = h
-named_is held contents (Some name) None h told = absurd h
-named_is held contents (Some name) (Some bytes) h told =
-    ap Some (content_is (held name) bytes (contents name) h (told name refl))
+named_is files contents None bytes h told = h
+named_is files contents (Some name) None h told = absurd h
+named_is files contents (Some name) (Some bytes) h told =
+    ap Some (content_is (files.held name) bytes (contents name) h (told name refl))
 
-bytes_are : (held : List ℕ → Option (List ℕ)) (contents : List ℕ → List ℕ)
-    (o : Option (List ℕ)) (bytes : List ℕ) → AreBytes held o bytes
-    → ((name : List ℕ) → o ≡ Some name → held name ≡ Some (contents name))
+bytes_are : (files : FilesState) (contents : List ℕ → List ℕ)
+    (o : Option (List ℕ)) (bytes : List ℕ) → AreBytes files o bytes
+    → ((name : List ℕ) → o ≡ Some name → files.held name ≡ Some (contents name))
     → bytes ≡ bytes_in contents o
-bytes_are held contents None bytes h told = h
-bytes_are held contents (Some name) bytes h told =
-    content_is (held name) bytes (contents name) h (told name refl)
+bytes_are files contents None bytes h told = h
+bytes_are files contents (Some name) bytes h told =
+    content_is (files.held name) bytes (contents name) h (told name refl)
 
 abbrev inputs : List ℕ → Option (List ℕ) → Option (List ℕ) → List ℕ → Bool → Inputs
 inputs executable code layout recorded batches = record {
@@ -140,16 +141,16 @@ inputs executable code layout recorded batches = record {
   batches = batches;
 }
 
-pub inputs_read : (c : Command) (held : List ℕ → Option (List ℕ)) (i : Inputs) → AreRead c held i
-    → AreInputs c held i
-inputs_read c held i h contents told =
-    let one = bytes_are held contents (input_of c) i.executable h.executable
+pub inputs_read : (c : Command) (files : FilesState) (i : Inputs) → AreRead c files i
+    → AreInputs c files i
+inputs_read c files i h contents told =
+    let one = bytes_are files contents (input_of c) i.executable h.executable
     (λ name e. told name (reads_input c name e)) in
-    let two = named_is held contents (code_of c) i.code h.code
+    let two = named_is files contents (code_of c) i.code h.code
     (λ name e. told name (reads_code c name e)) in
-    let three = named_is held contents (layout_of c) i.layout h.layout
+    let three = named_is files contents (layout_of c) i.layout h.layout
     (λ name e. told name (reads_layout c name e)) in
-    let four = bytes_are held contents (recorded_of c) i.recorded h.recorded
+    let four = bytes_are files contents (recorded_of c) i.recorded h.recorded
     (λ name e. told name (reads_record c name e)) in
     let first = bytes_in contents (input_of c) in
     let second = option_map contents (code_of c) in
@@ -169,47 +170,47 @@ short_content o bytes content h is long =
     let fits = h.fits in
     omega (arith, same, fits, long)
 
-short_named : (held : List ℕ → Option (List ℕ)) (o bytes : Option (List ℕ)) (name content : List ℕ)
-    → AreContents held o bytes → o ≡ Some name → held name ≡ Some content
+short_named : (files : FilesState) (o bytes : Option (List ℕ)) (name content : List ℕ)
+    → AreContents files o bytes → o ≡ Some name → files.held name ≡ Some content
     → file_limit < length content → ⊥
-short_named held None bytes name content h e is long = absurd (cc)
-short_named held (Some other) None name content h e is long = h
-short_named held (Some other) (Some bytes) name content h e is long =
-    short_content (held other) bytes content h (ap held (same_inside other name e) ∙ is) long
+short_named files None bytes name content h e is long = absurd (cc)
+short_named files (Some other) None name content h e is long = h
+short_named files (Some other) (Some bytes) name content h e is long =
+    short_content (files.held other) bytes content h (ap files.held (same_inside other name e) ∙ is) long
   where
     same_inside : (x y : List ℕ) → Some x ≡ Some y → x ≡ y
     same_inside x y e = cc
 
-short_bytes : (held : List ℕ → Option (List ℕ)) (o : Option (List ℕ)) (bytes name content : List ℕ)
-    → AreBytes held o bytes → o ≡ Some name → held name ≡ Some content
+short_bytes : (files : FilesState) (o : Option (List ℕ)) (bytes name content : List ℕ)
+    → AreBytes files o bytes → o ≡ Some name → files.held name ≡ Some content
     → file_limit < length content → ⊥
-short_bytes held None bytes name content h e is long = absurd (cc)
-short_bytes held (Some other) bytes name content h e is long =
-    short_content (held other) bytes content h (ap held (same_inside other name e) ∙ is) long
+short_bytes files None bytes name content h e is long = absurd (cc)
+short_bytes files (Some other) bytes name content h e is long =
+    short_content (files.held other) bytes content h (ap files.held (same_inside other name e) ∙ is) long
   where
     same_inside : (x y : List ℕ) → Some x ≡ Some y → x ≡ y
     same_inside x y e = cc
 
-pub none_long : (c : Command) (held : List ℕ → Option (List ℕ)) (i : Inputs) (name content : List ℕ)
-    → AreRead c held i → Contains (reads c) name → held name ≡ Some content
+pub none_long : (c : Command) (files : FilesState) (i : Inputs) (name content : List ℕ)
+    → AreRead c files i → Contains (reads c) name → files.held name ≡ Some content
     → file_limit < length content → ⊥
-none_long c held i name content h there is long = elim (reads_only c name there) [
-  | inl e ↦ short_bytes held (input_of c) i.executable name content h.executable e is long
-  | inr (inl e) ↦ short_named held (code_of c) i.code name content h.code e is long
-  | inr (inr (inl e)) ↦ short_named held (layout_of c) i.layout name content h.layout e is long
-  | inr (inr (inr e)) ↦ short_bytes held (recorded_of c) i.recorded name content h.recorded e is long
+none_long c files i name content h there is long = elim (reads_only c name there) [
+  | inl e ↦ short_bytes files (input_of c) i.executable name content h.executable e is long
+  | inr (inl e) ↦ short_named files (code_of c) i.code name content h.code e is long
+  | inr (inr (inl e)) ↦ short_named files (layout_of c) i.layout name content h.layout e is long
+  | inr (inr (inr e)) ↦ short_bytes files (recorded_of c) i.recorded name content h.recorded e is long
 ]
 
 -- files are read after others, which leaves what each holds
-pub content_before : (held between : List ℕ → Option (List ℕ)) (o bytes : Option (List ℕ))
-    → ((n : List ℕ) → between n ≡ held n) → AreContents between o bytes → AreContents held o bytes
-content_before held between None bytes same h = h
-content_before held between (Some name) None same h = h
-content_before held between (Some name) (Some bytes) same h =
+pub content_before : (files between : FilesState) (o bytes : Option (List ℕ))
+    → ((n : List ℕ) → between.held n ≡ files.held n) → AreContents between o bytes → AreContents files o bytes
+content_before files between None bytes same h = h
+content_before files between (Some name) None same h = h
+content_before files between (Some name) (Some bytes) same h =
     subst (λ o. IsContent o bytes) (same name) h
 
-pub bytes_before : (held between : List ℕ → Option (List ℕ)) (o : Option (List ℕ)) (bytes : List ℕ)
-    → ((n : List ℕ) → between n ≡ held n) → AreBytes between o bytes → AreBytes held o bytes
-bytes_before held between None bytes same h = h
-bytes_before held between (Some name) bytes same h =
+pub bytes_before : (files between : FilesState) (o : Option (List ℕ)) (bytes : List ℕ)
+    → ((n : List ℕ) → between.held n ≡ files.held n) → AreBytes between o bytes → AreBytes files o bytes
+bytes_before files between None bytes same h = h
+bytes_before files between (Some name) bytes same h =
     subst (λ o. IsContent o bytes) (same name) h

@@ -21,12 +21,14 @@ use Rattle.node_model.specs.Outcome.{Outcome}
 use Rattle.run_order.specs.OwnRun.{Stamped, run_of}
 use Rattle.rewriting_law.specs.CoreRun.{picks_of}
 use Rattle.rewriting_law.specs.Interleaving.{EndsAs, original_by_node, original_after}
+use Rattle.dsm_io.specs.States.{FilesState, SinkState}
 use Rattle.command_line.specs.Commands.{Command, Rewrite, Run, Listing, One, Sim, Replay, Generate}
-use Rattle.commands.specs.Headline.{IsOutcomeByOrder, IsRunOf, IsTextBeside, Prints}
+use Rattle.commands.specs.Headline.{IsOutcomeByOrder, IsRunOf, IsText, Prints}
 use Rattle.commands.specs.Inputs.{Inputs, inputs_of}
 use Rattle.commands.specs.Interleaved.{IsInterleaved, IsLayoutGiven, IsSomeLayout, IsTextOfOriginal, PrintsOriginal, TellsOfOriginal}
 use Rattle.commands.specs.Outcomes.{IsRunOfCode, IsWholeRun, told}
-use Rattle.commands.specs.Text.{outcome_head, outcome_tail, text_of}
+use Rattle.commands.specs.Processors.{outcome_head}
+use Rattle.commands.specs.Text.{outcome_tail, text_of}
 
 -- ---- how processors ended
 
@@ -196,17 +198,17 @@ by_order inputs nodes order budget o text h is =
 
 -- ---- what is printed
 
-tells : (c : Command) (held : List ℕ → Option (List ℕ)) (inputs : Inputs) (text : List ℕ)
-    (status : ℕ) → IsTextBeside c held inputs text status → IsTextOfOriginal c inputs text
-tells (Rewrite input output no_batch) held inputs text status h = tt
-tells (Run file nodes budget record_file code layout brief no_batch) held inputs text status h =
+tells : (c : Command) (files : FilesState) (inputs : Inputs) (text : List ℕ)
+    (status : ℕ) → IsText c files inputs text status → IsTextOfOriginal c inputs text
+tells (Rewrite input output no_batch) files inputs text status h = tt
+tells (Run file nodes budget record_file code layout brief no_batch) files inputs text status h =
     of_run inputs nodes budget h.is.work h.is.own h.outcome brief text h.is.is_run h.text_is
-tells (One file nodes order budget layout) held inputs text status h =
+tells (One file nodes order budget layout) files inputs text status h =
     by_order inputs nodes order budget h.outcome text h.is h.text_is
-tells (Sim file nodes order budget code layout brief no_batch) held inputs text status h =
+tells (Sim file nodes order budget code layout brief no_batch) files inputs text status h =
     of_run inputs nodes budget h.is.work h.is.own h.outcome brief text h.is.is_run h.text_is
-tells (Listing file) held inputs text status h = tt
-tells (Replay file record_file brief) held inputs text status h =
+tells (Listing file) files inputs text status h = tt
+tells (Replay file record_file brief) files inputs text status h =
     let work = h.is.work in
     let laid = h.is.asked.laid_out in
     let same = laid.layout_is in
@@ -218,13 +220,13 @@ tells (Replay file record_file brief) held inputs text status h =
           (subst (AreSharedRanges h.is.elf) (sym shared) laid.lines, h.is.asked.valid)
           refl refl h.text_is,
     )
-tells (Generate number output) held inputs text status h = tt
+tells (Generate number output) files inputs text status h = tt
 
-pub prints_original : (c : Command) (contents : List ℕ → List ℕ) (held : List ℕ → Option (List ℕ))
-    (before now : Option (List ℕ)) (status : ℕ) → Prints c contents held before now status
+pub prints_original : (c : Command) (contents : List ℕ → List ℕ) (files : FilesState)
+    (before now : SinkState) (status : ℕ) → Prints c contents files before now status
     → PrintsOriginal c contents before now
-prints_original c contents held before now status h = record {
+prints_original c contents files before now status h = record {
   text = h.text;
-  is = tells c held (inputs_of c contents) h.text status h.is;
+  is = tells c files (inputs_of c contents) h.text status h.is;
   put = h.put;
 }

@@ -8,3 +8,8 @@ pub mod Recorded
 pub mod ReplayLemmas
 pub mod GenerateLemmas
 pub mod InterleavedLemmas
+pub mod BlockWords
+pub mod SharedRanges
+pub mod AgainLemmas
+pub mod NotRefused
+pub mod Replaying

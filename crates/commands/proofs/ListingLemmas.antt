@@ -11,7 +11,7 @@ use Rattle.exec_map.specs.Contents.{IsNextCode, is_code_word, word_of}
 use Rattle.rv32_text.specs.Listing.{line_of}
 use Rattle.dsm_io.specs.Causes.{Appends}
 use Rattle.commands.specs.declared.failure.Failure.{Failure}
-use Rattle.commands.specs.Answers.{SinkState}
+use Rattle.dsm_io.specs.States.{SinkState}
 use Rattle.commands.specs.Failures.{IsPutFailure, FailsAs, IsLike, IsNever}
 use Rattle.commands.proofs.Pieces.{joins, put_fails}
 use Rattle.commands.specs.Headline.{listing_below, listing}

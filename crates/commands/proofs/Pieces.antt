@@ -5,7 +5,7 @@ use Rattle.std.proofs.lemmas.List.{take-append-drop}
 use Rattle.dsm_io.specs.Causes.{Rose, Appends, AppendsPrefix}
 use Rattle.commands.specs.declared.failure.Failure.{Failure}
 use Rattle.commands.specs.declared.failure.Failure.TheVariants.{Input, NotWritten, Refused, Layout, Record, Output, OutOfMemory}
-use Rattle.commands.specs.Answers.{SinkState}
+use Rattle.dsm_io.specs.States.{SinkState}
 use Rattle.node_model.specs.Outcome.{Outcome}
 use Rattle.commands.specs.Outcomes.{status_of, told}
 use Rattle.commands.specs.Headline.{IsTextWith}
@@ -151,7 +151,7 @@ text_with Is brief o text status is h =
     record { outcome = o; is = is; text_is = h.0; status_is = h.1 ∙ told_status brief o }
 
 pub outcome_put : (Is : Outcome → Type 0) (brief : Bool) (o : Outcome)
-    (before now : Option (List ℕ)) (r : Result ℕ Failure) → Is o
+    (before now : SinkState) (r : Result ℕ Failure) → Is o
     → IfOk r (λ status. Puts (IsTextOfOutcome (told brief o)) status before now)
     → IfOk r (λ status. Puts (IsTextWith Is brief) status before now)
 outcome_put Is brief o before now (Ok status) is put =

@@ -10,13 +10,27 @@ use Rattle.run_record.specs.Text.{record_text}
 use Rattle.command_line.specs.Commands.{Command, Run, writes}
 use Rattle.commands.specs.declared.failure.Failure.{Failure}
 use Rattle.commands.specs.declared.failure.Failure.TheVariants.{Input, NotWritten, Refused, Layout, Record, Output, OutOfMemory}
-use Rattle.commands.specs.Answers.{SinkState, FilesState, IsLeft}
-use Rattle.commands.specs.Failures.{FailsAs, IsNever, GivesRuns, IsOwnRecorded, IsRecordFailure, IsPerformFailure, AreKept, AreLeft, AreWritten}
-use Rattle.commands.specs.Headline.{IsRecordOfRun, IsOutcomeRecorded, IsOutcomeOfRun, held_by}
+use Rattle.dsm_io.specs.States.{SinkState, FilesState}
+use Rattle.commands.specs.Answers.{HasBytes, IsLeft, IsUnwritten, AreLeft, AreWritten}
+use Rattle.commands.specs.Failures.{FailsAs, IsNever, GivesRuns, IsMade, IsOwnOutcome, IsOwnRecorded, IsRecordFailure, IsPerformFailure, AreKept}
+use Rattle.commands.specs.Headline.{IsRecordOfRun, IsOutcomeRecorded, held_by}
 use Rattle.commands.specs.Inputs.{Inputs}
 use Rattle.commands.specs.Records.{record_at, record_of}
 use Rattle.commands.proofs.InputLemmas.{named, among, of_named}
 use Rattle.commands.proofs.RecordLemmas.{own_record}
+
+-- the outcome of the own run of a core, by another name of its work
+pub own_outcome : (w work : Work) (core : Core) (own : List Stamped) (o : Outcome) → w ≡ work
+    → StandsForOwnRun w core own → IsOver w core → IsOutcomeOf w (run_of own) o
+    → IsOwnOutcome work o
+own_outcome w work core own o same stands over outcome =
+    subst (λ x. IsOwnOutcome x o) same (record {
+      core = core;
+      own = own;
+      stands = stands;
+      over = over;
+      outcome = outcome;
+    })
 
 -- the outcome and the record of the own run of a core, by another name of its work
 pub own_recorded : (batches : Bool) (w work : Work) (core : Core) (own : List Stamped) (o : Outcome)
@@ -45,12 +59,6 @@ recorded inputs nodes budget work held o runs h = record {
   is_recorded = subst (λ t. IfSome held (λ bytes. bytes ≡ t))
       (ap (λ r. record_text r) (own_record inputs.batches work h.core h.own h.stands)) h.is_recorded;
 }
-
--- it is an outcome of a run
-pub outcome_of_run : (inputs : Inputs) (nodes budget : ℕ) (held : Option (List ℕ)) (o : Outcome)
-    → IsOutcomeRecorded inputs nodes budget held o → IsOutcomeOfRun inputs nodes budget o
-outcome_of_run inputs nodes budget held o h =
-    record { work = h.work; own = h.own; is_run = h.is_run }
 
 some_as : (P Q : List ℕ → Type 0) (o : Option (List ℕ)) → ((x : List ℕ) → P x → Q x) → IfSome o P
     → IfSome o Q
@@ -90,11 +98,11 @@ module _ (file : List ℕ) (nodes budget : ℕ) (o : Option (List ℕ)) (code la
 
   -- each file that it writes holds such a record
   pub record_written : (inputs : Inputs) (now : FilesState) (outcome : Outcome)
-      → IsOutcomeRecorded inputs nodes budget (held_by now.held o) outcome
+      → IsOutcomeRecorded inputs nodes budget (held_by now o) outcome
       → AreWritten asked inputs now
   record_written inputs now outcome is name there =
-      subst (λ x. IfSome (held_by now.held x) (IsRecordOfRun inputs nodes budget))
-      (record_named name there) (record_held inputs nodes budget (held_by now.held o) outcome is)
+      subst (λ x. IfSome (held_by now x) (IsRecordOfRun inputs nodes budget))
+      (record_named name there) (record_held inputs nodes budget (held_by now o) outcome is)
 
   pub written_left : (inputs : Inputs) (before now : FilesState) → AreWritten asked inputs now
       → AreLeft asked inputs before now
@@ -104,24 +112,43 @@ module _ (file : List ℕ) (nodes budget : ℕ) (o : Option (List ℕ)) (code la
       → ((n : List ℕ) → now.held n ≡ before.held n) → AreLeft asked inputs before now
   same_left inputs before now h name there = inl (h name)
 
-  -- a record that wasn't written
-  fails_by : (x : Option (List ℕ)) → o ≡ x → (inputs : Inputs) (before now : FilesState)
-      (state : SinkState) (f : Failure) → IsRecordFailure x before now f
-      → IsPerformFailure asked inputs before now state state f
-  fails_by None e inputs before now state f h =
-      subst (IsPerformFailure asked inputs before now state state) (sym h) (inl refl)
-  fails_by (Some name) e inputs before now state (Input line) h = absurd h
-  fails_by (Some name) e inputs before now state (NotWritten line) h =
-      (refl, (name, names_record name e, h.0, h.1))
-  fails_by (Some name) e inputs before now state (Refused line) h = absurd h
-  fails_by (Some name) e inputs before now state (Layout line) h = absurd h
-  fails_by (Some name) e inputs before now state (Record line) h = absurd h
-  fails_by (Some name) e inputs before now state Output h = absurd h
-  fails_by (Some name) e inputs before now state OutOfMemory h = inl refl
+  -- a record that wasn't written, of a run that was made
+  bytes_of_run : (inputs : Inputs) (work : Work) → GivesRuns inputs nodes budget work
+      → (made : (outcome : Outcome) × IsOwnOutcome work outcome) → HasBytes asked inputs
+  bytes_of_run inputs work runs made =
+      let h : IsOwnOutcome work made.0 = made.1 in
+      let is : IsRecordOfRun inputs nodes budget
+      (record_text (record_of inputs.batches work h.own)) = record {
+        work = work;
+        own = h.own;
+        outcome = made.0;
+        is_run = runs h.core h.own made.0 h.stands h.over h.outcome;
+        bytes_are = refl;
+      } in
+      (record_text (record_of inputs.batches work h.own), is)
 
-  pub record_fails : (inputs : Inputs) (before now : FilesState) (state : SinkState) (f : Failure)
+  fails_by : (x : Option (List ℕ)) → o ≡ x → (inputs : Inputs) (work : Work)
+      (before now : FilesState) (state : SinkState) (f : Failure)
+      → GivesRuns inputs nodes budget work → IsMade work f → IsRecordFailure x before now f
+      → IsPerformFailure asked inputs before now state state f
+  fails_by None e inputs work before now state f runs made h =
+      subst (IsPerformFailure asked inputs before now state state) (sym h) (inl refl)
+  fails_by (Some name) e inputs work before now state (Input line) runs made h = absurd h
+  fails_by (Some name) e inputs work before now state (NotWritten line) runs made h =
+      let at : IsUnwritten asked before now (λ l. line.items ≡ l) =
+      (name, names_record name e, h.0, h.1) in
+      (refl, (bytes_of_run inputs work runs made, at))
+  fails_by (Some name) e inputs work before now state (Refused line) runs made h = absurd h
+  fails_by (Some name) e inputs work before now state (Layout line) runs made h = absurd h
+  fails_by (Some name) e inputs work before now state (Record line) runs made h = absurd h
+  fails_by (Some name) e inputs work before now state Output runs made h = absurd h
+  fails_by (Some name) e inputs work before now state OutOfMemory runs made h = inl refl
+
+  pub record_fails : (inputs : Inputs) (work : Work) (before now : FilesState) (state : SinkState)
+      (f : Failure) → GivesRuns inputs nodes budget work → IsMade work f
       → IsRecordFailure o before now f → IsPerformFailure asked inputs before now state state f
-  record_fails inputs before now state f h = fails_by o refl inputs before now state f h
+  record_fails inputs work before now state f runs made h =
+      fails_by o refl inputs work before now state f runs made h
 
   left_at : (inputs : Inputs) (before now : FilesState) (name : List ℕ) → o ≡ Some name
       → (now.held name ≡ before.held name)
@@ -162,6 +189,16 @@ record_kept (Some name) before now (Layout line) h = absurd h
 record_kept (Some name) before now (Record line) h = absurd h
 record_kept (Some name) before now Output h = absurd h
 record_kept (Some name) before now OutOfMemory h = λ four. absurd (omega (arith, four))
+
+-- a run was made, whatever its record came to
+pub is_made : (work : Work) (o : Outcome) (f : Failure) → IsOwnOutcome work o → IsMade work f
+is_made work o (Input line) is = tt
+is_made work o (NotWritten line) is = (o, is)
+is_made work o (Refused line) is = tt
+is_made work o (Layout line) is = tt
+is_made work o (Record line) is = tt
+is_made work o Output is = tt
+is_made work o OutOfMemory is = tt
 
 -- a run that was out of memory before its record was written
 pub wants_memory : (o : Option (List ℕ)) (now : FilesState) → IsRecordFailure o now now OutOfMemory

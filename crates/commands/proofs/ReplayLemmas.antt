@@ -1,5 +1,5 @@
 -- A record's run, made once more.
-use Rattle.std.proofs.Common.{◌≡◌, ℕ, Bool, List, map, refl, sym, ap, ◌∙◌, subst, inl, inr}
+use Rattle.std.proofs.Common.{◌≡◌, ℕ, ◌<◌, ◌≤◌, ◌^◌, Bool, List, map, refl, sym, ap, ◌∙◌, subst, inl, inr}
 use Rattle.std.specs.Prelude.{IfErr, Result, Ok, Err}
 use Rattle.elf32_read.specs.Elf.{Elf}
 use Rattle.rv32_program.specs.Program.{IsAccepted}
@@ -17,7 +17,7 @@ use Rattle.dsm_core.specs.CoreParts.{work_with}
 use Rattle.command_line.specs.Commands.{Replay}
 use Rattle.commands.specs.declared.failure.Failure.{Failure}
 use Rattle.commands.specs.declared.failure.Failure.TheVariants.{Input, NotWritten, Refused, Layout, Record, Output, OutOfMemory}
-use Rattle.commands.specs.Answers.{SinkState, FilesState}
+use Rattle.dsm_io.specs.States.{SinkState, FilesState}
 use Rattle.commands.specs.Failures.{FailsAs, IsPerformFailure, IsReadyFor, IsRecordRefusal, IsRefusal, IsReplayFailure, IsReplayRefusal}
 use Rattle.commands.specs.Headline.{IsTextWith}
 use Rattle.commands.specs.Inputs.{Inputs}
@@ -93,9 +93,9 @@ replay_fails file record_file brief inputs fb fn before now OutOfMemory h = h
 pub ready_for : (inputs : Inputs) (kept : Kept) (elf : Elf) (plan : List PlanEntry)
     (image : List Cell) (layout : Shape) (budget : ℕ)
     → AreReady kept.batch inputs.executable elf plan image layout → IsTextOf kept inputs.recorded
-    → IsLayoutOfBlocks elf kept layout → budget ≡ kept.budget → HaveLaws
-    → IsReadyFor inputs kept (work_with elf image layout budget)
-ready_for inputs kept elf plan image layout budget ready text laid_out limit laws = record {
+    → IsLayoutOfBlocks elf kept layout → budget ≡ kept.budget → 0 < budget → budget ≤ 2 ^ 32
+    → HaveLaws → IsReadyFor inputs kept (work_with elf image layout budget)
+ready_for inputs kept elf plan image layout budget ready text laid_out limit some few laws = record {
   elf = elf;
   plan = plan;
   asked = record {
@@ -106,7 +106,7 @@ ready_for inputs kept elf plan image layout budget ready text laid_out limit law
     valid = ready.valid;
     limit = limit;
   };
-  gives = gives_code kept.batch inputs.executable budget elf plan image layout ready laws;
+  gives = gives_code kept.batch inputs.executable budget elf plan image layout ready some few laws;
 }
 
 pub outcome_of_replay : (inputs : Inputs) (kept : Kept) (work : Work) (o : Outcome)

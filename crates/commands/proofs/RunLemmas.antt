@@ -1,5 +1,5 @@
 -- A run of nodes, by the law of rewriting.
-use Rattle.std.proofs.Common.{◌≡◌, ℕ, ◌<◌, ◌≤◌, ◌^◌, Bool, true, List, [], ◌∷◌, ◌++◌, Option, None, Some, refl, sym, ap, ◌∙◌, subst}
+use Rattle.std.proofs.Common.{◌≡◌, ℕ, ◌/◌, ◌<◌, ◌≤◌, ◌^◌, Bool, true, List, [], ◌∷◌, ◌++◌, Option, None, Some, refl, sym, ap, ◌∙◌, subst}
 use Rattle.std.specs.Prelude.{IfOk, Result, Ok, Err}
 use Rattle.rv32_program.specs.declared.Class.{Class}
 use Rattle.rv32_program.specs.declared.Class.TheVariants as class
@@ -13,11 +13,13 @@ use Rattle.templates.specs.WholePlan.{IsPlanOf}
 use Rattle.jump_map.specs.Image.{Cell, IsRewriting}
 use Rattle.rewriter.specs.RewrittenFile.{rewritten_elf}
 use Rattle.node_model.specs.Node.{Work, Resume, IsLaidOver, Ended, Waiting, standing_of}
-use Rattle.node_model.specs.Outcome.{Outcome, IsOutcomeOf}
+use Rattle.node_model.specs.Outcome.{Outcome, AreFrugal, IsOutcomeOf, counts_after}
 use Rattle.node_model.specs.Core.{Core, Event, AreAlike, IsCoreRun, IsOver, opening_core, after, event_step}
 use Rattle.run_order.specs.OwnRun.{Stamped, StandsForOwnRun, events_of, run_of}
 use Rattle.run_record.specs.declared.Record.{Record}
-use Rattle.rewriting_law.specs.Bounds.{RunsRewritten}
+use Rattle.rewriting_law.specs.Ascents.{AscendsBetweenPolls}
+use Rattle.rewriting_law.specs.Bounds.{RunsRewritten, steps_of}
+use Rattle.rewriting_law.specs.CoreRun.{picks_of}
 use Rattle.rewriting_law.specs.Licence.{AllLicensed}
 use Rattle.rewriting_law.specs.Interleaving.{Interleaves, IsCoherent, original_after}
 use Rattle.dsm_core.specs.CoreParts.{work_with}
@@ -42,7 +44,7 @@ laid_by class.ReadOnly t e = (λ h. cc, λ h. (let bad = sym e ∙ h in cc))
 laid_by class.Private t e = (λ h. cc, λ h. (let bad = sym e ∙ h in cc))
 laid_by class.Unmapped t e = (λ h. cc, λ h. (let bad = sym e ∙ h in cc))
 
-shape_facts : (text : Option (List ℕ)) (shared : _) (nodes : ℕ) (layout : Shape)
+pub shape_facts : (text : Option (List ℕ)) (shared : _) (nodes : ℕ) (layout : Shape)
     → IsLayoutBy text shared nodes layout → (layout.shared ≡ shared) × (layout.nodes ≡ nodes)
 shape_facts None shared nodes layout h =
     (ap (λ (s : Shape). s.shared) h, ap (λ (s : Shape). s.nodes) h)
@@ -104,6 +106,20 @@ StopsLate = (work : Work) (events : List Event) (i budget : ℕ)
     → (budget ≡ work.budget)
     × (((after work (opening_core work) events).nodes i).executed ≡ work.budget)
 
+abbrev pub MakesSteps : Type 0
+MakesSteps = (work : Work) (plan : List PlanEntry) (events : List Event) (i budget : ℕ)
+    → IsAccepted work.program → IsValid work.layout → IsLaidOver work.program work.layout
+    → IsRewriting work.program plan work.image → IsCoreRun work (opening_core work) events
+    → i < work.layout.nodes
+    → ((after work (opening_core work) events).nodes i).phase ≡ Ended (Stopped budget)
+    → budget / 40 ≤ steps_of i (picks_of work plan (opening_core work) events)
+
+abbrev pub Ascends : Type 0
+Ascends = (work : Work) (plan : List PlanEntry) (events : List Event) (i : ℕ)
+    → IsAccepted work.program → IsValid work.layout → IsLaidOver work.program work.layout
+    → IsRewriting work.program plan work.image → IsCoreRun work (opening_core work) events
+    → i < work.layout.nodes → AscendsBetweenPolls work plan events i
+
 abbrev pub WaitsForMail : Type 0
 WaitsForMail = (work : Work) (plan : List PlanEntry) (events : List Event) (i : ℕ)
     (resume : Resume) → IsAccepted work.program → IsValid work.layout
@@ -153,13 +169,16 @@ are_ready batches file original elf plan image layout is executable accepted the
       valid = valid;
     }
 
--- the laws of rewriting and of progress
+-- the laws of rewriting, of progress and of bounds
 pub record HaveLaws : Type 0 where
   pub law : AllRuns Interleaves
   pub licensed : AllRuns (λ work plan events. AllLicensed work plan (opening_core work) events)
   pub coherent : AllRuns (λ work plan events. IsCoherent work
       (after work (opening_core work) events) (original_after work plan events).shared)
   pub stopped : StopsLate
+  pub steps : MakesSteps
+  pub polls : Ascends
+  pub messages : AllRuns (λ work plan events. AreFrugal work.layout.nodes (counts_after work events))
   pub waits : WaitsForMail
   pub empty : EndsEmpty
 
@@ -178,8 +197,9 @@ module _ (batches : Bool) (file : List ℕ) (budget : ℕ) (elf : Elf) (plan : L
   }
 
   -- by the law of rewriting
-  pub gives_code : HaveLaws → GivesCode batches file elf plan (work_with elf image layout budget)
-  gives_code laws core own o stands ended outcome =
+  pub gives_code : 0 < budget → budget ≤ 2 ^ 32 → HaveLaws
+      → GivesCode batches file elf plan (work_with elf image layout budget)
+  gives_code some few laws core own o stands ended outcome =
       let work : Work = work_with elf image layout budget in
       let events : List Event = run_of own in
       let rewriting = r.rewritten.rewriting in
@@ -190,6 +210,7 @@ module _ (batches : Bool) (file : List ℕ) (budget : ℕ) (elf : Elf) (plan : L
       record {
         rewritten = r.rewritten;
         program = refl;
+        runs = runs_rewritten some few;
         stands = own_after work core own stands;
         over = all_over;
         whole = record {
@@ -203,6 +224,12 @@ module _ (batches : Bool) (file : List ℕ) (budget : ℕ) (elf : Elf) (plan : L
           coherent = laws.coherent work plan events r.accepted r.valid r.over rewriting
               stands.is_run;
           stopped = λ i b low phase. laws.stopped work events i b stands.is_run phase;
+          steps = λ i b low phase. laws.steps work plan events i b r.accepted r.valid r.over rewriting
+              stands.is_run low phase;
+          polls = λ i low. laws.polls work plan events i r.accepted r.valid r.over rewriting
+              stands.is_run low;
+          messages = subst (AreFrugal layout.nodes) (sym outcome.counts)
+              (laws.messages work plan events r.accepted r.valid r.over rewriting stands.is_run);
           waits = λ before behind i resume is low phase.
               laws.waits work plan before i resume r.accepted r.valid r.over rewriting
               (run_front work before behind (opening_core work)
@@ -229,14 +256,3 @@ gives_runs inputs nodes budget elf plan image layout code laid_out gives core ow
       count = nodes_of elf inputs.layout nodes layout laid_out;
       limit = refl;
     }
-
--- the outcome of a core, by another name of its work
-pub own_outcome : {T E : Type 0} (outcome_of : T → Outcome) (w work : Work) (core : Core)
-    (r : Result T E) → w ≡ work → IsOver w core
-    → IfOk r (λ o. (events : List Stamped) × StandsForOwnRun w core events
-    × IsOutcomeOf w (run_of events) (outcome_of o))
-    → IfOk r (λ o. IsOwnOutcome work (outcome_of o))
-own_outcome outcome_of w work core (Ok o) same over h =
-    subst (λ x. IsOwnOutcome x (outcome_of o)) same
-    (record { core = core; own = h.0; stands = h.1; over = over; outcome = h.2 })
-own_outcome outcome_of w work core (Err e) same over h = tt

@@ -1,24 +1,15 @@
 -- Why a command answers as it does, and what `err` is told.
 use Rattle.std.specs.Prelude.{◌≡◌, ℕ, ◌<◌, ◌⊎◌, List, Option, length, Contains, IfSome, MatchOption}
 use Rattle.dsm_io.specs.Causes.{Rose, Appends, AppendsPrefix}
+use Rattle.dsm_io.specs.States.{FilesState, SinkState}
 use Rattle.command_line.specs.Commands.{Command, reads, writes}
-use Rattle.commands.specs.Inputs.{Inputs}
-use Rattle.commands.specs.Headline.{AreTold, IsWritten, PrintsPrefix}
+use Rattle.commands.specs.Inputs.{Inputs, AreTold, inputs_of}
+use Rattle.commands.specs.Headline.{IsWritten, PrintsPrefix}
 use Rattle.commands.specs.Text.{cannot_read, cannot_write, too_long, cannot_write_output}
 
 -- the longest file that is read, in bytes
 abbrev pub file_limit : ℕ
 file_limit = 33554432
-
--- what contracts see of a sink: the bytes taken, where they are told; how often it failed; and how
--- often it refused a put because it was out of memory
-pub record SinkState : Type 0 where
-  pub taken : Option (List ℕ)
-  pub faults : ℕ
-  pub refusals : ℕ
-
-abbrev pub sink_of : Option (List ℕ) → ℕ → ℕ → SinkState
-sink_of taken faults refusals = record { taken = taken; faults = faults; refusals = refusals }
 
 -- the sink took the line; or a prefix of it, where it failed; or nothing, where it was out of memory
 abbrev pub Tells : SinkState → SinkState → List ℕ → Type 0
@@ -26,20 +17,6 @@ Tells before now line =
     Appends before.taken now.taken line
     ⊎ ((AppendsPrefix before.taken now.taken line × Rose before.faults now.faults)
     ⊎ ((now.taken ≡ before.taken) × Rose before.refusals now.refusals))
-
--- what contracts see of files: what each name holds, where that is told, and how many reads and
--- writes of it failed
-pub record FilesState : Type 0 where
-  pub held : List ℕ → Option (List ℕ)
-  pub failed_reads : List ℕ → ℕ
-  pub failed_writes : List ℕ → ℕ
-
-abbrev pub files_of : (List ℕ → Option (List ℕ)) → (List ℕ → ℕ) → (List ℕ → ℕ) → FilesState
-files_of held failed_reads failed_writes = record {
-  held = held;
-  failed_reads = failed_reads;
-  failed_writes = failed_writes;
-}
 
 -- the file is longer than the limit; where its content isn't told, a read of it failed
 abbrev pub IsTooLong : FilesState → FilesState → List ℕ → Type 0
@@ -54,11 +31,22 @@ IsReadFault command before now Told =
     × ((Rose (before.failed_reads name) (now.failed_reads name) × Told (cannot_read name))
     ⊎ (IsTooLong before now name × Told (too_long name)))
 
--- the file that the command writes couldn't be written, and the line says so
-abbrev pub IsWriteFault : Command → FilesState → FilesState → (List ℕ → Type 0) → Type 0
-IsWriteFault command before now Told =
+-- there are bytes that the command writes, where it reads files of these contents
+abbrev pub HasBytes : Command → Inputs → Type 0
+HasBytes command inputs = (bytes : List ℕ) × IsWritten command inputs bytes
+
+-- a file that the command writes couldn't be written, and the line says so
+abbrev pub IsUnwritten : Command → FilesState → FilesState → (List ℕ → Type 0) → Type 0
+IsUnwritten command before now Told =
     (name : List ℕ) × Contains (writes command) name
     × Rose (before.failed_writes name) (now.failed_writes name) × Told (cannot_write name)
+
+-- what the command writes couldn't be written, though the files that it reads define it
+abbrev pub IsWriteFault : Command → FilesState → FilesState → (List ℕ → Type 0) → Type 0
+IsWriteFault command before now Told =
+    ((contents : List ℕ → List ℕ) → AreTold command before contents
+    → HasBytes command (inputs_of command contents))
+    × IsUnwritten command before now Told
 
 -- a file that the command writes holds what it held before, or what the command writes; or it
 -- couldn't be written
@@ -68,12 +56,23 @@ IsLeft command inputs before now name =
     ⊎ (IfSome (now.held name) (IsWritten command inputs)
     ⊎ Rose (before.failed_writes name) (now.failed_writes name))
 
+-- the files that a command writes hold what it writes
+abbrev pub AreWritten : Command → Inputs → FilesState → Type 0
+AreWritten command inputs now =
+    (name : List ℕ) → Contains (writes command) name
+    → IfSome (now.held name) (IsWritten command inputs)
+
+-- each file that a command writes is left so
+abbrev pub AreLeft : Command → Inputs → FilesState → FilesState → Type 0
+AreLeft command inputs before now =
+    (name : List ℕ) → Contains (writes command) name → IsLeft command inputs before now name
+
 -- the output failed where a text that the command asks for was being put
-abbrev pub IsPutFault : Command → FilesState → SinkState → SinkState → Type 0
-IsPutFault command files before now =
+abbrev pub IsPutFault : Command → FilesState → FilesState → SinkState → SinkState → Type 0
+IsPutFault command files files_now before now =
     Rose before.faults now.faults
-    × ((contents : List ℕ → List ℕ) → AreTold command files.held contents
-    → PrintsPrefix command contents before.taken now.taken)
+    × ((contents : List ℕ → List ℕ) → AreTold command files contents
+    → PrintsPrefix command contents files_now before now)
 
 -- why a command answers a fault, and the line that is told: a file failed, and nothing was put; or
 -- the output failed
@@ -82,4 +81,4 @@ abbrev pub IsFault : Command → FilesState → FilesState → SinkState → Sin
 IsFault command before now out_before out Told =
     ((out.taken ≡ out_before.taken)
     × (IsReadFault command before now Told ⊎ IsWriteFault command before now Told))
-    ⊎ (IsPutFault command before out_before out × Told cannot_write_output)
+    ⊎ (IsPutFault command before now out_before out × Told cannot_write_output)

@@ -16,14 +16,15 @@ use Rattle.commands.specs.Text.{text_of, cannot_read, cannot_write, too_long, ca
 use Rattle.commands.specs.declared.prepare.Prepared.{Prepared}
 use Rattle.commands.specs.Outcomes as outcomes
 use Rattle.commands.specs.Outcomes.{IsRunOfCode}
-use Rattle.command_line.specs.Commands.{Command, reads, writes}
-use Rattle.commands.specs.Answers.{SinkState, FilesState, file_limit, IsTooLong, IsReadFault, IsWriteFault, IsPutFault, IsLeft}
+use Rattle.command_line.specs.Commands.{Command, reads}
+use Rattle.dsm_io.specs.States.{SinkState, FilesState}
+use Rattle.commands.specs.Answers.{file_limit, IsTooLong, IsReadFault, HasBytes, IsUnwritten, IsWriteFault, IsPutFault}
 use Rattle.commands.specs.Executables.{IsUnrewritten}
 use Rattle.commands.specs.Records.{record_at}
 use Rattle.commands.specs.Refusals.{IsRefused, IsLayoutRefused, IsRecordRefused}
 use Rattle.commands.specs.Replays.{IsWorkOf, IsOutcomeOfReplay, IsReplayRefused, IsBadReplayLayout, IsBadRecord}
-use Rattle.commands.specs.Headline.{AreTold, IsRunOf, IsText, IsTextWith, IsWritten, Prints, PrintsPrefix}
-use Rattle.commands.specs.Inputs.{Inputs, input_of, code_of, layout_of, recorded_of, batches_of, inputs_of}
+use Rattle.commands.specs.Headline.{IsRewrittenFile, IsRunOf, IsText, IsTextWith, IsWritten, Prints, PrintsPrefix}
+use Rattle.commands.specs.Inputs.{Inputs, AreTold, input_of, code_of, layout_of, recorded_of, batches_of, inputs_of}
 
 -- the status and the line of a failure
 abbrev pub status_of : Failure → ℕ
@@ -62,24 +63,23 @@ pub record IsContent (held : Option (List ℕ)) (bytes : List ℕ) : Type 0 wher
   pub fits : length bytes ≤ file_limit
 
 -- likewise where a name may be left out
-abbrev pub AreContents : (List ℕ → Option (List ℕ)) → Option (List ℕ) → Option (List ℕ) → Type 0
-AreContents held None bytes = bytes ≡ None
-AreContents held (Some name) None = ⊥
-AreContents held (Some name) (Some bytes) = IsContent (held name) bytes
+abbrev pub AreContents : FilesState → Option (List ℕ) → Option (List ℕ) → Type 0
+AreContents files None bytes = bytes ≡ None
+AreContents files (Some name) None = ⊥
+AreContents files (Some name) (Some bytes) = IsContent (files.held name) bytes
 
 -- likewise where the bytes are none without a name
-abbrev pub AreBytes : (List ℕ → Option (List ℕ)) → Option (List ℕ) → List ℕ → Type 0
-AreBytes held None bytes = bytes ≡ []
-AreBytes held (Some name) bytes = IsContent (held name) bytes
+abbrev pub AreBytes : FilesState → Option (List ℕ) → List ℕ → Type 0
+AreBytes files None bytes = bytes ≡ []
+AreBytes files (Some name) bytes = IsContent (files.held name) bytes
 
 -- the inputs are the contents of the command's files
-pub record AreRead (command : Command) (held : List ℕ → Option (List ℕ)) (inputs : Inputs) : Type 0
-  where
-    pub executable : AreBytes held (input_of command) inputs.executable
-    pub code : AreContents held (code_of command) inputs.code
-    pub layout : AreContents held (layout_of command) inputs.layout
-    pub recorded : AreBytes held (recorded_of command) inputs.recorded
-    pub batches : inputs.batches ≡ batches_of command
+pub record AreRead (command : Command) (files : FilesState) (inputs : Inputs) : Type 0 where
+  pub executable : AreBytes files (input_of command) inputs.executable
+  pub code : AreContents files (code_of command) inputs.code
+  pub layout : AreContents files (layout_of command) inputs.layout
+  pub recorded : AreBytes files (recorded_of command) inputs.recorded
+  pub batches : inputs.batches ≡ batches_of command
 
 -- a file that is named wasn't read
 abbrev pub IsNamedFailure : FilesState → FilesState → Option (List ℕ) → Failure → Type 0
@@ -115,9 +115,10 @@ IsPutFailure before now piece Output =
 IsPutFailure before now piece OutOfMemory = now.taken ≡ before.taken
 
 -- a prefix of a text with this status was put
-abbrev pub PutsPrefix : (List ℕ → ℕ → Type 0) → Option (List ℕ) → Option (List ℕ) → Type 0
+abbrev pub PutsPrefix : (List ℕ → ℕ → Type 0) → SinkState → SinkState → Type 0
 PutsPrefix IsTextFor before now =
-    (text : List ℕ) × (status : ℕ) × IsTextFor text status × AppendsPrefix before now text
+    (text : List ℕ) × (status : ℕ) × IsTextFor text status
+    × AppendsPrefix before.taken now.taken text
 
 -- how a command fails whose texts are these, and whose refusals are these: of executables, and of
 -- the layout
@@ -131,14 +132,14 @@ FailsAs IsTextFor Reason OfLayout before now (Layout line) =
     OfLayout line.items × (now.taken ≡ before.taken)
 FailsAs IsTextFor Reason OfLayout before now (Record line) = ⊥
 FailsAs IsTextFor Reason OfLayout before now Output =
-    Rose before.faults now.faults × PutsPrefix IsTextFor before.taken now.taken
+    Rose before.faults now.faults × PutsPrefix IsTextFor before now
 FailsAs IsTextFor Reason OfLayout before now OutOfMemory =
-    (now.taken ≡ before.taken) ⊎ PutsPrefix IsTextFor before.taken now.taken
+    (now.taken ≡ before.taken) ⊎ PutsPrefix IsTextFor before now
 
 -- the whole of a text with this status was put
-abbrev pub Puts : (List ℕ → ℕ → Type 0) → ℕ → Option (List ℕ) → Option (List ℕ) → Type 0
+abbrev pub Puts : (List ℕ → ℕ → Type 0) → ℕ → SinkState → SinkState → Type 0
 Puts IsTextFor status before now =
-    (text : List ℕ) × IsTextFor text status × Appends before now text
+    (text : List ℕ) × IsTextFor text status × Appends before.taken now.taken text
 
 -- one text, with any status; and no reason at all
 abbrev pub IsLike : List ℕ → List ℕ → ℕ → Type 0
@@ -217,27 +218,28 @@ IsFailure command files files_now before now (NotWritten line) =
     (now.taken ≡ before.taken) × IsWriteFault command files files_now (λ l. line.items ≡ l)
 IsFailure command files files_now before now (Refused line) =
     (now.taken ≡ before.taken)
-    × ((contents : List ℕ → List ℕ) → AreTold command files.held contents
+    × ((contents : List ℕ → List ℕ) → AreTold command files contents
     → IsRefused command (inputs_of command contents) line.items)
 IsFailure command files files_now before now (Layout line) =
     (now.taken ≡ before.taken)
-    × ((contents : List ℕ → List ℕ) → AreTold command files.held contents
+    × ((contents : List ℕ → List ℕ) → AreTold command files contents
     → IsLayoutRefused command (inputs_of command contents) line.items)
 IsFailure command files files_now before now (Record line) =
     (now.taken ≡ before.taken)
-    × ((contents : List ℕ → List ℕ) → AreTold command files.held contents
+    × ((contents : List ℕ → List ℕ) → AreTold command files contents
     → IsRecordRefused command (inputs_of command contents) line.items)
-IsFailure command files files_now before now Output = IsPutFault command files before now
+IsFailure command files files_now before now Output =
+    IsPutFault command files files_now before now
 IsFailure command files files_now before now OutOfMemory =
-    (contents : List ℕ → List ℕ) → AreTold command files.held contents
-    → (now.taken ≡ before.taken) ⊎ PrintsPrefix command contents before.taken now.taken
+    (contents : List ℕ → List ℕ) → AreTold command files contents
+    → (now.taken ≡ before.taken) ⊎ PrintsPrefix command contents files_now before now
 
 -- how a command succeeds: its whole text was put
 pub record IsSuccess (command : Command) (files files_now : FilesState) (before now : SinkState)
     (status : ℕ) : Type 0 where
   pub low : status ≤ 1
-  pub prints : (contents : List ℕ → List ℕ) → AreTold command files.held contents
-      → Prints command contents files_now.held before.taken now.taken status
+  pub prints : (contents : List ℕ → List ℕ) → AreTold command files contents
+      → Prints command contents files_now before now status
 
 -- a failure that isn't a refusal
 abbrev pub IsNoRefusal : Failure → Type 0
@@ -258,8 +260,16 @@ abbrev pub IsRecordFailure : Option (List ℕ) → FilesState → FilesState →
 IsRecordFailure None before now f = f ≡ OutOfMemory
 IsRecordFailure (Some name) before now f = IsWriteFailure before now name f
 
+-- where the record of a run of this work wasn't written, the run was made
+abbrev pub IsMade : Work → Failure → Type 0
+IsMade work (NotWritten line) = (o : Outcome) × IsOwnOutcome work o
+IsMade work f = Unit {0}
+
 -- why a rewritten file wasn't written
 abbrev pub IsRewriteFailure : Bool → List ℕ → FilesState → FilesState → List ℕ → Failure → Type 0
+IsRewriteFailure batches file before now name (NotWritten line) =
+    ((bytes : List ℕ) × IsRewrittenFile batches file bytes)
+    × IsWriteFailure before now name (NotWritten line)
 IsRewriteFailure batches file before now name (Refused line) =
     IsUnrewritten batches file line.items × ((n : List ℕ) → now.held n ≡ before.held n)
 IsRewriteFailure batches file before now name f = IsWriteFailure before now name f
@@ -268,12 +278,13 @@ IsRewriteFailure batches file before now name f = IsWriteFailure before now name
 abbrev pub IsPerformFailure : Command → Inputs → FilesState → FilesState → SinkState → SinkState
     → Failure → Type 0
 IsPerformFailure command inputs files files_now before now (NotWritten line) =
-    (now.taken ≡ before.taken) × IsWriteFault command files files_now (λ l. line.items ≡ l)
+    (now.taken ≡ before.taken)
+    × (HasBytes command inputs × IsUnwritten command files files_now (λ l. line.items ≡ l))
 IsPerformFailure command inputs files files_now before now (Record line) =
     IsRecordRefused command inputs line.items × (now.taken ≡ before.taken)
 IsPerformFailure command inputs files files_now before now f =
-    FailsAs (IsText command inputs) (IsRefused command inputs) (IsLayoutRefused command inputs)
-    before now f
+    FailsAs (IsText command files_now inputs) (IsRefused command inputs)
+    (IsLayoutRefused command inputs) before now f
 
 -- a file that a command reads wasn't read
 abbrev pub IsInputFailure : Command → FilesState → FilesState → Failure → Type 0
@@ -281,20 +292,10 @@ IsInputFailure command before now f =
     (name : List ℕ) × Contains (reads command) name × IsReadFailure before now name f
 
 -- what was read is what the files are told to have
-abbrev pub AreInputs : Command → (List ℕ → Option (List ℕ)) → Inputs → Type 0
-AreInputs command held inputs =
-    (contents : List ℕ → List ℕ) → AreTold command held contents
+abbrev pub AreInputs : Command → FilesState → Inputs → Type 0
+AreInputs command files inputs =
+    (contents : List ℕ → List ℕ) → AreTold command files contents
     → inputs ≡ inputs_of command contents
-
--- the files that a command writes hold what it writes
-abbrev pub AreWritten : Command → Inputs → FilesState → Type 0
-AreWritten command inputs now =
-    (name : List ℕ) → Contains (writes command) name
-    → IfSome (now.held name) (IsWritten command inputs)
-
-abbrev pub AreLeft : Command → Inputs → FilesState → FilesState → Type 0
-AreLeft command inputs before now =
-    (name : List ℕ) → Contains (writes command) name → IsLeft command inputs before now name
 
 -- where a command is refused, no file changes
 abbrev pub AreKept : FilesState → FilesState → Failure → Type 0

@@ -1,5 +1,5 @@
 -- What the program promises of each command.
-use Rattle.std.specs.Prelude.{◌≡◌, ℕ, ◌^◌, Bool, false, List, [], Option, None, Some, Contains, IfSome, filter}
+use Rattle.std.specs.Prelude.{◌≡◌, ℕ, ◌^◌, Bool, false, List, [], Option, None, Some, IfSome, filter}
 use Rattle.std.specs.List.{flat_map, range_with_len}
 use Rattle.elf32_read.specs.Elf.{Elf}
 use Rattle.exec_map.specs.Contents.{program_of, is_code_word, word_of}
@@ -18,8 +18,9 @@ use Rattle.shared_sim.specs.ByOrder.{FollowsOrder}
 use Rattle.block_layout.specs.Layout.{Shape}
 use Rattle.one_memory.specs.ByOrder.{IsRunByOrder}
 use Rattle.workload.specs.Generated.{generated_elf}
-use Rattle.command_line.specs.Commands.{Command, Rewrite, Run, Listing, One, Sim, Replay, Generate, reads}
+use Rattle.command_line.specs.Commands.{Command, Rewrite, Run, Listing, One, Sim, Replay, Generate}
 use Rattle.dsm_io.specs.Causes.{Appends, AppendsPrefix}
+use Rattle.dsm_io.specs.States.{FilesState, SinkState}
 use Rattle.commands.specs.Code.{IsFileOf}
 use Rattle.commands.specs.Executables.{IsProgramOf}
 use Rattle.commands.specs.Inputs.{Inputs, inputs_of}
@@ -41,12 +42,6 @@ pub record IsRunOf (inputs : Inputs) (nodes budget : ℕ) (work : Work) (own : L
   pub laid_out : IsLayoutFor elf inputs.layout nodes work.layout
   pub count : work.layout.nodes ≡ nodes
   pub limit : work.budget ≡ budget
-
--- the outcome of some such run
-pub record IsOutcomeOfRun (inputs : Inputs) (nodes budget : ℕ) (outcome : Outcome) : Type 0 where
-  pub work : Work
-  pub own : List Stamped
-  pub is_run : IsRunOf inputs nodes budget work own outcome
 
 -- the bytes are the record of some such run
 pub record IsRecordOfRun (inputs : Inputs) (nodes budget : ℕ) (bytes : List ℕ) : Type 0 where
@@ -139,53 +134,41 @@ pub record IsTextWith (Is : Outcome → Type 0) (brief : Bool) (text : List ℕ)
     pub text_is : text ≡ text_of (told brief outcome)
     pub status_is : status ≡ status_of outcome
 
--- the text that a command asks for, where it reads these files, and the status
-abbrev pub IsText : Command → Inputs → List ℕ → ℕ → Type 0
-IsText (Rewrite input output no_batch) inputs text status =
-    IsRewrittenText inputs.batches inputs.executable text status
-IsText (Run file nodes budget record_file code layout brief no_batch) inputs text status =
-    IsTextWith (IsOutcomeOfRun inputs nodes budget) brief text status
-IsText (One file nodes order budget layout) inputs text status =
-    IsTextWith (IsOutcomeByOrder inputs nodes order budget) false text status
-IsText (Sim file nodes order budget code layout brief no_batch) inputs text status =
-    IsTextWith (IsOutcomeOfSim inputs nodes order budget) brief text status
-IsText (Listing file) inputs text status = IsListingText inputs.executable text status
-IsText (Replay file record_file brief) inputs text status =
-    IsTextWith (IsOutcomeOfReplay inputs) brief text status
-IsText (Generate number output) inputs text status = IsNoText text status
-
 -- what a file that may be left out holds, where it is named and that is told
-abbrev pub held_by : (List ℕ → Option (List ℕ)) → Option (List ℕ) → Option (List ℕ)
-held_by held None = None
-held_by held (Some name) = held name
+abbrev pub held_by : FilesState → Option (List ℕ) → Option (List ℕ)
+held_by files None = None
+held_by files (Some name) = files.held name
 
--- the same beside what the files hold then: of a run that is recorded, the text is of the run whose
--- record the file holds
-abbrev pub IsTextBeside : Command → (List ℕ → Option (List ℕ)) → Inputs → List ℕ → ℕ → Type 0
-IsTextBeside (Run file nodes budget record_file code layout brief no_batch) held inputs text
-    status =
-    IsTextWith (IsOutcomeRecorded inputs nodes budget (held_by held record_file)) brief text status
-IsTextBeside command held inputs text status = IsText command inputs text status
-
--- each file that the command reads is told to have its content
-abbrev pub AreTold : Command → (List ℕ → Option (List ℕ)) → (List ℕ → List ℕ) → Type 0
-AreTold command held contents =
-    (name : List ℕ) → Contains (reads command) name → held name ≡ Some (contents name)
+-- the text that a command asks for, where it reads these files, and the status, beside what the
+-- files hold then: of a run that is recorded, the text is of the run whose record the file holds
+abbrev pub IsText : Command → FilesState → Inputs → List ℕ → ℕ → Type 0
+IsText (Rewrite input output no_batch) files inputs text status =
+    IsRewrittenText inputs.batches inputs.executable text status
+IsText (Run file nodes budget record_file code layout brief no_batch) files inputs text status =
+    IsTextWith (IsOutcomeRecorded inputs nodes budget (held_by files record_file)) brief text status
+IsText (One file nodes order budget layout) files inputs text status =
+    IsTextWith (IsOutcomeByOrder inputs nodes order budget) false text status
+IsText (Sim file nodes order budget code layout brief no_batch) files inputs text status =
+    IsTextWith (IsOutcomeOfSim inputs nodes order budget) brief text status
+IsText (Listing file) files inputs text status = IsListingText inputs.executable text status
+IsText (Replay file record_file brief) files inputs text status =
+    IsTextWith (IsOutcomeOfReplay inputs) brief text status
+IsText (Generate number output) files inputs text status = IsNoText text status
 
 -- the whole text was put, and the files hold what goes with it
 pub record Prints (command : Command) (contents : List ℕ → List ℕ)
-    (held : List ℕ → Option (List ℕ)) (before now : Option (List ℕ)) (status : ℕ) : Type 0 where
+    (files : FilesState) (before now : SinkState) (status : ℕ) : Type 0 where
   pub text : List ℕ
-  pub is : IsTextBeside command held (inputs_of command contents) text status
-  pub put : Appends before now text
+  pub is : IsText command files (inputs_of command contents) text status
+  pub put : Appends before.taken now.taken text
 
--- a prefix of the text was put
+-- a prefix of the text was put, and the files hold what goes with the text
 pub record PrintsPrefix (command : Command) (contents : List ℕ → List ℕ)
-    (before now : Option (List ℕ)) : Type 0 where
+    (files : FilesState) (before now : SinkState) : Type 0 where
   pub text : List ℕ
   pub status : ℕ
-  pub is : IsText command (inputs_of command contents) text status
-  pub put : AppendsPrefix before now text
+  pub is : IsText command files (inputs_of command contents) text status
+  pub put : AppendsPrefix before.taken now.taken text
 
 -- the bytes that a command writes into its file
 abbrev pub IsWritten : Command → Inputs → List ℕ → Type 0

@@ -1,6 +1,7 @@
 -- The files that commands read.
-use Rattle.std.specs.Prelude.{ℕ, Bool, true, not, List, [], Option, None, Some, option_map}
-use Rattle.command_line.specs.Commands.{Command, Rewrite, Run, Listing, One, Sim, Replay, Generate}
+use Rattle.std.specs.Prelude.{◌≡◌, ℕ, Bool, true, not, List, [], Option, None, Some, option_map, Contains}
+use Rattle.dsm_io.specs.States.{FilesState}
+use Rattle.command_line.specs.Commands.{Command, Rewrite, Run, Listing, One, Sim, Replay, Generate, reads}
 
 -- the bytes of the executable and of the record, which are none where a command reads none; those
 -- of the rewritten executable and of the layout, where they are named; and whether code is rewritten
@@ -61,3 +62,8 @@ inputs_of command contents = record {
   recorded = bytes_in contents (recorded_of command);
   batches = batches_of command;
 }
+
+-- each file that the command reads is told to have its content
+abbrev pub AreTold : Command → FilesState → (List ℕ → List ℕ) → Type 0
+AreTold command files contents =
+    (name : List ℕ) → Contains (reads command) name → files.held name ≡ Some (contents name)

@@ -10,10 +10,12 @@ use Rattle.one_memory.specs.ByOrder.{ends_by}
 use Rattle.node_model.specs.declared.NodeCounts.{NodeCounts}
 use Rattle.command_line.specs.Commands.{Command, Run, One, Sim, Replay}
 use Rattle.dsm_io.specs.Causes.{Appends}
+use Rattle.dsm_io.specs.States.{SinkState}
 use Rattle.commands.specs.Executables.{IsProgramOf}
 use Rattle.commands.specs.Inputs.{Inputs, inputs_of}
 use Rattle.commands.specs.Layouts.{IsLayoutFor}
-use Rattle.commands.specs.Text.{outcome_head, outcome_tail}
+use Rattle.commands.specs.Processors.{outcome_head}
+use Rattle.commands.specs.Text.{outcome_tail}
 
 -- What some interleaved run of the processors gives: the bytes printed, and how each ended: by its
 -- exit; one that has none was stopped by the budget.
@@ -66,7 +68,7 @@ IsTextOfOriginal command inputs text = Unit {0}
 
 -- the whole of such a text was put
 pub record PrintsOriginal (command : Command) (contents : List ℕ → List ℕ)
-    (before now : Option (List ℕ)) : Type 0 where
+    (before now : SinkState) : Type 0 where
   pub text : List ℕ
   pub is : IsTextOfOriginal command (inputs_of command contents) text
-  pub put : Appends before now text
+  pub put : Appends before.taken now.taken text

@@ -1,3 +1,4 @@
+pub mod Processors
 pub mod Text
 pub mod Inputs
 pub mod Executables
@@ -9,6 +10,7 @@ pub mod Outcomes
 pub mod Records
 pub mod Replays
 pub mod Headline
+pub mod Again
 pub mod Interleaved
 pub mod Answers
 pub mod Failures

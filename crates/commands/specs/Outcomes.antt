@@ -1,28 +1,24 @@
 -- What is told of an outcome, and when events are a whole run of an executable's rewritten code.
-use Rattle.std.specs.Prelude.{◌≡◌, ◌≢◌, ℕ, ◌<◌, Bool, true, false, if◌then◌else◌, ◌==◌, List, [], ◌++◌, Some, map}
-use Rattle.std.specs.List.{list_all}
-use Rattle.rv32_program.specs.declared.Exit.TheVariants.{Code}
-use Rattle.rv32_program.specs.declared.End.{End}
-use Rattle.rv32_program.specs.declared.End.TheVariants.{Exited, Stopped}
+use Rattle.std.specs.Prelude.{◌≡◌, ◌≢◌, ℕ, ◌/◌, ◌<◌, ◌≤◌, Bool, true, false, List, [], ◌++◌, Some, map}
+use Rattle.rv32_program.specs.declared.End.TheVariants.{Stopped}
 use Rattle.templates.specs.declared.plans.PlanEntry.{PlanEntry}
 use Rattle.node_model.specs.Node.{Work, Resume, Ended, Waiting}
 use Rattle.node_model.specs.Core.{Core, Event, IsCoreRun, IsOver, opening_core, after}
-use Rattle.node_model.specs.Outcome.{Outcome, ends_after, counts_after}
+use Rattle.node_model.specs.Outcome.{Outcome, AreFrugal, ends_after, counts_after}
 use Rattle.run_order.specs.OwnRun.{Stamped, StandsForOwnRun, run_of}
 use Rattle.elf32_read.specs.Elf.{Elf}
 use Rattle.exec_map.specs.Contents.{program_of}
 use Rattle.commands.specs.Code.{IsRewritingOf}
+use Rattle.commands.specs.Processors.{status_by}
+use Rattle.rewriting_law.specs.Ascents.{AscendsBetweenPolls}
+use Rattle.rewriting_law.specs.Bounds.{RunsRewritten, steps_of}
+use Rattle.rewriting_law.specs.CoreRun.{picks_of}
 use Rattle.rewriting_law.specs.Interleaving.{Interleaves, IsCoherent, original_after}
 use Rattle.rewriting_law.specs.Licence.{AllLicensed}
 
--- the processor ended by itself, with code 0
-abbrev pub is_success : End → Bool
-is_success (Exited (Code c)) = c == 0
-is_success e = false
-
--- 0 where every processor ended so, else 1
+-- 0 where every processor ended by itself with code 0, else 1
 abbrev pub status_of : Outcome → ℕ
-status_of o = if list_all is_success o.ends then 0 else 1
+status_of o = status_by o.ends
 
 -- the part of an outcome that is told: where that is brief, not what the nodes counted
 abbrev pub told : (brief : Bool) → Outcome → Outcome
@@ -53,6 +49,14 @@ pub record IsWholeRun (work : Work) (plan : List PlanEntry) (events : List Event
       → ((after work (opening_core work) events).nodes i).phase ≡ Ended (Stopped b)
       → (b ≡ work.budget)
       × (((after work (opening_core work) events).nodes i).executed ≡ work.budget)
+  -- and then it has made a step of the original for each 40 words of the budget
+  pub steps : (i b : ℕ) → i < work.layout.nodes
+      → ((after work (opening_core work) events).nodes i).phase ≡ Ended (Stopped b)
+      → b / 40 ≤ steps_of i (picks_of work plan (opening_core work) events)
+  -- between two polls of a node its steps ascend from the third on, so they are few
+  pub polls : (i : ℕ) → i < work.layout.nodes → AscendsBetweenPolls work plan events i
+  -- the nodes have sent no more messages than their misses may cost
+  pub messages : AreFrugal work.layout.nodes o.counts
   -- whenever a node waits, some list holds a message; at the end none does
   pub waits : (before behind : List Event) (i : ℕ) (resume : Resume) → before ++ behind ≡ events
       → i < work.layout.nodes
@@ -68,6 +72,7 @@ pub record IsRunOfCode (batches : Bool) (file : List ℕ) (elf : Elf) (plan : Li
     (work : Work) (own : List Stamped) (outcome : Outcome) : Type 0 where
   pub rewritten : IsRewritingOf batches file elf plan work.image
   pub program : work.program ≡ program_of elf
+  pub runs : RunsRewritten work
   pub stands : StandsForOwnRun work (after work (opening_core work) (run_of own)) own
   pub over : IsOver work (after work (opening_core work) (run_of own))
   pub whole : IsWholeRun work plan (run_of own) outcome

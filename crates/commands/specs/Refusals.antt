@@ -1,12 +1,49 @@
 -- How the files of each command are refused: the executable first, then the text of a record, the
 -- rewriting, the file of code, the layout, and the events of a record.
-use Rattle.std.specs.Prelude.{ℕ, ◌⊎◌, List}
+use Rattle.std.specs.Prelude.{◌≡◌, ℕ, ◌⊎◌, List, Option, Some}
+use Rattle.elf32_read.specs.Elf.{Elf}
+use Rattle.exec_map.specs.Contents.{AreSharedRanges}
+use Rattle.block_layout.specs.declared.ranges.Lines.{Lines}
+use Rattle.block_layout.specs.declared.refused.Rule.{Rule}
+use Rattle.block_layout.specs.Text.{IsFirstFault}
+use Rattle.templates.specs.declared.plans.PlanEntry.{PlanEntry}
+use Rattle.jump_map.specs.Image.{Cell}
+use Rattle.rewriter.specs.RewrittenFile.{rewritten_elf}
 use Rattle.command_line.specs.Commands.{Command, Rewrite, Run, Listing, One, Sim, Replay, Generate}
-use Rattle.commands.specs.Code.{IsCodeRefused}
-use Rattle.commands.specs.Executables.{IsUnaccepted, IsUnrewritten}
+use Rattle.commands.specs.Code.{IsCodeRefused, IsFileOf, IsRewritingOf}
+use Rattle.commands.specs.Executables.{IsProgramOf, IsUnaccepted, IsUnrewritten}
 use Rattle.commands.specs.Inputs.{Inputs}
-use Rattle.commands.specs.Layouts.{IsBadLayout, IsBadRunLayout}
 use Rattle.commands.specs.Replays.{IsReplayRefused, IsBadReplayLayout, IsBadRecord}
+use Rattle.commands.specs.Text.{layout_line}
+
+-- the text breaks a rule of layouts of the executable's shared lines, and the line says at which
+-- line first, and which rule is the lowest there
+pub record IsFaultyLayout (elf : Elf) (layout : Option (List ℕ)) (nodes : ℕ) (line : List ℕ) : Type 0
+  where
+    pub text : List ℕ
+    pub text_is : layout ≡ Some text
+    pub shared : List Lines
+    pub lines : AreSharedRanges elf shared
+    pub rule : Rule
+    pub number : ℕ
+    pub fault : IsFirstFault text shared nodes rule number
+    pub line_is : line ≡ layout_line rule number
+
+-- the executable is accepted, and the layout is refused with this line
+pub record IsBadLayout (inputs : Inputs) (nodes : ℕ) (line : List ℕ) : Type 0 where
+  pub elf : Elf
+  pub executable : IsProgramOf inputs.executable elf
+  pub faulty : IsFaultyLayout elf inputs.layout nodes line
+
+-- the executable has a rewriting, a file of code is that of it, and the layout is refused with this
+-- line
+pub record IsBadRunLayout (inputs : Inputs) (nodes : ℕ) (line : List ℕ) : Type 0 where
+  pub elf : Elf
+  pub plan : List PlanEntry
+  pub image : List Cell
+  pub rewritten : IsRewritingOf inputs.batches inputs.executable elf plan image
+  pub code : IsFileOf (rewritten_elf elf image plan) inputs.code
+  pub faulty : IsFaultyLayout elf inputs.layout nodes line
 
 -- the executable isn't accepted or not rewritten, or the file of code isn't that of the rewriting
 abbrev pub IsRunRefused : Inputs → List ℕ → Type 0

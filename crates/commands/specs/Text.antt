@@ -1,11 +1,7 @@
 -- The texts that are printed.
 use Rattle.std.specs.Prelude.{ℕ, ◌+◌, List, [], ◌∷◌, ◌++◌, length, codes}
 use Rattle.std.specs.Fmt.{decimal}
-use Rattle.rv32_text.specs.Listing.{word_digits}
-use Rattle.rv32_program.specs.declared.Exit.{Exit}
-use Rattle.rv32_program.specs.declared.Exit.TheVariants.{Code, Ebreak, Illegal, Misaligned, Access, Fetch}
 use Rattle.rv32_program.specs.declared.End.{End}
-use Rattle.rv32_program.specs.declared.End.TheVariants.{Exited, Stopped}
 use Rattle.node_model.specs.declared.NodeCounts.{NodeCounts}
 use Rattle.node_model.specs.Outcome.{Outcome}
 use Rattle.elf32_read.specs.Refusals as files
@@ -24,31 +20,9 @@ use Rattle.run_record.specs.Rules as records
 use Rattle.run_record.specs.declared.refused.RecordRule.{RecordRule}
 use Rattle.replay.specs.Refusals as replays
 use Rattle.replay.specs.declared.refused.ReplayRule.{ReplayRule}
+use Rattle.commands.specs.Processors.{hex8, outcome_head, processor_lines}
 use Rattle.commands.specs.declared.refusal.Subject.{Subject}
 use Rattle.commands.specs.declared.refusal.Subject.TheVariants as subject
-
--- a word in eight hexadecimal digits, behind 0x
-abbrev pub hex8 : ℕ → List ℕ
-hex8 n = codes "0x" ++ word_digits n
-
-abbrev pub exit_text : Exit → List ℕ
-exit_text (Code c) = codes "exit " ++ decimal c
-exit_text (Ebreak a) = codes "ebreak " ++ hex8 a
-exit_text (Illegal a) = codes "illegal " ++ hex8 a
-exit_text (Misaligned a) = codes "misaligned " ++ hex8 a
-exit_text (Access a) = codes "access " ++ hex8 a
-exit_text (Fetch a) = codes "fetch " ++ hex8 a
-
-abbrev pub end_text : End → List ℕ
-end_text (Exited e) = exit_text e
-end_text (Stopped budget) = codes "stopped " ++ decimal budget
-
--- a line for each processor, from this number on
-abbrev pub processor_lines : ℕ → List End → List ℕ
-processor_lines p [] = []
-processor_lines p (e ∷ es) =
-    codes "processor " ++ (decimal p ++ (codes " " ++ (end_text e
-    ++ (codes "\n" ++ processor_lines (p + 1) es))))
 
 abbrev pub counts_text : NodeCounts → List ℕ
 counts_text c =
@@ -64,11 +38,7 @@ node_lines i (c ∷ cs) =
     codes "node " ++ (decimal i ++ (codes " " ++ (counts_text c
     ++ (codes "\n" ++ node_lines (i + 1) cs))))
 
--- what stands before the bytes printed: how many there are
-abbrev pub outcome_head : ℕ → List ℕ
-outcome_head n = codes "output " ++ (decimal n ++ codes "\n")
-
--- what stands behind them: how each processor ended, and what each node counted
+-- what stands behind the bytes printed: how each processor ended, and what each node counted
 abbrev pub outcome_tail : List End → List NodeCounts → List ℕ
 outcome_tail ends counts = codes "\n" ++ (processor_lines 0 ends ++ node_lines 0 counts)
 

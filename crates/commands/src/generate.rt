@@ -3,7 +3,6 @@
 ghost use Rattle.std.specs.Prelude.{◌≡◌, ◌≢◌, ℕ, List, IfOk, IfErr, IfSome, OnOk};
 ghost use Rattle.elf32_write.specs.Layout.{file_of};
 ghost use Rattle.workload.specs.Generated.{generated_elf};
-ghost use Rattle.commands.specs.Answers.{files_of};
 ghost use Rattle.commands.specs.Failures.{IsWriteFailure};
 
 use crate::failure::Failure;
@@ -22,12 +21,12 @@ pub fn generate_into<F: Files>(
 ) -> Result<u8, Failure>
     ensures status { IfOk result (λ status. status ≡ 0) }
     ensures holds { OnOk result
-        (IfSome (F.held files.new output.now) (λ bytes. bytes ≡ file_of (generated_elf number))) }
-    ensures failure { IfErr result (IsWriteFailure
-        (files_of (F.held files.old) (F.failed_reads files.old) (F.failed_writes files.old))
-        (files_of (F.held files.new) (F.failed_reads files.new) (F.failed_writes files.new))
-        output.now) }
-    ensures others { (n : List ℕ) → n ≢ output.now → F.held files.new n ≡ F.held files.old n }
+        (IfSome ((F.state files.new).held output.now)
+        (λ bytes. bytes ≡ file_of (generated_elf number))) }
+    ensures failure { IfErr result
+        (IsWriteFailure (F.state files.old) (F.state files.new) output.now) }
+    ensures others { (n : List ℕ)
+        → n ≢ output.now → (F.state files.new).held n ≡ (F.state files.old).held n }
 {
     let bytes = generated_file(alloc, number)?;
     write_file(alloc, files, output, &bytes)?;

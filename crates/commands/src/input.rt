@@ -6,7 +6,8 @@ ghost use Rattle.command_line.specs.Meaning.{meaning_of, file_name};
 ghost use Rattle.commands.specs.Inputs.{input_of as model_input_of, code_of as model_code_of, layout_of as model_layout_of, recorded_of as model_recorded_of, batches_of as model_batches_of};
 ghost use Rattle.commands.specs.Given.{bytes_of, contents_of};
 ghost use Rattle.commands.specs.Text as model;
-ghost use Rattle.commands.specs.Answers.{FilesState, file_limit, files_of};
+ghost use Rattle.dsm_io.specs.States.{FilesState};
+ghost use Rattle.commands.specs.Answers.{file_limit};
 ghost use Rattle.commands.specs.Executables.{ReadsAs, IsUnread, IsRejection};
 ghost use Rattle.commands.specs.Failures.{AreBytes, AreContents, AreInputs, IsContent, IsInputFailure, IsNamedFailure, IsNever, IsNoRefusal, IsReadFailure, IsRefusal};
 ghost use Rattle.exec_map.specs.Contents.{program_of as model_program_of};
@@ -152,15 +153,15 @@ pub fn read_inputs<F: Files>(
     files: &mut F,
 ) -> Result<InputFiles, Failure>
     ensures ok { IfOk result (λ r.
-        AreInputs (meaning_of command.now) (F.held files.old) (contents_of r)) }
-    ensures failure { IfErr result (IsInputFailure (meaning_of command.now)
-        (files_of (F.held files.old) (F.failed_reads files.old) (F.failed_writes files.old))
-        (files_of (F.held files.new) (F.failed_reads files.new) (F.failed_writes files.new))) }
+        AreInputs (meaning_of command.now) (F.state files.old) (contents_of r)) }
+    ensures failure { IfErr result (IsInputFailure (meaning_of command.now) (F.state files.old)
+        (F.state files.new)) }
     ensures longer { (name content : List ℕ) → Contains (reads (meaning_of command.now)) name
-        → F.held files.old name ≡ Some content → file_limit < length content
+        → (F.state files.old).held name ≡ Some content → file_limit < length content
         → MatchResult result (λ r. ⊥) IsNoRefusal }
-    ensures contents { (n : List ℕ) → F.held files.new n ≡ F.held files.old n }
-    ensures writes { (n : List ℕ) → F.failed_writes files.old n ≤ F.failed_writes files.new n }
+    ensures contents { (n : List ℕ) → (F.state files.new).held n ≡ (F.state files.old).held n }
+    ensures writes { (n : List ℕ)
+        → (F.state files.old).failed_writes n ≤ (F.state files.new).failed_writes n }
 {
     let executable = read_bytes(alloc, files, input_of(command))?;
     let code = read_named(alloc, files, code_of(command))?;
@@ -181,15 +182,15 @@ fn read_bytes<F: Files>(
     files: &mut F,
     name: Option<&str>,
 ) -> Result<Vec<u8>, Failure>
-    ensures ok { IfOk result (λ bytes. AreBytes (F.held files.old) (file_name name.entry)
+    ensures ok { IfOk result (λ bytes. AreBytes (F.state files.old) (file_name name.entry)
         bytes.items) }
-    ensures failure { IfErr result (IsNamedFailure
-        (files_of (F.held files.old) (F.failed_reads files.old) (F.failed_writes files.old))
-        (files_of (F.held files.new) (F.failed_reads files.new) (F.failed_writes files.new))
+    ensures failure { IfErr result (IsNamedFailure (F.state files.old) (F.state files.new)
         (file_name name.entry)) }
-    ensures contents { (n : List ℕ) → F.held files.new n ≡ F.held files.old n }
-    ensures reads { (n : List ℕ) → F.failed_reads files.old n ≤ F.failed_reads files.new n }
-    ensures writes { (n : List ℕ) → F.failed_writes files.old n ≤ F.failed_writes files.new n }
+    ensures contents { (n : List ℕ) → (F.state files.new).held n ≡ (F.state files.old).held n }
+    ensures reads { (n : List ℕ)
+        → (F.state files.old).failed_reads n ≤ (F.state files.new).failed_reads n }
+    ensures writes { (n : List ℕ)
+        → (F.state files.old).failed_writes n ≤ (F.state files.new).failed_writes n }
 {
     match name {
         Some(name) => {
@@ -206,15 +207,15 @@ fn read_named<F: Files>(
     files: &mut F,
     name: Option<&str>,
 ) -> Result<Option<Vec<u8>>, Failure>
-    ensures ok { IfOk result (λ bytes. AreContents (F.held files.old) (file_name name.entry)
+    ensures ok { IfOk result (λ bytes. AreContents (F.state files.old) (file_name name.entry)
         (option_map (λ b. b.items) bytes)) }
-    ensures failure { IfErr result (IsNamedFailure
-        (files_of (F.held files.old) (F.failed_reads files.old) (F.failed_writes files.old))
-        (files_of (F.held files.new) (F.failed_reads files.new) (F.failed_writes files.new))
+    ensures failure { IfErr result (IsNamedFailure (F.state files.old) (F.state files.new)
         (file_name name.entry)) }
-    ensures contents { (n : List ℕ) → F.held files.new n ≡ F.held files.old n }
-    ensures reads { (n : List ℕ) → F.failed_reads files.old n ≤ F.failed_reads files.new n }
-    ensures writes { (n : List ℕ) → F.failed_writes files.old n ≤ F.failed_writes files.new n }
+    ensures contents { (n : List ℕ) → (F.state files.new).held n ≡ (F.state files.old).held n }
+    ensures reads { (n : List ℕ)
+        → (F.state files.old).failed_reads n ≤ (F.state files.new).failed_reads n }
+    ensures writes { (n : List ℕ)
+        → (F.state files.old).failed_writes n ≤ (F.state files.new).failed_writes n }
 {
     match name {
         Some(name) => {
@@ -230,14 +231,14 @@ const FILE_LIMIT: u64 = 33_554_432;
 
 /// The bytes of a file.
 fn read_file<F: Files>(alloc: Global, files: &mut F, name: &str) -> Result<Vec<u8>, Failure>
-    ensures ok { IfOk result (λ bytes. IsContent (F.held files.old name.now) bytes.items) }
-    ensures failure { IfErr result (λ f. IsReadFailure
-        (files_of (F.held files.old) (F.failed_reads files.old) (F.failed_writes files.old))
-        (files_of (F.held files.new) (F.failed_reads files.new) (F.failed_writes files.new))
+    ensures ok { IfOk result (λ bytes. IsContent ((F.state files.old).held name.now) bytes.items) }
+    ensures failure { IfErr result (λ f. IsReadFailure (F.state files.old) (F.state files.new)
         name.now f) }
-    ensures contents { (n : List ℕ) → F.held files.new n ≡ F.held files.old n }
-    ensures reads { (n : List ℕ) → F.failed_reads files.old n ≤ F.failed_reads files.new n }
-    ensures writes { (n : List ℕ) → F.failed_writes files.old n ≤ F.failed_writes files.new n }
+    ensures contents { (n : List ℕ) → (F.state files.new).held n ≡ (F.state files.old).held n }
+    ensures reads { (n : List ℕ)
+        → (F.state files.old).failed_reads n ≤ (F.state files.new).failed_reads n }
+    ensures writes { (n : List ℕ)
+        → (F.state files.old).failed_writes n ≤ (F.state files.new).failed_writes n }
 {
     match files.read(alloc, name, FILE_LIMIT) {
         Ok(bytes) => Ok(bytes),

@@ -3,7 +3,8 @@
 ghost use Rattle.std.specs.Prelude.{◌≡◌, ℕ, option_map, IfOk, IfErr};
 ghost use Rattle.block_layout.specs.Layout.{IsValid};
 ghost use Rattle.commands.specs.Failures.{IsRefusal, IsNever};
-ghost use Rattle.commands.specs.Layouts.{IsFaultyLayout, IsLayoutFor};
+ghost use Rattle.commands.specs.Layouts.{IsLayoutFor};
+ghost use Rattle.commands.specs.Refusals.{IsFaultyLayout};
 ghost use Rattle.commands.specs.Replays.{AreFaultyBlocks, IsLayoutOfBlocks};
 ghost use Rattle.run_limits.specs.Ranges.{IsNodeCount};
 

@@ -5,6 +5,7 @@ mod code;
 mod failure;
 mod generate;
 mod input;
+mod law;
 mod layout;
 mod list;
 mod one;
@@ -20,5 +21,6 @@ mod sim;
 mod text;
 mod top;
 
+pub use law::run_and_replay_law;
 pub use node_threads::{Gate, OpenGate};
 pub use top::{shasta, tell_out_of_memory};

@@ -4,7 +4,6 @@ ghost use Rattle.std.specs.Prelude.{◌≡◌, ◌++◌, ℕ, true, IfOk, IfErr,
 ghost use Rattle.exec_map.specs.Contents.{is_code_word, word_of};
 ghost use Rattle.rv32_text.specs.Listing.{line_of as model_line_of};
 ghost use Rattle.dsm_io.specs.Causes.{Appends};
-ghost use Rattle.commands.specs.Answers.{sink_of};
 ghost use Rattle.commands.specs.Headline.{IsListingText, listing};
 ghost use Rattle.commands.specs.Executables.{IsUnaccepted};
 ghost use Rattle.commands.specs.Failures.{Puts, FailsAs, IsLike, IsNever};
@@ -24,10 +23,9 @@ const PIECE: usize = 0x1_0000;
 /// Puts the listing of the executable in a file; the status is 0.
 pub fn list<O: Sink>(alloc: Global, file: &[u8], out: &mut O) -> Result<u8, Failure>
     ensures ok { IfOk result (λ status. Puts (IsListingText file.now) status
-        (O.taken out.old) (O.taken out.new)) }
+        (O.state out.old) (O.state out.new)) }
     ensures failure { IfErr result (FailsAs (IsListingText file.now) (IsUnaccepted file.now) IsNever
-        (sink_of (O.taken out.old) (O.faults out.old) (O.refusals out.old))
-        (sink_of (O.taken out.new) (O.faults out.new) (O.refusals out.new))) }
+        (O.state out.old) (O.state out.new)) }
 {
     let elf = elf_of(alloc, Subject::Executable, file)?;
     let program = program_of(alloc, &elf)?;
@@ -37,10 +35,10 @@ pub fn list<O: Sink>(alloc: Global, file: &[u8], out: &mut O) -> Result<u8, Fail
 
 /// Puts a line for each code word.
 fn put_lines<O: Sink>(alloc: Global, program: &Program<'_>, out: &mut O) -> Result<(), Failure>
-    ensures ok { OnOk result (Appends (O.taken out.old) (O.taken out.new) (listing program.now)) }
+    ensures ok { OnOk result (Appends (O.state out.old).taken (O.state out.new).taken
+        (listing program.now)) }
     ensures failure { IfErr result (FailsAs (IsLike (listing program.now)) IsNever IsNever
-        (sink_of (O.taken out.old) (O.faults out.old) (O.refusals out.old))
-        (sink_of (O.taken out.new) (O.faults out.new) (O.refusals out.new))) }
+        (O.state out.old) (O.state out.new)) }
 {
     let mut lines = Vec::new(alloc);
     let mut next = program.next_code(0);

@@ -1,12 +1,11 @@
 //! `one`: the original's processors on one memory, by the order of a number.
 
 ghost use Rattle.std.specs.Prelude.{◌≡◌, ℕ, false, IfOk, IfErr};
-ghost use Rattle.commands.specs.Answers.{sink_of};
 ghost use Rattle.commands.specs.Headline.{IsTextWith, IsOutcomeByOrder};
 ghost use Rattle.commands.specs.Executables.{IsUnaccepted};
 ghost use Rattle.commands.specs.Failures.{Puts, FailsAs};
 ghost use Rattle.commands.specs.Given.{bytes_of};
-ghost use Rattle.commands.specs.Layouts.{IsBadLayout};
+ghost use Rattle.commands.specs.Refusals.{IsBadLayout};
 
 use crate::failure::Failure;
 use crate::input::{Inputs, elf_of, program_of};
@@ -30,12 +29,11 @@ pub fn one<O: Sink>(
 ) -> Result<u8, Failure>
     ensures ok { IfOk result (λ status.
         Puts (IsTextWith (IsOutcomeByOrder (bytes_of inputs.now) nodes order budget) false) status
-        (O.taken out.old) (O.taken out.new)) }
+        (O.state out.old) (O.state out.new)) }
     ensures failure { IfErr result (FailsAs
         (IsTextWith (IsOutcomeByOrder (bytes_of inputs.now) nodes order budget) false)
         (IsUnaccepted (bytes_of inputs.now).executable) (IsBadLayout (bytes_of inputs.now) nodes)
-        (sink_of (O.taken out.old) (O.faults out.old) (O.refusals out.old))
-        (sink_of (O.taken out.new) (O.faults out.new) (O.refusals out.new))) }
+        (O.state out.old) (O.state out.new)) }
 {
     let elf = elf_of(alloc, Subject::Executable, inputs.executable)?;
     let program = program_of(alloc, &elf)?;

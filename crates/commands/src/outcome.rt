@@ -2,8 +2,8 @@
 
 ghost use Rattle.std.specs.Prelude.{◌≡◌, ◌≤◌, ℕ, IfOk, IfErr};
 ghost use Rattle.std.specs.List.{list_all};
-ghost use Rattle.commands.specs.Answers.{sink_of};
-ghost use Rattle.commands.specs.Outcomes.{is_success, status_of, told};
+ghost use Rattle.commands.specs.Outcomes.{status_of, told};
+ghost use Rattle.commands.specs.Processors.{is_success};
 ghost use Rattle.dsm_core.specs.CoreParts.{outcome_of};
 ghost use Rattle.commands.specs.Failures.{Puts, FailsAs, IsTextOfOutcome, IsNever};
 
@@ -25,11 +25,10 @@ pub fn put_told<O: Sink>(
 ) -> Result<u8, Failure>
     ensures ok { IfOk result (λ status.
         Puts (IsTextOfOutcome (told brief (outcome_of outcome.now))) status
-        (O.taken out.old) (O.taken out.new)) }
+        (O.state out.old) (O.state out.new)) }
     ensures failure { IfErr result (FailsAs
-        (IsTextOfOutcome (told brief (outcome_of outcome.now))) IsNever IsNever
-        (sink_of (O.taken out.old) (O.faults out.old) (O.refusals out.old))
-        (sink_of (O.taken out.new) (O.faults out.new) (O.refusals out.new))) }
+        (IsTextOfOutcome (told brief (outcome_of outcome.now))) IsNever IsNever (O.state out.old)
+        (O.state out.new)) }
 {
     if brief {
         put_outcome(alloc, &outcome.output, &outcome.ends, &[], out)
@@ -48,12 +47,10 @@ pub fn put_outcome<O: Sink>(
 ) -> Result<u8, Failure>
     ensures ok { IfOk result (λ status. Puts (IsTextOfOutcome
         (record { output = output.now; ends = ends.now; counts = counts.now }))
-        status (O.taken out.old) (O.taken out.new)) }
+        status (O.state out.old) (O.state out.new)) }
     ensures failure { IfErr result (FailsAs (IsTextOfOutcome
         (record { output = output.now; ends = ends.now; counts = counts.now }))
-        IsNever IsNever
-        (sink_of (O.taken out.old) (O.faults out.old) (O.refusals out.old))
-        (sink_of (O.taken out.new) (O.faults out.new) (O.refusals out.new))) }
+        IsNever IsNever (O.state out.old) (O.state out.new)) }
 {
     let head = outcome_head(alloc, output)?;
     let tail = outcome_tail(alloc, ends, counts)?;

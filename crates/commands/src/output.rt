@@ -2,7 +2,6 @@
 
 ghost use Rattle.std.specs.Prelude.{◌≡◌, ◌≢◌, ◌++◌, ℕ, List, IfErr, IfOk, IfSome, OnOk};
 ghost use Rattle.dsm_io.specs.Causes.{Appends};
-ghost use Rattle.commands.specs.Answers.{files_of, sink_of};
 ghost use Rattle.commands.specs.Failures.{IsPutFailure, IsWriteFailure};
 ghost use Rattle.commands.specs.Text as model;
 
@@ -12,12 +11,9 @@ use std::alloc::{AllocError, Global};
 
 /// Puts a piece of a command's text.
 pub fn put<O: Sink>(out: &mut O, piece: &[u8]) -> Result<(), Failure>
-    ensures ok { OnOk result (Appends (O.taken out.old) (O.taken out.new) piece.now) }
-    ensures faults { OnOk result (O.faults out.new ≡ O.faults out.old) }
-    ensures failure { IfErr result (IsPutFailure
-        (sink_of (O.taken out.old) (O.faults out.old) (O.refusals out.old))
-        (sink_of (O.taken out.new) (O.faults out.new) (O.refusals out.new))
-        piece.now) }
+    ensures ok { OnOk result (Appends (O.state out.old).taken (O.state out.new).taken piece.now) }
+    ensures faults { OnOk result ((O.state out.new).faults ≡ (O.state out.old).faults) }
+    ensures failure { IfErr result (IsPutFailure (O.state out.old) (O.state out.new) piece.now) }
 {
     match out.put(piece) {
         Ok(()) => Ok(()),
@@ -34,12 +30,11 @@ pub fn write_file<F: Files>(
     bytes: &[u8],
 ) -> Result<(), Failure>
     ensures holds { OnOk result
-        (IfSome (F.held files.new name.now) (λ content. content ≡ bytes.now)) }
-    ensures failure { IfErr result (IsWriteFailure
-        (files_of (F.held files.old) (F.failed_reads files.old) (F.failed_writes files.old))
-        (files_of (F.held files.new) (F.failed_reads files.new) (F.failed_writes files.new))
+        (IfSome ((F.state files.new).held name.now) (λ content. content ≡ bytes.now)) }
+    ensures failure { IfErr result (IsWriteFailure (F.state files.old) (F.state files.new)
         name.now) }
-    ensures others { (n : List ℕ) → n ≢ name.now → F.held files.new n ≡ F.held files.old n }
+    ensures others { (n : List ℕ)
+        → n ≢ name.now → (F.state files.new).held n ≡ (F.state files.old).held n }
 {
     match files.write(name, bytes) {
         Ok(()) => Ok(()),

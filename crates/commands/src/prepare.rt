@@ -6,8 +6,7 @@ ghost use Rattle.dsm_core.specs.CoreParts.{work_in};
 ghost use Rattle.commands.specs.Executables.{ReadsAs};
 ghost use Rattle.commands.specs.Failures.{IsReadyFor, IsRefusal, IsReplayRefusal, GivesRuns, work_for};
 ghost use Rattle.commands.specs.Given.{bytes_of};
-ghost use Rattle.commands.specs.Layouts.{IsBadRunLayout};
-ghost use Rattle.commands.specs.Refusals.{IsRunRefused};
+ghost use Rattle.commands.specs.Refusals.{IsRunRefused, IsBadRunLayout};
 
 use crate::code::{judge_code, rewriting_of};
 use crate::failure::Failure;
@@ -19,7 +18,7 @@ use dsm_core::Work;
 use elf32_read::Elf;
 use exec_map::Program;
 use rewriter::Rewritten;
-use rewriting_law::{interleaving_law, progress_law};
+use rewriting_law::{bounds_law, interleaving_law, progress_law};
 use run_limits::{Budget, NodeCount};
 use run_record::Record;
 use std::alloc::Global;
@@ -69,9 +68,11 @@ pub fn prepare<'a>(
     let rewritten = rewriting_of(alloc, &program, inputs.batches)?;
     judge_code(alloc, elf, &rewritten, inputs.code)?;
     let layout = layout_for(alloc, &program, inputs.layout, nodes)?;
+    // brings: the budget is in its range
     let _words = budget.number();
     interleaving_law();
     progress_law();
+    bounds_law();
     Ok(Prepared {
         program,
         rewritten,
@@ -102,6 +103,7 @@ pub fn prepare_replay<'a>(
     };
     interleaving_law();
     progress_law();
+    bounds_law();
     let prepared = Prepared {
         program,
         rewritten,

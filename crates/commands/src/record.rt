@@ -6,7 +6,6 @@ ghost use Rattle.dsm_core.specs.CoreParts.{work_of, core_of};
 ghost use Rattle.run_record.specs.Lists.{items_of};
 ghost use Rattle.run_record.specs.Text as model;
 ghost use Rattle.command_line.specs.Meaning.{file_name};
-ghost use Rattle.commands.specs.Answers.{files_of};
 ghost use Rattle.commands.specs.Failures.{IsRecordFailure, IsRecordRefusal, work_for};
 ghost use Rattle.commands.specs.Headline.{held_by};
 ghost use Rattle.commands.specs.Records.{record_at};
@@ -33,14 +32,13 @@ pub fn write_record_of<F: Files>(
     files: &mut F,
 ) -> Result<(), Failure>
     requires same { work_of core.now ≡ work_for prepared.now }
-    ensures holds { OnOk result (IfSome (held_by (F.held files.new) (file_name file.entry))
+    ensures holds { OnOk result (IfSome (held_by (F.state files.new) (file_name file.entry))
         (λ bytes. bytes ≡ model.record_text (record_at prepared.now.batches (work_of core.now)
         (core_of core.now)))) }
-    ensures failure { IfErr result (IsRecordFailure (file_name file.entry)
-        (files_of (F.held files.old) (F.failed_reads files.old) (F.failed_writes files.old))
-        (files_of (F.held files.new) (F.failed_reads files.new) (F.failed_writes files.new))) }
+    ensures failure { IfErr result (IsRecordFailure (file_name file.entry) (F.state files.old)
+        (F.state files.new)) }
     ensures others { (n : List ℕ) → (file_name file.entry ≢ Some n)
-        → F.held files.new n ≡ F.held files.old n }
+        → (F.state files.new).held n ≡ (F.state files.old).held n }
 {
     let Some(name) = file else {
         return Ok(());

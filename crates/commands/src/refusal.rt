@@ -2,6 +2,7 @@
 
 ghost use Rattle.std.specs.Prelude.{◌≡◌, ◌++◌, IfOk, OnOk};
 ghost use Rattle.std.specs.Fmt.{decimal};
+ghost use Rattle.commands.specs.Processors as lines;
 ghost use Rattle.commands.specs.Text as model;
 
 use crate::text::{push_address, push_number};
@@ -226,7 +227,7 @@ fn push_index(line: &mut Vec<u8>, name: &[u8], index: usize) -> Result<(), Alloc
 
 /// Appends a name and a word in hexadecimal digits.
 fn push_place(line: &mut Vec<u8>, name: &[u8], word: u32) -> Result<(), AllocError>
-    ensures { OnOk result (line.new.items ≡ line.old.items ++ (name.now ++ model.hex8 word)) }
+    ensures { OnOk result (line.new.items ≡ line.old.items ++ (name.now ++ lines.hex8 word)) }
 {
     line.extend_from_slice(name)?;
     push_address(line, word)?;

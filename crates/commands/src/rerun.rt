@@ -5,7 +5,6 @@ ghost use Rattle.dsm_core.specs.CoreParts.{outcome_of};
 ghost use Rattle.replay.specs.Replay.{IsReplay};
 ghost use Rattle.rewriting_law.specs.Bounds.{RunsRewritten};
 ghost use Rattle.run_record.specs.Record.{IsRecord};
-ghost use Rattle.commands.specs.Answers.{sink_of};
 ghost use Rattle.commands.specs.Headline.{IsTextWith};
 ghost use Rattle.commands.specs.Failures.{Puts, IsRecordRefusal, IsReplayFailure, work_for};
 ghost use Rattle.commands.specs.Given.{bytes_of};
@@ -32,10 +31,9 @@ pub fn put_replay<O: Sink>(
 ) -> Result<u8, Failure>
     ensures ok { IfOk result (λ status.
         Puts (IsTextWith (IsOutcomeOfReplay (bytes_of inputs.now)) brief) status
-        (O.taken out.old) (O.taken out.new)) }
-    ensures failure { IfErr result (IsReplayFailure (bytes_of inputs.now) brief
-        (sink_of (O.taken out.old) (O.faults out.old) (O.refusals out.old))
-        (sink_of (O.taken out.new) (O.faults out.new) (O.refusals out.new))) }
+        (O.state out.old) (O.state out.new)) }
+    ensures failure { IfErr result (IsReplayFailure (bytes_of inputs.now) brief (O.state out.old)
+        (O.state out.new)) }
 {
     let elf = elf_of(alloc, Subject::Executable, inputs.executable)?;
     let (prepared, kept) = prepare_replay(alloc, &elf, inputs)?;

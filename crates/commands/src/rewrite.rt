@@ -1,7 +1,6 @@
 //! `rewrite`: the rewritten executable of an executable, into a file.
 
 ghost use Rattle.std.specs.Prelude.{◌≡◌, ◌≢◌, ℕ, List, [], IfOk, OnOk, IfErr, IfSome};
-ghost use Rattle.commands.specs.Answers.{files_of};
 ghost use Rattle.commands.specs.Executables.{IsUnrewritten};
 ghost use Rattle.commands.specs.Failures.{IsRefusal, IsNever, IsRewriteFailure};
 ghost use Rattle.commands.specs.Headline.{IsRewrittenFile, IsRewrittenText};
@@ -25,12 +24,11 @@ pub fn rewrite_into<F: Files>(
 ) -> Result<u8, Failure>
     ensures text { IfOk result (IsRewrittenText batches file.now []) }
     ensures holds { OnOk result
-        (IfSome (F.held files.new output.now) (IsRewrittenFile batches file.now)) }
-    ensures failure { IfErr result (IsRewriteFailure batches file.now
-        (files_of (F.held files.old) (F.failed_reads files.old) (F.failed_writes files.old))
-        (files_of (F.held files.new) (F.failed_reads files.new) (F.failed_writes files.new))
-        output.now) }
-    ensures others { (n : List ℕ) → n ≢ output.now → F.held files.new n ≡ F.held files.old n }
+        (IfSome ((F.state files.new).held output.now) (IsRewrittenFile batches file.now)) }
+    ensures failure { IfErr result (IsRewriteFailure batches file.now (F.state files.old)
+        (F.state files.new) output.now) }
+    ensures others { (n : List ℕ)
+        → n ≢ output.now → (F.state files.new).held n ≡ (F.state files.old).held n }
 {
     let bytes = rewritten_file(alloc, file, batches)?;
     write_file(alloc, files, output, &bytes)?;

@@ -6,9 +6,9 @@ ghost use Rattle.node_model.specs.Core.{IsOver};
 ghost use Rattle.dsm_core.specs.CoreParts.{work_of, core_of, outcome_of};
 ghost use Rattle.command_line.specs.Commands.{writes};
 ghost use Rattle.command_line.specs.Meaning.{file_name};
-ghost use Rattle.commands.specs.Answers.{files_of, sink_of};
-ghost use Rattle.commands.specs.Headline.{IsTextBeside, held_by};
-ghost use Rattle.commands.specs.Failures.{Puts, IsOwnRecorded, IsRecordFailure, IsPerformFailure, AreKept, AreLeft, AreWritten, work_for};
+ghost use Rattle.commands.specs.Answers.{AreLeft, AreWritten};
+ghost use Rattle.commands.specs.Headline.{IsText, held_by};
+ghost use Rattle.commands.specs.Failures.{Puts, IsMade, IsOwnRecorded, IsRecordFailure, IsPerformFailure, AreKept, work_for};
 ghost use Rattle.commands.specs.Given.{bytes_of};
 ghost use Rattle.commands.specs.Runs.{Names, asked_by};
 
@@ -51,27 +51,20 @@ pub fn run<R: Threads + Wait + Sync, F: Files, O: Sink, G: Gate + Sync>(
     gate: &G,
 ) -> Result<u8, Failure>
     ensures ok { (names : Names) → IfOk result (λ status.
-        Puts (IsTextBeside (asked_by options.entry names) (F.held files.new)
-        (bytes_of inputs.now)) status (O.taken out.old) (O.taken out.new)) }
+        Puts (IsText (asked_by options.entry names) (F.state files.new)
+        (bytes_of inputs.now)) status (O.state out.old) (O.state out.new)) }
     ensures failure { (names : Names) → IfErr result
-        (IsPerformFailure (asked_by options.entry names) (bytes_of inputs.now)
-        (files_of (F.held files.old) (F.failed_reads files.old) (F.failed_writes files.old))
-        (files_of (F.held files.new) (F.failed_reads files.new) (F.failed_writes files.new))
-        (sink_of (O.taken out.old) (O.faults out.old) (O.refusals out.old))
-        (sink_of (O.taken out.new) (O.faults out.new) (O.refusals out.new))) }
+        (IsPerformFailure (asked_by options.entry names) (bytes_of inputs.now) (F.state files.old)
+        (F.state files.new) (O.state out.old) (O.state out.new)) }
     ensures others { (names : Names) (name : List ℕ)
         → (Contains (writes (asked_by options.entry names)) name → ⊥)
-        → F.held files.new name ≡ F.held files.old name }
-    ensures kept { IfErr result (AreKept
-        (files_of (F.held files.old) (F.failed_reads files.old) (F.failed_writes files.old))
-        (files_of (F.held files.new) (F.failed_reads files.new) (F.failed_writes files.new))) }
+        → (F.state files.new).held name ≡ (F.state files.old).held name }
+    ensures kept { IfErr result (AreKept (F.state files.old) (F.state files.new)) }
     ensures written { (names : Names) → IfOk result (λ status.
-        AreWritten (asked_by options.entry names) (bytes_of inputs.now)
-        (files_of (F.held files.new) (F.failed_reads files.new) (F.failed_writes files.new))) }
+        AreWritten (asked_by options.entry names) (bytes_of inputs.now) (F.state files.new)) }
     ensures left { (names : Names) → IfErr result (λ f.
-        AreLeft (asked_by options.entry names) (bytes_of inputs.now)
-        (files_of (F.held files.old) (F.failed_reads files.old) (F.failed_writes files.old))
-        (files_of (F.held files.new) (F.failed_reads files.new) (F.failed_writes files.new))) }
+        AreLeft (asked_by options.entry names) (bytes_of inputs.now) (F.state files.old)
+        (F.state files.new)) }
 {
     let elf = elf_of(alloc, Subject::Executable, inputs.executable)?;
     let prepared = prepare(alloc, &elf, inputs, options.nodes, options.budget)?;
@@ -91,12 +84,12 @@ fn execute<R: Threads + Wait + Sync, F: Files, G: Gate + Sync>(
 ) -> Result<Outcome, Failure>
     requires rewritten { RunsRewritten (work_for prepared.now) }
     ensures outcome { IfOk result (λ o. IsOwnRecorded prepared.now.batches (work_for prepared.now)
-        (held_by (F.held files.new) (file_name record_file.entry)) (outcome_of o)) }
+        (held_by (F.state files.new) (file_name record_file.entry)) (outcome_of o)) }
     ensures failure { IfErr result (IsRecordFailure (file_name record_file.entry)
-        (files_of (F.held files.old) (F.failed_reads files.old) (F.failed_writes files.old))
-        (files_of (F.held files.new) (F.failed_reads files.new) (F.failed_writes files.new))) }
+        (F.state files.old) (F.state files.new)) }
+    ensures made { IfErr result (IsMade (work_for prepared.now)) }
     ensures others { (n : List ℕ) → (file_name record_file.entry ≢ Some n)
-        → F.held files.new n ≡ F.held files.old n }
+        → (F.state files.new).held n ≡ (F.state files.old).held n }
 {
     let core = raced_core(rt, alloc, prepared, gate)?;
     let outcome = core.outcome(alloc)?;

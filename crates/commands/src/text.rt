@@ -2,6 +2,7 @@
 
 ghost use Rattle.std.specs.Prelude.{◌≡◌, ◌+◌, ◌++◌, ◌∷◌, [], ◌<◌, ◌≤◌, length, IfOk, OnOk};
 ghost use Rattle.std.specs.Fmt.{decimal};
+ghost use Rattle.commands.specs.Processors as lines;
 ghost use Rattle.commands.specs.Text as model;
 
 use exec_map::{End, Exit};
@@ -25,7 +26,7 @@ pub const USAGE: &str = concat!(
 
 /// What stands before the bytes that were printed: how many there are.
 pub fn outcome_head(alloc: Global, output: &[u8]) -> Result<Vec<u8>, AllocError>
-    ensures { IfOk result (λ text. text.items ≡ model.outcome_head (length output.now)) }
+    ensures { IfOk result (λ text. text.items ≡ lines.outcome_head (length output.now)) }
 {
     let mut text = Vec::new(alloc);
     text.extend_from_slice(b"output ")?;
@@ -52,7 +53,7 @@ pub fn outcome_tail(
 
 /// Appends a line for each processor.
 fn push_processors(text: &mut Vec<u8>, ends: &[End]) -> Result<(), AllocError>
-    ensures { OnOk result (text.new.items ≡ text.old.items ++ model.processor_lines 0 ends.now) }
+    ensures { OnOk result (text.new.items ≡ text.old.items ++ lines.processor_lines 0 ends.now) }
 {
     for (processor, end) in ends.iter().enumerate() {
         push_processor(text, processor as u64, *end)?;
@@ -63,7 +64,7 @@ fn push_processors(text: &mut Vec<u8>, ends: &[End]) -> Result<(), AllocError>
 /// Appends the line of a processor.
 fn push_processor(text: &mut Vec<u8>, processor: u64, end: End) -> Result<(), AllocError>
     ensures { OnOk result
-        (text.new.items ≡ text.old.items ++ model.processor_lines processor (end ∷ [])) }
+        (text.new.items ≡ text.old.items ++ lines.processor_lines processor (end ∷ [])) }
 {
     text.extend_from_slice(b"processor ")?;
     push_number(text, processor)?;
@@ -74,7 +75,7 @@ fn push_processor(text: &mut Vec<u8>, processor: u64, end: End) -> Result<(), Al
 }
 
 fn push_end(text: &mut Vec<u8>, end: End) -> Result<(), AllocError>
-    ensures { OnOk result (text.new.items ≡ text.old.items ++ model.end_text end) }
+    ensures { OnOk result (text.new.items ≡ text.old.items ++ lines.end_text end) }
 {
     match end {
         End::Exited(exit) => push_exit(text, exit),
@@ -87,7 +88,7 @@ fn push_end(text: &mut Vec<u8>, end: End) -> Result<(), AllocError>
 }
 
 fn push_exit(text: &mut Vec<u8>, exit: Exit) -> Result<(), AllocError>
-    ensures { OnOk result (text.new.items ≡ text.old.items ++ model.exit_text exit) }
+    ensures { OnOk result (text.new.items ≡ text.old.items ++ lines.exit_text exit) }
 {
     match exit {
         Exit::Code(code) => {
@@ -105,7 +106,7 @@ fn push_exit(text: &mut Vec<u8>, exit: Exit) -> Result<(), AllocError>
 
 /// Appends a word and an address.
 fn push_place(text: &mut Vec<u8>, name: &[u8], address: u32) -> Result<(), AllocError>
-    ensures { OnOk result (text.new.items ≡ text.old.items ++ (name.now ++ model.hex8 address)) }
+    ensures { OnOk result (text.new.items ≡ text.old.items ++ (name.now ++ lines.hex8 address)) }
 {
     text.extend_from_slice(name)?;
     push_address(text, address)?;
@@ -166,7 +167,7 @@ pub fn push_number(text: &mut Vec<u8>, n: u64) -> Result<(), AllocError>
 
 /// Appends an address: eight hexadecimal digits behind `0x`.
 pub fn push_address(text: &mut Vec<u8>, address: u32) -> Result<(), AllocError>
-    ensures { OnOk result (text.new.items ≡ text.old.items ++ model.hex8 address) }
+    ensures { OnOk result (text.new.items ≡ text.old.items ++ lines.hex8 address) }
 {
     text.extend_from_slice(b"0x")?;
     push_word(text, address)?;

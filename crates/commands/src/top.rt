@@ -4,13 +4,13 @@ ghost use Rattle.std.specs.Prelude.{◌≡◌, ◌≢◌, ◌≤◌, ◌⊎◌, 
 ghost use Rattle.command_line.specs.Commands.{Command as Asked, reads, writes};
 ghost use Rattle.command_line.specs.Asks.{Asks};
 ghost use Rattle.command_line.specs.Meaning.{meaning_of};
-ghost use Rattle.commands.specs.Headline.{AreTold, IsTextBeside, Prints, PrintsPrefix};
+ghost use Rattle.commands.specs.Headline.{IsText, Prints, PrintsPrefix};
+ghost use Rattle.commands.specs.Inputs.{AreTold, inputs_of};
 ghost use Rattle.commands.specs.Interleaved.{PrintsOriginal};
-ghost use Rattle.commands.specs.Inputs.{inputs_of};
 ghost use Rattle.commands.specs.Given.{bytes_of};
-ghost use Rattle.commands.specs.Failures.{IsSuccess, IsFailure, IsPerformFailure, IsNoRefusal, Puts, AreKept, AreLeft, AreWritten};
+ghost use Rattle.commands.specs.Failures.{IsSuccess, IsFailure, IsPerformFailure, IsNoRefusal, Puts, AreKept};
 ghost use Rattle.commands.specs.Refusals.{IsRefused, IsLayoutRefused, IsRecordRefused};
-ghost use Rattle.commands.specs.Answers.{Tells, IsFault, file_limit, files_of, sink_of};
+ghost use Rattle.commands.specs.Answers.{Tells, IsFault, file_limit, AreLeft, AreWritten};
 ghost use Rattle.commands.specs.Text.{usage, out_of_memory};
 
 use crate::failure::Failure;
@@ -21,7 +21,7 @@ use crate::one::one;
 use crate::rerun::put_replay;
 use crate::rewrite::rewrite_into;
 use crate::run::{RunOptions, run};
-use crate::sim::sim;
+use crate::sim::{SimOptions, sim};
 use crate::text::USAGE;
 use command_line::{Command, command_of};
 use dsm_io::{Files, Sink, SinkError, Text};
@@ -49,93 +49,75 @@ pub fn shasta<R: Threads + Wait + Sync, F: Files, O: Sink, E: Sink, G: Gate + Sy
     // usage text is told.
     ensures faulty { result ≡ 2 → (c : Asked) → Asks words.now c → ⊥ }
     ensures asked { result ≢ 2 → result ≢ 5 → (c : Asked) × Asks words.now c }
-    ensures usage { result ≡ 2 → Tells
-        (sink_of (E.taken err.old) (E.faults err.old) (E.refusals err.old))
-        (sink_of (E.taken err.new) (E.faults err.new) (E.refusals err.new))
-        usage }
+    ensures usage { result ≡ 2 → Tells (E.state err.old) (E.state err.new) usage }
 
     // With status 0 and 1 the text is what the command asks for: of `run`, `sim` and `replay`, that
     // of a run of the original on one memory. Where `run` writes a record, the file holds that of
     // the very run whose text this is; and `replay` makes the very run that the record tells of.
     // `err` took nothing.
     ensures prints { (c : Asked) (contents : List ℕ → List ℕ) → Asks words.now c
-        → AreTold c (F.held files.old) contents → result ≤ 1
-        → Prints c contents (F.held files.new) (O.taken out.old) (O.taken out.new) result }
-    ensures quiet { result ≤ 1 → E.taken err.new ≡ E.taken err.old }
+        → AreTold c (F.state files.old) contents → result ≤ 1
+        → Prints c contents (F.state files.new) (O.state out.old) (O.state out.new) result }
+    ensures quiet { result ≤ 1 → (E.state err.new).taken ≡ (E.state err.old).taken }
     // So the text of `one`, `sim`, `run` and `replay` tells of the original alone: of a run of its
     // processors on one memory, interleaved instruction by instruction.
     ensures interleaved { (c : Asked) (contents : List ℕ → List ℕ) → Asks words.now c
-        → AreTold c (F.held files.old) contents → result ≤ 1
-        → PrintsOriginal c contents (O.taken out.old) (O.taken out.new) }
+        → AreTold c (F.state files.old) contents → result ≤ 1
+        → PrintsOriginal c contents (O.state out.old) (O.state out.new) }
 
     // Status 4 is for a refused executable, or one that isn't the rewritten one; the refusal is
     // told.
     ensures refused { (c : Asked) (contents : List ℕ → List ℕ) → Asks words.now c
-        → AreTold c (F.held files.old) contents → result ≡ 4
-        → (line : List ℕ) × IsRefused c (inputs_of c contents) line × Tells
-        (sink_of (E.taken err.old) (E.faults err.old) (E.refusals err.old))
-        (sink_of (E.taken err.new) (E.faults err.new) (E.refusals err.new))
-        line }
+        → AreTold c (F.state files.old) contents → result ≡ 4
+        → (line : List ℕ) × IsRefused c (inputs_of c contents) line
+        × Tells (E.state err.old) (E.state err.new) line }
     ensures nothing { (result ≡ 2) ⊎ ((result ≡ 4) ⊎ ((result ≡ 6) ⊎ (result ≡ 7)))
-        → O.taken out.new ≡ O.taken out.old }
+        → (O.state out.new).taken ≡ (O.state out.old).taken }
 
     // Status 6 is for a refused layout of an executable that isn't refused; the refusal is told.
     ensures layout { (c : Asked) (contents : List ℕ → List ℕ) → Asks words.now c
-        → AreTold c (F.held files.old) contents → result ≡ 6
-        → (line : List ℕ) × IsLayoutRefused c (inputs_of c contents) line × Tells
-        (sink_of (E.taken err.old) (E.faults err.old) (E.refusals err.old))
-        (sink_of (E.taken err.new) (E.faults err.new) (E.refusals err.new))
-        line }
+        → AreTold c (F.state files.old) contents → result ≡ 6
+        → (line : List ℕ) × IsLayoutRefused c (inputs_of c contents) line
+        × Tells (E.state err.old) (E.state err.new) line }
 
     // Status 7 is for a refused record, by its text or by the events that it tells of; the refusal
     // is told.
     ensures record { (c : Asked) (contents : List ℕ → List ℕ) → Asks words.now c
-        → AreTold c (F.held files.old) contents → result ≡ 7
-        → (line : List ℕ) × IsRecordRefused c (inputs_of c contents) line × Tells
-        (sink_of (E.taken err.old) (E.faults err.old) (E.refusals err.old))
-        (sink_of (E.taken err.new) (E.faults err.new) (E.refusals err.new))
-        line }
+        → AreTold c (F.state files.old) contents → result ≡ 7
+        → (line : List ℕ) × IsRecordRefused c (inputs_of c contents) line
+        × Tells (E.state err.old) (E.state err.new) line }
 
     // Status 3 comes only where a count of faults rose in this call, or a file is too long; its
     // line names which. A fault of a file comes before anything is put, one of the output only
     // where a text that the command asks for is being put. A file that is too long is never run.
-    ensures fault { (c : Asked) → Asks words.now c → result ≡ 3 → IsFault c
-        (files_of (F.held files.old) (F.failed_reads files.old) (F.failed_writes files.old))
-        (files_of (F.held files.new) (F.failed_reads files.new) (F.failed_writes files.new))
-        (sink_of (O.taken out.old) (O.faults out.old) (O.refusals out.old))
-        (sink_of (O.taken out.new) (O.faults out.new) (O.refusals out.new))
-        (Tells
-        (sink_of (E.taken err.old) (E.faults err.old) (E.refusals err.old))
-        (sink_of (E.taken err.new) (E.faults err.new) (E.refusals err.new))) }
+    ensures fault { (c : Asked) → Asks words.now c → result ≡ 3
+        → IsFault c (F.state files.old) (F.state files.new) (O.state out.old) (O.state out.new)
+        (Tells (E.state err.old) (E.state err.new)) }
     ensures longer { (c : Asked) (name content : List ℕ) → Asks words.now c
-        → Contains (reads c) name → F.held files.old name ≡ Some content
+        → Contains (reads c) name → (F.state files.old).held name ≡ Some content
         → file_limit < length content → (result ≡ 3) ⊎ (result ≡ 5) }
 
-    // Status 5 is for want of memory, and says so. A prefix of the text was put, or nothing.
-    ensures wanted { result ≡ 5 → Tells
-        (sink_of (E.taken err.old) (E.faults err.old) (E.refusals err.old))
-        (sink_of (E.taken err.new) (E.faults err.new) (E.refusals err.new))
-        out_of_memory }
+    // Status 5 is for want of memory, and says so. A prefix of the text was put, or nothing. With
+    // status 3 as with 5, where `run` wrote a record the prefix is of the text of that very run.
+    ensures wanted { result ≡ 5 → Tells (E.state err.old) (E.state err.new) out_of_memory }
     ensures prefix { (c : Asked) (contents : List ℕ → List ℕ) → Asks words.now c
-        → AreTold c (F.held files.old) contents → result ≡ 5
-        → (O.taken out.new ≡ O.taken out.old)
-        ⊎ PrintsPrefix c contents (O.taken out.old) (O.taken out.new) }
+        → AreTold c (F.state files.old) contents → result ≡ 5
+        → ((O.state out.new).taken ≡ (O.state out.old).taken)
+        ⊎ PrintsPrefix c contents (F.state files.new) (O.state out.old) (O.state out.new) }
 
     // No file changes but one that the command writes; and that one does only with status 0, 3 or
     // 5.
     ensures files { (name : List ℕ)
         → ((c : Asked) → Asks words.now c → Contains (writes c) name → ⊥)
-        → F.held files.new name ≡ F.held files.old name }
+        → (F.state files.new).held name ≡ (F.state files.old).held name }
     ensures kept { (result ≡ 2) ⊎ ((result ≡ 4) ⊎ ((result ≡ 6) ⊎ (result ≡ 7)))
-        → (name : List ℕ) → F.held files.new name ≡ F.held files.old name }
+        → (name : List ℕ) → (F.state files.new).held name ≡ (F.state files.old).held name }
     ensures written { (c : Asked) (contents : List ℕ → List ℕ) → Asks words.now c
-        → AreTold c (F.held files.old) contents → result ≤ 1 → AreWritten c (inputs_of c contents)
-        (files_of (F.held files.new) (F.failed_reads files.new) (F.failed_writes files.new)) }
+        → AreTold c (F.state files.old) contents → result ≤ 1
+        → AreWritten c (inputs_of c contents) (F.state files.new) }
     ensures left { (c : Asked) (contents : List ℕ → List ℕ) → Asks words.now c
-        → AreTold c (F.held files.old) contents → (result ≡ 3) ⊎ (result ≡ 5)
-        → AreLeft c (inputs_of c contents)
-        (files_of (F.held files.old) (F.failed_reads files.old) (F.failed_writes files.old))
-        (files_of (F.held files.new) (F.failed_reads files.new) (F.failed_writes files.new)) }
+        → AreTold c (F.state files.old) contents → (result ≡ 3) ⊎ (result ≡ 5)
+        → AreLeft c (inputs_of c contents) (F.state files.old) (F.state files.new) }
 {
     let command = match command_of(alloc, words) {
         Ok(Some(command)) => command,
@@ -163,33 +145,24 @@ fn answer<R: Threads + Wait + Sync, F: Files, O: Sink, G: Gate + Sync>(
     out: &mut O,
     gate: &G,
 ) -> Result<u8, Failure>
-    ensures ok { IfOk result (IsSuccess (meaning_of command.now)
-        (files_of (F.held files.old) (F.failed_reads files.old) (F.failed_writes files.old))
-        (files_of (F.held files.new) (F.failed_reads files.new) (F.failed_writes files.new))
-        (sink_of (O.taken out.old) (O.faults out.old) (O.refusals out.old))
-        (sink_of (O.taken out.new) (O.faults out.new) (O.refusals out.new))) }
-    ensures failure { IfErr result (IsFailure (meaning_of command.now)
-        (files_of (F.held files.old) (F.failed_reads files.old) (F.failed_writes files.old))
-        (files_of (F.held files.new) (F.failed_reads files.new) (F.failed_writes files.new))
-        (sink_of (O.taken out.old) (O.faults out.old) (O.refusals out.old))
-        (sink_of (O.taken out.new) (O.faults out.new) (O.refusals out.new))) }
+    ensures ok { IfOk result (IsSuccess (meaning_of command.now) (F.state files.old)
+        (F.state files.new) (O.state out.old) (O.state out.new)) }
+    ensures failure { IfErr result (IsFailure (meaning_of command.now) (F.state files.old)
+        (F.state files.new) (O.state out.old) (O.state out.new)) }
     ensures longer { (name content : List ℕ) → Contains (reads (meaning_of command.now)) name
-        → F.held files.old name ≡ Some content → file_limit < length content
+        → (F.state files.old).held name ≡ Some content → file_limit < length content
         → MatchResult result (λ status. ⊥) IsNoRefusal }
     ensures others { (name : List ℕ) → (Contains (writes (meaning_of command.now)) name → ⊥)
-        → F.held files.new name ≡ F.held files.old name }
-    ensures kept { IfErr result (AreKept
-        (files_of (F.held files.old) (F.failed_reads files.old) (F.failed_writes files.old))
-        (files_of (F.held files.new) (F.failed_reads files.new) (F.failed_writes files.new))) }
+        → (F.state files.new).held name ≡ (F.state files.old).held name }
+    ensures kept { IfErr result (AreKept (F.state files.old) (F.state files.new)) }
     ensures written { IfOk result (λ status. (contents : List ℕ → List ℕ)
-        → AreTold (meaning_of command.now) (F.held files.old) contents
+        → AreTold (meaning_of command.now) (F.state files.old) contents
         → AreWritten (meaning_of command.now) (inputs_of (meaning_of command.now) contents)
-        (files_of (F.held files.new) (F.failed_reads files.new) (F.failed_writes files.new))) }
+        (F.state files.new)) }
     ensures left { IfErr result (λ f. (contents : List ℕ → List ℕ)
-        → AreTold (meaning_of command.now) (F.held files.old) contents
+        → AreTold (meaning_of command.now) (F.state files.old) contents
         → AreLeft (meaning_of command.now) (inputs_of (meaning_of command.now) contents)
-        (files_of (F.held files.old) (F.failed_reads files.old) (F.failed_writes files.old))
-        (files_of (F.held files.new) (F.failed_reads files.new) (F.failed_writes files.new))) }
+        (F.state files.old) (F.state files.new)) }
 {
     let inputs = read_inputs(alloc, command, files)?;
     perform(rt, alloc, command, &inputs.lend(), files, out, gate)
@@ -206,24 +179,17 @@ fn perform<R: Threads + Wait + Sync, F: Files, O: Sink, G: Gate + Sync>(
     gate: &G,
 ) -> Result<u8, Failure>
     ensures ok { IfOk result (λ status.
-        Puts (IsTextBeside (meaning_of command.now) (F.held files.new) (bytes_of inputs.now))
-        status (O.taken out.old) (O.taken out.new)) }
+        Puts (IsText (meaning_of command.now) (F.state files.new) (bytes_of inputs.now))
+        status (O.state out.old) (O.state out.new)) }
     ensures failure { IfErr result (IsPerformFailure (meaning_of command.now) (bytes_of inputs.now)
-        (files_of (F.held files.old) (F.failed_reads files.old) (F.failed_writes files.old))
-        (files_of (F.held files.new) (F.failed_reads files.new) (F.failed_writes files.new))
-        (sink_of (O.taken out.old) (O.faults out.old) (O.refusals out.old))
-        (sink_of (O.taken out.new) (O.faults out.new) (O.refusals out.new))) }
+        (F.state files.old) (F.state files.new) (O.state out.old) (O.state out.new)) }
     ensures others { (name : List ℕ) → (Contains (writes (meaning_of command.now)) name → ⊥)
-        → F.held files.new name ≡ F.held files.old name }
-    ensures kept { IfErr result (AreKept
-        (files_of (F.held files.old) (F.failed_reads files.old) (F.failed_writes files.old))
-        (files_of (F.held files.new) (F.failed_reads files.new) (F.failed_writes files.new))) }
+        → (F.state files.new).held name ≡ (F.state files.old).held name }
+    ensures kept { IfErr result (AreKept (F.state files.old) (F.state files.new)) }
     ensures written { IfOk result (λ status. AreWritten (meaning_of command.now)
-        (bytes_of inputs.now)
-        (files_of (F.held files.new) (F.failed_reads files.new) (F.failed_writes files.new))) }
+        (bytes_of inputs.now) (F.state files.new)) }
     ensures left { IfErr result (λ f. AreLeft (meaning_of command.now) (bytes_of inputs.now)
-        (files_of (F.held files.old) (F.failed_reads files.old) (F.failed_writes files.old))
-        (files_of (F.held files.new) (F.failed_reads files.new) (F.failed_writes files.new))) }
+        (F.state files.old) (F.state files.new)) }
 {
     let file = inputs.executable;
     match command {
@@ -258,7 +224,15 @@ fn perform<R: Threads + Wait + Sync, F: Files, O: Sink, G: Gate + Sync>(
             budget,
             brief,
             ..
-        } => sim(alloc, inputs, *nodes, *order, *budget, *brief, out),
+        } => {
+            let options = SimOptions {
+                nodes: *nodes,
+                order: *order,
+                budget: *budget,
+                brief: *brief,
+            };
+            sim(alloc, inputs, options, out)
+        }
         Command::Replay { brief, .. } => put_replay(alloc, inputs, *brief, out),
         Command::Generate { number, output } => generate_into(alloc, *number, output, files),
     }
@@ -267,10 +241,7 @@ fn perform<R: Threads + Wait + Sync, F: Files, O: Sink, G: Gate + Sync>(
 /// Tells that the program is out of memory, and answers the status.
 pub fn tell_out_of_memory<E: Sink>(err: &mut E) -> u8
     ensures value { result ≡ 5 }
-    ensures told { Tells
-        (sink_of (E.taken err.old) (E.faults err.old) (E.refusals err.old))
-        (sink_of (E.taken err.new) (E.faults err.new) (E.refusals err.new))
-        out_of_memory }
+    ensures told { Tells (E.state err.old) (E.state err.new) out_of_memory }
 {
     tell(err, b"shasta: out of memory\n");
     5
@@ -278,10 +249,7 @@ pub fn tell_out_of_memory<E: Sink>(err: &mut E) -> u8
 
 /// Puts a line, and goes on whatever comes of it.
 fn tell<E: Sink>(err: &mut E, line: &[u8])
-    ensures { Tells
-        (sink_of (E.taken err.old) (E.faults err.old) (E.refusals err.old))
-        (sink_of (E.taken err.new) (E.faults err.new) (E.refusals err.new))
-        line.now }
+    ensures { Tells (E.state err.old) (E.state err.new) line.now }
 {
     match err.put(line) {
         Ok(()) => {}

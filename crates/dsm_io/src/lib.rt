@@ -5,8 +5,9 @@
 //! speak of what a name holds, of the bytes that a sink took, and of counts of faults. An
 //! implementation over the real system tells no contents, since no contract can know them.
 
-ghost use Rattle.std.specs.Prelude.{◌≡◌, ◌≢◌, ◌≤◌, ◌<◌, ◌↔◌, ℕ, List, Option, length, IfOk, OnOk, IfSome, IfNone, IsErr, IsErrOf, IsSome};
+ghost use Rattle.std.specs.Prelude.{◌≡◌, ◌≢◌, ◌≤◌, ◌<◌, ◌↔◌, ℕ, List, length, IfOk, OnOk, IfSome, IfNone, IsErr, IsErrOf, IsSome};
 ghost use Rattle.dsm_io.specs.Causes.{Rose, Appends, AppendsPrefix};
+ghost use Rattle.dsm_io.specs.States.{FilesState, SinkState};
 
 use std::alloc::{AllocError, Global};
 use thiserror::Error;
@@ -67,95 +68,93 @@ impl From<AllocError> for SinkError {
 
 /// Files, each under its name.
 pub trait Files {
-    /// The bytes that a name holds, or `None` where that is hidden.
-    ghost held: { Self → List ℕ → Option (List ℕ) };
-
-    /// How many reads of a name have failed.
-    ghost failed_reads: { Self → List ℕ → ℕ };
-
-    /// How many writes of a name have failed.
-    ghost failed_writes: { Self → List ℕ → ℕ };
+    /// What each name holds, or `None` where that is hidden, and how many reads and writes of it
+    /// have failed.
+    ghost state: { Self → FilesState };
 
     /// Gives the bytes of the file, of which there are at most `limit`.
     ///
     /// `TooLong` comes for a file that is longer, and `Failed` where it cannot be read.
     fn read(&mut self, alloc: Global, name: &str, limit: u64) -> Result<Vec<u8>, FileError>
         ensures bytes { IfOk result (λ v.
-            IfSome (held self.old name.now) (λ content. v.items ≡ content)) }
+            IfSome ((state self.old).held name.now) (λ content. v.items ≡ content)) }
         ensures fits { IfOk result (λ v. length v.items ≤ limit) }
         ensures fault { IsErrOf result FileError.Failed →
-            Rose (failed_reads self.old name.now) (failed_reads self.new name.now) }
+            Rose ((state self.old).failed_reads name.now) ((state self.new).failed_reads name.now) }
 
         // Where the content is known, `TooLong` comes exactly where it is longer than the limit and
         // the read is not `Failed`; where it is hidden, only where the count of failed reads rose.
-        ensures longer { IfSome (held self.old name.now) (λ content.
+        ensures longer { IfSome ((state self.old).held name.now) (λ content.
             limit < length content → IsErr result) }
         ensures too_long { (l : ℕ) → IsErrOf result (FileError.TooLong l) →
-            IfSome (held self.old name.now) (λ content. limit < length content) }
+            IfSome ((state self.old).held name.now) (λ content. limit < length content) }
         ensures hidden { (l : ℕ) → IsErrOf result (FileError.TooLong l) →
-            IfNone (held self.old name.now)
-            (Rose (failed_reads self.old name.now) (failed_reads self.new name.now)) }
+            IfNone ((state self.old).held name.now)
+            (Rose ((state self.old).failed_reads name.now)
+            ((state self.new).failed_reads name.now)) }
         ensures same_limit { (l : ℕ) → IsErrOf result (FileError.TooLong l) → l ≡ limit }
 
         ensures same_counts { IsErrOf result FileError.OutOfMemory → (n : List ℕ) →
-            (failed_reads self.new n ≡ failed_reads self.old n)
-            × (failed_writes self.new n ≡ failed_writes self.old n) }
+            ((state self.new).failed_reads n ≡ (state self.old).failed_reads n)
+            × ((state self.new).failed_writes n ≡ (state self.old).failed_writes n) }
 
-        ensures contents { (n : List ℕ) → held self.new n ≡ held self.old n }
-        ensures reads { (n : List ℕ) → failed_reads self.old n ≤ failed_reads self.new n }
-        ensures writes { (n : List ℕ) → failed_writes self.old n ≤ failed_writes self.new n };
+        ensures contents { (n : List ℕ) → (state self.new).held n ≡ (state self.old).held n }
+        ensures reads { (n : List ℕ) →
+            (state self.old).failed_reads n ≤ (state self.new).failed_reads n }
+        ensures writes { (n : List ℕ) →
+            (state self.old).failed_writes n ≤ (state self.new).failed_writes n };
 
     /// Makes the file hold `bytes`.
     ///
     /// After `Failed` it may hold anything; after `OutOfMemory` it holds what it held.
     fn write(&mut self, name: &str, bytes: &[u8]) -> Result<(), FileError>
         ensures holds { OnOk result
-            (IfSome (held self.new name.now) (λ content. content ≡ bytes.now)) }
-        ensures same_kind { IsSome (held self.new name.now) ↔ IsSome (held self.old name.now) }
+            (IfSome ((state self.new).held name.now) (λ content. content ≡ bytes.now)) }
+        ensures same_kind { IsSome ((state self.new).held name.now) ↔
+            IsSome ((state self.old).held name.now) }
         ensures fault { IsErrOf result FileError.Failed →
-            Rose (failed_writes self.old name.now) (failed_writes self.new name.now) }
+            Rose ((state self.old).failed_writes name.now) ((state self.new).failed_writes name.now) }
         ensures never_too_long { (l : ℕ) → IsErrOf result (FileError.TooLong l) → ⊥ }
         ensures unchanged { IsErrOf result FileError.OutOfMemory →
-            held self.new name.now ≡ held self.old name.now }
+            (state self.new).held name.now ≡ (state self.old).held name.now }
         ensures same_counts { IsErrOf result FileError.OutOfMemory → (n : List ℕ) →
-            (failed_reads self.new n ≡ failed_reads self.old n)
-            × (failed_writes self.new n ≡ failed_writes self.old n) }
+            ((state self.new).failed_reads n ≡ (state self.old).failed_reads n)
+            × ((state self.new).failed_writes n ≡ (state self.old).failed_writes n) }
 
-        ensures others { (n : List ℕ) → n ≢ name.now → held self.new n ≡ held self.old n }
-        ensures reads { (n : List ℕ) → failed_reads self.old n ≤ failed_reads self.new n }
-        ensures writes { (n : List ℕ) → failed_writes self.old n ≤ failed_writes self.new n };
+        ensures others { (n : List ℕ) → n ≢ name.now →
+            (state self.new).held n ≡ (state self.old).held n }
+        ensures reads { (n : List ℕ) →
+            (state self.old).failed_reads n ≤ (state self.new).failed_reads n }
+        ensures writes { (n : List ℕ) →
+            (state self.old).failed_writes n ≤ (state self.new).failed_writes n };
 }
 
 /// What takes bytes, as an output does.
 pub trait Sink {
-    /// The bytes taken so far, or `None` where they are hidden.
-    ghost taken: { Self → Option (List ℕ) };
-
-    /// How often it has failed.
-    ghost faults: { Self → ℕ };
-
-    /// How many puts were refused because it was out of memory.
-    ghost refusals: { Self → ℕ };
+    /// The bytes taken so far, or `None` where they are hidden; how often it has failed; and how
+    /// many puts were refused because it was out of memory.
+    ghost state: { Self → SinkState };
 
     /// Appends the whole piece.
     ///
     /// A piece that is not empty and of which nothing is taken is a fault. After `OutOfMemory`
     /// nothing of it is taken.
     fn put(&mut self, piece: &[u8]) -> Result<(), SinkError>
-        ensures takes { OnOk result (Appends (taken self.old) (taken self.new) piece.now) }
+        ensures takes { OnOk result (Appends (state self.old).taken (state self.new).taken piece.now) }
         ensures fault { IsErrOf result SinkError.Failed →
-            Rose (faults self.old) (faults self.new) }
+            Rose (state self.old).faults (state self.new).faults }
         ensures prefix { IsErrOf result SinkError.Failed →
-            AppendsPrefix (taken self.old) (taken self.new) piece.now }
+            AppendsPrefix (state self.old).taken (state self.new).taken piece.now }
         ensures refusal { IsErrOf result SinkError.OutOfMemory →
-            Rose (refusals self.old) (refusals self.new) }
+            Rose (state self.old).refusals (state self.new).refusals }
         ensures nothing { IsErrOf result SinkError.OutOfMemory →
-            taken self.new ≡ taken self.old }
+            (state self.new).taken ≡ (state self.old).taken }
 
         // Each count rises with its own error alone, and never falls.
-        ensures same_faults { result ≢ Err SinkError.Failed → faults self.new ≡ faults self.old }
+        ensures same_faults { result ≢ Err SinkError.Failed →
+            (state self.new).faults ≡ (state self.old).faults }
         ensures same_refusals { result ≢ Err SinkError.OutOfMemory →
-            refusals self.new ≡ refusals self.old }
-        ensures more_faults { faults self.old ≤ faults self.new }
-        ensures more_refusals { refusals self.old ≤ refusals self.new };
+            (state self.new).refusals ≡ (state self.old).refusals }
+        ensures more_faults { (state self.old).faults ≤ (state self.new).faults }
+        ensures more_refusals { (state self.old).refusals ≤ (state self.new).refusals };
 }

@@ -33,7 +33,7 @@ impl MemFiles {
     /// of the calls that are to fail.
     pub fn new(alloc: Global, held: Vec<(Text, Vec<u8>)>, fails: Vec<u64>) -> MemFiles
         ensures held { (n : List ℕ) →
-            ⟦<MemFiles as Files>⟧.held result n ≡ Some (content_of result.pairs n) }
+            (⟦<MemFiles as Files>⟧.state result).held n ≡ Some (content_of result.pairs n) }
         ensures pairs { result.pairs ≡ map (λ p. (p.0, p.1.items)) held.items }
         ensures fails { result.schedule ≡ schedule_of fails.items }
     {
@@ -47,7 +47,7 @@ impl MemFiles {
     pub fn held(&self, name: &str) -> Option<&[u8]>
         ensures first { option_copied result ≡ first_content self.now.pairs name.now }
         ensures held { IfSome result (λ bytes.
-            ⟦<MemFiles as Files>⟧.held self.now name.now ≡ Some bytes.now) }
+            (⟦<MemFiles as Files>⟧.state self.now).held name.now ≡ Some bytes.now) }
     {
         self.store.content(name)
     }
@@ -57,11 +57,11 @@ impl Files for MemFiles {
     ghost use Rattle.std.specs.Prelude.{Some};
     ghost use Rattle.dsm_io.specs.Pairs.{content_of};
 
-    ghost held = { λ s n. Some (content_of s.pairs n) };
-
-    ghost failed_reads = { λ s _. s.schedule.faults };
-
-    ghost failed_writes = { λ s _. s.schedule.faults };
+    ghost state = { λ s. record {
+      held = λ n. Some (content_of s.pairs n);
+      failed_reads = λ _. s.schedule.faults;
+      failed_writes = λ _. s.schedule.faults;
+    } };
 
     fn read(&mut self, alloc: Global, name: &str, limit: u64) -> Result<Vec<u8>, FileError>
         ensures bytes { IfOk result (λ v. first_content self.old.pairs name.now ≡ Some v.items) }
@@ -143,7 +143,7 @@ impl Model for MemSink {
 impl MemSink {
     /// A sink that has taken nothing, with the numbers of the calls that are to fail.
     pub fn new(alloc: Global, fails: Vec<u64>) -> MemSink
-        ensures taken { ⟦<MemSink as Sink>⟧.taken result ≡ Some [] }
+        ensures taken { (⟦<MemSink as Sink>⟧.state result).taken ≡ Some [] }
         ensures fails { result.schedule ≡ schedule_of fails.items }
         ensures no_refusals { result.memory ≡ schedule_of [] }
     {
@@ -153,7 +153,7 @@ impl MemSink {
     /// A sink that has taken nothing, with the numbers of the calls that are to fail, and those of
     /// the calls that are to be refused, among the calls that don't fail.
     pub fn with_refusals(alloc: Global, fails: Vec<u64>, refusals: Vec<u64>) -> MemSink
-        ensures taken { ⟦<MemSink as Sink>⟧.taken result ≡ Some [] }
+        ensures taken { (⟦<MemSink as Sink>⟧.state result).taken ≡ Some [] }
         ensures fails { result.schedule ≡ schedule_of fails.items }
         ensures refusals { result.memory ≡ schedule_of refusals.items }
     {
@@ -166,7 +166,7 @@ impl MemSink {
 
     /// The bytes taken so far.
     pub fn taken(&self) -> &[u8]
-        ensures { ⟦<MemSink as Sink>⟧.taken self.now ≡ Some result.now }
+        ensures { (⟦<MemSink as Sink>⟧.state self.now).taken ≡ Some result.now }
     {
         &self.taken
     }
@@ -175,11 +175,11 @@ impl MemSink {
 impl Sink for MemSink {
     ghost use Rattle.std.specs.Prelude.{Some};
 
-    ghost taken = { λ s. Some s.taken };
-
-    ghost faults = { λ s. s.schedule.faults };
-
-    ghost refusals = { λ s. s.memory.faults };
+    ghost state = { λ s. record {
+      taken = Some s.taken;
+      faults = s.schedule.faults;
+      refusals = s.memory.faults;
+    } };
 
     fn put(&mut self, piece: &[u8]) -> Result<(), SinkError>
         ensures takes { OnOk result (self.new.taken ≡ self.old.taken ++ piece.now) }

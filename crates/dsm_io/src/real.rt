@@ -18,8 +18,8 @@ pub struct RealFiles {
 impl RealFiles {
     /// The files that the runtime reaches.
     pub fn new(rt: HostRuntime) -> RealFiles
-        ensures reads { (n : List ℕ) → ⟦<RealFiles as Files>⟧.failed_reads result n ≡ 0 }
-        ensures writes { (n : List ℕ) → ⟦<RealFiles as Files>⟧.failed_writes result n ≡ 0 }
+        ensures reads { (n : List ℕ) → (⟦<RealFiles as Files>⟧.state result).failed_reads n ≡ 0 }
+        ensures writes { (n : List ℕ) → (⟦<RealFiles as Files>⟧.state result).failed_writes n ≡ 0 }
     {
         RealFiles { rt, faults: 0 }
     }
@@ -28,11 +28,11 @@ impl RealFiles {
 impl Files for RealFiles {
     ghost use Rattle.std.specs.Prelude.{None};
 
-    ghost held = { λ _ _. None };
-
-    ghost failed_reads = { λ s _. s.faults };
-
-    ghost failed_writes = { λ s _. s.faults };
+    ghost state = { λ s. record {
+      held = λ _. None;
+      failed_reads = λ _. s.faults;
+      failed_writes = λ _. s.faults;
+    } };
 
     fn read(&mut self, alloc: Global, name: &str, limit: u64) -> Result<Vec<u8>, FileError> {
         match read_file(&self.rt, alloc, name, limit) {
@@ -93,7 +93,7 @@ pub struct StdSink {
 impl StdSink {
     /// The standard output.
     pub fn output(rt: HostRuntime) -> StdSink
-        ensures { ⟦<StdSink as Sink>⟧.faults result ≡ 0 }
+        ensures { (⟦<StdSink as Sink>⟧.state result).faults ≡ 0 }
     {
         StdSink {
             rt,
@@ -104,7 +104,7 @@ impl StdSink {
 
     /// The standard error.
     pub fn errors(rt: HostRuntime) -> StdSink
-        ensures { ⟦<StdSink as Sink>⟧.faults result ≡ 0 }
+        ensures { (⟦<StdSink as Sink>⟧.state result).faults ≡ 0 }
     {
         StdSink {
             rt,
@@ -117,11 +117,7 @@ impl StdSink {
 impl Sink for StdSink {
     ghost use Rattle.std.specs.Prelude.{None};
 
-    ghost taken = { λ _. None };
-
-    ghost faults = { λ s. s.faults };
-
-    ghost refusals = { λ _. 0 };
+    ghost state = { λ s. record { taken = None; faults = s.faults; refusals = 0 } };
 
     fn put(&mut self, piece: &[u8]) -> Result<(), SinkError> {
         let written = match self.stream {

@@ -28,7 +28,7 @@ impl Model for SureFiles {
 impl SureFiles {
     /// No files.
     pub fn new(alloc: Global) -> SureFiles
-        ensures held { (n : List ℕ) → ⟦<SureFiles as Files>⟧.held result n ≡ Some [] }
+        ensures held { (n : List ℕ) → (⟦<SureFiles as Files>⟧.state result).held n ≡ Some [] }
         ensures pairs { result ≡ [] }
     {
         SureFiles {
@@ -40,7 +40,7 @@ impl SureFiles {
     pub fn held(&self, name: &str) -> Option<&[u8]>
         ensures first { option_copied result ≡ first_content self.now name.now }
         ensures held { IfSome result (λ bytes.
-            ⟦<SureFiles as Files>⟧.held self.now name.now ≡ Some bytes.now) }
+            (⟦<SureFiles as Files>⟧.state self.now).held name.now ≡ Some bytes.now) }
     {
         self.store.content(name)
     }
@@ -51,11 +51,11 @@ impl Files for SureFiles {
     ghost use Rattle.dsm_io.specs.Causes.{next_count};
     ghost use Rattle.dsm_io.specs.Pairs.{content_of};
 
-    ghost held = { λ s n. Some (content_of s n) };
-
-    ghost failed_reads = { λ _ _. 0 };
-
-    ghost failed_writes = { λ _ _. 0 };
+    ghost state = { λ s. record {
+      held = λ n. Some (content_of s n);
+      failed_reads = λ _. 0;
+      failed_writes = λ _. 0;
+    } };
 
     fn read(&mut self, alloc: Global, name: &str, limit: u64) -> Result<Vec<u8>, FileError>
         ensures bytes { IfOk result (λ v. v.items ≡ content_of self.old name.now) }
@@ -105,8 +105,8 @@ impl Model for SureSink {
 impl SureSink {
     /// A sink that has taken nothing.
     pub fn new(alloc: Global) -> SureSink
-        ensures taken { ⟦<SureSink as Sink>⟧.taken result ≡ Some [] }
-        ensures refusals { ⟦<SureSink as Sink>⟧.refusals result ≡ 0 }
+        ensures taken { (⟦<SureSink as Sink>⟧.state result).taken ≡ Some [] }
+        ensures refusals { (⟦<SureSink as Sink>⟧.state result).refusals ≡ 0 }
     {
         SureSink {
             taken: Vec::new(alloc),
@@ -116,7 +116,7 @@ impl SureSink {
 
     /// The bytes taken so far.
     pub fn taken(&self) -> &[u8]
-        ensures { ⟦<SureSink as Sink>⟧.taken self.now ≡ Some result.now }
+        ensures { (⟦<SureSink as Sink>⟧.state self.now).taken ≡ Some result.now }
     {
         &self.taken
     }
@@ -125,11 +125,7 @@ impl SureSink {
 impl Sink for SureSink {
     ghost use Rattle.std.specs.Prelude.{Some};
 
-    ghost taken = { λ s. Some s.taken };
-
-    ghost faults = { λ _. 0 };
-
-    ghost refusals = { λ s. s.refusals };
+    ghost state = { λ s. record { taken = Some s.taken; faults = 0; refusals = s.refusals } };
 
     fn put(&mut self, piece: &[u8]) -> Result<(), SinkError>
         ensures takes { OnOk result (self.new.taken ≡ self.old.taken ++ piece.now) }

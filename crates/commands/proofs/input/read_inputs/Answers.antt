@@ -1,7 +1,7 @@
 use Rattle.std.proofs.lemmas.Result.{err_from_is_err_and}
 use Rattle.std.proofs.Common.{◌≤◌, ◌≡◌, ◌∙◌, ℕ, List, option_map, arith, refl, subst}
 use Rattle.command_line.specs.Meaning.{meaning_of}
-use Rattle.commands.specs.Answers.{FilesState}
+use Rattle.dsm_io.specs.States.{FilesState}
 use Rattle.commands.specs.Inputs.{input_of, code_of, layout_of, recorded_of, Inputs}
 use Rattle.commands.specs.Failures.{AreBytes, AreContents, AreRead, IsNamedFailure}
 use Rattle.commands.proofs.AnswerLemmas.{named_fails}
@@ -10,8 +10,8 @@ use Rattle.commands.proofs.input.read_inputs.Goals as goal
 
 pub returns-in_err-executable-clause-failure : goal.returns-in_err-executable-clause-failure
 returns-in_err-executable-clause-failure g c =
-    let files : FilesState = record { held = g.F.Files.held c.args.files.now; failed_reads = g.F.Files.failed_reads c.args.files.now; failed_writes = g.F.Files.failed_writes c.args.files.now } in
-    let files_now : FilesState = record { held = g.F.Files.held c.read_bytes.new.files; failed_reads = g.F.Files.failed_reads c.read_bytes.new.files; failed_writes = g.F.Files.failed_writes c.read_bytes.new.files } in
+    let files : FilesState = g.F.Files.state c.args.files.now in
+    let files_now : FilesState = g.F.Files.state c.read_bytes.new.files in
     let cmd = meaning_of c.args.command.now in
     let f = c.in_err-executable.field-0.0 in
     let failed : IsNamedFailure files files_now (input_of cmd) f =
@@ -22,9 +22,9 @@ returns-in_err-executable-clause-failure g c =
 
 pub returns-in_err-code-clause-failure : goal.returns-in_err-code-clause-failure
 returns-in_err-code-clause-failure g c =
-    let files : FilesState = record { held = g.F.Files.held c.args.files.now; failed_reads = g.F.Files.failed_reads c.args.files.now; failed_writes = g.F.Files.failed_writes c.args.files.now } in
-    let between : FilesState = record { held = g.F.Files.held c.read_bytes.new.files; failed_reads = g.F.Files.failed_reads c.read_bytes.new.files; failed_writes = g.F.Files.failed_writes c.read_bytes.new.files } in
-    let files_now : FilesState = record { held = g.F.Files.held c.read_named.new.files; failed_reads = g.F.Files.failed_reads c.read_named.new.files; failed_writes = g.F.Files.failed_writes c.read_named.new.files } in
+    let files : FilesState = g.F.Files.state c.args.files.now in
+    let between : FilesState = g.F.Files.state c.read_bytes.new.files in
+    let files_now : FilesState = g.F.Files.state c.read_named.new.files in
     let cmd = meaning_of c.args.command.now in
     let f = c.in_err-code.field-0.0 in
     let failed : IsNamedFailure between files_now (code_of cmd) f =
@@ -35,9 +35,9 @@ returns-in_err-code-clause-failure g c =
 
 pub returns-in_err-layout-clause-failure : goal.returns-in_err-layout-clause-failure
 returns-in_err-layout-clause-failure g c =
-    let files : FilesState = record { held = g.F.Files.held c.args.files.now; failed_reads = g.F.Files.failed_reads c.args.files.now; failed_writes = g.F.Files.failed_writes c.args.files.now } in
-    let between : FilesState = record { held = g.F.Files.held c.read_named.new.files; failed_reads = g.F.Files.failed_reads c.read_named.new.files; failed_writes = g.F.Files.failed_writes c.read_named.new.files } in
-    let files_now : FilesState = record { held = g.F.Files.held c.read_named-2.new.files; failed_reads = g.F.Files.failed_reads c.read_named-2.new.files; failed_writes = g.F.Files.failed_writes c.read_named-2.new.files } in
+    let files : FilesState = g.F.Files.state c.args.files.now in
+    let between : FilesState = g.F.Files.state c.read_named.new.files in
+    let files_now : FilesState = g.F.Files.state c.read_named-2.new.files in
     let cmd = meaning_of c.args.command.now in
     let f = c.in_err-layout.field-0.0 in
     let failed : IsNamedFailure between files_now (layout_of cmd) f =
@@ -52,9 +52,9 @@ returns-in_err-layout-clause-failure g c =
 
 pub returns-in_err-recorded-clause-failure : goal.returns-in_err-recorded-clause-failure
 returns-in_err-recorded-clause-failure g c =
-    let files : FilesState = record { held = g.F.Files.held c.args.files.now; failed_reads = g.F.Files.failed_reads c.args.files.now; failed_writes = g.F.Files.failed_writes c.args.files.now } in
-    let between : FilesState = record { held = g.F.Files.held c.read_named-2.new.files; failed_reads = g.F.Files.failed_reads c.read_named-2.new.files; failed_writes = g.F.Files.failed_writes c.read_named-2.new.files } in
-    let files_now : FilesState = record { held = g.F.Files.held c.read_bytes-2.new.files; failed_reads = g.F.Files.failed_reads c.read_bytes-2.new.files; failed_writes = g.F.Files.failed_writes c.read_bytes-2.new.files } in
+    let files : FilesState = g.F.Files.state c.args.files.now in
+    let between : FilesState = g.F.Files.state c.read_named-2.new.files in
+    let files_now : FilesState = g.F.Files.state c.read_bytes-2.new.files in
     let cmd = meaning_of c.args.command.now in
     let f = c.in_err-recorded.field-0.0 in
     let failed : IsNamedFailure between files_now (recorded_of cmd) f =
@@ -71,13 +71,13 @@ returns-in_err-recorded-clause-failure g c =
 pub returns-clause-ok : goal.returns-clause-ok
 returns-clause-ok g c =
     let cmd = meaning_of c.args.command.now in
-    let held = g.F.Files.held c.args.files.now in
-    let first = g.F.Files.held c.read_bytes.new.files in
-    let second = g.F.Files.held c.read_named.new.files in
-    let third = g.F.Files.held c.read_named-2.new.files in
+    let files : FilesState = g.F.Files.state c.args.files.now in
+    let first : FilesState = g.F.Files.state c.read_bytes.new.files in
+    let second : FilesState = g.F.Files.state c.read_named.new.files in
+    let third : FilesState = g.F.Files.state c.read_named-2.new.files in
     let code = option_map (λ b. b.items) c.in_ok-code.code in
     let layout = option_map (λ b. b.items) c.in_ok-layout.layout in
-    let same_second : (n : List ℕ) → second n ≡ held n =
+    let same_second : (n : List ℕ) → second.held n ≡ files.held n =
     λ n. c.in_ok-code.ensures.contents n ∙ c.in_ok-executable.ensures.contents n in
     let given : Inputs = record {
       executable = c.in_ok-executable.executable.items;
@@ -86,31 +86,31 @@ returns-clause-ok g c =
       recorded = c.in_ok-recorded.recorded.items;
       batches = c.batches_of.result;
     } in
-    let read : AreRead cmd held given = record {
-      executable = subst (λ o. AreBytes held o given.executable) c.input_of.ensures
+    let read : AreRead cmd files given = record {
+      executable = subst (λ o. AreBytes files o given.executable) c.input_of.ensures
           c.in_ok-executable.ensures.ok;
-      code = content_before held first (code_of cmd) code c.in_ok-executable.ensures.contents
+      code = content_before files first (code_of cmd) code c.in_ok-executable.ensures.contents
           (subst (λ o. AreContents first o code) c.code_of.ensures c.in_ok-code.ensures.ok);
-      layout = content_before held second (layout_of cmd) layout same_second
+      layout = content_before files second (layout_of cmd) layout same_second
           (subst (λ o. AreContents second o layout) c.layout_of.ensures c.in_ok-layout.ensures.ok);
-      recorded = bytes_before held third (recorded_of cmd) given.recorded
+      recorded = bytes_before files third (recorded_of cmd) given.recorded
           (λ n. c.in_ok-layout.ensures.contents n ∙ same_second n)
           (subst (λ o. AreBytes third o given.recorded) c.recorded_of.ensures
           c.in_ok-recorded.ensures.ok);
       batches = c.batches_of.ensures.value;
     } in
-    inputs_read cmd held given read
+    inputs_read cmd files given read
 
 pub returns-clause-longer : goal.returns-clause-longer
 returns-clause-longer g c = λ name content there is long.
     let cmd = meaning_of c.args.command.now in
-    let held = g.F.Files.held c.args.files.now in
-    let first = g.F.Files.held c.read_bytes.new.files in
-    let second = g.F.Files.held c.read_named.new.files in
-    let third = g.F.Files.held c.read_named-2.new.files in
+    let files : FilesState = g.F.Files.state c.args.files.now in
+    let first : FilesState = g.F.Files.state c.read_bytes.new.files in
+    let second : FilesState = g.F.Files.state c.read_named.new.files in
+    let third : FilesState = g.F.Files.state c.read_named-2.new.files in
     let code = option_map (λ b. b.items) c.in_ok-code.code in
     let layout = option_map (λ b. b.items) c.in_ok-layout.layout in
-    let same_second : (n : List ℕ) → second n ≡ held n =
+    let same_second : (n : List ℕ) → second.held n ≡ files.held n =
     λ n. c.in_ok-code.ensures.contents n ∙ c.in_ok-executable.ensures.contents n in
     let given : Inputs = record {
       executable = c.in_ok-executable.executable.items;
@@ -119,17 +119,17 @@ returns-clause-longer g c = λ name content there is long.
       recorded = c.in_ok-recorded.recorded.items;
       batches = c.batches_of.result;
     } in
-    let read : AreRead cmd held given = record {
-      executable = subst (λ o. AreBytes held o given.executable) c.input_of.ensures
+    let read : AreRead cmd files given = record {
+      executable = subst (λ o. AreBytes files o given.executable) c.input_of.ensures
           c.in_ok-executable.ensures.ok;
-      code = content_before held first (code_of cmd) code c.in_ok-executable.ensures.contents
+      code = content_before files first (code_of cmd) code c.in_ok-executable.ensures.contents
           (subst (λ o. AreContents first o code) c.code_of.ensures c.in_ok-code.ensures.ok);
-      layout = content_before held second (layout_of cmd) layout same_second
+      layout = content_before files second (layout_of cmd) layout same_second
           (subst (λ o. AreContents second o layout) c.layout_of.ensures c.in_ok-layout.ensures.ok);
-      recorded = bytes_before held third (recorded_of cmd) given.recorded
+      recorded = bytes_before files third (recorded_of cmd) given.recorded
           (λ n. c.in_ok-layout.ensures.contents n ∙ same_second n)
           (subst (λ o. AreBytes third o given.recorded) c.recorded_of.ensures
           c.in_ok-recorded.ensures.ok);
       batches = c.batches_of.ensures.value;
     } in
-    none_long cmd held given name content read there is long
+    none_long cmd files given name content read there is long

@@ -1,7 +1,7 @@
 use Rattle.std.proofs.Common.{[], ◌++◌, refl, sym, ap, ◌∙◌, subst, append_assoc}
 use Rattle.std.proofs.lemmas.Result.{err_from_is_err_and}
 use Rattle.dsm_io.specs.Causes.{Appends}
-use Rattle.commands.specs.Answers.{SinkState}
+use Rattle.dsm_io.specs.States.{SinkState}
 use Rattle.commands.specs.Headline.{listing}
 use Rattle.commands.specs.Failures.{IsPutFailure, IsLike, IsNever}
 use Rattle.commands.proofs.Pieces.{nothing_put, stops_behind}
@@ -12,7 +12,7 @@ use Rattle.commands.proofs.list.put_lines.Goals.{then-len-ge-PIECE+in_ok-put, el
 pub loop-next-init : goal.loop-next-init
 loop-next-init g c = record {
   pieces = [];
-  put = nothing_put (g.O.Sink.taken c.args.out.now);
+  put = nothing_put (g.O.Sink.state c.args.out.now).taken;
   faults = refl;
   reached = reaches_first c.args.program.now c.next_code-next.result c.new-lines.result.items
       c.new-lines.ensures.items c.next_code-next.ensures.some c.next_code-next.ensures.low
@@ -21,8 +21,8 @@ loop-next-init g c = record {
 
 pub loop-next-preserved : goal.loop-next-preserved
 loop-next-preserved g c =
-    let start : SinkState = record { taken = g.O.Sink.taken c.args.out.now; faults = g.O.Sink.faults c.args.out.now; refusals = g.O.Sink.refusals c.args.out.now } in
-    let before : SinkState = record { taken = g.O.Sink.taken c.loop-next.out; faults = g.O.Sink.faults c.loop-next.out; refusals = g.O.Sink.refusals c.loop-next.out } in
+    let start : SinkState = g.O.Sink.state c.args.out.now in
+    let before : SinkState = g.O.Sink.state c.loop-next.out in
     let e = c.args.program.now in
     let more : IsUnderWay e start before c.push_line.new.lines.items c.next_code-next-in-Some.result =
     line_gathered e c.in-Some.address start before c.loop-next.lines.items
@@ -32,7 +32,7 @@ loop-next-preserved g c =
     c.next_code-next-in-Some.ensures.none in
     elim c.if-len-ge-PIECE.branch [
       | then-len-ge-PIECE+in_ok-put w ↦ (
-          let after : SinkState = record { taken = g.O.Sink.taken w.put.new.out; faults = g.O.Sink.faults w.put.new.out; refusals = g.O.Sink.refusals w.put.new.out } in
+          let after : SinkState = g.O.Sink.state w.put.new.out in
           let put : Appends before.taken after.taken c.push_line.new.lines.items =
           subst (Appends before.taken after.taken) w.deref.ensures.value w.in_ok-put.ensures.ok in
           let rest = lines_put e start before after c.push_line.new.lines.items w.clear.new.self.items
@@ -43,8 +43,8 @@ loop-next-preserved g c =
 
 pub returns-in_err-push_line-clause-failure : goal.returns-in_err-push_line-clause-failure
 returns-in_err-push_line-clause-failure g c =
-    let start : SinkState = record { taken = g.O.Sink.taken c.args.out.now; faults = g.O.Sink.faults c.args.out.now; refusals = g.O.Sink.refusals c.args.out.now } in
-    let now : SinkState = record { taken = g.O.Sink.taken c.loop-next.out; faults = g.O.Sink.faults c.loop-next.out; refusals = g.O.Sink.refusals c.loop-next.out } in
+    let start : SinkState = g.O.Sink.state c.args.out.now in
+    let now : SinkState = g.O.Sink.state c.loop-next.out in
     let e = c.args.program.now in
     let u = c.loop-next.invariant in
     let r = rest_of e c.loop-next.next (u.pieces ++ c.loop-next.lines.items) u.reached in
@@ -55,9 +55,9 @@ returns-in_err-push_line-clause-failure g c =
 
 pub returns-in_err-put-clause-failure : goal.returns-in_err-put-clause-failure
 returns-in_err-put-clause-failure g c =
-    let start : SinkState = record { taken = g.O.Sink.taken c.args.out.now; faults = g.O.Sink.faults c.args.out.now; refusals = g.O.Sink.refusals c.args.out.now } in
-    let before : SinkState = record { taken = g.O.Sink.taken c.loop-next.out; faults = g.O.Sink.faults c.loop-next.out; refusals = g.O.Sink.refusals c.loop-next.out } in
-    let now : SinkState = record { taken = g.O.Sink.taken c.put.new.out; faults = g.O.Sink.faults c.put.new.out; refusals = g.O.Sink.refusals c.put.new.out } in
+    let start : SinkState = g.O.Sink.state c.args.out.now in
+    let before : SinkState = g.O.Sink.state c.loop-next.out in
+    let now : SinkState = g.O.Sink.state c.put.new.out in
     let e = c.args.program.now in
     let u = c.loop-next.invariant in
     let lines = c.push_line.new.lines.items in
@@ -70,9 +70,9 @@ returns-in_err-put-clause-failure g c =
 
 pub returns-in_err-put-2-clause-failure : goal.returns-in_err-put-2-clause-failure
 returns-in_err-put-2-clause-failure g c =
-    let start : SinkState = record { taken = g.O.Sink.taken c.args.out.now; faults = g.O.Sink.faults c.args.out.now; refusals = g.O.Sink.refusals c.args.out.now } in
-    let before : SinkState = record { taken = g.O.Sink.taken c.loop-next.out; faults = g.O.Sink.faults c.loop-next.out; refusals = g.O.Sink.refusals c.loop-next.out } in
-    let now : SinkState = record { taken = g.O.Sink.taken c.put-2.new.out; faults = g.O.Sink.faults c.put-2.new.out; refusals = g.O.Sink.refusals c.put-2.new.out } in
+    let start : SinkState = g.O.Sink.state c.args.out.now in
+    let before : SinkState = g.O.Sink.state c.loop-next.out in
+    let now : SinkState = g.O.Sink.state c.put-2.new.out in
     let e = c.args.program.now in
     let u = c.loop-next.invariant in
     let lines = c.loop-next.lines.items in

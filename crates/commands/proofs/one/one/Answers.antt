@@ -4,14 +4,15 @@ use Rattle.elf32_read.specs.Elf.{Elf}
 use Rattle.exec_map.specs.Contents.{program_of}
 use Rattle.rv32_step.specs.OneMemory.{Original}
 use Rattle.one_memory.specs.ByOrder.{IsRunByOrder}
-use Rattle.commands.specs.Answers.{SinkState}
+use Rattle.dsm_io.specs.States.{SinkState}
 use Rattle.node_model.specs.Outcome.{Outcome}
 use Rattle.commands.specs.Executables.{IsUnaccepted, IsUnread, IsRejection}
 use Rattle.commands.specs.declared.refusal.Subject.TheVariants.{Executable}
 use Rattle.commands.specs.Failures.{IsNever}
 use Rattle.commands.specs.Given.{bytes_of}
 use Rattle.commands.specs.Headline.{IsOutcomeByOrder, IsTextWith}
-use Rattle.commands.specs.Layouts.{IsBadLayout, IsFaultyLayout, IsLayoutFor}
+use Rattle.commands.specs.Layouts.{IsLayoutFor}
+use Rattle.commands.specs.Refusals.{IsBadLayout, IsFaultyLayout}
 use Rattle.commands.proofs.Pieces.{never, outcome_put, outcome_fails, refused_first}
 use Rattle.commands.proofs.one.one.Goals as goal
 
@@ -19,7 +20,7 @@ pub returns-in_err-elf-clause-failure : goal.returns-in_err-elf-clause-failure
 returns-in_err-elf-clause-failure g c =
     let inputs = bytes_of c.args.inputs.now in
     let n = c.args.nodes in
-    let state : SinkState = record { taken = g.O.Sink.taken c.args.out.now; faults = g.O.Sink.faults c.args.out.now; refusals = g.O.Sink.refusals c.args.out.now } in
+    let state : SinkState = g.O.Sink.state c.args.out.now in
     let e = err_from_is_err_and c.from_residual.result c.from_residual.ensures.1 in
     rw (e.1, e.2) (refused_first (IsTextWith (IsOutcomeByOrder inputs n c.args.order c.args.budget) false)
     (IsUnread Executable inputs.executable) IsNever (IsUnaccepted inputs.executable)
@@ -30,7 +31,7 @@ pub returns-in_err-program-clause-failure : goal.returns-in_err-program-clause-f
 returns-in_err-program-clause-failure g c =
     let inputs = bytes_of c.args.inputs.now in
     let n = c.args.nodes in
-    let state : SinkState = record { taken = g.O.Sink.taken c.args.out.now; faults = g.O.Sink.faults c.args.out.now; refusals = g.O.Sink.refusals c.args.out.now } in
+    let state : SinkState = g.O.Sink.state c.args.out.now in
     let e = err_from_is_err_and c.from_residual-in_err-program.result
     c.from_residual-in_err-program.ensures.1 in
     rw (e.1, e.2) (refused_first (IsTextWith (IsOutcomeByOrder inputs n c.args.order c.args.budget) false)
@@ -43,7 +44,7 @@ returns-in_err-layout-clause-failure g c =
     let inputs = bytes_of c.args.inputs.now in
     let n = c.args.nodes in
     let p = c.in_ok-program.program in
-    let state : SinkState = record { taken = g.O.Sink.taken c.args.out.now; faults = g.O.Sink.faults c.args.out.now; refusals = g.O.Sink.refusals c.args.out.now } in
+    let state : SinkState = g.O.Sink.state c.args.out.now in
     let e = err_from_is_err_and c.from_residual-in_err-layout.result
     c.from_residual-in_err-layout.ensures.1 in
     rw (e.1, e.2) (refused_first (IsTextWith (IsOutcomeByOrder inputs n c.args.order c.args.budget) false)
@@ -78,13 +79,13 @@ returns-clause-ok g c =
       counts = refl;
     } in
     outcome_put (IsOutcomeByOrder inputs n c.args.order c.args.budget) false o
-    (g.O.Sink.taken c.args.out.now) (g.O.Sink.taken c.put_outcome.new.out) c.put_outcome.result is
+    (g.O.Sink.state c.args.out.now) (g.O.Sink.state c.put_outcome.new.out) c.put_outcome.result is
     c.put_outcome.ensures.ok
 
 pub returns-clause-failure : goal.returns-clause-failure
 returns-clause-failure g c =
-    let before : SinkState = record { taken = g.O.Sink.taken c.args.out.now; faults = g.O.Sink.faults c.args.out.now; refusals = g.O.Sink.refusals c.args.out.now } in
-    let now : SinkState = record { taken = g.O.Sink.taken c.put_outcome.new.out; faults = g.O.Sink.faults c.put_outcome.new.out; refusals = g.O.Sink.refusals c.put_outcome.new.out } in
+    let before : SinkState = g.O.Sink.state c.args.out.now in
+    let now : SinkState = g.O.Sink.state c.put_outcome.new.out in
     let inputs = bytes_of c.args.inputs.now in
     let n = c.args.nodes in
     let e = c.in_ok-elf.elf in

@@ -1,18 +1,19 @@
 use Rattle.std.proofs.Common.{◌≡◌, [], ◌++◌, length, refl, sym, ap, ◌∙◌, subst, append-nil, append_assoc}
 use Rattle.std.proofs.lemmas.Result.{err_from_is_err_and}
 use Rattle.dsm_io.specs.Causes.{Appends}
-use Rattle.commands.specs.Answers.{SinkState}
+use Rattle.dsm_io.specs.States.{SinkState}
 use Rattle.node_model.specs.Outcome.{Outcome}
 use Rattle.commands.specs.Outcomes as outcomes
-use Rattle.commands.specs.Text.{outcome_head, outcome_tail, text_of}
+use Rattle.commands.specs.Processors.{outcome_head}
+use Rattle.commands.specs.Text.{outcome_tail, text_of}
 use Rattle.commands.specs.Failures.{IsTextOfOutcome, IsNever, IsPutFailure}
 use Rattle.commands.proofs.Pieces.{joins, nothing_put, put_fails}
 use Rattle.commands.proofs.outcome.put_outcome.Goals as goal
 
 pub returns-in_err-put-clause-failure : goal.returns-in_err-put-clause-failure
 returns-in_err-put-clause-failure g c =
-    let start : SinkState = record { taken = g.O.Sink.taken c.args.out.now; faults = g.O.Sink.faults c.args.out.now; refusals = g.O.Sink.refusals c.args.out.now } in
-    let now : SinkState = record { taken = g.O.Sink.taken c.put.new.out; faults = g.O.Sink.faults c.put.new.out; refusals = g.O.Sink.refusals c.put.new.out } in
+    let start : SinkState = g.O.Sink.state c.args.out.now in
+    let now : SinkState = g.O.Sink.state c.put.new.out in
     let o : Outcome = record { output = c.args.output.now; ends = c.args.ends.now; counts = c.args.counts.now } in
     let tail = outcome_tail o.ends o.counts in
     let head = outcome_head (length o.output) in
@@ -24,9 +25,9 @@ returns-in_err-put-clause-failure g c =
 
 pub returns-in_err-put-2-clause-failure : goal.returns-in_err-put-2-clause-failure
 returns-in_err-put-2-clause-failure g c =
-    let start : SinkState = record { taken = g.O.Sink.taken c.args.out.now; faults = g.O.Sink.faults c.args.out.now; refusals = g.O.Sink.refusals c.args.out.now } in
-    let middle : SinkState = record { taken = g.O.Sink.taken c.put.new.out; faults = g.O.Sink.faults c.put.new.out; refusals = g.O.Sink.refusals c.put.new.out } in
-    let now : SinkState = record { taken = g.O.Sink.taken c.put-2.new.out; faults = g.O.Sink.faults c.put-2.new.out; refusals = g.O.Sink.refusals c.put-2.new.out } in
+    let start : SinkState = g.O.Sink.state c.args.out.now in
+    let middle : SinkState = g.O.Sink.state c.put.new.out in
+    let now : SinkState = g.O.Sink.state c.put-2.new.out in
     let o : Outcome = record { output = c.args.output.now; ends = c.args.ends.now; counts = c.args.counts.now } in
     let tail = outcome_tail o.ends o.counts in
     let head = outcome_head (length o.output) in
@@ -40,10 +41,10 @@ returns-in_err-put-2-clause-failure g c =
 
 pub returns-in_err-put-3-clause-failure : goal.returns-in_err-put-3-clause-failure
 returns-in_err-put-3-clause-failure g c =
-    let start : SinkState = record { taken = g.O.Sink.taken c.args.out.now; faults = g.O.Sink.faults c.args.out.now; refusals = g.O.Sink.refusals c.args.out.now } in
-    let middle : SinkState = record { taken = g.O.Sink.taken c.put.new.out; faults = g.O.Sink.faults c.put.new.out; refusals = g.O.Sink.refusals c.put.new.out } in
-    let before : SinkState = record { taken = g.O.Sink.taken c.put-2.new.out; faults = g.O.Sink.faults c.put-2.new.out; refusals = g.O.Sink.refusals c.put-2.new.out } in
-    let now : SinkState = record { taken = g.O.Sink.taken c.put-3.new.out; faults = g.O.Sink.faults c.put-3.new.out; refusals = g.O.Sink.refusals c.put-3.new.out } in
+    let start : SinkState = g.O.Sink.state c.args.out.now in
+    let middle : SinkState = g.O.Sink.state c.put.new.out in
+    let before : SinkState = g.O.Sink.state c.put-2.new.out in
+    let now : SinkState = g.O.Sink.state c.put-3.new.out in
     let o : Outcome = record { output = c.args.output.now; ends = c.args.ends.now; counts = c.args.counts.now } in
     let tail = outcome_tail o.ends o.counts in
     let head = outcome_head (length o.output) in
@@ -63,10 +64,10 @@ returns-in_err-put-3-clause-failure g c =
 
 pub returns-clause-ok : goal.returns-clause-ok
 returns-clause-ok g c =
-    let start : SinkState = record { taken = g.O.Sink.taken c.args.out.now; faults = g.O.Sink.faults c.args.out.now; refusals = g.O.Sink.refusals c.args.out.now } in
-    let middle : SinkState = record { taken = g.O.Sink.taken c.put.new.out; faults = g.O.Sink.faults c.put.new.out; refusals = g.O.Sink.refusals c.put.new.out } in
-    let before : SinkState = record { taken = g.O.Sink.taken c.put-2.new.out; faults = g.O.Sink.faults c.put-2.new.out; refusals = g.O.Sink.refusals c.put-2.new.out } in
-    let now : SinkState = record { taken = g.O.Sink.taken c.put-3.new.out; faults = g.O.Sink.faults c.put-3.new.out; refusals = g.O.Sink.refusals c.put-3.new.out } in
+    let start : SinkState = g.O.Sink.state c.args.out.now in
+    let middle : SinkState = g.O.Sink.state c.put.new.out in
+    let before : SinkState = g.O.Sink.state c.put-2.new.out in
+    let now : SinkState = g.O.Sink.state c.put-3.new.out in
     let o : Outcome = record { output = c.args.output.now; ends = c.args.ends.now; counts = c.args.counts.now } in
     let tail = outcome_tail o.ends o.counts in
     let head = outcome_head (length o.output) in

@@ -2,7 +2,7 @@ use Rattle.std.proofs.Common.{◌≡◌, ℕ, List, [], sym, ap, ◌∙◌, subs
 use Rattle.rv32_program.specs.declared.End.{End}
 use Rattle.node_model.specs.declared.NodeCounts.{NodeCounts}
 use Rattle.node_model.specs.Outcome.{Outcome}
-use Rattle.commands.specs.Answers.{SinkState}
+use Rattle.dsm_io.specs.States.{SinkState}
 use Rattle.commands.specs.declared.failure.Failure.{Failure}
 use Rattle.commands.specs.Outcomes.{told}
 use Rattle.commands.specs.Failures.{FailsAs, IsTextOfOutcome, IsNever}
@@ -22,8 +22,8 @@ fails_as one other before now r same h =
 
 pub returns-then-brief-clause-failure : goal.returns-then-brief-clause-failure
 returns-then-brief-clause-failure g c =
-    let before : SinkState = record { taken = g.O.Sink.taken c.args.out.now; faults = g.O.Sink.faults c.args.out.now; refusals = g.O.Sink.refusals c.args.out.now } in
-    let now : SinkState = record { taken = g.O.Sink.taken c.put_outcome.new.out; faults = g.O.Sink.faults c.put_outcome.new.out; refusals = g.O.Sink.refusals c.put_outcome.new.out } in
+    let before : SinkState = g.O.Sink.state c.args.out.now in
+    let now : SinkState = g.O.Sink.state c.put_outcome.new.out in
     let o : Outcome = outcome_of c.args.outcome.now in
     let same : of c.deref.result.now c.deref-then-brief.result.now [] ≡ told c.args.brief o =
     ap (λ x. of x c.deref-then-brief.result.now []) c.deref.ensures.value
@@ -33,8 +33,8 @@ returns-then-brief-clause-failure g c =
 
 pub returns-else-brief-clause-failure : goal.returns-else-brief-clause-failure
 returns-else-brief-clause-failure g c =
-    let before : SinkState = record { taken = g.O.Sink.taken c.args.out.now; faults = g.O.Sink.faults c.args.out.now; refusals = g.O.Sink.refusals c.args.out.now } in
-    let now : SinkState = record { taken = g.O.Sink.taken c.put_outcome-else-brief.new.out; faults = g.O.Sink.faults c.put_outcome-else-brief.new.out; refusals = g.O.Sink.refusals c.put_outcome-else-brief.new.out } in
+    let before : SinkState = g.O.Sink.state c.args.out.now in
+    let now : SinkState = g.O.Sink.state c.put_outcome-else-brief.new.out in
     let o : Outcome = outcome_of c.args.outcome.now in
     let output = c.deref-else-brief.result.now in
     let ends = c.deref-else-brief-2.result.now in

@@ -5,8 +5,7 @@ use Rattle.commands.specs.Code.{IsRewritingOf, IsFileOf, IsOtherFile}
 use Rattle.commands.specs.Executables.{IsProgramOf, IsRejection, HasLongCode}
 use Rattle.commands.specs.Failures.{IsNever}
 use Rattle.commands.specs.Given.{bytes_of}
-use Rattle.commands.specs.Layouts.{IsBadRunLayout, IsFaultyLayout}
-use Rattle.commands.specs.Refusals.{IsRunRefused}
+use Rattle.commands.specs.Refusals.{IsRunRefused, IsBadRunLayout, IsFaultyLayout}
 use Rattle.commands.proofs.Pieces.{never, refused_too}
 use Rattle.commands.proofs.RunLemmas.{AreReady, HaveLaws, are_ready, gives_code, gives_runs, laid_over, runs_rewritten}
 use Rattle.commands.proofs.prepare.prepare.Goals as goal
@@ -130,11 +129,17 @@ returns-clause-runs c =
       licensed = c.interleaving_law.ensures.licensed;
       coherent = c.interleaving_law.ensures.coherent;
       stopped = c.interleaving_law.ensures.stopped;
+      steps = c.bounds_law.ensures.work;
+      polls = c.bounds_law.ensures.polls;
+      messages = c.bounds_law.ensures.messages;
       waits = c.progress_law.ensures.moves;
       empty = c.progress_law.ensures.over;
     } in
     let code : IsFileOf (rewritten_elf p image plan) inputs.code =
     subst (λ e. IsFileOf (rewritten_elf e image plan) inputs.code) (sym c.in_ok-program.ensures.ok)
     c.in_ok-judge_code.ensures.ok in
+    let number = c.number-words.ensures.value in
+    let range = c.number-words.ensures.range in
     gives_runs inputs c.args.nodes c.args.budget p plan image layout code c.in_ok-layout.ensures.ok
-    (gives_code inputs.batches inputs.executable c.args.budget p plan image layout ready laws)
+    (gives_code inputs.batches inputs.executable c.args.budget p plan image layout ready
+    (subst (λ n. 0 < n) number range.0) (subst (λ n. n ≤ 2 ^ 32) number range.1) laws)

@@ -112,8 +112,13 @@ returns-clause-ready c =
       licensed = c.interleaving_law.ensures.licensed;
       coherent = c.interleaving_law.ensures.coherent;
       stopped = c.interleaving_law.ensures.stopped;
+      steps = c.bounds_law.ensures.work;
+      polls = c.bounds_law.ensures.polls;
+      messages = c.bounds_law.ensures.messages;
       waits = c.progress_law.ensures.moves;
       empty = c.progress_law.ensures.over;
     } in
+    let budget = c.in-Some.ensures in
     ready_for inputs kept p plan image layout c.in-Some.budget ready c.in_ok-kept.ensures.ok
-    c.in_ok-layout.ensures.ok c.in-Some.ensures.0 laws
+    c.in_ok-layout.ensures.ok budget.0 (subst (λ n. 0 < n) (sym budget.0) budget.1.0)
+    (subst (λ n. n ≤ 2 ^ 32) (sym budget.0) budget.1.1) laws

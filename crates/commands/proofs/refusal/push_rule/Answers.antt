@@ -1,6 +1,7 @@
 use Rattle.std.proofs.Common.{◌≡◌, ◌++◌, ℕ, List, ap, ◌∙◌, codes, append_assoc}
 use Rattle.std.specs.Fmt.{decimal}
 use Rattle.exec_map.specs.declared.refused.ProgramRule.TheVariants.{Overlap, Unsupported, TooManySegments}
+use Rattle.commands.specs.Processors.{hex8}
 use Rattle.commands.specs.Text as model
 use Rattle.commands.proofs.refusal.push_rule.Goals as goal
 
@@ -21,8 +22,8 @@ returns-in_ok-push_index-in-Overlap-2 c =
 pub returns-in_ok-push_place-in-Unsupported-2 : goal.returns-in_ok-push_place-in-Unsupported-2
 returns-in_ok-push_place-in-Unsupported-2 c =
     let e : c.push_place-in-Unsupported-2.new.line.items ≡ c.args.line.now.items ++ model.rule_text (Unsupported c.in-Unsupported.address c.in-Unsupported.word) =
-    behind c.args.line.now.items (codes "Unsupported ") (model.hex8 c.in-Unsupported.address)
-    (codes " word " ++ model.hex8 c.in-Unsupported.word) c.push_place-in-Unsupported.new.line.items _
+    behind c.args.line.now.items (codes "Unsupported ") (hex8 c.in-Unsupported.address)
+    (codes " word " ++ hex8 c.in-Unsupported.word) c.push_place-in-Unsupported.new.line.items _
     c.in_ok-push_place-in-Unsupported.ensures c.in_ok-push_place-in-Unsupported-2.ensures in
     let is = c.in-Unsupported.is in
     cc

@@ -2,7 +2,7 @@ use Rattle.std.proofs.Common.{inl, inr}
 use Rattle.std.proofs.lemmas.Result.{err_from_is_err_and}
 use Rattle.dsm_core.specs.CoreParts.{outcome_of}
 use Rattle.node_model.specs.Outcome.{Outcome}
-use Rattle.commands.specs.Answers.{SinkState}
+use Rattle.dsm_io.specs.States.{SinkState}
 use Rattle.commands.specs.Executables.{IsUnread}
 use Rattle.commands.specs.declared.refusal.Subject.TheVariants.{Executable}
 use Rattle.commands.specs.Headline.{IsTextWith}
@@ -17,7 +17,7 @@ use Rattle.commands.proofs.rerun.put_replay.Goals as goal
 pub returns-in_err-elf-clause-failure : goal.returns-in_err-elf-clause-failure
 returns-in_err-elf-clause-failure g c =
     let inputs = bytes_of c.args.inputs.now in
-    let state : SinkState = record { taken = g.O.Sink.taken c.args.out.now; faults = g.O.Sink.faults c.args.out.now; refusals = g.O.Sink.refusals c.args.out.now } in
+    let state : SinkState = g.O.Sink.state c.args.out.now in
     let e = err_from_is_err_and c.from_residual.result c.from_residual.ensures.1 in
     rw (e.1, e.2) (refused_replay inputs c.args.brief state c.in_err-elf.field-0.0
     (replay_refused inputs (IsUnread Executable inputs.executable) IsNever c.in_err-elf.field-0.0
@@ -26,7 +26,7 @@ returns-in_err-elf-clause-failure g c =
 pub returns-in_err-prepared-clause-failure : goal.returns-in_err-prepared-clause-failure
 returns-in_err-prepared-clause-failure g c =
     let inputs = bytes_of c.args.inputs.now in
-    let state : SinkState = record { taken = g.O.Sink.taken c.args.out.now; faults = g.O.Sink.faults c.args.out.now; refusals = g.O.Sink.refusals c.args.out.now } in
+    let state : SinkState = g.O.Sink.state c.args.out.now in
     let e = err_from_is_err_and c.from_residual-in_err-prepared.result
     c.from_residual-in_err-prepared.ensures.1 in
     rw (e.1, e.2) (refused_replay inputs c.args.brief state c.in_err-prepared.field-0.0
@@ -38,7 +38,7 @@ returns-in_err-outcome-clause-failure g c =
     let work = work_for c.in_ok-prepared.prepared in
     let kept = c.in_ok-prepared.kept in
     let ready = c.in_ok-prepared.ensures.ready in
-    let state : SinkState = record { taken = g.O.Sink.taken c.args.out.now; faults = g.O.Sink.faults c.args.out.now; refusals = g.O.Sink.refusals c.args.out.now } in
+    let state : SinkState = g.O.Sink.state c.args.out.now in
     let e = err_from_is_err_and c.from_residual-in_err-outcome.result
     c.from_residual-in_err-outcome.ensures.1 in
     rw (e.1, e.2) (refused_replay inputs c.args.brief state c.in_err-outcome.field-0.0
@@ -59,13 +59,13 @@ returns-clause-ok g c =
     let is : IsOutcomeOfReplay inputs o =
     outcome_of_replay inputs c.in_ok-prepared.kept (work_for c.in_ok-prepared.prepared) o
     c.in_ok-prepared.ensures.ready c.in_ok-outcome.ensures.ok in
-    outcome_put (IsOutcomeOfReplay inputs) c.args.brief o (g.O.Sink.taken c.args.out.now)
-    (g.O.Sink.taken c.put_told.new.out) c.put_told.result is c.put_told.ensures.ok
+    outcome_put (IsOutcomeOfReplay inputs) c.args.brief o (g.O.Sink.state c.args.out.now)
+    (g.O.Sink.state c.put_told.new.out) c.put_told.result is c.put_told.ensures.ok
 
 pub returns-clause-failure : goal.returns-clause-failure
 returns-clause-failure g c =
-    let before : SinkState = record { taken = g.O.Sink.taken c.args.out.now; faults = g.O.Sink.faults c.args.out.now; refusals = g.O.Sink.refusals c.args.out.now } in
-    let now : SinkState = record { taken = g.O.Sink.taken c.put_told.new.out; faults = g.O.Sink.faults c.put_told.new.out; refusals = g.O.Sink.refusals c.put_told.new.out } in
+    let before : SinkState = g.O.Sink.state c.args.out.now in
+    let now : SinkState = g.O.Sink.state c.put_told.new.out in
     let inputs = bytes_of c.args.inputs.now in
     let o : Outcome = outcome_of c.in_ok-outcome.outcome in
     let is : IsOutcomeOfReplay inputs o =

@@ -3,31 +3,31 @@ use Rattle.std.proofs.lemmas.Result.{err_from_is_err_and}
 use Rattle.command_line.specs.Meaning.{file_name}
 use Rattle.dsm_core.specs.CoreParts.{outcome_of}
 use Rattle.node_model.specs.Outcome.{Outcome}
-use Rattle.commands.specs.Answers.{SinkState, FilesState}
+use Rattle.dsm_io.specs.States.{SinkState, FilesState}
+use Rattle.commands.specs.Answers.{AreLeft, AreWritten}
 use Rattle.commands.specs.Executables.{IsUnread}
 use Rattle.commands.specs.declared.refusal.Subject.TheVariants.{Executable}
-use Rattle.commands.specs.Headline.{IsOutcomeOfRun, IsOutcomeRecorded, IsTextWith, held_by}
-use Rattle.commands.specs.Failures.{FailsAs, IsNever, IsOwnRecorded, IsPerformFailure, IsRecordFailure, IsTextOfOutcome, AreKept, AreLeft, AreWritten, work_for}
+use Rattle.commands.specs.Headline.{IsText, IsOutcomeRecorded, held_by}
+use Rattle.commands.specs.Failures.{FailsAs, IsNever, IsOwnRecorded, IsPerformFailure, IsRecordFailure, IsTextOfOutcome, AreKept, work_for}
 use Rattle.commands.specs.Given.{bytes_of}
-use Rattle.commands.specs.Layouts.{IsBadRunLayout}
 use Rattle.commands.specs.Outcomes.{told}
-use Rattle.commands.specs.Refusals.{IsRunRefused}
+use Rattle.commands.specs.Refusals.{IsRunRefused, IsBadRunLayout}
 use Rattle.commands.specs.Runs.{asked_by}
 use Rattle.commands.proofs.AnswerLemmas.{err_as, ok_as, plain_fails, plain_failure}
 use Rattle.commands.proofs.Pieces.{never, outcome_put, outcome_fails, refused_first}
-use Rattle.commands.proofs.Recorded.{recorded, outcome_of_run, record_written, written_left, record_fails, names_record, record_left, record_kept, put_kept, always, always_err}
+use Rattle.commands.proofs.Recorded.{recorded, record_written, written_left, record_fails, names_record, record_left, record_kept, put_kept, always, always_err}
 use Rattle.commands.proofs.run.run.Goals as goal
 
 pub returns-in_err-elf-clause-failure : goal.returns-in_err-elf-clause-failure
 returns-in_err-elf-clause-failure g c = λ names.
     let options = c.args.options in
     let inputs = bytes_of c.args.inputs.now in
-    let state : SinkState = record { taken = g.O.Sink.taken c.args.out.now; faults = g.O.Sink.faults c.args.out.now; refusals = g.O.Sink.refusals c.args.out.now } in
-    let files : FilesState = record { held = g.F.Files.held c.args.files.now; failed_reads = g.F.Files.failed_reads c.args.files.now; failed_writes = g.F.Files.failed_writes c.args.files.now } in
+    let state : SinkState = g.O.Sink.state c.args.out.now in
+    let files : FilesState = g.F.Files.state c.args.files.now in
     let e = err_from_is_err_and c.from_residual.result c.from_residual.ensures.1 in
     rw (e.1, e.2) (plain_fails (asked_by options names) inputs files files state state
     c.in_err-elf.field-0.0
-    (refused_first (IsTextWith (IsOutcomeOfRun inputs options.nodes options.budget) options.brief)
+    (refused_first (IsText (asked_by options names) files inputs)
     (IsUnread Executable inputs.executable) IsNever (IsRunRefused inputs) (IsBadRunLayout inputs options.nodes) state
     c.in_err-elf.field-0.0 (λ line h. inl (inl (inl h))) (never (IsBadRunLayout inputs options.nodes)) c.in_err-elf.ensures.refused))
 
@@ -35,12 +35,12 @@ pub returns-in_err-prepared-clause-failure : goal.returns-in_err-prepared-clause
 returns-in_err-prepared-clause-failure g c = λ names.
     let options = c.args.options in
     let inputs = bytes_of c.args.inputs.now in
-    let state : SinkState = record { taken = g.O.Sink.taken c.args.out.now; faults = g.O.Sink.faults c.args.out.now; refusals = g.O.Sink.refusals c.args.out.now } in
-    let files : FilesState = record { held = g.F.Files.held c.args.files.now; failed_reads = g.F.Files.failed_reads c.args.files.now; failed_writes = g.F.Files.failed_writes c.args.files.now } in
+    let state : SinkState = g.O.Sink.state c.args.out.now in
+    let files : FilesState = g.F.Files.state c.args.files.now in
     let e = err_from_is_err_and c.from_residual-in_err-prepared.result c.from_residual-in_err-prepared.ensures.1 in
     rw (e.1, e.2) (plain_fails (asked_by options names) inputs files files state state
     c.in_err-prepared.field-0.0
-    (refused_first (IsTextWith (IsOutcomeOfRun inputs options.nodes options.budget) options.brief)
+    (refused_first (IsText (asked_by options names) files inputs)
     (IsRunRefused inputs) (IsBadRunLayout inputs options.nodes) (IsRunRefused inputs) (IsBadRunLayout inputs options.nodes) state
     c.in_err-prepared.field-0.0 (λ line h. h) (λ line h. h) c.in_err-prepared.ensures.refused))
 
@@ -48,21 +48,22 @@ pub returns-in_err-outcome-clause-failure : goal.returns-in_err-outcome-clause-f
 returns-in_err-outcome-clause-failure g c = λ names.
     let options = c.args.options in
     let inputs = bytes_of c.args.inputs.now in
-    let state : SinkState = record { taken = g.O.Sink.taken c.args.out.now; faults = g.O.Sink.faults c.args.out.now; refusals = g.O.Sink.refusals c.args.out.now } in
-    let files : FilesState = record { held = g.F.Files.held c.args.files.now; failed_reads = g.F.Files.failed_reads c.args.files.now; failed_writes = g.F.Files.failed_writes c.args.files.now } in
-    let files_now : FilesState = record { held = g.F.Files.held c.execute.new.files; failed_reads = g.F.Files.failed_reads c.execute.new.files; failed_writes = g.F.Files.failed_writes c.execute.new.files } in
+    let state : SinkState = g.O.Sink.state c.args.out.now in
+    let files : FilesState = g.F.Files.state c.args.files.now in
+    let files_now : FilesState = g.F.Files.state c.execute.new.files in
     let e = err_from_is_err_and c.from_residual-in_err-outcome.result
     c.from_residual-in_err-outcome.ensures.1 in
     rw (e.1, e.2) (record_fails names.file options.nodes options.budget (file_name options.record_file) names.code
-    names.layout options.brief names.no_batch inputs files files_now state c.in_err-outcome.field-0.0
+    names.layout options.brief names.no_batch inputs (work_for c.in_ok-prepared.prepared) files files_now state
+    c.in_err-outcome.field-0.0 c.in_ok-prepared.ensures.runs c.in_err-outcome.ensures.made
     c.in_err-outcome.ensures.failure)
 
 pub returns-in_err-outcome-clause-kept : goal.returns-in_err-outcome-clause-kept
 returns-in_err-outcome-clause-kept g c =
     let options = c.args.options in
     let inputs = bytes_of c.args.inputs.now in
-    let files : FilesState = record { held = g.F.Files.held c.args.files.now; failed_reads = g.F.Files.failed_reads c.args.files.now; failed_writes = g.F.Files.failed_writes c.args.files.now } in
-    let files_now : FilesState = record { held = g.F.Files.held c.execute.new.files; failed_reads = g.F.Files.failed_reads c.execute.new.files; failed_writes = g.F.Files.failed_writes c.execute.new.files } in
+    let files : FilesState = g.F.Files.state c.args.files.now in
+    let files_now : FilesState = g.F.Files.state c.execute.new.files in
     let e = err_from_is_err_and c.from_residual-in_err-outcome.result
     c.from_residual-in_err-outcome.ensures.1 in
     rw (e.1, e.2) (record_kept (file_name options.record_file) files files_now
@@ -72,8 +73,8 @@ pub returns-in_err-outcome-clause-left : goal.returns-in_err-outcome-clause-left
 returns-in_err-outcome-clause-left g c = λ names.
     let options = c.args.options in
     let inputs = bytes_of c.args.inputs.now in
-    let files : FilesState = record { held = g.F.Files.held c.args.files.now; failed_reads = g.F.Files.failed_reads c.args.files.now; failed_writes = g.F.Files.failed_writes c.args.files.now } in
-    let files_now : FilesState = record { held = g.F.Files.held c.execute.new.files; failed_reads = g.F.Files.failed_reads c.execute.new.files; failed_writes = g.F.Files.failed_writes c.execute.new.files } in
+    let files : FilesState = g.F.Files.state c.args.files.now in
+    let files_now : FilesState = g.F.Files.state c.execute.new.files in
     let left : AreLeft (asked_by options names) inputs files files_now =
     record_left names.file options.nodes options.budget (file_name options.record_file) names.code names.layout
     options.brief names.no_batch inputs files files_now c.in_err-outcome.field-0.0
@@ -86,43 +87,43 @@ returns-clause-ok g c = λ names.
     let options = c.args.options in
     let inputs = bytes_of c.args.inputs.now in
     let o : Outcome = outcome_of c.in_ok-outcome.outcome in
-    let held = held_by (g.F.Files.held c.execute.new.files) (file_name options.record_file) in
+    let held = held_by (g.F.Files.state c.execute.new.files) (file_name options.record_file) in
     let is : IsOutcomeRecorded inputs options.nodes options.budget held o =
     recorded inputs options.nodes options.budget (work_for c.in_ok-prepared.prepared) held o
     c.in_ok-prepared.ensures.runs (subst (λ b. IsOwnRecorded b (work_for c.in_ok-prepared.prepared)
     held o) c.in_ok-prepared.ensures.batches c.in_ok-outcome.ensures.outcome) in
     outcome_put (IsOutcomeRecorded inputs options.nodes options.budget held) options.brief o
-    (g.O.Sink.taken c.args.out.now) (g.O.Sink.taken c.put_told.new.out) c.put_told.result is
+    (g.O.Sink.state c.args.out.now) (g.O.Sink.state c.put_told.new.out) c.put_told.result is
     c.put_told.ensures.ok
 
 pub returns-clause-failure : goal.returns-clause-failure
 returns-clause-failure g c = λ names.
     let options = c.args.options in
     let inputs = bytes_of c.args.inputs.now in
-    let state : SinkState = record { taken = g.O.Sink.taken c.args.out.now; faults = g.O.Sink.faults c.args.out.now; refusals = g.O.Sink.refusals c.args.out.now } in
-    let now : SinkState = record { taken = g.O.Sink.taken c.put_told.new.out; faults = g.O.Sink.faults c.put_told.new.out; refusals = g.O.Sink.refusals c.put_told.new.out } in
-    let files : FilesState = record { held = g.F.Files.held c.args.files.now; failed_reads = g.F.Files.failed_reads c.args.files.now; failed_writes = g.F.Files.failed_writes c.args.files.now } in
-    let files_now : FilesState = record { held = g.F.Files.held c.execute.new.files; failed_reads = g.F.Files.failed_reads c.execute.new.files; failed_writes = g.F.Files.failed_writes c.execute.new.files } in
+    let state : SinkState = g.O.Sink.state c.args.out.now in
+    let now : SinkState = g.O.Sink.state c.put_told.new.out in
+    let files : FilesState = g.F.Files.state c.args.files.now in
+    let files_now : FilesState = g.F.Files.state c.execute.new.files in
     let o : Outcome = outcome_of c.in_ok-outcome.outcome in
-    let held = held_by (g.F.Files.held c.execute.new.files) (file_name options.record_file) in
+    let held = held_by (g.F.Files.state c.execute.new.files) (file_name options.record_file) in
     let is : IsOutcomeRecorded inputs options.nodes options.budget held o =
     recorded inputs options.nodes options.budget (work_for c.in_ok-prepared.prepared) held o
     c.in_ok-prepared.ensures.runs (subst (λ b. IsOwnRecorded b (work_for c.in_ok-prepared.prepared)
     held o) c.in_ok-prepared.ensures.batches c.in_ok-outcome.ensures.outcome) in
     plain_failure (asked_by options names) inputs files files_now state now
     c.put_told.result
-    (outcome_fails (IsOutcomeOfRun inputs options.nodes options.budget) options.brief
+    (outcome_fails (IsOutcomeRecorded inputs options.nodes options.budget held) options.brief
     (IsRunRefused inputs) (IsBadRunLayout inputs options.nodes) o state now c.put_told.result
-    (outcome_of_run inputs options.nodes options.budget held o is) c.put_told.ensures.failure)
+    is c.put_told.ensures.failure)
 
 pub returns-clause-kept : goal.returns-clause-kept
 returns-clause-kept g c =
     let options = c.args.options in
     let inputs = bytes_of c.args.inputs.now in
-    let state : SinkState = record { taken = g.O.Sink.taken c.args.out.now; faults = g.O.Sink.faults c.args.out.now; refusals = g.O.Sink.refusals c.args.out.now } in
-    let now : SinkState = record { taken = g.O.Sink.taken c.put_told.new.out; faults = g.O.Sink.faults c.put_told.new.out; refusals = g.O.Sink.refusals c.put_told.new.out } in
-    let files : FilesState = record { held = g.F.Files.held c.args.files.now; failed_reads = g.F.Files.failed_reads c.args.files.now; failed_writes = g.F.Files.failed_writes c.args.files.now } in
-    let files_now : FilesState = record { held = g.F.Files.held c.execute.new.files; failed_reads = g.F.Files.failed_reads c.execute.new.files; failed_writes = g.F.Files.failed_writes c.execute.new.files } in
+    let state : SinkState = g.O.Sink.state c.args.out.now in
+    let now : SinkState = g.O.Sink.state c.put_told.new.out in
+    let files : FilesState = g.F.Files.state c.args.files.now in
+    let files_now : FilesState = g.F.Files.state c.execute.new.files in
     let o : Outcome = outcome_of c.in_ok-outcome.outcome in
     err_as (FailsAs (IsTextOfOutcome (told options.brief o)) IsNever IsNever state now)
     (AreKept files files_now) c.put_told.result
@@ -133,9 +134,9 @@ pub returns-clause-written : goal.returns-clause-written
 returns-clause-written g c = λ names.
     let options = c.args.options in
     let inputs = bytes_of c.args.inputs.now in
-    let files_now : FilesState = record { held = g.F.Files.held c.execute.new.files; failed_reads = g.F.Files.failed_reads c.execute.new.files; failed_writes = g.F.Files.failed_writes c.execute.new.files } in
+    let files_now : FilesState = g.F.Files.state c.execute.new.files in
     let o : Outcome = outcome_of c.in_ok-outcome.outcome in
-    let held = held_by (g.F.Files.held c.execute.new.files) (file_name options.record_file) in
+    let held = held_by (g.F.Files.state c.execute.new.files) (file_name options.record_file) in
     let is : IsOutcomeRecorded inputs options.nodes options.budget held o =
     recorded inputs options.nodes options.budget (work_for c.in_ok-prepared.prepared) held o
     c.in_ok-prepared.ensures.runs (subst (λ b. IsOwnRecorded b (work_for c.in_ok-prepared.prepared)
@@ -150,10 +151,10 @@ pub returns-clause-left : goal.returns-clause-left
 returns-clause-left g c = λ names.
     let options = c.args.options in
     let inputs = bytes_of c.args.inputs.now in
-    let files : FilesState = record { held = g.F.Files.held c.args.files.now; failed_reads = g.F.Files.failed_reads c.args.files.now; failed_writes = g.F.Files.failed_writes c.args.files.now } in
-    let files_now : FilesState = record { held = g.F.Files.held c.execute.new.files; failed_reads = g.F.Files.failed_reads c.execute.new.files; failed_writes = g.F.Files.failed_writes c.execute.new.files } in
+    let files : FilesState = g.F.Files.state c.args.files.now in
+    let files_now : FilesState = g.F.Files.state c.execute.new.files in
     let o : Outcome = outcome_of c.in_ok-outcome.outcome in
-    let held = held_by (g.F.Files.held c.execute.new.files) (file_name options.record_file) in
+    let held = held_by (g.F.Files.state c.execute.new.files) (file_name options.record_file) in
     let is : IsOutcomeRecorded inputs options.nodes options.budget held o =
     recorded inputs options.nodes options.budget (work_for c.in_ok-prepared.prepared) held o
     c.in_ok-prepared.ensures.runs (subst (λ b. IsOwnRecorded b (work_for c.in_ok-prepared.prepared)

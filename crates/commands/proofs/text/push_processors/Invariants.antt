@@ -1,5 +1,5 @@
 use Rattle.std.proofs.Common.{◌≡◌, ◌++◌, drop}
-use Rattle.commands.specs.Text.{processor_lines}
+use Rattle.commands.specs.Processors.{processor_lines}
 use Rattle.commands.proofs.text.push_processors.Given as goal
 
 -- the lines that are to come, behind those that there are, make the whole

@@ -1,48 +1,63 @@
-use Rattle.command_line.specs.Commands.{Replay}
+use Rattle.command_line.specs.Commands.{Generate, Replay, Rewrite}
 use Rattle.command_line.specs.Meaning.{meaning_of, file_name}
-use Rattle.commands.specs.Answers.{SinkState, FilesState}
-use Rattle.commands.specs.Failures.{IsPerformFailure, IsReplayFailure}
+use Rattle.dsm_io.specs.States.{SinkState, FilesState}
+use Rattle.commands.specs.Failures.{IsPerformFailure, IsReplayFailure, IsRewriteFailure, IsWriteFailure}
 use Rattle.commands.specs.Given.{bytes_of}
-use Rattle.commands.proofs.AnswerLemmas.{err_as, plain_failure, puts_nothing}
-use Rattle.commands.proofs.GenerateLemmas.{generates}
+use Rattle.commands.proofs.AnswerLemmas.{err_as, plain_failure, puts_nothing, rewrite_fails}
+use Rattle.commands.proofs.GenerateLemmas.{generates, generate_fails}
 use Rattle.commands.proofs.ReplayLemmas.{replay_fails}
 use Rattle.commands.proofs.top.perform.Goals as goal
 
 pub returns-in-Rewrite-clause-ok : goal.returns-in-Rewrite-clause-ok
 returns-in-Rewrite-clause-ok g c =
-    puts_nothing (meaning_of c.args.command.now) (g.F.Files.held c.rewrite_into.new.files)
-    (bytes_of c.args.inputs.now) (g.O.Sink.taken c.args.out.now)
+    puts_nothing (meaning_of c.args.command.now) (g.F.Files.state c.rewrite_into.new.files)
+    (bytes_of c.args.inputs.now) (g.O.Sink.state c.args.out.now)
     c.rewrite_into.result (λ status h. rw c.in-Rewrite.is h) c.rewrite_into.ensures.text
+
+pub returns-in-Rewrite-clause-failure : goal.returns-in-Rewrite-clause-failure
+returns-in-Rewrite-clause-failure g c =
+    let files : FilesState = g.F.Files.state c.args.files.now in
+    let files_now : FilesState = g.F.Files.state c.rewrite_into.new.files in
+    let state : SinkState = g.O.Sink.state c.args.out.now in
+    let inputs = bytes_of c.args.inputs.now in
+    let input = c.in-Rewrite.input.now in
+    let output = c.in-Rewrite.output.now in
+    let no_batch = c.in-Rewrite.no_batch in
+    rw c.in-Rewrite.is
+    (err_as (IsRewriteFailure inputs.batches inputs.executable files files_now output)
+    (IsPerformFailure (Rewrite input output no_batch) inputs files files_now state state)
+    c.rewrite_into.result (rewrite_fails input output no_batch inputs files files_now state)
+    c.rewrite_into.ensures.failure)
 
 pub returns-in-List-clause-failure : goal.returns-in-List-clause-failure
 returns-in-List-clause-failure g c =
-    let files : FilesState = record { held = g.F.Files.held c.args.files.now; failed_reads = g.F.Files.failed_reads c.args.files.now; failed_writes = g.F.Files.failed_writes c.args.files.now } in
-    let before : SinkState = record { taken = g.O.Sink.taken c.args.out.now; faults = g.O.Sink.faults c.args.out.now; refusals = g.O.Sink.refusals c.args.out.now } in
-    let now : SinkState = record { taken = g.O.Sink.taken c.list.new.out; faults = g.O.Sink.faults c.list.new.out; refusals = g.O.Sink.refusals c.list.new.out } in
+    let files : FilesState = g.F.Files.state c.args.files.now in
+    let before : SinkState = g.O.Sink.state c.args.out.now in
+    let now : SinkState = g.O.Sink.state c.list.new.out in
     plain_failure (meaning_of c.args.command.now) (bytes_of c.args.inputs.now) files files before now
     c.list.result (rw c.in-List.is c.list.ensures.failure)
 
 pub returns-in-One-clause-failure : goal.returns-in-One-clause-failure
 returns-in-One-clause-failure g c =
-    let files : FilesState = record { held = g.F.Files.held c.args.files.now; failed_reads = g.F.Files.failed_reads c.args.files.now; failed_writes = g.F.Files.failed_writes c.args.files.now } in
-    let before : SinkState = record { taken = g.O.Sink.taken c.args.out.now; faults = g.O.Sink.faults c.args.out.now; refusals = g.O.Sink.refusals c.args.out.now } in
-    let now : SinkState = record { taken = g.O.Sink.taken c.one.new.out; faults = g.O.Sink.faults c.one.new.out; refusals = g.O.Sink.refusals c.one.new.out } in
+    let files : FilesState = g.F.Files.state c.args.files.now in
+    let before : SinkState = g.O.Sink.state c.args.out.now in
+    let now : SinkState = g.O.Sink.state c.one.new.out in
     plain_failure (meaning_of c.args.command.now) (bytes_of c.args.inputs.now) files files before now
     c.one.result (rw c.in-One.is c.one.ensures.failure)
 
 pub returns-in-Sim-clause-failure : goal.returns-in-Sim-clause-failure
 returns-in-Sim-clause-failure g c =
-    let files : FilesState = record { held = g.F.Files.held c.args.files.now; failed_reads = g.F.Files.failed_reads c.args.files.now; failed_writes = g.F.Files.failed_writes c.args.files.now } in
-    let before : SinkState = record { taken = g.O.Sink.taken c.args.out.now; faults = g.O.Sink.faults c.args.out.now; refusals = g.O.Sink.refusals c.args.out.now } in
-    let now : SinkState = record { taken = g.O.Sink.taken c.sim.new.out; faults = g.O.Sink.faults c.sim.new.out; refusals = g.O.Sink.refusals c.sim.new.out } in
+    let files : FilesState = g.F.Files.state c.args.files.now in
+    let before : SinkState = g.O.Sink.state c.args.out.now in
+    let now : SinkState = g.O.Sink.state c.sim.new.out in
     plain_failure (meaning_of c.args.command.now) (bytes_of c.args.inputs.now) files files before now
     c.sim.result (rw c.in-Sim.is c.sim.ensures.failure)
 
 pub returns-in-Replay-clause-failure : goal.returns-in-Replay-clause-failure
 returns-in-Replay-clause-failure g c =
-    let files : FilesState = record { held = g.F.Files.held c.args.files.now; failed_reads = g.F.Files.failed_reads c.args.files.now; failed_writes = g.F.Files.failed_writes c.args.files.now } in
-    let before : SinkState = record { taken = g.O.Sink.taken c.args.out.now; faults = g.O.Sink.faults c.args.out.now; refusals = g.O.Sink.refusals c.args.out.now } in
-    let now : SinkState = record { taken = g.O.Sink.taken c.put_replay.new.out; faults = g.O.Sink.faults c.put_replay.new.out; refusals = g.O.Sink.refusals c.put_replay.new.out } in
+    let files : FilesState = g.F.Files.state c.args.files.now in
+    let before : SinkState = g.O.Sink.state c.args.out.now in
+    let now : SinkState = g.O.Sink.state c.put_replay.new.out in
     let inputs = bytes_of c.args.inputs.now in
     let brief = c.in-Replay.brief in
     let asked = Replay c.in-Replay.file.now c.in-Replay.record_file.now brief in
@@ -54,8 +69,21 @@ returns-in-Replay-clause-failure g c =
 pub returns-in-Generate-clause-ok : goal.returns-in-Generate-clause-ok
 returns-in-Generate-clause-ok g c =
     rw c.in-Generate.is (generates c.in-Generate.number c.in-Generate.output.now
-    (g.F.Files.held c.generate_into.new.files) (bytes_of c.args.inputs.now)
-    (g.O.Sink.taken c.args.out.now) c.generate_into.result c.generate_into.ensures.status)
+    (g.F.Files.state c.generate_into.new.files) (bytes_of c.args.inputs.now)
+    (g.O.Sink.state c.args.out.now) c.generate_into.result c.generate_into.ensures.status)
+
+pub returns-in-Generate-clause-failure : goal.returns-in-Generate-clause-failure
+returns-in-Generate-clause-failure g c =
+    let files : FilesState = g.F.Files.state c.args.files.now in
+    let files_now : FilesState = g.F.Files.state c.generate_into.new.files in
+    let state : SinkState = g.O.Sink.state c.args.out.now in
+    let inputs = bytes_of c.args.inputs.now in
+    let number = c.in-Generate.number in
+    let output = c.in-Generate.output.now in
+    rw c.in-Generate.is (err_as (IsWriteFailure files files_now output)
+    (IsPerformFailure (Generate number output) inputs files files_now state state)
+    c.generate_into.result (generate_fails number output inputs files files_now state)
+    c.generate_into.ensures.failure)
 
 pub returns-in-Run-clause-ok : goal.returns-in-Run-clause-ok
 returns-in-Run-clause-ok g c =

@@ -2,10 +2,10 @@ use Rattle.std.proofs.Common.{◌≡◌, ℕ, List, sym, ◌∙◌, subst, inl, 
 use Rattle.std.specs.Prelude.{Contains}
 use Rattle.command_line.specs.Commands.{reads}
 use Rattle.command_line.specs.Meaning.{meaning_of}
-use Rattle.commands.specs.Answers.{SinkState, FilesState, Tells}
-use Rattle.commands.specs.Failures.{IsFailure, IsSuccess, AreLeft, AreWritten, line_of}
-use Rattle.commands.specs.Headline.{AreTold}
-use Rattle.commands.specs.Inputs.{inputs_of}
+use Rattle.dsm_io.specs.States.{SinkState, FilesState}
+use Rattle.commands.specs.Answers.{Tells, AreLeft, AreWritten}
+use Rattle.commands.specs.Failures.{IsFailure, IsSuccess, line_of}
+use Rattle.commands.specs.Inputs.{AreTold, inputs_of}
 use Rattle.commands.specs.Text.{usage}
 use Rattle.commands.proofs.AnswerLemmas.{fault_of, refusal_of, layout_refusal_of, record_refusal_of, prefix_of_failure, asked_as, none_as}
 use Rattle.commands.proofs.InterleavedLemmas.{prints_original}
@@ -14,8 +14,8 @@ use Rattle.commands.proofs.top.shasta.Goals as goal
 pub returns-in-Ok-None-clause-usage : goal.returns-in-Ok-None-clause-usage
 unfolding usage
 returns-in-Ok-None-clause-usage g c = λ two.
-    let before : SinkState = record { taken = g.E.Sink.taken c.args.err.now; faults = g.E.Sink.faults c.args.err.now; refusals = g.E.Sink.refusals c.args.err.now } in
-    let now : SinkState = record { taken = g.E.Sink.taken c.tell.new.err; faults = g.E.Sink.faults c.tell.new.err; refusals = g.E.Sink.refusals c.tell.new.err } in
+    let before : SinkState = g.E.Sink.state c.args.err.now in
+    let now : SinkState = g.E.Sink.state c.tell.new.err in
     subst (Tells before now) c.as_bytes.ensures.value c.tell.ensures
 
 pub returns-in-Ok-None-clause-longer : goal.returns-in-Ok-None-clause-longer
@@ -27,18 +27,18 @@ returns-in-Ok-clause-prints g c = λ d contents asks told low.
     let cmd = meaning_of c.in-Ok-Some.command in
     let same : cmd ≡ d = c.in-Ok-Some.ensures.only cmd d
     (asked_as c.args.words.now _ c.in-Ok-Some.command (search rules) c.in-Ok-Some.ensures.asks) asks in
-    let before : SinkState = record { taken = g.O.Sink.taken c.args.out.now; faults = g.O.Sink.faults c.args.out.now; refusals = g.O.Sink.refusals c.args.out.now } in
-    let now : SinkState = record { taken = g.O.Sink.taken c.answer.new.out; faults = g.O.Sink.faults c.answer.new.out; refusals = g.O.Sink.refusals c.answer.new.out } in
-    let files : FilesState = record { held = g.F.Files.held c.args.files.now; failed_reads = g.F.Files.failed_reads c.args.files.now; failed_writes = g.F.Files.failed_writes c.args.files.now } in
-    let files_now : FilesState = record { held = g.F.Files.held c.answer.new.files; failed_reads = g.F.Files.failed_reads c.answer.new.files; failed_writes = g.F.Files.failed_writes c.answer.new.files } in
+    let before : SinkState = g.O.Sink.state c.args.out.now in
+    let now : SinkState = g.O.Sink.state c.answer.new.out in
+    let files : FilesState = g.F.Files.state c.args.files.now in
+    let files_now : FilesState = g.F.Files.state c.answer.new.files in
     let success : IsSuccess d files files_now before now c.in-Ok.status =
     subst (λ x. IsSuccess x files files_now before now c.in-Ok.status) same c.in-Ok.ensures.ok in
     success.prints contents told
 
 pub returns-in-Ok-clause-interleaved : goal.returns-in-Ok-clause-interleaved
 returns-in-Ok-clause-interleaved g c = λ d contents asks told low.
-    prints_original d contents (g.F.Files.held c.answer.new.files) (g.O.Sink.taken c.args.out.now)
-    (g.O.Sink.taken c.answer.new.out) c.in-Ok.status
+    prints_original d contents (g.F.Files.state c.answer.new.files) (g.O.Sink.state c.args.out.now)
+    (g.O.Sink.state c.answer.new.out) c.in-Ok.status
     (returns-in-Ok-clause-prints g c d contents asks told low)
 
 pub returns-in-Ok-clause-longer : goal.returns-in-Ok-clause-longer
@@ -54,14 +54,14 @@ returns-in-Err-answer-clause-refused g c = λ d contents asks known four.
     let cmd = meaning_of c.in-Ok-Some.command in
     let same : cmd ≡ d = c.in-Ok-Some.ensures.only cmd d
     (asked_as c.args.words.now _ c.in-Ok-Some.command (search rules) c.in-Ok-Some.ensures.asks) asks in
-    let before : SinkState = record { taken = g.O.Sink.taken c.args.out.now; faults = g.O.Sink.faults c.args.out.now; refusals = g.O.Sink.refusals c.args.out.now } in
-    let now : SinkState = record { taken = g.O.Sink.taken c.answer.new.out; faults = g.O.Sink.faults c.answer.new.out; refusals = g.O.Sink.refusals c.answer.new.out } in
-    let files : FilesState = record { held = g.F.Files.held c.args.files.now; failed_reads = g.F.Files.failed_reads c.args.files.now; failed_writes = g.F.Files.failed_writes c.args.files.now } in
-    let files_now : FilesState = record { held = g.F.Files.held c.answer.new.files; failed_reads = g.F.Files.failed_reads c.answer.new.files; failed_writes = g.F.Files.failed_writes c.answer.new.files } in
+    let before : SinkState = g.O.Sink.state c.args.out.now in
+    let now : SinkState = g.O.Sink.state c.answer.new.out in
+    let files : FilesState = g.F.Files.state c.args.files.now in
+    let files_now : FilesState = g.F.Files.state c.answer.new.files in
     let failure : IsFailure d files files_now before now c.in-Err-answer.failure =
     subst (λ x. IsFailure x files files_now before now c.in-Err-answer.failure) same c.in-Err-answer.ensures.failure in
-    let err_before : SinkState = record { taken = g.E.Sink.taken c.args.err.now; faults = g.E.Sink.faults c.args.err.now; refusals = g.E.Sink.refusals c.args.err.now } in
-    let err_now : SinkState = record { taken = g.E.Sink.taken c.tell-in-Err-answer.new.err; faults = g.E.Sink.faults c.tell-in-Err-answer.new.err; refusals = g.E.Sink.refusals c.tell-in-Err-answer.new.err } in
+    let err_before : SinkState = g.E.Sink.state c.args.err.now in
+    let err_now : SinkState = g.E.Sink.state c.tell-in-Err-answer.new.err in
     let told : Tells err_before err_now (line_of c.in-Err-answer.failure) =
     subst (Tells err_before err_now) c.line.ensures.value c.tell-in-Err-answer.ensures in
     refusal_of d files files_now before now c.in-Err-answer.failure (Tells err_before err_now) failure told
@@ -72,14 +72,14 @@ returns-in-Err-answer-clause-layout g c = λ d contents asks known six.
     let cmd = meaning_of c.in-Ok-Some.command in
     let same : cmd ≡ d = c.in-Ok-Some.ensures.only cmd d
     (asked_as c.args.words.now _ c.in-Ok-Some.command (search rules) c.in-Ok-Some.ensures.asks) asks in
-    let before : SinkState = record { taken = g.O.Sink.taken c.args.out.now; faults = g.O.Sink.faults c.args.out.now; refusals = g.O.Sink.refusals c.args.out.now } in
-    let now : SinkState = record { taken = g.O.Sink.taken c.answer.new.out; faults = g.O.Sink.faults c.answer.new.out; refusals = g.O.Sink.refusals c.answer.new.out } in
-    let files : FilesState = record { held = g.F.Files.held c.args.files.now; failed_reads = g.F.Files.failed_reads c.args.files.now; failed_writes = g.F.Files.failed_writes c.args.files.now } in
-    let files_now : FilesState = record { held = g.F.Files.held c.answer.new.files; failed_reads = g.F.Files.failed_reads c.answer.new.files; failed_writes = g.F.Files.failed_writes c.answer.new.files } in
+    let before : SinkState = g.O.Sink.state c.args.out.now in
+    let now : SinkState = g.O.Sink.state c.answer.new.out in
+    let files : FilesState = g.F.Files.state c.args.files.now in
+    let files_now : FilesState = g.F.Files.state c.answer.new.files in
     let failure : IsFailure d files files_now before now c.in-Err-answer.failure =
     subst (λ x. IsFailure x files files_now before now c.in-Err-answer.failure) same c.in-Err-answer.ensures.failure in
-    let err_before : SinkState = record { taken = g.E.Sink.taken c.args.err.now; faults = g.E.Sink.faults c.args.err.now; refusals = g.E.Sink.refusals c.args.err.now } in
-    let err_now : SinkState = record { taken = g.E.Sink.taken c.tell-in-Err-answer.new.err; faults = g.E.Sink.faults c.tell-in-Err-answer.new.err; refusals = g.E.Sink.refusals c.tell-in-Err-answer.new.err } in
+    let err_before : SinkState = g.E.Sink.state c.args.err.now in
+    let err_now : SinkState = g.E.Sink.state c.tell-in-Err-answer.new.err in
     let told : Tells err_before err_now (line_of c.in-Err-answer.failure) =
     subst (Tells err_before err_now) c.line.ensures.value c.tell-in-Err-answer.ensures in
     layout_refusal_of d files files_now before now c.in-Err-answer.failure (Tells err_before err_now) failure told
@@ -90,14 +90,14 @@ returns-in-Err-answer-clause-record g c = λ d contents asks known seven.
     let cmd = meaning_of c.in-Ok-Some.command in
     let same : cmd ≡ d = c.in-Ok-Some.ensures.only cmd d
     (asked_as c.args.words.now _ c.in-Ok-Some.command (search rules) c.in-Ok-Some.ensures.asks) asks in
-    let before : SinkState = record { taken = g.O.Sink.taken c.args.out.now; faults = g.O.Sink.faults c.args.out.now; refusals = g.O.Sink.refusals c.args.out.now } in
-    let now : SinkState = record { taken = g.O.Sink.taken c.answer.new.out; faults = g.O.Sink.faults c.answer.new.out; refusals = g.O.Sink.refusals c.answer.new.out } in
-    let files : FilesState = record { held = g.F.Files.held c.args.files.now; failed_reads = g.F.Files.failed_reads c.args.files.now; failed_writes = g.F.Files.failed_writes c.args.files.now } in
-    let files_now : FilesState = record { held = g.F.Files.held c.answer.new.files; failed_reads = g.F.Files.failed_reads c.answer.new.files; failed_writes = g.F.Files.failed_writes c.answer.new.files } in
+    let before : SinkState = g.O.Sink.state c.args.out.now in
+    let now : SinkState = g.O.Sink.state c.answer.new.out in
+    let files : FilesState = g.F.Files.state c.args.files.now in
+    let files_now : FilesState = g.F.Files.state c.answer.new.files in
     let failure : IsFailure d files files_now before now c.in-Err-answer.failure =
     subst (λ x. IsFailure x files files_now before now c.in-Err-answer.failure) same c.in-Err-answer.ensures.failure in
-    let err_before : SinkState = record { taken = g.E.Sink.taken c.args.err.now; faults = g.E.Sink.faults c.args.err.now; refusals = g.E.Sink.refusals c.args.err.now } in
-    let err_now : SinkState = record { taken = g.E.Sink.taken c.tell-in-Err-answer.new.err; faults = g.E.Sink.faults c.tell-in-Err-answer.new.err; refusals = g.E.Sink.refusals c.tell-in-Err-answer.new.err } in
+    let err_before : SinkState = g.E.Sink.state c.args.err.now in
+    let err_now : SinkState = g.E.Sink.state c.tell-in-Err-answer.new.err in
     let told : Tells err_before err_now (line_of c.in-Err-answer.failure) =
     subst (Tells err_before err_now) c.line.ensures.value c.tell-in-Err-answer.ensures in
     record_refusal_of d files files_now before now c.in-Err-answer.failure (Tells err_before err_now) failure told
@@ -108,14 +108,14 @@ returns-in-Err-answer-clause-fault g c = λ d asks three.
     let cmd = meaning_of c.in-Ok-Some.command in
     let same : cmd ≡ d = c.in-Ok-Some.ensures.only cmd d
     (asked_as c.args.words.now _ c.in-Ok-Some.command (search rules) c.in-Ok-Some.ensures.asks) asks in
-    let before : SinkState = record { taken = g.O.Sink.taken c.args.out.now; faults = g.O.Sink.faults c.args.out.now; refusals = g.O.Sink.refusals c.args.out.now } in
-    let now : SinkState = record { taken = g.O.Sink.taken c.answer.new.out; faults = g.O.Sink.faults c.answer.new.out; refusals = g.O.Sink.refusals c.answer.new.out } in
-    let files : FilesState = record { held = g.F.Files.held c.args.files.now; failed_reads = g.F.Files.failed_reads c.args.files.now; failed_writes = g.F.Files.failed_writes c.args.files.now } in
-    let files_now : FilesState = record { held = g.F.Files.held c.answer.new.files; failed_reads = g.F.Files.failed_reads c.answer.new.files; failed_writes = g.F.Files.failed_writes c.answer.new.files } in
+    let before : SinkState = g.O.Sink.state c.args.out.now in
+    let now : SinkState = g.O.Sink.state c.answer.new.out in
+    let files : FilesState = g.F.Files.state c.args.files.now in
+    let files_now : FilesState = g.F.Files.state c.answer.new.files in
     let failure : IsFailure d files files_now before now c.in-Err-answer.failure =
     subst (λ x. IsFailure x files files_now before now c.in-Err-answer.failure) same c.in-Err-answer.ensures.failure in
-    let err_before : SinkState = record { taken = g.E.Sink.taken c.args.err.now; faults = g.E.Sink.faults c.args.err.now; refusals = g.E.Sink.refusals c.args.err.now } in
-    let err_now : SinkState = record { taken = g.E.Sink.taken c.tell-in-Err-answer.new.err; faults = g.E.Sink.faults c.tell-in-Err-answer.new.err; refusals = g.E.Sink.refusals c.tell-in-Err-answer.new.err } in
+    let err_before : SinkState = g.E.Sink.state c.args.err.now in
+    let err_now : SinkState = g.E.Sink.state c.tell-in-Err-answer.new.err in
     let told : Tells err_before err_now (line_of c.in-Err-answer.failure) =
     subst (Tells err_before err_now) c.line.ensures.value c.tell-in-Err-answer.ensures in
     fault_of d files files_now before now c.in-Err-answer.failure (Tells err_before err_now) failure told
@@ -138,10 +138,10 @@ returns-in-Err-answer-clause-prefix g c = λ d contents asks known five.
     let cmd = meaning_of c.in-Ok-Some.command in
     let same : cmd ≡ d = c.in-Ok-Some.ensures.only cmd d
     (asked_as c.args.words.now _ c.in-Ok-Some.command (search rules) c.in-Ok-Some.ensures.asks) asks in
-    let before : SinkState = record { taken = g.O.Sink.taken c.args.out.now; faults = g.O.Sink.faults c.args.out.now; refusals = g.O.Sink.refusals c.args.out.now } in
-    let now : SinkState = record { taken = g.O.Sink.taken c.answer.new.out; faults = g.O.Sink.faults c.answer.new.out; refusals = g.O.Sink.refusals c.answer.new.out } in
-    let files : FilesState = record { held = g.F.Files.held c.args.files.now; failed_reads = g.F.Files.failed_reads c.args.files.now; failed_writes = g.F.Files.failed_writes c.args.files.now } in
-    let files_now : FilesState = record { held = g.F.Files.held c.answer.new.files; failed_reads = g.F.Files.failed_reads c.answer.new.files; failed_writes = g.F.Files.failed_writes c.answer.new.files } in
+    let before : SinkState = g.O.Sink.state c.args.out.now in
+    let now : SinkState = g.O.Sink.state c.answer.new.out in
+    let files : FilesState = g.F.Files.state c.args.files.now in
+    let files_now : FilesState = g.F.Files.state c.answer.new.files in
     let failure : IsFailure d files files_now before now c.in-Err-answer.failure =
     subst (λ x. IsFailure x files files_now before now c.in-Err-answer.failure) same c.in-Err-answer.ensures.failure in
     prefix_of_failure d files files_now before now c.in-Err-answer.failure failure
@@ -152,9 +152,9 @@ returns-in-Ok-clause-written g c = λ d contents asks told low.
     let cmd = meaning_of c.in-Ok-Some.command in
     let same : cmd ≡ d = c.in-Ok-Some.ensures.only cmd d
     (asked_as c.args.words.now _ c.in-Ok-Some.command (search rules) c.in-Ok-Some.ensures.asks) asks in
-    let held = g.F.Files.held c.args.files.now in
-    let files_now : FilesState = record { held = g.F.Files.held c.answer.new.files; failed_reads = g.F.Files.failed_reads c.answer.new.files; failed_writes = g.F.Files.failed_writes c.answer.new.files } in
-    subst (λ x. (k : List ℕ → List ℕ) → AreTold x held k → AreWritten x (inputs_of x k) files_now) same
+    let files : FilesState = g.F.Files.state c.args.files.now in
+    let files_now : FilesState = g.F.Files.state c.answer.new.files in
+    subst (λ x. (k : List ℕ → List ℕ) → AreTold x files k → AreWritten x (inputs_of x k) files_now) same
     c.in-Ok.ensures.written contents told
 
 pub returns-in-Err-answer-clause-left : goal.returns-in-Err-answer-clause-left
@@ -162,8 +162,7 @@ returns-in-Err-answer-clause-left g c = λ d contents asks told failed.
     let cmd = meaning_of c.in-Ok-Some.command in
     let same : cmd ≡ d = c.in-Ok-Some.ensures.only cmd d
     (asked_as c.args.words.now _ c.in-Ok-Some.command (search rules) c.in-Ok-Some.ensures.asks) asks in
-    let held = g.F.Files.held c.args.files.now in
-    let files : FilesState = record { held = g.F.Files.held c.args.files.now; failed_reads = g.F.Files.failed_reads c.args.files.now; failed_writes = g.F.Files.failed_writes c.args.files.now } in
-    let files_now : FilesState = record { held = g.F.Files.held c.answer.new.files; failed_reads = g.F.Files.failed_reads c.answer.new.files; failed_writes = g.F.Files.failed_writes c.answer.new.files } in
-    subst (λ x. (k : List ℕ → List ℕ) → AreTold x held k → AreLeft x (inputs_of x k) files files_now) same
+    let files : FilesState = g.F.Files.state c.args.files.now in
+    let files_now : FilesState = g.F.Files.state c.answer.new.files in
+    subst (λ x. (k : List ℕ → List ℕ) → AreTold x files k → AreLeft x (inputs_of x k) files files_now) same
     c.in-Err-answer.ensures.left contents told
