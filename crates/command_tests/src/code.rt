@@ -136,12 +136,31 @@ fn judges_what_it_reads_in_order(rt: HostRuntime) -> Result<(), Fail> {
     Ok(())
 }
 
-/// Files are read in the order of the words, before any is judged.
-const READS: [Case; 2] = [
+/// Of files that can't be read the first is told, before any is judged: the executable, its code,
+/// the layout, and the record.
+const READS: [Case; 3] = [
     Case {
         input: Input::Bytes(b""),
         text: "",
-        calls: &["run IN --layout a --code b", "sim IN --layout a --code b"],
+        calls: &[
+            "run a --layout b",
+            "run a --layout c --code b",
+            "sim a --code b",
+            "one a --layout b",
+            "replay a b",
+        ],
+        status: 3,
+        out: &[],
+        err: "shasta: cannot read a\n",
+    },
+    Case {
+        input: Input::Bytes(b""),
+        text: "",
+        calls: &[
+            "run IN --layout a --code b",
+            "sim IN --layout a --code b",
+            "replay IN b",
+        ],
         status: 3,
         out: &[],
         err: "shasta: cannot read b\n",
@@ -157,7 +176,7 @@ const READS: [Case; 2] = [
 ];
 
 #[test]
-fn reads_the_code_before_the_layout(rt: HostRuntime) -> Result<(), Fail> {
+fn reads_the_files_in_order(rt: HostRuntime) -> Result<(), Fail> {
     for case in &READS {
         try_case(&rt, case)?;
     }

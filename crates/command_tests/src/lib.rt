@@ -20,6 +20,8 @@ mod instructions;
 #[cfg(test)]
 mod layouts;
 #[cfg(test)]
+mod multiply;
+#[cfg(test)]
 mod nodes;
 #[cfg(test)]
 mod programs;
@@ -29,5 +31,7 @@ mod refusals;
 mod replays;
 #[cfg(test)]
 mod threads;
+#[cfg(test)]
+mod waits;
 #[cfg(test)]
 mod watch;

@@ -17,12 +17,12 @@ use std::thread::Threads;
 /// amoadd.w x0, x30, (x29); bne x10, x0, 32; lw x31, 0(x29); bne x31, x11, -4; addi x10, x0, 1;
 /// addi x12, x0, 4; addi x11, x5, 0; addi x17, x0, 64; ecall; addi x10, x0, 0; addi x17, x0, 93;
 /// ecall`.
-const COUNTS: &str = "000202b7 3e800313 1002a3af 00138393 1872ae2f fe0e1ae3 fff30313 fe0316e3
+pub const COUNTS: &str = "000202b7 3e800313 1002a3af 00138393 1872ae2f fe0e1ae3 fff30313 fe0316e3
     04028e93 00100f13 01eea02f 02051063 000eaf83 febf9ee3 00100513 00400613 00028593 04000893
     00000073 00000513 05d00893 00000073";
 
 /// What it ends with: the word is 2000.
-const COUNTED: &[u8] = b"output 4\n\xd0\x07\x00\x00\nprocessor 0 exit 0\nprocessor 1 exit 0\n";
+pub const COUNTED: &[u8] = b"output 4\n\xd0\x07\x00\x00\nprocessor 0 exit 0\nprocessor 1 exit 0\n";
 
 /// The lines of the record of the bytes that are stored, between those of the budget and of the takes.
 const RECORDED: &str = "batch 1
@@ -73,7 +73,7 @@ fn makes_events_in_threads(rt: HostRuntime) -> Result<(), Fail> {
 
 /// Calls the program with these words on two processors that count, and fails the test where it
 /// answers otherwise.
-fn try_counting(
+pub fn try_counting(
     rt: &(impl Threads + Wait + Sync + AllocGlobal),
     file: &[u8],
     words: &str,
@@ -88,7 +88,7 @@ fn try_counting(
 }
 
 /// The words that run two nodes in threads.
-const RUN: &str = "run IN --nodes 2 --record R --brief";
+pub const RUN: &str = "run IN --nodes 2 --record R --brief";
 
 /// Two nodes count in any order; each node of a run comes by the gate before its events, and no other
 /// machine does.

@@ -6,10 +6,13 @@ use std::thread;
 
 /// A gate that counts the calls of each of two nodes, and keeps the greatest number of events that
 /// node 1 was told to have made. It may hold back the second event of node 0 until node 1 has made
-/// one, for a million turns at most; where these were not enough it is late.
+/// one, for a million turns at most; where these were not enough it is late. It may be open, and it
+/// may keep from every node that something was sent to it.
 #[derive(Drop)]
 pub struct Watch {
     holds: bool,
+    open: bool,
+    silent: bool,
     calls: [AtomicU64; 2],
     made: AtomicU64,
     late: AtomicBool,
@@ -18,8 +21,24 @@ pub struct Watch {
 impl Watch {
     /// A gate that was never passed, and whether it holds node 0 back.
     pub fn new(holds: bool) -> Watch {
+        Watch::of(holds, false, false)
+    }
+
+    /// A gate that is open.
+    pub fn open() -> Watch {
+        Watch::of(false, true, false)
+    }
+
+    /// A gate by which no node is told that something was sent to it, and whether it is open.
+    pub fn silent(open: bool) -> Watch {
+        Watch::of(false, open, true)
+    }
+
+    fn of(holds: bool, open: bool, silent: bool) -> Watch {
         Watch {
             holds,
+            open,
+            silent,
             calls: [AtomicU64::new(0), AtomicU64::new(0)],
             made: AtomicU64::new(0),
             late: AtomicBool::new(false),
@@ -60,5 +79,13 @@ impl Gate for Watch {
             }
             self.late.store(true, Ordering::SeqCst);
         }
+    }
+
+    fn is_open(&self) -> bool {
+        self.open
+    }
+
+    fn tells(&self, _node: u8) -> bool {
+        !self.silent
     }
 }

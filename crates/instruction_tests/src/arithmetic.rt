@@ -29,6 +29,112 @@ fn operations(rt: HostRuntime) {
     }
 }
 
+/// Products at the ends of the ranges, as 64 bits by operation: the low half, and the high half of
+/// two signed numbers, of a signed and an unsigned one, and of two unsigned ones.
+#[test]
+fn products(rt: HostRuntime) {
+    for (a, b, mul, mulh, mulhsu, mulhu) in [
+        (0, 0x8000_0000, 0, 0, 0, 0),
+        (1, 0xffff_ffff, 0xffff_ffff, 0xffff_ffff, 0, 0),
+        (0xffff_ffff, 1, 0xffff_ffff, 0xffff_ffff, 0xffff_ffff, 0),
+        (0xffff_ffff, 0xffff_ffff, 1, 0, 0xffff_ffff, 0xffff_fffe),
+        (
+            0x7fff_ffff,
+            0x7fff_ffff,
+            1,
+            0x3fff_ffff,
+            0x3fff_ffff,
+            0x3fff_ffff,
+        ),
+        (
+            0x8000_0000,
+            0x8000_0000,
+            0,
+            0x4000_0000,
+            0xc000_0000,
+            0x4000_0000,
+        ),
+        (
+            0x8000_0000,
+            0xffff_ffff,
+            0x8000_0000,
+            0,
+            0x8000_0000,
+            0x7fff_ffff,
+        ),
+        (
+            0xffff_ffff,
+            0x8000_0000,
+            0x8000_0000,
+            0,
+            0xffff_ffff,
+            0x7fff_ffff,
+        ),
+        (
+            0x8000_0000,
+            0x7fff_ffff,
+            0x8000_0000,
+            0xc000_0000,
+            0xc000_0000,
+            0x3fff_ffff,
+        ),
+        (
+            0x7fff_ffff,
+            0x8000_0000,
+            0x8000_0000,
+            0xc000_0000,
+            0x3fff_ffff,
+            0x3fff_ffff,
+        ),
+    ] {
+        assert_eq!(rt; alu(Op::Mul, a, b), mul, "MUL of {a} and {b}");
+        assert_eq!(rt; alu(Op::Mulh, a, b), mulh, "MULH of {a} and {b}");
+        assert_eq!(rt; alu(Op::Mulhsu, a, b), mulhsu, "MULHSU of {a} and {b}");
+        assert_eq!(rt; alu(Op::Mulhu, a, b), mulhu, "MULHU of {a} and {b}");
+    }
+}
+
+/// Quotients and remainders of signed numbers, then of unsigned ones. The rows of division by zero
+/// and of overflow are those of the manual's table of both ("Division Operations"); it says as well
+/// that quotients are rounded towards zero, and that a remainder has the dividend's sign.
+#[test]
+fn quotients(rt: HostRuntime) {
+    for (a, b, div, rem, divu, remu) in [
+        (0, 0, 0xffff_ffff, 0, 0xffff_ffff, 0),
+        (7, 0, 0xffff_ffff, 7, 0xffff_ffff, 7),
+        (
+            0xffff_ffff,
+            0,
+            0xffff_ffff,
+            0xffff_ffff,
+            0xffff_ffff,
+            0xffff_ffff,
+        ),
+        (
+            0x8000_0000,
+            0,
+            0xffff_ffff,
+            0x8000_0000,
+            0xffff_ffff,
+            0x8000_0000,
+        ),
+        (0x8000_0000, 0xffff_ffff, 0x8000_0000, 0, 0, 0x8000_0000),
+        (0x8000_0000, 1, 0x8000_0000, 0, 0x8000_0000, 0),
+        (0x8000_0000, 0x8000_0000, 1, 0, 1, 0),
+        (0x7fff_ffff, 0xffff_ffff, 0x8000_0001, 0, 0, 0x7fff_ffff),
+        (0x7fff_ffff, 0x8000_0000, 0, 0x7fff_ffff, 0, 0x7fff_ffff),
+        (7, 2, 3, 1, 3, 1),
+        (7, 0xffff_fffe, 0xffff_fffd, 1, 0, 7),
+        (0xffff_fff9, 2, 0xffff_fffd, 0xffff_ffff, 0x7fff_fffc, 1),
+        (0xffff_fff9, 0xffff_fffe, 3, 0xffff_ffff, 0, 0xffff_fff9),
+    ] {
+        assert_eq!(rt; alu(Op::Div, a, b), div, "DIV of {a} by {b}");
+        assert_eq!(rt; alu(Op::Rem, a, b), rem, "REM of {a} by {b}");
+        assert_eq!(rt; alu(Op::Divu, a, b), divu, "DIVU of {a} by {b}");
+        assert_eq!(rt; alu(Op::Remu, a, b), remu, "REMU of {a} by {b}");
+    }
+}
+
 #[test]
 fn branches(rt: HostRuntime) {
     for (c, a, b, want) in [

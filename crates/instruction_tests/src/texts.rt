@@ -3,9 +3,10 @@
 use rv32_text::line_of;
 use std::test::Fail;
 
-/// An address, a word and its text. The numbers are those of `objdump -M no-aliases,numeric`; the spelling is
-/// this crate's. Of the last five words objdump does not say so: three are illegal here, and two have no row.
-const TEXTS: [(u32, u32, &str); 72] = [
+/// An address, a word and its text. The numbers are those of `objdump -M no-aliases,numeric`; the
+/// spelling is this crate's. Of the last five words objdump does not say so: three are illegal here,
+/// and two have no row.
+const TEXTS: [(u32, u32, &str); 80] = [
     (0x00010000, 0x00000037, "lui x0, 0x0"),
     (0x00010000, 0x000205b7, "lui x11, 0x20"),
     (0x00010000, 0xffffffb7, "lui x31, 0xfffff"),
@@ -53,6 +54,14 @@ const TEXTS: [(u32, u32, &str); 72] = [
     (0x00010000, 0x40a85eb3, "sra x29, x16, x10"),
     (0x00010000, 0x00b8ef33, "or x30, x17, x11"),
     (0x00010000, 0x00c97fb3, "and x31, x18, x12"),
+    (0x00000000, 0x026283b3, "mul x7, x5, x6"),
+    (0x00010000, 0x02a49433, "mulh x8, x9, x10"),
+    (0x00010000, 0x03df2fb3, "mulhsu x31, x30, x29"),
+    (0x00010000, 0x023130b3, "mulhu x1, x2, x3"),
+    (0x00010000, 0x02bfc533, "div x10, x31, x11"),
+    (0x00010000, 0x0205d533, "divu x10, x11, x0"),
+    (0x00010000, 0x0262ee33, "rem x28, x5, x6"),
+    (0x00010000, 0x03f8f033, "remu x0, x17, x31"),
     (0x00010000, 0x0ff0000f, "fence"),
     (0x00010000, 0x00000073, "ecall"),
     (0x00010000, 0x00100073, "ebreak"),
@@ -77,7 +86,7 @@ const TEXTS: [(u32, u32, &str); 72] = [
     (0x00010000, 0xffffffff, "illegal"),
     (0x00010000, 0xc0001073, "illegal"),
     (0x00010000, 0xc00022f3, "unknown"),
-    (0xabcdef04, 0x02108133, "unknown"),
+    (0xabcdef04, 0x04108133, "unknown"),
 ];
 
 #[test]

@@ -1,0 +1,89 @@
+//! Nodes in threads by gates that are open, and nodes that wait: for messages that none tells them
+//! of, and for ever.
+
+use crate::calls::executable;
+use crate::cases::{Case, Input, try_case};
+use crate::threads::{COUNTS, RUN, try_counting};
+use crate::watch::Watch;
+use std::test::Fail;
+
+/// Each processor reads a word of shared memory until another stores to it, which none does:
+/// `lui x5, 0x20; lw x6, 0(x5); beq x6, x0, -4; addi x10, x0, 0; addi x17, x0, 93; ecall`.
+const SPINS: &str = "000202b7 0002a303 fe030ee3 00000513 05d00893 00000073";
+
+/// What each ends with, of ten thousand words.
+const ALONE: &str = "output 0\n\nprocessor 0 stopped 10000\n";
+
+const SECOND: &str = "processor 1 stopped 10000\n";
+
+const OTHERS: &str = "processor 2 stopped 10000
+processor 3 stopped 10000
+processor 4 stopped 10000
+processor 5 stopped 10000
+processor 6 stopped 10000
+processor 7 stopped 10000
+processor 8 stopped 10000
+processor 9 stopped 10000
+processor 10 stopped 10000
+processor 11 stopped 10000
+processor 12 stopped 10000
+processor 13 stopped 10000
+processor 14 stopped 10000
+processor 15 stopped 10000
+";
+
+const CASES: [Case; 3] = [
+    Case {
+        input: Input::Program(SPINS, b"", 64),
+        text: "",
+        calls: &["run IN --budget 10000 --brief"],
+        status: 1,
+        out: &[ALONE],
+        err: "",
+    },
+    Case {
+        input: Input::Program(SPINS, b"", 64),
+        text: "",
+        calls: &["run IN --nodes 2 --record R --budget 10000 --brief"],
+        status: 1,
+        out: &[ALONE, SECOND],
+        err: "",
+    },
+    Case {
+        input: Input::Program(SPINS, b"", 64),
+        text: "",
+        calls: &["run IN --nodes 16 --record R --budget 10000 --brief"],
+        status: 1,
+        out: &[ALONE, SECOND, OTHERS],
+        err: "",
+    },
+];
+
+/// Nodes that wait for what none sends are stopped by their budgets.
+#[test]
+fn spins_for_ever(rt: HostRuntime) -> Result<(), Fail> {
+    for case in &CASES {
+        try_case(&rt, case)?;
+    }
+    Ok(())
+}
+
+/// Two nodes count, by an open gate.
+#[test]
+fn counts_by_stretches(rt: HostRuntime) -> Result<(), Fail> {
+    let file = executable(rt.alloc(), COUNTS, b"", 128)?;
+    for _run in 0..20 {
+        try_counting(&rt, &file, RUN, &Watch::open())?;
+    }
+    Ok(())
+}
+
+/// The same where no node is told that something was sent to it: each finds it all the same, later.
+#[test]
+fn counts_untold(rt: HostRuntime) -> Result<(), Fail> {
+    let file = executable(rt.alloc(), COUNTS, b"", 128)?;
+    for open in [false, true] {
+        try_counting(&rt, &file, RUN, &Watch::silent(open))?;
+    }
+    Ok(())
+}

@@ -1,5 +1,0 @@
-#![tactic(auto)]
-//! What links between threads give, as they run.
-
-#[cfg(test)]
-mod links;
