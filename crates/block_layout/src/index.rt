@@ -1,7 +1,9 @@
 //! The index of a layout: its blocks as pieces of equal blocks, ascending.
 
-ghost use Rattle.std.specs.Prelude.{◌≡◌, ℕ, ◌+◌, ◌*◌, ◌^◌, ◌<◌, ◌≤◌, true, [], IfOk, OnOk, All, IsTrue, ◌↔◌, find};
-ghost use Rattle.block_layout.specs.Layout.{Shape, IsValid, is_shared, is_among, names, lines_in, named_home};
+ghost use Rattle.std.specs.Prelude.{◌≡◌, ℕ, ◌+◌, ◌*◌, ◌^◌, ◌<◌, ◌≤◌, true, [], IfOk, OnOk, All};
+ghost use Rattle.std.specs.Prelude.{IsTrue, ◌↔◌, find};
+ghost use Rattle.block_layout.specs.Layout.{Shape, IsValid, is_shared, is_among, names, lines_in};
+ghost use Rattle.block_layout.specs.Layout.{named_home};
 ghost use Rattle.block_layout.specs.Index.{IsIndexBelow, AddsPiece, IsFollowedBy};
 
 use crate::layout::{Block, LINE_BYTES};

@@ -1,6 +1,7 @@
 //! The laws of blocks.
 
-ghost use Rattle.std.specs.Prelude.{◌≡◌, ℕ, ◌+◌, ◌-◌, ◌^◌, ◌<◌, ◌≤◌, ◌↔◌, List, [], true, Some, IsSome};
+ghost use Rattle.std.specs.Prelude.{◌≡◌, ℕ, ◌+◌, ◌-◌, ◌^◌, ◌<◌, ◌≤◌, ◌↔◌, List, [], true, Some};
+ghost use Rattle.std.specs.Prelude.{IsSome};
 ghost use Rattle.block_layout.specs.Layout.{Shape, IsValid, is_shared, has_line, shared_before};
 ghost use Rattle.block_layout.specs.Layout as model;
 ghost use Rattle.block_layout.specs.Text.{IsLayoutOf, IsFirstFault, IsFirstBroken};
@@ -55,8 +56,8 @@ pub fn text_law()
         → IsFirstFault [] shared n rule line → ⊥ }
 {}
 
-/// Ranges are a layout's or have one that breaks a rule first, over the same shared lines and nodes.
-/// A caller uses the clauses; the call does nothing.
+/// Ranges are a layout's or have one that breaks a rule first, over the same shared lines and
+/// nodes. A caller uses the clauses; the call does nothing.
 pub fn range_list_law()
     ensures either { (ranges : List BlockRange) (shared : List Lines) (n : ℕ) (rule : Rule)
         (number : ℕ) → IsFirstBroken ranges shared n rule number

@@ -1,11 +1,15 @@
 //! Reads a layout's text.
 
-ghost use Rattle.std.specs.Prelude.{◌≡◌, ℕ, ◌+◌, ◌<◌, ◌≤◌, ◌^◌, true, false, ◌∷◌, [], length, find, position, ◌==◌, IsSome, IfSome, IfOk, IsErrOf, IfErr, MatchBool, MatchOption};
+ghost use Rattle.std.specs.Prelude.{◌≡◌, ℕ, ◌+◌, ◌<◌, ◌≤◌, ◌^◌, true, false, ◌∷◌, [], length, find};
+ghost use Rattle.std.specs.Prelude.{position, ◌==◌, IsSome, IfSome, IfOk, IsErrOf, IfErr};
+ghost use Rattle.std.specs.Prelude.{MatchBool, MatchOption};
 ghost use Rattle.block_layout.specs.Layout as model;
 ghost use Rattle.block_layout.specs.Layout.{Shape, IsValid, names, is_in};
 ghost use Rattle.block_layout.specs.Text.{text_lines, IsLayoutOf, IsFirstFault, IsFirstBroken};
 ghost use Rattle.block_layout.specs.Index.{IsIndexBelow};
-ghost use Rattle.block_layout.specs.Reading.{IsCutRange, IsNew, IsAllShared, LacksShared, Overlaps, IsSound, IsBroken, IsAdded, IsFault, IsTaken, lines_left};
+ghost use Rattle.block_layout.specs.Reading.{IsCutRange, IsNew, IsAllShared, LacksShared, Overlaps};
+ghost use Rattle.block_layout.specs.Reading.{IsSound, IsBroken, IsAdded, IsFault, IsTaken};
+ghost use Rattle.block_layout.specs.Reading.{lines_left};
 ghost use Rattle.block_layout.specs.declared.refused.Rule.{Rule as Rules};
 
 use crate::index::Index;
@@ -228,7 +232,8 @@ pub fn read_layout(
 
 /// The layout with these ranges, over ranges of shared lines and 1 to 16 nodes.
 ///
-/// Fails with the first range that breaks a rule, counted from 1, and the first rule that it breaks.
+/// Fails with the first range that breaks a rule, counted from 1, and the first rule that it
+/// breaks.
 pub fn layout_with(
     alloc: Global,
     named: &[BlockRange],

@@ -1,8 +1,10 @@
 //! A line of a layout's text.
 
-ghost use Rattle.std.specs.Prelude.{◌≡◌, ℕ, ◌==◌, ◌≤◌, ◌<◌, ◌^◌, not, List, position, IfSome, MatchOption, Option, Some};
+ghost use Rattle.std.specs.Prelude.{◌≡◌, ℕ, ◌==◌, ◌≤◌, ◌<◌, ◌^◌, not, List, position, IfSome};
+ghost use Rattle.std.specs.Prelude.{MatchOption, Option, Some};
 ghost use Rattle.std.specs.List.{list_all};
-ghost use Rattle.block_layout.specs.Text.{HasFields, IsHexadecimal, IsDecimal, IsHomeWord, says_nothing};
+ghost use Rattle.block_layout.specs.Text.{HasFields, IsHexadecimal, IsDecimal, IsHomeWord};
+ghost use Rattle.block_layout.specs.Text.{says_nothing};
 ghost use Rattle.block_layout.specs.Parts.{SplitsAtGap, AreWords, AreFields, hexadecimal_value};
 ghost use Rattle.block_layout.specs.declared.layout.BlockRange.{BlockRange as Fields};
 

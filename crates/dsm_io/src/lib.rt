@@ -5,7 +5,8 @@
 //! speak of what a name holds, of the bytes that a sink took, and of counts of faults. An
 //! implementation over the real system tells no contents, since no contract can know them.
 
-ghost use Rattle.std.specs.Prelude.{◌≡◌, ◌≢◌, ◌≤◌, ◌<◌, ◌↔◌, ℕ, List, length, IfOk, OnOk, IfSome, IfNone, IsErr, IsErrOf, IsSome};
+ghost use Rattle.std.specs.Prelude.{◌≡◌, ◌≢◌, ◌≤◌, ◌<◌, ◌↔◌, ℕ, List, length, IfOk, OnOk, IfSome};
+ghost use Rattle.std.specs.Prelude.{IfNone, IsErr, IsErrOf, IsSome};
 ghost use Rattle.dsm_io.specs.Causes.{Rose, Appends, AppendsPrefix};
 ghost use Rattle.dsm_io.specs.States.{FilesState, SinkState};
 
@@ -113,7 +114,8 @@ pub trait Files {
         ensures same_kind { IsSome ((state self.new).held name.now) ↔
             IsSome ((state self.old).held name.now) }
         ensures fault { IsErrOf result FileError.Failed →
-            Rose ((state self.old).failed_writes name.now) ((state self.new).failed_writes name.now) }
+            Rose ((state self.old).failed_writes name.now)
+            ((state self.new).failed_writes name.now) }
         ensures never_too_long { (l : ℕ) → IsErrOf result (FileError.TooLong l) → ⊥ }
         ensures unchanged { IsErrOf result FileError.OutOfMemory →
             (state self.new).held name.now ≡ (state self.old).held name.now }
@@ -140,7 +142,8 @@ pub trait Sink {
     /// A piece that is not empty and of which nothing is taken is a fault. After `OutOfMemory`
     /// nothing of it is taken.
     fn put(&mut self, piece: &[u8]) -> Result<(), SinkError>
-        ensures takes { OnOk result (Appends (state self.old).taken (state self.new).taken piece.now) }
+        ensures takes { OnOk result
+            (Appends (state self.old).taken (state self.new).taken piece.now) }
         ensures fault { IsErrOf result SinkError.Failed →
             Rose (state self.old).faults (state self.new).faults }
         ensures prefix { IsErrOf result SinkError.Failed →

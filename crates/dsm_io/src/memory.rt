@@ -1,6 +1,7 @@
 //! Files and a sink in memory, of whose calls some are to fail.
 
-ghost use Rattle.std.specs.Prelude.{◌≡◌, ◌≢◌, ◌<◌, ◌≤◌, ◌↔◌, ◌⊎◌, ◌++◌, ℕ, List, [], map, length, option_copied, IfOk, IfSome, OnOk, OnErr, IsErr, IsErrOf};
+ghost use Rattle.std.specs.Prelude.{◌≡◌, ◌≢◌, ◌<◌, ◌≤◌, ◌↔◌, ◌⊎◌, ◌++◌, ℕ, List, [], map, length};
+ghost use Rattle.std.specs.Prelude.{option_copied, IfOk, IfSome, OnOk, OnErr, IsErr, IsErrOf};
 ghost use Rattle.dsm_io.specs.Pairs.{first_content, content_of, Writes};
 ghost use Rattle.dsm_io.specs.Schedule.{IsDue, schedule_of, after_call, after_fault};
 

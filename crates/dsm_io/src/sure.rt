@@ -1,6 +1,7 @@
 //! Files and a sink in memory that never fail.
 
-ghost use Rattle.std.specs.Prelude.{◌≡◌, ◌≢◌, ◌<◌, ◌≤◌, ◌++◌, ℕ, List, [], length, option_copied, IfOk, IfSome, IfErr, OnOk, OnErr, IsErr, IsErrOf};
+ghost use Rattle.std.specs.Prelude.{◌≡◌, ◌≢◌, ◌<◌, ◌≤◌, ◌++◌, ℕ, List, [], length, option_copied};
+ghost use Rattle.std.specs.Prelude.{IfOk, IfSome, IfErr, OnOk, OnErr, IsErr, IsErrOf};
 ghost use Rattle.dsm_io.specs.Causes.{next_count};
 ghost use Rattle.dsm_io.specs.Pairs.{first_content, content_of, Writes};
 

@@ -4,8 +4,8 @@ use Rattle.std.specs.Prelude.{◌≡◌, ℕ, ◌-◌, ◌<◌, ◌≤◌, ◌==
 abbrev pub is_zero : ℕ → Bool
 is_zero byte = byte == 0
 
--- for each offset in the names up to the last zero byte, where the first zero byte is from there on;
--- there is none behind
+-- for each offset in the names up to the last zero byte, where the first zero byte is from there
+-- on; there is none behind
 pub record AreEnds (names ends : List ℕ) : Type 0 where
   pub found : (offset : ℕ) → offset < length ends
       → position is_zero (drop offset names) ≡ Some (slice_index ends offset - offset)

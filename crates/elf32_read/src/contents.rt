@@ -119,7 +119,8 @@ fn section_bytes(file: &[u8], h: SectionHeader) -> &[u8]
     }
 }
 
-/// For each offset in the names up to the last zero byte, where the first zero byte is from there on.
+/// For each offset in the names up to the last zero byte, where the first zero byte is from there
+/// on.
 fn name_ends(alloc: Global, names: &[u8]) -> Result<Vec<u32>, AllocError>
     requires short { length names.now < 2 ^ 32 }
     ensures { IfOk result (λ ends. AreEnds names.now ends.items) }

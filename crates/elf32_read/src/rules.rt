@@ -1,6 +1,7 @@
 //! The rules that a file is judged by.
 
-ghost use Rattle.std.specs.Prelude.{◌≡◌, ◌+◌, ◌≤◌, ℕ, false, position, length, IfSome, IfNone, MatchOption, Some};
+ghost use Rattle.std.specs.Prelude.{◌≡◌, ◌+◌, ◌≤◌, ℕ, false, position, length, IfSome, IfNone};
+ghost use Rattle.std.specs.Prelude.{MatchOption, Some};
 ghost use Rattle.elf32_read.specs.Fields as fields;
 ghost use Rattle.elf32_read.specs.Refusals as model;
 ghost use Rattle.elf32_read.specs.Reading as reading;

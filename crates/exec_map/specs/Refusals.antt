@@ -67,7 +67,8 @@ pub record IsFirstUnsupported (e : Elf) (a word : ℕ) : Type 0 where
 abbrev pub is_within : Section → Segment → Bool
 is_within s segment =
     is_executable segment
-    && (nat_le segment.vaddr s.addr && nat_le (s.addr + s.size) (segment.vaddr + length segment.bytes))
+    && (nat_le segment.vaddr s.addr
+    && nat_le (s.addr + s.size) (segment.vaddr + length segment.bytes))
 
 -- address and size are multiples of four, and an executable segment has the section
 abbrev pub is_whole_code : List Segment → Section → Bool

@@ -1,12 +1,14 @@
 //! Where the code words stand.
 
-ghost use Rattle.std.specs.Prelude.{◌≡◌, ◌+◌, ◌%◌, ◌^◌, ◌<◌, ◌≤◌, ◌&&◌, ◌==◌, ℕ, List, true, false, length, map, nat_le, IfOk, IfSome, IfNone, All};
+ghost use Rattle.std.specs.Prelude.{◌≡◌, ◌+◌, ◌%◌, ◌^◌, ◌<◌, ◌≤◌, ◌&&◌, ◌==◌, ℕ, List, true, false};
+ghost use Rattle.std.specs.Prelude.{length, map, nat_le, IfOk, IfSome, IfNone, All};
 ghost use Rattle.std.specs.List.{filter, filter_map};
 ghost use Rattle.std.specs.List.Sorted.{IsPermutation};
 ghost use Rattle.elf32_read.specs.Elf.{are_placed};
 ghost use Rattle.elf32_read.specs.Segments.{segment_of, section_of};
 ghost use Rattle.exec_map.specs.Index as index;
-ghost use Rattle.exec_map.specs.Index.{AreSearchable, AreStretches, AreCode, IsOfWords, NoRuleBelow, have, words_of_segment, words_of_section};
+ghost use Rattle.exec_map.specs.Index.{AreSearchable, AreStretches, AreCode, IsOfWords};
+ghost use Rattle.exec_map.specs.Index.{NoRuleBelow, have, words_of_segment, words_of_section};
 ghost use Rattle.exec_map.specs.Refusals.{has_memory};
 
 use crate::segment;

@@ -1,7 +1,9 @@
 #![tactic(auto)]
 //! The program of an executable: the class of each line, the bytes that it starts with, its code.
 
-ghost use Rattle.std.specs.Prelude.{◌≡◌, ◌+◌, ◌%◌, ◌^◌, ◌<◌, ◌≤◌, ◌++◌, ℕ, false, length, slice_index, map, take, IfOk, OnErr, OnOk, IsErrOf, IfSome, IfNone};
+ghost use Rattle.std.specs.Prelude.{◌≡◌, ◌+◌, ◌%◌, ◌^◌, ◌<◌, ◌≤◌, ◌++◌, ℕ, false, length};
+ghost use Rattle.std.specs.Prelude.{slice_index, map, take, IfOk, OnErr, OnOk, IsErrOf, IfSome};
+ghost use Rattle.std.specs.Prelude.{IfNone};
 ghost use Rattle.rv32_decode.specs.Widths.{size_of};
 ghost use Rattle.byte_range.specs.Memory.{raw};
 ghost use Rattle.rv32_program.specs.Program.{IsAccepted};

@@ -1,6 +1,7 @@
 //! The segments that have memory, sorted by address: a line or an address is found by halving.
 
-ghost use Rattle.std.specs.Prelude.{◌≡◌, false, ◌+◌, ◌-◌, ◌/◌, ◌^◌, ◌≤◌, ◌<◌, ℕ, true, find, length, map, IfOk, IfSome, All, AllPairs};
+ghost use Rattle.std.specs.Prelude.{◌≡◌, false, ◌+◌, ◌-◌, ◌/◌, ◌^◌, ◌≤◌, ◌<◌, ℕ, true, find};
+ghost use Rattle.std.specs.Prelude.{length, map, IfOk, IfSome, All, AllPairs};
 ghost use Rattle.std.specs.List.{list_any, list_all, filter, filter_map, AllWithin};
 ghost use Rattle.std.specs.Option.{option_copied, option_map};
 ghost use Rattle.rv32_decode.specs.Widths.{size_of};
@@ -10,7 +11,8 @@ ghost use Rattle.elf32_read.specs.Elf.{are_placed};
 ghost use Rattle.elf32_read.specs.Segments.{segment_of};
 ghost use Rattle.exec_map.specs.Contents as model;
 ghost use Rattle.exec_map.specs.Index as index;
-ghost use Rattle.exec_map.specs.Index.{AreSorted, AreApart, AreSearchable, IsSome, end_line, has_line};
+ghost use Rattle.exec_map.specs.Index.{AreSorted, AreApart, AreSearchable, IsSome, end_line};
+ghost use Rattle.exec_map.specs.Index.{has_line};
 ghost use Rattle.exec_map.specs.Refusals.{has_memory};
 
 use crate::stretches::{self, Stretch};

@@ -1,6 +1,7 @@
 //! Numbers as a list of stretches, ascending.
 
-ghost use Rattle.std.specs.Prelude.{◌≡◌, ◌+◌, ◌%◌, ◌<◌, ◌≤◌, ◌&&◌, ℕ, true, false, length, All, AllPairs, IfOk, IfNone, IfSome};
+ghost use Rattle.std.specs.Prelude.{◌≡◌, ◌+◌, ◌%◌, ◌<◌, ◌≤◌, ◌&&◌, ℕ, true, false, length, All};
+ghost use Rattle.std.specs.Prelude.{AllPairs, IfOk, IfNone, IfSome};
 ghost use Rattle.std.specs.List.{AllWithin};
 ghost use Rattle.std.specs.List.Sorted.{IsNonDecreasingBy};
 ghost use Rattle.exec_map.specs.Index.{AreStretches, IsSome, IsOfWords, have};

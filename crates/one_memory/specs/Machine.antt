@@ -160,7 +160,8 @@ IsKept m b m' b' =
     (reserved_in m.reserved) m b m' b'
 
 -- the request of processor p has been answered, whatever the others are
-abbrev pub Answers : ℕ → Request → MemoryParts → ProcessorParts → MemoryParts → ProcessorParts → Type 0
+abbrev pub Answers : ℕ → Request → MemoryParts → ProcessorParts → MemoryParts → ProcessorParts
+    → Type 0
 Answers p r m k m' k' =
     (nodes : ℕ) (all : ℕ → Processor)
     → (answer (original_on m nodes) (state_among all m) p (processor_of k) r).state

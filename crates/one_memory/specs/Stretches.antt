@@ -8,8 +8,8 @@ use Rattle.rv32_program.specs.Program.{Program}
 use Rattle.rv32_step.specs.Registers.{reg}
 use Rattle.rv32_step.specs.Breaks.{is_plain, leaves, stores_by, accesses_by, stands_at_store}
 
--- of so many words from an address on, some that begin with the first store by the base register and
--- access the block by it, where these facts are known of the words before
+-- of so many words from an address on, some that begin with the first store by the base register
+-- and access the block by it, where these facts are known of the words before
 unfoldable pub reaches : Program → Shape → ℕ → ℕ → ℕ → ℕ → ℕ → Bool → Bool → Bool
 reaches program layout b base value zero a stores accesses = stores && accesses
 reaches program layout b base value (suc n) a stores accesses =

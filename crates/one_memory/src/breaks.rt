@@ -5,7 +5,8 @@ ghost use Rattle.exec_map.specs.Contents.{program_of};
 ghost use Rattle.rv32_decode.specs.Widths.{size_of};
 ghost use Rattle.rv32_step.specs.Registers.{registers_of, reg};
 ghost use Rattle.rv32_step.specs.Breaks as model;
-ghost use Rattle.one_memory.specs.Stretches.{reaches, reaches_as, reaches_by_any, reaches_or_stands, store_base};
+ghost use Rattle.one_memory.specs.Stretches.{reaches, reaches_as, reaches_by_any};
+ghost use Rattle.one_memory.specs.Stretches.{reaches_or_stands, store_base};
 
 use block_layout::{Block, Layout};
 use exec_map::Program;
@@ -24,8 +25,8 @@ pub struct BlockOf<'a> {
 }
 
 impl<'a> BlockOf<'a> {
-    /// Whether a processor with these registers is at a store, an AMO or an SC into the block, or at
-    /// the start of a stretch that stores, and accesses the block.
+    /// Whether a processor with these registers is at a store, an AMO or an SC into the block, or
+    /// at the start of a stretch that stores, and accesses the block.
     pub fn is_reached(&self, registers: &Registers, pc: u32) -> bool
         ensures { result ≡ reaches_or_stands (program_of self.now.program.now)
             self.now.layout.now self.now.block (registers_of registers.now) pc }
@@ -99,7 +100,8 @@ impl<'a> BlockOf<'a> {
         }
     }
 
-    /// Whether a stretch from an address stores by this base register, and accesses the block by it.
+    /// Whether a stretch from an address stores by this base register, and accesses the block by
+    /// it.
     fn is_run_to_by(&self, base: u8, value: u32, pc: u32) -> bool
         ensures { result ≡ reaches (program_of self.now.program.now) self.now.layout.now
             self.now.block base value 16 pc false false }
@@ -126,7 +128,8 @@ impl<'a> BlockOf<'a> {
         stores && accesses
     }
 
-    /// Whether a stretch from an address stores by some base register, and accesses the block by it.
+    /// Whether a stretch from an address stores by some base register, and accesses the block by
+    /// it.
     fn is_run_to(&self, registers: &Registers, pc: u32) -> bool
         ensures { result ≡ reaches_by_any (program_of self.now.program.now) self.now.layout.now
             self.now.block (registers_of registers.now) pc 16 pc }

@@ -12,8 +12,8 @@ pub fn reservation_law()
     ensures stores { (original : Original) (s : State) (p r a value : ℕ)
         → IsAtConditional original s p r a value
         → StoresExactly original s p r a value (holds (s.reservations p) a) }
-    // A reservation stays, but for the processor's own LR and SC, another's store, AMO or storing SC
-    // in the block, and a break.
+    // A reservation stays, but for the processor's own LR and SC, another's store, AMO or storing
+    // SC in the block, and a break.
     ensures stays { (original : Original) (s : State) (k : Pick) (p : ℕ)
         → ((pick_step original s k).state.reservations p ≡ s.reservations p)
         ⊎ ReplacesBy original s p k }

@@ -1,9 +1,11 @@
 #![tactic(auto)]
 //! The original program's processors on one memory, interleaved instruction by instruction.
 
-ghost use Rattle.std.specs.Prelude.{◌≡◌, ◌<◌, ◌≤◌, ◌↔◌, ℕ, true, false, None, IfOk, OnOk, OnErr, IsErrOf, IsSome};
+ghost use Rattle.std.specs.Prelude.{◌≡◌, ◌<◌, ◌≤◌, ◌↔◌, ℕ, true, false, None, IfOk, OnOk, OnErr};
+ghost use Rattle.std.specs.Prelude.{IsErrOf, IsSome};
 ghost use Rattle.exec_map.specs.Contents.{program_of};
-ghost use Rattle.rv32_step.specs.OneMemory.{Original, Break, MayBreak, Allowed, opening, pick_step, step as model_step};
+ghost use Rattle.rv32_step.specs.OneMemory.{Original, Break, MayBreak, Allowed, opening, pick_step};
+ghost use Rattle.rv32_step.specs.OneMemory.{step as model_step};
 ghost use Rattle.one_memory.specs.Machine.{state_of, original_of};
 ghost use Rattle.one_memory.specs.Turns.{AreTurns};
 

@@ -1,6 +1,8 @@
 //! One processor, and what its next word does.
 
-ghost use Rattle.std.specs.Prelude.{◌≡◌, ◌+◌, ◌*◌, ◌/◌, ◌%◌, ◌^◌, ◌<◌, ◌≤◌, ◌&&◌, not, is_some, ℕ, true, false, Some, None, MatchOption, IfOk, IfSome, IsSome, OnOk, OnErr};
+ghost use Rattle.std.specs.Prelude.{◌≡◌, ◌+◌, ◌*◌, ◌/◌, ◌%◌, ◌^◌, ◌<◌, ◌≤◌, ◌&&◌, not, is_some, ℕ};
+ghost use Rattle.std.specs.Prelude.{true, false, Some, None, MatchOption, IfOk, IfSome, IsSome};
+ghost use Rattle.std.specs.Prelude.{OnOk, OnErr};
 ghost use Rattle.exec_map.specs.Contents.{program_of};
 ghost use Rattle.byte_range.specs.Memory.{raw};
 ghost use Rattle.rv32_decode.specs.Widths.{is_aligned};
@@ -11,7 +13,8 @@ ghost use Rattle.rv32_step.specs.Demands.{branch_demand};
 ghost use Rattle.llsc.specs.Reservation.{holds as model_holds};
 ghost use Rattle.rv32_program.specs.declared.Class.TheVariants.{Unmapped};
 ghost use Rattle.micro_op.specs.Micro.{Demands, meaning_of, index_address};
-ghost use Rattle.one_memory.specs.Machine.{MemoryParts, processor_of, at_index, after_move, byte_seen, IsStored, IsKept, Answers, Meets, Steps};
+ghost use Rattle.one_memory.specs.Machine.{MemoryParts, processor_of, at_index, after_move};
+ghost use Rattle.one_memory.specs.Machine.{byte_seen, IsStored, IsKept, Answers, Meets, Steps};
 ghost use Rattle.one_memory.specs.Stretches.{reaches_or_stands};
 ghost use Rattle.one_memory.specs.Turns.{Turns};
 
@@ -306,7 +309,8 @@ fn meet(
 /// Goes to a target, with the address of the next word in a register.
 #[inline(always)]
 fn jump(r: Reg, target: u32, at: u32, body: &mut Body) -> Move
-    ensures { (p : ℕ) (m : MemoryParts) → Meets p (Demand.Jumps r target) at m body.old m body.new result }
+    ensures { (p : ℕ) (m : MemoryParts) →
+        Meets p (Demand.Jumps r target) at m body.old m body.new result }
 {
     if target % 4 == 0 {
         body.registers.set(r, address_of(at.wrapping_add(1)));

@@ -29,8 +29,12 @@ imm_s word = signed 12 (field word 25 7 * 2 ^ 5 + field word 7 5)
 
 -- the immediate of format B: bits 31, 7, 30 to 25, 11 to 8, and a zero
 abbrev pub imm_b : ℕ → ℤ
-imm_b word = signed 13 (field word 31 1 * 2 ^ 12 + field word 7 1 * 2 ^ 11 + field word 25 6 * 2 ^ 5 + field word 8 4 * 2)
+imm_b word =
+    signed 13 (field word 31 1 * 2 ^ 12 + field word 7 1 * 2 ^ 11 + field word 25 6 * 2 ^ 5
+    + field word 8 4 * 2)
 
 -- the immediate of format J: bits 31, 19 to 12, 20, 30 to 21, and a zero
 abbrev pub imm_j : ℕ → ℤ
-imm_j word = signed 21 (field word 31 1 * 2 ^ 20 + field word 12 8 * 2 ^ 12 + field word 20 1 * 2 ^ 11 + field word 21 10 * 2)
+imm_j word =
+    signed 21 (field word 31 1 * 2 ^ 20 + field word 12 8 * 2 ^ 12 + field word 20 1 * 2 ^ 11
+    + field word 21 10 * 2)

@@ -39,11 +39,13 @@ funct3_row funct3 opcode fields = row 0x707f (funct3 * 2 ^ 12 + opcode) fields
 
 -- the major opcode, funct3 and funct7 are fixed
 abbrev pub funct7_row : ℕ → ℕ → ℕ → (ℕ → Instr) → Row
-funct7_row funct7 funct3 opcode fields = row 0xfe00707f (funct7 * 2 ^ 25 + funct3 * 2 ^ 12 + opcode) fields
+funct7_row funct7 funct3 opcode fields =
+    row 0xfe00707f (funct7 * 2 ^ 25 + funct3 * 2 ^ 12 + opcode) fields
 
 -- the major opcode, funct3 and funct5 are fixed; aq and rl are not
 abbrev pub funct5_row : ℕ → ℕ → ℕ → (ℕ → Instr) → Row
-funct5_row funct5 funct3 opcode fields = row 0xf800707f (funct5 * 2 ^ 27 + funct3 * 2 ^ 12 + opcode) fields
+funct5_row funct5 funct3 opcode fields =
+    row 0xf800707f (funct5 * 2 ^ 27 + funct3 * 2 ^ 12 + opcode) fields
 
 -- funct3 of each condition of BRANCH
 abbrev pub branch_table : List (ℕ × Cond)
@@ -52,7 +54,8 @@ branch_table = (0, Eq) ∷ (1, Ne) ∷ (4, Lt) ∷ (5, Ge) ∷ (6, Ltu) ∷ (7, 
 -- funct3 of each kind of LOAD
 abbrev pub load_table : List (ℕ × LoadKind)
 load_table =
-    (0, load_kind.Byte) ∷ (1, load_kind.Half) ∷ (2, load_kind.Word) ∷ (4, load_kind.ByteU) ∷ (5, load_kind.HalfU) ∷ []
+    (0, load_kind.Byte) ∷ (1, load_kind.Half) ∷ (2, load_kind.Word) ∷ (4, load_kind.ByteU)
+    ∷ (5, load_kind.HalfU) ∷ []
 
 -- funct3 of each width of STORE
 abbrev pub store_table : List (ℕ × Width)
@@ -61,7 +64,8 @@ store_table = (0, width.Byte) ∷ (1, width.Half) ∷ (2, width.Word) ∷ []
 -- funct3 of each operation of OP-IMM that has a 12-bit immediate
 abbrev pub imm_table : List (ℕ × ImmOp)
 imm_table =
-    (0, imm_op.Add) ∷ (2, imm_op.Slt) ∷ (3, imm_op.Sltu) ∷ (4, imm_op.Xor) ∷ (6, imm_op.Or) ∷ (7, imm_op.And) ∷ []
+    (0, imm_op.Add) ∷ (2, imm_op.Slt) ∷ (3, imm_op.Sltu) ∷ (4, imm_op.Xor) ∷ (6, imm_op.Or)
+    ∷ (7, imm_op.And) ∷ []
 
 -- funct7 and funct3 of each shift of OP-IMM
 abbrev pub shift_table : List (ℕ × ℕ × ShiftOp)
@@ -78,8 +82,8 @@ op_table =
 -- funct5 of each read-modify-write of AMO
 abbrev pub amo_table : List (ℕ × AmoOp)
 amo_table =
-    (1, amo_op.Swap) ∷ (0, amo_op.Add) ∷ (4, amo_op.Xor) ∷ (12, amo_op.And) ∷ (8, amo_op.Or) ∷ (16, amo_op.Min)
-    ∷ (20, amo_op.Max) ∷ (24, amo_op.Minu) ∷ (28, amo_op.Maxu) ∷ []
+    (1, amo_op.Swap) ∷ (0, amo_op.Add) ∷ (4, amo_op.Xor) ∷ (12, amo_op.And) ∷ (8, amo_op.Or)
+    ∷ (16, amo_op.Min) ∷ (20, amo_op.Max) ∷ (24, amo_op.Minu) ∷ (28, amo_op.Maxu) ∷ []
 
 abbrev pub branch_row : ℕ × Cond → Row
 branch_row t = funct3_row t.0 0x63 (λ w. Branch t.1 (field w 15 5) (field w 20 5) (imm_b w))
@@ -94,13 +98,16 @@ abbrev pub imm_row : ℕ × ImmOp → Row
 imm_row t = funct3_row t.0 0x13 (λ w. OpImm t.1 (field w 7 5) (field w 15 5) (imm_i w))
 
 abbrev pub shift_row : ℕ × ℕ × ShiftOp → Row
-shift_row t = funct7_row t.0 t.1 0x13 (λ w. ShiftImm t.2 (field w 7 5) (field w 15 5) (field w 20 5))
+shift_row t =
+    funct7_row t.0 t.1 0x13 (λ w. ShiftImm t.2 (field w 7 5) (field w 15 5) (field w 20 5))
 
 abbrev pub op_row : ℕ × ℕ × Operation → Row
 op_row t = funct7_row t.0 t.1 0x33 (λ w. Op t.2 (field w 7 5) (field w 15 5) (field w 20 5))
 
 abbrev pub amo_row : ℕ × AmoOp → Row
-amo_row t = funct5_row t.0 2 0x2f (λ w. Amo t.1 (field w 7 5) (field w 15 5) (field w 20 5) (bit w 26) (bit w 25))
+amo_row t =
+    funct5_row t.0 2 0x2f (λ w. Amo t.1 (field w 7 5) (field w 15 5) (field w 20 5) (bit w 26)
+    (bit w 25))
 
 -- a row whose one word has no fields
 abbrev pub word_row : ℕ → Instr → Row
@@ -115,14 +122,16 @@ rows =
     ∷ funct3_row 0 0x67 (λ w. Jalr (field w 7 5) (field w 15 5) (imm_i w))
     ∷ funct3_row 0 0x0f (λ w. Fence (field w 7 5) (field w 15 5) (field w 20 12))
     ∷ row 0xf9f0707f 0x1000202f (λ w. Lr (field w 7 5) (field w 15 5) (bit w 26) (bit w 25))
-    ∷ funct5_row 3 2 0x2f (λ w. Sc (field w 7 5) (field w 15 5) (field w 20 5) (bit w 26) (bit w 25))
+    ∷ funct5_row 3 2 0x2f
+    (λ w. Sc (field w 7 5) (field w 15 5) (field w 20 5) (bit w 26) (bit w 25))
     ∷ word_row 0x73 Ecall
     ∷ word_row 0x100073 Ebreak
     ∷ word_row 0 (Illegal Zeros)
     ∷ word_row 0xffffffff (Illegal Ones)
     ∷ word_row 0xc0001073 (Illegal CycleWrite)
-    ∷ (map branch_row branch_table ++ map load_row load_table ++ map store_row store_table ++ map imm_row imm_table
-    ++ map shift_row shift_table ++ map op_row op_table ++ map amo_row amo_table)
+    ∷ (map branch_row branch_table ++ map load_row load_table ++ map store_row store_table
+    ++ map imm_row imm_table ++ map shift_row shift_table ++ map op_row op_table
+    ++ map amo_row amo_table)
 
 -- the row stands for the word
 abbrev pub fits : ℕ → Row → Bool

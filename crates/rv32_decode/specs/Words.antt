@@ -29,12 +29,16 @@ word_of (Illegal word) = illegal_word word
 abbrev pub IsInRange : Instr → Type 0
 IsInRange (Lui rd upper) = (rd < 32) × (upper < 2 ^ 20)
 IsInRange (Auipc rd upper) = (rd < 32) × (upper < 2 ^ 20)
-IsInRange (Jal rd offset) = (rd < 32) × (negsuc 1048575 ≤ℤ offset) × (offset ≤ℤ pos 1048574) × (unsigned 32 offset % 2 ≡ 0)
+IsInRange (Jal rd offset) =
+    (rd < 32) × (negsuc 1048575 ≤ℤ offset) × (offset ≤ℤ pos 1048574)
+    × (unsigned 32 offset % 2 ≡ 0)
 IsInRange (Jalr rd rs1 imm) = (rd < 32) × (rs1 < 32) × (negsuc 2047 ≤ℤ imm) × (imm ≤ℤ pos 2047)
 IsInRange (Branch c rs1 rs2 offset) =
-    (rs1 < 32) × (rs2 < 32) × (negsuc 4095 ≤ℤ offset) × (offset ≤ℤ pos 4094) × (unsigned 32 offset % 2 ≡ 0)
+    (rs1 < 32) × (rs2 < 32) × (negsuc 4095 ≤ℤ offset) × (offset ≤ℤ pos 4094)
+    × (unsigned 32 offset % 2 ≡ 0)
 IsInRange (Load kind rd rs1 imm) = (rd < 32) × (rs1 < 32) × (negsuc 2047 ≤ℤ imm) × (imm ≤ℤ pos 2047)
-IsInRange (Store width rs1 rs2 imm) = (rs1 < 32) × (rs2 < 32) × (negsuc 2047 ≤ℤ imm) × (imm ≤ℤ pos 2047)
+IsInRange (Store width rs1 rs2 imm) =
+    (rs1 < 32) × (rs2 < 32) × (negsuc 2047 ≤ℤ imm) × (imm ≤ℤ pos 2047)
 IsInRange (OpImm o rd rs1 imm) = (rd < 32) × (rs1 < 32) × (negsuc 2047 ≤ℤ imm) × (imm ≤ℤ pos 2047)
 IsInRange (ShiftImm o rd rs1 amount) = (rd < 32) × (rs1 < 32) × (amount < 32)
 IsInRange (Op o rd rs1 rs2) = (rd < 32) × (rs1 < 32) × (rs2 < 32)

@@ -2,9 +2,9 @@
 //! Words and instructions of RV32IMA: RV32I, and the extensions M and A.
 //!
 //! A table of rows (`specs/Rows.antt`) says which words are instructions, and which: each row has a
-//! mask, a match and the fields that it reads. [`decode`] and [`encode`] follow the table both ways,
-//! and at most one row fits a word ([`rows_law`]). The ranges of an instruction's parts are in their
-//! types.
+//! mask, a match and the fields that it reads. [`decode`] and [`encode`] follow the table both
+//! ways, and at most one row fits a word ([`rows_law`]). The ranges of an instruction's parts are
+//! in their types.
 //!
 //! An instruction that is used more than once is passed from behind a reference, as `uses(*i)`.
 

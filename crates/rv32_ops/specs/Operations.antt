@@ -98,8 +98,8 @@ taken Ge a b = not (is_signed_below a b)
 taken Ltu a b = nat_lt a b
 taken Geu a b = not (nat_lt a b)
 
--- the word that an AMO stores, from the old word in memory and the register's word b ("Atomic Memory Operations"):
--- MIN and MAX compare signed numbers, MINU and MAXU unsigned ones
+-- the word that an AMO stores, from the old word in memory and the register's word b ("Atomic
+-- Memory Operations"): MIN and MAX compare signed numbers, MINU and MAXU unsigned ones
 unfoldable pub amo : AmoOp → ℕ → ℕ → ℕ
 amo amo_op.Swap old b = b
 amo amo_op.Add old b = word_sum old b
@@ -111,8 +111,8 @@ amo amo_op.Max old b = unsigned 32 (int_max (signed 32 old) (signed 32 b))
 amo amo_op.Minu old b = min old b
 amo amo_op.Maxu old b = max old b
 
--- the word that a load puts into its register, from the word whose low bits it read ("Load and Store Instructions"):
--- LB and LH read a signed number of 8 or 16 bits, LBU and LHU an unsigned one
+-- the word that a load puts into its register, from the word whose low bits it read ("Load and
+-- Store Instructions"): LB and LH read a signed number of 8 or 16 bits, LBU and LHU an unsigned one
 unfoldable pub extend : LoadKind → ℕ → ℕ
 extend load_kind.Byte raw = unsigned 32 (signed 8 (raw % 2 ^ 8))
 extend load_kind.Half raw = unsigned 32 (signed 16 (raw % 2 ^ 16))

@@ -20,7 +20,8 @@ pub enum Class {
     Unmapped,
 }
 
-/// How a processor's run ended by itself. An address is that of the instruction, or the pc for `Fetch`.
+/// How a processor's run ended by itself. An address is that of the instruction, or the pc for
+/// `Fetch`.
 #[derive(Clone, Copy, Debug, PartialEq, Eq)]
 pub enum Exit {
     /// The exit call, with the low 8 bits of a0.

@@ -118,8 +118,8 @@ nibble word low = digit_glyph false (word / 2 ^ low % 16)
 -- a word in eight digits
 unfoldable pub word_digits : ℕ → List ℕ
 word_digits word =
-    nibble word 28 ∷ nibble word 24 ∷ nibble word 20 ∷ nibble word 16 ∷ nibble word 12 ∷ nibble word 8 ∷ nibble word 4
-    ∷ nibble word 0 ∷ []
+    nibble word 28 ∷ nibble word 24 ∷ nibble word 20 ∷ nibble word 16 ∷ nibble word 12
+    ∷ nibble word 8 ∷ nibble word 4 ∷ nibble word 0 ∷ []
 
 -- the address that a distance leads to, modulo 2^32
 abbrev pub target_address : ℕ → ℤ → ℕ
@@ -135,7 +135,8 @@ abbrev pub with_two : List ℕ → List ℕ → List ℕ → List ℕ
 with_two name first second = name ++ codes " " ++ first ++ codes ", " ++ second
 
 abbrev pub with_three : List ℕ → List ℕ → List ℕ → List ℕ → List ℕ
-with_three name first second third = name ++ codes " " ++ first ++ codes ", " ++ second ++ codes ", " ++ third
+with_three name first second third =
+    name ++ codes " " ++ first ++ codes ", " ++ second ++ codes ", " ++ third
 
 -- the text of an instruction at an address
 abbrev pub text_of : ℕ → Instr → List ℕ
@@ -143,18 +144,25 @@ text_of address (Lui rd upper) = with_two (codes "lui") (register rd) (upper_dig
 text_of address (Auipc rd upper) = with_two (codes "auipc") (register rd) (upper_digits upper)
 text_of address (Jal rd offset) = with_two (codes "jal") (register rd) (target address offset)
 text_of address (Jalr rd rs1 imm) = with_two (codes "jalr") (register rd) (indexed imm rs1)
-text_of address (Branch c rs1 rs2 offset) = with_three (branch_name c) (register rs1) (register rs2) (target address offset)
+text_of address (Branch c rs1 rs2 offset) =
+    with_three (branch_name c) (register rs1) (register rs2) (target address offset)
 text_of address (Load kind rd rs1 imm) = with_two (load_name kind) (register rd) (indexed imm rs1)
 text_of address (Store w rs1 rs2 imm) = with_two (store_name w) (register rs2) (indexed imm rs1)
-text_of address (OpImm o rd rs1 imm) = with_three (imm_name o) (register rd) (register rs1) (signed_decimal imm)
-text_of address (ShiftImm o rd rs1 amount) = with_three (shift_name o) (register rd) (register rs1) (decimal amount)
-text_of address (Op o rd rs1 rs2) = with_three (op_name o) (register rd) (register rs1) (register rs2)
+text_of address (OpImm o rd rs1 imm) =
+    with_three (imm_name o) (register rd) (register rs1) (signed_decimal imm)
+text_of address (ShiftImm o rd rs1 amount) =
+    with_three (shift_name o) (register rd) (register rs1) (decimal amount)
+text_of address (Op o rd rs1 rs2) =
+    with_three (op_name o) (register rd) (register rs1) (register rs2)
 text_of address (Fence rd rs1 bits) = codes "fence"
 text_of address Ecall = codes "ecall"
 text_of address Ebreak = codes "ebreak"
-text_of address (Lr rd rs1 aq rl) = with_two (codes "lr.w" ++ order_suffix aq rl) (register rd) (base rs1)
-text_of address (Sc rd rs1 rs2 aq rl) = with_three (codes "sc.w" ++ order_suffix aq rl) (register rd) (register rs2) (base rs1)
-text_of address (Amo o rd rs1 rs2 aq rl) = with_three (amo_name o ++ order_suffix aq rl) (register rd) (register rs2) (base rs1)
+text_of address (Lr rd rs1 aq rl) =
+    with_two (codes "lr.w" ++ order_suffix aq rl) (register rd) (base rs1)
+text_of address (Sc rd rs1 rs2 aq rl) =
+    with_three (codes "sc.w" ++ order_suffix aq rl) (register rd) (register rs2) (base rs1)
+text_of address (Amo o rd rs1 rs2 aq rl) =
+    with_three (amo_name o ++ order_suffix aq rl) (register rd) (register rs2) (base rs1)
 text_of address (Illegal word) = codes "illegal"
 
 -- the text of what a word decodes to, if to anything
@@ -169,4 +177,5 @@ text_of_word address word = text_of_decoded address (instruction_of word)
 -- a line of a listing, with its line feed
 abbrev pub line_of : ℕ → ℕ → List ℕ
 line_of address word =
-    word_digits address ++ codes ": " ++ word_digits word ++ codes " " ++ text_of_word address word ++ codes "\n"
+    word_digits address ++ codes ": " ++ word_digits word ++ codes " "
+    ++ text_of_word address word ++ codes "\n"

@@ -3,7 +3,8 @@
 ghost use Rattle.std.specs.Prelude.{◌≡◌, ◌++◌, OnOk, OnErr, codes};
 ghost use Rattle.std.specs.Fmt.{decimal, signed_decimal};
 ghost use Rattle.rv32_text.specs.Growth.{Extends};
-ghost use Rattle.rv32_text.specs.Listing.{register, base, indexed, upper_digits, target, with_two, with_three};
+ghost use Rattle.rv32_text.specs.Listing.{register, base, indexed, upper_digits, target, with_two};
+ghost use Rattle.rv32_text.specs.Listing.{with_three};
 
 use crate::operands::{
     push_amount, push_base, push_immediate, push_indexed, push_register, push_target, push_upper,

@@ -1,7 +1,8 @@
 //! The mnemonics, in lower case.
 
 ghost use Rattle.std.specs.Prelude.{◌≡◌};
-ghost use Rattle.rv32_text.specs.Listing.{branch_name, load_name, store_name, imm_name, shift_name, op_name, amo_name, order_suffix};
+ghost use Rattle.rv32_text.specs.Listing.{branch_name, load_name, store_name, imm_name, shift_name};
+ghost use Rattle.rv32_text.specs.Listing.{op_name, amo_name, order_suffix};
 
 use rv32_decode::{AmoOp, Cond, ImmOp, LoadKind, Op, ShiftOp, Width};
 

@@ -1,6 +1,7 @@
 //! A core whose events follow an order.
 
-ghost use Rattle.std.specs.Prelude.{◌≡◌, ◌≤◌, ◌<◌, ℕ, [], ◌∷◌, true, false, length, slice_get, Some, IfOk, OnOk, OnErr, MatchOption};
+ghost use Rattle.std.specs.Prelude.{◌≡◌, ◌≤◌, ◌<◌, ℕ, [], ◌∷◌, true, false, length, slice_get};
+ghost use Rattle.std.specs.Prelude.{Some, IfOk, OnOk, OnErr, MatchOption};
 ghost use Rattle.node_model.specs.Core.{Exec, May, IsOver, AreAlike, event_step, opening_core};
 ghost use Rattle.rewriting_law.specs.Bounds.{RunsRewritten};
 ghost use Rattle.dsm_core.specs.CoreParts.{work_of, work_in, core_of, event_of, outcome_of};
@@ -14,9 +15,9 @@ use rewriting_law::progress_law;
 use std::alloc::{AllocError, Global};
 use workload::{Order, order_of};
 
-/// Runs the nodes of a layout to their ends, on one thread: at each turn the order of a number picks
-/// one of the events that are allowed, which are listed node by node, its word and then its takes by
-/// sender.
+/// Runs the nodes of a layout to their ends, on one thread: at each turn the order of a number
+/// picks one of the events that are allowed, which are listed node by node, its word and then its
+/// takes by sender.
 pub fn simulate(alloc: Global, work: &Work<'_>, order: u32) -> Result<Outcome, AllocError>
     requires rewritten { RunsRewritten (work_in work.now) }
     ensures outcome { IfOk result (λ o. IsOutcomeByOrder (work_in work.now) order (outcome_of o)) }

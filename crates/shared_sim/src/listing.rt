@@ -1,6 +1,7 @@
 //! The events of a core that are allowed, listed node by node.
 
-ghost use Rattle.std.specs.Prelude.{◌≡◌, ◌≢◌, ◌≤◌, ◌<◌, ◌+◌, ◌*◌, ◌++◌, ℕ, [], true, false, map, filter, length, slice_get, slice_index_or, Some, IfOk};
+ghost use Rattle.std.specs.Prelude.{◌≡◌, ◌≢◌, ◌≤◌, ◌<◌, ◌+◌, ◌*◌, ◌++◌, ℕ, [], true, false, map};
+ghost use Rattle.std.specs.Prelude.{filter, length, slice_get, slice_index_or, Some, IfOk};
 ghost use Rattle.std.specs.Vec.{vec_capacity};
 ghost use Rattle.std.specs.List.{range_with_len};
 ghost use Rattle.workload.specs.Orders.{how_often};
@@ -92,8 +93,8 @@ impl Listing {
         self.sum_up(core);
     }
 
-    /// Lists the events of a node again, and those of the nodes to which it has sent, where those of
-    /// the others are listed.
+    /// Lists the events of a node again, and those of the nodes to which it has sent, where those
+    /// of the others are listed.
     pub(crate) fn list_after(&mut self, core: &Core<'_>, node: u8)
         requires few { core.now.layout.nodes ≤ 16 }
         requires node { node < core.now.layout.nodes }

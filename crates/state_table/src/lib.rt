@@ -6,7 +6,8 @@
 
 ghost use Rattle.std.specs.Prelude.{◌≡◌};
 ghost use Rattle.state_table.specs.declared.State.{State as AnyState};
-ghost use Rattle.state_table.specs.StateByte.{byte_of, can_read, can_write, is_readable, is_writable};
+ghost use Rattle.state_table.specs.StateByte.{byte_of, can_read, can_write, is_readable};
+ghost use Rattle.state_table.specs.StateByte.{is_writable};
 
 mod classes;
 mod states;

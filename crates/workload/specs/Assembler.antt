@@ -1,4 +1,5 @@
--- Instructions by their assembler names. Registers are given by their numbers, and offsets in bytes.
+-- Instructions by their assembler names. Registers are given by their numbers, and offsets in
+-- bytes.
 use Rattle.std.specs.Prelude.{ℕ, ℤ, negsuc, ◌-◌, false}
 use Rattle.rv32_decode.specs.declared.Cond.{Cond}
 use Rattle.rv32_decode.specs.declared.Cond.TheVariants.{Eq, Ne, Lt}

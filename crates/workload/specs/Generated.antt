@@ -1,5 +1,5 @@
--- The executable that a number makes: processors that load and store all over four pages, and add to
--- words of them atomically. Its output tells whether an addition was lost.
+-- The executable that a number makes: processors that load and store all over four pages, and add
+-- to words of them atomically. Its output tells whether an addition was lost.
 use Rattle.std.specs.Prelude.{ℕ, pos, zero, suc, ◌+◌, ◌-◌, ◌*◌, ◌/◌, ◌%◌, ◌^◌, ◌==◌, if◌then◌else◌, List, [], ◌∷◌, ◌++◌, length}
 use Rattle.std.specs.List.{flat_map}
 use Rattle.std.specs.Int.{bytes_low_first}
@@ -101,8 +101,8 @@ instructions number = opening ++ round_of (groups group_count number)
 abbrev pub code_bytes : List Instr → List ℕ
 code_bytes code = flat_map (λ i. bytes_low_first 0 4 (word_of i)) code
 
--- the executable of a number: its code, readable and executable, and four pages and a line of zeros,
--- readable and writable
+-- the executable of a number: its code, readable and executable, and four pages and a line of
+-- zeros, readable and writable
 abbrev pub generated_elf : ℕ → Elf
 generated_elf number = record {
   entry = 0x10000;

@@ -1,4 +1,5 @@
--- The choices of an order: a linear congruential sequence modulo 2^32, of whose numbers the upper half is used.
+-- The choices of an order: a linear congruential sequence modulo 2^32, of whose numbers the upper
+-- half is used.
 use Rattle.std.specs.Prelude.{ℕ, zero, suc, ◌+◌, ◌*◌, ◌/◌, ◌%◌, ◌^◌, ◌==◌, if◌then◌else◌}
 
 -- the number that follows a number

@@ -1,4 +1,5 @@
-//! Instructions by their assembler names. Registers are given by their numbers, and offsets in bytes.
+//! Instructions by their assembler names. Registers are given by their numbers, and offsets in
+//! bytes.
 
 ghost use Rattle.std.specs.Prelude.{◌≡◌, ◌^◌, ◌%◌, ◌<◌, pos, negsuc, ◌≤ℤ◌};
 ghost use Rattle.rv32_decode.specs.Fields.{unsigned};

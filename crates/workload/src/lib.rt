@@ -13,8 +13,8 @@ use std::marker::Model;
 
 /// A sequence of choices. Contracts see its number.
 ///
-/// The next choice is made before it is asked for, among as many as at the last time: so it is known
-/// by the time that a caller needs it, where it chooses among as many again.
+/// The next choice is made before it is asked for, among as many as at the last time: so it is
+/// known by the time that a caller needs it, where it chooses among as many again.
 #[derive(Debug, Drop)]
 pub struct Order {
     number: u32,
@@ -76,8 +76,9 @@ impl Order {
         place
     }
 
-    /// Goes on by so many turns, as if the next choice had been asked for as often. The map of twice
-    /// as many turns is that of so many made twice, so this takes a step for each bit of `turns`.
+    /// Goes on by so many turns, as if the next choice had been asked for as often. The map of
+    /// twice as many turns is that of so many made twice, so this takes a step for each bit of
+    /// `turns`.
     pub fn skip(&mut self, turns: u64)
         ensures goes_on { self.new ≡ after_turns turns self.old }
     {
@@ -99,7 +100,8 @@ impl Order {
         self.place = choose(ahead, self.count);
     }
 
-    /// How often the next so many turns choose each place among `count`. The order stays where it is.
+    /// How often the next so many turns choose each place among `count`. The order stays where it
+    /// is.
     pub fn tally(&self, turns: u32, count: u32) -> [u32; 16]
         requires some { 1 ≤ count }
         requires few { count ≤ 16 }
@@ -154,9 +156,9 @@ fn after_two(number: u32) -> u32
     number.wrapping_mul(FACTOR_TWICE).wrapping_add(STEP_TWICE)
 }
 
-/// How often the turns behind a number choose each place among `count`, which is known where the call
-/// stands: a remainder by a power of two is then a mask. Each number is made from the last but one,
-/// so two of them are under way at a time.
+/// How often the turns behind a number choose each place among `count`, which is known where the
+/// call stands: a remainder by a power of two is then a mask. Each number is made from the last but
+/// one, so two of them are under way at a time.
 #[inline(always)]
 fn tally_known(number: u32, turns: u32, count: u32) -> [u32; 16]
     requires some { 1 ≤ count }
@@ -213,8 +215,8 @@ fn reciprocal_of(count: u32) -> u64
     (1 << 32) / count as u64 + 1
 }
 
-/// What a number chooses among so many, by their reciprocal: a multiplication takes less time than a
-/// division.
+/// What a number chooses among so many, by their reciprocal: a multiplication takes less time than
+/// a division.
 #[inline(always)]
 fn choose_by(number: u32, count: u32, reciprocal: u64) -> u32
     requires some { 1 ≤ count }
