@@ -1,0 +1,16 @@
+pub mod Appending
+pub mod Collecting
+pub mod Dividing
+pub mod Entering
+pub mod Faults
+pub mod Going
+pub mod Joining
+pub mod Judging
+pub mod Labelling
+pub mod Limits
+pub mod Listing
+pub mod Naming
+pub mod Sizing
+pub mod Standing
+pub mod Unique
+pub mod Wording

@@ -1,0 +1,13 @@
+use Rattle.std.proofs.Common.{◌*◌, ◌^◌, ◌≤◌, List}
+use Rattle.rv32_lines.specs.Statements.{Statement}
+use Rattle.rv32_lines.specs.Reading.{AreReadStatements}
+use Rattle.rv32_asm.specs.Standing.{counted, AreLabels}
+use Rattle.rv32_asm.proofs.Going.{SoundSoFar}
+use Rattle.rv32_asm.proofs.rules.first_fault.Given as goal
+
+abbrev pub invariant-loop-line : goal.invariant-loop-line
+invariant-loop-line l = record {
+  room : counted l.place ≤ l.line * 2 ^ 63;
+  so_far : (all : List Statement) → AreReadStatements l.statements all → AreLabels all l.labels
+      → SoundSoFar all l.line l.place l.has_entry;
+}

@@ -1,0 +1,14 @@
+pub mod Bare
+pub mod Cutting
+pub mod EightDigits
+pub mod Ends
+pub mod Forms
+pub mod KindOf
+pub mod LinesOf
+pub mod LinesRead
+pub mod Once
+pub mod Orders
+pub mod Pairs
+pub mod Saying
+pub mod Signs
+pub mod Spelling
