@@ -20,4 +20,5 @@ pub mod Waiters
 pub mod Room
 pub mod Keeps
 pub mod Steps
+pub mod Buffers
 pub mod Theorem

@@ -5,12 +5,13 @@ use Rattle.coherence.specs.Messages.{Need, Read, Write, HomeMessage, Done, ToHom
 use Rattle.coherence.specs.Machine.{Core, Setting, Proper, Event, after}
 use Rattle.coherence.proofs.View.{View, if_to_home, if_forward, if_response, part}
 use Rattle.coherence.proofs.Picture.{Phase, Idle, ReadOpen, WriteOpen, ReadDone, WriteDone, Picture, wait_for, wait_in, to_home_in, Shows, WellFormed}
-use Rattle.coherence.specs.Claims.{Coherent, OneWriter, HaveRows, Moves, Settles, TakersWait, WaitersRead, FewWaits, FewAcks, FewRequests, Costs, Frugal}
+use Rattle.coherence.specs.Claims.{Coherent, OneWriter, HaveRows, Moves, Settles, TakersWait, WaitersRead, FewWaits, FewAcks, FewRequests, InOnePlace, Costs, Frugal}
 use Rattle.coherence.proofs.Waiters.{waiter_reads}
 use Rattle.coherence.proofs.Store.{one_writer, reads_memory, else_flagged}
 use Rattle.coherence.proofs.Moves.{waits_move}
 use Rattle.coherence.proofs.Settled.{no_messages, dones}
 use Rattle.coherence.proofs.Takers.{taker_waits}
+use Rattle.coherence.proofs.Buffers.{one_place}
 use Rattle.coherence.proofs.Home.{at_home, no_done}
 use Rattle.coherence.proofs.Steps.{Holds, seen, has_row, few_requests, front_part, list_holds}
 
@@ -114,6 +115,9 @@ module _ {C : Type 0} (s : Setting C) (proper : Proper s) (k : Core C) (holds : 
   acks i b w e = let h = holds.pictures b in
       few_counted (k.memory b) s.nodes h.0 h.1 i w proper.nodes h.3 (sym (h.2.waits i) ∙ e)
 
+  one_place_each : InOnePlace s k
+  one_place_each r b node = one_place s k r b (proper.homes b) node (holds.pictures b)
+
   costs : Costs s k
   costs i j b rest e =
       let h = holds.pictures b in
@@ -158,6 +162,9 @@ module _ (C : Type 0) (s : Setting C) (proper : Proper s) (es : List (Event C)) 
 
   pub all_requests : FewRequests s (after s es)
   all_requests i = few_requests s proper (after s es) (list_holds s proper es) i
+
+  pub all_buffers : InOnePlace s (after s es)
+  all_buffers = one_place_each s proper (after s es) (list_holds s proper es)
 
   pub all_costs : Costs s (after s es)
   all_costs = costs s proper (after s es) (list_holds s proper es)

@@ -1,7 +1,7 @@
 -- What holds after every protocol list.
-use Rattle.std.specs.Prelude.{◌≡◌, ◌≢◌, ℕ, ◌+◌, ◌*◌, ◌<◌, ◌≤◌, true, false, Option, Some, None, List, [], ◌∷◌, ◌⊎◌}
-use Rattle.coherence.specs.Messages.{Read, Write, ForwardMessage, FwdRead, FwdWrite, Inval, Grant, ToHome, Forward, Done, Wait, can_read, can_write}
-use Rattle.coherence.specs.Table.{Effect}
+use Rattle.std.specs.Prelude.{◌≡◌, ◌≢◌, ℕ, ◌+◌, ◌*◌, ◌<◌, ◌≤◌, Bool, true, false, not, cond, eqb, Option, Some, None, List, [], ◌∷◌, ◌⊎◌, ◌&&◌}
+use Rattle.coherence.specs.Messages.{Need, Read, Write, ForwardMessage, FwdRead, FwdWrite, Inval, Grant, Message, ToHome, Forward, Response, Ask, Done, Data, Ack, Wait, can_read, can_write, is_none, is_unanswered}
+use Rattle.coherence.specs.Table.{Effect, sum_below}
 use Rattle.coherence.specs.Machine.{Wire, Core, Setting, Proper, Event, waiting_at, row_of, waits, after}
 
 -- the node for which a message takes the block away from another
@@ -15,6 +15,43 @@ taker (Grant k) = None
 abbrev pub AreDones : {C : Type 0} → ℕ → List (Wire C) → Type 0
 AreDones b [] = Unit {0}
 AreDones b (w ∷ ws) = (w.block ≡ b → w.body ≡ ToHome Done) × AreDones b ws
+
+-- Whether a message from j to i carries the buffer of node r: a request and its forward carry the
+-- requester's, and an answer carries that of the node to which it goes.
+abbrev pub carries : {C : Type 0} → (r j i : ℕ) → Message C → Bool
+carries r j i (ToHome (Ask need)) = eqb j r
+carries r j i (ToHome Done) = false
+carries r j i (Forward (FwdRead q)) = eqb q r
+carries r j i (Forward (FwdWrite q k)) = eqb q r
+carries r j i (Forward (Inval q)) = false
+carries r j i (Forward (Grant k)) = eqb i r
+carries r j i (Response (Data k c)) = eqb i r
+carries r j i (Response Ack) = false
+
+abbrev pub one_if : Bool → ℕ
+one_if holds = cond holds 1 0
+
+-- how many messages of a list from j to i carry the buffer that node r took for block b
+abbrev pub carrying : {C : Type 0} → (r b j i : ℕ) → List (Wire C) → ℕ
+carrying r b j i [] = 0
+carrying r b j i (w ∷ ws) =
+    one_if (eqb w.block b && carries r j i w.body) + carrying r b j i ws
+
+-- how many of these requests are of node r
+abbrev pub asked_by : ℕ → List (ℕ × Need) → ℕ
+asked_by r [] = 0
+asked_by r (q ∷ qs) = one_if (eqb q.0 r) + asked_by r qs
+
+abbrev pub is_answered : {C : Type 0} → Option (Wait C) → Bool
+is_answered None = false
+is_answered (Some w) = not (is_unanswered w.answer)
+
+-- in how many places is the buffer that node r took for block b: messages between the nodes,
+-- requests that wait at the block's home, and an answered wait
+abbrev pub buffer_places : {C : Type 0} → Setting C → Core C → (r b : ℕ) → ℕ
+buffer_places s k r b =
+    sum_below (λ j. sum_below (λ i. carrying r b j i (k.list j i)) s.nodes) s.nodes
+    + asked_by r (k.waiting b) + one_if (is_answered (k.wait r b))
 
 module _ {C : Type 0} where
   -- the copies are coherent with the memory: a readable one is the memory's, every other is flagged
@@ -64,6 +101,11 @@ module _ {C : Type 0} where
   abbrev pub FewRequests : Setting C → Core C → Type 0
   FewRequests s k = (i : ℕ) → (k.occupancy i ≡ waiting_at s.home k.waiting s.blocks i)
       × (k.occupancy i ≤ 32)
+
+  -- the buffer that a node took for a block is in one place while it waits for it, and then in none
+  abbrev pub InOnePlace : Setting C → Core C → Type 0
+  InOnePlace s k = (r b : ℕ) → r < s.nodes
+      → buffer_places s k r b ≡ one_if (not (is_none (k.wait r b)))
 
   -- Where a Done comes the home is busy for its sender; a read has cost exactly four messages, and
   -- a write at most 2n + 1.

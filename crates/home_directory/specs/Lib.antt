@@ -1,5 +1,5 @@
 pub mod Home
 pub mod Table
 pub mod Effects
-pub mod Search
+pub mod Lists
 pub mod Rows

@@ -1,15 +1,16 @@
 //! What a home keeps of its blocks.
 
 ghost use Rattle.std.specs.Prelude.{◌≡◌, ◌<◌, ◌≤◌, ℕ, [], IfOk, length};
-ghost use Rattle.std.specs.Vec.{vec_capacity};
 ghost use Rattle.block_layout.specs.Layout.{blocks};
-ghost use Rattle.home_directory.specs.Home.{count_of, invals, waits, done_with, first_entry};
+ghost use Rattle.home_directory.specs.Home.{count_of, invals, done_with, first_entry};
 ghost use Rattle.home_directory.specs.Table.{first_leaves};
-ghost use Rattle.home_directory.specs.Effects.{entry_of, entries_of, is_home, requests_for, ask_effect, done_effect};
-ghost use Rattle.home_directory.specs.Search.{IsFirstFor};
-ghost use Rattle.home_directory.specs.Rows.{home_of, AreAfter, start_of, next_of, sharers_but, after_ask, after_done};
+ghost use Rattle.home_directory.specs.Effects.{entry_of, entries_of, is_home, ask_effect};
+ghost use Rattle.home_directory.specs.Effects.{done_effect};
+ghost use Rattle.home_directory.specs.Rows.{home_of, AreAfter, start_of, next_of, sharers_but};
+ghost use Rattle.home_directory.specs.Rows.{after_ask, after_done};
 
 use crate::messages::{Message, Need, Post, Sends};
+use crate::request_lists::RequestLists;
 use block_layout::{Block, Layout};
 use buf_pool::Buf;
 use std::alloc::{AllocError, Global};
@@ -35,10 +36,10 @@ pub struct Entry {
 /// A request that waits at the home.
 #[derive(Drop)]
 pub struct Request {
-    block: Block,
-    from: u8,
-    need: Need,
-    buf: Buf,
+    pub(crate) block: Block,
+    pub(crate) from: u8,
+    pub(crate) need: Need,
+    pub(crate) buf: Buf,
 }
 
 /// The entries of a layout's blocks at a node, which is the home of some of them, and the requests
@@ -48,12 +49,11 @@ pub struct Directory {
     layout: Layout,
     me: u8,
     entries: Vec<Entry>,
-    waiting: Vec<Request>,
+    waiting: RequestLists,
 }
 
 impl Model for Directory {
     ghost use Rattle.std.specs.Prelude.{◌≡◌, ◌≤◌, ◌<◌, length};
-    ghost use Rattle.std.specs.Vec.{vec_capacity};
     ghost use Rattle.block_layout.specs.Layout.{blocks};
     ghost use Rattle.home_directory.specs.Effects.{Directory as Seen};
 
@@ -63,11 +63,11 @@ impl Model for Directory {
       layout = d.layout;
       me = d.me;
       entries = d.entries.items;
-      waiting = d.waiting.items;
+      waiting = d.waiting.requests;
     } };
 
     ghost invariant = { λ d. (length d.entries.items ≡ blocks d.layout)
-        × (32 ≤ vec_capacity d.waiting)
+        × (d.waiting.blocks ≡ blocks d.layout)
         × (d.layout.nodes ≤ 16) };
 }
 
@@ -99,7 +99,7 @@ impl Directory {
             layout: layout.copy(alloc)?,
             me,
             entries,
-            waiting: Vec::with_capacity(alloc, 32)?,
+            waiting: RequestLists::new(alloc, layout.blocks())?,
         })
     }
 
@@ -144,7 +144,7 @@ impl Directory {
 /// Read or Write from a node, at the entry of the block.
 fn ask_at(
     entry: &mut Entry,
-    waiting: &mut Vec<Request>,
+    waiting: &mut RequestLists,
     nodes: u8,
     block: Block,
     from: u8,
@@ -152,15 +152,15 @@ fn ask_at(
     buf: Buf,
 ) -> Sends
     requires few { nodes ≤ 16 }
-    requires room { 32 ≤ vec_capacity waiting.old }
-    ensures entry { let home = home_of entry.old waiting.old.items block in
+    requires block { block < waiting.old.blocks }
+    ensures entry { let home = home_of entry.old waiting.old.requests block in
         entry_of entry.new ≡ (after_ask nodes home block from need buf).home.entry }
-    ensures waiting { let home = home_of entry.old waiting.old.items block in
-        AreAfter block waiting.old.items waiting.new.items
+    ensures waiting { let home = home_of entry.old waiting.old.requests block in
+        AreAfter block waiting.old.requests waiting.new.requests
         (after_ask nodes home block from need buf).home }
-    ensures sends { let home = home_of entry.old waiting.old.items block in
+    ensures sends { let home = home_of entry.old waiting.old.requests block in
         result.items ≡ (after_ask nodes home block from need buf).sends }
-    ensures capacity { vec_capacity waiting.new ≡ vec_capacity waiting.old }
+    ensures blocks { waiting.new.blocks ≡ waiting.old.blocks }
 {
     if from >= nodes {
         return Sends::new();
@@ -168,8 +168,8 @@ fn ask_at(
     match entry.busy {
         None => start(entry, nodes, block, from, need, buf),
         Some(busy) => {
-            if busy.node != from && !waits(waiting, block, from) && waiting.len() < 32 {
-                waiting.push_reserved(Request {
+            if busy.node != from && !waiting.has(block, from) && !waiting.is_full() {
+                waiting.join(Request {
                     block,
                     from,
                     need,
@@ -184,20 +184,21 @@ fn ask_at(
 /// Done from a node, at the entry of the block.
 fn done_at(
     entry: &mut Entry,
-    waiting: &mut Vec<Request>,
+    waiting: &mut RequestLists,
     nodes: u8,
     block: Block,
     from: u8,
 ) -> Sends
     requires few { nodes ≤ 16 }
-    ensures entry { let home = home_of entry.old waiting.old.items block in
+    requires block { block < waiting.old.blocks }
+    ensures entry { let home = home_of entry.old waiting.old.requests block in
         entry_of entry.new ≡ (after_done nodes home block from).home.entry }
-    ensures waiting { let home = home_of entry.old waiting.old.items block in
-        AreAfter block waiting.old.items waiting.new.items
+    ensures waiting { let home = home_of entry.old waiting.old.requests block in
+        AreAfter block waiting.old.requests waiting.new.requests
         (after_done nodes home block from).home }
-    ensures sends { let home = home_of entry.old waiting.old.items block in
+    ensures sends { let home = home_of entry.old waiting.old.requests block in
         result.items ≡ (after_done nodes home block from).sends }
-    ensures capacity { vec_capacity waiting.new ≡ vec_capacity waiting.old }
+    ensures blocks { waiting.new.blocks ≡ waiting.old.blocks }
 {
     if from >= nodes {
         return Sends::new();
@@ -288,17 +289,18 @@ fn invalidate(
 }
 
 /// Begins the first request that waits for a block.
-fn start_next(entry: &mut Entry, waiting: &mut Vec<Request>, nodes: u8, block: Block) -> Sends
+fn start_next(entry: &mut Entry, waiting: &mut RequestLists, nodes: u8, block: Block) -> Sends
     requires few { nodes ≤ 16 }
-    ensures entry { entry_of entry.new ≡ (next_of nodes entry.old block waiting.old.items).entry }
-    ensures waiting { let home = home_of entry.old waiting.old.items block in
-        AreAfter block waiting.old.items waiting.new.items (first_leaves home) }
-    ensures sends { result.items ≡ (next_of nodes entry.old block waiting.old.items).sends }
-    ensures capacity { vec_capacity waiting.new ≡ vec_capacity waiting.old }
+    requires block { block < waiting.old.blocks }
+    ensures entry { let next = next_of nodes entry.old block waiting.old.requests in
+        entry_of entry.new ≡ next.entry }
+    ensures waiting { let home = home_of entry.old waiting.old.requests block in
+        AreAfter block waiting.old.requests waiting.new.requests (first_leaves home) }
+    ensures sends { result.items ≡ (next_of nodes entry.old block waiting.old.requests).sends }
+    ensures blocks { waiting.new.blocks ≡ waiting.old.blocks }
 {
-    match first_for(waiting, block) {
-        Some(k) => {
-            let request = waiting.remove(k);
+    match waiting.take_first(block) {
+        Some(request) => {
             if request.from >= nodes {
                 return Sends::new();
             }
@@ -306,30 +308,6 @@ fn start_next(entry: &mut Entry, waiting: &mut Vec<Request>, nodes: u8, block: B
         }
         None => Sends::new(),
     }
-}
-
-/// Whether a request of a node for a block waits.
-fn waits(waiting: &[Request], block: Block, from: u8) -> bool
-    ensures { result ≡ waits (requests_for block waiting.now) from }
-{
-    for request in waiting {
-        if request.block == block && request.from == from {
-            return true;
-        }
-    }
-    false
-}
-
-/// Where the first request for a block stands.
-fn first_for(waiting: &[Request], block: Block) -> Option<usize>
-    ensures { IsFirstFor block waiting.now result }
-{
-    for (k, request) in waiting.iter().enumerate() {
-        if request.block == block {
-            return Some(k);
-        }
-    }
-    None
 }
 
 /// The entry once a request is done.

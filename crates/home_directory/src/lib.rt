@@ -6,6 +6,7 @@
 
 mod directory;
 mod messages;
+mod request_lists;
 mod wait;
 
 pub use directory::{Busy, Directory, Entry, Request};

@@ -10,7 +10,8 @@ ghost use Rattle.state_table.specs.States.{state_of};
 ghost use Rattle.home_directory.specs.Table.{meets, state_in_wait, request};
 ghost use Rattle.home_directory.specs.Home.{post};
 ghost use Rattle.miss_handlers.specs.Waits.{AreWaits, wait_of};
-ghost use Rattle.miss_handlers.specs.Effects.{miss_of, states_after, waits_after, pool_after_miss, post_of, buffers};
+ghost use Rattle.miss_handlers.specs.Effects.{miss_of, states_after, waits_after, pool_after_miss};
+ghost use Rattle.miss_handlers.specs.Effects.{post_of, buffers};
 
 mod replies;
 mod search;

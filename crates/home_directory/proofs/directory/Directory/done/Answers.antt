@@ -10,12 +10,12 @@ pub returns-clause-entries : goal.returns-clause-entries
 returns-clause-entries c =
     let inside = c.self.inside in
     let block = c.args.block in
-    let d : Directory = record { layout = inside.layout; me = inside.me; entries = inside.entries.items; waiting = inside.waiting.items } in
-    let made : Directory = record { layout = inside.layout; me = inside.me; entries = set inside.entries.items block c.done_at.new.entry; waiting = c.done_at.new.waiting.items } in
+    let d : Directory = record { layout = inside.layout; me = inside.me; entries = inside.entries.items; waiting = inside.waiting.requests } in
+    let made : Directory = record { layout = inside.layout; me = inside.me; entries = set inside.entries.items block c.done_at.new.entry; waiting = c.done_at.new.waiting.requests } in
     let view : d ≡ c.args.self.now = c.self.view_is in
     let here : is_home d block ≡ true = ap (λ (h : Directory). is_home h block) view ∙ sym c.is_home.ensures ∙ c.if-not-is_home.false in
     let some : block < blocks inside.layout = home_within d block here in
     let within : block < length inside.entries.items = omega arith in
     let row : ℕ → Home → Option HomeRow = λ n h. done_row n h block c.args.from in
     subst (λ (h : Directory). entries_of made ≡ (done_effect h c.args.from block).entries) view
-    (row_at d row c.nodes-nodes.result block c.index_mut-entry.result.now c.done_at.new.entry c.done_at.new.waiting.items here within c.nodes-nodes.ensures.nodes c.index_mut-entry.ensures.value c.done_at.ensures.entry c.done_at.ensures.waiting)
+    (row_at d row c.nodes-nodes.result block c.index_mut-entry.result.now c.done_at.new.entry c.done_at.new.waiting.requests here within c.nodes-nodes.ensures.nodes c.index_mut-entry.ensures.value c.done_at.ensures.entry c.done_at.ensures.waiting)
