@@ -10,6 +10,7 @@ use Rattle.templates.specs.Runs.{code_from, reach_at, has_access, IsRun}
 use Rattle.templates.specs.WholePlan.{IsLongestRun}
 use Rattle.batch_plan.specs.declared.runs.Run.{Run}
 use Rattle.batch_plan.specs.declared.stretches.Stretch.{Stretch}
+use Rattle.batch_plan.specs.Batches.{IsRunBy}
 use Rattle.batch_plan.specs.Stretches.{IsStretch, IsStretchOf}
 use Rattle.batch_plan.proofs.ReachLemmas.{le_of, of_le}
 use Rattle.batch_plan.proofs.StretchLemmas.{one_coded, stretch_front, stretch_low}
@@ -139,3 +140,23 @@ run_word code a n h = go (code a) refl
     go None is =
         absurd (one_coded code a is (stretch_front code a 1 n (λ z. omega (arith, z))
         (let two = h.some in omega (arith, two)) (run_stretch code a n h)))
+
+-- ---- whether so many words are a run
+
+-- where the front is no stretch there is no run
+pub no_run : (code : ℕ → Option Instr) (a m n : ℕ) → m ≢ 0 → m ≤ n → (IsStretch code a m → ⊥)
+    → IsRun code a n → ⊥
+no_run code a m n some le none h =
+    none (stretch_front code a m n some le (run_stretch code a n h))
+
+-- a stretch is a run where it ends with an access, and only there
+pub run_by : (code : ℕ → Option Instr) (a n base : ℕ) (s : Stretch) → 2 ≤ n → n ≤ 16
+    → IsStretchOf code a n s → s.ends ≡ true → base ≡ s.reach.base → IsRunBy code a n base
+run_by code a n base s two few h ends is = record {
+  run = stretch_run code a n h.stretch two few (sym h.ends ∙ ends);
+  by = is ∙ ap (λ (x : Reach). x.base) h.reach;
+}
+
+pub open_end : (code : ℕ → Option Instr) (a n : ℕ) (s : Stretch) → IsStretchOf code a n s
+    → s.ends ≡ false → IsRun code a n → ⊥
+open_end code a n s h ends g = false≢true (sym ends ∙ h.ends ∙ g.ends)

@@ -3,7 +3,7 @@ use Rattle.std.specs.Prelude.{◌≡◌, ◌≢◌, ℕ, ◌+◌, ◌*◌, ◌<�
 use Rattle.rv32_decode.specs.declared.Instr.{Instr}
 use Rattle.templates.specs.declared.plans.PlanEntry.{PlanEntry}
 use Rattle.templates.specs.Plans.{no_scratches}
-use Rattle.templates.specs.Runs.{reach_at}
+use Rattle.templates.specs.Runs.{IsRun, reach_at}
 use Rattle.templates.specs.WholePlan.{IsLongestRun, IsRunChoice}
 
 -- the entry but for its run
@@ -21,3 +21,8 @@ pub record HasRunFrom (code : ℕ → Option Instr) (free : ℕ) (e : PlanEntry)
   pub none : e.run ≡ 0 → e.batch ≡ no_scratches
   pub scratches : e.run ≢ 0
       → IsRunChoice code e.address (reach_at code e.address e.run).base e.batch
+
+-- so many code words from an address on are a run, with accesses by this base register
+pub record IsRunBy (code : ℕ → Option Instr) (a count base : ℕ) : Type 0 where
+  pub run : IsRun code a count
+  pub by : base ≡ (reach_at code a count).base

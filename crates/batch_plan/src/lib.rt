@@ -8,3 +8,4 @@ mod runs;
 mod stretches;
 
 pub use batches::plan_batches;
+pub use runs::run_base;

@@ -1,8 +1,9 @@
-//! The longest run from an address on.
+//! The runs from an address on.
 
-ghost use Rattle.std.specs.Prelude.{◌≡◌, ◌≢◌, ◌+◌, ◌*◌, ◌^◌, ◌<◌};
+ghost use Rattle.std.specs.Prelude.{◌≡◌, ◌≢◌, ◌+◌, ◌*◌, ◌^◌, ◌<◌, IsSome, MatchOption, OnSome};
+ghost use Rattle.batch_plan.specs.Batches.{IsRunBy};
 ghost use Rattle.templates.specs.Code.{Ascends, code_of};
-ghost use Rattle.templates.specs.Runs.{reach_at};
+ghost use Rattle.templates.specs.Runs.{IsRun, reach_at};
 ghost use Rattle.templates.specs.WholePlan.{IsLongestRun};
 
 use crate::stretches::Stretch;
@@ -47,4 +48,26 @@ pub(crate) fn longest_run(code: &Code, address: u32) -> Run
         }
     }
     longest
+}
+
+/// The base register of the accesses of a run of so many words from an address on; None exactly
+/// where these words are no run.
+pub fn run_base(code: &Code, address: u32, words: u8) -> Option<Reg>
+    requires ascends { Ascends 0 code.now }
+    ensures value { MatchOption result (IsRun (code_of code.now) address words → ⊥)
+        (IsRunBy (code_of code.now) address words) }
+    ensures code_word { OnSome result (IsSome (code_of code.now address)) }
+{
+    if !(2..=16).contains(&words) {
+        return None;
+    }
+    let mut stretch = Stretch::begin(code, address)?;
+    for count in 1..words {
+        stretch = stretch.longer(code, address, count)?;
+    }
+    if stretch.ends {
+        Some(stretch.base())
+    } else {
+        None
+    }
 }

@@ -8,5 +8,5 @@ mod planning;
 mod scratches;
 
 pub use laws::plan_law;
-pub use planning::plan_checks;
-pub use scratches::{NO_SCRATCHES, choose};
+pub use planning::{plan_checks, scratch_count};
+pub use scratches::{NO_SCRATCH, NO_SCRATCHES, choose};

@@ -82,7 +82,7 @@ fn candidates(i: &Instr) -> RegSet
 }
 
 /// How many scratch registers the single sequence of a template takes.
-fn scratch_count(template: Template) -> u8
+pub fn scratch_count(template: Template) -> u8
     ensures value { result ≡ scratch_count template }
 {
     match template {

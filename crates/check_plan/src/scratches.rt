@@ -1,6 +1,7 @@
 //! Scratch registers by what is dead.
 
-ghost use Rattle.std.specs.Prelude.{◌≡◌, ◌<◌, ◌≤◌, Some, IfOk, IfErr, slice_get, slice_index_or, take};
+ghost use Rattle.std.specs.Prelude.{◌≡◌, ◌<◌, ◌≤◌, Some, IfOk, IfErr, slice_get, slice_index_or};
+ghost use Rattle.std.specs.Prelude.{take};
 ghost use Rattle.rv32_decode.specs.Fields.{bit};
 ghost use Rattle.templates.specs.Plans.{no_scratch};
 ghost use Rattle.templates.specs.WholePlan.{in_order, scratches_of};
@@ -10,7 +11,7 @@ use rv32_decode::{Reg, RegSet};
 use templates::{Scratch, Scratches};
 
 /// No scratch register.
-const NO_SCRATCH: Scratch = Scratch {
+pub const NO_SCRATCH: Scratch = Scratch {
     register: Reg::ZERO,
     spilled: false,
 };

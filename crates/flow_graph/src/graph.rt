@@ -1,6 +1,7 @@
 //! The flow graph of a program.
 
-ghost use Rattle.std.specs.Prelude.{◌≡◌, ◌⊎◌, ◌↔◌, ◌+◌, ◌^◌, ◌<◌, ◌≤◌, ℕ, length, slice_get, option_and_then, Some, IsSome, IfOk, IfSome};
+ghost use Rattle.std.specs.Prelude.{◌≡◌, ◌⊎◌, ◌↔◌, ◌+◌, ◌^◌, ◌<◌, ◌≤◌, ℕ, length, slice_get};
+ghost use Rattle.std.specs.Prelude.{option_and_then, Some, IsSome, IfOk, IfSome};
 ghost use Rattle.rv32_decode.specs.declared.Instr.{Instr as TheInstr};
 ghost use Rattle.rv32_program.specs.Liveness.{Next as IsNext};
 ghost use Rattle.exec_map.specs.Contents.{program_of};

@@ -94,6 +94,23 @@ at_none (s ∷ ss) xs k a up same within found =
     (subst (λ l. k ≤ length l) same within)
     (subst (λ l. IsBinarySearchResult (λ y. nat_cmp y.address a) l (Err k)) same found) n s lt)
 
+-- the place of a number is the one at its address
+pub at_got : (ss xs : List PlaceStart) (k a : ℕ) (x : PlaceStart) → Ascends 0 ss → xs ≡ ss → k < length xs
+    → x ≡ slice_index_or xs k x → x.address ≡ a → Some x ≡ start_of ss a
+at_got ss xs k a x up same lt is at =
+    let within = subst (λ l. k < length l) same lt in
+    let there = subst (λ l. x ≡ slice_index_or l k x) same is in
+    ap (λ s. Some s) there ∙ start_there 0 ss k x up within a (ap (λ s. s.address) (sym there) ∙ at)
+
+pub at_got_low : (ss xs : List PlaceStart) (k : ℕ) (x : PlaceStart) → Ascends 0 ss → xs ≡ ss → k < length xs
+    → x ≡ slice_index_or xs k x → (x.head ≤ most_words) × (x.single ≤ most_words)
+at_got_low ss xs k x up same lt is =
+    let low = low_there 0 ss k x up (subst (λ l. k < length l) same lt) in
+    let there = subst (λ l. x ≡ slice_index_or l k x) same is in
+    let head = ap (λ s. s.head) there in
+    let single = ap (λ s. s.single) there in
+    (omega (arith, low.0, head), omega (arith, low.1, single))
+
 -- the end of the places, past one more
 pub end_more : (low : ℕ) (ss : List PlaceStart) (a head single : ℕ) → end_from low (ss ++ start a head single ∷ []) ≡ a + 1
 end_more low [] a head single = refl

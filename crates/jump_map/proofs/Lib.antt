@@ -6,3 +6,4 @@ mod ExpansionLemmas
 mod StartLemmas
 mod MicroLemmas
 pub mod ImageLemmas
+mod NearLemmas

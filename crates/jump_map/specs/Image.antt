@@ -1,11 +1,11 @@
 -- Rewritten code: the words of a plan, in their order, and the place of each.
-use Rattle.std.specs.Prelude.{◌≡◌, ◌≢◌, ℕ, ◌+◌, ◌-◌, ◌*◌, ◌%◌, ◌^◌, ◌<◌, ◌≤◌, ◌++◌, ◌==◌, ◌&&◌, Bool, true, nat_le, nat_lt, if◌then◌else◌, List, [], ◌∷◌, Option, Some, None, map, length, Contains}
+use Rattle.std.specs.Prelude.{◌≡◌, ◌≢◌, ℕ, ◌+◌, ◌-◌, ◌*◌, ◌%◌, ◌^◌, ◌<◌, ◌≤◌, ◌++◌, ◌/◌, ◌==◌, ◌&&◌, Bool, true, nat_le, nat_lt, if◌then◌else◌, List, [], ◌∷◌, Option, Some, None, map, length, Contains}
 use Rattle.std.specs.List.{list_all}
 use Rattle.rv32_decode.specs.Fields.{signed}
 use Rattle.rv32_decode.specs.declared.Instr.TheVariants.{Jal}
 use Rattle.rv32_program.specs.Program.{Program}
 use Rattle.runtime_words.specs.declared.RtWord.{RtWord}
-use Rattle.runtime_words.specs.declared.RtWord.TheVariants.{Native, TrapOff}
+use Rattle.runtime_words.specs.declared.RtWord.TheVariants.{Native, Far, TrapOff}
 use Rattle.templates.specs.declared.places.Part.{Part}
 use Rattle.templates.specs.declared.places.Part.TheVariants.{Single, Head, Fast, Fallback}
 use Rattle.templates.specs.declared.places.Place.{Place}
@@ -89,11 +89,26 @@ head_of program plan a = address_of_word (1 + words_before program plan a)
 abbrev pub distance : ℕ → ℕ → ℕ
 distance at target = (target + (2 ^ 32 - at)) % 2 ^ 32
 
--- the word of an item at its own address: a jump is a JAL that keeps no link. An image of most_words
--- lies within its reach; a larger one would want a case more here, a runtime word for a far jump
+-- a JAL reaches from one address to the other: from 1048576 bytes below to 1048574 above
+-- (RISC-V Unprivileged ISA, "Unconditional Jumps")
+abbrev pub is_near : ℕ → ℕ → Bool
+is_near at target = nat_le at (target + 1048576) && nat_le target (at + 1048574)
+
+-- the number of the word at an address
+abbrev pub number_of_word : ℕ → ℕ
+number_of_word address = (address - image_base) / 4
+
+-- the word at an address that goes to another: a JAL that keeps no link, where that reaches, and
+-- else a far jump
+abbrev pub jump_word : ℕ → ℕ → RtWord
+jump_word at target =
+    if is_near at target then Native (Jal 0 (signed 32 (distance at target)))
+    else Far (number_of_word target)
+
+-- the word of an item at its own address
 abbrev pub item_word : (ℕ → ℕ) → ℕ → ItemWord → RtWord
 item_word head at (Runs w) = w
-item_word head at (GoesTo place to_head) = Native (Jal 0 (signed 32 (distance at (head place))))
+item_word head at (GoesTo place to_head) = jump_word at (head place)
 
 -- the words of items, of which the first stands at this address
 abbrev pub words_at : (ℕ → ℕ) → ℕ → List PlacedItem → List ImageWord
@@ -135,6 +150,10 @@ pub record IsExpansion (program : Program) (plan : List PlanEntry) (image : List
 abbrev pub Expands : List CodeWord → List PlanEntry → List Cell → Type 0
 Expands words plan image =
     (program : Program) → HasCode program words → IsExpansion program plan image
+
+-- no word of the image is a far jump
+pub record HasNoFar (image : List Cell) : Type 0 where
+  pub near : (c : Cell) (k : ℕ) → Contains image c → read_word c.word ≢ Some (Far k)
 
 -- the image is a rewriting of the program: it has the words of an admissible plan
 pub record IsRewriting (program : Program) (plan : List PlanEntry) (image : List Cell) : Type 0

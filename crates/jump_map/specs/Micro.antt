@@ -3,21 +3,24 @@
 use Rattle.std.specs.Prelude.{◌≡◌, ℕ, List, Option, Some, None, MatchOption, slice_get}
 use Rattle.rv32_decode.specs.Fields.{unsigned}
 use Rattle.runtime_words.specs.declared.RtWord.{RtWord}
-use Rattle.runtime_words.specs.declared.RtWord.TheVariants.{Native, Poll, Xjalr}
+use Rattle.runtime_words.specs.declared.RtWord.TheVariants.{Native, Poll, Xjalr, Far}
 use Rattle.micro_op.specs.declared.micro_op.MicroOp.{MicroOp}
 use Rattle.micro_op.specs.declared.MicroKind.TheVariants.{Rare}
-use Rattle.rv32_step.specs.declared.Demand.TheVariants.{Continues}
+use Rattle.rv32_step.specs.declared.Demand.TheVariants.{Continues, Jumps}
 use Rattle.micro_op.specs.Micro.{IsMicroOf, IsEntryOf, Meets, meaning_of}
 use Rattle.jump_map.specs.Image.{Cell, image_base, address_of_word, read_cell}
 
 -- the micro-op is that of a word at an address: of a native instruction, of a poll, which does
--- nothing, or of an indirect jump; every other word is rare
+-- nothing, of an indirect jump, or of a far jump, which keeps no link; every other word is rare
 abbrev pub IsMicroWord : ℕ → Option RtWord → MicroOp → Type 0
 IsMicroWord address (Some (Native i)) m = IsMicroOf image_base address i m
 IsMicroWord address (Some Poll) m =
     (registers : ℕ → ℕ) → Meets (meaning_of image_base m registers) Continues
 IsMicroWord address (Some (Xjalr rd rs1 imm)) m =
     IsEntryOf image_base rd rs1 (unsigned 32 imm) m
+IsMicroWord address (Some (Far k)) m =
+    (registers : ℕ → ℕ) →
+    Meets (meaning_of image_base m registers) (Jumps 0 (address_of_word k))
 IsMicroWord address word m = m.kind ≡ Rare
 
 -- the micro-op is that of the image's word of this number

@@ -1,25 +1,30 @@
 //! How an image is made of a plan: count, find the places' heads, and write each sequence.
 
-ghost use Rattle.std.specs.Prelude.{◌≡◌, ◌+◌, ◌^◌, ◌<◌, ◌≤◌, ℕ, length, IfOk, OnOk, IsErrOf};
+ghost use Rattle.std.specs.Prelude.{◌≡◌, ◌+◌, ◌^◌, ◌<◌, ◌≤◌, ℕ, true, length, IfOk, OnOk, IsErrOf};
 ghost use Rattle.rv32_decode.specs.Fields.{signed};
 ghost use Rattle.runtime_words.specs.Reading.{read_word};
 ghost use Rattle.templates.specs.Plans.{AscendsFrom};
 ghost use Rattle.templates.specs.Code.{code_of};
 ghost use Rattle.templates.specs.Sequences.{batch_sequence, items_of};
 ghost use Rattle.jump_map.specs.Heads.{program_with};
-ghost use Rattle.jump_map.specs.Image.{HasRunsOf, part_of_entry, entry_items, address_in, distance, address_of_word, most_words};
-ghost use Rattle.jump_map.specs.Building.{HasWords, word_count, HasStarts, IsOverlong, HasRunOf, reads_at, batch_items, AddsItem, AddsItems, AddsPart};
+ghost use Rattle.jump_map.specs.Image.{HasRunsOf, part_of_entry, entry_items, address_in, is_near};
+ghost use Rattle.jump_map.specs.Image.{distance, jump_word, address_of_word, most_words};
+ghost use Rattle.jump_map.specs.Building.{HasWords, word_count, HasStarts, IsOverlong, HasRunOf};
+ghost use Rattle.jump_map.specs.Building.{reads_at, batch_items, AddsItem, AddsItems, AddsPart};
 
 use crate::cells::Cells;
 use crate::heads::{Heads, PlaceIndex};
 use crate::image::{ImageRefused, MOST_WORDS};
-use runtime_words::{RtWord, encode_word};
+use runtime_words::{RtWord, WordNumber, encode_word};
 use rv32_decode::{Instr, JumpOffset, Reg};
 use std::alloc::{AllocError, Global};
 use templates::{
     Code, Item, Part, Place, Plan, PlanEntry, Words, batch_lengths, expand, expand_batch,
     reload_count, sequence_length,
 };
+
+/// How many words a JAL reaches downwards, and one word fewer upwards.
+const REACH: u32 = 0x4_0000;
 
 /// The words of a plan, and where those of each place begin.
 ///
@@ -95,7 +100,7 @@ fn find_heads(
     ensures starts { IfOk result (λ h. HasStarts code.now entries.now h.starts) }
     ensures total { IfOk result (λ h. h.total ≡ total) }
 {
-    let mut index = PlaceIndex::new(alloc);
+    let mut index = PlaceIndex::with_capacity(alloc, entries.len())?;
     let mut next: u32 = 1;
     for entry in entries {
         let single = next + u32::from(batch_length(entry, code));
@@ -118,7 +123,7 @@ fn write_cells(
     requires starts { HasStarts code.now entries.now heads.now.starts }
     ensures words { IfOk result (λ cells. HasWords code.now entries.now cells) }
 {
-    let mut cells = Cells::new(alloc);
+    let mut cells = Cells::with_capacity(alloc, heads.total())?;
     cells.push(encode_word(RtWord::TrapOff), None)?;
     let mut sequence = Words::new(alloc);
     for entry in entries {
@@ -247,19 +252,40 @@ fn word_of(item: &Item, own: u32, heads: &Heads) -> u32
 {
     match item {
         Item::Fixed(word) => *word,
-        Item::Jump { place, .. } => {
-            encode_word(RtWord::Native(Instr::Jal {
-                rd: Reg::ZERO,
-                offset: distance(heads.number(*place), own),
-            }))
-        }
+        Item::Jump { place, .. } => encode_word(jump_word(own, heads.number(*place))),
     }
 }
 
-/// The distance from one word to another.
+/// The word of one number that goes to the word of another.
+fn jump_word(own: u32, head: u32) -> RtWord
+    requires own { own ≤ most_words }
+    requires head { head ≤ most_words }
+    ensures value { result ≡ jump_word (address_of_word own) (address_of_word head) }
+{
+    if is_near(own, head) {
+        RtWord::Native(Instr::Jal {
+            rd: Reg::ZERO,
+            offset: distance(head, own),
+        })
+    } else {
+        RtWord::Far(WordNumber::new(head))
+    }
+}
+
+/// Whether a JAL reaches from one word to another.
+fn is_near(own: u32, head: u32) -> bool
+    requires own { own ≤ most_words }
+    requires head { head ≤ most_words }
+    ensures { result ≡ is_near (address_of_word own) (address_of_word head) }
+{
+    own <= head + REACH && head < own + REACH
+}
+
+/// The distance from one word to another that a JAL reaches.
 fn distance(head: u32, own: u32) -> JumpOffset
     requires head { head ≤ most_words }
     requires own { own ≤ most_words }
+    requires near { is_near (address_of_word own) (address_of_word head) ≡ true }
     ensures { result ≡ signed 32 (distance (address_of_word own) (address_of_word head)) }
 {
     if own <= head {

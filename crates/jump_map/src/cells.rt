@@ -1,6 +1,7 @@
 //! The words of an image, each beside what it reads as.
 
-ghost use Rattle.std.specs.Prelude.{◌≡◌, ◌<◌, ◌≤◌, ◌++◌, ◌∷◌, [], length, slice_get, option_and_then, OnOk, OnErr, true};
+ghost use Rattle.std.specs.Prelude.{◌≡◌, ◌<◌, ◌≤◌, ◌++◌, ◌∷◌, [], length, slice_get};
+ghost use Rattle.std.specs.Prelude.{option_and_then, IfOk, OnOk, OnErr, true};
 ghost use Rattle.std.specs.List.{list_all};
 ghost use Rattle.std.specs.Option.{option_map};
 ghost use Rattle.jump_map.specs.Image.{is_word, read_cell, most_words};
@@ -45,13 +46,13 @@ impl Model for Cells {
 }
 
 impl Cells {
-    /// No word as yet.
-    pub(crate) fn new(alloc: Global) -> Cells
-        ensures value { result ≡ [] }
+    /// No word as yet, and room for so many.
+    pub(crate) fn with_capacity(alloc: Global, words: u32) -> Result<Cells, AllocError>
+        ensures value { IfOk result (λ cells. cells ≡ []) }
     {
-        Cells {
-            cells: Vec::new(alloc),
-        }
+        Ok(Cells {
+            cells: Vec::with_capacity(alloc, words as usize)?,
+        })
     }
 
     /// Appends a word.

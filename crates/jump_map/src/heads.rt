@@ -1,7 +1,9 @@
-//! Where the words of each place begin, by halving.
+//! Where the words of each place begin, by a guess or by halving.
 
-ghost use Rattle.std.specs.Prelude.{◌≡◌, ◌+◌, ◌<◌, ◌≤◌, ◌++◌, ◌∷◌, [], length, OnOk, OnErr, IfSome};
-ghost use Rattle.jump_map.specs.Heads.{start, start_of, head_start, single_start, end_of, head_number};
+ghost use Rattle.std.specs.Prelude.{◌≡◌, ◌+◌, ◌<◌, ◌≤◌, ◌++◌, ◌∷◌, [], length, IfOk, OnOk, OnErr};
+ghost use Rattle.std.specs.Prelude.{IfSome, Some};
+ghost use Rattle.jump_map.specs.Heads.{start, start_of, head_start, single_start, end_of};
+ghost use Rattle.jump_map.specs.Heads.{head_number};
 ghost use Rattle.jump_map.specs.Image.{most_words};
 
 use std::alloc::{AllocError, Global};
@@ -36,13 +38,13 @@ impl Model for PlaceIndex {
 }
 
 impl PlaceIndex {
-    /// No place as yet.
-    pub(crate) fn new(alloc: Global) -> PlaceIndex
-        ensures value { result ≡ [] }
+    /// No place as yet, and room for so many.
+    pub(crate) fn with_capacity(alloc: Global, places: usize) -> Result<PlaceIndex, AllocError>
+        ensures value { IfOk result (λ index. index ≡ []) }
     {
-        PlaceIndex {
-            starts: Vec::new(alloc),
-        }
+        Ok(PlaceIndex {
+            starts: Vec::with_capacity(alloc, places)?,
+        })
     }
 
     /// Appends a place, which is above the last one.
@@ -84,12 +86,32 @@ impl PlaceIndex {
         }
     }
 
+    /// Where the words of a place begin, where no gap is between the first place and this one; else
+    /// None.
+    fn guess(&self, address: u32) -> Option<PlaceStart>
+        ensures value { IfSome result (λ s. Some s ≡ start_of self.now address) }
+        ensures head { IfSome result (λ s. s.head ≤ most_words) }
+        ensures single { IfSome result (λ s. s.single ≤ most_words) }
+    {
+        let first = self.starts.first()?;
+        let k = (address.wrapping_sub(first.address) / 4) as usize;
+        let start = self.starts.get(k)?;
+        if start.address == address {
+            Some(*start)
+        } else {
+            None
+        }
+    }
+
     /// Where the words of a place begin; None where the address is no place.
     fn find(&self, address: u32) -> Option<PlaceStart>
         ensures value { result ≡ start_of self.now address }
         ensures head { IfSome result (λ s. s.head ≤ most_words) }
         ensures single { IfSome result (λ s. s.single ≤ most_words) }
     {
+        if let Some(start) = self.guess(address) {
+            return Some(start);
+        }
         match self.starts.binary_search_by_key(&address, |s| s.address) {
             Ok(k) => Some(self.starts[k]),
             Err(_) => None,
@@ -135,6 +157,13 @@ impl Heads {
             Some(word) => word,
             None => self.total,
         }
+    }
+
+    /// The number of all words.
+    pub(crate) fn total(&self) -> u32
+        ensures value { result ≡ self.now.total }
+    {
+        self.total
     }
 
     /// The places alone.

@@ -4,7 +4,8 @@ ghost use Rattle.std.specs.Prelude.{◌≡◌, ◌≤◌, ℕ, List, length, opt
 ghost use Rattle.rv32_program.specs.Program.{Program};
 ghost use Rattle.templates.specs.declared.plans.PlanEntry.{PlanEntry};
 ghost use Rattle.templates.specs.Plans.{AscendsFrom};
-ghost use Rattle.jump_map.specs.Image.{Cell, most_words, HasRunsOf, Expands, IsRewriting, IsTooLong};
+ghost use Rattle.jump_map.specs.Image.{Cell, most_words, HasRunsOf, HasNoFar, Expands, IsRewriting};
+ghost use Rattle.jump_map.specs.Image.{IsTooLong};
 ghost use Rattle.jump_map.specs.Micro.{IsMicroAnswer};
 ghost use Rattle.jump_map.specs.Maps.{index_of, new_of, old_of, word_at, fetch};
 
@@ -23,7 +24,7 @@ use thiserror::Error;
 pub const IMAGE_BASE: u32 = 0xa000_0000;
 
 /// The most words that rewritten code may have.
-pub const MOST_WORDS: usize = 262_143;
+pub const MOST_WORDS: usize = 4_194_303;
 
 /// Why a plan has no rewritten code.
 #[derive(Debug, Drop, Error)]
@@ -113,6 +114,14 @@ impl Image {
         self.cells.len()
     }
 
+    /// The number of words, which takes no memory to say.
+    pub fn words(&self) -> u32
+        ensures value { result ≡ length self.now }
+        ensures few { result ≤ most_words }
+    {
+        self.cells.len() as u32
+    }
+
     /// The address of the first word of a place's single sequence; None exactly where the address
     /// is no place.
     pub fn new_of(&self, address: u32) -> Option<u32>
@@ -166,9 +175,11 @@ fn index_of(new: u32) -> Option<usize>
     }
 }
 
-/// A program has at most one rewriting by a plan.
-#[tactic(auto, using(crate::proofs::ImageLemmas::one_image))]
+/// A program has at most one rewriting by a plan, and one of at most 262,143 words has no far jump.
+#[tactic(auto, using(crate::proofs::ImageLemmas::one_image, crate::proofs::NearLemmas::none_far))]
 pub fn image_law()
     ensures one { (program : Program) (plan : List PlanEntry) (one other : List Cell) →
         IsRewriting program plan one → IsRewriting program plan other → one ≡ other }
+    ensures near { (program : Program) (plan : List PlanEntry) (image : List Cell) →
+        IsRewriting program plan image → length image ≤ 262143 → HasNoFar image }
 {}

@@ -9,4 +9,4 @@ mod heads;
 pub mod image;
 mod micros;
 
-pub use image::{IMAGE_BASE, Image, ImageRefused, ImageWord, image_law};
+pub use image::{IMAGE_BASE, Image, ImageRefused, ImageWord, MOST_WORDS, image_law};

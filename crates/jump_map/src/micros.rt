@@ -1,14 +1,16 @@
 //! The micro-ops of an image's words.
 
 ghost use Rattle.std.specs.Prelude.{◌≡◌, ◌+◌, ◌*◌, ◌^◌, ◌<◌, ◌≤◌, ℕ, Some, length, slice_get, IfOk};
-ghost use Rattle.jump_map.specs.Image.{Cell, address_of_word, most_words, read_cell};
+ghost use Rattle.rv32_step.specs.declared.Demand.TheVariants.{Jumps};
+ghost use Rattle.micro_op.specs.Micro.{Meets, meaning_of};
+ghost use Rattle.jump_map.specs.Image.{Cell, image_base, address_of_word, most_words, read_cell};
 ghost use Rattle.jump_map.specs.Micro.{IsMicroWord};
 ghost use Rattle.jump_map.specs.Decoding.{HasMicros};
 
 use crate::cells::Cells;
 use crate::image::IMAGE_BASE;
 use micro_op::{MicroKind, MicroOp};
-use runtime_words::RtWord;
+use runtime_words::{RtWord, WordNumber};
 use rv32_decode::Reg;
 use std::alloc::{AllocError, Global};
 
@@ -21,11 +23,25 @@ const NOTHING: MicroOp = MicroOp {
     imm: 0,
 };
 
+/// What a far jump to the word of a number does.
+fn far(number: WordNumber) -> MicroOp
+    ensures value { (registers : ℕ → ℕ) →
+        Meets (meaning_of image_base result registers) (Jumps 0 (address_of_word number)) }
+{
+    MicroOp {
+        kind: MicroKind::Jump,
+        rd: Reg::ZERO,
+        rs1: Reg::ZERO,
+        rs2: Reg::ZERO,
+        imm: number.value(),
+    }
+}
+
 /// The micro-op of each word.
 pub(crate) fn decode_cells(alloc: Global, cells: &Cells) -> Result<Vec<MicroOp>, AllocError>
     ensures value { IfOk result (λ micros. HasMicros cells.now micros.items) }
 {
-    let mut micros = Vec::new(alloc);
+    let mut micros = Vec::with_capacity(alloc, cells.len())?;
     for k in 0..cells.len() {
         micros.push(micro_at(cells, k))?;
     }
@@ -62,6 +78,7 @@ fn micro_of_word(word: &RtWord, address: u32) -> MicroOp
         RtWord::Native(i) => MicroOp::of(*i, address, IMAGE_BASE),
         RtWord::Poll => NOTHING,
         RtWord::Xjalr { rd, rs1, imm } => MicroOp::entry(*rd, *rs1, *imm),
+        RtWord::Far(number) => far(*number),
         _ => MicroOp::RARE,
     }
 }

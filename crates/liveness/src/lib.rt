@@ -10,3 +10,4 @@ mod sets;
 mod work;
 
 pub use live::Live;
+pub use node::used_registers;

@@ -39,22 +39,18 @@ fn node_of(i: &Instr, edges: Edges) -> Node
         → edges ≡ edges_of words w → IsNode words w result }
 {
     Node {
-        uses: used_registers(i),
+        uses: used_registers(i).bits(),
         defs: defs(*i).bits(),
         first: edges.first,
         second: edges.second,
     }
 }
 
-/// The registers that an instruction uses.
-fn used_registers(i: &Instr) -> u32
+/// The registers that an instruction uses, or what follows it may; of x0 nothing is said.
+pub fn used_registers(i: &Instr) -> RegSet
     ensures value { (r : ℕ) → r ≢ 0 → r < 32 → (IsMember result r ↔ Uses i.now r) }
 {
-    if uses_all(i) {
-        RegSet::all().bits()
-    } else {
-        uses(*i).bits()
-    }
+    if uses_all(i) { RegSet::all() } else { uses(*i) }
 }
 
 /// Whether what follows may use every register.

@@ -119,7 +119,8 @@ Meets (Enters original) d = ⊥
 
 -- the micro-op does what the instruction at an address demands, whatever the registers
 pub record IsMicroOf (base address : ℕ) (i : Instr) (m : MicroOp) : Type 0 where
-  pub meets : (registers : ℕ → ℕ) → Meets (meaning_of base m registers) (demand_of i registers address)
+  pub meets : (registers : ℕ → ℕ)
+      → Meets (meaning_of base m registers) (demand_of i registers address)
 
 -- it enters this original address and keeps no link, or is left to the path that serves every word
 abbrev pub EntersAt : Meaning → ℕ → ℕ → Type 0

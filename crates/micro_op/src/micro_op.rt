@@ -1,8 +1,10 @@
 //! A micro-op, and how it is made of an instruction.
 
-ghost use Rattle.std.specs.Prelude.{◌≡◌, ◌+◌, ◌*◌, ◌%◌, ◌^◌, ◌↔◌, ◌==◌, ℕ, not, IsTrue, MatchOption};
+ghost use Rattle.std.specs.Prelude.{◌≡◌, ◌+◌, ◌*◌, ◌%◌, ◌^◌, ◌↔◌, ◌==◌, ℕ, not, IsTrue};
+ghost use Rattle.std.specs.Prelude.{MatchOption};
 ghost use Rattle.rv32_decode.specs.Fields.{unsigned};
-ghost use Rattle.micro_op.specs.Micro.{IsMicroOf, IsEntryOf, Meets, meaning_of, index_address, is_rare};
+ghost use Rattle.micro_op.specs.Micro.{IsMicroOf, IsEntryOf, Meets, meaning_of, index_address};
+ghost use Rattle.micro_op.specs.Micro.{is_rare};
 ghost use Rattle.rv32_ops.specs.Operations.{taken};
 ghost use Rattle.rv32_step.specs.Registers.{reg};
 ghost use Rattle.rv32_step.specs.Demands.{branch_demand};

@@ -36,10 +36,10 @@ use Rattle.rv32_step.specs.Demands.{demand_of, call_step, cut_short}
 use Rattle.rv32_step.specs.Memory.{load_value, byte_by, shared_after, private_after}
 use Rattle.rv32_step.specs.OneMemory.{Access, Nothing, Reads, Writes, WritesIf, Exchanges, next_pc}
 use Rattle.runtime_words.specs.declared.RtWord.{RtWord}
-use Rattle.runtime_words.specs.declared.RtWord.TheVariants.{Native, MissR, MissW, Poll, Call, Xjalr, Batch, Prepare, TrapFetch, TrapOff, TrapIllegal, TrapEbreak}
+use Rattle.runtime_words.specs.declared.RtWord.TheVariants.{Native, MissR, MissW, Poll, Call, Xjalr, Batch, Prepare, Far, TrapFetch, TrapOff, TrapIllegal, TrapEbreak}
 use Rattle.templates.specs.declared.places.Place.{Place}
 use Rattle.jump_map.specs.declared.image.ImageWord.{ImageWord}
-use Rattle.jump_map.specs.Image.{Cell, image_base}
+use Rattle.jump_map.specs.Image.{Cell, image_base, address_of_word}
 use Rattle.jump_map.specs.Maps.{fetch, new_of}
 use Rattle.node_model.specs.declared.NodeCounts.{NodeCounts}
 use Rattle.node_model.specs.declared.Entry.{Entry as JournalEntry}
@@ -287,7 +287,8 @@ native program place at l n (Updates o r a value) =
     then update program l n o r a value (load_value WordLoad (byte_at program l n) a)
     else exit_by l n (Misaligned place)
 
--- a miss check for reading, by the line's state: not mapped, readable after all, or to be waited for
+-- a miss check for reading, by the line's state: not mapped, readable after all, or to be waited
+-- for
 abbrev pub miss_r_by : ℕ → ℕ → Lane → Local → ℕ → Outcome
 miss_r_by state place l n a =
     if is_mapped_state state then
@@ -397,6 +398,7 @@ execute program place at (Batch stores low high) l n =
     batch l n (need_of_run stores) (reg l.registers low) (reg l.registers high)
 execute program place at (Prepare rs1) l n =
     prepare place l n (offset_address (reg l.registers rs1) (pos 0))
+execute program place at (Far k) l n = go_on l n (To (address_of_word k))
 execute program place at TrapFetch l n = exit_by l n (Fetch place)
 execute program place at TrapOff l n = exit_by l n (Fetch l.off)
 execute program place at TrapIllegal l n = exit_by l n (Illegal place)

@@ -1,4 +1,5 @@
--- What a run of nodes gives: the bytes printed, how each processor ended, and what each node counted.
+-- What a run of nodes gives: the bytes printed, how each processor ended, and what each node
+-- counted.
 use Rattle.std.specs.Prelude.{◌≡◌, ℕ, ◌+◌, ◌*◌, ◌≤◌, List, Option, Some, map, sum_by}
 use Rattle.std.specs.List.{range_with_len}
 use Rattle.rv32_program.specs.declared.End.{End}

@@ -37,11 +37,13 @@ quiet n = record { node = n; sends = []; printed = None }
 -- 1. A block at a node
 
 abbrev pub with_state : Shape → (b : ℕ) → State → (ℕ → ℕ) → ℕ → ℕ
-with_state layout b state states line = if has_line layout b line then byte_of state else states line
+with_state layout b state states line =
+    if has_line layout b line then byte_of state else states line
 
 abbrev pub with_bytes : Shape → (b : ℕ) → List ℕ → (ℕ → ℕ) → ℕ → ℕ
 with_bytes layout b bytes copy a =
-    if has_line layout b (line_of a) then slice_index bytes (a - 64 * first_line layout b) else copy a
+    if has_line layout b (line_of a) then slice_index bytes (a - 64 * first_line layout b)
+    else copy a
 
 -- what a node has of a block: the state that its first line's byte says, its bytes, and the wait
 abbrev pub block_at : Shape → Node → ℕ → LocalBlock

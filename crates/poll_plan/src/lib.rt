@@ -5,4 +5,4 @@ ghost use Rattle.std.specs.Prelude.{◌≡◌, ℕ};
 
 mod polls;
 
-pub use polls::plan_polls;
+pub use polls::{closes_loop_at, plan_polls};

@@ -27,7 +27,7 @@ pub fn plan_polls(graph: &Graph, plan: &mut Plan)
 }
 
 /// Whether a code word stands at an address that may close a loop.
-fn closes_loop_at(graph: &Graph, address: u32) -> bool
+pub fn closes_loop_at(graph: &Graph, address: u32) -> bool
     ensures value { result ≡ closes_loop_at address (code_of graph.now address) }
 {
     match graph.code().at(address) {

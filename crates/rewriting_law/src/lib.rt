@@ -10,8 +10,10 @@ ghost use Rattle.templates.specs.declared.plans.PlanEntry.{PlanEntry};
 ghost use Rattle.jump_map.specs.Image.{IsRewriting};
 ghost use Rattle.node_model.specs.declared.Standing.TheVariants.{Over};
 ghost use Rattle.rv32_step.specs.OneMemory.{WritesIf};
-ghost use Rattle.node_model.specs.Node.{Work, Node, Resume, Waiting, Ended, IsLaidOver, can_execute, standing_of, word_outcome};
-ghost use Rattle.node_model.specs.Core.{Core, Event, Exec, May, IsCoreRun, opening_core, event_step, after};
+ghost use Rattle.node_model.specs.Node.{Work, Node, Resume, Waiting, Ended, IsLaidOver};
+ghost use Rattle.node_model.specs.Node.{can_execute, standing_of, word_outcome};
+ghost use Rattle.node_model.specs.Core.{Core, Event, Exec, May, IsCoreRun, opening_core};
+ghost use Rattle.node_model.specs.Core.{event_step, after};
 ghost use Rattle.node_model.specs.Outcome.{AreFrugal, counts_after};
 ghost use Rattle.rewriting_law.specs.Licence.{AllLicensed};
 ghost use Rattle.rewriting_law.specs.Bounds.{most_events, steps_of};
@@ -19,7 +21,8 @@ ghost use Rattle.rewriting_law.specs.CoreRun.{commits, picks_of};
 ghost use Rattle.rewriting_law.specs.Ascents.{AscendsBetweenPolls, pc_at};
 ghost use Rattle.rewriting_law.specs.Conditionals.{IsConditional, IsLostBy};
 ghost use Rattle.rewriting_law.specs.ProtocolLists.{HasProtocolList};
-ghost use Rattle.rewriting_law.specs.Interleaving.{Interleaves, IsCoherent, GoesAlone, SameReservations, HaveRows, original_after};
+ghost use Rattle.rewriting_law.specs.Interleaving.{Interleaves, IsCoherent, GoesAlone};
+ghost use Rattle.rewriting_law.specs.Interleaving.{SameReservations, HaveRows, original_after};
 
 use block_layout::layout_law;
 
@@ -144,8 +147,8 @@ pub fn bounds_law()
         → i < work.layout.nodes
         → ((after work (opening_core work) events).nodes i).phase ≡ Ended (Stopped budget)
         → budget / 40 ≤ steps_of i (picks_of work plan (opening_core work) events) }
-    // Between two polls of a node, its steps ascend from the third on: each is of a greater original
-    // address than the one before it. So they are at most one more than the places.
+    // Between two polls of a node, its steps ascend from the third on: each is of a greater
+    // original address than the one before it. So they are at most one more than the places.
     ensures polls { (work : Work) (plan : List PlanEntry) (events : List Event) (i : ℕ)
         → IsAccepted work.program → IsValid work.layout → IsLaidOver work.program work.layout
         → IsRewriting work.program plan work.image → IsCoreRun work (opening_core work) events

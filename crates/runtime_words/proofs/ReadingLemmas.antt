@@ -1,5 +1,5 @@
 -- What the words of sequences read as.
-use Rattle.std.proofs.Common.{◌≡◌, ◌≢◌, ℕ, ℤ, ◌+◌, ◌*◌, ◌^◌, ◌<◌, eqb, Bool, true, false, cond, Option, Some, None, refl, sym, ap, ◌∙◌, arith}
+use Rattle.std.proofs.Common.{◌≡◌, ◌≢◌, ℕ, ℤ, ◌+◌, ◌*◌, ◌/◌, ◌%◌, ◌^◌, ◌<◌, eqb, Bool, true, false, cond, Option, Some, None, refl, sym, ap, ◌∙◌, arith}
 use Rattle.std.specs.Prelude.{◌&&◌, nat_lt}
 use Rattle.std.specs.Option.{option_map}
 use Rattle.std.proofs.lemmas.Bool.{eq-eqb, ne_eqb}
@@ -8,8 +8,8 @@ use Rattle.rv32_decode.specs.Rows.{instruction_of}
 use Rattle.rv32_decode.specs.declared.Instr.{Instr}
 use Rattle.rv32_decode.specs.declared.Width.{Width}
 use Rattle.rv32_decode.proofs.Custom.{custom_0-None, custom_1-None}
-use Rattle.runtime_words.specs.declared.RtWord.TheVariants.{Native, MissR, MissW, Xjalr, Batch, Prepare, Poll, Call, TrapFetch, TrapOff, TrapIllegal, TrapEbreak}
-use Rattle.runtime_words.specs.Reading.{read_word, custom_0, custom_1, batch_of, prepare_of, width_of_log}
+use Rattle.runtime_words.specs.declared.RtWord.TheVariants.{Native, MissR, MissW, Xjalr, Batch, Prepare, Far, Poll, Call, TrapFetch, TrapOff, TrapIllegal, TrapEbreak}
+use Rattle.runtime_words.specs.Reading.{read_word, custom_0, custom_1, batch_of, prepare_of, far_number, width_of_log}
 
 pub reads_poll : read_word 0x200b ≡ Some Poll
 unfolding read_word
@@ -83,6 +83,18 @@ reads_prepare w rs1 low is =
     ∙ ap (λ b. cond b (Some Poll) (cond (eqb w 0x300b) (Some Call) (prepare_of w))) (ne_eqb w 0x200b (λ h. let g : field w 12 3 ≡ 2 = ap (λ x. field x 12 3) h in omega (arith, f, g)))
     ∙ ap (λ b. cond b (Some Call) (prepare_of w)) (ne_eqb w 0x300b (λ h. let g : field w 12 3 ≡ 3 = ap (λ x. field x 12 3) h in omega (arith, f, g)))
     ∙ (rw (eq-eqb (field w 7 5) 0 d, eq-eqb (field w 20 12) 0 i) (ap (λ n. Some (Prepare n)) r))
+
+pub reads_far : (w k : ℕ) → k < 2 ^ 22 → w ≡ k / 32 * 2 ^ 15 + k % 32 * 2 ^ 7 + 0x700b → read_word w ≡ Some (Far k)
+reads_far w k low is =
+    let e : field w 0 7 ≡ 0x0b = omega (arith, is) in
+    let f : field w 12 3 ≡ 7 = omega (arith, is) in
+    let n : far_number w ≡ k = omega (arith, is, low) in
+    let no_poll = ne_eqb w 0x200b (λ h. let g : field w 12 3 ≡ 2 = ap (λ x. field x 12 3) h in omega (arith, f, g)) in
+    let no_call = ne_eqb w 0x300b (λ h. let g : field w 12 3 ≡ 3 = ap (λ x. field x 12 3) h in omega (arith, f, g)) in
+    reads_custom_0 w 7 e f
+    ∙ ap (λ b. cond b (Some Poll) (cond (eqb w 0x300b) (Some Call) (Some (Far (far_number w))))) no_poll
+    ∙ ap (λ b. cond b (Some Call) (Some (Far (far_number w)))) no_call
+    ∙ ap (λ m. Some (Far m)) n
 
 pub reads_xjalr : (w rd rs1 : ℕ) (imm : ℤ) → field w 0 7 ≡ 0x0b → field w 12 3 ≡ 4 → field w 7 5 ≡ rd → field w 15 5 ≡ rs1 → imm_i w ≡ imm
     → read_word w ≡ Some (Xjalr rd rs1 imm)

@@ -1,5 +1,5 @@
 -- Words that read alike are alike.
-use Rattle.std.proofs.Common.{◌≡◌, ℕ, ◌^◌, ◌<◌, eqb, Bool, true, false, cond, Option, Some, None, subst, refl, sym, ap, ◌∙◌, arith}
+use Rattle.std.proofs.Common.{◌≡◌, ℕ, ◌+◌, ◌*◌, ◌/◌, ◌%◌, ◌^◌, ◌<◌, eqb, Bool, true, false, cond, Option, Some, None, subst, refl, sym, ap, ◌∙◌, arith}
 use Rattle.std.specs.Prelude.{◌&&◌, nat_lt}
 use Rattle.std.specs.Option.{option_map}
 use Rattle.std.proofs.lemmas.Bool.{eqb-true, ltb-true}
@@ -13,8 +13,8 @@ use Rattle.rv32_decode.specs.declared.Width.{Width}
 use Rattle.rv32_decode.specs.declared.Width.TheVariants.{Byte, Half, Word}
 use Rattle.rv32_decode.proofs.Rebuilt.{only_word}
 use Rattle.runtime_words.specs.declared.RtWord.{RtWord}
-use Rattle.runtime_words.specs.declared.RtWord.TheVariants.{Native, MissR, MissW, Poll, Call, Xjalr, Batch, Prepare, TrapFetch, TrapOff, TrapIllegal, TrapEbreak}
-use Rattle.runtime_words.specs.Reading.{read_word, custom_0, custom_1, miss_r_of, miss_w_of, batch_of, prepare_of, width_of_log}
+use Rattle.runtime_words.specs.declared.RtWord.TheVariants.{Native, MissR, MissW, Poll, Call, Xjalr, Batch, Prepare, Far, TrapFetch, TrapOff, TrapIllegal, TrapEbreak}
+use Rattle.runtime_words.specs.Reading.{read_word, custom_0, custom_1, miss_r_of, miss_w_of, batch_of, prepare_of, far_number, width_of_log}
 
 abbrev log_of : Width → ℕ
 log_of Byte = 0
@@ -31,6 +31,7 @@ put_word Call = 0x300b
 put_word (Xjalr rd rs1 imm) = i_word (unsigned 12 imm) rs1 4 rd 0x0b
 put_word (Batch stores rs1 rs2) = r_word 0 rs2 rs1 5 (cond stores 1 0) 0x0b
 put_word (Prepare rs1) = r_word 0 0 rs1 6 0 0x0b
+put_word (Far k) = k / 32 * 2 ^ 15 + k % 32 * 2 ^ 7 + 0x700b
 put_word TrapFetch = 0x2b
 put_word TrapOff = 0x102b
 put_word TrapIllegal = 0x202b
@@ -92,6 +93,9 @@ prepare_put w low e f =
     omega (arith, low, e, f, rd, imm))
     (λ h. record {})
 
+far_put : (w : ℕ) → w < 2 ^ 32 → field w 0 7 ≡ 0x0b → field w 12 3 ≡ 7 → put_word (Far (far_number w)) ≡ w
+far_put w low e f = omega (arith, low, e, f)
+
 custom_0_put : (w : ℕ) → w < 2 ^ 32 → field w 0 7 ≡ 0x0b → IsPut w (custom_0 w (field w 12 3))
 custom_0_put w low e =
     let f3 = field w 12 3 in
@@ -104,7 +108,9 @@ custom_0_put w low e =
     either (IsPut w) (eqb f3 4) (Some (Xjalr (field w 7 5) (field w 15 5) (imm_i w))) _
     (λ f. immediate_put w 4 (field w 7 5) low e (eqb-true f3 4 f) refl) (λ _.
     either (IsPut w) (eqb f3 5) (batch_of w) _ (λ f. batch_put w low e (eqb-true f3 5 f)) (λ _.
-    either (IsPut w) (eqb f3 6) (prepare_of w) None (λ f. prepare_put w low e (eqb-true f3 6 f)) (λ _. record {})))))))
+    either (IsPut w) (eqb f3 6) (prepare_of w) _ (λ f. prepare_put w low e (eqb-true f3 6 f)) (λ _.
+    either (IsPut w) (eqb f3 7) (Some (Far (far_number w))) None (λ f. far_put w low e (eqb-true f3 7 f))
+    (λ _. record {}))))))))
 
 custom_1_put : (w : ℕ) → IsPut w (custom_1 w)
 custom_1_put w =

@@ -1,13 +1,13 @@
 -- The words of rewritten code: native instructions, and runtime words in the opcodes custom-0 and
 -- custom-1 (RISC-V Unprivileged ISA, "RV32/64G Instruction Set Listings": RISC-V base opcode map).
-use Rattle.std.specs.Prelude.{ℕ, ◌==◌, ◌&&◌, nat_lt, if◌then◌else◌, Option, Some, None}
+use Rattle.std.specs.Prelude.{ℕ, ◌+◌, ◌*◌, ◌==◌, ◌&&◌, nat_lt, if◌then◌else◌, Option, Some, None}
 use Rattle.std.specs.Option.{option_map}
 use Rattle.rv32_decode.specs.Fields.{field, imm_i}
 use Rattle.rv32_decode.specs.Rows.{instruction_of}
 use Rattle.rv32_decode.specs.declared.Width.{Width}
 use Rattle.rv32_decode.specs.declared.Width.TheVariants.{Byte, Half, Word}
 use Rattle.runtime_words.specs.declared.RtWord.{RtWord}
-use Rattle.runtime_words.specs.declared.RtWord.TheVariants.{Native, MissR, MissW, Poll, Call, Xjalr, Batch, Prepare, TrapFetch, TrapOff, TrapIllegal, TrapEbreak}
+use Rattle.runtime_words.specs.declared.RtWord.TheVariants.{Native, MissR, MissW, Poll, Call, Xjalr, Batch, Prepare, Far, TrapFetch, TrapOff, TrapIllegal, TrapEbreak}
 
 -- the width of which this is the logarithm
 abbrev pub width_of_log : ℕ → Option Width
@@ -36,8 +36,13 @@ batch_of word =
     if (nat_lt (field word 7 5) 2) && (field word 25 7 == 0)
     then Some (Batch (field word 7 5 == 1) (field word 15 5) (field word 20 5)) else None
 
+-- far has the number of the word to which it goes in bits 31 to 15, and its low five bits in the
+-- place of rd
+abbrev pub far_number : ℕ → ℕ
+far_number word = 32 * field word 15 17 + field word 7 5
+
 -- the runtime words of custom-0, by funct3: miss.r 0, miss.w 1, poll 2, call 3, xjalr 4, batch 5,
--- sc.prepare 6
+-- sc.prepare 6, far 7
 abbrev pub custom_0 : ℕ → ℕ → Option RtWord
 custom_0 word funct3 =
     if funct3 == 0 then miss_r_of word
@@ -47,7 +52,8 @@ custom_0 word funct3 =
     else (if funct3 == 4
     then Some (Xjalr (field word 7 5) (field word 15 5) (imm_i word))
     else (if funct3 == 5 then batch_of word
-    else (if funct3 == 6 then prepare_of word else None))))))
+    else (if funct3 == 6 then prepare_of word
+    else (if funct3 == 7 then Some (Far (far_number word)) else None)))))))
 
 -- the runtime words of custom-1, whose other fields are zero
 abbrev pub custom_1 : ℕ → Option RtWord

@@ -4,8 +4,8 @@ ghost use Rattle.std.specs.Prelude.{◌≡◌, ◌^◌, ◌<◌, ℕ, Some};
 ghost use Rattle.rv32_decode.specs.Fields.{field, imm_i, signed};
 ghost use Rattle.runtime_words.specs.Reading.{read_word, width_of_log};
 
-use crate::RtWord;
 use crate::reading::{CALL, CUSTOM_0, POLL, TRAP_EBREAK, TRAP_FETCH, TRAP_ILLEGAL, TRAP_OFF};
+use crate::{RtWord, WordNumber};
 use rv32_decode::{Imm12, Reg, Width, encode};
 
 /// The word of `Batch` of a run that only loads, with x0 twice.
@@ -13,6 +13,9 @@ const BATCH: u32 = 0x500b;
 
 /// The word of `Prepare` with x0.
 const PREPARE: u32 = 0x600b;
+
+/// The word of `Far` of word 0.
+const FAR: u32 = 0x700b;
 
 /// The word that reads as this one: no other word of 32 bits does.
 #[tactic(auto, using(crate::proofs::WordLemmas::one_word))]
@@ -36,6 +39,7 @@ fn assembled(what: RtWord) -> u32
         RtWord::Xjalr { rd, rs1, imm } => xjalr_word(rd, rs1, imm),
         RtWord::Batch { stores, rs1, rs2 } => batch_word(stores, rs1, rs2),
         RtWord::Prepare { rs1 } => prepare_word(rs1),
+        RtWord::Far(number) => far_word(number),
         RtWord::TrapFetch => TRAP_FETCH,
         RtWord::TrapOff => TRAP_OFF,
         RtWord::TrapIllegal => TRAP_ILLEGAL,
@@ -79,6 +83,13 @@ fn prepare_word(rs1: Reg) -> u32
     ensures { read_word result ≡ Some (RtWord.Prepare rs1) }
 {
     (u32::from(rs1.number()) << 15) + PREPARE
+}
+
+/// The word of `Far`.
+fn far_word(number: WordNumber) -> u32
+    ensures { read_word result ≡ Some (RtWord.Far number) }
+{
+    number.bits() + FAR
 }
 
 /// The logarithm of a width.

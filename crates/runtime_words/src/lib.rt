@@ -5,9 +5,11 @@
 //! reads as what is asked for.
 
 mod encoding;
+mod number;
 mod reading;
 
 pub use encoding::encode_word;
+pub use number::WordNumber;
 pub use reading::{imm_of_bits, read_word};
 use rv32_decode::{Imm12, Instr, Reg, Width};
 
@@ -30,6 +32,8 @@ pub enum RtWord {
     Batch { stores: bool, rs1: Reg, rs2: Reg },
     /// Looks whether the line of rs1 may be written, where that address is reserved.
     Prepare { rs1: Reg },
+    /// A direct jump to the word of this number, wherever it is.
+    Far(WordNumber),
     /// Ends the processor with `Fetch` at the word's place.
     TrapFetch,
     /// Ends the processor with `Fetch` at the address, no place, that it went to.

@@ -7,7 +7,7 @@ ghost use Rattle.rv32_decode.specs.Fields.{field, imm_i, signed};
 ghost use Rattle.runtime_words.specs.Reading.{read_word, custom_0, custom_1, batch_of, prepare_of};
 ghost use Rattle.runtime_words.specs.Reading.{width_of_log};
 
-use crate::RtWord;
+use crate::{RtWord, WordNumber};
 use rv32_decode::{Imm12, Reg, Width, decode};
 
 /// The major opcode custom-0.
@@ -85,6 +85,7 @@ fn read_custom_0(word: u32) -> Option<RtWord>
         4 => Some(RtWord::Xjalr { rd, rs1, imm }),
         5 => read_batch(word),
         6 => read_prepare(word),
+        7 => Some(RtWord::Far(WordNumber::of(word))),
         _ => None,
     }
 }

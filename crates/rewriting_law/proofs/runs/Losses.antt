@@ -26,7 +26,7 @@ use Rattle.rv32_step.specs.Demands.{demand_of, call_step}
 use Rattle.rv32_step.specs.OneMemory.{Access, WritesIf, Break}
 use Rattle.templates.specs.declared.plans.PlanEntry.{PlanEntry}
 use Rattle.runtime_words.specs.declared.RtWord.{RtWord}
-use Rattle.runtime_words.specs.declared.RtWord.TheVariants.{Native, MissR, MissW, Poll, Call, Xjalr, Prepare, TrapFetch, TrapOff, TrapIllegal, TrapEbreak, Batch}
+use Rattle.runtime_words.specs.declared.RtWord.TheVariants.{Native, MissR, MissW, Poll, Call, Xjalr, Prepare, Far, TrapFetch, TrapOff, TrapIllegal, TrapEbreak, Batch}
 use Rattle.jump_map.specs.declared.image.ImageWord.{ImageWord}
 use Rattle.jump_map.specs.Maps.{fetch}
 use Rattle.dsm_protocol.specs.World.{World}
@@ -211,6 +211,7 @@ module _ (program : Program) (n : Local) where
       let a = offset_address (reg l.registers rs1) (pos 0) in
       either (is_aligned Word a) _ _ (prepares (n.state (line_of a)) place l a)
       (keeps _ refl refl)
+  executes place at l (Far k) = keeps _ refl refl
   executes place at l TrapFetch = keeps _ refl refl
   executes place at l TrapOff = keeps _ refl refl
   executes place at l TrapIllegal = keeps _ refl refl

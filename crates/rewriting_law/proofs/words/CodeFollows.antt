@@ -7,10 +7,10 @@ use Rattle.block_layout.specs.Layout.{Shape}
 use Rattle.rv32_program.specs.declared.Exit.TheVariants.{Fetch}
 use Rattle.rv32_program.specs.Targets.{offset_address}
 use Rattle.rv32_step.specs.declared.Demand.TheVariants as demand
-use Rattle.rv32_step.specs.Registers.{reg, put}
+use Rattle.rv32_step.specs.Registers.{reg}
 use Rattle.rv32_step.specs.OneMemory.{Processor, Access, Becomes, first_processor, request, request_at, with_exit, next_pc}
 use Rattle.runtime_words.specs.declared.RtWord.{RtWord}
-use Rattle.runtime_words.specs.declared.RtWord.TheVariants.{Native, MissR, MissW, Poll, Call, Xjalr, Prepare, TrapFetch, TrapOff, TrapIllegal, TrapEbreak, Batch}
+use Rattle.runtime_words.specs.declared.RtWord.TheVariants.{Native, MissR, MissW, Poll, Call, Xjalr, Prepare, Far, TrapFetch, TrapOff, TrapIllegal, TrapEbreak, Batch}
 use Rattle.templates.specs.declared.commits.CommitKind.{CommitKind}
 use Rattle.templates.specs.declared.commits.CommitKind.TheVariants.{Never, IfNoWait}
 use Rattle.templates.specs.declared.places.Place.{Place}
@@ -25,7 +25,7 @@ use Rattle.home_directory.specs.declared.messages.Need.TheVariants.{Read}
 use Rattle.templates.specs.Places.{IsPlace}
 use Rattle.templates.specs.Sequences.{SequenceItem, ItemWord, Runs, GoesTo}
 use Rattle.templates.specs.Commits.{commit_at}
-use Rattle.jump_map.specs.Image.{IsRewriting, head_of, item_word, distance}
+use Rattle.jump_map.specs.Image.{IsRewriting, head_of, item_word, is_near, number_of_word, address_of_word, distance}
 use Rattle.jump_map.specs.Maps.{old_of, new_of, fetch}
 use Rattle.node_model.specs.Node.{Work, Lane, Local, Want, Move, Next, Again, To, Enters, Waits, Leaves, Resume, PastWord, SameWord, Tally, Outcome, go_on, exit_by, native, execute, execute_at, next_outcome, lane_after, lane_resumed, first_lane, ByLines, both_meet, past_next, enter, make_call, print_byte, byte_at, lane_after_call, is_mapped_state, is_readable_state, need_of_run}
 use Rattle.rewriting_law.specs.CoreRun.{is_exit, is_wait, commits_by}
@@ -34,7 +34,7 @@ use Rattle.rewriting_law.proofs.one_memory.Originals.{original_with}
 use Rattle.rewriting_law.proofs.words.Plans.{EntrySplit, split_at}
 use Rattle.rewriting_law.proofs.words.Fetching.{word_address, fetch_off, no_place_off, head_is, new_of_place, placed_batch}
 use Rattle.rewriting_law.proofs.words.Spots.{kind_of, own_kind, sequence}
-use Rattle.rewriting_law.proofs.templates.RegisterLemmas.{put_zero}
+use Rattle.rewriting_law.proofs.templates.RegisterLemmas.{put_none}
 use Rattle.rewriting_law.proofs.templates.States.{Suits, later_now}
 use Rattle.rewriting_law.proofs.templates.Does.{AtHead, Rest, turns_at, IsWhere, where_is, lane_at, Continues, Resumes, Leads, SequenceKind, skip_to, SomeGranted}
 use Rattle.rewriting_law.proofs.words.Lanes.{word_at}
@@ -412,9 +412,6 @@ module _ (layout : Shape) (work : Work) (plan : List PlanEntry) (accepted : IsAc
         abbrev target : ℕ
         target = head_of work.program plan b
 
-        abbrev jump_lane : Lane
-        jump_lane = record l { registers = put l.registers 0 (next_pc at) }
-
         abbrev cut : EntrySplit plan b
         cut = split_at plan b (rewriting.admissible.complete b is)
 
@@ -422,18 +419,37 @@ module _ (layout : Shape) (work : Work) (plan : List PlanEntry) (accepted : IsAc
         target_is = head_is work.program plan b rewriting.admissible cut
 
         abbrev jump : Outcome
-        jump = go_on jump_lane n (To target)
+        jump = go_on l n (To target)
 
-        jump_is : execute work.program place at
-            (item_word (head_of work.program plan) at (GoesTo b to_head)) l n ≡ jump
-        jump_is =
+        -- by a JAL, which keeps no link, or by a far jump
+        near_is : execute work.program place at (Native (Jal 0 (signed 32 (distance at target)))) l n
+            ≡ jump
+        near_is =
             let there = target_is in
             let high = head_low work.program plan work.image accepted rewriting b cut in
             let reached : offset_address at (signed 32 (distance at target)) ≡ target =
             reaches at target low (omega (arith, there, high)) in
             let aligned : eqb (target % 4) 0 ≡ true =
             (let e : target % 4 ≡ 0 = omega (arith, there) in rw e refl) in
-            ap (λ z. native work.program place at l n (demand.Jumps 0 z)) reached ∙ rw aligned refl
+            let unlinked = put_none l.registers (next_pc at) in
+            ap (λ z. native work.program place at l n (demand.Jumps 0 z)) reached
+            ∙ rw aligned (λ t. go_on (record l { registers = unlinked t }) n (To target))
+
+        far_is : execute work.program place at (Far (number_of_word target)) l n ≡ jump
+        far_is =
+            let there = target_is in
+            let same : address_of_word (number_of_word target) ≡ target = omega (arith, there) in
+            ap (λ z. go_on l n (To z)) same
+
+        jump_is : execute work.program place at
+            (item_word (head_of work.program plan) at (GoesTo b to_head)) l n ≡ jump
+        jump_is = go (is_near at target)
+          where
+            go : (near : Bool) → execute work.program place at
+                (cond near (Native (Jal 0 (signed 32 (distance at target))))
+                (Far (number_of_word target))) l n ≡ jump
+            go true = near_is
+            go false = far_is
 
         jump_goes : p.words + 1 ≤ 40 * p.commits
             → GoesOn layout work plan (PacedHere (Then false (To target))) q n jump false
@@ -441,10 +457,10 @@ module _ (layout : Shape) (work : Work) (plan : List PlanEntry) (accepted : IsAc
           refl,
           refl,
           entry_paced work.program plan work.image accepted rewriting b (Then false (To target)) q
-              (record jump_lane { at = target }) n cut target_is (record {
+              (record l { at = target }) n cut target_is (record {
                 place = head.place;
                 running = head.running;
-                agree = λ r live. put_zero l.registers (next_pc at) r ∙ head.agree r live;
+                agree = head.agree;
                 private = head.private;
                 written = head.written;
               }) (omega (arith, few)) (rises_still (To target)),
@@ -464,6 +480,7 @@ module _ (layout : Shape) (work : Work) (plan : List PlanEntry) (accepted : IsAc
       leads_of kind (Xjalr rd rs1 imm) h = h
       leads_of kind (Batch stores low high) h = h st.at
       leads_of kind (Prepare rs1) h = h
+      leads_of kind (Far k) h = h
       leads_of kind TrapFetch h = h
       leads_of kind TrapOff h = h
       leads_of kind TrapIllegal h = h
@@ -597,6 +614,8 @@ module _ (layout : Shape) (work : Work) (plan : List PlanEntry) (accepted : IsAc
       word_sane (Prepare rs1) what kind =
           prepare_moves work l n (IsSane st.item.commit (does (Prepare rs1))) tt (λ e. tt)
           (place_at st) (address st) (λ x. tt) (offset_address (reg l.registers rs1) (pos 0))
+      word_sane (Far k) what (inl batch) = absurd batch.1
+      word_sane (Far k) what (inr own) = absurd own.1
       word_sane TrapFetch what kind = tt
       word_sane TrapOff what kind = tt
       word_sane TrapIllegal what kind = tt

@@ -11,7 +11,7 @@ use Rattle.rv32_decode.specs.declared.Width.TheVariants.{Word}
 use Rattle.rv32_program.specs.Targets.{offset_address}
 use Rattle.templates.specs.declared.commits.CommitKind.{CommitKind}
 use Rattle.templates.specs.declared.commits.CommitKind.TheVariants.{Never, Always, IfNotFlag, IfNoWait}
-use Rattle.runtime_words.specs.declared.RtWord.TheVariants.{Native, MissR, MissW, Call, Xjalr, Batch}
+use Rattle.runtime_words.specs.declared.RtWord.TheVariants.{Native, MissR, MissW, Call, Xjalr, Batch, Far}
 use Rattle.templates.specs.declared.places.Part.TheVariants.{Head, Fast, Fallback}
 use Rattle.templates.specs.declared.plans.Scratches.{Scratches}
 use Rattle.templates.specs.declared.plans.PlanEntry.{PlanEntry}
@@ -115,12 +115,13 @@ abbrev pub IsUpper : Instr → Type 0
 IsUpper (Lui rd upper) = Unit {0}
 IsUpper i = ⊥
 
--- a call commits where it doesn't wait, an indirect jump surely; and a native word that may commit
+-- none is a far jump; a call commits where it doesn't wait, an indirect jump surely; and a native word that may commit
 -- nothing puts a number into a register where a jump to a place is behind it
 abbrev pub IsOwnWord : ItemWord → CommitKind → List SequenceItem → Type 0
 IsOwnWord (Runs Call) m rest = m ≡ IfNoWait
 IsOwnWord (Runs (Xjalr rd rs1 imm)) m rest = m ≡ Always
 IsOwnWord (Runs (Batch stores low high)) m rest = ⊥
+IsOwnWord (Runs (Far k)) m rest = ⊥
 IsOwnWord (Runs (Native i)) m rest = (m ≡ Always) ⊎ ((has_jump rest ≡ false) ⊎ IsUpper i)
 IsOwnWord w m rest = Unit {0}
 
@@ -360,10 +361,11 @@ is_own e o = go e.polls (of_place e.address e.single o)
 
 -- 4. The words of a batch
 
--- none is a call or an indirect jump, and a jump leads to another place than the run's
+-- none is a call, an indirect jump or a far jump, and a jump leads to another place than the run's
 abbrev pub IsRunWord : ℕ → ItemWord → Type 0
 IsRunWord a (Runs Call) = ⊥
 IsRunWord a (Runs (Xjalr rd rs1 imm)) = ⊥
+IsRunWord a (Runs (Far k)) = ⊥
 IsRunWord a (Runs w) = Unit {0}
 IsRunWord a (GoesTo b head) = b ≢ a
 

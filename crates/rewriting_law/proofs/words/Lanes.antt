@@ -16,7 +16,7 @@ use Rattle.rv32_step.specs.declared.CallStep.TheVariants.{Ends, Returns, Puts}
 use Rattle.rv32_step.specs.Registers.{reg}
 use Rattle.rv32_step.specs.Demands.{demand_of, call_step}
 use Rattle.runtime_words.specs.declared.RtWord.{RtWord}
-use Rattle.runtime_words.specs.declared.RtWord.TheVariants.{Native, MissR, MissW, Poll, Call, Xjalr, Prepare, TrapFetch, TrapOff, TrapIllegal, TrapEbreak, Batch}
+use Rattle.runtime_words.specs.declared.RtWord.TheVariants.{Native, MissR, MissW, Poll, Call, Xjalr, Prepare, Far, TrapFetch, TrapOff, TrapIllegal, TrapEbreak, Batch}
 use Rattle.home_directory.specs.declared.messages.Need.{Need}
 use Rattle.node_model.specs.Node as node
 use Rattle.node_model.specs.Node.{Work, Lane, Local, Outcome, Region, Memory, StateOf, Elsewhere, region_of, load, store, store_if, make_call, native, is_mapped_state, is_readable_state, is_fixed_state, is_writable_state, execute, Want, batch, batch_by, one_refuses, unmet, need_of_run}
@@ -109,6 +109,7 @@ module _ (work : Work) (l : Lane) (n : Local) where
         either_at (is_aligned Word a) _ _ l.at (either_at (is_fixed_state state) _ _ l.at refl
         (either_at (holds n.reservation a && not (is_writable_state state)) _ _ l.at refl refl))
         refl
+    word_at (Far k) = refl
     word_at TrapFetch = refl
     word_at TrapOff = refl
     word_at TrapIllegal = refl

@@ -2,10 +2,13 @@
 use Rattle.std.proofs.Common.{◌≡◌, ℕ, ◌+◌, ◌^◌, ◌<◌, ◌≤◌, ◌⊎◌, Bool, true, false, List, [], ◌∷◌, ◌++◌, length, Some, refl, sym, ap, ◌∙◌, subst, inl, inr, arith, cond}
 use Rattle.std.specs.Prelude.{◌||◌, option_and_then}
 use Rattle.std.specs.Option.{option_map_or}
+use Rattle.rv32_decode.specs.Fields.{signed}
+use Rattle.rv32_decode.specs.declared.Instr.{Instr}
+use Rattle.rv32_decode.specs.declared.Instr.TheVariants.{Jal}
 use Rattle.rv32_step.specs.declared.Demand.TheVariants as demand
 use Rattle.rv32_step.specs.OneMemory.{Processor, next_pc}
 use Rattle.runtime_words.specs.declared.RtWord.{RtWord}
-use Rattle.runtime_words.specs.declared.RtWord.TheVariants.{Native, MissR, MissW, Poll, Call, Xjalr, Prepare, TrapFetch, TrapOff, TrapIllegal, TrapEbreak, Batch}
+use Rattle.runtime_words.specs.declared.RtWord.TheVariants.{Native, MissR, MissW, Poll, Call, Xjalr, Prepare, Far, TrapFetch, TrapOff, TrapIllegal, TrapEbreak, Batch}
 use Rattle.templates.specs.declared.commits.CommitKind.{CommitKind}
 use Rattle.templates.specs.declared.commits.CommitKind.TheVariants.{Never, Always, IfNotFlag, IfNoWait}
 use Rattle.templates.specs.declared.places.Place.{Place}
@@ -17,7 +20,7 @@ use Rattle.home_directory.specs.declared.messages.Need.TheVariants.{Read}
 use Rattle.templates.specs.Places.{IsPlace}
 use Rattle.templates.specs.Sequences.{SequenceItem, ItemWord, Runs, GoesTo}
 use Rattle.templates.specs.Commits.{commit_at}
-use Rattle.jump_map.specs.Image.{IsRewriting, head_of, item_word}
+use Rattle.jump_map.specs.Image.{IsRewriting, head_of, item_word, is_near, number_of_word, distance}
 use Rattle.jump_map.specs.Maps.{old_of, fetch}
 use Rattle.node_model.specs.Node.{Work, Lane, Local, Move, Next, Again, To, Enters, Waits, Leaves, SameWord, Outcome, go_on, execute, execute_at, next_outcome, takes_messages, make_call, print_byte, byte_at, lane_after_call, is_mapped_state, is_readable_state}
 use Rattle.rewriting_law.specs.CoreRun.{is_exit, is_wait, commits_by}
@@ -47,6 +50,12 @@ may_commit Never r e = let bad : false ≡ true = e in cc
 may_commit Always r e = refl
 may_commit IfNotFlag r e = refl
 may_commit IfNoWait r e = refl
+
+-- a jump takes no messages
+never_takes : (near : Bool) (i : Instr) (k : ℕ)
+    → takes_messages (Some (cond near (Native i) (Far k))) ≡ false
+never_takes true i k = refl
+never_takes false i k = refl
 
 module _ (work : Work) (plan : List PlanEntry) (accepted : IsAccepted work.program)
     (rewriting : IsRewriting work.program plan work.image) (q : Processor) (l : Lane) (n : Local) where
@@ -104,11 +113,17 @@ module _ (work : Work) (plan : List PlanEntry) (accepted : IsAccepted work.progr
   takes_anew st (Runs (Xjalr rd rs1 imm)) takes = let bad : false ≡ true = takes in cc
   takes_anew st (Runs (Batch stores low high)) takes = refl
   takes_anew st (Runs (Prepare rs1)) takes = refl
+  takes_anew st (Runs (Far k)) takes = let bad : false ≡ true = takes in cc
   takes_anew st (Runs TrapFetch) takes = let bad : false ≡ true = takes in cc
   takes_anew st (Runs TrapOff) takes = let bad : false ≡ true = takes in cc
   takes_anew st (Runs TrapIllegal) takes = let bad : false ≡ true = takes in cc
   takes_anew st (Runs TrapEbreak) takes = let bad : false ≡ true = takes in cc
-  takes_anew st (GoesTo b to_head) takes = let bad : false ≡ true = takes in cc
+  takes_anew st (GoesTo b to_head) takes =
+      let at = address st in
+      let target = head_of work.program plan b in
+      let never = never_takes (is_near at target) (Jal 0 (signed 32 (distance at target)))
+      (number_of_word target) in
+      let bad : false ≡ true = sym never ∙ takes in cc
 
   abbrev pub word_of_item : StandsHere → RtWord
   word_of_item st = item_word (head_of work.program plan) (address st) st.item.what
@@ -169,6 +184,7 @@ module _ (work : Work) (plan : List PlanEntry) (accepted : IsAccepted work.progr
   stopover_takes at (Runs (Xjalr rd rs1 imm)) is = let bad : false ≡ true = is in cc
   stopover_takes at (Runs (Batch stores low high)) is = let bad : false ≡ true = is in cc
   stopover_takes at (Runs (Prepare rs1)) is = let bad : false ≡ true = is in cc
+  stopover_takes at (Runs (Far k)) is = let bad : false ≡ true = is in cc
   stopover_takes at (Runs TrapFetch) is = let bad : false ≡ true = is in cc
   stopover_takes at (Runs TrapOff) is = let bad : false ≡ true = is in cc
   stopover_takes at (Runs TrapIllegal) is = let bad : false ≡ true = is in cc

@@ -10,7 +10,7 @@ use Rattle.jump_map.proofs.building.write_cells.Goals as goal
 pub loop-entry-init : goal.loop-entry-init
 loop-entry-init c =
     let w = cell c.encode_word.result None in
-    let is : c.push.new.self ≡ w ∷ [] = c.in_ok-push.ensures.ok ∙ ap (λ xs. xs ++ w ∷ []) c.new-cells.ensures.value in
+    let is : c.push.new.self ≡ w ∷ [] = c.in_ok-push.ensures.ok ∙ ap (λ xs. xs ++ w ∷ []) c.in_ok-cells.ensures.value in
     let q = c.requires in
     let long = ap (λ xs. length xs) is in
     record {
