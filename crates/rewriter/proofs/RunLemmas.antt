@@ -1,5 +1,6 @@
--- The runs of a plan are runs of its code.
-use Rattle.std.proofs.Common.{◌≡◌, ℕ, List, subst, inl, inr}
+-- The runs of a plan are runs of its code; and what holds of a rewriting by it.
+use Rattle.std.proofs.Common.{◌≡◌, ℕ, List, Result, Ok, Err, subst, inl, inr}
+use Rattle.std.specs.Prelude.{IfOk}
 use Rattle.rv32_program.specs.Program.{Program}
 use Rattle.templates.specs.declared.code.CodeWord.{CodeWord}
 use Rattle.templates.specs.declared.plans.PlanEntry.{PlanEntry}
@@ -16,3 +17,9 @@ runs_of program words plan same h = record {
     | inr starts ↦ subst (λ f. IsRun f e.address e.run) same starts.run
   ];
 }
+
+-- what follows from two facts on a result
+pub in_ok : {A E : Type 0} (r : Result A E) (P Q R : A → Type 0) → IfOk r P → IfOk r Q
+    → ((a : A) → P a → Q a → R a) → IfOk r R
+in_ok (Ok a) P Q R h g f = f a h g
+in_ok (Err e) P Q R h g f = tt

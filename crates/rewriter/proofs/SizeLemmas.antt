@@ -38,7 +38,7 @@ pub code_size : (image : List Cell) → length (code_bytes image) ≡ 4 * length
 code_size image = sizes (λ (cell : Cell). word_bytes cell.word) 4 (λ cell. word_size cell.word) image
 
 pub plan_few : (bytes : List ℕ) (plan given : List PlanEntry) → bytes ≡ plan_bytes given
-    → given ≡ plan → length plan ≤ most_words → length bytes ≤ 2 ^ 21
+    → given ≡ plan → length plan ≤ most_words → length bytes ≤ 2 ^ 25
 plan_few bytes plan given made same few =
     let size = plan_size given in
     let one = ap length made in
@@ -46,7 +46,7 @@ plan_few bytes plan given made same few =
     omega (arith, size, one, other, few)
 
 pub map_few : (bytes : List ℕ) (image : List Cell) (plan given : List PlanEntry)
-    → bytes ≡ map_bytes image given → given ≡ plan → length plan ≤ most_words → length bytes ≤ 2 ^ 21
+    → bytes ≡ map_bytes image given → given ≡ plan → length plan ≤ most_words → length bytes ≤ 2 ^ 25
 map_few bytes image plan given made same few =
     let size = map_size image given in
     let one = ap length made in
@@ -54,7 +54,7 @@ map_few bytes image plan given made same few =
     omega (arith, size, one, other, few)
 
 pub code_few : (bytes : List ℕ) (image given : List Cell) → bytes ≡ code_bytes given
-    → given ≡ image → length image ≤ most_words → length bytes ≤ 2 ^ 20
+    → given ≡ image → length image ≤ most_words → length bytes ≤ 2 ^ 24
 code_few bytes image given made same few =
     let size = code_size given in
     let one = ap length made in
@@ -126,7 +126,7 @@ same_size (s ∷ ss) =
 
 pub in_limits : (original : Elf) (entry : ℕ) (plan addresses code : List ℕ) → IsAcceptable original
     → are_known_flags original.flags ≡ true → are_placed original.segments ≡ true
-    → length plan ≤ 2 ^ 21 → length addresses ≤ 2 ^ 21 → length code ≤ 2 ^ 20
+    → length plan ≤ 2 ^ 25 → length addresses ≤ 2 ^ 25 → length code ≤ 2 ^ 24
     → is_in_limits (elf_of_parts original entry plan addresses code) ≡ true
 in_limits original entry plan addresses code a known placed few_plan few_map few_code =
     let old = original.segments in

@@ -75,15 +75,20 @@ section_with name kind bytes = record {
   bytes = bytes;
 }
 
+-- the section of a plan, and that of a map of addresses
+abbrev pub plan_section : List ℕ → Section
+plan_section bytes = section_with (codes ".shasta.plan") 0x80000001 bytes
+
+abbrev pub map_section : List ℕ → Section
+map_section bytes = section_with (codes ".shasta.map") 0x80000002 bytes
+
 -- the fields of the file, by the bytes of the plan, the map and the code
 abbrev pub elf_of_parts : Elf → ℕ → List ℕ → List ℕ → List ℕ → Elf
 elf_of_parts original entry plan addresses code = record {
   entry = entry;
   flags = original.flags;
   segments = map without_execution original.segments ++ (segment_with code ∷ []);
-  sections =
-      section_with (codes ".shasta.plan") 0x80000001 plan
-      ∷ section_with (codes ".shasta.map") 0x80000002 addresses ∷ [];
+  sections = plan_section plan ∷ map_section addresses ∷ [];
 }
 
 abbrev pub rewritten_elf : Elf → List Cell → List PlanEntry → Elf

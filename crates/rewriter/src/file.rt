@@ -1,6 +1,7 @@
 //! The file of a rewritten program.
 
-ghost use Rattle.std.specs.Prelude.{◌≡◌, ◌++◌, ◌∷◌, ◌^◌, ◌<◌, ◌≤◌, [], ℕ, map, IfOk, IsErrOf, MatchOption, OnErr, OnOk, length, codes, true};
+ghost use Rattle.std.specs.Prelude.{◌≡◌, ◌++◌, ◌∷◌, ◌^◌, ◌<◌, ◌≤◌, [], ℕ, map, IfOk, IsErrOf};
+ghost use Rattle.std.specs.Prelude.{MatchOption, OnErr, OnOk, length, true};
 ghost use Rattle.exec_map.specs.Contents.{program_of};
 ghost use Rattle.exec_map.specs.Refusals.{IsAcceptable};
 ghost use Rattle.jump_map.specs.Image.{IsRewriting};
@@ -58,11 +59,10 @@ impl From<AllocError> for CodeRefused {
     }
 }
 
-/// The section of a plan.
-fn plan_section<'a>(bytes: &'a [u8]) -> Section<'a>
+/// The section of a plan with these bytes.
+pub fn plan_section<'a>(bytes: &'a [u8]) -> Section<'a>
     requires short { length bytes.now < 2 ^ 32 }
-    ensures value { section_of result
-        ≡ model.section_with (codes ".shasta.plan") 0x80000001 bytes.entry.now }
+    ensures value { section_of result ≡ model.plan_section bytes.entry.now }
 {
     Section {
         name: b".shasta.plan",
@@ -74,11 +74,10 @@ fn plan_section<'a>(bytes: &'a [u8]) -> Section<'a>
     }
 }
 
-/// The section of a map of addresses.
-fn map_section<'a>(bytes: &'a [u8]) -> Section<'a>
+/// The section of a map of addresses with these bytes.
+pub fn map_section<'a>(bytes: &'a [u8]) -> Section<'a>
     requires short { length bytes.now < 2 ^ 32 }
-    ensures value { section_of result
-        ≡ model.section_with (codes ".shasta.map") 0x80000002 bytes.entry.now }
+    ensures value { section_of result ≡ model.map_section bytes.entry.now }
 {
     Section {
         name: b".shasta.map",
@@ -127,8 +126,8 @@ fn rewritten_segments<'s, 'o: 's>(
     Ok(segments)
 }
 
-/// The executable of a rewritten program, by its entry and the bytes of its plan, map and code. That of
-/// an original that is accepted is in the limits of `Elf::make`.
+/// The executable of a rewritten program, by its entry and the bytes of its plan, map and code.
+/// That of an original that is accepted is in the limits of `Elf::make`.
 fn elf_of_parts<'s, 'o: 's>(
     alloc: Global,
     original: &Elf<'o>,
@@ -138,9 +137,9 @@ fn elf_of_parts<'s, 'o: 's>(
     code: &'s [u8],
 ) -> Result<Elf<'s>, AllocError>
     requires accepted { IsAcceptable original.now }
-    requires plan { length plan.now ≤ 2 ^ 21 }
-    requires map { length map.now ≤ 2 ^ 21 }
-    requires code { length code.now ≤ 2 ^ 20 }
+    requires plan { length plan.now ≤ 2 ^ 25 }
+    requires map { length map.now ≤ 2 ^ 25 }
+    requires code { length code.now ≤ 2 ^ 24 }
     ensures value { IfOk result (λ e. e ≡ model.elf_of_parts original.now entry
         plan.entry.now map.entry.now code.entry.now) }
     ensures writable { IfOk result (λ e. is_writable e ≡ true) }
@@ -191,8 +190,8 @@ impl Rewritten {
         }
     }
 
-    /// Writes the file of the rewritten program, with what it takes from the original, from which the
-    /// program was accepted. Where memory is wanted, `out` is left empty.
+    /// Writes the file of the rewritten program, with what it takes from the original, from which
+    /// the program was accepted. Where memory is wanted, `out` is left empty.
     pub fn to_elf(
         &self,
         alloc: Global,

@@ -1,6 +1,7 @@
 //! The bytes that a rewritten file has of a plan and of an image.
 
-ghost use Rattle.std.specs.Prelude.{◌≡◌, ◌<◌, ◌+◌, if◌then◌else◌, length, slice_get, Some, option_map, IfOk};
+ghost use Rattle.std.specs.Prelude.{◌≡◌, ◌<◌, ◌+◌, if◌then◌else◌, length, slice_get, Some};
+ghost use Rattle.std.specs.Prelude.{option_map, IfOk};
 ghost use Rattle.jump_map.specs.Image.{most_words};
 ghost use Rattle.rewriter.specs.RewrittenFile as model;
 
@@ -8,8 +9,8 @@ use jump_map::{IMAGE_BASE, Image};
 use std::alloc::{AllocError, Global};
 use templates::{Plan, PlanEntry, Scratch};
 
-/// What stands in the highest bit of a byte: a register is spilled, or a poll stands first.
-const MARK: u8 = 0x80;
+/// What stands in the highest bit of a plan's byte: a register is spilled, or a poll stands first.
+pub const MARK: u8 = 0x80;
 
 /// A scratch register as a byte.
 fn scratch_byte(scratch: Scratch) -> u8
@@ -70,7 +71,7 @@ pub(crate) fn new_address(image: &Image, address: u32) -> u32
 }
 
 /// The map of addresses: eight bytes for each place, the original address and the new one.
-pub(crate) fn map_bytes(alloc: Global, image: &Image, plan: &Plan) -> Result<Vec<u8>, AllocError>
+pub fn map_bytes(alloc: Global, image: &Image, plan: &Plan) -> Result<Vec<u8>, AllocError>
     ensures value { IfOk result (λ bytes. bytes.items ≡ model.map_bytes image.now plan.now) }
 {
     let mut bytes = Vec::new(alloc);
@@ -91,7 +92,7 @@ fn word_of(image: &Image, k: u32) -> u32
 }
 
 /// The rewritten words.
-pub(crate) fn code_bytes(alloc: Global, image: &Image) -> Result<Vec<u8>, AllocError>
+pub fn code_bytes(alloc: Global, image: &Image) -> Result<Vec<u8>, AllocError>
     ensures value { IfOk result (λ bytes. bytes.items ≡ model.code_bytes image.now) }
 {
     let mut bytes = Vec::new(alloc);

@@ -8,5 +8,6 @@ mod file;
 mod file_bytes;
 mod rewriting;
 
-pub use file::{CodeRefused, Part};
+pub use file::{CodeRefused, Part, map_section, plan_section};
+pub use file_bytes::{MARK, code_bytes, map_bytes};
 pub use rewriting::{Options, Rewritten, rewrite, rewrite_law};

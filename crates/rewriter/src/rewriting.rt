@@ -2,10 +2,11 @@
 
 ghost use Rattle.std.specs.Prelude.{◌≡◌, ◌≤◌, ℕ, Bool, false, length, IfOk, IsErrOf};
 ghost use Rattle.exec_map.specs.Contents.{program_of};
-ghost use Rattle.jump_map.specs.Image.{IsRewriting, most_words};
+ghost use Rattle.jump_map.specs.Image.{Expands, HasRunsOf, IsRewriting, IsTooLong, most_words};
 ghost use Rattle.jump_map.specs.declared.image.ImageRefused.TheVariants as refused;
 ghost use Rattle.rv32_program.specs.Program.{Program as Original};
 ghost use Rattle.templates.specs.Code.{code_of};
+ghost use Rattle.templates.specs.Plans.{AscendsFrom};
 ghost use Rattle.templates.specs.WholePlan.{IsPlanOf};
 ghost use Rattle.rewriter.specs.Parts.{Parts, IsRewritten};
 ghost use Rattle.rewriter.specs.TooLarge.{IsTooLarge};
@@ -19,7 +20,7 @@ use liveness::Live;
 use poll_plan::plan_polls;
 use std::alloc::{AllocError, Global};
 use std::marker::Model;
-use templates::Plan;
+use templates::{Code, Plan};
 
 /// How a program is rewritten.
 #[derive(Clone, Copy, Debug, PartialEq, Eq)]
@@ -48,6 +49,23 @@ impl Model for Rewritten {
 }
 
 impl Rewritten {
+    /// The rewriting of a program with this code by a plan of its places.
+    ///
+    /// Fails with the number of words where the plan has more than an image may have.
+    pub fn by_plan(alloc: Global, code: &Code, plan: Plan) -> Result<Rewritten, ImageRefused>
+        requires ascends { AscendsFrom 0 plan }
+        requires runs { HasRunsOf code.now plan }
+        ensures plan { IfOk result (λ r. r.plan ≡ plan) }
+        ensures image { IfOk result (λ r. Expands code.now plan r.image) }
+        ensures too_large { (w : ℕ) → IsErrOf result (refused.CodeTooLarge w)
+            → IsTooLong code.now plan w }
+    {
+        match Image::of(alloc, code, &plan) {
+            Ok(image) => Ok(Rewritten { image, plan }),
+            Err(refused) => Err(refused),
+        }
+    }
+
     /// The words of the plan.
     pub fn image(&self) -> &Image
         ensures value { result.now ≡ self.now.image }
@@ -81,10 +99,7 @@ pub fn rewrite(
     plan_law();
     let graph = Graph::of(alloc, program)?;
     let plan = plan_of(alloc, &graph, options)?;
-    match Image::of(alloc, graph.code(), &plan) {
-        Ok(image) => Ok(Rewritten { image, plan }),
-        Err(refused) => Err(refused),
-    }
+    Rewritten::by_plan(alloc, graph.code(), plan)
 }
 
 /// A program has at most one rewriting with batches, and at most one without: one plan, and one

@@ -1,0 +1,5 @@
+pub mod Sections
+pub mod FilePlan
+pub mod FileCode
+pub mod Refusals
+pub mod Reading

@@ -1,0 +1,15 @@
+#![tactic(auto)]
+//! Verifies the file of a rewritten program that something else made, by any admissible plan.
+
+ghost use Rattle.std.specs.Prelude.{◌≡◌, ℕ};
+
+mod code;
+mod entries;
+mod plan;
+mod refused;
+mod sections;
+mod serving;
+mod verifying;
+
+pub use refused::VerifyRefused;
+pub use verifying::verify;
