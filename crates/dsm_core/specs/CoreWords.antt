@@ -28,8 +28,8 @@ pub record HasPassed (work : Work) (i : ℕ) (c d : Core) : Type 0 where
   pub event : AreAlike work.layout.nodes d (event_step work c (Exec i))
   pub may : May work d (Exec i)
 
--- each node has executed so many words, by number, of which each printed nothing and sent nothing, and
--- what may execute a word still may
+-- each node has executed so many words, by number, of which each printed nothing and sent nothing,
+-- and what may execute a word still may
 pub record HaveEachPassed (work : Work) (words : ℕ → ℕ) (c d : Core) : Type 0 where
   pub nodes : (i : ℕ) → i < work.layout.nodes → NodeGoesOnBy work (words i) (c.nodes i) (d.nodes i)
   pub may : (i : ℕ) → May work c (Exec i) → May work d (Exec i)

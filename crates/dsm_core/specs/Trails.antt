@@ -20,7 +20,8 @@ HaveGone words k old new = (i : ℕ) (d : Frame) → i < k
 -- the trails take the nodes below k back to others
 abbrev pub TakeBack : ℕ → List Trail → (nodes first : List Frame) → Type 0
 TakeBack k trails nodes first = (i : ℕ) (d : Frame) (t : Trail) → i < k
-    → TakesNodeBack (slice_index_or trails i t) (slice_index_or nodes i d) (slice_index_or first i d)
+    → TakesNodeBack (slice_index_or trails i t) (slice_index_or nodes i d)
+    (slice_index_or first i d)
 
 -- the nodes below k stand for the same as others
 abbrev pub AreSameBelow : ℕ → (first nodes : List Frame) → Type 0

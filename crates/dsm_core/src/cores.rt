@@ -1,13 +1,17 @@
 //! n nodes that run rewritten code, and the n × n lists of messages between them.
 
-ghost use Rattle.std.specs.Prelude.{◌≡◌, ◌≢◌, ◌<◌, ◌≤◌, ◌^◌, ◌↔◌, ℕ, List, [], ◌∷◌, true, false, length, slice_index_or, IfOk, OnOk, OnErr};
+ghost use Rattle.std.specs.Prelude.{◌≡◌, ◌≢◌, ◌<◌, ◌≤◌, ◌^◌, ◌↔◌, ℕ, List, [], ◌∷◌, true, false};
+ghost use Rattle.std.specs.Prelude.{length, slice_index_or, IfOk, OnOk, OnErr};
 ghost use Rattle.node_model.specs.declared.Standing.TheVariants.{Over};
 ghost use Rattle.node_model.specs.Node.{Resume, Waiting, standing_of};
 ghost use Rattle.node_model.specs.Core as model;
 ghost use Rattle.node_model.specs.Core.{May, AreAlike, IsOver, IsCoreRun, event_step, opening_core};
 ghost use Rattle.run_order.specs.OwnRun.{Stamped, StandsForOwnRun, OnlyAdds};
 ghost use Rattle.rewriting_law.specs.Bounds.{RunsRewritten, most_events};
-ghost use Rattle.dsm_core.specs.CoreParts.{work_of, work_in, core_of, event_of, AreParts, GoesOnTo, HasStampsInRange};
+ghost use Rattle.rewriting_law.specs.ProtocolLists.{world_shown};
+ghost use Rattle.dsm_protocol.specs.Buffers.{AreInOnePlace};
+ghost use Rattle.dsm_core.specs.CoreParts.{work_of, work_in, core_of, event_of, AreParts, GoesOnTo};
+ghost use Rattle.dsm_core.specs.CoreParts.{HasStampsInRange};
 ghost use Rattle.dsm_core.specs.CoreWords.{HasPassed, HasExecutedOn, HaveEachPassed};
 ghost use Rattle.dsm_core.specs.CoreSteps.{GoesOnFor};
 ghost use Rattle.node_machine.specs.Frame.{node_of, work_of as work_at};
@@ -16,10 +20,11 @@ use crate::parts::Parts;
 use crate::steps::first_nodes;
 use crate::trails::{Stop, Trails};
 use crate::work::Work;
-use block_layout::Layout;
+use block_layout::{Layout, layout_law};
+use dsm_protocol::buffer_law;
 use dsm_protocol::lists::empty_lists;
 use node_machine::Node;
-use rewriting_law::progress_law;
+use rewriting_law::{interleaving_law, progress_law};
 use run_order::stamp_law;
 use std::alloc::{AllocError, Global};
 use std::marker::Model;
@@ -111,7 +116,14 @@ impl<'a> Core<'a> {
         // And so are those of every core that it goes on to.
         ensures stays { (d : model.Core) → GoesOnTo (work_of self.now) (core_of self.now) d
             → HasStampsInRange self.now.layout.nodes d }
+        // As long as a node waits for a block, the buffer that it took for it is in one message,
+        // one request that waits at the block's home or one answered wait, and nowhere else.
+        ensures buffers { AreInOnePlace self.now.layout
+            (world_shown self.now.layout (core_of self.now)) }
     {
+        layout_law();
+        buffer_law();
+        interleaving_law();
         progress_law();
         stamp_law();
         // brings: what the type of a core says of its parts
@@ -177,8 +189,8 @@ impl<'a> Core<'a> {
     }
 
     /// Executes the next word of a node by its micro-op, where that serves it: such a word prints
-    /// nothing and sends nothing, and the node may execute another. It says whether it did; where it
-    /// didn't, nothing has changed.
+    /// nothing and sends nothing, and the node may execute another. It says whether it did; where
+    /// it didn't, nothing has changed.
     pub fn pass(&mut self, node: u8) -> bool
         requires enabled { May (work_of self.old) (core_of self.old) (model.Exec node) }
         ensures passed { result ≡ true
@@ -190,9 +202,9 @@ impl<'a> Core<'a> {
         self.parts.pass(node)
     }
 
-    /// Each node executes so many words, by its number, where their micro-ops serve all of them: such
-    /// words print nothing and send nothing, and a node that may execute a word still may. Otherwise
-    /// nothing changes, and the answer tells a node that stopped early.
+    /// Each node executes so many words, by its number, where their micro-ops serve all of them:
+    /// such words print nothing and send nothing, and a node that may execute a word still may.
+    /// Otherwise nothing changes, and the answer tells a node that stopped early.
     pub fn pass_each(&mut self, words: &[u32; 16], trails: &mut Trails) -> Result<(), Stop>
         requires trails { trails.old ≡ self.old.layout.nodes }
         requires nodes { self.old.layout.nodes ≤ 16 }

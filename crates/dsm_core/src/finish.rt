@@ -16,10 +16,10 @@ use runtime_words::RtWord;
 use std::alloc::AllocError;
 
 impl<'a> Core<'a> {
-    /// Makes events in rounds until every node is over. In a round each node, ascending, takes every
-    /// message that it may, lowest sender first, and then executes words until it stands at a poll,
-    /// waits or has ended; a node that stood at a poll first passes it. Out of memory, the events
-    /// made so far stand.
+    /// Makes events in rounds until every node is over. In a round each node, ascending, takes
+    /// every message that it may, lowest sender first, and then executes words until it stands at a
+    /// poll, waits or has ended; a node that stood at a poll first passes it. Out of memory, the
+    /// events made so far stand.
     pub fn finish(&mut self) -> Result<(), AllocError>
         ensures over { OnOk result (IsOver (work_of self.new) (core_of self.new)) }
         ensures leads { GoesOnTo (work_of self.old) (core_of self.old) (core_of self.new) }
@@ -147,7 +147,8 @@ impl<'a> Core<'a> {
 
 /// Whether a node that has executed a word goes on: it may execute another, and that is no poll.
 fn goes_on(node: &Node<'_>) -> bool
-    ensures { result ≡ true → may_execute (standing_of (work_at node.now) (node_of node.now)) ≡ true }
+    ensures { result ≡ true
+        → may_execute (standing_of (work_at node.now) (node_of node.now)) ≡ true }
 {
     match node.standing() {
         Standing::Running => true,

@@ -1,12 +1,15 @@
 //! Events of nodes that run rewritten code, and of the lists between them.
 
-ghost use Rattle.std.specs.Prelude.{◌≡◌, ◌≢◌, ◌<◌, ◌↔◌, ℕ, List, [], true, false, length, IfOk, OnOk, OnErr};
+ghost use Rattle.std.specs.Prelude.{◌≡◌, ◌≢◌, ◌<◌, ◌↔◌, ℕ, List, [], true, false, length, IfOk};
+ghost use Rattle.std.specs.Prelude.{OnOk, OnErr};
 ghost use Rattle.node_model.specs.Node.{Work, IsLaidOver, standing_of};
 ghost use Rattle.node_model.specs.Core as model;
-ghost use Rattle.dsm_protocol.specs.Queue.{Queue as Stored, AreQueues, SameWires, HasRoom, wires_of};
+ghost use Rattle.dsm_protocol.specs.Queue.{Queue as Stored, AreQueues, SameWires, HasRoom};
+ghost use Rattle.dsm_protocol.specs.Queue.{wires_of};
 ghost use Rattle.dsm_core.specs.CoreParts.{work_in, core_with, event_of, HaveWork};
 ghost use Rattle.node_model.specs.Core.{IsOver};
-ghost use Rattle.dsm_core.specs.CoreSteps.{SameNodes, SameWorks, HasNodeRoom, CanExecute, HaveMade, HaveKept, HavePassed, HaveExecutedOn, AreFirst, CanMake};
+ghost use Rattle.dsm_core.specs.CoreSteps.{SameNodes, SameWorks, HasNodeRoom, CanExecute, HaveMade};
+ghost use Rattle.dsm_core.specs.CoreSteps.{HaveKept, HavePassed, HaveExecutedOn, AreFirst, CanMake};
 
 use crate::cores::Event;
 use crate::work;

@@ -10,8 +10,8 @@ use node_machine::{Node, Trail};
 use std::alloc::{AllocError, Global};
 use std::marker::Model;
 
-/// What takes back words that the nodes of a core have executed by their micro-ops. Contracts see for
-/// how many nodes it is.
+/// What takes back words that the nodes of a core have executed by their micro-ops. Contracts see
+/// for how many nodes it is.
 #[derive(Drop)]
 pub struct Trails {
     pub(crate) trails: Vec<Trail>,

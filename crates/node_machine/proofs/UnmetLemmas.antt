@@ -18,7 +18,7 @@ use Rattle.rv32_step.specs.declared.CallStep.TheVariants.{Ends, Returns, Puts}
 use Rattle.rv32_step.specs.Demands.{demand_of, call_step}
 use Rattle.rv32_step.specs.Memory.{load_value}
 use Rattle.runtime_words.specs.declared.RtWord.{RtWord}
-use Rattle.runtime_words.specs.declared.RtWord.TheVariants.{Native, MissR, MissW, Poll, Call, Xjalr, Batch, Prepare, TrapFetch, TrapOff, TrapIllegal, TrapEbreak}
+use Rattle.runtime_words.specs.declared.RtWord.TheVariants.{Native, MissR, MissW, Poll, Call, Xjalr, Batch, Prepare, Far, TrapFetch, TrapOff, TrapIllegal, TrapEbreak}
 use Rattle.templates.specs.declared.places.Place.{Place}
 use Rattle.jump_map.specs.declared.image.ImageWord.{ImageWord}
 use Rattle.jump_map.specs.Maps.{fetch}
@@ -167,6 +167,7 @@ execute_unmet program place at Call l n = call_unmet program l n (call_step l.re
 execute_unmet program place at (Xjalr rd rs1 imm) l n = indirect_quiet place l n rd (offset_address (reg l.registers rs1) imm / 2 * 2)
 execute_unmet program place at (Batch stores low high) l n = batch_unmet l n (need_of_run stores) (reg l.registers low) (reg l.registers high)
 execute_unmet program place at (Prepare rs1) l n = prepared_unmet place l n (offset_address (reg l.registers rs1) (pos 0))
+execute_unmet program place at (Far k) l n = tt
 execute_unmet program place at TrapFetch l n = tt
 execute_unmet program place at TrapOff l n = tt
 execute_unmet program place at TrapIllegal l n = tt

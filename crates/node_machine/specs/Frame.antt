@@ -63,7 +63,8 @@ node_of f = record {
   local = local_of f.body.value.local;
   executed = f.executed;
   phase = phase_of f.phase;
-  entry = entries_in f.desk.directory.layout f.desk.directory.me (entry_at f.desk.directory.entries);
+  entry = entries_in f.desk.directory.layout f.desk.directory.me
+      (entry_at f.desk.directory.entries);
   waiting = (entries_of f.desk.directory).waiting;
   occupancy = (entries_of f.desk.directory).occupancy;
   wait = wait_of f.desk.waits;

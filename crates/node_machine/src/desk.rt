@@ -1,6 +1,7 @@
 //! What a node keeps of blocks beside their states and bytes: its part of the protocol.
 
-ghost use Rattle.std.specs.Prelude.{◌≡◌, ◌+◌, ◌/◌, ◌^◌, ◌≤◌, ◌<◌, ◌⊎◌, ◌&&◌, nat_lt, ℕ, [], ◌∷◌, ◌++◌, None, Some, true, false, List, Option, length};
+ghost use Rattle.std.specs.Prelude.{◌≡◌, ◌+◌, ◌/◌, ◌^◌, ◌≤◌, ◌<◌, ◌⊎◌, ◌&&◌, nat_lt, ℕ, [], ◌∷◌};
+ghost use Rattle.std.specs.Prelude.{◌++◌, None, Some, true, false, List, Option, length};
 ghost use Rattle.std.specs.Option.{option_to_list};
 ghost use Rattle.state_table.specs.States.{state_of};
 ghost use Rattle.block_layout.specs.Layout.{blocks, block_of};
@@ -74,7 +75,8 @@ impl Desk {
             turns.want_in (layout_of body.old) (turn_by (with_parts n body.old self.old) posts p)
             want.need (block_of (layout_of body.old) (line_of want.at))
             ≡ turn_by (with_parts n body.new self.new) (posts ++ option_to_list result) p }
-        ensures begun { is_unmet want.need ((local_of body.old.local).state (line_of want.at)) ≡ true
+        ensures begun { is_unmet want.need
+            ((local_of body.old.local).state (line_of want.at)) ≡ true
             → 0 < length self.new.waits.waits }
         ensures more { length self.old.waits.waits ≤ length self.new.waits.waits }
         ensures one { length self.new.waits.waits ≤ length self.old.waits.waits + 1 }

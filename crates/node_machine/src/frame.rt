@@ -1,13 +1,17 @@
 //! What a node stores, and its events. How the parts fit together is said by each call's clauses,
 //! and kept by the type of the node above it.
 
-ghost use Rattle.std.specs.Prelude.{◌≡◌, ◌+◌, ◌*◌, ◌^◌, ◌<◌, ◌≤◌, ◌&&◌, ◌++◌, ◌⊎◌, ◌==◌, if◌then◌else◌, ℕ, [], true, false, None, Option, length};
+ghost use Rattle.std.specs.Prelude.{◌≡◌, ◌+◌, ◌*◌, ◌^◌, ◌<◌, ◌≤◌, ◌&&◌, ◌++◌, ◌⊎◌, ◌==◌};
+ghost use Rattle.std.specs.Prelude.{if◌then◌else◌, ℕ, [], true, false, None, Option, length};
 ghost use Rattle.std.specs.Vec.{vec_capacity};
 ghost use Rattle.node_model.specs.Node as model;
 ghost use Rattle.node_model.specs.Turns as turns;
 ghost use Rattle.node_words.specs.Address.{word_address};
 ghost use Rattle.node_words.specs.Kept.{ground_of, local_of, lane_of, phase_by, wants_by};
-ghost use Rattle.node_machine.specs.Frame.{work_of, node_of, layout_of, with_parts, phase_of, HasRoom, IsNode, IsDesk, AreCountsBelow, HasBegun, with_all, phase_resumed, lane_after_wait, counts_after_wait};
+ghost use Rattle.node_machine.specs.Frame.{work_of, node_of, layout_of, with_parts, phase_of};
+ghost use Rattle.node_machine.specs.Frame.{HasRoom, IsNode, IsDesk, AreCountsBelow, HasBegun};
+ghost use Rattle.node_machine.specs.Frame.{with_all, phase_resumed, lane_after_wait};
+ghost use Rattle.node_machine.specs.Frame.{counts_after_wait};
 ghost use Rattle.node_words.specs.GoingOn.{phase_on};
 ghost use Rattle.node_machine.specs.Desk.{turn_by, AreUnmet};
 ghost use Rattle.node_machine.specs.Runs.{HasExecuted, GoesOnBy};

@@ -1,6 +1,7 @@
 //! A node: its processor, what words see of it, and its part of the protocol.
 
-ghost use Rattle.std.specs.Prelude.{◌≡◌, ◌+◌, ◌^◌, ◌<◌, ◌==◌, ◌≤◌, ℕ, true, false, None, IfOk, OnOk, if◌then◌else◌, option_and_then};
+ghost use Rattle.std.specs.Prelude.{◌≡◌, ◌+◌, ◌^◌, ◌<◌, ◌==◌, ◌≤◌, ℕ, true, false, None, IfOk};
+ghost use Rattle.std.specs.Prelude.{OnOk, if◌then◌else◌, length, option_and_then};
 ghost use Rattle.jump_map.specs.declared.image.ImageWord.{ImageWord};
 ghost use Rattle.exec_map.specs.Contents.{program_of};
 ghost use Rattle.jump_map.specs.Maps.{fetch};
@@ -68,7 +69,8 @@ impl<'a> Node<'a> {
     ) -> Result<Node<'a>, AllocError>
         requires layout { model.IsLaidOver (program_of program.now) layout.now }
         requires node { me < layout.now.nodes }
-        ensures opening { IfOk result (λ node. node_of node ≡ model.opening_node (work_of node) me) }
+        ensures opening { IfOk result
+            (λ node. node_of node ≡ model.opening_node (work_of node) me) }
         ensures work { IfOk result (λ node. work_of node ≡ record {
           program = program_of program.now;
           image = image.now;
@@ -129,6 +131,13 @@ impl<'a> Node<'a> {
         ensures value { result ≡ (node_of self.now).counts }
     {
         self.frame.body.counts
+    }
+
+    /// How many buffers are in the node's pool: those of its two that it hasn't taken for a wait.
+    pub fn free(&self) -> u8
+        ensures { result + length self.now.desk.waits.waits ≡ 2 }
+    {
+        self.frame.desk.pool.free()
     }
 
     /// The stamp of the node's last event.

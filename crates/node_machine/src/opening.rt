@@ -8,7 +8,8 @@ ghost use Rattle.state_table.specs.States.{state_of};
 ghost use Rattle.flag_memory.specs.Copy.{bytes_of};
 ghost use Rattle.node_model.specs.Node as model;
 ghost use Rattle.node_words.specs.Kept.{local_of};
-ghost use Rattle.node_machine.specs.Opening.{AreFixedClasses, classes_of, opening_state, opening_bytes};
+ghost use Rattle.node_machine.specs.Opening.{AreFixedClasses, classes_of, opening_state};
+ghost use Rattle.node_machine.specs.Opening.{opening_bytes};
 
 use block_layout::{Block, Layout, layout_law};
 use exec_map::{Lines, Program, first_bytes_law};

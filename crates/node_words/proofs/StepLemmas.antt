@@ -10,7 +10,7 @@ use Rattle.micro_op.specs.declared.MicroKind.{MicroKind}
 use Rattle.micro_op.specs.Micro.{Meaning, meaning_by, meaning_of}
 use Rattle.jump_map.specs.Image.{Cell, image_base}
 use Rattle.node_words.specs.declared.lane.Lane as kept
-use Rattle.node_model.specs.Node.{Lane, Local, Outcome, Next, Waits, SameWord, go_on, lane_after_call, Nothing_counted, Region, Memory, StateOf, Spill, Elsewhere, native, put_byte, print_byte, byte_at, is_mapped_state, is_readable_state, execute_at, execute_read, next_outcome, place_address, indirect, load, store, phase_after, lane_after, region_of, set_register}
+use Rattle.node_model.specs.Node.{Lane, Local, Outcome, Next, To, Waits, SameWord, go_on, lane_after_call, Nothing_counted, Region, Memory, StateOf, Spill, Elsewhere, native, put_byte, print_byte, byte_at, is_mapped_state, is_readable_state, execute_at, execute_read, next_outcome, place_address, indirect, load, store, phase_after, lane_after, region_of, set_register}
 use Rattle.std.proofs.Common.{eqb, ◌&&◌}
 use Rattle.std.specs.Prelude.{position}
 use Rattle.std.specs.Option.{option_map}
@@ -25,12 +25,12 @@ use Rattle.std.proofs.Common.{◌-◌, [], ◌∷◌, leb, length, zero, suc}
 use Rattle.std.specs.Prelude.{slice_get}
 use Rattle.rv32_decode.specs.Fields.{unsigned}
 use Rattle.rv32_step.specs.declared.Demand.{Demand}
-use Rattle.rv32_step.specs.declared.Demand.TheVariants.{Continues}
+use Rattle.rv32_step.specs.declared.Demand.TheVariants.{Continues, Jumps}
 use Rattle.rv32_step.specs.Registers.{reg}
 use Rattle.micro_op.specs.declared.MicroKind.TheVariants.{Rare}
 use Rattle.micro_op.specs.Micro.{Unserved, Demands, Enters as EntersBy, Meets, EntersAt}
 use Rattle.runtime_words.specs.declared.RtWord.{RtWord}
-use Rattle.runtime_words.specs.declared.RtWord.TheVariants.{Native, Poll, Xjalr}
+use Rattle.runtime_words.specs.declared.RtWord.TheVariants.{Native, Poll, Xjalr, Far}
 use Rattle.templates.specs.declared.places.Place.{Place}
 use Rattle.runtime_words.specs.Reading.{read_word}
 use Rattle.exec_map.specs.Contents.{program_of}
@@ -113,6 +113,20 @@ enter_follows image l s at place original new k aligned is same =
       wants = refl;
     })
 
+-- also where the link is kept
+pub call_follows : (image : List Cell) (l : kept.Lane) (s : Shelf) (registers : List ℕ) (at place rd original new k : ℕ) → original % 4 ≡ 0 → new_of image original ≡ Some new → word_address k ≡ new → registers_of registers ≡ put (registers_of l.registers) rd (next_pc place) → Follows image (indirect place (lane_of l (word_address at)) (local_of s) rd original) (ground_of s) (word_address k) (record l { registers = registers }) s
+call_follows image l s registers at place rd original new k aligned is same link =
+    let test : eqb (original % 4) 0 ≡ true = grind (arith, nat_tests) in
+    rw test (record {
+      lane = rw is (λ t. record (lane_of l (word_address k)) { at = same t; registers = link t });
+      local = refl;
+      ground_same = refl;
+      output = refl;
+      tally = refl;
+      phase = λ budget executed. refl;
+      wants = refl;
+    })
+
 -- a byte of a line that is mapped and readable is printed
 pub put_mapped : (program : Program) (l : Lane) (n : Local) (a x : ℕ) → is_mapped_state x ≡ true → is_readable_state x ≡ true → put_byte program l n a x ≡ print_byte l n a (byte_at program l n a)
 put_mapped program l n a x mapped readable = rw (mapped, readable) refl
@@ -142,12 +156,27 @@ entry_steps image (EntersBy target) rd original at k place l s l' s' enters step
 rare_steps : (image : List Cell) (op : MicroOp) (at k : ℕ) (l : kept.Lane) (s : Shelf) (l' : kept.Lane) (s' : Shelf) → op.kind ≡ Rare → StepsTo image (meaning_of image_base op (registers_of l.registers)) at l s l' s' (Some k) → ⊥
 rare_steps image op at k l s l' s' is steps = subst (λ (q : MicroKind). StepsTo image (meaning_by q image_base op (registers_of l.registers)) at l s l' s' (Some k)) is steps
 
+-- a jump that keeps no link is a far jump
+far_is : (program : Program) (place at : ℕ) (l : Lane) (n : Local) (number : ℕ)
+    → native program place at l n (Jumps 0 (address_of_word number)) ≡ go_on l n (To (address_of_word number))
+far_is program place at l n number =
+    let rest : address_of_word number % 4 ≡ 0 = omega arith in
+    let test : eqb (address_of_word number % 4) 0 ≡ true = grind (arith, nat_tests) in
+    let zero = put_zero l.registers (next_pc at) in
+    rw test (λ t. go_on (record l { registers = zero t }) n (To (address_of_word number)))
+
 -- a micro-op that was executed is the word's
 micro_served : (image : List Cell) (word : Option RtWord) (place : Option Place) (op : MicroOp) (at k : ℕ) (l : kept.Lane) (s : Shelf) (l' : kept.Lane) (s' : Shelf) → IsMicroWord (word_address at) word op → StepsTo image (meaning_of image_base op (registers_of l.registers)) at l s l' s' (Some k) → Follows image (execute_read (program_of s.program) place word (lane_of l (word_address at)) (local_of s)) (ground_of s) (word_address k) l' s'
 micro_served image None place op at k l s l' s' is steps = absurd (rare_steps image op at k l s l' s' is steps)
 micro_served image (Some (Native i)) place op at k l s l' s' is steps = native_steps image _ _ at k (place_address place) l s l' s' (is.meets (registers_of l.registers)) steps
 micro_served image (Some Poll) place op at k l s l' s' is steps = native_steps image _ Continues at k (place_address place) l s l' s' (is (registers_of l.registers)) steps
 micro_served image (Some (Xjalr rd rs1 imm)) place op at k l s l' s' is steps = entry_steps image _ rd ((reg (registers_of l.registers) rs1 + unsigned 32 imm) % 4294967296 / 2 * 2) at k (place_address place) l s l' s' (is.enters (registers_of l.registers)) steps
+micro_served image (Some (Far number)) place op at k l s l' s' is steps =
+    let jumps = native_steps image _ (Jumps 0 (address_of_word number)) at k (place_address place) l s l' s'
+    (is (registers_of l.registers)) steps in
+    subst (λ (x : Outcome). Follows image x (ground_of s) (word_address k) l' s')
+    (far_is (program_of s.program) (place_address place) (word_address at) (lane_of l (word_address at)) (local_of s)
+    number) jumps
 micro_served image (Some w) place op at k l s l' s' is steps = absurd (rare_steps image op at k l s l' s' is steps)
 
 got_below : (xs : List Cell) (i : ℕ) (c : Cell) → slice_get xs i ≡ Some c → i < length xs

@@ -71,7 +71,8 @@ pub record Notes (memory : ℕ → ℕ) (w : Width) (a : ℕ) (old new : List No
   pub aligned : is_aligned w a ≡ true
   pub bytes : HasBytes memory w a value
 
--- what a micro-op overwrites at an address is noted, where it stores so many bytes; or it stores none
+-- what a micro-op overwrites at an address is noted, where it stores so many bytes; or it stores
+-- none
 abbrev pub NotesOr : (ℕ → ℕ) → Option Width → (a : ℕ) → (old new : List Note) → Type 0
 NotesOr bytes None a old new = new ≡ old
 NotesOr bytes (Some w) a old new = Notes bytes w a old new

@@ -1,9 +1,12 @@
 //! Micro-ops: the words that are executed most, by one match a word.
 
-ghost use Rattle.std.specs.Prelude.{◌≡◌, ◌+◌, ◌*◌, ◌/◌, ◌%◌, ◌^◌, ◌<◌, ◌≤◌, ℕ, Option, Some, None, List, false};
-ghost use Rattle.rv32_step.specs.Registers.{registers_of};
+ghost use Rattle.std.specs.Prelude.{◌≡◌, ◌+◌, ◌*◌, ◌/◌, ◌%◌, ◌^◌, ◌<◌, ◌≤◌, ℕ, Option, Some, None};
+ghost use Rattle.std.specs.Prelude.{List, false};
+ghost use Rattle.rv32_ops.specs.Operations as operations;
+ghost use Rattle.rv32_step.specs.Registers.{reg, registers_of};
 ghost use Rattle.rv32_step.specs.Demands.{branch_demand};
-ghost use Rattle.rv32_step.specs.declared.Demand.TheVariants.{Sets, Continues, Jumps, Branches, Loads, Stores};
+ghost use Rattle.rv32_step.specs.declared.Demand.TheVariants.{Sets, Continues, Jumps, Branches};
+ghost use Rattle.rv32_step.specs.declared.Demand.TheVariants.{Loads, Stores};
 ghost use Rattle.micro_op.specs.Micro.{Demands, Enters, meaning_of};
 ghost use Rattle.jump_map.specs.Image.{Cell, image_base};
 ghost use Rattle.jump_map.specs.Maps.{new_of};
@@ -20,8 +23,8 @@ use rv32_ops::{alu, taken};
 
 impl<'a> Body<'a> {
     /// Executes a micro-op at an index, and gives the index of the word that follows. `None` where
-    /// the path that serves every word has to, and where it stores and stores aren't to be made; then
-    /// nothing changed.
+    /// the path that serves every word has to, and where it stores and stores aren't to be made;
+    /// then nothing changed.
     #[inline(always)]
     pub(crate) fn step(&mut self, image: &Image, op: &MicroOp, at: u32, stores: bool) -> Option<u32>
         ensures steps { StepsTo image.now
@@ -31,7 +34,6 @@ impl<'a> Body<'a> {
         ensures counts { self.new.counts ≡ self.old.counts }
     {
         let a = self.lane.registers.get(op.rs1);
-        let b = self.lane.registers.get(op.rs2);
         match op.kind {
             MicroKind::Rare => None,
             MicroKind::Nothing => branch(false, 0, at),
@@ -39,12 +41,12 @@ impl<'a> Body<'a> {
             MicroKind::Jump => self.jump(op.rd, op.imm, at),
             MicroKind::JumpBy => None,
             MicroKind::EnterBy => self.enter(image, a.wrapping_add(op.imm) / 2 * 2),
-            MicroKind::BranchEq => branch(taken(Cond::Eq, a, b), op.imm, at),
-            MicroKind::BranchNe => branch(taken(Cond::Ne, a, b), op.imm, at),
-            MicroKind::BranchLt => branch(taken(Cond::Lt, a, b), op.imm, at),
-            MicroKind::BranchGe => branch(taken(Cond::Ge, a, b), op.imm, at),
-            MicroKind::BranchLtu => branch(taken(Cond::Ltu, a, b), op.imm, at),
-            MicroKind::BranchGeu => branch(taken(Cond::Geu, a, b), op.imm, at),
+            MicroKind::BranchEq => branch(taken(Cond::Eq, a, self.second(op)), op.imm, at),
+            MicroKind::BranchNe => branch(taken(Cond::Ne, a, self.second(op)), op.imm, at),
+            MicroKind::BranchLt => branch(taken(Cond::Lt, a, self.second(op)), op.imm, at),
+            MicroKind::BranchGe => branch(taken(Cond::Ge, a, self.second(op)), op.imm, at),
+            MicroKind::BranchLtu => branch(taken(Cond::Ltu, a, self.second(op)), op.imm, at),
+            MicroKind::BranchGeu => branch(taken(Cond::Geu, a, self.second(op)), op.imm, at),
             MicroKind::LoadByte => self.load_at(LoadKind::Byte, op.rd, a.wrapping_add(op.imm), at),
             MicroKind::LoadHalf => self.load_at(LoadKind::Half, op.rd, a.wrapping_add(op.imm), at),
             MicroKind::LoadWord => self.load_at(LoadKind::Word, op.rd, a.wrapping_add(op.imm), at),
@@ -53,13 +55,31 @@ impl<'a> Body<'a> {
                 self.load_at(LoadKind::HalfU, op.rd, a.wrapping_add(op.imm), at)
             }
             MicroKind::StoreByte => {
-                self.store_at(Width::Byte, a.wrapping_add(op.imm), b, at, stores)
+                self.store_at(
+                    Width::Byte,
+                    a.wrapping_add(op.imm),
+                    self.second(op),
+                    at,
+                    stores,
+                )
             }
             MicroKind::StoreHalf => {
-                self.store_at(Width::Half, a.wrapping_add(op.imm), b, at, stores)
+                self.store_at(
+                    Width::Half,
+                    a.wrapping_add(op.imm),
+                    self.second(op),
+                    at,
+                    stores,
+                )
             }
             MicroKind::StoreWord => {
-                self.store_at(Width::Word, a.wrapping_add(op.imm), b, at, stores)
+                self.store_at(
+                    Width::Word,
+                    a.wrapping_add(op.imm),
+                    self.second(op),
+                    at,
+                    stores,
+                )
             }
             MicroKind::AddImm => self.set(op.rd, alu(Op::Add, a, op.imm), at),
             MicroKind::SltImm => self.set(op.rd, alu(Op::Slt, a, op.imm), at),
@@ -70,25 +90,33 @@ impl<'a> Body<'a> {
             MicroKind::SllImm => self.set(op.rd, alu(Op::Sll, a, op.imm), at),
             MicroKind::SrlImm => self.set(op.rd, alu(Op::Srl, a, op.imm), at),
             MicroKind::SraImm => self.set(op.rd, alu(Op::Sra, a, op.imm), at),
-            MicroKind::Add => self.set(op.rd, alu(Op::Add, a, b), at),
-            MicroKind::Sub => self.set(op.rd, alu(Op::Sub, a, b), at),
-            MicroKind::Sll => self.set(op.rd, alu(Op::Sll, a, b), at),
-            MicroKind::Slt => self.set(op.rd, alu(Op::Slt, a, b), at),
-            MicroKind::Sltu => self.set(op.rd, alu(Op::Sltu, a, b), at),
-            MicroKind::Xor => self.set(op.rd, alu(Op::Xor, a, b), at),
-            MicroKind::Srl => self.set(op.rd, alu(Op::Srl, a, b), at),
-            MicroKind::Sra => self.set(op.rd, alu(Op::Sra, a, b), at),
-            MicroKind::Or => self.set(op.rd, alu(Op::Or, a, b), at),
-            MicroKind::And => self.set(op.rd, alu(Op::And, a, b), at),
-            MicroKind::Mul => self.set(op.rd, alu(Op::Mul, a, b), at),
-            MicroKind::Mulh => self.set(op.rd, alu(Op::Mulh, a, b), at),
-            MicroKind::Mulhsu => self.set(op.rd, alu(Op::Mulhsu, a, b), at),
-            MicroKind::Mulhu => self.set(op.rd, alu(Op::Mulhu, a, b), at),
-            MicroKind::Div => self.set(op.rd, alu(Op::Div, a, b), at),
-            MicroKind::Divu => self.set(op.rd, alu(Op::Divu, a, b), at),
-            MicroKind::Rem => self.set(op.rd, alu(Op::Rem, a, b), at),
-            MicroKind::Remu => self.set(op.rd, alu(Op::Remu, a, b), at),
+            MicroKind::Add => self.set(op.rd, alu(Op::Add, a, self.second(op)), at),
+            MicroKind::Sub => self.set(op.rd, alu(Op::Sub, a, self.second(op)), at),
+            MicroKind::Sll => self.set(op.rd, alu(Op::Sll, a, self.second(op)), at),
+            MicroKind::Slt => self.set(op.rd, alu(Op::Slt, a, self.second(op)), at),
+            MicroKind::Sltu => self.set(op.rd, alu(Op::Sltu, a, self.second(op)), at),
+            MicroKind::Xor => self.set(op.rd, alu(Op::Xor, a, self.second(op)), at),
+            MicroKind::Srl => self.set(op.rd, alu(Op::Srl, a, self.second(op)), at),
+            MicroKind::Sra => self.set(op.rd, alu(Op::Sra, a, self.second(op)), at),
+            MicroKind::Or => self.set(op.rd, alu(Op::Or, a, self.second(op)), at),
+            MicroKind::And => self.set(op.rd, alu(Op::And, a, self.second(op)), at),
+            MicroKind::Mul => self.set(op.rd, alu(Op::Mul, a, self.second(op)), at),
+            MicroKind::Mulh => self.set(op.rd, alu_apart(Op::Mulh, a, self.second(op)), at),
+            MicroKind::Mulhsu => self.set(op.rd, alu_apart(Op::Mulhsu, a, self.second(op)), at),
+            MicroKind::Mulhu => self.set(op.rd, alu_apart(Op::Mulhu, a, self.second(op)), at),
+            MicroKind::Div => self.set(op.rd, alu(Op::Div, a, self.second(op)), at),
+            MicroKind::Divu => self.set(op.rd, alu(Op::Divu, a, self.second(op)), at),
+            MicroKind::Rem => self.set(op.rd, alu(Op::Rem, a, self.second(op)), at),
+            MicroKind::Remu => self.set(op.rd, alu(Op::Remu, a, self.second(op)), at),
         }
+    }
+
+    /// The value of the second register of a micro-op.
+    #[inline(always)]
+    fn second(&self, op: &MicroOp) -> u32
+        ensures { result ≡ reg (registers_of self.now.lane.registers) op.now.rs2 }
+    {
+        self.lane.registers.get(op.rs2)
     }
 
     /// Puts a value into a register.
@@ -179,6 +207,14 @@ impl<'a> Body<'a> {
             None
         }
     }
+}
+
+/// The result of an operation that is rare.
+#[inline(never)]
+fn alu_apart(op: Op, a: u32, b: u32) -> u32
+    ensures { result ≡ operations.alu op a b }
+{
+    alu(op, a, b)
 }
 
 /// The word that follows a branch.

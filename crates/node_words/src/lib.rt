@@ -6,6 +6,7 @@
 //! above this crate.
 
 mod body;
+mod calls;
 mod hot;
 mod lane;
 mod lines;

@@ -1,6 +1,7 @@
 //! What words see of their node: its copy of the shared bytes, and the state of each line.
 
-ghost use Rattle.std.specs.Prelude.{◌≡◌, ◌+◌, ◌*◌, ◌/◌, ◌%◌, ◌^◌, ◌<◌, ◌≤◌, ℕ, true, false, Some, None, MatchOption, length};
+ghost use Rattle.std.specs.Prelude.{◌≡◌, ◌+◌, ◌*◌, ◌/◌, ◌%◌, ◌^◌, ◌<◌, ◌≤◌, ℕ, true, false, Some};
+ghost use Rattle.std.specs.Prelude.{None, MatchOption, length};
 ghost use Rattle.exec_map.specs.Contents.{program_of, first_byte};
 ghost use Rattle.rv32_program.specs.declared.Class.TheVariants.{Shared, ReadOnly};
 ghost use Rattle.rv32_program.specs.Program.{class_at};
@@ -10,9 +11,12 @@ ghost use Rattle.block_layout.specs.Layout.{blocks, block_of, is_shared};
 ghost use Rattle.llsc.specs.Reservation.{holds};
 ghost use Rattle.state_table.specs.States.{state_of};
 ghost use Rattle.miss_handlers.specs.Waits.{wait_of};
-ghost use Rattle.miss_handlers.specs.Effects.{HasEffect, message_effect, miss_of, states_after, waits_after, pool_after, pool_after_miss, post_of, buffers};
+ghost use Rattle.miss_handlers.specs.Effects.{HasEffect, message_effect, miss_of, states_after};
+ghost use Rattle.miss_handlers.specs.Effects.{waits_after, pool_after, pool_after_miss, post_of};
+ghost use Rattle.miss_handlers.specs.Effects.{buffers};
 ghost use Rattle.node_model.specs.Node as model;
-ghost use Rattle.node_words.specs.Kept.{ground_of, local_of, AreFirstLines, HasFixed, HasLines, IsPlace};
+ghost use Rattle.node_words.specs.Kept.{ground_of, local_of, AreFirstLines, HasFixed, HasLines};
+ghost use Rattle.node_words.specs.Kept.{IsPlace};
 ghost use Rattle.node_words.specs.Blocks.{ShelfLaws, blocks_at};
 
 use block_layout::{Block, Layout, Lines, layout_law};
@@ -152,6 +156,7 @@ impl<'a> Local<'a> {
     }
 
     /// The state byte of a line.
+    #[inline(always)]
     pub(crate) fn state(&self, line: u32) -> u8
         requires { line < 2 ^ 26 }
         ensures { result ≡ (local_of self.now).state line }
@@ -163,6 +168,7 @@ impl<'a> Local<'a> {
     }
 
     /// The state byte of a line that isn't shared.
+    #[inline(never)]
     fn fixed_state(&self, line: u32) -> u8
         requires line { line < 2 ^ 26 }
         requires fixed { is_shared self.now.copy.layout line ≡ false }

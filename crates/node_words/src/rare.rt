@@ -3,7 +3,8 @@
 ghost use Rattle.std.specs.Prelude.{◌≡◌, ◌+◌, ◌*◌, ◌/◌, ◌%◌, ◌^◌, ◌<◌, ◌≤◌, ℕ, true, None};
 ghost use Rattle.exec_map.specs.Contents.{program_of};
 ghost use Rattle.rv32_program.specs.Targets.{offset_address};
-ghost use Rattle.rv32_step.specs.declared.Demand.TheVariants.{Sets, Jumps, Branches, Loads, Stores, Reserves, StoresIf, Updates};
+ghost use Rattle.rv32_step.specs.declared.Demand.TheVariants.{Sets, Jumps, Branches, Loads, Stores};
+ghost use Rattle.rv32_step.specs.declared.Demand.TheVariants.{Reserves, StoresIf, Updates};
 ghost use Rattle.rv32_step.specs.declared.CallStep.TheVariants.{Puts, Returns};
 ghost use Rattle.rv32_step.specs.Demands as demands;
 ghost use Rattle.rv32_step.specs.Registers.{reg, registers_of};
@@ -72,6 +73,7 @@ impl<'a> Body<'a> {
             RtWord::Xjalr { rd, rs1, imm } => self.indirect(place, rd, self.sum(rs1, imm)),
             RtWord::Batch { stores, rs1, rs2 } => self.batch(stores, rs1, rs2, at),
             RtWord::Prepare { rs1 } => self.prepare(place, self.lane.registers.get(rs1)),
+            RtWord::Far(number) => go_on(Move::To(number.value())),
             RtWord::TrapFetch => exit_by(Exit::Fetch(place)),
             RtWord::TrapOff => exit_by(Exit::Fetch(self.lane.off)),
             RtWord::TrapIllegal => exit_by(Exit::Illegal(place)),
@@ -80,7 +82,7 @@ impl<'a> Body<'a> {
     }
 
     /// The address at a distance from a register's.
-    fn sum(&self, rs1: Reg, imm: Imm12) -> u32
+    pub(crate) fn sum(&self, rs1: Reg, imm: Imm12) -> u32
         ensures { result ≡
             offset_address (reg (registers_of self.now.lane.registers) rs1) imm }
     {
@@ -426,7 +428,7 @@ fn branch_to(place: u32, target: u32) -> Outcome
 }
 
 /// The address of a place, or 0 for word 0, which has none.
-fn place_address(place: Option<Place>) -> u32
+pub(crate) fn place_address(place: Option<Place>) -> u32
     ensures { result ≡ model.place_address place }
 {
     match place {

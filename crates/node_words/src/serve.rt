@@ -5,7 +5,8 @@ ghost use Rattle.exec_map.specs.Contents.{program_of};
 ghost use Rattle.jump_map.specs.Image.{most_words};
 ghost use Rattle.node_model.specs.Node as model;
 ghost use Rattle.node_words.specs.Address.{word_address};
-ghost use Rattle.node_words.specs.Kept.{StepsOr, Serves, ground_of, local_of, lane_of, move_of, resume_of, tally_of, phase_by, wants_by};
+ghost use Rattle.node_words.specs.Kept.{StepsOr, Serves, ground_of, local_of, lane_of, move_of};
+ghost use Rattle.node_words.specs.Kept.{resume_of, tally_of, phase_by, wants_by};
 ghost use Rattle.node_model.specs.Turns.{wants_of};
 ghost use Rattle.node_words.specs.GoingOn.{BodyGoesOn};
 
@@ -61,8 +62,8 @@ impl<'a> Body<'a> {
         }
     }
 
-    /// Executes words from an index on by their micro-ops, as long as those serve them, and at most
-    /// so many.
+    /// Executes words from an index on by their micro-ops, and jumps that keep a link, as long as
+    /// those serve them, and at most so many.
     #[inline(never)]
     pub fn run(&mut self, image: &Image, from: u32, most: u64) -> Stretch
         requires { length image.now ≤ most_words }
@@ -74,7 +75,7 @@ impl<'a> Body<'a> {
         let mut at = from;
         let mut words = 0;
         while words < most {
-            match self.step_at(image, at) {
+            match self.step_or_call(image, at) {
                 Some(next) => at = next,
                 None => break,
             }

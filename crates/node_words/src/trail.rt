@@ -1,6 +1,7 @@
 //! What takes back words that were executed by their micro-ops.
 
-ghost use Rattle.std.specs.Prelude.{◌≡◌, ◌+◌, ◌*◌, ◌/◌, ◌%◌, ◌^◌, ◌<◌, ◌≤◌, ℕ, [], true, false, None, All, IfOk, length, slice_index};
+ghost use Rattle.std.specs.Prelude.{◌≡◌, ◌+◌, ◌*◌, ◌/◌, ◌%◌, ◌^◌, ◌<◌, ◌≤◌, ℕ, [], true, false};
+ghost use Rattle.std.specs.Prelude.{None, All, IfOk, length, slice_index};
 ghost use Rattle.rv32_decode.specs.Widths.{is_aligned};
 ghost use Rattle.rv32_step.specs.Registers.{registers_of};
 ghost use Rattle.exec_map.specs.Contents.{program_of};
@@ -10,7 +11,8 @@ ghost use Rattle.node_model.specs.Node as model;
 ghost use Rattle.node_words.specs.Address.{word_address};
 ghost use Rattle.node_words.specs.Kept.{Shelf, StepsOr, StepsTo, ground_of, local_of, lane_of};
 ghost use Rattle.node_words.specs.GoingOn.{BodyGoesOn};
-ghost use Rattle.node_words.specs.Trails.{Saves, TakesBack, AreSame, HasBytes, Notes, NotesOr, IsAlignedNote, held_of, taken_back, store_width};
+ghost use Rattle.node_words.specs.Trails.{Saves, TakesBack, AreSame, HasBytes, Notes, NotesOr};
+ghost use Rattle.node_words.specs.Trails.{IsAlignedNote, held_of, taken_back, store_width};
 ghost use Rattle.node_words.specs.declared.lane.Lane as kept;
 
 use crate::body::Body;
@@ -95,7 +97,8 @@ impl<'a> Body<'a> {
     pub fn take_back(&mut self, trail: &mut Trail)
         requires aligned { All IsAlignedNote trail.old.notes.items }
         ensures back { (first : kept.Lane) (seen : Shelf)
-            → TakesBack trail.old.saved trail.old.notes.items self.old.lane self.old.local first seen
+            → TakesBack trail.old.saved trail.old.notes.items self.old.lane self.old.local first
+            seen
             → AreSame self.new.lane self.new.local first seen }
         ensures ground { ground_of self.new.local ≡ ground_of self.old.local }
         ensures counts { self.new.counts ≡ self.old.counts }
@@ -151,8 +154,8 @@ impl<'a> Body<'a> {
         self.store_noting(image, op, at, saved, notes)
     }
 
-    /// Executes a micro-op at an index, and notes first what it overwrites. `None` also where there is
-    /// no room for that.
+    /// Executes a micro-op at an index, and notes first what it overwrites. `None` also where there
+    /// is no room for that.
     #[inline(never)]
     fn store_noting(
         &mut self,

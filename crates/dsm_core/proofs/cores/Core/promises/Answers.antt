@@ -3,6 +3,7 @@ use Rattle.std.proofs.Common.{subst}
 use Rattle.dsm_core.specs.CoreParts.{core_of, work_of, IsCore}
 use Rattle.dsm_core.proofs.Bounds.{few_more, in_range}
 use Rattle.dsm_core.proofs.CoreRuns.{led_on}
+use Rattle.dsm_core.proofs.Buffers.{in_one_place}
 use Rattle.dsm_core.proofs.Promised.{own_run, goes_on, moves, lists_empty}
 use Rattle.dsm_core.proofs.cores.Core.promises.Goals as goal
 
@@ -50,3 +51,9 @@ returns-clause-stays c =
     let is = subst IsCore c.self.view_is c.self.invariant in
     λ d goes. in_range p d c.progress_law.ensures.short c.stamp_law.ensures.few
     c.stamp_law.ensures.wires is (led_on work (core_of p) d is.led_to goes)
+
+pub returns-clause-buffers : goal.returns-clause-buffers
+returns-clause-buffers c =
+    let is = subst IsCore c.self.view_is c.self.invariant in
+    in_one_place c.args.self.now c.layout_law.ensures.home c.buffer_law.ensures
+    c.interleaving_law.ensures.lists is

@@ -1,8 +1,9 @@
-use Rattle.std.proofs.Common.{◌≡◌, subst, ℕ, ◌+◌, ◌/◌, ◌*◌, ◌%◌, ◌^◌, arith}
+use Rattle.std.proofs.Common.{refl, ap, ◌≡◌, subst, ℕ, ◌+◌, ◌/◌, ◌*◌, ◌%◌, ◌^◌, arith}
 use Rattle.exec_map.specs.Contents.{program_of}
 use Rattle.rv32_step.specs.Demands.{demand_of}
 use Rattle.rv32_step.specs.Registers.{reg, registers_of}
-use Rattle.node_model.specs.Node.{native, indirect, miss_r, miss_w, prepare}
+use Rattle.jump_map.specs.Image.{address_of_word}
+use Rattle.node_model.specs.Node.{To, native, indirect, miss_r, miss_w, prepare}
 use Rattle.node_words.specs.Address.{word_address}
 use Rattle.node_words.specs.Kept.{ground_of, Does, lane_of, local_of}
 use Rattle.node_words.proofs.body.Body.execute.Goals as goal
@@ -51,6 +52,18 @@ returns-in-MissW-clause-does c =
 
 pub returns-in-Batch-clause-does : goal.returns-in-Batch-clause-does
 returns-in-Batch-clause-does c = rw c.in-Batch.is c.batch.ensures.does
+
+pub returns-in-Far-clause-does : goal.returns-in-Far-clause-does
+returns-in-Far-clause-does c =
+    let value = c.value.ensures.value in
+    let small = c.value.ensures.small in
+    let same : word_address c.value.result ≡ address_of_word c.in-Far.number = omega (arith, value, small) in
+    rw (c.in-Far.is, c.go_on-in-Far.ensures) (record {
+      leaves = record { lane = refl; local = refl; ground_same = refl };
+      output = refl;
+      tally = refl;
+      move = ap (λ x. To x) same;
+    })
 
 pub returns-in-Prepare-clause-does : goal.returns-in-Prepare-clause-does
 returns-in-Prepare-clause-does c =

@@ -73,13 +73,13 @@ pub returns-in-Mul-clause-steps : goal.returns-in-Mul-clause-steps
 returns-in-Mul-clause-steps c = stepped _ kind.Mul c.args.op.now _ _ _ _ _ _ _ (Demands (Sets c.args.op.now.rd c.alu-in-Mul.result)) c.in-Mul.is (c.set-in-Mul.ensures.steps c.args.image.now) (cc)
 
 pub returns-in-Mulh-clause-steps : goal.returns-in-Mulh-clause-steps
-returns-in-Mulh-clause-steps c = stepped _ kind.Mulh c.args.op.now _ _ _ _ _ _ _ (Demands (Sets c.args.op.now.rd c.alu-in-Mulh.result)) c.in-Mulh.is (c.set-in-Mulh.ensures.steps c.args.image.now) (cc)
+returns-in-Mulh-clause-steps c = stepped _ kind.Mulh c.args.op.now _ _ _ _ _ _ _ (Demands (Sets c.args.op.now.rd c.alu_apart.result)) c.in-Mulh.is (c.set-in-Mulh.ensures.steps c.args.image.now) (cc)
 
 pub returns-in-Mulhsu-clause-steps : goal.returns-in-Mulhsu-clause-steps
-returns-in-Mulhsu-clause-steps c = stepped _ kind.Mulhsu c.args.op.now _ _ _ _ _ _ _ (Demands (Sets c.args.op.now.rd c.alu-in-Mulhsu.result)) c.in-Mulhsu.is (c.set-in-Mulhsu.ensures.steps c.args.image.now) (cc)
+returns-in-Mulhsu-clause-steps c = stepped _ kind.Mulhsu c.args.op.now _ _ _ _ _ _ _ (Demands (Sets c.args.op.now.rd c.alu_apart-in-Mulhsu.result)) c.in-Mulhsu.is (c.set-in-Mulhsu.ensures.steps c.args.image.now) (cc)
 
 pub returns-in-Mulhu-clause-steps : goal.returns-in-Mulhu-clause-steps
-returns-in-Mulhu-clause-steps c = stepped _ kind.Mulhu c.args.op.now _ _ _ _ _ _ _ (Demands (Sets c.args.op.now.rd c.alu-in-Mulhu.result)) c.in-Mulhu.is (c.set-in-Mulhu.ensures.steps c.args.image.now) (cc)
+returns-in-Mulhu-clause-steps c = stepped _ kind.Mulhu c.args.op.now _ _ _ _ _ _ _ (Demands (Sets c.args.op.now.rd c.alu_apart-in-Mulhu.result)) c.in-Mulhu.is (c.set-in-Mulhu.ensures.steps c.args.image.now) (cc)
 
 pub returns-in-Div-clause-steps : goal.returns-in-Div-clause-steps
 returns-in-Div-clause-steps c = stepped _ kind.Div c.args.op.now _ _ _ _ _ _ _ (Demands (Sets c.args.op.now.rd c.alu-in-Div.result)) c.in-Div.is (c.set-in-Div.ensures.steps c.args.image.now) (cc)
@@ -136,10 +136,10 @@ pub returns-in-LoadByteU-clause-steps : goal.returns-in-LoadByteU-clause-steps
 returns-in-LoadByteU-clause-steps c = stepped _ kind.LoadByteU c.args.op.now _ _ _ _ _ _ _ (Demands (Loads load_kind.ByteU c.args.op.now.rd ((c.get-a.result + c.args.op.now.imm) % 4294967296))) c.in-LoadByteU.is (c.load_byte_at.ensures.steps c.args.image.now) (cc)
 
 pub returns-in-StoreByte-clause-steps : goal.returns-in-StoreByte-clause-steps
-returns-in-StoreByte-clause-steps c = stepped _ kind.StoreByte c.args.op.now _ _ _ _ _ _ _ (Demands (Stores width.Byte ((c.get-a.result + c.args.op.now.imm) % 4294967296) c.get-b.result)) c.in-StoreByte.is (c.store_at.ensures.steps c.args.image.now) (cc)
+returns-in-StoreByte-clause-steps c = stepped _ kind.StoreByte c.args.op.now _ _ _ _ _ _ _ (Demands (Stores width.Byte ((c.get-a.result + c.args.op.now.imm) % 4294967296) c.second-in-StoreByte.result)) c.in-StoreByte.is (c.store_at.ensures.steps c.args.image.now) (cc)
 
 pub returns-in-StoreHalf-clause-steps : goal.returns-in-StoreHalf-clause-steps
-returns-in-StoreHalf-clause-steps c = stepped _ kind.StoreHalf c.args.op.now _ _ _ _ _ _ _ (Demands (Stores width.Half ((c.get-a.result + c.args.op.now.imm) % 4294967296) c.get-b.result)) c.in-StoreHalf.is (c.store_at-in-StoreHalf.ensures.steps c.args.image.now) (cc)
+returns-in-StoreHalf-clause-steps c = stepped _ kind.StoreHalf c.args.op.now _ _ _ _ _ _ _ (Demands (Stores width.Half ((c.get-a.result + c.args.op.now.imm) % 4294967296) c.second-in-StoreHalf.result)) c.in-StoreHalf.is (c.store_at-in-StoreHalf.ensures.steps c.args.image.now) (cc)
 
 pub returns-in-StoreWord-clause-steps : goal.returns-in-StoreWord-clause-steps
-returns-in-StoreWord-clause-steps c = stepped _ kind.StoreWord c.args.op.now _ _ _ _ _ _ _ (Demands (Stores width.Word ((c.get-a.result + c.args.op.now.imm) % 4294967296) c.get-b.result)) c.in-StoreWord.is (c.store_at-in-StoreWord.ensures.steps c.args.image.now) (cc)
+returns-in-StoreWord-clause-steps c = stepped _ kind.StoreWord c.args.op.now _ _ _ _ _ _ _ (Demands (Stores width.Word ((c.get-a.result + c.args.op.now.imm) % 4294967296) c.second-in-StoreWord.result)) c.in-StoreWord.is (c.store_at-in-StoreWord.ensures.steps c.args.image.now) (cc)
