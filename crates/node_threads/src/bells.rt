@@ -28,10 +28,10 @@ struct Word {
 }
 
 impl Word {
-    fn new() -> Word {
+    fn new(value: u64) -> Word {
         Word {
             _before: [0; 16],
-            word: AtomicU64::new(0),
+            word: AtomicU64::new(value),
             _after: [0; 16],
         }
     }
@@ -48,20 +48,21 @@ impl Word {
 #[derive(Drop)]
 pub struct Bells {
     bells: Vec<Word>,
-    /// How many nodes sleep or work no more.
+    /// How many nodes have not begun to work, sleep or work no more.
     away: Word,
 }
 
 impl Bells {
-    /// The bells of so many nodes, none of which was rung.
+    /// The bells of so many nodes, none of which was rung. No node has begun to work: where a
+    /// thread can't be started, a node begins when the one before it gives up.
     pub fn new(alloc: Global, nodes: usize) -> Result<Bells, AllocError> {
         let mut bells = Vec::new(alloc);
         for _ in 0..nodes {
-            bells.push(Word::new())?;
+            bells.push(Word::new(QUIET))?;
         }
         Ok(Bells {
             bells,
-            away: Word::new(),
+            away: Word::new(nodes as u64),
         })
     }
 
@@ -84,8 +85,8 @@ impl Bells {
         }
     }
 
-    /// Sleeps until the node's bell is rung, or for some milliseconds. Says whether all nodes slept
-    /// then or work no more.
+    /// Sleeps until the node's bell is rung, or for some milliseconds. Says whether no node worked
+    /// then.
     pub fn sleep<R: Wait>(&self, rt: &R, node: u8) -> bool {
         let Some(bell) = self.bells.get(usize::from(node)) else {
             return false;
@@ -98,6 +99,11 @@ impl Bells {
             .park_timeout(rt, ASLEEP as u32, Duration::from_millis(NAP));
         let away = self.away.word.fetch_sub(1, Ordering::SeqCst);
         bell.exchange(ASLEEP, QUIET) && away >= self.bells.len() as u64
+    }
+
+    /// A node begins to work.
+    pub fn enter(&self) {
+        self.away.word.fetch_sub(1, Ordering::SeqCst);
     }
 
     /// A node works no more.

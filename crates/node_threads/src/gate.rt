@@ -1,7 +1,8 @@
 //! What a worker passes before each of its events.
 
-/// What a worker passes before each of its events. The node of a core that has one node alone has no
-/// worker, and what a core does once its workers are done it does by itself: no gate is called then.
+/// What a worker passes before each of its events. The node of a core that has one node alone has
+/// no worker, and what a core does once its workers are done it does by itself: no gate is called
+/// then.
 pub trait Gate {
     /// Is called with the worker's node and the number of events that it has made. It means nothing
     /// to any contract: an implementation may hold the worker up, or let it pass.

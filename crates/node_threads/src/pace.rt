@@ -26,7 +26,7 @@ const LOOKS: u32 = 260;
 
 const CROWDED_LOOKS: u32 = 4000;
 
-/// How many sleeps in a row, in which all nodes slept, before a worker gives up.
+/// How many sleeps in a row, in which no node worked, before a worker gives up.
 const SLEEPS: u32 = 30;
 
 /// After how many stretches a worker lets other threads run, and looks at its links though it heard
@@ -53,7 +53,7 @@ pub struct Pace {
     stretches: u32,
     /// How many looks in a row found nothing.
     looks: u32,
-    /// How many sleeps in a row had all nodes asleep.
+    /// In how many sleeps in a row no node worked.
     sleeps: u32,
 }
 
@@ -161,7 +161,7 @@ impl Pace {
         }
     }
 
-    /// Whether all nodes have slept for long.
+    /// Whether no node has worked for long.
     pub fn is_over(&self) -> bool {
         self.sleeps >= SLEEPS
     }

@@ -30,8 +30,8 @@ use std::thread::Threads;
 /// How many wires a link has room for.
 const CAPACITY: usize = 64;
 
-/// Runs each node of a core in a thread of its own, and then finishes what they left. A node that is
-/// alone runs in the caller's thread, and its events pass no gate.
+/// Runs each node of a core in a thread of its own, and then finishes what they left. A node that
+/// is alone runs in the caller's thread, and its events pass no gate.
 pub fn race<'a, R: Threads + Wait + Sync, G: Gate + Sync>(
     rt: &R,
     alloc: Global,
@@ -189,6 +189,7 @@ fn run_all<'a, R: Threads + Wait + Sync, G: Gate + Sync>(
             requires { IsReady worker }
             ensures { IfOk result (λ w. Works worker.entry w) }
         {
+            bells.enter();
             let worked = worker.work(rt, gate, bells);
             bells.leave();
             worked

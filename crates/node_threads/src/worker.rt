@@ -1,6 +1,7 @@
 //! One worker: a node, the ends of its links, and the wires that wait for room.
 
-ghost use Rattle.std.specs.Prelude.{◌≡◌, ◌<◌, ◌++◌, ◌^◌, ℕ, List, None, Ok, true, false, OnOk, IfOk, length};
+ghost use Rattle.std.specs.Prelude.{◌≡◌, ◌<◌, ◌++◌, ◌^◌, ℕ, List, None, Ok, true, false, OnOk};
+ghost use Rattle.std.specs.Prelude.{IfOk, length};
 ghost use Rattle.home_directory.specs.declared.messages.Wire.{Wire};
 ghost use Rattle.node_model.specs.declared.Standing.TheVariants.{AtPoll};
 ghost use Rattle.node_model.specs.Core.{may_execute, may_take, wires_to};
