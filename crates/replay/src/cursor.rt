@@ -39,7 +39,9 @@ impl<'a> Cursors<'a> {
     ghost use Rattle.std.specs.Prelude.{◌≡◌, ◌≢◌, ◌≤◌, ◌<◌, ◌+◌, ℕ, MatchOption, [], length};
     ghost use Rattle.run_record.specs.Record.{IsRecord};
     ghost use Rattle.replay.specs.Told.{told_in, entries_of};
-    ghost use Rattle.replay.specs.Way.{AreLawful, IsNext, IsFirst, IsLeast, ComesBefore, ComesFirst, HasFollowed, IsEntryOf, cursor_at, entries_at, left_at, last_at};
+    ghost use Rattle.replay.specs.Way.{AreLawful, IsNext, IsFirst, IsLeast, ComesBefore};
+    ghost use Rattle.replay.specs.Way.{ComesFirst, HasFollowed, IsEntryOf, cursor_at, entries_at};
+    ghost use Rattle.replay.specs.Way.{left_at, last_at};
 
     /// All journals at their start.
     pub(crate) fn new(rec: &'a Record) -> Cursors<'a>

@@ -15,14 +15,17 @@ pub(crate) struct Run<'a> {
 }
 
 impl<'a> Run<'a> {
-    ghost use Rattle.std.specs.Prelude.{◌≡◌, ◌≤◌, ◌<◌, ◌+◌, ◌↔◌, ℕ, true, length, IfOk, OnOk, IsErrOf};
+    ghost use Rattle.std.specs.Prelude.{◌≡◌, ◌≤◌, ◌<◌, ◌+◌, ◌↔◌, ℕ, true, length, IfOk, OnOk};
+    ghost use Rattle.std.specs.Prelude.{IsErrOf};
     ghost use Rattle.node_model.specs.Core.{Exec, May};
     ghost use Rattle.rewriting_law.specs.Bounds.{RunsRewritten};
     ghost use Rattle.dsm_core.specs.CoreParts.{work_in, work_of, core_of, outcome_of};
     ghost use Rattle.run_record.specs.Record.{IsRecord};
     ghost use Rattle.replay.specs.Refusals.{IsFirstBroken, IsUnfinished};
     ghost use Rattle.replay.specs.Replay.{IsReplay};
-    ghost use Rattle.replay.specs.Way.{IsRunning, AreThrough, IsSame, IsEntryOf, IsFirst, ComesFirst, HasFollowed, cursor_at, last_at, entries_at, all_left};
+    ghost use Rattle.replay.specs.Way.{IsRunning, AreThrough, IsSame, IsEntryOf, IsFirst};
+    ghost use Rattle.replay.specs.Way.{ComesFirst, HasFollowed, cursor_at, last_at, entries_at};
+    ghost use Rattle.replay.specs.Way.{all_left};
     ghost use Rattle.replay.specs.declared.refused.ReplayRule.{ReplayRule as Rules};
     ghost use Rattle.replay.specs.declared.refused.ReplayRule.TheVariants.{NotThere};
     ghost use Rattle.replay.specs.declared.refused.ReplayRefused.TheVariants.{Broken};

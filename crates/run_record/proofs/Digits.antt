@@ -14,7 +14,7 @@ use Rattle.std.proofs.lemmas.List.{append_cancel_left, take_at, drop_at, take-ap
 use Rattle.std.proofs.lemmas.List.Quantifiers.{position-Some}
 use Rattle.rv32_text.specs.Listing.{word_digits}
 use Rattle.block_layout.specs.declared.layout.BlockRange.{BlockRange}
-use Rattle.node_model.specs.declared.Entry.{Entry}
+use Rattle.run_record.specs.declared.line.TakeLine.{TakeLine}
 use Rattle.run_record.specs.Reading.{IsNumberThen, IsPlaceThen}
 use Rattle.run_record.specs.Rules.{HasNumber, HasRange, HasTake}
 use Rattle.run_record.specs.Text.{number_line, home_end}
@@ -190,26 +190,26 @@ size_of line behind r h e = record {
 }
 
 -- what a take's line says, part by part
-pub stamp_of : (line : List ℕ) (e : Entry) → HasTake line e
-    → IsNumberThen line (codes "take ") e.stamp (codes " " ++ (decimal e.from
-    ++ number_line (codes " ") e.words))
-stamp_of line e h = record {
-  behind = decimal e.from ++ number_line (codes " ") e.words;
+pub stamp_of : (line : List ℕ) (t : TakeLine) → HasTake line t
+    → IsNumberThen line (codes "take ") t.stamp_or_gap (codes " " ++ (decimal t.from
+    ++ number_line (codes " ") t.words))
+stamp_of line t h = record {
+  behind = decimal t.from ++ number_line (codes " ") t.words;
   text_is = h.line_is;
   rest_is = refl;
-  low = h.stamp;
+  low = h.stamp_or_gap;
 }
 
-pub from_of : (line behind : List ℕ) (e : Entry) → HasTake line e
-    → behind ≡ codes " " ++ (decimal e.from ++ number_line (codes " ") e.words)
-    → IsNumberThen behind (codes " ") e.from (number_line (codes " ") e.words)
-from_of line behind e h is = record {
-  behind = decimal e.words ++ codes "\n";
+pub from_of : (line behind : List ℕ) (t : TakeLine) → HasTake line t
+    → behind ≡ codes " " ++ (decimal t.from ++ number_line (codes " ") t.words)
+    → IsNumberThen behind (codes " ") t.from (number_line (codes " ") t.words)
+from_of line behind t h is = record {
+  behind = decimal t.words ++ codes "\n";
   text_is = is;
   rest_is = refl;
   low = h.from;
 }
 
-pub words_of : (line behind : List ℕ) (e : Entry) → HasTake line e
-    → behind ≡ number_line (codes " ") e.words → HasNumber behind (codes " ") e.words
-words_of line behind e h is = record { line_is = is; low = h.words }
+pub words_of : (line behind : List ℕ) (t : TakeLine) → HasTake line t
+    → behind ≡ number_line (codes " ") t.words → HasNumber behind (codes " ") t.words
+words_of line behind t h is = record { line_is = is; low = h.words }

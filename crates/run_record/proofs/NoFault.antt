@@ -13,14 +13,17 @@ use Rattle.run_limits.specs.Ranges.{IsNodeCount, IsBudget}
 use Rattle.run_record.specs.declared.Record.{Record}
 use Rattle.run_record.specs.declared.refused.RecordRule.{RecordRule}
 use Rattle.run_record.specs.declared.refused.RecordRule.TheVariants as rules
-use Rattle.run_record.specs.Record.{IsRecord, IsBlockLine, IsTakeBehind, AreTakesBehind}
-use Rattle.run_record.specs.Rules.{Awaits, Version, Nodes, Budget, Batch, Range, Node, Take, Nothing, Breaks, Leads, HasNumber, HasTake, IsBroken, IsFirstBroken, IsFirstFault, node_awaited, number_of, text_lines}
+use Rattle.run_record.specs.declared.line.TakeLine.{TakeLine}
+use Rattle.run_record.specs.declared.version.Version.{Version as Versions}
+use Rattle.run_record.specs.declared.version.Version.TheVariants.{First, Second}
+use Rattle.run_record.specs.Record.{IsRecord, IsBlockLine, IsTakeBehind, AreTakesBehind, IsCodeLength}
+use Rattle.run_record.specs.Rules.{Awaits, Version, Nodes, Budget, Batch, Code, Range, Node, Take, Nothing, Breaks, Leads, HasNumber, HasTake, HasBadStamp, IsBroken, IsFirstBroken, IsFirstFault, awaited_behind_batch, entry_of, node_awaited, number_of, number_of_version, stamp_of, text_lines}
 use Rattle.run_record.specs.Telling.{HasWords, IsOfWords}
-use Rattle.run_record.specs.Text.{number_line, batch_line, home_end, block_line, block_lines, take_line, take_lines, journal_lines, record_text}
+use Rattle.run_record.specs.Text.{number_line, version_of, version_line, batch_line, code_line, home_end, block_line, block_lines, take_line, told_of, take_lines, journal_lines, record_text}
 use Rattle.run_record.proofs.Fields.{Without, decimal_without, number_told}
 use Rattle.run_record.proofs.Growing.{awaited_here, awaited_end}
 use Rattle.run_record.proofs.LineFeeds.{line_then}
-use Rattle.run_record.proofs.Told.{line_told, first_of, rest_of, whole}
+use Rattle.run_record.proofs.Told.{AreLow, line_told, told_low, take_line_told, same_entry, first_of, rest_of, whole}
 
 plain : (xs : List ℕ) → list_all (λ c. not (eqb c 10)) xs ≡ true → Without 10 xs
 plain [] h = tt
@@ -94,14 +97,13 @@ block_is_line r h =
     (behind_is_line (decimal r.block) _ (digits_plain r.block (omega (arith, h.size)))
     (home_is_line r.home h.home))))))
 
-take_is_line : (e : Entry) → e.stamp < 2 ^ 63 → e.from < 2 ^ 63 → e.words < 2 ^ 63
-    → IsLine (take_line e)
-take_is_line e p q r =
+take_is_line : (t : TakeLine) → AreLow t → IsLine (take_line t)
+take_is_line t p =
     behind_is_line (codes "take ") _ (plain (codes "take ") refl)
-    (behind_is_line (decimal e.stamp) _ (digits_plain e.stamp (omega arith))
+    (behind_is_line (decimal t.stamp_or_gap) _ (digits_plain t.stamp_or_gap (omega (arith, p.stamp_or_gap)))
     (behind_is_line (codes " ") _ (plain (codes " ") refl)
-    (behind_is_line (decimal e.from) _ (digits_plain e.from (omega arith))
-    (number_is_line (codes " ") e.words (plain (codes " ") refl) (omega arith)))))
+    (behind_is_line (decimal t.from) _ (digits_plain t.from (omega (arith, p.from)))
+    (number_is_line (codes " ") t.words (plain (codes " ") refl) (omega (arith, p.words))))))
 
 -- the line breaks no rule, and only this is awaited behind it
 record Goes (s : Awaits) (line : List ℕ) (t : Awaits) : Type 0 where
@@ -126,67 +128,111 @@ number_same : (word : List ℕ) (m n : ℕ) → m < 2 ^ 64 → n < 2 ^ 64
     → number_line word m ≡ number_line word n → m ≡ n
 number_same word m n p q e = (line_told word m n [] [] p q (ap (λ t. t ++ []) e)).0
 
-version_goes : Goes Version (number_line (codes "shasta-record ") 1) Nodes
-version_goes = record { sound = sound; only = λ u l. l.1 }
+pub version_numbered : (v : Versions)
+    → number_line (codes "shasta-record ") (number_of_version v) ≡ version_line v
+unfolding digits
+version_numbered First = refl
+version_numbered Second = refl
+
+pub low_version : (v : Versions) → number_of_version v < 2 ^ 63
+low_version First = omega arith
+low_version Second = omega arith
+
+same_version : (v w : Versions) → number_of_version v ≡ number_of_version w → v ≡ w
+same_version First First e = refl
+same_version First Second e = absurd (omega (arith, e))
+same_version Second First e = absurd (omega (arith, e))
+same_version Second Second e = refl
+
+version_goes : (v : Versions)
+    → Goes Version (number_line (codes "shasta-record ") (number_of_version v)) (Nodes v)
+version_goes v = record { sound = sound; only = only }
   where
-    sound : (rule : RecordRule) → Breaks Version (number_line (codes "shasta-record ") 1) rule → ⊥
-    sound rules.Syntax b = b (1, record { line_is = refl; low = omega arith })
+    same : (n : ℕ) → HasNumber (number_line (codes "shasta-record ") (number_of_version v)) (codes "shasta-record ") n
+        → n ≡ number_of_version v
+    same n h = sym (number_same (codes "shasta-record ") (number_of_version v) n (omega (arith, low_version v)) (omega (arith, h.low)) h.line_is)
+
+    sound : (rule : RecordRule)
+        → Breaks Version (number_line (codes "shasta-record ") (number_of_version v)) rule → ⊥
+    sound rules.Syntax b = b (number_of_version v, record { line_is = refl; low = low_version v })
     sound rules.Stamps b = b
     sound rules.Node b = b
-    sound rules.Version b = b.2 (sym (number_same (codes "shasta-record ") 1 b.0 (omega arith) (omega (arith, b.1.low)) b.1.line_is))
+    sound rules.Version b = b.2 v (same b.0 b.1)
+    sound rules.Code b = b
 
-nodes_goes : (n : ℕ) → IsNodeCount n → Goes Nodes (number_line (codes "nodes ") n) (Budget n)
-nodes_goes n h = record { sound = sound; only = only }
+    only : (u : Awaits)
+        → Leads Version (number_line (codes "shasta-record ") (number_of_version v)) u → u ≡ Nodes v
+    only u l = l.2 ∙ ap Nodes (same_version l.0 v (same (number_of_version l.0) l.1))
+
+nodes_goes : (v : Versions) (n : ℕ) → IsNodeCount n
+    → Goes (Nodes v) (number_line (codes "nodes ") n) (Budget v n)
+nodes_goes v n h = record { sound = sound; only = only }
   where
-    sound : (rule : RecordRule) → Breaks Nodes (number_line (codes "nodes ") n) rule → ⊥
+    sound : (rule : RecordRule) → Breaks (Nodes v) (number_line (codes "nodes ") n) rule → ⊥
     sound rules.Syntax b = b (n, record { line_is = refl; low = omega (arith, h) })
     sound rules.Stamps b = b
     sound rules.Node b =
         let same : n ≡ b.0 = number_same (codes "nodes ") n b.0 (omega (arith, h)) (omega (arith, b.1.low)) b.1.line_is in
         b.2 (subst IsNodeCount same h)
     sound rules.Version b = b
+    sound rules.Code b = b
 
-    only : (u : Awaits) → Leads Nodes (number_line (codes "nodes ") n) u → u ≡ Budget n
+    only : (u : Awaits) → Leads (Nodes v) (number_line (codes "nodes ") n) u → u ≡ Budget v n
     only u l =
         let same : n ≡ l.0 = number_same (codes "nodes ") n l.0 (omega (arith, h)) (omega (arith, l.1.low)) l.1.line_is in
-        l.3 ∙ ap Budget (sym same)
+        l.3 ∙ ap (Budget v) (sym same)
 
-budget_goes : (nodes n : ℕ) → IsBudget n
-    → Goes (Budget nodes) (number_line (codes "budget ") n) (Batch nodes)
-budget_goes nodes n h = record { sound = sound; only = λ u l. l.3 }
+budget_goes : (v : Versions) (nodes n : ℕ) → IsBudget n
+    → Goes (Budget v nodes) (number_line (codes "budget ") n) (Batch v nodes)
+budget_goes v nodes n h = record { sound = sound; only = λ u l. l.3 }
   where
-    sound : (rule : RecordRule) → Breaks (Budget nodes) (number_line (codes "budget ") n) rule → ⊥
+    sound : (rule : RecordRule) → Breaks (Budget v nodes) (number_line (codes "budget ") n) rule → ⊥
     sound rules.Syntax b = b (n, refl, h)
     sound rules.Stamps b = b
     sound rules.Node b = b
     sound rules.Version b = b
+    sound rules.Code b = b
 
-batch_goes : (nodes : ℕ) (a : Bool) → Goes (Batch nodes) (batch_line a) (Range nodes)
-batch_goes nodes a = record { sound = sound; only = λ u l. l.2 }
+batch_goes : (v : Versions) (nodes : ℕ) (a : Bool)
+    → Goes (Batch v nodes) (batch_line a) (awaited_behind_batch v nodes)
+batch_goes v nodes a = record { sound = sound; only = λ u l. l.2 }
   where
-    sound : (rule : RecordRule) → Breaks (Batch nodes) (batch_line a) rule → ⊥
+    sound : (rule : RecordRule) → Breaks (Batch v nodes) (batch_line a) rule → ⊥
     sound rules.Syntax b = b (a, refl)
     sound rules.Stamps b = b
     sound rules.Node b = b
     sound rules.Version b = b
+    sound rules.Code b = b
+
+code_goes : (nodes n : ℕ) → IsCodeLength n
+    → Goes (Code nodes) (number_line (codes "code ") n) (Range Second nodes)
+code_goes nodes n h = record { sound = sound; only = λ u l. l.3 }
+  where
+    sound : (rule : RecordRule) → Breaks (Code nodes) (number_line (codes "code ") n) rule → ⊥
+    sound rules.Syntax b = b (n, refl, h)
+    sound rules.Stamps b = b
+    sound rules.Node b = b
+    sound rules.Version b = b
+    sound rules.Code b = b
 
 not_block : (r : BlockRange) (n : ℕ) → block_line r ≡ number_line (codes "node ") n → ⊥
 not_block r n e = let same : ◌≡◌ {A = ℕ} 98 110 = cc in absurd (omega (arith, same))
 
-not_take : (e : Entry) → take_line e ≡ codes "end\n" → ⊥
-not_take e is = let same : ◌≡◌ {A = ℕ} 116 101 = cc in absurd (omega (arith, same))
+not_take : (t : TakeLine) → take_line t ≡ codes "end\n" → ⊥
+not_take t is = let same : ◌≡◌ {A = ℕ} 116 101 = cc in absurd (omega (arith, same))
 
-range_goes : (nodes : ℕ) (r : BlockRange) → IsBlockLine r → HasWords r
-    → Goes (Range nodes) (block_line r) (Range nodes)
-range_goes nodes r p h = record { sound = sound; only = only }
+range_goes : (v : Versions) (nodes : ℕ) (r : BlockRange) → IsBlockLine r → HasWords r
+    → Goes (Range v nodes) (block_line r) (Range v nodes)
+range_goes v nodes r p h = record { sound = sound; only = only }
   where
-    sound : (rule : RecordRule) → Breaks (Range nodes) (block_line r) rule → ⊥
+    sound : (rule : RecordRule) → Breaks (Range v nodes) (block_line r) rule → ⊥
     sound rules.Syntax b = b (inl (r, record { line_is = refl; digits = p; words = h }))
     sound rules.Stamps b = b
     sound rules.Node b = not_block r b.0 b.1.line_is
     sound rules.Version b = b
+    sound rules.Code b = b
 
-    only : (u : Awaits) → Leads (Range nodes) (block_line r) u → u ≡ Range nodes
+    only : (u : Awaits) → Leads (Range v nodes) (block_line r) u → u ≡ Range v nodes
     only u (inl l) = l.2
     only u (inr l) = absurd (not_block r 0 l.0.line_is)
 
@@ -195,87 +241,97 @@ other_node : (node : ℕ) → node < 2 ^ 64 → (m : ℕ)
 other_node node low m h =
     sym (number_same (codes "node ") node m low (omega (arith, h.low)) h.line_is)
 
-first_goes : (nodes : ℕ) → Goes (Range nodes) (number_line (codes "node ") 0) (Take nodes 0 0)
-first_goes nodes = record { sound = sound; only = only }
+first_goes : (v : Versions) (nodes : ℕ) → Goes (Range v nodes) (number_line (codes "node ") 0) (Take v nodes 0 0)
+first_goes v nodes = record { sound = sound; only = only }
   where
-    sound : (rule : RecordRule) → Breaks (Range nodes) (number_line (codes "node ") 0) rule → ⊥
+    sound : (rule : RecordRule) → Breaks (Range v nodes) (number_line (codes "node ") 0) rule → ⊥
     sound rules.Syntax b = b (inr (0, record { line_is = refl; low = omega arith }))
     sound rules.Stamps b = b
     sound rules.Node b = b.2 (other_node 0 (omega arith) b.0 b.1)
     sound rules.Version b = b
+    sound rules.Code b = b
 
-    only : (u : Awaits) → Leads (Range nodes) (number_line (codes "node ") 0) u → u ≡ Take nodes 0 0
+    only : (u : Awaits) → Leads (Range v nodes) (number_line (codes "node ") 0) u → u ≡ Take v nodes 0 0
     only u (inl l) = absurd (not_block l.0 0 (sym l.1.line_is))
     only u (inr l) = l.1
 
-node_goes : (nodes node : ℕ) → node < 2 ^ 63
-    → Goes (Node nodes node) (number_line (codes "node ") node) (Take nodes node 0)
-node_goes nodes node low = record { sound = sound; only = λ u l. l.1 }
+node_goes : (v : Versions) (nodes node : ℕ) → node < 2 ^ 63
+    → Goes (Node v nodes node) (number_line (codes "node ") node) (Take v nodes node 0)
+node_goes v nodes node low = record { sound = sound; only = λ u l. l.1 }
   where
-    sound : (rule : RecordRule) → Breaks (Node nodes node) (number_line (codes "node ") node) rule → ⊥
+    sound : (rule : RecordRule) → Breaks (Node v nodes node) (number_line (codes "node ") node) rule → ⊥
     sound rules.Syntax b = b (node, record { line_is = refl; low = low })
     sound rules.Stamps b = b
     sound rules.Node b = b.2 (other_node node (omega arith) b.0 b.1)
     sound rules.Version b = b
+    sound rules.Code b = b
 
-record SameTake (t u : Entry) : Type 0 where
-  pub stamp : t.stamp ≡ u.stamp
-  pub from : t.from ≡ u.from
-  pub words : t.words ≡ u.words
+not_bad : (v : Versions) (nodes last : ℕ) (t : TakeLine)
+    → IsTakeBehind nodes last (entry_of v last t) → HasBadStamp v last t → ⊥
+not_bad First nodes last t p b = omega (arith, p.stamp, b)
+not_bad Second nodes last t p b = omega (arith, p.low, b)
 
-take_same : (t u : Entry) → t.stamp < 2 ^ 63 → t.from < 2 ^ 63 → t.words < 2 ^ 63
-    → u.stamp < 2 ^ 63 → u.from < 2 ^ 63 → u.words < 2 ^ 63 → take_line t ≡ take_line u
-    → SameTake t u
-take_same t u a b c d e f is =
-    let x = append_cancel_left (codes "take ")
-    (decimal t.stamp ++ 32 ∷ (decimal t.from ++ 32 ∷ (decimal t.words ++ 10 ∷ [])))
-    (decimal u.stamp ++ 32 ∷ (decimal u.from ++ 32 ∷ (decimal u.words ++ 10 ∷ []))) is in
-    let stamp = number_told 32 t.stamp u.stamp _ _ (omega arith) (omega arith) (omega arith) x in
-    let from = number_told 32 t.from u.from _ _ (omega arith) (omega arith) (omega arith) stamp.1 in
-    let words = number_told 10 t.words u.words [] [] (omega arith) (omega arith) (omega arith) from.1 in
-    record { stamp = stamp.0; from = from.0; words = words.0 }
-
-take_goes : (nodes node last : ℕ) (e : Entry) → e.from < 2 ^ 63 → IsTakeBehind nodes last e
-    → Goes (Take nodes node last) (take_line e) (Take nodes node e.stamp)
-take_goes nodes node last e from p = record { sound = sound; only = only }
+take_goes : (v : Versions) (nodes node last : ℕ) (t : TakeLine) → AreLow t
+    → IsTakeBehind nodes last (entry_of v last t)
+    → Goes (Take v nodes node last) (take_line t) (Take v nodes node (stamp_of v last t))
+take_goes v nodes node last t low p = record { sound = sound; only = only }
   where
-    same : (t : Entry) → HasTake (take_line e) t → SameTake e t
-    same t h = take_same e t p.low from p.few_words h.stamp h.from h.words h.line_is
+    same : (u : TakeLine) → HasTake (take_line t) u → u ≡ t
+    same u h =
+        let numbers : AreLow u = record { stamp_or_gap = h.stamp_or_gap; from = h.from; words = h.words } in
+        sym (take_line_told t u [] [] low numbers (ap (λ l. l ++ []) h.line_is)).0
 
-    sound : (rule : RecordRule) → Breaks (Take nodes node last) (take_line e) rule → ⊥
+    sound : (rule : RecordRule) → Breaks (Take v nodes node last) (take_line t) rule → ⊥
     sound rules.Syntax b = b (inl (
-      e,
+      t,
       record {
         line_is = refl;
-        stamp = p.low;
-        from = from;
-        words = p.few_words;
+        stamp_or_gap = low.stamp_or_gap;
+        from = low.from;
+        words = low.words;
       },
     ))
     sound rules.Stamps b =
-        let s = same b.0 b.1 in omega (arith, s.stamp, s.words, p.stamp, b.2)
+        not_bad v nodes last t p (subst (HasBadStamp v last) (same b.0 b.1) b.2)
     sound rules.Node b =
-        let s = same b.0 b.1 in omega (arith, s.from, p.from, b.2)
+        let from = ap (λ x. x.from) (same b.0 b.1) in omega (arith, from, p.from, b.2)
     sound rules.Version b = b
+    sound rules.Code b = b
 
-    only : (u : Awaits) → Leads (Take nodes node last) (take_line e) u → u ≡ Take nodes node e.stamp
-    only u (inl l) =
-        let s = same l.0 l.1 in
-        l.3 ∙ ap (Take nodes node) (sym s.stamp)
-    only u (inr l) = absurd (not_take e l.0)
+    only : (u : Awaits) → Leads (Take v nodes node last) (take_line t) u
+        → u ≡ Take v nodes node (stamp_of v last t)
+    only u (inl l) = l.3 ∙ ap (λ x. Take v nodes node (stamp_of v last x)) (same l.0 l.1)
+    only u (inr l) = absurd (not_take t l.0)
 
-end_goes : (nodes node last : ℕ)
-    → Goes (Take nodes node last) (codes "end\n") (node_awaited nodes (node + 1))
-end_goes nodes node last = record { sound = sound; only = only }
+-- what a line tells behind a stamp is the take that it was written for
+entry_again : (v : Versions) (nodes last : ℕ) (e : Entry) → IsTakeBehind nodes last e
+    → entry_of v last (told_of v last e) ≡ e
+entry_again First nodes last e p = same_entry _ e refl refl refl
+entry_again Second nodes last e p = same_entry _ e (omega (arith, p.stamp)) refl refl
+
+entry_goes : (v : Versions) (nodes node last : ℕ) (e : Entry) → nodes ≤ 16
+    → IsTakeBehind nodes last e
+    → Goes (Take v nodes node last) (take_line (told_of v last e)) (Take v nodes node e.stamp)
+entry_goes v nodes node last e few p =
+    let again = entry_again v nodes last e p in
+    subst (λ n. Goes (Take v nodes node last) (take_line (told_of v last e)) (Take v nodes node n))
+    (ap (λ x. x.stamp) again)
+    (take_goes v nodes node last (told_of v last e) (told_low v nodes last e few p)
+    (subst (IsTakeBehind nodes last) (sym again) p))
+
+end_goes : (v : Versions) (nodes node last : ℕ)
+    → Goes (Take v nodes node last) (codes "end\n") (node_awaited v nodes (node + 1))
+end_goes v nodes node last = record { sound = sound; only = only }
   where
-    sound : (rule : RecordRule) → Breaks (Take nodes node last) (codes "end\n") rule → ⊥
+    sound : (rule : RecordRule) → Breaks (Take v nodes node last) (codes "end\n") rule → ⊥
     sound rules.Syntax b = b (inr refl)
     sound rules.Stamps b = not_take b.0 (sym b.1.line_is)
     sound rules.Node b = not_take b.0 (sym b.1.line_is)
     sound rules.Version b = b
+    sound rules.Code b = b
 
-    only : (u : Awaits) → Leads (Take nodes node last) (codes "end\n") u
-        → u ≡ node_awaited nodes (node + 1)
+    only : (u : Awaits) → Leads (Take v nodes node last) (codes "end\n") u
+        → u ≡ node_awaited v nodes (node + 1)
     only u (inl l) = absurd (not_take l.0 (sym l.1.line_is))
     only u (inr l) = l.1
 
@@ -285,22 +341,25 @@ moved s line x t u is same g =
     subst (λ l. Goes s l u) (sym is) (subst (Goes s x) (sym same) g)
 
 leads_goes : (s u : Awaits) (line : List ℕ) → Leads s line u → Goes s line u
-leads_goes Version u line l = moved Version line _ _ u l.0.line_is l.1 version_goes
-leads_goes Nodes u line l = moved Nodes line _ _ u l.1.line_is l.3 (nodes_goes l.0 l.2)
-leads_goes (Budget nodes) u line l =
-    moved (Budget nodes) line _ _ u l.1 l.3 (budget_goes nodes l.0 l.2)
-leads_goes (Batch nodes) u line l = moved (Batch nodes) line _ _ u l.1 l.2 (batch_goes nodes l.0)
-leads_goes (Range nodes) u line (inl l) =
-    moved (Range nodes) line _ _ u l.1.line_is l.2 (range_goes nodes l.0 l.1.digits l.1.words)
-leads_goes (Range nodes) u line (inr l) =
-    moved (Range nodes) line _ _ u l.0.line_is l.1 (first_goes nodes)
-leads_goes (Node nodes node) u line l =
-    moved (Node nodes node) line _ _ u l.0.line_is l.1 (node_goes nodes node l.0.low)
-leads_goes (Take nodes node last) u line (inl l) =
-    moved (Take nodes node last) line _ _ u l.1.line_is l.3
-    (take_goes nodes node last l.0 l.1.from l.2)
-leads_goes (Take nodes node last) u line (inr l) =
-    moved (Take nodes node last) line _ _ u l.0 l.1 (end_goes nodes node last)
+leads_goes Version u line l = moved Version line _ _ u l.1.line_is l.2 (version_goes l.0)
+leads_goes (Nodes v) u line l = moved (Nodes v) line _ _ u l.1.line_is l.3 (nodes_goes v l.0 l.2)
+leads_goes (Budget v nodes) u line l =
+    moved (Budget v nodes) line _ _ u l.1 l.3 (budget_goes v nodes l.0 l.2)
+leads_goes (Batch v nodes) u line l =
+    moved (Batch v nodes) line _ _ u l.1 l.2 (batch_goes v nodes l.0)
+leads_goes (Code nodes) u line l = moved (Code nodes) line _ _ u l.1 l.3 (code_goes nodes l.0 l.2)
+leads_goes (Range v nodes) u line (inl l) =
+    moved (Range v nodes) line _ _ u l.1.line_is l.2 (range_goes v nodes l.0 l.1.digits l.1.words)
+leads_goes (Range v nodes) u line (inr l) =
+    moved (Range v nodes) line _ _ u l.0.line_is l.1 (first_goes v nodes)
+leads_goes (Node v nodes node) u line l =
+    moved (Node v nodes node) line _ _ u l.0.line_is l.1 (node_goes v nodes node l.0.low)
+leads_goes (Take v nodes node last) u line (inl l) =
+    let low : AreLow l.0 = record { stamp_or_gap = l.1.stamp_or_gap; from = l.1.from; words = l.1.words } in
+    moved (Take v nodes node last) line _ _ u l.1.line_is l.3
+    (take_goes v nodes node last l.0 low l.2)
+leads_goes (Take v nodes node last) u line (inr l) =
+    moved (Take v nodes node last) line _ _ u l.0 l.1 (end_goes v nodes node last)
 leads_goes Nothing u line l = absurd l
 
 number_tells : (a b : RecordRule) → number_of a ≡ number_of b → a ≡ b
@@ -308,18 +367,27 @@ number_tells rules.Syntax rules.Syntax e = refl
 number_tells rules.Syntax rules.Stamps e = absurd (omega (arith, e))
 number_tells rules.Syntax rules.Node e = absurd (omega (arith, e))
 number_tells rules.Syntax rules.Version e = absurd (omega (arith, e))
+number_tells rules.Syntax rules.Code e = absurd (omega (arith, e))
 number_tells rules.Stamps rules.Syntax e = absurd (omega (arith, e))
 number_tells rules.Stamps rules.Stamps e = refl
 number_tells rules.Stamps rules.Node e = absurd (omega (arith, e))
 number_tells rules.Stamps rules.Version e = absurd (omega (arith, e))
+number_tells rules.Stamps rules.Code e = absurd (omega (arith, e))
 number_tells rules.Node rules.Syntax e = absurd (omega (arith, e))
 number_tells rules.Node rules.Stamps e = absurd (omega (arith, e))
 number_tells rules.Node rules.Node e = refl
 number_tells rules.Node rules.Version e = absurd (omega (arith, e))
+number_tells rules.Node rules.Code e = absurd (omega (arith, e))
 number_tells rules.Version rules.Syntax e = absurd (omega (arith, e))
 number_tells rules.Version rules.Stamps e = absurd (omega (arith, e))
 number_tells rules.Version rules.Node e = absurd (omega (arith, e))
 number_tells rules.Version rules.Version e = refl
+number_tells rules.Version rules.Code e = absurd (omega (arith, e))
+number_tells rules.Code rules.Syntax e = absurd (omega (arith, e))
+number_tells rules.Code rules.Stamps e = absurd (omega (arith, e))
+number_tells rules.Code rules.Node e = absurd (omega (arith, e))
+number_tells rules.Code rules.Version e = absurd (omega (arith, e))
+number_tells rules.Code rules.Code e = refl
 
 same_rule : (s : Awaits) (line : List ℕ) (a b : RecordRule) → IsBroken s line a
     → IsBroken s line b → a ≡ b
@@ -354,98 +422,115 @@ one_fault text a b m n f g = one_broken Version 1 (text_lines text) a b m n f g
 Later : Awaits → List ℕ → RecordRule → ℕ → Type 0
 Later s text rule n = (k : ℕ) × IsFirstBroken s k (text_lines text) rule n
 
-blocks_go : (nodes k : ℕ) (rs : List BlockRange) (rest : List ℕ) (rule : RecordRule) (n : ℕ)
-    → All IsBlockLine rs → All HasWords rs
-    → IsFirstBroken (Range nodes) k (text_lines (block_lines rs ++ rest)) rule n
-    → Later (Range nodes) rest rule n
+code_go : (nodes k : ℕ) (code : Option ℕ) (rest : List ℕ) (rule : RecordRule) (n : ℕ)
+    → IfSome code IsCodeLength
+    → IsFirstBroken (awaited_behind_batch (version_of code) nodes) k
+    (text_lines (code_line code ++ rest)) rule n → Later (Range (version_of code) nodes) rest rule n
 unfolding Later
-blocks_go nodes k [] rest rule n p h f = (k, f)
-blocks_go nodes k (r ∷ rs) rest rule n p h f =
+code_go nodes k None rest rule n h f = (k, f)
+code_go nodes k (Some words) rest rule n h f = (
+  k + 1,
+  goes_on (Code nodes) (Range Second nodes) (number_line (codes "code ") words) rest k rule n
+      (number_is_line (codes "code ") words (plain (codes "code ") refl) (omega (arith, h.few)))
+      (code_goes nodes words h) f,
+)
+
+blocks_go : (v : Versions) (nodes k : ℕ) (rs : List BlockRange) (rest : List ℕ) (rule : RecordRule) (n : ℕ)
+    → All IsBlockLine rs → All HasWords rs
+    → IsFirstBroken (Range v nodes) k (text_lines (block_lines rs ++ rest)) rule n
+    → Later (Range v nodes) rest rule n
+unfolding Later
+blocks_go v nodes k [] rest rule n p h f = (k, f)
+blocks_go v nodes k (r ∷ rs) rest rule n p h f =
     let one = first_of IsBlockLine r rs p in
-    let P : List ℕ → Type 0 = λ t. IsFirstBroken (Range nodes) k (text_lines t) rule n in
-    blocks_go nodes (k + 1) rs rest rule n (rest_of IsBlockLine r rs p) (rest_of HasWords r rs h)
-    (goes_on (Range nodes) (Range nodes) (block_line r) (block_lines rs ++ rest) k rule n
-    (block_is_line r one) (range_goes nodes r one (first_of HasWords r rs h))
+    let P : List ℕ → Type 0 = λ t. IsFirstBroken (Range v nodes) k (text_lines t) rule n in
+    blocks_go v nodes (k + 1) rs rest rule n (rest_of IsBlockLine r rs p) (rest_of HasWords r rs h)
+    (goes_on (Range v nodes) (Range v nodes) (block_line r) (block_lines rs ++ rest) k rule n
+    (block_is_line r one) (range_goes v nodes r one (first_of HasWords r rs h))
     (subst P (append_assoc (block_line r) (block_lines rs) rest) f))
 
-takes_go : (nodes node last k : ℕ) (es : List Entry) (rest : List ℕ) (rule : RecordRule) (n : ℕ)
-    → nodes ≤ 16 → AreTakesBehind nodes last es
-    → IsFirstBroken (Take nodes node last) k (text_lines (take_lines es ++ (codes "end\n" ++ rest)))
-    rule n → Later (node_awaited nodes (node + 1)) rest rule n
+takes_go : (v : Versions) (nodes node last k : ℕ) (es : List Entry) (rest : List ℕ)
+    (rule : RecordRule) (n : ℕ) → nodes ≤ 16 → AreTakesBehind nodes last es
+    → IsFirstBroken (Take v nodes node last) k
+    (text_lines (take_lines v last es ++ (codes "end\n" ++ rest))) rule n
+    → Later (node_awaited v nodes (node + 1)) rest rule n
 unfolding Later
-takes_go nodes node last k [] rest rule n few p f = (
+takes_go v nodes node last k [] rest rule n few p f = (
   k + 1,
-  goes_on (Take nodes node last) (node_awaited nodes (node + 1)) (codes "end\n") rest k rule n
-      end_is_line (end_goes nodes node last) f,
+  goes_on (Take v nodes node last) (node_awaited v nodes (node + 1)) (codes "end\n") rest k rule n
+      end_is_line (end_goes v nodes node last) f,
 )
-takes_go nodes node last k (e ∷ es) rest rule n few p f =
-    let P : List ℕ → Type 0 = λ t. IsFirstBroken (Take nodes node last) k (text_lines t) rule n in
-    takes_go nodes node e.stamp (k + 1) es rest rule n few p.1
-    (goes_on (Take nodes node last) (Take nodes node e.stamp) (take_line e)
-    (take_lines es ++ (codes "end\n" ++ rest)) k rule n
-    (take_is_line e p.0.low (omega (arith, p.0.from)) p.0.few_words) (take_goes nodes node last e (omega (arith, p.0.from)) p.0)
-    (subst P (append_assoc (take_line e) (take_lines es) (codes "end\n" ++ rest)) f))
+takes_go v nodes node last k (e ∷ es) rest rule n few p f =
+    let P : List ℕ → Type 0 = λ t. IsFirstBroken (Take v nodes node last) k (text_lines t) rule n in
+    takes_go v nodes node e.stamp (k + 1) es rest rule n few p.1
+    (goes_on (Take v nodes node last) (Take v nodes node e.stamp) (take_line (told_of v last e))
+    (take_lines v e.stamp es ++ (codes "end\n" ++ rest)) k rule n
+    (take_is_line (told_of v last e) (told_low v nodes last e few p.0))
+    (entry_goes v nodes node last e few p.0)
+    (subst P (append_assoc (take_line (told_of v last e)) (take_lines v e.stamp es)
+    (codes "end\n" ++ rest)) f))
 
-journals_go : (nodes node k : ℕ) (js : List (List Entry)) (rule : RecordRule) (n : ℕ)
-    → nodes ≤ 16 → node + length js ≡ nodes → All (AreTakesBehind nodes 0) js
-    → IsFirstBroken (node_awaited nodes node) k (text_lines (journal_lines node js)) rule n → ⊥
+journals_go : (v : Versions) (nodes node k : ℕ) (js : List (List Entry)) (rule : RecordRule)
+    (n : ℕ) → nodes ≤ 16 → node + length js ≡ nodes → All (AreTakesBehind nodes 0) js
+    → IsFirstBroken (node_awaited v nodes node) k (text_lines (journal_lines v node js)) rule n → ⊥
 unfolding Later
-journals_go nodes node k [] rule n few all p f =
+journals_go v nodes node k [] rule n few all p f =
     let Q : Awaits → Type 0 = λ s. IsFirstBroken s k [] rule n in
-    (subst Q (awaited_end nodes node (omega (arith, all))) f).0 refl
-journals_go nodes node k (j ∷ js) rule n few all p f =
-    let Q : Awaits → Type 0 = λ s. IsFirstBroken s k (text_lines (journal_lines node (j ∷ js))) rule n in
-    let first = goes_on (Node nodes node) (Take nodes node 0) (number_line (codes "node ") node)
-    (take_lines j ++ (codes "end\n" ++ journal_lines (node + 1) js)) k rule n
+    (subst Q (awaited_end v nodes node (omega (arith, all))) f).0 refl
+journals_go v nodes node k (j ∷ js) rule n few all p f =
+    let Q : Awaits → Type 0 = λ s. IsFirstBroken s k (text_lines (journal_lines v node (j ∷ js))) rule n in
+    let first = goes_on (Node v nodes node) (Take v nodes node 0) (number_line (codes "node ") node)
+    (take_lines v 0 j ++ (codes "end\n" ++ journal_lines v (node + 1) js)) k rule n
     (number_is_line (codes "node ") node (plain (codes "node ") refl) (omega (arith, all, few)))
-    (node_goes nodes node (omega (arith, all, few)))
-    (subst Q (awaited_here nodes node (omega (arith, all))) f) in
-    let takes = takes_go nodes node 0 (k + 1) j (journal_lines (node + 1) js) rule n few
+    (node_goes v nodes node (omega (arith, all, few)))
+    (subst Q (awaited_here v nodes node (omega (arith, all))) f) in
+    let takes = takes_go v nodes node 0 (k + 1) j (journal_lines v (node + 1) js) rule n few
     (first_of (AreTakesBehind nodes 0) j js p) first in
-    journals_go nodes (node + 1) takes.0 js rule n few (omega (arith, all))
+    journals_go v nodes (node + 1) takes.0 js rule n few (omega (arith, all))
     (rest_of (AreTakesBehind nodes 0) j js p) takes.1
 
-first_journal_go : (nodes k : ℕ) (js : List (List Entry)) (rule : RecordRule) (n : ℕ)
-    → nodes ≤ 16 → 0 < nodes → length js ≡ nodes → All (AreTakesBehind nodes 0) js
-    → IsFirstBroken (Range nodes) k (text_lines (journal_lines 0 js)) rule n → ⊥
+first_journal_go : (v : Versions) (nodes k : ℕ) (js : List (List Entry)) (rule : RecordRule)
+    (n : ℕ) → nodes ≤ 16 → 0 < nodes → length js ≡ nodes → All (AreTakesBehind nodes 0) js
+    → IsFirstBroken (Range v nodes) k (text_lines (journal_lines v 0 js)) rule n → ⊥
 unfolding Later
-first_journal_go nodes k [] rule n few some all p f = absurd (omega (arith, all))
-first_journal_go nodes k (j ∷ js) rule n few some all p f =
-    let first = goes_on (Range nodes) (Take nodes 0 0) (number_line (codes "node ") 0)
-    (take_lines j ++ (codes "end\n" ++ journal_lines 1 js)) k rule n
+first_journal_go v nodes k [] rule n few some all p f = absurd (omega (arith, all))
+first_journal_go v nodes k (j ∷ js) rule n few some all p f =
+    let first = goes_on (Range v nodes) (Take v nodes 0 0) (number_line (codes "node ") 0)
+    (take_lines v 0 j ++ (codes "end\n" ++ journal_lines v 1 js)) k rule n
     (number_is_line (codes "node ") 0 (plain (codes "node ") refl) (omega arith))
-    (first_goes nodes) f in
-    let takes = takes_go nodes 0 0 (k + 1) j (journal_lines 1 js) rule n few
+    (first_goes v nodes) f in
+    let takes = takes_go v nodes 0 0 (k + 1) j (journal_lines v 1 js) rule n few
     (first_of (AreTakesBehind nodes 0) j js p) first in
-    journals_go nodes 1 takes.0 js rule n few (omega (arith, all))
+    journals_go v nodes 1 takes.0 js rule n few (omega (arith, all))
     (rest_of (AreTakesBehind nodes 0) j js p) takes.1
-
-version_line : number_line (codes "shasta-record ") 1 ≡ codes "shasta-record 1\n"
-unfolding digits
-version_line = refl
 
 pub no_fault : (r : Record) → IsRecord r → IsOfWords r → (rule : RecordRule) (n : ℕ)
     → IsFirstFault (record_text r) rule n → ⊥
 unfolding Later
 no_fault r p h rule n f =
-    let blocks = block_lines r.blocks ++ journal_lines 0 r.journals in
-    let batch = batch_line r.batch ++ blocks in
+    let v = version_of r.code in
+    let first = number_line (codes "shasta-record ") (number_of_version v) in
+    let blocks = block_lines r.blocks ++ journal_lines v 0 r.journals in
+    let code = code_line r.code ++ blocks in
+    let batch = batch_line r.batch ++ code in
     let budget = number_line (codes "budget ") r.budget ++ batch in
     let nodes = number_line (codes "nodes ") r.nodes ++ budget in
     let P : List ℕ → Type 0 = λ t. IsFirstBroken Version 1 (text_lines t) rule n in
-    let is : record_text r ≡ number_line (codes "shasta-record ") 1 ++ nodes
-    = whole r ∙ ap (λ l. l ++ nodes) (sym version_line) in
-    let a = goes_on Version Nodes (number_line (codes "shasta-record ") 1) nodes 1 rule n
-    (number_is_line (codes "shasta-record ") 1 (plain (codes "shasta-record ") refl) (omega arith))
-    version_goes (subst P is f) in
-    let b = goes_on Nodes (Budget r.nodes) (number_line (codes "nodes ") r.nodes) budget 2 rule n
+    let is : record_text r ≡ first ++ nodes
+    = whole r ∙ ap (λ l. l ++ nodes) (sym (version_numbered v)) in
+    let a = goes_on Version (Nodes v) first nodes 1 rule n
+    (number_is_line (codes "shasta-record ") (number_of_version v)
+    (plain (codes "shasta-record ") refl) (omega (arith, low_version v)))
+    (version_goes v) (subst P is f) in
+    let b = goes_on (Nodes v) (Budget v r.nodes) (number_line (codes "nodes ") r.nodes) budget 2 rule n
     (number_is_line (codes "nodes ") r.nodes (plain (codes "nodes ") refl) (omega (arith, p.nodes)))
-    (nodes_goes r.nodes p.nodes) a in
-    let c = goes_on (Budget r.nodes) (Batch r.nodes) (number_line (codes "budget ") r.budget) batch 3
-    rule n (number_is_line (codes "budget ") r.budget (plain (codes "budget ") refl)
-    (omega (arith, p.budget))) (budget_goes r.nodes r.budget p.budget) b in
-    let d = goes_on (Batch r.nodes) (Range r.nodes) (batch_line r.batch) blocks 4 rule n
-    (batch_is_line r.batch) (batch_goes r.nodes r.batch) c in
-    let e = blocks_go r.nodes 5 r.blocks (journal_lines 0 r.journals) rule n p.blocks h d in
-    first_journal_go r.nodes e.0 r.journals rule n (omega (arith, p.nodes)) (omega (arith, p.nodes))
-    p.each p.journals e.1
+    (nodes_goes v r.nodes p.nodes) a in
+    let c = goes_on (Budget v r.nodes) (Batch v r.nodes) (number_line (codes "budget ") r.budget)
+    batch 3 rule n (number_is_line (codes "budget ") r.budget (plain (codes "budget ") refl)
+    (omega (arith, p.budget))) (budget_goes v r.nodes r.budget p.budget) b in
+    let d = goes_on (Batch v r.nodes) (awaited_behind_batch v r.nodes) (batch_line r.batch) code 4
+    rule n (batch_is_line r.batch) (batch_goes v r.nodes r.batch) c in
+    let e = code_go r.nodes 5 r.code blocks rule n p.code d in
+    let g = blocks_go v r.nodes e.0 r.blocks (journal_lines v 0 r.journals) rule n p.blocks h e.1 in
+    first_journal_go v r.nodes g.0 r.journals rule n (omega (arith, p.nodes))
+    (omega (arith, p.nodes)) p.each p.journals g.1

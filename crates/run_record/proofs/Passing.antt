@@ -3,12 +3,13 @@ use Rattle.std.proofs.Common.{◌≡◌, ℕ, ◌<◌, ◌≤◌, List, [], ◌�
 use Rattle.std.specs.Prelude.{codes, IfErr}
 use Rattle.std.specs.declared.result.Result.{Result}
 use Rattle.run_record.specs.declared.refused.RecordRule.{RecordRule}
-use Rattle.run_record.specs.declared.refused.RecordRule.TheVariants.{Syntax, Stamps, Node, Version}
+use Rattle.run_record.specs.declared.refused.RecordRule.TheVariants.{Syntax, Stamps, Node, Version, Code}
 use Rattle.run_record.specs.declared.refused.RecordRefused.{RecordRefused}
 use Rattle.run_record.specs.declared.refused.RecordRefused.TheVariants.{Broken, OutOfMemory}
 use Rattle.run_record.specs.Reading.{Left, IsNext, IsLack, IsFault, IsRead}
 use Rattle.run_record.specs.Rules.{Awaits, IsInGrammar, Breaks, IsBroken, IsFirstBroken, Leads, number_of, text_lines}
 use Rattle.run_record.specs.Rules as awaits
+use Rattle.run_record.specs.declared.version.Version.{Version as Versions}
 use Rattle.block_layout.specs.declared.layout.BlockRange.{BlockRange}
 use Rattle.run_record.specs.Rules.{IsNodeLine, HasRange}
 use Rattle.run_record.proofs.LineFeeds.{some_line, lines_begin}
@@ -18,6 +19,7 @@ number_low Syntax = omega arith
 number_low Stamps = omega arith
 number_low Node = omega arith
 number_low Version = omega arith
+number_low Code = omega arith
 
 pub syntax_broken : (s : Awaits) (line : List ℕ) → (IsInGrammar s line → ⊥) → IsBroken s line Syntax
 syntax_broken s line none = record {
@@ -82,60 +84,62 @@ read_on s t u a b c x y z is p q = record {
   faults = λ e f. p.faults e (q.faults e f);
 }
 
-range_broken : (nodes : ℕ) (line : List ℕ) (rule : RecordRule)
+range_broken : (v : Versions) (nodes : ℕ) (line : List ℕ) (rule : RecordRule)
     → ((rest : List ℕ) → line ≡ codes "block " ++ rest → ⊥)
-    → IsBroken (awaits.Node nodes 0) line rule → IsBroken (awaits.Range nodes) line rule
-range_broken nodes line Syntax other b =
-    syntax_broken (awaits.Range nodes) line (λ g. no_range g)
+    → IsBroken (awaits.Node v nodes 0) line rule → IsBroken (awaits.Range v nodes) line rule
+range_broken v nodes line Syntax other b =
+    syntax_broken (awaits.Range v nodes) line (λ g. no_range g)
   where
-    no_range : IsInGrammar (awaits.Range nodes) line → ⊥
+    no_range : IsInGrammar (awaits.Range v nodes) line → ⊥
     no_range (inl (r, h)) = other _ h.line_is
     no_range (inr h) = b.breaks h
-range_broken nodes line Node other b = record {
+range_broken v nodes line Node other b = record {
   breaks = b.breaks;
   lowest = λ lower less h. none lower less h;
 }
   where
-    none : (lower : RecordRule) → number_of lower < 42 → Breaks (awaits.Range nodes) line lower → ⊥
+    none : (lower : RecordRule) → number_of lower < 42 → Breaks (awaits.Range v nodes) line lower → ⊥
     none Syntax less h = h (inr (b.breaks.0, b.breaks.1))
     none Stamps less h = h
     none Node less h = absurd (omega arith)
     none Version less h = absurd (omega arith)
-range_broken nodes line Stamps other b = absurd b.breaks
-range_broken nodes line Version other b = absurd b.breaks
+    none Code less h = absurd (omega arith)
+range_broken v nodes line Stamps other b = absurd b.breaks
+range_broken v nodes line Version other b = absurd b.breaks
+range_broken v nodes line Code other b = absurd b.breaks
 
-range_first : (nodes first : ℕ) (lines : List (List ℕ)) (rule : RecordRule) (n : ℕ)
+range_first : (v : Versions) (nodes first : ℕ) (lines : List (List ℕ)) (rule : RecordRule) (n : ℕ)
     → ((line : List ℕ) (more : List (List ℕ)) (rest : List ℕ) → lines ≡ line ∷ more
     → line ≡ codes "block " ++ rest → ⊥)
-    → IsFirstBroken (awaits.Node nodes 0) first lines rule n
-    → IsFirstBroken (awaits.Range nodes) first lines rule n
-range_first nodes first [] rule n other f = ((λ e. absurd (cc)), f.1, f.2)
-range_first nodes first (line ∷ lines) rule n other (inl b) =
-    inl (range_broken nodes line rule (λ rest e. other line lines rest refl e) b.0, b.1)
-range_first nodes first (line ∷ lines) rule n other (inr f) = inr (f.0, inr f.1, f.2)
+    → IsFirstBroken (awaits.Node v nodes 0) first lines rule n
+    → IsFirstBroken (awaits.Range v nodes) first lines rule n
+range_first v nodes first [] rule n other f = ((λ e. absurd (cc)), f.1, f.2)
+range_first v nodes first (line ∷ lines) rule n other (inl b) =
+    inl (range_broken v nodes line rule (λ rest e. other line lines rest refl e) b.0, b.1)
+range_first v nodes first (line ∷ lines) rule n other (inr f) = inr (f.0, inr f.1, f.2)
 
-range_faults : (nodes : ℕ) (left : Left)
+range_faults : (v : Versions) (nodes : ℕ) (left : Left)
     → ((rest : List ℕ) → left.bytes ≡ codes "block " ++ rest → ⊥)
-    → (e : RecordRefused) → IsFault (awaits.Node nodes 0) left e → IsFault (awaits.Range nodes) left e
-range_faults nodes left other OutOfMemory f = tt
-range_faults nodes left other (Broken rule n) f =
-    range_first nodes left.number (text_lines left.bytes) rule n (λ line more rest is e.
+    → (e : RecordRefused) → IsFault (awaits.Node v nodes 0) left e → IsFault (awaits.Range v nodes) left e
+range_faults v nodes left other OutOfMemory f = tt
+range_faults v nodes left other (Broken rule n) f =
+    range_first v nodes left.number (text_lines left.bytes) rule n (λ line more rest is e.
     let t = lines_begin left.bytes line more is in
     other (rest ++ t.0) (t.1 ∙ ap (λ l. l ++ t.0) e)) f
 
 -- where no range stands, the first node is awaited
-pub no_more_ranges : (nodes : ℕ) (left : Left)
+pub no_more_ranges : (v : Versions) (nodes : ℕ) (left : Left)
     → ((rest : List ℕ) → left.bytes ≡ codes "block " ++ rest → ⊥)
-    → IsRead (awaits.Range nodes) left [] (awaits.Node nodes 0) left
-no_more_ranges nodes left other = record {
+    → IsRead (awaits.Range v nodes) left [] (awaits.Node v nodes 0) left
+no_more_ranges v nodes left other = record {
   bytes_are = refl;
-  faults = range_faults nodes left other;
+  faults = range_faults v nodes left other;
 }
 
-pub range_grammar : (nodes : ℕ) (line behind rest : List ℕ) → line ++ behind ≡ codes "block " ++ rest
-    → ((r : BlockRange) → HasRange line r → ⊥) → IsInGrammar (awaits.Range nodes) line → ⊥
-range_grammar nodes line behind rest e none (inl (r, h)) = none r h
-range_grammar nodes line behind rest e none (inr (n, h)) =
+pub range_grammar : (v : Versions) (nodes : ℕ) (line behind rest : List ℕ) → line ++ behind ≡ codes "block " ++ rest
+    → ((r : BlockRange) → HasRange line r → ⊥) → IsInGrammar (awaits.Range v nodes) line → ⊥
+range_grammar v nodes line behind rest e none (inl (r, h)) = none r h
+range_grammar v nodes line behind rest e none (inr (n, h)) =
     let f = ap (λ l. l ++ behind) (sym h.line_is) ∙ e in
     let same : ◌≡◌ {A = ℕ} 110 98 = cc in
     absurd (omega (arith, same))

@@ -10,23 +10,26 @@ use Rattle.run_record.specs.Reading.{IsFault}
 use Rattle.run_record.specs.Record.{IsRecord}
 use Rattle.run_record.specs.Rules.{Version, IsFirstFault}
 use Rattle.run_record.specs.Telling.{IsOfWords}
-use Rattle.run_record.specs.Text.{number_line, batch_line, block_lines, journal_lines, record_text}
+use Rattle.run_record.specs.Text.{number_line, version_of, version_line, batch_line, code_line, block_lines, journal_lines, record_text}
 use Rattle.run_record.proofs.Told.{whole, record_told}
 use Rattle.run_record.proofs.NoFault.{no_fault}
 
-pub whole_text : (r : Record) (text a b c d e f : List ℕ) → text ≡ codes "shasta-record 1\n" ++ a
+pub whole_text : (r : Record) (text a b c d e f g : List ℕ)
+    → text ≡ version_line (version_of r.code) ++ a
     → a ≡ number_line (codes "nodes ") r.nodes ++ b → b ≡ number_line (codes "budget ") r.budget ++ c
-    → c ≡ batch_line r.batch ++ d → d ≡ block_lines r.blocks ++ e
-    → e ≡ journal_lines 0 r.journals ++ f → f ≡ [] → text ≡ record_text r
-whole_text r text a b c d e f h1 h2 h3 h4 h5 h6 h7 =
-    let journals : e ≡ journal_lines 0 r.journals
-    = h6 ∙ ap (λ t. journal_lines 0 r.journals ++ t) h7 ∙ append-nil (journal_lines 0 r.journals) in
-    let blocks : d ≡ block_lines r.blocks ++ journal_lines 0 r.journals
-    = h5 ∙ ap (λ t. block_lines r.blocks ++ t) journals in
-    let batch = h4 ∙ ap (λ t. batch_line r.batch ++ t) blocks in
+    → c ≡ batch_line r.batch ++ d → d ≡ code_line r.code ++ e → e ≡ block_lines r.blocks ++ f
+    → f ≡ journal_lines (version_of r.code) 0 r.journals ++ g → g ≡ [] → text ≡ record_text r
+whole_text r text a b c d e f g h1 h2 h3 h4 h5 h6 h7 h8 =
+    let v = version_of r.code in
+    let journals : f ≡ journal_lines v 0 r.journals
+    = h7 ∙ ap (λ t. journal_lines v 0 r.journals ++ t) h8 ∙ append-nil (journal_lines v 0 r.journals) in
+    let blocks : e ≡ block_lines r.blocks ++ journal_lines v 0 r.journals
+    = h6 ∙ ap (λ t. block_lines r.blocks ++ t) journals in
+    let code = h5 ∙ ap (λ t. code_line r.code ++ t) blocks in
+    let batch = h4 ∙ ap (λ t. batch_line r.batch ++ t) code in
     let budget = h3 ∙ ap (λ t. number_line (codes "budget ") r.budget ++ t) batch in
     let nodes = h2 ∙ ap (λ t. number_line (codes "nodes ") r.nodes ++ t) budget in
-    h1 ∙ ap (λ t. codes "shasta-record 1\n" ++ t) nodes ∙ sym (whole r)
+    h1 ∙ ap (λ t. version_line v ++ t) nodes ∙ sym (whole r)
 
 pub refused_by : (text : List ℕ) (res : Result Record RecordRefused)
     → IfErr res (IsFault Version (record { bytes = text; number = 1 }))

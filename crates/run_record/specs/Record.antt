@@ -1,8 +1,9 @@
 -- What a record of a run is.
-use Rattle.std.specs.Prelude.{◌≡◌, ℕ, ◌+◌, ◌^◌, ◌<◌, ◌≤◌, List, [], ◌∷◌, length, All, IfSome}
+use Rattle.std.specs.Prelude.{◌≡◌, ◌≢◌, ℕ, ◌+◌, ◌^◌, ◌<◌, ◌≤◌, List, [], ◌∷◌, length, All, Some, IfSome}
 use Rattle.block_layout.specs.declared.layout.BlockRange.{BlockRange}
 use Rattle.node_model.specs.declared.Entry.{Entry}
 use Rattle.run_limits.specs.Ranges.{IsNodeCount, IsBudget}
+use Rattle.jump_map.specs.Image.{most_words}
 use Rattle.run_record.specs.declared.Record.{Record}
 
 -- a block's size has at most five digits, and its home at most two
@@ -23,10 +24,23 @@ abbrev pub AreTakesBehind : (nodes last : ℕ) → List Entry → Type 0
 AreTakesBehind nodes last [] = Unit {0}
 AreTakesBehind nodes last (e ∷ es) = IsTakeBehind nodes last e × AreTakesBehind nodes e.stamp es
 
--- 1 to 16 nodes, with a journal each, and a budget of 1 to 2^32 words
+-- how many words rewritten code may have: one at least, and together less than 16 MiB
+pub record IsCodeLength (words : ℕ) : Type 0 where
+  pub some : 1 ≤ words
+  pub few : words ≤ most_words
+
+-- 1 to 16 nodes, with a journal each, a budget of 1 to 2^32 words, and rewritten words where their
+-- number is named
 pub record IsRecord (r : Record) : Type 0 where
   pub nodes : IsNodeCount r.nodes
   pub budget : IsBudget r.budget
+  pub code : IfSome r.code IsCodeLength
   pub blocks : All IsBlockLine r.blocks
   pub each : length r.journals ≡ r.nodes
   pub journals : All (AreTakesBehind r.nodes 0) r.journals
+
+-- the record names another number of words than rewritten code has
+pub record NamesOtherCode (r : Record) (words : ℕ) : Type 0 where
+  pub named : ℕ
+  pub code_is : r.code ≡ Some named
+  pub other : named ≢ words

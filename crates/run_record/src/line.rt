@@ -1,19 +1,20 @@
 //! A line of a record's text, taken apart.
 
-ghost use Rattle.std.specs.Prelude.{◌≡◌, ℕ, ◌==◌, ◌<◌, ◌≤◌, ◌^◌, ◌++◌, Bool, false, List, codes, length, position, IfSome, MatchOption, Option, Some};
+ghost use Rattle.std.specs.Prelude.{◌≡◌, ℕ, ◌==◌, ◌<◌, ◌≤◌, ◌^◌, ◌++◌, Bool, false, List, codes};
+ghost use Rattle.std.specs.Prelude.{length, position, IfSome, MatchOption, Option, Some};
 ghost use Rattle.std.specs.Fmt.{decimal, digit_glyph};
 ghost use Rattle.rv32_text.specs.Listing.{word_digits};
 ghost use Rattle.block_layout.specs.declared.layout.BlockRange.{BlockRange as Ranges};
-ghost use Rattle.node_model.specs.declared.Entry.{Entry as Entries};
 ghost use Rattle.run_record.specs.Reading.{IsNumberThen, IsPlaceThen};
 ghost use Rattle.run_record.specs.Rules.{HasNumber, HasRange, HasTake};
 ghost use Rattle.run_record.specs.Text as model;
+ghost use Rattle.run_record.specs.declared.line.TakeLine.{TakeLine as TakeLines};
 
 use block_layout::BlockRange;
 use itoa::Buffer;
 
 /// No number of a record is as high.
-const NUMBER_END: u64 = 1 << 63;
+pub(crate) const NUMBER_END: u64 = 1 << 63;
 
 /// The highest block size that five digits write.
 const MOST_BLOCK: u64 = 99_999;
@@ -26,8 +27,10 @@ const ADDRESS_DIGITS: usize = 8;
 
 /// What a line of a take says. The sender may be no node.
 #[derive(Clone, Copy)]
-pub(crate) struct Take {
-    pub stamp: u64,
+pub struct TakeLine {
+    /// The stamp in the first version, and in the second how far the stamp is above the least that
+    /// the take may have.
+    pub stamp_or_gap: u64,
     pub from: u64,
     pub words: u64,
 }
@@ -186,17 +189,19 @@ pub(crate) fn range_of(line: &[u8]) -> Option<BlockRange>
     })
 }
 
-/// The take that a line names.
-pub(crate) fn take_of(line: &[u8]) -> Option<Take>
-    ensures some { IfSome result (λ t. HasTake line.now
-        (record { stamp = t.stamp; from = t.from; words = t.words })) }
-    ensures only { (e : Entries) → HasTake line.now e → MatchOption result ⊥
-        (λ t. (t.stamp ≡ e.stamp) × (t.from ≡ e.from) × (t.words ≡ e.words)) }
+/// What the line of a take says.
+pub(crate) fn take_of(line: &[u8]) -> Option<TakeLine>
+    ensures some { IfSome result (HasTake line.now) }
+    ensures only { (t : TakeLines) → HasTake line.now t → result ≡ Some t }
 {
-    let (stamp, from_sender) = number_then(line, b"take ")?;
+    let (stamp_or_gap, from_sender) = number_then(line, b"take ")?;
     let (from, from_words) = number_then(from_sender, b" ")?;
     let words = number_line(from_words, b" ")?;
-    Some(Take { stamp, from, words })
+    Some(TakeLine {
+        stamp_or_gap,
+        from,
+        words,
+    })
 }
 
 /// Whether checks were batched, by the line that says it.

@@ -1,6 +1,7 @@
 //! The lines of a text, one after another.
 
-ghost use Rattle.std.specs.Prelude.{◌≡◌, ◌==◌, ◌+◌, ◌++◌, ℕ, List, true, ◌≤◌, ◌<◌, [], ◌∷◌, length, take, drop, position, IfOk, IfErr};
+ghost use Rattle.std.specs.Prelude.{◌≡◌, ◌==◌, ◌+◌, ◌++◌, ℕ, List, true, ◌≤◌, ◌<◌, [], ◌∷◌, length};
+ghost use Rattle.std.specs.Prelude.{take, drop, position, IfOk, IfErr};
 ghost use Rattle.run_record.specs.Reading.{Left, IsNext, IsLack, IsFault};
 ghost use Rattle.run_record.specs.Rules.{Nothing, text_lines};
 

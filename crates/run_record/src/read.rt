@@ -1,53 +1,57 @@
 //! Reads a record's text.
 
-ghost use Rattle.std.specs.Prelude.{◌≡◌, ℕ, ◌+◌, ◌<◌, ◌≤◌, ◌^◌, ◌++◌, [], length, All, codes, IfOk, IfErr, IfSome, IsErrOf, MatchResult, MatchOption};
+ghost use Rattle.std.specs.Prelude.{◌≡◌, ℕ, ◌+◌, ◌<◌, ◌≤◌, ◌^◌, ◌++◌, [], length, All, codes, IfOk};
+ghost use Rattle.std.specs.Prelude.{IfErr, IfSome, IsErrOf, MatchResult, MatchOption};
 ghost use Rattle.run_limits.specs.Ranges.{IsNodeCount, IsBudget};
 ghost use Rattle.run_record.specs.Lists.{items_of};
 ghost use Rattle.run_record.specs.Reading.{IsRead, IsFault};
 ghost use Rattle.run_record.specs.Record.{IsRecord, IsBlockLine, IsTakeBehind, AreTakesBehind};
-ghost use Rattle.run_record.specs.Rules.{Version, Nodes, Batch, Range, Node, Take, Nothing, node_awaited, IsFirstFault};
+ghost use Rattle.run_record.specs.Record.{IsCodeLength};
+ghost use Rattle.run_record.specs.Rules.{Nodes, Batch, Range, Node, Take, Nothing};
+ghost use Rattle.run_record.specs.Rules.{awaited_behind_batch, node_awaited, IsFirstFault};
 ghost use Rattle.run_record.specs.Rules as awaits;
 ghost use Rattle.run_record.specs.Telling.{HasWords, IsOfWords};
 ghost use Rattle.run_record.specs.Text as model;
 ghost use Rattle.run_record.specs.declared.Record.{Record as Records};
 ghost use Rattle.run_record.specs.declared.refused.RecordRule.{RecordRule as Rules};
 ghost use Rattle.run_record.specs.declared.refused.RecordRefused.TheVariants.{OutOfMemory};
+ghost use Rattle.run_record.specs.declared.version.Version.{Version as Versions};
+ghost use Rattle.run_record.specs.declared.version.Version.TheVariants.{Second};
 
 use crate::Record;
 use crate::line::{batch_of, number_line, range_of, take_of};
 use crate::lines::Lines;
 use crate::parts::{Blocks, Journals};
 use crate::refused::{RecordRefused, RecordRule};
+use crate::version::Version;
 use block_layout::BlockRange;
+use jump_map::MOST_WORDS;
 use node_model::Entry;
 use run_limits::{Budget, NodeCount};
 use std::alloc::Global;
 
-/// The version of records.
-const VERSION: u64 = 1;
-
 /// Reads the line of the version.
-fn read_version(lines: &mut Lines<'_>) -> Result<(), RecordRefused>
-    ensures ok { IfOk result (λ _. IsRead Version lines.old
-        (codes "shasta-record 1\n") Nodes lines.new) }
-    ensures err { IfErr result (IsFault Version lines.old) }
+fn read_version(lines: &mut Lines<'_>) -> Result<Version, RecordRefused>
+    ensures ok { IfOk result (λ v. IsRead awaits.Version lines.old
+        (model.version_line v) (Nodes v) lines.new) }
+    ensures err { IfErr result (IsFault awaits.Version lines.old) }
 {
     let line = lines.next_line()?;
-    let Some(version) = number_line(line.text, b"shasta-record ") else {
+    let Some(number) = number_line(line.text, b"shasta-record ") else {
         return Err(RecordRule::Syntax.at(line.number));
     };
-    if version != VERSION {
-        return Err(RecordRule::Version.at(line.number));
+    match Version::of_number(number) {
+        Some(version) => Ok(version),
+        None => Err(RecordRule::Version.at(line.number)),
     }
-    Ok(())
 }
 
 /// Reads the line of the number of nodes.
 fn read_nodes(lines: &mut Lines<'_>) -> Result<u8, RecordRefused>
     ensures count { IfOk result IsNodeCount }
-    ensures ok { IfOk result (λ n. IsRead Nodes lines.old
-        (model.number_line (codes "nodes ") n) (awaits.Budget n) lines.new) }
-    ensures err { IfErr result (IsFault Nodes lines.old) }
+    ensures ok { (v : Versions) → IfOk result (λ n. IsRead (Nodes v) lines.old
+        (model.number_line (codes "nodes ") n) (awaits.Budget v n) lines.new) }
+    ensures err { (v : Versions) → IfErr result (IsFault (Nodes v) lines.old) }
 {
     let line = lines.next_line()?;
     let Some(number) = number_line(line.text, b"nodes ") else {
@@ -62,9 +66,10 @@ fn read_nodes(lines: &mut Lines<'_>) -> Result<u8, RecordRefused>
 /// Reads the line of the budget.
 fn read_budget(lines: &mut Lines<'_>) -> Result<u64, RecordRefused>
     ensures budget { IfOk result IsBudget }
-    ensures ok { (nodes : ℕ) → IfOk result (λ n. IsRead (awaits.Budget nodes) lines.old
-        (model.number_line (codes "budget ") n) (Batch nodes) lines.new) }
-    ensures err { (nodes : ℕ) → IfErr result (IsFault (awaits.Budget nodes) lines.old) }
+    ensures ok { (v : Versions) (nodes : ℕ) → IfOk result (λ n. IsRead (awaits.Budget v nodes)
+        lines.old (model.number_line (codes "budget ") n) (Batch v nodes) lines.new) }
+    ensures err { (v : Versions) (nodes : ℕ)
+        → IfErr result (IsFault (awaits.Budget v nodes) lines.old) }
 {
     let line = lines.next_line()?;
     let Some(number) = number_line(line.text, b"budget ") else {
@@ -78,9 +83,9 @@ fn read_budget(lines: &mut Lines<'_>) -> Result<u64, RecordRefused>
 
 /// Reads the line of the batching.
 fn read_batch(lines: &mut Lines<'_>) -> Result<bool, RecordRefused>
-    ensures ok { (nodes : ℕ) → IfOk result (λ b. IsRead (Batch nodes) lines.old
-        (model.batch_line b) (Range nodes) lines.new) }
-    ensures err { (nodes : ℕ) → IfErr result (IsFault (Batch nodes) lines.old) }
+    ensures ok { (v : Versions) (nodes : ℕ) → IfOk result (λ b. IsRead (Batch v nodes) lines.old
+        (model.batch_line b) (awaited_behind_batch v nodes) lines.new) }
+    ensures err { (v : Versions) (nodes : ℕ) → IfErr result (IsFault (Batch v nodes) lines.old) }
 {
     let line = lines.next_line()?;
     match batch_of(line.text) {
@@ -89,13 +94,46 @@ fn read_batch(lines: &mut Lines<'_>) -> Result<bool, RecordRefused>
     }
 }
 
+/// Reads the line of the number of rewritten words, where the version has one.
+fn read_code(lines: &mut Lines<'_>, version: Version) -> Result<Option<u32>, RecordRefused>
+    ensures version { IfOk result (λ c. model.version_of c ≡ version) }
+    ensures code { IfOk result (λ c. IfSome c IsCodeLength) }
+    ensures ok { (nodes : ℕ) → IfOk result (λ c. IsRead (awaited_behind_batch version nodes)
+        lines.old (model.code_line c) (Range version nodes) lines.new) }
+    ensures err { (nodes : ℕ)
+        → IfErr result (IsFault (awaited_behind_batch version nodes) lines.old) }
+{
+    match version {
+        Version::First => Ok(None),
+        Version::Second => Ok(Some(read_words(lines)?)),
+    }
+}
+
+/// Reads the line of the number of rewritten words.
+fn read_words(lines: &mut Lines<'_>) -> Result<u32, RecordRefused>
+    ensures code { IfOk result IsCodeLength }
+    ensures ok { (nodes : ℕ) → IfOk result (λ n. IsRead (awaits.Code nodes) lines.old
+        (model.number_line (codes "code ") n) (Range Second nodes) lines.new) }
+    ensures err { (nodes : ℕ) → IfErr result (IsFault (awaits.Code nodes) lines.old) }
+{
+    let line = lines.next_line()?;
+    let Some(words) = number_line(line.text, b"code ") else {
+        return Err(RecordRule::Syntax.at(line.number));
+    };
+    if words == 0 || words > MOST_WORDS as u64 {
+        return Err(RecordRule::Syntax.at(line.number));
+    }
+    Ok(words as u32)
+}
+
 /// Reads the line of a range, where there is one.
 fn read_range(lines: &mut Lines<'_>) -> Result<Option<BlockRange>, RecordRefused>
-    ensures ok { (nodes : ℕ) → IfOk result (λ next. MatchOption next
-        (IsRead (Range nodes) lines.old [] (Node nodes 0) lines.new)
-        (λ r. IsRead (Range nodes) lines.old (model.block_line r) (Range nodes) lines.new)) }
+    ensures ok { (v : Versions) (nodes : ℕ) → IfOk result (λ next. MatchOption next
+        (IsRead (Range v nodes) lines.old [] (Node v nodes 0) lines.new)
+        (λ r. IsRead (Range v nodes) lines.old (model.block_line r) (Range v nodes) lines.new)) }
     ensures range { IfOk result (λ next. IfSome next (λ r. IsBlockLine r × HasWords r)) }
-    ensures err { (nodes : ℕ) → IfErr result (IsFault (Range nodes) lines.old) }
+    ensures err { (v : Versions) (nodes : ℕ)
+        → IfErr result (IsFault (Range v nodes) lines.old) }
 {
     if !lines.begin_with(b"block ") {
         return Ok(None);
@@ -109,11 +147,12 @@ fn read_range(lines: &mut Lines<'_>) -> Result<Option<BlockRange>, RecordRefused
 
 /// Reads the lines of the ranges.
 fn read_ranges(alloc: Global, lines: &mut Lines<'_>) -> Result<Vec<BlockRange>, RecordRefused>
-    ensures ok { (nodes : ℕ) → IfOk result (λ v. IsRead (Range nodes) lines.old
-        (model.block_lines v.items) (Node nodes 0) lines.new) }
-    ensures digits { IfOk result (λ v. All IsBlockLine v.items) }
-    ensures words { IfOk result (λ v. All HasWords v.items) }
-    ensures err { (nodes : ℕ) → IfErr result (IsFault (Range nodes) lines.old) }
+    ensures ok { (v : Versions) (nodes : ℕ) → IfOk result (λ rs. IsRead (Range v nodes) lines.old
+        (model.block_lines rs.items) (Node v nodes 0) lines.new) }
+    ensures digits { IfOk result (λ rs. All IsBlockLine rs.items) }
+    ensures words { IfOk result (λ rs. All HasWords rs.items) }
+    ensures err { (v : Versions) (nodes : ℕ)
+        → IfErr result (IsFault (Range v nodes) lines.old) }
 {
     let mut ranges = Vec::new(alloc);
     while let Some(range) = read_range(lines)? {
@@ -124,9 +163,10 @@ fn read_ranges(alloc: Global, lines: &mut Lines<'_>) -> Result<Vec<BlockRange>, 
 
 /// Reads the line of a node's number.
 fn read_node(lines: &mut Lines<'_>, node: u8) -> Result<(), RecordRefused>
-    ensures ok { (nodes : ℕ) → IfOk result (λ _. IsRead (Node nodes node) lines.old
-        (model.number_line (codes "node ") node) (Take nodes node 0) lines.new) }
-    ensures err { (nodes : ℕ) → IfErr result (IsFault (Node nodes node) lines.old) }
+    ensures ok { (v : Versions) (nodes : ℕ) → IfOk result (λ _. IsRead (Node v nodes node)
+        lines.old (model.number_line (codes "node ") node) (Take v nodes node 0) lines.new) }
+    ensures err { (v : Versions) (nodes : ℕ)
+        → IfErr result (IsFault (Node v nodes node) lines.old) }
 {
     let line = lines.next_line()?;
     let Some(number) = number_line(line.text, b"node ") else {
@@ -139,16 +179,22 @@ fn read_node(lines: &mut Lines<'_>, node: u8) -> Result<(), RecordRefused>
 }
 
 /// Reads a take behind a stamp, or the end of its node.
-fn read_take(lines: &mut Lines<'_>, nodes: u8, last: u64) -> Result<Option<Entry>, RecordRefused>
+fn read_take(
+    lines: &mut Lines<'_>,
+    version: Version,
+    nodes: u8,
+    last: u64,
+) -> Result<Option<Entry>, RecordRefused>
     requires few { nodes ≤ 16 }
     requires low { last < 2 ^ 63 }
     ensures ok { (node : ℕ) → IfOk result (λ next. MatchOption next
-        (IsRead (Take nodes node last) lines.old (codes "end\n")
-        (node_awaited nodes (node + 1)) lines.new)
-        (λ e. IsRead (Take nodes node last) lines.old (model.take_line e)
-        (Take nodes node e.stamp) lines.new)) }
+        (IsRead (Take version nodes node last) lines.old (codes "end\n")
+        (node_awaited version nodes (node + 1)) lines.new)
+        (λ e. IsRead (Take version nodes node last) lines.old
+        (model.take_line (model.told_of version last e))
+        (Take version nodes node e.stamp) lines.new)) }
     ensures take { IfOk result (λ next. IfSome next (IsTakeBehind nodes last)) }
-    ensures err { (node : ℕ) → IfErr result (IsFault (Take nodes node last) lines.old) }
+    ensures err { (node : ℕ) → IfErr result (IsFault (Take version nodes node last) lines.old) }
 {
     let line = lines.next_line()?;
     if line.text == b"end\n".as_slice() {
@@ -157,30 +203,36 @@ fn read_take(lines: &mut Lines<'_>, nodes: u8, last: u64) -> Result<Option<Entry
     let Some(take) = take_of(line.text) else {
         return Err(RecordRule::Syntax.at(line.number));
     };
-    if take.stamp <= last || take.stamp - last <= take.words {
+    let Some(stamp) = version.stamp_of(last, take) else {
         return Err(RecordRule::Stamps.at(line.number));
-    }
+    };
     if take.from >= u64::from(nodes) {
         return Err(RecordRule::Node.at(line.number));
     }
     Ok(Some(Entry {
-        stamp: take.stamp,
+        stamp,
         from: take.from as u8,
         words: take.words,
     }))
 }
 
 /// Reads the takes of a node, and its end.
-fn read_takes(alloc: Global, lines: &mut Lines<'_>, nodes: u8) -> Result<Vec<Entry>, RecordRefused>
+fn read_takes(
+    alloc: Global,
+    lines: &mut Lines<'_>,
+    version: Version,
+    nodes: u8,
+) -> Result<Vec<Entry>, RecordRefused>
     requires few { nodes ≤ 16 }
-    ensures ok { (node : ℕ) → IfOk result (λ v. IsRead (Take nodes node 0) lines.old
-        (model.take_lines v.items ++ codes "end\n") (node_awaited nodes (node + 1)) lines.new) }
-    ensures takes { IfOk result (λ v. AreTakesBehind nodes 0 v.items) }
-    ensures err { (node : ℕ) → IfErr result (IsFault (Take nodes node 0) lines.old) }
+    ensures ok { (node : ℕ) → IfOk result (λ es. IsRead (Take version nodes node 0) lines.old
+        (model.take_lines version 0 es.items ++ codes "end\n")
+        (node_awaited version nodes (node + 1)) lines.new) }
+    ensures takes { IfOk result (λ es. AreTakesBehind nodes 0 es.items) }
+    ensures err { (node : ℕ) → IfErr result (IsFault (Take version nodes node 0) lines.old) }
 {
     let mut takes = Vec::new(alloc);
     let mut last = 0;
-    while let Some(entry) = read_take(lines, nodes, last)? {
+    while let Some(entry) = read_take(lines, version, nodes, last)? {
         last = entry.stamp;
         takes.push(entry)?;
     }
@@ -191,19 +243,20 @@ fn read_takes(alloc: Global, lines: &mut Lines<'_>, nodes: u8) -> Result<Vec<Ent
 fn read_journals(
     alloc: Global,
     lines: &mut Lines<'_>,
+    version: Version,
     nodes: u8,
 ) -> Result<Vec<Vec<Entry>>, RecordRefused>
     requires { IsNodeCount nodes }
-    ensures ok { IfOk result (λ v. IsRead (Node nodes 0) lines.old
-        (model.journal_lines 0 (items_of v.items)) Nothing lines.new) }
-    ensures each { IfOk result (λ v. length (items_of v.items) ≡ nodes) }
-    ensures takes { IfOk result (λ v. All (AreTakesBehind nodes 0) (items_of v.items)) }
-    ensures err { IfErr result (IsFault (Node nodes 0) lines.old) }
+    ensures ok { IfOk result (λ js. IsRead (Node version nodes 0) lines.old
+        (model.journal_lines version 0 (items_of js.items)) Nothing lines.new) }
+    ensures each { IfOk result (λ js. length (items_of js.items) ≡ nodes) }
+    ensures takes { IfOk result (λ js. All (AreTakesBehind nodes 0) (items_of js.items)) }
+    ensures err { IfErr result (IsFault (Node version nodes 0) lines.old) }
 {
     let mut journals = Vec::new(alloc);
     for node in 0..nodes {
         read_node(lines, node)?;
-        journals.push(read_takes(alloc, lines, nodes)?)?;
+        journals.push(read_takes(alloc, lines, version, nodes)?)?;
     }
     Ok(journals)
 }
@@ -213,20 +266,22 @@ fn record_of(alloc: Global, text: &[u8]) -> Result<Record, RecordRefused>
     ensures text { IfOk result (λ r. text.now ≡ model.record_text r) }
     ensures record { IfOk result IsRecord }
     ensures words { IfOk result IsOfWords }
-    ensures err { IfErr result (IsFault Version (record { bytes = text.now; number = 1 })) }
+    ensures err { IfErr result (IsFault awaits.Version (record { bytes = text.now; number = 1 })) }
 {
     let mut lines = Lines::of(text);
-    read_version(&mut lines)?;
+    let version = read_version(&mut lines)?;
     let nodes = read_nodes(&mut lines)?;
     let budget = read_budget(&mut lines)?;
     let batch = read_batch(&mut lines)?;
+    let code = read_code(&mut lines, version)?;
     let ranges = read_ranges(alloc, &mut lines)?;
-    let journals = read_journals(alloc, &mut lines, nodes)?;
+    let journals = read_journals(alloc, &mut lines, version, nodes)?;
     lines.end()?;
     Ok(Record {
         nodes,
         budget,
         batch,
+        code,
         blocks: Blocks::of(ranges),
         journals: Journals::of(journals),
     })
@@ -241,6 +296,11 @@ fn record_of(alloc: Global, text: &[u8]) -> Result<Record, RecordRefused>
 /// block, up to 99999, and the home, up to 99, or `*`; and for each node `node` and its number, a
 /// line `take` for each of its takes, with the stamp, the sender and the words executed since the
 /// take before, and `end`. Nothing follows.
+///
+/// A text that begins with `shasta-record 2` has behind its batching a line `code` with the number
+/// of rewritten words, 1 to 4194303. In place of its stamp a take has the number by which this is
+/// above the least that it may be: the stamp of the take before, and the words executed since then,
+/// and 1.
 ///
 /// Fails with the first line that breaks a rule, and the first rule that it breaks. A line that is
 /// lacking has the number after the last line's.

@@ -8,12 +8,16 @@ use thiserror::Error;
 pub enum RecordRule {
     /// The line is in the grammar, and isn't lacking.
     Syntax,
-    /// The words before a take, and the take, have stamps of their own behind the node's last.
+    /// The words before a take, and the take, have stamps of their own behind the node's last,
+    /// below 2^63.
     Stamps,
     /// There are 1 to 16 nodes, their lines are in order, and a sender is a node.
     Node,
-    /// The version is 1.
+    /// The version is 1 or 2.
     Version,
+    /// The number of rewritten words is that of the code which is run. The text alone never breaks
+    /// this.
+    Code,
 }
 
 impl RecordRule {
@@ -21,7 +25,7 @@ impl RecordRule {
     ghost use Rattle.run_record.specs.Rules.{number_of};
     ghost use Rattle.run_record.specs.declared.refused.RecordRefused.TheVariants.{Broken};
 
-    /// The number of the refusal: 40 to 43.
+    /// The number of the refusal: 40 to 43, or 47.
     pub fn number(self) -> u8
         ensures { result ≡ number_of self }
     {
@@ -30,6 +34,7 @@ impl RecordRule {
             RecordRule::Stamps => 41,
             RecordRule::Node => 42,
             RecordRule::Version => 43,
+            RecordRule::Code => 47,
         }
     }
 

@@ -9,7 +9,7 @@ use Rattle.run_record.proofs.read.read_journals.Given as goal
 
 abbrev pub invariant-loop-node : goal.invariant-loop-node
 invariant-loop-node l = record {
-  read_so_far : IsRead (Node l.nodes 0) l.fn.lines (journal_lines 0 (items_of l.journals.items)) (node_awaited l.nodes l.node) l.lines;
+  read_so_far : IsRead (Node l.version l.nodes 0) l.fn.lines (journal_lines l.version 0 (items_of l.journals.items)) (node_awaited l.version l.nodes l.node) l.lines;
   each : length (items_of l.journals.items) ≡ l.node;
   takes : All (AreTakesBehind l.nodes 0) (items_of l.journals.items);
 }

@@ -8,7 +8,7 @@ use Rattle.run_record.proofs.read.read_takes.Given as goal
 
 abbrev pub invariant-loop-takes : goal.invariant-loop-takes
 invariant-loop-takes l = record {
-  read_so_far : (node : ℕ) → IsRead (Take l.nodes node 0) l.fn.lines (take_lines l.takes.items) (Take l.nodes node l.last) l.lines;
+  read_so_far : (node : ℕ) → IsRead (Take l.version l.nodes node 0) l.fn.lines (take_lines l.version 0 l.takes.items) (Take l.version l.nodes node l.last) l.lines;
   behind : AreTakesBehind l.nodes 0 l.takes.items;
   last : l.last ≡ last_stamp 0 l.takes.items;
   low : l.last < 2 ^ 63;
