@@ -13,7 +13,7 @@ use Rattle.command_line.specs.declared.table.Role.{Role}
 use Rattle.command_line.specs.declared.table.Role.TheVariants as role
 use Rattle.command_line.specs.declared.table.CommandWord.{CommandWord}
 use Rattle.command_line.specs.declared.table.CommandWord.TheVariants as word
-use Rattle.command_line.specs.Commands.{Command, Rewrite, Run, Listing, One, Sim, Replay, Generate, Named, Between, Value, Amount, Name, Switch, name_or_none, Row, row_of, IsFit, kind_of, settings_in}
+use Rattle.command_line.specs.Commands.{Command, Rewrite, Run, Listing, One, Sim, Replay, Generate, Assemble, Named, Between, Value, Amount, Name, Switch, name_or_none, Row, row_of, IsFit, kind_of, settings_in}
 use Rattle.command_line.specs.Asks.{Argument, IsNumber, ArePlaced, IsSet, AreSet, AreOfRow, Asks}
 use Rattle.command_line.specs.declared.Command.{Command as OfCode}
 use Rattle.command_line.specs.Meaning.{meaning_of}
@@ -256,6 +256,7 @@ as_rewrite g (One f n o b l) h = absurd (other_first _ _ h.word_is (omega arith)
 as_rewrite g (Sim f n o b k l t nb) h = absurd (other_first _ _ h.word_is (omega arith))
 as_rewrite g (Replay f w t) h = absurd (other_third _ _ h.word_is (omega arith))
 as_rewrite g (Generate n y) h = absurd (other_first _ _ h.word_is (omega arith))
+as_rewrite g (Assemble x y) h = absurd (other_first _ _ h.word_is (omega arith))
 
 pub as_run : (g : Given) (c : Command) → Completes (codes "run") g c → (f : List ℕ)
     × (n b : ℕ) × (w k l : Option (List ℕ)) × (t nb : Bool)
@@ -267,6 +268,7 @@ as_run g (One f n o b l) h = absurd (other_first _ _ h.word_is (omega arith))
 as_run g (Sim f n o b k l t nb) h = absurd (other_first _ _ h.word_is (omega arith))
 as_run g (Replay f w t) h = absurd (other_second _ _ h.word_is (omega arith))
 as_run g (Generate n y) h = absurd (other_first _ _ h.word_is (omega arith))
+as_run g (Assemble x y) h = absurd (other_first _ _ h.word_is (omega arith))
 
 pub as_list : (g : Given) (c : Command) → Completes (codes "list") g c →
     (f : List ℕ) × IsOfRow (row_of (Listing f)) g
@@ -277,6 +279,7 @@ as_list g (One f n o b l) h = absurd (other_first _ _ h.word_is (omega arith))
 as_list g (Sim f n o b k l t nb) h = absurd (other_first _ _ h.word_is (omega arith))
 as_list g (Replay f w t) h = absurd (other_first _ _ h.word_is (omega arith))
 as_list g (Generate n y) h = absurd (other_first _ _ h.word_is (omega arith))
+as_list g (Assemble x y) h = absurd (other_first _ _ h.word_is (omega arith))
 
 pub as_one : (g : Given) (c : Command) → Completes (codes "one") g c → (f : List ℕ)
     × (n : ℕ) × (o : ℕ) × (b : ℕ) × (l : Option (List ℕ)) × IsOfRow (row_of (One f n o b l)) g
@@ -287,6 +290,7 @@ as_one g (One f n o b l) h = (f, n, o, b, l, h.of_row)
 as_one g (Sim f n o b k l t nb) h = absurd (other_first _ _ h.word_is (omega arith))
 as_one g (Replay f w t) h = absurd (other_first _ _ h.word_is (omega arith))
 as_one g (Generate n y) h = absurd (other_first _ _ h.word_is (omega arith))
+as_one g (Assemble x y) h = absurd (other_first _ _ h.word_is (omega arith))
 
 pub as_sim : (g : Given) (c : Command) → Completes (codes "sim") g c → (f : List ℕ)
     × (n : ℕ) × (o : ℕ) × (b : ℕ) × (k l : Option (List ℕ)) × (t nb : Bool)
@@ -298,6 +302,7 @@ as_sim g (One f n o b l) h = absurd (other_first _ _ h.word_is (omega arith))
 as_sim g (Sim f n o b k l t nb) h = (f, n, o, b, k, l, t, nb, h.of_row)
 as_sim g (Replay f w t) h = absurd (other_first _ _ h.word_is (omega arith))
 as_sim g (Generate n y) h = absurd (other_first _ _ h.word_is (omega arith))
+as_sim g (Assemble x y) h = absurd (other_first _ _ h.word_is (omega arith))
 
 pub as_replay : (g : Given) (c : Command) → Completes (codes "replay") g c → (f w : List ℕ)
     × (t : Bool) × IsOfRow (row_of (Replay f w t)) g
@@ -308,6 +313,7 @@ as_replay g (One f n o b l) h = absurd (other_first _ _ h.word_is (omega arith))
 as_replay g (Sim f n o b k l t nb) h = absurd (other_first _ _ h.word_is (omega arith))
 as_replay g (Replay f w t) h = (f, w, t, h.of_row)
 as_replay g (Generate n y) h = absurd (other_first _ _ h.word_is (omega arith))
+as_replay g (Assemble x y) h = absurd (other_first _ _ h.word_is (omega arith))
 
 pub as_generate : (g : Given) (c : Command) → Completes (codes "gen") g c → (n : ℕ)
     × (y : List ℕ) × IsOfRow (row_of (Generate n y)) g
@@ -318,6 +324,18 @@ as_generate g (One f n o b l) h = absurd (other_first _ _ h.word_is (omega arith
 as_generate g (Sim f n o b k l t nb) h = absurd (other_first _ _ h.word_is (omega arith))
 as_generate g (Replay f w t) h = absurd (other_first _ _ h.word_is (omega arith))
 as_generate g (Generate n y) h = (n, y, h.of_row)
+as_generate g (Assemble x y) h = absurd (other_first _ _ h.word_is (omega arith))
+
+pub as_assemble : (g : Given) (c : Command) → Completes (codes "asm") g c → (x y : List ℕ)
+    × IsOfRow (row_of (Assemble x y)) g
+as_assemble g (Rewrite x y nb) h = absurd (other_first _ _ h.word_is (omega arith))
+as_assemble g (Run f n b w k l t nb) h = absurd (other_first _ _ h.word_is (omega arith))
+as_assemble g (Listing f) h = absurd (other_first _ _ h.word_is (omega arith))
+as_assemble g (One f n o b l) h = absurd (other_first _ _ h.word_is (omega arith))
+as_assemble g (Sim f n o b k l t nb) h = absurd (other_first _ _ h.word_is (omega arith))
+as_assemble g (Replay f w t) h = absurd (other_first _ _ h.word_is (omega arith))
+as_assemble g (Generate n y) h = absurd (other_first _ _ h.word_is (omega arith))
+as_assemble g (Assemble x y) h = (x, y, h.of_row)
 
 same_file : (x y : List ℕ) (words : List (List ℕ)) → ArePlaced ((Named Read, Name x) ∷ []) words →
     ArePlaced ((Named Read, Name y) ∷ []) words → x ≡ y
@@ -411,6 +429,23 @@ one_row g (Generate n y) (Listing v) p q e = absurd (other_first _ _ e (omega ar
 one_row g (Generate n y) (One v m r d l) p q e = absurd (other_first _ _ e (omega arith))
 one_row g (Generate n y) (Sim v m r d f l t nb) p q e = absurd (other_first _ _ e (omega arith))
 one_row g (Generate n y) (Replay v w t) p q e = absurd (other_first _ _ e (omega arith))
+one_row g (Assemble x y) (Assemble v w) p q e =
+    let files = same_files Write x y v w _ p.places q.places in
+    ap (λ f. Assemble f y) files.0 ∙ ap (λ f. Assemble v f) files.1
+one_row g (Rewrite x y nb) (Assemble v' w') p q e = absurd (other_first _ _ e (omega arith))
+one_row g (Assemble v' w') (Rewrite x y nb) p q e = absurd (other_first _ _ e (omega arith))
+one_row g (Run f n b w k l t nb) (Assemble v' w') p q e = absurd (other_first _ _ e (omega arith))
+one_row g (Assemble v' w') (Run f n b w k l t nb) p q e = absurd (other_first _ _ e (omega arith))
+one_row g (Listing f) (Assemble v' w') p q e = absurd (other_first _ _ e (omega arith))
+one_row g (Assemble v' w') (Listing f) p q e = absurd (other_first _ _ e (omega arith))
+one_row g (One f n o b l) (Assemble v' w') p q e = absurd (other_first _ _ e (omega arith))
+one_row g (Assemble v' w') (One f n o b l) p q e = absurd (other_first _ _ e (omega arith))
+one_row g (Sim f n o b k l t nb) (Assemble v' w') p q e = absurd (other_first _ _ e (omega arith))
+one_row g (Assemble v' w') (Sim f n o b k l t nb) p q e = absurd (other_first _ _ e (omega arith))
+one_row g (Replay f w t) (Assemble v' w') p q e = absurd (other_first _ _ e (omega arith))
+one_row g (Assemble v' w') (Replay f w t) p q e = absurd (other_first _ _ e (omega arith))
+one_row g (Generate n y) (Assemble v' w') p q e = absurd (other_first _ _ e (omega arith))
+one_row g (Assemble v' w') (Generate n y) p q e = absurd (other_first _ _ e (omega arith))
 
 -- ---- words of a row, and what they give
 
@@ -453,6 +488,7 @@ command_word (One f n o b l) = word.One
 command_word (Sim f n o b k l t nb) = word.Sim
 command_word (Replay f w t) = word.Replay
 command_word (Generate n y) = word.Generate
+command_word (Assemble x y) = word.Assemble
 
 pub word_is : (c : Command) → text_of (command_word c) ≡ (row_of c).word
 unfolding command_word
@@ -463,6 +499,7 @@ word_is (One f n o b l) = refl
 word_is (Sim f n o b k l t nb) = refl
 word_is (Replay f w t) = refl
 word_is (Generate n y) = refl
+word_is (Assemble x y) = refl
 
 word_settings : (w : CommandWord) (c : Command) → text_of w ≡ (row_of c).word →
     settings_in (row_of c).options ≡ settings_of w
@@ -473,6 +510,7 @@ word_settings word.One (One f n o b l) e = refl
 word_settings word.Sim (Sim f n o b k l t nb) e = refl
 word_settings word.Replay (Replay f w t) e = refl
 word_settings word.Generate (Generate n y) e = refl
+word_settings word.Assemble (Assemble x y) e = refl
 word_settings word.Rewrite (Run f n b w k l t nb) e = absurd (other_second _ _ e (omega arith))
 word_settings word.Rewrite (Listing f) e = absurd (other_first _ _ e (omega arith))
 word_settings word.Rewrite (One f n o b l) e = absurd (other_first _ _ e (omega arith))
@@ -515,6 +553,20 @@ word_settings word.Generate (Listing f) e = absurd (other_first _ _ e (omega ari
 word_settings word.Generate (One f n o b l) e = absurd (other_first _ _ e (omega arith))
 word_settings word.Generate (Sim f n o b k l t nb) e = absurd (other_first _ _ e (omega arith))
 word_settings word.Generate (Replay f w t) e = absurd (other_first _ _ e (omega arith))
+word_settings word.Rewrite (Assemble x y) e = absurd (other_first _ _ e (omega arith))
+word_settings word.Assemble (Rewrite x y nb) e = absurd (other_first _ _ e (omega arith))
+word_settings word.Run (Assemble x y) e = absurd (other_first _ _ e (omega arith))
+word_settings word.Assemble (Run f n b w k l t nb) e = absurd (other_first _ _ e (omega arith))
+word_settings word.List (Assemble x y) e = absurd (other_first _ _ e (omega arith))
+word_settings word.Assemble (Listing f) e = absurd (other_first _ _ e (omega arith))
+word_settings word.One (Assemble x y) e = absurd (other_first _ _ e (omega arith))
+word_settings word.Assemble (One f n o b l) e = absurd (other_first _ _ e (omega arith))
+word_settings word.Sim (Assemble x y) e = absurd (other_first _ _ e (omega arith))
+word_settings word.Assemble (Sim f n o b k l t nb) e = absurd (other_first _ _ e (omega arith))
+word_settings word.Replay (Assemble x y) e = absurd (other_first _ _ e (omega arith))
+word_settings word.Assemble (Replay f w t) e = absurd (other_first _ _ e (omega arith))
+word_settings word.Generate (Assemble x y) e = absurd (other_first _ _ e (omega arith))
+word_settings word.Assemble (Generate n y) e = absurd (other_first _ _ e (omega arith))
 
 same_head : (v w : List ℕ) (vs ws : List (List ℕ)) → v ∷ vs ≡ w ∷ ws → v ≡ w
 same_head v w vs ws e = cc

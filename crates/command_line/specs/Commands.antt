@@ -33,6 +33,8 @@ pub data Command : Type 0 where
   Replay : (file record_file : List ℕ) (brief : Bool) → Command
   -- write the executable that a number makes into a file
   Generate : (number : ℕ) (output : List ℕ) → Command
+  -- write the executable of the assembly text in a file into another
+  Assemble : (text output : List ℕ) → Command
 
 -- the word of an option
 abbrev pub option_word : Setting → List ℕ
@@ -123,6 +125,11 @@ row_of (Replay file record_file brief) = record {
 row_of (Generate number output) = record {
   word = codes "gen";
   places = (Between 0 (2 ^ 32 - 1), Amount number) ∷ (Named Write, Name output) ∷ [];
+  options = [];
+}
+row_of (Assemble text output) = record {
+  word = codes "asm";
+  places = (Named Read, Name text) ∷ (Named Write, Name output) ∷ [];
   options = [];
 }
 

@@ -3,7 +3,7 @@ use Rattle.std.specs.Prelude.{ℕ, List, Option, option_map}
 use Rattle.std.specs.Borrow.{Bor}
 use Rattle.command_line.specs.declared.Command.{Command as OfCode}
 use Rattle.command_line.specs.declared.Command.TheVariants as asked
-use Rattle.command_line.specs.Commands.{Command, Rewrite, Run, Listing, One, Sim, Replay, Generate}
+use Rattle.command_line.specs.Commands.{Command, Rewrite, Run, Listing, One, Sim, Replay, Generate, Assemble}
 
 -- the name of a file that may be left out
 abbrev pub file_name : Option (Bor (List ℕ)) → Option (List ℕ)
@@ -21,3 +21,4 @@ meaning_of (asked.Sim file nodes order budget code layout brief no_batch) =
     Sim file.now nodes order budget (file_name code) (file_name layout) brief no_batch
 meaning_of (asked.Replay file record_file brief) = Replay file.now record_file.now brief
 meaning_of (asked.Generate number output) = Generate number output.now
+meaning_of (asked.Assemble text output) = Assemble text.now output.now

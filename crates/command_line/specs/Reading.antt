@@ -1,4 +1,5 @@
--- Helps the code alone: what `clap` is told of a command's arguments, and what it gives of the words.
+-- Helps the code alone: what `clap` is told of a command's arguments, and what it gives of the
+-- words.
 use Rattle.std.specs.Prelude.{◌≡◌, ◌⊎◌, ℕ, ◌<◌, length, slice_index, Bool, true, false, List, [], ◌∷◌, codes, map, drop, Some, unwrap_or, Option}
 use Rattle.std.specs.List.{flat_map}
 use Rattle.clap.specs.declared.builder.action.ArgAction.TheVariants.{Append}
@@ -25,6 +26,7 @@ text_of word.One = codes "one"
 text_of word.Sim = codes "sim"
 text_of word.Replay = codes "replay"
 text_of word.Generate = codes "gen"
+text_of word.Assemble = codes "asm"
 
 abbrev pub settings_of : CommandWord → List Setting
 settings_of word.Rewrite = NoBatch ∷ []
@@ -34,6 +36,7 @@ settings_of word.One = Nodes ∷ Order ∷ Budget ∷ Layout ∷ []
 settings_of word.Sim = Nodes ∷ Order ∷ Budget ∷ Code ∷ Layout ∷ Brief ∷ NoBatch ∷ []
 settings_of word.Replay = Brief ∷ []
 settings_of word.Generate = []
+settings_of word.Assemble = []
 
 -- the name of an option, without its dashes
 abbrev pub name_of : Setting → List ℕ

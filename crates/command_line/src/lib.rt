@@ -1,11 +1,13 @@
 #![tactic(auto)]
 //! The words of the command line, and what they ask for.
 
-ghost use Rattle.std.specs.Prelude.{◌≡◌, ℕ, ◌-◌, ◌^◌, Bool, List, [], ◌∷◌, codes, Option, option_map, IfOk, MatchOption};
+ghost use Rattle.std.specs.Prelude.{◌≡◌, ℕ, ◌-◌, ◌^◌, Bool, List, [], ◌∷◌, codes, Option};
+ghost use Rattle.std.specs.Prelude.{option_map, IfOk, MatchOption};
 ghost use Rattle.command_line.specs.Commands as model;
 ghost use Rattle.command_line.specs.Asks.{Asks, IsNumber};
 ghost use Rattle.command_line.specs.Meaning.{meaning_of};
-ghost use Rattle.command_line.specs.Reading.{Completes, SaysFlag, SaysName, SaysNumber, given_by, text_of};
+ghost use Rattle.command_line.specs.Reading.{Completes, SaysFlag, SaysName, SaysNumber, given_by};
+ghost use Rattle.command_line.specs.Reading.{text_of};
 
 use clap::ArgMatches;
 use dsm_io::Text;
@@ -81,6 +83,11 @@ pub enum Command<'a> {
     /// Write the executable that a number makes into the file `output`.
     Generate {
         number: u32,
+        output: &'a str,
+    },
+    /// Write the executable of the assembly text in the file `text` into the file `output`.
+    Assemble {
+        text: &'a str,
         output: &'a str,
     },
 }
@@ -337,6 +344,16 @@ fn generate_of<'a>(matches: &ArgMatches<'a>) -> Option<Command<'a>>
     Some(Command::Generate { number, output })
 }
 
+/// The command `asm`.
+fn assemble_of<'a>(matches: &ArgMatches<'a>) -> Option<Command<'a>>
+    ensures { MatchOption result
+        ((c : model.Command) → Completes (codes "asm") (given_by matches.now) c → ⊥)
+        (λ c. Completes (codes "asm") (given_by matches.now) (meaning_of c)) }
+{
+    let (text, output) = two_operands_in(matches)?;
+    Some(Command::Assemble { text, output })
+}
+
 /// The command of a word that is a command's, with these arguments.
 fn command_in<'a>(word: CommandWord, matches: &ArgMatches<'a>) -> Option<Command<'a>>
     ensures { MatchOption result
@@ -351,6 +368,7 @@ fn command_in<'a>(word: CommandWord, matches: &ArgMatches<'a>) -> Option<Command
         CommandWord::Sim => sim_of(matches),
         CommandWord::Replay => replay_of(matches),
         CommandWord::Generate => generate_of(matches),
+        CommandWord::Assemble => assemble_of(matches),
     }
 }
 

@@ -1,9 +1,11 @@
 //! The arguments behind a command's word, as `clap` reads them.
 
-ghost use Rattle.std.specs.Prelude.{◌≡◌, ◌≢◌, ◌⊎◌, ◌∷◌, ◌↔◌, ℕ, List, IsTrue, IfOk, MatchOption, false, map};
+ghost use Rattle.std.specs.Prelude.{◌≡◌, ◌≢◌, ◌⊎◌, ◌∷◌, ◌↔◌, ℕ, List, IsTrue, IfOk, MatchOption};
+ghost use Rattle.std.specs.Prelude.{false, map};
 ghost use Rattle.clap.specs.Words.{app_of, rule_of};
 ghost use Rattle.command_line.specs.Asks.{Argument, IsPlain};
-ghost use Rattle.command_line.specs.Reading.{IsCut, Reads, app_for, rule_for, given_by, IsGivenAs, IsLong, AreReadable};
+ghost use Rattle.command_line.specs.Reading.{IsCut, Reads, app_for, rule_for, given_by, IsGivenAs};
+ghost use Rattle.command_line.specs.Reading.{IsLong, AreReadable};
 
 use crate::table::{Role, Setting};
 use clap::error::ErrorKind;

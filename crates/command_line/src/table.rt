@@ -54,6 +54,7 @@ pub(crate) enum CommandWord {
     Sim,
     Replay,
     Generate,
+    Assemble,
 }
 
 impl CommandWord {
@@ -70,6 +71,7 @@ impl CommandWord {
             "sim" => Some(CommandWord::Sim),
             "replay" => Some(CommandWord::Replay),
             "gen" => Some(CommandWord::Generate),
+            "asm" => Some(CommandWord::Assemble),
             _ => None,
         }
     }
@@ -92,6 +94,7 @@ impl CommandWord {
             CommandWord::List => &[],
             CommandWord::Replay => &[Setting::Brief],
             CommandWord::Generate => &[],
+            CommandWord::Assemble => &[],
             CommandWord::One => &[
                 Setting::Nodes,
                 Setting::Order,

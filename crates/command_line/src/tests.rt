@@ -39,6 +39,7 @@ fn parts_of(command: Command<'_>) -> (&str, u8, u32, u64) {
             brief: _,
         } => (file, 0, 0, 0),
         Command::Generate { number, output } => (output, 0, number, 0),
+        Command::Assemble { text, output: _ } => (text, 0, 0, 0),
         Command::One {
             file,
             nodes,
@@ -156,6 +157,9 @@ fn reads_the_words_that_are_commands(rt: HostRuntime) -> Result<(), Fail> {
         ("gen a 0", None),
         ("gen 0", None),
         ("gen 0 a --brief", None),
+        ("asm a b", Some((0, 0, 0))),
+        ("asm a", None),
+        ("asm a b --brief", None),
     ] {
         let words = words_of(rt.alloc(), line)?;
         assert_eq!(rt;

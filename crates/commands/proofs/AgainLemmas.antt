@@ -79,6 +79,14 @@ one_rewriting laws batches again file elf other plan plan' image image' same is 
     (record { plan = h.the_plan; rewriting = h.rewriting })
     (record { plan = there.the_plan; rewriting = there.rewriting })
 
+pub one_image : HaveRecordLaws → (batches again : Bool) (file : List ℕ) (elf other : Elf)
+    (plan plan' : List PlanEntry) (image image' : List Cell) → batches ≡ again → elf ≡ other
+    → IsRewritingOf batches file elf plan image → IsRewritingOf again file other plan' image'
+    → image ≡ image'
+one_image laws batches again file elf other plan plan' image image' same is h k =
+    ap (λ (p : Parts). p.image)
+    (one_rewriting laws batches again file elf other plan plan' image image' same is h k)
+
 pub one_list : (elf : Elf) (shared others : List Lines) → AreSharedRanges elf shared
     → AreSharedRanges elf others → All HasLines shared → All HasLines others → shared ≡ others
 one_list elf shared others h k some more =
@@ -144,7 +152,7 @@ module _ (laws : HaveRecordLaws) (inputs : Inputs) where
       → IsWorkOf inputs kept' elf' plan' work'
       → (kept ≡ kept') × (elf ≡ elf') × (plan ≡ plan') × (work ≡ work')
   one_work kept kept' elf elf' plan plan' work work' h k =
-      let same : kept ≡ kept' = one_text laws kept kept' inputs.recorded h.text k.text in
+      let same : kept ≡ kept' = one_text laws kept kept' inputs.text h.text k.text in
       let is : elf ≡ elf' =
       one_elf inputs.executable elf elf' h.rewritten.executable.reads k.rewritten.executable.reads in
       let parts = one_rewriting laws kept.batch kept'.batch inputs.executable elf elf' plan plan'
@@ -208,9 +216,12 @@ module _ (laws : HaveRecordLaws) (ran : Inputs) (nodes budget : ℕ) (work : Wor
         get_or-map-range_with_len (λ j. (end.nodes j).journal) 0 work.layout.nodes i i [] low (omega arith);
   }
 
+  one_number : (named : ℕ) → Some (length work.image) ≡ Some named → named ≡ length work.image
+  one_number named is = cc
+
   -- so a replay of files that have it, and the same executable, has the same outcome
   pub told_again : (inputs : Inputs) → inputs.executable ≡ ran.executable
-      → inputs.recorded ≡ record_text kept → IsOutcomeOfReplay inputs o
+      → inputs.text ≡ record_text kept → IsOutcomeOfReplay inputs o
   told_again inputs executable recorded =
       let again = laws.again work end own kept h.of_code.runs h.of_code.stands h.of_code.over
       journals_kept in
@@ -227,6 +238,7 @@ module _ (laws : HaveRecordLaws) (ran : Inputs) (nodes budget : ℕ) (work : Wor
         asked = record {
           text = subst (IsTextOf kept) (sym recorded) text_kept;
           rewritten = code.rewritten;
+          same_code = λ other. other.other (one_number other.named other.code_is);
           program = h.of_code.program;
           laid_out = laid_out;
           valid = h.of_code.runs.valid;
@@ -240,18 +252,18 @@ module _ (laws : HaveRecordLaws) (ran : Inputs) (nodes budget : ℕ) (work : Wor
 -- ---- what is printed
 
 pub replay_of_run : HaveRecordLaws → (ran inputs : Inputs) (nodes budget : ℕ)
-    (held : Option (List ℕ)) (o : Outcome) → held ≡ Some inputs.recorded
+    (held : Option (List ℕ)) (o : Outcome) → held ≡ Some inputs.text
     → inputs.executable ≡ ran.executable → IsOutcomeRecorded ran nodes budget held o
     → IsOutcomeOfReplay inputs o
 replay_of_run laws ran inputs nodes budget held o is executable h =
-    let recorded : IsOutcomeRecorded ran nodes budget (Some inputs.recorded) o =
+    let recorded : IsOutcomeRecorded ran nodes budget (Some inputs.text) o =
     subst (λ x. IsOutcomeRecorded ran nodes budget x o) is h in
     told_again laws ran nodes budget recorded.work recorded.own o recorded.is_run inputs executable
     recorded.is_recorded
 
 pub same_text : HaveRecordLaws → (ran inputs : Inputs) (nodes budget : ℕ)
     (held : Option (List ℕ)) (brief short : Bool) (text again : List ℕ) (status other : ℕ)
-    → held ≡ Some inputs.recorded → inputs.executable ≡ ran.executable → short ≡ brief
+    → held ≡ Some inputs.text → inputs.executable ≡ ran.executable → short ≡ brief
     → IsTextWith (IsOutcomeRecorded ran nodes budget held) brief text status
     → IsTextWith (IsOutcomeOfReplay inputs) short again other
     → (again ≡ text) × (other ≡ status)

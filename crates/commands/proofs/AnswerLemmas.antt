@@ -2,15 +2,15 @@
 use Rattle.std.proofs.Common.{◌≡◌, ◌⊎◌, ℕ, ◌<◌, ◌≤◌, Bool, true, false, List, [], ◌++◌, length, Option, Some, None, append-nil, option_map, refl, sym, ap, ◌∙◌, subst, inl, inr, arith}
 use Rattle.std.specs.Prelude.{Contains, IfSome, IfOk, IfErr, MatchOption, Result, Ok, Err, if◌then◌else◌}
 use Rattle.dsm_io.specs.Causes.{Rose}
-use Rattle.command_line.specs.Commands.{Command, Rewrite, Run, Listing, One, Sim, Replay, Generate, reads, writes}
+use Rattle.command_line.specs.Commands.{Command, Rewrite, Run, Listing, One, Sim, Replay, Generate, Assemble, reads, writes}
 use Rattle.command_line.specs.declared.Command.{Command as OfCode}
 use Rattle.command_line.specs.Asks.{Asks}
 use Rattle.command_line.specs.Meaning.{meaning_of}
 use Rattle.commands.specs.declared.failure.Failure.{Failure}
-use Rattle.commands.specs.declared.failure.Failure.TheVariants.{Input, NotWritten, Refused, Layout, Record, Output, OutOfMemory}
+use Rattle.commands.specs.declared.failure.Failure.TheVariants.{Input, NotWritten, Refused, Layout, Record, Text, Output, OutOfMemory}
 use Rattle.dsm_io.specs.States.{SinkState, FilesState}
-use Rattle.commands.specs.Answers.{HasBytes, IsFault, IsLeft, IsTooLong, IsUnwritten, IsWriteFault, file_limit, AreLeft, AreWritten}
-use Rattle.commands.specs.Refusals.{IsRefused, IsLayoutRefused, IsRecordRefused}
+use Rattle.commands.specs.Answers.{HasBytes, IsFault, IsLeft, IsTooLong, IsUnwritten, IsWriteFault, IsRefusalStatus, file_limit, AreLeft, AreWritten}
+use Rattle.commands.specs.Refusals.{IsRefused, IsLayoutRefused, IsRecordRefused, IsTextRefused}
 use Rattle.commands.specs.Failures.{status_of, line_of, IsReadFailure, FailsAs, Puts, IsFailure, IsPerformFailure, IsRewriteFailure, IsWriteFailure, IsSuccess, IsNoRefusal, IsInputFailure, IsNamedFailure, PutsPrefix, AreInputs, AreKept}
 use Rattle.commands.specs.Headline.{IsText, IsRewrittenFile, IsRewrittenText, PrintsPrefix}
 use Rattle.commands.specs.Inputs.{Inputs, AreTold, inputs_of}
@@ -48,6 +48,8 @@ is_low (Replay file record_file brief) files inputs text status h =
     subst (λ s. s ≤ 1) (sym h.status_is) (low_status _)
 is_low (Generate number output) files inputs text status h =
     let zero = h.1 in omega (arith, zero)
+is_low (Assemble assembly output) files inputs text status h =
+    let zero = h.status_is in omega (arith, zero)
 
 pub succeeds : (c : Command) (files files_now : FilesState) (before now : SinkState) (inputs : Inputs)
     (status : ℕ) → AreInputs c files inputs
@@ -101,6 +103,10 @@ fails_with c files read_files files_now before now inputs (Record line) read low
   h.1,
   λ contents told. subst (λ i. IsRecordRefused c i line.items) (read contents told) h.0,
 )
+fails_with c files read_files files_now before now inputs (Text line) read low h = (
+  h.1,
+  λ contents told. subst (λ i. IsTextRefused c i line.items) (read contents told) h.0,
+)
 fails_with c files read_files files_now before now inputs Output read low h =
     (h.0, prefix_as c files files_now inputs before now read h.1)
 fails_with c files read_files files_now before now inputs OutOfMemory read low h = λ contents told.
@@ -136,6 +142,7 @@ later_read files between now name (NotWritten line) same low h = h
 later_read files between now name (Refused line) same low h = h
 later_read files between now name (Layout line) same low h = h
 later_read files between now name (Record line) same low h = h
+later_read files between now name (Text line) same low h = h
 later_read files between now name Output same low h = h
 later_read files between now name OutOfMemory same low h = h
 
@@ -146,6 +153,7 @@ fails_to_read c files files_now state (NotWritten line) h = absurd h.2
 fails_to_read c files files_now state (Refused line) h = absurd h.2
 fails_to_read c files files_now state (Layout line) h = absurd h.2
 fails_to_read c files files_now state (Record line) h = absurd h.2
+fails_to_read c files files_now state (Text line) h = absurd h.2
 fails_to_read c files files_now state Output h = absurd h.2
 fails_to_read c files files_now state OutOfMemory h = λ contents told. inl refl
 
@@ -156,6 +164,7 @@ no_refusal files files_now name (NotWritten line) h = absurd h
 no_refusal files files_now name (Refused line) h = absurd h
 no_refusal files files_now name (Layout line) h = absurd h
 no_refusal files files_now name (Record line) h = absurd h
+no_refusal files files_now name (Text line) h = absurd h
 no_refusal files files_now name Output h = absurd h
 no_refusal files files_now name OutOfMemory h = inr refl
 
@@ -174,12 +183,13 @@ kept_unread c files files_now f h = no_refusal files files_now h.0 f h.2
 
 -- what the status of a failure says
 
-pub failure_range : (f : Failure) → (3 ≤ status_of f) × (status_of f ≤ 7)
+pub failure_range : (f : Failure) → (3 ≤ status_of f) × (status_of f ≤ 8)
 failure_range (Input line) = (omega arith, omega arith)
 failure_range (NotWritten line) = (omega arith, omega arith)
 failure_range (Refused line) = (omega arith, omega arith)
 failure_range (Layout line) = (omega arith, omega arith)
 failure_range (Record line) = (omega arith, omega arith)
+failure_range (Text line) = (omega arith, omega arith)
 failure_range Output = (omega arith, omega arith)
 failure_range OutOfMemory = (omega arith, omega arith)
 
@@ -207,6 +217,7 @@ fault_of c files files_now before now (NotWritten line) Told h told three =
 fault_of c files files_now before now (Refused line) Told h told three = absurd (omega (arith, three))
 fault_of c files files_now before now (Layout line) Told h told three = absurd (omega (arith, three))
 fault_of c files files_now before now (Record line) Told h told three = absurd (omega (arith, three))
+fault_of c files files_now before now (Text line) Told h told three = absurd (omega (arith, three))
 fault_of c files files_now before now Output Told h told three = inr (h, told)
 fault_of c files files_now before now OutOfMemory Told h told three = absurd (omega (arith, three))
 
@@ -223,6 +234,8 @@ refusal_of c files files_now before now (Refused line) Told h told four contents
 refusal_of c files files_now before now (Layout line) Told h told four contents known =
     absurd (omega (arith, four))
 refusal_of c files files_now before now (Record line) Told h told four contents known =
+    absurd (omega (arith, four))
+refusal_of c files files_now before now (Text line) Told h told four contents known =
     absurd (omega (arith, four))
 refusal_of c files files_now before now Output Told h told four contents known =
     absurd (omega (arith, four))
@@ -243,6 +256,8 @@ layout_refusal_of c files files_now before now (Layout line) Told h told six con
     (line.items, h.1 contents known, told)
 layout_refusal_of c files files_now before now (Record line) Told h told six contents known =
     absurd (omega (arith, six))
+layout_refusal_of c files files_now before now (Text line) Told h told six contents known =
+    absurd (omega (arith, six))
 layout_refusal_of c files files_now before now Output Told h told six contents known =
     absurd (omega (arith, six))
 layout_refusal_of c files files_now before now OutOfMemory Told h told six contents known =
@@ -262,20 +277,44 @@ record_refusal_of c files files_now before now (Layout line) Told h told seven c
     absurd (omega (arith, seven))
 record_refusal_of c files files_now before now (Record line) Told h told seven contents known =
     (line.items, h.1 contents known, told)
+record_refusal_of c files files_now before now (Text line) Told h told seven contents known =
+    absurd (omega (arith, seven))
 record_refusal_of c files files_now before now Output Told h told seven contents known =
     absurd (omega (arith, seven))
 record_refusal_of c files files_now before now OutOfMemory Told h told seven contents known =
     absurd (omega (arith, seven))
 
+pub text_refusal_of : (c : Command) (files files_now : FilesState) (before now : SinkState)
+    (f : Failure) (Told : List ℕ → Type 0) → IsFailure c files files_now before now f → Told (line_of f)
+    → status_of f ≡ 8 → (contents : List ℕ → List ℕ) → AreTold c files contents
+    → (line : List ℕ) × IsTextRefused c (inputs_of c contents) line × Told line
+text_refusal_of c files files_now before now (Input line) Told h told eight contents known =
+    absurd (omega (arith, eight))
+text_refusal_of c files files_now before now (NotWritten line) Told h told eight contents known =
+    absurd (omega (arith, eight))
+text_refusal_of c files files_now before now (Refused line) Told h told eight contents known =
+    absurd (omega (arith, eight))
+text_refusal_of c files files_now before now (Layout line) Told h told eight contents known =
+    absurd (omega (arith, eight))
+text_refusal_of c files files_now before now (Record line) Told h told eight contents known =
+    absurd (omega (arith, eight))
+text_refusal_of c files files_now before now (Text line) Told h told eight contents known =
+    (line.items, h.1 contents known, told)
+text_refusal_of c files files_now before now Output Told h told eight contents known =
+    absurd (omega (arith, eight))
+text_refusal_of c files files_now before now OutOfMemory Told h told eight contents known =
+    absurd (omega (arith, eight))
+
 pub nothing_of : (c : Command) (files files_now : FilesState) (before now : SinkState) (f : Failure)
     → IsFailure c files files_now before now f
-    → (status_of f ≡ 2) ⊎ ((status_of f ≡ 4) ⊎ ((status_of f ≡ 6) ⊎ (status_of f ≡ 7)))
+    → (status_of f ≡ 2) ⊎ IsRefusalStatus (status_of f)
     → now.taken ≡ before.taken
 nothing_of c files files_now before now (Input line) h s = h.0
 nothing_of c files files_now before now (NotWritten line) h s = h.0
 nothing_of c files files_now before now (Refused line) h s = h.0
 nothing_of c files files_now before now (Layout line) h s = h.0
 nothing_of c files files_now before now (Record line) h s = h.0
+nothing_of c files files_now before now (Text line) h s = h.0
 nothing_of c files files_now before now Output h s = absurd (omega (arith, s))
 nothing_of c files files_now before now OutOfMemory h s = absurd (omega (arith, s))
 
@@ -293,6 +332,8 @@ prefix_of_failure c files files_now before now (Layout line) h five contents tol
     absurd (omega (arith, five))
 prefix_of_failure c files files_now before now (Record line) h five contents told =
     absurd (omega (arith, five))
+prefix_of_failure c files files_now before now (Text line) h five contents told =
+    absurd (omega (arith, five))
 prefix_of_failure c files files_now before now Output h five contents told =
     absurd (omega (arith, five))
 prefix_of_failure c files files_now before now OutOfMemory h five contents told = h contents told
@@ -303,6 +344,7 @@ line_five (NotWritten line) five = absurd (omega (arith, five))
 line_five (Refused line) five = absurd (omega (arith, five))
 line_five (Layout line) five = absurd (omega (arith, five))
 line_five (Record line) five = absurd (omega (arith, five))
+line_five (Text line) five = absurd (omega (arith, five))
 line_five Output five = absurd (omega (arith, five))
 line_five OutOfMemory five = refl
 
@@ -360,6 +402,7 @@ rewrite_left input output no_batch inputs before now (Refused line) h =
     left_at input output no_batch inputs before now (inl (h.1 output))
 rewrite_left input output no_batch inputs before now (Layout line) h = absurd h
 rewrite_left input output no_batch inputs before now (Record line) h = absurd h
+rewrite_left input output no_batch inputs before now (Text line) h = absurd h
 rewrite_left input output no_batch inputs before now Output h = absurd h
 rewrite_left input output no_batch inputs before now OutOfMemory h = left_at input output no_batch inputs before now h
 
@@ -372,6 +415,7 @@ rewrite_unwritten batches file bytes before now name (NotWritten line) is h = ((
 rewrite_unwritten batches file bytes before now name (Refused line) is h = absurd h
 rewrite_unwritten batches file bytes before now name (Layout line) is h = h
 rewrite_unwritten batches file bytes before now name (Record line) is h = h
+rewrite_unwritten batches file bytes before now name (Text line) is h = h
 rewrite_unwritten batches file bytes before now name Output is h = h
 rewrite_unwritten batches file bytes before now name OutOfMemory is h = h
 
@@ -382,6 +426,7 @@ rewrite_kept batches output file before now (NotWritten line) h four = absurd (o
 rewrite_kept batches output file before now (Refused line) h four = h.1
 rewrite_kept batches output file before now (Layout line) h four = absurd h
 rewrite_kept batches output file before now (Record line) h four = absurd h
+rewrite_kept batches output file before now (Text line) h four = absurd h
 rewrite_kept batches output file before now Output h four = absurd h
 rewrite_kept batches output file before now OutOfMemory h four = absurd (omega (arith, four))
 
@@ -396,6 +441,7 @@ rewrite_fails input output no_batch inputs before now state (NotWritten line) h 
 rewrite_fails input output no_batch inputs before now state (Refused line) h = (h.0, refl)
 rewrite_fails input output no_batch inputs before now state (Layout line) h = absurd h
 rewrite_fails input output no_batch inputs before now state (Record line) h = absurd h
+rewrite_fails input output no_batch inputs before now state (Text line) h = absurd h
 rewrite_fails input output no_batch inputs before now state Output h = absurd h
 rewrite_fails input output no_batch inputs before now state OutOfMemory h = inl refl
 
@@ -412,6 +458,7 @@ plain_fails c inputs fb fn before now (NotWritten line) h = absurd h
 plain_fails c inputs fb fn before now (Refused line) h = h
 plain_fails c inputs fb fn before now (Layout line) h = h
 plain_fails c inputs fb fn before now (Record line) h = absurd h
+plain_fails c inputs fb fn before now (Text line) h = absurd h
 plain_fails c inputs fb fn before now Output h = h
 plain_fails c inputs fb fn before now OutOfMemory h = h
 

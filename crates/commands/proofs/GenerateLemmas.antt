@@ -6,7 +6,7 @@ use Rattle.elf32_write.specs.Layout.{file_of}
 use Rattle.workload.specs.Generated.{generated_elf}
 use Rattle.command_line.specs.Commands.{Generate, writes}
 use Rattle.commands.specs.declared.failure.Failure.{Failure}
-use Rattle.commands.specs.declared.failure.Failure.TheVariants.{Input, NotWritten, Refused, Layout, Record, Output, OutOfMemory}
+use Rattle.commands.specs.declared.failure.Failure.TheVariants.{Input, NotWritten, Refused, Layout, Record, Text, Output, OutOfMemory}
 use Rattle.dsm_io.specs.States.{SinkState, FilesState}
 use Rattle.commands.specs.Answers.{HasBytes, IsLeft, IsUnwritten, AreLeft, AreWritten}
 use Rattle.commands.specs.Failures.{IsPerformFailure, IsWriteFailure, Puts, AreKept}
@@ -47,6 +47,7 @@ generated_left number output inputs before now (NotWritten line) h =
 generated_left number output inputs before now (Refused line) h = absurd h
 generated_left number output inputs before now (Layout line) h = absurd h
 generated_left number output inputs before now (Record line) h = absurd h
+generated_left number output inputs before now (Text line) h = absurd h
 generated_left number output inputs before now Output h = absurd h
 generated_left number output inputs before now OutOfMemory h =
     generated_at number output inputs before now h
@@ -58,6 +59,7 @@ generated_kept output before now (NotWritten line) h = λ four. absurd (omega (a
 generated_kept output before now (Refused line) h = absurd h
 generated_kept output before now (Layout line) h = absurd h
 generated_kept output before now (Record line) h = absurd h
+generated_kept output before now (Text line) h = absurd h
 generated_kept output before now Output h = absurd h
 generated_kept output before now OutOfMemory h = λ four. absurd (omega (arith, four))
 
@@ -73,6 +75,7 @@ generate_fails number output inputs before now state (NotWritten line) h =
 generate_fails number output inputs before now state (Refused line) h = absurd h
 generate_fails number output inputs before now state (Layout line) h = absurd h
 generate_fails number output inputs before now state (Record line) h = absurd h
+generate_fails number output inputs before now state (Text line) h = absurd h
 generate_fails number output inputs before now state Output h = absurd h
 generate_fails number output inputs before now state OutOfMemory h = inl refl
 

@@ -3,20 +3,20 @@ use Rattle.std.proofs.Common.{◌≡◌, ◌⊎◌, ℕ, ◌<◌, ◌≤◌, Boo
 use Rattle.std.specs.Prelude.{Contains, IfSome}
 use Rattle.std.proofs.lemmas.List.Elements.{Contains-append_left, Contains-append_right, Contains-append_cases}
 use Rattle.dsm_io.specs.States.{FilesState}
-use Rattle.command_line.specs.Commands.{Command, Rewrite, Run, Listing, One, Sim, Replay, Generate, reads}
+use Rattle.command_line.specs.Commands.{Command, Rewrite, Run, Listing, One, Sim, Replay, Generate, Assemble, reads}
 use Rattle.commands.specs.Answers.{file_limit}
 use Rattle.commands.specs.Failures.{AreBytes, AreContents, AreInputs, AreRead, IsContent}
-use Rattle.commands.specs.Inputs.{Inputs, input_of, code_of, layout_of, recorded_of, bytes_in}
+use Rattle.commands.specs.Inputs.{Inputs, input_of, code_of, layout_of, text_file_of, bytes_in}
 
 -- the file of a name that may be left out
 abbrev pub named : Option (List ℕ) → List (List ℕ)
 named None = []
 named (Some name) = name ∷ []
 
--- a command reads its executable, its code, its layout and its record
+-- a command reads its executable, its code, its layout, and its record or its assembly text
 abbrev files_of : Command → List (List ℕ)
 files_of c =
-    named (input_of c) ++ (named (code_of c) ++ (named (layout_of c) ++ named (recorded_of c)))
+    named (input_of c) ++ (named (code_of c) ++ (named (layout_of c) ++ named (text_file_of c)))
 
 reads_are : (c : Command) → reads c ≡ files_of c
 reads_are (Rewrite input output no_batch) = refl
@@ -33,6 +33,7 @@ reads_are (Sim file nodes order budget (Some code) None brief no_batch) = refl
 reads_are (Sim file nodes order budget (Some code) (Some layout) brief no_batch) = refl
 reads_are (Replay file record_file brief) = refl
 reads_are (Generate number output) = refl
+reads_are (Assemble text output) = refl
 
 -- a list of one name
 pub only_of : (file name : List ℕ) → Contains (file ∷ []) name → name ≡ file
@@ -54,56 +55,56 @@ pub reads_input : (c : Command) (name : List ℕ) → input_of c ≡ Some name �
 reads_input c name e =
     subst (λ ns. Contains ns name) (sym (reads_are c))
     (Contains-append_left (named (input_of c))
-    (named (code_of c) ++ (named (layout_of c) ++ named (recorded_of c))) name
+    (named (code_of c) ++ (named (layout_of c) ++ named (text_file_of c))) name
     (among (input_of c) name e))
 
 -- behind its executable
 reads_behind : (c : Command) (name : List ℕ)
-    → Contains (named (code_of c) ++ (named (layout_of c) ++ named (recorded_of c))) name
+    → Contains (named (code_of c) ++ (named (layout_of c) ++ named (text_file_of c))) name
     → Contains (reads c) name
 reads_behind c name h =
     subst (λ ns. Contains ns name) (sym (reads_are c))
     (Contains-append_right (named (input_of c))
-    (named (code_of c) ++ (named (layout_of c) ++ named (recorded_of c))) name h)
+    (named (code_of c) ++ (named (layout_of c) ++ named (text_file_of c))) name h)
 
 pub reads_code : (c : Command) (name : List ℕ) → code_of c ≡ Some name → Contains (reads c) name
 reads_code c name e =
     reads_behind c name (Contains-append_left (named (code_of c))
-    (named (layout_of c) ++ named (recorded_of c)) name (among (code_of c) name e))
+    (named (layout_of c) ++ named (text_file_of c)) name (among (code_of c) name e))
 
 pub reads_layout : (c : Command) (name : List ℕ) → layout_of c ≡ Some name → Contains (reads c) name
 reads_layout c name e =
     reads_behind c name (Contains-append_right (named (code_of c))
-    (named (layout_of c) ++ named (recorded_of c)) name
-    (Contains-append_left (named (layout_of c)) (named (recorded_of c)) name
+    (named (layout_of c) ++ named (text_file_of c)) name
+    (Contains-append_left (named (layout_of c)) (named (text_file_of c)) name
     (among (layout_of c) name e)))
 
-pub reads_record : (c : Command) (name : List ℕ) → recorded_of c ≡ Some name
+pub reads_text : (c : Command) (name : List ℕ) → text_file_of c ≡ Some name
     → Contains (reads c) name
-reads_record c name e =
+reads_text c name e =
     reads_behind c name (Contains-append_right (named (code_of c))
-    (named (layout_of c) ++ named (recorded_of c)) name
-    (Contains-append_right (named (layout_of c)) (named (recorded_of c)) name
-    (among (recorded_of c) name e)))
+    (named (layout_of c) ++ named (text_file_of c)) name
+    (Contains-append_right (named (layout_of c)) (named (text_file_of c)) name
+    (among (text_file_of c) name e)))
 
 -- and nothing else
 abbrev IsRead : Command → List ℕ → Type 0
 IsRead c name = (input_of c ≡ Some name)
-    ⊎ ((code_of c ≡ Some name) ⊎ ((layout_of c ≡ Some name) ⊎ (recorded_of c ≡ Some name)))
+    ⊎ ((code_of c ≡ Some name) ⊎ ((layout_of c ≡ Some name) ⊎ (text_file_of c ≡ Some name)))
 
 reads_only : (c : Command) (name : List ℕ) → Contains (reads c) name → IsRead c name
 reads_only c name h =
     elim (Contains-append_cases (named (input_of c))
-    (named (code_of c) ++ (named (layout_of c) ++ named (recorded_of c))) name
+    (named (code_of c) ++ (named (layout_of c) ++ named (text_file_of c))) name
     (subst (λ ns. Contains ns name) (reads_are c) h)) [
       | inl first ↦ inl (of_named (input_of c) name first)
       | inr more ↦ inr (elim (Contains-append_cases (named (code_of c))
-          (named (layout_of c) ++ named (recorded_of c)) name more) [
+          (named (layout_of c) ++ named (text_file_of c)) name more) [
             | inl k ↦ inl (of_named (code_of c) name k)
-            | inr last ↦ inr (elim (Contains-append_cases (named (layout_of c)) (named (recorded_of c))
+            | inr last ↦ inr (elim (Contains-append_cases (named (layout_of c)) (named (text_file_of c))
                 name last) [
                   | inl k ↦ inl (of_named (layout_of c) name k)
-                  | inr k ↦ inr (of_named (recorded_of c) name k)
+                  | inr k ↦ inr (of_named (text_file_of c) name k)
                 ])
           ])
     ]
@@ -133,11 +134,11 @@ bytes_are files contents (Some name) bytes h told =
     content_is (files.held name) bytes (contents name) h (told name refl)
 
 abbrev inputs : List ℕ → Option (List ℕ) → Option (List ℕ) → List ℕ → Bool → Inputs
-inputs executable code layout recorded batches = record {
+inputs executable code layout text batches = record {
   executable = executable;
   code = code;
   layout = layout;
-  recorded = recorded;
+  text = text;
   batches = batches;
 }
 
@@ -150,15 +151,15 @@ inputs_read c files i h contents told =
     (λ name e. told name (reads_code c name e)) in
     let three = named_is files contents (layout_of c) i.layout h.layout
     (λ name e. told name (reads_layout c name e)) in
-    let four = bytes_are files contents (recorded_of c) i.recorded h.recorded
-    (λ name e. told name (reads_record c name e)) in
+    let four = bytes_are files contents (text_file_of c) i.text h.text
+    (λ name e. told name (reads_text c name e)) in
     let first = bytes_in contents (input_of c) in
     let second = option_map contents (code_of c) in
     let third = option_map contents (layout_of c) in
-    let fourth = bytes_in contents (recorded_of c) in
-    ap (λ x. inputs x i.code i.layout i.recorded i.batches) one
-    ∙ ap (λ x. inputs first x i.layout i.recorded i.batches) two
-    ∙ ap (λ x. inputs first second x i.recorded i.batches) three
+    let fourth = bytes_in contents (text_file_of c) in
+    ap (λ x. inputs x i.code i.layout i.text i.batches) one
+    ∙ ap (λ x. inputs first x i.layout i.text i.batches) two
+    ∙ ap (λ x. inputs first second x i.text i.batches) three
     ∙ ap (λ x. inputs first second third x i.batches) four
     ∙ ap (λ x. inputs first second third fourth x) h.batches
 
@@ -198,7 +199,7 @@ none_long c files i name content h there is long = elim (reads_only c name there
   | inl e ↦ short_bytes files (input_of c) i.executable name content h.executable e is long
   | inr (inl e) ↦ short_named files (code_of c) i.code name content h.code e is long
   | inr (inr (inl e)) ↦ short_named files (layout_of c) i.layout name content h.layout e is long
-  | inr (inr (inr e)) ↦ short_bytes files (recorded_of c) i.recorded name content h.recorded e is long
+  | inr (inr (inr e)) ↦ short_bytes files (text_file_of c) i.text name content h.text e is long
 ]
 
 -- files are read after others, which leaves what each holds

@@ -22,7 +22,7 @@ use Rattle.run_order.specs.OwnRun.{Stamped, run_of}
 use Rattle.rewriting_law.specs.CoreRun.{picks_of}
 use Rattle.rewriting_law.specs.Interleaving.{EndsAs, original_by_node, original_after}
 use Rattle.dsm_io.specs.States.{FilesState, SinkState}
-use Rattle.command_line.specs.Commands.{Command, Rewrite, Run, Listing, One, Sim, Replay, Generate}
+use Rattle.command_line.specs.Commands.{Command, Rewrite, Run, Listing, One, Sim, Replay, Generate, Assemble}
 use Rattle.commands.specs.Headline.{IsOutcomeByOrder, IsRunOf, IsText, Prints}
 use Rattle.commands.specs.Inputs.{Inputs, inputs_of}
 use Rattle.commands.specs.Interleaved.{IsInterleaved, IsLayoutGiven, IsSomeLayout, IsTextOfOriginal, PrintsOriginal, TellsOfOriginal}
@@ -221,6 +221,7 @@ tells (Replay file record_file brief) files inputs text status h =
           refl refl h.text_is,
     )
 tells (Generate number output) files inputs text status h = tt
+tells (Assemble assembly output) files inputs text status h = tt
 
 pub prints_original : (c : Command) (contents : List ℕ → List ℕ) (files : FilesState)
     (before now : SinkState) (status : ℕ) → Prints c contents files before now status

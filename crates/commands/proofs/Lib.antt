@@ -7,6 +7,7 @@ pub mod RecordLemmas
 pub mod Recorded
 pub mod ReplayLemmas
 pub mod GenerateLemmas
+pub mod AssemblyLemmas
 pub mod InterleavedLemmas
 pub mod BlockWords
 pub mod SharedRanges

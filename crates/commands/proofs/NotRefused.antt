@@ -20,7 +20,7 @@ use Rattle.node_model.specs.Node.{Work}
 use Rattle.node_model.specs.Outcome.{Outcome}
 use Rattle.run_record.specs.declared.Record.{Record}
 use Rattle.run_record.specs.declared.refused.RecordRule.{RecordRule}
-use Rattle.run_record.specs.Record.{IsRecord}
+use Rattle.run_record.specs.Record.{IsRecord, NamesOtherCode}
 use Rattle.run_record.specs.Rules.{IsFirstFault}
 use Rattle.run_record.specs.Telling.{IsOfWords}
 use Rattle.run_record.specs.Text.{record_text}
@@ -31,8 +31,8 @@ use Rattle.replay.specs.Told.{Told}
 use Rattle.commands.specs.Code.{IsRewritingOf}
 use Rattle.commands.specs.Executables.{IsUnaccepted, HasLongCode, ReadsAs}
 use Rattle.commands.specs.Inputs.{Inputs}
-use Rattle.commands.specs.Replays.{AreFaultyBlocks, HasLongReplay, IsBadRecord, IsBadReplayLayout, IsBrokenRecord, IsBrokenRun, IsFaultyText, IsLayoutOfBlocks, IsNoRecord, IsOutcomeOfReplay, IsReplayRefused, IsTextOf, IsWorkOf}
-use Rattle.commands.proofs.AgainLemmas.{HaveRecordLaws, one_elf, one_list, one_text, one_work, shared_some}
+use Rattle.commands.specs.Replays.{AreFaultyBlocks, HasLongReplay, IsBadRecord, IsBadReplayLayout, IsBrokenRecord, IsBrokenRun, IsFaultyText, IsLayoutOfBlocks, IsNoRecord, IsNoRecordOfCode, IsOutcomeOfReplay, IsReplayRefused, IsTextOf, IsWorkOf}
+use Rattle.commands.proofs.AgainLemmas.{HaveRecordLaws, one_elf, one_image, one_list, one_text, one_work, shared_some}
 use Rattle.commands.proofs.SharedRanges.{HasLines}
 
 -- the laws of plans, of texts, of ranges and of events: each is right or has a fault
@@ -98,8 +98,8 @@ taken_run faults work kept told line h k = elim k.broken [
 
 module _ (laws : HaveRecordLaws) (faults : HaveFaultLaws) (inputs : Inputs) (o : Outcome)
     (h : IsOutcomeOfReplay inputs o) (line : List ℕ) where
-  same_record : (other : Record) → IsTextOf other inputs.recorded → other ≡ h.kept
-  same_record other text = one_text laws other h.kept inputs.recorded text h.asked.text
+  same_record : (other : Record) → IsTextOf other inputs.text → other ≡ h.kept
+  same_record other text = one_text laws other h.kept inputs.text text h.asked.text
 
   same_elf : (other : Elf) → ReadsAs inputs.executable other → other ≡ h.elf
   same_elf other reads =
@@ -127,7 +127,14 @@ module _ (laws : HaveRecordLaws) (faults : HaveFaultLaws) (inputs : Inputs) (o :
       let text = h.asked.text in
       faults.texts h.kept k.faulty.rule k.faulty.number text.is_record text.of_words
       (subst (λ t. IsFirstFault t k.faulty.rule k.faulty.number) text.text_is k.faulty.fault)
-  taken_record (inr k) =
+  taken_record (inr (inl k)) =
+      let same : k.kept ≡ h.kept = same_record k.kept k.text in
+      let image : k.image ≡ h.work.image = one_image laws k.kept.batch h.kept.batch inputs.executable
+      k.elf h.elf k.plan h.plan k.image h.work.image (ap (λ (r : Record). r.batch) same)
+      (same_elf k.elf k.rewritten.executable.reads) k.rewritten h.asked.rewritten in
+      h.asked.same_code (subst (λ (i : List Cell). NamesOtherCode h.kept (length i)) image
+      (subst (λ r. NamesOtherCode r (length k.image)) same k.other.other))
+  taken_record (inr (inr k)) =
       let same = one_work laws inputs k.kept h.kept k.elf h.elf k.plan h.plan k.work h.work k.asked
       h.asked in
       taken_run faults h.work h.kept h.told line h.tells

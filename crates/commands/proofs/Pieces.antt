@@ -4,7 +4,7 @@ use Rattle.std.proofs.Math.Seq.{take-append_seam}
 use Rattle.std.proofs.lemmas.List.{take-append-drop}
 use Rattle.dsm_io.specs.Causes.{Rose, Appends, AppendsPrefix}
 use Rattle.commands.specs.declared.failure.Failure.{Failure}
-use Rattle.commands.specs.declared.failure.Failure.TheVariants.{Input, NotWritten, Refused, Layout, Record, Output, OutOfMemory}
+use Rattle.commands.specs.declared.failure.Failure.TheVariants.{Input, NotWritten, Refused, Layout, Record, Text, Output, OutOfMemory}
 use Rattle.dsm_io.specs.States.{SinkState}
 use Rattle.node_model.specs.Outcome.{Outcome}
 use Rattle.commands.specs.Outcomes.{status_of, told}
@@ -63,6 +63,8 @@ put_fails IsTextFor Reason OfLayout text status start before now p q rest (Layou
     absurd h
 put_fails IsTextFor Reason OfLayout text status start before now p q rest (Record line) is text_is one same h =
     absurd h
+put_fails IsTextFor Reason OfLayout text status start before now p q rest (Text line) is text_is one same h =
+    absurd h
 put_fails IsTextFor Reason OfLayout text status start before now p q rest Output is text_is one same h = (
   subst (λ n. Rose n now.faults) same h.0,
   (text, status, is, prefix_then start.taken before.taken now.taken p q rest text text_is one h.1),
@@ -99,6 +101,7 @@ fails_too IsOne IsOther Reason OfLayout Why WhyLayout before now (Refused line) 
 fails_too IsOne IsOther Reason OfLayout Why WhyLayout before now (Layout line) texts reasons layouts h =
     (layouts line.items h.0, h.1)
 fails_too IsOne IsOther Reason OfLayout Why WhyLayout before now (Record line) texts reasons layouts h = h
+fails_too IsOne IsOther Reason OfLayout Why WhyLayout before now (Text line) texts reasons layouts h = h
 fails_too IsOne IsOther Reason OfLayout Why WhyLayout before now Output texts reasons layouts h =
     let t = texts h.1.0 h.1.1 h.1.2 in (h.0, (h.1.0, t.0, t.1, h.1.3))
 fails_too IsOne IsOther Reason OfLayout Why WhyLayout before now OutOfMemory texts reasons layouts h =
@@ -119,6 +122,7 @@ refused_first IsTextFor Reason OfLayout Why WhyLayout state (Refused line) reaso
 refused_first IsTextFor Reason OfLayout Why WhyLayout state (Layout line) reasons layouts h =
     (layouts line.items h, refl)
 refused_first IsTextFor Reason OfLayout Why WhyLayout state (Record line) reasons layouts h = h
+refused_first IsTextFor Reason OfLayout Why WhyLayout state (Text line) reasons layouts h = h
 refused_first IsTextFor Reason OfLayout Why WhyLayout state Output reasons layouts h = absurd h
 refused_first IsTextFor Reason OfLayout Why WhyLayout state OutOfMemory reasons layouts h = inl refl
 
@@ -132,6 +136,7 @@ refused_too Reason OfLayout Why WhyLayout (NotWritten line) reasons layouts h = 
 refused_too Reason OfLayout Why WhyLayout (Refused line) reasons layouts h = reasons line.items h
 refused_too Reason OfLayout Why WhyLayout (Layout line) reasons layouts h = layouts line.items h
 refused_too Reason OfLayout Why WhyLayout (Record line) reasons layouts h = h
+refused_too Reason OfLayout Why WhyLayout (Text line) reasons layouts h = h
 refused_too Reason OfLayout Why WhyLayout Output reasons layouts h = h
 refused_too Reason OfLayout Why WhyLayout OutOfMemory reasons layouts h = h
 

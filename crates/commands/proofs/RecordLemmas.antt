@@ -4,14 +4,15 @@ use Rattle.std.specs.Prelude.{All, IfSome, Vec}
 use Rattle.std.specs.declared.alloc.Global.{Global}
 use Rattle.std.specs.List.{list_any, range_with_len}
 use Rattle.std.proofs.lemmas.Nat.{mul-le}
+use Rattle.std.proofs.lemmas.List.{length-map}
 use Rattle.std.proofs.lemmas.List.Elements.{All-nil, All-cons, All-weaker}
 use Rattle.std.proofs.lemmas.List.FromFn.{length-map-range_with_len}
 use Rattle.block_layout.specs.Layout.{IsValid, IsRange, is_block_size, is_home}
 use Rattle.block_layout.specs.declared.layout.BlockRange.{BlockRange}
 use Rattle.block_layout.specs.declared.ranges.Lines.{Lines}
-use Rattle.rv32_program.specs.Program.{IsAccepted}
+use Rattle.rv32_program.specs.Program.{Program, IsAccepted}
 use Rattle.templates.specs.declared.plans.PlanEntry.{PlanEntry}
-use Rattle.jump_map.specs.Image.{IsRewriting}
+use Rattle.jump_map.specs.Image.{Cell, IsRewriting, image_words, most_words, read_cell}
 use Rattle.node_model.specs.declared.Entry.{Entry}
 use Rattle.node_model.specs.Node.{Work, Node, IsLaidOver}
 use Rattle.node_model.specs.Core.{Core, Event, IsCoreRun, opening_core, after}
@@ -19,7 +20,7 @@ use Rattle.run_order.specs.OwnRun.{Stamped, StandsForOwnRun, run_of}
 use Rattle.run_order.specs.Takes.{AreTakesWithin}
 use Rattle.rewriting_law.specs.Bounds.{RunsRewritten, most_events}
 use Rattle.run_record.specs.Lists.{items_of}
-use Rattle.run_record.specs.Record.{IsBlockLine, IsTakeBehind, AreTakesBehind, IsRecord}
+use Rattle.run_record.specs.Record.{IsBlockLine, IsTakeBehind, AreTakesBehind, IsCodeLength, IsRecord}
 use Rattle.commands.specs.Records.{record_at, record_of}
 
 -- ---- the ranges of the layout
@@ -118,6 +119,19 @@ most n budget few range =
 below : (k m top : ℕ) → k ≤ m → m < top → k < top
 below k m top p q = omega (arith, p, q)
 
+-- ---- the words of rewritten code, of which word 0 stands before all places
+
+code_length : (program : Program) (plan : List PlanEntry) (image : List Cell)
+    → IsRewriting program plan image → IsCodeLength (length image)
+code_length program plan image h =
+    let words = h.expansion.words in
+    let cells : length (map read_cell image) ≡ length image = length-map image read_cell in
+    let few = h.expansion.few in
+    record {
+      some = omega (arith, ap length words, cells);
+      few = omega (arith, few);
+    }
+
 pub is_record : (batches : Bool) (work : Work) (core : Core) (own : List Stamped) → TellTakes → AreShort
     → RunsRewritten work → StandsForOwnRun work core own → IsRecord (record_at batches work core)
 is_record batches work core own tell short r stands =
@@ -132,6 +146,7 @@ is_record batches work core own tell short r stands =
     record {
       nodes = (omega (arith, some), r.valid.few_nodes);
       budget = (omega (arith, words), r.few);
+      code = code_length work.program r.plan work.image r.rewriting;
       blocks = All-weaker (IsRange work.layout.shared n) IsBlockLine
           (block_line work.layout.shared n r.valid.few_nodes) work.layout.named r.valid.named;
       each = length-map-range_with_len (λ i. (core.nodes i).journal) 0 n;
@@ -160,6 +175,7 @@ own_record batches work core own stands =
       nodes = work.layout.nodes;
       budget = work.budget;
       batch = batches;
+      code = Some (length work.image);
       blocks = work.layout.named;
       journals = js;
     }) (same_from (λ i. (core.nodes i).journal) (λ i. (end.nodes i).journal) 0 work.layout.nodes

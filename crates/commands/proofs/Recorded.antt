@@ -9,7 +9,7 @@ use Rattle.run_order.specs.OwnRun.{Stamped, StandsForOwnRun, run_of}
 use Rattle.run_record.specs.Text.{record_text}
 use Rattle.command_line.specs.Commands.{Command, Run, writes}
 use Rattle.commands.specs.declared.failure.Failure.{Failure}
-use Rattle.commands.specs.declared.failure.Failure.TheVariants.{Input, NotWritten, Refused, Layout, Record, Output, OutOfMemory}
+use Rattle.commands.specs.declared.failure.Failure.TheVariants.{Input, NotWritten, Refused, Layout, Record, Text, Output, OutOfMemory}
 use Rattle.dsm_io.specs.States.{SinkState, FilesState}
 use Rattle.commands.specs.Answers.{HasBytes, IsLeft, IsUnwritten, AreLeft, AreWritten}
 use Rattle.commands.specs.Failures.{FailsAs, IsNever, GivesRuns, IsMade, IsOwnOutcome, IsOwnRecorded, IsRecordFailure, IsPerformFailure, AreKept}
@@ -141,6 +141,7 @@ module _ (file : List ℕ) (nodes budget : ℕ) (o : Option (List ℕ)) (code la
   fails_by (Some name) e inputs work before now state (Refused line) runs made h = absurd h
   fails_by (Some name) e inputs work before now state (Layout line) runs made h = absurd h
   fails_by (Some name) e inputs work before now state (Record line) runs made h = absurd h
+  fails_by (Some name) e inputs work before now state (Text line) runs made h = absurd h
   fails_by (Some name) e inputs work before now state Output runs made h = absurd h
   fails_by (Some name) e inputs work before now state OutOfMemory runs made h = inl refl
 
@@ -171,6 +172,7 @@ module _ (file : List ℕ) (nodes budget : ℕ) (o : Option (List ℕ)) (code la
   left_by (Some name) e inputs before now (Refused line) h = absurd h
   left_by (Some name) e inputs before now (Layout line) h = absurd h
   left_by (Some name) e inputs before now (Record line) h = absurd h
+  left_by (Some name) e inputs before now (Text line) h = absurd h
   left_by (Some name) e inputs before now Output h = absurd h
   left_by (Some name) e inputs before now OutOfMemory h = left_at inputs before now name e h
 
@@ -187,6 +189,7 @@ record_kept (Some name) before now (NotWritten line) h = λ four. absurd (omega 
 record_kept (Some name) before now (Refused line) h = absurd h
 record_kept (Some name) before now (Layout line) h = absurd h
 record_kept (Some name) before now (Record line) h = absurd h
+record_kept (Some name) before now (Text line) h = absurd h
 record_kept (Some name) before now Output h = absurd h
 record_kept (Some name) before now OutOfMemory h = λ four. absurd (omega (arith, four))
 
@@ -197,6 +200,7 @@ is_made work o (NotWritten line) is = (o, is)
 is_made work o (Refused line) is = tt
 is_made work o (Layout line) is = tt
 is_made work o (Record line) is = tt
+is_made work o (Text line) is = tt
 is_made work o Output is = tt
 is_made work o OutOfMemory is = tt
 
@@ -213,6 +217,7 @@ put_kept IsTextFor state out before now (NotWritten line) h = absurd h
 put_kept IsTextFor state out before now (Refused line) h = absurd h.0
 put_kept IsTextFor state out before now (Layout line) h = absurd h.0
 put_kept IsTextFor state out before now (Record line) h = absurd h
+put_kept IsTextFor state out before now (Text line) h = absurd h
 put_kept IsTextFor state out before now Output h = λ four. absurd (omega (arith, four))
 put_kept IsTextFor state out before now OutOfMemory h = λ four. absurd (omega (arith, four))
 

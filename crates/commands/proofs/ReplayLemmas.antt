@@ -1,5 +1,5 @@
 -- A record's run, made once more.
-use Rattle.std.proofs.Common.{◌≡◌, ℕ, ◌<◌, ◌≤◌, ◌^◌, Bool, List, map, refl, sym, ap, ◌∙◌, subst, inl, inr}
+use Rattle.std.proofs.Common.{◌≡◌, ℕ, ◌<◌, ◌≤◌, ◌^◌, Bool, List, map, length, refl, sym, ap, ◌∙◌, subst, inl, inr}
 use Rattle.std.specs.Prelude.{IfErr, Result, Ok, Err}
 use Rattle.elf32_read.specs.Elf.{Elf}
 use Rattle.rv32_program.specs.Program.{IsAccepted}
@@ -11,12 +11,13 @@ use Rattle.node_model.specs.Core.{opening_core, after}
 use Rattle.node_model.specs.Node.{Work}
 use Rattle.node_model.specs.Outcome.{Outcome}
 use Rattle.run_record.specs.declared.Record.{Record as Kept}
+use Rattle.run_record.specs.Record.{NamesOtherCode}
 use Rattle.replay.specs.Replay.{IsReplay}
 use Rattle.replay.specs.Told.{what_told, events_told}
 use Rattle.dsm_core.specs.CoreParts.{work_with}
 use Rattle.command_line.specs.Commands.{Replay}
 use Rattle.commands.specs.declared.failure.Failure.{Failure}
-use Rattle.commands.specs.declared.failure.Failure.TheVariants.{Input, NotWritten, Refused, Layout, Record, Output, OutOfMemory}
+use Rattle.commands.specs.declared.failure.Failure.TheVariants.{Input, NotWritten, Refused, Layout, Record, Text, Output, OutOfMemory}
 use Rattle.dsm_io.specs.States.{SinkState, FilesState}
 use Rattle.commands.specs.Failures.{FailsAs, IsPerformFailure, IsReadyFor, IsRecordRefusal, IsRefusal, IsReplayFailure, IsReplayRefusal}
 use Rattle.commands.specs.Headline.{IsTextWith}
@@ -36,6 +37,7 @@ replay_refused inputs Reason OfLayout (NotWritten line) reasons layouts h = h
 replay_refused inputs Reason OfLayout (Refused line) reasons layouts h = reasons line.items h
 replay_refused inputs Reason OfLayout (Layout line) reasons layouts h = layouts line.items h
 replay_refused inputs Reason OfLayout (Record line) reasons layouts h = absurd h
+replay_refused inputs Reason OfLayout (Text line) reasons layouts h = absurd h
 replay_refused inputs Reason OfLayout Output reasons layouts h = h
 replay_refused inputs Reason OfLayout OutOfMemory reasons layouts h = h
 
@@ -48,6 +50,7 @@ text_refused inputs OfRecord (NotWritten line) records h = absurd h
 text_refused inputs OfRecord (Refused line) records h = absurd h
 text_refused inputs OfRecord (Layout line) records h = absurd h
 text_refused inputs OfRecord (Record line) records h = records line.items h
+text_refused inputs OfRecord (Text line) records h = absurd h
 text_refused inputs OfRecord Output records h = absurd h
 text_refused inputs OfRecord OutOfMemory records h = tt
 
@@ -59,6 +62,7 @@ refused_replay inputs brief state (NotWritten line) h = absurd h
 refused_replay inputs brief state (Refused line) h = (h, refl)
 refused_replay inputs brief state (Layout line) h = (h, refl)
 refused_replay inputs brief state (Record line) h = (h, refl)
+refused_replay inputs brief state (Text line) h = absurd h
 refused_replay inputs brief state Output h = absurd h
 refused_replay inputs brief state OutOfMemory h = inl refl
 
@@ -72,6 +76,7 @@ unput_replay inputs brief before now (NotWritten line) h = h
 unput_replay inputs brief before now (Refused line) h = h
 unput_replay inputs brief before now (Layout line) h = h
 unput_replay inputs brief before now (Record line) h = absurd h
+unput_replay inputs brief before now (Text line) h = h
 unput_replay inputs brief before now Output h = h
 unput_replay inputs brief before now OutOfMemory h = h
 
@@ -84,6 +89,7 @@ replay_fails file record_file brief inputs fb fn before now (NotWritten line) h 
 replay_fails file record_file brief inputs fb fn before now (Refused line) h = h
 replay_fails file record_file brief inputs fb fn before now (Layout line) h = h
 replay_fails file record_file brief inputs fb fn before now (Record line) h = h
+replay_fails file record_file brief inputs fb fn before now (Text line) h = absurd h
 replay_fails file record_file brief inputs fb fn before now Output h = h
 replay_fails file record_file brief inputs fb fn before now OutOfMemory h = h
 
@@ -92,15 +98,16 @@ replay_fails file record_file brief inputs fb fn before now OutOfMemory h = h
 -- the work is what the record asks to be run
 pub ready_for : (inputs : Inputs) (kept : Kept) (elf : Elf) (plan : List PlanEntry)
     (image : List Cell) (layout : Shape) (budget : ℕ)
-    → AreReady kept.batch inputs.executable elf plan image layout → IsTextOf kept inputs.recorded
-    → IsLayoutOfBlocks elf kept layout → budget ≡ kept.budget → 0 < budget → budget ≤ 2 ^ 32
+    → AreReady kept.batch inputs.executable elf plan image layout → IsTextOf kept inputs.text
+    → (NamesOtherCode kept (length image) → ⊥) → IsLayoutOfBlocks elf kept layout → budget ≡ kept.budget → 0 < budget → budget ≤ 2 ^ 32
     → HaveLaws → IsReadyFor inputs kept (work_with elf image layout budget)
-ready_for inputs kept elf plan image layout budget ready text laid_out limit some few laws = record {
+ready_for inputs kept elf plan image layout budget ready text code laid_out limit some few laws = record {
   elf = elf;
   plan = plan;
   asked = record {
     text = text;
     rewritten = ready.rewritten;
+    same_code = code;
     program = refl;
     laid_out = laid_out;
     valid = ready.valid;

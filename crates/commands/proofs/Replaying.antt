@@ -2,7 +2,7 @@
 use Rattle.std.proofs.Common.{◌≡◌, ◌⊎◌, ℕ, Bool, List, Option, None, Some, refl, sym, ap, ◌∙◌, subst, inl, inr}
 use Rattle.dsm_io.specs.Causes.{Appends, AppendsPrefix}
 use Rattle.dsm_io.specs.States.{FilesState, SinkState}
-use Rattle.command_line.specs.Commands.{Command, Rewrite, Run, Listing, One, Sim, Replay, Generate}
+use Rattle.command_line.specs.Commands.{Command, Rewrite, Run, Listing, One, Sim, Replay, Generate, Assemble}
 use Rattle.commands.specs.Again.{IsReplayOf, PutOneText}
 use Rattle.commands.specs.Headline.{IsText, Prints, PrintsPrefix}
 use Rattle.commands.specs.Inputs.{Inputs, inputs_of}
@@ -36,6 +36,8 @@ module _ (contents later : List ℕ → List ℕ) (left : FilesState) where
       (Sim a b d e f g i j) is = absurd is
   by_commands P here (Run file nodes budget (Some name) code layout brief no_batch) (Generate a b)
       is = absurd is
+  by_commands P here (Run file nodes budget (Some name) code layout brief no_batch) (Assemble a b)
+      is = absurd is
   by_commands P here (Run file nodes budget None code layout brief no_batch) replay is = absurd is
   by_commands P here (Rewrite a b d) replay is = absurd is
   by_commands P here (Listing a) replay is = absurd is
@@ -43,6 +45,7 @@ module _ (contents later : List ℕ → List ℕ) (left : FilesState) where
   by_commands P here (Sim a b d e f g i j) replay is = absurd is
   by_commands P here (Replay a b d) replay is = absurd is
   by_commands P here (Generate a b) replay is = absurd is
+  by_commands P here (Assemble a b) replay is = absurd is
 
   -- the same text, and the same status
   pub prints_again : HaveRecordLaws → (ran replay : Command) (found : FilesState)

@@ -11,7 +11,8 @@ use Rattle.commands.specs.Text.{cannot_read, cannot_write, too_long, cannot_writ
 abbrev pub file_limit : ℕ
 file_limit = 33554432
 
--- the sink took the line; or a prefix of it, where it failed; or nothing, where it was out of memory
+-- the sink took the line; or a prefix of it, where it failed; or nothing, where it was out of
+-- memory
 abbrev pub Tells : SinkState → SinkState → List ℕ → Type 0
 Tells before now line =
     Appends before.taken now.taken line
@@ -82,3 +83,8 @@ IsFault command before now out_before out Told =
     ((out.taken ≡ out_before.taken)
     × (IsReadFault command before now Told ⊎ IsWriteFault command before now Told))
     ⊎ (IsPutFault command before now out_before out × Told cannot_write_output)
+
+-- the status of a refusal: of an executable or a file of its code, of a layout, of a record, or of
+-- an assembly text
+abbrev pub IsRefusalStatus : ℕ → Type 0
+IsRefusalStatus status = (status ≡ 4) ⊎ ((status ≡ 6) ⊎ ((status ≡ 7) ⊎ (status ≡ 8)))

@@ -11,20 +11,20 @@ use Rattle.run_record.specs.Text.{record_text}
 use Rattle.dsm_core.specs.CoreParts.{work_with}
 use Rattle.dsm_io.specs.Causes.{Rose, Appends, AppendsPrefix}
 use Rattle.commands.specs.declared.failure.Failure.{Failure}
-use Rattle.commands.specs.declared.failure.Failure.TheVariants.{Input, NotWritten, Refused, Layout, Record, Output, OutOfMemory}
+use Rattle.commands.specs.declared.failure.Failure.TheVariants.{Input, NotWritten, Refused, Layout, Record, Text, Output, OutOfMemory}
 use Rattle.commands.specs.Text.{text_of, cannot_read, cannot_write, too_long, cannot_write_output, out_of_memory}
 use Rattle.commands.specs.declared.prepare.Prepared.{Prepared}
 use Rattle.commands.specs.Outcomes as outcomes
 use Rattle.commands.specs.Outcomes.{IsRunOfCode}
 use Rattle.command_line.specs.Commands.{Command, reads}
 use Rattle.dsm_io.specs.States.{SinkState, FilesState}
-use Rattle.commands.specs.Answers.{file_limit, IsTooLong, IsReadFault, HasBytes, IsUnwritten, IsWriteFault, IsPutFault}
+use Rattle.commands.specs.Answers.{file_limit, IsTooLong, IsReadFault, HasBytes, IsUnwritten, IsWriteFault, IsPutFault, IsRefusalStatus}
 use Rattle.commands.specs.Executables.{IsUnrewritten}
 use Rattle.commands.specs.Records.{record_at}
-use Rattle.commands.specs.Refusals.{IsRefused, IsLayoutRefused, IsRecordRefused}
+use Rattle.commands.specs.Refusals.{IsRefused, IsLayoutRefused, IsRecordRefused, IsTextRefused, IsBadAssembly}
 use Rattle.commands.specs.Replays.{IsWorkOf, IsOutcomeOfReplay, IsReplayRefused, IsBadReplayLayout, IsBadRecord}
-use Rattle.commands.specs.Headline.{IsRewrittenFile, IsRunOf, IsText, IsTextWith, IsWritten, Prints, PrintsPrefix}
-use Rattle.commands.specs.Inputs.{Inputs, AreTold, input_of, code_of, layout_of, recorded_of, batches_of, inputs_of}
+use Rattle.commands.specs.Headline.{IsRewrittenFile, IsAssembledFile, IsRunOf, IsText, IsTextWith, IsWritten, Prints, PrintsPrefix}
+use Rattle.commands.specs.Inputs.{Inputs, AreTold, input_of, code_of, layout_of, text_file_of, batches_of, inputs_of}
 
 -- the status and the line of a failure
 abbrev pub status_of : Failure → ℕ
@@ -33,6 +33,7 @@ status_of (NotWritten line) = 3
 status_of (Refused line) = 4
 status_of (Layout line) = 6
 status_of (Record line) = 7
+status_of (Text line) = 8
 status_of Output = 3
 status_of OutOfMemory = 5
 
@@ -42,6 +43,7 @@ line_of (NotWritten line) = line.items
 line_of (Refused line) = line.items
 line_of (Layout line) = line.items
 line_of (Record line) = line.items
+line_of (Text line) = line.items
 line_of Output = cannot_write_output
 line_of OutOfMemory = out_of_memory
 
@@ -54,6 +56,7 @@ IsReadFailure before now name (NotWritten line) = ⊥
 IsReadFailure before now name (Refused line) = ⊥
 IsReadFailure before now name (Layout line) = ⊥
 IsReadFailure before now name (Record line) = ⊥
+IsReadFailure before now name (Text line) = ⊥
 IsReadFailure before now name Output = ⊥
 IsReadFailure before now name OutOfMemory = Unit {0}
 
@@ -78,7 +81,7 @@ pub record AreRead (command : Command) (files : FilesState) (inputs : Inputs) : 
   pub executable : AreBytes files (input_of command) inputs.executable
   pub code : AreContents files (code_of command) inputs.code
   pub layout : AreContents files (layout_of command) inputs.layout
-  pub recorded : AreBytes files (recorded_of command) inputs.recorded
+  pub text : AreBytes files (text_file_of command) inputs.text
   pub batches : inputs.batches ≡ batches_of command
 
 -- a file that is named wasn't read
@@ -94,6 +97,7 @@ IsRefusal Reason OfLayout (NotWritten line) = ⊥
 IsRefusal Reason OfLayout (Refused line) = Reason line.items
 IsRefusal Reason OfLayout (Layout line) = OfLayout line.items
 IsRefusal Reason OfLayout (Record line) = ⊥
+IsRefusal Reason OfLayout (Text line) = ⊥
 IsRefusal Reason OfLayout Output = ⊥
 IsRefusal Reason OfLayout OutOfMemory = Unit {0}
 
@@ -103,6 +107,12 @@ IsRecordRefusal OfRecord (Record line) = OfRecord line.items
 IsRecordRefusal OfRecord OutOfMemory = Unit {0}
 IsRecordRefusal OfRecord f = ⊥
 
+-- a refusal of an assembly text; or a failure because it is out of memory
+abbrev pub IsAssemblyRefusal : List ℕ → Failure → Type 0
+IsAssemblyRefusal text (Text line) = IsBadAssembly text line.items
+IsAssemblyRefusal text OutOfMemory = Unit {0}
+IsAssemblyRefusal text f = ⊥
+
 -- why a piece wasn't put whole
 abbrev pub IsPutFailure : SinkState → SinkState → List ℕ → Failure → Type 0
 IsPutFailure before now piece (Input line) = ⊥
@@ -110,6 +120,7 @@ IsPutFailure before now piece (NotWritten line) = ⊥
 IsPutFailure before now piece (Refused line) = ⊥
 IsPutFailure before now piece (Layout line) = ⊥
 IsPutFailure before now piece (Record line) = ⊥
+IsPutFailure before now piece (Text line) = ⊥
 IsPutFailure before now piece Output =
     Rose before.faults now.faults × AppendsPrefix before.taken now.taken piece
 IsPutFailure before now piece OutOfMemory = now.taken ≡ before.taken
@@ -131,6 +142,7 @@ FailsAs IsTextFor Reason OfLayout before now (Refused line) =
 FailsAs IsTextFor Reason OfLayout before now (Layout line) =
     OfLayout line.items × (now.taken ≡ before.taken)
 FailsAs IsTextFor Reason OfLayout before now (Record line) = ⊥
+FailsAs IsTextFor Reason OfLayout before now (Text line) = ⊥
 FailsAs IsTextFor Reason OfLayout before now Output =
     Rose before.faults now.faults × PutsPrefix IsTextFor before now
 FailsAs IsTextFor Reason OfLayout before now OutOfMemory =
@@ -228,6 +240,10 @@ IsFailure command files files_now before now (Record line) =
     (now.taken ≡ before.taken)
     × ((contents : List ℕ → List ℕ) → AreTold command files contents
     → IsRecordRefused command (inputs_of command contents) line.items)
+IsFailure command files files_now before now (Text line) =
+    (now.taken ≡ before.taken)
+    × ((contents : List ℕ → List ℕ) → AreTold command files contents
+    → IsTextRefused command (inputs_of command contents) line.items)
 IsFailure command files files_now before now Output =
     IsPutFault command files files_now before now
 IsFailure command files files_now before now OutOfMemory =
@@ -274,6 +290,15 @@ IsRewriteFailure batches file before now name (Refused line) =
     IsUnrewritten batches file line.items × ((n : List ℕ) → now.held n ≡ before.held n)
 IsRewriteFailure batches file before now name f = IsWriteFailure before now name f
 
+-- why the file of an assembly text wasn't written
+abbrev pub IsAssemblyFailure : List ℕ → FilesState → FilesState → List ℕ → Failure → Type 0
+IsAssemblyFailure text before now name (NotWritten line) =
+    ((bytes : List ℕ) × IsAssembledFile text bytes)
+    × IsWriteFailure before now name (NotWritten line)
+IsAssemblyFailure text before now name (Text line) =
+    IsBadAssembly text line.items × ((n : List ℕ) → now.held n ≡ before.held n)
+IsAssemblyFailure text before now name f = IsWriteFailure before now name f
+
 -- how a command fails that reads these files
 abbrev pub IsPerformFailure : Command → Inputs → FilesState → FilesState → SinkState → SinkState
     → Failure → Type 0
@@ -282,6 +307,8 @@ IsPerformFailure command inputs files files_now before now (NotWritten line) =
     × (HasBytes command inputs × IsUnwritten command files files_now (λ l. line.items ≡ l))
 IsPerformFailure command inputs files files_now before now (Record line) =
     IsRecordRefused command inputs line.items × (now.taken ≡ before.taken)
+IsPerformFailure command inputs files files_now before now (Text line) =
+    IsTextRefused command inputs line.items × (now.taken ≡ before.taken)
 IsPerformFailure command inputs files files_now before now f =
     FailsAs (IsText command files_now inputs) (IsRefused command inputs)
     (IsLayoutRefused command inputs) before now f
@@ -300,5 +327,5 @@ AreInputs command files inputs =
 -- where a command is refused, no file changes
 abbrev pub AreKept : FilesState → FilesState → Failure → Type 0
 AreKept before now f =
-    (status_of f ≡ 4) ⊎ ((status_of f ≡ 6) ⊎ (status_of f ≡ 7))
+    IsRefusalStatus (status_of f)
     → (name : List ℕ) → now.held name ≡ before.held name

@@ -9,7 +9,7 @@ bytes_of inputs = record {
   executable = inputs.executable.now;
   code = option_map (λ file. file.now) inputs.code;
   layout = option_map (λ file. file.now) inputs.layout;
-  recorded = inputs.recorded.now;
+  text = inputs.text.now;
   batches = inputs.batches;
 }
 
@@ -18,6 +18,6 @@ contents_of files = record {
   executable = files.executable.items;
   code = option_map (λ file. file.items) files.code;
   layout = option_map (λ file. file.items) files.layout;
-  recorded = files.recorded.items;
+  text = files.text.items;
   batches = files.batches;
 }

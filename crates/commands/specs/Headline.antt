@@ -18,7 +18,8 @@ use Rattle.shared_sim.specs.ByOrder.{FollowsOrder}
 use Rattle.block_layout.specs.Layout.{Shape}
 use Rattle.one_memory.specs.ByOrder.{IsRunByOrder}
 use Rattle.workload.specs.Generated.{generated_elf}
-use Rattle.command_line.specs.Commands.{Command, Rewrite, Run, Listing, One, Sim, Replay, Generate}
+use Rattle.rv32_asm.specs.Assembling.{IsAssembled}
+use Rattle.command_line.specs.Commands.{Command, Rewrite, Run, Listing, One, Sim, Replay, Generate, Assemble}
 use Rattle.dsm_io.specs.Causes.{Appends, AppendsPrefix}
 use Rattle.dsm_io.specs.States.{FilesState, SinkState}
 use Rattle.commands.specs.Code.{IsFileOf}
@@ -122,6 +123,19 @@ pub record IsRewrittenText (batches : Bool) (file text : List ℕ) (status : ℕ
   pub text_is : text ≡ []
   pub status_is : status ≡ 0
 
+-- the bytes are the file of the executable of an assembly text
+pub record IsAssembledFile (text bytes : List ℕ) : Type 0 where
+  pub elf : Elf
+  pub assembled : IsAssembled text elf
+  pub bytes_are : bytes ≡ file_of elf
+
+-- nothing is printed beside that file
+pub record IsAssembledText (assembly text : List ℕ) (status : ℕ) : Type 0 where
+  pub bytes : List ℕ
+  pub is : IsAssembledFile assembly bytes
+  pub text_is : text ≡ []
+  pub status_is : status ≡ 0
+
 -- nothing is printed
 abbrev pub IsNoText : List ℕ → ℕ → Type 0
 IsNoText text status = (text ≡ []) × (status ≡ 0)
@@ -154,6 +168,8 @@ IsText (Listing file) files inputs text status = IsListingText inputs.executable
 IsText (Replay file record_file brief) files inputs text status =
     IsTextWith (IsOutcomeOfReplay inputs) brief text status
 IsText (Generate number output) files inputs text status = IsNoText text status
+IsText (Assemble assembly output) files inputs text status =
+    IsAssembledText inputs.text text status
 
 -- the whole text was put, and the files hold what goes with it
 pub record Prints (command : Command) (contents : List ℕ → List ℕ)
@@ -177,4 +193,5 @@ IsWritten (Rewrite input output no_batch) inputs bytes =
 IsWritten (Run file nodes budget record_file code layout brief no_batch) inputs bytes =
     IsRecordOfRun inputs nodes budget bytes
 IsWritten (Generate number output) inputs bytes = bytes ≡ file_of (generated_elf number)
+IsWritten (Assemble assembly output) inputs bytes = IsAssembledFile inputs.text bytes
 IsWritten command inputs bytes = ⊥

@@ -1,16 +1,16 @@
 -- The files that commands read.
 use Rattle.std.specs.Prelude.{◌≡◌, ℕ, Bool, true, not, List, [], Option, None, Some, option_map, Contains}
 use Rattle.dsm_io.specs.States.{FilesState}
-use Rattle.command_line.specs.Commands.{Command, Rewrite, Run, Listing, One, Sim, Replay, Generate, reads}
+use Rattle.command_line.specs.Commands.{Command, Rewrite, Run, Listing, One, Sim, Replay, Generate, Assemble, reads}
 
--- the bytes of the executable and of the record, which are none where a command reads none; those
--- of the rewritten executable and of the layout, where they are named; and whether code is rewritten
--- with batches, where no record says so
+-- the bytes of the executable, and the text of the record or of the assembly, which are none where
+-- a command reads none; those of the rewritten executable and of the layout, where they are named;
+-- and whether code is rewritten with batches, where no record says so
 pub record Inputs : Type 0 where
   pub executable : List ℕ
   pub code : Option (List ℕ)
   pub layout : Option (List ℕ)
-  pub recorded : List ℕ
+  pub text : List ℕ
   pub batches : Bool
 
 -- the file that a command reads as an executable, where it reads one
@@ -22,6 +22,7 @@ input_of (One file nodes order budget layout) = Some file
 input_of (Sim file nodes order budget code layout brief no_batch) = Some file
 input_of (Replay file record_file brief) = Some file
 input_of (Generate number output) = None
+input_of (Assemble text output) = None
 
 -- the file that a command reads as the rewritten executable
 abbrev pub code_of : Command → Option (List ℕ)
@@ -36,10 +37,11 @@ layout_of (One file nodes order budget layout) = layout
 layout_of (Sim file nodes order budget code layout brief no_batch) = layout
 layout_of command = None
 
--- the file that a command reads as a record
-abbrev pub recorded_of : Command → Option (List ℕ)
-recorded_of (Replay file record_file brief) = Some record_file
-recorded_of command = None
+-- the file that a command reads as a record, or as an assembly text
+abbrev pub text_file_of : Command → Option (List ℕ)
+text_file_of (Replay file record_file brief) = Some record_file
+text_file_of (Assemble text output) = Some text
+text_file_of command = None
 
 -- whether a command asks for code with batches
 abbrev pub batches_of : Command → Bool
@@ -59,7 +61,7 @@ inputs_of command contents = record {
   executable = bytes_in contents (input_of command);
   code = option_map contents (code_of command);
   layout = option_map contents (layout_of command);
-  recorded = bytes_in contents (recorded_of command);
+  text = bytes_in contents (text_file_of command);
   batches = batches_of command;
 }
 

@@ -1,5 +1,5 @@
--- What `one`, `sim`, `run` and `replay` print, by the original alone: a run of its processors on one
--- memory, interleaved instruction by instruction.
+-- What `one`, `sim`, `run` and `replay` print, by the original alone: a run of its processors on
+-- one memory, interleaved instruction by instruction.
 use Rattle.std.specs.Prelude.{◌≡◌, ℕ, List, ◌++◌, Option, length}
 use Rattle.elf32_read.specs.Elf.{Elf}
 use Rattle.exec_map.specs.Contents.{program_of, AreSharedRanges}
@@ -29,8 +29,8 @@ pub record IsInterleaved (original : Original) (budget : ℕ) (output : List ℕ
         ≡ ends_by budget (run original (opening original) picks) original.nodes
 
 -- The text tells of such a run of the program of the executable in a file, on so many processors,
--- whose shared lines have the blocks of such a layout. Behind the ends stand the lines of what nodes
--- counted, or none.
+-- whose shared lines have the blocks of such a layout. Behind the ends stand the lines of what
+-- nodes counted, or none.
 pub record TellsOfOriginal (file : List ℕ) (IsLaidOut : Elf → Shape → Type 0) (nodes budget : ℕ)
     (text : List ℕ) : Type 0 where
   pub elf : Elf

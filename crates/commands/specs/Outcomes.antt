@@ -66,8 +66,8 @@ pub record IsWholeRun (work : Work) (plan : List PlanEntry) (events : List Event
       → (after work (opening_core work) events).list j k ≡ []
 
 -- The outcome of a run of the rewritten code of the executable in a file, which is the rewriting by
--- the plan of the program, with batches or without. The events are the nodes' own, as their journals
--- tell them, by stamp, and at one stamp by node; after them each node is over.
+-- the plan of the program, with batches or without. The events are the nodes' own, as their
+-- journals tell them, by stamp, and at one stamp by node; after them each node is over.
 pub record IsRunOfCode (batches : Bool) (file : List ℕ) (elf : Elf) (plan : List PlanEntry)
     (work : Work) (own : List Stamped) (outcome : Outcome) : Type 0 where
   pub rewritten : IsRewritingOf batches file elf plan work.image

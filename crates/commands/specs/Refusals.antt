@@ -1,5 +1,6 @@
 -- How the files of each command are refused: the executable first, then the text of a record, the
--- rewriting, the file of code, the layout, and the events of a record.
+-- rewriting, the file of code, the number of words that a record names, the layout, and the events
+-- of a record.
 use Rattle.std.specs.Prelude.{◌≡◌, ℕ, ◌⊎◌, List, Option, Some}
 use Rattle.elf32_read.specs.Elf.{Elf}
 use Rattle.exec_map.specs.Contents.{AreSharedRanges}
@@ -9,16 +10,19 @@ use Rattle.block_layout.specs.Text.{IsFirstFault}
 use Rattle.templates.specs.declared.plans.PlanEntry.{PlanEntry}
 use Rattle.jump_map.specs.Image.{Cell}
 use Rattle.rewriter.specs.RewrittenFile.{rewritten_elf}
-use Rattle.command_line.specs.Commands.{Command, Rewrite, Run, Listing, One, Sim, Replay, Generate}
+use Rattle.command_line.specs.Commands.{Command, Rewrite, Run, Listing, One, Sim, Replay, Generate, Assemble}
 use Rattle.commands.specs.Code.{IsCodeRefused, IsFileOf, IsRewritingOf}
 use Rattle.commands.specs.Executables.{IsProgramOf, IsUnaccepted, IsUnrewritten}
 use Rattle.commands.specs.Inputs.{Inputs}
 use Rattle.commands.specs.Replays.{IsReplayRefused, IsBadReplayLayout, IsBadRecord}
-use Rattle.commands.specs.Text.{layout_line}
+use Rattle.rv32_asm.specs.Rules.{IsFirstFault as IsFirstFaultOfText}
+use Rattle.rv32_asm.specs.declared.refused.AsmRule.{AsmRule}
+use Rattle.commands.specs.Text.{layout_line, assembly_line}
 
 -- the text breaks a rule of layouts of the executable's shared lines, and the line says at which
 -- line first, and which rule is the lowest there
-pub record IsFaultyLayout (elf : Elf) (layout : Option (List ℕ)) (nodes : ℕ) (line : List ℕ) : Type 0
+pub record IsFaultyLayout (elf : Elf) (layout : Option (List ℕ)) (nodes : ℕ) (line : List ℕ)
+    : Type 0
   where
     pub text : List ℕ
     pub text_is : layout ≡ Some text
@@ -62,6 +66,7 @@ IsRefused (Sim file nodes order budget code layout brief no_batch) inputs line =
     IsRunRefused inputs line
 IsRefused (Replay file record_file brief) inputs line = IsReplayRefused inputs line
 IsRefused (Generate number output) inputs line = ⊥
+IsRefused (Assemble text output) inputs line = ⊥
 
 -- a command's layout is refused with this line
 abbrev pub IsLayoutRefused : Command → Inputs → List ℕ → Type 0
@@ -77,3 +82,16 @@ IsLayoutRefused command inputs line = ⊥
 abbrev pub IsRecordRefused : Command → Inputs → List ℕ → Type 0
 IsRecordRefused (Replay file record_file brief) inputs line = IsBadRecord inputs line
 IsRecordRefused command inputs line = ⊥
+
+-- the assembly text breaks a rule, and the line says at which line first, and which rule is the
+-- lowest there
+pub record IsBadAssembly (text line : List ℕ) : Type 0 where
+  pub rule : AsmRule
+  pub number : ℕ
+  pub fault : IsFirstFaultOfText text rule number
+  pub line_is : line ≡ assembly_line rule number
+
+-- a command's assembly text is refused with this line
+abbrev pub IsTextRefused : Command → Inputs → List ℕ → Type 0
+IsTextRefused (Assemble text output) inputs line = IsBadAssembly inputs.text line
+IsTextRefused command inputs line = ⊥

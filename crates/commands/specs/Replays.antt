@@ -1,5 +1,5 @@
 -- The run of a record, made once more, and how a record is refused.
-use Rattle.std.specs.Prelude.{◌≡◌, ℕ, ◌⊎◌, List, map}
+use Rattle.std.specs.Prelude.{◌≡◌, ℕ, ◌⊎◌, List, map, length}
 use Rattle.elf32_read.specs.Elf.{Elf}
 use Rattle.exec_map.specs.Contents.{program_of, AreSharedRanges}
 use Rattle.block_layout.specs.declared.ranges.Lines.{Lines}
@@ -12,7 +12,8 @@ use Rattle.node_model.specs.Node.{Work}
 use Rattle.node_model.specs.Outcome.{Outcome}
 use Rattle.run_record.specs.declared.Record.{Record}
 use Rattle.run_record.specs.declared.refused.RecordRule.{RecordRule}
-use Rattle.run_record.specs.Record.{IsRecord}
+use Rattle.run_record.specs.declared.refused.RecordRule.TheVariants as rules
+use Rattle.run_record.specs.Record.{IsRecord, NamesOtherCode}
 use Rattle.run_record.specs.Rules.{IsFirstFault}
 use Rattle.run_record.specs.Telling.{IsOfWords}
 use Rattle.run_record.specs.Text.{record_text}
@@ -56,12 +57,19 @@ pub record AreFaultyBlocks (elf : Elf) (kept : Record) (line : List ℕ) : Type 
   pub broken : IsFirstBroken kept.blocks shared kept.nodes rule number
   pub line_is : line ≡ layout_line rule number
 
--- What a record asks to be run: the rewriting of the executable's program, on the layout of the
--- record's blocks, with the record's nodes and budget.
+-- the record names another number of rewritten words than this: the line says so, of the fifth line
+-- of the record's text
+pub record IsOtherCode (kept : Record) (words : ℕ) (line : List ℕ) : Type 0 where
+  pub other : NamesOtherCode kept words
+  pub line_is : line ≡ record_line rules.Code 5
+
+-- What a record asks to be run: the rewriting of the executable's program, of as many words as the
+-- record names, on the layout of the record's blocks, with the record's nodes and budget.
 pub record IsWorkOf (inputs : Inputs) (kept : Record) (elf : Elf) (plan : List PlanEntry)
     (work : Work) : Type 0 where
-  pub text : IsTextOf kept inputs.recorded
+  pub text : IsTextOf kept inputs.text
   pub rewritten : IsRewritingOf kept.batch inputs.executable elf plan work.image
+  pub same_code : NamesOtherCode kept (length work.image) → ⊥
   pub program : work.program ≡ program_of elf
   pub laid_out : IsLayoutOfBlocks elf kept work.layout
   pub valid : IsValid work.layout
@@ -95,29 +103,41 @@ pub record HasLongReplay (inputs : Inputs) (line : List ℕ) : Type 0 where
   pub elf : Elf
   pub executable : IsProgramOf inputs.executable elf
   pub kept : Record
-  pub text : IsTextOf kept inputs.recorded
+  pub text : IsTextOf kept inputs.text
   pub long : HasLongCode kept.batch elf line
 
 -- the executable isn't accepted, or not rewritten, and this line says why
 abbrev pub IsReplayRefused : Inputs → List ℕ → Type 0
 IsReplayRefused inputs line = IsUnaccepted inputs.executable line ⊎ HasLongReplay inputs line
 
--- the text is that of a record and the executable has a rewriting, but the record's blocks are
--- refused with this line
+-- the text is that of a record and the executable has a rewriting of as many words as the record
+-- names, but the record's blocks are refused with this line
 pub record IsBadReplayLayout (inputs : Inputs) (line : List ℕ) : Type 0 where
   pub kept : Record
-  pub text : IsTextOf kept inputs.recorded
+  pub text : IsTextOf kept inputs.text
   pub elf : Elf
   pub plan : List PlanEntry
   pub image : List Cell
   pub rewritten : IsRewritingOf kept.batch inputs.executable elf plan image
+  pub same_code : NamesOtherCode kept (length image) → ⊥
   pub faulty : AreFaultyBlocks elf kept line
 
 -- the executable is accepted, but the text is refused with this line
 pub record IsNoRecord (inputs : Inputs) (line : List ℕ) : Type 0 where
   pub elf : Elf
   pub executable : IsProgramOf inputs.executable elf
-  pub faulty : IsFaultyText inputs.recorded line
+  pub faulty : IsFaultyText inputs.text line
+
+-- the text is that of a record and the executable has a rewriting, but that has another number of
+-- words than the record names, which this line says
+pub record IsNoRecordOfCode (inputs : Inputs) (line : List ℕ) : Type 0 where
+  pub kept : Record
+  pub text : IsTextOf kept inputs.text
+  pub elf : Elf
+  pub plan : List PlanEntry
+  pub image : List Cell
+  pub rewritten : IsRewritingOf kept.batch inputs.executable elf plan image
+  pub other : IsOtherCode kept (length image) line
 
 -- the record asks for a run, but its events are refused with this line
 pub record IsBrokenRecord (inputs : Inputs) (line : List ℕ) : Type 0 where
@@ -128,6 +148,7 @@ pub record IsBrokenRecord (inputs : Inputs) (line : List ℕ) : Type 0 where
   pub asked : IsWorkOf inputs kept elf plan work
   pub broken : IsBrokenRun work kept line
 
--- the record is refused with this line: its text, or its events
+-- the record is refused with this line: its text, the number of words that it names, or its events
 abbrev pub IsBadRecord : Inputs → List ℕ → Type 0
-IsBadRecord inputs line = IsNoRecord inputs line ⊎ IsBrokenRecord inputs line
+IsBadRecord inputs line =
+    IsNoRecord inputs line ⊎ (IsNoRecordOfCode inputs line ⊎ IsBrokenRecord inputs line)

@@ -20,6 +20,8 @@ use Rattle.run_record.specs.Rules as records
 use Rattle.run_record.specs.declared.refused.RecordRule.{RecordRule}
 use Rattle.replay.specs.Refusals as replays
 use Rattle.replay.specs.declared.refused.ReplayRule.{ReplayRule}
+use Rattle.rv32_asm.specs.Rules as assembly
+use Rattle.rv32_asm.specs.declared.refused.AsmRule.{AsmRule}
 use Rattle.commands.specs.Processors.{hex8, outcome_head, processor_lines}
 use Rattle.commands.specs.declared.refusal.Subject.{Subject}
 use Rattle.commands.specs.declared.refusal.Subject.TheVariants as subject
@@ -57,7 +59,8 @@ usage =
     ++ (codes "       shasta run IN [--nodes N] [--record FILE] [--budget B] [--layout FILE]"
     ++ (codes " [--code FILE] [--no-batch] [--brief]\n"
     ++ (codes "       shasta replay IN RECORD [--brief]\n"
-    ++ codes "       shasta gen NUMBER OUT\n")))))))
+    ++ (codes "       shasta gen NUMBER OUT\n"
+    ++ codes "       shasta asm TEXT OUT\n"))))))))
 
 abbrev pub cannot_read : List ℕ → List ℕ
 cannot_read name = codes "shasta: cannot read " ++ (name ++ codes "\n")
@@ -158,3 +161,9 @@ event_line rule node entry =
     codes "shasta: record refused " ++ (decimal (replays.number_of rule)
     ++ (codes " at node " ++ (decimal node
     ++ (codes " entry " ++ (decimal entry ++ codes "\n")))))
+
+-- the line of a rule that refuses an assembly text, and of the line that breaks it
+abbrev pub assembly_line : AsmRule → ℕ → List ℕ
+assembly_line rule line =
+    codes "shasta: text refused " ++ (decimal (assembly.number_of rule)
+    ++ (codes " at line " ++ (decimal line ++ codes "\n")))

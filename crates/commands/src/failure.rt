@@ -18,6 +18,8 @@ pub enum Failure {
     Layout(Vec<u8>),
     /// The record is refused; the line says where.
     Record(Vec<u8>),
+    /// The assembly text is refused; the line says where.
+    Text(Vec<u8>),
     /// The output failed.
     Output,
     OutOfMemory,
@@ -45,6 +47,7 @@ impl Failure {
             Failure::OutOfMemory => 5,
             Failure::Layout(_) => 6,
             Failure::Record(_) => 7,
+            Failure::Text(_) => 8,
         }
     }
 
@@ -57,7 +60,8 @@ impl Failure {
             | Failure::NotWritten(line)
             | Failure::Refused(line)
             | Failure::Layout(line)
-            | Failure::Record(line) => line,
+            | Failure::Record(line)
+            | Failure::Text(line) => line,
             Failure::Output => b"shasta: cannot write output\n",
             Failure::OutOfMemory => b"shasta: out of memory\n",
         }

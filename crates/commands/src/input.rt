@@ -1,15 +1,21 @@
 //! Files that commands read.
 
-ghost use Rattle.std.specs.Prelude.{◌≡◌, ◌⊎◌, ◌<◌, ◌≤◌, ℕ, List, length, Option, Some, Contains, option_map, IfOk, OnOk, IfErr, IfSome, MatchResult};
+ghost use Rattle.std.specs.Prelude.{◌≡◌, ◌⊎◌, ◌<◌, ◌≤◌, ℕ, List, length, Option, Some, Contains};
+ghost use Rattle.std.specs.Prelude.{option_map, IfOk, OnOk, IfErr, IfSome, MatchResult};
 ghost use Rattle.command_line.specs.Commands.{reads};
 ghost use Rattle.command_line.specs.Meaning.{meaning_of, file_name};
-ghost use Rattle.commands.specs.Inputs.{input_of as model_input_of, code_of as model_code_of, layout_of as model_layout_of, recorded_of as model_recorded_of, batches_of as model_batches_of};
+ghost use Rattle.commands.specs.Inputs.{input_of as model_input_of, code_of as model_code_of};
+ghost use Rattle.commands.specs.Inputs.{layout_of as model_layout_of};
+ghost use Rattle.commands.specs.Inputs.{text_file_of as model_text_file_of};
+ghost use Rattle.commands.specs.Inputs.{batches_of as model_batches_of};
 ghost use Rattle.commands.specs.Given.{bytes_of, contents_of};
 ghost use Rattle.commands.specs.Text as model;
 ghost use Rattle.dsm_io.specs.States.{FilesState};
 ghost use Rattle.commands.specs.Answers.{file_limit};
 ghost use Rattle.commands.specs.Executables.{ReadsAs, IsUnread, IsRejection};
-ghost use Rattle.commands.specs.Failures.{AreBytes, AreContents, AreInputs, IsContent, IsInputFailure, IsNamedFailure, IsNever, IsNoRefusal, IsReadFailure, IsRefusal};
+ghost use Rattle.commands.specs.Failures.{AreBytes, AreContents, AreInputs, IsContent};
+ghost use Rattle.commands.specs.Failures.{IsInputFailure, IsNamedFailure, IsNever, IsNoRefusal};
+ghost use Rattle.commands.specs.Failures.{IsReadFailure, IsRefusal};
 ghost use Rattle.exec_map.specs.Contents.{program_of as model_program_of};
 ghost use Rattle.exec_map.specs.Refusals.{IsAcceptable};
 ghost use Rattle.rv32_program.specs.Program.{IsAccepted};
@@ -28,7 +34,7 @@ pub struct InputFiles {
     executable: Vec<u8>,
     code: Option<Vec<u8>>,
     layout: Option<Vec<u8>>,
-    recorded: Vec<u8>,
+    text: Vec<u8>,
     batches: bool,
 }
 
@@ -41,8 +47,8 @@ pub struct Inputs<'a> {
     pub code: Option<&'a [u8]>,
     /// None where the command names no layout.
     pub layout: Option<&'a [u8]>,
-    /// The text of the record. None where the command reads no record.
-    pub recorded: &'a [u8],
+    /// The text of the record, or the assembly text. None where the command reads neither.
+    pub text: &'a [u8],
     /// Whether code is rewritten with batches, where no record says so.
     pub batches: bool,
 }
@@ -56,7 +62,7 @@ impl InputFiles {
             executable: &self.executable,
             code: lent(&self.code),
             layout: lent(&self.layout),
-            recorded: &self.recorded,
+            text: &self.text,
             batches: self.batches,
         }
     }
@@ -83,7 +89,7 @@ fn input_of<'a>(command: &Command<'a>) -> Option<&'a str>
         | Command::One { file, .. }
         | Command::Sim { file, .. }
         | Command::Replay { file, .. } => Some(*file),
-        Command::Generate { .. } => None,
+        Command::Generate { .. } | Command::Assemble { .. } => None,
     }
 }
 
@@ -97,7 +103,8 @@ fn code_of<'a>(command: &Command<'a>) -> Option<&'a str>
         | Command::List { .. }
         | Command::One { .. }
         | Command::Replay { .. }
-        | Command::Generate { .. } => None,
+        | Command::Generate { .. }
+        | Command::Assemble { .. } => None,
     }
 }
 
@@ -111,16 +118,18 @@ fn layout_of<'a>(command: &Command<'a>) -> Option<&'a str>
         Command::Rewrite { .. }
         | Command::List { .. }
         | Command::Replay { .. }
-        | Command::Generate { .. } => None,
+        | Command::Generate { .. }
+        | Command::Assemble { .. } => None,
     }
 }
 
-/// The name of the file that a command reads as a record.
-fn recorded_of<'a>(command: &Command<'a>) -> Option<&'a str>
-    ensures { file_name result ≡ model_recorded_of (meaning_of command.now) }
+/// The name of the file that a command reads as a record, or as an assembly text.
+fn text_file_of<'a>(command: &Command<'a>) -> Option<&'a str>
+    ensures { file_name result ≡ model_text_file_of (meaning_of command.now) }
 {
     match command {
         Command::Replay { record_file, .. } => Some(*record_file),
+        Command::Assemble { text, .. } => Some(*text),
         Command::Rewrite { .. }
         | Command::Run { .. }
         | Command::List { .. }
@@ -141,12 +150,13 @@ fn batches_of(command: &Command<'_>) -> bool
         Command::List { .. }
         | Command::One { .. }
         | Command::Replay { .. }
-        | Command::Generate { .. } => true,
+        | Command::Generate { .. }
+        | Command::Assemble { .. } => true,
     }
 }
 
-/// Reads the files of a command: the executable, that of its code, the layout, and the record, in
-/// this order.
+/// Reads the files of a command: the executable, that of its code, the layout, and the record or
+/// the assembly text, in this order.
 pub fn read_inputs<F: Files>(
     alloc: Global,
     command: &Command<'_>,
@@ -166,12 +176,12 @@ pub fn read_inputs<F: Files>(
     let executable = read_bytes(alloc, files, input_of(command))?;
     let code = read_named(alloc, files, code_of(command))?;
     let layout = read_named(alloc, files, layout_of(command))?;
-    let recorded = read_bytes(alloc, files, recorded_of(command))?;
+    let text = read_bytes(alloc, files, text_file_of(command))?;
     Ok(InputFiles {
         executable,
         code,
         layout,
-        recorded,
+        text,
         batches: batches_of(command),
     })
 }

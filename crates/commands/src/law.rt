@@ -20,8 +20,8 @@ use run_record::record_law;
 /// The law of a `run` and a `replay` of the record that it left, which the callers use by its
 /// clauses; the call does nothing.
 pub fn run_and_replay_law()
-    // What the `replay` prints, of the same executable, is what the `run` printed; and the status is
-    // the same.
+    // What the `replay` prints, of the same executable, is what the `run` printed; and the status
+    // is the same.
     ensures prints { (ran replay : Command) (contents later : List ℕ → List ℕ)
         (left found : FilesState) (before now before_again now_again : SinkState)
         (status status_again : ℕ) → IsReplayOf contents later left ran replay

@@ -16,8 +16,8 @@ use run_limits::NodeCount;
 use run_record::Record;
 use std::alloc::Global;
 
-/// The layout of a program's shared lines for so many nodes: that of a text, or, where there is none,
-/// that where each line is a block.
+/// The layout of a program's shared lines for so many nodes: that of a text, or, where there is
+/// none, that where each line is a block.
 pub fn layout_for(
     alloc: Global,
     program: &Program<'_>,

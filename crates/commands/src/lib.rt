@@ -1,6 +1,7 @@
 #![tactic(auto)]
 //! The commands of the program, and the top call, [`shasta`], which does what the words ask for.
 
+mod assembly;
 mod code;
 mod failure;
 mod generate;

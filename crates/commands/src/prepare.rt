@@ -4,7 +4,8 @@ ghost use Rattle.std.specs.Prelude.{◌≡◌, ℕ, IfOk, IfErr};
 ghost use Rattle.rewriting_law.specs.Bounds.{RunsRewritten};
 ghost use Rattle.dsm_core.specs.CoreParts.{work_in};
 ghost use Rattle.commands.specs.Executables.{ReadsAs};
-ghost use Rattle.commands.specs.Failures.{IsReadyFor, IsRefusal, IsReplayRefusal, GivesRuns, work_for};
+ghost use Rattle.commands.specs.Failures.{IsReadyFor, IsRefusal, IsReplayRefusal, GivesRuns};
+ghost use Rattle.commands.specs.Failures.{work_for};
 ghost use Rattle.commands.specs.Given.{bytes_of};
 ghost use Rattle.commands.specs.Refusals.{IsRunRefused, IsBadRunLayout};
 
@@ -12,7 +13,7 @@ use crate::code::{judge_code, rewriting_of};
 use crate::failure::Failure;
 use crate::input::{Inputs, program_of};
 use crate::layout::{layout_for, layout_of_blocks};
-use crate::record::record_in;
+use crate::record::{judge_words, record_in};
 use block_layout::Layout;
 use dsm_core::Work;
 use elf32_read::Elf;
@@ -82,8 +83,9 @@ pub fn prepare<'a>(
     })
 }
 
-/// Judges the executable, which was read, the text of the record, the rewriting and the layout of
-/// the record's blocks, in this order, and gives the parts of the record's run.
+/// Judges the executable, which was read, the text of the record, the rewriting, the number of
+/// words that the record names and the layout of its blocks, in this order, and gives the parts of
+/// the record's run.
 pub fn prepare_replay<'a>(
     alloc: Global,
     elf: &'a Elf<'_>,
@@ -95,8 +97,9 @@ pub fn prepare_replay<'a>(
     ensures refused { IfErr result (IsReplayRefusal (bytes_of inputs.now)) }
 {
     let program = program_of(alloc, elf)?;
-    let kept = record_in(alloc, inputs.recorded)?;
+    let kept = record_in(alloc, inputs.text)?;
     let rewritten = rewriting_of(alloc, &program, kept.batch)?;
+    judge_words(alloc, &kept, rewritten.image())?;
     let layout = layout_of_blocks(alloc, &program, &kept)?;
     let Some(budget) = Budget::of(kept.budget) else {
         unreachable!();

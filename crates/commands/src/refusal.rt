@@ -1,4 +1,5 @@
-//! The lines that say why an executable, a file of code, a layout or a record is refused.
+//! The lines that say why an executable, a file of code, a layout, a record or an assembly text is
+//! refused.
 
 ghost use Rattle.std.specs.Prelude.{◌≡◌, ◌++◌, IfOk, OnOk};
 ghost use Rattle.std.specs.Fmt.{decimal};
@@ -12,6 +13,7 @@ use exec_map::{Class, ProgramRule};
 use replay::ReplayRule;
 use rewriter::Part;
 use run_record::RecordRule;
+use rv32_asm::AsmRule;
 use std::alloc::{AllocError, Global};
 
 /// What a file is read for.
@@ -107,6 +109,19 @@ pub fn record_line(alloc: Global, rule: RecordRule, number: usize) -> Result<Vec
 {
     let mut line = Vec::new(alloc);
     line.extend_from_slice(b"shasta: record refused ")?;
+    push_number(&mut line, u64::from(rule.number()))?;
+    line.extend_from_slice(b" at line ")?;
+    push_number(&mut line, number as u64)?;
+    line.extend_from_slice(b"\n")?;
+    Ok(line)
+}
+
+/// The line of a rule that refuses an assembly text, and of the line that breaks it.
+pub fn assembly_line(alloc: Global, rule: AsmRule, number: usize) -> Result<Vec<u8>, AllocError>
+    ensures { IfOk result (λ line. line.items ≡ model.assembly_line rule number) }
+{
+    let mut line = Vec::new(alloc);
+    line.extend_from_slice(b"shasta: text refused ")?;
     push_number(&mut line, u64::from(rule.number()))?;
     line.extend_from_slice(b" at line ")?;
     push_number(&mut line, number as u64)?;

@@ -8,7 +8,8 @@ ghost use Rattle.command_line.specs.Commands.{writes};
 ghost use Rattle.command_line.specs.Meaning.{file_name};
 ghost use Rattle.commands.specs.Answers.{AreLeft, AreWritten};
 ghost use Rattle.commands.specs.Headline.{IsText, held_by};
-ghost use Rattle.commands.specs.Failures.{Puts, IsMade, IsOwnRecorded, IsRecordFailure, IsPerformFailure, AreKept, work_for};
+ghost use Rattle.commands.specs.Failures.{Puts, IsMade, IsOwnRecorded, IsRecordFailure};
+ghost use Rattle.commands.specs.Failures.{IsPerformFailure, AreKept, work_for};
 ghost use Rattle.commands.specs.Given.{bytes_of};
 ghost use Rattle.commands.specs.Runs.{Names, asked_by};
 

@@ -22,6 +22,7 @@ pub const USAGE: &str = concat!(
     " [--code FILE] [--no-batch] [--brief]\n",
     "       shasta replay IN RECORD [--brief]\n",
     "       shasta gen NUMBER OUT\n",
+    "       shasta asm TEXT OUT\n",
 );
 
 /// What stands before the bytes that were printed: how many there are.

@@ -1,6 +1,7 @@
 //! The top call.
 
-ghost use Rattle.std.specs.Prelude.{◌≡◌, ◌≢◌, ◌≤◌, ◌⊎◌, ◌<◌, ℕ, List, Option, Some, length, Contains, IfOk, IfErr, MatchResult};
+ghost use Rattle.std.specs.Prelude.{◌≡◌, ◌≢◌, ◌≤◌, ◌⊎◌, ◌<◌, ℕ, List, Option, Some, length};
+ghost use Rattle.std.specs.Prelude.{Contains, IfOk, IfErr, MatchResult};
 ghost use Rattle.command_line.specs.Commands.{Command as Asked, reads, writes};
 ghost use Rattle.command_line.specs.Asks.{Asks};
 ghost use Rattle.command_line.specs.Meaning.{meaning_of};
@@ -8,11 +9,15 @@ ghost use Rattle.commands.specs.Headline.{IsText, Prints, PrintsPrefix};
 ghost use Rattle.commands.specs.Inputs.{AreTold, inputs_of};
 ghost use Rattle.commands.specs.Interleaved.{PrintsOriginal};
 ghost use Rattle.commands.specs.Given.{bytes_of};
-ghost use Rattle.commands.specs.Failures.{IsSuccess, IsFailure, IsPerformFailure, IsNoRefusal, Puts, AreKept};
+ghost use Rattle.commands.specs.Failures.{IsSuccess, IsFailure, IsPerformFailure, IsNoRefusal};
+ghost use Rattle.commands.specs.Failures.{Puts, AreKept};
 ghost use Rattle.commands.specs.Refusals.{IsRefused, IsLayoutRefused, IsRecordRefused};
-ghost use Rattle.commands.specs.Answers.{Tells, IsFault, file_limit, AreLeft, AreWritten};
+ghost use Rattle.commands.specs.Refusals.{IsTextRefused};
+ghost use Rattle.commands.specs.Answers.{Tells, IsFault, IsRefusalStatus, file_limit};
+ghost use Rattle.commands.specs.Answers.{AreLeft, AreWritten};
 ghost use Rattle.commands.specs.Text.{usage, out_of_memory};
 
+use crate::assembly::assemble_into;
 use crate::failure::Failure;
 use crate::generate::generate_into;
 use crate::input::{Inputs, read_inputs};
@@ -33,7 +38,8 @@ use std::thread::Threads;
 /// Does what the words ask for, and answers the status: 0 where every processor ended by itself
 /// with code 0, or none runs; 1 where some processor ended otherwise; 2 for a faulty command line;
 /// 3 where a file or the output failed; 4 where the executable, or a file of its rewritten code, is
-/// refused; 5 where it was out of memory; 6 where the layout is refused; 7 where the record is.
+/// refused; 5 where it was out of memory; 6 where the layout is refused; 7 where the record is; 8
+/// where the assembly text is.
 pub fn shasta<R: Threads + Wait + Sync, F: Files, O: Sink, E: Sink, G: Gate + Sync>(
     rt: &R,
     alloc: Global,
@@ -43,7 +49,7 @@ pub fn shasta<R: Threads + Wait + Sync, F: Files, O: Sink, E: Sink, G: Gate + Sy
     err: &mut E,
     gate: &G,
 ) -> u8
-    ensures range { result ≤ 7 }
+    ensures range { result ≤ 8 }
 
     // Status 2 is for words that ask for nothing, and where there is memory for exactly those; the
     // usage text is told.
@@ -71,7 +77,7 @@ pub fn shasta<R: Threads + Wait + Sync, F: Files, O: Sink, E: Sink, G: Gate + Sy
         → AreTold c (F.state files.old) contents → result ≡ 4
         → (line : List ℕ) × IsRefused c (inputs_of c contents) line
         × Tells (E.state err.old) (E.state err.new) line }
-    ensures nothing { (result ≡ 2) ⊎ ((result ≡ 4) ⊎ ((result ≡ 6) ⊎ (result ≡ 7)))
+    ensures nothing { (result ≡ 2) ⊎ IsRefusalStatus result
         → (O.state out.new).taken ≡ (O.state out.old).taken }
 
     // Status 6 is for a refused layout of an executable that isn't refused; the refusal is told.
@@ -85,6 +91,13 @@ pub fn shasta<R: Threads + Wait + Sync, F: Files, O: Sink, E: Sink, G: Gate + Sy
     ensures record { (c : Asked) (contents : List ℕ → List ℕ) → Asks words.now c
         → AreTold c (F.state files.old) contents → result ≡ 7
         → (line : List ℕ) × IsRecordRefused c (inputs_of c contents) line
+        × Tells (E.state err.old) (E.state err.new) line }
+
+    // Status 8 is for an assembly text that breaks a rule; the first line that breaks one, and the
+    // lowest rule that it breaks, are told.
+    ensures text { (c : Asked) (contents : List ℕ → List ℕ) → Asks words.now c
+        → AreTold c (F.state files.old) contents → result ≡ 8
+        → (line : List ℕ) × IsTextRefused c (inputs_of c contents) line
         × Tells (E.state err.old) (E.state err.new) line }
 
     // Status 3 comes only where a count of faults rose in this call, or a file is too long; its
@@ -110,7 +123,7 @@ pub fn shasta<R: Threads + Wait + Sync, F: Files, O: Sink, E: Sink, G: Gate + Sy
     ensures files { (name : List ℕ)
         → ((c : Asked) → Asks words.now c → Contains (writes c) name → ⊥)
         → (F.state files.new).held name ≡ (F.state files.old).held name }
-    ensures kept { (result ≡ 2) ⊎ ((result ≡ 4) ⊎ ((result ≡ 6) ⊎ (result ≡ 7)))
+    ensures kept { (result ≡ 2) ⊎ IsRefusalStatus result
         → (name : List ℕ) → (F.state files.new).held name ≡ (F.state files.old).held name }
     ensures written { (c : Asked) (contents : List ℕ → List ℕ) → Asks words.now c
         → AreTold c (F.state files.old) contents → result ≤ 1
@@ -235,6 +248,7 @@ fn perform<R: Threads + Wait + Sync, F: Files, O: Sink, G: Gate + Sync>(
         }
         Command::Replay { brief, .. } => put_replay(alloc, inputs, *brief, out),
         Command::Generate { number, output } => generate_into(alloc, *number, output, files),
+        Command::Assemble { output, .. } => assemble_into(alloc, inputs.text, output, files),
     }
 }
 

@@ -27,7 +27,8 @@ fn main(rt: HostRuntime) -> ExitCode {
     ExitCode::from(status)
 }
 
-/// The words after the program's name. There are none where some word is not UTF-8, since such words ask for nothing.
+/// The words after the program's name. There are none where some word is not UTF-8, since such
+/// words ask for nothing.
 fn words(rt: &HostRuntime) -> Result<Vec<Text>, AllocError> {
     let mut words = Vec::new(rt.alloc());
     match env::args(rt) {

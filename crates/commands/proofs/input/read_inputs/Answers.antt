@@ -2,10 +2,10 @@ use Rattle.std.proofs.lemmas.Result.{err_from_is_err_and}
 use Rattle.std.proofs.Common.{◌≤◌, ◌≡◌, ◌∙◌, ℕ, List, option_map, arith, refl, subst}
 use Rattle.command_line.specs.Meaning.{meaning_of}
 use Rattle.dsm_io.specs.States.{FilesState}
-use Rattle.commands.specs.Inputs.{input_of, code_of, layout_of, recorded_of, Inputs}
+use Rattle.commands.specs.Inputs.{input_of, code_of, layout_of, text_file_of, Inputs}
 use Rattle.commands.specs.Failures.{AreBytes, AreContents, AreRead, IsNamedFailure}
 use Rattle.commands.proofs.AnswerLemmas.{named_fails}
-use Rattle.commands.proofs.InputLemmas.{bytes_before, content_before, inputs_read, none_long, reads_input, reads_code, reads_layout, reads_record}
+use Rattle.commands.proofs.InputLemmas.{bytes_before, content_before, inputs_read, none_long, reads_input, reads_code, reads_layout, reads_text}
 use Rattle.commands.proofs.input.read_inputs.Goals as goal
 
 pub returns-in_err-executable-clause-failure : goal.returns-in_err-executable-clause-failure
@@ -50,23 +50,23 @@ returns-in_err-layout-clause-failure g c =
     (λ n. c.in_ok-code.ensures.contents n ∙ c.in_ok-executable.ensures.contents n) low
     (reads_layout cmd) failed)
 
-pub returns-in_err-recorded-clause-failure : goal.returns-in_err-recorded-clause-failure
-returns-in_err-recorded-clause-failure g c =
+pub returns-in_err-text-clause-failure : goal.returns-in_err-text-clause-failure
+returns-in_err-text-clause-failure g c =
     let files : FilesState = g.F.Files.state c.args.files.now in
     let between : FilesState = g.F.Files.state c.read_named-2.new.files in
     let files_now : FilesState = g.F.Files.state c.read_bytes-2.new.files in
     let cmd = meaning_of c.args.command.now in
-    let f = c.in_err-recorded.field-0.0 in
-    let failed : IsNamedFailure between files_now (recorded_of cmd) f =
-    subst (λ o. IsNamedFailure between files_now o f) c.recorded_of.ensures c.in_err-recorded.ensures.failure in
+    let f = c.in_err-text.field-0.0 in
+    let failed : IsNamedFailure between files_now (text_file_of cmd) f =
+    subst (λ o. IsNamedFailure between files_now o f) c.text_file_of.ensures c.in_err-text.ensures.failure in
     let low : (n : List ℕ) → files.failed_reads n ≤ between.failed_reads n =
     λ n. let one = c.in_ok-executable.ensures.reads n in
     let two = c.in_ok-code.ensures.reads n in
     let three = c.in_ok-layout.ensures.reads n in omega (arith, one, two, three) in
-    let p = err_from_is_err_and c.from_residual-in_err-recorded.result c.from_residual-in_err-recorded.ensures.1 in
-    rw (p.1, p.2) (named_fails cmd files between files_now (recorded_of cmd) f
+    let p = err_from_is_err_and c.from_residual-in_err-text.result c.from_residual-in_err-text.ensures.1 in
+    rw (p.1, p.2) (named_fails cmd files between files_now (text_file_of cmd) f
     (λ n. c.in_ok-layout.ensures.contents n ∙ c.in_ok-code.ensures.contents n
-    ∙ c.in_ok-executable.ensures.contents n) low (reads_record cmd) failed)
+    ∙ c.in_ok-executable.ensures.contents n) low (reads_text cmd) failed)
 
 pub returns-clause-ok : goal.returns-clause-ok
 returns-clause-ok g c =
@@ -83,7 +83,7 @@ returns-clause-ok g c =
       executable = c.in_ok-executable.executable.items;
       code = code;
       layout = layout;
-      recorded = c.in_ok-recorded.recorded.items;
+      text = c.in_ok-text.text.items;
       batches = c.batches_of.result;
     } in
     let read : AreRead cmd files given = record {
@@ -93,10 +93,10 @@ returns-clause-ok g c =
           (subst (λ o. AreContents first o code) c.code_of.ensures c.in_ok-code.ensures.ok);
       layout = content_before files second (layout_of cmd) layout same_second
           (subst (λ o. AreContents second o layout) c.layout_of.ensures c.in_ok-layout.ensures.ok);
-      recorded = bytes_before files third (recorded_of cmd) given.recorded
+      text = bytes_before files third (text_file_of cmd) given.text
           (λ n. c.in_ok-layout.ensures.contents n ∙ same_second n)
-          (subst (λ o. AreBytes third o given.recorded) c.recorded_of.ensures
-          c.in_ok-recorded.ensures.ok);
+          (subst (λ o. AreBytes third o given.text) c.text_file_of.ensures
+          c.in_ok-text.ensures.ok);
       batches = c.batches_of.ensures.value;
     } in
     inputs_read cmd files given read
@@ -116,7 +116,7 @@ returns-clause-longer g c = λ name content there is long.
       executable = c.in_ok-executable.executable.items;
       code = code;
       layout = layout;
-      recorded = c.in_ok-recorded.recorded.items;
+      text = c.in_ok-text.text.items;
       batches = c.batches_of.result;
     } in
     let read : AreRead cmd files given = record {
@@ -126,10 +126,10 @@ returns-clause-longer g c = λ name content there is long.
           (subst (λ o. AreContents first o code) c.code_of.ensures c.in_ok-code.ensures.ok);
       layout = content_before files second (layout_of cmd) layout same_second
           (subst (λ o. AreContents second o layout) c.layout_of.ensures c.in_ok-layout.ensures.ok);
-      recorded = bytes_before files third (recorded_of cmd) given.recorded
+      text = bytes_before files third (text_file_of cmd) given.text
           (λ n. c.in_ok-layout.ensures.contents n ∙ same_second n)
-          (subst (λ o. AreBytes third o given.recorded) c.recorded_of.ensures
-          c.in_ok-recorded.ensures.ok);
+          (subst (λ o. AreBytes third o given.text) c.text_file_of.ensures
+          c.in_ok-text.ensures.ok);
       batches = c.batches_of.ensures.value;
     } in
     none_long cmd files given name content read there is long

@@ -1,10 +1,11 @@
-use Rattle.std.proofs.Common.{◌≡◌, ◌<◌, ◌≤◌, ◌^◌, inl, inr, sym, subst}
+use Rattle.std.proofs.Common.{◌≡◌, ◌<◌, ◌≤◌, ◌^◌, length, inl, inr, sym, subst}
 use Rattle.std.proofs.lemmas.Result.{err_from_is_err_and}
+use Rattle.run_record.specs.Record.{NamesOtherCode}
 use Rattle.commands.specs.Code.{IsRewritingOf}
 use Rattle.commands.specs.Executables.{IsProgramOf, IsRejection, HasLongCode}
-use Rattle.commands.specs.Failures.{IsNever}
+use Rattle.commands.specs.Failures.{IsNever, IsRecordRefusal}
 use Rattle.commands.specs.Given.{bytes_of}
-use Rattle.commands.specs.Replays.{AreFaultyBlocks, IsBadReplayLayout, IsFaultyText, IsReplayRefused}
+use Rattle.commands.specs.Replays.{AreFaultyBlocks, IsBadReplayLayout, IsFaultyText, IsOtherCode, IsReplayRefused}
 use Rattle.commands.proofs.Pieces.{never}
 use Rattle.commands.proofs.ReplayLemmas.{ready_for, replay_refused, text_refused}
 use Rattle.commands.proofs.RunLemmas.{AreReady, HaveLaws, are_ready, laid_over_blocks, runs_rewritten}
@@ -25,7 +26,7 @@ returns-in_err-kept-clause-refused c =
     record { reads = c.requires.reads; accepted = c.in_ok-program.ensures.acceptable } in
     let e = err_from_is_err_and c.from_residual-in_err-kept.result
     c.from_residual-in_err-kept.ensures.1 in
-    rw (e.1, e.2) (text_refused inputs (IsFaultyText inputs.recorded) c.in_err-kept.field-0.0
+    rw (e.1, e.2) (text_refused inputs (IsFaultyText inputs.text) c.in_err-kept.field-0.0
     (λ line h. inl (record { elf = c.args.elf.now; executable = executable; faulty = h }))
     c.in_err-kept.ensures.refused)
 
@@ -46,6 +47,34 @@ returns-in_err-rewritten-clause-refused c =
       text = c.in_ok-kept.ensures.ok;
       long = h;
     })) (never (IsBadReplayLayout inputs)) c.in_err-rewritten.ensures.refused)
+
+pub returns-in_err-judge_words-clause-refused : goal.returns-in_err-judge_words-clause-refused
+returns-in_err-judge_words-clause-refused c =
+    let inputs = bytes_of c.args.inputs.now in
+    let p = c.in_ok-program.program in
+    let kept = c.in_ok-kept.kept in
+    let image = c.in_ok-rewritten.rewritten.image in
+    let plan = c.in_ok-rewritten.rewritten.plan in
+    let rewritten : IsRewritingOf kept.batch inputs.executable p plan image = record {
+      executable = subst (IsProgramOf inputs.executable) (sym c.in_ok-program.ensures.ok)
+          (record { reads = c.requires.reads; accepted = c.in_ok-program.ensures.acceptable });
+      the_plan = c.in_ok-rewritten.ensures.plan;
+      rewriting = c.in_ok-rewritten.ensures.rewriting;
+    } in
+    let e = err_from_is_err_and c.from_residual-in_err-judge_words.result
+    c.from_residual-in_err-judge_words.ensures.1 in
+    rw (e.1, e.2) (text_refused inputs (IsOtherCode kept (length image)) c.in_err-judge_words.field-0.0
+    (λ line h. inr (inl (record {
+      kept = kept;
+      text = c.in_ok-kept.ensures.ok;
+      elf = p;
+      plan = plan;
+      image = image;
+      rewritten = rewritten;
+      other = h;
+    })))
+    (subst (λ i. IsRecordRefusal (IsOtherCode kept (length i)) c.in_err-judge_words.field-0.0) c.image.ensures.value
+    c.in_err-judge_words.ensures.refused))
 
 pub returns-in_err-layout-clause-refused : goal.returns-in_err-layout-clause-refused
 returns-in_err-layout-clause-refused c =
@@ -70,6 +99,7 @@ returns-in_err-layout-clause-refused c =
       plan = plan;
       image = image;
       rewritten = rewritten;
+      same_code = subst (λ i. NamesOtherCode c.in_ok-kept.kept (length i) → ⊥) c.image.ensures.value c.in_ok-judge_words.ensures.ok;
       faulty = h;
     }) c.in_err-layout.ensures.refused)
 
@@ -120,5 +150,6 @@ returns-clause-ready c =
     } in
     let budget = c.in-Some.ensures in
     ready_for inputs kept p plan image layout c.in-Some.budget ready c.in_ok-kept.ensures.ok
+    (subst (λ i. NamesOtherCode kept (length i) → ⊥) c.image.ensures.value c.in_ok-judge_words.ensures.ok)
     c.in_ok-layout.ensures.ok budget.0 (subst (λ n. 0 < n) (sym budget.0) budget.1.0)
     (subst (λ n. n ≤ 2 ^ 32) (sym budget.0) budget.1.1) laws

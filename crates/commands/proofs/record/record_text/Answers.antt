@@ -1,4 +1,4 @@
-use Rattle.std.proofs.Common.{◌≡◌, List, ap, ◌∙◌, sym, map}
+use Rattle.std.proofs.Common.{◌≡◌, List, length, ap, ◌∙◌, sym, map}
 use Rattle.std.specs.List.{range_with_len}
 use Rattle.block_layout.specs.Layout.{Shape}
 use Rattle.block_layout.specs.declared.layout.BlockRange.{BlockRange}
@@ -16,8 +16,10 @@ write_record-requires-clause-record c =
     let own = c.promises.ensures.own_run in
     let nodes = c.nodes.ensures.nodes ∙ ap (λ (s : Shape). s.nodes) c.layout-layout.ensures.value in
     let budget = c.number.ensures.value ∙ sym (ap (λ (w : Work). w.budget) c.requires.same) in
+    let code = c.len.ensures.value ∙ ap length c.image.ensures.value
+    ∙ sym (ap (λ (w : Work). length w.image) c.requires.same) in
     let blocks = c.of.ensures ∙ c.in_ok-from_slice.ensures.items ∙ c.ranges-2.ensures
     ∙ ap (λ (s : Shape). s.named) c.layout-layout.ensures.value in
     let journals = c.of-2.ensures ∙ c.in_ok-journals.ensures in
-    rw (nodes, budget, blocks, journals) (is_record c.args.prepared.now.batches work core own.0 c.journal_law.ensures.takes
+    rw (nodes, budget, code, blocks, journals) (is_record c.args.prepared.now.batches work core own.0 c.journal_law.ensures.takes
     c.progress_law.ensures.short c.promises.ensures.rewritten own.1)

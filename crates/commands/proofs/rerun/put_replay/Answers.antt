@@ -43,14 +43,14 @@ returns-in_err-outcome-clause-failure g c =
     c.from_residual-in_err-outcome.ensures.1 in
     rw (e.1, e.2) (refused_replay inputs c.args.brief state c.in_err-outcome.field-0.0
     (text_refused inputs (IsBrokenRun work kept) c.in_err-outcome.field-0.0
-    (λ line h. inr (record {
+    (λ line h. inr (inr (record {
       kept = kept;
       elf = ready.elf;
       plan = ready.plan;
       work = work;
       asked = ready.asked;
       broken = h;
-    })) c.in_err-outcome.ensures.refused))
+    }))) c.in_err-outcome.ensures.refused))
 
 pub returns-clause-ok : goal.returns-clause-ok
 returns-clause-ok g c =

@@ -1,9 +1,10 @@
-use Rattle.command_line.specs.Commands.{Generate, Replay, Rewrite}
+use Rattle.command_line.specs.Commands.{Assemble, Generate, Replay, Rewrite}
 use Rattle.command_line.specs.Meaning.{meaning_of, file_name}
 use Rattle.dsm_io.specs.States.{SinkState, FilesState}
-use Rattle.commands.specs.Failures.{IsPerformFailure, IsReplayFailure, IsRewriteFailure, IsWriteFailure}
+use Rattle.commands.specs.Failures.{IsAssemblyFailure, IsPerformFailure, IsReplayFailure, IsRewriteFailure, IsWriteFailure}
 use Rattle.commands.specs.Given.{bytes_of}
 use Rattle.commands.proofs.AnswerLemmas.{err_as, plain_failure, puts_nothing, rewrite_fails}
+use Rattle.commands.proofs.AssemblyLemmas.{assembles, assembly_fails}
 use Rattle.commands.proofs.GenerateLemmas.{generates, generate_fails}
 use Rattle.commands.proofs.ReplayLemmas.{replay_fails}
 use Rattle.commands.proofs.top.perform.Goals as goal
@@ -84,6 +85,26 @@ returns-in-Generate-clause-failure g c =
     (IsPerformFailure (Generate number output) inputs files files_now state state)
     c.generate_into.result (generate_fails number output inputs files files_now state)
     c.generate_into.ensures.failure)
+
+pub returns-in-Assemble-clause-ok : goal.returns-in-Assemble-clause-ok
+returns-in-Assemble-clause-ok g c =
+    let inputs = bytes_of c.args.inputs.now in
+    rw c.in-Assemble.is (assembles c.in-Assemble.text.now c.in-Assemble.output.now
+    (g.F.Files.state c.assemble_into.new.files) inputs
+    (g.O.Sink.state c.args.out.now) c.assemble_into.result c.assemble_into.ensures.text)
+
+pub returns-in-Assemble-clause-failure : goal.returns-in-Assemble-clause-failure
+returns-in-Assemble-clause-failure g c =
+    let files : FilesState = g.F.Files.state c.args.files.now in
+    let files_now : FilesState = g.F.Files.state c.assemble_into.new.files in
+    let state : SinkState = g.O.Sink.state c.args.out.now in
+    let inputs = bytes_of c.args.inputs.now in
+    let text = c.in-Assemble.text.now in
+    let output = c.in-Assemble.output.now in
+    rw c.in-Assemble.is (err_as (IsAssemblyFailure inputs.text files files_now output)
+    (IsPerformFailure (Assemble text output) inputs files files_now state state)
+    c.assemble_into.result (assembly_fails text output inputs files files_now state)
+    c.assemble_into.ensures.failure)
 
 pub returns-in-Run-clause-ok : goal.returns-in-Run-clause-ok
 returns-in-Run-clause-ok g c =

@@ -7,7 +7,7 @@ use Rattle.commands.specs.Answers.{Tells, AreLeft, AreWritten}
 use Rattle.commands.specs.Failures.{IsFailure, IsSuccess, line_of}
 use Rattle.commands.specs.Inputs.{AreTold, inputs_of}
 use Rattle.commands.specs.Text.{usage}
-use Rattle.commands.proofs.AnswerLemmas.{fault_of, refusal_of, layout_refusal_of, record_refusal_of, prefix_of_failure, asked_as, none_as}
+use Rattle.commands.proofs.AnswerLemmas.{fault_of, refusal_of, layout_refusal_of, record_refusal_of, text_refusal_of, prefix_of_failure, asked_as, none_as}
 use Rattle.commands.proofs.InterleavedLemmas.{prints_original}
 use Rattle.commands.proofs.top.shasta.Goals as goal
 
@@ -102,6 +102,24 @@ returns-in-Err-answer-clause-record g c = λ d contents asks known seven.
     subst (Tells err_before err_now) c.line.ensures.value c.tell-in-Err-answer.ensures in
     record_refusal_of d files files_now before now c.in-Err-answer.failure (Tells err_before err_now) failure told
     (sym c.status.ensures.value ∙ seven) contents known
+
+pub returns-in-Err-answer-clause-text : goal.returns-in-Err-answer-clause-text
+returns-in-Err-answer-clause-text g c = λ d contents asks known eight.
+    let cmd = meaning_of c.in-Ok-Some.command in
+    let same : cmd ≡ d = c.in-Ok-Some.ensures.only cmd d
+    (asked_as c.args.words.now _ c.in-Ok-Some.command (search rules) c.in-Ok-Some.ensures.asks) asks in
+    let before : SinkState = g.O.Sink.state c.args.out.now in
+    let now : SinkState = g.O.Sink.state c.answer.new.out in
+    let files : FilesState = g.F.Files.state c.args.files.now in
+    let files_now : FilesState = g.F.Files.state c.answer.new.files in
+    let failure : IsFailure d files files_now before now c.in-Err-answer.failure =
+    subst (λ x. IsFailure x files files_now before now c.in-Err-answer.failure) same c.in-Err-answer.ensures.failure in
+    let err_before : SinkState = g.E.Sink.state c.args.err.now in
+    let err_now : SinkState = g.E.Sink.state c.tell-in-Err-answer.new.err in
+    let told : Tells err_before err_now (line_of c.in-Err-answer.failure) =
+    subst (Tells err_before err_now) c.line.ensures.value c.tell-in-Err-answer.ensures in
+    text_refusal_of d files files_now before now c.in-Err-answer.failure (Tells err_before err_now) failure told
+    (sym c.status.ensures.value ∙ eight) contents known
 
 pub returns-in-Err-answer-clause-fault : goal.returns-in-Err-answer-clause-fault
 returns-in-Err-answer-clause-fault g c = λ d asks three.
