@@ -119,12 +119,12 @@ fn updates_a_word_and_gives_the_old_one(rt: HostRuntime) -> Result<(), Fail> {
     Ok(())
 }
 
-/// Each processor adds 1 to a word a thousand times, by LR and SC, and says by an AMO on another line
-/// that it is done; processor 0 waits for all, and exits with a sixteenth of the sum:
-/// `lui x5, 0x20; addi x6, x0, 1000; lr.w x7, (x5); addi x7, x7, 1; sc.w x28, x7, (x5);
-/// bne x28, x0, -12; addi x6, x6, -1; bne x6, x0, -20; addi x29, x5, 64; addi x30, x0, 1;
-/// amoadd.w x0, x30, (x29); bne x10, x0, 28; lw x31, 0(x29); bne x31, x11, -4; lw x6, 0(x5);
-/// srli x10, x6, 4; addi x17, x0, 93; ecall; addi x10, x0, 0; addi x17, x0, 93; ecall`.
+/// Each processor adds 1 to a word a thousand times, by LR and SC, and says by an AMO on another
+/// line that it is done; processor 0 waits for all, and exits with a sixteenth of the sum: `lui x5,
+/// 0x20; addi x6, x0, 1000; lr.w x7, (x5); addi x7, x7, 1; sc.w x28, x7, (x5); bne x28, x0, -12;
+/// addi x6, x6, -1; bne x6, x0, -20; addi x29, x5, 64; addi x30, x0, 1; amoadd.w x0, x30, (x29);
+/// bne x10, x0, 28; lw x31, 0(x29); bne x31, x11, -4; lw x6, 0(x5); srli x10, x6, 4; addi x17, x0,
+/// 93; ecall; addi x10, x0, 0; addi x17, x0, 93; ecall`.
 pub const COUNTER: &str = "000202b7 3e800313 1002a3af 00138393 1872ae2f fe0e1ae3 fff30313 fe0316e3
     04028e93 00100f13 01eea02f 00051e63 000eaf83 febf9ee3 0002a303 00435513 05d00893 00000073
     00000513 05d00893 00000073";

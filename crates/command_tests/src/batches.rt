@@ -94,6 +94,7 @@ const CASES: [Case; 6] = [
             "sim IN --nodes 2",
             "sim IN --nodes 2 --order 5",
             "sim IN --nodes 2 --no-batch",
+            "run IN --nodes 2 --record R",
         ],
         status: 0,
         out: &[READ_BOTH],

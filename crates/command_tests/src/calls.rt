@@ -74,12 +74,31 @@ fn files_of(alloc: Global, all: &[(&str, &[u8])], fails: &[u64]) -> Result<MemFi
     Ok(MemFiles::new(alloc, held, fails.to_vec(alloc)?))
 }
 
-/// Files in memory, and the numbers of the calls of the files and of the puts that are to fail.
+/// The numbers of the calls that are to fail, of the files, and of the puts to the output and to
+/// the errors; and of the puts that are to be refused memory.
+#[derive(Clone, Copy)]
+pub struct Faults<'a> {
+    pub files: &'a [u64],
+    pub out: &'a [u64],
+    pub err: &'a [u64],
+    pub out_memory: &'a [u64],
+    pub err_memory: &'a [u64],
+}
+
+/// No call fails.
+pub const NO_FAULTS: Faults<'static> = Faults {
+    files: &[],
+    out: &[],
+    err: &[],
+    out_memory: &[],
+    err_memory: &[],
+};
+
+/// Files in memory, and the calls that are to fail.
 #[derive(Clone, Copy)]
 pub struct Held<'a> {
     pub files: &'a [(&'a str, &'a [u8])],
-    pub fails: &'a [u64],
-    pub put_fails: &'a [u64],
+    pub faults: Faults<'a>,
 }
 
 /// What a call did: its status, what the output and the errors took, and what a file then holds.
@@ -89,6 +108,12 @@ pub struct Called {
     pub out: Vec<u8>,
     pub err: Vec<u8>,
     pub written: Vec<u8>,
+}
+
+/// A sink of which the puts with these numbers fail, or are refused memory.
+fn sink_of(alloc: Global, fails: &[u64], refusals: &[u64]) -> Result<MemSink, AllocError> {
+    let fails = fails.to_vec(alloc)?;
+    Ok(MemSink::with_refusals(alloc, fails, refusals.to_vec(alloc)?))
 }
 
 /// The words of a line, with spaces between them.
@@ -119,9 +144,10 @@ pub fn call(
 ) -> Result<Called, Fail> {
     let alloc = rt.alloc();
     let words = words_of(alloc, line)?;
-    let mut files = files_of(alloc, held.files, held.fails)?;
-    let mut out = MemSink::new(alloc, held.put_fails.to_vec(alloc)?);
-    let mut err = MemSink::new(alloc, Vec::new(alloc));
+    let faults = held.faults;
+    let mut files = files_of(alloc, held.files, faults.files)?;
+    let mut out = sink_of(alloc, faults.out, faults.out_memory)?;
+    let mut err = sink_of(alloc, faults.err, faults.err_memory)?;
     let status = shasta(rt, alloc, &words, &mut files, &mut out, &mut err, gate);
     Ok(Called {
         status,
@@ -172,8 +198,7 @@ pub fn try_calls(
 pub fn sure<'a>(files: &'a [(&'a str, &'a [u8])]) -> Held<'a> {
     Held {
         files,
-        fails: &[],
-        put_fails: &[],
+        faults: NO_FAULTS,
     }
 }
 

@@ -14,8 +14,8 @@ pub enum Input {
     Program(&'static str, &'static [u8], u32),
 }
 
-/// Calls where IN holds an input, and L and -x a text, and the answer of each: its status, the parts
-/// of its output, and its errors.
+/// Calls where IN holds an input, and L and -x a text, and the answer of each: its status, the
+/// parts of its output, and its errors.
 #[derive(Drop)]
 pub struct Case {
     pub input: Input,

@@ -9,7 +9,7 @@ use std::test::Fail;
 use std::thread::Threads;
 
 /// The file that `rewrite` makes of an executable.
-fn rewritten(
+pub fn rewritten(
     rt: &(impl Threads + Wait + Sync + AllocGlobal),
     file: &[u8],
 ) -> Result<Vec<u8>, Fail> {
@@ -54,15 +54,34 @@ fn try_code(
     try_held(rt, &held, &calls, answer)
 }
 
-/// The place of a byte of the rewritten file whose high bit is changed, and what is told of it. The code begins at 0x3000 in
-/// the file, behind both segments of the original; the plan behind its ten words, at 0x3028; the map
-/// behind eight bytes for each of nine places, at 0x3070.
-const CHANGES: [(usize, &str); 5] = [
-    (0x3027, "shasta: code refused 21 PlanRefused Code\n"),
-    (0x2000, "shasta: code refused 21 PlanRefused Code\n"),
-    (0x3028, "shasta: code refused 21 PlanRefused Plan\n"),
-    (0x3074, "shasta: code refused 21 PlanRefused Map\n"),
-    (0, "shasta: code refused 2 NotElf\n"),
+/// The place of a byte of the rewritten file, the bits of it that are changed, and what is told of
+/// it. The code begins at 0x3000 in the file, behind both segments of the original; the plan behind
+/// its ten words, at 0x3028; the map behind eight bytes for each of nine places, at 0x3070. The
+/// types of the three program headers are at 52, 84 and 116; behind each are an offset, two
+/// addresses and two sizes.
+const CHANGES: [(usize, u8, &str); 14] = [
+    (0x3027, 0x80, "shasta: code refused 21 PlanRefused Code\n"),
+    (0x2000, 0x80, "shasta: code refused 21 PlanRefused Code\n"),
+    (0x3028, 0x80, "shasta: code refused 21 PlanRefused Plan\n"),
+    (0x306f, 0x80, "shasta: code refused 21 PlanRefused Plan\n"),
+    (0x3070, 0x80, "shasta: code refused 21 PlanRefused Map\n"),
+    (0x3074, 0x80, "shasta: code refused 21 PlanRefused Map\n"),
+    (0x30b7, 0x80, "shasta: code refused 21 PlanRefused Map\n"),
+    (0, 0x80, "shasta: code refused 2 NotElf\n"),
+    (52, 3, "shasta: code refused 9 Dynamic header 0\n"),
+    (116, 3, "shasta: code refused 9 Dynamic header 2\n"),
+    (
+        59,
+        0x80,
+        "shasta: code refused 10 SegmentOutside header 0\n",
+    ),
+    (
+        123,
+        0x80,
+        "shasta: code refused 10 SegmentOutside header 2\n",
+    ),
+    (72, 0x20, "shasta: code refused 11 SegmentSizes header 0\n"),
+    (136, 0x20, "shasta: code refused 11 SegmentSizes header 2\n"),
 ];
 
 #[test]
@@ -70,10 +89,10 @@ fn tells_why_a_file_of_code_is_refused(rt: HostRuntime) -> Result<(), Fail> {
     let alloc = rt.alloc();
     let file = executable(alloc, HI, b"hi\n", 3)?;
     let code = rewritten(&rt, &file)?;
-    for (place, err) in CHANGES {
+    for (place, bits, err) in CHANGES {
         let mut changed = code.as_slice().to_vec(alloc)?;
         if let Some(byte) = changed.get_mut(place) {
-            *byte ^= 0x80;
+            *byte ^= bits;
         }
         let answer = Answer {
             status: 4,

@@ -1,8 +1,7 @@
 //! What is told where a command does no work.
 
-use crate::calls::{Answer, Held, executable, try_calls, try_held};
+use crate::calls::{Answer, try_held};
 use crate::cases::{Case, Input, try_case};
-use crate::nodes::READS;
 use std::test::Fail;
 
 /// How the program is called.
@@ -13,6 +12,7 @@ pub const USAGE: &str = "usage: shasta rewrite IN OUT [--no-batch]
        shasta run IN [--nodes N] [--record FILE] [--budget B] [--layout FILE] [--code FILE] [--no-batch] [--brief]
        shasta replay IN RECORD [--brief]
        shasta gen NUMBER OUT
+       shasta asm TEXT OUT
 ";
 
 /// Each command that reads an executable, where its words, its file or its name are at fault.
@@ -102,58 +102,4 @@ fn tells_that_a_file_is_too_long(rt: HostRuntime) -> Result<(), Fail> {
         &["list IN", "run IN", "one IN"],
         &answer,
     )
-}
-
-/// The code of a program, the numbers of the calls of the files and of the puts that fail, calls, and
-/// what is told of them.
-struct Failing {
-    code: &'static str,
-    fails: &'static [u64],
-    put_fails: &'static [u64],
-    calls: &'static [&'static str],
-    err: &'static str,
-}
-
-const FAILING: [Failing; 3] = [
-    // the second call of the files is the write
-    Failing {
-        code: "00100073",
-        fails: &[2],
-        put_fails: &[],
-        calls: &["rewrite IN OUT"],
-        err: "shasta: cannot write OUT\n",
-    },
-    Failing {
-        code: READS,
-        fails: &[2],
-        put_fails: &[],
-        calls: &["run IN --nodes 2 --record R", "run IN --record R"],
-        err: "shasta: cannot write R\n",
-    },
-    Failing {
-        code: "00100073",
-        fails: &[],
-        put_fails: &[1],
-        calls: &["list IN", "run IN", "one IN"],
-        err: "shasta: cannot write output\n",
-    },
-];
-
-#[test]
-fn tells_what_failed(rt: HostRuntime) -> Result<(), Fail> {
-    for failing in &FAILING {
-        let file = executable(rt.alloc(), failing.code, b"", 64)?;
-        let held = Held {
-            files: &[("IN", &file)],
-            fails: failing.fails,
-            put_fails: failing.put_fails,
-        };
-        let answer = Answer {
-            status: 3,
-            out: &[],
-            err: failing.err,
-        };
-        try_calls(&rt, held, failing.calls, &answer)?;
-    }
-    Ok(())
 }

@@ -4,6 +4,8 @@
 #[cfg(test)]
 mod adapters;
 #[cfg(test)]
+mod assembly;
+#[cfg(test)]
 mod atomics;
 #[cfg(test)]
 mod batches;
@@ -14,6 +16,10 @@ mod cases;
 #[cfg(test)]
 mod code;
 #[cfg(test)]
+mod failing;
+#[cfg(test)]
+mod far;
+#[cfg(test)]
 mod faults;
 #[cfg(test)]
 mod instructions;
@@ -23,6 +29,8 @@ mod layouts;
 mod multiply;
 #[cfg(test)]
 mod nodes;
+#[cfg(test)]
+mod places;
 #[cfg(test)]
 mod programs;
 #[cfg(test)]

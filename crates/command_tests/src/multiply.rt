@@ -76,8 +76,8 @@ const PROGRAMS: [(&str, &str, &str); 13] = [
     ("ff900293 0202c533 05d00893 00000073", "", "exit 255"),
     // rem by zero: addi x5, x0, -7; rem x10, x5, x0
     ("ff900293 0202e533 05d00893 00000073", "", "exit 249"),
-    // mul between accesses of one run: lui x5, 0x20; lw x6, 0(x5); lw x7, 4(x5); mul x28, x6, x7; sw
-    // x28, 8(x5); lw x10, 8(x5)
+    // mul between accesses of one run: lui x5, 0x20; lw x6, 0(x5); lw x7, 4(x5); mul x28, x6, x7;
+    // sw x28, 8(x5); lw x10, 8(x5)
     (
         "000202b7 0002a303 0042a383 02730e33 01c2a423 0082a503 05d00893 00000073",
         "00000006 00000007",

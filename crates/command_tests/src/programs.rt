@@ -121,7 +121,7 @@ fn answers_for_a_program_that_writes(rt: HostRuntime) -> Result<(), Fail> {
 }
 
 /// Programs that print nothing, their data, and how each ends.
-const ENDINGS: [(&str, &str, &str); 11] = [
+const ENDINGS: [(&str, &str, &str); 13] = [
     // ebreak
     ("00100073", "", "ebreak 0x00010000"),
     // lui x5, 0x80000; lw x6, 0(x5)
@@ -154,6 +154,16 @@ const ENDINGS: [(&str, &str, &str); 11] = [
     ("00000000", "", "illegal 0x00010000"),
     // addi x0, x0, 0
     ("00000013", "", "fetch 0x00010004"),
+    // lui x5, 0xa0000; jalr x1, 4(x5): a jump to where rewritten words stand
+    ("a00002b7 004280e7", "", "fetch 0xa0000004"),
+    // addi x10, x0, 1; lui x11, 0x80000; addi x12, x0, 4; addi x17, x0, 64; ecall;
+    // sub x10, x0, x10; addi x17, x0, 93; ecall: the write of bytes that stand where a node keeps
+    // its states is refused
+    (
+        "00100513 800005b7 00400613 04000893 00000073 40a00533 05d00893 00000073",
+        "",
+        "exit 14",
+    ),
 ];
 
 #[test]

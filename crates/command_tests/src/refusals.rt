@@ -1,4 +1,5 @@
-//! Each refusal of a file with its line, alone and with another: the one that is judged first is told.
+//! Each refusal of a file with its line, alone and with another: the one that is judged first is
+//! told.
 
 use crate::calls::{Answer, NODE, executable, push_sizes, push_words, text_of, try_held};
 use std::alloc::Global;
@@ -10,13 +11,13 @@ use std::thread::Threads;
 const CODE: &str = "00000513 05d00893 00000073";
 
 /// A file that isn't cut.
-const WHOLE: usize = usize::MAX;
+pub const WHOLE: usize = usize::MAX;
 
 /// A rule: the length to which it cuts the file, the bytes that it changes, and what is told.
-struct Rule {
-    len: usize,
-    bytes: &'static [(usize, u8)],
-    line: &'static str,
+pub struct Rule {
+    pub len: usize,
+    pub bytes: &'static [(usize, u8)],
+    pub line: &'static str,
 }
 
 /// Rules that a file of 8195 bytes breaks, with two program headers and three bytes of data.
@@ -131,7 +132,7 @@ const SMALL: [Rule; 18] = [
 ];
 
 /// Has a file break a rule.
-fn break_by(file: &mut Vec<u8>, rule: &Rule) {
+pub fn break_by(file: &mut Vec<u8>, rule: &Rule) {
     for (offset, byte) in rule.bytes {
         if let Some(place) = file.get_mut(*offset) {
             *place = *byte;
@@ -141,7 +142,7 @@ fn break_by(file: &mut Vec<u8>, rule: &Rule) {
 }
 
 /// Calls the program on a refused file, and fails the test where another refusal is told.
-fn try_refused(
+pub fn try_refused(
     rt: &(impl Threads + Wait + Sync + AllocGlobal),
     file: &[u8],
     words: &str,
@@ -185,14 +186,14 @@ fn accepts_total_store_order(rt: HostRuntime) -> Result<(), Fail> {
     try_held(&rt, &[("IN", &file)], &["run IN"], &answer)
 }
 
-/// The file header, with two of a thousand program headers and a section table that isn't there, and
-/// the code's program header before its sizes.
+/// The file header, with two of a thousand program headers and a section table that isn't there,
+/// and the code's program header before its sizes.
 const FILE_HEADER: &str = "464c457f 00010101 00000000 00000000 00f30002 00000001 00010000 00000034
     00000000 00000000 00200034 00000002 00000000 00000001 00008000 00010000 00010000";
 
 /// The rest of that, and the program header of three bytes of data, which stand at 0x7f00.
 const DATA_HEADER: &str = "00000005 00001000
-    00000001 00007f00 00040000 00040000 00000003 00000003 00000006 00001000";
+    00000001 00007f00 00400000 00400000 00000003 00000003 00000006 00001000";
 
 /// A program header of an empty segment.
 const EMPTY_HEADER: &str =
@@ -203,7 +204,7 @@ const CODE_SECTION: &str = "00000000 00000001 00000006 00010000 00008000 0000000
     00000004 00000000";
 
 /// So many instructions `lw x5, 0(x5)` have more rewritten words than there may be.
-const MANY: usize = 30_000;
+const MANY: usize = 470_000;
 
 /// The rules, ascending.
 const RULES: [Rule; 20] = [
@@ -261,7 +262,7 @@ const RULES: [Rule; 20] = [
         bytes: &[(59, 0xff)],
         line: "10 SegmentOutside header 0",
     },
-    // the last byte of the first p_memsz 8, of twelve bytes or 120,012
+    // the last byte of the first p_memsz 8, of twelve bytes or 1,880,012
     Rule {
         len: WHOLE,
         bytes: &[(72, 8)],
@@ -273,10 +274,10 @@ const RULES: [Rule; 20] = [
         bytes: &[(94, 0xff), (95, 0x7f)],
         line: "12 TooHigh segment 1",
     },
-    // the first p_vaddr 0x00040000, which is the second too
+    // the first p_vaddr 0x00400000, which is the second too
     Rule {
         len: WHOLE,
-        bytes: &[(62, 4)],
+        bytes: &[(62, 0x40)],
         line: "13 Overlap segments 0 1",
     },
     // the second p_flags 7
@@ -325,7 +326,7 @@ const RULES: [Rule; 20] = [
 
 /// A file that breaks no rule but where it has many loads: a thousand program headers, of which two
 /// count, the header of a section, the data, and so many loads before the code.
-fn file_of(alloc: Global, loads: usize) -> Result<Vec<u8>, Fail> {
+pub fn file_of(alloc: Global, loads: usize) -> Result<Vec<u8>, Fail> {
     let mut code = Vec::new(alloc);
     for _ in 0..loads {
         push_words(&mut code, "0002a283")?;
@@ -369,5 +370,5 @@ fn counts_the_words_last(rt: HostRuntime) -> Result<(), Fail> {
         break_by(&mut file, rule);
         try_refused(&rt, &file, "run IN", rule.line)?;
     }
-    try_refused(&rt, &many, "run IN", "20 CodeTooLarge 270005 words")
+    try_refused(&rt, &many, "run IN", "20 CodeTooLarge 4230005 words")
 }

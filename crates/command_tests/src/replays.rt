@@ -9,8 +9,9 @@ use std::sync::Wait;
 use std::test::Fail;
 use std::thread::Threads;
 
-/// A record of the program that reads, on two nodes: the last word of node 0 has the stamp 6. Then it
-/// takes its own Bye, the Read that node 1 sends at 8, its own FwdRead, Done and the Bye of node 1.
+/// A record of the program that reads, on two nodes: the last word of node 0 has the stamp 6. Then
+/// it takes its own Bye, the Read that node 1 sends at 8, its own FwdRead, Done and the Bye of node
+/// 1.
 const RECORD: &str = "shasta-record 1
 nodes 2
 budget 100000000
@@ -29,24 +30,114 @@ take 16 1 4
 end
 ";
 
+/// The same record as `run` writes it: the rewritten code has 15 words, and each take has the
+/// number by which its stamp is above the least, the stamp of the take before and the words since
+/// then and 1.
+pub const NAMED: &str = "shasta-record 2
+nodes 2
+budget 100000000
+batch 1
+code 15
+node 0
+take 0 0 6
+take 1 1 0
+take 0 0 0
+take 1 1 0
+take 3 1 0
+end
+node 1
+take 0 0 8
+take 1 0 0
+take 0 1 4
+end
+";
+
+/// What one node leaves: it ends with its sixth word, and takes its own Bye.
+const ALONE: &str = "shasta-record 2
+nodes 1
+budget 100000000
+batch 1
+code 15
+node 0
+take 0 0 6
+end
+";
+
 /// A part of the record, what stands in its place, and why it is refused then.
-const RECORDS: [(&str, &str, &str); 8] = [
+const RECORDS: [(&str, &str, &str); 17] = [
+    ("shasta-record 1", "shasta-record", "40 at line 1"),
     ("take 16 1 4\nend\n", "take 16 1 4\n", "40 at line 16"),
+    (
+        "take 16 1 4\nend\n",
+        "take 16 1 4\nend\n\n",
+        "40 at line 17",
+    ),
     ("take 7 0 6", "take 5 0 6", "41 at line 6"),
+    ("take 16 1 4", "take 15 1 4", "41 at line 15"),
     ("nodes 2", "nodes 17", "42 at line 2"),
+    ("take 16 1 4", "take 16 2 4", "42 at line 15"),
     ("record 1", "record 9", "43 at line 1"),
+    // node 1 has sent nothing yet
+    ("take 7 0 6", "take 7 1 6", "44 at node 0 entry 1"),
     // the Read is not yet sent
     ("take 9 1 0", "take 8 1 0", "44 at node 0 entry 2"),
+    // the Bye and the Data of node 0 are taken
+    ("take 16 1 4", "take 16 0 4", "44 at node 1 entry 3"),
+    // node 0 ends with its sixth word
+    ("take 7 0 6", "take 8 0 7", "45 at node 0 entry 1"),
     // node 1 ends with its fourth word
     ("take 16 1 4", "take 20 1 8", "45 at node 1 entry 3"),
     // node 0 has not taken the Bye of node 1
     ("take 16 1 0\n", "", "45 at node 0 entry 5"),
+    // the Bye of node 0 has the stamp 6
+    ("take 7 0 6", "take 8 0 6", "46 at node 0 entry 1"),
     // the Bye has the stamp 15
     ("take 16 1 0", "take 17 1 0", "46 at node 0 entry 5"),
+    ("take 16 1 4", "take 17 1 4", "46 at node 1 entry 3"),
 ];
 
-/// Blocks in the record, and why its layout is refused then: a start that is no multiple of the size,
-/// and two blocks of one line.
+/// The first take in the record, by another text, and why it is refused then; and other texts of
+/// the last one, each of which is refused too.
+const FIRST_TAKES: [(&str, &str); 3] = [
+    ("take 7 1 6", "44 at node 0 entry 1"),
+    ("take 8 0 7", "45 at node 0 entry 1"),
+    ("take 8 0 6", "46 at node 0 entry 1"),
+];
+
+const LAST_TAKES: [&str; 3] = ["take 16 0 4", "take 20 1 8", "take 17 1 4"];
+
+/// A record of a program of three words, by which each of two nodes ends; then it takes both Byes.
+const ENDS: &str = "shasta-record 1
+nodes 2
+budget 100000000
+batch 1
+node 0
+take 4 0 3
+take 5 1 0
+end
+node 1
+take 4 0 3
+take 5 1 0
+end
+";
+
+/// Its code: `addi x10, x0, 0; addi x17, x0, 93; ecall`.
+const EXITS: &str = "00000513 05d00893 00000073";
+
+/// Likewise of the record that names the words: one word more than there is; the same where the
+/// layout would be refused too; and a stamp that is 1 too high.
+const NAMED_RECORDS: [(&str, &str, &str); 3] = [
+    ("code 15", "code 16", "47 at line 5"),
+    (
+        "code 15\n",
+        "code 16\nblock 0x00020020 0x00000040 64 *\n",
+        "47 at line 5",
+    ),
+    ("take 3 1 0", "take 4 1 0", "46 at node 0 entry 5"),
+];
+
+/// Blocks in the record, and why its layout is refused then: a start that is no multiple of the
+/// size, and two blocks of one line.
 const LAYOUTS: [(&str, &str); 2] = [
     (
         "batch 1\nblock 0x00020020 0x00000040 64 *\n",
@@ -103,26 +194,28 @@ fn try_words(
 #[test]
 fn replays_a_record(rt: HostRuntime) -> Result<(), Fail> {
     let file = reader(rt.alloc())?;
-    let held = [("IN", file.as_slice()), ("R", RECORD.as_bytes())];
-    for (words, out) in [("replay IN R", READ), ("replay --brief IN R", WAITED)] {
-        try_words(&rt, &held, words, 0, out, "")?;
+    for record in [RECORD, NAMED] {
+        let held = [("IN", file.as_slice()), ("R", record.as_bytes())];
+        for (words, out) in [("replay IN R", READ), ("replay --brief IN R", WAITED)] {
+            try_words(&rt, &held, words, 0, out, "")?;
+        }
     }
     Ok(())
 }
 
-/// Replays the record with another part, and fails the test where another line is told.
+/// Replays a record with another part, and fails the test where another line is told.
 fn try_refused(
     rt: &(impl Threads + Wait + Sync + AllocGlobal),
-    old: &str,
-    new: &str,
+    record: &str,
+    (old, new): (&str, &str),
     status: u8,
     line: &[&str],
 ) -> Result<(), Fail> {
     let alloc = rt.alloc();
-    let record = RECORD.replace(alloc, old, new)?;
+    let other = record.replace(alloc, old, new)?;
     let err = text_of(alloc, line)?;
     let file = reader(alloc)?;
-    let held = [("IN", file.as_slice()), ("R", record.as_bytes())];
+    let held = [("IN", file.as_slice()), ("R", other.as_bytes())];
     try_words(rt, &held, "replay IN R", status, "", &err)
 }
 
@@ -130,17 +223,48 @@ fn try_refused(
 fn refuses_records(rt: HostRuntime) -> Result<(), Fail> {
     for (old, new, why) in RECORDS {
         let line = ["shasta: record refused ", why, "\n"];
-        try_refused(&rt, old, new, 7, &line)?;
+        try_refused(&rt, RECORD, (old, new), 7, &line)?;
+    }
+    for (old, new, why) in NAMED_RECORDS {
+        let line = ["shasta: record refused ", why, "\n"];
+        try_refused(&rt, NAMED, (old, new), 7, &line)?;
     }
     for (new, why) in LAYOUTS {
         let line = ["shasta: layout refused ", why, "\n"];
-        try_refused(&rt, "batch 1\n", new, 6, &line)?;
+        try_refused(&rt, RECORD, ("batch 1\n", new), 6, &line)?;
     }
     Ok(())
 }
 
-/// Calls the program with these words on these files, and gives what it did. Fails the test where the
-/// status isn't 0.
+/// Of two events that are refused the first is told, whatever their rules.
+#[test]
+fn refuses_the_first_event(rt: HostRuntime) -> Result<(), Fail> {
+    for (first, why) in FIRST_TAKES {
+        let record = RECORD.replace(rt.alloc(), "take 7 0 6", first)?;
+        for last in LAST_TAKES {
+            let line = ["shasta: record refused ", why, "\n"];
+            try_refused(&rt, &record, ("take 16 1 4", last), 7, &line)?;
+        }
+    }
+    Ok(())
+}
+
+/// The last place of a record is the end of its last node, which isn't over where it has not taken
+/// its own Bye.
+#[test]
+fn refuses_a_node_that_ends_too_early(rt: HostRuntime) -> Result<(), Fail> {
+    let file = executable(rt.alloc(), EXITS, b"", 64)?;
+    let held = [("IN", file.as_slice()), ("R", ENDS.as_bytes())];
+    try_words(&rt, &held, "replay IN R --brief", 0, WAITED, "")?;
+    let own = "node 1\ntake 4 0 3\ntake 5 1 0\n";
+    let early = ENDS.replace(rt.alloc(), own, "node 1\ntake 4 0 3\n")?;
+    let held = [("IN", file.as_slice()), ("R", early.as_bytes())];
+    let err = "shasta: record refused 45 at node 1 entry 2\n";
+    try_words(&rt, &held, "replay IN R", 7, "", err)
+}
+
+/// Calls the program with these words on these files, and gives what it did. Fails the test where
+/// the status isn't 0.
 fn done(
     rt: &(impl Threads + Wait + Sync + AllocGlobal),
     files: &[(&str, &[u8])],
@@ -153,6 +277,15 @@ fn done(
     }
     let status = called.status;
     Err(Fail::new(format_args!("{words}: {status}")))
+}
+
+#[test]
+fn records_the_words_of_its_code(rt: HostRuntime) -> Result<(), Fail> {
+    let file = reader(rt.alloc())?;
+    let held = [("IN", file.as_slice())];
+    let ran = done(&rt, &held, "run IN --record R", "R")?;
+    assert_eq!(rt; from_utf8(&ran.written)?, ALONE);
+    Ok(())
 }
 
 #[test]

@@ -24,15 +24,19 @@ pub const COUNTS: &str = "000202b7 3e800313 1002a3af 00138393 1872ae2f fe0e1ae3 
 /// What it ends with: the word is 2000.
 pub const COUNTED: &[u8] = b"output 4\n\xd0\x07\x00\x00\nprocessor 0 exit 0\nprocessor 1 exit 0\n";
 
-/// The lines of the record of the bytes that are stored, between those of the budget and of the takes.
+/// The lines of the record of the bytes that are stored, between those of the budget and of the
+/// takes. The rewritten code has a word for each instruction, for word 0 and for the end behind the
+/// code; 1 more for a branch forward, 2 more for one backward and for a jump, and 7 more for a
+/// store.
 const RECORDED: &str = "batch 1
+code 32
 block 0x00020000 0x00001000 4096 0
 block 0x00021000 0x00000080 128 *
 node 0
 ";
 
 /// The lines of its record before those of the takes, which depend on the order of events.
-const HEAD: &str = "shasta-record 1\nnodes 2\nbudget 100000000\nbatch 1\nnode 0\n";
+const HEAD: &str = "shasta-record 2\nnodes 2\nbudget 100000000\nbatch 1\ncode 15\nnode 0\n";
 
 /// Runs the program that reads on two nodes, with this gate, and fails the test where its text
 /// isn't that of every order, or the head of its record is another.
@@ -90,8 +94,8 @@ pub fn try_counting(
 /// The words that run two nodes in threads.
 pub const RUN: &str = "run IN --nodes 2 --record R --brief";
 
-/// Two nodes count in any order; each node of a run comes by the gate before its events, and no other
-/// machine does.
+/// Two nodes count in any order; each node of a run comes by the gate before its events, and no
+/// other machine does.
 #[test]
 fn passes_the_gate_before_each_event(rt: HostRuntime) -> Result<(), Fail> {
     let file = executable(rt.alloc(), COUNTS, b"", 128)?;

@@ -1,6 +1,9 @@
 #![tactic(auto)]
-//! Files that are written and read, files of other tools' layouts, and texts of layouts.
+//! Files that are written and read, files of other tools' layouts, texts of layouts, and assembly
+//! texts.
 
+#[cfg(test)]
+mod assembling;
 #[cfg(test)]
 mod files;
 #[cfg(test)]

@@ -23,7 +23,8 @@ const HEADERS: [u32; 37] = [
 const NAMES: &[u8] =
     b"\0.text\0.rodata\0.data\0.bss\0.riscv.attributes\0.symtab\0.shstrtab\0unended";
 
-/// The section headers: name, type, flags, address, offset, size, link, info, alignment, entry size.
+/// The section headers: name, type, flags, address, offset, size, link, info, alignment, entry
+/// size.
 const SECTIONS: [[u32; 10]; 8] = [
     [0; 10],
     [1, 1, 6, 0x10094, 0x94, 0x20, 0, 0, 4, 0],
@@ -98,8 +99,8 @@ fn accepts_an_executable_of_sections(rt: HostRuntime) -> Result<(), Fail> {
     Ok(())
 }
 
-/// 65,535 sections whose names begin in eight MiB of letters, which nothing ends: each is empty, and a
-/// look at the letters for each of them would take hours.
+/// 65,535 sections whose names begin in eight MiB of letters, which nothing ends: each is empty,
+/// and a look at the letters for each of them would take hours.
 #[test]
 fn reads_many_headers(rt: HostRuntime) -> Result<(), Fail> {
     let alloc = rt.alloc();

@@ -4,8 +4,8 @@ use rv32_text::line_of;
 use std::test::Fail;
 
 /// An address, a word and its text. The numbers are those of `objdump -M no-aliases,numeric`; the
-/// spelling is this crate's. Of the last five words objdump does not say so: three are illegal here,
-/// and two have no row.
+/// spelling is this crate's. Of the last five words objdump does not say so: three are illegal
+/// here, and two have no row.
 const TEXTS: [(u32, u32, &str); 80] = [
     (0x00010000, 0x00000037, "lui x0, 0x0"),
     (0x00010000, 0x000205b7, "lui x11, 0x20"),

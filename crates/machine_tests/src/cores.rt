@@ -9,7 +9,7 @@ ghost use Rattle.node_model.specs.Node.{IsLaidOver};
 use crate::files::{HI, executable};
 use block_layout::{Layout, default_layout};
 use dsm_core::{Core, Event, Work};
-use elf32_read::read_elf;
+use elf32_read::{Elf, read_elf};
 use exec_map::{End, Exit, Program, accept};
 use node_machine::{Entry, Node, NodeCounts, Standing};
 use node_threads::{OpenGate, race_with};
@@ -19,6 +19,7 @@ use std::alloc::{AllocError, Global};
 use std::sync::Wait;
 use std::test::Fail;
 use std::thread::Threads;
+use workload::program_of as generate;
 
 /// A processor other than 0 loads a shared word; each exits with code 0:
 /// `lui x5, 0x20; beq x10, x0, 8; lw x6, 0(x5); addi x10, x0, 0; addi x17, x0, 93; ecall`.
@@ -31,8 +32,8 @@ const STRANGER: [u32; 6] = [
     0x000202b7, 0x00050463, 0x0062a023, 0x00000513, 0x05d00893, 0x00000073,
 ];
 
-/// Each processor loads a shared word, writes no byte, stores the word and exits with code 0:
-/// `lui x5, 0x20; lw x6, 0(x5); addi x10, x0, 1; addi x11, x5, 0; addi x12, x0, 0; addi x17, x0, 64;
+/// Each processor loads a shared word, writes no byte, stores the word and exits with code 0: `lui
+/// x5, 0x20; lw x6, 0(x5); addi x10, x0, 1; addi x11, x5, 0; addi x12, x0, 0; addi x17, x0, 64;
 /// ecall; sw x6, 0(x5); addi x10, x0, 0; addi x17, x0, 93; ecall`.
 const SHARERS: [u32; 11] = [
     0x000202b7, 0x0002a303, 0x00100513, 0x00028593, 0x00000613, 0x04000893, 0x00000073, 0x0062a023,
@@ -73,10 +74,11 @@ fn core_of<'a>(
 ) -> Result<Core<'a>, Fail>
     requires valid { IsValid layout.now }
     requires laid_over { IsLaidOver (program_of program.now) layout.now }
-    requires rewriting { IsRewriting (program_of program.now) rewritten.now.plan rewritten.now.image }
+    requires rewriting { IsRewriting (program_of program.now) rewritten.now.plan
+        rewritten.now.image }
 {
-    let Some(budget) = Budget::of(1000) else {
-        return Err(Fail::from("a thousand is a budget"));
+    let Some(budget) = Budget::of(100_000_000) else {
+        return Err(Fail::from("a hundred million is a budget"));
     };
     // For the proof alone.
     let _ = program.entry();
@@ -137,8 +139,8 @@ fn have_printed(core: &mut Core<'_>) -> Result<bool, AllocError> {
 /// What may not happen at the start, where no message is there.
 const TAKE: Event = Event::Take { node: 0, from: 1 };
 
-/// What two sharers do that then both want to write. A node that executes goes on until it stands at
-/// a poll or waits.
+/// What two sharers do that then both want to write. A node that executes goes on until it stands
+/// at a poll or waits.
 const SHARING: [Event; 18] = [
     Event::Exec(0),
     Event::Exec(1),
@@ -251,8 +253,8 @@ const READER: [Entry; 3] = [
     },
 ];
 
-/// Whether each node ended with code 0, the first sent so many messages and counted nothing else, and
-/// each other read one block and sent two messages.
+/// Whether each node ended with code 0, the first sent so many messages and counted nothing else,
+/// and each other read one block and sent two messages.
 fn have_read(core: &Core<'_>, messages: u64) -> bool {
     let reader = NodeCounts { read: 1, ..sent(2) };
     for node in 0..core.layout().nodes() {
@@ -295,9 +297,27 @@ fn has_outcome(
     Ok(told && outcome.counts.as_slice() == counts)
 }
 
+/// What four nodes print of the generated executable of number 0: eight times the sum that one of
+/// them adds, which is 250078.
+const SUM: &[u8] = b"001e86f0\n";
+
+/// Whether four nodes in threads, over links that hold one wire, print the sum and end with code 0.
+fn have_added(
+    rt: &(impl Threads + Wait + Sync + AllocGlobal),
+    core: Core<'_>,
+) -> Result<bool, AllocError> {
+    let raced = race_with(rt, rt.alloc(), core, 1, &OpenGate)?;
+    let outcome = raced.outcome(rt.alloc())?;
+    let ends = [End::Exited(Exit::Code(0)); 4];
+    Ok(outcome.output.as_slice() == SUM && outcome.ends.as_slice() == ends.as_slice())
+}
+
 /// What nodes are to do.
 #[derive(Clone, Copy)]
 enum Case {
+    /// In threads, over links that hold one wire, four of them add what the generated executable
+    /// adds.
+    Add,
     /// Two of them finish, print these bytes, and count so.
     Finish(&'static [u8], [NodeCounts; 2]),
     Print,
@@ -317,7 +337,8 @@ fn has_come(
 ) -> Result<bool, Fail>
     requires some { 0 < nodes }
     requires few { nodes ≤ 16 }
-    requires rewriting { IsRewriting (program_of program.now) rewritten.now.plan rewritten.now.image }
+    requires rewriting { IsRewriting (program_of program.now) rewritten.now.plan
+        rewritten.now.image }
 {
     let alloc = rt.alloc();
     let layout = layout_over(alloc, program, nodes)?;
@@ -327,6 +348,7 @@ fn has_come(
         Case::Print => have_printed(&mut core)?,
         Case::Read => is_kept(core)?,
         Case::Share => have_shared(&mut core)?,
+        Case::Add => have_added(rt, core)?,
         Case::Race => have_read(&race_with(rt, alloc, core, 1, &OpenGate)?, 30),
     };
     Ok(come)
@@ -343,10 +365,23 @@ fn try_case(
     requires some { 0 < nodes }
     requires few { nodes ≤ 16 }
 {
+    let file = executable(rt.alloc(), code, data.0, data.1)?;
+    let elf = read_elf(rt.alloc(), &file)?;
+    try_elf(rt, &elf, nodes, case)
+}
+
+/// Has nodes of the program of an executable do so, and fails the test where they don't.
+fn try_elf(
+    rt: &(impl Threads + Wait + Sync + AllocGlobal),
+    elf: &Elf<'_>,
+    nodes: u8,
+    case: Case,
+) -> Result<(), Fail>
+    requires some { 0 < nodes }
+    requires few { nodes ≤ 16 }
+{
     let alloc = rt.alloc();
-    let file = executable(alloc, code, data.0, data.1)?;
-    let elf = read_elf(alloc, &file)?;
-    let program = accept(alloc, &elf)?;
+    let program = accept(alloc, elf)?;
     let rewritten = rewrite(alloc, &program, Options { batch: true })?;
     if has_come(rt, &rewritten, &program, nodes, case)? {
         return Ok(());
@@ -407,4 +442,12 @@ fn outcomes_of_two_nodes(rt: HostRuntime) -> Result<(), Fail> {
 #[test]
 fn sixteen_nodes_over_links_of_one_wire(rt: HostRuntime) -> Result<(), Fail> {
     try_case(&rt, &ROW, SEVEN, 16, Case::Race)
+}
+
+/// As over longer links, the generated executable of number 0 prints eight times the sum.
+#[test]
+fn four_nodes_add_over_links_of_one_wire(rt: HostRuntime) -> Result<(), Fail> {
+    let generated = generate(rt.alloc(), 0)?;
+    let elf = generated.elf(rt.alloc())?;
+    try_elf(&rt, &elf, 4, Case::Add)
 }

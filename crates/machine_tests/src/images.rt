@@ -7,8 +7,8 @@ use jump_map::Image;
 use rewriter::{Options, rewrite};
 use std::test::Fail;
 
-/// A program, a place of it, where the sequences of the place begin, of how many bytes its batch is,
-/// and the words of the sequences and of what follows.
+/// A program, a place of it, where the sequences of the place begin, of how many bytes its batch
+/// is, and the words of the sequences and of what follows.
 struct Sequence {
     code: &'static [u32],
     place: u32,
@@ -37,8 +37,8 @@ const SEQUENCES: [Sequence; 10] = [
         batch: 0,
         words: &[0x0000002b],
     },
-    // addi x17, x0, 93; lui x10, 0x20; lw x10, 0(x10); ecall: the load spills two registers, and tests
-    // the readable bit of the state byte
+    // addi x17, x0, 93; lui x10, 0x20; lw x10, 0(x10); ecall: the load spills two registers, and
+    // tests the readable bit of the state byte
     Sequence {
         code: &[0x05d00893, 0x00020537, 0x00052503, 0x00000073],
         place: 0x00010008,
@@ -102,8 +102,8 @@ const SEQUENCES: [Sequence; 10] = [
         ],
     },
     // lui x5, 0x20; addi x6, x0, 1; lui x28, 0x10; jalr x1, 20(x28); lw x6, 0(x5); lw x7, 4(x5);
-    // add x10, x6, x7; addi x17, x0, 93; ecall: a run of two loads, by dead registers; behind it the
-    // single sequences
+    // add x10, x6, x7; addi x17, x0, 93; ecall: a run of two loads, by dead registers; behind it
+    // the single sequences
     Sequence {
         code: &[
             0x000202b7, 0x00100313, 0x00010e37, 0x014e00e7, 0x0002a303, 0x0042a383, 0x00730533,
@@ -149,8 +149,8 @@ fn has_words(image: &Image, sequence: &Sequence) -> bool {
     image.new_of(sequence.place) == Some(sequence.at.wrapping_add(sequence.batch))
 }
 
-/// The rewritten program's words, before the first place and of the sequence, and how many words it has
-/// where all are known.
+/// The rewritten program's words, before the first place and of the sequence, and how many words it
+/// has where all are known.
 fn is_rewritten(image: &Image, sequence: &Sequence) -> bool {
     image.word_at(0xa0000000) == Some(0x0000102b)
         && has_words(image, sequence)

@@ -13,3 +13,5 @@ mod machines;
 mod plans;
 #[cfg(test)]
 mod rewritten_files;
+#[cfg(test)]
+mod verified_files;

@@ -27,15 +27,15 @@ const ODD_BRANCH: [u32; 5] = [0x00028303, 0x00628163, 0x00100393, 0x00008067, 0x
 /// The successors of a code word, whether it goes back, and whether anywhere.
 type Edges = (Option<u32>, Option<u32>, bool, bool);
 
-/// The sets of the registers that are dead after and at a code word, as bits with x0 among them, and
-/// whether x10 is dead after and at it.
+/// The sets of the registers that are dead after and at a code word, as bits with x0 among them,
+/// and whether x10 is dead after and at it.
 type Dead = (u32, u32, bool, bool);
 
 /// A scratch register: its number, and whether it is spilled.
 type Chosen = (u8, bool);
 
-/// What is known of a program, at addresses: its edges, its dead registers, and the scratch registers
-/// s and t of its sequences.
+/// What is known of a program, at addresses: its edges, its dead registers, and the scratch
+/// registers s and t of its sequences.
 struct Known {
     code: &'static [u32],
     edges: &'static [(u32, Option<Edges>)],

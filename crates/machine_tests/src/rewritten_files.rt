@@ -21,8 +21,8 @@ fn rewritten_file(alloc: Global) -> Result<Vec<u8>, Fail> {
     Ok(out)
 }
 
-/// Whether an executable has three segments, of which the first is read-only, the second writable and
-/// the third code, and begins at the first place.
+/// Whether an executable has three segments, of which the first is read-only, the second writable
+/// and the third code, and begins at the first place.
 fn has_segments(elf: &Elf<'_>) -> bool {
     for (segment, flags) in elf.segments().iter().zip([4, 6, 5]) {
         if segment.flags != flags {

@@ -53,8 +53,8 @@ fn state(protocol: &Protocol, node: u8) -> &'static str {
     }
 }
 
-/// Nodes take messages of block 0: the node and the sender; the state there afterwards; and the first
-/// message from the node to another then, with its requester and its number of Acks.
+/// Nodes take messages of block 0: the node and the sender; the state there afterwards; and the
+/// first message from the node to another then, with its requester and its number of Acks.
 const TAKES: [(u8, u8, &str, u8, (&str, u8, u8)); 6] = [
     (0, 0, "shared", 1, ("Inval", 0, 0)),
     (0, 1, "shared", 0, ("Grant", 0, 1)),

@@ -1,9 +1,10 @@
 //! Texts of records, read: each line in turn in place of a line of the record of two nodes.
 
 use run_record::{RecordRefused, read_record, write_record};
+use std::alloc::{AllocError, Global};
 use std::test::Fail;
 
-/// The lines of the record of a run of two nodes.
+/// The lines of the record of a run of two nodes, in the first version.
 const LINES: [&str; 16] = [
     "shasta-record 1\n",
     "nodes 2\n",
@@ -24,7 +25,8 @@ const LINES: [&str; 16] = [
 ];
 
 /// Which line is replaced, counted from 0, and by what; the number of the rule that the text then
-/// breaks first, and the line that breaks it, counted from 1. Number 0 is for a text that breaks none.
+/// breaks first, and the line that breaks it, counted from 1. Number 0 is for a text that breaks
+/// none.
 const CASES: [(usize, &str, u8, usize); 28] = [
     (0, "shasta-record 9\n", 43, 1),
     (1, "nodes 17\n", 42, 2),
@@ -56,25 +58,135 @@ const CASES: [(usize, &str, u8, usize); 28] = [
     (3, "batch 2\n", 40, 4),
 ];
 
+/// The same record in the second version, which names the number of rewritten words and the gaps of
+/// takes: the first, of least stamp 7, has none, and the last of node 0, of least stamp 13, has 3.
+const NAMED: [&str; 17] = [
+    "shasta-record 2\n",
+    "nodes 2\n",
+    "budget 100000000\n",
+    "batch 1\n",
+    "code 15\n",
+    "node 0\n",
+    "take 0 0 6\n",
+    "take 1 1 0\n",
+    "take 0 0 0\n",
+    "take 1 1 0\n",
+    "take 3 1 0\n",
+    "end\n",
+    "node 1\n",
+    "take 0 0 8\n",
+    "take 1 0 0\n",
+    "take 0 1 4\n",
+    "end\n",
+];
+
+/// Likewise for these lines. No stamp is as high as 2^63, 9223372036854775808.
+const NAMED_CASES: [(usize, &str, u8, usize); 16] = [
+    (0, "shasta-record 1\n", 40, 5),
+    (0, "shasta-record 3\n", 43, 1),
+    (4, "", 40, 5),
+    (4, "code 0\n", 40, 5),
+    (4, "code 015\n", 40, 5),
+    (4, "code 4194304\n", 40, 5),
+    (4, "code 4194303\n", 0, 0),
+    (4, "code 15\ncode 15\n", 40, 6),
+    (6, "take 00 0 6\n", 40, 7),
+    (6, "take 0 2 6\n", 42, 7),
+    (6, "take 9223372036854775801 2 6\n", 41, 7),
+    (6, "take 9223372036854775807 0 9223372036854775807\n", 41, 7),
+    (6, "take 9223372036854775808 0 6\n", 40, 7),
+    (10, "take 9223372036854775794 1 0\n", 0, 0),
+    (10, "take 9223372036854775795 1 0\n", 41, 11),
+    (10, "take 3 1 9223372036854775792\n", 41, 11),
+];
+
+/// Texts of the sixth line of the first record, each of which breaks another rule; and likewise of
+/// its fourteenth.
+const SIXTH: [(&str, u8); 3] = [
+    ("take 07 0 6\n", 40),
+    ("take 5 0 6\n", 41),
+    ("take 7 2 6\n", 42),
+];
+
+const FOURTEENTH: [&str; 3] = ["take 011 0 0\n", "take 9 0 0\n", "take 11 2 0\n"];
+
+/// The text of these lines, one of them replaced.
+fn text_of(
+    alloc: Global,
+    lines: &[&str],
+    replaced: usize,
+    text: &str,
+) -> Result<Vec<u8>, AllocError> {
+    let mut whole = Vec::new(alloc);
+    for (place, line) in lines.iter().enumerate() {
+        whole.extend_from_slice(if place == replaced { text } else { line }.as_bytes())?;
+    }
+    Ok(whole)
+}
+
+/// The rule and the line that refuse a text, 0 and 0 where nothing does; None where memory ran out,
+/// or a record that was read isn't written as the same text.
+fn judged(alloc: Global, text: &[u8]) -> Option<(u8, usize)> {
+    match read_record(alloc, text) {
+        Ok(record) => {
+            let mut again = Vec::new(alloc);
+            write_record(&record, &mut again).ok()?;
+            (again.as_slice() == text).then_some((0, 0))
+        }
+        Err(RecordRefused::Broken { rule, line }) => Some((rule.number(), line)),
+        Err(RecordRefused::OutOfMemory) => None,
+    }
+}
+
 #[test]
 fn a_record_with_one_line_replaced(rt: HostRuntime) -> Result<(), Fail> {
     for (replaced, text, number, broken) in CASES {
-        let mut whole = Vec::new(rt.alloc());
-        for (place, line) in LINES.iter().enumerate() {
-            whole.extend_from_slice(if place == replaced { text } else { line }.as_bytes())?;
+        let whole = text_of(rt.alloc(), &LINES, replaced, text)?;
+        assert_eq!(rt;
+            judged(rt.alloc(), &whole),
+            Some((number, broken)),
+            "{text}"
+        );
+    }
+    Ok(())
+}
+
+#[test]
+fn a_record_of_named_words_with_one_line_replaced(rt: HostRuntime) -> Result<(), Fail> {
+    for (replaced, text, number, broken) in NAMED_CASES {
+        let whole = text_of(rt.alloc(), &NAMED, replaced, text)?;
+        assert_eq!(rt;
+            judged(rt.alloc(), &whole),
+            Some((number, broken)),
+            "{text}"
+        );
+    }
+    Ok(())
+}
+
+/// Of two lines that break a rule the first is told, whatever their rules; and of two rules that a
+/// line breaks the lower one.
+#[test]
+fn a_record_with_two_faults(rt: HostRuntime) -> Result<(), Fail> {
+    let mut lines = LINES;
+    for (sixth, number) in SIXTH {
+        lines[5] = sixth;
+        for fourteenth in FOURTEENTH {
+            let whole = text_of(rt.alloc(), &lines, 13, fourteenth)?;
+            assert_eq!(rt; judged(rt.alloc(), &whole), Some((number, 6)), "{sixth}");
         }
-        match read_record(rt.alloc(), &whole) {
-            Ok(record) => {
-                assert_eq!(rt; number, 0, "{text}");
-                let mut again = Vec::new(rt.alloc());
-                write_record(&record, &mut again)?;
-                assert_eq!(rt; again.as_slice(), whole.as_slice());
-            }
-            Err(RecordRefused::Broken { rule, line }) => {
-                assert_eq!(rt; (rule.number(), line), (number, broken), "{text}");
-            }
-            Err(RecordRefused::OutOfMemory) => assert!(rt; false, "memory is there"),
-        }
+        let whole = text_of(rt.alloc(), &lines, 0, "shasta-record 9\n")?;
+        assert_eq!(rt; judged(rt.alloc(), &whole), Some((43, 1)), "{sixth}");
+    }
+    for (place, text, number) in [
+        (1, "nodes 0\n", 42),
+        (13, "take 9 2 0\n", 41),
+        (14, "take 16 2 4\n", 42),
+        (14, "take 15 1 4\n", 41),
+    ] {
+        let whole = text_of(rt.alloc(), &LINES, place, text)?;
+        let line = place.saturating_add(1);
+        assert_eq!(rt; judged(rt.alloc(), &whole), Some((number, line)), "{text}");
     }
     Ok(())
 }

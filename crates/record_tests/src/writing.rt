@@ -1,7 +1,7 @@
 //! Texts of records, byte by byte.
 
-ghost use Rattle.std.specs.Prelude.{◌≡◌, IfOk};
-ghost use Rattle.run_record.specs.Record.{IsRecord};
+ghost use Rattle.std.specs.Prelude.{◌≡◌, IfOk, IfSome};
+ghost use Rattle.run_record.specs.Record.{IsRecord, IsCodeLength};
 
 use block_layout::BlockRange;
 use node_model::Entry;
@@ -9,7 +9,7 @@ use run_record::{Blocks, Journals, Record, write_record};
 use std::alloc::{AllocError, Global};
 use std::test::Fail;
 
-/// The record of a run of two nodes that print.
+/// The record of a run of two nodes of which one reads what the other has.
 const TWO_NODES: &str = concat!(
     "shasta-record 1\n",
     "nodes 2\n",
@@ -26,6 +26,27 @@ const TWO_NODES: &str = concat!(
     "take 9 0 8\n",
     "take 11 0 0\n",
     "take 16 1 4\n",
+    "end\n",
+);
+
+/// The same, where the number of rewritten words is named.
+const WORDS_NAMED: &str = concat!(
+    "shasta-record 2\n",
+    "nodes 2\n",
+    "budget 100000000\n",
+    "batch 1\n",
+    "code 15\n",
+    "node 0\n",
+    "take 0 0 6\n",
+    "take 1 1 0\n",
+    "take 0 0 0\n",
+    "take 1 1 0\n",
+    "take 3 1 0\n",
+    "end\n",
+    "node 1\n",
+    "take 0 0 8\n",
+    "take 1 0 0\n",
+    "take 0 1 4\n",
     "end\n",
 );
 
@@ -47,7 +68,8 @@ fn entry(stamp: u64, from: u8, words: u64) -> Entry
     Entry { stamp, from, words }
 }
 
-fn two_nodes(alloc: Global) -> Result<Record, AllocError>
+fn two_nodes(alloc: Global, code: Option<u32>) -> Result<Record, AllocError>
+    requires { IfSome code IsCodeLength }
     ensures { IfOk result IsRecord }
 {
     let first = Vec::from_array(
@@ -65,6 +87,7 @@ fn two_nodes(alloc: Global) -> Result<Record, AllocError>
         nodes: 2,
         budget: 100_000_000,
         batch: true,
+        code,
         blocks: Blocks::of(Vec::new(alloc)),
         journals: Journals::of(Vec::from_array(alloc, [first, second])?),
     })
@@ -94,6 +117,7 @@ fn two_ranges(alloc: Global) -> Result<Record, AllocError>
         nodes: 1,
         budget: 1 << 32,
         batch: false,
+        code: None,
         blocks: Blocks::of(ranges),
         journals: Journals::of(Vec::from_array(alloc, [Vec::new(alloc)])?),
     })
@@ -101,10 +125,12 @@ fn two_ranges(alloc: Global) -> Result<Record, AllocError>
 
 #[test]
 fn two_nodes_have_this_text(rt: HostRuntime) -> Result<(), Fail> {
-    let record = two_nodes(rt.alloc())?;
-    let mut text = Vec::new(rt.alloc());
-    write_record(&record, &mut text)?;
-    assert_eq!(rt; text.as_slice(), TWO_NODES.as_bytes());
+    for (code, expected) in [(None, TWO_NODES), (Some(15), WORDS_NAMED)] {
+        let record = two_nodes(rt.alloc(), code)?;
+        let mut text = Vec::new(rt.alloc());
+        write_record(&record, &mut text)?;
+        assert_eq!(rt; text.as_slice(), expected.as_bytes());
+    }
     Ok(())
 }
 

@@ -1,0 +1,117 @@
+//! Assembly texts that are assembled, and texts that are refused.
+
+use rv32_asm::{AsmRefused, assemble, check_text};
+use std::alloc::{AllocError, Global};
+use std::test::Fail;
+
+/// Names before and behind their lines, an entry, zeros and every other directive.
+const NAMES: &[u8] = b"# a loop
+.entry start
+.segment rw 0x20000
+here:
+.word 0x00020000
+.space 3
+.bytes 0a
+.zero 40
+end:
+.segment rx 0x10000
+start:
+jal x0, there
+  back: 
+fence
+illegal
+there:
+beq x1, x2, back
+mulhu x3, x4, x5
+jal x1, 0x00010000";
+
+/// The bytes of words, each with its low byte first.
+fn bytes_of(alloc: Global, words: &[u32]) -> Result<Vec<u8>, AllocError> {
+    let mut bytes = Vec::new(alloc);
+    for word in words {
+        bytes.extend_from_slice(&word.to_le_bytes())?;
+    }
+    Ok(bytes)
+}
+
+/// The code words of the names' text.
+const NAMES_WORDS: [u32; 6] = [
+    0x00c0006f, 0x0ff0000f, 0x00000000, 0xfe208ce3, 0x025231b3, 0xfedff0ef,
+];
+
+#[test]
+fn assembles_names(rt: HostRuntime) -> Result<(), Fail> {
+    let Ok(assembled) = assemble(rt.alloc(), NAMES) else {
+        return Err(Fail::new("refused"));
+    };
+    let elf = assembled.elf(rt.alloc())?;
+    assert_eq!(rt; elf.entry(), 0x10000);
+    let [data, code] = elf.segments() else {
+        return Err(Fail::new("not two segments"));
+    };
+    assert_eq!(rt; (data.flags, data.vaddr, data.memsz), (6, 0x20000, 48));
+    assert_eq!(rt; data.bytes, b"\x00\x00\x02\x00\x00\x00\x00\x0a".as_slice());
+    assert_eq!(rt; (code.flags, code.vaddr, code.memsz), (5, 0x10000, 24));
+    assert_eq!(rt; code.bytes, bytes_of(rt.alloc(), &NAMES_WORDS)?.as_slice());
+    Ok(())
+}
+
+/// A text of lines, with the number of the rule that refuses it and the line.
+const REFUSED: [(&[u8], u8, usize); 39] = [
+    (b".segment rx 0x10000\naddi x1, x0, 2048\n", 61, 2),
+    (b".segment rx 0x10000\njal x0, there", 62, 2),
+    (b"", 65, 1),
+    (b"\n\n", 65, 3),
+    (b"# a\n # b ", 65, 3),
+    (b".segment rx 0x10000\n unknown", 60, 2),
+    (b".segment rx 0x10000\naddi x01, x0, 1", 60, 2),
+    (b".segment rx 0x10000\naddi x-1, x0, 1", 60, 2),
+    (b".segment rx 0x10000\naddi x1, x0, -0", 60, 2),
+    (b".segment rx 0x10000\naddi x1,x0, 1", 60, 2),
+    (b".segment rx 0x10000\naddi x32, x0, 1", 61, 2),
+    (
+        b".segment rx 0x10000\naddi x1, x0, 99999999999999999999999999",
+        61,
+        2,
+    ),
+    (b".segment rx 0x10000\naddi x1, x0, -2049", 61, 2),
+    (b".segment rx 0x10000\nslli x1, x0, 32", 61, 2),
+    (b".segment rx 0x10000\nslli x1, x0, -1", 60, 2),
+    (b".segment rx 0x10000\nlui x1, 0x100000", 61, 2),
+    (b".segment rx 0x10000\nlui x1, 0x00001", 60, 2),
+    (b".segment rx 0x10000\njal x1, 0x10000", 60, 2),
+    (b".segment rx 0x10000\njal x1, 0x000010001", 61, 2),
+    (b".segment rx 0x10000\njal x1, 0x00010001", 61, 2),
+    (b".segment rx 0x10000\nbeq x1, x2, 0x00011000", 61, 2),
+    (b".segment rx 0x10000\na:\na:", 62, 3),
+    (b".segment rx 0x10000\na:\n.entry a\n.entry a", 62, 4),
+    (b".segment rx 0x10000\n.entry b", 62, 2),
+    (b"ecall", 63, 1),
+    (b"a:", 63, 1),
+    (b".zero 0", 63, 1),
+    (b".segment r 0x0\n.bytes 00\necall", 63, 3),
+    (b".segment r 0x0\n.zero 0\n.space 0", 63, 3),
+    (b".segment r 0xffffffff\n.zero 2", 64, 2),
+    (b".segment r 0x0\n.space 16777217", 64, 2),
+    (b".segment r 0x0\n.bytes 0", 60, 2),
+    (b".segment r 0x0\n.segment x 0x0", 60, 2),
+    (b".segment r 0x000000000", 60, 1),
+    (b".segment rx 0x10001\njal x0, 0x00010002", 63, 2),
+    (b".segment rx 0x10001\njal x0, 0x00010003", 61, 2),
+    (b".segment rx 0x10000\njal x0, 0x00110000", 61, 2),
+    (b"a:\n.segment rx 0x10000\njal x0, a", 63, 1),
+    (b".entry a\n.segment r 0xfffffff0\n.zero 16\na:", 61, 1),
+];
+
+#[test]
+fn refuses(rt: HostRuntime) {
+    for (text, number, line) in REFUSED {
+        match check_text(rt.alloc(), text) {
+            Ok(()) => assert!(rt; false, "line {line} is taken"),
+            Err(AsmRefused::OutOfMemory) => assert!(rt; false, "no memory"),
+            Err(AsmRefused::Broken { rule, line: at }) => {
+                assert_eq!(rt; (rule.number(), at), (number, line));
+            }
+        }
+    }
+}

@@ -1,0 +1,104 @@
+//! Files that are taken for a rewriting by the plan that they say, and those that are refused.
+
+use crate::files::{HI, executable};
+use elf32_read::read_elf;
+use exec_map::accept;
+use rewrite_verify::{VerifyRefused, verify};
+use rewriter::{Options, rewrite};
+use std::alloc::Global;
+use std::test::Fail;
+
+/// addi x5, x0, 3; addi x5, x5, -1; bne x5, x0, 0x00010004; addi x6, x0, 1; sw x6, 0(x7);
+/// jal x0, 0x00010014
+const LOOP: [u32; 6] = [
+    0x00300293, 0xfff28293, 0xfe029ee3, 0x00100313, 0x0063a023, 0x0000006f,
+];
+
+/// The look at the state of the store's line by x2 and x1 in place of x1 and x2: addi x2, x7, 0;
+/// lui x1, 0x80000; srli x2, x2, 6; add x2, x2, x1; lbu x2, 0(x2); beq x2, x0, +8
+const OTHER_LOOK: [u32; 6] = [
+    0x00038113, 0x800000b7, 0x00615113, 0x00110133, 0x00014103, 0x00010463,
+];
+
+/// What is refused, and at which address.
+type Refusal = (&'static str, u32);
+
+/// The file of the rewritten program of these words.
+fn rewritten_file(alloc: Global, code: &[u32]) -> Result<Vec<u8>, Fail> {
+    let file = executable(alloc, code, b"hi\n", 3)?;
+    let elf = read_elf(alloc, &file)?;
+    let program = accept(alloc, &elf)?;
+    let rewritten = rewrite(alloc, &program, Options { batch: true })?;
+    let mut out = Vec::new(alloc);
+    rewritten.to_elf(alloc, &elf, &mut out)?;
+    Ok(out)
+}
+
+/// What a file is refused for as one of the program of these words, if it is.
+fn refusal(alloc: Global, code: &[u32], out: &[u8]) -> Result<Option<Refusal>, Fail> {
+    let file = executable(alloc, code, b"hi\n", 3)?;
+    let original = read_elf(alloc, &file)?;
+    let program = accept(alloc, &original)?;
+    let elf = read_elf(alloc, out)?;
+    match verify(alloc, &program, &original, &elf) {
+        Ok(_) => Ok(None),
+        Err(VerifyRefused::NoPlan) => Ok(Some(("NoPlan", 0))),
+        Err(VerifyRefused::BadPlan(address)) => Ok(Some(("BadPlan", address))),
+        Err(VerifyRefused::BadMap) => Ok(Some(("BadMap", 0))),
+        Err(VerifyRefused::BadCode(address)) => Ok(Some(("BadCode", address))),
+        Err(VerifyRefused::BadFile) => Ok(Some(("BadFile", 0))),
+        Err(other) => Err(other.into()),
+    }
+}
+
+/// What the file of `HI` is refused for where its byte at an offset is changed.
+fn refusal_with(alloc: Global, offset: usize) -> Result<Option<Refusal>, Fail> {
+    let mut out = rewritten_file(alloc, &HI)?;
+    if let Some(byte) = out.get_mut(offset) {
+        *byte ^= 1;
+    }
+    refusal(alloc, &HI, &out)
+}
+
+/// The entry stands at 0x18 of the file, the code at 0x3000, the plan behind its 40 bytes, the map
+/// behind those 72, and 72 further on the names, of which the plan's is the first.
+#[test]
+fn refuses_what_was_changed(rt: HostRuntime) -> Result<(), Fail> {
+    let alloc = rt.alloc();
+    for (offset, wanted) in [
+        (0x10000, None),
+        (0x30ba, Some(("NoPlan", 0))),
+        (0x3028, Some(("BadPlan", 0x00010000))),
+        (0x3049, Some(("BadPlan", 0x00010010))),
+        (0x3070, Some(("BadMap", 0))),
+        (0x3004, Some(("BadCode", 0xa0000004))),
+        (0x0018, Some(("BadFile", 0))),
+    ] {
+        assert_eq!(rt; refusal_with(alloc, offset)?, wanted, "at {offset}");
+    }
+    Ok(())
+}
+
+/// Writes bytes over those from an offset on.
+fn put(out: &mut Vec<u8>, offset: usize, bytes: &[u8]) {
+    for (place, byte) in out.iter_mut().skip(offset).zip(bytes) {
+        *place = *byte;
+    }
+}
+
+/// The code stands at 0x3000 of the file, the plan behind its 80 bytes. The store's place is the
+/// fifth, and its eight words stand behind seven others.
+#[test]
+fn takes_another_plan(rt: HostRuntime) -> Result<(), Fail> {
+    let alloc = rt.alloc();
+    let mut out = rewritten_file(alloc, &LOOP)?;
+    put(&mut out, 0x3071, &[7, 2]);
+    assert_eq!(rt; refusal(alloc, &LOOP, &out)?, Some(("BadPlan", 0x00010010)));
+    put(&mut out, 0x3071, &[2, 1]);
+    assert_eq!(rt; refusal(alloc, &LOOP, &out)?, Some(("BadCode", 0xa000001c)));
+    for (k, word) in OTHER_LOOK.iter().enumerate() {
+        put(&mut out, 0x301c + 4 * k, &word.to_le_bytes());
+    }
+    assert_eq!(rt; refusal(alloc, &LOOP, &out)?, None);
+    Ok(())
+}
