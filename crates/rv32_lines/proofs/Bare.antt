@@ -1,8 +1,7 @@
 -- Lines without the spaces at their ends.
 use Rattle.std.proofs.Common.{◌≡◌, ℕ, zero, suc, ◌+◌, ◌-◌, ◌<◌, ◌≤◌, Bool, true, false, not, eqb, cond, List, [], ◌∷◌, ◌++◌, length, take, drop, get_or, refl, sym, ap, ◌∙◌, arith}
-use mathlib.Core.List.{append-nil, reverse}
+use mathlib.Core.List.{reverse}
 use Rattle.std.specs.Prelude.{replicate}
-use Rattle.std.proofs.lemmas.Bool.{false≢true}
 use Rattle.std.proofs.lemmas.Bool.Decides.{nat_tests}
 use Rattle.std.proofs.lemmas.List.{take_more, drop_more, replicate_more, reverse-append, reverse-reverse}
 use Rattle.rv32_lines.specs.Statements.{begins_bare, IsBare}

@@ -1,6 +1,6 @@
 -- Operands by their mnemonics.
 use mathlib.Core.List.{append-nil}
-use Rattle.std.proofs.Common.{append_assoc, ◌≡◌, ℕ, ℤ, pos, Bool, true, false, not, eqb, List, [], ◌∷◌, ◌++◌, Option, Some, None, zero, suc, ◌≤◌, length, get_or, drop, arith, refl, sym, ap, ◌∙◌, subst, inl, inr, ◌⊎◌}
+use Rattle.std.proofs.Common.{append_assoc, ◌≡◌, ℕ, ℤ, true, false, List, [], ◌∷◌, ◌++◌, Option, Some, None, zero, suc, ◌≤◌, length, get_or, drop, arith, refl, sym, ap, ◌∙◌, subst, inl, inr, ◌⊎◌}
 use Rattle.std.specs.Prelude.{MatchOption, IfSome, codes}
 use Rattle.std.specs.List.{list_all}
 use Rattle.std.proofs.lemmas.Bool.{and_parts, false≢true}
@@ -12,7 +12,6 @@ use Rattle.rv32_decode.specs.declared.Op.TheVariants as op
 use Rattle.rv32_decode.specs.declared.ImmOp.TheVariants as imm_op
 use Rattle.rv32_decode.specs.declared.ShiftOp.TheVariants as shift_op
 use Rattle.rv32_decode.specs.declared.AmoOp.TheVariants as amo_op
-use Rattle.rv32_decode.specs.declared.IllegalWord.TheVariants.{Zeros, Ones, CycleWrite}
 use Rattle.rv32_decode.specs.declared.Instr.TheVariants.{Lui, Auipc, Jal, Jalr, Branch, Load, Store, OpImm, ShiftImm, Op, Fence, Ecall, Ebreak, Lr, Sc, Amo, Illegal}
 use Rattle.rv32_text.specs.Listing.{branch_name, load_name, store_name, imm_name, shift_name, op_name, amo_name, order_suffix, with_two, with_three}
 use Rattle.rv32_lines.specs.declared.mnemonics.Mnemonic.{Mnemonic}

@@ -1,6 +1,6 @@
 -- A mnemonic tells the kind of instruction.
 use Rattle.std.proofs.Common.{◌≡◌, ℕ, Bool, true, false, cond, map, ◌++◌, List, [], ◌∷◌, refl, sym, ap, ◌∙◌}
-use Rattle.std.specs.Prelude.{Option, Some, None, find}
+use Rattle.std.specs.Prelude.{Option, Some, find}
 use Rattle.std.specs.List.{list_all}
 use Rattle.std.specs.Str.{bytes_eq}
 use Rattle.std.proofs.lemmas.Bool.{and_parts}

@@ -1,20 +1,17 @@
 -- A text says one thing at most.
-use Rattle.std.proofs.Common.{◌≡◌, ℕ, suc, ◌+◌, ◌<◌, ◌≤◌, ◌^◌, ℤ, pos, negsuc, Bool, true, false, not, eqb, List, [], ◌∷◌, ◌++◌, length, get_or, refl, sym, ap, ◌∙◌, subst, arith, inl, inr, ◌⊎◌}
+use Rattle.std.proofs.Common.{◌≡◌, ℕ, suc, ℤ, pos, negsuc, Bool, true, false, not, eqb, List, [], ◌∷◌, ◌++◌, get_or, refl, sym, ap, ◌∙◌, subst, arith, inl, inr}
 use Rattle.std.specs.Prelude.{codes}
-use Rattle.std.specs.List.{list_all, flat_map}
 use Rattle.std.specs.Str.Parse.{digits_value}
 use Rattle.std.proofs.lemmas.Bool.{and_parts, false≢true}
-use Rattle.std.proofs.lemmas.Bool.Decides.{nat_tests}
 use Rattle.std.proofs.lemmas.List.{append-nil, append_cancel_left, append_cancel_right}
 use Rattle.rv32_decode.specs.declared.Instr.TheVariants.{Lui, Auipc, Jal, Jalr, Branch, Load, Store, OpImm, ShiftImm, Op, Fence, Ecall, Ebreak, Lr, Sc, Amo, Illegal}
 use Rattle.rv32_decode.specs.declared.IllegalWord.TheVariants.{Zeros, Ones, CycleWrite}
-use Rattle.rv32_text.specs.Listing.{word_digits}
 use Rattle.rv32_lines.specs.declared.numerals.Base.{Base}
 use Rattle.rv32_lines.specs.declared.numerals.Base.TheVariants.{Decimal, Hexadecimal}
 use Rattle.rv32_lines.specs.declared.mnemonics.Mnemonic.{Mnemonic}
 use Rattle.rv32_lines.specs.Texts.{Target, Address, Name, Written, Plain, Jump, Conditional, numeral, register, base, signed_numeral, indexed, upper_digits, target_text, written_text}
-use Rattle.rv32_lines.specs.Statements.{Statement, Nothing, Segment, Label, Bytes, Word, Space, Zero, Entry, Instruction, Unread, IsNumber, IsKind, is_hexadecimal_digit, is_letter, is_name, IsTarget, IsWritten, IsBare, Says, SaysNothing, SaysWithin, SaysInstruction, IsRead, AreRead, IsReading, lines_of, byte_digits}
-use Rattle.rv32_lines.specs.Reading.{radix, is_digit, EndsDigits, mnemonic_text, mnemonic_in, operands_in, HasOperands, IsDirective, BeginsWithSpace}
+use Rattle.rv32_lines.specs.Statements.{Statement, Nothing, Segment, Label, Bytes, Word, Space, Zero, Entry, Instruction, Unread, IsNumber, IsKind, is_hexadecimal_digit, is_letter, is_name, IsTarget, IsWritten, Says, SaysNothing, SaysWithin, SaysInstruction, IsRead, AreRead, IsReading, lines_of}
+use Rattle.rv32_lines.specs.Reading.{radix, EndsDigits, mnemonic_text, mnemonic_in, operands_in, HasOperands, IsDirective}
 use Rattle.rv32_lines.proofs.Spelling.{digits_of_numeral, value_of_numeral}
 use Rattle.rv32_lines.proofs.EightDigits.{value_of_word}
 use Rattle.rv32_lines.proofs.Cutting.{cut_once}

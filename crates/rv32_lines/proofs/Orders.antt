@@ -1,5 +1,5 @@
 -- The order of an atomic is told by the end of its mnemonic.
-use Rattle.std.proofs.Common.{◌≡◌, ℕ, Bool, true, false, List, [], ◌∷◌, ◌++◌, get_or, refl, sym, ap, ◌∙◌, arith, append_assoc}
+use Rattle.std.proofs.Common.{◌≡◌, ℕ, Bool, true, false, List, [], ◌++◌, get_or, refl, sym, ap, ◌∙◌, arith}
 use mathlib.Core.List.{reverse}
 use Rattle.std.proofs.lemmas.List.{append_cancel_right, reverse-append}
 use Rattle.std.specs.Prelude.{codes}

@@ -1,8 +1,8 @@
 -- What a line says, by its first bytes.
-use Rattle.std.proofs.Common.{◌≡◌, ℕ, zero, suc, ◌+◌, ◌*◌, ◌^◌, ◌<◌, Bool, true, false, eqb, List, [], ◌∷◌, ◌++◌, length, Option, Some, None, get_or, refl, sym, ap, ◌∙◌, subst, arith, inl, inr, ◌⊎◌}
+use Rattle.std.proofs.Common.{◌≡◌, ℕ, ◌+◌, ◌*◌, ◌^◌, ◌<◌, true, false, eqb, List, [], ◌∷◌, ◌++◌, length, Option, Some, None, get_or, refl, sym, ap, ◌∙◌, subst, arith, inl, inr}
 use mathlib.Core.List.{append-nil, reverse}
 use Rattle.std.specs.Prelude.{MatchOption, IfSome, codes}
-use Rattle.std.specs.List.{list_all, flat_map}
+use Rattle.std.specs.List.{list_all}
 use Rattle.std.proofs.lemmas.Bool.{and_parts, and_from, false≢true}
 use Rattle.std.proofs.lemmas.Bool.Decides.{nat_tests}
 use Rattle.std.proofs.lemmas.List.{append_cancel_left, reverse-append}
@@ -11,9 +11,9 @@ use Rattle.rv32_text.specs.Listing.{word_digits}
 use Rattle.rv32_lines.specs.declared.statements.Statement.{Statement as ReadStatement}
 use Rattle.rv32_lines.specs.declared.statements.Statement.TheVariants as said
 use Rattle.rv32_lines.specs.declared.mnemonics.Mnemonic.{Mnemonic}
-use Rattle.rv32_lines.specs.Texts.{Target, Address, Name, Written, Plain, Jump, Conditional, written_text}
-use Rattle.rv32_lines.specs.Statements.{Statement, Nothing, Segment, Label, Bytes, Word, Space, Zero, Entry, Instruction, Unread, IsNumber, IsKind, is_decimal_digit, is_hexadecimal_digit, is_letter, is_name_byte, is_name, IsBare, Says, SaysName, SaysWithin, SaysInstruction, IsRead, IsWritten, SaysNothing}
-use Rattle.rv32_lines.specs.Reading.{mnemonic_text, mnemonic_in, operands_in, HasOperands, IsReadStatement, SaysDigits, IsDirective, is_mark, BeginsWithSpace}
+use Rattle.rv32_lines.specs.Texts.{Written, Plain, Jump, Conditional}
+use Rattle.rv32_lines.specs.Statements.{Statement, Nothing, Segment, Label, Bytes, Word, Space, Zero, Entry, Instruction, Unread, IsNumber, IsKind, is_decimal_digit, is_hexadecimal_digit, is_letter, is_name_byte, is_name, IsBare, Says, SaysName, SaysWithin, SaysInstruction, IsRead, SaysNothing}
+use Rattle.rv32_lines.specs.Reading.{mnemonic_text, mnemonic_in, operands_in, HasOperands, IsReadStatement, SaysDigits, IsDirective, is_mark}
 use Rattle.rv32_lines.proofs.Bare.{bare_once}
 use Rattle.rv32_lines.proofs.Forms.{text_with, text_without, either_form, split_with}
 use Rattle.rv32_lines.proofs.KindOf.{all_kinds}

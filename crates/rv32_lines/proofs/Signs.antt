@@ -1,14 +1,14 @@
 -- Numbers with a sign, and where a text ends.
-use Rattle.std.proofs.Common.{◌≡◌, ◌≢◌, ℕ, zero, suc, ◌-◌, ◌≤◌, ℤ, pos, negsuc, Bool, true, false, eqb, List, [], ◌∷◌, ◌++◌, length, Option, Some, None, refl, sym, ap, ◌∙◌, subst, arith}
+use Rattle.std.proofs.Common.{◌≡◌, ◌≢◌, ℕ, zero, suc, ℤ, pos, negsuc, Bool, true, false, eqb, List, [], ◌∷◌, ◌++◌, length, Option, Some, None, refl, sym, ap, ◌∙◌, arith}
 use denote.Ref.{Bor}
 use Rattle.std.specs.Prelude.{MatchOption, IfSome, codes, ◌-ℤ◌}
 use Rattle.std.specs.List.{list_all}
 use Rattle.std.proofs.lemmas.Bool.{and_parts, false≢true}
 use Rattle.std.proofs.lemmas.Int.{ints}
 use Rattle.rv32_lines.specs.declared.numerals.Base.{Base}
-use Rattle.rv32_lines.specs.declared.numerals.Base.TheVariants.{Decimal, Hexadecimal}
-use Rattle.rv32_lines.specs.Texts.{numeral, signed_numeral}
-use Rattle.rv32_lines.specs.Reading.{radix, is_digit, has_no_zero, capped, clipped, EndsDigits, IsNumeralThen, IsSignedThen}
+use Rattle.rv32_lines.specs.declared.numerals.Base.TheVariants.{Decimal}
+use Rattle.rv32_lines.specs.Texts.{numeral}
+use Rattle.rv32_lines.specs.Reading.{radix, is_digit, has_no_zero, capped, clipped, IsNumeralThen, IsSignedThen}
 use Rattle.rv32_lines.proofs.Spelling.{digits_of_numeral, no_zero_of_numeral}
 
 begins_by : (b : Base) (ds rest us : List ℕ) (c : ℕ) → list_all (is_digit b) ds ≡ true → has_no_zero ds ≡ true

@@ -1,6 +1,5 @@
-use Rattle.std.proofs.Common.{◌≡◌, ◌++◌, [], None, Some, sym, ap, ◌∙◌, inl, inr}
+use Rattle.std.proofs.Common.{◌≡◌, ◌++◌, [], None, Some, sym, ◌∙◌, inl, inr}
 use Rattle.std.specs.Prelude.{codes}
-use Rattle.rv32_lines.specs.declared.mnemonics.Mnemonic.{Mnemonic}
 use Rattle.rv32_lines.specs.Reading.{mnemonic_in, operands_in}
 use Rattle.rv32_lines.proofs.Forms.{either_form, split_with, split_without, name_is, says_with, says_without, nothing_left}
 use Rattle.rv32_lines.proofs.commands.command_of.Goals as goal
