@@ -120,9 +120,9 @@ impl<'a> Frame<'a> {
         }
     }
 
-    /// Executes words by their micro-ops, as long as those serve them: at most so many, fewer than
-    /// the budget has left, and fewer than there are stamps left. It gives how many. They print
-    /// nothing and send nothing.
+    /// Executes words, most of them by their micro-ops, as long as they print nothing and send
+    /// nothing: at most so many, fewer than the budget has left, and fewer than there are stamps
+    /// left. It gives how many.
     pub fn go_on(&mut self, most: u64) -> u64
         requires node { IsNode self.old }
         requires may { model.can_execute (node_of self.old).phase ≡ true }
@@ -148,7 +148,7 @@ impl<'a> Frame<'a> {
     }
 
     /// Executes words, of which those before the last print nothing and send nothing: as many as
-    /// their micro-ops serve, and one more.
+    /// `go_on` does, and one more.
     pub fn exec_on(&mut self) -> Turn
         requires node { IsNode self.old }
         requires may { model.can_execute (node_of self.old).phase ≡ true }

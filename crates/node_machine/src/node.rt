@@ -249,9 +249,9 @@ impl<'a> Node<'a> {
         self.frame.take_back(trail);
     }
 
-    /// Executes words by their micro-ops, as long as those serve them: at most so many, fewer than
-    /// the budget has left, and fewer than there are stamps left. It gives how many. They print
-    /// nothing and send nothing.
+    /// Executes words, most of them by their micro-ops, as long as they print nothing and send
+    /// nothing: at most so many, fewer than the budget has left, and fewer than there are stamps
+    /// left. It gives how many.
     pub fn go_on(&mut self, most: u64) -> u64
         requires may { model.can_execute (node_of self.old).phase ≡ true }
         requires stamp { (node_of self.old).stamp < 2 ^ 56 }
@@ -265,7 +265,7 @@ impl<'a> Node<'a> {
     }
 
     /// Executes words, of which those before the last print nothing and send nothing: as many as
-    /// their micro-ops serve, and one more.
+    /// `go_on` does, and one more.
     pub fn exec_on(&mut self) -> Turn
         requires may { model.can_execute (node_of self.old).phase ≡ true }
         requires room { HasRoom self.old }

@@ -1,7 +1,13 @@
 -- What a micro-op does, by what its kind means.
 use Rattle.std.proofs.Common.{◌≡◌, ℕ, ◌+◌, ◌*◌, ◌/◌, ◌%◌, ◌<◌, ◌≤◌, Bool, true, false, List, Option, Some, None, refl, ap, sym, ◌∙◌, subst, arith}
 use Rattle.std.proofs.Math.Path.{fun_ext}
+use Rattle.rv32_decode.specs.declared.AmoOp.{AmoOp}
 use Rattle.rv32_decode.specs.declared.LoadKind.{LoadKind}
+use Rattle.rv32_decode.specs.declared.LoadKind.TheVariants.{Word as WordLoad}
+use Rattle.rv32_decode.specs.Widths.{is_aligned}
+use Rattle.rv32_ops.specs.Operations.{amo}
+use Rattle.rv32_step.specs.Memory.{load_value}
+use Rattle.llsc.specs.Reservation.{holds}
 use Rattle.rv32_decode.specs.declared.Width.{Width}
 use Rattle.rv32_decode.specs.declared.Width.TheVariants.{Word}
 use Rattle.rv32_program.specs.Program.{Program}
@@ -10,7 +16,10 @@ use Rattle.micro_op.specs.declared.MicroKind.{MicroKind}
 use Rattle.micro_op.specs.Micro.{Meaning, meaning_by, meaning_of}
 use Rattle.jump_map.specs.Image.{Cell, image_base}
 use Rattle.node_words.specs.declared.lane.Lane as kept
-use Rattle.node_model.specs.Node.{Lane, Local, Outcome, Next, To, Waits, SameWord, go_on, lane_after_call, Nothing_counted, Region, Memory, StateOf, Spill, Elsewhere, native, put_byte, print_byte, byte_at, is_mapped_state, is_readable_state, execute_at, execute_read, next_outcome, place_address, indirect, load, store, phase_after, lane_after, region_of, set_register}
+use Rattle.node_words.specs.declared.lane.Move.TheVariants as kept_to
+use Rattle.node_words.specs.declared.lane.Tally.TheVariants as kept_count
+use Rattle.node_words.specs.declared.lane.Outcome as kept_outcome
+use Rattle.node_model.specs.Node.{Lane, Local, Outcome, Next, To, Waits, SameWord, go_on, lane_after_call, Nothing_counted, Region, Memory, StateOf, Spill, Elsewhere, native, store_if, put_byte, print_byte, byte_at, is_mapped_state, is_readable_state, execute_at, execute_read, next_outcome, place_address, indirect, load, store, phase_after, lane_after, region_of, set_register}
 use Rattle.std.proofs.Common.{eqb, ◌&&◌}
 use Rattle.std.specs.Prelude.{position}
 use Rattle.std.specs.Option.{option_map}
@@ -25,7 +34,7 @@ use Rattle.std.proofs.Common.{◌-◌, [], ◌∷◌, leb, length, zero, suc}
 use Rattle.std.specs.Prelude.{slice_get}
 use Rattle.rv32_decode.specs.Fields.{unsigned}
 use Rattle.rv32_step.specs.declared.Demand.{Demand}
-use Rattle.rv32_step.specs.declared.Demand.TheVariants.{Continues, Jumps}
+use Rattle.rv32_step.specs.declared.Demand.TheVariants.{Continues, Jumps, Reserves, StoresIf, Updates}
 use Rattle.rv32_step.specs.Registers.{reg}
 use Rattle.micro_op.specs.declared.MicroKind.TheVariants.{Rare}
 use Rattle.micro_op.specs.Micro.{Unserved, Demands, Enters as EntersBy, Meets, EntersAt}
@@ -39,7 +48,7 @@ use Rattle.jump_map.specs.Image.{read_cell, most_words}
 use Rattle.jump_map.specs.Maps.{fetch}
 use Rattle.jump_map.specs.Micro.{IsMicroWord}
 use Rattle.node_words.specs.Kept.{StepsOr}
-use Rattle.node_words.specs.Kept.{Shelf, Ground, ground_of, LeavesBehind, Follows, StepsTo, lane_of, local_of}
+use Rattle.node_words.specs.Kept.{Shelf, Ground, ground_of, LeavesBehind, Does, Follows, StepsTo, lane_of, local_of, move_of, tally_of}
 use Rattle.node_words.specs.Address.{word_address}
 use Rattle.node_model.specs.Turns.{wants_of}
 
@@ -69,6 +78,18 @@ next_follows image outcome g at k l s is move printed tally leaves =
       wants = ap wants_of move;
     }
 
+-- a word with an index follows
+pub to_follows : (image : List Cell) (outcome : Outcome) (g : Ground) (at k : ℕ) (l : kept.Lane) (s : Shelf) → outcome.move ≡ To (word_address k) → outcome.printed ≡ None → outcome.tally ≡ Nothing_counted → LeavesBehind outcome g (word_address at) l s → Follows image outcome g (word_address k) l s
+to_follows image outcome g at k l s move printed tally leaves = record {
+  lane = ap (λ (x : Lane). record x { at = word_address k }) leaves.lane ∙ sym (ap (lane_after image outcome.lane) move);
+  local = leaves.local;
+  ground_same = leaves.ground_same;
+  output = printed;
+  tally = tally;
+  phase = λ budget executed. ap (phase_after budget executed) move;
+  wants = ap wants_of move;
+}
+
 pub load_next : (program : Program) (l : Lane) (n : Local) (k : LoadKind) (r a : ℕ) (region : Region) → ((load program l n k r a region).move ≡ Next) × ((load program l n k r a region).printed ≡ None) × ((load program l n k r a region).tally ≡ Nothing_counted)
 load_next program l n k r a Memory = (refl, refl, refl)
 load_next program l n k r a (StateOf line) = (refl, refl, refl)
@@ -80,6 +101,41 @@ store_next program l n w a v Memory = (refl, refl, refl)
 store_next program l n w a v (StateOf line) = (refl, refl, refl)
 store_next program l n w a v (Spill j) = (refl, refl, refl)
 store_next program l n w a v Elsewhere = (refl, refl, refl)
+
+-- a word after which the next one follows, and which prints and counts nothing
+abbrev pub GoesToNext : Outcome → Type 0
+GoesToNext o = (o.move ≡ Next) × (o.printed ≡ None) × (o.tally ≡ Nothing_counted)
+
+-- an access that is one step of an aligned word is such a word
+pub reserves_next : (program : Program) (place at : ℕ) (l : Lane) (n : Local) (r a : ℕ) → is_aligned Word a ≡ true → GoesToNext (native program place at l n (Reserves r a))
+reserves_next program place at l n r a aligned = rw aligned (load_next program l n WordLoad r a (region_of a))
+
+pub stores_if_next : (program : Program) (place at : ℕ) (l : Lane) (n : Local) (r a v : ℕ) → is_aligned Word a ≡ true → GoesToNext (native program place at l n (StoresIf r a v))
+stores_if_next program place at l n r a v aligned = rw aligned (by (holds n.reservation a))
+  where
+    by : (t : Bool) → GoesToNext (store_if program l n r a v t)
+    by true = store_next program l n Word a v (region_of a)
+    by false = (refl, refl, refl)
+
+pub updates_next : (program : Program) (place at : ℕ) (l : Lane) (n : Local) (o : AmoOp) (r a v : ℕ) → is_aligned Word a ≡ true → GoesToNext (native program place at l n (Updates o r a v))
+updates_next program place at l n o r a v aligned =
+    rw aligned (store_next program l n Word a (amo o (load_value WordLoad (byte_at program l n) a) v) (region_of a))
+
+-- what a native word with such a demand does
+pub native_next : (image : List Cell) (place at : ℕ) (l : kept.Lane) (s : Shelf) (l' : kept.Lane) (s' : Shelf) (d e : Demand) (done : kept_outcome.Outcome) → GoesToNext (native (program_of s.program) place (word_address at) (lane_of l (word_address at)) (local_of s) d) → Does (native (program_of s.program) place (word_address at) (lane_of l (word_address at)) (local_of s) d) (ground_of s) (word_address at) l' s' done → d ≡ e → Follows image (native (program_of s.program) place (word_address at) (lane_of l (word_address at)) (local_of s) e) (ground_of s) (word_address ((at + 1) % 4294967296)) l' s'
+native_next image place at l s l' s' d e done next does is =
+    let here = λ (x : Demand). native (program_of s.program) place (word_address at) (lane_of l (word_address at)) (local_of s) x in
+    subst (λ (x : Demand). Follows image (here x) (ground_of s) (word_address ((at + 1) % 4294967296)) l' s') is
+    (next_follows image (here d) (ground_of s) at _ l' s' refl next.0 next.1 next.2 does.leaves)
+
+-- a check that changed nothing, and after which the next word follows, or another one
+pub check_next : (image : List Cell) (whole : Outcome) (at : ℕ) (l : kept.Lane) (s : Shelf) (done : kept_outcome.Outcome) → Does whole (ground_of s) (word_address at) l s done → done.next ≡ kept_to.Next → done.output ≡ None → done.tally ≡ kept_count.Nothing → Follows image whole (ground_of s) (word_address ((at + 1) % 4294967296)) l s
+check_next image whole at l s done does next output tally =
+    next_follows image whole (ground_of s) at _ l s refl (sym does.move ∙ ap move_of next) (sym does.output ∙ output) (sym does.tally ∙ ap tally_of tally) does.leaves
+
+pub check_to : (image : List Cell) (whole : Outcome) (at k : ℕ) (l : kept.Lane) (s : Shelf) (done : kept_outcome.Outcome) → Does whole (ground_of s) (word_address at) l s done → done.next ≡ kept_to.To k → done.output ≡ None → done.tally ≡ kept_count.Nothing → Follows image whole (ground_of s) (word_address k) l s
+check_to image whole at k l s done does next output tally =
+    to_follows image whole (ground_of s) at k l s (sym does.move ∙ ap move_of next) (sym does.output ∙ output) (sym does.tally ∙ ap tally_of tally) does.leaves
 
 -- a write of x0 is lost
 and_false : (b : Bool) → (b && false) ≡ false

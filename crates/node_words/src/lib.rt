@@ -6,11 +6,11 @@
 //! above this crate.
 
 mod body;
-mod calls;
 mod hot;
 mod lane;
 mod lines;
 mod local;
+mod quiet;
 mod rare;
 mod region;
 mod serve;

@@ -101,7 +101,7 @@ impl<'a> Body<'a> {
     }
 
     /// What a native instruction demands.
-    fn demand(&self, i: Instr, at: u32) -> Demand
+    pub(crate) fn demand(&self, i: Instr, at: u32) -> Demand
         ensures { result ≡ demands.demand_of i (registers_of self.now.lane.registers) at }
     {
         demand_of(i, &self.lane.registers, at)
@@ -199,7 +199,7 @@ impl<'a> Body<'a> {
     }
 
     /// Loads the word of an aligned address, and reserves the address.
-    fn reserve_or_exit(&mut self, place: u32, r: Reg, address: u32) -> Outcome
+    pub(crate) fn reserve_or_exit(&mut self, place: u32, r: Reg, address: u32) -> Outcome
         ensures does { (at : ℕ) → Does (model.native (program_of self.old.local.program) place at
             (lane_of self.old.lane at) (local_of self.old.local) (Reserves r address))
             (ground_of self.old.local) at self.new.lane self.new.local result }
@@ -215,7 +215,13 @@ impl<'a> Body<'a> {
     }
 
     /// Stores at an aligned address where it is reserved, and says in a register whether it did.
-    fn store_if_or_exit(&mut self, place: u32, r: Reg, address: u32, value: u32) -> Outcome
+    pub(crate) fn store_if_or_exit(
+        &mut self,
+        place: u32,
+        r: Reg,
+        address: u32,
+        value: u32,
+    ) -> Outcome
         ensures does { (at : ℕ) → Does (model.native (program_of self.old.local.program) place at
             (lane_of self.old.lane at) (local_of self.old.local) (StoresIf r address value))
             (ground_of self.old.local) at self.new.lane self.new.local result }
@@ -237,7 +243,14 @@ impl<'a> Body<'a> {
 
     /// Puts what an operation makes of the word of an aligned address there, and the word into a
     /// register.
-    fn update_or_exit(&mut self, place: u32, op: AmoOp, r: Reg, address: u32, value: u32) -> Outcome
+    pub(crate) fn update_or_exit(
+        &mut self,
+        place: u32,
+        op: AmoOp,
+        r: Reg,
+        address: u32,
+        value: u32,
+    ) -> Outcome
         ensures does { (at : ℕ) → Does (model.native (program_of self.old.local.program) place at
             (lane_of self.old.lane at) (local_of self.old.local) (Updates op r address value))
             (ground_of self.old.local) at self.new.lane self.new.local result }
@@ -265,7 +278,7 @@ impl<'a> Body<'a> {
     }
 
     /// Looks whether a conditional store may be made.
-    fn prepare(&self, place: u32, address: u32) -> Outcome
+    pub(crate) fn prepare(&self, place: u32, address: u32) -> Outcome
         ensures { (at : ℕ) → Does (model.prepare place (lane_of self.now.lane at)
             (local_of self.now.local) address)
             (ground_of self.now.local) at self.now.lane self.now.local result }
@@ -307,7 +320,7 @@ impl<'a> Body<'a> {
     }
 
     /// Looks whether a line may be written.
-    fn miss_w(&self, place: u32, width: Width, address: u32) -> Outcome
+    pub(crate) fn miss_w(&self, place: u32, width: Width, address: u32) -> Outcome
         ensures { (at : ℕ) → Does (model.miss_w place (lane_of self.now.lane at)
             (local_of self.now.local) width address)
             (ground_of self.now.local) at self.now.lane self.now.local result }
@@ -326,7 +339,7 @@ impl<'a> Body<'a> {
     }
 
     /// Checks the two lines that a run reaches, by the addresses in two registers.
-    fn batch(&self, stores: bool, rs1: Reg, rs2: Reg, at: u32) -> Outcome
+    pub(crate) fn batch(&self, stores: bool, rs1: Reg, rs2: Reg, at: u32) -> Outcome
         ensures does { let registers = registers_of self.now.lane.registers in
             Does (model.batch (lane_of self.now.lane (word_address at)) (local_of self.now.local)
             (model.need_of_run stores) (reg registers rs1) (reg registers rs2))

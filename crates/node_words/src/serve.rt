@@ -62,8 +62,8 @@ impl<'a> Body<'a> {
         }
     }
 
-    /// Executes words from an index on by their micro-ops, and jumps that keep a link, as long as
-    /// those serve them, and at most so many.
+    /// Executes words from an index on by their micro-ops, and quiet ones that have none, and at most
+    /// so many.
     #[inline(never)]
     pub fn run(&mut self, image: &Image, from: u32, most: u64) -> Stretch
         requires { length image.now ≤ most_words }
@@ -75,7 +75,7 @@ impl<'a> Body<'a> {
         let mut at = from;
         let mut words = 0;
         while words < most {
-            match self.step_or_call(image, at) {
+            match self.step_on(image, at) {
                 Some(next) => at = next,
                 None => break,
             }

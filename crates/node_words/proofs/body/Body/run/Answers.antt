@@ -14,9 +14,9 @@ pub loop-words-preserved : goal.loop-words-preserved
 loop-words-preserved c =
     let l = c.loop-words in
     record {
-      words = body_more c.args.image.now c.args.most c.args.from l.words l.at c.in-Some.next c.args.self.now l.self c.step_or_call.new.self
+      words = body_more c.args.image.now c.args.most c.args.from l.words l.at c.in-Some.next c.args.self.now l.self c.step_on.new.self
           c.loop-words-test.true l.invariant.ground l.invariant.words c.in-Some.ensures.steps;
       most = omega (arith, c.loop-words-test.true);
       ground = c.in-Some.ensures.steps.ground_same ∙ l.invariant.ground;
-      counts = c.step_or_call.ensures.counts ∙ l.invariant.counts;
+      counts = c.step_on.ensures.counts ∙ l.invariant.counts;
     }

@@ -5,12 +5,12 @@ use Rattle.jump_map.specs.Maps.{fetch}
 use Rattle.node_model.specs.Node.{execute_at}
 use Rattle.node_words.specs.Address.{word_address}
 use Rattle.node_words.specs.Kept.{StepsOr, lane_of, local_of}
-use Rattle.node_words.proofs.body.Body.call_at.Goals as goal
+use Rattle.node_words.proofs.body.Body.quiet_at.Goals as goal
 
 pub returns-in-Some-clause-steps : goal.returns-in-Some-clause-steps
 returns-in-Some-clause-steps c =
     let b = c.args.self.now in
     let image = c.args.image.now in
-    subst (λ (f : Option ImageWord). StepsOr image (execute_at (program_of b.local.program) f (lane_of b.lane (word_address c.args.at)) (local_of b.local)) b.lane b.local c.call_read.new.self.lane c.call_read.new.self.local c.call_read.result)
+    subst (λ (f : Option ImageWord). StepsOr image (execute_at (program_of b.local.program) f (lane_of b.lane (word_address c.args.at)) (local_of b.local)) b.lane b.local c.quiet_read.new.self.lane c.quiet_read.new.self.local c.quiet_read.result)
     (c.in-Some.ensures.value ∙ ap (fetch image) c.address_of.ensures)
-    c.call_read.ensures.steps
+    c.quiet_read.ensures.steps
