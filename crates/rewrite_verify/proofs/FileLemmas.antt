@@ -209,6 +209,20 @@ says_plan original e plan image admissible is = record {
       (has_plan (plan_bytes plan) (map_bytes image plan));
 }
 
+-- a file is that of one rewriting
+pub one_rewriting : (original : Elf) (plan other : List PlanEntry) (image again : List Cell)
+    → IsOneImage → IsRewriting (program_of original) plan image
+    → IsRewriting (program_of original) other again
+    → rewritten_elf original image plan ≡ rewritten_elf original again other
+    → (plan ≡ other) × (image ≡ again)
+one_rewriting original plan other image again one here there same =
+    let e = rewritten_elf original image plan in
+    let by_plan : IsByPlan original e plan image =
+    record { says = says_plan original e plan image here.admissible refl; rewriting = here } in
+    let found = same_rewriting original e other plan again image one
+    (says_plan original e other again there.admissible same) there by_plan in
+    (found.plans, found.images)
+
 says_map : (original e : Elf) (plan : List PlanEntry) (image : List Cell)
     → e ≡ rewritten_elf original image plan → HasMap e image plan
 says_map original e plan image is =

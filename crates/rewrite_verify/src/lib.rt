@@ -5,11 +5,13 @@ ghost use Rattle.std.specs.Prelude.{◌≡◌, ℕ};
 
 mod code;
 mod entries;
+mod law;
 mod plan;
 mod refused;
 mod sections;
 mod serving;
 mod verifying;
 
+pub use law::verify_law;
 pub use refused::VerifyRefused;
 pub use verifying::verify;
