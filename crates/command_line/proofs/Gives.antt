@@ -13,7 +13,7 @@ use Rattle.clap.specs.declared.parser.matches.ValueSource.TheVariants.{CommandLi
 use Rattle.clap.specs.Faults.{fault_of, built_fault}
 use Rattle.clap.proofs.FaultLemmas.{leaf_fault}
 use Rattle.command_line.specs.declared.table.Setting.{Setting}
-use Rattle.command_line.specs.declared.table.Setting.TheVariants.{Nodes, Order, Budget, Layout, Code, Record, Brief, NoBatch}
+use Rattle.command_line.specs.declared.table.Setting.TheVariants.{Nodes, Order, Budget, Layout, Code, Verify, Record, Brief, NoBatch}
 use Rattle.command_line.specs.declared.table.Role.{Role}
 use Rattle.command_line.specs.declared.table.Role.TheVariants as role
 use Rattle.command_line.specs.Commands.{option_word}
@@ -69,6 +69,7 @@ no_operand Order = refl
 no_operand Budget = refl
 no_operand Layout = refl
 no_operand Code = refl
+no_operand Verify = refl
 no_operand Record = refl
 no_operand Brief = refl
 no_operand NoBatch = refl
@@ -79,6 +80,7 @@ no_option Order = refl
 no_option Budget = refl
 no_option Layout = refl
 no_option Code = refl
+no_option Verify = refl
 no_option Record = refl
 no_option Brief = refl
 no_option NoBatch = refl
@@ -173,6 +175,8 @@ module _ (settings : List Setting) where
       record { more = omega (arith, length-append (codes "--layout") (61 ∷ v)); first = refl; second = refl }
   long_joined Code v =
       record { more = omega (arith, length-append (codes "--code") (61 ∷ v)); first = refl; second = refl }
+  long_joined Verify v =
+      record { more = omega (arith, length-append (codes "--verify") (61 ∷ v)); first = refl; second = refl }
   long_joined Record v =
       record { more = omega (arith, length-append (codes "--record") (61 ∷ v)); first = refl; second = refl }
   long_joined Brief v =
@@ -186,6 +190,7 @@ module _ (settings : List Setting) where
   long_alone Budget = record { more = omega arith; first = refl; second = refl }
   long_alone Layout = record { more = omega arith; first = refl; second = refl }
   long_alone Code = record { more = omega arith; first = refl; second = refl }
+  long_alone Verify = record { more = omega arith; first = refl; second = refl }
   long_alone Record = record { more = omega arith; first = refl; second = refl }
   long_alone Brief = record { more = omega arith; first = refl; second = refl }
   long_alone NoBatch = record { more = omega arith; first = refl; second = refl }

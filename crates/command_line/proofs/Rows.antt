@@ -1,5 +1,6 @@
 -- What is given says of a command's row one command, and nothing else.
 use Rattle.std.proofs.Common.{◌≡◌, ◌≢◌, ℕ, ◌-◌, ◌^◌, Bool, true, false, ◌<◌, length, MatchOption, List, [], ◌∷◌, map, codes, get_or, refl, sym, ap, ◌∙◌, subst, arith, Option, Some, None, Bor, option_map, unwrap_or}
+use Rattle.std.specs.Prelude.{IsTrue}
 use Rattle.clap.specs.declared.parser.matches.ArgMatches.{ArgMatches}
 use Rattle.clap.specs.Words.{found_of, matched_of, raw_values}
 use Rattle.clap.proofs.WalkLemmas.{raw_values-rows}
@@ -8,12 +9,12 @@ use Rattle.command_line.specs.declared.table.Access.TheVariants.{Read, Write}
 use Rattle.command_line.specs.declared.table.Kind.{Kind}
 use Rattle.command_line.specs.declared.table.Kind.TheVariants.{Number, File, Flag}
 use Rattle.command_line.specs.declared.table.Setting.{Setting}
-use Rattle.command_line.specs.declared.table.Setting.TheVariants.{Nodes, Order, Budget, Layout, Code, Record, Brief, NoBatch}
+use Rattle.command_line.specs.declared.table.Setting.TheVariants.{Nodes, Order, Budget, Layout, Code, Verify, Record, Brief, NoBatch}
 use Rattle.command_line.specs.declared.table.Role.{Role}
 use Rattle.command_line.specs.declared.table.Role.TheVariants as role
 use Rattle.command_line.specs.declared.table.CommandWord.{CommandWord}
 use Rattle.command_line.specs.declared.table.CommandWord.TheVariants as word
-use Rattle.command_line.specs.Commands.{Command, Rewrite, Run, Listing, One, Sim, Replay, Generate, Assemble, Named, Between, Value, Amount, Name, Switch, name_or_none, Row, row_of, IsFit, kind_of, settings_in}
+use Rattle.command_line.specs.Commands.{Command, Rewrite, Run, Listing, One, Sim, Replay, Generate, Assemble, Named, Between, Value, Amount, Name, Switch, name_or_none, Row, row_of, IsFit, is_alone, kind_of, settings_in}
 use Rattle.command_line.specs.Asks.{Argument, IsNumber, ArePlaced, IsSet, AreSet, AreOfRow, Asks}
 use Rattle.command_line.specs.declared.Command.{Command as OfCode}
 use Rattle.command_line.specs.Meaning.{meaning_of}
@@ -250,90 +251,90 @@ other_third v w e h = h (ap (λ x. get_or x 2 0) e)
 pub as_rewrite : (g : Given) (c : Command) → Completes (codes "rewrite") g c → (x : List ℕ)
     × (y : List ℕ) × (nb : Bool) × IsOfRow (row_of (Rewrite x y nb)) g
 as_rewrite g (Rewrite x y nb) h = (x, y, nb, h.of_row)
-as_rewrite g (Run f n b w k l t nb) h = absurd (other_second _ _ h.word_is (omega arith))
+as_rewrite g (Run f n b w k ve l t nb) h = absurd (other_second _ _ h.word_is (omega arith))
 as_rewrite g (Listing f) h = absurd (other_first _ _ h.word_is (omega arith))
 as_rewrite g (One f n o b l) h = absurd (other_first _ _ h.word_is (omega arith))
-as_rewrite g (Sim f n o b k l t nb) h = absurd (other_first _ _ h.word_is (omega arith))
-as_rewrite g (Replay f w t) h = absurd (other_third _ _ h.word_is (omega arith))
+as_rewrite g (Sim f n o b k ve l t nb) h = absurd (other_first _ _ h.word_is (omega arith))
+as_rewrite g (Replay f ve w t) h = absurd (other_third _ _ h.word_is (omega arith))
 as_rewrite g (Generate n y) h = absurd (other_first _ _ h.word_is (omega arith))
 as_rewrite g (Assemble x y) h = absurd (other_first _ _ h.word_is (omega arith))
 
 pub as_run : (g : Given) (c : Command) → Completes (codes "run") g c → (f : List ℕ)
-    × (n b : ℕ) × (w k l : Option (List ℕ)) × (t nb : Bool)
-    × IsOfRow (row_of (Run f n b w k l t nb)) g × IsFit (Run f n b w k l t nb)
+    × (n b : ℕ) × (w k ve l : Option (List ℕ)) × (t nb : Bool)
+    × IsOfRow (row_of (Run f n b w k ve l t nb)) g × IsFit (Run f n b w k ve l t nb)
 as_run g (Rewrite f o nb) h = absurd (other_second _ _ h.word_is (omega arith))
-as_run g (Run f n b w k l t nb) h = (f, n, b, w, k, l, t, nb, h.of_row, h.fits)
+as_run g (Run f n b w k ve l t nb) h = (f, n, b, w, k, ve, l, t, nb, h.of_row, h.fits)
 as_run g (Listing f) h = absurd (other_first _ _ h.word_is (omega arith))
 as_run g (One f n o b l) h = absurd (other_first _ _ h.word_is (omega arith))
-as_run g (Sim f n o b k l t nb) h = absurd (other_first _ _ h.word_is (omega arith))
-as_run g (Replay f w t) h = absurd (other_second _ _ h.word_is (omega arith))
+as_run g (Sim f n o b k ve l t nb) h = absurd (other_first _ _ h.word_is (omega arith))
+as_run g (Replay f ve w t) h = absurd (other_second _ _ h.word_is (omega arith))
 as_run g (Generate n y) h = absurd (other_first _ _ h.word_is (omega arith))
 as_run g (Assemble x y) h = absurd (other_first _ _ h.word_is (omega arith))
 
 pub as_list : (g : Given) (c : Command) → Completes (codes "list") g c →
     (f : List ℕ) × IsOfRow (row_of (Listing f)) g
 as_list g (Rewrite f o nb) h = absurd (other_first _ _ h.word_is (omega arith))
-as_list g (Run f n b w k l t nb) h = absurd (other_first _ _ h.word_is (omega arith))
+as_list g (Run f n b w k ve l t nb) h = absurd (other_first _ _ h.word_is (omega arith))
 as_list g (Listing f) h = (f, h.of_row)
 as_list g (One f n o b l) h = absurd (other_first _ _ h.word_is (omega arith))
-as_list g (Sim f n o b k l t nb) h = absurd (other_first _ _ h.word_is (omega arith))
-as_list g (Replay f w t) h = absurd (other_first _ _ h.word_is (omega arith))
+as_list g (Sim f n o b k ve l t nb) h = absurd (other_first _ _ h.word_is (omega arith))
+as_list g (Replay f ve w t) h = absurd (other_first _ _ h.word_is (omega arith))
 as_list g (Generate n y) h = absurd (other_first _ _ h.word_is (omega arith))
 as_list g (Assemble x y) h = absurd (other_first _ _ h.word_is (omega arith))
 
 pub as_one : (g : Given) (c : Command) → Completes (codes "one") g c → (f : List ℕ)
     × (n : ℕ) × (o : ℕ) × (b : ℕ) × (l : Option (List ℕ)) × IsOfRow (row_of (One f n o b l)) g
 as_one g (Rewrite f o nb) h = absurd (other_first _ _ h.word_is (omega arith))
-as_one g (Run f n b w k l t nb) h = absurd (other_first _ _ h.word_is (omega arith))
+as_one g (Run f n b w k ve l t nb) h = absurd (other_first _ _ h.word_is (omega arith))
 as_one g (Listing f) h = absurd (other_first _ _ h.word_is (omega arith))
 as_one g (One f n o b l) h = (f, n, o, b, l, h.of_row)
-as_one g (Sim f n o b k l t nb) h = absurd (other_first _ _ h.word_is (omega arith))
-as_one g (Replay f w t) h = absurd (other_first _ _ h.word_is (omega arith))
+as_one g (Sim f n o b k ve l t nb) h = absurd (other_first _ _ h.word_is (omega arith))
+as_one g (Replay f ve w t) h = absurd (other_first _ _ h.word_is (omega arith))
 as_one g (Generate n y) h = absurd (other_first _ _ h.word_is (omega arith))
 as_one g (Assemble x y) h = absurd (other_first _ _ h.word_is (omega arith))
 
 pub as_sim : (g : Given) (c : Command) → Completes (codes "sim") g c → (f : List ℕ)
-    × (n : ℕ) × (o : ℕ) × (b : ℕ) × (k l : Option (List ℕ)) × (t nb : Bool)
-    × IsOfRow (row_of (Sim f n o b k l t nb)) g
+    × (n : ℕ) × (o : ℕ) × (b : ℕ) × (k ve l : Option (List ℕ)) × (t nb : Bool)
+    × IsOfRow (row_of (Sim f n o b k ve l t nb)) g × IsTrue (is_alone ve k nb)
 as_sim g (Rewrite f o nb) h = absurd (other_first _ _ h.word_is (omega arith))
-as_sim g (Run f n b w k l t nb) h = absurd (other_first _ _ h.word_is (omega arith))
+as_sim g (Run f n b w k ve l t nb) h = absurd (other_first _ _ h.word_is (omega arith))
 as_sim g (Listing f) h = absurd (other_first _ _ h.word_is (omega arith))
 as_sim g (One f n o b l) h = absurd (other_first _ _ h.word_is (omega arith))
-as_sim g (Sim f n o b k l t nb) h = (f, n, o, b, k, l, t, nb, h.of_row)
-as_sim g (Replay f w t) h = absurd (other_first _ _ h.word_is (omega arith))
+as_sim g (Sim f n o b k ve l t nb) h = (f, n, o, b, k, ve, l, t, nb, h.of_row, h.fits)
+as_sim g (Replay f ve w t) h = absurd (other_first _ _ h.word_is (omega arith))
 as_sim g (Generate n y) h = absurd (other_first _ _ h.word_is (omega arith))
 as_sim g (Assemble x y) h = absurd (other_first _ _ h.word_is (omega arith))
 
-pub as_replay : (g : Given) (c : Command) → Completes (codes "replay") g c → (f w : List ℕ)
-    × (t : Bool) × IsOfRow (row_of (Replay f w t)) g
+pub as_replay : (g : Given) (c : Command) → Completes (codes "replay") g c → (f : List ℕ)
+    × (ve : Option (List ℕ)) × (w : List ℕ) × (t : Bool) × IsOfRow (row_of (Replay f ve w t)) g
 as_replay g (Rewrite x y nb) h = absurd (other_third _ _ h.word_is (omega arith))
-as_replay g (Run f n b w k l t nb) h = absurd (other_second _ _ h.word_is (omega arith))
+as_replay g (Run f n b w k ve l t nb) h = absurd (other_second _ _ h.word_is (omega arith))
 as_replay g (Listing f) h = absurd (other_first _ _ h.word_is (omega arith))
 as_replay g (One f n o b l) h = absurd (other_first _ _ h.word_is (omega arith))
-as_replay g (Sim f n o b k l t nb) h = absurd (other_first _ _ h.word_is (omega arith))
-as_replay g (Replay f w t) h = (f, w, t, h.of_row)
+as_replay g (Sim f n o b k ve l t nb) h = absurd (other_first _ _ h.word_is (omega arith))
+as_replay g (Replay f ve w t) h = (f, ve, w, t, h.of_row)
 as_replay g (Generate n y) h = absurd (other_first _ _ h.word_is (omega arith))
 as_replay g (Assemble x y) h = absurd (other_first _ _ h.word_is (omega arith))
 
 pub as_generate : (g : Given) (c : Command) → Completes (codes "gen") g c → (n : ℕ)
     × (y : List ℕ) × IsOfRow (row_of (Generate n y)) g
 as_generate g (Rewrite x y nb) h = absurd (other_first _ _ h.word_is (omega arith))
-as_generate g (Run f n b w k l t nb) h = absurd (other_first _ _ h.word_is (omega arith))
+as_generate g (Run f n b w k ve l t nb) h = absurd (other_first _ _ h.word_is (omega arith))
 as_generate g (Listing f) h = absurd (other_first _ _ h.word_is (omega arith))
 as_generate g (One f n o b l) h = absurd (other_first _ _ h.word_is (omega arith))
-as_generate g (Sim f n o b k l t nb) h = absurd (other_first _ _ h.word_is (omega arith))
-as_generate g (Replay f w t) h = absurd (other_first _ _ h.word_is (omega arith))
+as_generate g (Sim f n o b k ve l t nb) h = absurd (other_first _ _ h.word_is (omega arith))
+as_generate g (Replay f ve w t) h = absurd (other_first _ _ h.word_is (omega arith))
 as_generate g (Generate n y) h = (n, y, h.of_row)
 as_generate g (Assemble x y) h = absurd (other_first _ _ h.word_is (omega arith))
 
 pub as_assemble : (g : Given) (c : Command) → Completes (codes "asm") g c → (x y : List ℕ)
     × IsOfRow (row_of (Assemble x y)) g
 as_assemble g (Rewrite x y nb) h = absurd (other_first _ _ h.word_is (omega arith))
-as_assemble g (Run f n b w k l t nb) h = absurd (other_first _ _ h.word_is (omega arith))
+as_assemble g (Run f n b w k ve l t nb) h = absurd (other_first _ _ h.word_is (omega arith))
 as_assemble g (Listing f) h = absurd (other_first _ _ h.word_is (omega arith))
 as_assemble g (One f n o b l) h = absurd (other_first _ _ h.word_is (omega arith))
-as_assemble g (Sim f n o b k l t nb) h = absurd (other_first _ _ h.word_is (omega arith))
-as_assemble g (Replay f w t) h = absurd (other_first _ _ h.word_is (omega arith))
+as_assemble g (Sim f n o b k ve l t nb) h = absurd (other_first _ _ h.word_is (omega arith))
+as_assemble g (Replay f ve w t) h = absurd (other_first _ _ h.word_is (omega arith))
 as_assemble g (Generate n y) h = absurd (other_first _ _ h.word_is (omega arith))
 as_assemble g (Assemble x y) h = (x, y, h.of_row)
 
@@ -345,6 +346,31 @@ same_file x y words h k =
 says_one : (g : Given) (s : Setting) (n m : ℕ) → SaysNumber g s n → SaysNumber g s m → n ≡ m
 says_one g s n m h k = set_one (kind_of s) (g (role.Option s)) n m h k
 
+-- what is given beside a verified file is what the command has there
+alone_by : (g : Given) (v v' k k' : Option (List ℕ)) (b b' : Bool) → SaysName g Verify v
+    → SaysName g Verify v' → SaysName g Code k → SaysName g Code k' → SaysFlag g NoBatch b
+    → SaysFlag g NoBatch b' → IsTrue (is_alone v k b) → IsTrue (is_alone v' k' b')
+alone_by g v v' k k' b b' verified verified' code code' batch batch' h =
+    subst (λ x. IsTrue (is_alone x k' b')) (names_one g Verify v v' verified verified')
+    (subst (λ x. IsTrue (is_alone v x b')) (names_one g Code k k' code code')
+    (subst (λ x. IsTrue (is_alone v k x)) (flag_one g NoBatch b b' refl batch batch') h))
+
+pub run_alone : (g : Given) (c : Command) (v k : Option (List ℕ)) (b : Bool)
+    → SaysName g Code k → SaysName g Verify v → SaysFlag g NoBatch b
+    → Completes (codes "run") g c → IsTrue (is_alone v k b)
+run_alone g c v k b code verified batch h =
+    let r = as_run g c h in
+    alone_by g r.5 v r.4 k r.8 b r.9.options.1.1.1.1.0 verified r.9.options.1.1.1.0 code
+    r.9.options.1.1.1.1.1.1.1.0 batch r.10.1
+
+pub sim_alone : (g : Given) (c : Command) (v k : Option (List ℕ)) (b : Bool)
+    → SaysName g Code k → SaysName g Verify v → SaysFlag g NoBatch b
+    → Completes (codes "sim") g c → IsTrue (is_alone v k b)
+sim_alone g c v k b code verified batch h =
+    let r = as_sim g c h in
+    alone_by g r.5 v r.4 k r.8 b r.9.options.1.1.1.1.0 verified r.9.options.1.1.1.0 code
+    r.9.options.1.1.1.1.1.1.1.0 batch r.10
+
 one_row : (g : Given) (c d : Command) → IsOfRow (row_of c) g → IsOfRow (row_of d) g →
     (row_of c).word ≡ (row_of d).word → c ≡ d
 one_row g (Rewrite x y nb) (Rewrite v w nc) p q e =
@@ -352,15 +378,16 @@ one_row g (Rewrite x y nb) (Rewrite v w nc) p q e =
     let batch = flag_one g NoBatch nb nc refl p.options.0 q.options.0 in
     ap (λ f. Rewrite f y nb) same.0 ∙ ap (λ f. Rewrite v f nb) same.1
     ∙ ap (λ z. Rewrite v w z) batch
-one_row g (Run x n b u c k s nb) (Run y m r v d l t nc) p q e =
+one_row g (Run x n b u c ve k s nb) (Run y m r v d vf l t nc) p q e =
     let file = same_file x y _ p.places q.places in
     let nodes = says_one g Nodes n m p.options.0 q.options.0 in
     let budget = says_one g Budget b r p.options.1.0 q.options.1.0 in
     let recorded = names_one g Record u v p.options.1.1.0 q.options.1.1.0 in
     let code = names_one g Code c d p.options.1.1.1.0 q.options.1.1.1.0 in
-    let layout = names_one g Layout k l p.options.1.1.1.1.0 q.options.1.1.1.1.0 in
-    let brief = flag_one g Brief s t refl p.options.1.1.1.1.1.0 q.options.1.1.1.1.1.0 in
-    let batch = flag_one g NoBatch nb nc refl p.options.1.1.1.1.1.1.0 q.options.1.1.1.1.1.1.0 in
+    let verified = names_one g Verify ve vf p.options.1.1.1.1.0 q.options.1.1.1.1.0 in
+    let layout = names_one g Layout k l p.options.1.1.1.1.1.0 q.options.1.1.1.1.1.0 in
+    let brief = flag_one g Brief s t refl p.options.1.1.1.1.1.1.0 q.options.1.1.1.1.1.1.0 in
+    let batch = flag_one g NoBatch nb nc refl p.options.1.1.1.1.1.1.1.0 q.options.1.1.1.1.1.1.1.0 in
     cc
 one_row g (Listing x) (Listing y) p q e = ap Listing (same_file x y _ p.places q.places)
 one_row g (One x n o b k) (One y m r d l) p q e =
@@ -370,80 +397,83 @@ one_row g (One x n o b k) (One y m r d l) p q e =
     let budget = says_one g Budget b d p.options.1.1.0 q.options.1.1.0 in
     let layout = names_one g Layout k l p.options.1.1.1.0 q.options.1.1.1.0 in
     cc
-one_row g (Sim x n o b c k s nb) (Sim y m r d f l t nc) p q e =
+one_row g (Sim x n o b c ve k s nb) (Sim y m r d f vf l t nc) p q e =
     let file = same_file x y _ p.places q.places in
     let nodes = says_one g Nodes n m p.options.0 q.options.0 in
     let order = says_one g Order o r p.options.1.0 q.options.1.0 in
     let budget = says_one g Budget b d p.options.1.1.0 q.options.1.1.0 in
     let code = names_one g Code c f p.options.1.1.1.0 q.options.1.1.1.0 in
-    let layout = names_one g Layout k l p.options.1.1.1.1.0 q.options.1.1.1.1.0 in
-    let brief = flag_one g Brief s t refl p.options.1.1.1.1.1.0 q.options.1.1.1.1.1.0 in
-    let batch = flag_one g NoBatch nb nc refl p.options.1.1.1.1.1.1.0 q.options.1.1.1.1.1.1.0 in
+    let verified = names_one g Verify ve vf p.options.1.1.1.1.0 q.options.1.1.1.1.0 in
+    let layout = names_one g Layout k l p.options.1.1.1.1.1.0 q.options.1.1.1.1.1.0 in
+    let brief = flag_one g Brief s t refl p.options.1.1.1.1.1.1.0 q.options.1.1.1.1.1.1.0 in
+    let batch = flag_one g NoBatch nb nc refl p.options.1.1.1.1.1.1.1.0 q.options.1.1.1.1.1.1.1.0 in
     cc
-one_row g (Replay x y s) (Replay v w t) p q e =
+one_row g (Replay x ve y s) (Replay v vf w t) p q e =
     let files = same_files Read x y v w _ p.places q.places in
-    let brief = flag_one g Brief s t refl p.options.0 q.options.0 in
-    ap (λ f. Replay f y s) files.0 ∙ ap (λ f. Replay v f s) files.1 ∙ ap (λ b. Replay v w b) brief
+    let verified = names_one g Verify ve vf p.options.0 q.options.0 in
+    let brief = flag_one g Brief s t refl p.options.1.0 q.options.1.0 in
+    ap (λ f. Replay f ve y s) files.0 ∙ ap (λ o. Replay v o y s) verified
+    ∙ ap (λ f. Replay v vf f s) files.1 ∙ ap (λ b. Replay v vf w b) brief
 one_row g (Generate n y) (Generate m w) p q e =
     let same = same_seeds n m y w _ p.places q.places in
     ap (λ k. Generate k y) same.0 ∙ ap (λ f. Generate m f) same.1
-one_row g (Rewrite x y nb) (Run v m r z d l t nc) p q e = absurd (other_second _ _ e (omega arith))
+one_row g (Rewrite x y nb) (Run v m r z d ve l t nc) p q e = absurd (other_second _ _ e (omega arith))
 one_row g (Rewrite x y nb) (Listing v) p q e = absurd (other_first _ _ e (omega arith))
 one_row g (Rewrite x y nb) (One v m r d l) p q e = absurd (other_first _ _ e (omega arith))
-one_row g (Rewrite x y nb) (Sim v m r d f l t nc) p q e = absurd (other_first _ _ e (omega arith))
-one_row g (Run x n b u c k s nb) (Rewrite v w nc) p q e = absurd (other_second _ _ e (omega arith))
-one_row g (Run x n b u c k s nb) (Listing v) p q e = absurd (other_first _ _ e (omega arith))
-one_row g (Run x n b u c k s nb) (One v m r d l) p q e = absurd (other_first _ _ e (omega arith))
-one_row g (Run x n b u c k s nb) (Sim v m r d f l t nc) p q e = absurd (other_first _ _ e (omega arith))
+one_row g (Rewrite x y nb) (Sim v m r d f ve l t nc) p q e = absurd (other_first _ _ e (omega arith))
+one_row g (Run x n b u c ve k s nb) (Rewrite v w nc) p q e = absurd (other_second _ _ e (omega arith))
+one_row g (Run x n b u c ve k s nb) (Listing v) p q e = absurd (other_first _ _ e (omega arith))
+one_row g (Run x n b u c ve k s nb) (One v m r d l) p q e = absurd (other_first _ _ e (omega arith))
+one_row g (Run x n b u c ve k s nb) (Sim v m r d f vf l t nc) p q e = absurd (other_first _ _ e (omega arith))
 one_row g (Listing x) (Rewrite v w nb) p q e = absurd (other_first _ _ e (omega arith))
-one_row g (Listing x) (Run v m r z d l t nb) p q e = absurd (other_first _ _ e (omega arith))
+one_row g (Listing x) (Run v m r z d ve l t nb) p q e = absurd (other_first _ _ e (omega arith))
 one_row g (Listing x) (One v m r d l) p q e = absurd (other_first _ _ e (omega arith))
-one_row g (Listing x) (Sim v m r d f l t nb) p q e = absurd (other_first _ _ e (omega arith))
+one_row g (Listing x) (Sim v m r d f ve l t nb) p q e = absurd (other_first _ _ e (omega arith))
 one_row g (One x n o b k) (Rewrite v w nb) p q e = absurd (other_first _ _ e (omega arith))
-one_row g (One x n o b k) (Run v m r z d l t nb) p q e = absurd (other_first _ _ e (omega arith))
+one_row g (One x n o b k) (Run v m r z d ve l t nb) p q e = absurd (other_first _ _ e (omega arith))
 one_row g (One x n o b k) (Listing v) p q e = absurd (other_first _ _ e (omega arith))
-one_row g (One x n o b k) (Sim v m r d f l t nb) p q e = absurd (other_first _ _ e (omega arith))
-one_row g (Sim x n o b c k s nb) (Rewrite v w nc) p q e = absurd (other_first _ _ e (omega arith))
-one_row g (Sim x n o b c k s nb) (Run v m r z d l t nc) p q e = absurd (other_first _ _ e (omega arith))
-one_row g (Sim x n o b c k s nb) (Listing v) p q e = absurd (other_first _ _ e (omega arith))
-one_row g (Sim x n o b c k s nb) (One v m r d l) p q e = absurd (other_first _ _ e (omega arith))
-one_row g (Rewrite x y nb) (Replay v w t) p q e = absurd (other_third _ _ e (omega arith))
+one_row g (One x n o b k) (Sim v m r d f ve l t nb) p q e = absurd (other_first _ _ e (omega arith))
+one_row g (Sim x n o b c ve k s nb) (Rewrite v w nc) p q e = absurd (other_first _ _ e (omega arith))
+one_row g (Sim x n o b c ve k s nb) (Run v m r z d vf l t nc) p q e = absurd (other_first _ _ e (omega arith))
+one_row g (Sim x n o b c ve k s nb) (Listing v) p q e = absurd (other_first _ _ e (omega arith))
+one_row g (Sim x n o b c ve k s nb) (One v m r d l) p q e = absurd (other_first _ _ e (omega arith))
+one_row g (Rewrite x y nb) (Replay v ve w t) p q e = absurd (other_third _ _ e (omega arith))
 one_row g (Rewrite x y nb) (Generate m w) p q e = absurd (other_first _ _ e (omega arith))
-one_row g (Run x n b u c k s nb) (Replay v w t) p q e = absurd (other_second _ _ e (omega arith))
-one_row g (Run x n b u c k s nb) (Generate m w) p q e = absurd (other_first _ _ e (omega arith))
-one_row g (Listing x) (Replay v w t) p q e = absurd (other_first _ _ e (omega arith))
+one_row g (Run x n b u c ve k s nb) (Replay v vf w t) p q e = absurd (other_second _ _ e (omega arith))
+one_row g (Run x n b u c ve k s nb) (Generate m w) p q e = absurd (other_first _ _ e (omega arith))
+one_row g (Listing x) (Replay v ve w t) p q e = absurd (other_first _ _ e (omega arith))
 one_row g (Listing x) (Generate m w) p q e = absurd (other_first _ _ e (omega arith))
-one_row g (One x n o b k) (Replay v w t) p q e = absurd (other_first _ _ e (omega arith))
+one_row g (One x n o b k) (Replay v ve w t) p q e = absurd (other_first _ _ e (omega arith))
 one_row g (One x n o b k) (Generate m w) p q e = absurd (other_first _ _ e (omega arith))
-one_row g (Sim x n o b c k s nb) (Replay v w t) p q e = absurd (other_first _ _ e (omega arith))
-one_row g (Sim x n o b c k s nb) (Generate m w) p q e = absurd (other_first _ _ e (omega arith))
-one_row g (Replay x u s) (Rewrite v w nb) p q e = absurd (other_third _ _ e (omega arith))
-one_row g (Replay x u s) (Run v m r z d l t nb) p q e = absurd (other_second _ _ e (omega arith))
-one_row g (Replay x u s) (Listing v) p q e = absurd (other_first _ _ e (omega arith))
-one_row g (Replay x u s) (One v m r d l) p q e = absurd (other_first _ _ e (omega arith))
-one_row g (Replay x u s) (Sim v m r d f l t nb) p q e = absurd (other_first _ _ e (omega arith))
-one_row g (Replay x u s) (Generate m w) p q e = absurd (other_first _ _ e (omega arith))
+one_row g (Sim x n o b c ve k s nb) (Replay v vf w t) p q e = absurd (other_first _ _ e (omega arith))
+one_row g (Sim x n o b c ve k s nb) (Generate m w) p q e = absurd (other_first _ _ e (omega arith))
+one_row g (Replay x ve u s) (Rewrite v w nb) p q e = absurd (other_third _ _ e (omega arith))
+one_row g (Replay x ve u s) (Run v m r z d vf l t nb) p q e = absurd (other_second _ _ e (omega arith))
+one_row g (Replay x ve u s) (Listing v) p q e = absurd (other_first _ _ e (omega arith))
+one_row g (Replay x ve u s) (One v m r d l) p q e = absurd (other_first _ _ e (omega arith))
+one_row g (Replay x ve u s) (Sim v m r d f vf l t nb) p q e = absurd (other_first _ _ e (omega arith))
+one_row g (Replay x ve u s) (Generate m w) p q e = absurd (other_first _ _ e (omega arith))
 one_row g (Generate n y) (Rewrite v w nb) p q e = absurd (other_first _ _ e (omega arith))
-one_row g (Generate n y) (Run v m r z d l t nb) p q e = absurd (other_first _ _ e (omega arith))
+one_row g (Generate n y) (Run v m r z d ve l t nb) p q e = absurd (other_first _ _ e (omega arith))
 one_row g (Generate n y) (Listing v) p q e = absurd (other_first _ _ e (omega arith))
 one_row g (Generate n y) (One v m r d l) p q e = absurd (other_first _ _ e (omega arith))
-one_row g (Generate n y) (Sim v m r d f l t nb) p q e = absurd (other_first _ _ e (omega arith))
-one_row g (Generate n y) (Replay v w t) p q e = absurd (other_first _ _ e (omega arith))
+one_row g (Generate n y) (Sim v m r d f ve l t nb) p q e = absurd (other_first _ _ e (omega arith))
+one_row g (Generate n y) (Replay v ve w t) p q e = absurd (other_first _ _ e (omega arith))
 one_row g (Assemble x y) (Assemble v w) p q e =
     let files = same_files Write x y v w _ p.places q.places in
     ap (λ f. Assemble f y) files.0 ∙ ap (λ f. Assemble v f) files.1
 one_row g (Rewrite x y nb) (Assemble v' w') p q e = absurd (other_first _ _ e (omega arith))
 one_row g (Assemble v' w') (Rewrite x y nb) p q e = absurd (other_first _ _ e (omega arith))
-one_row g (Run f n b w k l t nb) (Assemble v' w') p q e = absurd (other_first _ _ e (omega arith))
-one_row g (Assemble v' w') (Run f n b w k l t nb) p q e = absurd (other_first _ _ e (omega arith))
+one_row g (Run f n b w k ve l t nb) (Assemble v' w') p q e = absurd (other_first _ _ e (omega arith))
+one_row g (Assemble v' w') (Run f n b w k ve l t nb) p q e = absurd (other_first _ _ e (omega arith))
 one_row g (Listing f) (Assemble v' w') p q e = absurd (other_first _ _ e (omega arith))
 one_row g (Assemble v' w') (Listing f) p q e = absurd (other_first _ _ e (omega arith))
 one_row g (One f n o b l) (Assemble v' w') p q e = absurd (other_first _ _ e (omega arith))
 one_row g (Assemble v' w') (One f n o b l) p q e = absurd (other_first _ _ e (omega arith))
-one_row g (Sim f n o b k l t nb) (Assemble v' w') p q e = absurd (other_first _ _ e (omega arith))
-one_row g (Assemble v' w') (Sim f n o b k l t nb) p q e = absurd (other_first _ _ e (omega arith))
-one_row g (Replay f w t) (Assemble v' w') p q e = absurd (other_first _ _ e (omega arith))
-one_row g (Assemble v' w') (Replay f w t) p q e = absurd (other_first _ _ e (omega arith))
+one_row g (Sim f n o b k ve l t nb) (Assemble v' w') p q e = absurd (other_first _ _ e (omega arith))
+one_row g (Assemble v' w') (Sim f n o b k ve l t nb) p q e = absurd (other_first _ _ e (omega arith))
+one_row g (Replay f ve w t) (Assemble v' w') p q e = absurd (other_first _ _ e (omega arith))
+one_row g (Assemble v' w') (Replay f ve w t) p q e = absurd (other_first _ _ e (omega arith))
 one_row g (Generate n y) (Assemble v' w') p q e = absurd (other_first _ _ e (omega arith))
 one_row g (Assemble v' w') (Generate n y) p q e = absurd (other_first _ _ e (omega arith))
 
@@ -482,89 +512,89 @@ row_given row words r g e = record {
 -- the word of a command, with its options
 pub command_word : Command → CommandWord
 command_word (Rewrite x y nb) = word.Rewrite
-command_word (Run f n b w k l t nb) = word.Run
+command_word (Run f n b w k ve l t nb) = word.Run
 command_word (Listing f) = word.List
 command_word (One f n o b l) = word.One
-command_word (Sim f n o b k l t nb) = word.Sim
-command_word (Replay f w t) = word.Replay
+command_word (Sim f n o b k ve l t nb) = word.Sim
+command_word (Replay f ve w t) = word.Replay
 command_word (Generate n y) = word.Generate
 command_word (Assemble x y) = word.Assemble
 
 pub word_is : (c : Command) → text_of (command_word c) ≡ (row_of c).word
 unfolding command_word
 word_is (Rewrite x y nb) = refl
-word_is (Run f n b w k l t nb) = refl
+word_is (Run f n b w k ve l t nb) = refl
 word_is (Listing f) = refl
 word_is (One f n o b l) = refl
-word_is (Sim f n o b k l t nb) = refl
-word_is (Replay f w t) = refl
+word_is (Sim f n o b k ve l t nb) = refl
+word_is (Replay f ve w t) = refl
 word_is (Generate n y) = refl
 word_is (Assemble x y) = refl
 
 word_settings : (w : CommandWord) (c : Command) → text_of w ≡ (row_of c).word →
     settings_in (row_of c).options ≡ settings_of w
 word_settings word.Rewrite (Rewrite x y nb) e = refl
-word_settings word.Run (Run f n b w k l t nb) e = refl
+word_settings word.Run (Run f n b w k ve l t nb) e = refl
 word_settings word.List (Listing f) e = refl
 word_settings word.One (One f n o b l) e = refl
-word_settings word.Sim (Sim f n o b k l t nb) e = refl
-word_settings word.Replay (Replay f w t) e = refl
+word_settings word.Sim (Sim f n o b k ve l t nb) e = refl
+word_settings word.Replay (Replay f ve w t) e = refl
 word_settings word.Generate (Generate n y) e = refl
 word_settings word.Assemble (Assemble x y) e = refl
-word_settings word.Rewrite (Run f n b w k l t nb) e = absurd (other_second _ _ e (omega arith))
+word_settings word.Rewrite (Run f n b w k ve l t nb) e = absurd (other_second _ _ e (omega arith))
 word_settings word.Rewrite (Listing f) e = absurd (other_first _ _ e (omega arith))
 word_settings word.Rewrite (One f n o b l) e = absurd (other_first _ _ e (omega arith))
-word_settings word.Rewrite (Sim f n o b k l t nb) e = absurd (other_first _ _ e (omega arith))
+word_settings word.Rewrite (Sim f n o b k ve l t nb) e = absurd (other_first _ _ e (omega arith))
 word_settings word.Run (Rewrite x y nb) e = absurd (other_second _ _ e (omega arith))
 word_settings word.Run (Listing f) e = absurd (other_first _ _ e (omega arith))
 word_settings word.Run (One f n o b l) e = absurd (other_first _ _ e (omega arith))
-word_settings word.Run (Sim f n o b k l t nb) e = absurd (other_first _ _ e (omega arith))
+word_settings word.Run (Sim f n o b k ve l t nb) e = absurd (other_first _ _ e (omega arith))
 word_settings word.List (Rewrite x y nb) e = absurd (other_first _ _ e (omega arith))
-word_settings word.List (Run f n b w k l t nb) e = absurd (other_first _ _ e (omega arith))
+word_settings word.List (Run f n b w k ve l t nb) e = absurd (other_first _ _ e (omega arith))
 word_settings word.List (One f n o b l) e = absurd (other_first _ _ e (omega arith))
-word_settings word.List (Sim f n o b k l t nb) e = absurd (other_first _ _ e (omega arith))
+word_settings word.List (Sim f n o b k ve l t nb) e = absurd (other_first _ _ e (omega arith))
 word_settings word.One (Rewrite x y nb) e = absurd (other_first _ _ e (omega arith))
-word_settings word.One (Run f n b w k l t nb) e = absurd (other_first _ _ e (omega arith))
+word_settings word.One (Run f n b w k ve l t nb) e = absurd (other_first _ _ e (omega arith))
 word_settings word.One (Listing f) e = absurd (other_first _ _ e (omega arith))
-word_settings word.One (Sim f n o b k l t nb) e = absurd (other_first _ _ e (omega arith))
+word_settings word.One (Sim f n o b k ve l t nb) e = absurd (other_first _ _ e (omega arith))
 word_settings word.Sim (Rewrite x y nb) e = absurd (other_first _ _ e (omega arith))
-word_settings word.Sim (Run f n b w k l t nb) e = absurd (other_first _ _ e (omega arith))
+word_settings word.Sim (Run f n b w k ve l t nb) e = absurd (other_first _ _ e (omega arith))
 word_settings word.Sim (Listing f) e = absurd (other_first _ _ e (omega arith))
 word_settings word.Sim (One f n o b l) e = absurd (other_first _ _ e (omega arith))
-word_settings word.Rewrite (Replay f w t) e = absurd (other_third _ _ e (omega arith))
+word_settings word.Rewrite (Replay f ve w t) e = absurd (other_third _ _ e (omega arith))
 word_settings word.Rewrite (Generate n y) e = absurd (other_first _ _ e (omega arith))
-word_settings word.Run (Replay f w t) e = absurd (other_second _ _ e (omega arith))
+word_settings word.Run (Replay f ve w t) e = absurd (other_second _ _ e (omega arith))
 word_settings word.Run (Generate n y) e = absurd (other_first _ _ e (omega arith))
-word_settings word.List (Replay f w t) e = absurd (other_first _ _ e (omega arith))
+word_settings word.List (Replay f ve w t) e = absurd (other_first _ _ e (omega arith))
 word_settings word.List (Generate n y) e = absurd (other_first _ _ e (omega arith))
-word_settings word.One (Replay f w t) e = absurd (other_first _ _ e (omega arith))
+word_settings word.One (Replay f ve w t) e = absurd (other_first _ _ e (omega arith))
 word_settings word.One (Generate n y) e = absurd (other_first _ _ e (omega arith))
-word_settings word.Sim (Replay f w t) e = absurd (other_first _ _ e (omega arith))
+word_settings word.Sim (Replay f ve w t) e = absurd (other_first _ _ e (omega arith))
 word_settings word.Sim (Generate n y) e = absurd (other_first _ _ e (omega arith))
 word_settings word.Replay (Rewrite x y nb) e = absurd (other_third _ _ e (omega arith))
-word_settings word.Replay (Run f n b w k l t nb) e = absurd (other_second _ _ e (omega arith))
+word_settings word.Replay (Run f n b w k ve l t nb) e = absurd (other_second _ _ e (omega arith))
 word_settings word.Replay (Listing f) e = absurd (other_first _ _ e (omega arith))
 word_settings word.Replay (One f n o b l) e = absurd (other_first _ _ e (omega arith))
-word_settings word.Replay (Sim f n o b k l t nb) e = absurd (other_first _ _ e (omega arith))
+word_settings word.Replay (Sim f n o b k ve l t nb) e = absurd (other_first _ _ e (omega arith))
 word_settings word.Replay (Generate n y) e = absurd (other_first _ _ e (omega arith))
 word_settings word.Generate (Rewrite x y nb) e = absurd (other_first _ _ e (omega arith))
-word_settings word.Generate (Run f n b w k l t nb) e = absurd (other_first _ _ e (omega arith))
+word_settings word.Generate (Run f n b w k ve l t nb) e = absurd (other_first _ _ e (omega arith))
 word_settings word.Generate (Listing f) e = absurd (other_first _ _ e (omega arith))
 word_settings word.Generate (One f n o b l) e = absurd (other_first _ _ e (omega arith))
-word_settings word.Generate (Sim f n o b k l t nb) e = absurd (other_first _ _ e (omega arith))
-word_settings word.Generate (Replay f w t) e = absurd (other_first _ _ e (omega arith))
+word_settings word.Generate (Sim f n o b k ve l t nb) e = absurd (other_first _ _ e (omega arith))
+word_settings word.Generate (Replay f ve w t) e = absurd (other_first _ _ e (omega arith))
 word_settings word.Rewrite (Assemble x y) e = absurd (other_first _ _ e (omega arith))
 word_settings word.Assemble (Rewrite x y nb) e = absurd (other_first _ _ e (omega arith))
 word_settings word.Run (Assemble x y) e = absurd (other_first _ _ e (omega arith))
-word_settings word.Assemble (Run f n b w k l t nb) e = absurd (other_first _ _ e (omega arith))
+word_settings word.Assemble (Run f n b w k ve l t nb) e = absurd (other_first _ _ e (omega arith))
 word_settings word.List (Assemble x y) e = absurd (other_first _ _ e (omega arith))
 word_settings word.Assemble (Listing f) e = absurd (other_first _ _ e (omega arith))
 word_settings word.One (Assemble x y) e = absurd (other_first _ _ e (omega arith))
 word_settings word.Assemble (One f n o b l) e = absurd (other_first _ _ e (omega arith))
 word_settings word.Sim (Assemble x y) e = absurd (other_first _ _ e (omega arith))
-word_settings word.Assemble (Sim f n o b k l t nb) e = absurd (other_first _ _ e (omega arith))
+word_settings word.Assemble (Sim f n o b k ve l t nb) e = absurd (other_first _ _ e (omega arith))
 word_settings word.Replay (Assemble x y) e = absurd (other_first _ _ e (omega arith))
-word_settings word.Assemble (Replay f w t) e = absurd (other_first _ _ e (omega arith))
+word_settings word.Assemble (Replay f ve w t) e = absurd (other_first _ _ e (omega arith))
 word_settings word.Generate (Assemble x y) e = absurd (other_first _ _ e (omega arith))
 word_settings word.Assemble (Generate n y) e = absurd (other_first _ _ e (omega arith))
 

@@ -4,7 +4,7 @@ use Rattle.std.specs.List.{list_any, position_or_len, before_first, after_first}
 use Rattle.std.proofs.lemmas.List.Sums.{passes_at_first, split_at_first}
 use Rattle.std.proofs.lemmas.Slice.Eq.{bytes_eq-Decides}
 use Rattle.command_line.specs.declared.table.Setting.{Setting}
-use Rattle.command_line.specs.declared.table.Setting.TheVariants.{Nodes, Order, Budget, Layout, Code, Record, Brief, NoBatch}
+use Rattle.command_line.specs.declared.table.Setting.TheVariants.{Nodes, Order, Budget, Layout, Code, Verify, Record, Brief, NoBatch}
 use Rattle.command_line.specs.Commands.{option_word, kind_of}
 use Rattle.command_line.specs.Asks.{option_of, HasOption, IsPlain, takes_value}
 use Rattle.command_line.specs.Reading.{name_of}
@@ -19,6 +19,7 @@ dashed Order = refl
 dashed Budget = refl
 dashed Layout = refl
 dashed Code = refl
+dashed Verify = refl
 dashed Record = refl
 dashed Brief = refl
 dashed NoBatch = refl
@@ -29,6 +30,7 @@ no_equals Order = refl
 no_equals Budget = refl
 no_equals Layout = refl
 no_equals Code = refl
+no_equals Verify = refl
 no_equals Record = refl
 no_equals Brief = refl
 no_equals NoBatch = refl
@@ -39,6 +41,7 @@ dash_first Order v = refl
 dash_first Budget v = refl
 dash_first Layout v = refl
 dash_first Code v = refl
+dash_first Verify v = refl
 dash_first Record v = refl
 dash_first Brief v = refl
 dash_first NoBatch v = refl
@@ -49,6 +52,7 @@ not_plain Order w e p = p.no_dash (ap (λ x. slice_index x 0) e)
 not_plain Budget w e p = p.no_dash (ap (λ x. slice_index x 0) e)
 not_plain Layout w e p = p.no_dash (ap (λ x. slice_index x 0) e)
 not_plain Code w e p = p.no_dash (ap (λ x. slice_index x 0) e)
+not_plain Verify w e p = p.no_dash (ap (λ x. slice_index x 0) e)
 not_plain Record w e p = p.no_dash (ap (λ x. slice_index x 0) e)
 not_plain Brief w e p = p.no_dash (ap (λ x. slice_index x 0) e)
 not_plain NoBatch w e p = p.no_dash (ap (λ x. slice_index x 0) e)

@@ -124,7 +124,7 @@ pub record AreOfRow (row : Row) (words : List (List ℕ)) : Type 0 where
   pub options : AreSet row.options arguments
 
 -- the first word is the command's, the words behind it are of the command's row, and the command
--- lacks nothing that it may not go without
+-- lacks nothing that it may not go without, and has nothing that it may not have
 pub record Asks (words : List (List ℕ)) (command : Command) : Type 0 where
   pub behind : List (List ℕ)
   pub words_are : words ≡ (row_of command).word ∷ behind

@@ -1,13 +1,13 @@
 -- The commands of the program, in one table: of each its word, what stands in its places, and its
 -- options.
-use Rattle.std.specs.Prelude.{◌≡◌, ℕ, ◌-◌, ◌^◌, Bool, List, [], ◌∷◌, ◌++◌, Option, None, Some, codes}
+use Rattle.std.specs.Prelude.{◌≡◌, ℕ, ◌-◌, ◌^◌, Bool, true, false, not, IsTrue, List, [], ◌∷◌, ◌++◌, Option, None, Some, codes}
 use Rattle.std.specs.List.{flat_map}
 use Rattle.command_line.specs.declared.table.Access.{Access}
 use Rattle.command_line.specs.declared.table.Access.TheVariants.{Read, Write}
 use Rattle.command_line.specs.declared.table.Kind.{Kind}
 use Rattle.command_line.specs.declared.table.Kind.TheVariants.{Number, File, Flag}
 use Rattle.command_line.specs.declared.table.Setting.{Setting}
-use Rattle.command_line.specs.declared.table.Setting.TheVariants.{Nodes, Order, Budget, Layout, Code, Record, Brief, NoBatch}
+use Rattle.command_line.specs.declared.table.Setting.TheVariants.{Nodes, Order, Budget, Layout, Code, Verify, Record, Brief, NoBatch}
 
 pub data Command : Type 0 where
   -- write the rewritten executable of the one in a file into another, without batches where these
@@ -15,9 +15,10 @@ pub data Command : Type 0 where
   Rewrite : (input output : List ℕ) (no_batch : Bool) → Command
   -- run so many nodes of the rewritten code of the executable in a file, each in a thread of its
   -- own, at most so many words of each processor; where they are named, the record of the run goes
-  -- into a file, the code is that of the executable in a file, and the blocks are those of the
-  -- layout in a file; a brief text has no counts; the code has no batches where these aren't wanted
-  Run : (file : List ℕ) (nodes budget : ℕ) (record_file code layout : Option (List ℕ))
+  -- into a file, the code is that of the executable in a file, or of a verified one, which may have
+  -- been rewritten by another plan, and the blocks are those of the layout in a file; a brief text
+  -- has no counts; the code has no batches where these aren't wanted
+  Run : (file : List ℕ) (nodes budget : ℕ) (record_file code verified layout : Option (List ℕ))
       (brief no_batch : Bool) → Command
   -- list its code words
   Listing : (file : List ℕ) → Command
@@ -26,11 +27,12 @@ pub data Command : Type 0 where
   One : (file : List ℕ) (nodes order budget : ℕ) (layout : Option (List ℕ)) → Command
   -- run so many nodes of the rewritten code by the order of a number, at most so many words of each
   -- processor; the code, the blocks and the text are as of a run
-  Sim : (file : List ℕ) (nodes order budget : ℕ) (code layout : Option (List ℕ))
+  Sim : (file : List ℕ) (nodes order budget : ℕ) (code verified layout : Option (List ℕ))
       (brief no_batch : Bool) → Command
-  -- make the run of a record once more: a file holds the executable, and another the record; the
-  -- text is as of a run
-  Replay : (file record_file : List ℕ) (brief : Bool) → Command
+  -- make the run of a record once more: a file holds the executable, and another the record; a
+  -- verified file and the text are as of a run
+  Replay : (file : List ℕ) (verified : Option (List ℕ)) (record_file : List ℕ) (brief : Bool)
+      → Command
   -- write the executable that a number makes into a file
   Generate : (number : ℕ) (output : List ℕ) → Command
   -- write the executable of the assembly text in a file into another
@@ -43,6 +45,7 @@ option_word Order = codes "--order"
 option_word Budget = codes "--budget"
 option_word Layout = codes "--layout"
 option_word Code = codes "--code"
+option_word Verify = codes "--verify"
 option_word Record = codes "--record"
 option_word Brief = codes "--brief"
 option_word NoBatch = codes "--no-batch"
@@ -54,6 +57,7 @@ kind_of Order = Number 0 (2 ^ 32 - 1) 0
 kind_of Budget = Number 1 (2 ^ 32) 100000000
 kind_of Layout = File Read
 kind_of Code = File Read
+kind_of Verify = File Read
 kind_of Record = File Write
 kind_of Brief = Flag
 kind_of NoBatch = Flag
@@ -89,13 +93,13 @@ row_of (Rewrite input output no_batch) = record {
   places = (Named Read, Name input) ∷ (Named Write, Name output) ∷ [];
   options = (NoBatch, Switch no_batch) ∷ [];
 }
-row_of (Run file nodes budget record_file code layout brief no_batch) = record {
+row_of (Run file nodes budget record_file code verified layout brief no_batch) = record {
   word = codes "run";
   places = (Named Read, Name file) ∷ [];
   options =
       (Nodes, Amount nodes) ∷ (Budget, Amount budget) ∷ (Record, name_or_none record_file)
-      ∷ (Code, name_or_none code) ∷ (Layout, name_or_none layout) ∷ (Brief, Switch brief)
-      ∷ (NoBatch, Switch no_batch) ∷ [];
+      ∷ (Code, name_or_none code) ∷ (Verify, name_or_none verified)
+      ∷ (Layout, name_or_none layout) ∷ (Brief, Switch brief) ∷ (NoBatch, Switch no_batch) ∷ [];
 }
 row_of (Listing file) = record {
   word = codes "list";
@@ -109,18 +113,18 @@ row_of (One file nodes order budget layout) = record {
       (Nodes, Amount nodes) ∷ (Order, Amount order) ∷ (Budget, Amount budget)
       ∷ (Layout, name_or_none layout) ∷ [];
 }
-row_of (Sim file nodes order budget code layout brief no_batch) = record {
+row_of (Sim file nodes order budget code verified layout brief no_batch) = record {
   word = codes "sim";
   places = (Named Read, Name file) ∷ [];
   options =
       (Nodes, Amount nodes) ∷ (Order, Amount order) ∷ (Budget, Amount budget)
-      ∷ (Code, name_or_none code) ∷ (Layout, name_or_none layout) ∷ (Brief, Switch brief)
-      ∷ (NoBatch, Switch no_batch) ∷ [];
+      ∷ (Code, name_or_none code) ∷ (Verify, name_or_none verified)
+      ∷ (Layout, name_or_none layout) ∷ (Brief, Switch brief) ∷ (NoBatch, Switch no_batch) ∷ [];
 }
-row_of (Replay file record_file brief) = record {
+row_of (Replay file verified record_file brief) = record {
   word = codes "replay";
   places = (Named Read, Name file) ∷ (Named Read, Name record_file) ∷ [];
-  options = (Brief, Switch brief) ∷ [];
+  options = (Verify, name_or_none verified) ∷ (Brief, Switch brief) ∷ [];
 }
 row_of (Generate number output) = record {
   word = codes "gen";
@@ -134,8 +138,23 @@ row_of (Assemble text output) = record {
 }
 
 -- only a run of one node may go without the record of it
+abbrev pub IsKept : (record_file : Option (List ℕ)) (nodes : ℕ) → Type 0
+IsKept None nodes = nodes ≡ 1
+IsKept (Some file) nodes = Unit {0}
+
+-- whether there is no verified file; or, beside it, no file of code, and no word that batches
+-- aren't wanted
+abbrev pub is_alone : (verified code : Option (List ℕ)) (no_batch : Bool) → Bool
+is_alone None code no_batch = true
+is_alone (Some file) None no_batch = not no_batch
+is_alone (Some file) (Some other) no_batch = false
+
+-- a command lacks nothing, and has nothing too much
 abbrev pub IsFit : Command → Type 0
-IsFit (Run file nodes budget None code layout brief no_batch) = nodes ≡ 1
+IsFit (Run file nodes budget record_file code verified layout brief no_batch) =
+    IsKept record_file nodes × IsTrue (is_alone verified code no_batch)
+IsFit (Sim file nodes order budget code verified layout brief no_batch) =
+    IsTrue (is_alone verified code no_batch)
 IsFit command = Unit {0}
 
 -- the options that a command has
@@ -162,8 +181,7 @@ files_of wanted row =
     flat_map (file_at wanted) row.places
     ++ flat_map (λ option. file_given wanted (kind_of option.0) option.1) row.options
 
--- the names of the files that a command reads, in the order in which it does, and of those that it
--- writes
+-- the names of the files that a command reads, and of those that it writes
 abbrev pub reads : Command → List (List ℕ)
 reads command = files_of Read (row_of command)
 

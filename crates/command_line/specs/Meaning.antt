@@ -11,14 +11,16 @@ file_name name = option_map (λ n. n.now) name
 
 abbrev pub meaning_of : OfCode → Command
 meaning_of (asked.Rewrite input output no_batch) = Rewrite input.now output.now no_batch
-meaning_of (asked.Run file nodes budget record_file code layout brief no_batch) =
-    Run file.now nodes budget (file_name record_file) (file_name code) (file_name layout) brief
-    no_batch
+meaning_of (asked.Run file nodes budget record_file code verified layout brief no_batch) =
+    Run file.now nodes budget (file_name record_file) (file_name code) (file_name verified)
+    (file_name layout) brief no_batch
 meaning_of (asked.List file) = Listing file.now
 meaning_of (asked.One file nodes order budget layout) =
     One file.now nodes order budget (file_name layout)
-meaning_of (asked.Sim file nodes order budget code layout brief no_batch) =
-    Sim file.now nodes order budget (file_name code) (file_name layout) brief no_batch
-meaning_of (asked.Replay file record_file brief) = Replay file.now record_file.now brief
+meaning_of (asked.Sim file nodes order budget code verified layout brief no_batch) =
+    Sim file.now nodes order budget (file_name code) (file_name verified) (file_name layout) brief
+    no_batch
+meaning_of (asked.Replay file verified record_file brief) =
+    Replay file.now (file_name verified) record_file.now brief
 meaning_of (asked.Generate number output) = Generate number output.now
 meaning_of (asked.Assemble text output) = Assemble text.now output.now

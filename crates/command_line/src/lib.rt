@@ -4,8 +4,9 @@
 ghost use Rattle.std.specs.Prelude.{◌≡◌, ℕ, ◌-◌, ◌^◌, Bool, List, [], ◌∷◌, codes, Option};
 ghost use Rattle.std.specs.Prelude.{option_map, IfOk, MatchOption};
 ghost use Rattle.command_line.specs.Commands as model;
+ghost use Rattle.command_line.specs.Commands.{is_alone};
 ghost use Rattle.command_line.specs.Asks.{Asks, IsNumber};
-ghost use Rattle.command_line.specs.Meaning.{meaning_of};
+ghost use Rattle.command_line.specs.Meaning.{file_name, meaning_of};
 ghost use Rattle.command_line.specs.Reading.{Completes, SaysFlag, SaysName, SaysNumber, given_by};
 ghost use Rattle.command_line.specs.Reading.{text_of};
 
@@ -35,15 +36,16 @@ pub enum Command<'a> {
     },
     /// Run `nodes` nodes of the rewritten code of the executable in a file, each in a thread of its
     /// own, at most `budget` words of each processor. Where they are named, the record of the run
-    /// goes into the file `record_file`, the code is that of the executable in the file `code`, and
-    /// the blocks are those of the layout in the file `layout`. A `brief` text has no counts.
-    /// `no_batch` is as of `Rewrite`.
+    /// goes into the file `record_file`, the code is that of the executable in the file `code`, or
+    /// in the file `verified`, which may go by another plan, and the blocks are those of the layout
+    /// in the file `layout`. A `brief` text has no counts. `no_batch` is as of `Rewrite`.
     Run {
         file: &'a str,
         nodes: NodeCount,
         budget: Budget,
         record_file: Option<&'a str>,
         code: Option<&'a str>,
+        verified: Option<&'a str>,
         layout: Option<&'a str>,
         brief: bool,
         no_batch: bool,
@@ -69,14 +71,16 @@ pub enum Command<'a> {
         order: u32,
         budget: Budget,
         code: Option<&'a str>,
+        verified: Option<&'a str>,
         layout: Option<&'a str>,
         brief: bool,
         no_batch: bool,
     },
     /// Make the run of the record in the file `record_file` once more, of the executable in `file`.
-    /// The text is as of `Run`.
+    /// A verified file and the text are as of `Run`.
     Replay {
         file: &'a str,
+        verified: Option<&'a str>,
         record_file: &'a str,
         brief: bool,
     },
@@ -206,6 +210,19 @@ fn flag_in(matches: &ArgMatches<'_>, setting: Setting) -> Option<bool>
     }
 }
 
+/// Whether there is no verified file; or, beside it, no file of code and no flag for batches.
+fn is_alone(verified: Option<&str>, code: Option<&str>, no_batch: bool) -> bool
+    ensures { result ≡ is_alone (file_name verified.entry) (file_name code.entry) no_batch }
+{
+    match verified {
+        None => true,
+        Some(_) => match code {
+            None => !no_batch,
+            Some(_) => false,
+        },
+    }
+}
+
 /// The command `rewrite`.
 fn rewrite_of<'a>(matches: &ArgMatches<'a>) -> Option<Command<'a>>
     ensures { MatchOption result
@@ -232,10 +249,14 @@ fn run_of<'a>(matches: &ArgMatches<'a>) -> Option<Command<'a>>
     let budget = budget_in(matches)?;
     let record_file = name_in(matches, Setting::Record)?;
     let code = name_in(matches, Setting::Code)?;
+    let verified = name_in(matches, Setting::Verify)?;
     let layout = name_in(matches, Setting::Layout)?;
     let brief = flag_in(matches, Setting::Brief)?;
     let no_batch = flag_in(matches, Setting::NoBatch)?;
     if record_file.is_none() && nodes.number() != 1 {
+        return None;
+    }
+    if !is_alone(verified, code, no_batch) {
         return None;
     }
     Some(Command::Run {
@@ -244,6 +265,7 @@ fn run_of<'a>(matches: &ArgMatches<'a>) -> Option<Command<'a>>
         budget,
         record_file,
         code,
+        verified,
         layout,
         brief,
         no_batch,
@@ -291,15 +313,20 @@ fn sim_of<'a>(matches: &ArgMatches<'a>) -> Option<Command<'a>>
     let order = order_in(matches)?;
     let budget = budget_in(matches)?;
     let code = name_in(matches, Setting::Code)?;
+    let verified = name_in(matches, Setting::Verify)?;
     let layout = name_in(matches, Setting::Layout)?;
     let brief = flag_in(matches, Setting::Brief)?;
     let no_batch = flag_in(matches, Setting::NoBatch)?;
+    if !is_alone(verified, code, no_batch) {
+        return None;
+    }
     Some(Command::Sim {
         file,
         nodes,
         order,
         budget,
         code,
+        verified,
         layout,
         brief,
         no_batch,
@@ -313,9 +340,11 @@ fn replay_of<'a>(matches: &ArgMatches<'a>) -> Option<Command<'a>>
         (λ c. Completes (codes "replay") (given_by matches.now) (meaning_of c)) }
 {
     let (file, record_file) = two_operands_in(matches)?;
+    let verified = name_in(matches, Setting::Verify)?;
     let brief = flag_in(matches, Setting::Brief)?;
     Some(Command::Replay {
         file,
+        verified,
         record_file,
         brief,
     })

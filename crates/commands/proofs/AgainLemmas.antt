@@ -11,8 +11,9 @@ use Rattle.block_layout.specs.declared.ranges.Lines.{Lines}
 use Rattle.rv32_program.specs.Program.{Program}
 use Rattle.rv32_program.specs.declared.End.{End}
 use Rattle.templates.specs.declared.plans.PlanEntry.{PlanEntry}
-use Rattle.jump_map.specs.Image.{Cell}
+use Rattle.jump_map.specs.Image.{Cell, IsRewriting}
 use Rattle.rewriter.specs.Parts.{Parts, IsRewritten}
+use Rattle.rewriter.specs.RewrittenFile.{rewritten_elf}
 use Rattle.node_model.specs.Node.{Work}
 use Rattle.node_model.specs.Core.{Core, Event, IsOver, opening_core, after}
 use Rattle.node_model.specs.Outcome.{Outcome}
@@ -25,7 +26,7 @@ use Rattle.run_record.specs.Telling.{IsOfWords}
 use Rattle.run_record.specs.Text.{record_text}
 use Rattle.replay.specs.Replay.{TellsWholeRun, HasJournalsOf}
 use Rattle.replay.specs.Told.{Told, AreToldBy, what_told}
-use Rattle.commands.specs.Code.{IsRewritingOf}
+use Rattle.commands.specs.Code.{Choice, Planned, Verified, choice_of, IsRewritingOf}
 use Rattle.commands.specs.Executables.{ReadsAs}
 use Rattle.commands.specs.Headline.{IsOutcomeRecorded, IsRunOf, IsTextWith}
 use Rattle.commands.specs.Inputs.{Inputs}
@@ -47,6 +48,11 @@ pub record HaveRecordLaws : Type 0 where
       → record_text r ≡ record_text s → r ≡ s
   pub one_rewriting : (batches : Bool) (program : Program) (one other : Parts)
       → IsRewritten batches program one → IsRewritten batches program other → one ≡ other
+  pub one_verified : (original : Elf) (plan other : List PlanEntry) (image again : List Cell)
+      → IsRewriting (program_of original) plan image
+      → IsRewriting (program_of original) other again
+      → rewritten_elf original image plan ≡ rewritten_elf original again other
+      → (plan ≡ other) × (image ≡ again)
   pub one_telling : (r : Record) (told other : List Told) → AreToldBy r told → AreToldBy r other
       → told ≡ other
   pub again : (work : Work) (c : Core) (own : List Stamped) (r : Record) → RunsRewritten work
@@ -67,25 +73,37 @@ one_elf file elf other h k = h.1 ∙ sym k.1
 abbrev parts_of : List Cell → List PlanEntry → Parts
 parts_of image plan = record { image = image; plan = plan }
 
-one_rewriting : HaveRecordLaws → (batches again : Bool) (file : List ℕ) (elf other : Elf)
-    (plan plan' : List PlanEntry) (image image' : List Cell) → batches ≡ again → elf ≡ other
-    → IsRewritingOf batches file elf plan image → IsRewritingOf again file other plan' image'
+-- by either choice
+one_chosen : HaveRecordLaws → (choice : Choice) (file : List ℕ) (elf : Elf)
+    (plan plan' : List PlanEntry) (image image' : List Cell)
+    → IsRewritingOf choice file elf plan image → IsRewritingOf choice file elf plan' image'
     → parts_of image plan ≡ parts_of image' plan'
-one_rewriting laws batches again file elf other plan plan' image image' same is h k =
-    let there : IsRewritingOf batches file elf plan' image' =
-    subst (λ b. IsRewritingOf b file elf plan' image') (sym same)
-    (subst (λ e. IsRewritingOf again file e plan' image') (sym is) k) in
+one_chosen laws (Planned batches) file elf plan plan' image image' h k =
     laws.one_rewriting batches (program_of elf) (parts_of image plan) (parts_of image' plan')
-    (record { plan = h.the_plan; rewriting = h.rewriting })
-    (record { plan = there.the_plan; rewriting = there.rewriting })
+    (record { plan = h.chosen; rewriting = h.rewriting })
+    (record { plan = k.chosen; rewriting = k.rewriting })
+one_chosen laws (Verified verified) file elf plan plan' image image' h k =
+    let same = laws.one_verified elf plan plan' image image' h.rewriting k.rewriting
+    (one_elf verified (rewritten_elf elf image plan) (rewritten_elf elf image' plan') h.chosen
+    k.chosen) in
+    ap (λ i. parts_of i plan) same.1 ∙ ap (parts_of image') same.0
 
-pub one_image : HaveRecordLaws → (batches again : Bool) (file : List ℕ) (elf other : Elf)
-    (plan plan' : List PlanEntry) (image image' : List Cell) → batches ≡ again → elf ≡ other
-    → IsRewritingOf batches file elf plan image → IsRewritingOf again file other plan' image'
+one_rewriting : HaveRecordLaws → (choice again : Choice) (file : List ℕ) (elf other : Elf)
+    (plan plan' : List PlanEntry) (image image' : List Cell) → choice ≡ again → elf ≡ other
+    → IsRewritingOf choice file elf plan image → IsRewritingOf again file other plan' image'
+    → parts_of image plan ≡ parts_of image' plan'
+one_rewriting laws choice again file elf other plan plan' image image' same is h k =
+    one_chosen laws choice file elf plan plan' image image' h
+    (subst (λ b. IsRewritingOf b file elf plan' image') (sym same)
+    (subst (λ e. IsRewritingOf again file e plan' image') (sym is) k))
+
+pub one_image : HaveRecordLaws → (choice again : Choice) (file : List ℕ) (elf other : Elf)
+    (plan plan' : List PlanEntry) (image image' : List Cell) → choice ≡ again → elf ≡ other
+    → IsRewritingOf choice file elf plan image → IsRewritingOf again file other plan' image'
     → image ≡ image'
-one_image laws batches again file elf other plan plan' image image' same is h k =
+one_image laws choice again file elf other plan plan' image image' same is h k =
     ap (λ (p : Parts). p.image)
-    (one_rewriting laws batches again file elf other plan plan' image image' same is h k)
+    (one_rewriting laws choice again file elf other plan plan' image image' same is h k)
 
 pub one_list : (elf : Elf) (shared others : List Lines) → AreSharedRanges elf shared
     → AreSharedRanges elf others → All HasLines shared → All HasLines others → shared ≡ others
@@ -155,8 +173,10 @@ module _ (laws : HaveRecordLaws) (inputs : Inputs) where
       let same : kept ≡ kept' = one_text laws kept kept' inputs.text h.text k.text in
       let is : elf ≡ elf' =
       one_elf inputs.executable elf elf' h.rewritten.executable.reads k.rewritten.executable.reads in
-      let parts = one_rewriting laws kept.batch kept'.batch inputs.executable elf elf' plan plan'
-      work.image work'.image (ap (λ (r : Record). r.batch) same) is h.rewritten k.rewritten in
+      let parts = one_rewriting laws (choice_of kept.batch inputs.verified)
+      (choice_of kept'.batch inputs.verified) inputs.executable elf elf' plan plan' work.image
+      work'.image (ap (λ (r : Record). choice_of r.batch inputs.verified) same) is h.rewritten
+      k.rewritten in
       let layout : work.layout ≡ work'.layout =
       one_layout elf elf' kept kept' work.layout work'.layout is same h.laid_out k.laid_out h.valid
       k.valid in
@@ -219,17 +239,20 @@ module _ (laws : HaveRecordLaws) (ran : Inputs) (nodes budget : ℕ) (work : Wor
   one_number : (named : ℕ) → Some (length work.image) ≡ Some named → named ≡ length work.image
   one_number named is = cc
 
-  -- so a replay of files that have it, and the same executable, has the same outcome
+  -- so a replay of files that have it, and the same executable and verified file, has the same
+  -- outcome
   pub told_again : (inputs : Inputs) → inputs.executable ≡ ran.executable
-      → inputs.text ≡ record_text kept → IsOutcomeOfReplay inputs o
-  told_again inputs executable recorded =
+      → inputs.verified ≡ ran.verified → inputs.text ≡ record_text kept
+      → IsOutcomeOfReplay inputs o
+  told_again inputs executable verified recorded =
       let again = laws.again work end own kept h.of_code.runs h.of_code.stands h.of_code.over
       journals_kept in
-      let code : IsRunOfCode ran.batches inputs.executable h.elf h.plan work (map what_told again.0) o =
-      subst (λ f. IsRunOfCode ran.batches f h.elf h.plan work (map what_told again.0) o)
-      (sym executable)
-      (subst (λ events. IsRunOfCode ran.batches ran.executable h.elf h.plan work events o)
-      (sym again.2) h.of_code) in
+      let choice = choice_of ran.batches inputs.verified in
+      let code : IsRunOfCode choice inputs.executable h.elf h.plan work (map what_told again.0) o =
+      subst (λ f. IsRunOfCode choice f h.elf h.plan work (map what_told again.0) o) (sym executable)
+      (subst (λ events. IsRunOfCode choice ran.executable h.elf h.plan work events o) (sym again.2)
+      (subst (λ v. IsRunOfCode (choice_of ran.batches v) ran.executable h.elf h.plan work own o)
+      (sym verified) h.of_code)) in
       record {
         kept = kept;
         elf = h.elf;
@@ -253,23 +276,24 @@ module _ (laws : HaveRecordLaws) (ran : Inputs) (nodes budget : ℕ) (work : Wor
 
 pub replay_of_run : HaveRecordLaws → (ran inputs : Inputs) (nodes budget : ℕ)
     (held : Option (List ℕ)) (o : Outcome) → held ≡ Some inputs.text
-    → inputs.executable ≡ ran.executable → IsOutcomeRecorded ran nodes budget held o
-    → IsOutcomeOfReplay inputs o
-replay_of_run laws ran inputs nodes budget held o is executable h =
+    → inputs.executable ≡ ran.executable → inputs.verified ≡ ran.verified
+    → IsOutcomeRecorded ran nodes budget held o → IsOutcomeOfReplay inputs o
+replay_of_run laws ran inputs nodes budget held o is executable verified h =
     let recorded : IsOutcomeRecorded ran nodes budget (Some inputs.text) o =
     subst (λ x. IsOutcomeRecorded ran nodes budget x o) is h in
     told_again laws ran nodes budget recorded.work recorded.own o recorded.is_run inputs executable
-    recorded.is_recorded
+    verified recorded.is_recorded
 
 pub same_text : HaveRecordLaws → (ran inputs : Inputs) (nodes budget : ℕ)
     (held : Option (List ℕ)) (brief short : Bool) (text again : List ℕ) (status other : ℕ)
-    → held ≡ Some inputs.text → inputs.executable ≡ ran.executable → short ≡ brief
+    → held ≡ Some inputs.text → inputs.executable ≡ ran.executable
+    → inputs.verified ≡ ran.verified → short ≡ brief
     → IsTextWith (IsOutcomeRecorded ran nodes budget held) brief text status
     → IsTextWith (IsOutcomeOfReplay inputs) short again other
     → (again ≡ text) × (other ≡ status)
-same_text laws ran inputs nodes budget held brief short text again status other is executable flag h k =
+same_text laws ran inputs nodes budget held brief short text again status other is executable verified flag h k =
     let same : k.outcome ≡ h.outcome = one_outcome laws inputs k.outcome h.outcome k.is
-    (replay_of_run laws ran inputs nodes budget held h.outcome is executable h.is) in (
+    (replay_of_run laws ran inputs nodes budget held h.outcome is executable verified h.is) in (
       k.text_is ∙ ap (λ o. text_of (outcomes.told short o)) same
           ∙ ap (λ b. text_of (outcomes.told b h.outcome)) flag ∙ sym h.text_is,
       k.status_is ∙ ap (λ o. status_of o) same ∙ sym h.status_is,

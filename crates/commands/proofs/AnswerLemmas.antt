@@ -37,14 +37,14 @@ pub is_low : (c : Command) (files : FilesState) (inputs : Inputs) (text : List �
     (status : ℕ) → IsText c files inputs text status → status ≤ 1
 is_low (Rewrite input output no_batch) files inputs text status h =
     let zero = h.status_is in omega (arith, zero)
-is_low (Run file nodes budget record_file code layout brief no_batch) files inputs text status h =
+is_low (Run file nodes budget record_file code verified layout brief no_batch) files inputs text status h =
     subst (λ s. s ≤ 1) (sym h.status_is) (low_status _)
 is_low (One file nodes order budget layout) files inputs text status h =
     subst (λ s. s ≤ 1) (sym h.status_is) (low_status _)
-is_low (Sim file nodes order budget code layout brief no_batch) files inputs text status h =
+is_low (Sim file nodes order budget code verified layout brief no_batch) files inputs text status h =
     subst (λ s. s ≤ 1) (sym h.status_is) (low_status _)
 is_low (Listing file) files inputs text status h = let zero = h.1 in omega (arith, zero)
-is_low (Replay file record_file brief) files inputs text status h =
+is_low (Replay file verified record_file brief) files inputs text status h =
     subst (λ s. s ≤ 1) (sym h.status_is) (low_status _)
 is_low (Generate number output) files inputs text status h =
     let zero = h.1 in omega (arith, zero)

@@ -6,32 +6,43 @@ use Rattle.dsm_io.specs.States.{FilesState}
 use Rattle.command_line.specs.Commands.{Command, Rewrite, Run, Listing, One, Sim, Replay, Generate, Assemble, reads}
 use Rattle.commands.specs.Answers.{file_limit}
 use Rattle.commands.specs.Failures.{AreBytes, AreContents, AreInputs, AreRead, IsContent}
-use Rattle.commands.specs.Inputs.{Inputs, input_of, code_of, layout_of, text_file_of, bytes_in}
+use Rattle.commands.specs.Inputs.{Inputs, input_of, code_of, verified_of, layout_of, text_file_of, bytes_in}
 
 -- the file of a name that may be left out
 abbrev pub named : Option (List ℕ) → List (List ℕ)
 named None = []
 named (Some name) = name ∷ []
 
--- a command reads its executable, its code, its layout, and its record or its assembly text
+-- a command reads its executable, its record or its assembly text, its code, its verified file and
+-- its layout
 abbrev files_of : Command → List (List ℕ)
 files_of c =
-    named (input_of c) ++ (named (code_of c) ++ (named (layout_of c) ++ named (text_file_of c)))
+    named (input_of c) ++ (named (text_file_of c)
+    ++ (named (code_of c) ++ (named (verified_of c) ++ named (layout_of c))))
 
 reads_are : (c : Command) → reads c ≡ files_of c
 reads_are (Rewrite input output no_batch) = refl
-reads_are (Run file nodes budget record_file None None brief no_batch) = refl
-reads_are (Run file nodes budget record_file None (Some layout) brief no_batch) = refl
-reads_are (Run file nodes budget record_file (Some code) None brief no_batch) = refl
-reads_are (Run file nodes budget record_file (Some code) (Some layout) brief no_batch) = refl
+reads_are (Run file nodes budget record_file None None None brief no_batch) = refl
+reads_are (Run file nodes budget record_file None None (Some layout) brief no_batch) = refl
+reads_are (Run file nodes budget record_file None (Some verified) None brief no_batch) = refl
+reads_are (Run file nodes budget record_file None (Some verified) (Some layout) brief no_batch) = refl
+reads_are (Run file nodes budget record_file (Some code) None None brief no_batch) = refl
+reads_are (Run file nodes budget record_file (Some code) None (Some layout) brief no_batch) = refl
+reads_are (Run file nodes budget record_file (Some code) (Some verified) None brief no_batch) = refl
+reads_are (Run file nodes budget record_file (Some code) (Some verified) (Some layout) brief no_batch) = refl
 reads_are (Listing file) = refl
 reads_are (One file nodes order budget None) = refl
 reads_are (One file nodes order budget (Some layout)) = refl
-reads_are (Sim file nodes order budget None None brief no_batch) = refl
-reads_are (Sim file nodes order budget None (Some layout) brief no_batch) = refl
-reads_are (Sim file nodes order budget (Some code) None brief no_batch) = refl
-reads_are (Sim file nodes order budget (Some code) (Some layout) brief no_batch) = refl
-reads_are (Replay file record_file brief) = refl
+reads_are (Sim file nodes order budget None None None brief no_batch) = refl
+reads_are (Sim file nodes order budget None None (Some layout) brief no_batch) = refl
+reads_are (Sim file nodes order budget None (Some verified) None brief no_batch) = refl
+reads_are (Sim file nodes order budget None (Some verified) (Some layout) brief no_batch) = refl
+reads_are (Sim file nodes order budget (Some code) None None brief no_batch) = refl
+reads_are (Sim file nodes order budget (Some code) None (Some layout) brief no_batch) = refl
+reads_are (Sim file nodes order budget (Some code) (Some verified) None brief no_batch) = refl
+reads_are (Sim file nodes order budget (Some code) (Some verified) (Some layout) brief no_batch) = refl
+reads_are (Replay file None record_file brief) = refl
+reads_are (Replay file (Some verified) record_file brief) = refl
 reads_are (Generate number output) = refl
 reads_are (Assemble text output) = refl
 
@@ -51,60 +62,79 @@ pub of_named : (o : Option (List ℕ)) (name : List ℕ) → Contains (named o) 
 of_named None name h = absurd (omega (arith, h.1))
 of_named (Some other) name h = ap Some (sym (only_of other name h))
 
+-- the files behind the code, behind the record, and behind the executable
+abbrev behind_code : Command → List (List ℕ)
+behind_code c = named (verified_of c) ++ named (layout_of c)
+
+abbrev behind_text : Command → List (List ℕ)
+behind_text c = named (code_of c) ++ behind_code c
+
+abbrev behind_input : Command → List (List ℕ)
+behind_input c = named (text_file_of c) ++ behind_text c
+
+read_of : (c : Command) (name : List ℕ) → Contains (named (input_of c) ++ behind_input c) name
+    → Contains (reads c) name
+read_of c name h = subst (λ ns. Contains ns name) (sym (reads_are c)) h
+
 pub reads_input : (c : Command) (name : List ℕ) → input_of c ≡ Some name → Contains (reads c) name
 reads_input c name e =
-    subst (λ ns. Contains ns name) (sym (reads_are c))
-    (Contains-append_left (named (input_of c))
-    (named (code_of c) ++ (named (layout_of c) ++ named (text_file_of c))) name
+    read_of c name (Contains-append_left (named (input_of c)) (behind_input c) name
     (among (input_of c) name e))
-
--- behind its executable
-reads_behind : (c : Command) (name : List ℕ)
-    → Contains (named (code_of c) ++ (named (layout_of c) ++ named (text_file_of c))) name
-    → Contains (reads c) name
-reads_behind c name h =
-    subst (λ ns. Contains ns name) (sym (reads_are c))
-    (Contains-append_right (named (input_of c))
-    (named (code_of c) ++ (named (layout_of c) ++ named (text_file_of c))) name h)
-
-pub reads_code : (c : Command) (name : List ℕ) → code_of c ≡ Some name → Contains (reads c) name
-reads_code c name e =
-    reads_behind c name (Contains-append_left (named (code_of c))
-    (named (layout_of c) ++ named (text_file_of c)) name (among (code_of c) name e))
-
-pub reads_layout : (c : Command) (name : List ℕ) → layout_of c ≡ Some name → Contains (reads c) name
-reads_layout c name e =
-    reads_behind c name (Contains-append_right (named (code_of c))
-    (named (layout_of c) ++ named (text_file_of c)) name
-    (Contains-append_left (named (layout_of c)) (named (text_file_of c)) name
-    (among (layout_of c) name e)))
 
 pub reads_text : (c : Command) (name : List ℕ) → text_file_of c ≡ Some name
     → Contains (reads c) name
 reads_text c name e =
-    reads_behind c name (Contains-append_right (named (code_of c))
-    (named (layout_of c) ++ named (text_file_of c)) name
-    (Contains-append_right (named (layout_of c)) (named (text_file_of c)) name
+    read_of c name (Contains-append_right (named (input_of c)) (behind_input c) name
+    (Contains-append_left (named (text_file_of c)) (behind_text c) name
     (among (text_file_of c) name e)))
+
+-- behind its record
+reads_behind : (c : Command) (name : List ℕ) → Contains (behind_text c) name
+    → Contains (reads c) name
+reads_behind c name h =
+    read_of c name (Contains-append_right (named (input_of c)) (behind_input c) name
+    (Contains-append_right (named (text_file_of c)) (behind_text c) name h))
+
+pub reads_code : (c : Command) (name : List ℕ) → code_of c ≡ Some name → Contains (reads c) name
+reads_code c name e =
+    reads_behind c name (Contains-append_left (named (code_of c)) (behind_code c) name
+    (among (code_of c) name e))
+
+pub reads_verified : (c : Command) (name : List ℕ) → verified_of c ≡ Some name
+    → Contains (reads c) name
+reads_verified c name e =
+    reads_behind c name (Contains-append_right (named (code_of c)) (behind_code c) name
+    (Contains-append_left (named (verified_of c)) (named (layout_of c)) name
+    (among (verified_of c) name e)))
+
+pub reads_layout : (c : Command) (name : List ℕ) → layout_of c ≡ Some name → Contains (reads c) name
+reads_layout c name e =
+    reads_behind c name (Contains-append_right (named (code_of c)) (behind_code c) name
+    (Contains-append_right (named (verified_of c)) (named (layout_of c)) name
+    (among (layout_of c) name e)))
 
 -- and nothing else
 abbrev IsRead : Command → List ℕ → Type 0
-IsRead c name = (input_of c ≡ Some name)
-    ⊎ ((code_of c ≡ Some name) ⊎ ((layout_of c ≡ Some name) ⊎ (text_file_of c ≡ Some name)))
+IsRead c name = (input_of c ≡ Some name) ⊎ ((text_file_of c ≡ Some name) ⊎ ((code_of c ≡ Some name)
+    ⊎ ((verified_of c ≡ Some name) ⊎ (layout_of c ≡ Some name))))
 
 reads_only : (c : Command) (name : List ℕ) → Contains (reads c) name → IsRead c name
 reads_only c name h =
-    elim (Contains-append_cases (named (input_of c))
-    (named (code_of c) ++ (named (layout_of c) ++ named (text_file_of c))) name
+    elim (Contains-append_cases (named (input_of c)) (behind_input c) name
     (subst (λ ns. Contains ns name) (reads_are c) h)) [
       | inl first ↦ inl (of_named (input_of c) name first)
-      | inr more ↦ inr (elim (Contains-append_cases (named (code_of c))
-          (named (layout_of c) ++ named (text_file_of c)) name more) [
-            | inl k ↦ inl (of_named (code_of c) name k)
-            | inr last ↦ inr (elim (Contains-append_cases (named (layout_of c)) (named (text_file_of c))
-                name last) [
-                  | inl k ↦ inl (of_named (layout_of c) name k)
-                  | inr k ↦ inr (of_named (text_file_of c) name k)
+      | inr more ↦ inr (
+          elim (Contains-append_cases (named (text_file_of c)) (behind_text c) name more) [
+            | inl k ↦ inl (of_named (text_file_of c) name k)
+            | inr rest ↦ inr (
+                elim (Contains-append_cases (named (code_of c)) (behind_code c) name rest) [
+                  | inl k ↦ inl (of_named (code_of c) name k)
+                  | inr last ↦ inr (
+                      elim (Contains-append_cases (named (verified_of c)) (named (layout_of c)) name
+                      last) [
+                        | inl k ↦ inl (of_named (verified_of c) name k)
+                        | inr k ↦ inr (of_named (layout_of c) name k)
+                      ])
                 ])
           ])
     ]
@@ -133,10 +163,11 @@ bytes_are files contents None bytes h told = h
 bytes_are files contents (Some name) bytes h told =
     content_is (files.held name) bytes (contents name) h (told name refl)
 
-abbrev inputs : List ℕ → Option (List ℕ) → Option (List ℕ) → List ℕ → Bool → Inputs
-inputs executable code layout text batches = record {
+abbrev inputs : List ℕ → (code verified layout : Option (List ℕ)) → List ℕ → Bool → Inputs
+inputs executable code verified layout text batches = record {
   executable = executable;
   code = code;
+  verified = verified;
   layout = layout;
   text = text;
   batches = batches;
@@ -149,19 +180,23 @@ inputs_read c files i h contents told =
     (λ name e. told name (reads_input c name e)) in
     let two = named_is files contents (code_of c) i.code h.code
     (λ name e. told name (reads_code c name e)) in
-    let three = named_is files contents (layout_of c) i.layout h.layout
+    let three = named_is files contents (verified_of c) i.verified h.verified
+    (λ name e. told name (reads_verified c name e)) in
+    let four = named_is files contents (layout_of c) i.layout h.layout
     (λ name e. told name (reads_layout c name e)) in
-    let four = bytes_are files contents (text_file_of c) i.text h.text
+    let five = bytes_are files contents (text_file_of c) i.text h.text
     (λ name e. told name (reads_text c name e)) in
     let first = bytes_in contents (input_of c) in
     let second = option_map contents (code_of c) in
-    let third = option_map contents (layout_of c) in
-    let fourth = bytes_in contents (text_file_of c) in
-    ap (λ x. inputs x i.code i.layout i.text i.batches) one
-    ∙ ap (λ x. inputs first x i.layout i.text i.batches) two
-    ∙ ap (λ x. inputs first second x i.text i.batches) three
-    ∙ ap (λ x. inputs first second third x i.batches) four
-    ∙ ap (λ x. inputs first second third fourth x) h.batches
+    let third = option_map contents (verified_of c) in
+    let fourth = option_map contents (layout_of c) in
+    let fifth = bytes_in contents (text_file_of c) in
+    ap (λ x. inputs x i.code i.verified i.layout i.text i.batches) one
+    ∙ ap (λ x. inputs first x i.verified i.layout i.text i.batches) two
+    ∙ ap (λ x. inputs first second x i.layout i.text i.batches) three
+    ∙ ap (λ x. inputs first second third x i.text i.batches) four
+    ∙ ap (λ x. inputs first second third fourth x i.batches) five
+    ∙ ap (λ x. inputs first second third fourth fifth x) h.batches
 
 -- no file that was read is too long
 short_content : (o : Option (List ℕ)) (bytes content : List ℕ) → IsContent o bytes
@@ -197,9 +232,12 @@ pub none_long : (c : Command) (files : FilesState) (i : Inputs) (name content : 
     → file_limit < length content → ⊥
 none_long c files i name content h there is long = elim (reads_only c name there) [
   | inl e ↦ short_bytes files (input_of c) i.executable name content h.executable e is long
-  | inr (inl e) ↦ short_named files (code_of c) i.code name content h.code e is long
-  | inr (inr (inl e)) ↦ short_named files (layout_of c) i.layout name content h.layout e is long
-  | inr (inr (inr e)) ↦ short_bytes files (text_file_of c) i.text name content h.text e is long
+  | inr (inl e) ↦ short_bytes files (text_file_of c) i.text name content h.text e is long
+  | inr (inr (inl e)) ↦ short_named files (code_of c) i.code name content h.code e is long
+  | inr (inr (inr (inl e))) ↦
+      short_named files (verified_of c) i.verified name content h.verified e is long
+  | inr (inr (inr (inr e))) ↦
+      short_named files (layout_of c) i.layout name content h.layout e is long
 ]
 
 -- files are read after others, which leaves what each holds

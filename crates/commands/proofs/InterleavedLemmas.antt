@@ -24,6 +24,7 @@ use Rattle.rewriting_law.specs.Interleaving.{EndsAs, original_by_node, original_
 use Rattle.dsm_io.specs.States.{FilesState, SinkState}
 use Rattle.command_line.specs.Commands.{Command, Rewrite, Run, Listing, One, Sim, Replay, Generate, Assemble}
 use Rattle.commands.specs.Headline.{IsOutcomeByOrder, IsRunOf, IsText, Prints}
+use Rattle.commands.specs.Code.{Choice, choice_of}
 use Rattle.commands.specs.Inputs.{Inputs, inputs_of}
 use Rattle.commands.specs.Interleaved.{IsInterleaved, IsLayoutGiven, IsSomeLayout, IsTextOfOriginal, PrintsOriginal, TellsOfOriginal}
 use Rattle.commands.specs.Outcomes.{IsRunOfCode, IsWholeRun, told}
@@ -98,12 +99,12 @@ text_as : (brief : Bool) (o : Outcome)
 text_as true o = refl
 text_as false o = refl
 
-of_code : (batches : Bool) (file : List ℕ) (elf : Elf) (plan : List PlanEntry) (work : Work)
+of_code : (choice : Choice) (file : List ℕ) (elf : Elf) (plan : List PlanEntry) (work : Work)
     (own : List Stamped) (o : Outcome) (IsLaidOut : Elf → Shape → Type 0) (nodes budget : ℕ)
-    (brief : Bool) (text : List ℕ) → IsRunOfCode batches file elf plan work own o
+    (brief : Bool) (text : List ℕ) → IsRunOfCode choice file elf plan work own o
     → IsLaidOut elf work.layout → work.layout.nodes ≡ nodes → work.budget ≡ budget
     → text ≡ text_of (told brief o) → TellsOfOriginal file IsLaidOut nodes budget text
-of_code batches file elf plan work own o IsLaidOut nodes budget brief text code laid n b is = record {
+of_code choice file elf plan work own o IsLaidOut nodes budget brief text code laid n b is = record {
   elf = elf;
   executable = code.rewritten.executable;
   layout = work.layout;
@@ -121,8 +122,8 @@ of_run : (inputs : Inputs) (nodes budget : ℕ) (work : Work) (own : List Stampe
     → text ≡ text_of (told brief o)
     → TellsOfOriginal inputs.executable (IsLayoutGiven inputs nodes) nodes budget text
 of_run inputs nodes budget work own o brief text h is =
-    of_code inputs.batches inputs.executable h.elf h.plan work own o (IsLayoutGiven inputs nodes)
-    nodes budget brief text h.of_code h.laid_out h.count h.limit is
+    of_code (choice_of inputs.batches inputs.verified) inputs.executable h.elf h.plan work own o
+    (IsLayoutGiven inputs nodes) nodes budget brief text h.of_code h.laid_out h.count h.limit is
 
 -- ---- runs by an order
 
@@ -201,21 +202,22 @@ by_order inputs nodes order budget o text h is =
 tells : (c : Command) (files : FilesState) (inputs : Inputs) (text : List ℕ)
     (status : ℕ) → IsText c files inputs text status → IsTextOfOriginal c inputs text
 tells (Rewrite input output no_batch) files inputs text status h = tt
-tells (Run file nodes budget record_file code layout brief no_batch) files inputs text status h =
+tells (Run file nodes budget record_file code verified layout brief no_batch) files inputs text status h =
     of_run inputs nodes budget h.is.work h.is.own h.outcome brief text h.is.is_run h.text_is
 tells (One file nodes order budget layout) files inputs text status h =
     by_order inputs nodes order budget h.outcome text h.is h.text_is
-tells (Sim file nodes order budget code layout brief no_batch) files inputs text status h =
+tells (Sim file nodes order budget code verified layout brief no_batch) files inputs text status h =
     of_run inputs nodes budget h.is.work h.is.own h.outcome brief text h.is.is_run h.text_is
 tells (Listing file) files inputs text status h = tt
-tells (Replay file record_file brief) files inputs text status h =
+tells (Replay file verified record_file brief) files inputs text status h =
     let work = h.is.work in
     let laid = h.is.asked.laid_out in
     let same = laid.layout_is in
     let shared : work.layout.shared ≡ laid.shared = ap (λ (s : Shape). s.shared) same in (
       work.layout.nodes,
       work.budget,
-      of_code h.is.kept.batch inputs.executable h.is.elf h.is.plan work _ h.outcome IsSomeLayout
+      of_code (choice_of h.is.kept.batch inputs.verified) inputs.executable h.is.elf h.is.plan work _
+          h.outcome IsSomeLayout
           work.layout.nodes work.budget brief text h.is.of_code
           (subst (AreSharedRanges h.is.elf) (sym shared) laid.lines, h.is.asked.valid)
           refl refl h.text_is,

@@ -15,7 +15,11 @@ use Rattle.block_layout.specs.declared.refused.Rule.{Rule}
 use Rattle.templates.specs.declared.plans.PlanEntry.{PlanEntry}
 use Rattle.templates.specs.WholePlan.{IsPlanOf}
 use Rattle.jump_map.specs.Image.{Cell, IsRewriting, image_words, most_words, read_cell}
+use Rattle.rewriter.specs.RewrittenFile.{rewritten_elf}
 use Rattle.rewriter.specs.TooLarge.{IsTooLarge}
+use Rattle.rewrite_verify.specs.Refusals as verify
+use Rattle.rewrite_verify.specs.declared.refused.VerifyRefused.{VerifyRefused}
+use Rattle.rewrite_verify.specs.declared.refused.VerifyRefused.TheVariants.{OutOfMemory}
 use Rattle.node_model.specs.Node.{Work}
 use Rattle.node_model.specs.Outcome.{Outcome}
 use Rattle.run_record.specs.declared.Record.{Record}
@@ -28,10 +32,10 @@ use Rattle.replay.specs.declared.refused.ReplayRule.{ReplayRule}
 use Rattle.replay.specs.Refusals as events
 use Rattle.replay.specs.Replay.{TellsWholeRun}
 use Rattle.replay.specs.Told.{Told}
-use Rattle.commands.specs.Code.{IsRewritingOf}
-use Rattle.commands.specs.Executables.{IsUnaccepted, HasLongCode, ReadsAs}
+use Rattle.commands.specs.Code.{Choice, Planned, Verified, choice_of, IsRewritingOf, IsUnchosen}
+use Rattle.commands.specs.Executables.{IsUnaccepted, ReadsAs}
 use Rattle.commands.specs.Inputs.{Inputs}
-use Rattle.commands.specs.Replays.{AreFaultyBlocks, HasLongReplay, IsBadRecord, IsBadReplayLayout, IsBrokenRecord, IsBrokenRun, IsFaultyText, IsLayoutOfBlocks, IsNoRecord, IsNoRecordOfCode, IsOutcomeOfReplay, IsReplayRefused, IsTextOf, IsWorkOf}
+use Rattle.commands.specs.Replays.{AreFaultyBlocks, IsBadRecord, IsBadReplayLayout, IsBrokenRecord, IsBrokenRun, IsFaultyText, IsLayoutOfBlocks, IsNoRecord, IsNoRecordOfCode, IsOutcomeOfReplay, IsReplayRefused, IsTextOf, IsWorkOf}
 use Rattle.commands.proofs.AgainLemmas.{HaveRecordLaws, one_elf, one_image, one_list, one_text, one_work, shared_some}
 use Rattle.commands.proofs.SharedRanges.{HasLines}
 
@@ -39,6 +43,9 @@ use Rattle.commands.proofs.SharedRanges.{HasLines}
 pub record HaveFaultLaws : Type 0 where
   pub plans : (batches : Bool) (program : Program) (plan other : List PlanEntry)
       → IsPlanOf batches program.code plan → IsPlanOf batches program.code other → plan ≡ other
+  pub verified : (original e : Elf) (plan : List PlanEntry) (image : List Cell) (r : VerifyRefused)
+      → IsRewriting (program_of original) plan image → e ≡ rewritten_elf original image plan
+      → verify.Fits original e r → r ≡ OutOfMemory
   pub texts : (r : Record) (rule : RecordRule) (line : ℕ) → IsRecord r → IsOfWords r
       → IsFirstFault (record_text r) rule line → ⊥
   pub ranges : (ranges : List BlockRange) (shared : List Lines) (n : ℕ) (rule : Rule) (number : ℕ)
@@ -51,30 +58,41 @@ pub record HaveFaultLaws : Type 0 where
 
 -- ---- the executable
 
-taken_file : (batches : Bool) (file : List ℕ) (elf : Elf) (plan : List PlanEntry) (image : List Cell)
-    (line : List ℕ) → IsRewritingOf batches file elf plan image → IsUnaccepted file line → ⊥
-taken_file batches file elf plan image line h (inl unread) =
+taken_file : (choice : Choice) (file : List ℕ) (elf : Elf) (plan : List PlanEntry) (image : List Cell)
+    (line : List ℕ) → IsRewritingOf choice file elf plan image → IsUnaccepted file line → ⊥
+taken_file choice file elf plan image line h (inl unread) =
     h.executable.reads.0.no_rule unread.0 unread.1.fits
-taken_file batches file elf plan image line h (inr k) =
+taken_file choice file elf plan image line h (inr k) =
     let other : Elf = k.0 in
     let reads : ReadsAs file other = k.1 in
     let is : other ≡ elf = one_elf file other elf reads h.executable.reads in
     h.executable.accepted.no_rule k.2.0 (subst (λ e. Fits e k.2.0) is k.2.1.fits)
 
-taken_code : HaveFaultLaws → (batches : Bool) (file : List ℕ) (elf : Elf) (plan : List PlanEntry)
-    (image : List Cell) (words : ℕ) → IsRewritingOf batches file elf plan image
-    → IsTooLarge batches (program_of elf) words → ⊥
-taken_code faults batches file elf plan image words h k =
+taken_code : HaveFaultLaws → (batches : Bool) (elf : Elf) (plan : List PlanEntry)
+    (image : List Cell) (words : ℕ) → IsPlanOf batches (program_of elf).code plan
+    → IsRewriting (program_of elf) plan image → IsTooLarge batches (program_of elf) words → ⊥
+taken_code faults batches elf plan image words the_plan rewriting k =
     let program : Program = program_of elf in
-    let same : k.plan ≡ plan = faults.plans batches program k.plan plan k.is_plan h.the_plan in
+    let same : k.plan ≡ plan = faults.plans batches program k.plan plan k.is_plan the_plan in
     let count : words ≡ length (image_words program plan) =
     k.many.count ∙ ap (λ p. length (image_words program p)) same in
-    let expansion = h.rewriting.expansion in
+    let expansion = rewriting.expansion in
     let cells : length (image_words program plan) ≡ length image =
     sym (ap length expansion.words) ∙ length-map image read_cell in
     let few = expansion.few in
     let many = k.many.many in
     omega (arith, count, cells, few, many)
+
+taken_choice : HaveFaultLaws → (choice : Choice) (file : List ℕ) (elf : Elf)
+    (plan : List PlanEntry) (image : List Cell) (line : List ℕ)
+    → IsRewritingOf choice file elf plan image → IsUnchosen choice elf line → ⊥
+taken_choice faults (Planned batches) file elf plan image line h k =
+    taken_code faults batches elf plan image k.0 h.chosen h.rewriting k.1
+taken_choice faults (Verified verified) file elf plan image line h (inl unread) =
+    h.chosen.0.no_rule unread.0 unread.1.fits
+taken_choice faults (Verified verified) file elf plan image line h (inr k) =
+    k.is_reason (faults.verified elf k.elf plan image k.refused h.rewriting
+    (one_elf verified k.elf (rewritten_elf elf image plan) k.reads h.chosen) k.fits)
 
 -- ---- the record's blocks
 
@@ -107,14 +125,14 @@ module _ (laws : HaveRecordLaws) (faults : HaveFaultLaws) (inputs : Inputs) (o :
 
   taken_rewriting : IsReplayRefused inputs line → ⊥
   taken_rewriting (inl k) =
-      taken_file h.kept.batch inputs.executable h.elf h.plan h.work.image line h.asked.rewritten k
+      taken_file (choice_of h.kept.batch inputs.verified) inputs.executable h.elf h.plan h.work.image
+      line h.asked.rewritten k
   taken_rewriting (inr k) =
-      let words : ℕ = k.long.0 in
-      taken_code faults h.kept.batch inputs.executable h.elf h.plan h.work.image words
-      h.asked.rewritten
-      (subst (λ e. IsTooLarge h.kept.batch (program_of e) words) (same_elf k.elf k.executable.reads)
-      (subst (λ r. IsTooLarge r.batch (program_of k.elf) words) (same_record k.kept k.text)
-      k.long.1))
+      let choice = choice_of h.kept.batch inputs.verified in
+      taken_choice faults choice inputs.executable h.elf h.plan h.work.image line h.asked.rewritten
+      (subst (λ e. IsUnchosen choice e line) (same_elf k.elf k.executable.reads)
+      (subst (λ r. IsUnchosen (choice_of r.batch inputs.verified) k.elf line)
+      (same_record k.kept k.text) k.unchosen))
 
   taken_layout : IsBadReplayLayout inputs line → ⊥
   taken_layout k =
@@ -129,8 +147,10 @@ module _ (laws : HaveRecordLaws) (faults : HaveFaultLaws) (inputs : Inputs) (o :
       (subst (λ t. IsFirstFault t k.faulty.rule k.faulty.number) text.text_is k.faulty.fault)
   taken_record (inr (inl k)) =
       let same : k.kept ≡ h.kept = same_record k.kept k.text in
-      let image : k.image ≡ h.work.image = one_image laws k.kept.batch h.kept.batch inputs.executable
-      k.elf h.elf k.plan h.plan k.image h.work.image (ap (λ (r : Record). r.batch) same)
+      let image : k.image ≡ h.work.image = one_image laws
+      (choice_of k.kept.batch inputs.verified) (choice_of h.kept.batch inputs.verified)
+      inputs.executable k.elf h.elf k.plan h.plan k.image h.work.image
+      (ap (λ (r : Record). choice_of r.batch inputs.verified) same)
       (same_elf k.elf k.rewritten.executable.reads) k.rewritten h.asked.rewritten in
       h.asked.same_code (subst (λ (i : List Cell). NamesOtherCode h.kept (length i)) image
       (subst (λ r. NamesOtherCode r (length k.image)) same k.other.other))

@@ -78,15 +78,15 @@ record_held inputs nodes budget held o h =
       bytes_are = is;
     }) h.is_recorded
 
-module _ (file : List ℕ) (nodes budget : ℕ) (o : Option (List ℕ)) (code layout : Option (List ℕ))
-    (brief no_batch : Bool) where
+module _ (file : List ℕ) (nodes budget : ℕ) (o : Option (List ℕ))
+    (code verified layout : Option (List ℕ)) (brief no_batch : Bool) where
   abbrev asked : Command
-  asked = Run file nodes budget o code layout brief no_batch
+  asked = Run file nodes budget o code verified layout brief no_batch
 
   writes_are : writes asked ≡ named o
   writes_are = go o
     where
-      go : (x : Option (List ℕ)) → writes (Run file nodes budget x code layout brief no_batch) ≡ named x
+      go : (x : Option (List ℕ)) → writes (Run file nodes budget x code verified layout brief no_batch) ≡ named x
       go None = refl
       go (Some name) = refl
 

@@ -1,5 +1,5 @@
 -- A record's run, made once more.
-use Rattle.std.proofs.Common.{◌≡◌, ℕ, ◌<◌, ◌≤◌, ◌^◌, Bool, List, map, length, refl, sym, ap, ◌∙◌, subst, inl, inr}
+use Rattle.std.proofs.Common.{◌≡◌, ℕ, ◌<◌, ◌≤◌, ◌^◌, Bool, List, Option, map, length, refl, sym, ap, ◌∙◌, subst, inl, inr}
 use Rattle.std.specs.Prelude.{IfErr, Result, Ok, Err}
 use Rattle.elf32_read.specs.Elf.{Elf}
 use Rattle.rv32_program.specs.Program.{IsAccepted}
@@ -21,6 +21,7 @@ use Rattle.commands.specs.declared.failure.Failure.TheVariants.{Input, NotWritte
 use Rattle.dsm_io.specs.States.{SinkState, FilesState}
 use Rattle.commands.specs.Failures.{FailsAs, IsPerformFailure, IsReadyFor, IsRecordRefusal, IsRefusal, IsReplayFailure, IsReplayRefusal}
 use Rattle.commands.specs.Headline.{IsTextWith}
+use Rattle.commands.specs.Code.{choice_of}
 use Rattle.commands.specs.Inputs.{Inputs}
 use Rattle.commands.specs.Replays.{IsBadRecord, IsBadReplayLayout, IsLayoutOfBlocks, IsOutcomeOfReplay, IsReplayRefused, IsTextOf}
 use Rattle.commands.proofs.RunLemmas.{AreReady, HaveLaws, gives_code}
@@ -81,24 +82,25 @@ unput_replay inputs brief before now Output h = h
 unput_replay inputs brief before now OutOfMemory h = h
 
 -- it is a failure of the command
-pub replay_fails : (file record_file : List ℕ) (brief : Bool) (inputs : Inputs) (fb fn : FilesState)
+pub replay_fails : (file : List ℕ) (verified : Option (List ℕ)) (record_file : List ℕ) (brief : Bool) (inputs : Inputs) (fb fn : FilesState)
     (before now : SinkState) (f : Failure) → IsReplayFailure inputs brief before now f
-    → IsPerformFailure (Replay file record_file brief) inputs fb fn before now f
-replay_fails file record_file brief inputs fb fn before now (Input line) h = h
-replay_fails file record_file brief inputs fb fn before now (NotWritten line) h = absurd h
-replay_fails file record_file brief inputs fb fn before now (Refused line) h = h
-replay_fails file record_file brief inputs fb fn before now (Layout line) h = h
-replay_fails file record_file brief inputs fb fn before now (Record line) h = h
-replay_fails file record_file brief inputs fb fn before now (Text line) h = absurd h
-replay_fails file record_file brief inputs fb fn before now Output h = h
-replay_fails file record_file brief inputs fb fn before now OutOfMemory h = h
+    → IsPerformFailure (Replay file verified record_file brief) inputs fb fn before now f
+replay_fails file verified record_file brief inputs fb fn before now (Input line) h = h
+replay_fails file verified record_file brief inputs fb fn before now (NotWritten line) h = absurd h
+replay_fails file verified record_file brief inputs fb fn before now (Refused line) h = h
+replay_fails file verified record_file brief inputs fb fn before now (Layout line) h = h
+replay_fails file verified record_file brief inputs fb fn before now (Record line) h = h
+replay_fails file verified record_file brief inputs fb fn before now (Text line) h = absurd h
+replay_fails file verified record_file brief inputs fb fn before now Output h = h
+replay_fails file verified record_file brief inputs fb fn before now OutOfMemory h = h
 
 -- ---- the run
 
 -- the work is what the record asks to be run
 pub ready_for : (inputs : Inputs) (kept : Kept) (elf : Elf) (plan : List PlanEntry)
     (image : List Cell) (layout : Shape) (budget : ℕ)
-    → AreReady kept.batch inputs.executable elf plan image layout → IsTextOf kept inputs.text
+    → AreReady (choice_of kept.batch inputs.verified) inputs.executable elf plan image layout
+    → IsTextOf kept inputs.text
     → (NamesOtherCode kept (length image) → ⊥) → IsLayoutOfBlocks elf kept layout → budget ≡ kept.budget → 0 < budget → budget ≤ 2 ^ 32
     → HaveLaws → IsReadyFor inputs kept (work_with elf image layout budget)
 ready_for inputs kept elf plan image layout budget ready text code laid_out limit some few laws = record {
@@ -113,7 +115,8 @@ ready_for inputs kept elf plan image layout budget ready text code laid_out limi
     valid = ready.valid;
     limit = limit;
   };
-  gives = gives_code kept.batch inputs.executable budget elf plan image layout ready some few laws;
+  gives = gives_code (choice_of kept.batch inputs.verified) inputs.executable budget elf plan image layout
+      ready some few laws;
 }
 
 pub outcome_of_replay : (inputs : Inputs) (kept : Kept) (work : Work) (o : Outcome)

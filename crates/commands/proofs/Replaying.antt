@@ -1,5 +1,5 @@
 -- A replay of the record that a run left, by the two commands.
-use Rattle.std.proofs.Common.{◌≡◌, ◌⊎◌, ℕ, Bool, List, Option, None, Some, refl, sym, ap, ◌∙◌, subst, inl, inr}
+use Rattle.std.proofs.Common.{◌≡◌, ◌⊎◌, ℕ, Bool, List, Option, None, Some, refl, sym, ap, option_map, ◌∙◌, subst, inl, inr}
 use Rattle.dsm_io.specs.Causes.{Appends, AppendsPrefix}
 use Rattle.dsm_io.specs.States.{FilesState, SinkState}
 use Rattle.command_line.specs.Commands.{Command, Rewrite, Run, Listing, One, Sim, Replay, Generate, Assemble}
@@ -14,36 +14,38 @@ module _ (contents later : List ℕ → List ℕ) (left : FilesState) where
   -- what holds of a run and a replay of the same executable and of what the run left
   abbrev Holds : (Command → Command → Type 0) → Type 0
   Holds P = (file name input record_file : List ℕ) (nodes budget : ℕ)
-      (code layout : Option (List ℕ)) (brief no_batch short : Bool) → later input ≡ contents file
+      (code verified again layout : Option (List ℕ)) (brief no_batch short : Bool)
+      → later input ≡ contents file → option_map later again ≡ option_map contents verified
       → left.held name ≡ Some (later record_file) → short ≡ brief
-      → P (Run file nodes budget (Some name) code layout brief no_batch)
-      (Replay input record_file short)
+      → P (Run file nodes budget (Some name) code verified layout brief no_batch)
+      (Replay input again record_file short)
 
   by_commands : (P : Command → Command → Type 0) → Holds P → (ran replay : Command)
       → IsReplayOf contents later left ran replay → P ran replay
-  by_commands P here (Run file nodes budget (Some name) code layout brief no_batch)
-      (Replay input record_file short) is =
-      here file name input record_file nodes budget code layout brief no_batch short is.0 is.1 is.2
-  by_commands P here (Run file nodes budget (Some name) code layout brief no_batch) (Rewrite a b d)
+  by_commands P here (Run file nodes budget (Some name) code verified layout brief no_batch)
+      (Replay input again record_file short) is =
+      here file name input record_file nodes budget code verified again layout brief no_batch short
+      is.0 is.1 is.2 is.3
+  by_commands P here (Run file nodes budget (Some name) code verified layout brief no_batch) (Rewrite a b d)
       is = absurd is
-  by_commands P here (Run file nodes budget (Some name) code layout brief no_batch)
-      (Run a b d e f g i j) is = absurd is
-  by_commands P here (Run file nodes budget (Some name) code layout brief no_batch) (Listing a) is =
+  by_commands P here (Run file nodes budget (Some name) code verified layout brief no_batch)
+      (Run a b d e f g i j k) is = absurd is
+  by_commands P here (Run file nodes budget (Some name) code verified layout brief no_batch) (Listing a) is =
       absurd is
-  by_commands P here (Run file nodes budget (Some name) code layout brief no_batch) (One a b d e f)
+  by_commands P here (Run file nodes budget (Some name) code verified layout brief no_batch) (One a b d e f)
       is = absurd is
-  by_commands P here (Run file nodes budget (Some name) code layout brief no_batch)
-      (Sim a b d e f g i j) is = absurd is
-  by_commands P here (Run file nodes budget (Some name) code layout brief no_batch) (Generate a b)
+  by_commands P here (Run file nodes budget (Some name) code verified layout brief no_batch)
+      (Sim a b d e f g i j k) is = absurd is
+  by_commands P here (Run file nodes budget (Some name) code verified layout brief no_batch) (Generate a b)
       is = absurd is
-  by_commands P here (Run file nodes budget (Some name) code layout brief no_batch) (Assemble a b)
+  by_commands P here (Run file nodes budget (Some name) code verified layout brief no_batch) (Assemble a b)
       is = absurd is
-  by_commands P here (Run file nodes budget None code layout brief no_batch) replay is = absurd is
+  by_commands P here (Run file nodes budget None code verified layout brief no_batch) replay is = absurd is
   by_commands P here (Rewrite a b d) replay is = absurd is
   by_commands P here (Listing a) replay is = absurd is
   by_commands P here (One a b d e f) replay is = absurd is
-  by_commands P here (Sim a b d e f g i j) replay is = absurd is
-  by_commands P here (Replay a b d) replay is = absurd is
+  by_commands P here (Sim a b d e f g i j k) replay is = absurd is
+  by_commands P here (Replay a b d e) replay is = absurd is
   by_commands P here (Generate a b) replay is = absurd is
   by_commands P here (Assemble a b) replay is = absurd is
 
@@ -57,13 +59,13 @@ module _ (contents later : List ℕ → List ℕ) (left : FilesState) where
       by_commands (λ c d. Prints c contents left before now status
       → Prints d later found before_again now_again status_again
       → PutOneText before now status before_again now_again status_again)
-      (λ file name input record_file nodes budget code layout brief no_batch short executable held
-      flag h k.
+      (λ file name input record_file nodes budget code verified again layout brief no_batch short
+      executable same_verified held flag h k.
       let a : Inputs =
-      inputs_of (Run file nodes budget (Some name) code layout brief no_batch) contents in
-      let b : Inputs = inputs_of (Replay input record_file short) later in
+      inputs_of (Run file nodes budget (Some name) code verified layout brief no_batch) contents in
+      let b : Inputs = inputs_of (Replay input again record_file short) later in
       let same = same_text laws a b nodes budget (left.held name) brief short h.text k.text
-      status status_again held executable flag h.is k.is in
+      status status_again held executable same_verified flag h.is k.is in
       record {
         text = h.text;
         put = h.put;
@@ -84,13 +86,13 @@ module _ (contents later : List ℕ → List ℕ) (left : FilesState) where
       → Prints d later found before_again now_again status
       → (text : List ℕ) × AppendsPrefix before.taken now.taken text
       × Appends before_again.taken now_again.taken text)
-      (λ file name input record_file nodes budget code layout brief no_batch short executable held
-      flag h k.
+      (λ file name input record_file nodes budget code verified again layout brief no_batch short
+      executable same_verified held flag h k.
       let a : Inputs =
-      inputs_of (Run file nodes budget (Some name) code layout brief no_batch) contents in
-      let b : Inputs = inputs_of (Replay input record_file short) later in
+      inputs_of (Run file nodes budget (Some name) code verified layout brief no_batch) contents in
+      let b : Inputs = inputs_of (Replay input again record_file short) later in
       let same = same_text laws a b nodes budget (left.held name) brief short h.text k.text
-      h.status status held executable flag h.is k.is in (
+      h.status status held executable same_verified flag h.is k.is in (
         h.text,
         h.put,
         subst (Appends before_again.taken now_again.taken) same.0 k.put,
@@ -109,11 +111,12 @@ module _ (contents later : List ℕ → List ℕ) (left : FilesState) where
       → IsRefused d (inputs_of d later) line
       ⊎ (IsLayoutRefused d (inputs_of d later) line
       ⊎ IsRecordRefused d (inputs_of d later) line) → ⊥)
-      (λ file name input record_file nodes budget code layout brief no_batch short executable held
-      flag h.
+      (λ file name input record_file nodes budget code verified again layout brief no_batch short
+      executable same_verified held flag h.
       let a : Inputs =
-      inputs_of (Run file nodes budget (Some name) code layout brief no_batch) contents in
-      let b : Inputs = inputs_of (Replay input record_file short) later in
+      inputs_of (Run file nodes budget (Some name) code verified layout brief no_batch) contents in
+      let b : Inputs = inputs_of (Replay input again record_file short) later in
       not_refused laws faults b h.outcome
-      (replay_of_run laws a b nodes budget (left.held name) h.outcome held executable h.is) line)
+      (replay_of_run laws a b nodes budget (left.held name) h.outcome held executable same_verified h.is)
+      line)
       ran replay is

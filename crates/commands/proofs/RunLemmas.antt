@@ -9,7 +9,6 @@ use Rattle.block_layout.specs.Layout.{Shape, IsValid, is_in, is_shared as is_sha
 use Rattle.elf32_read.specs.Elf.{Elf}
 use Rattle.exec_map.specs.Contents.{program_of, class_of_line, is_shared}
 use Rattle.templates.specs.declared.plans.PlanEntry.{PlanEntry}
-use Rattle.templates.specs.WholePlan.{IsPlanOf}
 use Rattle.jump_map.specs.Image.{Cell, IsRewriting}
 use Rattle.rewriter.specs.RewrittenFile.{rewritten_elf}
 use Rattle.node_model.specs.Node.{Work, Resume, IsLaidOver, Ended, Waiting, standing_of}
@@ -23,7 +22,7 @@ use Rattle.rewriting_law.specs.CoreRun.{picks_of}
 use Rattle.rewriting_law.specs.Licence.{AllLicensed}
 use Rattle.rewriting_law.specs.Interleaving.{Interleaves, IsCoherent, original_after}
 use Rattle.dsm_core.specs.CoreParts.{work_with}
-use Rattle.commands.specs.Code.{IsRewritingOf, IsFileOf}
+use Rattle.commands.specs.Code.{Choice, choice_of, IsChosen, IsFileOf, IsRewritingOf}
 use Rattle.commands.specs.Executables.{IsProgramOf}
 use Rattle.commands.specs.Failures.{GivesCode, GivesRuns, IsOwnOutcome}
 use Rattle.commands.specs.Inputs.{Inputs}
@@ -144,24 +143,24 @@ run_front work (e ∷ es) behind c may =
     (may.0, run_front work es behind (event_step work c e) may.1)
 
 -- the parts of a run: an accepted program, its rewriting and the layout
-pub record AreReady (batches : Bool) (file : List ℕ) (elf : Elf) (plan : List PlanEntry)
+pub record AreReady (choice : Choice) (file : List ℕ) (elf : Elf) (plan : List PlanEntry)
     (image : List Cell) (layout : Shape) : Type 0 where
-  pub rewritten : IsRewritingOf batches file elf plan image
+  pub rewritten : IsRewritingOf choice file elf plan image
   pub accepted : IsAccepted (program_of elf)
   pub over : IsLaidOver (program_of elf) layout
   pub valid : IsValid layout
 
 -- the program is that of the executable that was read
-pub are_ready : (batches : Bool) (file : List ℕ) (original elf : Elf) (plan : List PlanEntry) (image : List Cell)
+pub are_ready : (choice : Choice) (file : List ℕ) (original elf : Elf) (plan : List PlanEntry) (image : List Cell)
     (layout : Shape) → elf ≡ original → IsProgramOf file original
-    → IsAccepted (program_of original) → IsPlanOf batches (program_of elf).code plan
+    → IsAccepted (program_of original) → IsChosen choice elf plan image
     → IsRewriting (program_of elf) plan image → IsLaidOver (program_of elf) layout
-    → IsValid layout → AreReady batches file elf plan image layout
-are_ready batches file original elf plan image layout is executable accepted the_plan rewriting over valid =
+    → IsValid layout → AreReady choice file elf plan image layout
+are_ready choice file original elf plan image layout is executable accepted chosen rewriting over valid =
     record {
       rewritten = record {
         executable = subst (IsProgramOf file) (sym is) executable;
-        the_plan = the_plan;
+        chosen = chosen;
         rewriting = rewriting;
       };
       accepted = subst (λ e. IsAccepted (program_of e)) (sym is) accepted;
@@ -182,8 +181,8 @@ pub record HaveLaws : Type 0 where
   pub waits : WaitsForMail
   pub empty : EndsEmpty
 
-module _ (batches : Bool) (file : List ℕ) (budget : ℕ) (elf : Elf) (plan : List PlanEntry)
-    (image : List Cell) (layout : Shape) (r : AreReady batches file elf plan image layout) where
+module _ (choice : Choice) (file : List ℕ) (budget : ℕ) (elf : Elf) (plan : List PlanEntry)
+    (image : List Cell) (layout : Shape) (r : AreReady choice file elf plan image layout) where
   pub runs_rewritten : 0 < budget → budget ≤ 2 ^ 32
       → RunsRewritten (work_with elf image layout budget)
   runs_rewritten some few = record {
@@ -198,7 +197,7 @@ module _ (batches : Bool) (file : List ℕ) (budget : ℕ) (elf : Elf) (plan : L
 
   -- by the law of rewriting
   pub gives_code : 0 < budget → budget ≤ 2 ^ 32 → HaveLaws
-      → GivesCode batches file elf plan (work_with elf image layout budget)
+      → GivesCode choice file elf plan (work_with elf image layout budget)
   gives_code some few laws core own o stands ended outcome =
       let work : Work = work_with elf image layout budget in
       let events : List Event = run_of own in
@@ -244,7 +243,8 @@ module _ (batches : Bool) (file : List ℕ) (budget : ℕ) (elf : Elf) (plan : L
 pub gives_runs : (inputs : Inputs) (nodes budget : ℕ) (elf : Elf) (plan : List PlanEntry)
     (image : List Cell) (layout : Shape) → IsFileOf (rewritten_elf elf image plan) inputs.code
     → IsLayoutFor elf inputs.layout nodes layout
-    → GivesCode inputs.batches inputs.executable elf plan (work_with elf image layout budget)
+    → GivesCode (choice_of inputs.batches inputs.verified) inputs.executable elf plan
+    (work_with elf image layout budget)
     → GivesRuns inputs nodes budget (work_with elf image layout budget)
 gives_runs inputs nodes budget elf plan image layout code laid_out gives core own o stands ended outcome =
     record {

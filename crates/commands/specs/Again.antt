@@ -1,17 +1,19 @@
 -- A replay of the record that a run left.
-use Rattle.std.specs.Prelude.{◌≡◌, ℕ, List, Some}
+use Rattle.std.specs.Prelude.{◌≡◌, ℕ, List, Some, option_map}
 use Rattle.command_line.specs.Commands.{Command, Run, Replay}
 use Rattle.dsm_io.specs.Causes.{Appends}
 use Rattle.dsm_io.specs.States.{FilesState, SinkState}
 
 -- The second command, where files have these later contents, replays the record that the first one
--- left: it reads the bytes of the same executable, and of that record; and both are brief, or none.
+-- left: it reads the bytes of the same executable, and of that record; both have no verified file,
+-- or files of the same bytes; and both are brief, or none.
 abbrev pub IsReplayOf : (contents later : List ℕ → List ℕ) → (left : FilesState) → Command
     → Command → Type 0
 IsReplayOf contents later left
-    (Run file nodes budget (Some kept) code layout brief no_batch)
-    (Replay input record_file short) =
-    (later input ≡ contents file) × (left.held kept ≡ Some (later record_file)) × (short ≡ brief)
+    (Run file nodes budget (Some kept) code verified layout brief no_batch)
+    (Replay input again record_file short) =
+    (later input ≡ contents file) × (option_map later again ≡ option_map contents verified)
+    × (left.held kept ≡ Some (later record_file)) × (short ≡ brief)
 IsReplayOf contents later left ran replay = ⊥
 
 -- both put the whole of one text, with one status

@@ -42,8 +42,3 @@ IsUnaccepted file line =
 abbrev pub HasLongCode : Bool → Elf → List ℕ → Type 0
 HasLongCode batches elf line =
     (words : ℕ) × IsTooLarge batches (program_of elf) words × (line ≡ too_many_words words)
-
--- the executable isn't accepted, or it is, and its rewritten code is too large
-abbrev pub IsUnrewritten : Bool → List ℕ → List ℕ → Type 0
-IsUnrewritten batches file line =
-    IsUnaccepted file line ⊎ ((elf : Elf) × IsProgramOf file elf × HasLongCode batches elf line)

@@ -19,12 +19,12 @@ use Rattle.commands.specs.Outcomes.{IsRunOfCode}
 use Rattle.command_line.specs.Commands.{Command, reads}
 use Rattle.dsm_io.specs.States.{SinkState, FilesState}
 use Rattle.commands.specs.Answers.{file_limit, IsTooLong, IsReadFault, HasBytes, IsUnwritten, IsWriteFault, IsPutFault, IsRefusalStatus}
-use Rattle.commands.specs.Executables.{IsUnrewritten}
+use Rattle.commands.specs.Code.{Choice, Planned, choice_of, IsUnrewritten}
 use Rattle.commands.specs.Records.{record_at}
 use Rattle.commands.specs.Refusals.{IsRefused, IsLayoutRefused, IsRecordRefused, IsTextRefused, IsBadAssembly}
 use Rattle.commands.specs.Replays.{IsWorkOf, IsOutcomeOfReplay, IsReplayRefused, IsBadReplayLayout, IsBadRecord}
 use Rattle.commands.specs.Headline.{IsRewrittenFile, IsAssembledFile, IsRunOf, IsText, IsTextWith, IsWritten, Prints, PrintsPrefix}
-use Rattle.commands.specs.Inputs.{Inputs, AreTold, input_of, code_of, layout_of, text_file_of, batches_of, inputs_of}
+use Rattle.commands.specs.Inputs.{Inputs, AreTold, input_of, code_of, verified_of, layout_of, text_file_of, batches_of, inputs_of}
 
 -- the status and the line of a failure
 abbrev pub status_of : Failure → ℕ
@@ -80,6 +80,7 @@ AreBytes files (Some name) bytes = IsContent (files.held name) bytes
 pub record AreRead (command : Command) (files : FilesState) (inputs : Inputs) : Type 0 where
   pub executable : AreBytes files (input_of command) inputs.executable
   pub code : AreContents files (code_of command) inputs.code
+  pub verified : AreContents files (verified_of command) inputs.verified
   pub layout : AreContents files (layout_of command) inputs.layout
   pub text : AreBytes files (text_file_of command) inputs.text
   pub batches : inputs.batches ≡ batches_of command
@@ -189,11 +190,11 @@ pub record IsOwnRecorded (batches : Bool) (work : Work) (held : Option (List ℕ
 
 -- the own runs of cores of this work whose nodes are over are runs of the code of the executable in
 -- a file
-abbrev pub GivesCode : Bool → List ℕ → Elf → List PlanEntry → Work → Type 0
-GivesCode batches file elf plan work =
+abbrev pub GivesCode : Choice → List ℕ → Elf → List PlanEntry → Work → Type 0
+GivesCode choice file elf plan work =
     (core : Core) (own : List Stamped) (o : Outcome) → StandsForOwnRun work core own
     → IsOver work core → IsOutcomeOf work (run_of own) o
-    → IsRunOfCode batches file elf plan work own o
+    → IsRunOfCode choice file elf plan work own o
 
 -- and runs of the inputs
 abbrev pub GivesRuns : Inputs → (nodes budget : ℕ) → Work → Type 0
@@ -206,7 +207,7 @@ pub record IsReadyFor (inputs : Inputs) (kept : Kept) (work : Work) : Type 0 whe
   pub elf : Elf
   pub plan : List PlanEntry
   pub asked : IsWorkOf inputs kept elf plan work
-  pub gives : GivesCode kept.batch inputs.executable elf plan work
+  pub gives : GivesCode (choice_of kept.batch inputs.verified) inputs.executable elf plan work
 
 -- what a record asks to be run is refused, or the record is
 abbrev pub IsReplayRefusal : Inputs → Failure → Type 0
@@ -287,7 +288,7 @@ IsRewriteFailure batches file before now name (NotWritten line) =
     ((bytes : List ℕ) × IsRewrittenFile batches file bytes)
     × IsWriteFailure before now name (NotWritten line)
 IsRewriteFailure batches file before now name (Refused line) =
-    IsUnrewritten batches file line.items × ((n : List ℕ) → now.held n ≡ before.held n)
+    IsUnrewritten (Planned batches) file line.items × ((n : List ℕ) → now.held n ≡ before.held n)
 IsRewriteFailure batches file before now name f = IsWriteFailure before now name f
 
 -- why the file of an assembly text wasn't written

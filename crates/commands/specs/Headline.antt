@@ -22,7 +22,7 @@ use Rattle.rv32_asm.specs.Assembling.{IsAssembled}
 use Rattle.command_line.specs.Commands.{Command, Rewrite, Run, Listing, One, Sim, Replay, Generate, Assemble}
 use Rattle.dsm_io.specs.Causes.{Appends, AppendsPrefix}
 use Rattle.dsm_io.specs.States.{FilesState, SinkState}
-use Rattle.commands.specs.Code.{IsFileOf}
+use Rattle.commands.specs.Code.{IsFileOf, choice_of}
 use Rattle.commands.specs.Executables.{IsProgramOf}
 use Rattle.commands.specs.Inputs.{Inputs, inputs_of}
 use Rattle.commands.specs.Layouts.{IsLayoutFor}
@@ -31,14 +31,16 @@ use Rattle.commands.specs.Records.{record_of}
 use Rattle.commands.specs.Replays.{IsOutcomeOfReplay}
 use Rattle.commands.specs.Text.{text_of}
 
--- The outcome of a run of the executable's rewritten code on so many nodes. A file of code that is
--- given holds that code; and the blocks of the shared lines are those of a layout that is given, or
--- each line is one.
+-- The outcome of a run of the executable's rewritten code on so many nodes: by the program's plan,
+-- or, where a verified file is given, the code of that file. A file of code that is given holds
+-- that code; and the blocks of the shared lines are those of a layout that is given, or each line
+-- is one.
 pub record IsRunOf (inputs : Inputs) (nodes budget : ℕ) (work : Work) (own : List Stamped)
     (outcome : Outcome) : Type 0 where
   pub elf : Elf
   pub plan : List PlanEntry
-  pub of_code : IsRunOfCode inputs.batches inputs.executable elf plan work own outcome
+  pub of_code : IsRunOfCode (choice_of inputs.batches inputs.verified) inputs.executable elf plan
+      work own outcome
   pub code : IsFileOf (rewritten_elf elf work.image plan) inputs.code
   pub laid_out : IsLayoutFor elf inputs.layout nodes work.layout
   pub count : work.layout.nodes ≡ nodes
@@ -158,14 +160,15 @@ held_by files (Some name) = files.held name
 abbrev pub IsText : Command → FilesState → Inputs → List ℕ → ℕ → Type 0
 IsText (Rewrite input output no_batch) files inputs text status =
     IsRewrittenText inputs.batches inputs.executable text status
-IsText (Run file nodes budget record_file code layout brief no_batch) files inputs text status =
+IsText (Run file nodes budget record_file code verified layout brief no_batch) files inputs text
+    status =
     IsTextWith (IsOutcomeRecorded inputs nodes budget (held_by files record_file)) brief text status
 IsText (One file nodes order budget layout) files inputs text status =
     IsTextWith (IsOutcomeByOrder inputs nodes order budget) false text status
-IsText (Sim file nodes order budget code layout brief no_batch) files inputs text status =
+IsText (Sim file nodes order budget code verified layout brief no_batch) files inputs text status =
     IsTextWith (IsOutcomeOfSim inputs nodes order budget) brief text status
 IsText (Listing file) files inputs text status = IsListingText inputs.executable text status
-IsText (Replay file record_file brief) files inputs text status =
+IsText (Replay file verified record_file brief) files inputs text status =
     IsTextWith (IsOutcomeOfReplay inputs) brief text status
 IsText (Generate number output) files inputs text status = IsNoText text status
 IsText (Assemble assembly output) files inputs text status =
@@ -190,7 +193,7 @@ pub record PrintsPrefix (command : Command) (contents : List ℕ → List ℕ)
 abbrev pub IsWritten : Command → Inputs → List ℕ → Type 0
 IsWritten (Rewrite input output no_batch) inputs bytes =
     IsRewrittenFile inputs.batches inputs.executable bytes
-IsWritten (Run file nodes budget record_file code layout brief no_batch) inputs bytes =
+IsWritten (Run file nodes budget record_file code verified layout brief no_batch) inputs bytes =
     IsRecordOfRun inputs nodes budget bytes
 IsWritten (Generate number output) inputs bytes = bytes ≡ file_of (generated_elf number)
 IsWritten (Assemble assembly output) inputs bytes = IsAssembledFile inputs.text bytes

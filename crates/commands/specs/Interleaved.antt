@@ -55,13 +55,14 @@ IsSomeLayout elf layout = AreSharedRanges elf layout.shared × IsValid layout
 -- the text of a command that runs a program tells of the original; a record says of how many
 -- processors, with which budget and which blocks
 abbrev pub IsTextOfOriginal : Command → Inputs → List ℕ → Type 0
-IsTextOfOriginal (Run file nodes budget record_file code layout brief no_batch) inputs text =
+IsTextOfOriginal (Run file nodes budget record_file code verified layout brief no_batch) inputs
+    text =
     TellsOfOriginal inputs.executable (IsLayoutGiven inputs nodes) nodes budget text
-IsTextOfOriginal (Sim file nodes order budget code layout brief no_batch) inputs text =
+IsTextOfOriginal (Sim file nodes order budget code verified layout brief no_batch) inputs text =
     TellsOfOriginal inputs.executable (IsLayoutGiven inputs nodes) nodes budget text
 IsTextOfOriginal (One file nodes order budget layout) inputs text =
     TellsOfOriginal inputs.executable (IsLayoutGiven inputs nodes) nodes budget text
-IsTextOfOriginal (Replay file record_file brief) inputs text =
+IsTextOfOriginal (Replay file verified record_file brief) inputs text =
     (nodes : ℕ) × (budget : ℕ)
     × TellsOfOriginal inputs.executable IsSomeLayout nodes budget text
 IsTextOfOriginal command inputs text = Unit {0}

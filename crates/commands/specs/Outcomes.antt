@@ -8,7 +8,7 @@ use Rattle.node_model.specs.Outcome.{Outcome, AreFrugal, ends_after, counts_afte
 use Rattle.run_order.specs.OwnRun.{Stamped, StandsForOwnRun, run_of}
 use Rattle.elf32_read.specs.Elf.{Elf}
 use Rattle.exec_map.specs.Contents.{program_of}
-use Rattle.commands.specs.Code.{IsRewritingOf}
+use Rattle.commands.specs.Code.{Choice, IsRewritingOf}
 use Rattle.commands.specs.Processors.{status_by}
 use Rattle.rewriting_law.specs.Ascents.{AscendsBetweenPolls}
 use Rattle.rewriting_law.specs.Bounds.{RunsRewritten, steps_of}
@@ -65,12 +65,13 @@ pub record IsWholeRun (work : Work) (plan : List PlanEntry) (events : List Event
   pub empty : (j k : ℕ) → j < work.layout.nodes → k < work.layout.nodes
       → (after work (opening_core work) events).list j k ≡ []
 
--- The outcome of a run of the rewritten code of the executable in a file, which is the rewriting by
--- the plan of the program, with batches or without. The events are the nodes' own, as their
--- journals tell them, by stamp, and at one stamp by node; after them each node is over.
-pub record IsRunOfCode (batches : Bool) (file : List ℕ) (elf : Elf) (plan : List PlanEntry)
+-- The outcome of a run of the rewritten code of the executable in a file, which is the chosen
+-- rewriting: by the plan of the program, with batches or without; or that of a verified file, by
+-- the file's plan. The events are the nodes' own, as their journals tell them, by stamp, and at one
+-- stamp by node; after them each node is over.
+pub record IsRunOfCode (choice : Choice) (file : List ℕ) (elf : Elf) (plan : List PlanEntry)
     (work : Work) (own : List Stamped) (outcome : Outcome) : Type 0 where
-  pub rewritten : IsRewritingOf batches file elf plan work.image
+  pub rewritten : IsRewritingOf choice file elf plan work.image
   pub program : work.program ≡ program_of elf
   pub runs : RunsRewritten work
   pub stands : StandsForOwnRun work (after work (opening_core work) (run_of own)) own

@@ -1,6 +1,6 @@
 -- How the files of each command are refused: the executable first, then the text of a record, the
--- rewriting, the file of code, the number of words that a record names, the layout, and the events
--- of a record.
+-- rewriting or the verified file, the file of code, the number of words that a record names, the
+-- layout, and the events of a record.
 use Rattle.std.specs.Prelude.{◌≡◌, ℕ, ◌⊎◌, List, Option, Some}
 use Rattle.elf32_read.specs.Elf.{Elf}
 use Rattle.exec_map.specs.Contents.{AreSharedRanges}
@@ -11,8 +11,8 @@ use Rattle.templates.specs.declared.plans.PlanEntry.{PlanEntry}
 use Rattle.jump_map.specs.Image.{Cell}
 use Rattle.rewriter.specs.RewrittenFile.{rewritten_elf}
 use Rattle.command_line.specs.Commands.{Command, Rewrite, Run, Listing, One, Sim, Replay, Generate, Assemble}
-use Rattle.commands.specs.Code.{IsCodeRefused, IsFileOf, IsRewritingOf}
-use Rattle.commands.specs.Executables.{IsProgramOf, IsUnaccepted, IsUnrewritten}
+use Rattle.commands.specs.Code.{Planned, choice_of, IsCodeRefused, IsFileOf, IsRewritingOf, IsUnrewritten}
+use Rattle.commands.specs.Executables.{IsProgramOf, IsUnaccepted}
 use Rattle.commands.specs.Inputs.{Inputs}
 use Rattle.commands.specs.Replays.{IsReplayRefused, IsBadReplayLayout, IsBadRecord}
 use Rattle.rv32_asm.specs.Rules.{IsFirstFault as IsFirstFaultOfText}
@@ -45,42 +45,46 @@ pub record IsBadRunLayout (inputs : Inputs) (nodes : ℕ) (line : List ℕ) : Ty
   pub elf : Elf
   pub plan : List PlanEntry
   pub image : List Cell
-  pub rewritten : IsRewritingOf inputs.batches inputs.executable elf plan image
+  pub rewritten :
+      IsRewritingOf (choice_of inputs.batches inputs.verified) inputs.executable elf plan image
   pub code : IsFileOf (rewritten_elf elf image plan) inputs.code
   pub faulty : IsFaultyLayout elf inputs.layout nodes line
 
--- the executable isn't accepted or not rewritten, or the file of code isn't that of the rewriting
+-- the executable isn't accepted, or has no chosen rewriting, or the file of code isn't that of the
+-- rewriting
 abbrev pub IsRunRefused : Inputs → List ℕ → Type 0
 IsRunRefused inputs line =
-    IsUnrewritten inputs.batches inputs.executable line ⊎ IsCodeRefused inputs line
+    IsUnrewritten (choice_of inputs.batches inputs.verified) inputs.executable line
+    ⊎ IsCodeRefused inputs line
 
--- a command's executable, or its file of code, is refused with this line
+-- a command's executable, its verified file or its file of code is refused with this line
 abbrev pub IsRefused : Command → Inputs → List ℕ → Type 0
 IsRefused (Rewrite input output no_batch) inputs line =
-    IsUnrewritten inputs.batches inputs.executable line
-IsRefused (Run file nodes budget record_file code layout brief no_batch) inputs line =
+    IsUnrewritten (Planned inputs.batches) inputs.executable line
+IsRefused (Run file nodes budget record_file code verified layout brief no_batch) inputs line =
     IsRunRefused inputs line
 IsRefused (Listing file) inputs line = IsUnaccepted inputs.executable line
 IsRefused (One file nodes order budget layout) inputs line = IsUnaccepted inputs.executable line
-IsRefused (Sim file nodes order budget code layout brief no_batch) inputs line =
+IsRefused (Sim file nodes order budget code verified layout brief no_batch) inputs line =
     IsRunRefused inputs line
-IsRefused (Replay file record_file brief) inputs line = IsReplayRefused inputs line
+IsRefused (Replay file verified record_file brief) inputs line = IsReplayRefused inputs line
 IsRefused (Generate number output) inputs line = ⊥
 IsRefused (Assemble text output) inputs line = ⊥
 
 -- a command's layout is refused with this line
 abbrev pub IsLayoutRefused : Command → Inputs → List ℕ → Type 0
-IsLayoutRefused (Run file nodes budget record_file code layout brief no_batch) inputs line =
+IsLayoutRefused (Run file nodes budget record_file code verified layout brief no_batch) inputs
+    line =
     IsBadRunLayout inputs nodes line
 IsLayoutRefused (One file nodes order budget layout) inputs line = IsBadLayout inputs nodes line
-IsLayoutRefused (Sim file nodes order budget code layout brief no_batch) inputs line =
+IsLayoutRefused (Sim file nodes order budget code verified layout brief no_batch) inputs line =
     IsBadRunLayout inputs nodes line
-IsLayoutRefused (Replay file record_file brief) inputs line = IsBadReplayLayout inputs line
+IsLayoutRefused (Replay file verified record_file brief) inputs line = IsBadReplayLayout inputs line
 IsLayoutRefused command inputs line = ⊥
 
 -- a command's record is refused with this line
 abbrev pub IsRecordRefused : Command → Inputs → List ℕ → Type 0
-IsRecordRefused (Replay file record_file brief) inputs line = IsBadRecord inputs line
+IsRecordRefused (Replay file verified record_file brief) inputs line = IsBadRecord inputs line
 IsRecordRefused command inputs line = ⊥
 
 -- the assembly text breaks a rule, and the line says at which line first, and which rule is the

@@ -21,8 +21,8 @@ use Rattle.replay.specs.declared.refused.ReplayRule.{ReplayRule}
 use Rattle.replay.specs.Refusals as events
 use Rattle.replay.specs.Replay.{TellsWholeRun}
 use Rattle.replay.specs.Told.{Told, what_told}
-use Rattle.commands.specs.Code.{IsRewritingOf}
-use Rattle.commands.specs.Executables.{IsProgramOf, IsUnaccepted, HasLongCode}
+use Rattle.commands.specs.Code.{choice_of, IsRewritingOf, IsUnchosen}
+use Rattle.commands.specs.Executables.{IsProgramOf, IsUnaccepted}
 use Rattle.commands.specs.Inputs.{Inputs}
 use Rattle.commands.specs.Outcomes.{IsRunOfCode}
 use Rattle.commands.specs.Text.{layout_line, record_line, event_line}
@@ -63,12 +63,14 @@ pub record IsOtherCode (kept : Record) (words : ℕ) (line : List ℕ) : Type 0 
   pub other : NamesOtherCode kept words
   pub line_is : line ≡ record_line rules.Code 5
 
--- What a record asks to be run: the rewriting of the executable's program, of as many words as the
--- record names, on the layout of the record's blocks, with the record's nodes and budget.
+-- What a record asks to be run: the rewriting of the executable's program, by the program's plan
+-- or, where one is given, that of a verified file, of as many words as the record names, on the
+-- layout of the record's blocks, with the record's nodes and budget.
 pub record IsWorkOf (inputs : Inputs) (kept : Record) (elf : Elf) (plan : List PlanEntry)
     (work : Work) : Type 0 where
   pub text : IsTextOf kept inputs.text
-  pub rewritten : IsRewritingOf kept.batch inputs.executable elf plan work.image
+  pub rewritten :
+      IsRewritingOf (choice_of kept.batch inputs.verified) inputs.executable elf plan work.image
   pub same_code : NamesOtherCode kept (length work.image) → ⊥
   pub program : work.program ≡ program_of elf
   pub laid_out : IsLayoutOfBlocks elf kept work.layout
@@ -84,8 +86,8 @@ pub record IsOutcomeOfReplay (inputs : Inputs) (outcome : Outcome) : Type 0 wher
   pub asked : IsWorkOf inputs kept elf plan work
   pub told : List Told
   pub tells : TellsWholeRun work kept told
-  pub of_code :
-      IsRunOfCode kept.batch inputs.executable elf plan work (map what_told told) outcome
+  pub of_code : IsRunOfCode (choice_of kept.batch inputs.verified) inputs.executable elf plan work
+      (map what_told told) outcome
 
 -- the record doesn't tell of a whole run: the line says which entry tells of the first event that
 -- breaks a rule, or which node's journal ends too early
@@ -97,18 +99,18 @@ pub record IsBrokenRun (work : Work) (kept : Record) (line : List ℕ) : Type 0 
       ⊎ events.IsUnfinished work kept rule node entry
   pub line_is : line ≡ event_line rule node entry
 
--- the executable is accepted and the text is that of a record, but the rewritten code is too large,
--- which this line says
-pub record HasLongReplay (inputs : Inputs) (line : List ℕ) : Type 0 where
+-- the executable is accepted and the text is that of a record, but there is no chosen rewriting,
+-- and this line says why
+pub record IsUnchosenReplay (inputs : Inputs) (line : List ℕ) : Type 0 where
   pub elf : Elf
   pub executable : IsProgramOf inputs.executable elf
   pub kept : Record
   pub text : IsTextOf kept inputs.text
-  pub long : HasLongCode kept.batch elf line
+  pub unchosen : IsUnchosen (choice_of kept.batch inputs.verified) elf line
 
 -- the executable isn't accepted, or not rewritten, and this line says why
 abbrev pub IsReplayRefused : Inputs → List ℕ → Type 0
-IsReplayRefused inputs line = IsUnaccepted inputs.executable line ⊎ HasLongReplay inputs line
+IsReplayRefused inputs line = IsUnaccepted inputs.executable line ⊎ IsUnchosenReplay inputs line
 
 -- the text is that of a record and the executable has a rewriting of as many words as the record
 -- names, but the record's blocks are refused with this line
@@ -118,7 +120,8 @@ pub record IsBadReplayLayout (inputs : Inputs) (line : List ℕ) : Type 0 where
   pub elf : Elf
   pub plan : List PlanEntry
   pub image : List Cell
-  pub rewritten : IsRewritingOf kept.batch inputs.executable elf plan image
+  pub rewritten :
+      IsRewritingOf (choice_of kept.batch inputs.verified) inputs.executable elf plan image
   pub same_code : NamesOtherCode kept (length image) → ⊥
   pub faulty : AreFaultyBlocks elf kept line
 
@@ -136,7 +139,8 @@ pub record IsNoRecordOfCode (inputs : Inputs) (line : List ℕ) : Type 0 where
   pub elf : Elf
   pub plan : List PlanEntry
   pub image : List Cell
-  pub rewritten : IsRewritingOf kept.batch inputs.executable elf plan image
+  pub rewritten :
+      IsRewritingOf (choice_of kept.batch inputs.verified) inputs.executable elf plan image
   pub other : IsOtherCode kept (length image) line
 
 -- the record asks for a run, but its events are refused with this line

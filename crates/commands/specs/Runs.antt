@@ -8,6 +8,7 @@ use Rattle.commands.specs.declared.run.RunOptions.{RunOptions}
 pub record Names : Type 0 where
   pub file : List ℕ
   pub code : Option (List ℕ)
+  pub verified : Option (List ℕ)
   pub layout : Option (List ℕ)
   pub no_batch : Bool
 
@@ -15,4 +16,4 @@ pub record Names : Type 0 where
 abbrev pub asked_by : RunOptions → Names → Command
 asked_by options names =
     Run names.file options.nodes options.budget (file_name options.record_file) names.code
-    names.layout options.brief names.no_batch
+    names.verified names.layout options.brief names.no_batch

@@ -14,6 +14,8 @@ use Rattle.rv32_program.specs.declared.Class.{Class}
 use Rattle.rv32_program.specs.declared.Class.TheVariants.{Shared}
 use Rattle.rewriter.specs.declared.file.Part.{Part}
 use Rattle.rewriter.specs.declared.file.Part.TheVariants as part
+use Rattle.rewrite_verify.specs.declared.refused.VerifyRefused.{VerifyRefused}
+use Rattle.rewrite_verify.specs.declared.refused.VerifyRefused.TheVariants as verify
 use Rattle.block_layout.specs.Text as layouts
 use Rattle.block_layout.specs.declared.refused.Rule.{Rule}
 use Rattle.run_record.specs.Rules as records
@@ -55,10 +57,10 @@ usage =
     codes "usage: shasta rewrite IN OUT [--no-batch]\n" ++ (codes "       shasta list IN\n"
     ++ (codes "       shasta one IN [--nodes N] [--order K] [--budget B] [--layout FILE]\n"
     ++ (codes "       shasta sim IN [--nodes N] [--order K] [--budget B] [--layout FILE]"
-    ++ (codes " [--code FILE] [--no-batch] [--brief]\n"
+    ++ (codes " [--code FILE | --verify FILE] [--no-batch] [--brief]\n"
     ++ (codes "       shasta run IN [--nodes N] [--record FILE] [--budget B] [--layout FILE]"
-    ++ (codes " [--code FILE] [--no-batch] [--brief]\n"
-    ++ (codes "       shasta replay IN RECORD [--brief]\n"
+    ++ (codes " [--code FILE | --verify FILE] [--no-batch] [--brief]\n"
+    ++ (codes "       shasta replay IN RECORD [--verify FILE] [--brief]\n"
     ++ (codes "       shasta gen NUMBER OUT\n"
     ++ codes "       shasta asm TEXT OUT\n"))))))))
 
@@ -77,7 +79,7 @@ cannot_write_output = codes "shasta: cannot write output\n"
 abbrev pub out_of_memory : List ℕ
 out_of_memory = codes "shasta: out of memory\n"
 
--- what a refusal is of: the executable, or a file of its rewritten code
+-- what a refusal is of: the executable, or a file of its rewritten code, or a verified one
 abbrev pub subject_text : Subject → List ℕ
 subject_text subject.Executable = codes "executable"
 subject_text subject.Code = codes "code"
@@ -141,6 +143,29 @@ part_name part.Code = codes "Code"
 
 abbrev pub code_line : Part → List ℕ
 code_line differs = refusal subject.Code 21 (codes "PlanRefused " ++ part_name differs)
+
+-- why a verified file is that of no rewriting: the number, and the name with what it names; want of
+-- memory is no reason, and has neither
+abbrev pub verify_number : VerifyRefused → ℕ
+verify_number verify.NoPlan = 50
+verify_number (verify.BadPlan address) = 51
+verify_number (verify.CodeTooLarge words) = 20
+verify_number verify.BadMap = 52
+verify_number (verify.BadCode address) = 53
+verify_number verify.BadFile = 54
+verify_number verify.OutOfMemory = 0
+
+abbrev pub verify_text : VerifyRefused → List ℕ
+verify_text verify.NoPlan = codes "NoPlan"
+verify_text (verify.BadPlan address) = codes "BadPlan " ++ hex8 address
+verify_text (verify.CodeTooLarge words) = codes "CodeTooLarge " ++ (decimal words ++ codes " words")
+verify_text verify.BadMap = codes "BadMap"
+verify_text (verify.BadCode address) = codes "BadCode " ++ hex8 address
+verify_text verify.BadFile = codes "BadFile"
+verify_text verify.OutOfMemory = []
+
+abbrev pub verify_line : VerifyRefused → List ℕ
+verify_line refused = refusal subject.Code (verify_number refused) (verify_text refused)
 
 -- the line of a rule that refuses a layout, and of the line that breaks it
 abbrev pub layout_line : Rule → ℕ → List ℕ

@@ -1,25 +1,50 @@
-//! The rewritten code of a program, and a file that is taken for it.
+//! The rewritten code of a program, by its own plan or by that of a verified file, and a file that
+//! is taken for it.
 
 ghost use Rattle.std.specs.Prelude.{◌≡◌, ◌++◌, ℕ, option_map, IfOk, IfErr, OnOk};
 ghost use Rattle.exec_map.specs.Contents.{program_of as meaning_of};
 ghost use Rattle.templates.specs.WholePlan.{IsPlanOf};
 ghost use Rattle.jump_map.specs.Image.{IsRewriting};
 ghost use Rattle.rewriter.specs.RewrittenFile.{rewritten_elf};
-ghost use Rattle.commands.specs.Code.{IsFileOf, IsOtherFile};
-ghost use Rattle.commands.specs.Executables.{HasLongCode};
+ghost use Rattle.commands.specs.Code.{IsChosen, IsFileOf, IsOtherFile, IsUnchosen, Verified};
+ghost use Rattle.commands.specs.Code.{choice_of};
+ghost use Rattle.commands.specs.Executables.{HasLongCode, ReadsAs};
 ghost use Rattle.commands.specs.Failures.{IsRefusal, IsNever};
 
 use crate::failure::Failure;
 use crate::input::elf_of;
-use crate::refusal::{Subject, code_line, too_many_words};
+use crate::refusal::{Subject, code_line, too_many_words, verify_line};
 use elf32_read::Elf;
 use exec_map::Program;
 use jump_map::ImageRefused;
+use rewrite_verify::{VerifyRefused, verify};
 use rewriter::{Options, Rewritten, rewrite};
 use std::alloc::Global;
 
-/// The rewriting of a program, with batches or without.
+/// The rewriting of a program that was accepted from the original: that of the verified file, where
+/// there is one; else that by the program's plan, with batches or without.
 pub fn rewriting_of(
+    alloc: Global,
+    program: &Program<'_>,
+    original: &Elf<'_>,
+    batches: bool,
+    verified: Option<&[u8]>,
+) -> Result<Rewritten, Failure>
+    requires accepted { program.now ≡ original.now }
+    ensures chosen { IfOk result (λ r. IsChosen (choice_of batches
+        (option_map (λ file. file.now) verified.entry)) program.now r.plan r.image) }
+    ensures rewriting { IfOk result (λ r. IsRewriting (meaning_of program.now) r.plan r.image) }
+    ensures refused { IfErr result (IsRefusal (IsUnchosen (choice_of batches
+        (option_map (λ file. file.now) verified.entry)) program.now) IsNever) }
+{
+    match verified {
+        None => planned_rewriting(alloc, program, batches),
+        Some(file) => verified_rewriting(alloc, program, original, file),
+    }
+}
+
+/// The rewriting of a program by its plan, with batches or without.
+pub fn planned_rewriting(
     alloc: Global,
     program: &Program<'_>,
     batches: bool,
@@ -34,6 +59,28 @@ pub fn rewriting_of(
             Err(Failure::Refused(too_many_words(alloc, words)?))
         }
         Err(ImageRefused::OutOfMemory) => Err(Failure::OutOfMemory),
+    }
+}
+
+/// The rewriting of a program that a file holds, by the plan that the file says.
+fn verified_rewriting(
+    alloc: Global,
+    program: &Program<'_>,
+    original: &Elf<'_>,
+    file: &[u8],
+) -> Result<Rewritten, Failure>
+    requires accepted { program.now ≡ original.now }
+    ensures chosen { IfOk result
+        (λ r. ReadsAs file.now (rewritten_elf original.now r.image r.plan)) }
+    ensures rewriting { IfOk result (λ r. IsRewriting (meaning_of original.now) r.plan r.image) }
+    ensures refused { IfErr result
+        (IsRefusal (IsUnchosen (Verified file.now) original.now) IsNever) }
+{
+    let elf = elf_of(alloc, Subject::Code, file)?;
+    match verify(alloc, program, original, &elf) {
+        Ok(rewritten) => Ok(rewritten),
+        Err(VerifyRefused::OutOfMemory) => Err(Failure::OutOfMemory),
+        Err(refused) => Err(Failure::Refused(verify_line(alloc, &refused)?)),
     }
 }
 

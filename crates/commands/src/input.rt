@@ -5,6 +5,7 @@ ghost use Rattle.std.specs.Prelude.{option_map, IfOk, OnOk, IfErr, IfSome, Match
 ghost use Rattle.command_line.specs.Commands.{reads};
 ghost use Rattle.command_line.specs.Meaning.{meaning_of, file_name};
 ghost use Rattle.commands.specs.Inputs.{input_of as model_input_of, code_of as model_code_of};
+ghost use Rattle.commands.specs.Inputs.{verified_of as model_verified_of};
 ghost use Rattle.commands.specs.Inputs.{layout_of as model_layout_of};
 ghost use Rattle.commands.specs.Inputs.{text_file_of as model_text_file_of};
 ghost use Rattle.commands.specs.Inputs.{batches_of as model_batches_of};
@@ -33,6 +34,7 @@ use std::alloc::{AllocError, Global};
 pub struct InputFiles {
     executable: Vec<u8>,
     code: Option<Vec<u8>>,
+    verified: Option<Vec<u8>>,
     layout: Option<Vec<u8>>,
     text: Vec<u8>,
     batches: bool,
@@ -45,6 +47,9 @@ pub struct Inputs<'a> {
     pub executable: &'a [u8],
     /// None where the command names no file of rewritten code.
     pub code: Option<&'a [u8]>,
+    /// None where the command names no verified file, whose code is run in place of that by the
+    /// program's own plan.
+    pub verified: Option<&'a [u8]>,
     /// None where the command names no layout.
     pub layout: Option<&'a [u8]>,
     /// The text of the record, or the assembly text. None where the command reads neither.
@@ -61,6 +66,7 @@ impl InputFiles {
         Inputs {
             executable: &self.executable,
             code: lent(&self.code),
+            verified: lent(&self.verified),
             layout: lent(&self.layout),
             text: &self.text,
             batches: self.batches,
@@ -103,6 +109,22 @@ fn code_of<'a>(command: &Command<'a>) -> Option<&'a str>
         | Command::List { .. }
         | Command::One { .. }
         | Command::Replay { .. }
+        | Command::Generate { .. }
+        | Command::Assemble { .. } => None,
+    }
+}
+
+/// The name of the file that a command reads as a verified one.
+fn verified_of<'a>(command: &Command<'a>) -> Option<&'a str>
+    ensures { file_name result ≡ model_verified_of (meaning_of command.now) }
+{
+    match command {
+        Command::Run { verified, .. }
+        | Command::Sim { verified, .. }
+        | Command::Replay { verified, .. } => *verified,
+        Command::Rewrite { .. }
+        | Command::List { .. }
+        | Command::One { .. }
         | Command::Generate { .. }
         | Command::Assemble { .. } => None,
     }
@@ -155,8 +177,8 @@ fn batches_of(command: &Command<'_>) -> bool
     }
 }
 
-/// Reads the files of a command: the executable, that of its code, the layout, and the record or
-/// the assembly text, in this order.
+/// Reads the files of a command: the executable, that of its code, the verified one, the layout,
+/// and the record or the assembly text, in this order.
 pub fn read_inputs<F: Files>(
     alloc: Global,
     command: &Command<'_>,
@@ -175,11 +197,13 @@ pub fn read_inputs<F: Files>(
 {
     let executable = read_bytes(alloc, files, input_of(command))?;
     let code = read_named(alloc, files, code_of(command))?;
+    let verified = read_named(alloc, files, verified_of(command))?;
     let layout = read_named(alloc, files, layout_of(command))?;
     let text = read_bytes(alloc, files, text_file_of(command))?;
     Ok(InputFiles {
         executable,
         code,
+        verified,
         layout,
         text,
         batches: batches_of(command),

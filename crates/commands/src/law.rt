@@ -12,6 +12,7 @@ ghost use Rattle.commands.specs.Refusals.{IsRefused, IsLayoutRefused, IsRecordRe
 use block_layout::range_list_law;
 use check_plan::plan_law;
 use replay::replay_law;
+use rewrite_verify::verify_law;
 use rewriter::rewrite_law;
 use rewriting_law::progress_law;
 use run_order::journal_law;
@@ -20,8 +21,8 @@ use run_record::record_law;
 /// The law of a `run` and a `replay` of the record that it left, which the callers use by its
 /// clauses; the call does nothing.
 pub fn run_and_replay_law()
-    // What the `replay` prints, of the same executable, is what the `run` printed; and the status
-    // is the same.
+    // What the `replay` prints, of the same executable and the same verified file, or none, is what
+    // the `run` printed; and the status is the same.
     ensures prints { (ran replay : Command) (contents later : List ℕ → List ℕ)
         (left found : FilesState) (before now before_again now_again : SinkState)
         (status status_again : ℕ) → IsReplayOf contents later left ran replay
@@ -35,8 +36,8 @@ pub fn run_and_replay_law()
         → Prints replay later found before_again now_again status
         → (text : List ℕ) × AppendsPrefix before.taken now.taken text
         × Appends before_again.taken now_again.taken text }
-    // And nothing refuses the `replay`: not its executable, nor the layout or the events of the
-    // record.
+    // And nothing refuses the `replay`: not its executable or verified file, nor the layout or the
+    // events of the record.
     ensures taken { (ran replay : Command) (contents later : List ℕ → List ℕ) (left : FilesState)
         (text line : List ℕ) (status : ℕ) → IsReplayOf contents later left ran replay
         → IsText ran left (inputs_of ran contents) text status
@@ -50,5 +51,6 @@ pub fn run_and_replay_law()
     journal_law();
     record_law();
     rewrite_law();
+    verify_law();
     replay_law();
 }

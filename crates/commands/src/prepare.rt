@@ -31,7 +31,7 @@ pub struct Prepared<'a> {
     pub rewritten: Rewritten,
     pub layout: Layout,
     pub budget: Budget,
-    /// Whether the code was rewritten with batches.
+    /// Whether the code was rewritten with batches, where it isn't that of a verified file.
     pub batches: bool,
 }
 
@@ -49,8 +49,8 @@ impl<'a> Prepared<'a> {
     }
 }
 
-/// Judges the executable, which was read, its rewriting, the file of code and the layout, in this
-/// order, and gives the parts of a run of so many nodes.
+/// Judges the executable, which was read, its rewriting or the verified file, the file of code and
+/// the layout, in this order, and gives the parts of a run of so many nodes.
 pub fn prepare<'a>(
     alloc: Global,
     elf: &'a Elf<'_>,
@@ -66,7 +66,7 @@ pub fn prepare<'a>(
         (IsBadRunLayout (bytes_of inputs.now) nodes)) }
 {
     let program = program_of(alloc, elf)?;
-    let rewritten = rewriting_of(alloc, &program, inputs.batches)?;
+    let rewritten = rewriting_of(alloc, &program, elf, inputs.batches, inputs.verified)?;
     judge_code(alloc, elf, &rewritten, inputs.code)?;
     let layout = layout_for(alloc, &program, inputs.layout, nodes)?;
     // brings: the budget is in its range
@@ -83,9 +83,9 @@ pub fn prepare<'a>(
     })
 }
 
-/// Judges the executable, which was read, the text of the record, the rewriting, the number of
-/// words that the record names and the layout of its blocks, in this order, and gives the parts of
-/// the record's run.
+/// Judges the executable, which was read, the text of the record, the rewriting or the verified
+/// file, the number of words that the record names and the layout of its blocks, in this order, and
+/// gives the parts of the record's run.
 pub fn prepare_replay<'a>(
     alloc: Global,
     elf: &'a Elf<'_>,
@@ -98,7 +98,7 @@ pub fn prepare_replay<'a>(
 {
     let program = program_of(alloc, elf)?;
     let kept = record_in(alloc, inputs.text)?;
-    let rewritten = rewriting_of(alloc, &program, kept.batch)?;
+    let rewritten = rewriting_of(alloc, &program, elf, kept.batch, inputs.verified)?;
     judge_words(alloc, &kept, rewritten.image())?;
     let layout = layout_of_blocks(alloc, &program, &kept)?;
     let Some(budget) = Budget::of(kept.budget) else {

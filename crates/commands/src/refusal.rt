@@ -1,16 +1,17 @@
-//! The lines that say why an executable, a file of code, a layout, a record or an assembly text is
-//! refused.
+//! The lines that say why an executable, a file of code, a verified one, a layout, a record or an
+//! assembly text is refused.
 
 ghost use Rattle.std.specs.Prelude.{◌≡◌, ◌++◌, IfOk, OnOk};
 ghost use Rattle.std.specs.Fmt.{decimal};
 ghost use Rattle.commands.specs.Processors as lines;
 ghost use Rattle.commands.specs.Text as model;
 
-use crate::text::{push_address, push_number};
+use crate::text::{push_address, push_count, push_number};
 use block_layout::Rule;
 use elf32_read::FileRule;
 use exec_map::{Class, ProgramRule};
 use replay::ReplayRule;
+use rewrite_verify::VerifyRefused;
 use rewriter::Part;
 use run_record::RecordRule;
 use rv32_asm::AsmRule;
@@ -21,7 +22,7 @@ use std::alloc::{AllocError, Global};
 pub enum Subject {
     /// As the executable.
     Executable,
-    /// As the file of its rewritten code.
+    /// As the file of its rewritten code, or as a verified one.
     Code,
 }
 
@@ -77,6 +78,31 @@ pub fn code_line(alloc: Global, part: Part) -> Result<Vec<u8>, AllocError>
     line.extend_from_slice(part_name(part))?;
     line.extend_from_slice(b"\n")?;
     Ok(line)
+}
+
+/// The line that says why a verified file is that of no rewriting.
+pub fn verify_line(alloc: Global, refused: &VerifyRefused) -> Result<Vec<u8>, AllocError>
+    ensures { IfOk result (λ line. line.items ≡ model.verify_line refused.now) }
+{
+    let mut line = begin(alloc, Subject::Code, verify_number(refused))?;
+    push_verify_refused(&mut line, refused)?;
+    line.extend_from_slice(b"\n")?;
+    Ok(line)
+}
+
+/// The number of the reason. Want of memory has none, for which 0 stands.
+fn verify_number(refused: &VerifyRefused) -> u8
+    ensures { result ≡ model.verify_number refused.now }
+{
+    match refused {
+        VerifyRefused::NoPlan => 50,
+        VerifyRefused::BadPlan(_) => 51,
+        VerifyRefused::CodeTooLarge(_) => 20,
+        VerifyRefused::BadMap => 52,
+        VerifyRefused::BadCode(_) => 53,
+        VerifyRefused::BadFile => 54,
+        VerifyRefused::OutOfMemory => 0,
+    }
 }
 
 /// The name of a part.
@@ -185,6 +211,25 @@ fn push_file_rule(line: &mut Vec<u8>, rule: FileRule) -> Result<(), AllocError>
         FileRule::SegmentSizes { header } => {
             push_index(line, b"SegmentSizes header ", usize::from(header))
         }
+    }
+}
+
+/// Appends the name of the reason why a verified file is that of no rewriting, and what it names.
+fn push_verify_refused(line: &mut Vec<u8>, refused: &VerifyRefused) -> Result<(), AllocError>
+    ensures { OnOk result (line.new.items ≡ line.old.items ++ model.verify_text refused.now) }
+{
+    match refused {
+        VerifyRefused::NoPlan => push_name(line, b"NoPlan"),
+        VerifyRefused::BadPlan(address) => push_place(line, b"BadPlan ", *address),
+        VerifyRefused::CodeTooLarge(words) => {
+            push_count(line, b"CodeTooLarge ", *words)?;
+            line.extend_from_slice(b" words")?;
+            Ok(())
+        }
+        VerifyRefused::BadMap => push_name(line, b"BadMap"),
+        VerifyRefused::BadCode(address) => push_place(line, b"BadCode ", *address),
+        VerifyRefused::BadFile => push_name(line, b"BadFile"),
+        VerifyRefused::OutOfMemory => Ok(()),
     }
 }
 

@@ -1,11 +1,11 @@
 //! `rewrite`: the rewritten executable of an executable, into a file.
 
 ghost use Rattle.std.specs.Prelude.{◌≡◌, ◌≢◌, ℕ, List, [], IfOk, OnOk, IfErr, IfSome};
-ghost use Rattle.commands.specs.Executables.{IsUnrewritten};
+ghost use Rattle.commands.specs.Code.{IsUnrewritten, Planned};
 ghost use Rattle.commands.specs.Failures.{IsRefusal, IsNever, IsRewriteFailure};
 ghost use Rattle.commands.specs.Headline.{IsRewrittenFile, IsRewrittenText};
 
-use crate::code::rewriting_of;
+use crate::code::planned_rewriting;
 use crate::failure::Failure;
 use crate::input::{elf_of, program_of};
 use crate::output::write_file;
@@ -38,11 +38,11 @@ pub fn rewrite_into<F: Files>(
 /// The file of the rewritten program of the executable in a file.
 fn rewritten_file(alloc: Global, file: &[u8], batches: bool) -> Result<Vec<u8>, Failure>
     ensures ok { IfOk result (λ bytes. IsRewrittenFile batches file.now bytes.items) }
-    ensures refused { IfErr result (IsRefusal (IsUnrewritten batches file.now) IsNever) }
+    ensures refused { IfErr result (IsRefusal (IsUnrewritten (Planned batches) file.now) IsNever) }
 {
     let elf = elf_of(alloc, Subject::Executable, file)?;
     let program = program_of(alloc, &elf)?;
-    let rewritten = rewriting_of(alloc, &program, batches)?;
+    let rewritten = planned_rewriting(alloc, &program, batches)?;
     let mut bytes = Vec::new(alloc);
     rewritten.to_elf(alloc, &elf, &mut bytes)?;
     Ok(bytes)

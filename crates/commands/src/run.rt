@@ -38,10 +38,10 @@ pub struct RunOptions<'a> {
     pub brief: bool,
 }
 
-/// Runs the rewritten code of the executable among these files, which a file of code may hold, on
-/// nodes in threads of their own; writes the record of the run, where a file is named for it; and
-/// puts the text of the outcome. The clauses hold however the files that were read are named, and
-/// whatever the flag for batches, which is among the inputs.
+/// Runs the rewritten code of the executable among these files, which a file of code or a verified
+/// one may hold, on nodes in threads of their own; writes the record of the run, where a file is
+/// named for it; and puts the text of the outcome. The clauses hold however the files that were read
+/// are named, and whatever the flag for batches, which is among the inputs.
 pub fn run<R: Threads + Wait + Sync, F: Files, O: Sink, G: Gate + Sync>(
     rt: &R,
     alloc: Global,

@@ -31,8 +31,8 @@ pub struct SimOptions {
     pub brief: bool,
 }
 
-/// Runs the rewritten code of the executable among these files, which a file of code may hold, on
-/// nodes of one thread, and puts the text of the outcome.
+/// Runs the rewritten code of the executable among these files, which a file of code or a verified
+/// one may hold, on nodes of one thread, and puts the text of the outcome.
 pub fn sim<O: Sink>(
     alloc: Global,
     inputs: &Inputs<'_>,

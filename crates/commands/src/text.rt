@@ -17,10 +17,10 @@ pub const USAGE: &str = concat!(
     "       shasta list IN\n",
     "       shasta one IN [--nodes N] [--order K] [--budget B] [--layout FILE]\n",
     "       shasta sim IN [--nodes N] [--order K] [--budget B] [--layout FILE]",
-    " [--code FILE] [--no-batch] [--brief]\n",
+    " [--code FILE | --verify FILE] [--no-batch] [--brief]\n",
     "       shasta run IN [--nodes N] [--record FILE] [--budget B] [--layout FILE]",
-    " [--code FILE] [--no-batch] [--brief]\n",
-    "       shasta replay IN RECORD [--brief]\n",
+    " [--code FILE | --verify FILE] [--no-batch] [--brief]\n",
+    "       shasta replay IN RECORD [--verify FILE] [--brief]\n",
     "       shasta gen NUMBER OUT\n",
     "       shasta asm TEXT OUT\n",
 );
@@ -150,7 +150,7 @@ fn push_counts(text: &mut Vec<u8>, counts: &NodeCounts) -> Result<(), AllocError
 }
 
 /// Appends a name and a number.
-fn push_count(text: &mut Vec<u8>, name: &[u8], count: u64) -> Result<(), AllocError>
+pub fn push_count(text: &mut Vec<u8>, name: &[u8], count: u64) -> Result<(), AllocError>
     ensures { OnOk result (text.new.items ≡ text.old.items ++ (name.now ++ decimal count)) }
 {
     text.extend_from_slice(name)?;

@@ -37,9 +37,9 @@ use std::thread::Threads;
 
 /// Does what the words ask for, and answers the status: 0 where every processor ended by itself
 /// with code 0, or none runs; 1 where some processor ended otherwise; 2 for a faulty command line;
-/// 3 where a file or the output failed; 4 where the executable, or a file of its rewritten code, is
-/// refused; 5 where it was out of memory; 6 where the layout is refused; 7 where the record is; 8
-/// where the assembly text is.
+/// 3 where a file or the output failed; 4 where the executable, a file of its rewritten code or a
+/// verified file is refused; 5 where it was out of memory; 6 where the layout is refused; 7 where
+/// the record is; 8 where the assembly text is.
 pub fn shasta<R: Threads + Wait + Sync, F: Files, O: Sink, E: Sink, G: Gate + Sync>(
     rt: &R,
     alloc: Global,
@@ -71,8 +71,8 @@ pub fn shasta<R: Threads + Wait + Sync, F: Files, O: Sink, E: Sink, G: Gate + Sy
         → AreTold c (F.state files.old) contents → result ≤ 1
         → PrintsOriginal c contents (O.state out.old) (O.state out.new) }
 
-    // Status 4 is for a refused executable, or one that isn't the rewritten one; the refusal is
-    // told.
+    // Status 4 is for a refused executable, one that isn't the rewritten one, or a verified file
+    // that is that of no rewriting; the refusal is told.
     ensures refused { (c : Asked) (contents : List ℕ → List ℕ) → Asks words.now c
         → AreTold c (F.state files.old) contents → result ≡ 4
         → (line : List ℕ) × IsRefused c (inputs_of c contents) line

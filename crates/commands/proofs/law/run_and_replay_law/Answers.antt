@@ -10,6 +10,7 @@ returns-clause-prints c =
       takes = c.journal_law.ensures.takes;
       one_record = c.record_law.ensures.one;
       one_rewriting = c.rewrite_law.ensures.one;
+      one_verified = c.verify_law.ensures.one;
       one_telling = c.replay_law.ensures.one;
       again = c.replay_law.ensures.again;
     } in
@@ -24,6 +25,7 @@ returns-clause-whole c =
       takes = c.journal_law.ensures.takes;
       one_record = c.record_law.ensures.one;
       one_rewriting = c.rewrite_law.ensures.one;
+      one_verified = c.verify_law.ensures.one;
       one_telling = c.replay_law.ensures.one;
       again = c.replay_law.ensures.again;
     } in
@@ -38,11 +40,13 @@ returns-clause-taken c =
       takes = c.journal_law.ensures.takes;
       one_record = c.record_law.ensures.one;
       one_rewriting = c.rewrite_law.ensures.one;
+      one_verified = c.verify_law.ensures.one;
       one_telling = c.replay_law.ensures.one;
       again = c.replay_law.ensures.again;
     } in
     let faults : HaveFaultLaws = record {
       plans = λ batches program. c.plan_law.ensures.one batches program.code;
+      verified = c.verify_law.ensures.accepted;
       texts = c.record_law.ensures.either;
       ranges = c.range_list_law.ensures.either;
       broken = c.replay_law.ensures.either;

@@ -1,8 +1,8 @@
 use Rattle.std.proofs.Common.{◌<◌, ◌≤◌, ◌^◌, inl, inr, sym, subst}
 use Rattle.std.proofs.lemmas.Result.{err_from_is_err_and}
 use Rattle.rewriter.specs.RewrittenFile.{rewritten_elf}
-use Rattle.commands.specs.Code.{IsRewritingOf, IsFileOf, IsOtherFile}
-use Rattle.commands.specs.Executables.{IsProgramOf, IsRejection, HasLongCode}
+use Rattle.commands.specs.Code.{choice_of, IsRewritingOf, IsFileOf, IsOtherFile, IsUnchosen}
+use Rattle.commands.specs.Executables.{IsProgramOf, IsRejection}
 use Rattle.commands.specs.Failures.{IsNever}
 use Rattle.commands.specs.Given.{bytes_of}
 use Rattle.commands.specs.Refusals.{IsRunRefused, IsBadRunLayout, IsFaultyLayout}
@@ -30,7 +30,7 @@ returns-in_err-rewritten-clause-refused c =
     (record { reads = c.requires.reads; accepted = c.in_ok-program.ensures.acceptable }) in
     let e = err_from_is_err_and c.from_residual-in_err-rewritten.result
     c.from_residual-in_err-rewritten.ensures.1 in
-    rw (e.1, e.2) (refused_too (HasLongCode inputs.batches p) IsNever (IsRunRefused inputs)
+    rw (e.1, e.2) (refused_too (IsUnchosen (choice_of inputs.batches inputs.verified) p) IsNever (IsRunRefused inputs)
     (IsBadRunLayout inputs n) c.in_err-rewritten.field-0.0
     (λ line h. inl (inr (p, executable, h))) (never (IsBadRunLayout inputs n))
     c.in_err-rewritten.ensures.refused)
@@ -43,10 +43,10 @@ returns-in_err-judge_code-clause-refused c =
     let same = sym c.in_ok-program.ensures.ok in
     let image = c.in_ok-rewritten.rewritten.image in
     let plan = c.in_ok-rewritten.rewritten.plan in
-    let rewritten : IsRewritingOf inputs.batches inputs.executable p plan image = record {
+    let rewritten : IsRewritingOf (choice_of inputs.batches inputs.verified) inputs.executable p plan image = record {
       executable = subst (IsProgramOf inputs.executable) same
           (record { reads = c.requires.reads; accepted = c.in_ok-program.ensures.acceptable });
-      the_plan = c.in_ok-rewritten.ensures.plan;
+      chosen = c.in_ok-rewritten.ensures.chosen;
       rewriting = c.in_ok-rewritten.ensures.rewriting;
     } in
     let e = err_from_is_err_and c.from_residual-in_err-judge_code.result
@@ -69,10 +69,10 @@ returns-in_err-layout-clause-refused c =
     let same = sym c.in_ok-program.ensures.ok in
     let image = c.in_ok-rewritten.rewritten.image in
     let plan = c.in_ok-rewritten.rewritten.plan in
-    let rewritten : IsRewritingOf inputs.batches inputs.executable p plan image = record {
+    let rewritten : IsRewritingOf (choice_of inputs.batches inputs.verified) inputs.executable p plan image = record {
       executable = subst (IsProgramOf inputs.executable) same
           (record { reads = c.requires.reads; accepted = c.in_ok-program.ensures.acceptable });
-      the_plan = c.in_ok-rewritten.ensures.plan;
+      chosen = c.in_ok-rewritten.ensures.chosen;
       rewriting = c.in_ok-rewritten.ensures.rewriting;
     } in
     let e = err_from_is_err_and c.from_residual-in_err-layout.result
@@ -98,14 +98,15 @@ returns-clause-rewritten c =
     let layout = c.in_ok-layout.layout in
     let reads : IsProgramOf inputs.executable c.args.elf.now =
     record { reads = c.requires.reads; accepted = c.in_ok-program.ensures.acceptable } in
-    let ready : AreReady inputs.batches inputs.executable p plan image layout =
-    are_ready inputs.batches inputs.executable c.args.elf.now p plan image layout c.in_ok-program.ensures.ok reads
-    c.in_ok-program.ensures.accepted c.in_ok-rewritten.ensures.plan
+    let choice = choice_of inputs.batches inputs.verified in
+    let ready : AreReady choice inputs.executable p plan image layout =
+    are_ready choice inputs.executable c.args.elf.now p plan image layout c.in_ok-program.ensures.ok reads
+    c.in_ok-program.ensures.accepted c.in_ok-rewritten.ensures.chosen
     c.in_ok-rewritten.ensures.rewriting
     (laid_over p inputs.layout c.args.nodes layout c.in_ok-layout.ensures.ok)
     c.in_ok-layout.ensures.valid in
     let number = c.number-words.ensures.value in
-    runs_rewritten inputs.batches inputs.executable c.args.budget p plan image layout ready
+    runs_rewritten choice inputs.executable c.args.budget p plan image layout ready
     (subst (λ n. 0 < n) number c.number-words.ensures.range.0)
     (subst (λ n. n ≤ 2 ^ 32) number c.number-words.ensures.range.1)
 
@@ -118,9 +119,10 @@ returns-clause-runs c =
     let layout = c.in_ok-layout.layout in
     let reads : IsProgramOf inputs.executable c.args.elf.now =
     record { reads = c.requires.reads; accepted = c.in_ok-program.ensures.acceptable } in
-    let ready : AreReady inputs.batches inputs.executable p plan image layout =
-    are_ready inputs.batches inputs.executable c.args.elf.now p plan image layout c.in_ok-program.ensures.ok reads
-    c.in_ok-program.ensures.accepted c.in_ok-rewritten.ensures.plan
+    let choice = choice_of inputs.batches inputs.verified in
+    let ready : AreReady choice inputs.executable p plan image layout =
+    are_ready choice inputs.executable c.args.elf.now p plan image layout c.in_ok-program.ensures.ok reads
+    c.in_ok-program.ensures.accepted c.in_ok-rewritten.ensures.chosen
     c.in_ok-rewritten.ensures.rewriting
     (laid_over p inputs.layout c.args.nodes layout c.in_ok-layout.ensures.ok)
     c.in_ok-layout.ensures.valid in
@@ -141,5 +143,5 @@ returns-clause-runs c =
     let number = c.number-words.ensures.value in
     let range = c.number-words.ensures.range in
     gives_runs inputs c.args.nodes c.args.budget p plan image layout code c.in_ok-layout.ensures.ok
-    (gives_code inputs.batches inputs.executable c.args.budget p plan image layout ready
+    (gives_code choice inputs.executable c.args.budget p plan image layout ready
     (subst (λ n. 0 < n) number range.0) (subst (λ n. n ≤ 2 ^ 32) number range.1) laws)

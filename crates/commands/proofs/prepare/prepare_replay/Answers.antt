@@ -1,8 +1,8 @@
 use Rattle.std.proofs.Common.{◌≡◌, ◌<◌, ◌≤◌, ◌^◌, length, inl, inr, sym, subst}
 use Rattle.std.proofs.lemmas.Result.{err_from_is_err_and}
 use Rattle.run_record.specs.Record.{NamesOtherCode}
-use Rattle.commands.specs.Code.{IsRewritingOf}
-use Rattle.commands.specs.Executables.{IsProgramOf, IsRejection, HasLongCode}
+use Rattle.commands.specs.Code.{choice_of, IsRewritingOf, IsUnchosen}
+use Rattle.commands.specs.Executables.{IsProgramOf, IsRejection}
 use Rattle.commands.specs.Failures.{IsNever, IsRecordRefusal}
 use Rattle.commands.specs.Given.{bytes_of}
 use Rattle.commands.specs.Replays.{AreFaultyBlocks, IsBadReplayLayout, IsFaultyText, IsOtherCode, IsReplayRefused}
@@ -39,13 +39,14 @@ returns-in_err-rewritten-clause-refused c =
     (record { reads = c.requires.reads; accepted = c.in_ok-program.ensures.acceptable }) in
     let e = err_from_is_err_and c.from_residual-in_err-rewritten.result
     c.from_residual-in_err-rewritten.ensures.1 in
-    rw (e.1, e.2) (replay_refused inputs (HasLongCode c.in_ok-kept.kept.batch p) IsNever c.in_err-rewritten.field-0.0
+    rw (e.1, e.2) (replay_refused inputs (IsUnchosen (choice_of c.in_ok-kept.kept.batch inputs.verified) p) IsNever
+    c.in_err-rewritten.field-0.0
     (λ line h. inr (record {
       elf = p;
       executable = executable;
       kept = c.in_ok-kept.kept;
       text = c.in_ok-kept.ensures.ok;
-      long = h;
+      unchosen = h;
     })) (never (IsBadReplayLayout inputs)) c.in_err-rewritten.ensures.refused)
 
 pub returns-in_err-judge_words-clause-refused : goal.returns-in_err-judge_words-clause-refused
@@ -55,10 +56,10 @@ returns-in_err-judge_words-clause-refused c =
     let kept = c.in_ok-kept.kept in
     let image = c.in_ok-rewritten.rewritten.image in
     let plan = c.in_ok-rewritten.rewritten.plan in
-    let rewritten : IsRewritingOf kept.batch inputs.executable p plan image = record {
+    let rewritten : IsRewritingOf (choice_of kept.batch inputs.verified) inputs.executable p plan image = record {
       executable = subst (IsProgramOf inputs.executable) (sym c.in_ok-program.ensures.ok)
           (record { reads = c.requires.reads; accepted = c.in_ok-program.ensures.acceptable });
-      the_plan = c.in_ok-rewritten.ensures.plan;
+      chosen = c.in_ok-rewritten.ensures.chosen;
       rewriting = c.in_ok-rewritten.ensures.rewriting;
     } in
     let e = err_from_is_err_and c.from_residual-in_err-judge_words.result
@@ -82,10 +83,11 @@ returns-in_err-layout-clause-refused c =
     let p = c.in_ok-program.program in
     let image = c.in_ok-rewritten.rewritten.image in
     let plan = c.in_ok-rewritten.rewritten.plan in
-    let rewritten : IsRewritingOf c.in_ok-kept.kept.batch inputs.executable p plan image = record {
+    let rewritten : IsRewritingOf (choice_of c.in_ok-kept.kept.batch inputs.verified) inputs.executable p plan image =
+    record {
       executable = subst (IsProgramOf inputs.executable) (sym c.in_ok-program.ensures.ok)
           (record { reads = c.requires.reads; accepted = c.in_ok-program.ensures.acceptable });
-      the_plan = c.in_ok-rewritten.ensures.plan;
+      chosen = c.in_ok-rewritten.ensures.chosen;
       rewriting = c.in_ok-rewritten.ensures.rewriting;
     } in
     let e = err_from_is_err_and c.from_residual-in_err-layout.result
@@ -112,14 +114,15 @@ returns-clause-rewritten c =
     let layout = c.in_ok-layout.layout in
     let reads : IsProgramOf inputs.executable c.args.elf.now =
     record { reads = c.requires.reads; accepted = c.in_ok-program.ensures.acceptable } in
-    let ready : AreReady c.in_ok-kept.kept.batch inputs.executable p plan image layout =
-    are_ready c.in_ok-kept.kept.batch inputs.executable c.args.elf.now p plan image layout c.in_ok-program.ensures.ok reads
-    c.in_ok-program.ensures.accepted c.in_ok-rewritten.ensures.plan
+    let choice = choice_of c.in_ok-kept.kept.batch inputs.verified in
+    let ready : AreReady choice inputs.executable p plan image layout =
+    are_ready choice inputs.executable c.args.elf.now p plan image layout c.in_ok-program.ensures.ok reads
+    c.in_ok-program.ensures.accepted c.in_ok-rewritten.ensures.chosen
     c.in_ok-rewritten.ensures.rewriting
     (laid_over_blocks p c.in_ok-kept.kept layout c.in_ok-layout.ensures.ok)
     c.in_ok-layout.ensures.valid in
     let budget = c.in-Some.ensures in
-    runs_rewritten c.in_ok-kept.kept.batch inputs.executable c.in-Some.budget p plan image layout ready
+    runs_rewritten choice inputs.executable c.in-Some.budget p plan image layout ready
     (subst (λ n. 0 < n) (sym budget.0) budget.1.0) (subst (λ n. n ≤ 2 ^ 32) (sym budget.0) budget.1.1)
 
 pub returns-clause-ready : goal.returns-clause-ready
@@ -132,9 +135,10 @@ returns-clause-ready c =
     let layout = c.in_ok-layout.layout in
     let reads : IsProgramOf inputs.executable c.args.elf.now =
     record { reads = c.requires.reads; accepted = c.in_ok-program.ensures.acceptable } in
-    let ready : AreReady c.in_ok-kept.kept.batch inputs.executable p plan image layout =
-    are_ready c.in_ok-kept.kept.batch inputs.executable c.args.elf.now p plan image layout c.in_ok-program.ensures.ok reads
-    c.in_ok-program.ensures.accepted c.in_ok-rewritten.ensures.plan
+    let choice = choice_of c.in_ok-kept.kept.batch inputs.verified in
+    let ready : AreReady choice inputs.executable p plan image layout =
+    are_ready choice inputs.executable c.args.elf.now p plan image layout c.in_ok-program.ensures.ok reads
+    c.in_ok-program.ensures.accepted c.in_ok-rewritten.ensures.chosen
     c.in_ok-rewritten.ensures.rewriting
     (laid_over_blocks p kept layout c.in_ok-layout.ensures.ok) c.in_ok-layout.ensures.valid in
     let laws : HaveLaws = record {

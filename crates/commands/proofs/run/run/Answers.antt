@@ -53,7 +53,7 @@ returns-in_err-outcome-clause-failure g c = λ names.
     let files_now : FilesState = g.F.Files.state c.execute.new.files in
     let e = err_from_is_err_and c.from_residual-in_err-outcome.result
     c.from_residual-in_err-outcome.ensures.1 in
-    rw (e.1, e.2) (record_fails names.file options.nodes options.budget (file_name options.record_file) names.code
+    rw (e.1, e.2) (record_fails names.file options.nodes options.budget (file_name options.record_file) names.code names.verified
     names.layout options.brief names.no_batch inputs (work_for c.in_ok-prepared.prepared) files files_now state
     c.in_err-outcome.field-0.0 c.in_ok-prepared.ensures.runs c.in_err-outcome.ensures.made
     c.in_err-outcome.ensures.failure)
@@ -76,7 +76,7 @@ returns-in_err-outcome-clause-left g c = λ names.
     let files : FilesState = g.F.Files.state c.args.files.now in
     let files_now : FilesState = g.F.Files.state c.execute.new.files in
     let left : AreLeft (asked_by options names) inputs files files_now =
-    record_left names.file options.nodes options.budget (file_name options.record_file) names.code names.layout
+    record_left names.file options.nodes options.budget (file_name options.record_file) names.code names.verified names.layout
     options.brief names.no_batch inputs files files_now c.in_err-outcome.field-0.0
     c.in_err-outcome.ensures.failure in
     always_err (λ f. AreLeft (asked_by options names) inputs files files_now)
@@ -142,7 +142,7 @@ returns-clause-written g c = λ names.
     c.in_ok-prepared.ensures.runs (subst (λ b. IsOwnRecorded b (work_for c.in_ok-prepared.prepared)
     held o) c.in_ok-prepared.ensures.batches c.in_ok-outcome.ensures.outcome) in
     let written : AreWritten (asked_by options names) inputs files_now =
-    record_written names.file options.nodes options.budget (file_name options.record_file) names.code names.layout
+    record_written names.file options.nodes options.budget (file_name options.record_file) names.code names.verified names.layout
     options.brief names.no_batch inputs files_now o is in
     always (λ status. AreWritten (asked_by options names) inputs files_now)
     c.put_told.result (λ status. written)
@@ -160,20 +160,20 @@ returns-clause-left g c = λ names.
     c.in_ok-prepared.ensures.runs (subst (λ b. IsOwnRecorded b (work_for c.in_ok-prepared.prepared)
     held o) c.in_ok-prepared.ensures.batches c.in_ok-outcome.ensures.outcome) in
     let written : AreWritten (asked_by options names) inputs files_now =
-    record_written names.file options.nodes options.budget (file_name options.record_file) names.code names.layout
+    record_written names.file options.nodes options.budget (file_name options.record_file) names.code names.verified names.layout
     options.brief names.no_batch inputs files_now o is in
     always_err (λ f. AreLeft (asked_by options names) inputs files files_now)
     c.put_told.result (λ f. written_left names.file options.nodes options.budget
-    (file_name options.record_file) names.code names.layout options.brief names.no_batch inputs files files_now written)
+    (file_name options.record_file) names.code names.verified names.layout options.brief names.no_batch inputs files files_now written)
 
 pub returns-clause-others : goal.returns-clause-others
 returns-clause-others g c = λ names name unwritten.
     c.execute.ensures.others name (λ e. unwritten (names_record names.file c.args.options.nodes
-    c.args.options.budget (file_name c.args.options.record_file) names.code names.layout c.args.options.brief names.no_batch
+    c.args.options.budget (file_name c.args.options.record_file) names.code names.verified names.layout c.args.options.brief names.no_batch
     name e))
 
 pub returns-in_err-outcome-clause-others : goal.returns-in_err-outcome-clause-others
 returns-in_err-outcome-clause-others g c = λ names name unwritten.
     c.execute.ensures.others name (λ e. unwritten (names_record names.file c.args.options.nodes
-    c.args.options.budget (file_name c.args.options.record_file) names.code names.layout c.args.options.brief names.no_batch
+    c.args.options.budget (file_name c.args.options.record_file) names.code names.verified names.layout c.args.options.brief names.no_batch
     name e))

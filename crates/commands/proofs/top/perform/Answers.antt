@@ -61,10 +61,11 @@ returns-in-Replay-clause-failure g c =
     let now : SinkState = g.O.Sink.state c.put_replay.new.out in
     let inputs = bytes_of c.args.inputs.now in
     let brief = c.in-Replay.brief in
-    let asked = Replay c.in-Replay.file.now c.in-Replay.record_file.now brief in
+    let verified = file_name c.in-Replay.verified in
+    let asked = Replay c.in-Replay.file.now verified c.in-Replay.record_file.now brief in
     rw c.in-Replay.is (err_as (IsReplayFailure inputs brief before now)
     (IsPerformFailure asked inputs files files before now) c.put_replay.result
-    (replay_fails c.in-Replay.file.now c.in-Replay.record_file.now brief inputs files files before now)
+    (replay_fails c.in-Replay.file.now verified c.in-Replay.record_file.now brief inputs files files before now)
     c.put_replay.ensures.failure)
 
 pub returns-in-Generate-clause-ok : goal.returns-in-Generate-clause-ok
@@ -111,6 +112,7 @@ returns-in-Run-clause-ok g c =
     rw c.in-Run.is (c.run.ensures.ok (record {
       file = c.in-Run.file.now;
       code = file_name c.in-Run.code;
+      verified = file_name c.in-Run.verified;
       layout = file_name c.in-Run.layout;
       no_batch = c.in-Run.no_batch;
     }))
@@ -120,6 +122,7 @@ returns-in-Run-clause-failure g c =
     rw c.in-Run.is (c.run.ensures.failure (record {
       file = c.in-Run.file.now;
       code = file_name c.in-Run.code;
+      verified = file_name c.in-Run.verified;
       layout = file_name c.in-Run.layout;
       no_batch = c.in-Run.no_batch;
     }))
@@ -129,6 +132,7 @@ returns-in-Run-clause-written g c =
     rw c.in-Run.is (c.run.ensures.written (record {
       file = c.in-Run.file.now;
       code = file_name c.in-Run.code;
+      verified = file_name c.in-Run.verified;
       layout = file_name c.in-Run.layout;
       no_batch = c.in-Run.no_batch;
     }))
@@ -138,6 +142,7 @@ returns-in-Run-clause-left g c =
     rw c.in-Run.is (c.run.ensures.left (record {
       file = c.in-Run.file.now;
       code = file_name c.in-Run.code;
+      verified = file_name c.in-Run.verified;
       layout = file_name c.in-Run.layout;
       no_batch = c.in-Run.no_batch;
     }))
@@ -147,6 +152,7 @@ returns-in-Run-clause-others g c =
     rw c.in-Run.is (c.run.ensures.others (record {
       file = c.in-Run.file.now;
       code = file_name c.in-Run.code;
+      verified = file_name c.in-Run.verified;
       layout = file_name c.in-Run.layout;
       no_batch = c.in-Run.no_batch;
     }))
