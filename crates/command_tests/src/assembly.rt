@@ -1,8 +1,7 @@
 //! Executables of assembly texts.
 
-use crate::calls::{Answer, call, executable, sure, text_of, try_held};
-use crate::programs::HI;
-use crate::watch::Watch;
+use command_calls::calls::{Answer, call, executable, sure, text_of, try_held};
+use command_calls::watch::Watch;
 use std::test::Fail;
 
 /// The program that writes its three bytes of data, as a text.
@@ -19,6 +18,10 @@ ecall
 .bytes 68690a
 ";
 
+/// The words of its code.
+const HI_WORDS: &str = ".word 0x000205b7; .word 0x00100513; .word 0x00300613; .word 0x04000893;
+    .word 0x00000073; .word 0x00000513; .word 0x05d00893; .word 0x00000073";
+
 /// Texts, and the number of the rule that each breaks and the line that breaks it.
 const REFUSED: [(&str, &str); 3] = [
     (".segment rx 0x10000\naddi x1, x0, 2048", "61 at line 2"),
@@ -32,7 +35,7 @@ fn assembles_a_program(rt: HostRuntime) -> Result<(), Fail> {
     let held = [("TEXT", HI_TEXT.as_bytes())];
     let gate = Watch::new(false);
     let made = call(&rt, sure(&held), "asm TEXT OUT", "OUT", &gate)?;
-    let wanted = executable(alloc, HI, b"hi\n", 3)?;
+    let wanted = executable(alloc, HI_WORDS, b"hi\n", 3)?;
     assert_eq!(rt; made.status, 0);
     assert!(rt; made.out.is_empty() && made.err.is_empty());
     assert!(rt; made.written == wanted);

@@ -1,13 +1,20 @@
 //! Runs of accesses behind one check, and the same programs without batches.
 
-use crate::calls::NODE;
-use crate::cases::{Case, Input, try_case};
+use command_calls::calls::NODE;
+use command_calls::cases::{Case, Input, try_case};
 use std::test::Fail;
 
-/// A jump into the middle of a run of two: `lui x5, 0x20; addi x6, x0, 1; lui x28, 0x10;
-/// jalr x1, 20(x28); lw x6, 0(x5); lw x7, 4(x5); add x10, x6, x7; addi x17, x0, 93; ecall`.
-const JUMPS_INTO: &str = "000202b7 00100313 00010e37 014e00e7 0002a303 0042a383 00730533 05d00893
-    00000073";
+/// A jump into the middle of a run of two.
+const JUMPS_INTO: &str = "lui x5, 0x20
+addi x6, x0, 1
+lui x28, 0x10
+jalr x1, 20(x28)
+lw x6, 0(x5)
+lw x7, 4(x5)
+add x10, x6, x7
+addi x17, x0, 93
+ecall
+";
 
 /// Its data: the words 5 and 6.
 const FIVE_SIX: &[u8] = b"\x05\x00\x00\x00\x06\x00\x00\x00";
@@ -15,16 +22,14 @@ const FIVE_SIX: &[u8] = b"\x05\x00\x00\x00\x06\x00\x00\x00";
 /// What it ends with: it loads the second word alone.
 const SEVEN: &str = "output 0\n\nprocessor 0 exit 7\n";
 
-/// A run whose second line isn't mapped: `lui x5, 0x20; addi x5, x5, 60; lw x6, 0(x5);
-/// lw x7, 4(x5)`.
-const LEAVES: &str = "000202b7 03c28293 0002a303 0042a383";
+/// A run whose second line isn't mapped.
+const LEAVES: &str = "lui x5, 0x20; addi x5, x5, 60; lw x6, 0(x5); lw x7, 4(x5)";
 
 /// What it ends with: the second load's access.
 const LEFT: &str = "output 0\n\nprocessor 0 access 0x0001000c\n";
 
-/// A run that would store to the words in which sequences keep registers: `addi x5, x0, 0;
-/// sw x5, -12(x5); sw x5, -8(x5)`.
-const REACHES: &str = "00000293 fe52aa23 fe52ac23";
+/// A run that would store to the words in which sequences keep registers.
+const REACHES: &str = "addi x5, x0, 0; sw x5, -12(x5); sw x5, -8(x5)";
 
 /// What it ends with: the first store's access.
 const REACHED: &str = "output 0\n\nprocessor 0 access 0x00010004\n";
@@ -33,9 +38,16 @@ const REACHED: &str = "output 0\n\nprocessor 0 access 0x00010004\n";
 const FALLBACK: &str =
     "node 0 read 0 exclusive 0 upgrade 0 false 0 invalidations 0 fallbacks 1 messages 0\n";
 
-/// Processor 1 reads two words in two lines by one run: `lui x5, 0x20; beq x10, x0, 12;
-/// lw x6, 60(x5); lw x7, 64(x5); addi x10, x0, 0; addi x17, x0, 93; ecall`.
-const READS_BOTH: &str = "000202b7 00050663 03c2a303 0402a383 00000513 05d00893 00000073";
+/// Processor 1 reads two words in two lines by one run.
+const READS_BOTH: &str = "lui x5, 0x20
+beq x10, x0, end
+lw x6, 60(x5)
+lw x7, 64(x5)
+end:
+addi x10, x0, 0
+addi x17, x0, 93
+ecall
+";
 
 /// What it ends with: both lines are asked for in one wait.
 const READ_BOTH: &str = "output 0

@@ -1,33 +1,16 @@
 //! Files of rewritten code: what `rewrite` writes, runs by them, and why one is refused.
 
-use crate::calls::{Answer, NODE, call, executable, sure, try_held};
-use crate::cases::{Case, Input, try_case};
-use crate::programs::HI;
-use crate::watch::Watch;
+use command_calls::calls::{Answer, NODE, executable, rewritten, try_held};
+use command_calls::cases::{Case, Input, try_case};
+use command_calls::samples::HI;
 use std::sync::Wait;
 use std::test::Fail;
 use std::thread::Threads;
 
-/// The file that `rewrite` makes of an executable.
-pub fn rewritten(
-    rt: &(impl Threads + Wait + Sync + AllocGlobal),
-    file: &[u8],
-) -> Result<Vec<u8>, Fail> {
-    let line = "rewrite IN OUT";
-    let called = call(rt, sure(&[("IN", file)]), line, "OUT", &Watch::new(false))?;
-    let answer = Answer {
-        status: 0,
-        out: &[],
-        err: "",
-    };
-    called.expect(rt.alloc(), line, &answer)?;
-    Ok(called.written)
-}
-
 /// The rewritten file stands above the addresses that a program may have, so it is no input.
 #[test]
 fn writes_an_executable(rt: HostRuntime) -> Result<(), Fail> {
-    let file = executable(rt.alloc(), "00100073", b"", 64)?;
+    let file = executable(rt.alloc(), "ebreak", b"", 64)?;
     let code = rewritten(&rt, &file)?;
     let answer = Answer {
         status: 4,

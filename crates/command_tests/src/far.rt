@@ -1,37 +1,28 @@
 //! A direct jump past more rewritten words than a JAL reaches.
 
-use crate::calls::{Answer, NODE, push_sizes, push_words, try_held};
-use crate::code::rewritten;
-use std::alloc::Global;
+use command_calls::calls::{Answer, NODE, call, rewritten, sure, text_of, try_held};
+use command_calls::watch::Watch;
+use std::sync::Wait;
 use std::test::Fail;
+use std::thread::Threads;
 
-/// The headers of an executable of one segment, but for its sizes, flags and alignment.
-const HEADERS: &str = "464c457f 00010101 00000000 00000000 00f30002 00000001 00010000 00000034
-    00000000 00000000 00200034 00000001 00000000 00000001 00001000 00010000 00010000";
-
-/// The executable of `jal x0, 0x00071a84`, of 100,000 words `lw x5, 0(x5)`, to which nothing leads,
-/// and of `addi x10, x0, 0; addi x17, x0, 93; ecall`.
-fn far_program(alloc: Global) -> Result<Vec<u8>, Fail> {
-    let mut code = Vec::new(alloc);
-    push_words(&mut code, "2856106f")?;
+/// The executable of a jump past 100,000 loads, to which nothing leads.
+fn far_program(rt: &(impl Threads + Wait + Sync + AllocGlobal)) -> Result<Vec<u8>, Fail> {
+    let mut text = text_of(rt.alloc(), &[".segment rx 0x10000\njal x0, last\n"])?;
     for _ in 0..100_000 {
-        push_words(&mut code, "0002a283")?;
+        text.push_str("lw x5, 0(x5)\n")?;
     }
-    push_words(&mut code, "00000513 05d00893 00000073")?;
-    let mut file = Vec::new(alloc);
-    push_words(&mut file, HEADERS)?;
-    push_sizes(&mut file, code.len(), u32::try_from(code.len())?)?;
-    push_words(&mut file, "00000005 00001000")?;
-    file.resize(0x1000, 0)?;
-    file.extend_from_slice(&code)?;
-    Ok(file)
+    text.push_str("last:\naddi x10, x0, 0\naddi x17, x0, 93\necall\n")?;
+    let held = [("TEXT", text.as_bytes())];
+    let made = call(rt, sure(&held), "asm TEXT OUT", "OUT", &Watch::new(false))?;
+    Ok(made.written)
 }
 
 /// The jump's third word, at 0xa000000c, is a far jump to word 900,004. The code begins at 0x63000
 /// in the rewritten file, and has 900,008 words.
 #[test]
 fn jumps_far(rt: HostRuntime) -> Result<(), Fail> {
-    let file = far_program(rt.alloc())?;
+    let file = far_program(&rt)?;
     let answer = Answer {
         status: 0,
         out: &["output 0\n\nprocessor 0 exit 0\n", NODE],

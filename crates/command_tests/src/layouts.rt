@@ -1,22 +1,38 @@
 //! Runs with a layout: what it changes, and why it is refused.
 
 use crate::atomics::{COUNTED, COUNTER};
-use crate::calls::NODE;
-use crate::cases::{Case, Input, try_case};
+use command_calls::calls::NODE;
+use command_calls::cases::{Case, Input, try_case};
 use std::test::Fail;
 
 /// EBREAK alone, with one line of shared memory at 0x20000.
-const STOP: &str = "00100073";
+const STOP: &str = "ebreak";
 
 /// What `one` prints of it.
 const STOPPED: &str = "output 0\n\nprocessor 0 ebreak 0x00010000\n";
 
 /// Processor 0 reserves the first line, and lets processor 1 store to the second one before it
-/// stores: `lui x5, 0x20; bne x10, x0, 36; lr.w x6, (x5); addi x7, x0, 1; sw x7, 256(x5); lw x8,
-/// 260(x5); beq x8, x0, -4; sc.w x10, x7, (x5); addi x17, x0, 93; ecall; lw x8, 256(x5); beq x8,
-/// x0, -4; sw x8, 64(x5); sw x8, 260(x5); addi x10, x0, 0; addi x17, x0, 93; ecall`.
-const NEIGHBOURS: &str = "000202b7 02051263 1002a32f 00100393 1072a023 1042a403 fe040ee3 1872a52f
-    05d00893 00000073 1002a403 fe040ee3 0482a023 1082a223 00000513 05d00893 00000073";
+/// stores.
+const NEIGHBOURS: &str = "lui x5, 0x20
+bne x10, x0, other
+lr.w x6, (x5)
+addi x7, x0, 1
+sw x7, 256(x5)
+wait:
+lw x8, 260(x5)
+beq x8, x0, wait
+sc.w x10, x7, (x5)
+addi x17, x0, 93
+ecall
+other:
+lw x8, 256(x5)
+beq x8, x0, other
+sw x8, 64(x5)
+sw x8, 260(x5)
+addi x10, x0, 0
+addi x17, x0, 93
+ecall
+";
 
 /// A layout of the program that stops, and why it is refused.
 const REFUSED: [(&str, &str); 5] = [

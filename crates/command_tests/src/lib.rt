@@ -10,17 +10,9 @@ mod atomics;
 #[cfg(test)]
 mod batches;
 #[cfg(test)]
-mod calls;
-#[cfg(test)]
-mod cases;
-#[cfg(test)]
 mod code;
 #[cfg(test)]
-mod failing;
-#[cfg(test)]
 mod far;
-#[cfg(test)]
-mod faults;
 #[cfg(test)]
 mod instructions;
 #[cfg(test)]
@@ -30,16 +22,12 @@ mod multiply;
 #[cfg(test)]
 mod nodes;
 #[cfg(test)]
-mod places;
-#[cfg(test)]
 mod programs;
-#[cfg(test)]
-mod refusals;
-#[cfg(test)]
-mod replays;
 #[cfg(test)]
 mod threads;
 #[cfg(test)]
-mod waits;
+mod verified;
 #[cfg(test)]
-mod watch;
+mod verified_replays;
+#[cfg(test)]
+mod waits;

@@ -2,7 +2,7 @@
 //! and rewritten. Above each stands its assembly without the last two instructions, which are
 //! `addi x17, x0, 93; ecall`.
 
-use crate::cases::try_program;
+use command_calls::cases::try_program;
 use std::test::Fail;
 
 #[test]
@@ -15,72 +15,81 @@ fn multiplies_and_divides(rt: HostRuntime) -> Result<(), Fail> {
 
 /// Programs, the words of their data, and how each ends.
 const PROGRAMS: [(&str, &str, &str); 13] = [
-    // -2^31 / -1 is -2^31, with remainder 0: lui x5, 0x80000; addi x6, x0, -1; div x7, x5, x6; rem
-    // x28, x5, x6; srli x7, x7, 28; add x10, x7, x28
+    // -2^31 / -1 is -2^31, with remainder 0
     (
-        "800002b7 fff00313 0262c3b3 0262ee33 01c3d393 01c38533 05d00893 00000073",
+        "lui x5, 0x80000; addi x6, x0, -1; div x7, x5, x6; rem x28, x5, x6; srli x7, x7, 28;
+         add x10, x7, x28; addi x17, x0, 93; ecall",
         "",
         "exit 8",
     ),
-    // divu by zero: addi x11, x0, 1; divu x10, x11, x0
-    ("00100593 0205d533 05d00893 00000073", "", "exit 255"),
-    // mulhsu: lui x5, 0x80000; mulhsu x7, x5, x5; srli x10, x7, 24
+    // divu by zero
     (
-        "800002b7 0252a3b3 0183d513 05d00893 00000073",
+        "addi x11, x0, 1; divu x10, x11, x0; addi x17, x0, 93; ecall",
+        "",
+        "exit 255",
+    ),
+    (
+        "lui x5, 0x80000; mulhsu x7, x5, x5; srli x10, x7, 24; addi x17, x0, 93; ecall",
         "",
         "exit 192",
     ),
-    // mul: addi x5, x0, -7; addi x6, x0, 2; mul x10, x5, x6
     (
-        "ff900293 00200313 02628533 05d00893 00000073",
+        "addi x5, x0, -7; addi x6, x0, 2; mul x10, x5, x6; addi x17, x0, 93; ecall",
         "",
         "exit 242",
     ),
-    // mulh: addi x5, x0, -7; addi x6, x0, 2; mulh x10, x5, x6
     (
-        "ff900293 00200313 02629533 05d00893 00000073",
+        "addi x5, x0, -7; addi x6, x0, 2; mulh x10, x5, x6; addi x17, x0, 93; ecall",
         "",
         "exit 255",
     ),
-    // mulhu: addi x5, x0, -7; addi x6, x0, 2; mulhu x7, x5, x6; srli x10, x7, 0
     (
-        "ff900293 00200313 0262b3b3 0003d513 05d00893 00000073",
+        "addi x5, x0, -7; addi x6, x0, 2; mulhu x7, x5, x6; srli x10, x7, 0; addi x17, x0, 93;
+         ecall",
         "",
         "exit 1",
     ),
-    // div rounds towards zero: addi x5, x0, -7; addi x6, x0, 2; div x10, x5, x6
+    // div rounds towards zero
     (
-        "ff900293 00200313 0262c533 05d00893 00000073",
+        "addi x5, x0, -7; addi x6, x0, 2; div x10, x5, x6; addi x17, x0, 93; ecall",
         "",
         "exit 253",
     ),
-    // rem has the sign of the dividend: addi x5, x0, -7; addi x6, x0, 2; rem x10, x5, x6
+    // rem has the sign of the dividend
     (
-        "ff900293 00200313 0262e533 05d00893 00000073",
+        "addi x5, x0, -7; addi x6, x0, 2; rem x10, x5, x6; addi x17, x0, 93; ecall",
         "",
         "exit 255",
     ),
-    // divu: addi x5, x0, -7; addi x6, x0, 2; divu x7, x5, x6; srli x10, x7, 24
     (
-        "ff900293 00200313 0262d3b3 0183d513 05d00893 00000073",
+        "addi x5, x0, -7; addi x6, x0, 2; divu x7, x5, x6; srli x10, x7, 24; addi x17, x0, 93;
+         ecall",
         "",
         "exit 127",
     ),
-    // remu: addi x5, x0, -7; addi x6, x0, 2; remu x7, x5, x6; srli x10, x7, 0
     (
-        "ff900293 00200313 0262f3b3 0003d513 05d00893 00000073",
+        "addi x5, x0, -7; addi x6, x0, 2; remu x7, x5, x6; srli x10, x7, 0; addi x17, x0, 93;
+         ecall",
         "",
         "exit 1",
     ),
-    // div by zero: addi x5, x0, -7; div x10, x5, x0
-    ("ff900293 0202c533 05d00893 00000073", "", "exit 255"),
-    // rem by zero: addi x5, x0, -7; rem x10, x5, x0
-    ("ff900293 0202e533 05d00893 00000073", "", "exit 249"),
-    // mul between accesses of one run: lui x5, 0x20; lw x6, 0(x5); lw x7, 4(x5); mul x28, x6, x7;
-    // sw x28, 8(x5); lw x10, 8(x5)
+    // div by zero
     (
-        "000202b7 0002a303 0042a383 02730e33 01c2a423 0082a503 05d00893 00000073",
-        "00000006 00000007",
+        "addi x5, x0, -7; div x10, x5, x0; addi x17, x0, 93; ecall",
+        "",
+        "exit 255",
+    ),
+    // rem by zero
+    (
+        "addi x5, x0, -7; rem x10, x5, x0; addi x17, x0, 93; ecall",
+        "",
+        "exit 249",
+    ),
+    // mul between accesses of one run
+    (
+        "lui x5, 0x20; lw x6, 0(x5); lw x7, 4(x5); mul x28, x6, x7; sw x28, 8(x5); lw x10, 8(x5);
+         addi x17, x0, 93; ecall",
+        ".word 0x00000006; .word 0x00000007",
         "exit 42",
     ),
 ];

@@ -1,20 +1,15 @@
 //! Small programs whose whole answers are known.
 
-use crate::calls::NODE;
-use crate::cases::{Case, Input, try_case, try_program};
+use command_calls::calls::NODE;
+use command_calls::cases::{Case, Input, try_case, try_program};
+use command_calls::samples::HI;
 use std::test::Fail;
 
-/// A program that writes its three bytes of data and exits with code 0:
-/// `lui x11, 0x20; addi x10, x0, 1; addi x12, x0, 3; addi x17, x0, 64; ecall;
-/// addi x10, x0, 0; addi x17, x0, 93; ecall`.
-pub const HI: &str = "000205b7 00100513 00300613 04000893 00000073 00000513 05d00893 00000073";
-
-/// A program that loads the flag word, whose line may be read: `lui x5, 0x20; lw x6, 0(x5);
-/// addi x10, x6, 0; addi x17, x0, 93; ecall`.
-const FALSE_LOAD: &str = "000202b7 0002a303 00030513 05d00893 00000073";
+/// A program that loads the flag word, whose line may be read.
+pub const FALSE_LOAD: &str = "lui x5, 0x20; lw x6, 0(x5); addi x10, x6, 0; addi x17, x0, 93; ecall";
 
 /// The line of a node that counted a false miss.
-const FALSE_MISS: &str =
+pub const FALSE_MISS: &str =
     "node 0 read 0 exclusive 0 upgrade 0 false 1 invalidations 0 fallbacks 0 messages 0\n";
 
 const CASES: [Case; 9] = [
@@ -122,45 +117,41 @@ fn answers_for_a_program_that_writes(rt: HostRuntime) -> Result<(), Fail> {
 
 /// Programs that print nothing, their data, and how each ends.
 const ENDINGS: [(&str, &str, &str); 13] = [
-    // ebreak
-    ("00100073", "", "ebreak 0x00010000"),
-    // lui x5, 0x80000; lw x6, 0(x5)
-    ("800002b7 0002a303", "", "access 0x00010004"),
-    // lw x6, -4(x0)
-    ("ffc02303", "", "access 0x00010000"),
-    // lui x5, 0x30; lw x6, 0(x5)
-    ("000302b7 0002a303", "", "access 0x00010004"),
-    // lui x5, 0x20; lw x6, 1(x5)
-    ("000202b7 0012a303", "", "misaligned 0x00010004"),
-    // lui x5, 0x30; sw x0, 1(x5)
-    ("000302b7 0002a0a3", "", "misaligned 0x00010004"),
-    // addi x5, x0, 3; addi x5, x5, -1; bne x5, x0, -4; addi x10, x0, 1; addi x17, x0, 93; ecall:
+    ("ebreak", "", "ebreak 0x00010000"),
+    ("lui x5, 0x80000; lw x6, 0(x5)", "", "access 0x00010004"),
+    ("lw x6, -4(x0)", "", "access 0x00010000"),
+    ("lui x5, 0x30; lw x6, 0(x5)", "", "access 0x00010004"),
+    ("lui x5, 0x20; lw x6, 1(x5)", "", "misaligned 0x00010004"),
+    ("lui x5, 0x30; sw x0, 1(x5)", "", "misaligned 0x00010004"),
     // the loop polls
     (
-        "00300293 fff28293 fe029ee3 00100513 05d00893 00000073",
+        "addi x5, x0, 3; again:; addi x5, x5, -1; bne x5, x0, again; addi x10, x0, 1;
+         addi x17, x0, 93; ecall",
         "",
         "exit 1",
     ),
-    // addi x17, x0, 93; lui x10, 0x20; lw x10, 0(x10); ecall: no register is dead at the load
-    ("05d00893 00020537 00052503 00000073", "00000005", "exit 5"),
-    // lui x5, 0x20; addi x6, x0, 1; lui x28, 0x10; jalr x1, 20(x28); lw x6, 0(x5); lw x7, 4(x5);
-    // add x10, x6, x7; addi x17, x0, 93; ecall: the jump lands between two loads
+    // no register is dead at the load
     (
-        "000202b7 00100313 00010e37 014e00e7 0002a303 0042a383 00730533 05d00893 00000073",
-        "00000005 00000006",
+        "addi x17, x0, 93; lui x10, 0x20; lw x10, 0(x10); ecall",
+        ".word 0x00000005",
+        "exit 5",
+    ),
+    // the jump lands between two loads
+    (
+        "lui x5, 0x20; addi x6, x0, 1; lui x28, 0x10; jalr x1, 20(x28); lw x6, 0(x5);
+         lw x7, 4(x5); add x10, x6, x7; addi x17, x0, 93; ecall",
+        ".word 0x00000005; .word 0x00000006",
         "exit 7",
     ),
     // a word that is no instruction
-    ("00000000", "", "illegal 0x00010000"),
-    // addi x0, x0, 0
-    ("00000013", "", "fetch 0x00010004"),
-    // lui x5, 0xa0000; jalr x1, 4(x5): a jump to where rewritten words stand
-    ("a00002b7 004280e7", "", "fetch 0xa0000004"),
-    // addi x10, x0, 1; lui x11, 0x80000; addi x12, x0, 4; addi x17, x0, 64; ecall;
-    // sub x10, x0, x10; addi x17, x0, 93; ecall: the write of bytes that stand where a node keeps
-    // its states is refused
+    ("illegal", "", "illegal 0x00010000"),
+    ("addi x0, x0, 0", "", "fetch 0x00010004"),
+    // a jump to where rewritten words stand
+    ("lui x5, 0xa0000; jalr x1, 4(x5)", "", "fetch 0xa0000004"),
+    // the write of bytes that stand where a node keeps its states is refused
     (
-        "00100513 800005b7 00400613 04000893 00000073 40a00533 05d00893 00000073",
+        "addi x10, x0, 1; lui x11, 0x80000; addi x12, x0, 4; addi x17, x0, 64; ecall;
+         sub x10, x0, x10; addi x17, x0, 93; ecall",
         "",
         "exit 14",
     ),

@@ -1,25 +1,42 @@
 //! `run` on two nodes in threads of their own, its record, and what a gate is told.
 
-use crate::calls::{Answer, call, executable, sure};
-use crate::cases::{Case, Input, try_case};
-use crate::faults::USAGE;
-use crate::nodes::{BLOCKS, READ, READS, STAYED, STAYS, STORES, WAITED, WAITS};
-use crate::watch::Watch;
+use command_calls::calls::{Answer, call, executable, sure};
+use command_calls::cases::{Case, Input, try_case};
+use command_calls::samples::{BLOCKS, READ, READS, STAYED, STAYS, STORES, USAGE, WAITED, WAITS};
+use command_calls::watch::Watch;
 use std::str::from_utf8;
 use std::sync::Wait;
 use std::test::Fail;
 use std::thread::Threads;
 
 /// Each of two processors adds 1 to a word a thousand times, by LR and SC, and says by an AMO on
-/// another line that it is done; processor 0 waits for both, and writes the word:
-/// `lui x5, 0x20; addi x6, x0, 1000; lr.w x7, (x5); addi x7, x7, 1; sc.w x28, x7, (x5);
-/// bne x28, x0, -12; addi x6, x6, -1; bne x6, x0, -20; addi x29, x5, 64; addi x30, x0, 1;
-/// amoadd.w x0, x30, (x29); bne x10, x0, 32; lw x31, 0(x29); bne x31, x11, -4; addi x10, x0, 1;
-/// addi x12, x0, 4; addi x11, x5, 0; addi x17, x0, 64; ecall; addi x10, x0, 0; addi x17, x0, 93;
-/// ecall`.
-pub const COUNTS: &str = "000202b7 3e800313 1002a3af 00138393 1872ae2f fe0e1ae3 fff30313 fe0316e3
-    04028e93 00100f13 01eea02f 02051063 000eaf83 febf9ee3 00100513 00400613 00028593 04000893
-    00000073 00000513 05d00893 00000073";
+/// another line that it is done; processor 0 waits for both, and writes the word.
+pub const COUNTS: &str = "lui x5, 0x20
+addi x6, x0, 1000
+again:
+lr.w x7, (x5)
+addi x7, x7, 1
+sc.w x28, x7, (x5)
+bne x28, x0, again
+addi x6, x6, -1
+bne x6, x0, again
+addi x29, x5, 64
+addi x30, x0, 1
+amoadd.w x0, x30, (x29)
+bne x10, x0, other
+wait:
+lw x31, 0(x29)
+bne x31, x11, wait
+addi x10, x0, 1
+addi x12, x0, 4
+addi x11, x5, 0
+addi x17, x0, 64
+ecall
+other:
+addi x10, x0, 0
+addi x17, x0, 93
+ecall
+";
 
 /// What it ends with: the word is 2000.
 pub const COUNTED: &[u8] = b"output 4\n\xd0\x07\x00\x00\nprocessor 0 exit 0\nprocessor 1 exit 0\n";

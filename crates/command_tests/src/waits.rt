@@ -1,15 +1,21 @@
 //! Nodes in threads by gates that are open, and nodes that wait: for messages that none tells them
 //! of, and for ever.
 
-use crate::calls::executable;
-use crate::cases::{Case, Input, try_case};
 use crate::threads::{COUNTS, RUN, try_counting};
-use crate::watch::Watch;
+use command_calls::calls::executable;
+use command_calls::cases::{Case, Input, try_case};
+use command_calls::watch::Watch;
 use std::test::Fail;
 
-/// Each processor reads a word of shared memory until another stores to it, which none does:
-/// `lui x5, 0x20; lw x6, 0(x5); beq x6, x0, -4; addi x10, x0, 0; addi x17, x0, 93; ecall`.
-const SPINS: &str = "000202b7 0002a303 fe030ee3 00000513 05d00893 00000073";
+/// Each processor reads a word of shared memory until another stores to it, which none does.
+const SPINS: &str = "lui x5, 0x20
+again:
+lw x6, 0(x5)
+beq x6, x0, again
+addi x10, x0, 0
+addi x17, x0, 93
+ecall
+";
 
 /// What each ends with, of ten thousand words.
 const ALONE: &str = "output 0\n\nprocessor 0 stopped 10000\n";

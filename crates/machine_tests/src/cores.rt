@@ -21,24 +21,39 @@ use std::test::Fail;
 use std::thread::Threads;
 use workload::program_of as generate;
 
-/// A processor other than 0 loads a shared word; each exits with code 0:
-/// `lui x5, 0x20; beq x10, x0, 8; lw x6, 0(x5); addi x10, x0, 0; addi x17, x0, 93; ecall`.
-const ROW: [u32; 6] = [
-    0x000202b7, 0x00050463, 0x0002a303, 0x00000513, 0x05d00893, 0x00000073,
-];
+/// A processor other than 0 loads a shared word; each exits with code 0.
+const ROW: &str = "lui x5, 0x20
+beq x10, x0, end
+lw x6, 0(x5)
+end:
+addi x10, x0, 0
+addi x17, x0, 93
+ecall
+";
 
-/// The same, where it stores the word: `sw x6, 0(x5)` in place of the load.
-const STRANGER: [u32; 6] = [
-    0x000202b7, 0x00050463, 0x0062a023, 0x00000513, 0x05d00893, 0x00000073,
-];
+/// The same, where it stores the word in place of the load.
+const STRANGER: &str = "lui x5, 0x20
+beq x10, x0, end
+sw x6, 0(x5)
+end:
+addi x10, x0, 0
+addi x17, x0, 93
+ecall
+";
 
-/// Each processor loads a shared word, writes no byte, stores the word and exits with code 0: `lui
-/// x5, 0x20; lw x6, 0(x5); addi x10, x0, 1; addi x11, x5, 0; addi x12, x0, 0; addi x17, x0, 64;
-/// ecall; sw x6, 0(x5); addi x10, x0, 0; addi x17, x0, 93; ecall`.
-const SHARERS: [u32; 11] = [
-    0x000202b7, 0x0002a303, 0x00100513, 0x00028593, 0x00000613, 0x04000893, 0x00000073, 0x0062a023,
-    0x00000513, 0x05d00893, 0x00000073,
-];
+/// Each processor loads a shared word, writes no byte, stores the word and exits with code 0.
+const SHARERS: &str = "lui x5, 0x20
+lw x6, 0(x5)
+addi x10, x0, 1
+addi x11, x5, 0
+addi x12, x0, 0
+addi x17, x0, 64
+ecall
+sw x6, 0(x5)
+addi x10, x0, 0
+addi x17, x0, 93
+ecall
+";
 
 /// What a node counts that sent so many messages, and nothing else.
 fn sent(messages: u64) -> NodeCounts {
@@ -357,7 +372,7 @@ fn has_come(
 /// Has nodes of the program with this code and data do so, and fails the test where they don't.
 fn try_case(
     rt: &(impl Threads + Wait + Sync + AllocGlobal),
-    code: &[u32],
+    code: &str,
     data: (&[u8], u32),
     nodes: u8,
     case: Case,
@@ -394,9 +409,9 @@ const SEVEN: (&[u8], u32) = (&[7, 0, 0, 0], 64);
 
 #[test]
 fn two_nodes_print_read_and_share(rt: HostRuntime) -> Result<(), Fail> {
-    try_case(&rt, &HI, (b"hi\n", 3), 2, Case::Print)?;
-    try_case(&rt, &ROW, SEVEN, 2, Case::Read)?;
-    try_case(&rt, &SHARERS, SEVEN, 2, Case::Share)
+    try_case(&rt, HI, (b"hi\n", 3), 2, Case::Print)?;
+    try_case(&rt, ROW, SEVEN, 2, Case::Read)?;
+    try_case(&rt, SHARERS, SEVEN, 2, Case::Share)
 }
 
 /// The home sends the forwarded request and the data of each miss; and for an upgrade the Inval to
@@ -406,12 +421,12 @@ fn outcomes_of_two_nodes(rt: HostRuntime) -> Result<(), Fail> {
     let reader = NodeCounts { read: 1, ..sent(2) };
     try_case(
         &rt,
-        &HI,
+        HI,
         (b"hi\n", 3),
         2,
         Case::Finish(b"hi\nhi\n", [sent(2), reader]),
     )?;
-    try_case(&rt, &ROW, SEVEN, 2, Case::Finish(b"", [sent(2), reader]))?;
+    try_case(&rt, ROW, SEVEN, 2, Case::Finish(b"", [sent(2), reader]))?;
     let home = NodeCounts {
         invalidations: 1,
         ..sent(2)
@@ -420,13 +435,7 @@ fn outcomes_of_two_nodes(rt: HostRuntime) -> Result<(), Fail> {
         exclusive: 1,
         ..sent(2)
     };
-    try_case(
-        &rt,
-        &STRANGER,
-        SEVEN,
-        2,
-        Case::Finish(b"", [home, stranger]),
-    )?;
+    try_case(&rt, STRANGER, SEVEN, 2, Case::Finish(b"", [home, stranger]))?;
     let home = NodeCounts {
         invalidations: 1,
         ..sent(5)
@@ -436,12 +445,12 @@ fn outcomes_of_two_nodes(rt: HostRuntime) -> Result<(), Fail> {
         upgrade: 1,
         ..sent(4)
     };
-    try_case(&rt, &SHARERS, SEVEN, 2, Case::Finish(b"", [home, sharer]))
+    try_case(&rt, SHARERS, SEVEN, 2, Case::Finish(b"", [home, sharer]))
 }
 
 #[test]
 fn sixteen_nodes_over_links_of_one_wire(rt: HostRuntime) -> Result<(), Fail> {
-    try_case(&rt, &ROW, SEVEN, 16, Case::Race)
+    try_case(&rt, ROW, SEVEN, 16, Case::Race)
 }
 
 /// As over longer links, the generated executable of number 0 prints eight times the sum.

@@ -10,7 +10,7 @@ use std::test::Fail;
 /// A program, a place of it, where the sequences of the place begin, of how many bytes its batch
 /// is, and the words of the sequences and of what follows.
 struct Sequence {
-    code: &'static [u32],
+    code: &'static str,
     place: u32,
     at: u32,
     batch: u32,
@@ -20,7 +20,7 @@ struct Sequence {
 const SEQUENCES: [Sequence; 10] = [
     // the whole of a program that writes, from the word before its first place
     Sequence {
-        code: &HI,
+        code: HI,
         place: 0x00010000,
         at: 0xa0000004,
         batch: 0,
@@ -31,16 +31,15 @@ const SEQUENCES: [Sequence; 10] = [
     },
     // its last place, which no word of the program has
     Sequence {
-        code: &HI,
+        code: HI,
         place: 0x00010020,
         at: 0xa0000024,
         batch: 0,
         words: &[0x0000002b],
     },
-    // addi x17, x0, 93; lui x10, 0x20; lw x10, 0(x10); ecall: the load spills two registers, and
-    // tests the readable bit of the state byte
+    // the load spills two registers, and tests the readable bit of the state byte
     Sequence {
-        code: &[0x05d00893, 0x00020537, 0x00052503, 0x00000073],
+        code: "addi x17, x0, 93; lui x10, 0x20; lw x10, 0(x10); ecall",
         place: 0x00010008,
         at: 0xa000000c,
         batch: 0,
@@ -49,9 +48,9 @@ const SEQUENCES: [Sequence; 10] = [
             0x0020f093, 0x00008463, 0x0005010b, 0x00052503, 0xffc02083, 0xff802103, 0x0000300b,
         ],
     },
-    // lui x5, 0x20; lw x6, 0(x5); ecall: the load spills one register, and looks at its value
+    // the load spills one register, and looks at its value
     Sequence {
-        code: &[0x000202b7, 0x0002a303, 0x00000073],
+        code: "lui x5, 0x20; lw x6, 0(x5); ecall",
         place: 0x00010004,
         at: 0xa0000008,
         batch: 0,
@@ -60,9 +59,9 @@ const SEQUENCES: [Sequence; 10] = [
             0x0002a303, 0xffc02083, 0x0000300b,
         ],
     },
-    // jal x0, 4; beq x0, x0, 0; jalr x0, 0(x0): the last two may close a loop, and poll
+    // the last two may close a loop, and poll
     Sequence {
-        code: &[0x0040006f, 0x00000063, 0x00000067],
+        code: "jal x0, there; there:; beq x0, x0, there; jalr x0, 0(x0)",
         place: 0x00010000,
         at: 0xa0000004,
         batch: 0,
@@ -71,9 +70,8 @@ const SEQUENCES: [Sequence; 10] = [
             0x0000400b, 0x0000002b,
         ],
     },
-    // lui x5, 0x20; lr.w x6, (x5); ecall
     Sequence {
-        code: &[0x000202b7, 0x1002a32f, 0x00000073],
+        code: "lui x5, 0x20; lr.w x6, (x5); ecall",
         place: 0x00010004,
         at: 0xa0000008,
         batch: 0,
@@ -82,17 +80,16 @@ const SEQUENCES: [Sequence; 10] = [
             0x0020f093, 0x00008463, 0x0002810b, 0x1002a32f, 0xffc02083, 0xff802103, 0x0000300b,
         ],
     },
-    // lui x5, 0x20; sc.w x6, x7, (x5); ecall
     Sequence {
-        code: &[0x000202b7, 0x1872a32f, 0x00000073],
+        code: "lui x5, 0x20; sc.w x6, x7, (x5); ecall",
         place: 0x00010004,
         at: 0xa0000008,
         batch: 0,
         words: &[0x0002e00b, 0x1872a32f, 0x0000300b],
     },
-    // lui x5, 0x20; amoadd.w x6, x7, (x5); ecall: tests the whole state byte
+    // tests the whole state byte
     Sequence {
-        code: &[0x000202b7, 0x0072a32f, 0x00000073],
+        code: "lui x5, 0x20; amoadd.w x6, x7, (x5); ecall",
         place: 0x00010004,
         at: 0xa0000008,
         batch: 0,
@@ -101,14 +98,10 @@ const SEQUENCES: [Sequence; 10] = [
             0x00008463, 0x0002910b, 0x0072a32f, 0xffc02083, 0xff802103, 0x0000300b,
         ],
     },
-    // lui x5, 0x20; addi x6, x0, 1; lui x28, 0x10; jalr x1, 20(x28); lw x6, 0(x5); lw x7, 4(x5);
-    // add x10, x6, x7; addi x17, x0, 93; ecall: a run of two loads, by dead registers; behind it
-    // the single sequences
+    // a run of two loads, by dead registers; behind it the single sequences
     Sequence {
-        code: &[
-            0x000202b7, 0x00100313, 0x00010e37, 0x014e00e7, 0x0002a303, 0x0042a383, 0x00730533,
-            0x05d00893, 0x00000073,
-        ],
+        code: "lui x5, 0x20; addi x6, x0, 1; lui x28, 0x10; jalr x1, 20(x28); lw x6, 0(x5);
+               lw x7, 4(x5); add x10, x6, x7; addi x17, x0, 93; ecall",
         place: 0x00010010,
         at: 0xa0000018,
         batch: 76,
@@ -120,9 +113,9 @@ const SEQUENCES: [Sequence; 10] = [
             0x0042a383, 0xf0300513, 0x00a39663, 0x0042810b, 0x0042a383, 0x00730533,
         ],
     },
-    // lui x5, 0x20; sw x0, 0(x5); sb x0, 4(x5); ecall: a run of two stores spills three registers
+    // a run of two stores spills three registers
     Sequence {
-        code: &[0x000202b7, 0x0002a023, 0x00028223, 0x00000073],
+        code: "lui x5, 0x20; sw x0, 0(x5); sb x0, 4(x5); ecall",
         place: 0x00010004,
         at: 0xa0000008,
         batch: 108,
@@ -154,7 +147,7 @@ fn has_words(image: &Image, sequence: &Sequence) -> bool {
 fn is_rewritten(image: &Image, sequence: &Sequence) -> bool {
     image.word_at(0xa0000000) == Some(0x0000102b)
         && has_words(image, sequence)
-        && (sequence.code.len() != HI.len() || image.len() == 10)
+        && (sequence.code != HI || image.len() == 10)
 }
 
 #[test]

@@ -50,106 +50,99 @@ fn print_and_end(machine: &mut OneMemory<'_>) -> Result<bool, Fail>
 /// and a word. Whether the word ends the reservation, and whether processor 1 may break it before.
 struct Case {
     /// Puts the address to be reserved in x7; x5 is 0x20000.
-    address: u32,
+    address: &'static str,
     nothing: usize,
-    word: u32,
+    word: &'static str,
     ends: bool,
     breaks: bool,
 }
 
 const CASES: [Case; 9] = [
-    // addi x7, x5, 0; sw x0, 4(x5): into the block
+    // into the block
     Case {
-        address: 0x00028393,
+        address: "addi x7, x5, 0",
         nothing: 0,
-        word: 0x0002a223,
+        word: "sw x0, 4(x5)",
         ends: true,
         breaks: true,
     },
-    // sw x0, 64(x5): into the next block
+    // into the next block
     Case {
-        address: 0x00028393,
+        address: "addi x7, x5, 0",
         nothing: 0,
-        word: 0x0402a023,
+        word: "sw x0, 64(x5)",
         ends: false,
         breaks: false,
     },
-    // amoadd.w x0, x0, (x5)
     Case {
-        address: 0x00028393,
+        address: "addi x7, x5, 0",
         nothing: 0,
-        word: 0x0002a02f,
+        word: "amoadd.w x0, x0, (x5)",
         ends: true,
         breaks: true,
     },
-    // sc.w x0, x0, (x5): it fails, since processor 1 has no reservation
+    // it fails, since processor 1 has no reservation
     Case {
-        address: 0x00028393,
+        address: "addi x7, x5, 0",
         nothing: 0,
-        word: 0x1802a02f,
+        word: "sc.w x0, x0, (x5)",
         ends: false,
         breaks: true,
     },
-    // addi x7, x2, -16; sw x0, -16(x2): each in its own window
+    // each in its own window
     Case {
-        address: 0xff010393,
+        address: "addi x7, x2, -16",
         nothing: 0,
-        word: 0xfe012823,
+        word: "sw x0, -16(x2)",
         ends: false,
         breaks: false,
     },
     // the same, and sw x0, 4(x5)
     Case {
-        address: 0xff010393,
+        address: "addi x7, x2, -16",
         nothing: 0,
-        word: 0x0002a223,
+        word: "sw x0, 4(x5)",
         ends: false,
         breaks: false,
     },
     // a stretch of 16 instructions
     Case {
-        address: 0x00028393,
+        address: "addi x7, x5, 0",
         nothing: 15,
-        word: 0x0002a223,
+        word: "sw x0, 4(x5)",
         ends: true,
         breaks: true,
     },
     // a stretch of 17
     Case {
-        address: 0x00028393,
+        address: "addi x7, x5, 0",
         nothing: 16,
-        word: 0x0002a223,
+        word: "sw x0, 4(x5)",
         ends: true,
         breaks: false,
     },
     // an AMO behind another instruction
     Case {
-        address: 0x00028393,
+        address: "addi x7, x5, 0",
         nothing: 1,
-        word: 0x0002a02f,
+        word: "amoadd.w x0, x0, (x5)",
         ends: true,
         breaks: false,
     },
 ];
 
-/// Both processors: lui x5, 0x20; the address; bne x10, x0, 20. Processor 0: lr.w x6, (x7);
-/// sc.w x10, x6, (x7); addi x17, x0, 93; ecall. Processor 1: what the case says; ebreak.
-fn code_of(alloc: Global, case: &Case) -> Result<Vec<u32>, AllocError> {
-    let mut code = Vec::new(alloc);
-    code.extend_from_slice(&[
-        0x000202b7,
-        case.address,
-        0x00051a63,
-        0x1003a32f,
-        0x1863a52f,
-        0x05d00893,
-        0x00000073,
-    ])?;
+/// Both processors compute the address. Processor 0 reserves it and stores there, and exits;
+/// processor 1 does what the case says.
+fn code_of(alloc: Global, case: &Case) -> Result<String, AllocError> {
+    let mut code = String::from_str(alloc, "lui x5, 0x20; ")?;
+    code.push_str(case.address)?;
+    code.push_str("; bne x10, x0, other; lr.w x6, (x7); sc.w x10, x6, (x7); ")?;
+    code.push_str("addi x17, x0, 93; ecall; other:; ")?;
     for _ in 0..case.nothing {
-        code.push(0x00000013)?;
+        code.push_str("addi x0, x0, 0; ")?;
     }
-    code.push(case.word)?;
-    code.push(0x00100073)?;
+    code.push_str(case.word)?;
+    code.push_str("; ebreak")?;
     Ok(code)
 }
 
@@ -222,7 +215,7 @@ fn does(machine: &mut OneMemory<'_>, what: Play<'_>) -> Result<bool, Fail>
 
 /// Fails the test where two processors of this program, whose data's memory has 128 bytes, do
 /// otherwise than they should.
-fn try_play(alloc: Global, code: &[u32], what: Play<'_>) -> Result<(), Fail> {
+fn try_play(alloc: Global, code: &str, what: Play<'_>) -> Result<(), Fail> {
     let file = executable(alloc, code, b"hi\n", 128)?;
     let elf = read_elf(alloc, &file)?;
     let program = accept(alloc, &elf)?;
@@ -240,7 +233,7 @@ fn try_play(alloc: Global, code: &[u32], what: Play<'_>) -> Result<(), Fail> {
 
 #[test]
 fn two_processors_print_and_end(rt: HostRuntime) -> Result<(), Fail> {
-    try_play(rt.alloc(), &HI, Play::Print)
+    try_play(rt.alloc(), HI, Play::Print)
 }
 
 #[test]

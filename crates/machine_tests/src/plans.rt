@@ -12,17 +12,24 @@ use rv32_decode::Reg;
 use std::test::Fail;
 use templates::{Plan, Scratch};
 
-/// addi x5, x0, 3; addi x5, x5, -1; bne x5, x0, 0x00010004; addi x6, x0, 1; sw x6, 0(x7);
-/// jal x0, 0x00010014
-const LOOP: [u32; 6] = [
-    0x00300293, 0xfff28293, 0xfe029ee3, 0x00100313, 0x0063a023, 0x0000006f,
-];
+const LOOP: &str = "addi x5, x0, 3
+again:
+addi x5, x5, -1
+bne x5, x0, again
+addi x6, x0, 1
+sw x6, 0(x7)
+stay:
+jal x0, stay
+";
 
-/// addi x10, x0, 0; addi x17, x0, 93; ecall; lw x6, 0(x5); ecall
-const CALL: [u32; 5] = [0x00000513, 0x05d00893, 0x00000073, 0x0002a303, 0x00000073];
+const CALL: &str = "addi x10, x0, 0; addi x17, x0, 93; ecall; lw x6, 0(x5); ecall";
 
-/// lb x6, 0(x5); beq x5, x6, 0x00010006; addi x7, x0, 1; jalr x0, 0(x1); ebreak
-const ODD_BRANCH: [u32; 5] = [0x00028303, 0x00628163, 0x00100393, 0x00008067, 0x00100073];
+const ODD_BRANCH: &str = "lb x6, 0(x5)
+beq x5, x6, 0x00010006
+addi x7, x0, 1
+jalr x0, 0(x1)
+ebreak
+";
 
 /// The successors of a code word, whether it goes back, and whether anywhere.
 type Edges = (Option<u32>, Option<u32>, bool, bool);
@@ -37,7 +44,7 @@ type Chosen = (u8, bool);
 /// What is known of a program, at addresses: its edges, its dead registers, and the scratch
 /// registers s and t of its sequences.
 struct Known {
-    code: &'static [u32],
+    code: &'static str,
     edges: &'static [(u32, Option<Edges>)],
     dead: &'static [(u32, Option<Dead>)],
     scratches: &'static [(u32, Option<(Chosen, Chosen)>)],
@@ -45,7 +52,7 @@ struct Known {
 
 const KNOWN: [Known; 3] = [
     Known {
-        code: &LOOP,
+        code: LOOP,
         edges: &[
             (
                 0x00010008,
@@ -68,7 +75,7 @@ const KNOWN: [Known; 3] = [
         ],
     },
     Known {
-        code: &CALL,
+        code: CALL,
         edges: &[],
         dead: &[
             // a call uses every register, and goes on
@@ -83,7 +90,7 @@ const KNOWN: [Known; 3] = [
         ],
     },
     Known {
-        code: &ODD_BRANCH,
+        code: ODD_BRANCH,
         edges: &[],
         dead: &[
             // a target that isn't a multiple of four is no successor
@@ -168,8 +175,8 @@ fn edges_dead_registers_and_scratches(rt: HostRuntime) -> Result<(), Fail> {
         let live = Live::of(alloc, &graph)?;
         let plan = plan_checks(alloc, &live)?;
         if !is_known(&live, &plan, known) {
-            let words = known.code.len();
-            return Err(Fail::new(format_args!("the program of {words} words")));
+            let code = known.code;
+            return Err(Fail::new(format_args!("the program {code}")));
         }
     }
     Ok(())

@@ -12,7 +12,7 @@ const TEMPLATES: [u8; 9] = [0, 0, 0, 0, 7, 0, 0, 7, 9];
 
 /// The file of the rewritten program of `HI`.
 fn rewritten_file(alloc: Global) -> Result<Vec<u8>, Fail> {
-    let file = executable(alloc, &HI, b"hi\n", 3)?;
+    let file = executable(alloc, HI, b"hi\n", 3)?;
     let elf = read_elf(alloc, &file)?;
     let program = accept(alloc, &elf)?;
     let rewritten = rewrite(alloc, &program, Options { batch: true })?;
@@ -69,7 +69,7 @@ fn part_refused(alloc: Global, offset: usize) -> Result<Option<Part>, Fail> {
     if let Some(byte) = out.get_mut(offset) {
         *byte ^= 1;
     }
-    let file = executable(alloc, &HI, b"hi\n", 3)?;
+    let file = executable(alloc, HI, b"hi\n", 3)?;
     let original = read_elf(alloc, &file)?;
     let program = accept(alloc, &original)?;
     let elf = read_elf(alloc, &out)?;

@@ -8,11 +8,15 @@ use rewriter::{Options, rewrite};
 use std::alloc::Global;
 use std::test::Fail;
 
-/// addi x5, x0, 3; addi x5, x5, -1; bne x5, x0, 0x00010004; addi x6, x0, 1; sw x6, 0(x7);
-/// jal x0, 0x00010014
-const LOOP: [u32; 6] = [
-    0x00300293, 0xfff28293, 0xfe029ee3, 0x00100313, 0x0063a023, 0x0000006f,
-];
+const LOOP: &str = "addi x5, x0, 3
+again:
+addi x5, x5, -1
+bne x5, x0, again
+addi x6, x0, 1
+sw x6, 0(x7)
+stay:
+jal x0, stay
+";
 
 /// The look at the state of the store's line by x2 and x1 in place of x1 and x2: addi x2, x7, 0;
 /// lui x1, 0x80000; srli x2, x2, 6; add x2, x2, x1; lbu x2, 0(x2); beq x2, x0, +8
@@ -24,7 +28,7 @@ const OTHER_LOOK: [u32; 6] = [
 type Refusal = (&'static str, u32);
 
 /// The file of the rewritten program of these words.
-fn rewritten_file(alloc: Global, code: &[u32]) -> Result<Vec<u8>, Fail> {
+fn rewritten_file(alloc: Global, code: &str) -> Result<Vec<u8>, Fail> {
     let file = executable(alloc, code, b"hi\n", 3)?;
     let elf = read_elf(alloc, &file)?;
     let program = accept(alloc, &elf)?;
@@ -35,7 +39,7 @@ fn rewritten_file(alloc: Global, code: &[u32]) -> Result<Vec<u8>, Fail> {
 }
 
 /// What a file is refused for as one of the program of these words, if it is.
-fn refusal(alloc: Global, code: &[u32], out: &[u8]) -> Result<Option<Refusal>, Fail> {
+fn refusal(alloc: Global, code: &str, out: &[u8]) -> Result<Option<Refusal>, Fail> {
     let file = executable(alloc, code, b"hi\n", 3)?;
     let original = read_elf(alloc, &file)?;
     let program = accept(alloc, &original)?;
@@ -53,11 +57,11 @@ fn refusal(alloc: Global, code: &[u32], out: &[u8]) -> Result<Option<Refusal>, F
 
 /// What the file of `HI` is refused for where its byte at an offset is changed.
 fn refusal_with(alloc: Global, offset: usize) -> Result<Option<Refusal>, Fail> {
-    let mut out = rewritten_file(alloc, &HI)?;
+    let mut out = rewritten_file(alloc, HI)?;
     if let Some(byte) = out.get_mut(offset) {
         *byte ^= 1;
     }
-    refusal(alloc, &HI, &out)
+    refusal(alloc, HI, &out)
 }
 
 /// The entry stands at 0x18 of the file, the code at 0x3000, the plan behind its 40 bytes, the map
@@ -91,14 +95,14 @@ fn put(out: &mut Vec<u8>, offset: usize, bytes: &[u8]) {
 #[test]
 fn takes_another_plan(rt: HostRuntime) -> Result<(), Fail> {
     let alloc = rt.alloc();
-    let mut out = rewritten_file(alloc, &LOOP)?;
+    let mut out = rewritten_file(alloc, LOOP)?;
     put(&mut out, 0x3071, &[7, 2]);
-    assert_eq!(rt; refusal(alloc, &LOOP, &out)?, Some(("BadPlan", 0x00010010)));
+    assert_eq!(rt; refusal(alloc, LOOP, &out)?, Some(("BadPlan", 0x00010010)));
     put(&mut out, 0x3071, &[2, 1]);
-    assert_eq!(rt; refusal(alloc, &LOOP, &out)?, Some(("BadCode", 0xa000001c)));
+    assert_eq!(rt; refusal(alloc, LOOP, &out)?, Some(("BadCode", 0xa000001c)));
     for (k, word) in OTHER_LOOK.iter().enumerate() {
         put(&mut out, 0x301c + 4 * k, &word.to_le_bytes());
     }
-    assert_eq!(rt; refusal(alloc, &LOOP, &out)?, None);
+    assert_eq!(rt; refusal(alloc, LOOP, &out)?, None);
     Ok(())
 }

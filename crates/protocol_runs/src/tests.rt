@@ -122,3 +122,39 @@ fn home_of_sixteen_sharers_answers_a_write(rt: HostRuntime) -> Result<(), Fail> 
 fn sent(post: &Post) -> (u8, (&'static str, u8, u8)) {
     (post.to, parts(&post.message))
 }
+
+/// What node 0 takes of two blocks: a Write, or a Done; the sender and the block; and the requester
+/// of what is then sent, or 0.
+const AT_HOME: [(bool, u8, u32, u8); 12] = [
+    (true, 1, 0, 1),
+    (true, 1, 1, 1),
+    (true, 2, 0, 0),
+    (true, 3, 1, 0),
+    (true, 3, 0, 0),
+    (true, 2, 1, 0),
+    (false, 1, 0, 2),
+    (false, 1, 1, 3),
+    (false, 2, 0, 3),
+    (false, 3, 1, 2),
+    (false, 3, 0, 0),
+    (false, 2, 1, 0),
+];
+
+#[test]
+fn requests_for_two_blocks_wait_each_in_order(rt: HostRuntime) -> Result<(), Fail> {
+    let layout = layout_of(rt.alloc(), 2, 4)?;
+    let mut directory = Directory::new(rt.alloc(), &layout, 0, 4)?;
+    for (asks, from, block, requester) in AT_HOME {
+        let sends = if asks {
+            directory.ask(from, block, Need::Write, buffer(rt.alloc())?)
+        } else {
+            directory.done(from, block)
+        };
+        let begun = match sends.as_slice().first() {
+            Some(post) => sent(post).1.1,
+            None => 0,
+        };
+        assert_eq!(rt; begun, requester);
+    }
+    Ok(())
+}

@@ -1,9 +1,9 @@
 //! Refusals of executables and of layouts at the first and the last place that they may name, and
 //! of two faulty lines the first.
 
-use crate::calls::{Answer, executable, text_of, try_held};
-use crate::programs::HI;
 use crate::refusals::{Rule, WHOLE, break_by, file_of, try_refused};
+use command_calls::calls::{Answer, executable, text_of, try_held};
+use command_calls::samples::HI;
 use std::sync::Wait;
 use std::test::Fail;
 use std::thread::Threads;

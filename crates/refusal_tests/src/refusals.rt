@@ -1,14 +1,16 @@
 //! Each refusal of a file with its line, alone and with another: the one that is judged first is
 //! told.
 
-use crate::calls::{Answer, NODE, executable, push_sizes, push_words, text_of, try_held};
+use command_calls::calls::{
+    Answer, NODE, executable, push_code, push_sizes, push_words, text_of, try_held,
+};
 use std::alloc::Global;
 use std::sync::Wait;
 use std::test::Fail;
 use std::thread::Threads;
 
-/// A program that exits with code 0: `addi x10, x0, 0; addi x17, x0, 93; ecall`.
-const CODE: &str = "00000513 05d00893 00000073";
+/// A program that exits with code 0.
+const CODE: &str = "addi x10, x0, 0; addi x17, x0, 93; ecall";
 
 /// A file that isn't cut.
 pub const WHOLE: usize = usize::MAX;
@@ -327,11 +329,13 @@ const RULES: [Rule; 20] = [
 /// A file that breaks no rule but where it has many loads: a thousand program headers, of which two
 /// count, the header of a section, the data, and so many loads before the code.
 pub fn file_of(alloc: Global, loads: usize) -> Result<Vec<u8>, Fail> {
+    let mut load = Vec::new(alloc);
+    push_code(alloc, &mut load, "lw x5, 0(x5)")?;
     let mut code = Vec::new(alloc);
     for _ in 0..loads {
-        push_words(&mut code, "0002a283")?;
+        code.extend_from_slice(&load)?;
     }
-    push_words(&mut code, CODE)?;
+    push_code(alloc, &mut code, CODE)?;
     let mut file = Vec::new(alloc);
     push_words(&mut file, FILE_HEADER)?;
     push_sizes(&mut file, code.len(), u32::try_from(code.len())?)?;

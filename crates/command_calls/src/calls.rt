@@ -3,6 +3,7 @@
 use crate::watch::Watch;
 use commands::shasta;
 use dsm_io::{Files, MemFiles, MemSink, Text};
+use rv32_asm::assemble;
 use std::alloc::{AllocError, Global};
 use std::str::from_utf8;
 use std::sync::Wait;
@@ -34,11 +35,24 @@ pub fn push_sizes(bytes: &mut Vec<u8>, in_file: usize, in_memory: u32) -> Result
     Ok(())
 }
 
+/// Appends the words of an assembly text, the first of which stands at 0x10000. A semicolon ends a
+/// line, as a line feed does.
+pub fn push_code(alloc: Global, bytes: &mut Vec<u8>, text: &str) -> Result<(), Fail> {
+    let lines = text.replace(alloc, ";", "\n")?;
+    let text = text_of(alloc, &[".segment rx 0x10000\n", &lines])?;
+    let assembled = assemble(alloc, text.as_bytes())?;
+    let elf = assembled.elf(alloc)?;
+    for segment in elf.segments() {
+        bytes.extend_from_slice(segment.bytes)?;
+    }
+    Ok(())
+}
+
 /// The executable of this code and data, of which the data's memory has so many bytes. The code is
-/// a text of words.
+/// an assembly text.
 pub fn executable(alloc: Global, code: &str, data: &[u8], data_size: u32) -> Result<Vec<u8>, Fail> {
     let mut words = Vec::new(alloc);
-    push_words(&mut words, code)?;
+    push_code(alloc, &mut words, code)?;
     let mut file = Vec::new(alloc);
     push_words(&mut file, HEADERS)?;
     push_sizes(&mut file, words.len(), u32::try_from(words.len())?)?;
@@ -210,4 +224,20 @@ pub fn try_held(
     answer: &Answer<'_>,
 ) -> Result<(), Fail> {
     try_calls(rt, sure(files), calls, answer)
+}
+
+/// The file that `rewrite` makes of an executable.
+pub fn rewritten(
+    rt: &(impl Threads + Wait + Sync + AllocGlobal),
+    file: &[u8],
+) -> Result<Vec<u8>, Fail> {
+    let line = "rewrite IN OUT";
+    let called = call(rt, sure(&[("IN", file)]), line, "OUT", &Watch::new(false))?;
+    let answer = Answer {
+        status: 0,
+        out: &[],
+        err: "",
+    };
+    called.expect(rt.alloc(), line, &answer)?;
+    Ok(called.written)
 }

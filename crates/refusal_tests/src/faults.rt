@@ -1,19 +1,9 @@
 //! What is told where a command does no work.
 
-use crate::calls::{Answer, try_held};
-use crate::cases::{Case, Input, try_case};
+use command_calls::calls::{Answer, try_held};
+use command_calls::cases::{Case, Input, try_case};
+use command_calls::samples::USAGE;
 use std::test::Fail;
-
-/// How the program is called.
-pub const USAGE: &str = "usage: shasta rewrite IN OUT [--no-batch]
-       shasta list IN
-       shasta one IN [--nodes N] [--order K] [--budget B] [--layout FILE]
-       shasta sim IN [--nodes N] [--order K] [--budget B] [--layout FILE] [--code FILE] [--no-batch] [--brief]
-       shasta run IN [--nodes N] [--record FILE] [--budget B] [--layout FILE] [--code FILE] [--no-batch] [--brief]
-       shasta replay IN RECORD [--brief]
-       shasta gen NUMBER OUT
-       shasta asm TEXT OUT
-";
 
 /// Each command that reads an executable, where its words, its file or its name are at fault.
 const CASES: [Case; 5] = [
@@ -45,7 +35,7 @@ const CASES: [Case; 5] = [
     },
     // csrrs x5, cycle, x0
     Case {
-        input: Input::Program("c00022f3", b"", 64),
+        input: Input::Program(".word 0xc00022f3", b"", 64),
         text: "",
         calls: &["list IN", "run IN", "one IN"],
         status: 4,
@@ -54,7 +44,7 @@ const CASES: [Case; 5] = [
     },
     // lr.w x6, (x5) with 1 for its second register
     Case {
-        input: Input::Program("1012a32f", b"", 64),
+        input: Input::Program(".word 0x1012a32f", b"", 64),
         text: "",
         calls: &["list IN", "run IN", "one IN"],
         status: 4,

@@ -1,12 +1,12 @@
 //! Rows of tables: programs and how they end, and calls and their answers.
 
-use crate::calls::{Answer, NODE, executable, push_words, text_of, try_held};
+use crate::calls::{Answer, NODE, executable, push_code, text_of, try_held};
 use std::alloc::Global;
 use std::sync::Wait;
 use std::test::Fail;
 use std::thread::Threads;
 
-/// What IN holds: bytes, or the executable of code, a text of words, and of data, of which the
+/// What IN holds: bytes, or the executable of code, an assembly text, and of data, of which the
 /// memory has so many bytes.
 #[derive(Clone, Copy)]
 pub enum Input {
@@ -76,7 +76,7 @@ fn try_text(
 
 /// Executes a program that prints nothing, of which the data's memory has 64 bytes, on one memory
 /// and rewritten, by `run` and by `sim`, and fails the test where it ends otherwise or its node
-/// counts something. Its code and its data are texts of words.
+/// counts something. Its code and its data are assembly texts.
 pub fn try_program(
     rt: &(impl Threads + Wait + Sync + AllocGlobal),
     code: &str,
@@ -85,7 +85,7 @@ pub fn try_program(
 ) -> Result<(), Fail> {
     let alloc = rt.alloc();
     let mut bytes = Vec::new(alloc);
-    push_words(&mut bytes, data)?;
+    push_code(alloc, &mut bytes, data)?;
     let file = executable(alloc, code, &bytes, 64)?;
     let status = u8::from(end != "exit 0");
     let one = text_of(alloc, &["output 0\n\nprocessor 0 ", end, "\n"])?;

@@ -1,10 +1,11 @@
 //! Files and sinks that refuse one call, each in its turn.
 
-use crate::calls::{Answer, Called, Faults, Held, NO_FAULTS, call, executable, try_calls};
-use crate::code::rewritten;
-use crate::nodes::{READ, READS, WAITED};
 use crate::replays::NAMED;
-use crate::watch::Watch;
+use command_calls::calls::{
+    Answer, Called, Faults, Held, NO_FAULTS, call, executable, rewritten, try_calls,
+};
+use command_calls::samples::{READ, READS, WAITED};
+use command_calls::watch::Watch;
 use std::str::from_utf8;
 use std::sync::Wait;
 use std::test::Fail;
