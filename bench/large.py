@@ -1,18 +1,22 @@
 #!/usr/bin/env python3
-"""Lists and rewrites large executables, and says the time and the memory of each.
+"""Lists, rewrites and verifies large executables, and says the time and the memory of each.
 
     bench/large.py PROGRAM      PROGRAM is the shasta that was built
 
-Each executable has one segment of code: additions alone, which are a word each, for 16 MiB; loads of
-words, which are eleven each, for about as many rewritten words as there may be; and jumps that go
-so far that no JAL of rewritten code reaches. The times are the processor's, the memory is the most
-that was resident."""
+Each executable has one segment of code: additions alone, which are a word each, for 16 MiB, and for
+a rewritten file that is as long as one that is read may be; loads of words, which are eleven each,
+and runs of stores, for about as many rewritten words as there may be; and jumps that go so far that
+no JAL of rewritten code reaches. The rewritten file is verified where it isn't too long to be read:
+`run` takes it, and executes one word. The times are the processor's, the memory is the most that
+was resident."""
 import os, pathlib, struct, subprocess, sys, tempfile
 
 MOST_WORDS = 4_194_303
+MOST_BYTES = 33_554_432  # of a file that is read
 EXIT = [0x05D00893, 0x00000073]  # addi x17, x0, 93; ecall
 ADD = 0x00128293  # addi x5, x5, 1
 LOAD = 0x0002A283  # lw x5, 0(x5)
+STORE = 0x00532023  # sw x5, 0(x6)
 
 
 def jump(distance):
@@ -32,7 +36,9 @@ def executable(code):
 
 def cases():
     yield "additions", [ADD] * (MOST_WORDS - 16) + EXIT
+    yield "fewer", [ADD] * (MOST_BYTES // 24 - 600) + EXIT
     yield "loads", [LOAD] * (MOST_WORDS // 11 - 4) + EXIT
+    yield "runs of stores", [STORE] * (MOST_WORDS // 13) + EXIT
     many = 100_000
     leaps = [jump(4 * many)] * many + [LOAD] * many + EXIT
     yield "jumps", leaps
@@ -46,19 +52,30 @@ def measured(words):
     return child.returncode, usage.ru_utime + usage.ru_stime, usage.ru_maxrss / 1024
 
 
+def row(program, folder, name, code):
+    """The row of an executable in the table."""
+    file, out = folder / "in.elf", folder / "out.elf"
+    file.write_bytes(executable(code))
+    listed = measured([program, "list", file])
+    written = measured([program, "rewrite", file, out])
+    if (listed[0], written[0]) != (0, 0):
+        sys.exit(f"{name}: status {listed[0]}, {written[0]}")
+    row = [name, f"{4 * len(code) / 2**20:.1f} MiB", f"{listed[1]:.2f} s"]
+    row += [f"{written[1]:.2f} s", f"{written[2]:.0f}"]
+    if out.stat().st_size > MOST_BYTES:
+        return row + ["", ""]
+    verified = measured([program, "run", file, "--verify", out, "--budget", "1"])
+    if verified[0] != 1:
+        sys.exit(f"{name}: verified with status {verified[0]}")
+    return row + [f"{verified[1]:.2f} s", f"{verified[2]:.0f}"]
+
+
 def main():
-    program = sys.argv[1]
-    print("| Executable | code | `list` | `rewrite` | MiB |\n|---|---|---|---|---|")
+    print("| Executable | code | `list` | `rewrite` | MiB | `--verify` | MiB |")
+    print("|---|---|---|---|---|---|---|")
     with tempfile.TemporaryDirectory() as folder:
-        file, out = pathlib.Path(folder) / "in.elf", pathlib.Path(folder) / "out.elf"
         for name, code in cases():
-            file.write_bytes(executable(code))
-            listed = measured([program, "list", str(file)])
-            written = measured([program, "rewrite", str(file), str(out)])
-            if (listed[0], written[0]) != (0, 0):
-                sys.exit(f"{name}: status {listed[0]}, {written[0]}")
-            size = 4 * len(code) / 2**20
-            print(f"| {name} | {size:.1f} MiB | {listed[1]:.2f} s | {written[1]:.2f} s | {written[2]:.0f} |")
+            print("|", " | ".join(row(sys.argv[1], pathlib.Path(folder), name, code)), "|")
 
 
 main()

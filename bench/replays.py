@@ -1,0 +1,42 @@
+#!/usr/bin/env python3
+"""Runs programs on nodes in threads, and makes each run once more by its record.
+
+    ./replays.py PROGRAM [RUNS]
+
+PROGRAM is the built program (crates/shasta/out/shasta). Each program of examples/ that several
+processors work on is run so many times (10) on 2, 4 and 16 nodes, four runs at once, so that threads
+wait for processors too; then `replay` takes the record of each run, and must print its text, with its
+status. It says what differs, and how many runs there were."""
+import concurrent.futures, pathlib, subprocess, sys, tempfile
+
+examples = pathlib.Path(__file__).resolve().parent.parent / "examples"
+NAMES = ("counter", "lock", "queue", "tally", "sum", "sieve", "matrix", "checksum", "exits")
+
+
+def said(*words):
+    """What a call prints, and its status."""
+    call = subprocess.run([sys.argv[1], *words], capture_output=True)
+    return call.stdout + call.stderr, call.returncode
+
+
+def is_repeated(name, nodes, record):
+    """Whether the replay of a run gives what the run gave."""
+    file = str(examples / f"{name}.elf")
+    ran = said("run", file, "--nodes", str(nodes), "--record", record)
+    return ran[1] in (0, 1) and said("replay", file, record) == ran
+
+
+def main():
+    rounds = int(sys.argv[2]) if len(sys.argv) > 2 else 10
+    with tempfile.TemporaryDirectory() as folder, concurrent.futures.ThreadPoolExecutor(4) as pool:
+        runs = [(name, nodes, f"{folder}/{name}.{nodes}.{k}")
+                for name in NAMES for nodes in (2, 4, 16) for k in range(rounds)]
+        results = list(pool.map(lambda run: is_repeated(*run), runs))
+    for run, is_same in zip(runs, results):
+        if not is_same:
+            print(f"{run[0]} on {run[1]} nodes: its replay differs")
+    print(f"{len(runs)} runs, {results.count(False)} differ")
+    return 1 if False in results else 0
+
+
+sys.exit(main())
