@@ -3,7 +3,8 @@
 //!
 //! Shasta's reply to a miss brings the block's bytes. Here they come back in a buffer that the
 //! requester took from its own pool and sent along with its request, so that no message takes
-//! memory. A buffer is moved and never copied: who has it is in one place.
+//! memory. A buffer is moved: who has it is in one place. A copy, for a message that a network may
+//! lose, is another buffer, and takes memory.
 
 ghost use Rattle.std.specs.Prelude.{◌≡◌, ◌<◌, ◌≤◌, length, IfOk};
 ghost use Rattle.buf_pool.specs.Pool.{empty_buffer, one_more, one_less};
@@ -53,6 +54,18 @@ impl Buf {
         ensures { result ≡ self.now.room }
     {
         self.room
+    }
+
+    /// A buffer of the same room that holds the same bytes.
+    pub fn copy(&self) -> Result<Buf, AllocError>
+        ensures { IfOk result (λ b. b ≡ self.now) }
+    {
+        let mut bytes = Vec::with_capacity(*self.bytes.allocator(), self.room as usize)?;
+        bytes.extend_from_slice(&self.bytes)?;
+        Ok(Buf {
+            bytes,
+            room: self.room,
+        })
     }
 
     /// Makes it hold these bytes, in place of those before.

@@ -1,8 +1,12 @@
 //! Messages between nodes.
 
+ghost use Rattle.std.specs.Prelude.{◌≡◌, IfOk};
+
 use arrayvec::ArrayVec;
 use block_layout::Block;
 use buf_pool::Buf;
+use lossy_link::Piece;
+use std::alloc::AllocError;
 
 /// What a node wants of a block.
 #[derive(Clone, Copy, PartialEq, Eq)]
@@ -70,6 +74,61 @@ pub enum Message {
     Bye,
 }
 
+impl Message {
+    /// An equal message, whose buffer is another.
+    pub fn copy(&self) -> Result<Message, AllocError>
+        ensures { IfOk result (λ copied. copied ≡ self.now) }
+    {
+        match self {
+            Message::Read { block, buf } => Ok(Message::Read {
+                block: *block,
+                buf: buf.copy()?,
+            }),
+            Message::Write { block, buf } => Ok(Message::Write {
+                block: *block,
+                buf: buf.copy()?,
+            }),
+            Message::FwdRead {
+                block,
+                requester,
+                buf,
+            } => Ok(Message::FwdRead {
+                block: *block,
+                requester: *requester,
+                buf: buf.copy()?,
+            }),
+            Message::FwdWrite {
+                block,
+                requester,
+                acks,
+                buf,
+            } => Ok(Message::FwdWrite {
+                block: *block,
+                requester: *requester,
+                acks: *acks,
+                buf: buf.copy()?,
+            }),
+            Message::Inval { block, requester } => Ok(Message::Inval {
+                block: *block,
+                requester: *requester,
+            }),
+            Message::Data { block, acks, buf } => Ok(Message::Data {
+                block: *block,
+                acks: *acks,
+                buf: buf.copy()?,
+            }),
+            Message::Grant { block, acks, buf } => Ok(Message::Grant {
+                block: *block,
+                acks: *acks,
+                buf: buf.copy()?,
+            }),
+            Message::Ack { block } => Ok(Message::Ack { block: *block }),
+            Message::Done { block } => Ok(Message::Done { block: *block }),
+            Message::Bye => Ok(Message::Bye),
+        }
+    }
+}
+
 /// A message to a node.
 #[derive(Default, Drop)]
 pub struct Post {
@@ -86,6 +145,15 @@ pub struct Wire {
     pub stamp: u64,
     /// The message.
     pub message: Message,
+}
+
+impl Piece for Wire {
+    fn copy(&self) -> Result<Wire, AllocError> {
+        Ok(Wire {
+            stamp: self.stamp,
+            message: self.message.copy()?,
+        })
+    }
 }
 
 /// What one event sends, in order.

@@ -1,6 +1,6 @@
 //! The end of a link at which items are delivered.
 
-ghost use Rattle.std.specs.Prelude.{◌≡◌, None, IfOk, MatchOption};
+ghost use Rattle.std.specs.Prelude.{◌≡◌, None, IfOk, MatchOption, is_some};
 ghost use Rattle.lossy_link.specs.Sender.{IsWindow};
 ghost use Rattle.lossy_link.specs.Receiver.{Delivers, new_receiver, held};
 ghost use Rattle.lossy_link.specs.Packets.{Receives};
@@ -49,6 +49,13 @@ impl<T: Drop> Receiver<T> {
         ensures { result ≡ self.now.next }
     {
         self.next
+    }
+
+    /// Whether the next item is held.
+    pub fn holds_next(&self) -> bool
+        ensures { result ≡ is_some (held self.now self.now.next) }
+    {
+        self.places[0].is_some()
     }
 
     /// Holds the packet's item, unless its number is out of the window or it is held already, and

@@ -1,6 +1,7 @@
 //! The end of a link at which items are offered.
 
 ghost use Rattle.std.specs.Prelude.{◌≡◌, ◌^◌, ◌<◌, None, Ok, IfOk, OnOk, OnErr, MatchOption};
+ghost use Rattle.std.specs.Prelude.{min, length};
 ghost use Rattle.lossy_link.specs.Sender.{IsWindow, Offers, Acknowledges};
 ghost use Rattle.lossy_link.specs.Sender.{new_sender, number_offered, IsInWindow};
 ghost use Rattle.lossy_link.specs.Packets.{Makes};
@@ -46,6 +47,18 @@ impl<T> Sender<T> {
             acknowledged: 0,
             window,
         })
+    }
+
+    /// How many items stand in the window.
+    pub fn in_window(&self) -> u8
+        ensures { result ≡ min self.now.window (length self.now.items) }
+    {
+        let count = self.items.len();
+        if count < self.window as usize {
+            count as u8
+        } else {
+            self.window
+        }
     }
 
     /// A packet of the item that so many items which aren't acknowledged stand before, if it is
