@@ -23,6 +23,7 @@ use crate::work::Work;
 use block_layout::{Layout, layout_law};
 use dsm_protocol::buffer_law;
 use dsm_protocol::lists::empty_lists;
+use home_directory::Sends;
 use node_machine::Node;
 use rewriting_law::{interleaving_law, progress_law};
 use run_order::stamp_law;
@@ -83,6 +84,7 @@ impl<'a> Core<'a> {
             budget: work.budget,
             nodes,
             lists,
+            sends: Sends::new(),
         };
         Ok(Core { parts })
     }

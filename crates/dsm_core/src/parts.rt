@@ -14,6 +14,7 @@ use crate::trails::{Stop, Trails, pass_each};
 use block_layout::Layout;
 use dsm_protocol::Queue;
 use exec_map::Program;
+use home_directory::Sends;
 use jump_map::Image;
 use node_machine::Node;
 use run_limits::Budget;
@@ -36,6 +37,8 @@ pub struct Parts<'a> {
     pub nodes: Vec<Node<'a>>,
     /// The messages on their way: the list from node j to node i stands at place j × n + i.
     pub lists: Vec<Queue>,
+    /// What an event sends, until it stands in the lists.
+    pub sends: Sends,
 }
 
 impl<'a> Model for Parts<'a> {
@@ -102,7 +105,13 @@ impl<'a> Parts<'a> {
         ensures err { OnErr result (core_of self.new ≡ core_of self.old) }
     {
         let count = self.layout.nodes();
-        make(&mut self.nodes, &mut self.lists, count, event)
+        make(
+            &mut self.nodes,
+            &mut self.lists,
+            &mut self.sends,
+            count,
+            event,
+        )
     }
 
     /// A node executes its next word by its micro-op, where that serves it.
@@ -153,7 +162,13 @@ impl<'a> Parts<'a> {
         ensures err { OnErr result (core_of self.new ≡ core_of self.old) }
     {
         let count = self.layout.nodes();
-        execute_on(&mut self.nodes, &mut self.lists, count, node)
+        execute_on(
+            &mut self.nodes,
+            &mut self.lists,
+            &mut self.sends,
+            count,
+            node,
+        )
     }
 
     /// Whether a message is on its way to a node.

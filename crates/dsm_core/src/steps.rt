@@ -15,6 +15,7 @@ use crate::cores::Event;
 use crate::work;
 use dsm_protocol::Queue;
 use dsm_protocol::lists::{first_wire, reserve_from, send, take_first};
+use home_directory::Sends;
 use node_machine::{Node, Standing};
 use std::alloc::{AllocError, Global};
 
@@ -194,6 +195,7 @@ fn make_room(
 pub(crate) fn make(
     nodes: &mut Vec<Node<'_>>,
     lists: &mut Vec<Queue>,
+    sends: &mut Sends,
     count: u8,
     event: Event,
 ) -> Result<(), AllocError>
@@ -209,8 +211,8 @@ pub(crate) fn make(
         lists.old.items lists.new.items) }
 {
     match event {
-        Event::Exec(node) => execute(nodes, lists, count, node),
-        Event::Take { node, from } => take(nodes, lists, count, node, from),
+        Event::Exec(node) => execute(nodes, lists, sends, count, node),
+        Event::Take { node, from } => take(nodes, lists, sends, count, node, from),
     }
 }
 
@@ -230,6 +232,7 @@ pub(crate) fn pass(nodes: &mut Vec<Node<'_>>, count: u8, node: u8) -> bool
 fn execute(
     nodes: &mut Vec<Node<'_>>,
     lists: &mut Vec<Queue>,
+    sends: &mut Sends,
     count: u8,
     node: u8,
 ) -> Result<(), AllocError>
@@ -247,7 +250,7 @@ fn execute(
     if pass(nodes, count, node) {
         return Ok(());
     }
-    execute_with_room(nodes, lists, count, node)
+    execute_with_room(nodes, lists, sends, count, node)
 }
 
 /// A node executes words, of which those before the last print nothing and send nothing, and it is
@@ -255,6 +258,7 @@ fn execute(
 pub(crate) fn execute_on(
     nodes: &mut Vec<Node<'_>>,
     lists: &mut Vec<Queue>,
+    sends: &mut Sends,
     count: u8,
     node: u8,
 ) -> Result<u64, AllocError>
@@ -272,9 +276,9 @@ pub(crate) fn execute_on(
     make_room(nodes, lists, count, node)?;
     let stored = &mut nodes[node as usize];
     let stamp = stored.stamp();
-    let turn = stored.exec_on();
+    let turn = stored.exec_on(sends);
     let words = turn.stamp - stamp;
-    send(lists, count, node, turn.stamp, turn.sends);
+    send(lists, count, node, turn.stamp, sends);
     Ok(words)
 }
 
@@ -282,6 +286,7 @@ pub(crate) fn execute_on(
 fn execute_with_room(
     nodes: &mut Vec<Node<'_>>,
     lists: &mut Vec<Queue>,
+    sends: &mut Sends,
     count: u8,
     node: u8,
 ) -> Result<(), AllocError>
@@ -297,8 +302,8 @@ fn execute_with_room(
         lists.old.items lists.new.items) }
 {
     make_room(nodes, lists, count, node)?;
-    let turn = nodes[node as usize].exec();
-    send(lists, count, node, turn.stamp, turn.sends);
+    let turn = nodes[node as usize].exec(sends);
+    send(lists, count, node, turn.stamp, sends);
     Ok(())
 }
 
@@ -306,6 +311,7 @@ fn execute_with_room(
 fn take(
     nodes: &mut Vec<Node<'_>>,
     lists: &mut Vec<Queue>,
+    sends: &mut Sends,
     count: u8,
     node: u8,
     from: u8,
@@ -323,7 +329,7 @@ fn take(
 {
     make_room(nodes, lists, count, node)?;
     let wire = take_first(lists, count, from, node);
-    let turn = nodes[node as usize].take(from, wire);
-    send(lists, count, node, turn.stamp, turn.sends);
+    let turn = nodes[node as usize].take(from, wire, sends);
+    send(lists, count, node, turn.stamp, sends);
     Ok(())
 }

@@ -36,14 +36,16 @@ pub struct Desk {
 
 impl Desk {
     /// A word wants lines: the node asks the home of the block of each, once, and waits.
-    pub fn want(&mut self, body: &mut Body<'_>, wants: Wants) -> Sends
+    #[inline(never)]
+    pub fn want(&mut self, body: &mut Body<'_>, wants: Wants, sends: &mut Sends)
+        requires nothing { sends.old.items ≡ [] }
         requires desk { IsDesk (layout_of body.old) self.old }
         requires idle { length self.old.waits.waits ≡ 0 }
         requires counts { AreCountsBelow (2 ^ 62) body.old.counts }
         ensures turn { (n : model.Node) (p : Option ℕ) →
             turns.want_all (layout_of body.old) (turn_by (with_parts n body.old self.old) [] p)
             (turns.each_block_once (layout_of body.old) (all_wants wants))
-            ≡ turn_by (with_parts n body.new self.new) result.items p }
+            ≡ turn_by (with_parts n body.new self.new) sends.new.items p }
         ensures begun { let state = (local_of body.old.local).state (line_of wants.first.at) in
             is_unmet wants.first.need state ≡ true → 0 < length self.new.waits.waits }
         ensures desk { IsDesk (layout_of body.old) self.new }
@@ -57,10 +59,11 @@ impl Desk {
         body.local.laws();
         let post = self.want_line(body, wants.first);
         let Some(other) = want_of_other_block(&body.local, wants) else {
-            return sends_of(post, None);
+            put(sends, post, None);
+            return;
         };
         let other = self.want_line(body, other);
-        sends_of(post, other)
+        put(sends, post, other);
     }
 
     /// A word wants a line: the node asks the home of its block, and waits. Nothing where the line
@@ -138,15 +141,15 @@ impl Desk {
     }
 
     /// A message from a node, but for a Bye: its row, or nothing.
-    pub fn treat(&mut self, body: &mut Body<'_>, from: u8, message: Message) -> Sends
+    pub fn treat(&mut self, body: &mut Body<'_>, from: u8, message: Message, sends: &mut Sends)
         requires desk { IsDesk (layout_of body.old) self.old }
         requires counts { AreCountsBelow (2 ^ 63) body.old.counts }
         ensures turn { let l = layout_of body.old in (n : model.Node) →
             n.me ≡ self.old.directory.me →
             turns.by_row_or l (with_parts n body.old self.old)
             (row_of l n.me (turns.holding l (with_parts n body.old self.old)) from message)
-            ≡ turn_by (with_parts n body.new self.new) result.items None }
-        ensures few { (length result.items ≤ 1)
+            ≡ turn_by (with_parts n body.new self.new) sends.new.items None }
+        ensures few { (length sends.new.items ≤ 1)
             ⊎ (length self.new.waits.waits ≡ length self.old.waits.waits) }
         ensures none { length self.old.waits.waits ≡ 0 → length self.new.waits.waits ≡ 0 }
         ensures desk { IsDesk (layout_of body.old) self.new }
@@ -159,11 +162,10 @@ impl Desk {
         layout_law();
         body.local.laws();
         let order = is_order(&message);
-        let sends = self.route(&mut body.local, from, message);
+        *sends = self.route(&mut body.local, from, message);
         body.local.laws();
         let given = gives_up(order, sends.len());
         body.counts = count_row(body.counts, given, sends.len());
-        sends
     }
 
     /// A message from a node, but for the counts.
@@ -281,16 +283,15 @@ fn is_same_block(local: &Local<'_>, first: Want, other: Want) -> bool
     }
 }
 
-/// What is sent: two messages, of which each may be missing.
-fn sends_of(first: Option<Post>, other: Option<Post>) -> Sends
-    ensures value { result.items ≡ option_to_list first ++ option_to_list other }
+/// Sends two messages, of which each may be missing, where nothing is sent before them.
+fn put(sends: &mut Sends, first: Option<Post>, other: Option<Post>)
+    requires nothing { sends.old.items ≡ [] }
+    ensures value { sends.new.items ≡ option_to_list first ++ option_to_list other }
 {
-    let mut sends = Sends::new();
     if let Some(post) = first {
         sends.push(post);
     }
     if let Some(post) = other {
         sends.push(post);
     }
-    sends
 }

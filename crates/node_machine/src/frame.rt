@@ -24,13 +24,11 @@ use node_model::{Entry, OutByte};
 use node_words::{Body, Following, Resume};
 use run_limits::Budget;
 
-/// What a node did in one event.
+/// What a node did in one event, but for what it sent.
 #[derive(Drop)]
 pub struct Turn {
     /// The stamp of the event.
     pub stamp: u64,
-    /// What it sent, in order.
-    pub sends: Sends,
     /// The byte that it printed.
     pub output: Option<u8>,
 }
@@ -69,26 +67,26 @@ pub struct Frame<'a> {
 }
 
 impl<'a> Frame<'a> {
-    /// Executes one word.
-    pub fn exec(&mut self) -> Turn
+    /// Executes one word, and leaves what it sends, in order.
+    pub fn exec(&mut self, sends: &mut Sends) -> Turn
         requires node { IsNode self.old }
         requires may { model.can_execute (node_of self.old).phase ≡ true }
         requires room { HasRoom self.old }
         requires stamp { self.old.stamp < 2 ^ 56 }
-        ensures turn { turn_by (node_of self.new) result.sends.items result.output
+        ensures turn { turn_by (node_of self.new) sends.new.items result.output
             ≡ turns.word_turn (work_of self.old) (node_of self.old) }
         ensures stamp { result.stamp ≡ self.new.stamp }
         ensures work { work_of self.new ≡ work_of self.old }
         ensures node { IsNode self.new }
     {
+        sends.clear();
         if self.pass() {
             return Turn {
                 stamp: self.stamp,
-                sends: Sends::new(),
                 output: None,
             };
         }
-        self.serve_word()
+        self.serve_word(sends)
     }
 
     /// Executes the next word by its micro-op, where that serves it and the budget has a further
@@ -148,29 +146,30 @@ impl<'a> Frame<'a> {
     }
 
     /// Executes words, of which those before the last print nothing and send nothing: as many as
-    /// `go_on` does, and one more.
-    pub fn exec_on(&mut self) -> Turn
+    /// `go_on` does, and one more. It leaves what that sends, in order.
+    pub fn exec_on(&mut self, sends: &mut Sends) -> Turn
         requires node { IsNode self.old }
         requires may { model.can_execute (node_of self.old).phase ≡ true }
         requires room { HasRoom self.old }
         requires stamp { self.old.stamp < 2 ^ 56 }
         ensures ran { HasExecuted (work_of self.old) (node_of self.old) (node_of self.new)
-            result.sends.items result.output }
+            sends.new.items result.output }
         ensures stamp { result.stamp ≡ self.new.stamp }
         ensures work { work_of self.new ≡ work_of self.old }
         ensures node { IsNode self.new }
     {
+        sends.clear();
         self.go_on(u64::MAX);
-        self.serve_word()
+        self.serve_word(sends)
     }
 
-    /// Takes a message from a node.
-    pub fn take(&mut self, from: u8, wire: Wire) -> Turn
+    /// Takes a message from a node, and leaves what it sends, in order.
+    pub fn take(&mut self, from: u8, wire: Wire, sends: &mut Sends) -> Turn
         requires node { IsNode self.old }
         requires room { HasRoom self.old }
         requires stamp { self.old.stamp < 2 ^ 56 }
         requires wire { wire.stamp < 2 ^ 56 }
-        ensures turn { turn_by (node_of self.new) result.sends.items result.output
+        ensures turn { turn_by (node_of self.new) sends.new.items result.output
             ≡ turns.take_turn (work_of self.old) (node_of self.old) from wire }
         ensures stamp { result.stamp ≡ self.new.stamp }
         ensures work { work_of self.new ≡ work_of self.old }
@@ -184,12 +183,13 @@ impl<'a> Frame<'a> {
             words: self.executed - self.noted,
         });
         self.noted = self.executed;
-        let sends = treat(
+        treat(
             &mut self.desk,
             &mut self.body,
             &mut self.byes,
             from,
             wire.message,
+            sends,
         );
         let pending = self.desk.waits.pending();
         let position = resumed(
@@ -205,7 +205,6 @@ impl<'a> Frame<'a> {
         if was_ended {
             return Turn {
                 stamp: self.stamp,
-                sends,
                 output: None,
             };
         }
@@ -213,12 +212,13 @@ impl<'a> Frame<'a> {
     }
 
     /// Executes one word by the path that serves every word.
-    fn serve_word(&mut self) -> Turn
+    fn serve_word(&mut self, sends: &mut Sends) -> Turn
+        requires nothing { sends.old.items ≡ [] }
         requires node { IsNode self.old }
         requires may { model.can_execute (node_of self.old).phase ≡ true }
         requires room { HasRoom self.old }
         requires stamp { self.old.stamp < 2 ^ 56 }
-        ensures turn { turn_by (node_of self.new) result.sends.items result.output
+        ensures turn { turn_by (node_of self.new) sends.new.items result.output
             ≡ turns.word_turn (work_of self.old) (node_of self.old) }
         ensures stamp { result.stamp ≡ self.new.stamp }
         ensures work { work_of self.new ≡ work_of self.old }
@@ -230,23 +230,24 @@ impl<'a> Frame<'a> {
         self.stamp += 1;
         self.phase = phase_by(self.budget, self.executed, served.following);
         print(&mut self.output, self.stamp, served.output);
-        let sends = ask(&mut self.desk, &mut self.body, served.following);
+        ask(&mut self.desk, &mut self.body, served.following, sends);
         self.turn(sends, served.output)
     }
 
     /// The turn that ends with a node so, once this was sent and printed: a node that has just
     /// ended says so to all nodes.
-    fn turn(&self, sends: Sends, output: Option<u8>) -> Turn
-        requires few { turns.is_ended (phase_of self.now.phase) ≡ true → length sends.items ≤ 2 }
-        ensures turn { turn_by (node_of self.now) result.sends.items result.output
+    fn turn(&self, sends: &mut Sends, output: Option<u8>) -> Turn
+        requires few { turns.is_ended (phase_of self.now.phase) ≡ true
+            → length sends.old.items ≤ 2 }
+        ensures turn { turn_by (node_of self.now) sends.new.items result.output
             ≡ turns.with_byes (layout_of self.now.body.value).nodes
-            (turn_by (node_of self.now) sends.items output)
+            (turn_by (node_of self.now) sends.old.items output)
             (turns.is_ended (phase_of self.now.phase)) }
         ensures stamp { result.stamp ≡ self.now.stamp }
     {
+        add_byes(sends, self.body.local.nodes(), is_ended(self.phase));
         Turn {
             stamp: self.stamp,
-            sends: with_byes(sends, self.body.local.nodes(), is_ended(self.phase)),
             output,
         }
     }
@@ -361,13 +362,14 @@ fn treat(
     byes: &mut [bool; 256],
     from: u8,
     message: Message,
-) -> Sends
+    sends: &mut Sends,
+)
     requires desk { IsDesk (layout_of body.old) desk.old }
     requires counts { AreCountsBelow (2 ^ 63) body.old.counts }
     ensures turn { (n : model.Node) → n.me ≡ desk.old.directory.me →
         turns.treated (layout_of body.old) (with_all n body.old desk.old byes.old) from message
-        ≡ turn_by (with_all n body.new desk.new byes.new) result.items None }
-    ensures few { (length result.items ≤ 1)
+        ≡ turn_by (with_all n body.new desk.new byes.new) sends.new.items None }
+    ensures few { (length sends.new.items ≤ 1)
         ⊎ (length desk.new.waits.waits ≡ length desk.old.waits.waits) }
     ensures none { length desk.old.waits.waits ≡ 0 → length desk.new.waits.waits ≡ 0 }
     ensures desk { IsDesk (layout_of body.old) desk.new }
@@ -380,9 +382,9 @@ fn treat(
     match message {
         Message::Bye => {
             byes[from as usize] = true;
-            Sends::new()
+            sends.clear();
         }
-        message => desk.treat(body, from, message),
+        message => desk.treat(body, from, message, sends),
     }
 }
 
@@ -398,17 +400,18 @@ fn print(output: &mut Vec<OutByte>, stamp: u64, byte: Option<u8>)
 }
 
 /// Asks for what a word wants.
-fn ask(desk: &mut Desk, body: &mut Body<'_>, following: Following) -> Sends
+fn ask(desk: &mut Desk, body: &mut Body<'_>, following: Following, sends: &mut Sends)
+    requires nothing { sends.old.items ≡ [] }
     requires desk { IsDesk (layout_of body.old) desk.old }
     requires idle { length desk.old.waits.waits ≡ 0 }
     requires counts { AreCountsBelow (2 ^ 62) body.old.counts }
     ensures turn { (n : model.Node) (p : Option ℕ) → turns.want_all (layout_of body.old)
         (turn_by (with_parts n body.old desk.old) [] p)
         (turns.each_block_once (layout_of body.old) (wants_by following))
-        ≡ turn_by (with_parts n body.new desk.new) result.items p }
+        ≡ turn_by (with_parts n body.new desk.new) sends.new.items p }
     ensures begun { AreUnmet (local_of body.old.local) (wants_by following) →
         HasBegun following (length desk.new.waits.waits) }
-    ensures quiet { wants_by following ≡ [] → result.items ≡ [] }
+    ensures quiet { wants_by following ≡ [] → sends.new.items ≡ [] }
     ensures desk { IsDesk (layout_of body.old) desk.new }
     ensures directory { desk.new.directory ≡ desk.old.directory }
     ensures lane { body.new.lane ≡ body.old.lane }
@@ -417,20 +420,20 @@ fn ask(desk: &mut Desk, body: &mut Body<'_>, following: Following) -> Sends
         → AreCountsBelow (most + 2) body.new.counts }
 {
     match following {
-        Following::Waits(_, wants) => desk.want(body, wants),
-        Following::GoesOn | Following::Leaves(_) => Sends::new(),
+        Following::Waits(_, wants) => desk.want(body, wants, sends),
+        Following::GoesOn | Following::Leaves(_) => {}
     }
 }
 
-/// What is sent, with a Bye to every node behind it where the node has ended.
-fn with_byes(mut sends: Sends, nodes: u8, ended: bool) -> Sends
-    requires few { ended ≡ true → length sends.items ≤ 2 }
+/// Sends a Bye to every node, behind what is sent before, where the node has ended.
+fn add_byes(sends: &mut Sends, nodes: u8, ended: bool)
+    requires few { ended ≡ true → length sends.old.items ≤ 2 }
     requires nodes { nodes ≤ 16 }
-    ensures { result.items ≡ (if ended then sends.items ++ turns.byes_to nodes
-        else sends.items) }
+    ensures { sends.new.items ≡ (if ended then sends.old.items ++ turns.byes_to nodes
+        else sends.old.items) }
 {
     if !ended {
-        return sends;
+        return;
     }
     for to in 0..nodes {
         sends.push(Post {
@@ -438,5 +441,4 @@ fn with_byes(mut sends: Sends, nodes: u8, ended: bool) -> Sends
             message: Message::Bye,
         });
     }
-    sends
 }

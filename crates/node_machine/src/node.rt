@@ -23,7 +23,7 @@ use block_layout::Layout;
 use buf_pool::Pool;
 use byte_range::Window;
 use exec_map::{End, Program};
-use home_directory::{Directory, Wire};
+use home_directory::{Directory, Sends, Wire};
 use jump_map::{Image, ImageWord};
 use miss_handlers::Waits;
 use node_model::{Entry, NodeCounts, OutByte, Standing};
@@ -191,21 +191,21 @@ impl<'a> Node<'a> {
         Ok(())
     }
 
-    /// Executes one word.
-    pub fn exec(&mut self) -> Turn
+    /// Executes one word, and leaves what it sends, in order.
+    pub fn exec(&mut self, sends: &mut Sends) -> Turn
         requires may { model.can_execute (node_of self.old).phase ≡ true }
         requires room { HasRoom self.old }
         requires stamp { (node_of self.old).stamp < 2 ^ 56 }
         ensures node { node_of self.new
             ≡ (turns.word_turn (work_of self.old) (node_of self.old)).node }
-        ensures sends { result.sends.items
+        ensures sends { sends.new.items
             ≡ (turns.word_turn (work_of self.old) (node_of self.old)).sends }
         ensures output { result.output
             ≡ (turns.word_turn (work_of self.old) (node_of self.old)).printed }
         ensures stamp { result.stamp ≡ (node_of self.new).stamp }
         ensures work { work_of self.new ≡ work_of self.old }
     {
-        self.frame.exec()
+        self.frame.exec(sends)
     }
 
     /// Executes the next word by its micro-op, where that serves it and the budget has a further
@@ -265,17 +265,17 @@ impl<'a> Node<'a> {
     }
 
     /// Executes words, of which those before the last print nothing and send nothing: as many as
-    /// `go_on` does, and one more.
-    pub fn exec_on(&mut self) -> Turn
+    /// `go_on` does, and one more. It leaves what that sends, in order.
+    pub fn exec_on(&mut self, sends: &mut Sends) -> Turn
         requires may { model.can_execute (node_of self.old).phase ≡ true }
         requires room { HasRoom self.old }
         requires stamp { (node_of self.old).stamp < 2 ^ 56 }
         ensures ran { HasExecuted (work_of self.old) (node_of self.old) (node_of self.new)
-            result.sends.items result.output }
+            sends.new.items result.output }
         ensures stamp { result.stamp ≡ (node_of self.new).stamp }
         ensures work { work_of self.new ≡ work_of self.old }
     {
-        self.frame.exec_on()
+        self.frame.exec_on(sends)
     }
 
     /// Where the node is.
@@ -294,21 +294,21 @@ impl<'a> Node<'a> {
         self.frame.stirs()
     }
 
-    /// Takes a message from a node.
-    pub fn take(&mut self, from: u8, wire: Wire) -> Turn
+    /// Takes a message from a node, and leaves what it sends, in order.
+    pub fn take(&mut self, from: u8, wire: Wire, sends: &mut Sends) -> Turn
         requires room { HasRoom self.old }
         requires stamp { (node_of self.old).stamp < 2 ^ 56 }
         requires wire { wire.stamp < 2 ^ 56 }
         ensures node { node_of self.new
             ≡ (turns.take_turn (work_of self.old) (node_of self.old) from wire).node }
-        ensures sends { result.sends.items
+        ensures sends { sends.new.items
             ≡ (turns.take_turn (work_of self.old) (node_of self.old) from wire).sends }
         ensures output { result.output
             ≡ (turns.take_turn (work_of self.old) (node_of self.old) from wire).printed }
         ensures stamp { result.stamp ≡ (node_of self.new).stamp }
         ensures work { work_of self.new ≡ work_of self.old }
     {
-        self.frame.take(from, wire)
+        self.frame.take(from, wire, sends)
     }
 }
 

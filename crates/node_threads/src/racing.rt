@@ -121,6 +121,7 @@ fn go_apart<'a, R: Threads + Wait + Sync, G: Gate + Sync>(
         budget,
         nodes,
         lists: queues,
+        sends,
     } = parts;
     let rows = rows(alloc, queues, layout.nodes())?;
     let (nodes, rows) = race_nodes(rt, alloc, nodes, rows, capacity, gate)?;
@@ -131,6 +132,7 @@ fn go_apart<'a, R: Threads + Wait + Sync, G: Gate + Sync>(
         budget,
         nodes,
         lists: lists(alloc, rows)?,
+        sends,
     })
 }
 

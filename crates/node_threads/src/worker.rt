@@ -12,8 +12,8 @@ use crate::bells::Bells;
 use crate::gate::Gate;
 use crate::pace::Pace;
 use fifo_link::{Full, SendEnd, TakeEnd};
-use home_directory::Wire;
-use node_machine::{Node, Standing, Turn};
+use home_directory::{Sends, Wire};
+use node_machine::{Node, Standing};
 use std::alloc::AllocError;
 use std::collections::VecDeque;
 use std::sync::Wait;
@@ -68,14 +68,12 @@ fn flush<R: Wait>(rt: &R, end: &mut SendEnd, out: &mut VecDeque<Wire>) -> Result
 }
 
 /// Puts what an event sends behind what waits.
-fn post(outs: &mut Vec<VecDeque<Wire>>, turn: Turn) -> Result<(), AllocError>
+fn post(outs: &mut Vec<VecDeque<Wire>>, stamp: u64, mut sends: Sends) -> Result<(), AllocError>
     ensures wires { OnOk result ((k : ℕ) → k < length outs.old.items
         → waiting outs.new.items k
-        ≡ waiting outs.old.items k ++ wires_to turn.stamp k turn.sends.items) }
+        ≡ waiting outs.old.items k ++ wires_to stamp k sends.items) }
     ensures len { length outs.new.items ≡ length outs.old.items }
 {
-    let stamp = turn.stamp;
-    let mut sends = turn.sends;
     while !sends.is_empty() {
         let post = sends.remove(0);
         let to = usize::from(post.to);
@@ -376,11 +374,12 @@ impl<'a> Worker<'a> {
         ensures works { OnOk result (Works self.old self.new) }
     {
         self.node.room()?;
-        let turn = self.node.exec();
-        if !turn.sends.is_empty() {
+        let mut sends = Sends::new();
+        let turn = self.node.exec(&mut sends);
+        if !sends.is_empty() {
             pace.posted = true;
         }
-        post(&mut self.outs, turn)
+        post(&mut self.outs, turn.stamp, sends)
     }
 
     /// Looks at the links by sender, and takes the first message that is there. Says whether there
@@ -437,8 +436,9 @@ impl<'a> Worker<'a> {
         }
         pass_gate(gate, self.number, &mut self.events);
         self.node.room()?;
-        let turn = self.node.take(from, wire);
-        post(&mut self.outs, turn)?;
+        let mut sends = Sends::new();
+        let turn = self.node.take(from, wire, &mut sends);
+        post(&mut self.outs, turn.stamp, sends)?;
         Ok(true)
     }
 }

@@ -133,12 +133,12 @@ pub nil_parts : {A : Type 0} (xs ys : List A) → xs ++ ys ≡ [] → (xs ≡ []
 nil_parts [] ys e = (refl, e)
 nil_parts (x ∷ xs) ys e = absurd (cc)
 
-head_false : (t : Bool) (x : Event) (xs : List Event) → cond t (x ∷ xs) xs ≡ []
+pub head_false : (t : Bool) (x : Event) (xs : List Event) → cond t (x ∷ xs) xs ≡ []
     → (t ≡ false) × (xs ≡ [])
 head_false true x xs e = absurd (cc)
 head_false false x xs e = (refl, e)
 
-none_in : (p : Event → Bool) (f : ℕ → List Event) (a k i : ℕ) → a ≤ i → i < a + k
+pub none_in : (p : Event → Bool) (f : ℕ → List Event) (a k i : ℕ) → a ≤ i → i < a + k
     → filter p (flat_map f (range_with_len a k)) ≡ [] → filter p (f i) ≡ []
 none_in p f a zero i low high none = absurd (omega arith)
 none_in p f a (suc k) i low high none =
@@ -152,7 +152,7 @@ none_in p f a (suc k) i low high none =
     above : (a i : ℕ) → a ≤ i → i ≢ a → a + 1 ≤ i
     above a i low apart = omega (arith, apart)
 
-none_at : (p : Event → Bool) (g : ℕ → Event) (a k j : ℕ) → a ≤ j → j < a + k
+pub none_at : (p : Event → Bool) (g : ℕ → Event) (a k j : ℕ) → a ≤ j → j < a + k
     → filter p (map g (range_with_len a k)) ≡ [] → p (g j) ≡ false
 none_at p g a zero j low high none = absurd (omega arith)
 none_at p g a (suc k) j low high none =
@@ -270,6 +270,15 @@ no_takes work c i a (suc k) room none =
     let rest = no_takes work c i (a + 1) k (omega arith) none in
     λ t. cond (no t) (Take i a ∷ rest t) (rest t)
 
+-- a node that may take nothing takes nothing
+pub takes_none : (work : Work) (c : Core) (i a k : ℕ)
+    → may_take (standing_of work (c.nodes i)) ≡ false
+    → filter (is_allowed work c) (map (λ j. Take i j) (range_with_len a k)) ≡ []
+takes_none work c i a zero never = refl
+takes_none work c i a (suc k) never =
+    let rest = takes_none work c i (a + 1) k never in
+    λ t. cond (never t && has_wire (c.list a i)) (Take i a ∷ rest t) (rest t)
+
 -- 6. What a core tells of an event
 
 not_told : (work : Work) (c : Core) (e : Event) (t : Bool) → IsBelow work.layout.nodes e
@@ -282,6 +291,19 @@ pub told : (work : Work) (c : Core) (e : Event) (b : Bool) → IsBelow work.layo
     → ((b ≡ true) ↔ May work c e) → is_allowed work c e ≡ b
 told work c e true low iff = may_allowed work c e (iff.0 refl)
 told work c e false low iff = not_told work c e (is_allowed work c e) low iff.1 refl
+
+wire_told : (ws : List Wire) (b : Bool) → ((b ≡ true) ↔ (ws ≢ [])) → has_wire ws ≡ b
+wire_told [] true iff = absurd (iff.0 refl refl)
+wire_told [] false iff = refl
+wire_told (w ∷ ws) true iff = refl
+wire_told (w ∷ ws) false iff = sym (iff.1 (λ e. absurd (cc)))
+
+-- of a node that may take messages
+pub take_told : (work : Work) (c : Core) (i j : ℕ) (b : Bool)
+    → may_take (standing_of work (c.nodes i)) ≡ true
+    → ((b ≡ true) ↔ (c.list j i ≢ [])) → is_allowed work c (Take i j) ≡ b
+take_told work c i j b may iff =
+    (λ t. may t && has_wire (c.list j i)) ∙ wire_told (c.list j i) b iff
 
 pub one_take_more : (work : Work) (c : Core) (i j : ℕ) (b : Bool) (before now : List Event)
     → now ≡ before ++ filter (is_allowed work c) (map (λ k. Take i k) (range_with_len 0 j))

@@ -5,7 +5,8 @@ ghost use Rattle.std.specs.Prelude.{filter, length, slice_get, slice_index_or, S
 ghost use Rattle.std.specs.Vec.{vec_capacity};
 ghost use Rattle.std.specs.List.{range_with_len};
 ghost use Rattle.workload.specs.Orders.{how_often};
-ghost use Rattle.node_model.specs.Core.{Exec, Take, May};
+ghost use Rattle.node_model.specs.Node.{standing_of};
+ghost use Rattle.node_model.specs.Core.{Exec, Take, May, may_take};
 ghost use Rattle.dsm_core.specs.CoreParts.{work_of, core_of, event_of};
 ghost use Rattle.shared_sim.specs.ByOrder.{choices, events_at, is_allowed};
 ghost use Rattle.shared_sim.specs.Listing.{HasShape, Tells, TellsAll, Lists, IsCalm, HasRowRoom};
@@ -13,6 +14,7 @@ ghost use Rattle.shared_sim.specs.Turns.{HasNoMail};
 ghost use Rattle.shared_sim.specs.Windows.{picks_of};
 
 use dsm_core::{Core, Event};
+use node_machine::Standing;
 use std::alloc::{AllocError, Global};
 
 /// The events of a core that are allowed, node by node.
@@ -210,10 +212,24 @@ fn list_takes(core: &Core<'_>, node: u8, events: &mut Vec<Event>)
     ensures few { length events.new.items ≤ length events.old.items + core.now.layout.nodes }
     ensures room { vec_capacity events.new ≡ vec_capacity events.old }
 {
+    if !may_take(core, node) {
+        return;
+    }
     for from in 0..core.layout().nodes() {
-        let take = Event::Take { node, from };
-        if core.enabled(take) {
-            events.push_reserved(take);
+        if core.has_wire(from, node) {
+            events.push_reserved(Event::Take { node, from });
         }
+    }
+}
+
+/// Whether a node may take messages.
+fn may_take(core: &Core<'_>, node: u8) -> bool
+    requires node { node < core.now.layout.nodes }
+    ensures value { result
+        ≡ may_take (standing_of (work_of core.now) ((core_of core.now).nodes node)) }
+{
+    match core.node(node).standing() {
+        Standing::AtPoll | Standing::Waiting | Standing::Ended => true,
+        Standing::Running | Standing::Over => false,
     }
 }

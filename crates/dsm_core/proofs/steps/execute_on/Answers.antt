@@ -27,7 +27,7 @@ pub overflow_sub-words : goal.overflow_sub-words
 overflow_sub-words c =
     let ran = ran_stamp (work_at c.index_mut-stored.result.now)
     (node_of c.index_mut-stored.result.now) (node_of c.exec_on-turn.new.self)
-    c.exec_on-turn.result.sends.items c.exec_on-turn.result.output c.exec_on-turn.ensures.ran in
+    c.exec_on-turn.new.sends.items c.exec_on-turn.result.output c.exec_on-turn.ensures.ran in
     let last = c.exec_on-turn.ensures.stamp in
     let first = c.stamp-stamp.ensures in
     omega (arith, ran, last, first)
@@ -44,13 +44,13 @@ returns-clause-ran c =
     let x = c.index_mut-stored.result.now in
     let y = c.exec_on-turn.new.self in
     let turn = c.exec_on-turn.result in
-    let ran = ran_stamp (work_at x) (node_of x) (node_of y) turn.sends.items turn.output
+    let ran = ran_stamp (work_at x) (node_of x) (node_of y) c.exec_on-turn.new.sends.items turn.output
     c.exec_on-turn.ensures.ran in
     let last = c.exec_on-turn.ensures.stamp in
     let first = c.stamp-stamp.ensures in
     executed_on c.args.count c.args.node (turn.stamp - c.stamp-stamp.result)
     c.args.nodes.now.items c.make_room.new.nodes.items x y c.args.lists.now.items
-    c.make_room.new.lists.items c.send.new.queues.items turn.stamp turn.sends.items turn.output
+    c.make_room.new.lists.items c.send.new.queues.items turn.stamp c.exec_on-turn.new.sends.items turn.output
     c.make_room.ensures.count c.requires.allowed.0 c.make_room.ensures.nodes
     c.index_mut-stored.ensures.value c.make_room.ensures.wires c.send.ensures.sent
     c.exec_on-turn.ensures.ran last (omega (arith, ran, last, first))

@@ -33,7 +33,7 @@ returns-clause-event c =
     executed c.args.count c.args.node c.args.nodes.now.items c.make_room.new.nodes.items
     c.index_mut.result.now c.exec-turn.new.self c.args.lists.now.items
     c.make_room.new.lists.items c.send.new.queues.items c.exec-turn.result.stamp
-    c.exec-turn.result.sends.items c.make_room.ensures.count c.requires.allowed.0
+    c.exec-turn.new.sends.items c.make_room.ensures.count c.requires.allowed.0
     c.make_room.ensures.nodes c.index_mut.ensures.value c.make_room.ensures.wires
     c.send.ensures.sent c.exec-turn.ensures.node c.exec-turn.ensures.sends
     c.exec-turn.ensures.stamp

@@ -25,7 +25,7 @@ returns-clause-event c =
     taken c.args.count c.args.node c.args.from c.args.nodes.now.items
     c.make_room.new.nodes.items c.index_mut.result.now c.take-turn.new.self
     c.args.lists.now.items c.make_room.new.lists.items c.take_first-wire.new.queues.items
-    c.send.new.queues.items c.take-turn.result.stamp c.take-turn.result.sends.items
+    c.send.new.queues.items c.take-turn.result.stamp c.take-turn.new.sends.items
     c.take_first-wire.result c.make_room.ensures.count c.requires.allowed.0 c.requires.allowed.1
     c.make_room.ensures.nodes c.index_mut.ensures.value c.make_room.ensures.wires
     c.take_first-wire.ensures.taken c.send.ensures.sent c.take-turn.ensures.node

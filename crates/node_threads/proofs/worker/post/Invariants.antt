@@ -8,7 +8,7 @@ invariant-loop-sends l = record {
   len : length l.outs.items ≡ length l.fn.outs.items;
   wires : (k : ℕ) → k < length l.fn.outs.items
       → waiting l.outs.items k ++ wires_to l.stamp k l.sends.items
-      ≡ waiting l.fn.outs.items k ++ wires_to l.fn.turn.stamp k l.fn.turn.sends.items;
+      ≡ waiting l.fn.outs.items k ++ wires_to l.stamp k l.initial.sends.items;
 }
 
 abbrev pub decreases-loop-sends : goal.decreases-loop-sends

@@ -25,7 +25,7 @@ resumed-position-requires c = record {
       let stamp = c.requires.stamp in
       let old = subst (λ (x : Body). AreCountsBelow (19 * i.stamp) x.counts) (sym c.deref_mut.ensures.value) c.requires.node.counts in
       subst (λ (x : Body). AreCountsBelow (2 ^ 63) x.counts) (sym c.deref_mut-2.ensures.value)
-      (counts_up (19 * i.stamp + 18) (2 ^ 63) c.treat-sends.new.body.counts (omega (arith, stamp)) (c.treat-sends.ensures.counts (19 * i.stamp) old));
+      (counts_up (19 * i.stamp + 18) (2 ^ 63) c.treat.new.body.counts (omega (arith, stamp)) (c.treat.ensures.counts (19 * i.stamp) old));
 }
 
 pub returns-then-was_ended-clause-turn : goal.returns-then-was_ended-clause-turn
@@ -33,14 +33,14 @@ returns-then-was_ended-clause-turn c =
     let i = c.args.self.now in
     let wire = c.args.wire in
     let from = c.args.from in
-    let b = c.treat-sends.new.body in
+    let b = c.treat.new.body in
     let b' = c.resumed-position.new.body in
-    let d = c.treat-sends.new.desk in
-    let byes = c.treat-sends.new.byes in
-    let posts = c.treat-sends.result.items in
+    let d = c.treat.new.desk in
+    let byes = c.treat.new.byes in
+    let posts = c.treat.new.sends.items in
     let idle = eqb c.pending-pending.result 0 in
     let p = phase_of i.phase in
-    let lane = c.treat-sends.ensures.lane ∙ ap (λ (x : Body). x.lane) c.deref_mut.ensures.value in
+    let lane = c.treat.ensures.lane ∙ ap (λ (x : Body). x.lane) c.deref_mut.ensures.value in
     let after = c.deref_mut-2.ensures.value in
     let entry : Entry = record { stamp = c.later.result + 1; from = from; words = i.executed - i.noted } in
     let entry_is : entry ≡ record { stamp = later i.stamp wire.stamp + 1; from = from; words = i.executed - words_before i.journal.items } =
@@ -65,8 +65,8 @@ returns-then-was_ended-clause-turn c =
     let treat : (n : Node) → n.me ≡ i.desk.directory.me → treated (layout_of i.body.value) (with_all n i.body.value i.desk i.byes) from wire.message
     ≡ turn_by (with_all n b d byes) posts None =
     λ n me. subst (λ (x : Body). treated (layout_of x) (with_all n x i.desk i.byes) from wire.message ≡ turn_by (with_all n b d byes) posts None)
-    c.deref_mut.ensures.value (c.treat-sends.ensures.turn n me) in
-    let desk = subst (λ (x : Body). IsDesk (layout_of x) d) c.deref_mut.ensures.value c.treat-sends.ensures.desk in
+    c.deref_mut.ensures.value (c.treat.ensures.turn n me) in
+    let desk = subst (λ (x : Body). IsDesk (layout_of x) d) c.deref_mut.ensures.value c.treat.ensures.desk in
     let none : eqb (count_of (λ x. is_some (wait_of d.waits x)) (blocks (layout_of i.body.value))) 0 ≡ idle =
     no_wait_is (layout_of i.body.value) d.waits c.pending-pending.result desk.waits c.pending-pending.ensures.waits c.pending-pending.ensures.count in
     let goes : lane_of b'.lane (word_address c.resumed-position.result.at)
@@ -82,7 +82,7 @@ returns-then-was_ended-clause-turn c =
       phase = phase_resumed i.budget i.executed idle p;
       counts = counts_after_wait (local_of b.local) idle p b.counts;
     } = λ t. record last {
-      me = c.treat-sends.ensures.me t;
+      me = c.treat.ensures.me t;
       lane = goes t;
       local = local_of (local t);
       phase = c.resumed-position.ensures.phase t;
@@ -96,7 +96,7 @@ returns-then-was_ended-clause-turn c =
 pub returns-then-was_ended-clause-work : goal.returns-then-was_ended-clause-work
 returns-then-was_ended-clause-work c =
     let i = c.args.self.now in
-    let g = ap (λ (x : Shelf). ground_of x) c.resumed-position.ensures.local ∙ ap (λ (x : Body). ground_of x.local) c.deref_mut-2.ensures.value ∙ c.treat-sends.ensures.ground
+    let g = ap (λ (x : Shelf). ground_of x) c.resumed-position.ensures.local ∙ ap (λ (x : Body). ground_of x.local) c.deref_mut-2.ensures.value ∙ c.treat.ensures.ground
     ∙ ap (λ (x : Body). ground_of x.local) c.deref_mut.ensures.value in
     λ t. record { program = program_of (g t).program; image = i.image.now; layout = (g t).layout; budget = i.budget }
 
@@ -104,9 +104,9 @@ pub returns-then-was_ended-clause-node : goal.returns-then-was_ended-clause-node
 returns-then-was_ended-clause-node c =
     let i = c.args.self.now in
     let n = c.requires.node in
-    let b = c.treat-sends.new.body in
+    let b = c.treat.new.body in
     let b' = c.resumed-position.new.body in
-    let d = c.treat-sends.new.desk in
+    let d = c.treat.new.desk in
     let idle = eqb c.pending-pending.result 0 in
     let left = ap (λ x. eqb x 0) (sym c.pending-pending.ensures.count) in
     let entry : Entry = record { stamp = c.later.result + 1; from = c.args.from; words = i.executed - i.noted } in
@@ -117,20 +117,20 @@ returns-then-was_ended-clause-node c =
     let stamp = c.later.ensures in
     let old = subst (λ (x : Body). AreCountsBelow (19 * i.stamp) x.counts) (sym c.deref_mut.ensures.value) n.counts in
     let after = c.deref_mut-2.ensures.value in
-    let treated = c.treat-sends.ensures.counts (19 * i.stamp) old in
+    let treated = c.treat.ensures.counts (19 * i.stamp) old in
     let counts : b'.counts ≡ counts_after_wait (local_of b.local) idle (phase_of i.phase) b.counts =
     c.resumed-position.ensures.counts ∙ ap (λ (x : Body). counts_after_wait (local_of x.local) idle (phase_of i.phase) x.counts) after in
     let below = subst (AreCountsBelow (19 * i.stamp + 18 + 1)) (sym counts) (wait_below (local_of b.local) idle (phase_of i.phase) (19 * i.stamp + 18) b.counts treated) in
     let local : b'.local ≡ b.local = c.resumed-position.ensures.local ∙ ap (λ (x : Body). x.local) after in
-    let layout = ap (λ (x : Shelf). x.copy.layout) local ∙ ap (λ (x : Ground). x.layout) c.treat-sends.ensures.ground in
+    let layout = ap (λ (x : Shelf). x.copy.layout) local ∙ ap (λ (x : Ground). x.layout) c.treat.ensures.ground in
     record {
       within = n.within;
       going = λ may. resumed_goes i.budget i.executed (phase_of i.phase) idle n.within n.going (sym (ap can_execute c.resumed-position.ensures.phase) ∙ may);
       range = n.range;
       short = n.short;
-      desk = subst (λ (l : Shape). IsDesk l d) (sym layout) c.treat-sends.ensures.desk;
+      desk = subst (λ (l : Shape). IsDesk l d) (sym layout) c.treat.ensures.desk;
       waits = subst (λ p. WaitsInPhase p (length d.waits.waits)) (sym c.resumed-position.ensures.phase)
-          (resumed_waits i.budget i.executed (phase_of i.phase) (length i.desk.waits.waits) (length d.waits.waits) idle left n.waits c.treat-sends.ensures.none);
+          (resumed_waits i.budget i.executed (phase_of i.phase) (length i.desk.waits.waits) (length d.waits.waits) idle left n.waits c.treat.ensures.none);
       noted = omega (arith, words, noted, behind);
       behind = omega arith;
       counts = counts_up (19 * i.stamp + 18 + 1) (19 * (c.later.result + 1)) b'.counts (omega (arith, above, stamp)) below;
@@ -141,14 +141,14 @@ returns-clause-turn c =
     let i = c.args.self.now in
     let wire = c.args.wire in
     let from = c.args.from in
-    let b = c.treat-sends.new.body in
+    let b = c.treat.new.body in
     let b' = c.resumed-position.new.body in
-    let d = c.treat-sends.new.desk in
-    let byes = c.treat-sends.new.byes in
-    let posts = c.treat-sends.result.items in
+    let d = c.treat.new.desk in
+    let byes = c.treat.new.byes in
+    let posts = c.treat.new.sends.items in
     let idle = eqb c.pending-pending.result 0 in
     let p = phase_of i.phase in
-    let lane = c.treat-sends.ensures.lane ∙ ap (λ (x : Body). x.lane) c.deref_mut.ensures.value in
+    let lane = c.treat.ensures.lane ∙ ap (λ (x : Body). x.lane) c.deref_mut.ensures.value in
     let after = c.deref_mut-2.ensures.value in
     let entry : Entry = record { stamp = c.later.result + 1; from = from; words = i.executed - i.noted } in
     let entry_is : entry ≡ record { stamp = later i.stamp wire.stamp + 1; from = from; words = i.executed - words_before i.journal.items } =
@@ -173,8 +173,8 @@ returns-clause-turn c =
     let treat : (n : Node) → n.me ≡ i.desk.directory.me → treated (layout_of i.body.value) (with_all n i.body.value i.desk i.byes) from wire.message
     ≡ turn_by (with_all n b d byes) posts None =
     λ n me. subst (λ (x : Body). treated (layout_of x) (with_all n x i.desk i.byes) from wire.message ≡ turn_by (with_all n b d byes) posts None)
-    c.deref_mut.ensures.value (c.treat-sends.ensures.turn n me) in
-    let desk = subst (λ (x : Body). IsDesk (layout_of x) d) c.deref_mut.ensures.value c.treat-sends.ensures.desk in
+    c.deref_mut.ensures.value (c.treat.ensures.turn n me) in
+    let desk = subst (λ (x : Body). IsDesk (layout_of x) d) c.deref_mut.ensures.value c.treat.ensures.desk in
     let none : eqb (count_of (λ x. is_some (wait_of d.waits x)) (blocks (layout_of i.body.value))) 0 ≡ idle =
     no_wait_is (layout_of i.body.value) d.waits c.pending-pending.result desk.waits c.pending-pending.ensures.waits c.pending-pending.ensures.count in
     let goes : lane_of b'.lane (word_address c.resumed-position.result.at)
@@ -190,7 +190,7 @@ returns-clause-turn c =
       phase = phase_resumed i.budget i.executed idle p;
       counts = counts_after_wait (local_of b.local) idle p b.counts;
     } = λ t. record last {
-      me = c.treat-sends.ensures.me t;
+      me = c.treat.ensures.me t;
       lane = goes t;
       local = local_of (local t);
       phase = c.resumed-position.ensures.phase t;
@@ -199,7 +199,7 @@ returns-clause-turn c =
       counts = counts t;
     } in
     let whole = taken i from wire b d byes posts idle last treat none is in
-    let g = ap (λ (x : Shelf). ground_of x) local ∙ c.treat-sends.ensures.ground ∙ ap (λ (x : Body). ground_of x.local) c.deref_mut.ensures.value in
+    let g = ap (λ (x : Shelf). ground_of x) local ∙ c.treat.ensures.ground ∙ ap (λ (x : Body). ground_of x.local) c.deref_mut.ensures.value in
     c.turn.ensures.turn
     ∙ ap (λ (x : Ground). with_byes x.layout.nodes (turn_by last posts None) (is_ended last.phase)) g
     ∙ taken_going i from wire posts last whole (sym c.is_ended-was_ended.ensures ∙ c.if-was_ended.false)
@@ -207,7 +207,7 @@ returns-clause-turn c =
 pub returns-clause-work : goal.returns-clause-work
 returns-clause-work c =
     let i = c.args.self.now in
-    let g = ap (λ (x : Shelf). ground_of x) c.resumed-position.ensures.local ∙ ap (λ (x : Body). ground_of x.local) c.deref_mut-2.ensures.value ∙ c.treat-sends.ensures.ground
+    let g = ap (λ (x : Shelf). ground_of x) c.resumed-position.ensures.local ∙ ap (λ (x : Body). ground_of x.local) c.deref_mut-2.ensures.value ∙ c.treat.ensures.ground
     ∙ ap (λ (x : Body). ground_of x.local) c.deref_mut.ensures.value in
     λ t. record { program = program_of (g t).program; image = i.image.now; layout = (g t).layout; budget = i.budget }
 
@@ -215,9 +215,9 @@ pub returns-clause-node : goal.returns-clause-node
 returns-clause-node c =
     let i = c.args.self.now in
     let n = c.requires.node in
-    let b = c.treat-sends.new.body in
+    let b = c.treat.new.body in
     let b' = c.resumed-position.new.body in
-    let d = c.treat-sends.new.desk in
+    let d = c.treat.new.desk in
     let idle = eqb c.pending-pending.result 0 in
     let left = ap (λ x. eqb x 0) (sym c.pending-pending.ensures.count) in
     let entry : Entry = record { stamp = c.later.result + 1; from = c.args.from; words = i.executed - i.noted } in
@@ -228,20 +228,20 @@ returns-clause-node c =
     let stamp = c.later.ensures in
     let old = subst (λ (x : Body). AreCountsBelow (19 * i.stamp) x.counts) (sym c.deref_mut.ensures.value) n.counts in
     let after = c.deref_mut-2.ensures.value in
-    let treated = c.treat-sends.ensures.counts (19 * i.stamp) old in
+    let treated = c.treat.ensures.counts (19 * i.stamp) old in
     let counts : b'.counts ≡ counts_after_wait (local_of b.local) idle (phase_of i.phase) b.counts =
     c.resumed-position.ensures.counts ∙ ap (λ (x : Body). counts_after_wait (local_of x.local) idle (phase_of i.phase) x.counts) after in
     let below = subst (AreCountsBelow (19 * i.stamp + 18 + 1)) (sym counts) (wait_below (local_of b.local) idle (phase_of i.phase) (19 * i.stamp + 18) b.counts treated) in
     let local : b'.local ≡ b.local = c.resumed-position.ensures.local ∙ ap (λ (x : Body). x.local) after in
-    let layout = ap (λ (x : Shelf). x.copy.layout) local ∙ ap (λ (x : Ground). x.layout) c.treat-sends.ensures.ground in
+    let layout = ap (λ (x : Shelf). x.copy.layout) local ∙ ap (λ (x : Ground). x.layout) c.treat.ensures.ground in
     record {
       within = n.within;
       going = λ may. resumed_goes i.budget i.executed (phase_of i.phase) idle n.within n.going (sym (ap can_execute c.resumed-position.ensures.phase) ∙ may);
       range = n.range;
       short = n.short;
-      desk = subst (λ (l : Shape). IsDesk l d) (sym layout) c.treat-sends.ensures.desk;
+      desk = subst (λ (l : Shape). IsDesk l d) (sym layout) c.treat.ensures.desk;
       waits = subst (λ p. WaitsInPhase p (length d.waits.waits)) (sym c.resumed-position.ensures.phase)
-          (resumed_waits i.budget i.executed (phase_of i.phase) (length i.desk.waits.waits) (length d.waits.waits) idle left n.waits c.treat-sends.ensures.none);
+          (resumed_waits i.budget i.executed (phase_of i.phase) (length i.desk.waits.waits) (length d.waits.waits) idle left n.waits c.treat.ensures.none);
       noted = omega (arith, words, noted, behind);
       behind = omega arith;
       counts = counts_up (19 * i.stamp + 18 + 1) (19 * (c.later.result + 1)) b'.counts (omega (arith, above, stamp)) below;

@@ -10,8 +10,8 @@ use Rattle.node_machine.proofs.frame.Frame.turn.Goals as goal
 pub returns-clause-turn : goal.returns-clause-turn
 returns-clause-turn c =
     let f = c.args.self.now in
-    let posts = c.args.sends.items in
+    let posts = c.args.sends.now.items in
     let nodes = c.nodes.ensures.nodes ∙ ap (λ (b : Body). (layout_of b).nodes) c.deref.ensures in
     ap (λ (x : List Post). turn_by (node_of f) x c.args.output)
-    (c.with_byes.ensures ∙ (λ t. cond (c.is_ended.ensures t) (posts ++ byes_to (nodes t)) posts))
+    (c.add_byes.ensures ∙ (λ t. cond (c.is_ended.ensures t) (posts ++ byes_to (nodes t)) posts))
     ∙ byes_by (layout_of f.body.value).nodes (node_of f) posts c.args.output (is_ended (phase_of f.phase))

@@ -8,7 +8,7 @@ returns-clause-works c =
     let t = c.exec-turn in
     on_ok c.post.result
     (λ sent. works_turn c.args.self.now _ c.room.new.self Executes t.result.stamp
-    t.result.sends.items c.requires.hand c.requires.rows c.requires.may c.room.ensures.work
+    t.new.sends.items c.requires.hand c.requires.rows c.requires.may c.room.ensures.work
     c.room.ensures.node t.ensures.work t.ensures.node t.ensures.sends t.ensures.stamp
     (λ j. sym (append-nil _)) refl refl sent c.post.ensures.len)
     c.post.ensures.wires

@@ -31,7 +31,7 @@ returns-clause-works g c =
     omega (arith, c.from.ensures, c.requires.from) in
     let t = c.take-turn in
     works_turn c.args.self.now _ c.room.new.self (Takes c.args.from c.in-Some.wire) t.result.stamp
-    t.result.sends.items c.requires.hand c.requires.rows
+    t.new.sends.items c.requires.hand c.requires.rows
     (subst (λ n. c.args.from < n) c.requires.rows.takes c.requires.from, c.requires.may)
     c.room.ensures.work c.room.ensures.node t.ensures.work t.ensures.node t.ensures.sends
     t.ensures.stamp

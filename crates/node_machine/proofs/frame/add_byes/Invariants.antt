@@ -1,9 +1,9 @@
 use Rattle.std.proofs.Common.{◌≡◌, ◌+◌, ◌++◌, ◌≤◌, length}
 use Rattle.node_model.specs.Turns.{byes_to}
-use Rattle.node_machine.proofs.frame.with_byes.Given as goal
+use Rattle.node_machine.proofs.frame.add_byes.Given as goal
 
 abbrev pub invariant-loop-to : goal.invariant-loop-to
 invariant-loop-to l = record {
-  items : l.sends.items ≡ l.initial.sends.items ++ byes_to l.to;
+  items : l.sends.items ≡ l.fn.sends.items ++ byes_to l.to;
   len : length l.sends.items ≤ 2 + l.to;
 }
