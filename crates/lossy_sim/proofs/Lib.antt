@@ -1,0 +1,11 @@
+pub mod Carrying
+pub mod UnderWay
+pub mod Standing
+pub mod Nearing
+pub mod Ending
+pub mod Drawn
+pub mod Stored
+pub mod Events
+pub mod Turned
+pub mod Listed
+pub mod Running
