@@ -12,7 +12,7 @@ mod operands;
 mod text;
 
 pub use law::text_law;
-pub use operands::push_word;
+pub use operands::{push_base, push_indexed, push_register, push_word};
 use rv32_decode::decode;
 use std::alloc::AllocError;
 use text::push_text;
@@ -53,8 +53,8 @@ fn push_field(out: &mut Vec<u8>, word: u32, separator: &[u8]) -> Result<(), Allo
     Ok(())
 }
 
-/// The text of what the word decodes to.
-fn push_word_text(out: &mut Vec<u8>, address: u32, word: u32) -> Result<(), AllocError>
+/// Appends the text of what a word at an address decodes to, or a part of it where memory runs out.
+pub fn push_word_text(out: &mut Vec<u8>, address: u32, word: u32) -> Result<(), AllocError>
     ensures ok { OnOk result (out.new.items ≡ out.old.items ++ text_of_word address word) }
     ensures err { OnErr result (Extends out.old.items out.new.items) }
 {

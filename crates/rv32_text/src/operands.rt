@@ -11,7 +11,7 @@ use rv32_decode::{Amount, Imm12, Reg, Upper};
 use std::alloc::AllocError;
 
 /// `xR`
-pub(crate) fn push_register(out: &mut Vec<u8>, r: Reg) -> Result<(), AllocError>
+pub fn push_register(out: &mut Vec<u8>, r: Reg) -> Result<(), AllocError>
     ensures ok { OnOk result (out.new.items ≡ out.old.items ++ register r) }
     ensures err { OnErr result (Extends out.old.items out.new.items) }
 {
@@ -22,7 +22,7 @@ pub(crate) fn push_register(out: &mut Vec<u8>, r: Reg) -> Result<(), AllocError>
 }
 
 /// `(xR)`
-pub(crate) fn push_base(out: &mut Vec<u8>, r: Reg) -> Result<(), AllocError>
+pub fn push_base(out: &mut Vec<u8>, r: Reg) -> Result<(), AllocError>
     ensures ok { OnOk result (out.new.items ≡ out.old.items ++ base r) }
     ensures err { OnErr result (Extends out.old.items out.new.items) }
 {
@@ -53,7 +53,7 @@ pub(crate) fn push_amount(out: &mut Vec<u8>, amount: Amount) -> Result<(), Alloc
 }
 
 /// An immediate and a register in brackets.
-pub(crate) fn push_indexed(out: &mut Vec<u8>, imm: Imm12, r: Reg) -> Result<(), AllocError>
+pub fn push_indexed(out: &mut Vec<u8>, imm: Imm12, r: Reg) -> Result<(), AllocError>
     ensures ok { OnOk result (out.new.items ≡ out.old.items ++ indexed imm r) }
     ensures err { OnErr result (Extends out.old.items out.new.items) }
 {

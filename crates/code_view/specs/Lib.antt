@@ -1,0 +1,4 @@
+pub mod Names
+pub mod Plans
+pub mod Words
+pub mod Code
