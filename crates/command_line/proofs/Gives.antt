@@ -13,7 +13,7 @@ use Rattle.clap.specs.declared.parser.matches.ValueSource.TheVariants.{CommandLi
 use Rattle.clap.specs.Faults.{fault_of, built_fault}
 use Rattle.clap.proofs.FaultLemmas.{leaf_fault}
 use Rattle.command_line.specs.declared.table.Setting.{Setting}
-use Rattle.command_line.specs.declared.table.Setting.TheVariants.{Nodes, Order, Budget, Layout, Code, Verify, Record, Brief, NoBatch}
+use Rattle.command_line.specs.declared.table.Setting.TheVariants.{Nodes, Order, Budget, Layout, Code, Verify, Record, Brief, NoBatch, Loss}
 use Rattle.command_line.specs.declared.table.Role.{Role}
 use Rattle.command_line.specs.declared.table.Role.TheVariants as role
 use Rattle.command_line.specs.Commands.{option_word}
@@ -73,6 +73,7 @@ no_operand Verify = refl
 no_operand Record = refl
 no_operand Brief = refl
 no_operand NoBatch = refl
+no_operand Loss = refl
 
 no_option : (s : Setting) → bytes_eq (name_of s) (codes "operand") ≡ false
 no_option Nodes = refl
@@ -84,6 +85,7 @@ no_option Verify = refl
 no_option Record = refl
 no_option Brief = refl
 no_option NoBatch = refl
+no_option Loss = refl
 
 same_names : (s t : Setting) → bytes_eq (name_of s) (name_of t) ≡ is_same s t
 same_names s t = sym (ap (λ w. bytes_eq w (option_word t)) (dashed s)
@@ -183,6 +185,8 @@ module _ (settings : List Setting) where
       record { more = omega (arith, length-append (codes "--brief") (61 ∷ v)); first = refl; second = refl }
   long_joined NoBatch v =
       record { more = omega (arith, length-append (codes "--no-batch") (61 ∷ v)); first = refl; second = refl }
+  long_joined Loss v =
+      record { more = omega (arith, length-append (codes "--loss") (61 ∷ v)); first = refl; second = refl }
 
   long_alone : (s : Setting) → IsLong (option_word s)
   long_alone Nodes = record { more = omega arith; first = refl; second = refl }
@@ -194,6 +198,7 @@ module _ (settings : List Setting) where
   long_alone Record = record { more = omega arith; first = refl; second = refl }
   long_alone Brief = record { more = omega arith; first = refl; second = refl }
   long_alone NoBatch = record { more = omega arith; first = refl; second = refl }
+  long_alone Loss = record { more = omega arith; first = refl; second = refl }
 
   readable : (arguments : List Argument) → AreArguments settings arguments →
       AreReadable (flat_map words_of arguments)

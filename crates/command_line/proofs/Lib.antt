@@ -4,3 +4,4 @@ pub mod Told
 pub mod Walking
 pub mod Gives
 pub mod Rows
+pub mod Viewing

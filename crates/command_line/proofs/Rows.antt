@@ -7,18 +7,18 @@ use Rattle.clap.proofs.WalkLemmas.{raw_values-rows}
 use Rattle.command_line.specs.declared.table.Access.{Access}
 use Rattle.command_line.specs.declared.table.Access.TheVariants.{Read, Write}
 use Rattle.command_line.specs.declared.table.Kind.{Kind}
-use Rattle.command_line.specs.declared.table.Kind.TheVariants.{Number, File, Flag}
+use Rattle.command_line.specs.declared.table.Kind.TheVariants.{Number, MaybeNumber, File, Flag}
 use Rattle.command_line.specs.declared.table.Setting.{Setting}
-use Rattle.command_line.specs.declared.table.Setting.TheVariants.{Nodes, Order, Budget, Layout, Code, Verify, Record, Brief, NoBatch}
+use Rattle.command_line.specs.declared.table.Setting.TheVariants.{Nodes, Order, Budget, Layout, Code, Verify, Record, Brief, NoBatch, Loss}
 use Rattle.command_line.specs.declared.table.Role.{Role}
 use Rattle.command_line.specs.declared.table.Role.TheVariants as role
 use Rattle.command_line.specs.declared.table.CommandWord.{CommandWord}
 use Rattle.command_line.specs.declared.table.CommandWord.TheVariants as word
-use Rattle.command_line.specs.Commands.{Command, Rewrite, Run, Listing, One, Sim, Replay, Generate, Assemble, Named, Between, Value, Amount, Name, Switch, name_or_none, Row, row_of, IsFit, is_alone, kind_of, settings_in}
+use Rattle.command_line.specs.Commands.{Command, Rewrite, Run, Listing, One, Sim, Replay, Generate, Assemble, Named, Between, Value, Amount, MaybeAmount, Name, Switch, name_or_none, Row, row_of, IsFit, is_alone, kind_of, settings_in}
 use Rattle.command_line.specs.Asks.{Argument, IsNumber, ArePlaced, IsSet, AreSet, AreOfRow, Asks}
 use Rattle.command_line.specs.declared.Command.{Command as OfCode}
 use Rattle.command_line.specs.Meaning.{meaning_of}
-use Rattle.command_line.specs.Reading.{IsCut, Reads, IsOfRow, AreGiven, SaysNumber, SaysName, SaysFlag, Completes, given_by, id_of, words_for, settings_of, text_of}
+use Rattle.command_line.specs.Reading.{IsCut, Reads, IsOfRow, AreGiven, SaysNumber, SaysMaybe, SaysName, SaysFlag, Completes, given_by, id_of, words_for, settings_of, text_of}
 use Rattle.command_line.proofs.Cuts.{same_cut}
 
 abbrev Given : Type 0
@@ -39,6 +39,9 @@ same_amount n m e = cc
 same_name : (x y : List ℕ) → Name x ≡ Name y → x ≡ y
 same_name x y e = cc
 
+not_maybe : (n : ℕ) (o : Option ℕ) → Amount n ≡ MaybeAmount o → ⊥
+not_maybe n o e = absurd (cc)
+
 set_one : (kind : Kind) (values : List (List ℕ)) (n m : ℕ) → IsSet kind values (Amount n) →
     IsSet kind values (Amount m) → n ≡ m
 set_one (Number low high default) [] n m h k = same_amount n m (h ∙ sym k)
@@ -47,6 +50,9 @@ set_one (Number low high default) (x ∷ []) n m h k =
     let f = same_amount m k.0 k.2 in
     e ∙ sym h.1.value ∙ k.1.value ∙ sym f
 set_one (Number low high default) (x ∷ y ∷ more) n m h k = absurd h
+set_one (MaybeNumber low high) [] n m h k = same_amount n m (h ∙ sym k)
+set_one (MaybeNumber low high) (x ∷ []) n m h k = absurd (not_maybe n _ h.2)
+set_one (MaybeNumber low high) (x ∷ y ∷ more) n m h k = absurd h
 set_one (File access) [] n m h k = same_amount n m (h ∙ sym k)
 set_one (File access) (x ∷ []) n m h k = same_amount n m (h.1 ∙ sym k.1)
 set_one (File access) (x ∷ y ∷ more) n m h k = absurd h
@@ -102,11 +108,18 @@ no_switch : (n : Option (List ℕ)) (b : Bool) → name_or_none n ≡ Switch b �
 no_switch None b e = absurd (cc)
 no_switch (Some x) b e = absurd (cc)
 
+no_maybe : (n : Option (List ℕ)) (o : Option ℕ) → name_or_none n ≡ MaybeAmount o → ⊥
+no_maybe None o e = absurd (cc)
+no_maybe (Some x) o e = absurd (cc)
+
 name_one : (kind : Kind) (values : List (List ℕ)) (n m : Option (List ℕ)) →
     IsSet kind values (name_or_none n) → IsSet kind values (name_or_none m) → n ≡ m
 name_one (Number low high default) [] n m h k = absurd (no_amount n _ h)
 name_one (Number low high default) (x ∷ []) n m h k = absurd (no_amount n h.0 h.2)
 name_one (Number low high default) (x ∷ y ∷ more) n m h k = absurd h
+name_one (MaybeNumber low high) [] n m h k = absurd (no_maybe n _ h)
+name_one (MaybeNumber low high) (x ∷ []) n m h k = absurd (no_maybe n _ h.2)
+name_one (MaybeNumber low high) (x ∷ y ∷ more) n m h k = absurd h
 name_one (File access) [] n m h k = same_named n m (h ∙ sym k)
 name_one (File access) (x ∷ []) n m h k = same_named n m (h.1 ∙ sym k.1)
 name_one (File access) (x ∷ y ∷ more) n m h k = absurd h
@@ -116,6 +129,53 @@ name_one Flag (x ∷ y ∷ more) n m h k = absurd h
 
 names_one : (g : Given) (s : Setting) (n m : Option (List ℕ)) → SaysName g s n → SaysName g s m → n ≡ m
 names_one g s n m h k = name_one (kind_of s) (g (role.Option s)) n m h k
+
+-- an option has one number, or none
+same_maybe : (n m : Option ℕ) → MaybeAmount n ≡ MaybeAmount m → n ≡ m
+same_maybe n m e = cc
+
+some_maybe : (n : Option ℕ) (k : ℕ) → MaybeAmount n ≡ MaybeAmount (Some k) → n ≡ Some k
+some_maybe n k e = same_maybe n (Some k) e
+
+maybe_one : (kind : Kind) (values : List (List ℕ)) (n m : Option ℕ)
+    → IsSet kind values (MaybeAmount n) → IsSet kind values (MaybeAmount m) → n ≡ m
+maybe_one (Number low high default) [] n m h k = same_maybe n m (h ∙ sym k)
+maybe_one (Number low high default) (x ∷ []) n m h k = absurd (not_maybe h.0 n (sym h.2))
+maybe_one (Number low high default) (x ∷ y ∷ more) n m h k = absurd h
+maybe_one (MaybeNumber low high) [] n m h k = same_maybe n m (h ∙ sym k)
+maybe_one (MaybeNumber low high) (x ∷ []) n m h k =
+    some_maybe n h.0 h.2 ∙ ap Some (sym h.1.value ∙ k.1.value) ∙ sym (some_maybe m k.0 k.2)
+maybe_one (MaybeNumber low high) (x ∷ y ∷ more) n m h k = absurd h
+maybe_one (File access) [] n m h k = same_maybe n m (h ∙ sym k)
+maybe_one (File access) (x ∷ []) n m h k = same_maybe n m (h.1 ∙ sym k.1)
+maybe_one (File access) (x ∷ y ∷ more) n m h k = absurd h
+maybe_one Flag [] n m h k = same_maybe n m (h ∙ sym k)
+maybe_one Flag (x ∷ []) n m h k = same_maybe n m (h ∙ sym k)
+maybe_one Flag (x ∷ y ∷ more) n m h k = absurd h
+
+maybes_one : (g : Given) (s : Setting) (n m : Option ℕ) → SaysMaybe g s n → SaysMaybe g s m
+    → n ≡ m
+maybes_one g s n m h k = maybe_one (kind_of s) (g (role.Option s)) n m h k
+
+pub maybe_by : (g : Given) (s : Setting) (values : List (List ℕ)) (kind : Kind) (n : Option ℕ)
+    → g (role.Option s) ≡ values → kind_of s ≡ kind → IsSet kind values (MaybeAmount n)
+    → SaysMaybe g s n
+maybe_by g s values kind n e k h =
+    subst (λ vs. IsSet (kind_of s) vs (MaybeAmount n)) (sym e)
+    (subst (λ x. IsSet x values (MaybeAmount n)) (sym k) h)
+
+pub maybe_unread : (g : Given) (s : Setting) (word : List ℕ) (low high : ℕ) (n : Option ℕ)
+    → g (role.Option s) ≡ word ∷ [] → kind_of s ≡ MaybeNumber low high
+    → ((n : ℕ) → IsNumber low high word n → ⊥) → SaysMaybe g s n → ⊥
+maybe_unread g s word low high n e k none says =
+    let given : IsSet (MaybeNumber low high) (word ∷ []) (MaybeAmount n) =
+    subst (λ x. IsSet x (word ∷ []) (MaybeAmount n)) k
+    (subst (λ vs. IsSet (kind_of s) vs (MaybeAmount n)) e says) in
+    none given.0 given.1
+
+pub maybe_few : (g : Given) (s : Setting) (n : Option ℕ) → 1 < length (g (role.Option s))
+    → SaysMaybe g s n → ⊥
+maybe_few g s n lt h = set_few (kind_of s) (g (role.Option s)) (MaybeAmount n) h lt
 
 -- a flag is there, or not
 same_switch : (b d : Bool) → Switch b ≡ Switch d → b ≡ d
@@ -134,7 +194,7 @@ flag_set : (g : Given) (s : Setting) (b : Bool) → IsFlag s → SaysFlag g s b
     → IsSet Flag (g (role.Option s)) (Switch b)
 flag_set g s b k h = subst (λ x. IsSet x (g (role.Option s)) (Switch b)) k h
 
-flag_one : (g : Given) (s : Setting) (b d : Bool) → IsFlag s → SaysFlag g s b → SaysFlag g s d
+pub flag_one : (g : Given) (s : Setting) (b d : Bool) → IsFlag s → SaysFlag g s b → SaysFlag g s d
     → b ≡ d
 flag_one g s b d e h k =
     switch_one (g (role.Option s)) b d (flag_set g s b e h) (flag_set g s d e k)
@@ -237,7 +297,7 @@ same_seeds n m y w words h k =
     )
 
 -- commands of one word are of one kind
-other_first : (v w : List ℕ) → v ≡ w → get_or v 0 0 ≢ get_or w 0 0 → ⊥
+pub other_first : (v w : List ℕ) → v ≡ w → get_or v 0 0 ≢ get_or w 0 0 → ⊥
 other_first v w e h = h (ap (λ x. get_or x 0 0) e)
 
 -- `rewrite` and `replay` differ from `run` in their second letter, and from each other in their
@@ -254,7 +314,7 @@ as_rewrite g (Rewrite x y nb) h = (x, y, nb, h.of_row)
 as_rewrite g (Run f n b w k ve l t nb) h = absurd (other_second _ _ h.word_is (omega arith))
 as_rewrite g (Listing f) h = absurd (other_first _ _ h.word_is (omega arith))
 as_rewrite g (One f n o b l) h = absurd (other_first _ _ h.word_is (omega arith))
-as_rewrite g (Sim f n o b k ve l t nb) h = absurd (other_first _ _ h.word_is (omega arith))
+as_rewrite g (Sim f n o b k ve l t nb ls) h = absurd (other_first _ _ h.word_is (omega arith))
 as_rewrite g (Replay f ve w t) h = absurd (other_third _ _ h.word_is (omega arith))
 as_rewrite g (Generate n y) h = absurd (other_first _ _ h.word_is (omega arith))
 as_rewrite g (Assemble x y) h = absurd (other_first _ _ h.word_is (omega arith))
@@ -266,7 +326,7 @@ as_run g (Rewrite f o nb) h = absurd (other_second _ _ h.word_is (omega arith))
 as_run g (Run f n b w k ve l t nb) h = (f, n, b, w, k, ve, l, t, nb, h.of_row, h.fits)
 as_run g (Listing f) h = absurd (other_first _ _ h.word_is (omega arith))
 as_run g (One f n o b l) h = absurd (other_first _ _ h.word_is (omega arith))
-as_run g (Sim f n o b k ve l t nb) h = absurd (other_first _ _ h.word_is (omega arith))
+as_run g (Sim f n o b k ve l t nb ls) h = absurd (other_first _ _ h.word_is (omega arith))
 as_run g (Replay f ve w t) h = absurd (other_second _ _ h.word_is (omega arith))
 as_run g (Generate n y) h = absurd (other_first _ _ h.word_is (omega arith))
 as_run g (Assemble x y) h = absurd (other_first _ _ h.word_is (omega arith))
@@ -277,7 +337,7 @@ as_list g (Rewrite f o nb) h = absurd (other_first _ _ h.word_is (omega arith))
 as_list g (Run f n b w k ve l t nb) h = absurd (other_first _ _ h.word_is (omega arith))
 as_list g (Listing f) h = (f, h.of_row)
 as_list g (One f n o b l) h = absurd (other_first _ _ h.word_is (omega arith))
-as_list g (Sim f n o b k ve l t nb) h = absurd (other_first _ _ h.word_is (omega arith))
+as_list g (Sim f n o b k ve l t nb ls) h = absurd (other_first _ _ h.word_is (omega arith))
 as_list g (Replay f ve w t) h = absurd (other_first _ _ h.word_is (omega arith))
 as_list g (Generate n y) h = absurd (other_first _ _ h.word_is (omega arith))
 as_list g (Assemble x y) h = absurd (other_first _ _ h.word_is (omega arith))
@@ -288,19 +348,19 @@ as_one g (Rewrite f o nb) h = absurd (other_first _ _ h.word_is (omega arith))
 as_one g (Run f n b w k ve l t nb) h = absurd (other_first _ _ h.word_is (omega arith))
 as_one g (Listing f) h = absurd (other_first _ _ h.word_is (omega arith))
 as_one g (One f n o b l) h = (f, n, o, b, l, h.of_row)
-as_one g (Sim f n o b k ve l t nb) h = absurd (other_first _ _ h.word_is (omega arith))
+as_one g (Sim f n o b k ve l t nb ls) h = absurd (other_first _ _ h.word_is (omega arith))
 as_one g (Replay f ve w t) h = absurd (other_first _ _ h.word_is (omega arith))
 as_one g (Generate n y) h = absurd (other_first _ _ h.word_is (omega arith))
 as_one g (Assemble x y) h = absurd (other_first _ _ h.word_is (omega arith))
 
 pub as_sim : (g : Given) (c : Command) → Completes (codes "sim") g c → (f : List ℕ)
     × (n : ℕ) × (o : ℕ) × (b : ℕ) × (k ve l : Option (List ℕ)) × (t nb : Bool)
-    × IsOfRow (row_of (Sim f n o b k ve l t nb)) g × IsTrue (is_alone ve k nb)
+    × (ls : Option ℕ) × IsOfRow (row_of (Sim f n o b k ve l t nb ls)) g × IsTrue (is_alone ve k nb)
 as_sim g (Rewrite f o nb) h = absurd (other_first _ _ h.word_is (omega arith))
 as_sim g (Run f n b w k ve l t nb) h = absurd (other_first _ _ h.word_is (omega arith))
 as_sim g (Listing f) h = absurd (other_first _ _ h.word_is (omega arith))
 as_sim g (One f n o b l) h = absurd (other_first _ _ h.word_is (omega arith))
-as_sim g (Sim f n o b k ve l t nb) h = (f, n, o, b, k, ve, l, t, nb, h.of_row, h.fits)
+as_sim g (Sim f n o b k ve l t nb ls) h = (f, n, o, b, k, ve, l, t, nb, ls, h.of_row, h.fits)
 as_sim g (Replay f ve w t) h = absurd (other_first _ _ h.word_is (omega arith))
 as_sim g (Generate n y) h = absurd (other_first _ _ h.word_is (omega arith))
 as_sim g (Assemble x y) h = absurd (other_first _ _ h.word_is (omega arith))
@@ -311,7 +371,7 @@ as_replay g (Rewrite x y nb) h = absurd (other_third _ _ h.word_is (omega arith)
 as_replay g (Run f n b w k ve l t nb) h = absurd (other_second _ _ h.word_is (omega arith))
 as_replay g (Listing f) h = absurd (other_first _ _ h.word_is (omega arith))
 as_replay g (One f n o b l) h = absurd (other_first _ _ h.word_is (omega arith))
-as_replay g (Sim f n o b k ve l t nb) h = absurd (other_first _ _ h.word_is (omega arith))
+as_replay g (Sim f n o b k ve l t nb ls) h = absurd (other_first _ _ h.word_is (omega arith))
 as_replay g (Replay f ve w t) h = (f, ve, w, t, h.of_row)
 as_replay g (Generate n y) h = absurd (other_first _ _ h.word_is (omega arith))
 as_replay g (Assemble x y) h = absurd (other_first _ _ h.word_is (omega arith))
@@ -322,7 +382,7 @@ as_generate g (Rewrite x y nb) h = absurd (other_first _ _ h.word_is (omega arit
 as_generate g (Run f n b w k ve l t nb) h = absurd (other_first _ _ h.word_is (omega arith))
 as_generate g (Listing f) h = absurd (other_first _ _ h.word_is (omega arith))
 as_generate g (One f n o b l) h = absurd (other_first _ _ h.word_is (omega arith))
-as_generate g (Sim f n o b k ve l t nb) h = absurd (other_first _ _ h.word_is (omega arith))
+as_generate g (Sim f n o b k ve l t nb ls) h = absurd (other_first _ _ h.word_is (omega arith))
 as_generate g (Replay f ve w t) h = absurd (other_first _ _ h.word_is (omega arith))
 as_generate g (Generate n y) h = (n, y, h.of_row)
 as_generate g (Assemble x y) h = absurd (other_first _ _ h.word_is (omega arith))
@@ -333,12 +393,12 @@ as_assemble g (Rewrite x y nb) h = absurd (other_first _ _ h.word_is (omega arit
 as_assemble g (Run f n b w k ve l t nb) h = absurd (other_first _ _ h.word_is (omega arith))
 as_assemble g (Listing f) h = absurd (other_first _ _ h.word_is (omega arith))
 as_assemble g (One f n o b l) h = absurd (other_first _ _ h.word_is (omega arith))
-as_assemble g (Sim f n o b k ve l t nb) h = absurd (other_first _ _ h.word_is (omega arith))
+as_assemble g (Sim f n o b k ve l t nb ls) h = absurd (other_first _ _ h.word_is (omega arith))
 as_assemble g (Replay f ve w t) h = absurd (other_first _ _ h.word_is (omega arith))
 as_assemble g (Generate n y) h = absurd (other_first _ _ h.word_is (omega arith))
 as_assemble g (Assemble x y) h = (x, y, h.of_row)
 
-same_file : (x y : List ℕ) (words : List (List ℕ)) → ArePlaced ((Named Read, Name x) ∷ []) words →
+pub same_file : (x y : List ℕ) (words : List (List ℕ)) → ArePlaced ((Named Read, Name x) ∷ []) words →
     ArePlaced ((Named Read, Name y) ∷ []) words → x ≡ y
 same_file x y words h k =
     ap (λ xs. get_or xs 0 []) (sym (one_file x words h) ∙ one_file y words k)
@@ -368,8 +428,8 @@ pub sim_alone : (g : Given) (c : Command) (v k : Option (List ℕ)) (b : Bool)
     → Completes (codes "sim") g c → IsTrue (is_alone v k b)
 sim_alone g c v k b code verified batch h =
     let r = as_sim g c h in
-    alone_by g r.5 v r.4 k r.8 b r.9.options.1.1.1.1.0 verified r.9.options.1.1.1.0 code
-    r.9.options.1.1.1.1.1.1.1.0 batch r.10
+    alone_by g r.5 v r.4 k r.8 b r.10.options.1.1.1.1.0 verified r.10.options.1.1.1.0 code
+    r.10.options.1.1.1.1.1.1.1.0 batch r.11
 
 one_row : (g : Given) (c d : Command) → IsOfRow (row_of c) g → IsOfRow (row_of d) g →
     (row_of c).word ≡ (row_of d).word → c ≡ d
@@ -397,7 +457,7 @@ one_row g (One x n o b k) (One y m r d l) p q e =
     let budget = says_one g Budget b d p.options.1.1.0 q.options.1.1.0 in
     let layout = names_one g Layout k l p.options.1.1.1.0 q.options.1.1.1.0 in
     cc
-one_row g (Sim x n o b c ve k s nb) (Sim y m r d f vf l t nc) p q e =
+one_row g (Sim x n o b c ve k s nb ls) (Sim y m r d f vf l t nc lt) p q e =
     let file = same_file x y _ p.places q.places in
     let nodes = says_one g Nodes n m p.options.0 q.options.0 in
     let order = says_one g Order o r p.options.1.0 q.options.1.0 in
@@ -407,6 +467,7 @@ one_row g (Sim x n o b c ve k s nb) (Sim y m r d f vf l t nc) p q e =
     let layout = names_one g Layout k l p.options.1.1.1.1.1.0 q.options.1.1.1.1.1.0 in
     let brief = flag_one g Brief s t refl p.options.1.1.1.1.1.1.0 q.options.1.1.1.1.1.1.0 in
     let batch = flag_one g NoBatch nb nc refl p.options.1.1.1.1.1.1.1.0 q.options.1.1.1.1.1.1.1.0 in
+    let loss = maybes_one g Loss ls lt p.options.1.1.1.1.1.1.1.1.0 q.options.1.1.1.1.1.1.1.1.0 in
     cc
 one_row g (Replay x ve y s) (Replay v vf w t) p q e =
     let files = same_files Read x y v w _ p.places q.places in
@@ -420,23 +481,23 @@ one_row g (Generate n y) (Generate m w) p q e =
 one_row g (Rewrite x y nb) (Run v m r z d ve l t nc) p q e = absurd (other_second _ _ e (omega arith))
 one_row g (Rewrite x y nb) (Listing v) p q e = absurd (other_first _ _ e (omega arith))
 one_row g (Rewrite x y nb) (One v m r d l) p q e = absurd (other_first _ _ e (omega arith))
-one_row g (Rewrite x y nb) (Sim v m r d f ve l t nc) p q e = absurd (other_first _ _ e (omega arith))
+one_row g (Rewrite x y nb) (Sim v m r d f ve l t nc ls) p q e = absurd (other_first _ _ e (omega arith))
 one_row g (Run x n b u c ve k s nb) (Rewrite v w nc) p q e = absurd (other_second _ _ e (omega arith))
 one_row g (Run x n b u c ve k s nb) (Listing v) p q e = absurd (other_first _ _ e (omega arith))
 one_row g (Run x n b u c ve k s nb) (One v m r d l) p q e = absurd (other_first _ _ e (omega arith))
-one_row g (Run x n b u c ve k s nb) (Sim v m r d f vf l t nc) p q e = absurd (other_first _ _ e (omega arith))
+one_row g (Run x n b u c ve k s nb) (Sim v m r d f vf l t nc ls) p q e = absurd (other_first _ _ e (omega arith))
 one_row g (Listing x) (Rewrite v w nb) p q e = absurd (other_first _ _ e (omega arith))
 one_row g (Listing x) (Run v m r z d ve l t nb) p q e = absurd (other_first _ _ e (omega arith))
 one_row g (Listing x) (One v m r d l) p q e = absurd (other_first _ _ e (omega arith))
-one_row g (Listing x) (Sim v m r d f ve l t nb) p q e = absurd (other_first _ _ e (omega arith))
+one_row g (Listing x) (Sim v m r d f ve l t nb ls) p q e = absurd (other_first _ _ e (omega arith))
 one_row g (One x n o b k) (Rewrite v w nb) p q e = absurd (other_first _ _ e (omega arith))
 one_row g (One x n o b k) (Run v m r z d ve l t nb) p q e = absurd (other_first _ _ e (omega arith))
 one_row g (One x n o b k) (Listing v) p q e = absurd (other_first _ _ e (omega arith))
-one_row g (One x n o b k) (Sim v m r d f ve l t nb) p q e = absurd (other_first _ _ e (omega arith))
-one_row g (Sim x n o b c ve k s nb) (Rewrite v w nc) p q e = absurd (other_first _ _ e (omega arith))
-one_row g (Sim x n o b c ve k s nb) (Run v m r z d vf l t nc) p q e = absurd (other_first _ _ e (omega arith))
-one_row g (Sim x n o b c ve k s nb) (Listing v) p q e = absurd (other_first _ _ e (omega arith))
-one_row g (Sim x n o b c ve k s nb) (One v m r d l) p q e = absurd (other_first _ _ e (omega arith))
+one_row g (One x n o b k) (Sim v m r d f ve l t nb ls) p q e = absurd (other_first _ _ e (omega arith))
+one_row g (Sim x n o b c ve k s nb ls) (Rewrite v w nc) p q e = absurd (other_first _ _ e (omega arith))
+one_row g (Sim x n o b c ve k s nb ls) (Run v m r z d vf l t nc) p q e = absurd (other_first _ _ e (omega arith))
+one_row g (Sim x n o b c ve k s nb ls) (Listing v) p q e = absurd (other_first _ _ e (omega arith))
+one_row g (Sim x n o b c ve k s nb ls) (One v m r d l) p q e = absurd (other_first _ _ e (omega arith))
 one_row g (Rewrite x y nb) (Replay v ve w t) p q e = absurd (other_third _ _ e (omega arith))
 one_row g (Rewrite x y nb) (Generate m w) p q e = absurd (other_first _ _ e (omega arith))
 one_row g (Run x n b u c ve k s nb) (Replay v vf w t) p q e = absurd (other_second _ _ e (omega arith))
@@ -445,19 +506,19 @@ one_row g (Listing x) (Replay v ve w t) p q e = absurd (other_first _ _ e (omega
 one_row g (Listing x) (Generate m w) p q e = absurd (other_first _ _ e (omega arith))
 one_row g (One x n o b k) (Replay v ve w t) p q e = absurd (other_first _ _ e (omega arith))
 one_row g (One x n o b k) (Generate m w) p q e = absurd (other_first _ _ e (omega arith))
-one_row g (Sim x n o b c ve k s nb) (Replay v vf w t) p q e = absurd (other_first _ _ e (omega arith))
-one_row g (Sim x n o b c ve k s nb) (Generate m w) p q e = absurd (other_first _ _ e (omega arith))
+one_row g (Sim x n o b c ve k s nb ls) (Replay v vf w t) p q e = absurd (other_first _ _ e (omega arith))
+one_row g (Sim x n o b c ve k s nb ls) (Generate m w) p q e = absurd (other_first _ _ e (omega arith))
 one_row g (Replay x ve u s) (Rewrite v w nb) p q e = absurd (other_third _ _ e (omega arith))
 one_row g (Replay x ve u s) (Run v m r z d vf l t nb) p q e = absurd (other_second _ _ e (omega arith))
 one_row g (Replay x ve u s) (Listing v) p q e = absurd (other_first _ _ e (omega arith))
 one_row g (Replay x ve u s) (One v m r d l) p q e = absurd (other_first _ _ e (omega arith))
-one_row g (Replay x ve u s) (Sim v m r d f vf l t nb) p q e = absurd (other_first _ _ e (omega arith))
+one_row g (Replay x ve u s) (Sim v m r d f vf l t nb ls) p q e = absurd (other_first _ _ e (omega arith))
 one_row g (Replay x ve u s) (Generate m w) p q e = absurd (other_first _ _ e (omega arith))
 one_row g (Generate n y) (Rewrite v w nb) p q e = absurd (other_first _ _ e (omega arith))
 one_row g (Generate n y) (Run v m r z d ve l t nb) p q e = absurd (other_first _ _ e (omega arith))
 one_row g (Generate n y) (Listing v) p q e = absurd (other_first _ _ e (omega arith))
 one_row g (Generate n y) (One v m r d l) p q e = absurd (other_first _ _ e (omega arith))
-one_row g (Generate n y) (Sim v m r d f ve l t nb) p q e = absurd (other_first _ _ e (omega arith))
+one_row g (Generate n y) (Sim v m r d f ve l t nb ls) p q e = absurd (other_first _ _ e (omega arith))
 one_row g (Generate n y) (Replay v ve w t) p q e = absurd (other_first _ _ e (omega arith))
 one_row g (Assemble x y) (Assemble v w) p q e =
     let files = same_files Write x y v w _ p.places q.places in
@@ -470,8 +531,8 @@ one_row g (Listing f) (Assemble v' w') p q e = absurd (other_first _ _ e (omega 
 one_row g (Assemble v' w') (Listing f) p q e = absurd (other_first _ _ e (omega arith))
 one_row g (One f n o b l) (Assemble v' w') p q e = absurd (other_first _ _ e (omega arith))
 one_row g (Assemble v' w') (One f n o b l) p q e = absurd (other_first _ _ e (omega arith))
-one_row g (Sim f n o b k ve l t nb) (Assemble v' w') p q e = absurd (other_first _ _ e (omega arith))
-one_row g (Assemble v' w') (Sim f n o b k ve l t nb) p q e = absurd (other_first _ _ e (omega arith))
+one_row g (Sim f n o b k ve l t nb ls) (Assemble v' w') p q e = absurd (other_first _ _ e (omega arith))
+one_row g (Assemble v' w') (Sim f n o b k ve l t nb ls) p q e = absurd (other_first _ _ e (omega arith))
 one_row g (Replay f ve w t) (Assemble v' w') p q e = absurd (other_first _ _ e (omega arith))
 one_row g (Assemble v' w') (Replay f ve w t) p q e = absurd (other_first _ _ e (omega arith))
 one_row g (Generate n y) (Assemble v' w') p q e = absurd (other_first _ _ e (omega arith))
@@ -479,7 +540,7 @@ one_row g (Assemble v' w') (Generate n y) p q e = absurd (other_first _ _ e (ome
 
 -- ---- words of a row, and what they give
 
-cut_of : (row : Row) (words : List (List ℕ)) (r : AreOfRow row words) →
+pub cut_of : (row : Row) (words : List (List ℕ)) (r : AreOfRow row words) →
     IsCut (settings_in row.options) words r.arguments
 cut_of row words r = record { words_are = r.words_are; are_arguments = r.are_arguments }
 
@@ -494,7 +555,7 @@ set_given g (option ∷ options) arguments e h = (
   set_given g options arguments e h.1,
 )
 
-given_set : (g : Given) (options : List (Setting × Value)) (arguments : List Argument) →
+pub given_set : (g : Given) (options : List (Setting × Value)) (arguments : List Argument) →
     ((r : Role) → g r ≡ words_for r arguments) → AreGiven options g → AreSet options arguments
 given_set g [] arguments e h = tt
 given_set g (option ∷ options) arguments e h = (
@@ -502,7 +563,7 @@ given_set g (option ∷ options) arguments e h = (
   given_set g options arguments e h.1,
 )
 
-row_given : (row : Row) (words : List (List ℕ)) (r : AreOfRow row words) → (g : Given) →
+pub row_given : (row : Row) (words : List (List ℕ)) (r : AreOfRow row words) → (g : Given) →
     ((x : Role) → g x ≡ words_for x r.arguments) → IsOfRow row g
 row_given row words r g e = record {
   places = subst (ArePlaced row.places) (sym (e role.Operand)) r.places;
@@ -515,7 +576,7 @@ command_word (Rewrite x y nb) = word.Rewrite
 command_word (Run f n b w k ve l t nb) = word.Run
 command_word (Listing f) = word.List
 command_word (One f n o b l) = word.One
-command_word (Sim f n o b k ve l t nb) = word.Sim
+command_word (Sim f n o b k ve l t nb ls) = word.Sim
 command_word (Replay f ve w t) = word.Replay
 command_word (Generate n y) = word.Generate
 command_word (Assemble x y) = word.Assemble
@@ -526,7 +587,7 @@ word_is (Rewrite x y nb) = refl
 word_is (Run f n b w k ve l t nb) = refl
 word_is (Listing f) = refl
 word_is (One f n o b l) = refl
-word_is (Sim f n o b k ve l t nb) = refl
+word_is (Sim f n o b k ve l t nb ls) = refl
 word_is (Replay f ve w t) = refl
 word_is (Generate n y) = refl
 word_is (Assemble x y) = refl
@@ -537,26 +598,26 @@ word_settings word.Rewrite (Rewrite x y nb) e = refl
 word_settings word.Run (Run f n b w k ve l t nb) e = refl
 word_settings word.List (Listing f) e = refl
 word_settings word.One (One f n o b l) e = refl
-word_settings word.Sim (Sim f n o b k ve l t nb) e = refl
+word_settings word.Sim (Sim f n o b k ve l t nb ls) e = refl
 word_settings word.Replay (Replay f ve w t) e = refl
 word_settings word.Generate (Generate n y) e = refl
 word_settings word.Assemble (Assemble x y) e = refl
 word_settings word.Rewrite (Run f n b w k ve l t nb) e = absurd (other_second _ _ e (omega arith))
 word_settings word.Rewrite (Listing f) e = absurd (other_first _ _ e (omega arith))
 word_settings word.Rewrite (One f n o b l) e = absurd (other_first _ _ e (omega arith))
-word_settings word.Rewrite (Sim f n o b k ve l t nb) e = absurd (other_first _ _ e (omega arith))
+word_settings word.Rewrite (Sim f n o b k ve l t nb ls) e = absurd (other_first _ _ e (omega arith))
 word_settings word.Run (Rewrite x y nb) e = absurd (other_second _ _ e (omega arith))
 word_settings word.Run (Listing f) e = absurd (other_first _ _ e (omega arith))
 word_settings word.Run (One f n o b l) e = absurd (other_first _ _ e (omega arith))
-word_settings word.Run (Sim f n o b k ve l t nb) e = absurd (other_first _ _ e (omega arith))
+word_settings word.Run (Sim f n o b k ve l t nb ls) e = absurd (other_first _ _ e (omega arith))
 word_settings word.List (Rewrite x y nb) e = absurd (other_first _ _ e (omega arith))
 word_settings word.List (Run f n b w k ve l t nb) e = absurd (other_first _ _ e (omega arith))
 word_settings word.List (One f n o b l) e = absurd (other_first _ _ e (omega arith))
-word_settings word.List (Sim f n o b k ve l t nb) e = absurd (other_first _ _ e (omega arith))
+word_settings word.List (Sim f n o b k ve l t nb ls) e = absurd (other_first _ _ e (omega arith))
 word_settings word.One (Rewrite x y nb) e = absurd (other_first _ _ e (omega arith))
 word_settings word.One (Run f n b w k ve l t nb) e = absurd (other_first _ _ e (omega arith))
 word_settings word.One (Listing f) e = absurd (other_first _ _ e (omega arith))
-word_settings word.One (Sim f n o b k ve l t nb) e = absurd (other_first _ _ e (omega arith))
+word_settings word.One (Sim f n o b k ve l t nb ls) e = absurd (other_first _ _ e (omega arith))
 word_settings word.Sim (Rewrite x y nb) e = absurd (other_first _ _ e (omega arith))
 word_settings word.Sim (Run f n b w k ve l t nb) e = absurd (other_first _ _ e (omega arith))
 word_settings word.Sim (Listing f) e = absurd (other_first _ _ e (omega arith))
@@ -575,13 +636,13 @@ word_settings word.Replay (Rewrite x y nb) e = absurd (other_third _ _ e (omega 
 word_settings word.Replay (Run f n b w k ve l t nb) e = absurd (other_second _ _ e (omega arith))
 word_settings word.Replay (Listing f) e = absurd (other_first _ _ e (omega arith))
 word_settings word.Replay (One f n o b l) e = absurd (other_first _ _ e (omega arith))
-word_settings word.Replay (Sim f n o b k ve l t nb) e = absurd (other_first _ _ e (omega arith))
+word_settings word.Replay (Sim f n o b k ve l t nb ls) e = absurd (other_first _ _ e (omega arith))
 word_settings word.Replay (Generate n y) e = absurd (other_first _ _ e (omega arith))
 word_settings word.Generate (Rewrite x y nb) e = absurd (other_first _ _ e (omega arith))
 word_settings word.Generate (Run f n b w k ve l t nb) e = absurd (other_first _ _ e (omega arith))
 word_settings word.Generate (Listing f) e = absurd (other_first _ _ e (omega arith))
 word_settings word.Generate (One f n o b l) e = absurd (other_first _ _ e (omega arith))
-word_settings word.Generate (Sim f n o b k ve l t nb) e = absurd (other_first _ _ e (omega arith))
+word_settings word.Generate (Sim f n o b k ve l t nb ls) e = absurd (other_first _ _ e (omega arith))
 word_settings word.Generate (Replay f ve w t) e = absurd (other_first _ _ e (omega arith))
 word_settings word.Rewrite (Assemble x y) e = absurd (other_first _ _ e (omega arith))
 word_settings word.Assemble (Rewrite x y nb) e = absurd (other_first _ _ e (omega arith))
@@ -592,16 +653,16 @@ word_settings word.Assemble (Listing f) e = absurd (other_first _ _ e (omega ari
 word_settings word.One (Assemble x y) e = absurd (other_first _ _ e (omega arith))
 word_settings word.Assemble (One f n o b l) e = absurd (other_first _ _ e (omega arith))
 word_settings word.Sim (Assemble x y) e = absurd (other_first _ _ e (omega arith))
-word_settings word.Assemble (Sim f n o b k ve l t nb) e = absurd (other_first _ _ e (omega arith))
+word_settings word.Assemble (Sim f n o b k ve l t nb ls) e = absurd (other_first _ _ e (omega arith))
 word_settings word.Replay (Assemble x y) e = absurd (other_first _ _ e (omega arith))
 word_settings word.Assemble (Replay f ve w t) e = absurd (other_first _ _ e (omega arith))
 word_settings word.Generate (Assemble x y) e = absurd (other_first _ _ e (omega arith))
 word_settings word.Assemble (Generate n y) e = absurd (other_first _ _ e (omega arith))
 
-same_head : (v w : List ℕ) (vs ws : List (List ℕ)) → v ∷ vs ≡ w ∷ ws → v ≡ w
+pub same_head : (v w : List ℕ) (vs ws : List (List ℕ)) → v ∷ vs ≡ w ∷ ws → v ≡ w
 same_head v w vs ws e = cc
 
-same_tail : (v w : List ℕ) (vs ws : List (List ℕ)) → v ∷ vs ≡ w ∷ ws → vs ≡ ws
+pub same_tail : (v w : List ℕ) (vs ws : List (List ℕ)) → v ∷ vs ≡ w ∷ ws → vs ≡ ws
 same_tail v w vs ws e = cc
 
 -- what is asked by a word and the words behind it

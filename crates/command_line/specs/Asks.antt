@@ -1,11 +1,11 @@
 -- What it is that the words of the command line ask for a command.
-use Rattle.std.specs.Prelude.{◌≡◌, ◌≢◌, ℕ, ◌<◌, ◌≤◌, Bool, true, false, if◌then◌else◌, List, [], ◌∷◌, ◌++◌, length, Option, Some, bytes_eq, find, slice_index}
+use Rattle.std.specs.Prelude.{◌≡◌, ◌≢◌, ℕ, ◌<◌, ◌≤◌, Bool, true, false, if◌then◌else◌, List, [], ◌∷◌, ◌++◌, length, Option, None, Some, bytes_eq, find, slice_index}
 use Rattle.std.specs.List.{flat_map}
 use Rattle.std.specs.Str.Parse.{IsNumeral, digits_value}
 use Rattle.command_line.specs.declared.table.Kind.{Kind}
-use Rattle.command_line.specs.declared.table.Kind.TheVariants.{Number, File, Flag}
+use Rattle.command_line.specs.declared.table.Kind.TheVariants.{Number, MaybeNumber, File, Flag}
 use Rattle.command_line.specs.declared.table.Setting.{Setting}
-use Rattle.command_line.specs.Commands.{Command, Place, Named, Between, Value, Amount, Name, NoName, Switch, Row, row_of, IsFit, option_word, kind_of, settings_in}
+use Rattle.command_line.specs.Commands.{Command, Place, Named, Between, Value, Amount, MaybeAmount, Name, NoName, Switch, Row, row_of, IsFit, option_word, kind_of, settings_in}
 
 -- an argument behind the command's word: an operand, which is a word of its own; or an option with
 -- its value, as two words or as one; or a flag
@@ -94,6 +94,7 @@ ArePlaced places words = ⊥
 -- what an option says that isn't there
 abbrev pub IsDefault : Kind → Value → Type 0
 IsDefault (Number low high default) value = value ≡ Amount default
+IsDefault (MaybeNumber low high) value = value ≡ MaybeAmount None
 IsDefault (File access) value = value ≡ NoName
 IsDefault Flag value = value ≡ Switch false
 
@@ -101,6 +102,8 @@ IsDefault Flag value = value ≡ Switch false
 abbrev pub IsGiven : Kind → List ℕ → Value → Type 0
 IsGiven (Number low high default) word value =
     (n : ℕ) × IsNumber low high word n × (value ≡ Amount n)
+IsGiven (MaybeNumber low high) word value =
+    (n : ℕ) × IsNumber low high word n × (value ≡ MaybeAmount (Some n))
 IsGiven (File access) word value = (0 < length word) × (value ≡ Name word)
 IsGiven Flag word value = value ≡ Switch true
 

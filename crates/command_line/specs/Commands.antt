@@ -5,9 +5,9 @@ use Rattle.std.specs.List.{flat_map}
 use Rattle.command_line.specs.declared.table.Access.{Access}
 use Rattle.command_line.specs.declared.table.Access.TheVariants.{Read, Write}
 use Rattle.command_line.specs.declared.table.Kind.{Kind}
-use Rattle.command_line.specs.declared.table.Kind.TheVariants.{Number, File, Flag}
+use Rattle.command_line.specs.declared.table.Kind.TheVariants.{Number, MaybeNumber, File, Flag}
 use Rattle.command_line.specs.declared.table.Setting.{Setting}
-use Rattle.command_line.specs.declared.table.Setting.TheVariants.{Nodes, Order, Budget, Layout, Code, Verify, Record, Brief, NoBatch}
+use Rattle.command_line.specs.declared.table.Setting.TheVariants.{Nodes, Order, Budget, Layout, Code, Verify, Record, Brief, NoBatch, Loss}
 
 pub data Command : Type 0 where
   -- write the rewritten executable of the one in a file into another, without batches where these
@@ -26,9 +26,10 @@ pub data Command : Type 0 where
   -- many steps of each, with the blocks of the layout in a file, where one is named
   One : (file : List ℕ) (nodes order budget : ℕ) (layout : Option (List ℕ)) → Command
   -- run so many nodes of the rewritten code by the order of a number, at most so many words of each
-  -- processor; the code, the blocks and the text are as of a run
+  -- processor; the code, the blocks and the text are as of a run; where a loss is given, over links
+  -- that lose packets, by the order of its number
   Sim : (file : List ℕ) (nodes order budget : ℕ) (code verified layout : Option (List ℕ))
-      (brief no_batch : Bool) → Command
+      (brief no_batch : Bool) (loss : Option ℕ) → Command
   -- make the run of a record once more: a file holds the executable, and another the record; a
   -- verified file and the text are as of a run
   Replay : (file : List ℕ) (verified : Option (List ℕ)) (record_file : List ℕ) (brief : Bool)
@@ -49,6 +50,7 @@ option_word Verify = codes "--verify"
 option_word Record = codes "--record"
 option_word Brief = codes "--brief"
 option_word NoBatch = codes "--no-batch"
+option_word Loss = codes "--loss"
 
 -- what an option is given
 abbrev pub kind_of : Setting → Kind
@@ -61,6 +63,7 @@ kind_of Verify = File Read
 kind_of Record = File Write
 kind_of Brief = Flag
 kind_of NoBatch = Flag
+kind_of Loss = MaybeNumber 0 (2 ^ 32 - 1)
 
 -- the place of an operand, which stands behind the command's word without an option: the name of
 -- a file, or a number
@@ -68,9 +71,11 @@ pub data Place : Type 0 where
   Named : (access : Access) → Place
   Between : (low high : ℕ) → Place
 
--- what a place or an option says: a number; the name of a file; no name; or whether a flag is there
+-- what a place or an option says: a number; a number that may be left out; the name of a file; no
+-- name; or whether a flag is there
 pub data Value : Type 0 where
   Amount : ℕ → Value
+  MaybeAmount : Option ℕ → Value
   Name : List ℕ → Value
   NoName : Value
   Switch : Bool → Value
@@ -113,13 +118,14 @@ row_of (One file nodes order budget layout) = record {
       (Nodes, Amount nodes) ∷ (Order, Amount order) ∷ (Budget, Amount budget)
       ∷ (Layout, name_or_none layout) ∷ [];
 }
-row_of (Sim file nodes order budget code verified layout brief no_batch) = record {
+row_of (Sim file nodes order budget code verified layout brief no_batch loss) = record {
   word = codes "sim";
   places = (Named Read, Name file) ∷ [];
   options =
       (Nodes, Amount nodes) ∷ (Order, Amount order) ∷ (Budget, Amount budget)
       ∷ (Code, name_or_none code) ∷ (Verify, name_or_none verified)
-      ∷ (Layout, name_or_none layout) ∷ (Brief, Switch brief) ∷ (NoBatch, Switch no_batch) ∷ [];
+      ∷ (Layout, name_or_none layout) ∷ (Brief, Switch brief) ∷ (NoBatch, Switch no_batch)
+      ∷ (Loss, MaybeAmount loss) ∷ [];
 }
 row_of (Replay file verified record_file brief) = record {
   word = codes "replay";
@@ -153,7 +159,7 @@ is_alone (Some file) (Some other) no_batch = false
 abbrev pub IsFit : Command → Type 0
 IsFit (Run file nodes budget record_file code verified layout brief no_batch) =
     IsKept record_file nodes × IsTrue (is_alone verified code no_batch)
-IsFit (Sim file nodes order budget code verified layout brief no_batch) =
+IsFit (Sim file nodes order budget code verified layout brief no_batch loss) =
     IsTrue (is_alone verified code no_batch)
 IsFit command = Unit {0}
 

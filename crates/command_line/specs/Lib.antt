@@ -2,3 +2,4 @@ pub mod Asks
 pub mod Commands
 pub mod Meaning
 pub mod Reading
+pub mod Views

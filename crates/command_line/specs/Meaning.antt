@@ -17,9 +17,9 @@ meaning_of (asked.Run file nodes budget record_file code verified layout brief n
 meaning_of (asked.List file) = Listing file.now
 meaning_of (asked.One file nodes order budget layout) =
     One file.now nodes order budget (file_name layout)
-meaning_of (asked.Sim file nodes order budget code verified layout brief no_batch) =
+meaning_of (asked.Sim file nodes order budget code verified layout brief no_batch loss) =
     Sim file.now nodes order budget (file_name code) (file_name verified) (file_name layout) brief
-    no_batch
+    no_batch loss
 meaning_of (asked.Replay file verified record_file brief) =
     Replay file.now (file_name verified) record_file.now brief
 meaning_of (asked.Generate number output) = Generate number output.now

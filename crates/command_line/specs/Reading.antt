@@ -7,14 +7,14 @@ use Rattle.clap.specs.declared.parser.matches.ArgMatches.{ArgMatches}
 use Rattle.clap.specs.Words.{App, Rule, all_of, found_of, new_rule, rows_of}
 use Rattle.clap.specs.Simple.{new_shape}
 use Rattle.command_line.specs.declared.table.Setting.{Setting}
-use Rattle.command_line.specs.declared.table.Setting.TheVariants.{Nodes, Order, Budget, Layout, Code, Verify, Record, Brief, NoBatch}
+use Rattle.command_line.specs.declared.table.Setting.TheVariants.{Nodes, Order, Budget, Layout, Code, Verify, Record, Brief, NoBatch, Loss}
 use Rattle.command_line.specs.declared.table.CommandWord.{CommandWord}
 use Rattle.command_line.specs.declared.table.CommandWord.TheVariants as word
 use Rattle.command_line.specs.declared.table.Role.{Role}
 use Rattle.command_line.specs.declared.table.Role.TheVariants as role
 use Rattle.command_line.specs.declared.parsing.Given.{Given}
 use Rattle.command_line.specs.declared.parsing.Given.TheVariants as are
-use Rattle.command_line.specs.Commands.{Command, Value, Row, Amount, Switch, name_or_none, option_word, kind_of, row_of, IsFit}
+use Rattle.command_line.specs.Commands.{Command, Value, Row, Amount, MaybeAmount, Switch, name_or_none, option_word, kind_of, row_of, IsFit}
 use Rattle.command_line.specs.Asks.{IsPlain, IsSet, ArePlaced, Argument, words_of, AreArguments, operands_of, values_of, takes_value}
 
 -- the text of a command's word, and the command's options
@@ -35,7 +35,7 @@ settings_of word.Run =
 settings_of word.List = []
 settings_of word.One = Nodes ∷ Order ∷ Budget ∷ Layout ∷ []
 settings_of word.Sim =
-    Nodes ∷ Order ∷ Budget ∷ Code ∷ Verify ∷ Layout ∷ Brief ∷ NoBatch ∷ []
+    Nodes ∷ Order ∷ Budget ∷ Code ∷ Verify ∷ Layout ∷ Brief ∷ NoBatch ∷ Loss ∷ []
 settings_of word.Replay = Verify ∷ Brief ∷ []
 settings_of word.Generate = []
 settings_of word.Assemble = []
@@ -120,6 +120,11 @@ pub record IsOfRow (row : Row) (given : Role → List (List ℕ)) : Type 0 where
 abbrev pub SaysNumber : (Role → List (List ℕ)) → Setting → ℕ → Type 0
 SaysNumber given setting number =
     IsSet (kind_of setting) (given (role.Option setting)) (Amount number)
+
+-- what is given says this number of the option, or none
+abbrev pub SaysMaybe : (Role → List (List ℕ)) → Setting → Option ℕ → Type 0
+SaysMaybe given setting number =
+    IsSet (kind_of setting) (given (role.Option setting)) (MaybeAmount number)
 
 -- what is given says this name of the option, or none
 abbrev pub SaysName : (Role → List (List ℕ)) → Setting → Option (List ℕ) → Type 0

@@ -1,5 +1,5 @@
 #![tactic(auto)]
-//! The words of the command line, and what they ask for.
+//! The words of the command lines, of the program's and of the viewer's, and what they ask for.
 
 ghost use Rattle.std.specs.Prelude.{◌≡◌, ℕ, ◌-◌, ◌^◌, Bool, List, [], ◌∷◌, codes, Option};
 ghost use Rattle.std.specs.Prelude.{option_map, IfOk, MatchOption};
@@ -7,8 +7,8 @@ ghost use Rattle.command_line.specs.Commands as model;
 ghost use Rattle.command_line.specs.Commands.{is_alone};
 ghost use Rattle.command_line.specs.Asks.{Asks, IsNumber};
 ghost use Rattle.command_line.specs.Meaning.{file_name, meaning_of};
-ghost use Rattle.command_line.specs.Reading.{Completes, SaysFlag, SaysName, SaysNumber, given_by};
-ghost use Rattle.command_line.specs.Reading.{text_of};
+ghost use Rattle.command_line.specs.Reading.{Completes, SaysFlag, SaysMaybe, SaysName};
+ghost use Rattle.command_line.specs.Reading.{SaysNumber, given_by, text_of};
 
 use clap::ArgMatches;
 use dsm_io::Text;
@@ -23,6 +23,9 @@ mod parsing;
 mod table;
 #[cfg(test)]
 mod tests;
+mod view;
+
+pub use view::{View, view_of};
 
 /// What the program is to do.
 #[derive(Clone, Copy, Debug, PartialEq, Eq)]
@@ -64,7 +67,8 @@ pub enum Command<'a> {
         layout: Option<&'a str>,
     },
     /// Run `nodes` nodes of its rewritten code by the order of a number, at most `budget` words of
-    /// each processor. The code, the blocks and the text are as of `Run`.
+    /// each processor. The code, the blocks and the text are as of `Run`. Where there is a `loss`,
+    /// the links between the nodes lose packets, by the order of its number.
     Sim {
         file: &'a str,
         nodes: NodeCount,
@@ -75,6 +79,7 @@ pub enum Command<'a> {
         layout: Option<&'a str>,
         brief: bool,
         no_batch: bool,
+        loss: Option<u32>,
     },
     /// Make the run of the record in the file `record_file` once more, of the executable in `file`.
     /// A verified file and the text are as of `Run`.
@@ -137,6 +142,26 @@ fn number_in(matches: &ArgMatches<'_>, setting: Setting) -> Option<u64>
     }
 }
 
+/// The number of an option that may have one. None in it where the option is not there.
+fn maybe_number_in(matches: &ArgMatches<'_>, setting: Setting) -> Option<Option<u64>>
+    ensures { MatchOption result
+        ((n : Option ℕ) → SaysMaybe (given_by matches.now) setting n → ⊥)
+        (λ n. SaysMaybe (given_by matches.now) setting n) }
+{
+    let Kind::MaybeNumber { low, high } = setting.kind() else {
+        return None;
+    };
+    match given_for(matches, Role::Option(setting)) {
+        Given::Nothing => Some(None),
+        Given::One(word) => {
+            let number = number_of(word, low, high)?;
+            Some(Some(number))
+        }
+        Given::Two(_, _) => None,
+        Given::More => None,
+    }
+}
+
 /// The name of the file of an option that has one. None in it where the option is not there.
 fn name_in<'a>(matches: &ArgMatches<'a>, setting: Setting) -> Option<Option<&'a str>>
     ensures { MatchOption result
@@ -192,6 +217,21 @@ fn order_in(matches: &ArgMatches<'_>) -> Option<u32>
     match u32::try_from(number) {
         Ok(order) => Some(order),
         Err(_) => None,
+    }
+}
+
+/// The number of the loss. None in it where the links lose nothing.
+fn loss_in(matches: &ArgMatches<'_>) -> Option<Option<u32>>
+    ensures { MatchOption result
+        ((n : Option ℕ) → SaysMaybe (given_by matches.now) Setting.Loss n → ⊥)
+        (λ l. SaysMaybe (given_by matches.now) Setting.Loss l) }
+{
+    match maybe_number_in(matches, Setting::Loss)? {
+        None => Some(None),
+        Some(number) => match u32::try_from(number) {
+            Ok(loss) => Some(Some(loss)),
+            Err(_) => None,
+        },
     }
 }
 
@@ -317,6 +357,7 @@ fn sim_of<'a>(matches: &ArgMatches<'a>) -> Option<Command<'a>>
     let layout = name_in(matches, Setting::Layout)?;
     let brief = flag_in(matches, Setting::Brief)?;
     let no_batch = flag_in(matches, Setting::NoBatch)?;
+    let loss = loss_in(matches)?;
     if !is_alone(verified, code, no_batch) {
         return None;
     }
@@ -330,6 +371,7 @@ fn sim_of<'a>(matches: &ArgMatches<'a>) -> Option<Command<'a>>
         layout,
         brief,
         no_batch,
+        loss,
     })
 }
 

@@ -4,6 +4,7 @@ ghost use Rattle.std.specs.Prelude.{◌≡◌, ◌≢◌, MatchOption};
 ghost use Rattle.command_line.specs.Commands as model;
 ghost use Rattle.command_line.specs.Asks as rule;
 ghost use Rattle.command_line.specs.Reading.{id_of, name_of, settings_of, text_of};
+ghost use Rattle.command_line.specs.Views.{view_settings, view_text};
 
 /// How a command uses a file.
 #[derive(Clone, Copy)]
@@ -17,6 +18,8 @@ pub(crate) enum Access {
 pub(crate) enum Kind {
     /// A number from `low` to `high`, which is `default` where the option is not there.
     Number { low: u64, high: u64, default: u64 },
+    /// A number from `low` to `high`, or none where the option is not there.
+    MaybeNumber { low: u64, high: u64 },
     /// The name of a file.
     File(Access),
     /// Nothing: it is there, or not.
@@ -35,6 +38,7 @@ pub(crate) enum Setting {
     Record,
     Brief,
     NoBatch,
+    Loss,
 }
 
 /// What an argument is for.
@@ -56,6 +60,13 @@ pub(crate) enum CommandWord {
     Replay,
     Generate,
     Assemble,
+}
+
+/// The word of a view.
+#[derive(Clone, Copy)]
+pub(crate) enum ViewWord {
+    Help,
+    Code,
 }
 
 impl CommandWord {
@@ -112,7 +123,32 @@ impl CommandWord {
                 Setting::Layout,
                 Setting::Brief,
                 Setting::NoBatch,
+                Setting::Loss,
             ],
+        }
+    }
+}
+
+impl ViewWord {
+    /// The view's word that a word is.
+    pub(crate) fn of(word: &str) -> Option<ViewWord>
+        ensures { MatchOption result ((w : ViewWord) → view_text w ≢ word.now)
+            (λ w. view_text w ≡ word.now) }
+    {
+        match word {
+            "--help" => Some(ViewWord::Help),
+            "code" => Some(ViewWord::Code),
+            _ => None,
+        }
+    }
+
+    /// The options of the view.
+    pub(crate) fn settings(self) -> &'static [Setting]
+        ensures { result.now ≡ view_settings self }
+    {
+        match self {
+            ViewWord::Help => &[],
+            ViewWord::Code => &[Setting::NoBatch],
         }
     }
 }
@@ -132,6 +168,7 @@ impl Setting {
             Setting::Record => "record",
             Setting::Brief => "brief",
             Setting::NoBatch => "no-batch",
+            Setting::Loss => "loss",
         }
     }
 
@@ -158,6 +195,10 @@ impl Setting {
             Setting::Layout | Setting::Code | Setting::Verify => Kind::File(Access::Read),
             Setting::Record => Kind::File(Access::Write),
             Setting::Brief | Setting::NoBatch => Kind::Flag,
+            Setting::Loss => Kind::MaybeNumber {
+                low: 0,
+                high: u32::MAX as u64,
+            },
         }
     }
 
@@ -166,7 +207,7 @@ impl Setting {
         ensures { result ≡ rule.takes_value (model.kind_of self) }
     {
         match self.kind() {
-            Kind::Number { .. } | Kind::File(_) => true,
+            Kind::Number { .. } | Kind::MaybeNumber { .. } | Kind::File(_) => true,
             Kind::Flag => false,
         }
     }

@@ -59,6 +59,7 @@ fn parts_of(command: Command<'_>) -> (&str, u8, u32, u64) {
             layout: _,
             brief: _,
             no_batch: _,
+            loss: _,
         } => (file, nodes.number(), order, budget.number()),
     }
 }
@@ -75,8 +76,14 @@ fn asked_of(alloc: Global, words: &[Text]) -> Result<Option<(u8, u32, u64)>, All
     }
 }
 
+/// The same of a line.
+fn asked_by(alloc: Global, line: &str) -> Result<Option<(u8, u32, u64)>, Fail> {
+    let words = words_of(alloc, line)?;
+    Ok(asked_of(alloc, words.as_slice())?)
+}
+
 #[test]
-fn reads_the_words_that_are_commands(rt: HostRuntime) -> Result<(), Fail> {
+fn reads_the_words_of_run_and_rewrite(rt: HostRuntime) -> Result<(), Fail> {
     for (line, wanted) in [
         ("rewrite a b", Some((0, 0, 0))),
         ("rewrite a", None),
@@ -84,13 +91,6 @@ fn reads_the_words_that_are_commands(rt: HostRuntime) -> Result<(), Fail> {
         ("run a", Some((1, 0, 100_000_000))),
         ("run --budget=0000000005 a", Some((1, 0, 5))),
         ("run a --budget 4294967296", Some((1, 0, 4_294_967_296))),
-        ("list a", Some((0, 0, 0))),
-        ("one a", Some((1, 0, 100_000_000))),
-        ("one a --nodes 2 --order 0 --budget 5", Some((2, 0, 5))),
-        (
-            "one --order=4294967295 --nodes=16 a",
-            Some((16, u32::MAX, 100_000_000)),
-        ),
         ("", None),
         ("run", None),
         ("run  a", None),
@@ -112,7 +112,6 @@ fn reads_the_words_that_are_commands(rt: HostRuntime) -> Result<(), Fail> {
         ("run a --record r --order 1", None),
         ("run a --nodes 2 --record=", None),
         ("run a --nodes 2 --record r --record=r", None),
-        ("sim a --record r", None),
         ("run a --layout=-x", Some((1, 0, 100_000_000))),
         ("run --layout x --budget 5 a", Some((1, 0, 5))),
         ("run a --layout -x", None),
@@ -135,6 +134,25 @@ fn reads_the_words_that_are_commands(rt: HostRuntime) -> Result<(), Fail> {
         ("run a --no-batch --no-batch", None),
         ("rewrite --no-batch a b", Some((0, 0, 0))),
         ("rewrite a b --brief", None),
+        ("rewrite a b --verify x", None),
+        ("run a --loss 5", None),
+    ] {
+        assert_eq!(rt; asked_by(rt.alloc(), line)?, wanted, "at {line}");
+    }
+    Ok(())
+}
+
+#[test]
+fn reads_the_words_of_other_commands(rt: HostRuntime) -> Result<(), Fail> {
+    for (line, wanted) in [
+        ("list a", Some((0, 0, 0))),
+        ("one a", Some((1, 0, 100_000_000))),
+        ("one a --nodes 2 --order 0 --budget 5", Some((2, 0, 5))),
+        (
+            "one --order=4294967295 --nodes=16 a",
+            Some((16, u32::MAX, 100_000_000)),
+        ),
+        ("sim a --record r", None),
         ("one a --no-batch", None),
         ("sim a --no-batch", Some((1, 0, 100_000_000))),
         ("one a --brief", None),
@@ -147,7 +165,18 @@ fn reads_the_words_that_are_commands(rt: HostRuntime) -> Result<(), Fail> {
         ("sim a --verify x --code y", None),
         ("sim a --verify x --no-batch", None),
         ("one a --verify x", None),
-        ("rewrite a b --verify x", None),
+        ("sim a --loss 4294967295", Some((1, 0, 100_000_000))),
+        (
+            "sim --loss=0 --order 3 a --nodes 2",
+            Some((2, 3, 100_000_000)),
+        ),
+        ("sim a --loss 4294967296", None),
+        ("sim a --loss -1", None),
+        ("sim a --loss", None),
+        ("sim a --loss=", None),
+        ("sim a --loss 5 --loss=5", None),
+        ("one a --loss 5", None),
+        ("replay a r --loss 5", None),
         ("sim --brief x a", None),
         ("sim a --brief= --nodes 2", None),
         ("one a --layout x --nodes 2", Some((2, 0, 100_000_000))),
@@ -177,12 +206,7 @@ fn reads_the_words_that_are_commands(rt: HostRuntime) -> Result<(), Fail> {
         ("asm a", None),
         ("asm a b --brief", None),
     ] {
-        let words = words_of(rt.alloc(), line)?;
-        assert_eq!(rt;
-            asked_of(rt.alloc(), words.as_slice())?,
-            wanted,
-            "at {line}"
-        );
+        assert_eq!(rt; asked_by(rt.alloc(), line)?, wanted, "at {line}");
     }
     Ok(())
 }

@@ -1,4 +1,4 @@
-use Rattle.std.proofs.Common.{[], ◌∷◌, refl, ap, length, arith, true, false}
+use Rattle.std.proofs.Common.{[], refl, ap, length, arith, true, false}
 use Rattle.command_line.specs.Reading.{given_by}
 use Rattle.command_line.proofs.Rows.{flag_at, flag_few}
 use Rattle.command_line.proofs.flag_in.Goals as goal

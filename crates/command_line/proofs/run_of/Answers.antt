@@ -1,7 +1,7 @@
-use Rattle.std.proofs.Common.{◌∙◌, refl}
+use Rattle.std.proofs.Common.{◌∙◌}
 use Rattle.command_line.specs.Meaning.{file_name}
 use Rattle.command_line.specs.Reading.{given_by}
-use Rattle.command_line.proofs.Rows.{as_run, one_file, placed_file, run_alone}
+use Rattle.command_line.proofs.Rows.{as_run, one_file, run_alone}
 use Rattle.command_line.proofs.run_of.Goals as goal
 
 pub returns-in_err-file : goal.returns-in_err-file

@@ -1,0 +1,137 @@
+-- What is given says of a view's row one view, and nothing else.
+use Rattle.std.proofs.Common.{◌≡◌, ℕ, Bool, MatchOption, List, [], ◌∷◌, codes, refl, sym, ap, ◌∙◌, subst, arith, Option, Some, None}
+use Rattle.clap.specs.declared.parser.matches.ArgMatches.{ArgMatches}
+use Rattle.command_line.specs.declared.table.Role.{Role}
+use Rattle.command_line.specs.declared.table.Role.TheVariants as role
+use Rattle.command_line.specs.declared.table.Setting.TheVariants.{NoBatch}
+use Rattle.command_line.specs.declared.table.ViewWord.{ViewWord}
+use Rattle.command_line.specs.declared.table.ViewWord.TheVariants as word
+use Rattle.command_line.specs.declared.view.View.{View as OfCode}
+use Rattle.command_line.specs.Commands.{settings_in}
+use Rattle.command_line.specs.Asks.{Argument, AreOfRow, ArePlaced}
+use Rattle.command_line.specs.Reading.{IsCut, Reads, IsOfRow, given_by, words_for}
+use Rattle.command_line.specs.Views.{View, Help, Code, AsksView, IsViewGiven, meaning_of_view, row_of, view_settings, view_text}
+use Rattle.command_line.proofs.Cuts.{same_cut}
+use Rattle.command_line.proofs.Rows.{cut_of, flag_one, given_set, other_first, row_given, same_file, same_head, same_tail}
+
+abbrev Given : Type 0
+Given = Role → List (List ℕ)
+
+-- the views of a word are of one kind
+pub as_help : (g : Given) (v : View) → IsViewGiven (codes "--help") g v → IsOfRow (row_of Help) g
+as_help g Help h = h.of_row
+as_help g (Code file no_batch) h = absurd (other_first _ _ h.word_is (omega arith))
+
+pub as_code : (g : Given) (v : View) → IsViewGiven (codes "code") g v
+    → (file : List ℕ) × (no_batch : Bool) × IsOfRow (row_of (Code file no_batch)) g
+as_code g Help h = absurd (other_first _ _ h.word_is (omega arith))
+as_code g (Code file no_batch) h = (file, no_batch, h.of_row)
+
+-- without a place there is no operand
+pub no_place : (words : List (List ℕ)) → ArePlaced [] words → words ≡ []
+no_place [] h = refl
+no_place (w ∷ ws) h = absurd h
+
+one_view : (g : Given) (v w : View) → IsOfRow (row_of v) g → IsOfRow (row_of w) g
+    → (row_of v).word ≡ (row_of w).word → v ≡ w
+one_view g Help Help p q e = refl
+one_view g Help (Code y nc) p q e = absurd (other_first _ _ e (omega arith))
+one_view g (Code x nb) Help p q e = absurd (other_first _ _ e (omega arith))
+one_view g (Code x nb) (Code y nc) p q e =
+    ap (λ f. Code f nb) (same_file x y _ p.places q.places)
+    ∙ ap (λ b. Code y b) (flag_one g NoBatch nb nc refl p.options.0 q.options.0)
+
+-- the word of a view, with its options
+pub view_word : View → ViewWord
+view_word Help = word.Help
+view_word (Code file no_batch) = word.Code
+
+pub word_is : (v : View) → view_text (view_word v) ≡ (row_of v).word
+unfolding view_word
+word_is Help = refl
+word_is (Code file no_batch) = refl
+
+word_settings : (w : ViewWord) (v : View) → view_text w ≡ (row_of v).word
+    → settings_in (row_of v).options ≡ view_settings w
+word_settings word.Help Help e = refl
+word_settings word.Code (Code file no_batch) e = refl
+word_settings word.Help (Code file no_batch) e = absurd (other_first _ _ e (omega arith))
+word_settings word.Code Help e = absurd (other_first _ _ e (omega arith))
+
+-- what is asked by a word and the words behind it
+record Behind (w : ViewWord) (words : List (List ℕ)) (v : View) : Type 0 where
+  pub word_is : (row_of v).word ≡ view_text w
+  pub of_row : AreOfRow (row_of v) words
+
+behind : (first : List ℕ) (rest words : List (List ℕ)) (w : ViewWord) (v : View)
+    → words ≡ first ∷ rest → view_text w ≡ first → AsksView words v → Behind w rest v
+behind first rest words w v e f h =
+    let g = sym h.words_are ∙ e in
+    record {
+      word_is = same_head _ _ _ _ g ∙ sym f;
+      of_row = subst (AreOfRow (row_of v)) (same_tail _ _ _ _ g) h.of_row;
+    }
+
+-- the words behind are arguments of the view's options
+behind_cut : (w : ViewWord) (words : List (List ℕ)) (v : View) (h : Behind w words v)
+    → IsCut (view_settings w) words h.of_row.arguments
+behind_cut w words v h =
+    subst (λ ss. IsCut ss words h.of_row.arguments) (word_settings w v (sym h.word_is))
+    (cut_of (row_of v) words h.of_row)
+
+given : (w : ViewWord) (words : List (List ℕ)) (v : View) (m : ArgMatches)
+    → Reads (view_settings w) words m → Behind w words v → IsViewGiven (view_text w) (given_by m) v
+given w words v m r h =
+    let same = same_cut (view_settings w) words r.arguments h.of_row.arguments r.is_cut (behind_cut w words v h) in
+    record {
+      word_is = h.word_is;
+      of_row = row_given (row_of v) words h.of_row (given_by m) (λ x. r.gives x ∙ ap (words_for x) same);
+    }
+
+asked : (first : List ℕ) (rest words : List (List ℕ)) (w : ViewWord) (v : View) (m : ArgMatches)
+    → words ≡ first ∷ rest → view_text w ≡ first → Reads (view_settings w) rest m
+    → IsViewGiven (view_text w) (given_by m) v → AsksView words v
+asked first rest words w v m e f r h = record {
+  behind = rest;
+  words_are = e ∙ ap (λ x. x ∷ rest) (sym f ∙ sym h.word_is);
+  of_row = record {
+    arguments = r.arguments;
+    words_are = r.is_cut.words_are;
+    are_arguments = (subst (λ ss. IsCut ss rest r.arguments) (sym (word_settings w v (sym h.word_is))) r.is_cut).are_arguments;
+    places = subst (ArePlaced (row_of v).places) (r.gives role.Operand) h.of_row.places;
+    options = given_set (given_by m) (row_of v).options r.arguments r.gives h.of_row.options;
+  };
+}
+
+pub only_one : (words : List (List ℕ)) (v w : View) → AsksView words v → AsksView words w → v ≡ w
+only_one words v w p q =
+    let e = sym p.words_are ∙ q.words_are in
+    let row = subst (AreOfRow (row_of w)) (sym (same_tail _ _ _ _ e)) q.of_row in
+    let x = view_word v in
+    let b : Behind x p.behind v = record { word_is = sym (word_is v); of_row = p.of_row } in
+    let k : Behind x p.behind w =
+    record { word_is = sym (same_head _ _ _ _ e) ∙ sym (word_is v); of_row = row } in
+    let same = same_cut (view_settings x) p.behind p.of_row.arguments row.arguments
+    (behind_cut x p.behind v b) (behind_cut x p.behind w k) in
+    one_view (λ r. words_for r p.of_row.arguments) v w
+    (row_given (row_of v) p.behind p.of_row (λ r. words_for r p.of_row.arguments) (λ r. refl))
+    (row_given (row_of w) p.behind row (λ r. words_for r p.of_row.arguments) (λ r. ap (words_for r) same))
+    (same_head _ _ _ _ e)
+
+pub answers : (first : List ℕ) (rest words : List (List ℕ)) (w : ViewWord) (m : ArgMatches)
+    (r : Option OfCode) → words ≡ first ∷ rest → view_text w ≡ first → Reads (view_settings w) rest m
+    → MatchOption r ((v : View) → IsViewGiven (view_text w) (given_by m) v → ⊥)
+    (λ v. IsViewGiven (view_text w) (given_by m) (meaning_of_view v))
+    → MatchOption r ((v : View) → AsksView words v → ⊥) (λ v. AsksView words (meaning_of_view v))
+answers first rest words w m None e f reads h = λ v k.
+    h v (given w rest v m reads (behind first rest words w v e f k))
+answers first rest words w m (Some x) e f reads h =
+    asked first rest words w (meaning_of_view x) m e f reads h
+
+pub answers_none : (first : List ℕ) (rest words : List (List ℕ)) (w : ViewWord)
+    → words ≡ first ∷ rest → view_text w ≡ first
+    → ((arguments : List Argument) → IsCut (view_settings w) rest arguments → ⊥)
+    → (v : View) → AsksView words v → ⊥
+answers_none first rest words w e f none v h =
+    let b = behind first rest words w v e f h in
+    none b.of_row.arguments (behind_cut w rest v b)

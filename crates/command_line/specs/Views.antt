@@ -1,0 +1,58 @@
+-- The views of the viewer, in a table of their own, and what it is that the words ask for a view.
+use Rattle.std.specs.Prelude.{◌≡◌, ℕ, Bool, List, [], ◌∷◌, codes}
+use Rattle.command_line.specs.declared.table.Access.TheVariants.{Read}
+use Rattle.command_line.specs.declared.table.Role.{Role}
+use Rattle.command_line.specs.declared.table.Setting.{Setting}
+use Rattle.command_line.specs.declared.table.Setting.TheVariants.{NoBatch}
+use Rattle.command_line.specs.declared.table.ViewWord.{ViewWord}
+use Rattle.command_line.specs.declared.table.ViewWord.TheVariants as word
+use Rattle.command_line.specs.declared.view.View.{View as OfCode}
+use Rattle.command_line.specs.declared.view.View.TheVariants as asked
+use Rattle.command_line.specs.Commands.{Row, Named, Name, Switch, files_of}
+use Rattle.command_line.specs.Asks.{AreOfRow}
+use Rattle.command_line.specs.Reading.{IsOfRow}
+
+pub data View : Type 0 where
+  -- tell how the viewer is called
+  Help : View
+  -- show the rewritten code of the executable in a file; it has no batches where these aren't
+  -- wanted
+  Code : (file : List ℕ) (no_batch : Bool) → View
+
+-- the table
+abbrev pub row_of : View → Row
+row_of Help = record { word = codes "--help"; places = []; options = [] }
+row_of (Code file no_batch) = record {
+  word = codes "code";
+  places = (Named Read, Name file) ∷ [];
+  options = (NoBatch, Switch no_batch) ∷ [];
+}
+
+-- the names of the files that a view reads; it writes none
+abbrev pub reads : View → List (List ℕ)
+reads view = files_of Read (row_of view)
+
+-- the first word is the view's, and the words behind it are of the view's row
+pub record AsksView (words : List (List ℕ)) (view : View) : Type 0 where
+  pub behind : List (List ℕ)
+  pub words_are : words ≡ (row_of view).word ∷ behind
+  pub of_row : AreOfRow (row_of view) behind
+
+-- the view of the code, as the definitions have it
+abbrev pub meaning_of_view : OfCode → View
+meaning_of_view asked.Help = Help
+meaning_of_view (asked.Code file no_batch) = Code file.now no_batch
+
+-- the text of a view's word, and the view's options
+abbrev pub view_text : ViewWord → List ℕ
+view_text word.Help = codes "--help"
+view_text word.Code = codes "code"
+
+abbrev pub view_settings : ViewWord → List Setting
+view_settings word.Help = []
+view_settings word.Code = NoBatch ∷ []
+
+-- a view's word, and what is given, are of the view's row
+pub record IsViewGiven (word : List ℕ) (given : Role → List (List ℕ)) (view : View) : Type 0 where
+  pub word_is : (row_of view).word ≡ word
+  pub of_row : IsOfRow (row_of view) given
