@@ -26,18 +26,20 @@ use Rattle.run_record.specs.Telling.{IsOfWords}
 use Rattle.run_record.specs.Text.{record_text}
 use Rattle.replay.specs.Replay.{TellsWholeRun, HasJournalsOf}
 use Rattle.replay.specs.Told.{Told, AreToldBy, what_told}
-use Rattle.commands.specs.Code.{Choice, Planned, Verified, choice_of, IsRewritingOf}
-use Rattle.commands.specs.Executables.{ReadsAs}
-use Rattle.commands.specs.Headline.{IsOutcomeRecorded, IsRunOf, IsTextWith}
-use Rattle.commands.specs.Inputs.{Inputs}
-use Rattle.commands.specs.Outcomes.{IsRunOfCode, IsWholeRun, status_of}
+use Rattle.judged_files.specs.Code.{Choice, Planned, Verified, choice_of, IsRewritingOf}
+use Rattle.judged_files.specs.Executables.{ReadsAs}
+use Rattle.commands.specs.Headline.{IsOutcomeRecorded, IsTextWith}
+use Rattle.judged_files.specs.WholeRuns.{IsRunOf}
+use Rattle.judged_files.specs.Inputs.{Inputs}
+use Rattle.judged_files.specs.WholeRuns.{IsRunOfCode, IsWholeRun}
+use Rattle.commands.specs.Outcomes.{status_of}
 use Rattle.commands.specs.Outcomes as outcomes
 use Rattle.commands.specs.Records.{record_of}
-use Rattle.commands.specs.Replays.{IsLayoutOfBlocks, IsOutcomeOfReplay, IsTextOf, IsWorkOf}
+use Rattle.judged_files.specs.Replays.{IsLayoutOfBlocks, IsOutcomeOfReplay, IsTextOf, IsWorkOf}
 use Rattle.commands.specs.Text.{text_of}
 use Rattle.commands.proofs.BlockWords.{named_words}
 use Rattle.commands.proofs.RecordLemmas.{AreShort, TellTakes, is_record}
-use Rattle.commands.proofs.RunLemmas.{shape_facts}
+use Rattle.judged_files.proofs.RunLemmas.{shape_facts}
 use Rattle.commands.proofs.SharedRanges.{HasLines, same_ranges}
 
 -- the laws of short runs, of journals, of the texts of records, of rewriting, and of records

@@ -6,14 +6,17 @@ use Rattle.command_line.specs.Commands.{Command, Rewrite, Run, Listing, One, Sim
 use Rattle.command_line.specs.declared.Command.{Command as OfCode}
 use Rattle.command_line.specs.Asks.{Asks}
 use Rattle.command_line.specs.Meaning.{meaning_of}
-use Rattle.commands.specs.declared.failure.Failure.{Failure}
-use Rattle.commands.specs.declared.failure.Failure.TheVariants.{Input, NotWritten, Refused, Layout, Record, Text, Output, OutOfMemory}
+use Rattle.judged_files.specs.declared.failure.Failure.{Failure}
+use Rattle.judged_files.specs.declared.failure.Failure.TheVariants.{Input, NotWritten, Refused, Layout, Record, Text, Output, OutOfMemory}
 use Rattle.dsm_io.specs.States.{SinkState, FilesState}
-use Rattle.commands.specs.Answers.{HasBytes, IsFault, IsLeft, IsTooLong, IsUnwritten, IsWriteFault, IsRefusalStatus, file_limit, AreLeft, AreWritten}
+use Rattle.commands.specs.Answers.{HasBytes, IsFault, IsLeft, IsUnwritten, IsWriteFault, IsRefusalStatus, AreLeft, AreWritten}
+use Rattle.judged_files.specs.Answers.{IsTooLong, file_limit}
 use Rattle.commands.specs.Refusals.{IsRefused, IsLayoutRefused, IsRecordRefused, IsTextRefused}
-use Rattle.commands.specs.Failures.{status_of, line_of, IsReadFailure, FailsAs, Puts, IsFailure, IsPerformFailure, IsRewriteFailure, IsWriteFailure, IsSuccess, IsNoRefusal, IsInputFailure, IsNamedFailure, PutsPrefix, AreInputs, AreKept}
+use Rattle.judged_files.specs.Failures.{status_of, line_of, IsReadFailure, FailsAs, Puts, IsWriteFailure, IsNoRefusal, IsNamedFailure, PutsPrefix}
+use Rattle.commands.specs.Failures.{IsFailure, IsPerformFailure, IsRewriteFailure, IsSuccess, IsInputFailure, AreInputs, AreKept}
 use Rattle.commands.specs.Headline.{IsText, IsRewrittenFile, IsRewrittenText, PrintsPrefix}
-use Rattle.commands.specs.Inputs.{Inputs, AreTold, inputs_of}
+use Rattle.judged_files.specs.Inputs.{Inputs}
+use Rattle.commands.specs.Inputs.{AreTold, inputs_of}
 use Rattle.commands.proofs.InputLemmas.{only_of}
 
 -- what the words ask for, and where they ask for nothing
@@ -41,7 +44,7 @@ is_low (Run file nodes budget record_file code verified layout brief no_batch) f
     subst (λ s. s ≤ 1) (sym h.status_is) (low_status _)
 is_low (One file nodes order budget layout) files inputs text status h =
     subst (λ s. s ≤ 1) (sym h.status_is) (low_status _)
-is_low (Sim file nodes order budget code verified layout brief no_batch) files inputs text status h =
+is_low (Sim file nodes order budget code verified layout brief no_batch loss) files inputs text status h =
     subst (λ s. s ≤ 1) (sym h.status_is) (low_status _)
 is_low (Listing file) files inputs text status h = let zero = h.1 in omega (arith, zero)
 is_low (Replay file verified record_file brief) files inputs text status h =
@@ -338,7 +341,7 @@ prefix_of_failure c files files_now before now Output h five contents told =
     absurd (omega (arith, five))
 prefix_of_failure c files files_now before now OutOfMemory h five contents told = h contents told
 
-pub line_five : (f : Failure) → status_of f ≡ 5 → line_of f ≡ Rattle.commands.specs.Text.out_of_memory
+pub line_five : (f : Failure) → status_of f ≡ 5 → line_of f ≡ Rattle.judged_files.specs.Text.out_of_memory
 line_five (Input line) five = absurd (omega (arith, five))
 line_five (NotWritten line) five = absurd (omega (arith, five))
 line_five (Refused line) five = absurd (omega (arith, five))

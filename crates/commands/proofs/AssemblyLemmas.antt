@@ -3,13 +3,14 @@ use Rattle.std.proofs.Common.{◌≡◌, ◌⊎◌, ℕ, List, [], Option, refl,
 use Rattle.std.specs.Prelude.{Contains, IfOk, IfSome, Result}
 use Rattle.dsm_io.specs.Causes.{Rose}
 use Rattle.command_line.specs.Commands.{Assemble, writes}
-use Rattle.commands.specs.declared.failure.Failure.{Failure}
-use Rattle.commands.specs.declared.failure.Failure.TheVariants.{Input, NotWritten, Refused, Layout, Record, Text, Output, OutOfMemory}
+use Rattle.judged_files.specs.declared.failure.Failure.{Failure}
+use Rattle.judged_files.specs.declared.failure.Failure.TheVariants.{Input, NotWritten, Refused, Layout, Record, Text, Output, OutOfMemory}
 use Rattle.dsm_io.specs.States.{SinkState, FilesState}
 use Rattle.commands.specs.Answers.{HasBytes, IsLeft, IsUnwritten, AreLeft, AreWritten}
-use Rattle.commands.specs.Failures.{IsPerformFailure, IsAssemblyFailure, IsWriteFailure, Puts, AreKept}
+use Rattle.commands.specs.Failures.{IsPerformFailure, IsAssemblyFailure, AreKept}
+use Rattle.judged_files.specs.Failures.{IsWriteFailure, Puts}
 use Rattle.commands.specs.Headline.{IsText, IsAssembledFile, IsAssembledText}
-use Rattle.commands.specs.Inputs.{Inputs}
+use Rattle.judged_files.specs.Inputs.{Inputs}
 use Rattle.commands.proofs.AnswerLemmas.{ok_as, same_taken}
 use Rattle.commands.proofs.InputLemmas.{only_of}
 

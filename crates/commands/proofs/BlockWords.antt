@@ -9,7 +9,7 @@ use Rattle.block_layout.specs.Text.{HasFields, IsHexadecimal, Name, is_hexadecim
 use Rattle.block_layout.specs.declared.layout.BlockRange.{BlockRange}
 use Rattle.block_layout.specs.declared.ranges.Lines.{Lines}
 use Rattle.run_record.specs.Telling.{HasWords}
-use Rattle.commands.specs.Layouts.{IsLayoutBy}
+use Rattle.judged_files.specs.Layouts.{IsLayoutBy}
 
 both : (a b : Bool) → (a && b) ≡ true → (a ≡ true) × (b ≡ true)
 both true b h = (refl, h)

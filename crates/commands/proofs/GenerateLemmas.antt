@@ -5,13 +5,14 @@ use Rattle.dsm_io.specs.Causes.{Rose}
 use Rattle.elf32_write.specs.Layout.{file_of}
 use Rattle.workload.specs.Generated.{generated_elf}
 use Rattle.command_line.specs.Commands.{Generate, writes}
-use Rattle.commands.specs.declared.failure.Failure.{Failure}
-use Rattle.commands.specs.declared.failure.Failure.TheVariants.{Input, NotWritten, Refused, Layout, Record, Text, Output, OutOfMemory}
+use Rattle.judged_files.specs.declared.failure.Failure.{Failure}
+use Rattle.judged_files.specs.declared.failure.Failure.TheVariants.{Input, NotWritten, Refused, Layout, Record, Text, Output, OutOfMemory}
 use Rattle.dsm_io.specs.States.{SinkState, FilesState}
 use Rattle.commands.specs.Answers.{HasBytes, IsLeft, IsUnwritten, AreLeft, AreWritten}
-use Rattle.commands.specs.Failures.{IsPerformFailure, IsWriteFailure, Puts, AreKept}
+use Rattle.commands.specs.Failures.{IsPerformFailure, AreKept}
+use Rattle.judged_files.specs.Failures.{IsWriteFailure, Puts}
 use Rattle.commands.specs.Headline.{IsText}
-use Rattle.commands.specs.Inputs.{Inputs}
+use Rattle.judged_files.specs.Inputs.{Inputs}
 use Rattle.commands.proofs.AnswerLemmas.{ok_as, same_taken}
 use Rattle.commands.proofs.InputLemmas.{only_of}
 

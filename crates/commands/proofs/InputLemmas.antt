@@ -4,9 +4,11 @@ use Rattle.std.specs.Prelude.{Contains, IfSome}
 use Rattle.std.proofs.lemmas.List.Elements.{Contains-append_left, Contains-append_right, Contains-append_cases}
 use Rattle.dsm_io.specs.States.{FilesState}
 use Rattle.command_line.specs.Commands.{Command, Rewrite, Run, Listing, One, Sim, Replay, Generate, Assemble, reads}
-use Rattle.commands.specs.Answers.{file_limit}
-use Rattle.commands.specs.Failures.{AreBytes, AreContents, AreInputs, AreRead, IsContent}
-use Rattle.commands.specs.Inputs.{Inputs, input_of, code_of, verified_of, layout_of, text_file_of, bytes_in}
+use Rattle.judged_files.specs.Answers.{file_limit}
+use Rattle.judged_files.specs.Failures.{AreBytes, AreContents, IsContent}
+use Rattle.commands.specs.Failures.{AreInputs, AreRead}
+use Rattle.judged_files.specs.Inputs.{Inputs}
+use Rattle.commands.specs.Inputs.{input_of, code_of, verified_of, layout_of, text_file_of, bytes_in}
 
 -- the file of a name that may be left out
 abbrev pub named : Option (List ℕ) → List (List ℕ)
@@ -33,14 +35,14 @@ reads_are (Run file nodes budget record_file (Some code) (Some verified) (Some l
 reads_are (Listing file) = refl
 reads_are (One file nodes order budget None) = refl
 reads_are (One file nodes order budget (Some layout)) = refl
-reads_are (Sim file nodes order budget None None None brief no_batch) = refl
-reads_are (Sim file nodes order budget None None (Some layout) brief no_batch) = refl
-reads_are (Sim file nodes order budget None (Some verified) None brief no_batch) = refl
-reads_are (Sim file nodes order budget None (Some verified) (Some layout) brief no_batch) = refl
-reads_are (Sim file nodes order budget (Some code) None None brief no_batch) = refl
-reads_are (Sim file nodes order budget (Some code) None (Some layout) brief no_batch) = refl
-reads_are (Sim file nodes order budget (Some code) (Some verified) None brief no_batch) = refl
-reads_are (Sim file nodes order budget (Some code) (Some verified) (Some layout) brief no_batch) = refl
+reads_are (Sim file nodes order budget None None None brief no_batch loss) = refl
+reads_are (Sim file nodes order budget None None (Some layout) brief no_batch loss) = refl
+reads_are (Sim file nodes order budget None (Some verified) None brief no_batch loss) = refl
+reads_are (Sim file nodes order budget None (Some verified) (Some layout) brief no_batch loss) = refl
+reads_are (Sim file nodes order budget (Some code) None None brief no_batch loss) = refl
+reads_are (Sim file nodes order budget (Some code) None (Some layout) brief no_batch loss) = refl
+reads_are (Sim file nodes order budget (Some code) (Some verified) None brief no_batch loss) = refl
+reads_are (Sim file nodes order budget (Some code) (Some verified) (Some layout) brief no_batch loss) = refl
 reads_are (Replay file None record_file brief) = refl
 reads_are (Replay file (Some verified) record_file brief) = refl
 reads_are (Generate number output) = refl

@@ -23,11 +23,14 @@ use Rattle.rewriting_law.specs.CoreRun.{picks_of}
 use Rattle.rewriting_law.specs.Interleaving.{EndsAs, original_by_node, original_after}
 use Rattle.dsm_io.specs.States.{FilesState, SinkState}
 use Rattle.command_line.specs.Commands.{Command, Rewrite, Run, Listing, One, Sim, Replay, Generate, Assemble}
-use Rattle.commands.specs.Headline.{IsOutcomeByOrder, IsRunOf, IsText, Prints}
-use Rattle.commands.specs.Code.{Choice, choice_of}
-use Rattle.commands.specs.Inputs.{Inputs, inputs_of}
+use Rattle.commands.specs.Headline.{IsOutcomeByOrder, IsText, Prints}
+use Rattle.judged_files.specs.WholeRuns.{IsRunOf}
+use Rattle.judged_files.specs.Code.{Choice, choice_of}
+use Rattle.judged_files.specs.Inputs.{Inputs}
+use Rattle.commands.specs.Inputs.{inputs_of}
 use Rattle.commands.specs.Interleaved.{IsInterleaved, IsLayoutGiven, IsSomeLayout, IsTextOfOriginal, PrintsOriginal, TellsOfOriginal}
-use Rattle.commands.specs.Outcomes.{IsRunOfCode, IsWholeRun, told}
+use Rattle.judged_files.specs.WholeRuns.{IsRunOfCode, IsWholeRun}
+use Rattle.commands.specs.Outcomes.{told}
 use Rattle.commands.specs.Processors.{outcome_head}
 use Rattle.commands.specs.Text.{outcome_tail, text_of}
 
@@ -206,7 +209,9 @@ tells (Run file nodes budget record_file code verified layout brief no_batch) fi
     of_run inputs nodes budget h.is.work h.is.own h.outcome brief text h.is.is_run h.text_is
 tells (One file nodes order budget layout) files inputs text status h =
     by_order inputs nodes order budget h.outcome text h.is h.text_is
-tells (Sim file nodes order budget code verified layout brief no_batch) files inputs text status h =
+tells (Sim file nodes order budget code verified layout brief no_batch None) files inputs text status h =
+    of_run inputs nodes budget h.is.work h.is.own h.outcome brief text h.is.is_run h.text_is
+tells (Sim file nodes order budget code verified layout brief no_batch (Some loss)) files inputs text status h =
     of_run inputs nodes budget h.is.work h.is.own h.outcome brief text h.is.is_run h.text_is
 tells (Listing file) files inputs text status h = tt
 tells (Replay file verified record_file brief) files inputs text status h =

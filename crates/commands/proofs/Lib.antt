@@ -2,7 +2,7 @@ pub mod Pieces
 pub mod ListingLemmas
 pub mod InputLemmas
 pub mod AnswerLemmas
-pub mod RunLemmas
+pub mod SimLemmas
 pub mod RecordLemmas
 pub mod Recorded
 pub mod ReplayLemmas

@@ -32,10 +32,10 @@ use Rattle.replay.specs.declared.refused.ReplayRule.{ReplayRule}
 use Rattle.replay.specs.Refusals as events
 use Rattle.replay.specs.Replay.{TellsWholeRun}
 use Rattle.replay.specs.Told.{Told}
-use Rattle.commands.specs.Code.{Choice, Planned, Verified, choice_of, IsRewritingOf, IsUnchosen}
-use Rattle.commands.specs.Executables.{IsUnaccepted, ReadsAs}
-use Rattle.commands.specs.Inputs.{Inputs}
-use Rattle.commands.specs.Replays.{AreFaultyBlocks, IsBadRecord, IsBadReplayLayout, IsBrokenRecord, IsBrokenRun, IsFaultyText, IsLayoutOfBlocks, IsNoRecord, IsNoRecordOfCode, IsOutcomeOfReplay, IsReplayRefused, IsTextOf, IsWorkOf}
+use Rattle.judged_files.specs.Code.{Choice, Planned, Verified, choice_of, IsRewritingOf, IsUnchosen}
+use Rattle.judged_files.specs.Executables.{IsUnaccepted, ReadsAs}
+use Rattle.judged_files.specs.Inputs.{Inputs}
+use Rattle.judged_files.specs.Replays.{AreFaultyBlocks, IsBadRecord, IsBadReplayLayout, IsBrokenRecord, IsBrokenRun, IsFaultyText, IsLayoutOfBlocks, IsNoRecord, IsNoRecordOfCode, IsOutcomeOfReplay, IsReplayRefused, IsTextOf, IsWorkOf}
 use Rattle.commands.proofs.AgainLemmas.{HaveRecordLaws, one_elf, one_image, one_list, one_text, one_work, shared_some}
 use Rattle.commands.proofs.SharedRanges.{HasLines}
 

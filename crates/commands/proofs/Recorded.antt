@@ -8,13 +8,15 @@ use Rattle.node_model.specs.Outcome.{Outcome, IsOutcomeOf}
 use Rattle.run_order.specs.OwnRun.{Stamped, StandsForOwnRun, run_of}
 use Rattle.run_record.specs.Text.{record_text}
 use Rattle.command_line.specs.Commands.{Command, Run, writes}
-use Rattle.commands.specs.declared.failure.Failure.{Failure}
-use Rattle.commands.specs.declared.failure.Failure.TheVariants.{Input, NotWritten, Refused, Layout, Record, Text, Output, OutOfMemory}
+use Rattle.judged_files.specs.declared.failure.Failure.{Failure}
+use Rattle.judged_files.specs.declared.failure.Failure.TheVariants.{Input, NotWritten, Refused, Layout, Record, Text, Output, OutOfMemory}
 use Rattle.dsm_io.specs.States.{SinkState, FilesState}
 use Rattle.commands.specs.Answers.{HasBytes, IsLeft, IsUnwritten, AreLeft, AreWritten}
-use Rattle.commands.specs.Failures.{FailsAs, IsNever, GivesRuns, IsMade, IsOwnOutcome, IsOwnRecorded, IsRecordFailure, IsPerformFailure, AreKept}
+use Rattle.judged_files.specs.Failures.{FailsAs, IsNever}
+use Rattle.judged_files.specs.Ready.{GivesRuns, IsOwnOutcome}
+use Rattle.commands.specs.Failures.{IsMade, IsOwnRecorded, IsRecordFailure, IsPerformFailure, AreKept}
 use Rattle.commands.specs.Headline.{IsRecordOfRun, IsOutcomeRecorded, held_by}
-use Rattle.commands.specs.Inputs.{Inputs}
+use Rattle.judged_files.specs.Inputs.{Inputs}
 use Rattle.commands.specs.Records.{record_at, record_of}
 use Rattle.commands.proofs.InputLemmas.{named, among, of_named}
 use Rattle.commands.proofs.RecordLemmas.{own_record}

@@ -5,7 +5,8 @@ use Rattle.dsm_io.specs.States.{FilesState, SinkState}
 use Rattle.command_line.specs.Commands.{Command, Rewrite, Run, Listing, One, Sim, Replay, Generate, Assemble}
 use Rattle.commands.specs.Again.{IsReplayOf, PutOneText}
 use Rattle.commands.specs.Headline.{IsText, Prints, PrintsPrefix}
-use Rattle.commands.specs.Inputs.{Inputs, inputs_of}
+use Rattle.judged_files.specs.Inputs.{Inputs}
+use Rattle.commands.specs.Inputs.{inputs_of}
 use Rattle.commands.specs.Refusals.{IsRefused, IsLayoutRefused, IsRecordRefused}
 use Rattle.commands.proofs.AgainLemmas.{HaveRecordLaws, replay_of_run, same_text}
 use Rattle.commands.proofs.NotRefused.{HaveFaultLaws, not_refused}
@@ -35,7 +36,7 @@ module _ (contents later : List ℕ → List ℕ) (left : FilesState) where
   by_commands P here (Run file nodes budget (Some name) code verified layout brief no_batch) (One a b d e f)
       is = absurd is
   by_commands P here (Run file nodes budget (Some name) code verified layout brief no_batch)
-      (Sim a b d e f g i j k) is = absurd is
+      (Sim a b d e f g i j k l) is = absurd is
   by_commands P here (Run file nodes budget (Some name) code verified layout brief no_batch) (Generate a b)
       is = absurd is
   by_commands P here (Run file nodes budget (Some name) code verified layout brief no_batch) (Assemble a b)
@@ -44,7 +45,7 @@ module _ (contents later : List ℕ → List ℕ) (left : FilesState) where
   by_commands P here (Rewrite a b d) replay is = absurd is
   by_commands P here (Listing a) replay is = absurd is
   by_commands P here (One a b d e f) replay is = absurd is
-  by_commands P here (Sim a b d e f g i j k) replay is = absurd is
+  by_commands P here (Sim a b d e f g i j k l) replay is = absurd is
   by_commands P here (Replay a b d e) replay is = absurd is
   by_commands P here (Generate a b) replay is = absurd is
   by_commands P here (Assemble a b) replay is = absurd is

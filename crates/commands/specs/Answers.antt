@@ -1,29 +1,13 @@
 -- Why a command answers as it does, and what `err` is told.
-use Rattle.std.specs.Prelude.{◌≡◌, ℕ, ◌<◌, ◌⊎◌, List, Option, length, Contains, IfSome, MatchOption}
-use Rattle.dsm_io.specs.Causes.{Rose, Appends, AppendsPrefix}
+use Rattle.std.specs.Prelude.{◌≡◌, ℕ, ◌⊎◌, List, Contains, IfSome}
+use Rattle.dsm_io.specs.Causes.{Rose}
 use Rattle.dsm_io.specs.States.{FilesState, SinkState}
 use Rattle.command_line.specs.Commands.{Command, reads, writes}
-use Rattle.commands.specs.Inputs.{Inputs, AreTold, inputs_of}
+use Rattle.judged_files.specs.Inputs.{Inputs}
+use Rattle.commands.specs.Inputs.{AreTold, inputs_of}
 use Rattle.commands.specs.Headline.{IsWritten, PrintsPrefix}
-use Rattle.commands.specs.Text.{cannot_read, cannot_write, too_long, cannot_write_output}
-
--- the longest file that is read, in bytes
-abbrev pub file_limit : ℕ
-file_limit = 33554432
-
--- the sink took the line; or a prefix of it, where it failed; or nothing, where it was out of
--- memory
-abbrev pub Tells : SinkState → SinkState → List ℕ → Type 0
-Tells before now line =
-    Appends before.taken now.taken line
-    ⊎ ((AppendsPrefix before.taken now.taken line × Rose before.faults now.faults)
-    ⊎ ((now.taken ≡ before.taken) × Rose before.refusals now.refusals))
-
--- the file is longer than the limit; where its content isn't told, a read of it failed
-abbrev pub IsTooLong : FilesState → FilesState → List ℕ → Type 0
-IsTooLong before now name =
-    MatchOption (before.held name) (Rose (before.failed_reads name) (now.failed_reads name))
-    (λ file. file_limit < length file)
+use Rattle.judged_files.specs.Text.{cannot_read, cannot_write, too_long, cannot_write_output}
+use Rattle.judged_files.specs.Answers.{IsTooLong}
 
 -- a file that the command reads couldn't be read, or is too long, and the line says so
 abbrev pub IsReadFault : Command → FilesState → FilesState → (List ℕ → Type 0) → Type 0

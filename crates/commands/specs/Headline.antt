@@ -15,6 +15,8 @@ use Rattle.node_model.specs.Outcome.{Outcome}
 use Rattle.run_order.specs.OwnRun.{Stamped, StandsForOwnRun}
 use Rattle.run_record.specs.Text.{record_text}
 use Rattle.shared_sim.specs.ByOrder.{FollowsOrder}
+use Rattle.lossy_sim.specs.UnderWay.{StandFor}
+use Rattle.lossy_sim.specs.WithLoss.{State, Turn, AreAllOver, FollowsLoss, opening_state, ordinary}
 use Rattle.block_layout.specs.Layout.{Shape}
 use Rattle.one_memory.specs.ByOrder.{IsRunByOrder}
 use Rattle.workload.specs.Generated.{generated_elf}
@@ -22,29 +24,15 @@ use Rattle.rv32_asm.specs.Assembling.{IsAssembled}
 use Rattle.command_line.specs.Commands.{Command, Rewrite, Run, Listing, One, Sim, Replay, Generate, Assemble}
 use Rattle.dsm_io.specs.Causes.{Appends, AppendsPrefix}
 use Rattle.dsm_io.specs.States.{FilesState, SinkState}
-use Rattle.commands.specs.Code.{IsFileOf, choice_of}
-use Rattle.commands.specs.Executables.{IsProgramOf}
-use Rattle.commands.specs.Inputs.{Inputs, inputs_of}
-use Rattle.commands.specs.Layouts.{IsLayoutFor}
-use Rattle.commands.specs.Outcomes.{status_of, told, IsRunOfCode}
+use Rattle.judged_files.specs.Executables.{IsProgramOf}
+use Rattle.judged_files.specs.Inputs.{Inputs}
+use Rattle.commands.specs.Inputs.{inputs_of}
+use Rattle.judged_files.specs.Layouts.{IsLayoutFor}
+use Rattle.commands.specs.Outcomes.{status_of, told}
 use Rattle.commands.specs.Records.{record_of}
-use Rattle.commands.specs.Replays.{IsOutcomeOfReplay}
+use Rattle.judged_files.specs.Replays.{IsOutcomeOfReplay}
 use Rattle.commands.specs.Text.{text_of}
-
--- The outcome of a run of the executable's rewritten code on so many nodes: by the program's plan,
--- or, where a verified file is given, the code of that file. A file of code that is given holds
--- that code; and the blocks of the shared lines are those of a layout that is given, or each line
--- is one.
-pub record IsRunOf (inputs : Inputs) (nodes budget : ℕ) (work : Work) (own : List Stamped)
-    (outcome : Outcome) : Type 0 where
-  pub elf : Elf
-  pub plan : List PlanEntry
-  pub of_code : IsRunOfCode (choice_of inputs.batches inputs.verified) inputs.executable elf plan
-      work own outcome
-  pub code : IsFileOf (rewritten_elf elf work.image plan) inputs.code
-  pub laid_out : IsLayoutFor elf inputs.layout nodes work.layout
-  pub count : work.layout.nodes ≡ nodes
-  pub limit : work.budget ≡ budget
+use Rattle.judged_files.specs.WholeRuns.{IsRunOf}
 
 -- the bytes are the record of some such run
 pub record IsRecordOfRun (inputs : Inputs) (nodes budget : ℕ) (bytes : List ℕ) : Type 0 where
@@ -67,7 +55,8 @@ pub record IsOutcomeRecorded (inputs : Inputs) (nodes budget : ℕ) (recorded : 
 -- The outcome of the run by the order of a number: at each turn it picks one of the events that are
 -- allowed, until each node is over. The core that these events lead to stands for its own run,
 -- whose outcome this is.
-pub record IsOutcomeOfSim (inputs : Inputs) (nodes order budget : ℕ) (outcome : Outcome) : Type 0
+pub record IsOutcomeOfLosslessSim (inputs : Inputs) (nodes order budget : ℕ) (outcome : Outcome)
+    : Type 0
   where
     pub work : Work
     pub own : List Stamped
@@ -76,6 +65,31 @@ pub record IsOutcomeOfSim (inputs : Inputs) (nodes order budget : ℕ) (outcome 
     pub ordered : FollowsOrder work order (opening_core work) events
     pub over : IsOver work (after work (opening_core work) events)
     pub stands : StandsForOwnRun work (after work (opening_core work) events) own
+
+-- The outcome of the run by the order of a number over links that lose packets, by the order of a
+-- loss: of the turns of nodes and network that the rule gives until each node is over. The nodes'
+-- events lead to a core of which these are the nodes, with what is under way on the links, and which
+-- stands for its own run, whose outcome this is.
+pub record IsOutcomeOfLossySim (inputs : Inputs) (nodes order budget loss : ℕ) (outcome : Outcome)
+    : Type 0
+  where
+    pub work : Work
+    pub own : List Stamped
+    pub is_run : IsRunOf inputs nodes budget work own outcome
+    pub turns : List Turn
+    pub last : State
+    pub follows : FollowsLoss work 1 (opening_state work order loss) turns last
+    pub over : AreAllOver work last
+    pub stand : StandFor work.layout.nodes last.nodes last.links
+        (after work (opening_core work) (ordinary turns))
+    pub stands : StandsForOwnRun work (after work (opening_core work) (ordinary turns)) own
+
+-- by the links that are asked for
+abbrev pub IsOutcomeOfSim : Inputs → (nodes order budget : ℕ) → (loss : Option ℕ) → Outcome → Type 0
+IsOutcomeOfSim inputs nodes order budget None outcome =
+    IsOutcomeOfLosslessSim inputs nodes order budget outcome
+IsOutcomeOfSim inputs nodes order budget (Some loss) outcome =
+    IsOutcomeOfLossySim inputs nodes order budget loss outcome
 
 -- the outcome of the original's processors on one memory, by the order of a number, with the blocks
 -- of the layout; no node counts anything
@@ -165,8 +179,9 @@ IsText (Run file nodes budget record_file code verified layout brief no_batch) f
     IsTextWith (IsOutcomeRecorded inputs nodes budget (held_by files record_file)) brief text status
 IsText (One file nodes order budget layout) files inputs text status =
     IsTextWith (IsOutcomeByOrder inputs nodes order budget) false text status
-IsText (Sim file nodes order budget code verified layout brief no_batch) files inputs text status =
-    IsTextWith (IsOutcomeOfSim inputs nodes order budget) brief text status
+IsText (Sim file nodes order budget code verified layout brief no_batch loss) files inputs text
+    status =
+    IsTextWith (IsOutcomeOfSim inputs nodes order budget loss) brief text status
 IsText (Listing file) files inputs text status = IsListingText inputs.executable text status
 IsText (Replay file verified record_file brief) files inputs text status =
     IsTextWith (IsOutcomeOfReplay inputs) brief text status

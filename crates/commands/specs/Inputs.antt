@@ -2,17 +2,7 @@
 use Rattle.std.specs.Prelude.{◌≡◌, ℕ, Bool, true, not, List, [], Option, None, Some, option_map, Contains}
 use Rattle.dsm_io.specs.States.{FilesState}
 use Rattle.command_line.specs.Commands.{Command, Rewrite, Run, Listing, One, Sim, Replay, Generate, Assemble, reads}
-
--- the bytes of the executable, and the text of the record or of the assembly, which are none where
--- a command reads none; those of the rewritten executable, of a verified one and of the layout,
--- where they are named; and whether code is rewritten with batches, where no record says so
-pub record Inputs : Type 0 where
-  pub executable : List ℕ
-  pub code : Option (List ℕ)
-  pub verified : Option (List ℕ)
-  pub layout : Option (List ℕ)
-  pub text : List ℕ
-  pub batches : Bool
+use Rattle.judged_files.specs.Inputs.{Inputs}
 
 -- the file that a command reads as an executable, where it reads one
 abbrev pub input_of : Command → Option (List ℕ)
@@ -20,7 +10,7 @@ input_of (Rewrite input output no_batch) = Some input
 input_of (Run file nodes budget record_file code verified layout brief no_batch) = Some file
 input_of (Listing file) = Some file
 input_of (One file nodes order budget layout) = Some file
-input_of (Sim file nodes order budget code verified layout brief no_batch) = Some file
+input_of (Sim file nodes order budget code verified layout brief no_batch loss) = Some file
 input_of (Replay file verified record_file brief) = Some file
 input_of (Generate number output) = None
 input_of (Assemble text output) = None
@@ -28,14 +18,14 @@ input_of (Assemble text output) = None
 -- the file that a command reads as the rewritten executable
 abbrev pub code_of : Command → Option (List ℕ)
 code_of (Run file nodes budget record_file code verified layout brief no_batch) = code
-code_of (Sim file nodes order budget code verified layout brief no_batch) = code
+code_of (Sim file nodes order budget code verified layout brief no_batch loss) = code
 code_of command = None
 
 -- the file that a command reads as a verified one, whose code is run in place of that by the
 -- program's own plan
 abbrev pub verified_of : Command → Option (List ℕ)
 verified_of (Run file nodes budget record_file code verified layout brief no_batch) = verified
-verified_of (Sim file nodes order budget code verified layout brief no_batch) = verified
+verified_of (Sim file nodes order budget code verified layout brief no_batch loss) = verified
 verified_of (Replay file verified record_file brief) = verified
 verified_of command = None
 
@@ -43,7 +33,7 @@ verified_of command = None
 abbrev pub layout_of : Command → Option (List ℕ)
 layout_of (Run file nodes budget record_file code verified layout brief no_batch) = layout
 layout_of (One file nodes order budget layout) = layout
-layout_of (Sim file nodes order budget code verified layout brief no_batch) = layout
+layout_of (Sim file nodes order budget code verified layout brief no_batch loss) = layout
 layout_of command = None
 
 -- the file that a command reads as a record, or as an assembly text
@@ -56,7 +46,7 @@ text_file_of command = None
 abbrev pub batches_of : Command → Bool
 batches_of (Rewrite input output no_batch) = not no_batch
 batches_of (Run file nodes budget record_file code verified layout brief no_batch) = not no_batch
-batches_of (Sim file nodes order budget code verified layout brief no_batch) = not no_batch
+batches_of (Sim file nodes order budget code verified layout brief no_batch loss) = not no_batch
 batches_of command = true
 
 -- the bytes of a file, which are none where there is no file

@@ -11,9 +11,10 @@ use Rattle.node_model.specs.declared.NodeCounts.{NodeCounts}
 use Rattle.command_line.specs.Commands.{Command, Run, One, Sim, Replay}
 use Rattle.dsm_io.specs.Causes.{Appends}
 use Rattle.dsm_io.specs.States.{SinkState}
-use Rattle.commands.specs.Executables.{IsProgramOf}
-use Rattle.commands.specs.Inputs.{Inputs, inputs_of}
-use Rattle.commands.specs.Layouts.{IsLayoutFor}
+use Rattle.judged_files.specs.Executables.{IsProgramOf}
+use Rattle.judged_files.specs.Inputs.{Inputs}
+use Rattle.commands.specs.Inputs.{inputs_of}
+use Rattle.judged_files.specs.Layouts.{IsLayoutFor}
 use Rattle.commands.specs.Processors.{outcome_head}
 use Rattle.commands.specs.Text.{outcome_tail}
 
@@ -58,7 +59,8 @@ abbrev pub IsTextOfOriginal : Command → Inputs → List ℕ → Type 0
 IsTextOfOriginal (Run file nodes budget record_file code verified layout brief no_batch) inputs
     text =
     TellsOfOriginal inputs.executable (IsLayoutGiven inputs nodes) nodes budget text
-IsTextOfOriginal (Sim file nodes order budget code verified layout brief no_batch) inputs text =
+IsTextOfOriginal (Sim file nodes order budget code verified layout brief no_batch loss) inputs
+    text =
     TellsOfOriginal inputs.executable (IsLayoutGiven inputs nodes) nodes budget text
 IsTextOfOriginal (One file nodes order budget layout) inputs text =
     TellsOfOriginal inputs.executable (IsLayoutGiven inputs nodes) nodes budget text

@@ -1,14 +1,9 @@
 pub mod Processors
 pub mod Text
 pub mod Inputs
-pub mod Executables
-pub mod Code
-pub mod Layouts
 pub mod Refusals
-pub mod Given
 pub mod Outcomes
 pub mod Records
-pub mod Replays
 pub mod Headline
 pub mod Again
 pub mod Interleaved

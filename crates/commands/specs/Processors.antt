@@ -2,15 +2,11 @@
 use Rattle.std.specs.Prelude.{ℕ, ◌+◌, ◌==◌, Bool, false, if◌then◌else◌, List, [], ◌∷◌, ◌++◌, codes}
 use Rattle.std.specs.Fmt.{decimal}
 use Rattle.std.specs.List.{list_all}
-use Rattle.rv32_text.specs.Listing.{word_digits}
 use Rattle.rv32_program.specs.declared.Exit.{Exit}
 use Rattle.rv32_program.specs.declared.Exit.TheVariants.{Code, Ebreak, Illegal, Misaligned, Access, Fetch}
 use Rattle.rv32_program.specs.declared.End.{End}
 use Rattle.rv32_program.specs.declared.End.TheVariants.{Exited, Stopped}
-
--- a word in eight hexadecimal digits, behind 0x
-abbrev pub hex8 : ℕ → List ℕ
-hex8 n = codes "0x" ++ word_digits n
+use Rattle.judged_files.specs.Text.{hex8}
 
 abbrev pub exit_text : Exit → List ℕ
 exit_text (Code c) = codes "exit " ++ decimal c

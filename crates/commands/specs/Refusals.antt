@@ -1,61 +1,23 @@
 -- How the files of each command are refused: the executable first, then the text of a record, the
 -- rewriting or the verified file, the file of code, the number of words that a record names, the
 -- layout, and the events of a record.
-use Rattle.std.specs.Prelude.{◌≡◌, ℕ, ◌⊎◌, List, Option, Some}
+use Rattle.std.specs.Prelude.{◌≡◌, ℕ, List}
 use Rattle.elf32_read.specs.Elf.{Elf}
-use Rattle.exec_map.specs.Contents.{AreSharedRanges}
-use Rattle.block_layout.specs.declared.ranges.Lines.{Lines}
-use Rattle.block_layout.specs.declared.refused.Rule.{Rule}
-use Rattle.block_layout.specs.Text.{IsFirstFault}
-use Rattle.templates.specs.declared.plans.PlanEntry.{PlanEntry}
-use Rattle.jump_map.specs.Image.{Cell}
-use Rattle.rewriter.specs.RewrittenFile.{rewritten_elf}
 use Rattle.command_line.specs.Commands.{Command, Rewrite, Run, Listing, One, Sim, Replay, Generate, Assemble}
-use Rattle.commands.specs.Code.{Planned, choice_of, IsCodeRefused, IsFileOf, IsRewritingOf, IsUnrewritten}
-use Rattle.commands.specs.Executables.{IsProgramOf, IsUnaccepted}
-use Rattle.commands.specs.Inputs.{Inputs}
-use Rattle.commands.specs.Replays.{IsReplayRefused, IsBadReplayLayout, IsBadRecord}
+use Rattle.judged_files.specs.Code.{Planned, IsUnrewritten}
+use Rattle.judged_files.specs.Executables.{IsProgramOf, IsUnaccepted}
+use Rattle.judged_files.specs.Inputs.{Inputs}
+use Rattle.judged_files.specs.Replays.{IsReplayRefused, IsBadReplayLayout, IsBadRecord}
 use Rattle.rv32_asm.specs.Rules.{IsFirstFault as IsFirstFaultOfText}
 use Rattle.rv32_asm.specs.declared.refused.AsmRule.{AsmRule}
-use Rattle.commands.specs.Text.{layout_line, assembly_line}
-
--- the text breaks a rule of layouts of the executable's shared lines, and the line says at which
--- line first, and which rule is the lowest there
-pub record IsFaultyLayout (elf : Elf) (layout : Option (List ℕ)) (nodes : ℕ) (line : List ℕ)
-    : Type 0
-  where
-    pub text : List ℕ
-    pub text_is : layout ≡ Some text
-    pub shared : List Lines
-    pub lines : AreSharedRanges elf shared
-    pub rule : Rule
-    pub number : ℕ
-    pub fault : IsFirstFault text shared nodes rule number
-    pub line_is : line ≡ layout_line rule number
+use Rattle.judged_files.specs.Text.{assembly_line}
+use Rattle.judged_files.specs.Refusals.{IsFaultyLayout, IsBadRunLayout, IsRunRefused}
 
 -- the executable is accepted, and the layout is refused with this line
 pub record IsBadLayout (inputs : Inputs) (nodes : ℕ) (line : List ℕ) : Type 0 where
   pub elf : Elf
   pub executable : IsProgramOf inputs.executable elf
   pub faulty : IsFaultyLayout elf inputs.layout nodes line
-
--- the executable has a rewriting, a file of code is that of it, and the layout is refused with this
--- line
-pub record IsBadRunLayout (inputs : Inputs) (nodes : ℕ) (line : List ℕ) : Type 0 where
-  pub elf : Elf
-  pub plan : List PlanEntry
-  pub image : List Cell
-  pub rewritten :
-      IsRewritingOf (choice_of inputs.batches inputs.verified) inputs.executable elf plan image
-  pub code : IsFileOf (rewritten_elf elf image plan) inputs.code
-  pub faulty : IsFaultyLayout elf inputs.layout nodes line
-
--- the executable isn't accepted, or has no chosen rewriting, or the file of code isn't that of the
--- rewriting
-abbrev pub IsRunRefused : Inputs → List ℕ → Type 0
-IsRunRefused inputs line =
-    IsUnrewritten (choice_of inputs.batches inputs.verified) inputs.executable line
-    ⊎ IsCodeRefused inputs line
 
 -- a command's executable, its verified file or its file of code is refused with this line
 abbrev pub IsRefused : Command → Inputs → List ℕ → Type 0
@@ -65,7 +27,7 @@ IsRefused (Run file nodes budget record_file code verified layout brief no_batch
     IsRunRefused inputs line
 IsRefused (Listing file) inputs line = IsUnaccepted inputs.executable line
 IsRefused (One file nodes order budget layout) inputs line = IsUnaccepted inputs.executable line
-IsRefused (Sim file nodes order budget code verified layout brief no_batch) inputs line =
+IsRefused (Sim file nodes order budget code verified layout brief no_batch loss) inputs line =
     IsRunRefused inputs line
 IsRefused (Replay file verified record_file brief) inputs line = IsReplayRefused inputs line
 IsRefused (Generate number output) inputs line = ⊥
@@ -77,7 +39,7 @@ IsLayoutRefused (Run file nodes budget record_file code verified layout brief no
     line =
     IsBadRunLayout inputs nodes line
 IsLayoutRefused (One file nodes order budget layout) inputs line = IsBadLayout inputs nodes line
-IsLayoutRefused (Sim file nodes order budget code verified layout brief no_batch) inputs line =
+IsLayoutRefused (Sim file nodes order budget code verified layout brief no_batch loss) inputs line =
     IsBadRunLayout inputs nodes line
 IsLayoutRefused (Replay file verified record_file brief) inputs line = IsBadReplayLayout inputs line
 IsLayoutRefused command inputs line = ⊥

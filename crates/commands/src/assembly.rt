@@ -4,11 +4,11 @@ ghost use Rattle.std.specs.Prelude.{◌≡◌, ◌≢◌, ℕ, List, [], IfOk, O
 ghost use Rattle.commands.specs.Failures.{IsAssemblyFailure, IsAssemblyRefusal};
 ghost use Rattle.commands.specs.Headline.{IsAssembledFile, IsAssembledText};
 
-use crate::failure::Failure;
-use crate::output::write_file;
-use crate::refusal::assembly_line;
 use dsm_io::Files;
 use elf32_write::write_elf;
+use judged_files::failure::Failure;
+use judged_files::output::write_file;
+use judged_files::refusal::assembly_line;
 use rv32_asm::{AsmRefused, assemble};
 use std::alloc::Global;
 

@@ -3,12 +3,12 @@
 ghost use Rattle.std.specs.Prelude.{◌≡◌, ◌≢◌, ℕ, List, IfOk, IfErr, IfSome, OnOk};
 ghost use Rattle.elf32_write.specs.Layout.{file_of};
 ghost use Rattle.workload.specs.Generated.{generated_elf};
-ghost use Rattle.commands.specs.Failures.{IsWriteFailure};
+ghost use Rattle.judged_files.specs.Failures.{IsWriteFailure};
 
-use crate::failure::Failure;
-use crate::output::write_file;
 use dsm_io::Files;
 use elf32_write::write_elf;
+use judged_files::failure::Failure;
+use judged_files::output::write_file;
 use std::alloc::{AllocError, Global};
 use workload::program_of;
 

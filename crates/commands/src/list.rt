@@ -1,19 +1,19 @@
 //! `list`: a line for each code word, ascending.
 
-ghost use Rattle.std.specs.Prelude.{◌≡◌, ◌++◌, ℕ, true, IfOk, IfErr, OnOk};
+ghost use Rattle.std.specs.Prelude.{◌≡◌, ◌++◌, true, IfOk, IfErr, OnOk};
 ghost use Rattle.exec_map.specs.Contents.{is_code_word, word_of};
 ghost use Rattle.rv32_text.specs.Listing.{line_of as model_line_of};
 ghost use Rattle.dsm_io.specs.Causes.{Appends};
 ghost use Rattle.commands.specs.Headline.{IsListingText, listing};
-ghost use Rattle.commands.specs.Executables.{IsUnaccepted};
-ghost use Rattle.commands.specs.Failures.{Puts, FailsAs, IsLike, IsNever};
+ghost use Rattle.judged_files.specs.Executables.{IsUnaccepted};
+ghost use Rattle.judged_files.specs.Failures.{Puts, FailsAs, IsLike, IsNever};
 
-use crate::failure::Failure;
-use crate::input::{elf_of, program_of};
-use crate::output::put;
-use crate::refusal::Subject;
 use dsm_io::Sink;
 use exec_map::Program;
+use judged_files::failure::Failure;
+use judged_files::input::{elf_of, program_of};
+use judged_files::output::put;
+use judged_files::refusal::Subject;
 use rv32_text::line_of;
 use std::alloc::{AllocError, Global};
 

@@ -1,18 +1,18 @@
 //! `one`: the original's processors on one memory, by the order of a number.
 
-ghost use Rattle.std.specs.Prelude.{◌≡◌, ℕ, false, IfOk, IfErr};
+ghost use Rattle.std.specs.Prelude.{false, IfOk, IfErr};
 ghost use Rattle.commands.specs.Headline.{IsTextWith, IsOutcomeByOrder};
-ghost use Rattle.commands.specs.Executables.{IsUnaccepted};
-ghost use Rattle.commands.specs.Failures.{Puts, FailsAs};
-ghost use Rattle.commands.specs.Given.{bytes_of};
+ghost use Rattle.judged_files.specs.Executables.{IsUnaccepted};
+ghost use Rattle.judged_files.specs.Failures.{Puts, FailsAs};
+ghost use Rattle.judged_files.specs.Given.{bytes_of};
 ghost use Rattle.commands.specs.Refusals.{IsBadLayout};
 
-use crate::failure::Failure;
-use crate::input::{Inputs, elf_of, program_of};
-use crate::layout::layout_for;
 use crate::outcome::put_outcome;
-use crate::refusal::Subject;
 use dsm_io::Sink;
+use judged_files::failure::Failure;
+use judged_files::input::{Inputs, elf_of, program_of};
+use judged_files::layout::layout_for;
+use judged_files::refusal::Subject;
 use one_memory::run_by_order;
 use run_limits::{Budget, NodeCount};
 use std::alloc::Global;

@@ -1,29 +1,25 @@
-//! The record of a run: into a file, and out of a text.
+//! The record of a run, into a file.
 
-ghost use Rattle.std.specs.Prelude.{◌≡◌, ◌≢◌, ℕ, List, Some, map, length, IfErr, IfOk, IfSome};
-ghost use Rattle.std.specs.Prelude.{OnOk};
+ghost use Rattle.std.specs.Prelude.{◌≡◌, ◌≢◌, ℕ, List, Some, map, IfErr, IfOk, IfSome, OnOk};
 ghost use Rattle.std.specs.List.{range_with_len};
 ghost use Rattle.dsm_core.specs.CoreParts.{work_of, core_of};
 ghost use Rattle.run_record.specs.Lists.{items_of};
-ghost use Rattle.run_record.specs.Record.{NamesOtherCode};
 ghost use Rattle.run_record.specs.Text as model;
 ghost use Rattle.command_line.specs.Meaning.{file_name};
-ghost use Rattle.commands.specs.Failures.{IsRecordFailure, IsRecordRefusal, work_for};
+ghost use Rattle.commands.specs.Failures.{IsRecordFailure};
+ghost use Rattle.judged_files.specs.Ready.{work_for};
 ghost use Rattle.commands.specs.Headline.{held_by};
 ghost use Rattle.commands.specs.Records.{record_at};
-ghost use Rattle.commands.specs.Replays.{IsFaultyText, IsOtherCode, IsTextOf};
 
-use crate::failure::Failure;
-use crate::output::write_file;
-use crate::prepare::Prepared;
-use crate::refusal::record_line;
 use dsm_core::Core;
 use dsm_io::Files;
-use jump_map::Image;
+use judged_files::failure::Failure;
+use judged_files::output::write_file;
+use judged_files::prepare::Prepared;
 use node_model::Entry;
 use rewriting_law::progress_law;
 use run_order::journal_law;
-use run_record::{Blocks, Journals, Record, RecordRefused, check_code, read_record, write_record};
+use run_record::{Blocks, Journals, Record, write_record};
 use std::alloc::{AllocError, Global};
 
 /// Writes the record of a core's run into a file, where one is named.
@@ -89,33 +85,4 @@ fn journals(alloc: Global, core: &Core<'_>) -> Result<Vec<Vec<Entry>>, AllocErro
         journals.push(Vec::from_slice(alloc, core.node(node).journal())?)?;
     }
     Ok(journals)
-}
-
-/// The record that a text is.
-pub fn record_in(alloc: Global, text: &[u8]) -> Result<Record, Failure>
-    ensures ok { IfOk result (λ kept. IsTextOf kept text.now) }
-    ensures refused { IfErr result (IsRecordRefusal (IsFaultyText text.now)) }
-{
-    match read_record(alloc, text) {
-        Ok(kept) => Ok(kept),
-        Err(RecordRefused::Broken { rule, line }) => {
-            Err(Failure::Record(record_line(alloc, rule, line)?))
-        }
-        Err(RecordRefused::OutOfMemory) => Err(Failure::OutOfMemory),
-    }
-}
-
-/// Judges the number of rewritten words that a record names: it is that of this code.
-pub fn judge_words(alloc: Global, kept: &Record, image: &Image) -> Result<(), Failure>
-    ensures ok { IfOk result (λ _. NamesOtherCode kept.now (length image.now) → ⊥) }
-    ensures refused { IfErr result
-        (IsRecordRefusal (IsOtherCode kept.now (length image.now))) }
-{
-    match check_code(kept, image) {
-        Ok(()) => Ok(()),
-        Err(RecordRefused::Broken { rule, line }) => {
-            Err(Failure::Record(record_line(alloc, rule, line)?))
-        }
-        Err(RecordRefused::OutOfMemory) => Err(Failure::OutOfMemory),
-    }
 }

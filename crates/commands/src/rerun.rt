@@ -1,22 +1,24 @@
 //! `replay`: the run of a record, made once more.
 
-ghost use Rattle.std.specs.Prelude.{◌≡◌, ℕ, IfOk, IfErr};
+ghost use Rattle.std.specs.Prelude.{◌≡◌, IfOk, IfErr};
 ghost use Rattle.dsm_core.specs.CoreParts.{outcome_of};
 ghost use Rattle.replay.specs.Replay.{IsReplay};
 ghost use Rattle.rewriting_law.specs.Bounds.{RunsRewritten};
 ghost use Rattle.run_record.specs.Record.{IsRecord};
 ghost use Rattle.commands.specs.Headline.{IsTextWith};
-ghost use Rattle.commands.specs.Failures.{Puts, IsRecordRefusal, IsReplayFailure, work_for};
-ghost use Rattle.commands.specs.Given.{bytes_of};
-ghost use Rattle.commands.specs.Replays.{IsBrokenRun, IsOutcomeOfReplay};
+ghost use Rattle.judged_files.specs.Failures.{Puts, IsRecordRefusal};
+ghost use Rattle.commands.specs.Failures.{IsReplayFailure};
+ghost use Rattle.judged_files.specs.Ready.{work_for};
+ghost use Rattle.judged_files.specs.Given.{bytes_of};
+ghost use Rattle.judged_files.specs.Replays.{IsBrokenRun, IsOutcomeOfReplay};
 
-use crate::failure::Failure;
-use crate::input::{Inputs, elf_of};
 use crate::outcome::put_told;
-use crate::prepare::{Prepared, prepare_replay};
-use crate::refusal::{Subject, event_line};
 use dsm_core::Outcome;
 use dsm_io::Sink;
+use judged_files::failure::Failure;
+use judged_files::input::{Inputs, elf_of};
+use judged_files::prepare::{Prepared, prepare_replay};
+use judged_files::refusal::{Subject, event_line};
 use replay::{ReplayRefused, replay};
 use run_record::Record;
 use std::alloc::Global;

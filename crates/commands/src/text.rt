@@ -1,14 +1,13 @@
 //! The texts that are printed.
 
-ghost use Rattle.std.specs.Prelude.{◌≡◌, ◌+◌, ◌++◌, ◌∷◌, [], ◌<◌, ◌≤◌, length, IfOk, OnOk};
-ghost use Rattle.std.specs.Fmt.{decimal};
+ghost use Rattle.std.specs.Prelude.{◌≡◌, ◌++◌, ◌∷◌, [], length, IfOk, OnOk};
 ghost use Rattle.commands.specs.Processors as lines;
 ghost use Rattle.commands.specs.Text as model;
+ghost use Rattle.judged_files.specs.Text.{hex8};
 
 use exec_map::{End, Exit};
-use itoa::Buffer;
+use judged_files::text::{push_address, push_count, push_number};
 use node_model::NodeCounts;
-use rv32_text::push_word;
 use std::alloc::{AllocError, Global};
 
 /// How the program is called.
@@ -17,7 +16,7 @@ pub const USAGE: &str = concat!(
     "       shasta list IN\n",
     "       shasta one IN [--nodes N] [--order K] [--budget B] [--layout FILE]\n",
     "       shasta sim IN [--nodes N] [--order K] [--budget B] [--layout FILE]",
-    " [--code FILE | --verify FILE] [--no-batch] [--brief]\n",
+    " [--code FILE | --verify FILE] [--no-batch] [--brief] [--loss L]\n",
     "       shasta run IN [--nodes N] [--record FILE] [--budget B] [--layout FILE]",
     " [--code FILE | --verify FILE] [--no-batch] [--brief]\n",
     "       shasta replay IN RECORD [--verify FILE] [--brief]\n",
@@ -107,7 +106,7 @@ fn push_exit(text: &mut Vec<u8>, exit: Exit) -> Result<(), AllocError>
 
 /// Appends a word and an address.
 fn push_place(text: &mut Vec<u8>, name: &[u8], address: u32) -> Result<(), AllocError>
-    ensures { OnOk result (text.new.items ≡ text.old.items ++ (name.now ++ lines.hex8 address)) }
+    ensures { OnOk result (text.new.items ≡ text.old.items ++ (name.now ++ hex8 address)) }
 {
     text.extend_from_slice(name)?;
     push_address(text, address)?;
@@ -146,31 +145,5 @@ fn push_counts(text: &mut Vec<u8>, counts: &NodeCounts) -> Result<(), AllocError
     push_count(text, b" invalidations ", counts.invalidations)?;
     push_count(text, b" fallbacks ", counts.fallbacks)?;
     push_count(text, b" messages ", counts.messages)?;
-    Ok(())
-}
-
-/// Appends a name and a number.
-pub fn push_count(text: &mut Vec<u8>, name: &[u8], count: u64) -> Result<(), AllocError>
-    ensures { OnOk result (text.new.items ≡ text.old.items ++ (name.now ++ decimal count)) }
-{
-    text.extend_from_slice(name)?;
-    push_number(text, count)?;
-    Ok(())
-}
-
-pub fn push_number(text: &mut Vec<u8>, n: u64) -> Result<(), AllocError>
-    ensures { OnOk result (text.new.items ≡ text.old.items ++ decimal n) }
-{
-    let mut buffer = Buffer::new();
-    text.extend_from_slice(buffer.format(n).as_bytes())?;
-    Ok(())
-}
-
-/// Appends an address: eight hexadecimal digits behind `0x`.
-pub fn push_address(text: &mut Vec<u8>, address: u32) -> Result<(), AllocError>
-    ensures { OnOk result (text.new.items ≡ text.old.items ++ lines.hex8 address) }
-{
-    text.extend_from_slice(b"0x")?;
-    push_word(text, address)?;
     Ok(())
 }

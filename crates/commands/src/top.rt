@@ -1,26 +1,26 @@
 //! The top call.
 
-ghost use Rattle.std.specs.Prelude.{◌≡◌, ◌≢◌, ◌≤◌, ◌⊎◌, ◌<◌, ℕ, List, Option, Some, length};
-ghost use Rattle.std.specs.Prelude.{Contains, IfOk, IfErr, MatchResult};
+ghost use Rattle.std.specs.Prelude.{◌≡◌, ◌≢◌, ◌≤◌, ◌⊎◌, ◌<◌, ℕ, List, Some, length, Contains, IfOk};
+ghost use Rattle.std.specs.Prelude.{IfErr, MatchResult};
 ghost use Rattle.command_line.specs.Commands.{Command as Asked, reads, writes};
 ghost use Rattle.command_line.specs.Asks.{Asks};
 ghost use Rattle.command_line.specs.Meaning.{meaning_of};
 ghost use Rattle.commands.specs.Headline.{IsText, Prints, PrintsPrefix};
 ghost use Rattle.commands.specs.Inputs.{AreTold, inputs_of};
 ghost use Rattle.commands.specs.Interleaved.{PrintsOriginal};
-ghost use Rattle.commands.specs.Given.{bytes_of};
-ghost use Rattle.commands.specs.Failures.{IsSuccess, IsFailure, IsPerformFailure, IsNoRefusal};
-ghost use Rattle.commands.specs.Failures.{Puts, AreKept};
+ghost use Rattle.judged_files.specs.Given.{bytes_of};
+ghost use Rattle.commands.specs.Failures.{IsSuccess, IsFailure, IsPerformFailure, AreKept};
+ghost use Rattle.judged_files.specs.Failures.{IsNoRefusal, Puts};
 ghost use Rattle.commands.specs.Refusals.{IsRefused, IsLayoutRefused, IsRecordRefused};
 ghost use Rattle.commands.specs.Refusals.{IsTextRefused};
-ghost use Rattle.commands.specs.Answers.{Tells, IsFault, IsRefusalStatus, file_limit};
-ghost use Rattle.commands.specs.Answers.{AreLeft, AreWritten};
-ghost use Rattle.commands.specs.Text.{usage, out_of_memory};
+ghost use Rattle.judged_files.specs.Answers.{Tells, file_limit};
+ghost use Rattle.commands.specs.Answers.{IsFault, IsRefusalStatus, AreLeft, AreWritten};
+ghost use Rattle.commands.specs.Text.{usage};
+ghost use Rattle.judged_files.specs.Text.{out_of_memory};
 
 use crate::assembly::assemble_into;
-use crate::failure::Failure;
 use crate::generate::generate_into;
-use crate::input::{Inputs, read_inputs};
+use crate::input::read_inputs;
 use crate::list::list;
 use crate::one::one;
 use crate::rerun::put_replay;
@@ -29,7 +29,10 @@ use crate::run::{RunOptions, run};
 use crate::sim::{SimOptions, sim};
 use crate::text::USAGE;
 use command_line::{Command, command_of};
-use dsm_io::{Files, Sink, SinkError, Text};
+use dsm_io::{Files, Sink, Text};
+use judged_files::failure::Failure;
+use judged_files::input::Inputs;
+use judged_files::output::{tell, tell_out_of_memory};
 use node_threads::Gate;
 use std::alloc::Global;
 use std::sync::Wait;
@@ -236,12 +239,14 @@ fn perform<R: Threads + Wait + Sync, F: Files, O: Sink, G: Gate + Sync>(
             order,
             budget,
             brief,
+            loss,
             ..
         } => {
             let options = SimOptions {
                 nodes: *nodes,
                 order: *order,
                 budget: *budget,
+                loss: *loss,
                 brief: *brief,
             };
             sim(alloc, inputs, options, out)
@@ -249,25 +254,5 @@ fn perform<R: Threads + Wait + Sync, F: Files, O: Sink, G: Gate + Sync>(
         Command::Replay { brief, .. } => put_replay(alloc, inputs, *brief, out),
         Command::Generate { number, output } => generate_into(alloc, *number, output, files),
         Command::Assemble { output, .. } => assemble_into(alloc, inputs.text, output, files),
-    }
-}
-
-/// Tells that the program is out of memory, and answers the status.
-pub fn tell_out_of_memory<E: Sink>(err: &mut E) -> u8
-    ensures value { result ≡ 5 }
-    ensures told { Tells (E.state err.old) (E.state err.new) out_of_memory }
-{
-    tell(err, b"shasta: out of memory\n");
-    5
-}
-
-/// Puts a line, and goes on whatever comes of it.
-fn tell<E: Sink>(err: &mut E, line: &[u8])
-    ensures { Tells (E.state err.old) (E.state err.new) line.now }
-{
-    match err.put(line) {
-        Ok(()) => {}
-        Err(SinkError::Failed) => {}
-        Err(SinkError::OutOfMemory) => {}
     }
 }

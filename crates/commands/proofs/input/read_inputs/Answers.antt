@@ -2,8 +2,10 @@ use Rattle.std.proofs.lemmas.Result.{err_from_is_err_and}
 use Rattle.std.proofs.Common.{◌≤◌, ◌≡◌, ◌∙◌, ℕ, List, option_map, arith, refl, subst}
 use Rattle.command_line.specs.Meaning.{meaning_of}
 use Rattle.dsm_io.specs.States.{FilesState}
-use Rattle.commands.specs.Inputs.{input_of, code_of, verified_of, layout_of, text_file_of, Inputs}
-use Rattle.commands.specs.Failures.{AreBytes, AreContents, AreRead, IsNamedFailure}
+use Rattle.commands.specs.Inputs.{input_of, code_of, verified_of, layout_of, text_file_of}
+use Rattle.judged_files.specs.Inputs.{Inputs}
+use Rattle.judged_files.specs.Failures.{AreBytes, AreContents, IsNamedFailure}
+use Rattle.commands.specs.Failures.{AreRead}
 use Rattle.commands.proofs.AnswerLemmas.{named_fails}
 use Rattle.commands.proofs.InputLemmas.{bytes_before, content_before, inputs_read, none_long, reads_input, reads_code, reads_verified, reads_layout, reads_text}
 use Rattle.commands.proofs.input.read_inputs.Goals as goal

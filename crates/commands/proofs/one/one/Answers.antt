@@ -6,14 +6,16 @@ use Rattle.rv32_step.specs.OneMemory.{Original}
 use Rattle.one_memory.specs.ByOrder.{IsRunByOrder}
 use Rattle.dsm_io.specs.States.{SinkState}
 use Rattle.node_model.specs.Outcome.{Outcome}
-use Rattle.commands.specs.Executables.{IsUnaccepted, IsUnread, IsRejection}
-use Rattle.commands.specs.declared.refusal.Subject.TheVariants.{Executable}
-use Rattle.commands.specs.Failures.{IsNever}
-use Rattle.commands.specs.Given.{bytes_of}
+use Rattle.judged_files.specs.Executables.{IsUnaccepted, IsUnread, IsRejection}
+use Rattle.judged_files.specs.declared.refusal.Subject.TheVariants.{Executable}
+use Rattle.judged_files.specs.Failures.{IsNever}
+use Rattle.judged_files.specs.Given.{bytes_of}
 use Rattle.commands.specs.Headline.{IsOutcomeByOrder, IsTextWith}
-use Rattle.commands.specs.Layouts.{IsLayoutFor}
-use Rattle.commands.specs.Refusals.{IsBadLayout, IsFaultyLayout}
-use Rattle.commands.proofs.Pieces.{never, outcome_put, outcome_fails, refused_first}
+use Rattle.judged_files.specs.Layouts.{IsLayoutFor}
+use Rattle.commands.specs.Refusals.{IsBadLayout}
+use Rattle.judged_files.specs.Refusals.{IsFaultyLayout}
+use Rattle.judged_files.proofs.Pieces.{never, refused_first}
+use Rattle.commands.proofs.Pieces.{outcome_put, outcome_fails}
 use Rattle.commands.proofs.one.one.Goals as goal
 
 pub returns-in_err-elf-clause-failure : goal.returns-in_err-elf-clause-failure

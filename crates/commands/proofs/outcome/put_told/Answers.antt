@@ -3,9 +3,10 @@ use Rattle.rv32_program.specs.declared.End.{End}
 use Rattle.node_model.specs.declared.NodeCounts.{NodeCounts}
 use Rattle.node_model.specs.Outcome.{Outcome}
 use Rattle.dsm_io.specs.States.{SinkState}
-use Rattle.commands.specs.declared.failure.Failure.{Failure}
+use Rattle.judged_files.specs.declared.failure.Failure.{Failure}
 use Rattle.commands.specs.Outcomes.{told}
-use Rattle.commands.specs.Failures.{FailsAs, IsTextOfOutcome, IsNever}
+use Rattle.judged_files.specs.Failures.{FailsAs, IsNever}
+use Rattle.commands.specs.Failures.{IsTextOfOutcome}
 use Rattle.dsm_core.specs.CoreParts.{outcome_of}
 use Rattle.commands.proofs.outcome.put_told.Goals as goal
 

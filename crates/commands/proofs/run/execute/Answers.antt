@@ -3,7 +3,7 @@ use Rattle.std.proofs.lemmas.Result.{err_from_is_err_and}
 use Rattle.command_line.specs.Meaning.{file_name}
 use Rattle.dsm_core.specs.CoreParts.{core_of, outcome_of, work_of}
 use Rattle.dsm_io.specs.States.{FilesState}
-use Rattle.commands.specs.Failures.{work_for}
+use Rattle.judged_files.specs.Ready.{work_for}
 use Rattle.commands.specs.Headline.{held_by}
 use Rattle.commands.proofs.Recorded.{is_made, own_outcome, own_recorded, wants_memory}
 use Rattle.commands.proofs.run.execute.Goals as goal

@@ -1,6 +1,6 @@
 use Rattle.std.proofs.Common.{◌≡◌, ◌∙◌}
 use Rattle.dsm_core.specs.CoreParts.{work_of}
-use Rattle.commands.specs.Failures.{work_for}
+use Rattle.judged_files.specs.Ready.{work_for}
 use Rattle.commands.proofs.AnswerLemmas.{ok_as}
 use Rattle.commands.proofs.run.raced_core.Goals as goal
 

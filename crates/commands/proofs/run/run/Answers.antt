@@ -5,16 +5,19 @@ use Rattle.dsm_core.specs.CoreParts.{outcome_of}
 use Rattle.node_model.specs.Outcome.{Outcome}
 use Rattle.dsm_io.specs.States.{SinkState, FilesState}
 use Rattle.commands.specs.Answers.{AreLeft, AreWritten}
-use Rattle.commands.specs.Executables.{IsUnread}
-use Rattle.commands.specs.declared.refusal.Subject.TheVariants.{Executable}
+use Rattle.judged_files.specs.Executables.{IsUnread}
+use Rattle.judged_files.specs.declared.refusal.Subject.TheVariants.{Executable}
 use Rattle.commands.specs.Headline.{IsText, IsOutcomeRecorded, held_by}
-use Rattle.commands.specs.Failures.{FailsAs, IsNever, IsOwnRecorded, IsPerformFailure, IsRecordFailure, IsTextOfOutcome, AreKept, work_for}
-use Rattle.commands.specs.Given.{bytes_of}
+use Rattle.judged_files.specs.Failures.{FailsAs, IsNever}
+use Rattle.commands.specs.Failures.{IsOwnRecorded, IsPerformFailure, IsRecordFailure, IsTextOfOutcome, AreKept}
+use Rattle.judged_files.specs.Ready.{work_for}
+use Rattle.judged_files.specs.Given.{bytes_of}
 use Rattle.commands.specs.Outcomes.{told}
-use Rattle.commands.specs.Refusals.{IsRunRefused, IsBadRunLayout}
+use Rattle.judged_files.specs.Refusals.{IsRunRefused, IsBadRunLayout}
 use Rattle.commands.specs.Runs.{asked_by}
 use Rattle.commands.proofs.AnswerLemmas.{err_as, ok_as, plain_fails, plain_failure}
-use Rattle.commands.proofs.Pieces.{never, outcome_put, outcome_fails, refused_first}
+use Rattle.judged_files.proofs.Pieces.{never, refused_first}
+use Rattle.commands.proofs.Pieces.{outcome_put, outcome_fails}
 use Rattle.commands.proofs.Recorded.{recorded, record_written, written_left, record_fails, names_record, record_left, record_kept, put_kept, always, always_err}
 use Rattle.commands.proofs.run.run.Goals as goal
 

@@ -1,8 +1,9 @@
 use Rattle.command_line.specs.Commands.{Assemble, Generate, Replay, Rewrite}
 use Rattle.command_line.specs.Meaning.{meaning_of, file_name}
 use Rattle.dsm_io.specs.States.{SinkState, FilesState}
-use Rattle.commands.specs.Failures.{IsAssemblyFailure, IsPerformFailure, IsReplayFailure, IsRewriteFailure, IsWriteFailure}
-use Rattle.commands.specs.Given.{bytes_of}
+use Rattle.commands.specs.Failures.{IsAssemblyFailure, IsPerformFailure, IsReplayFailure, IsRewriteFailure}
+use Rattle.judged_files.specs.Failures.{IsWriteFailure}
+use Rattle.judged_files.specs.Given.{bytes_of}
 use Rattle.commands.proofs.AnswerLemmas.{err_as, plain_failure, puts_nothing, rewrite_fails}
 use Rattle.commands.proofs.AssemblyLemmas.{assembles, assembly_fails}
 use Rattle.commands.proofs.GenerateLemmas.{generates, generate_fails}

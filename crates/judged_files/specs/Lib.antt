@@ -1,0 +1,12 @@
+pub mod Text
+pub mod Inputs
+pub mod Executables
+pub mod Code
+pub mod Layouts
+pub mod Refusals
+pub mod WholeRuns
+pub mod Replays
+pub mod Given
+pub mod Answers
+pub mod Failures
+pub mod Ready

@@ -1,0 +1,48 @@
+-- Parts of a run that are ready: what their own runs are.
+use Rattle.std.specs.Prelude.{ℕ, List}
+use Rattle.elf32_read.specs.Elf.{Elf}
+use Rattle.templates.specs.declared.plans.PlanEntry.{PlanEntry}
+use Rattle.node_model.specs.Node.{Work}
+use Rattle.node_model.specs.Core.{Core, IsOver}
+use Rattle.node_model.specs.Outcome.{Outcome, IsOutcomeOf}
+use Rattle.run_order.specs.OwnRun.{Stamped, StandsForOwnRun, run_of}
+use Rattle.run_record.specs.declared.Record.{Record as Kept}
+use Rattle.dsm_core.specs.CoreParts.{work_with}
+use Rattle.judged_files.specs.declared.prepare.Prepared.{Prepared}
+use Rattle.judged_files.specs.WholeRuns.{IsRunOfCode, IsRunOf}
+use Rattle.judged_files.specs.Code.{Choice, choice_of}
+use Rattle.judged_files.specs.Replays.{IsWorkOf}
+use Rattle.judged_files.specs.Inputs.{Inputs}
+
+-- what the nodes run by prepared parts
+abbrev pub work_for : Prepared → Work
+work_for p = work_with p.program p.rewritten.image p.layout p.budget
+
+-- a core of this work whose nodes are over and that stands for its own run, and the outcome of that
+pub record IsOwnOutcome (work : Work) (o : Outcome) : Type 0 where
+  pub core : Core
+  pub own : List Stamped
+  pub stands : StandsForOwnRun work core own
+  pub over : IsOver work core
+  pub outcome : IsOutcomeOf work (run_of own) o
+
+-- the own runs of cores of this work whose nodes are over are runs of the code of the executable in
+-- a file
+abbrev pub GivesCode : Choice → List ℕ → Elf → List PlanEntry → Work → Type 0
+GivesCode choice file elf plan work =
+    (core : Core) (own : List Stamped) (o : Outcome) → StandsForOwnRun work core own
+    → IsOver work core → IsOutcomeOf work (run_of own) o
+    → IsRunOfCode choice file elf plan work own o
+
+-- and runs of the inputs
+abbrev pub GivesRuns : Inputs → (nodes budget : ℕ) → Work → Type 0
+GivesRuns inputs nodes budget work =
+    (core : Core) (own : List Stamped) (o : Outcome) → StandsForOwnRun work core own
+    → IsOver work core → IsOutcomeOf work (run_of own) o → IsRunOf inputs nodes budget work own o
+
+-- the work is what the record asks to be run
+pub record IsReadyFor (inputs : Inputs) (kept : Kept) (work : Work) : Type 0 where
+  pub elf : Elf
+  pub plan : List PlanEntry
+  pub asked : IsWorkOf inputs kept elf plan work
+  pub gives : GivesCode (choice_of kept.batch inputs.verified) inputs.executable elf plan work

@@ -1,0 +1,158 @@
+-- The run of a record, made once more, and how a record is refused.
+use Rattle.std.specs.Prelude.{◌≡◌, ℕ, ◌⊎◌, List, map, length}
+use Rattle.elf32_read.specs.Elf.{Elf}
+use Rattle.exec_map.specs.Contents.{program_of, AreSharedRanges}
+use Rattle.block_layout.specs.declared.ranges.Lines.{Lines}
+use Rattle.block_layout.specs.declared.refused.Rule.{Rule}
+use Rattle.block_layout.specs.Layout.{Shape, IsValid}
+use Rattle.block_layout.specs.Text.{IsFirstBroken}
+use Rattle.templates.specs.declared.plans.PlanEntry.{PlanEntry}
+use Rattle.jump_map.specs.Image.{Cell}
+use Rattle.node_model.specs.Node.{Work}
+use Rattle.node_model.specs.Outcome.{Outcome}
+use Rattle.run_record.specs.declared.Record.{Record}
+use Rattle.run_record.specs.declared.refused.RecordRule.{RecordRule}
+use Rattle.run_record.specs.declared.refused.RecordRule.TheVariants as rules
+use Rattle.run_record.specs.Record.{IsRecord, NamesOtherCode}
+use Rattle.run_record.specs.Rules.{IsFirstFault}
+use Rattle.run_record.specs.Telling.{IsOfWords}
+use Rattle.run_record.specs.Text.{record_text}
+use Rattle.replay.specs.declared.refused.ReplayRule.{ReplayRule}
+use Rattle.replay.specs.Refusals as events
+use Rattle.replay.specs.Replay.{TellsWholeRun}
+use Rattle.replay.specs.Told.{Told, what_told}
+use Rattle.judged_files.specs.Code.{choice_of, IsRewritingOf, IsUnchosen}
+use Rattle.judged_files.specs.Executables.{IsProgramOf, IsUnaccepted}
+use Rattle.judged_files.specs.Inputs.{Inputs}
+use Rattle.judged_files.specs.WholeRuns.{IsRunOfCode}
+use Rattle.judged_files.specs.Text.{layout_line, record_line, event_line}
+
+-- the text is that of the record
+pub record IsTextOf (kept : Record) (text : List ℕ) : Type 0 where
+  pub text_is : text ≡ record_text kept
+  pub is_record : IsRecord kept
+  pub of_words : IsOfWords kept
+
+-- the text is that of no record: the line says which of its lines breaks a rule first, and which
+-- rule is the lowest
+pub record IsFaultyText (text line : List ℕ) : Type 0 where
+  pub rule : RecordRule
+  pub number : ℕ
+  pub fault : IsFirstFault text rule number
+  pub line_is : line ≡ record_line rule number
+
+-- the layout is that of the record's blocks over the executable's shared lines
+pub record IsLayoutOfBlocks (elf : Elf) (kept : Record) (layout : Shape) : Type 0 where
+  pub shared : List Lines
+  pub lines : AreSharedRanges elf shared
+  pub layout_is : layout ≡ record { shared = shared; named = kept.blocks; nodes = kept.nodes }
+
+-- one of the record's blocks breaks a rule of layouts of the executable's shared lines: the line
+-- says which block first, and which rule is the lowest
+pub record AreFaultyBlocks (elf : Elf) (kept : Record) (line : List ℕ) : Type 0 where
+  pub shared : List Lines
+  pub lines : AreSharedRanges elf shared
+  pub rule : Rule
+  pub number : ℕ
+  pub broken : IsFirstBroken kept.blocks shared kept.nodes rule number
+  pub line_is : line ≡ layout_line rule number
+
+-- the record names another number of rewritten words than this: the line says so, of the fifth line
+-- of the record's text
+pub record IsOtherCode (kept : Record) (words : ℕ) (line : List ℕ) : Type 0 where
+  pub other : NamesOtherCode kept words
+  pub line_is : line ≡ record_line rules.Code 5
+
+-- What a record asks to be run: the rewriting of the executable's program, by the program's plan
+-- or, where one is given, that of a verified file, of as many words as the record names, on the
+-- layout of the record's blocks, with the record's nodes and budget.
+pub record IsWorkOf (inputs : Inputs) (kept : Record) (elf : Elf) (plan : List PlanEntry)
+    (work : Work) : Type 0 where
+  pub text : IsTextOf kept inputs.text
+  pub rewritten :
+      IsRewritingOf (choice_of kept.batch inputs.verified) inputs.executable elf plan work.image
+  pub same_code : NamesOtherCode kept (length work.image) → ⊥
+  pub program : work.program ≡ program_of elf
+  pub laid_out : IsLayoutOfBlocks elf kept work.layout
+  pub valid : IsValid work.layout
+  pub limit : work.budget ≡ kept.budget
+
+-- the outcome of the run that the record tells of
+pub record IsOutcomeOfReplay (inputs : Inputs) (outcome : Outcome) : Type 0 where
+  pub kept : Record
+  pub elf : Elf
+  pub plan : List PlanEntry
+  pub work : Work
+  pub asked : IsWorkOf inputs kept elf plan work
+  pub told : List Told
+  pub tells : TellsWholeRun work kept told
+  pub of_code : IsRunOfCode (choice_of kept.batch inputs.verified) inputs.executable elf plan work
+      (map what_told told) outcome
+
+-- the record doesn't tell of a whole run: the line says which entry tells of the first event that
+-- breaks a rule, or which node's journal ends too early
+pub record IsBrokenRun (work : Work) (kept : Record) (line : List ℕ) : Type 0 where
+  pub rule : ReplayRule
+  pub node : ℕ
+  pub entry : ℕ
+  pub broken : events.IsFirstBroken work kept rule node entry
+      ⊎ events.IsUnfinished work kept rule node entry
+  pub line_is : line ≡ event_line rule node entry
+
+-- the executable is accepted and the text is that of a record, but there is no chosen rewriting,
+-- and this line says why
+pub record IsUnchosenReplay (inputs : Inputs) (line : List ℕ) : Type 0 where
+  pub elf : Elf
+  pub executable : IsProgramOf inputs.executable elf
+  pub kept : Record
+  pub text : IsTextOf kept inputs.text
+  pub unchosen : IsUnchosen (choice_of kept.batch inputs.verified) elf line
+
+-- the executable isn't accepted, or not rewritten, and this line says why
+abbrev pub IsReplayRefused : Inputs → List ℕ → Type 0
+IsReplayRefused inputs line = IsUnaccepted inputs.executable line ⊎ IsUnchosenReplay inputs line
+
+-- the text is that of a record and the executable has a rewriting of as many words as the record
+-- names, but the record's blocks are refused with this line
+pub record IsBadReplayLayout (inputs : Inputs) (line : List ℕ) : Type 0 where
+  pub kept : Record
+  pub text : IsTextOf kept inputs.text
+  pub elf : Elf
+  pub plan : List PlanEntry
+  pub image : List Cell
+  pub rewritten :
+      IsRewritingOf (choice_of kept.batch inputs.verified) inputs.executable elf plan image
+  pub same_code : NamesOtherCode kept (length image) → ⊥
+  pub faulty : AreFaultyBlocks elf kept line
+
+-- the executable is accepted, but the text is refused with this line
+pub record IsNoRecord (inputs : Inputs) (line : List ℕ) : Type 0 where
+  pub elf : Elf
+  pub executable : IsProgramOf inputs.executable elf
+  pub faulty : IsFaultyText inputs.text line
+
+-- the text is that of a record and the executable has a rewriting, but that has another number of
+-- words than the record names, which this line says
+pub record IsNoRecordOfCode (inputs : Inputs) (line : List ℕ) : Type 0 where
+  pub kept : Record
+  pub text : IsTextOf kept inputs.text
+  pub elf : Elf
+  pub plan : List PlanEntry
+  pub image : List Cell
+  pub rewritten :
+      IsRewritingOf (choice_of kept.batch inputs.verified) inputs.executable elf plan image
+  pub other : IsOtherCode kept (length image) line
+
+-- the record asks for a run, but its events are refused with this line
+pub record IsBrokenRecord (inputs : Inputs) (line : List ℕ) : Type 0 where
+  pub kept : Record
+  pub elf : Elf
+  pub plan : List PlanEntry
+  pub work : Work
+  pub asked : IsWorkOf inputs kept elf plan work
+  pub broken : IsBrokenRun work kept line
+
+-- the record is refused with this line: its text, the number of words that it names, or its events
+abbrev pub IsBadRecord : Inputs → List ℕ → Type 0
+IsBadRecord inputs line =
+    IsNoRecord inputs line ⊎ (IsNoRecordOfCode inputs line ⊎ IsBrokenRecord inputs line)

@@ -1,0 +1,13 @@
+#![tactic(auto)]
+//! Files that are read, judged and refused, whatever they are read for: executables and their
+//! rewritten code, layouts and records; and what is told of a failure.
+
+pub mod code;
+pub mod failure;
+pub mod input;
+pub mod layout;
+pub mod output;
+pub mod prepare;
+pub mod record;
+pub mod refusal;
+pub mod text;
