@@ -1,0 +1,251 @@
+-- What the answer of a view says of the whole.
+use Rattle.std.proofs.Common.{◌≡◌, ◌⊎◌, ℕ, ◌<◌, Bool, not, List, [], ◌∷◌, length, Option, Some, None, refl, sym, ap, ◌∙◌, subst, inl, inr, arith, get_or}
+use Rattle.std.specs.Prelude.{Contains, IfErr, IfSome, MatchOption, OnOk, Result, Ok, Err}
+use Rattle.command_line.specs.Views.{View, Help, Code, AsksView, meaning_of_view, reads}
+use Rattle.command_line.specs.declared.view.View.{View as OfCode}
+use Rattle.dsm_io.specs.Causes.{Appends}
+use Rattle.dsm_io.specs.States.{FilesState, SinkState}
+use Rattle.judged_files.specs.declared.failure.Failure.{Failure}
+use Rattle.judged_files.specs.declared.failure.Failure.TheVariants.{Input, NotWritten, Refused, Layout, Record, Text, Output, OutOfMemory}
+use Rattle.judged_files.specs.Answers.{file_limit}
+use Rattle.judged_files.specs.Code.{Planned, IsUnrewritten}
+use Rattle.judged_files.specs.Failures.{FailsAs, IsContent, IsNever, IsNoRefusal, IsPutFailure, IsReadFailure, Puts, line_of, status_of}
+use Rattle.judged_files.specs.Text.{out_of_memory}
+use Rattle.views.specs.Answers.{IsFault}
+use Rattle.views.specs.Failures.{IsFailure, IsSuccess, IsTextOfCode}
+use Rattle.views.specs.Headline.{AreTold, IsRefused, Prints, PrintsPrefix, usage}
+
+-- 1. What the words ask for, and where they ask for nothing
+
+pub asked_as : (words : List (List ℕ)) (r : Option OfCode) (x : OfCode) → r ≡ Some x
+    → MatchOption r ((v : View) → AsksView words v → ⊥) (λ v. AsksView words (meaning_of_view v))
+    → AsksView words (meaning_of_view x)
+asked_as words r x e h =
+    subst (λ o. MatchOption o ((v : View) → AsksView words v → ⊥) (λ v. AsksView words (meaning_of_view v))) e h
+
+pub none_as : (words : List (List ℕ)) (r : Option OfCode) → r ≡ None
+    → MatchOption r ((v : View) → AsksView words v → ⊥) (λ v. AsksView words (meaning_of_view v))
+    → (v : View) → AsksView words v → ⊥
+none_as words r e h =
+    subst (λ o. MatchOption o ((v : View) → AsksView words v → ⊥) (λ v. AsksView words (meaning_of_view v))) e h
+
+-- 2. The file that a view reads
+
+reads_file : (file : List ℕ) (no_batch : Bool) → Contains (reads (Code file no_batch)) file
+reads_file file no_batch = (0, omega arith, refl)
+
+pub reads_only : (file : List ℕ) (no_batch : Bool) (name : List ℕ)
+    → Contains (reads (Code file no_batch)) name → name ≡ file
+reads_only file no_batch name h =
+    let there : h.0 < length (file ∷ []) = h.1 in
+    let zero : h.0 ≡ 0 = omega (arith, there) in
+    sym (subst (λ k. get_or (file ∷ []) k name ≡ name) zero h.2)
+
+content_is : (o : Option (List ℕ)) (bytes content : List ℕ) → IsContent o bytes
+    → o ≡ Some content → bytes ≡ content
+content_is o bytes content h is =
+    subst (λ (x : Option (List ℕ)). IfSome x (λ c. bytes ≡ c)) is h.same
+
+-- what was read is what the file is told to have
+file_is : (file : List ℕ) (no_batch : Bool) (files : FilesState) (bytes : List ℕ)
+    (contents : List ℕ → List ℕ) → IsContent (files.held file) bytes
+    → AreTold (Code file no_batch) files contents → bytes ≡ contents file
+file_is file no_batch files bytes contents h told =
+    content_is (files.held file) bytes (contents file) h (told file (reads_file file no_batch))
+
+-- what was read isn't too long
+pub is_short : (file : List ℕ) (no_batch : Bool) (files : FilesState) (bytes name content : List ℕ)
+    → IsContent (files.held file) bytes → Contains (reads (Code file no_batch)) name
+    → files.held name ≡ Some content → file_limit < length content → ⊥
+is_short file no_batch files bytes name content h there is long =
+    let at : files.held file ≡ Some content =
+    ap files.held (sym (reads_only file no_batch name there)) ∙ is in
+    let same = ap length (content_is (files.held file) bytes content h at) in
+    let fits = h.fits in
+    omega (arith, same, fits, long)
+
+-- 3. How a view succeeds, and how it fails
+
+pub help_succeeds : (files : FilesState) (before now : SinkState) (text : List ℕ) → text ≡ usage
+    → Appends before.taken now.taken text → IsSuccess Help files before now
+help_succeeds files before now text is put = λ contents told. record { text = text; is = is; put = put }
+
+pub help_fails : (files files_now : FilesState) (before now : SinkState) (text : List ℕ) (f : Failure)
+    → text ≡ usage → IsPutFailure before now text f → IsFailure Help files files_now before now f
+help_fails files files_now before now text (Input line) is h = absurd h
+help_fails files files_now before now text (NotWritten line) is h = absurd h
+help_fails files files_now before now text (Refused line) is h = absurd h
+help_fails files files_now before now text (Layout line) is h = absurd h
+help_fails files files_now before now text (Record line) is h = absurd h
+help_fails files files_now before now text (Text line) is h = absurd h
+help_fails files files_now before now text Output is h =
+    (h.0, λ contents told. record { text = text; is = is; put = h.1 })
+help_fails files files_now before now text OutOfMemory is h = λ contents told. inl h
+
+pub code_succeeds : (file : List ℕ) (no_batch : Bool) (files : FilesState) (before now : SinkState)
+    (bytes : List ℕ) → IsContent (files.held file) bytes
+    → Puts (IsTextOfCode (not no_batch) bytes) 0 before now
+    → IsSuccess (Code file no_batch) files before now
+code_succeeds file no_batch files before now bytes h puts = λ contents told. record {
+  text = puts.0;
+  is = subst (λ b. IsTextOfCode (not no_batch) b puts.0 0)
+      (file_is file no_batch files bytes contents h told) puts.1;
+  put = puts.2;
+}
+
+pub code_fails : (file : List ℕ) (no_batch : Bool) (files files_now : FilesState) (before now : SinkState)
+    (bytes : List ℕ) (f : Failure) → IsContent (files.held file) bytes
+    → FailsAs (IsTextOfCode (not no_batch) bytes) (IsUnrewritten (Planned (not no_batch)) bytes) IsNever before now f
+    → IsFailure (Code file no_batch) files files_now before now f
+code_fails file no_batch files files_now before now bytes (Input line) h failed = absurd failed
+code_fails file no_batch files files_now before now bytes (NotWritten line) h failed = failed
+code_fails file no_batch files files_now before now bytes (Refused line) h failed = (
+  failed.1,
+  λ contents told. subst (λ b. IsUnrewritten (Planned (not no_batch)) b line.items)
+      (file_is file no_batch files bytes contents h told) failed.0,
+)
+code_fails file no_batch files files_now before now bytes (Layout line) h failed = failed.0
+code_fails file no_batch files files_now before now bytes (Record line) h failed = failed
+code_fails file no_batch files files_now before now bytes (Text line) h failed = failed
+code_fails file no_batch files files_now before now bytes Output h failed = (
+  failed.0,
+  λ contents told. record {
+    text = failed.1.0;
+    is = subst (λ b. IsTextOfCode (not no_batch) b failed.1.0 0)
+        (file_is file no_batch files bytes contents h told) failed.1.2;
+    put = failed.1.3;
+  },
+)
+code_fails file no_batch files files_now before now bytes OutOfMemory h failed = λ contents told. elim failed [
+  | inl same ↦ inl same
+  | inr part ↦ inr (record {
+    text = part.0;
+    is = subst (λ b. IsTextOfCode (not no_batch) b part.0 0)
+        (file_is file no_batch files bytes contents h told) part.2;
+    put = part.3;
+  })
+]
+
+pub read_fails : (file : List ℕ) (no_batch : Bool) (files files_now : FilesState) (state : SinkState)
+    (f : Failure) → IsReadFailure files files_now file f
+    → IsFailure (Code file no_batch) files files_now state state f
+read_fails file no_batch files files_now state (Input line) h =
+    (refl, (file, reads_file file no_batch, h))
+read_fails file no_batch files files_now state (NotWritten line) h = h
+read_fails file no_batch files files_now state (Refused line) h = absurd h
+read_fails file no_batch files files_now state (Layout line) h = h
+read_fails file no_batch files files_now state (Record line) h = h
+read_fails file no_batch files files_now state (Text line) h = h
+read_fails file no_batch files files_now state Output h = absurd h
+read_fails file no_batch files files_now state OutOfMemory h = λ contents told. inl refl
+
+pub no_refusal : (files files_now : FilesState) (name : List ℕ) (f : Failure)
+    → IsReadFailure files files_now name f → IsNoRefusal f
+no_refusal files files_now name (Input line) h = inl refl
+no_refusal files files_now name (NotWritten line) h = absurd h
+no_refusal files files_now name (Refused line) h = absurd h
+no_refusal files files_now name (Layout line) h = absurd h
+no_refusal files files_now name (Record line) h = absurd h
+no_refusal files files_now name (Text line) h = absurd h
+no_refusal files files_now name Output h = absurd h
+no_refusal files files_now name OutOfMemory h = inr refl
+
+-- 4. What the status of a failure says
+
+abbrev IsFailing : ℕ → Type 0
+IsFailing status = (status ≡ 3) ⊎ ((status ≡ 4) ⊎ (status ≡ 5))
+
+pub failing : (v : View) (files files_now : FilesState) (before now : SinkState) (f : Failure)
+    → IsFailure v files files_now before now f → IsFailing (status_of f)
+failing v files files_now before now (Input line) h = inl refl
+failing v files files_now before now (NotWritten line) h = absurd h
+failing v files files_now before now (Refused line) h = inr (inl refl)
+failing v files files_now before now (Layout line) h = absurd h
+failing v files files_now before now (Record line) h = absurd h
+failing v files files_now before now (Text line) h = absurd h
+failing v files files_now before now Output h = inl refl
+failing v files files_now before now OutOfMemory h = inr (inr refl)
+
+pub fault_of : (v : View) (files files_now : FilesState) (before now : SinkState) (f : Failure)
+    (Told : List ℕ → Type 0) → IsFailure v files files_now before now f → Told (line_of f)
+    → status_of f ≡ 3 → IsFault v files files_now before now Told
+fault_of v files files_now before now (Input line) Told h told three =
+    let fault = h.1 in
+    inl (
+      h.0,
+      (
+        fault.0,
+        fault.1,
+        elim fault.2 [
+          | inl failed ↦ inl (failed.0, subst Told failed.1 told)
+          | inr long ↦ inr (long.0, subst Told long.1 told)
+        ],
+      ),
+    )
+fault_of v files files_now before now (NotWritten line) Told h told three = absurd h
+fault_of v files files_now before now (Refused line) Told h told three = absurd (omega (arith, three))
+fault_of v files files_now before now (Layout line) Told h told three = absurd h
+fault_of v files files_now before now (Record line) Told h told three = absurd h
+fault_of v files files_now before now (Text line) Told h told three = absurd h
+fault_of v files files_now before now Output Told h told three = inr (h, told)
+fault_of v files files_now before now OutOfMemory Told h told three = absurd (omega (arith, three))
+
+pub refusal_of : (v : View) (files files_now : FilesState) (before now : SinkState) (f : Failure)
+    (Told : List ℕ → Type 0) → IsFailure v files files_now before now f → Told (line_of f)
+    → status_of f ≡ 4 → (contents : List ℕ → List ℕ) → AreTold v files contents
+    → (line : List ℕ) × IsRefused v contents line × Told line
+refusal_of v files files_now before now (Input line) Told h told four contents known = absurd (omega (arith, four))
+refusal_of v files files_now before now (NotWritten line) Told h told four contents known = absurd h
+refusal_of v files files_now before now (Refused line) Told h told four contents known =
+    (line.items, h.1 contents known, told)
+refusal_of v files files_now before now (Layout line) Told h told four contents known = absurd h
+refusal_of v files files_now before now (Record line) Told h told four contents known = absurd h
+refusal_of v files files_now before now (Text line) Told h told four contents known = absurd h
+refusal_of v files files_now before now Output Told h told four contents known = absurd (omega (arith, four))
+refusal_of v files files_now before now OutOfMemory Told h told four contents known = absurd (omega (arith, four))
+
+pub nothing_of : (v : View) (files files_now : FilesState) (before now : SinkState) (f : Failure)
+    → IsFailure v files files_now before now f → (status_of f ≡ 2) ⊎ (status_of f ≡ 4)
+    → now.taken ≡ before.taken
+nothing_of v files files_now before now (Input line) h s = h.0
+nothing_of v files files_now before now (NotWritten line) h s = absurd h
+nothing_of v files files_now before now (Refused line) h s = h.0
+nothing_of v files files_now before now (Layout line) h s = absurd h
+nothing_of v files files_now before now (Record line) h s = absurd h
+nothing_of v files files_now before now (Text line) h s = absurd h
+nothing_of v files files_now before now Output h s = absurd (omega (arith, s))
+nothing_of v files files_now before now OutOfMemory h s = absurd (omega (arith, s))
+
+pub prefix_of_failure : (v : View) (files files_now : FilesState) (before now : SinkState) (f : Failure)
+    → IsFailure v files files_now before now f → status_of f ≡ 5
+    → (contents : List ℕ → List ℕ) → AreTold v files contents
+    → (now.taken ≡ before.taken) ⊎ PrintsPrefix v contents before now
+prefix_of_failure v files files_now before now (Input line) h five contents told = absurd (omega (arith, five))
+prefix_of_failure v files files_now before now (NotWritten line) h five contents told = absurd h
+prefix_of_failure v files files_now before now (Refused line) h five contents told = absurd (omega (arith, five))
+prefix_of_failure v files files_now before now (Layout line) h five contents told = absurd h
+prefix_of_failure v files files_now before now (Record line) h five contents told = absurd h
+prefix_of_failure v files files_now before now (Text line) h five contents told = absurd h
+prefix_of_failure v files files_now before now Output h five contents told = absurd (omega (arith, five))
+prefix_of_failure v files files_now before now OutOfMemory h five contents told = h contents told
+
+pub line_five : (f : Failure) → status_of f ≡ 5 → line_of f ≡ out_of_memory
+line_five (Input line) five = absurd (omega (arith, five))
+line_five (NotWritten line) five = absurd (omega (arith, five))
+line_five (Refused line) five = absurd (omega (arith, five))
+line_five (Layout line) five = absurd (omega (arith, five))
+line_five (Record line) five = absurd (omega (arith, five))
+line_five (Text line) five = absurd (omega (arith, five))
+line_five Output five = absurd (omega (arith, five))
+line_five OutOfMemory five = refl
+
+-- 5. What follows in one arm of a result
+
+pub on_ok_as : {T E : Type 0} (P Q : Type 0) (r : Result T E) → (P → Q) → OnOk r P → OnOk r Q
+on_ok_as P Q (Ok x) f h = f h
+on_ok_as P Q (Err e) f h = tt
+
+pub err_as : {T E : Type 0} (P Q : E → Type 0) (r : Result T E) → ((e : E) → P e → Q e)
+    → IfErr r P → IfErr r Q
+err_as P Q (Ok x) f h = tt
+err_as P Q (Err e) f h = f e h

@@ -1,0 +1,1 @@
+use Rattle.views.proofs.code.put_code.Goals as goal

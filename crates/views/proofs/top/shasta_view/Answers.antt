@@ -1,0 +1,134 @@
+use Rattle.std.proofs.Common.{◌≡◌, ◌⊎◌, ℕ, List, sym, ◌∙◌, subst, inl, inr, rules}
+use Rattle.std.specs.Prelude.{Contains}
+use Rattle.command_line.specs.Views.{meaning_of_view, reads}
+use Rattle.dsm_io.specs.States.{SinkState, FilesState}
+use Rattle.judged_files.specs.Answers.{Tells}
+use Rattle.judged_files.specs.Failures.{line_of}
+use Rattle.views.specs.Failures.{IsFailure, IsSuccess}
+use Rattle.views.specs.Headline.{usage}
+use Rattle.views.proofs.Viewed.{asked_as, failing, fault_of, line_five, none_as, nothing_of, prefix_of_failure, refusal_of}
+use Rattle.views.proofs.top.shasta_view.Goals as goal
+
+pub returns-in-Ok-None-clause-usage : goal.returns-in-Ok-None-clause-usage
+unfolding usage
+returns-in-Ok-None-clause-usage g c = λ two.
+    let before : SinkState = g.E.Sink.state c.args.err.now in
+    let now : SinkState = g.E.Sink.state c.tell.new.err in
+    subst (Tells before now) c.as_bytes.ensures.value c.tell.ensures
+
+pub returns-in-Ok-None-clause-longer : goal.returns-in-Ok-None-clause-longer
+returns-in-Ok-None-clause-longer g c = λ v name content asks among holds long.
+    absurd (none_as c.args.words.now _ (search rules) c.in-Ok-None.ensures.asks v asks)
+
+pub returns-in-Ok-clause-prints : goal.returns-in-Ok-clause-prints
+returns-in-Ok-clause-prints g c = λ v contents asks told zero.
+    let own = meaning_of_view c.in-Ok-Some.view in
+    let same : own ≡ v = c.in-Ok-Some.ensures.only own v
+    (asked_as c.args.words.now _ c.in-Ok-Some.view (search rules) c.in-Ok-Some.ensures.asks) asks in
+    let before : SinkState = g.O.Sink.state c.args.out.now in
+    let now : SinkState = g.O.Sink.state c.answer.new.out in
+    let files : FilesState = g.F.Files.state c.args.files.now in
+    let success : IsSuccess v files before now =
+    subst (λ x. IsSuccess x files before now) same c.in-Ok.ensures.ok in
+    success contents told
+
+pub returns-in-Ok-clause-longer : goal.returns-in-Ok-clause-longer
+returns-in-Ok-clause-longer g c = λ v name content asks among holds long.
+    let own = meaning_of_view c.in-Ok-Some.view in
+    let same : own ≡ v = c.in-Ok-Some.ensures.only own v
+    (asked_as c.args.words.now _ c.in-Ok-Some.view (search rules) c.in-Ok-Some.ensures.asks) asks in
+    absurd (c.in-Ok.ensures.longer name content
+    (subst (λ x. Contains (reads x) name) (sym same) among) holds long)
+
+pub returns-in-Err-answer-clause-refused : goal.returns-in-Err-answer-clause-refused
+returns-in-Err-answer-clause-refused g c = λ v contents asks known four.
+    let own = meaning_of_view c.in-Ok-Some.view in
+    let same : own ≡ v = c.in-Ok-Some.ensures.only own v
+    (asked_as c.args.words.now _ c.in-Ok-Some.view (search rules) c.in-Ok-Some.ensures.asks) asks in
+    let before : SinkState = g.O.Sink.state c.args.out.now in
+    let now : SinkState = g.O.Sink.state c.answer.new.out in
+    let files : FilesState = g.F.Files.state c.args.files.now in
+    let files_now : FilesState = g.F.Files.state c.answer.new.files in
+    let failure : IsFailure v files files_now before now c.in-Err-answer.failure =
+    subst (λ x. IsFailure x files files_now before now c.in-Err-answer.failure) same c.in-Err-answer.ensures.failure in
+    let err_before : SinkState = g.E.Sink.state c.args.err.now in
+    let err_now : SinkState = g.E.Sink.state c.tell-in-Err-answer.new.err in
+    let told : Tells err_before err_now (line_of c.in-Err-answer.failure) =
+    subst (Tells err_before err_now) c.line.ensures.value c.tell-in-Err-answer.ensures in
+    refusal_of v files files_now before now c.in-Err-answer.failure (Tells err_before err_now) failure told
+    (sym c.status.ensures.value ∙ four) contents known
+
+pub returns-in-Err-answer-clause-fault : goal.returns-in-Err-answer-clause-fault
+returns-in-Err-answer-clause-fault g c = λ v asks three.
+    let own = meaning_of_view c.in-Ok-Some.view in
+    let same : own ≡ v = c.in-Ok-Some.ensures.only own v
+    (asked_as c.args.words.now _ c.in-Ok-Some.view (search rules) c.in-Ok-Some.ensures.asks) asks in
+    let before : SinkState = g.O.Sink.state c.args.out.now in
+    let now : SinkState = g.O.Sink.state c.answer.new.out in
+    let files : FilesState = g.F.Files.state c.args.files.now in
+    let files_now : FilesState = g.F.Files.state c.answer.new.files in
+    let failure : IsFailure v files files_now before now c.in-Err-answer.failure =
+    subst (λ x. IsFailure x files files_now before now c.in-Err-answer.failure) same c.in-Err-answer.ensures.failure in
+    let err_before : SinkState = g.E.Sink.state c.args.err.now in
+    let err_now : SinkState = g.E.Sink.state c.tell-in-Err-answer.new.err in
+    let told : Tells err_before err_now (line_of c.in-Err-answer.failure) =
+    subst (Tells err_before err_now) c.line.ensures.value c.tell-in-Err-answer.ensures in
+    fault_of v files files_now before now c.in-Err-answer.failure (Tells err_before err_now) failure told
+    (sym c.status.ensures.value ∙ three)
+
+pub returns-in-Err-answer-clause-longer : goal.returns-in-Err-answer-clause-longer
+returns-in-Err-answer-clause-longer g c = λ v name content asks among holds long.
+    let own = meaning_of_view c.in-Ok-Some.view in
+    let same : own ≡ v = c.in-Ok-Some.ensures.only own v
+    (asked_as c.args.words.now _ c.in-Ok-Some.view (search rules) c.in-Ok-Some.ensures.asks) asks in
+    let status = c.status.ensures.value in
+    elim (c.in-Err-answer.ensures.longer name content
+    (subst (λ x. Contains (reads x) name) (sym same) among) holds long) [
+      | inl three ↦ inl (status ∙ three)
+      | inr five ↦ inr (status ∙ five)
+    ]
+
+pub returns-in-Err-answer-clause-prefix : goal.returns-in-Err-answer-clause-prefix
+returns-in-Err-answer-clause-prefix g c = λ v contents asks known five.
+    let own = meaning_of_view c.in-Ok-Some.view in
+    let same : own ≡ v = c.in-Ok-Some.ensures.only own v
+    (asked_as c.args.words.now _ c.in-Ok-Some.view (search rules) c.in-Ok-Some.ensures.asks) asks in
+    let before : SinkState = g.O.Sink.state c.args.out.now in
+    let now : SinkState = g.O.Sink.state c.answer.new.out in
+    let files : FilesState = g.F.Files.state c.args.files.now in
+    let files_now : FilesState = g.F.Files.state c.answer.new.files in
+    let failure : IsFailure v files files_now before now c.in-Err-answer.failure =
+    subst (λ x. IsFailure x files files_now before now c.in-Err-answer.failure) same c.in-Err-answer.ensures.failure in
+    prefix_of_failure v files files_now before now c.in-Err-answer.failure failure
+    (sym c.status.ensures.value ∙ five) contents known
+
+pub returns-in-Err-answer-clause-nothing : goal.returns-in-Err-answer-clause-nothing
+returns-in-Err-answer-clause-nothing g c = λ s.
+    let before : SinkState = g.O.Sink.state c.args.out.now in
+    let now : SinkState = g.O.Sink.state c.answer.new.out in
+    let files : FilesState = g.F.Files.state c.args.files.now in
+    let files_now : FilesState = g.F.Files.state c.answer.new.files in
+    nothing_of (meaning_of_view c.in-Ok-Some.view) files files_now before now c.in-Err-answer.failure
+    c.in-Err-answer.ensures.failure (subst (λ n. (n ≡ 2) ⊎ (n ≡ 4)) c.status.ensures.value s)
+
+pub returns-in-Err-answer-clause-wanted : goal.returns-in-Err-answer-clause-wanted
+returns-in-Err-answer-clause-wanted g c = λ five.
+    let err_before : SinkState = g.E.Sink.state c.args.err.now in
+    let err_now : SinkState = g.E.Sink.state c.tell-in-Err-answer.new.err in
+    subst (Tells err_before err_now)
+    (c.line.ensures.value ∙ line_five c.in-Err-answer.failure (sym c.status.ensures.value ∙ five))
+    c.tell-in-Err-answer.ensures
+
+pub returns-in-Err-answer-clause-range : goal.returns-in-Err-answer-clause-range
+returns-in-Err-answer-clause-range g c =
+    let before : SinkState = g.O.Sink.state c.args.out.now in
+    let now : SinkState = g.O.Sink.state c.answer.new.out in
+    let files : FilesState = g.F.Files.state c.args.files.now in
+    let files_now : FilesState = g.F.Files.state c.answer.new.files in
+    let status = c.status.ensures.value in
+    elim (failing (meaning_of_view c.in-Ok-Some.view) files files_now before now c.in-Err-answer.failure
+    c.in-Err-answer.ensures.failure) [
+      | inl three ↦ inr (inr (inl (status ∙ three)))
+      | inr (inl four) ↦ inr (inr (inr (inl (status ∙ four))))
+      | inr (inr five) ↦ inr (inr (inr (inr (status ∙ five))))
+    ]

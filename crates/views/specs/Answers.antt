@@ -1,0 +1,30 @@
+-- Why the viewer answers a fault.
+use Rattle.std.specs.Prelude.{◌≡◌, ℕ, ◌⊎◌, List, Contains}
+use Rattle.dsm_io.specs.Causes.{Rose}
+use Rattle.dsm_io.specs.States.{FilesState, SinkState}
+use Rattle.command_line.specs.Views.{View, reads}
+use Rattle.judged_files.specs.Answers.{IsTooLong}
+use Rattle.judged_files.specs.Text.{cannot_read, too_long, cannot_write_output}
+use Rattle.views.specs.Headline.{AreTold, PrintsPrefix}
+
+-- a file that the view reads couldn't be read, or is too long, and the line says so
+abbrev pub IsReadFault : View → FilesState → FilesState → (List ℕ → Type 0) → Type 0
+IsReadFault view before now Told =
+    (name : List ℕ) × Contains (reads view) name
+    × ((Rose (before.failed_reads name) (now.failed_reads name) × Told (cannot_read name))
+    ⊎ (IsTooLong before now name × Told (too_long name)))
+
+-- the output failed where a text that the view asks for was being put
+abbrev pub IsPutFault : View → FilesState → SinkState → SinkState → Type 0
+IsPutFault view files before now =
+    Rose before.faults now.faults
+    × ((contents : List ℕ → List ℕ) → AreTold view files contents
+    → PrintsPrefix view contents before now)
+
+-- why a view answers a fault, and the line that is told: its file failed, and nothing was put; or
+-- the output failed
+abbrev pub IsFault : View → FilesState → FilesState → SinkState → SinkState → (List ℕ → Type 0)
+    → Type 0
+IsFault view before now out_before out Told =
+    ((out.taken ≡ out_before.taken) × IsReadFault view before now Told)
+    ⊎ (IsPutFault view before out_before out × Told cannot_write_output)

@@ -1,0 +1,54 @@
+-- What the viewer promises of each view.
+use Rattle.std.specs.Prelude.{◌≡◌, ℕ, Bool, not, List, ◌++◌, Some, Contains, codes}
+use Rattle.elf32_read.specs.Elf.{Elf}
+use Rattle.templates.specs.declared.plans.PlanEntry.{PlanEntry}
+use Rattle.jump_map.specs.Image.{Cell}
+use Rattle.code_view.specs.Code.{code_text}
+use Rattle.dsm_io.specs.Causes.{Appends, AppendsPrefix}
+use Rattle.dsm_io.specs.States.{FilesState, SinkState}
+use Rattle.command_line.specs.Views.{View, Help, Code, reads}
+use Rattle.judged_files.specs.Code.{Planned, IsRewritingOf, IsUnrewritten}
+
+-- how the viewer is called
+unfoldable pub usage : List ℕ
+usage =
+    codes "usage: shasta_view code IN [--no-batch]\n" ++ codes "       shasta_view --help\n"
+
+-- the text of the rewritten code of the executable in a file, by the program's plan, with batches
+-- or without
+pub record IsCodeText (batches : Bool) (file text : List ℕ) : Type 0 where
+  pub elf : Elf
+  pub plan : List PlanEntry
+  pub image : List Cell
+  pub rewritten : IsRewritingOf (Planned batches) file elf plan image
+  pub text_is : text ≡ code_text elf plan image
+
+-- the text of a view, where files have these contents
+abbrev pub IsText : View → (List ℕ → List ℕ) → List ℕ → Type 0
+IsText Help contents text = text ≡ usage
+IsText (Code file no_batch) contents text = IsCodeText (not no_batch) (contents file) text
+
+-- the executable of a view is refused with this line
+abbrev pub IsRefused : View → (List ℕ → List ℕ) → List ℕ → Type 0
+IsRefused Help contents line = ⊥
+IsRefused (Code file no_batch) contents line =
+    IsUnrewritten (Planned (not no_batch)) (contents file) line
+
+-- each file that a view reads is told to have its content
+abbrev pub AreTold : View → FilesState → (List ℕ → List ℕ) → Type 0
+AreTold view files contents =
+    (name : List ℕ) → Contains (reads view) name → files.held name ≡ Some (contents name)
+
+-- the whole text was put
+pub record Prints (view : View) (contents : List ℕ → List ℕ) (before now : SinkState) : Type 0
+  where
+    pub text : List ℕ
+    pub is : IsText view contents text
+    pub put : Appends before.taken now.taken text
+
+-- a prefix of the text was put
+pub record PrintsPrefix (view : View) (contents : List ℕ → List ℕ) (before now : SinkState) : Type 0
+  where
+    pub text : List ℕ
+    pub is : IsText view contents text
+    pub put : AppendsPrefix before.taken now.taken text

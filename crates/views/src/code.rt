@@ -1,0 +1,90 @@
+//! `code`: the rewritten code of an executable, as a text.
+
+ghost use Rattle.std.specs.Prelude.{◌≡◌, IfErr, OnOk};
+ghost use Rattle.dsm_io.specs.Causes.{Appends};
+ghost use Rattle.judged_files.specs.Code.{Planned, IsUnrewritten};
+ghost use Rattle.judged_files.specs.Failures.{FailsAs, IsLike, IsNever, Puts};
+ghost use Rattle.code_view.specs.Code.{IsShown, code_text};
+ghost use Rattle.exec_map.specs.Contents.{program_of};
+ghost use Rattle.jump_map.specs.Image.{IsRewriting};
+ghost use Rattle.views.specs.Failures.{IsTextOfCode, shown_text};
+
+use code_view::CodeView;
+use dsm_io::Sink;
+use exec_map::Program;
+use flow_graph::Graph;
+use judged_files::code::planned_rewriting;
+use judged_files::failure::Failure;
+use judged_files::input::{elf_of, program_of};
+use judged_files::output::put;
+use judged_files::refusal::Subject;
+use rewriter::Rewritten;
+use std::alloc::Global;
+
+/// The text is put in pieces of about so many bytes.
+const PIECE: usize = 0x1_0000;
+
+/// Puts the text of the rewritten code of the executable in a file, with batches or without.
+pub(crate) fn put_code<O: Sink>(
+    alloc: Global,
+    file: &[u8],
+    batches: bool,
+    out: &mut O,
+) -> Result<(), Failure>
+    ensures ok { OnOk result
+        (Puts (IsTextOfCode batches file.now) 0 (O.state out.old) (O.state out.new)) }
+    ensures failure { IfErr result (FailsAs (IsTextOfCode batches file.now)
+        (IsUnrewritten (Planned batches) file.now) IsNever (O.state out.old) (O.state out.new)) }
+{
+    let elf = elf_of(alloc, Subject::Executable, file)?;
+    let program = program_of(alloc, &elf)?;
+    let rewritten = planned_rewriting(alloc, &program, batches)?;
+    put_rewritten(alloc, &program, &rewritten, out)
+}
+
+/// Puts the text of a program's rewritten code.
+fn put_rewritten<O: Sink>(
+    alloc: Global,
+    program: &Program<'_>,
+    rewritten: &Rewritten,
+    out: &mut O,
+) -> Result<(), Failure>
+    requires rewriting { IsRewriting (program_of program.now) rewritten.now.plan
+        rewritten.now.image }
+    ensures ok { OnOk result (Appends (O.state out.old).taken (O.state out.new).taken
+        (code_text program.now rewritten.now.plan rewritten.now.image)) }
+    ensures failure { IfErr result (FailsAs
+        (IsLike (code_text program.now rewritten.now.plan rewritten.now.image)) IsNever IsNever
+        (O.state out.old) (O.state out.new)) }
+{
+    let graph = Graph::of(alloc, program)?;
+    let view = CodeView {
+        program,
+        code: graph.code(),
+        plan: rewritten.plan(),
+        image: rewritten.image(),
+    };
+    put_entries(alloc, &view, out)
+}
+
+/// Puts the text of rewritten code, an entry of the plan at a time.
+fn put_entries<O: Sink>(alloc: Global, view: &CodeView<'_>, out: &mut O) -> Result<(), Failure>
+    requires shown { IsShown view.now }
+    ensures ok { OnOk result
+        (Appends (O.state out.old).taken (O.state out.new).taken (shown_text view.now)) }
+    ensures failure { IfErr result (FailsAs (IsLike (shown_text view.now)) IsNever IsNever
+        (O.state out.old) (O.state out.new)) }
+{
+    let mut lines = Vec::new(alloc);
+    view.push_head(alloc, &mut lines)?;
+    let mut number = 1;
+    for entry in view.plan.entries() {
+        number = view.push_entry(alloc, entry, number, &mut lines)?;
+        if lines.len() >= PIECE {
+            put(out, &lines)?;
+            lines.clear();
+        }
+    }
+    put(out, &lines)?;
+    Ok(())
+}

@@ -1,0 +1,10 @@
+#![tactic(auto)]
+//! The commands of the viewer, and its top call, [`shasta_view`], which shows what the words ask
+//! for.
+
+mod code;
+mod text;
+mod top;
+
+pub use judged_files::output::tell_out_of_memory;
+pub use top::shasta_view;

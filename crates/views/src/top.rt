@@ -1,0 +1,116 @@
+//! The top call.
+
+ghost use Rattle.std.specs.Prelude.{◌≡◌, ◌≢◌, ◌≤◌, ◌⊎◌, ◌<◌, ℕ, List, Some, length, Contains};
+ghost use Rattle.std.specs.Prelude.{IfErr, OnOk, MatchResult};
+ghost use Rattle.command_line.specs.Views.{View as Asked, AsksView, meaning_of_view, reads};
+ghost use Rattle.judged_files.specs.Answers.{Tells, file_limit};
+ghost use Rattle.judged_files.specs.Failures.{IsNoRefusal};
+ghost use Rattle.judged_files.specs.Text.{out_of_memory};
+ghost use Rattle.views.specs.Headline.{AreTold, IsRefused, Prints, PrintsPrefix, usage};
+ghost use Rattle.views.specs.Answers.{IsFault};
+ghost use Rattle.views.specs.Failures.{IsFailure, IsSuccess};
+
+use crate::code::put_code;
+use crate::text::USAGE;
+use command_line::{View, view_of};
+use dsm_io::{Files, Sink, Text};
+use judged_files::failure::Failure;
+use judged_files::input::read_file;
+use judged_files::output::{put, tell, tell_out_of_memory};
+use std::alloc::Global;
+
+/// Shows what the words ask for, and answers the status: 0 where the whole text was put; 2 for a
+/// faulty command line; 3 where a file or the output failed; 4 where the executable is refused; 5
+/// where it was out of memory.
+pub fn shasta_view<F: Files, O: Sink, E: Sink>(
+    alloc: Global,
+    words: &[Text],
+    files: &mut F,
+    out: &mut O,
+    err: &mut E,
+) -> u8
+    ensures range { (result ≡ 0) ⊎ ((result ≡ 2) ⊎ ((result ≡ 3) ⊎ ((result ≡ 4)
+        ⊎ (result ≡ 5)))) }
+
+    // Status 2 is for words that ask for nothing, and where there is memory for exactly those; the
+    // usage text is told.
+    ensures faulty { result ≡ 2 → (v : Asked) → AsksView words.now v → ⊥ }
+    ensures asked { result ≢ 2 → result ≢ 5 → (v : Asked) × AsksView words.now v }
+    ensures usage { result ≡ 2 → Tells (E.state err.old) (E.state err.new) usage }
+
+    // With status 0 the text is what the words ask for; `err` took nothing.
+    ensures prints { (v : Asked) (contents : List ℕ → List ℕ) → AsksView words.now v
+        → AreTold v (F.state files.old) contents → result ≡ 0
+        → Prints v contents (O.state out.old) (O.state out.new) }
+    ensures quiet { result ≡ 0 → (E.state err.new).taken ≡ (E.state err.old).taken }
+
+    // Status 4 is for a refused executable; the refusal is told.
+    ensures refused { (v : Asked) (contents : List ℕ → List ℕ) → AsksView words.now v
+        → AreTold v (F.state files.old) contents → result ≡ 4
+        → (line : List ℕ) × IsRefused v contents line
+        × Tells (E.state err.old) (E.state err.new) line }
+    ensures nothing { (result ≡ 2) ⊎ (result ≡ 4)
+        → (O.state out.new).taken ≡ (O.state out.old).taken }
+
+    // Status 3 comes only where a count of faults rose in this call, or the file is too long; its
+    // line names which. A fault of the file comes before anything is put, one of the output only
+    // where a text that the words ask for is being put. A file that is too long is never shown.
+    ensures fault { (v : Asked) → AsksView words.now v → result ≡ 3
+        → IsFault v (F.state files.old) (F.state files.new) (O.state out.old) (O.state out.new)
+        (Tells (E.state err.old) (E.state err.new)) }
+    ensures longer { (v : Asked) (name content : List ℕ) → AsksView words.now v
+        → Contains (reads v) name → (F.state files.old).held name ≡ Some content
+        → file_limit < length content → (result ≡ 3) ⊎ (result ≡ 5) }
+
+    // Status 5 is for want of memory, which is told; a prefix of the text may have been put.
+    ensures wanted { result ≡ 5 → Tells (E.state err.old) (E.state err.new) out_of_memory }
+    ensures prefix { (v : Asked) (contents : List ℕ → List ℕ) → AsksView words.now v
+        → AreTold v (F.state files.old) contents → result ≡ 5
+        → ((O.state out.new).taken ≡ (O.state out.old).taken)
+        ⊎ PrintsPrefix v contents (O.state out.old) (O.state out.new) }
+
+    // No file changes.
+    ensures files { (name : List ℕ)
+        → (F.state files.new).held name ≡ (F.state files.old).held name }
+{
+    let view = match view_of(alloc, words) {
+        Ok(Some(view)) => view,
+        Ok(None) => {
+            tell(err, USAGE.as_bytes());
+            return 2;
+        }
+        Err(_) => return tell_out_of_memory(err),
+    };
+    match answer(alloc, &view, files, out) {
+        Ok(()) => 0,
+        Err(failure) => {
+            tell(err, failure.line());
+            failure.status()
+        }
+    }
+}
+
+/// Reads the file of a view, and puts the view's text.
+fn answer<F: Files, O: Sink>(
+    alloc: Global,
+    view: &View<'_>,
+    files: &mut F,
+    out: &mut O,
+) -> Result<(), Failure>
+    ensures ok { OnOk result (IsSuccess (meaning_of_view view.now) (F.state files.old)
+        (O.state out.old) (O.state out.new)) }
+    ensures failure { IfErr result (IsFailure (meaning_of_view view.now) (F.state files.old)
+        (F.state files.new) (O.state out.old) (O.state out.new)) }
+    ensures longer { (name content : List ℕ) → Contains (reads (meaning_of_view view.now)) name
+        → (F.state files.old).held name ≡ Some content → file_limit < length content
+        → MatchResult result (λ _. ⊥) IsNoRefusal }
+    ensures contents { (n : List ℕ) → (F.state files.new).held n ≡ (F.state files.old).held n }
+{
+    match view {
+        View::Help => put(out, USAGE.as_bytes()),
+        View::Code { file, no_batch } => {
+            let bytes = read_file(alloc, files, file)?;
+            put_code(alloc, &bytes, !*no_batch, out)
+        }
+    }
+}
