@@ -18,6 +18,8 @@ mod instructions;
 #[cfg(test)]
 mod layouts;
 #[cfg(test)]
+mod losses;
+#[cfg(test)]
 mod multiply;
 #[cfg(test)]
 mod nodes;

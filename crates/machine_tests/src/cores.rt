@@ -69,7 +69,7 @@ fn sent(messages: u64) -> NodeCounts {
 }
 
 /// The default layout of so many nodes.
-fn layout_over(alloc: Global, program: &Program<'_>, nodes: u8) -> Result<Layout, Fail>
+pub(crate) fn layout_over(alloc: Global, program: &Program<'_>, nodes: u8) -> Result<Layout, Fail>
     requires some { 0 < nodes }
     requires few { nodes ≤ 16 }
     ensures valid { IfOk result IsValid }

@@ -8,6 +8,8 @@ mod files;
 #[cfg(test)]
 mod images;
 #[cfg(test)]
+mod lossy;
+#[cfg(test)]
 mod machines;
 #[cfg(test)]
 mod plans;

@@ -1,0 +1,155 @@
+//! `code` and `--help`: their texts, and what is told of faulty words and files.
+
+use command_calls::calls::{Answer, Called, executable};
+use command_calls::samples::HI;
+use dsm_io::{MemFiles, MemSink, Text};
+use std::alloc::Global;
+use std::test::Fail;
+use views::shasta_view;
+
+/// A program that loads a word, whose line may be read.
+const LOADS: &str = "lui x5, 0x20; lw x6, 0(x5); addi x10, x6, 0; addi x17, x0, 93; ecall";
+
+/// Two loads by one register, which share a check.
+const PAIR: &str = "lui x5, 0x20; lw x6, 0(x5); lw x7, 4(x5); addi x10, x0, 0; addi x17, x0, 93;
+    ecall";
+
+/// What stands before the first place.
+const HEAD: &str =
+    "address   word     text                           ; template, scratch registers; run
+  address   word     place    part     c text
+c: * commits a step, ? unless the value is the flag, ~ unless it waits, . doesn't
+  a0000000: 0000102b no place          . trap.off
+";
+
+/// Each instruction stands for itself but for the system calls; behind the code a word stops.
+const HI_CODE: &str = "00010000: 000205b7 lui x11, 0x20                  ; as it is
+  a0000004: 000205b7 00010000 single   * lui x11, 0x20
+00010004: 00100513 addi x10, x0, 1                ; as it is
+  a0000008: 00100513 00010004 single   * addi x10, x0, 1
+00010008: 00300613 addi x12, x0, 3                ; as it is
+  a000000c: 00300613 00010008 single   * addi x12, x0, 3
+0001000c: 04000893 addi x17, x0, 64               ; as it is
+  a0000010: 04000893 0001000c single   * addi x17, x0, 64
+00010010: 00000073 ecall                          ; call
+  a0000014: 0000300b 00010010 single   ~ call
+00010014: 00000513 addi x10, x0, 0                ; as it is
+  a0000018: 00000513 00010014 single   * addi x10, x0, 0
+00010018: 05d00893 addi x17, x0, 93               ; as it is
+  a000001c: 05d00893 00010018 single   * addi x17, x0, 93
+0001001c: 00000073 ecall                          ; call
+  a0000020: 0000300b 0001001c single   ~ call
+00010020: -------- no code word                   ; stop
+  a0000024: 0000002b 00010020 single   * trap.fetch
+";
+
+/// The load misses where the address is high or the value is the flag, -253.
+const LOADS_CODE: &str = "00010000: 000202b7 lui x5, 0x20                   ; as it is
+  a0000004: 000202b7 00010000 single   * lui x5, 0x20
+00010004: 0002a303 lw x6, 0(x5)                   ; load by its value, s x10
+  a0000008: 00028513 00010004 single   . addi x10, x5, 0
+  a000000c: 00054863 00010004 single   . blt x10, x0, 0xa000001c
+  a0000010: 0002a303 00010004 single   ? lw x6, 0(x5)
+  a0000014: f0300513 00010004 single   . addi x10, x0, -253
+  a0000018: 00a31663 00010004 single   . bne x6, x10, 0xa0000024
+  a000001c: 0002810b 00010004 single   . miss.r.w 0(x5)
+  a0000020: 0002a303 00010004 single   * lw x6, 0(x5)
+00010008: 00030513 addi x10, x6, 0                ; as it is
+  a0000024: 00030513 00010008 single   * addi x10, x6, 0
+0001000c: 05d00893 addi x17, x0, 93               ; as it is
+  a0000028: 05d00893 0001000c single   * addi x17, x0, 93
+00010010: 00000073 ecall                          ; call
+  a000002c: 0000300b 00010010 single   ~ call
+00010014: -------- no code word                   ; stop
+  a0000030: 0000002b 00010014 single   * trap.fetch
+";
+
+/// How the viewer is called.
+const USAGE: &str = "usage: shasta_view code IN [--no-batch]
+       shasta_view --help
+";
+
+/// Calls the viewer with these words, with spaces between them, where IN holds a file; the puts to
+/// the output with these numbers fail.
+fn show(alloc: Global, file: &[u8], line: &str, fails: &[u64]) -> Result<Called, Fail> {
+    let mut words = Vec::new(alloc);
+    for word in line.split_whitespace() {
+        words.push(Text::of(String::from_str(alloc, word)?))?;
+    }
+    let mut held = Vec::new(alloc);
+    held.push((
+        Text::of(String::from_str(alloc, "IN")?),
+        file.to_vec(alloc)?,
+    ))?;
+    let mut files = MemFiles::new(alloc, held, Vec::new(alloc));
+    let mut out = MemSink::with_refusals(alloc, fails.to_vec(alloc)?, Vec::new(alloc));
+    let mut err = MemSink::with_refusals(alloc, Vec::new(alloc), Vec::new(alloc));
+    let status = shasta_view(alloc, &words, &mut files, &mut out, &mut err);
+    Ok(Called {
+        status,
+        out: out.taken().to_vec(alloc)?,
+        err: err.taken().to_vec(alloc)?,
+        written: Vec::new(alloc),
+    })
+}
+
+/// A program without data, a call, and its status, output and errors.
+const CALLS: [(&str, &str, u8, &[&str], &str); 11] = [
+    (HI, "code IN", 0, &[HEAD, HI_CODE], ""),
+    (HI, "code --no-batch IN", 0, &[HEAD, HI_CODE], ""),
+    (LOADS, "code IN", 0, &[HEAD, LOADS_CODE], ""),
+    (HI, "--help", 0, &[USAGE], ""),
+    (HI, "", 2, &[], USAGE),
+    (HI, "code", 2, &[], USAGE),
+    (HI, "code IN IN", 2, &[], USAGE),
+    (HI, "code IN --brief", 2, &[], USAGE),
+    (HI, "--help IN", 2, &[], USAGE),
+    (HI, "list IN", 2, &[], USAGE),
+    (HI, "code a", 3, &[], "shasta: cannot read a\n"),
+];
+
+#[test]
+fn shows_code(rt: HostRuntime) -> Result<(), Fail> {
+    let alloc = rt.alloc();
+    for (program, line, status, out, err) in CALLS {
+        let file = executable(alloc, program, b"", 64)?;
+        let answer = Answer { status, out, err };
+        show(alloc, &file, line, &[])?.expect(alloc, line, &answer)?;
+    }
+    Ok(())
+}
+
+/// Two loads that share a check are a run of two; without batches each has its own.
+#[test]
+fn shows_runs(rt: HostRuntime) -> Result<(), Fail> {
+    let alloc = rt.alloc();
+    let file = executable(alloc, PAIR, b"", 64)?;
+    for (line, runs) in [("code IN", true), ("code IN --no-batch", false)] {
+        let called = show(alloc, &file, line, &[])?;
+        let text = std::str::from_utf8(&called.out)?;
+        assert_eq!(rt; text.contains("; run of 2, s "), runs);
+        assert_eq!(rt; text.contains(" batch.r ("), runs);
+        assert_eq!(rt; called.status, 0);
+    }
+    Ok(())
+}
+
+#[test]
+fn tells_refusals_and_faults(rt: HostRuntime) -> Result<(), Fail> {
+    let alloc = rt.alloc();
+    let called = show(alloc, b"text", "code IN", &[])?;
+    let refused = Answer {
+        status: 4,
+        out: &[],
+        err: "shasta: executable refused 1 Short\n",
+    };
+    called.expect(alloc, "code IN", &refused)?;
+    let file = executable(alloc, HI, b"", 64)?;
+    let called = show(alloc, &file, "code IN", &[1])?;
+    assert_eq!(rt; called.status, 3);
+    assert_eq!(rt;
+        std::str::from_utf8(&called.err)?,
+        "shasta: cannot write output\n"
+    );
+    Ok(())
+}
