@@ -77,7 +77,8 @@ def waits(name, nodes, count):
     print(row, flush=True)
 
 APART = ("apart", "psum", "rsum", "table")
-WAITS = {"ping": ((2, 4, 16), 20000), "queue": ((2, 4), 20000), "lock": ((2, 4, 16), 0), "idle": ((1, 2, 4), 0)}
+WAITS = {"ping": ((2, 4, 16), 20000), "queue": ((2, 4), 20000), "lock": ((2, 4, 16), 0), "idle": ((1, 2, 4), 0),
+         "ring": ((2, 4, 16), 2000), "stack": ((2, 4, 16), 0), "jacobi": ((2, 4, 16), 0)}
 names = arguments or [*APART, *WAITS]
 if any(name in APART for name in names):
     print(f"{'':8}{'1 node':>8}" + "".join(f"{n:>6}/1{'at once':>8}{'used':>8}" for n in (2, 4)))
