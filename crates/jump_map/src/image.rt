@@ -1,12 +1,13 @@
 //! Rewritten code, and the maps between original and rewritten addresses.
 
-ghost use Rattle.std.specs.Prelude.{◌≡◌, ◌≤◌, ℕ, List, length, option_copied, IfOk, IsErrOf};
+ghost use Rattle.std.specs.Prelude.{◌≡◌, ◌≤◌, ℕ, List, length, option_copied, IfOk, IfSome};
+ghost use Rattle.std.specs.Prelude.{IsErrOf};
 ghost use Rattle.rv32_program.specs.Program.{Program};
 ghost use Rattle.templates.specs.declared.plans.PlanEntry.{PlanEntry};
 ghost use Rattle.templates.specs.Plans.{AscendsFrom};
 ghost use Rattle.jump_map.specs.Image.{Cell, most_words, HasRunsOf, HasNoFar, Expands, IsRewriting};
 ghost use Rattle.jump_map.specs.Image.{IsTooLong};
-ghost use Rattle.jump_map.specs.Micro.{IsMicroAnswer};
+ghost use Rattle.jump_map.specs.Micro.{IsMicroAnswer, IsLookAt};
 ghost use Rattle.jump_map.specs.Maps.{index_of, new_of, old_of, word_at, fetch};
 
 use crate::building::build;
@@ -152,6 +153,7 @@ impl Image {
     #[inline(always)]
     pub fn micro(&self, index: u32) -> Option<&MicroOp>
         ensures value { IsMicroAnswer self.now index (option_copied result) }
+        ensures looks { IfSome (option_copied result) (IsLookAt self.now index) }
     {
         self.micros.get(index as usize)
     }

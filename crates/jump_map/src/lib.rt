@@ -7,6 +7,7 @@ mod building;
 mod cells;
 mod heads;
 pub mod image;
+mod looks;
 mod micros;
 
 pub use image::{IMAGE_BASE, Image, ImageRefused, ImageWord, MOST_WORDS, image_law};

@@ -223,7 +223,12 @@ fn demand_by(op: &MicroOp, registers: &Registers) -> Option<Demand>
         MicroKind::StoreByte => Demand::Stores(Width::Byte, sum, b),
         MicroKind::StoreHalf => Demand::Stores(Width::Half, sum, b),
         MicroKind::StoreWord => Demand::Stores(Width::Word, sum, b),
-        MicroKind::AddImm => Demand::Sets(op.rd, alu(Op::Add, a, op.imm)),
+        MicroKind::AddImm
+        | MicroKind::Look
+        | MicroKind::LookToRead
+        | MicroKind::LookToWrite
+        | MicroKind::LookAtValue
+        | MicroKind::LookAgain => Demand::Sets(op.rd, alu(Op::Add, a, op.imm)),
         MicroKind::SltImm => Demand::Sets(op.rd, alu(Op::Slt, a, op.imm)),
         MicroKind::SltuImm => Demand::Sets(op.rd, alu(Op::Sltu, a, op.imm)),
         MicroKind::XorImm => Demand::Sets(op.rd, alu(Op::Xor, a, op.imm)),
@@ -240,7 +245,10 @@ fn demand_by(op: &MicroOp, registers: &Registers) -> Option<Demand>
         MicroKind::Xor => Demand::Sets(op.rd, alu(Op::Xor, a, b)),
         MicroKind::Srl => Demand::Sets(op.rd, alu(Op::Srl, a, b)),
         MicroKind::Sra => Demand::Sets(op.rd, alu(Op::Sra, a, b)),
-        MicroKind::Or => Demand::Sets(op.rd, alu(Op::Or, a, b)),
+        MicroKind::Or | MicroKind::BothToRead | MicroKind::BothToWrite => Demand::Sets(
+            op.rd,
+            alu(Op::Or, a, b),
+        ),
         MicroKind::And => Demand::Sets(op.rd, alu(Op::And, a, b)),
         MicroKind::Mul => Demand::Sets(op.rd, alu(Op::Mul, a, b)),
         MicroKind::Mulh => Demand::Sets(op.rd, alu(Op::Mulh, a, b)),

@@ -8,5 +8,6 @@ loop-k-preserved c =
     let items = c.in_ok-push.ensures.items in
     record {
       count = simp (items, length-append) (omega (arith, h.count));
-      are = micros_more c.args.cells.now c.loop-k.micros.items c.push.new.self.items c.micro_at.result c.loop-k.k items h.count h.are c.micro_at.ensures.value;
+      are = micros_more c.args.cells.now c.loop-k.micros.items c.push.new.self.items c.micro_at.result c.loop-k.k items
+          h.count h.are c.micro_at.ensures.value c.micro_at.ensures.looks;
     }
