@@ -3,3 +3,4 @@ pub mod Table
 pub mod Effects
 pub mod Lists
 pub mod Rows
+pub mod Headers

@@ -110,6 +110,21 @@ impl Directory {
         block < self.layout.blocks() && self.layout.home(block) == self.me
     }
 
+    /// The request that a block's home is busy with.
+    pub fn busy(&self, block: Block) -> Option<Busy>
+        requires block { block < blocks self.now.layout }
+        ensures value { result ≡ ((entries_of self.now).entry block).busy }
+    {
+        self.entries[block as usize].busy
+    }
+
+    /// How many requests wait here.
+    pub fn pending(&self) -> u8
+        ensures value { result ≡ (entries_of self.now).occupancy }
+    {
+        self.waiting.len()
+    }
+
     /// Read or Write from a node: the row that the table has for it, or none.
     pub fn ask(&mut self, from: u8, block: Block, need: Need, buf: Buf) -> Sends
         ensures entries { entries_of self.new ≡ (ask_effect self.old from block need buf).entries }

@@ -5,10 +5,12 @@
 //! a block's home: a request that finds the block busy waits there in order of arrival.
 
 mod directory;
+mod headers;
 mod messages;
 mod request_lists;
 mod wait;
 
 pub use directory::{Busy, Directory, Entry, Request};
+pub use headers::{Header, Headers, MessageKind, Sent, headers_of};
 pub use messages::{Message, Need, Post, Sends, Wire};
 pub use wait::{Answer, Wait};

@@ -87,6 +87,13 @@ impl RequestLists {
         })
     }
 
+    /// How many requests wait.
+    pub fn len(&self) -> u8
+        ensures { result ≡ length self.now.requests }
+    {
+        self.len
+    }
+
     /// Whether 32 requests wait.
     pub fn is_full(&self) -> bool
         ensures { result ≡ nat_le 32 (length self.now.requests) }

@@ -40,6 +40,13 @@ impl Reservation {
         self.address = Some(address);
     }
 
+    /// The address that is reserved.
+    pub fn address(&self) -> Option<u32>
+        ensures { result ≡ self.now }
+    {
+        self.address
+    }
+
     /// Ends the reservation, where there is one.
     pub fn end(&mut self)
         ensures { self.new ≡ None }

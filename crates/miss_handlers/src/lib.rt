@@ -4,7 +4,9 @@
 //! A node that misses a block waits for it: [`Waits::want`]. [`Waits::on`] has the rows of the
 //! table of messages for the node that has a block or waits for it, and completes the waits.
 
-ghost use Rattle.std.specs.Prelude.{◌≡◌, ◌+◌, ◌<◌, ◌≤◌, [], ◌∷◌, None, IfOk, is_some, length};
+ghost use Rattle.std.specs.Prelude.{◌≡◌, ◌+◌, ◌<◌, ◌≤◌, [], ◌∷◌, None, Some, IfOk, is_some, length};
+ghost use Rattle.std.specs.Prelude.{MatchOption, option_map};
+ghost use Rattle.home_directory.specs.declared.wait.Wait.{Wait};
 ghost use Rattle.block_layout.specs.Layout.{blocks};
 ghost use Rattle.state_table.specs.States.{state_of};
 ghost use Rattle.home_directory.specs.Table.{meets, state_in_wait, request};
@@ -16,6 +18,7 @@ ghost use Rattle.miss_handlers.specs.Effects.{post_of, buffers};
 mod replies;
 mod search;
 
+use crate::search::find;
 use block_layout::{Block, Layout};
 use buf_pool::{Buf, Pool};
 use home_directory::{Message, Need, Post, Sends, Wait};
@@ -70,6 +73,27 @@ impl Waits {
         ensures waits { AreWaits self.now.layout self.now.waits }
     {
         self.waits.len() as u8
+    }
+
+    /// The wait for a block.
+    pub fn wait(&self, block: Block) -> Option<&Wait>
+        ensures value { MatchOption result (wait_of self.now block ≡ None)
+            (λ w. wait_of self.now block ≡ Some w.now) }
+    {
+        match find(&self.waits, block) {
+            Some(place) => Some(&self.waits[place].wait),
+            None => None,
+        }
+    }
+
+    /// What a block is waited for, or `None` where there is no wait for it.
+    pub fn need_of(&self, block: Block) -> Option<Need>
+        ensures need { result ≡ option_map (λ (w : Wait). w.need) (wait_of self.now block) }
+    {
+        match find(&self.waits, block) {
+            Some(place) => Some(self.waits[place].wait.need),
+            None => None,
+        }
     }
 
     /// Begins a wait, and gives the message to the home. None exactly where the block meets the
