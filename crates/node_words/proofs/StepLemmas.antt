@@ -5,7 +5,8 @@ use Rattle.rv32_decode.specs.declared.AmoOp.{AmoOp}
 use Rattle.rv32_decode.specs.declared.LoadKind.{LoadKind}
 use Rattle.rv32_decode.specs.declared.LoadKind.TheVariants.{Word as WordLoad}
 use Rattle.rv32_decode.specs.Widths.{is_aligned}
-use Rattle.rv32_ops.specs.Operations.{amo}
+use Rattle.rv32_ops.specs.Operations.{alu, amo}
+use Rattle.rv32_decode.specs.declared.Op.{Op as Operation}
 use Rattle.rv32_step.specs.Memory.{load_value}
 use Rattle.llsc.specs.Reservation.{holds}
 use Rattle.rv32_decode.specs.declared.Width.{Width}
@@ -34,10 +35,10 @@ use Rattle.std.proofs.Common.{◌-◌, [], ◌∷◌, leb, length, zero, suc}
 use Rattle.std.specs.Prelude.{slice_get}
 use Rattle.rv32_decode.specs.Fields.{unsigned}
 use Rattle.rv32_step.specs.declared.Demand.{Demand}
-use Rattle.rv32_step.specs.declared.Demand.TheVariants.{Continues, Jumps, Reserves, StoresIf, Updates}
+use Rattle.rv32_step.specs.declared.Demand.TheVariants.{Continues, Jumps, Reserves, Sets, StoresIf, Updates}
 use Rattle.rv32_step.specs.Registers.{reg}
 use Rattle.micro_op.specs.declared.MicroKind.TheVariants.{Rare}
-use Rattle.micro_op.specs.Micro.{Unserved, Demands, Enters as EntersBy, Meets, EntersAt}
+use Rattle.micro_op.specs.Micro.{Unserved, Demands, Enters as EntersBy, Meets, EntersAt, by_registers}
 use Rattle.runtime_words.specs.declared.RtWord.{RtWord}
 use Rattle.runtime_words.specs.declared.RtWord.TheVariants.{Native, Poll, Xjalr, Far}
 use Rattle.templates.specs.declared.places.Place.{Place}
@@ -63,6 +64,11 @@ updated_to program l n r a old new = record (store program l n Word a new (regio
 pub stepped : (image : List Cell) (k : MicroKind) (op : MicroOp) (registers : ℕ → ℕ) (at : ℕ) (l : kept.Lane) (s : Shelf) (l' : kept.Lane) (s' : Shelf) (o : Option ℕ) (m : Meaning) → op.kind ≡ k → StepsTo image m at l s l' s' o → meaning_by k image_base op registers ≡ m → StepsTo image (meaning_of image_base op registers) at l s l' s' o
 stepped image k op registers at l s l' s' o m is does means =
     subst (λ (x : Meaning). StepsTo image x at l s l' s' o) (sym (ap (λ (q : MicroKind). meaning_by q image_base op registers) is ∙ means)) does
+
+-- an operation on two registers puts its result into a register
+pub operates : (o : Operation) (op : MicroOp) (registers : ℕ → ℕ) (a b r : ℕ) → r ≡ alu o a b → a ≡ reg registers op.rs1 → b ≡ reg registers op.rs2 → by_registers o op registers ≡ Demands (Sets op.rd r)
+operates o op registers a b r result first second =
+    ap (λ x. Demands (Sets op.rd x)) (sym (result ∙ ap (λ x. alu o x b) first ∙ ap (alu o (reg registers op.rs1)) second))
 
 -- the word that follows is the next one
 pub next_follows : (image : List Cell) (outcome : Outcome) (g : Ground) (at k : ℕ) (l : kept.Lane) (s : Shelf) → k ≡ (at + 1) % 4294967296 → outcome.move ≡ Next → outcome.printed ≡ None → outcome.tally ≡ Nothing_counted → LeavesBehind outcome g (word_address at) l s → Follows image outcome g (word_address k) l s
@@ -235,7 +241,7 @@ micro_served image (Some (Far number)) place op at k l s l' s' is steps =
     number) jumps
 micro_served image (Some w) place op at k l s l' s' is steps = absurd (rare_steps image op at k l s l' s' is steps)
 
-got_below : (xs : List Cell) (i : ℕ) (c : Cell) → slice_get xs i ≡ Some c → i < length xs
+pub got_below : (xs : List Cell) (i : ℕ) (c : Cell) → slice_get xs i ≡ Some c → i < length xs
 got_below [] i c is = absurd (cc)
 got_below (x ∷ xs) zero c is = omega arith
 got_below (x ∷ xs) (suc i) c is = let rest = got_below xs i c is in omega arith

@@ -9,7 +9,7 @@ use Rattle.node_words.specs.Address.{word_address}
 use Rattle.node_model.specs.Node.{Node, Work, Phase, Running, Want, Outcome, can_execute, counts_after, printed_also, stop_at, next_outcome, word_outcome}
 use Rattle.node_model.specs.Turns.{Turn, quiet, want_all, each_block_once, with_byes, is_ended, after_word, after_wants, word_turn}
 use Rattle.node_words.specs.Kept.{Shelf, Ground, Follows, ground_of, lane_of, local_of}
-use Rattle.node_words.specs.GoingOn.{BodyGoesOn, node_on, phase_on}
+use Rattle.node_words.specs.GoingOn.{BodyGoesOn, GoesFurther, node_on, phase_on}
 use Rattle.node_words.specs.Runs.{GoesOnBy}
 
 -- a turn with the Byes of its end
@@ -116,3 +116,39 @@ body_more image most from words at k b m b' below ground on follows = λ work n 
   where
     one_more : (k : ℕ) → k + 1 ≡ suc k
     one_more k = omega arith
+
+-- further by one word
+pub goes_one : (image : List Cell) (at words k : ℕ) (b b' : Body)
+    → Follows image (next_outcome (program_of b.local.program) image (lane_of b.lane (word_address at)) (local_of b.local)) (ground_of b.local) (word_address k) b'.lane b'.local
+    → GoesFurther image b at words b' k (words + 1)
+goes_one image at words k b b' follows = record {
+  more = omega arith;
+  ground_same = follows.ground_same;
+  goes = λ most from first few ground on.
+      body_more image most from words at k first b b' (omega (arith, few)) ground on follows;
+}
+
+-- by none
+pub goes_none : (image : List Cell) (at words : ℕ) (b b' : Body) → b'.lane ≡ b.lane → b'.local ≡ b.local
+    → GoesFurther image b at words b' at words
+goes_none image at words b b' lane local =
+    let same : ◌≡◌ {A = Body} (record b' { counts = b.counts }) b = λ t. record { lane = lane t; local = local t; counts = b.counts } in
+    record {
+      more = omega arith;
+      ground_same = ap ground_of local;
+      goes = λ most from first few ground on. subst (λ (x : Body). BodyGoesOn image most from first words at x) (sym same) on;
+    }
+
+-- and by those of two stretches
+pub goes_both : (image : List Cell) (at words at1 words1 at2 words2 : ℕ) (b m b' : Body)
+    → GoesFurther image b at words m at1 words1 → GoesFurther image m at1 words1 b' at2 words2
+    → GoesFurther image b at words b' at2 words2
+goes_both image at words at1 words1 at2 words2 b m b' one two =
+    let less = one.more in
+    let more = two.more in
+    record {
+      more = omega (arith, less, more);
+      ground_same = two.ground_same ∙ one.ground_same;
+      goes = λ most from first few ground on.
+          two.goes most from first few (one.ground_same ∙ ground) (one.goes most from first (omega (arith, few, more)) ground on);
+    }

@@ -1,12 +1,19 @@
 -- Helps the code alone: bodies from word to word.
-use Rattle.std.specs.Prelude.{◌≡◌, ℕ, zero, suc, ◌+◌, ◌<◌, true, List}
+use Rattle.std.specs.Prelude.{◌≡◌, ℕ, zero, suc, ◌+◌, ◌^◌, ◌<◌, ◌≤◌, true, List, Some}
+use Rattle.rv32_decode.specs.declared.Op.TheVariants as op
+use Rattle.rv32_step.specs.Registers.{put, registers_of}
+use Rattle.rv32_step.specs.declared.Demand.{Demand}
+use Rattle.rv32_step.specs.declared.Demand.TheVariants.{Sets}
+use Rattle.micro_op.specs.declared.micro_op.MicroOp.{MicroOp}
+use Rattle.micro_op.specs.Micro.{Demands, meaning_of, by_immediate, by_registers}
+use Rattle.jump_map.specs.Micro.{IsMicroAt, ReadsState, ReadsStateBy, ReadsValue}
 use Rattle.exec_map.specs.Contents.{program_of}
-use Rattle.jump_map.specs.Image.{Cell}
+use Rattle.jump_map.specs.Image.{Cell, image_base}
 use Rattle.node_words.specs.Address.{word_address}
 use Rattle.node_words.specs.declared.body.Body.{Body}
 use Rattle.node_model.specs.Node.{Node, Work, Phase, Running, can_execute}
 use Rattle.node_words.specs.Runs.{GoesOnBy}
-use Rattle.node_words.specs.Kept.{local_of, lane_of}
+use Rattle.node_words.specs.Kept.{local_of, lane_of, ground_of, StepsTo}
 
 -- the phase of a node that may execute words, after so many that go on
 abbrev pub phase_on : Phase → (words : ℕ) → Phase
@@ -29,3 +36,52 @@ BodyGoesOn image most from b words at b' =
     (work : Work) (n : Node) → work.image ≡ image → work.program ≡ program_of b.local.program
     → can_execute n.phase ≡ true → n.executed + most < work.budget
     → GoesOnBy work words (node_on n b from 0) (node_on n b' at words)
+
+-- a body that has gone on to a word with an index goes on from there to another
+pub record GoesFurther (image : List Cell) (b : Body) (at words : ℕ) (b' : Body) (at' words' : ℕ)
+    : Type 0 where
+  pub more : words ≤ words'
+  pub ground_same : ground_of b'.local ≡ ground_of b.local
+  pub goes : (most from : ℕ) (first : Body) → words' ≤ most
+      → ground_of b.local ≡ ground_of first.local → BodyGoesOn image most from first words at b
+      → BodyGoesOn image most from first words' at' b'
+
+-- a micro-op adds its immediate
+abbrev pub AddsImmediate : MicroOp → Type 0
+AddsImmediate m =
+    (registers : ℕ → ℕ) → meaning_of image_base m registers ≡ by_immediate op.Add m registers
+
+-- with the word of this index words begin that read the state of a line
+pub record BeginsLook (image : List Cell) (at : ℕ) (m : MicroOp) : Type 0 where
+  pub here : IsMicroAt image at m
+  pub adds : AddsImmediate m
+  pub reads : ReadsState image at m.rd m.rs2
+
+-- with the word of this index words begin that load a word and compare it with the flag word
+pub record BeginsValueLook (image : List Cell) (at : ℕ) (m : MicroOp) : Type 0 where
+  pub here : IsMicroAt image at m
+  pub adds : AddsImmediate m
+  pub reads : ReadsValue image at m.rd m.rs1 m.rs2 m.imm
+
+-- with the word of this index words begin that read the state of a second line
+pub record BeginsSecondLook (image : List Cell) (at : ℕ) (m : MicroOp) : Type 0 where
+  pub here : IsMicroAt image at m
+  pub adds : AddsImmediate m
+  pub reads : ReadsStateBy image at m.rd m.rs2
+
+-- the word of this index ors two registers
+pub record OrsAt (image : List Cell) (at : ℕ) (m : MicroOp) : Type 0 where
+  pub here : IsMicroAt image at m
+  pub ors : (registers : ℕ → ℕ)
+      → meaning_of image_base m registers ≡ by_registers op.Or m registers
+
+-- a body does what a word demands, after which the next one follows
+abbrev pub DoesNext : Body → Demand → Body → Type 0
+DoesNext b d b' =
+    (image : List Cell) (at k : ℕ) → k ≡ at + 1 → k < 2 ^ 32
+    → StepsTo image (Demands d) at b.lane b.local b'.lane b'.local (Some k)
+
+-- a register gets a value
+pub record PutsNext (b : Body) (r value : ℕ) (b' : Body) : Type 0 where
+  pub does : DoesNext b (Sets r value) b'
+  pub registers : registers_of b'.lane.registers ≡ put (registers_of b.lane.registers) r value

@@ -6,6 +6,7 @@ ghost use Rattle.rv32_program.specs.Program.{class_at};
 ghost use Rattle.rv32_program.specs.declared.Class.TheVariants.{Shared};
 ghost use Rattle.exec_map.specs.Contents.{program_of};
 ghost use Rattle.byte_range.specs.Memory.{raw};
+ghost use Rattle.rv32_step.specs.Memory.{load_value};
 ghost use Rattle.node_model.specs.Node as model;
 ghost use Rattle.node_words.specs.Kept.{ground_of, local_of, lane_of, LeavesBehind};
 ghost use Rattle.flag_memory.specs.Flag.{flag_byte as flag_at};
@@ -86,6 +87,16 @@ impl<'a> Body<'a> {
         } else {
             self.load(LoadKind::ByteU, rd, address);
         }
+    }
+
+    /// What a load from an aligned address gives.
+    pub fn value(&self, kind: LoadKind, address: u32) -> u32
+        requires { is_aligned (width_of kind) address ≡ true }
+        ensures value { (at : ℕ) → result ≡ load_value kind
+            (model.byte_at (program_of self.now.local.program) (lane_of self.now.lane at)
+            (local_of self.now.local)) address }
+    {
+        extend(kind, self.memory(kind.width(), address))
     }
 
     /// The number that the bytes from an address on make.

@@ -1,11 +1,11 @@
 //! Micro-ops: the words that are executed most, by one match a word.
 
-ghost use Rattle.std.specs.Prelude.{◌≡◌, ◌+◌, ◌*◌, ◌/◌, ◌%◌, ◌^◌, ◌<◌, ◌≤◌, ℕ, Option, Some, None};
+ghost use Rattle.std.specs.Prelude.{◌≡◌, ◌*◌, ◌/◌, ◌%◌, ◌<◌, ℕ, Option, Some, None};
 ghost use Rattle.std.specs.Prelude.{List, false};
 ghost use Rattle.rv32_ops.specs.Operations as operations;
 ghost use Rattle.rv32_step.specs.Registers.{reg, registers_of};
 ghost use Rattle.rv32_step.specs.Demands.{branch_demand};
-ghost use Rattle.rv32_step.specs.declared.Demand.TheVariants.{Sets, Continues, Jumps, Branches};
+ghost use Rattle.rv32_step.specs.declared.Demand.TheVariants.{Sets, Jumps};
 ghost use Rattle.rv32_step.specs.declared.Demand.TheVariants.{Loads, Stores};
 ghost use Rattle.micro_op.specs.Micro.{Demands, Enters, meaning_of};
 ghost use Rattle.jump_map.specs.Image.{Cell, image_base};
@@ -23,14 +23,19 @@ use rv32_ops::{alu, taken};
 
 impl<'a> Body<'a> {
     /// Executes a micro-op at an index, and gives the index of the word that follows. `None` where
-    /// the path that serves every word has to, and where it stores and stores aren't to be made;
-    /// then nothing changed.
+    /// the path that serves every word has to, and where it stores or begins a look and such words
+    /// aren't to be executed; then nothing changed. Each loop has a copy of its own.
     #[inline(always)]
-    pub(crate) fn step(&mut self, image: &Image, op: &MicroOp, at: u32, stores: bool) -> Option<u32>
+    pub(crate) fn step<const STORES: bool, const LOOKS: bool>(
+        &mut self,
+        image: &Image,
+        op: &MicroOp,
+        at: u32,
+    ) -> Option<u32>
         ensures steps { StepsTo image.now
             (meaning_of image_base op.now (registers_of self.old.lane.registers)) at
             self.old.lane self.old.local self.new.lane self.new.local result }
-        ensures plain { stores ≡ false → IsPlain (store_width op.now.kind) result }
+        ensures plain { STORES ≡ false → IsPlain (store_width op.now.kind) result }
         ensures counts { self.new.counts ≡ self.old.counts }
     {
         let a = self.lane.registers.get(op.rs1);
@@ -60,7 +65,7 @@ impl<'a> Body<'a> {
                     a.wrapping_add(op.imm),
                     self.second(op),
                     at,
-                    stores,
+                    STORES,
                 )
             }
             MicroKind::StoreHalf => {
@@ -69,7 +74,7 @@ impl<'a> Body<'a> {
                     a.wrapping_add(op.imm),
                     self.second(op),
                     at,
-                    stores,
+                    STORES,
                 )
             }
             MicroKind::StoreWord => {
@@ -78,10 +83,24 @@ impl<'a> Body<'a> {
                     a.wrapping_add(op.imm),
                     self.second(op),
                     at,
-                    stores,
+                    STORES,
                 )
             }
             MicroKind::AddImm => self.set(op.rd, alu(Op::Add, a, op.imm), at),
+            MicroKind::Look if LOOKS => self.set(op.rd, alu(Op::Add, a, op.imm), at),
+            MicroKind::LookToRead if LOOKS => self.set(op.rd, alu(Op::Add, a, op.imm), at),
+            MicroKind::LookToWrite if LOOKS => self.set(op.rd, alu(Op::Add, a, op.imm), at),
+            MicroKind::LookAtValue if LOOKS => self.set(op.rd, alu(Op::Add, a, op.imm), at),
+            MicroKind::LookAgain if LOOKS => self.set(op.rd, alu(Op::Add, a, op.imm), at),
+            MicroKind::BothToRead if LOOKS => self.set(op.rd, alu(Op::Or, a, self.second(op)), at),
+            MicroKind::BothToWrite if LOOKS => self.set(op.rd, alu(Op::Or, a, self.second(op)), at),
+            MicroKind::Look
+            | MicroKind::LookToRead
+            | MicroKind::LookToWrite
+            | MicroKind::LookAtValue
+            | MicroKind::LookAgain
+            | MicroKind::BothToRead
+            | MicroKind::BothToWrite => None,
             MicroKind::SltImm => self.set(op.rd, alu(Op::Slt, a, op.imm), at),
             MicroKind::SltuImm => self.set(op.rd, alu(Op::Sltu, a, op.imm), at),
             MicroKind::XorImm => self.set(op.rd, alu(Op::Xor, a, op.imm), at),

@@ -10,6 +10,7 @@ mod hot;
 mod lane;
 mod lines;
 mod local;
+mod looks;
 mod quiet;
 mod rare;
 mod region;

@@ -30,6 +30,7 @@ use miss_handlers::Waits;
 use rv32_decode::Width;
 use state_table::{READ_ONLY, State, States};
 use std::marker::Model;
+use std::mem::swap;
 
 /// What words see of their node.
 #[derive(Drop)]
@@ -108,6 +109,13 @@ impl<'a> Local<'a> {
         copy_law(&self.copy);
     }
 
+    /// The address that the processor has reserved.
+    pub fn reserved(&self) -> Option<u32>
+        ensures { result ≡ (local_of self.now).reservation }
+    {
+        self.reservation.address()
+    }
+
     /// Whether the processor has reserved an address.
     pub(crate) fn holds(&self, address: u32) -> bool
         ensures { result ≡ holds (local_of self.now).reservation address }
@@ -130,6 +138,14 @@ impl<'a> Local<'a> {
         ensures ground { ground_of self.new ≡ ground_of self.old }
     {
         self.reservation.end();
+    }
+
+    /// Puts another reservation in the place of the processor's, which `other` is then.
+    pub fn swap_reservation(&mut self, other: &mut Reservation)
+        ensures local { self.new ≡ record self.old { reservation = other.old } }
+        ensures other { other.new ≡ self.old.reservation }
+    {
+        swap(&mut self.reservation, other);
     }
 
     /// The block of the line of an address. `None` exactly where the line isn't shared.

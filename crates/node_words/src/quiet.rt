@@ -1,7 +1,7 @@
-//! Words that no micro-op serves, and that print nothing, count nothing and wait for nothing: so they
-//! are executed in a row with those that micro-ops serve.
+//! Words that no micro-op serves, and that print nothing, count nothing and wait for nothing: so
+//! they are executed in a row with those that micro-ops serve.
 
-ghost use Rattle.std.specs.Prelude.{◌≡◌, ◌+◌, ◌*◌, ◌^◌, ◌≤◌, ◌<◌, ℕ, List, length};
+ghost use Rattle.std.specs.Prelude.{◌≡◌, ◌*◌, ◌≤◌, ◌<◌, ℕ, List, length};
 ghost use Rattle.exec_map.specs.Contents.{program_of};
 ghost use Rattle.rv32_step.specs.Demands as demands;
 ghost use Rattle.rv32_step.specs.Registers.{registers_of};
@@ -21,8 +21,8 @@ use rv32_step::Demand;
 
 impl<'a> Body<'a> {
     /// Executes the word with an index by its micro-op, or as a quiet one that has none, and gives
-    /// the index of the word that follows. `None` where the path that serves every word has to; then
-    /// nothing changed.
+    /// the index of the word that follows. `None` where the path that serves every word has to;
+    /// then nothing changed.
     #[inline(always)]
     pub(crate) fn step_on(&mut self, image: &Image, at: u32) -> Option<u32>
         requires { length image.now ≤ most_words }
@@ -35,6 +35,18 @@ impl<'a> Body<'a> {
             Some(next) => Some(next),
             None => self.quiet_at(image, at),
         }
+    }
+
+    /// The same, apart from the words that are executed most.
+    #[inline(never)]
+    pub(crate) fn step_apart(&mut self, image: &Image, at: u32) -> Option<u32>
+        requires { length image.now ≤ most_words }
+        ensures steps { StepsOr image.now (model.next_outcome (program_of self.old.local.program)
+            image.now (lane_of self.old.lane (word_address at)) (local_of self.old.local))
+            self.old.lane self.old.local self.new.lane self.new.local result }
+        ensures counts { self.new.counts ≡ self.old.counts }
+    {
+        self.step_on(image, at)
     }
 
     /// Executes the word with an index where it is quiet: an indirect jump that keeps a link and
@@ -110,8 +122,8 @@ impl<'a> Body<'a> {
         Some((new - IMAGE_BASE) / 4)
     }
 
-    /// Executes a native word that accesses an aligned word in one step. `None` for every other one;
-    /// then nothing changed.
+    /// Executes a native word that accesses an aligned word in one step. `None` for every other
+    /// one; then nothing changed.
     fn quiet_native(&mut self, place: u32, i: Instr, at: u32) -> Option<u32>
         ensures steps { (image : List Cell) → let address = word_address at in
             StepsOr image (model.native (program_of self.old.local.program) place address

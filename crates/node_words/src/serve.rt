@@ -1,6 +1,6 @@
 //! One word of a node: by its micro-op, or by the path that serves every word.
 
-ghost use Rattle.std.specs.Prelude.{◌≡◌, ◌+◌, ◌*◌, ◌%◌, ◌^◌, ◌<◌, ◌≤◌, ℕ, Some, None, length};
+ghost use Rattle.std.specs.Prelude.{◌≡◌, ◌+◌, ◌^◌, ◌<◌, ◌≤◌, ℕ, Some, None, length};
 ghost use Rattle.exec_map.specs.Contents.{program_of};
 ghost use Rattle.jump_map.specs.Image.{most_words};
 ghost use Rattle.node_model.specs.Node as model;
@@ -11,7 +11,7 @@ ghost use Rattle.node_model.specs.Turns.{wants_of};
 ghost use Rattle.node_words.specs.GoingOn.{BodyGoesOn};
 
 use crate::body::Body;
-use crate::lane::{Move, Resume, Tally, Wants, address_of};
+use crate::lane::{Move, Resume, Tally, Wants};
 use exec_map::Exit;
 use jump_map::{IMAGE_BASE, Image};
 use node_model::NodeCounts;
@@ -57,13 +57,13 @@ impl<'a> Body<'a> {
         ensures counts { self.new.counts ≡ self.old.counts }
     {
         match image.micro(at) {
-            Some(op) => self.step(image, op, at, true),
+            Some(op) => self.step::<true, true>(image, op, at),
             None => None,
         }
     }
 
-    /// Executes words from an index on by their micro-ops, and quiet ones that have none, and at most
-    /// so many.
+    /// Executes words from an index on by their micro-ops, and quiet ones that have none, and at
+    /// most so many.
     #[inline(never)]
     pub fn run(&mut self, image: &Image, from: u32, most: u64) -> Stretch
         requires { length image.now ≤ most_words }
@@ -72,16 +72,14 @@ impl<'a> Body<'a> {
         ensures ground { ground_of self.new.local ≡ ground_of self.old.local }
         ensures counts { self.new.counts ≡ self.old.counts }
     {
-        let mut at = from;
-        let mut words = 0;
-        while words < most {
-            match self.step_on(image, at) {
-                Some(next) => at = next,
+        let mut done = Stretch { at: from, words: 0 };
+        while done.words < most {
+            match self.stride(image, done, most) {
+                Some(further) => done = further,
                 None => break,
             }
-            words += 1;
         }
-        Stretch { at, words }
+        done
     }
 
     /// Executes the word with an index, whichever it is.

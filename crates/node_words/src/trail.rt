@@ -1,7 +1,7 @@
 //! What takes back words that were executed by their micro-ops.
 
-ghost use Rattle.std.specs.Prelude.{◌≡◌, ◌+◌, ◌*◌, ◌/◌, ◌%◌, ◌^◌, ◌<◌, ◌≤◌, ℕ, [], true, false};
-ghost use Rattle.std.specs.Prelude.{None, All, IfOk, length, slice_index};
+ghost use Rattle.std.specs.Prelude.{◌≡◌, ◌+◌, ◌*◌, ◌/◌, ◌^◌, ◌<◌, ◌≤◌, ℕ, true, false};
+ghost use Rattle.std.specs.Prelude.{None, All, length, slice_index};
 ghost use Rattle.rv32_decode.specs.Widths.{is_aligned};
 ghost use Rattle.rv32_step.specs.Registers.{registers_of};
 ghost use Rattle.exec_map.specs.Contents.{program_of};
@@ -148,7 +148,7 @@ impl<'a> Body<'a> {
         let op = image.micro(at)?;
         // brings: the register's number is below 32
         let _ = op.rd.number();
-        if let Some(next) = self.step(image, op, at, false) {
+        if let Some(next) = self.step::<false, true>(image, op, at) {
             return Some(next);
         }
         self.store_noting(image, op, at, saved, notes)
@@ -180,7 +180,7 @@ impl<'a> Body<'a> {
         if !self.note(op, notes) {
             return None;
         }
-        self.step(image, op, at, true)
+        self.step::<true, true>(image, op, at)
     }
 
     /// Notes what a micro-op overwrites, and says whether there was room for it; else nothing is

@@ -1,0 +1,55 @@
+use Rattle.std.proofs.Common.{◌≡◌, ◌+◌, ◌^◌, ◌%◌, ℕ, ap, subst, arith}
+use Rattle.micro_op.specs.declared.MicroKind.{MicroKind}
+use Rattle.micro_op.specs.Micro.{meaning_by}
+use Rattle.jump_map.specs.Image.{image_base}
+use Rattle.jump_map.specs.Micro.{HasBehind}
+use Rattle.node_words.specs.GoingOn.{BeginsSecondLook, GoesFurther, OrsAt}
+use Rattle.node_words.proofs.LookLemmas.{index_below}
+use Rattle.node_words.proofs.body.Body.stride_batch.Goals as goal
+
+pub returns-in-LookAgain-clause-goes : goal.returns-in-LookAgain-clause-goes
+returns-in-LookAgain-clause-goes c = λ most room.
+    let image = c.args.image.now in
+    let op = c.args.op.now in
+    let at = c.args.start.at in
+    let words = c.args.start.words in
+    let begins : BeginsSecondLook image at op = record {
+      here = c.requires.here;
+      adds = λ r. ap (λ (q : MicroKind). meaning_by q image_base op r) c.in-LookAgain.is;
+      reads = subst (λ (q : MicroKind). HasBehind q image at op) c.in-LookAgain.is c.requires.looks;
+    } in
+    let low = index_below image at op c.requires.few c.requires.here in
+    let next : at + 4 ≡ (at + 4) % 2 ^ 32 = omega (arith, low) in (
+      omega arith,
+      omega (arith, room),
+      subst (λ (k : ℕ). GoesFurther image c.args.self.now at words c.look_again.new.self k (words + 4)) next
+          (c.look_again.ensures.goes image at words c.requires.few begins),
+    )
+
+pub returns-in-BothToWrite-clause-goes : goal.returns-in-BothToWrite-clause-goes
+returns-in-BothToWrite-clause-goes c = λ most room.
+    let image = c.args.image.now in
+    let op = c.args.op.now in
+    let behind = subst (λ (q : MicroKind). HasBehind q image c.args.start.at op) c.in-BothToWrite.is c.requires.looks in
+    let begins : OrsAt image c.args.start.at op = record {
+      here = c.requires.here;
+      ors = λ r. ap (λ (q : MicroKind). meaning_by q image_base op r) c.in-BothToWrite.is;
+    } in (
+      omega arith,
+      omega (arith, room),
+      c.both_to_write-at.ensures.goes image c.args.start.words c.requires.few begins behind,
+    )
+
+pub returns-in-BothToRead-clause-goes : goal.returns-in-BothToRead-clause-goes
+returns-in-BothToRead-clause-goes c = λ most room.
+    let image = c.args.image.now in
+    let op = c.args.op.now in
+    let behind = subst (λ (q : MicroKind). HasBehind q image c.args.start.at op) c.in-BothToRead.is c.requires.looks in
+    let begins : OrsAt image c.args.start.at op = record {
+      here = c.requires.here;
+      ors = λ r. ap (λ (q : MicroKind). meaning_by q image_base op r) c.in-BothToRead.is;
+    } in (
+      omega arith,
+      omega (arith, room),
+      c.both_to_read-at.ensures.goes image c.args.start.words c.requires.few begins behind.0 behind.1,
+    )
