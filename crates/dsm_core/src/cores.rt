@@ -1,7 +1,7 @@
 //! n nodes that run rewritten code, and the n × n lists of messages between them.
 
 ghost use Rattle.std.specs.Prelude.{◌≡◌, ◌≢◌, ◌<◌, ◌≤◌, ◌^◌, ◌↔◌, ℕ, List, [], ◌∷◌, true, false};
-ghost use Rattle.std.specs.Prelude.{length, slice_index_or, IfOk, OnOk, OnErr};
+ghost use Rattle.std.specs.Prelude.{length, slice_index_or, IfOk, OnOk, OnErr, MatchOption};
 ghost use Rattle.node_model.specs.declared.Standing.TheVariants.{Over};
 ghost use Rattle.node_model.specs.Node.{Resume, Waiting, standing_of};
 ghost use Rattle.node_model.specs.Core as model;
@@ -14,9 +14,11 @@ ghost use Rattle.dsm_core.specs.CoreParts.{work_of, work_in, core_of, event_of, 
 ghost use Rattle.dsm_core.specs.CoreParts.{HasStampsInRange};
 ghost use Rattle.dsm_core.specs.CoreWords.{HasPassed, HasExecutedOn, HaveEachPassed};
 ghost use Rattle.dsm_core.specs.CoreSteps.{GoesOnFor};
+ghost use Rattle.dsm_core.specs.Seen.{IsFirstIn, IsSeen};
 ghost use Rattle.node_machine.specs.Frame.{node_of, work_of as work_at};
 
 use crate::parts::Parts;
+use crate::seen::{Incoming, Seen};
 use crate::steps::first_nodes;
 use crate::trails::{Stop, Trails};
 use crate::work::Work;
@@ -190,6 +192,21 @@ impl<'a> Core<'a> {
         self.parts.make(event)
     }
 
+    /// Makes an event that is allowed, and tells what it sends and what its word wants. It takes
+    /// its memory first.
+    pub fn step_seen(&mut self, event: Event) -> Result<Seen, AllocError>
+        requires enabled { May (work_of self.old) (core_of self.old) (event_of event) }
+        ensures event { OnOk result (AreAlike self.old.layout.nodes (core_of self.new)
+            (event_step (work_of self.old) (core_of self.old) (event_of event))) }
+        ensures seen { IfOk result
+            (IsSeen (work_of self.old) (core_of self.old) (event_of event)) }
+        ensures err { OnErr result (core_of self.new ≡ core_of self.old) }
+        ensures work { work_of self.new ≡ work_of self.old }
+    {
+        self.bounds();
+        self.parts.make_seen(event)
+    }
+
     /// Executes the next word of a node by its micro-op, where that serves it: such a word prints
     /// nothing and sends nothing, and the node may execute another. It says whether it did; where
     /// it didn't, nothing has changed.
@@ -252,6 +269,16 @@ impl<'a> Core<'a> {
         ensures value { (result ≡ true) ↔ ((core_of self.now).list from to ≢ []) }
     {
         self.parts.has_wire(from, to)
+    }
+
+    /// The first message on its way from one node to another.
+    pub fn first(&self, from: u8, to: u8) -> Option<Incoming>
+        requires from { from < self.now.layout.nodes }
+        requires to { to < self.now.layout.nodes }
+        ensures value { MatchOption result ((core_of self.now).list from to ≡ [])
+            (IsFirstIn ((core_of self.now).list from to)) }
+    {
+        self.parts.first(from, to)
     }
 
     /// Its nodes and lists.

@@ -1,14 +1,16 @@
 //! The nodes and lists of a core, as they are stored, and their events.
 
 ghost use Rattle.std.specs.Prelude.{◌≡◌, ◌≢◌, ◌<◌, ◌≤◌, ◌↔◌, ℕ, [], true, false, IfOk, OnOk, OnErr};
-ghost use Rattle.std.specs.Prelude.{slice_index_or};
+ghost use Rattle.std.specs.Prelude.{slice_index_or, MatchOption};
 ghost use Rattle.node_model.specs.Core as model;
 ghost use Rattle.node_model.specs.Core.{May, IsOver, AreAlike, event_step};
 ghost use Rattle.node_machine.specs.Frame.{node_of, work_of as work_at};
 ghost use Rattle.dsm_core.specs.CoreParts.{work_of, core_of, event_of, AreParts, HasStampsInRange};
 ghost use Rattle.dsm_core.specs.CoreWords.{HasPassed, HasExecutedOn, HaveEachPassed};
+ghost use Rattle.dsm_core.specs.Seen.{IsFirstIn, IsSeen};
 
 use crate::cores::Event;
+use crate::seen::{Incoming, Seen, first, make_seen};
 use crate::steps::{are_over, execute_on, has_mail, has_wire, is_enabled, make, pass};
 use crate::trails::{Stop, Trails, pass_each};
 use block_layout::Layout;
@@ -114,6 +116,30 @@ impl<'a> Parts<'a> {
         )
     }
 
+    /// Makes an event that is allowed, where its stamps are in range, and tells what it sends and
+    /// wants.
+    pub(crate) fn make_seen(&mut self, event: Event) -> Result<Seen, AllocError>
+        requires parts { AreParts self.old }
+        requires range { HasStampsInRange self.old.layout.nodes (core_of self.old) }
+        requires enabled { May (work_of self.old) (core_of self.old) (event_of event) }
+        ensures parts { AreParts self.new }
+        ensures work { work_of self.new ≡ work_of self.old }
+        ensures event { OnOk result (AreAlike self.old.layout.nodes (core_of self.new)
+            (event_step (work_of self.old) (core_of self.old) (event_of event))) }
+        ensures seen { IfOk result
+            (IsSeen (work_of self.old) (core_of self.old) (event_of event)) }
+        ensures err { OnErr result (core_of self.new ≡ core_of self.old) }
+    {
+        let count = self.layout.nodes();
+        make_seen(
+            &mut self.nodes,
+            &mut self.lists,
+            &mut self.sends,
+            count,
+            event,
+        )
+    }
+
     /// A node executes its next word by its micro-op, where that serves it.
     pub(crate) fn pass(&mut self, node: u8) -> bool
         requires parts { AreParts self.old }
@@ -191,5 +217,17 @@ impl<'a> Parts<'a> {
     {
         let count = self.layout.nodes();
         has_wire(&self.lists, count, from, to)
+    }
+
+    /// The first message on its way from one node to another.
+    pub(crate) fn first(&self, from: u8, to: u8) -> Option<Incoming>
+        requires parts { AreParts self.now }
+        requires from { from < self.now.layout.nodes }
+        requires to { to < self.now.layout.nodes }
+        ensures value { MatchOption result ((core_of self.now).list from to ≡ [])
+            (IsFirstIn ((core_of self.now).list from to)) }
+    {
+        let count = self.layout.nodes();
+        first(&self.lists, count, from, to)
     }
 }

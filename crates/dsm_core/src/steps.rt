@@ -170,7 +170,7 @@ fn can_take(nodes: &[Node<'_>], lists: &[Queue], count: u8, node: u8, from: u8) 
 }
 
 /// Makes room for an event of a node.
-fn make_room(
+pub(crate) fn make_room(
     nodes: &mut Vec<Node<'_>>,
     lists: &mut Vec<Queue>,
     count: u8,

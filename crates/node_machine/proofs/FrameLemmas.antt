@@ -18,6 +18,8 @@ use Rattle.node_model.specs.Turns.{quiet, want_all, each_block_once, with_byes, 
 use Rattle.node_words.specs.Kept.{Shelf, Ground, Follows, Serves, phase_by, wants_by, ground_of, lane_of, local_of}
 use Rattle.node_machine.specs.Frame.{work_of, node_of, layout_of, with_parts, AreCountsBelow, WaitsInPhase, HasBegun}
 use Rattle.node_machine.specs.Desk.{turn_by}
+use Rattle.node_machine.specs.Wanted.{wants_along, wants_of_word}
+use Rattle.node_machine.specs.declared.wanted.Wanted.{Wanted}
 use Rattle.node_words.specs.GoingOn.{phase_on}
 use Rattle.node_words.proofs.WordLemmas.{ending, moved, runs_on, hot_turn}
 
@@ -70,26 +72,43 @@ served_node work n l s counts done = record n {
 }
 
 -- after a word that was served
+pub served_word : (work : Work) (n : Node) (g : Ground) (l : kept.Lane) (s : Shelf) (counts : NodeCounts) (done : kept_served.Served)
+    → Serves work.image (word_outcome work n) g n.counts l s counts done
+    → after_word work n ≡ turn_by (served_node work n l s counts done) [] done.output
+served_word work n g l s counts done f = λ t. record {
+  node = record n {
+    lane = sym f.lane t;
+    local = sym f.local t;
+    executed = n.executed + 1;
+    phase = sym (f.phase work.budget (n.executed + 1)) t;
+    stamp = n.stamp + 1;
+    output = printed_also n.output (n.stamp + 1) (sym f.output t);
+    counts = sym f.counts_after t;
+  };
+  sends = [];
+  printed = sym f.output t;
+}
+
 pub cold_turn : (work : Work) (n : Node) (g : Ground) (l : kept.Lane) (s : Shelf) (counts : NodeCounts) (done : kept_served.Served)
     → Serves work.image (word_outcome work n) g n.counts l s counts done
     → word_turn work n ≡ ending work.layout.nodes
     (want_all work.layout (turn_by (served_node work n l s counts done) [] done.output) (each_block_once work.layout (wants_by done.following)))
 cold_turn work n g l s counts done f =
-    let word : after_word work n ≡ turn_by (served_node work n l s counts done) [] done.output = λ t. record {
-      node = record n {
-        lane = sym f.lane t;
-        local = sym f.local t;
-        executed = n.executed + 1;
-        phase = sym (f.phase work.budget (n.executed + 1)) t;
-        stamp = n.stamp + 1;
-        output = printed_also n.output (n.stamp + 1) (sym f.output t);
-        counts = sym f.counts_after t;
-      };
-      sends = [];
-      printed = sym f.output t;
-    } in
     ap (ending work.layout.nodes)
-    (λ t. want_all work.layout (word t) (each_block_once work.layout (sym f.wants t)))
+    (λ t. want_all work.layout (served_word work n g l s counts done f t) (each_block_once work.layout (sym f.wants t)))
+
+-- what it wants
+pub served_wants : (i : Frame) (b : Body) (done : kept_served.Served) (ws : List Wanted)
+    → Serves i.image.now (word_outcome (work_of i) (node_of i)) (ground_of i.body.value.local) i.body.value.counts b.lane b.local b.counts done
+    → ((m : Node) (p : Option ℕ) → wants_along (layout_of b) (turn_by (with_parts m b i.desk) [] p) (each_block_once (layout_of b) (wants_by done.following)) ≡ ws)
+    → ws ≡ wants_of_word (work_of i) (node_of i)
+served_wants i b done ws s asked =
+    let before = served_node (work_of i) (node_of i) b.lane b.local b.counts done in
+    let word = served_word (work_of i) (node_of i) (ground_of i.body.value.local) b.lane b.local b.counts done s in
+    let l = layout_of i.body.value in
+    sym (asked before done.output)
+    ∙ ap (λ (g : Ground). wants_along g.layout (turn_by before [] done.output) (each_block_once g.layout (wants_by done.following))) s.ground_same
+    ∙ (λ t. wants_along l (sym word t) (each_block_once l (s.wants t)))
 
 -- after a word that was served, and whose wants were asked for
 pub served_turn : (i : Frame) (b b' : Body) (d : Desk) (done : kept_served.Served) (posts : List Post) (last : Node)

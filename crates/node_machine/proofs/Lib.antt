@@ -1,9 +1,10 @@
-mod BlockLemmas
-mod WaitLemmas
-mod RowLemmas
-mod DeskLemmas
-mod FrameLemmas
+pub mod BlockLemmas
+pub mod WaitLemmas
+pub mod RowLemmas
+pub mod DeskLemmas
+pub mod FrameLemmas
 pub mod TrailLemmas
-mod UnmetLemmas
-mod OpeningLemmas
-mod TakeLemmas
+pub mod UnmetLemmas
+pub mod OpeningLemmas
+pub mod TakeLemmas
+pub mod WantedLemmas

@@ -55,7 +55,7 @@ no_wait_is l w pending layout are is =
     let count = waits_count l w.waits (subst (λ z. AreWaits z w.waits) layout are) in
     ap (λ x. eqb x 0) (count ∙ sym is)
 
-resumed_by : (work : Work) (n : Node) (p : Phase) (idle : Bool) → n.phase ≡ p → has_no_wait work.layout n ≡ idle
+pub resumed_by : (work : Work) (n : Node) (p : Phase) (idle : Bool) → n.phase ≡ p → has_no_wait work.layout n ≡ idle
     → resumed work n p ≡ record n {
       lane = lane_after_wait n.local idle p n.lane;
       phase = phase_resumed work.budget n.executed idle p;
@@ -93,11 +93,11 @@ wait_below n idle (Ended e) m c a = counts_up m (m + 1) c (omega arith) a
 wait_below n true (Waiting r) m c a = tally_below (tally_resumed n r) m c a
 wait_below n false (Waiting r) m c a = counts_up m (m + 1) c (omega arith) a
 
-and_false : (b : Bool) → (b && false) ≡ false
+pub and_false : (b : Bool) → (b && false) ≡ false
 and_false true = refl
 and_false false = refl
 
-and_true : (b : Bool) → (b && true) ≡ b
+pub and_true : (b : Bool) → (b && true) ≡ b
 and_true true = refl
 and_true false = refl
 
@@ -122,7 +122,7 @@ taken_going i from wire posts last is ended =
 
 -- the waits and the phase after a message
 
-zero_test : (w : ℕ) → eqb w 0 ≡ true → w ≡ 0
+pub zero_test : (w : ℕ) → eqb w 0 ≡ true → w ≡ 0
 zero_test w e = grind (arith, nat_tests)
 
 some_left : (w : ℕ) → eqb w 0 ≡ false → 0 < w

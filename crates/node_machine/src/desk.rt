@@ -16,7 +16,9 @@ ghost use Rattle.node_words.specs.Kept.{ground_of, local_of, want_of, others_of,
 ghost use Rattle.node_words.specs.Blocks.{ShelfLaws};
 ghost use Rattle.node_machine.specs.Frame.{layout_of, with_parts, IsDesk, AreCountsBelow};
 ghost use Rattle.node_machine.specs.Desk.{HasRouted, turn_by, is_unmet, is_order};
+ghost use Rattle.node_machine.specs.Wanted.{wants_along, wanted_list};
 
+use crate::wanted::{WantedBlocks, wanted_of};
 use block_layout::{Block, layout_law};
 use buf_pool::Pool;
 use home_directory::{Directory, Message, Need, Post, Sends};
@@ -36,8 +38,9 @@ pub struct Desk {
 
 impl Desk {
     /// A word wants lines: the node asks the home of the block of each, once, and waits.
+    /// It tells what it finds of each.
     #[inline(never)]
-    pub fn want(&mut self, body: &mut Body<'_>, wants: Wants, sends: &mut Sends)
+    pub fn want(&mut self, body: &mut Body<'_>, wants: Wants, sends: &mut Sends) -> WantedBlocks
         requires nothing { sends.old.items ≡ [] }
         requires desk { IsDesk (layout_of body.old) self.old }
         requires idle { length self.old.waits.waits ≡ 0 }
@@ -46,6 +49,9 @@ impl Desk {
             turns.want_all (layout_of body.old) (turn_by (with_parts n body.old self.old) [] p)
             (turns.each_block_once (layout_of body.old) (all_wants wants))
             ≡ turn_by (with_parts n body.new self.new) sends.new.items p }
+        ensures wants { (n : model.Node) (p : Option ℕ) → wants_along (layout_of body.old)
+            (turn_by (with_parts n body.old self.old) [] p)
+            (turns.each_block_once (layout_of body.old) (all_wants wants)) ≡ wanted_list result }
         ensures begun { let state = (local_of body.old.local).state (line_of wants.first.at) in
             is_unmet wants.first.need state ≡ true → 0 < length self.new.waits.waits }
         ensures desk { IsDesk (layout_of body.old) self.new }
@@ -57,13 +63,19 @@ impl Desk {
     {
         layout_law();
         body.local.laws();
+        let first = wanted_of(&body.local, wants.first);
         let post = self.want_line(body, wants.first);
         let Some(other) = want_of_other_block(&body.local, wants) else {
             put(sends, post, None);
-            return;
+            return WantedBlocks { first, other: None };
         };
+        let second = wanted_of(&body.local, other);
         let other = self.want_line(body, other);
         put(sends, post, other);
+        WantedBlocks {
+            first,
+            other: Some(second),
+        }
     }
 
     /// A word wants a line: the node asks the home of its block, and waits. Nothing where the line
@@ -101,8 +113,9 @@ impl Desk {
         }
     }
 
-    /// A word wants a block.
-    fn want_block(&mut self, body: &mut Body<'_>, block: Block, need: Need) -> Option<Post>
+    /// A word wants a block: the node asks its home, and waits. Nothing where the block meets the
+    /// need.
+    pub fn want_block(&mut self, body: &mut Body<'_>, block: Block, need: Need) -> Option<Post>
         requires desk { IsDesk (layout_of body.old) self.old }
         requires none { wait_of self.old.waits block ≡ None }
         requires few { length self.old.waits.waits < 2 }
@@ -247,7 +260,7 @@ fn is_order(message: &Message) -> bool
 }
 
 /// The second of a word's wants, where that is of another block than the first.
-fn want_of_other_block(local: &Local<'_>, wants: Wants) -> Option<Want>
+pub fn want_of_other_block(local: &Local<'_>, wants: Wants) -> Option<Want>
     ensures once { turns.each_block_once local.now.copy.layout (all_wants wants)
         ≡ want_of wants.first ∷ others_of result }
     ensures apart { (other : Want) (b : ℕ) → result ≡ Some other
@@ -284,7 +297,7 @@ fn is_same_block(local: &Local<'_>, first: Want, other: Want) -> bool
 }
 
 /// Sends two messages, of which each may be missing, where nothing is sent before them.
-fn put(sends: &mut Sends, first: Option<Post>, other: Option<Post>)
+pub fn put(sends: &mut Sends, first: Option<Post>, other: Option<Post>)
     requires nothing { sends.old.items ≡ [] }
     ensures value { sends.new.items ≡ option_to_list first ++ option_to_list other }
 {

@@ -8,6 +8,7 @@ ghost use Rattle.node_model.specs.Node as model;
 ghost use Rattle.node_model.specs.Turns as turns;
 ghost use Rattle.node_words.specs.Address.{word_address};
 ghost use Rattle.node_words.specs.Kept.{ground_of, local_of, lane_of, phase_by, wants_by};
+ghost use Rattle.node_machine.specs.Wanted.{wants_along, wanted_in, wants_of_word};
 ghost use Rattle.node_machine.specs.Frame.{work_of, node_of, layout_of, with_parts, phase_of};
 ghost use Rattle.node_machine.specs.Frame.{HasRoom, IsNode, IsDesk, AreCountsBelow, HasBegun};
 ghost use Rattle.node_machine.specs.Frame.{with_all, phase_resumed, lane_after_wait};
@@ -17,6 +18,7 @@ ghost use Rattle.node_machine.specs.Desk.{turn_by, AreUnmet};
 ghost use Rattle.node_machine.specs.Runs.{HasExecuted, GoesOnBy};
 
 use crate::desk::Desk;
+use crate::wanted::WantedBlocks;
 use exec_map::End;
 use home_directory::{Message, Post, Sends, Wire};
 use jump_map::Image;
@@ -31,6 +33,13 @@ pub struct Turn {
     pub stamp: u64,
     /// The byte that it printed.
     pub output: Option<u8>,
+}
+
+/// What a word did by the path that serves every word, but for what it sent, and what it wants.
+#[derive(Drop)]
+pub struct WordTurn {
+    pub turn: Turn,
+    pub wants: Option<WantedBlocks>,
 }
 
 /// Whether a processor runs, has just got what it waited for, waits for blocks, or has ended.
@@ -87,6 +96,24 @@ impl<'a> Frame<'a> {
             };
         }
         self.serve_word(sends)
+    }
+
+    /// The same by the path that serves every word, with what the word wants.
+    pub fn exec_seen(&mut self, sends: &mut Sends) -> WordTurn
+        requires node { IsNode self.old }
+        requires may { model.can_execute (node_of self.old).phase ≡ true }
+        requires room { HasRoom self.old }
+        requires stamp { self.old.stamp < 2 ^ 56 }
+        ensures turn { turn_by (node_of self.new) sends.new.items result.turn.output
+            ≡ turns.word_turn (work_of self.old) (node_of self.old) }
+        ensures wants { wanted_in result.wants
+            ≡ wants_of_word (work_of self.old) (node_of self.old) }
+        ensures stamp { result.turn.stamp ≡ self.new.stamp }
+        ensures work { work_of self.new ≡ work_of self.old }
+        ensures node { IsNode self.new }
+    {
+        sends.clear();
+        self.serve_seen(sends)
     }
 
     /// Executes the next word by its micro-op, where that serves it and the budget has a further
@@ -224,14 +251,35 @@ impl<'a> Frame<'a> {
         ensures work { work_of self.new ≡ work_of self.old }
         ensures node { IsNode self.new }
     {
+        self.serve_seen(sends).turn
+    }
+
+    /// The same, with what the word wants.
+    fn serve_seen(&mut self, sends: &mut Sends) -> WordTurn
+        requires nothing { sends.old.items ≡ [] }
+        requires node { IsNode self.old }
+        requires may { model.can_execute (node_of self.old).phase ≡ true }
+        requires room { HasRoom self.old }
+        requires stamp { self.old.stamp < 2 ^ 56 }
+        ensures turn { turn_by (node_of self.new) sends.new.items result.turn.output
+            ≡ turns.word_turn (work_of self.old) (node_of self.old) }
+        ensures wants { wanted_in result.wants
+            ≡ wants_of_word (work_of self.old) (node_of self.old) }
+        ensures stamp { result.turn.stamp ≡ self.new.stamp }
+        ensures work { work_of self.new ≡ work_of self.old }
+        ensures node { IsNode self.new }
+    {
         let served = self.body.serve(self.image, self.at);
         self.at = served.at;
         self.executed += 1;
         self.stamp += 1;
         self.phase = phase_by(self.budget, self.executed, served.following);
         print(&mut self.output, self.stamp, served.output);
-        ask(&mut self.desk, &mut self.body, served.following, sends);
-        self.turn(sends, served.output)
+        let wants = ask(&mut self.desk, &mut self.body, served.following, sends);
+        WordTurn {
+            turn: self.turn(sends, served.output),
+            wants,
+        }
     }
 
     /// The turn that ends with a node so, once this was sent and printed: a node that has just
@@ -273,7 +321,7 @@ pub fn phase_on(phase: Phase, words: u64) -> Phase
 
 /// The phase of a node that has executed so many words and has nothing pending: the one given, or
 /// stopped by its budget.
-fn stop_or(budget: Budget, executed: u64, phase: Phase) -> Phase
+pub fn stop_or(budget: Budget, executed: u64, phase: Phase) -> Phase
     ensures { phase_of result ≡ model.stop_or budget executed (phase_of phase) }
 {
     if executed == budget.number() {
@@ -284,7 +332,7 @@ fn stop_or(budget: Budget, executed: u64, phase: Phase) -> Phase
 }
 
 /// The phase after a word, by what follows it.
-fn phase_by(budget: Budget, executed: u64, following: Following) -> Phase
+pub fn phase_by(budget: Budget, executed: u64, following: Following) -> Phase
     ensures { phase_of result ≡ phase_by budget executed following }
 {
     match following {
@@ -295,7 +343,7 @@ fn phase_by(budget: Budget, executed: u64, following: Following) -> Phase
 }
 
 /// Whether a processor has ended.
-fn is_ended(phase: Phase) -> bool
+pub fn is_ended(phase: Phase) -> bool
     ensures { result ≡ turns.is_ended (phase_of phase) }
 {
     match phase {
@@ -348,7 +396,7 @@ fn resumed(
 }
 
 /// The greater of two stamps.
-fn later(s: u64, t: u64) -> u64
+pub fn later(s: u64, t: u64) -> u64
     ensures { result ≡ turns.later s t }
 {
     if s < t { t } else { s }
@@ -356,7 +404,7 @@ fn later(s: u64, t: u64) -> u64
 
 /// A message from a node: a Bye is noted, another has its row.
 #[tactic(auto, using(crate::proofs::TakeLemmas::members_set))]
-fn treat(
+pub fn treat(
     desk: &mut Desk,
     body: &mut Body<'_>,
     byes: &mut [bool; 256],
@@ -389,7 +437,7 @@ fn treat(
 }
 
 /// Keeps a byte that was printed, where one was.
-fn print(output: &mut Vec<OutByte>, stamp: u64, byte: Option<u8>)
+pub fn print(output: &mut Vec<OutByte>, stamp: u64, byte: Option<u8>)
     requires { length output.old.items < vec_capacity output.old }
     ensures { output.new.items ≡ model.printed_also output.old.items stamp byte }
 {
@@ -399,8 +447,13 @@ fn print(output: &mut Vec<OutByte>, stamp: u64, byte: Option<u8>)
     }
 }
 
-/// Asks for what a word wants.
-fn ask(desk: &mut Desk, body: &mut Body<'_>, following: Following, sends: &mut Sends)
+/// Asks for what a word wants, and tells what it finds.
+fn ask(
+    desk: &mut Desk,
+    body: &mut Body<'_>,
+    following: Following,
+    sends: &mut Sends,
+) -> Option<WantedBlocks>
     requires nothing { sends.old.items ≡ [] }
     requires desk { IsDesk (layout_of body.old) desk.old }
     requires idle { length desk.old.waits.waits ≡ 0 }
@@ -409,6 +462,9 @@ fn ask(desk: &mut Desk, body: &mut Body<'_>, following: Following, sends: &mut S
         (turn_by (with_parts n body.old desk.old) [] p)
         (turns.each_block_once (layout_of body.old) (wants_by following))
         ≡ turn_by (with_parts n body.new desk.new) sends.new.items p }
+    ensures wants { (n : model.Node) (p : Option ℕ) → wants_along (layout_of body.old)
+        (turn_by (with_parts n body.old desk.old) [] p)
+        (turns.each_block_once (layout_of body.old) (wants_by following)) ≡ wanted_in result }
     ensures begun { AreUnmet (local_of body.old.local) (wants_by following) →
         HasBegun following (length desk.new.waits.waits) }
     ensures quiet { wants_by following ≡ [] → sends.new.items ≡ [] }
@@ -420,13 +476,13 @@ fn ask(desk: &mut Desk, body: &mut Body<'_>, following: Following, sends: &mut S
         → AreCountsBelow (most + 2) body.new.counts }
 {
     match following {
-        Following::Waits(_, wants) => desk.want(body, wants, sends),
-        Following::GoesOn | Following::Leaves(_) => {}
+        Following::Waits(_, wants) => Some(desk.want(body, wants, sends)),
+        Following::GoesOn | Following::Leaves(_) => None,
     }
 }
 
 /// Sends a Bye to every node, behind what is sent before, where the node has ended.
-fn add_byes(sends: &mut Sends, nodes: u8, ended: bool)
+pub fn add_byes(sends: &mut Sends, nodes: u8, ended: bool)
     requires few { ended ≡ true → length sends.old.items ≤ 2 }
     requires nodes { nodes ≤ 16 }
     ensures { sends.new.items ≡ (if ended then sends.old.items ++ turns.byes_to nodes

@@ -1,7 +1,12 @@
 //! A node: its processor, what words see of it, and its part of the protocol.
 
 ghost use Rattle.std.specs.Prelude.{◌≡◌, ◌+◌, ◌^◌, ◌<◌, ◌==◌, ◌≤◌, ℕ, true, false, None, IfOk};
-ghost use Rattle.std.specs.Prelude.{OnOk, if◌then◌else◌, length, option_and_then};
+ghost use Rattle.std.specs.Prelude.{OnOk, if◌then◌else◌, length, option_and_then, is_some};
+ghost use Rattle.std.specs.Prelude.{MatchOption, Some};
+ghost use Rattle.block_layout.specs.Layout.{blocks};
+ghost use Rattle.rv32_decode.specs.Widths.{width_of, is_aligned};
+ghost use Rattle.rv32_step.specs.Registers.{reg, registers_of};
+ghost use Rattle.rv32_step.specs.Memory.{load_value};
 ghost use Rattle.jump_map.specs.declared.image.ImageWord.{ImageWord};
 ghost use Rattle.exec_map.specs.Contents.{program_of};
 ghost use Rattle.jump_map.specs.Maps.{fetch};
@@ -9,28 +14,31 @@ ghost use Rattle.home_directory.specs.Effects.{members};
 ghost use Rattle.home_directory.specs.Home.{count_of};
 ghost use Rattle.node_model.specs.Node as model;
 ghost use Rattle.node_model.specs.Turns as turns;
+ghost use Rattle.node_machine.specs.Wanted.{wanted_in, wants_of_word};
 ghost use Rattle.node_machine.specs.Frame.{node_of, work_of, HasRoom};
 ghost use Rattle.node_machine.specs.Runs.{HasExecuted, GoesOnBy};
 ghost use Rattle.node_machine.specs.Trails.{TakesNodeBack};
 ghost use Rattle.node_machine.specs.declared.frame.Frame.{Frame as Stored};
 
 use crate::desk::Desk;
-use crate::frame::{Frame, Phase, Turn};
+use crate::frame::{Frame, Phase, Turn, WordTurn};
 use crate::mark::Mark;
 use crate::opening::first_local;
 use crate::trail::Trail;
-use block_layout::Layout;
+use block_layout::{Block, Layout, layout_law};
 use buf_pool::Pool;
 use byte_range::Window;
 use exec_map::{End, Program};
-use home_directory::{Directory, Sends, Wire};
+use home_directory::{Busy, Directory, Sends, Wait, Wire};
 use jump_map::{Image, ImageWord};
 use miss_handlers::Waits;
 use node_model::{Entry, NodeCounts, OutByte, Standing};
 use node_words::{Body, Lane, address_of, index_of};
 use run_limits::Budget;
 use runtime_words::RtWord;
+use rv32_decode::{LoadKind, Reg};
 use rv32_step::Registers;
+use state_table::State;
 use std::alloc::{AllocError, Global};
 use std::marker::Model;
 
@@ -52,10 +60,10 @@ impl<'a> Model for Node<'a> {
 }
 
 /// How many blocks a node may wait for, each with a buffer.
-const WAITS: u8 = 2;
+pub const WAITS: u8 = 2;
 
 /// The bytes for which a buffer has room: those of the largest block.
-const PAGE_BYTES: u32 = 4096;
+pub const PAGE_BYTES: u32 = 4096;
 
 impl<'a> Node<'a> {
     /// Node number `me` of a layout's at the start. It executes at most `budget` words.
@@ -166,6 +174,91 @@ impl<'a> Node<'a> {
         self.frame.image.fetch(address_of(self.frame.at))
     }
 
+    /// What a register holds.
+    pub fn register(&self, r: Reg) -> u32
+        ensures value { result ≡ reg (node_of self.now).lane.registers r }
+    {
+        self.registers().get(r)
+    }
+
+    /// The registers.
+    pub fn registers(&self) -> &Registers
+        ensures value { registers_of result.now ≡ (node_of self.now).lane.registers }
+    {
+        &self.frame.body.lane.registers
+    }
+
+    /// What a load from an aligned address gives.
+    pub fn value(&self, kind: LoadKind, address: u32) -> u32
+        requires { is_aligned (width_of kind) address ≡ true }
+        ensures value { result ≡ load_value kind (model.byte_at (work_of self.now).program
+            (node_of self.now).lane (node_of self.now).local) address }
+    {
+        self.frame.body.value(kind, address)
+    }
+
+    /// How many bytes a write in progress has written.
+    pub fn written(&self) -> u32
+        ensures value { result ≡ (node_of self.now).lane.written }
+    {
+        self.frame.body.lane.written
+    }
+
+    /// The address that the processor has reserved.
+    pub fn reserved(&self) -> Option<u32>
+        ensures value { result ≡ (node_of self.now).local.reservation }
+    {
+        self.frame.body.local.reserved()
+    }
+
+    /// The state of a block.
+    pub fn state(&self, block: Block) -> State
+        requires block { block < blocks (work_of self.now).layout }
+        ensures value { result
+            ≡ (turns.block_at (work_of self.now).layout (node_of self.now) block).state }
+    {
+        layout_law();
+        self.frame.body.local.laws();
+        self.frame.body.local.block_state(block)
+    }
+
+    /// Whether the node waits for a block.
+    pub fn waits_for(&self, block: Block) -> bool
+        ensures value { result ≡ is_some ((node_of self.now).wait block) }
+    {
+        self.frame.desk.waits.waits_for(block)
+    }
+
+    /// The wait for a block.
+    pub fn wait(&self, block: Block) -> Option<&Wait>
+        ensures value { MatchOption result ((node_of self.now).wait block ≡ None)
+            (λ w. (node_of self.now).wait block ≡ Some w.now) }
+    {
+        self.frame.desk.waits.wait(block)
+    }
+
+    /// The request that the home of a block is busy with, where this node is the home.
+    pub fn busy(&self, block: Block) -> Option<Busy>
+        requires block { block < blocks (work_of self.now).layout }
+        ensures value { result ≡ ((node_of self.now).entry block).busy }
+    {
+        self.frame.desk.directory.busy(block)
+    }
+
+    /// How many requests wait at this home.
+    pub fn pending(&self) -> u8
+        ensures value { result ≡ (node_of self.now).occupancy }
+    {
+        self.frame.desk.directory.pending()
+    }
+
+    /// The address of the word at which the processor goes on.
+    pub fn at(&self) -> u32
+        ensures value { result ≡ (node_of self.now).lane.at }
+    {
+        address_of(self.frame.at)
+    }
+
     /// The takes of messages, in order.
     pub fn journal(&self) -> &[Entry]
         ensures value { result.now ≡ (node_of self.now).journal }
@@ -206,6 +299,25 @@ impl<'a> Node<'a> {
         ensures work { work_of self.new ≡ work_of self.old }
     {
         self.frame.exec(sends)
+    }
+
+    /// The same, and what the word wants, by the path that serves every word.
+    pub fn exec_seen(&mut self, sends: &mut Sends) -> WordTurn
+        requires may { model.can_execute (node_of self.old).phase ≡ true }
+        requires room { HasRoom self.old }
+        requires stamp { (node_of self.old).stamp < 2 ^ 56 }
+        ensures node { node_of self.new
+            ≡ (turns.word_turn (work_of self.old) (node_of self.old)).node }
+        ensures sends { sends.new.items
+            ≡ (turns.word_turn (work_of self.old) (node_of self.old)).sends }
+        ensures output { result.turn.output
+            ≡ (turns.word_turn (work_of self.old) (node_of self.old)).printed }
+        ensures wants { wanted_in result.wants
+            ≡ wants_of_word (work_of self.old) (node_of self.old) }
+        ensures stamp { result.turn.stamp ≡ (node_of self.new).stamp }
+        ensures work { work_of self.new ≡ work_of self.old }
+    {
+        self.frame.exec_seen(sends)
     }
 
     /// Executes the next word by its micro-op, where that serves it and the budget has a further
@@ -313,7 +425,7 @@ impl<'a> Node<'a> {
 }
 
 /// What a node that runs may do next, by its next word.
-fn standing_at(next: Option<ImageWord>) -> Standing
+pub fn standing_at(next: Option<ImageWord>) -> Standing
     ensures { result ≡ (if model.takes_messages (option_and_then (λ (w : ImageWord). w.what) next)
         then Standing.AtPoll else Standing.Running) }
 {
@@ -331,7 +443,7 @@ fn takes_messages(what: Option<RtWord>) -> bool
 }
 
 /// What a node that has ended may do next, by the Byes that it has taken.
-fn ended_standing(byes: &[bool; 256], nodes: u8) -> Standing
+pub fn ended_standing(byes: &[bool; 256], nodes: u8) -> Standing
     requires { nodes ≤ 16 }
     ensures { result ≡ (if count_of (members byes.now) nodes == nodes then Standing.Over
         else Standing.Ended) }
@@ -358,7 +470,7 @@ fn count(flags: &[bool; 256], nodes: u8) -> u8
 }
 
 /// The counts of the start.
-const NO_COUNTS: NodeCounts = NodeCounts {
+pub const NO_COUNTS: NodeCounts = NodeCounts {
     read: 0,
     exclusive: 0,
     upgrade: 0,

@@ -1,0 +1,30 @@
+-- The lists that are stored are those of the core.
+use Rattle.std.proofs.Common.{◌≡◌, List, [], subst}
+use Rattle.std.specs.Prelude.{MatchOption}
+use Rattle.dsm_protocol.specs.Queue.{Queue, wires_of}
+use Rattle.dsm_core.specs.CoreParts.{CoreParts, core_of}
+use Rattle.dsm_core.specs.Seen.{IsFirstIn}
+use Rattle.dsm_core.proofs.parts.Parts.first.Goals as goal
+
+pub returns : goal.returns
+returns c =
+    let p : CoreParts = record {
+      program = c.self.inside.program.now;
+      image = c.self.inside.image.now;
+      layout = c.self.inside.layout;
+      budget = c.self.inside.budget;
+      nodes = c.self.inside.nodes.items;
+      lists = c.self.inside.lists.items;
+    } in
+    let j = c.args.from in
+    let i = c.args.to in
+    let given = subst (λ n. MatchOption c.first.result (wires_of c.deref.result.now n j i ≡ [])
+    (IsFirstIn (wires_of c.deref.result.now n j i)))
+    c.nodes-count.ensures.nodes c.first.ensures.value in
+    let stored = subst (λ (qs : List Queue). MatchOption c.first.result
+    (wires_of qs p.layout.nodes j i ≡ []) (IsFirstIn (wires_of qs p.layout.nodes j i)))
+    c.deref.ensures.value given in
+    record {
+      value = subst (λ (q : CoreParts). MatchOption c.first.result ((core_of q).list j i ≡ [])
+          (IsFirstIn ((core_of q).list j i))) c.self.view_is stored;
+    }

@@ -1,0 +1,7 @@
+-- By the registers.
+use Rattle.std.proofs.Common.{ap, ◌∙◌}
+use Rattle.rv32_step.specs.Registers.{reg}
+use Rattle.node_machine.proofs.node.Node.register.Goals as goal
+
+pub returns : goal.returns
+returns c = record { value = c.get.ensures ∙ ap (λ rs. reg rs c.args.r) c.registers.ensures.value }
