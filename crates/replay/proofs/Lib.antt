@@ -5,3 +5,4 @@ pub mod Way
 pub mod Cursors
 pub mod Runs
 pub mod Whole
+pub mod Passing

@@ -1,5 +1,5 @@
 -- Runs on their way, one event after another.
-use Rattle.std.proofs.Common.{◌≡◌, ◌≢◌, ℕ, ◌+◌, ◌<◌, ◌≤◌, Bool, true, false, List, [], ◌∷◌, Err, IsErrOf, sym, refl, ap, ◌∙◌, subst}
+use Rattle.std.proofs.Common.{◌≡◌, ◌≢◌, ℕ, ◌+◌, ◌<◌, ◌≤◌, Bool, true, false, List, [], ◌∷◌, ◌++◌, Err, IsErrOf, sym, refl, ap, ◌∙◌, subst}
 use Rattle.home_directory.specs.declared.messages.Wire.{Wire}
 use Rattle.node_model.specs.declared.Entry.{Entry as JournalEntry}
 use Rattle.node_model.specs.Node.{Work, Node}
@@ -9,14 +9,14 @@ use Rattle.run_record.specs.Record.{IsRecord}
 use Rattle.dsm_core.specs.CoreParts.{CoreParts, work_of, core_of}
 use Rattle.dsm_core.proofs.CoreRuns.{alike_same}
 use Rattle.replay.specs.declared.cursor.Cursors.{Cursors}
-use Rattle.replay.specs.declared.events.Run.{Run}
+use Rattle.replay.specs.declared.events.Replayer.{Replayer}
 use Rattle.replay.specs.declared.refused.ReplayRefused.{ReplayRefused}
 use Rattle.replay.specs.declared.refused.ReplayRefused.TheVariants.{Broken}
 use Rattle.replay.specs.declared.refused.ReplayRule.{ReplayRule}
 use Rattle.replay.specs.declared.refused.ReplayRule.TheVariants.{NoMessage, NotThere, Stamp}
 use Rattle.replay.specs.Told.{Told, told_in, entries_of, stamp_told, maker_told}
 use Rattle.replay.specs.Refusals.{IsFirstBroken}
-use Rattle.replay.specs.Way.{cursor_at, left_at, last_at, IsEntryOf, ComesFirst, HasFollowed, IsOnWay, IsRunning, IsSame}
+use Rattle.replay.specs.Way.{cursor_at, left_at, last_at, IsEntryOf, ComesFirst, HasFollowed, IsBehind, IsRunning, HasMade, IsSame}
 use Rattle.replay.proofs.Sorting.{merged}
 use Rattle.replay.proofs.Journals.{rising_in, behind_takes}
 use Rattle.replay.proofs.Made.{word_at}
@@ -28,7 +28,7 @@ use Rattle.replay.proofs.Cursors.{word_next, take_next, behind_word, behind_take
 pub begins : (work : Work) (w : Cursors) (c : Core) → IsRecord w.rec.now
     → ((i : ℕ) → left_at w i ≡ told_in i 1 0 (entries_of w.rec.now i))
     → ((i : ℕ) → last_at w i ≡ 0) → work.layout.nodes ≡ w.rec.now.nodes → c ≡ opening_core work
-    → IsOnWay work w.rec.now (left_at w) (last_at w) c
+    → IsBehind work w.rec.now (left_at w) (last_at w) c []
 begins work w c is left last n opens =
     let r = w.rec.now in
     let rising = λ (i : ℕ) (bi : i < r.nodes). rising_in i 1 0 (entries_of r i)
@@ -36,7 +36,6 @@ begins work w c is left last n opens =
     let all = merged stamp_told maker_told r.nodes (λ i. told_in i 1 0 (entries_of r i))
     (λ i bi. ((rising i bi).own, (rising i bi).climbs)) in
     record {
-      before = [];
       rest = all.0;
       are_told = all.1;
       made = tt;
@@ -48,7 +47,7 @@ begins work w c is left last n opens =
 
 -- 2. Events
 
-word_step_of : (a b : Run) (i : ℕ) → IsRunning a → i < a.cursors.rec.now.nodes
+word_step_of : (a b : Replayer) (i : ℕ) → IsRunning a → i < a.cursors.rec.now.nodes
     → May (work_of a.core) (core_of a.core) (Exec i)
     → AreAlike a.core.layout.nodes (core_of b.core)
     (event_step (work_of a.core) (core_of a.core) (Exec i))
@@ -57,34 +56,61 @@ word_step_of a b i is bi may leads = record {
   made = record {
     may = may;
     stamp = word_at (work_of a.core) (core_of a.core) i
-        ∙ ap (λ k. k + 1) (is.way.stamps i (subst (λ k. i < k) (sym is.nodes) bi));
+        ∙ ap (λ k. k + 1) (is.way.1.stamps i (subst (λ k. i < k) (sym is.nodes) bi));
   };
   leads = leads;
 }
 
-on_way : (a b : Run) (i : ℕ) (x : Told) (more : List Told) → IsRunning a
+on_way : (a b : Replayer) (i : ℕ) (x : Told) (more before : List Told) → HasMade a before
     → IsAhead a.cursors.rec.now.nodes (left_at a.cursors) i x more
     → IsStep (work_of a.core) (core_of a.core) (core_of b.core) i x
     → AreNow i x more (left_at a.cursors) (left_at b.cursors) (last_at a.cursors) (last_at b.cursors)
     → work_of b.core ≡ work_of a.core → b.cursors.rec.now ≡ a.cursors.rec.now
-    → IsOnWay (work_of b.core) b.cursors.rec.now (left_at b.cursors) (last_at b.cursors)
-    (core_of b.core)
-on_way a b i x more is ahead step now work rec =
-    subst (λ (w : Work). IsOnWay w b.cursors.rec.now (left_at b.cursors) (last_at b.cursors)
-    (core_of b.core)) (sym work)
-    (subst (λ (r : Record). IsOnWay (work_of a.core) r (left_at b.cursors) (last_at b.cursors)
-    (core_of b.core)) (sym rec)
+    → IsBehind (work_of b.core) b.cursors.rec.now (left_at b.cursors) (last_at b.cursors)
+    (core_of b.core) (before ++ x ∷ [])
+on_way a b i x more before is ahead step now work rec =
+    subst (λ (w : Work). IsBehind w b.cursors.rec.now (left_at b.cursors) (last_at b.cursors)
+    (core_of b.core) (before ++ x ∷ [])) (sym work)
+    (subst (λ (r : Record). IsBehind (work_of a.core) r (left_at b.cursors) (last_at b.cursors)
+    (core_of b.core) (before ++ x ∷ [])) (sym rec)
     (step_on (work_of a.core) a.cursors.rec.now (left_at a.cursors) (left_at b.cursors)
     (last_at a.cursors) (last_at b.cursors) (core_of a.core) (core_of b.core) i x more
-    (sym is.nodes) is.way
+    (sym is.nodes) (before, is.way)
     (subst (λ k. IsAhead k (left_at a.cursors) i x more) (sym is.nodes) ahead) step now))
 
-nodes_on : (a b : Run) → IsRunning a → work_of b.core ≡ work_of a.core
+-- of the events that a run has made, nothing but that there are some
+pub running_of : (r : Replayer) (before : List Told) → HasMade r before → IsRunning r
+running_of r before h = record { lawful = h.lawful; nodes = h.nodes; way = (before, h.way) }
+
+pub made_of : (r : Replayer) (is : IsRunning r) → HasMade r is.way.0
+made_of r is = record { lawful = is.lawful; nodes = is.nodes; way = is.way.1 }
+
+nodes_on : (a b : Replayer) → IsRunning a → work_of b.core ≡ work_of a.core
     → b.cursors.rec.now ≡ a.cursors.rec.now → b.core.layout.nodes ≡ b.cursors.rec.now.nodes
 nodes_on a b is work rec = ap (λ (w : Work). w.layout.nodes) work ∙ is.nodes
     ∙ ap (λ (r : Record). r.nodes) (sym rec)
 
-pub run_word : (a b : Run) (i : ℕ) (e : JournalEntry) → IsRunning a
+pub made_word : (a b : Replayer) (before : List Told) (i : ℕ) (e : JournalEntry)
+    → HasMade a before → i < a.cursors.rec.now.nodes → IsEntryOf a.cursors i e
+    → (cursor_at a.cursors i).words < e.words
+    → ComesFirst a.cursors a.cursors.rec.now.nodes (last_at a.cursors i + 1) i
+    → May (work_of a.core) (core_of a.core) (Exec i)
+    → AreAlike a.core.layout.nodes (core_of b.core)
+    (event_step (work_of a.core) (core_of a.core) (Exec i))
+    → work_of b.core ≡ work_of a.core
+    → HasFollowed a.cursors i (after_word a.cursors i) b.cursors
+    → HasMade b (before ++ word_next a.cursors i ∷ [])
+made_word a b before i e h bi entry lt first may leads work f =
+    let is : IsRunning a = running_of a before h in
+    record {
+      lawful = word_lawful a.cursors b.cursors i e bi is.lawful entry lt f;
+      nodes = nodes_on a b is work f.rec_is;
+      way = on_way a b i (word_next a.cursors i) (behind_word a.cursors i) before h
+          (word_ahead a.cursors is.lawful i bi e entry lt first)
+          (word_step_of a b i is bi may leads) (word_now a.cursors b.cursors i f) work f.rec_is;
+    }
+
+pub run_word : (a b : Replayer) (i : ℕ) (e : JournalEntry) → IsRunning a
     → i < a.cursors.rec.now.nodes → IsEntryOf a.cursors i e
     → (cursor_at a.cursors i).words < e.words
     → ComesFirst a.cursors a.cursors.rec.now.nodes (last_at a.cursors i + 1) i
@@ -93,15 +119,39 @@ pub run_word : (a b : Run) (i : ℕ) (e : JournalEntry) → IsRunning a
     (event_step (work_of a.core) (core_of a.core) (Exec i))
     → work_of b.core ≡ work_of a.core
     → HasFollowed a.cursors i (after_word a.cursors i) b.cursors → IsRunning b
-run_word a b i e is bi entry lt first may leads work f = record {
-  lawful = word_lawful a.cursors b.cursors i e bi is.lawful entry lt f;
-  nodes = nodes_on a b is work f.rec_is;
-  way = on_way a b i (word_next a.cursors i) (behind_word a.cursors i) is
-      (word_ahead a.cursors is.lawful i bi e entry lt first)
-      (word_step_of a b i is bi may leads) (word_now a.cursors b.cursors i f) work f.rec_is;
-}
+run_word a b i e is bi entry lt first may leads work f =
+    running_of b (is.way.0 ++ word_next a.cursors i ∷ [])
+    (made_word a b is.way.0 i e (made_of a is) bi entry lt first may leads work f)
 
-pub run_take : (a b : Run) (i : ℕ) (e : JournalEntry) → IsRunning a
+pub made_take : (a b : Replayer) (before : List Told) (i : ℕ) (e : JournalEntry)
+    → HasMade a before → i < a.cursors.rec.now.nodes → IsEntryOf a.cursors i e
+    → e.words ≤ (cursor_at a.cursors i).words
+    → ComesFirst a.cursors a.cursors.rec.now.nodes e.stamp i
+    → May (work_of a.core) (core_of a.core) (Take i e.from)
+    → AreAlike a.core.layout.nodes (core_of b.core)
+    (event_step (work_of a.core) (core_of a.core) (Take i e.from))
+    → ((core_of b.core).nodes i).stamp ≡ e.stamp
+    → work_of b.core ≡ work_of a.core
+    → HasFollowed a.cursors i (after_take a.cursors i e) b.cursors
+    → HasMade b (before ++ take_next a.cursors i e ∷ [])
+made_take a b before i e h bi entry le first may leads stamp work f =
+    let is : IsRunning a = running_of a before h in
+    record {
+      lawful = take_lawful a.cursors b.cursors i e bi is.lawful entry f;
+      nodes = nodes_on a b is work f.rec_is;
+      way = on_way a b i (take_next a.cursors i e) (behind_take a.cursors i e) before h
+          (take_ahead a.cursors is.lawful i bi e entry le first)
+          (record {
+            made = record {
+              may = may;
+              stamp = ap (λ (n : Node). n.stamp) (sym (leads.nodes i
+                  (subst (λ k. i < k) (sym is.nodes) bi))) ∙ stamp;
+            };
+            leads = leads;
+          }) (take_now a.cursors b.cursors i e f) work f.rec_is;
+    }
+
+pub run_take : (a b : Replayer) (i : ℕ) (e : JournalEntry) → IsRunning a
     → i < a.cursors.rec.now.nodes → IsEntryOf a.cursors i e
     → e.words ≤ (cursor_at a.cursors i).words
     → ComesFirst a.cursors a.cursors.rec.now.nodes e.stamp i
@@ -111,33 +161,34 @@ pub run_take : (a b : Run) (i : ℕ) (e : JournalEntry) → IsRunning a
     → ((core_of b.core).nodes i).stamp ≡ e.stamp
     → work_of b.core ≡ work_of a.core
     → HasFollowed a.cursors i (after_take a.cursors i e) b.cursors → IsRunning b
-run_take a b i e is bi entry le first may leads stamp work f = record {
-  lawful = take_lawful a.cursors b.cursors i e bi is.lawful entry f;
-  nodes = nodes_on a b is work f.rec_is;
-  way = on_way a b i (take_next a.cursors i e) (behind_take a.cursors i e) is
-      (take_ahead a.cursors is.lawful i bi e entry le first)
-      (record {
-        made = record {
-          may = may;
-          stamp = ap (λ (n : Node). n.stamp) (sym (leads.nodes i
-              (subst (λ k. i < k) (sym is.nodes) bi))) ∙ stamp;
-        };
-        leads = leads;
-      }) (take_now a.cursors b.cursors i e f) work f.rec_is;
-}
+run_take a b i e is bi entry le first may leads stamp work f =
+    running_of b (is.way.0 ++ take_next a.cursors i e ∷ [])
+    (made_take a b is.way.0 i e (made_of a is) bi entry le first may leads stamp work f)
+
+-- the stamp of a node, by where its journal was followed to
+pub stamp_now : (a b : Replayer) (i : ℕ) (before : List Told) → HasMade b before
+    → b.cursors.rec.now ≡ a.cursors.rec.now → i < a.cursors.rec.now.nodes
+    → ((core_of b.core).nodes i).stamp ≡ last_at b.cursors i
+stamp_now a b i before h rec bi = h.way.stamps i
+    (subst (λ k. i < k) (ap (λ (r : Record). r.nodes) (sym rec) ∙ sym h.nodes) bi)
+
+-- a node's journal has one next entry
+pub entry_one : (w : Cursors) (i : ℕ) (e f : JournalEntry) → IsEntryOf w i e → IsEntryOf w i f
+    → e ≡ f
+entry_one w i e f p q = let same = sym p ∙ q in cc
 
 -- 3. Refusals
 
-abbrev pub Refused : Run → ReplayRule → (node : ℕ) → Type 0
+abbrev pub Refused : Replayer → ReplayRule → (node : ℕ) → Type 0
 Refused a rule i = IsFirstBroken (work_of a.core) a.cursors.rec.now rule i
     ((cursor_at a.cursors i).takes + 1)
 
-ahead_in : (a : Run) (i : ℕ) (x : Told) (more : List Told) → IsRunning a
+ahead_in : (a : Replayer) (i : ℕ) (x : Told) (more : List Told) → IsRunning a
     → IsAhead a.cursors.rec.now.nodes (left_at a.cursors) i x more
     → IsAhead a.core.layout.nodes (left_at a.cursors) i x more
 ahead_in a i x more is ahead = subst (λ k. IsAhead k (left_at a.cursors) i x more) (sym is.nodes) ahead
 
-pub word_refused : (a : Run) (i : ℕ) (e : JournalEntry) → IsRunning a
+pub word_refused : (a : Replayer) (i : ℕ) (e : JournalEntry) → IsRunning a
     → i < a.cursors.rec.now.nodes → IsEntryOf a.cursors i e
     → (cursor_at a.cursors i).words < e.words
     → ComesFirst a.cursors a.cursors.rec.now.nodes (last_at a.cursors i + 1) i
@@ -148,7 +199,7 @@ word_refused a i e is bi entry lt first not =
     (core_of a.core) i x more (sym is.nodes) is.way
     (ahead_in a i x more is (word_ahead a.cursors is.lawful i bi e entry lt first)) refl not
 
-take_in : (a : Run) (i : ℕ) (e : JournalEntry) → IsRunning a
+take_in : (a : Replayer) (i : ℕ) (e : JournalEntry) → IsRunning a
     → i < a.cursors.rec.now.nodes → IsEntryOf a.cursors i e
     → e.words ≤ (cursor_at a.cursors i).words
     → ComesFirst a.cursors a.cursors.rec.now.nodes e.stamp i
@@ -157,7 +208,7 @@ take_in : (a : Run) (i : ℕ) (e : JournalEntry) → IsRunning a
 take_in a i e is bi entry le first = ahead_in a i (take_next a.cursors i e)
     (behind_take a.cursors i e) is (take_ahead a.cursors is.lawful i bi e entry le first)
 
-pub take_lacks : (a : Run) (i : ℕ) (e : JournalEntry) → IsRunning a
+pub take_lacks : (a : Replayer) (i : ℕ) (e : JournalEntry) → IsRunning a
     → i < a.cursors.rec.now.nodes → IsEntryOf a.cursors i e
     → e.words ≤ (cursor_at a.cursors i).words
     → ComesFirst a.cursors a.cursors.rec.now.nodes e.stamp i → e.from < a.core.layout.nodes
@@ -167,7 +218,7 @@ take_lacks a i e is bi entry le first bj none =
     (core_of a.core) i e.from (take_next a.cursors i e) (behind_take a.cursors i e) (sym is.nodes)
     is.way (take_in a i e is bi entry le first) refl bj none
 
-pub take_refused : (a : Run) (i : ℕ) (e : JournalEntry) → IsRunning a
+pub take_refused : (a : Replayer) (i : ℕ) (e : JournalEntry) → IsRunning a
     → i < a.cursors.rec.now.nodes → IsEntryOf a.cursors i e
     → e.words ≤ (cursor_at a.cursors i).words
     → ComesFirst a.cursors a.cursors.rec.now.nodes e.stamp i → e.from < a.core.layout.nodes
@@ -178,7 +229,7 @@ take_refused a i e is bi entry le first bj some not =
     (core_of a.core) i e.from (take_next a.cursors i e) (behind_take a.cursors i e) (sym is.nodes)
     is.way (take_in a i e is bi entry le first) refl bj some not
 
-pub stamp_refused : (a : Run) (d : Core) (i : ℕ) (e : JournalEntry) → IsRunning a
+pub stamp_refused : (a : Replayer) (d : Core) (i : ℕ) (e : JournalEntry) → IsRunning a
     → i < a.cursors.rec.now.nodes → IsEntryOf a.cursors i e
     → e.words ≤ (cursor_at a.cursors i).words
     → ComesFirst a.cursors a.cursors.rec.now.nodes e.stamp i
@@ -195,13 +246,13 @@ stamp_refused a d i e is bi entry le first may leads other =
 
 -- 4. The same run
 
-pub same_none : (a : Run) → IsSame a a
+pub same_none : (a : Replayer) → IsSame a a
 same_none a = record { work = refl; rec_is = refl }
 
-pub same_also : (a b c : Run) → IsSame a b → IsSame b c → IsSame a c
+pub same_also : (a b c : Replayer) → IsSame a b → IsSame b c → IsSame a c
 same_also a b c p q = record { work = q.work ∙ p.work; rec_is = q.rec_is ∙ p.rec_is }
 
-pub broken_same : (a b : Run) (rule : ReplayRule) (i n : ℕ) → IsSame a b
+pub broken_same : (a b : Replayer) (rule : ReplayRule) (i n : ℕ) → IsSame a b
     → IsFirstBroken (work_of b.core) b.cursors.rec.now rule i n
     → IsFirstBroken (work_of a.core) a.cursors.rec.now rule i n
 broken_same a b rule i n same h =
@@ -228,7 +279,7 @@ no_wire (w ∷ ws) b f e = absurd
 pub not_true : (b : Bool) → b ≡ true → b ≡ false → ⊥
 not_true b t f = let e : true ≡ false = sym t ∙ f in cc
 
-pub from_below : (a : Run) (i : ℕ) (e : JournalEntry) → IsRunning a → i < a.cursors.rec.now.nodes
+pub from_below : (a : Replayer) (i : ℕ) (e : JournalEntry) → IsRunning a → i < a.cursors.rec.now.nodes
     → IsEntryOf a.cursors i e → e.from < a.core.layout.nodes
 from_below a i e is bi entry = subst (λ k. e.from < k) (sym is.nodes)
     (lawful_entry a.cursors i e bi is.lawful entry).from

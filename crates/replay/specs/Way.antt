@@ -1,16 +1,19 @@
 -- Helps the code alone: how far the journals of a record were followed, and a core on its way.
-use Rattle.std.specs.Prelude.{◌≡◌, ◌≢◌, ℕ, zero, suc, ◌+◌, ◌-◌, ◌<◌, ◌⊎◌, List, [], ◌∷◌, ◌++◌, drop, map, length, slice_index_or, Option, Some, None}
+use Rattle.std.specs.Prelude.{◌≡◌, ◌≢◌, ℕ, true, zero, suc, ◌+◌, ◌-◌, ◌<◌, ◌≤◌, ◌⊎◌, List, [], ◌∷◌, ◌++◌, drop, map, length, slice_index_or, Option, Some, None}
 use Rattle.node_model.specs.declared.Entry.{Entry as JournalEntry}
-use Rattle.node_model.specs.Node.{Work}
-use Rattle.node_model.specs.Core.{Core, AreAlike, opening_core, after}
+use Rattle.node_model.specs.Node.{Work, standing_of}
+use Rattle.node_model.specs.Turns.{quiet, word_turn}
+use Rattle.node_model.specs.Core.{Core, Event, Exec, Take, May, may_execute, AreAlike, event_step, opening_core, after}
 use Rattle.run_order.specs.Sorted.{made_by}
 use Rattle.run_record.specs.declared.Record.{Record}
 use Rattle.run_record.specs.Record.{IsRecord, AreTakesBehind}
-use Rattle.dsm_core.specs.CoreParts.{work_of, core_of}
+use Rattle.dsm_core.specs.declared.seen.Seen.{Seen}
+use Rattle.dsm_core.specs.CoreParts.{CoreParts, work_of, core_of}
+use Rattle.dsm_core.specs.Seen.{IsSeen}
 use Rattle.replay.specs.declared.cursor.Cursor.{Cursor}
 use Rattle.replay.specs.declared.cursor.Cursors.{Cursors}
 use Rattle.replay.specs.declared.cursor.Next.{Next}
-use Rattle.replay.specs.declared.events.Run.{Run}
+use Rattle.replay.specs.declared.events.Replayer.{Replayer}
 use Rattle.replay.specs.Told.{Told, told_in, entries_of, stamp_told, maker_told, what_told, AreToldBy, events_told, AreMadeAs}
 
 -- the entries, the first without so many of its words
@@ -87,11 +90,10 @@ pub record HasFollowed (old : Cursors) (node : ℕ) (c : Cursor) (new : Cursors)
   pub own : cursor_at new node ≡ c
   pub others : (i : ℕ) → i ≢ node → cursor_at new i ≡ cursor_at old i
 
--- The core has made the first events that the record tells of, as they are told of, and these are
--- left to each node, behind its event with this stamp.
-pub record IsOnWay (work : Work) (r : Record) (left : ℕ → List Told) (last : ℕ → ℕ) (c : Core)
-    : Type 0 where
-  pub before : List Told
+-- The core has made these events, which are the first that the record tells of, as they are told
+-- of, and these are left to each node, behind its event with this stamp.
+pub record IsBehind (work : Work) (r : Record) (left : ℕ → List Told) (last : ℕ → ℕ) (c : Core)
+    (before : List Told) : Type 0 where
   pub rest : List Told
   pub are_told : AreToldBy r (before ++ rest)
   pub made : AreMadeAs work (opening_core work) (map what_told before)
@@ -99,15 +101,83 @@ pub record IsOnWay (work : Work) (r : Record) (left : ℕ → List Told) (last :
   pub each : (i : ℕ) → i < work.layout.nodes → made_by stamp_told maker_told i rest ≡ left i
   pub stamps : (i : ℕ) → i < work.layout.nodes → (c.nodes i).stamp ≡ last i
 
+-- it has made some events so
+abbrev pub IsOnWay : Work → Record → (left : ℕ → List Told) → (last : ℕ → ℕ) → Core → Type 0
+IsOnWay work r left last c = (before : List Told) × IsBehind work r left last c before
+
 -- the core of a run has made the events that its record tells of up to where it was followed
-pub record IsRunning (r : Run) : Type 0 where
+pub record IsRunning (r : Replayer) : Type 0 where
   pub lawful : AreLawful r.cursors
   pub nodes : r.core.layout.nodes ≡ r.cursors.rec.now.nodes
   pub way : IsOnWay (work_of r.core) r.cursors.rec.now (left_at r.cursors) (last_at r.cursors)
       (core_of r.core)
 
+-- the core of a run has made these events
+pub record HasMade (r : Replayer) (before : List Told) : Type 0 where
+  pub lawful : AreLawful r.cursors
+  pub nodes : r.core.layout.nodes ≡ r.cursors.rec.now.nodes
+  pub way : IsBehind (work_of r.core) r.cursors.rec.now (left_at r.cursors) (last_at r.cursors)
+      (core_of r.core) before
+
+-- the next event of node i is a word, which comes before the events of all others
+pub record IsNextWord (w : Cursors) (i : ℕ) : Type 0 where
+  pub node : i < w.rec.now.nodes
+  pub entry : JournalEntry
+  pub is_entry : IsEntryOf w i entry
+  pub words : (cursor_at w i).words < entry.words
+  pub first : ComesFirst w w.rec.now.nodes (last_at w i + 1) i
+
+-- it is the take of this message, from node j
+pub record IsNextTake (w : Cursors) (i j : ℕ) : Type 0 where
+  pub node : i < w.rec.now.nodes
+  pub entry : JournalEntry
+  pub is_entry : IsEntryOf w i entry
+  pub words : entry.words ≤ (cursor_at w i).words
+  pub from : entry.from ≡ j
+  pub sender : j < w.rec.now.nodes
+  pub first : ComesFirst w w.rec.now.nodes entry.stamp i
+
+-- an event is the next of all
+abbrev pub IsNextOf : Replayer → Event → Type 0
+IsNextOf r (Exec i) = IsNextWord r.cursors i
+IsNextOf r (Take i j) = IsNextTake r.cursors i j
+
+-- a run has made an event more, of which this was seen
+pub record HasMadeOne (old new : Replayer) (before : List Told) (e : Event) (s : Seen) : Type 0
+  where
+    pub told : Told
+    pub event_is : told.what.event ≡ e
+    pub made : HasMade new (before ++ told ∷ [])
+    pub may : May (work_of old.core) (core_of old.core) e
+    pub stamp : ((core_of new.core).nodes (maker_told told)).stamp ≡ stamp_told told
+    pub leads : AreAlike old.core.layout.nodes (core_of new.core)
+        (event_step (work_of old.core) (core_of old.core) e)
+    pub seen : IsSeen (work_of old.core) (core_of old.core) e s
+
+-- an event is a word that sends nothing and prints nothing, after which its node may execute
+-- another
+abbrev pub IsQuiet : Work → Core → Event → Type 0
+IsQuiet work c (Exec i) =
+    (word_turn work (c.nodes i) ≡ quiet (word_turn work (c.nodes i)).node)
+    × (may_execute (standing_of work (word_turn work (c.nodes i)).node) ≡ true)
+IsQuiet work c (Take i j) = ⊥
+
+-- each is so where it comes
+abbrev pub AreQuiet : Work → Core → List Event → Type 0
+AreQuiet work c [] = Unit {0}
+AreQuiet work c (e ∷ es) = IsQuiet work c e × AreQuiet work (event_step work c e) es
+
+-- a run has made so many quiet words more
+pub record HasPassed (old new : Replayer) (before : List Told) (words : ℕ) : Type 0 where
+  pub more : List Told
+  pub made : HasMade new (before ++ more)
+  pub count : length more ≡ words
+  pub quiet : AreQuiet (work_of old.core)
+      (after (work_of old.core) (opening_core (work_of old.core)) (events_told before))
+      (events_told more)
+
 -- no journal tells of more
-abbrev pub AreThrough : Run → Type 0
+abbrev pub AreThrough : Replayer → Type 0
 AreThrough r = (i : ℕ) → i < r.core.layout.nodes → left_at r.cursors i ≡ []
 
 -- how many events are left to the nodes below m
@@ -118,7 +188,18 @@ count_left w (suc m) = count_left w m + length (left_at w m)
 abbrev pub all_left : Cursors → ℕ
 all_left w = count_left w w.rec.now.nodes
 
+-- how many events are left to be made
+abbrev pub events_left : Replayer → ℕ
+events_left r = all_left r.cursors
+
+-- what a run shows: its core, and its record
+abbrev pub core_in : Replayer → CoreParts
+core_in r = r.core
+
+abbrev pub record_in : Replayer → Record
+record_in r = r.cursors.rec.now
+
 -- the same record and rewritten code
-pub record IsSame (old new : Run) : Type 0 where
+pub record IsSame (old new : Replayer) : Type 0 where
   pub work : work_of new.core ≡ work_of old.core
   pub rec_is : new.cursors.rec.now ≡ old.cursors.rec.now

@@ -2,50 +2,190 @@
 
 use crate::cursor::Cursors;
 use crate::refused::{ReplayRefused, ReplayRule};
-use dsm_core::{Core, Event, Outcome, Work};
+use dsm_core::{Core, Event, Outcome, Seen, Work};
 use node_model::{Entry, Standing};
 use run_record::Record;
 use std::alloc::{AllocError, Global};
 
-/// A core, and how far the journals of a record were followed to it.
+/// A recorded run that is made once more: a core, and how far the journals of a record were
+/// followed to it.
 #[derive(Drop)]
-pub(crate) struct Run<'a> {
+pub struct Replayer<'a> {
     core: Core<'a>,
     cursors: Cursors<'a>,
 }
 
-impl<'a> Run<'a> {
+impl<'a> Replayer<'a> {
     ghost use Rattle.std.specs.Prelude.{◌≡◌, ◌≤◌, ◌<◌, ◌+◌, ◌↔◌, ℕ, true, length, IfOk, OnOk};
-    ghost use Rattle.std.specs.Prelude.{IsErrOf};
-    ghost use Rattle.node_model.specs.Core.{Exec, May};
+    ghost use Rattle.std.specs.Prelude.{IsErrOf, MatchOption, List, []};
+    ghost use Rattle.node_model.specs.Core.{Exec, Take, May, IsOver};
     ghost use Rattle.rewriting_law.specs.Bounds.{RunsRewritten};
     ghost use Rattle.dsm_core.specs.CoreParts.{work_in, work_of, core_of, outcome_of};
+    ghost use Rattle.dsm_core.specs.CoreParts.{event_of};
     ghost use Rattle.run_record.specs.Record.{IsRecord};
     ghost use Rattle.replay.specs.Refusals.{IsFirstBroken, IsUnfinished};
-    ghost use Rattle.replay.specs.Replay.{IsReplay};
+    ghost use Rattle.replay.specs.Replay.{IsReplay, TellsWholeRun};
     ghost use Rattle.replay.specs.Way.{IsRunning, AreThrough, IsSame, IsEntryOf, IsFirst};
     ghost use Rattle.replay.specs.Way.{ComesFirst, HasFollowed, cursor_at, last_at, entries_at};
-    ghost use Rattle.replay.specs.Way.{all_left};
+    ghost use Rattle.replay.specs.Way.{all_left, HasMade, HasMadeOne, IsNextOf, IsNextWord};
+    ghost use Rattle.replay.specs.Way.{IsNextTake, HasPassed, core_in, record_in, events_left};
+    ghost use Rattle.replay.specs.Told.{Told};
     ghost use Rattle.replay.specs.declared.refused.ReplayRule.{ReplayRule as Rules};
     ghost use Rattle.replay.specs.declared.refused.ReplayRule.TheVariants.{NotThere};
     ghost use Rattle.replay.specs.declared.refused.ReplayRefused.TheVariants.{Broken};
 
     /// The core at the start, and the journals at theirs.
-    pub(crate) fn new(
-        alloc: Global,
-        work: &Work<'a>,
-        rec: &'a Record,
-    ) -> Result<Run<'a>, AllocError>
+    pub fn new(alloc: Global, work: &Work<'a>, rec: &'a Record) -> Result<Replayer<'a>, AllocError>
         requires rewritten { RunsRewritten (work_in work.now) }
         requires record { IsRecord rec.now }
         requires nodes { (work_in work.now).layout.nodes ≡ rec.now.nodes }
         ensures running { IfOk result IsRunning }
-        ensures work { IfOk result (λ r. work_of r.core ≡ work_in work.now) }
-        ensures rec { IfOk result (λ r. r.cursors.rec.now ≡ rec.now) }
+        ensures made { IfOk result (λ r. HasMade r []) }
+        ensures work { IfOk result (λ r. work_of (core_in r) ≡ work_in work.now) }
+        ensures rec { IfOk result (λ r. record_in r ≡ rec.now) }
     {
         let core = Core::new(alloc, work)?;
         let cursors = Cursors::new(rec);
-        Ok(Run { core, cursors })
+        Ok(Replayer { core, cursors })
+    }
+
+    /// The core, as the events made so far have left it.
+    pub fn core(&self) -> &Core<'a>
+        ensures value { result.now ≡ core_in self.now }
+    {
+        &self.core
+    }
+
+    /// The event that the record tells of next.
+    pub fn next(&self) -> Option<Event>
+        requires running { IsRunning self.now }
+        ensures { MatchOption result (AreThrough self.now)
+            (λ event. IsNextOf self.now (event_of event)) }
+    {
+        let node = self.cursors.first()?;
+        let Some(entry) = self.cursors.entry(node) else {
+            unreachable!()
+        };
+        if self.cursors.at(node).words < entry.words {
+            return Some(Event::Exec(node));
+        }
+        Some(Event::Take {
+            node,
+            from: entry.from,
+        })
+    }
+
+    /// Makes the event that the record tells of next, and tells what it sends and wants. Fails
+    /// where it can't be made as it is told of.
+    pub fn make(&mut self, event: Event) -> Result<Seen, ReplayRefused>
+        requires running { IsRunning self.old }
+        requires next { IsNextOf self.old (event_of event) }
+        ensures made { (before : List Told) → HasMade self.old before → IfOk result
+            (HasMadeOne self.old self.new before (event_of event)) }
+        ensures same { OnOk result (IsSame self.old self.new) }
+        ensures fewer { OnOk result (events_left self.new < events_left self.old) }
+        ensures refused { (rule : Rules) (i entry : ℕ)
+            → IsErrOf result (Broken rule i entry)
+            → IsFirstBroken (work_of (core_in self.old)) (record_in self.old) rule i entry }
+    {
+        match event {
+            Event::Exec(node) => self.make_word(node),
+            Event::Take { node, from } => self.make_take(node, from),
+        }
+    }
+
+    /// Makes words of the node whose event the record tells of next, as long as these come before
+    /// the events of all others and their micro-ops serve them, and at most so many; and says how
+    /// many. Such words send nothing and print nothing.
+    pub fn pass(&mut self, most: u64) -> u64
+        requires running { IsRunning self.old }
+        ensures passed { (before : List Told) → HasMade self.old before
+            → HasPassed self.old self.new before result }
+        ensures most { result ≤ most }
+        ensures same { IsSame self.old self.new }
+    {
+        let Some(Event::Exec(node)) = self.next() else {
+            return 0;
+        };
+        let Some(entry) = self.cursors.entry(node) else {
+            unreachable!()
+        };
+        let done = self.cursors.at(node).words;
+        if done >= entry.words {
+            return 0;
+        }
+        let words = self.cursors.words_first(node, entry.words - done);
+        self.pass_words(node, entry, words, most)
+    }
+
+    /// Makes words of an entry as long as their micro-ops serve them, of so many that come before
+    /// the events of all others, and at most so many.
+    fn pass_words(&mut self, node: u8, entry: Entry, words: u64, most: u64) -> u64
+        requires running { IsRunning self.old }
+        requires node { node < self.old.cursors.rec.now.nodes }
+        requires entry { IsEntryOf self.old.cursors node entry }
+        requires words { (cursor_at self.old.cursors node).words + words ≤ entry.words }
+        requires first { ComesFirst self.old.cursors self.old.cursors.rec.now.nodes
+            (last_at self.old.cursors node + words) node }
+        ensures passed { (before : List Told) → HasMade self.old before
+            → HasPassed self.old self.new before result }
+        ensures most { result ≤ most }
+        ensures same { IsSame self.old self.new }
+    {
+        if !self.core.enabled(Event::Exec(node)) {
+            return 0;
+        }
+        for word in 0..words {
+            if word >= most {
+                return word;
+            }
+            if !self.core.pass(node) {
+                return word;
+            }
+            self.cursors.pass_word(node, entry);
+        }
+        words
+    }
+
+    /// Makes the next event, which is a word.
+    fn make_word(&mut self, node: u8) -> Result<Seen, ReplayRefused>
+        requires running { IsRunning self.old }
+        requires next { IsNextWord self.old.cursors node }
+        ensures made { (before : List Told) → HasMade self.old before → IfOk result
+            (HasMadeOne self.old self.new before (Exec node)) }
+        ensures same { OnOk result (IsSame self.old self.new) }
+        ensures fewer { OnOk result (events_left self.new < events_left self.old) }
+        ensures refused { (rule : Rules) (i entry : ℕ)
+            → IsErrOf result (Broken rule i entry) → IsFirstBroken (work_of self.old.core)
+            self.old.cursors.rec.now rule i entry }
+    {
+        let Some(entry) = self.cursors.entry(node) else {
+            unreachable!()
+        };
+        if !self.core.enabled(Event::Exec(node)) {
+            return Err(self.broken(ReplayRule::NotThere, node));
+        }
+        let seen = self.core.step_seen(Event::Exec(node))?;
+        self.cursors.pass_word(node, entry);
+        Ok(seen)
+    }
+
+    /// Makes the next event, which is a take.
+    fn make_take(&mut self, node: u8, from: u8) -> Result<Seen, ReplayRefused>
+        requires running { IsRunning self.old }
+        requires next { IsNextTake self.old.cursors node from }
+        ensures made { (before : List Told) → HasMade self.old before → IfOk result
+            (HasMadeOne self.old self.new before (Take node from)) }
+        ensures same { OnOk result (IsSame self.old self.new) }
+        ensures fewer { OnOk result (events_left self.new < events_left self.old) }
+        ensures refused { (rule : Rules) (i entry : ℕ)
+            → IsErrOf result (Broken rule i entry) → IsFirstBroken (work_of self.old.core)
+            self.old.cursors.rec.now rule i entry }
+    {
+        let Some(entry) = self.cursors.entry(node) else {
+            unreachable!()
+        };
+        self.take(node, entry)
     }
 
     /// Makes all events, by (stamp, node). Fails with the first that can't be made as it is told
@@ -60,13 +200,13 @@ impl<'a> Run<'a> {
             self.old.cursors.rec.now rule node entry }
     {
         while let Some(node) = self.cursors.first() {
-            self.make(node)?;
+            self.make_first(node)?;
         }
         Ok(())
     }
 
     /// Makes the next event of the node that comes first, and more of its words that do.
-    fn make(&mut self, node: u8) -> Result<(), ReplayRefused>
+    fn make_first(&mut self, node: u8) -> Result<(), ReplayRefused>
         requires running { IsRunning self.old }
         requires first { (stamp : ℕ) × IsFirst self.old.cursors self.old.cursors.rec.now.nodes
             stamp node }
@@ -85,7 +225,8 @@ impl<'a> Run<'a> {
             let words = self.cursors.words_first(node, entry.words - done);
             return self.execute(node, entry, words);
         }
-        self.take(node, entry)
+        self.take(node, entry)?;
+        Ok(())
     }
 
     /// A node executes so many words of an entry, which come before the events of all others.
@@ -145,7 +286,7 @@ impl<'a> Run<'a> {
     }
 
     /// A node makes the take of an entry, which comes before the events of all others.
-    fn take(&mut self, node: u8, entry: Entry) -> Result<(), ReplayRefused>
+    fn take(&mut self, node: u8, entry: Entry) -> Result<Seen, ReplayRefused>
         requires running { IsRunning self.old }
         requires node { node < self.old.cursors.rec.now.nodes }
         requires entry { IsEntryOf self.old.cursors node entry }
@@ -153,6 +294,8 @@ impl<'a> Run<'a> {
         requires first { ComesFirst self.old.cursors self.old.cursors.rec.now.nodes
             entry.stamp node }
         ensures running { OnOk result (IsRunning self.new) }
+        ensures made { (before : List Told) → HasMade self.old before → IfOk result
+            (HasMadeOne self.old self.new before (Take node entry.from)) }
         ensures followed { let c = cursor_at self.old.cursors node in OnOk result (HasFollowed
             self.old.cursors node
             (record { takes = c.takes + 1; words = 0; last = entry.stamp })
@@ -169,12 +312,12 @@ impl<'a> Run<'a> {
         if !self.core.enabled(Event::Take { node, from }) {
             return Err(self.broken(ReplayRule::NotThere, node));
         }
-        self.core.step(Event::Take { node, from })?;
+        let seen = self.core.step_seen(Event::Take { node, from })?;
         if self.core.node(node).stamp() != entry.stamp {
             return Err(self.broken(ReplayRule::Stamp, node));
         }
         self.cursors.pass_take(node, entry);
-        Ok(())
+        Ok(seen)
     }
 
     /// The refusal of a node's next event.
@@ -193,6 +336,27 @@ impl<'a> Run<'a> {
         }
     }
 
+    /// Looks whether each node is over, where all events were made. Fails with the least node that
+    /// isn't.
+    pub fn finish(&self) -> Result<(), ReplayRefused>
+        requires running { IsRunning self.now }
+        requires through { AreThrough self.now }
+        ensures whole { (before : List Told) → HasMade self.now before → OnOk result
+            (TellsWholeRun (work_of (core_in self.now)) (record_in self.now) before) }
+        ensures over { OnOk result
+            (IsOver (work_of (core_in self.now)) (core_of (core_in self.now))) }
+        ensures refused { (rule : Rules) (node entry : ℕ)
+            → IsErrOf result (Broken rule node entry)
+            → IsUnfinished (work_of (core_in self.now)) (record_in self.now) rule node entry }
+    {
+        for node in 0..self.core.layout().nodes() {
+            let Standing::Over = self.core.node(node).standing() else {
+                return Err(self.unfinished(node));
+            };
+        }
+        Ok(())
+    }
+
     /// What the core gives, where all events were made. Fails with the least node that isn't over.
     pub(crate) fn outcome(&self, alloc: Global) -> Result<Outcome, ReplayRefused>
         requires running { IsRunning self.now }
@@ -203,11 +367,7 @@ impl<'a> Run<'a> {
             → IsErrOf result (Broken rule node entry) → IsUnfinished (work_of self.now.core)
             self.now.cursors.rec.now rule node entry }
     {
-        for node in 0..self.core.layout().nodes() {
-            let Standing::Over = self.core.node(node).standing() else {
-                return Err(self.unfinished(node));
-            };
-        }
+        self.finish()?;
         Ok(self.core.outcome(alloc)?)
     }
 

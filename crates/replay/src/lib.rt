@@ -16,7 +16,7 @@ mod law;
 mod refused;
 
 use dsm_core::{Outcome, Work};
-use events::Run;
+pub use events::Replayer;
 pub use law::replay_law;
 pub use refused::{ReplayRefused, ReplayRule};
 use run_record::Record;
@@ -37,7 +37,7 @@ pub fn replay(alloc: Global, work: &Work<'_>, rec: &Record) -> Result<Outcome, R
         → IsFirstBroken (work_in work.now) rec.now rule node entry
         ⊎ IsUnfinished (work_in work.now) rec.now rule node entry }
 {
-    let mut run = Run::new(alloc, work, rec)?;
+    let mut run = Replayer::new(alloc, work, rec)?;
     run.make_all()?;
     run.outcome(alloc)
 }

@@ -1,0 +1,4 @@
+pub mod Names
+pub mod Parts
+pub mod Events
+pub mod Shown

@@ -1,0 +1,16 @@
+-- So many words were executed.
+use Rattle.std.proofs.Common.{◌≡◌, ◌↔◌, true}
+use Rattle.node_model.specs.Core.{Exec, May}
+use Rattle.dsm_core.specs.CoreParts.{work_of, core_of}
+use Rattle.replay.specs.Way.{IsRunning, IsSame, HasFollowed}
+use Rattle.replay.proofs.Cursors.{words_after}
+use Rattle.replay.proofs.events.Replayer.execute.Given as goal
+
+abbrev pub invariant-loop-word : goal.invariant-loop-word
+invariant-loop-word l = record {
+  running : IsRunning l.self;
+  same : IsSame l.initial.self l.self;
+  followed : HasFollowed l.initial.self.cursors l.node
+      (words_after l.initial.self.cursors l.node l._word) l.self.cursors;
+  may : (l.may ≡ true) ↔ May (work_of l.self.core) (core_of l.self.core) (Exec l.node);
+}

@@ -1,0 +1,135 @@
+-- A trace, one event after another.
+use Rattle.std.proofs.Common.{◌≡◌, ℕ, ◌<◌, List, [], ◌∷◌, ◌++◌, map, Option, Some, None, refl, sym, ap, ap₂, ◌∙◌, subst, append_assoc, eq-eqb}
+use Rattle.std.specs.Prelude.{option_to_list}
+use Rattle.std.specs.Option.{option_map}
+use Rattle.templates.specs.declared.plans.PlanEntry.{PlanEntry}
+use Rattle.templates.specs.Code.{HasCode}
+use Rattle.home_directory.specs.declared.messages.Wire.{Wire}
+use Rattle.node_model.specs.Node.{Work, Node}
+use Rattle.node_model.specs.Core.{Core, Event, Exec, Take, May, AreAlike, opening_core, event_step, take_first, after}
+use Rattle.run_order.specs.OwnRun.{Stamped, maker, node_of, run_of}
+use Rattle.run_record.specs.declared.Record.{Record}
+use Rattle.dsm_core.specs.CoreParts.{work_of, core_of}
+use Rattle.replay.specs.Told.{Told, what_told, events_told}
+use Rattle.replay.specs.Way.{HasMade, HasPassed, core_in}
+use Rattle.run_trace.specs.declared.tracer.Tracer.{Tracer}
+use Rattle.run_trace.specs.declared.traced.Traced.{Traced as Stored}
+use Rattle.node_model.specs.Turns.{word_turn, take_turn}
+use Rattle.run_trace.specs.Traced.{Traced, What, Word, Taken, OfWord, OfTake, what_at, traced_at, first_traced, word_traced, take_traced}
+use Rattle.run_trace.specs.Trace.{trace_from, trace_of}
+use Rattle.run_trace.specs.Given.{traced_of}
+use Rattle.run_trace.specs.Tracing.{HasTraced, HasTracedOne, HasPassedOn, IsCodeOf, IsSame, work_traced, plan_traced}
+use Rattle.run_trace.proofs.Quiet.{quiet_trace}
+
+what_alike : (work : Work) (plan : List PlanEntry) (c d : Core) (e : Event) → May work c e
+    → AreAlike work.layout.nodes c d → what_at work plan c e ≡ what_at work plan d e
+what_alike work plan c d (Exec i) may a =
+    ap (λ (n : Node). what_at work plan (record c { nodes = λ k. n }) (Exec i)) (a.nodes i may.0)
+what_alike work plan c d (Take i j) may a =
+    ap₂ (λ (n : Node) (ws : List Wire). first_traced work n j ws) (a.nodes i may.0) (a.lists j i may.1 may.0)
+
+traced_alike : (work : Work) (plan : List PlanEntry) (c d : Core) (x : Stamped) → May work c x.event
+    → AreAlike work.layout.nodes c d → traced_at work plan c x ≡ traced_at work plan d x
+traced_alike work plan c d x may a =
+    ap (option_map (λ (w : What). record { stamp = x.stamp; node = maker x; what = w }))
+    (what_alike work plan c d x.event may a)
+
+pub what_append : (xs ys : List Told) → map what_told (xs ++ ys) ≡ map what_told xs ++ map what_told ys
+what_append [] ys = refl
+what_append (x ∷ xs) ys = ap (λ l. x.what ∷ l) (what_append xs ys)
+
+pub trace_more : (work : Work) (plan : List PlanEntry) (c : Core) (xs ys : List Stamped)
+    → trace_from work plan c (xs ++ ys)
+    ≡ trace_from work plan c xs ++ trace_from work plan (after work c (run_of xs)) ys
+trace_more work plan c [] ys = refl
+trace_more work plan c (x ∷ xs) ys =
+    let o = option_to_list (traced_at work plan c x) in
+    let d = event_step work c x.event in
+    ap (λ l. o ++ l) (trace_more work plan d xs ys)
+    ∙ sym (append_assoc o (trace_from work plan d xs) (trace_from work plan (after work d (run_of xs)) ys))
+
+trace_one : (work : Work) (plan : List PlanEntry) (before : List Told) (told : Told) (x : Traced)
+    → traced_at work plan (after work (opening_core work) (events_told before)) told.what ≡ Some x
+    → trace_of work plan (before ++ told ∷ []) ≡ trace_of work plan before ++ x ∷ []
+trace_one work plan before told x is =
+    let o = opening_core work in
+    ap (trace_from work plan o) (what_append before (told ∷ []))
+    ∙ trace_more work plan o (map what_told before) (told.what ∷ [])
+    ∙ ap (λ l. trace_of work plan before ++ (option_to_list l ++ [])) is
+
+-- a word, by what it did
+pub exec_traced : (work : Work) (plan : List PlanEntry) (c : Core) (x : Stamped) (i s : ℕ) (w : OfWord)
+    → x.event ≡ Exec i → x.stamp ≡ s → word_traced work plan (c.nodes i) ≡ w
+    → traced_at work plan c x ≡ Some (record { stamp = s; node = i; what = Word w })
+exec_traced work plan c x i s w is stamp did =
+    (λ t. option_map (λ (v : What). record { stamp = x.stamp; node = node_of (is t); what = v }) (what_at work plan c (is t)))
+    ∙ (λ t. Some (record { stamp = stamp t; node = i; what = Word (did t) }))
+
+pub exec_node : (work : Work) (c : Core) (i : ℕ)
+    → (event_step work c (Exec i)).nodes i ≡ (word_turn work (c.nodes i)).node
+exec_node work c i = rw (eq-eqb i i refl) refl
+
+-- a take, by what it did
+pub take_traced_at : (work : Work) (plan : List PlanEntry) (c : Core) (x : Stamped) (i j s : ℕ) (wire : Wire)
+    (rest : List Wire) (w : OfTake) → x.event ≡ Take i j → x.stamp ≡ s → c.list j i ≡ wire ∷ rest
+    → take_traced work (c.nodes i) j wire ≡ w
+    → traced_at work plan c x ≡ Some (record { stamp = s; node = i; what = Taken w })
+take_traced_at work plan c x i j s wire rest w is stamp front did =
+    (λ t. option_map (λ (v : What). record { stamp = x.stamp; node = node_of (is t); what = v }) (what_at work plan c (is t)))
+    ∙ (λ t. option_map (λ (v : What). record { stamp = stamp t; node = i; what = v }) (first_traced work (c.nodes i) j (front t)))
+    ∙ (λ t. Some (record { stamp = s; node = i; what = Taken (did t) }))
+
+pub take_node : (work : Work) (c : Core) (i j : ℕ) (wire : Wire) (rest : List Wire) → c.list j i ≡ wire ∷ rest
+    → (event_step work c (Take i j)).nodes i ≡ (take_turn work (c.nodes i) j wire).node
+take_node work c i j wire rest front = ap (λ ws. (take_first work c i j ws).nodes i) front
+    ∙ rw (eq-eqb i i refl) refl
+
+-- the code is that of the program
+code_same : (t u : Tracer) → IsCodeOf t → IsSame t u → IsCodeOf u
+code_same t u code same = subst (λ (w : Work). HasCode w.program u.code.now) (sym same.work)
+    (subst (λ c. HasCode (work_traced t).program c) (sym same.code) code)
+
+-- quiet words were made
+pub passed_on : (t u : Tracer) (seen : List Traced) (words : ℕ) (h : HasTraced t seen)
+    → HasPassed t.replayer u.replayer h.before words → IsSame t u → HasPassedOn u seen words
+passed_on t u seen words h p same =
+    let work = work_traced t in
+    let plan = plan_traced t in
+    let o = opening_core work in
+    let then = after work o (events_told h.before) in
+    let quiet = quiet_trace work plan then p.more p.quiet in
+    let more = trace_from work plan then (map what_told p.more) in
+    let all : trace_of work plan (h.before ++ p.more) ≡ seen ++ more =
+    ap (trace_from work plan o) (what_append h.before p.more)
+    ∙ trace_more work plan o (map what_told h.before) (map what_told p.more)
+    ∙ ap (λ l. l ++ more) (sym h.seen_is) in
+    record {
+      more = more;
+      traced = record {
+        before = h.before ++ p.more;
+        made = p.made;
+        code = code_same t u h.code same;
+        seen_is = sym all
+            ∙ ap₂ (λ w q. trace_of w q (h.before ++ p.more)) (sym same.work) (sym same.plan);
+      };
+      quiet = quiet.0;
+      count = quiet.1 ∙ p.count;
+    }
+
+-- one event more was traced
+pub traced_on : (t u : Tracer) (seen : List Traced) (x : Stored) (h : HasTraced t seen)
+    → HasTracedOne t u h.before x → IsSame t u → HasTraced u (seen ++ traced_of x ∷ [])
+traced_on t u seen x h one same =
+    let work = work_traced t in
+    let plan = plan_traced t in
+    let then = after work (opening_core work) (events_told h.before) in
+    let is : traced_at work plan then one.told.what ≡ Some (traced_of x) =
+    sym (traced_alike work plan (core_of (core_in t.replayer)) then one.told.what one.may h.made.way.alike) ∙ one.is in
+    record {
+      before = h.before ++ one.told ∷ [];
+      made = one.made;
+      code = code_same t u h.code same;
+      seen_is = ap (λ l. l ++ traced_of x ∷ []) h.seen_is
+          ∙ sym (trace_one work plan h.before one.told (traced_of x) is)
+          ∙ ap₂ (λ w p. trace_of w p (h.before ++ one.told ∷ [])) (sym same.work) (sym same.plan);
+    }

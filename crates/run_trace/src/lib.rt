@@ -1,0 +1,13 @@
+#![tactic(auto)]
+//! What a recorded run did, event by event.
+
+mod law;
+mod reach;
+mod takes;
+mod traced;
+mod tracer;
+mod words;
+
+pub use law::trace_law;
+pub use traced::{AccessKind, Accessed, TakeTraced, Tallied, Traced, What, WordTraced};
+pub use tracer::Tracer;

@@ -1,0 +1,174 @@
+//! A recorded run that is made once more, event by event, as values.
+
+ghost use Rattle.std.specs.Prelude.{◌≡◌};
+ghost use Rattle.run_trace.specs.Taking.{block_of_first};
+
+use crate::takes::{look, take_traced};
+use crate::traced::{Traced, What};
+use crate::words::{before_word, word_traced};
+use block_layout::Block;
+use dsm_core::{Event, Incoming, Work};
+use replay::{ReplayRefused, Replayer};
+use run_record::Record;
+use std::alloc::{AllocError, Global};
+use templates::{Code, Plan};
+
+/// A recorded run that is made once more, event by event.
+#[derive(Drop)]
+pub struct Tracer<'a> {
+    replayer: Replayer<'a>,
+    plan: &'a Plan,
+    code: &'a Code,
+}
+
+impl<'a> Tracer<'a> {
+    ghost use Rattle.std.specs.Prelude.{◌≡◌, ◌⊎◌, ◌<◌, ◌≤◌, ℕ, List, [], IfOk, OnOk, IsErrOf};
+    ghost use Rattle.templates.specs.Code.{HasCode};
+    ghost use Rattle.node_model.specs.Core.{Exec, Take};
+    ghost use Rattle.rewriting_law.specs.Bounds.{RunsRewritten};
+    ghost use Rattle.dsm_core.specs.CoreParts.{work_in};
+    ghost use Rattle.run_record.specs.Record.{IsRecord};
+    ghost use Rattle.replay.specs.Told.{Told};
+    ghost use Rattle.replay.specs.Refusals.{IsFirstBroken, IsUnfinished};
+    ghost use Rattle.replay.specs.Way.{HasMade, IsRunning, IsNextOf};
+    ghost use Rattle.replay.specs.declared.refused.ReplayRule.{ReplayRule as Rules};
+    ghost use Rattle.replay.specs.declared.refused.ReplayRefused.TheVariants.{Broken};
+    ghost use Rattle.run_trace.specs.Traced.{Traced as OfEvent};
+    ghost use Rattle.run_trace.specs.Tracing.{HasTraced, HasGoneOn, HasTracedOne, IsSame};
+    ghost use Rattle.run_trace.specs.Trace.{IsTraceSoFar};
+    ghost use Rattle.run_trace.specs.Tracing.{HasPassedOn, IsFewer, events_to_trace};
+    ghost use Rattle.run_trace.specs.Tracing.{work_traced, plan_traced, record_traced, replayer_in};
+    ghost use Rattle.run_trace.specs.Tracing.{IsCodeOf};
+
+    /// The run at its start, of rewritten code that the plan says.
+    pub fn new(
+        alloc: Global,
+        work: &Work<'a>,
+        plan: &'a Plan,
+        code: &'a Code,
+        rec: &'a Record,
+    ) -> Result<Tracer<'a>, AllocError>
+        requires rewritten { RunsRewritten (work_in work.now) }
+        requires code { HasCode (work_in work.now).program code.now }
+        requires record { IsRecord rec.now }
+        requires nodes { (work_in work.now).layout.nodes ≡ rec.now.nodes }
+        ensures start { IfOk result (λ t. HasTraced t []) }
+        ensures work { IfOk result (λ t. work_traced t ≡ work_in work.now) }
+        ensures plan { IfOk result (λ t. plan_traced t ≡ plan.now) }
+        ensures rec { IfOk result (λ t. record_traced t ≡ rec.now) }
+    {
+        Ok(Tracer {
+            replayer: Replayer::new(alloc, work, rec)?,
+            plan,
+            code,
+        })
+    }
+
+    /// What is traced is the trace of the events made so far; the call does nothing.
+    pub fn promises(&self)
+        ensures so_far { (seen : List OfEvent) → HasTraced self.now seen
+            → IsTraceSoFar (work_traced self.now) (plan_traced self.now) (record_traced self.now)
+            seen }
+    {}
+
+    /// What the next event does; None where all were made and each node is over. Fails where an
+    /// event can't be made as the record tells of it.
+    pub fn next(&mut self) -> Result<Option<Traced>, ReplayRefused>
+        requires traced { (seen : List OfEvent) × HasTraced self.old seen }
+        ensures next { (seen : List OfEvent) → HasTraced self.old seen
+            → IfOk result (HasGoneOn self.new seen) }
+        ensures same { OnOk result (IsSame self.old self.new) }
+        ensures fewer { IfOk result (IsFewer self.old self.new) }
+        ensures refused { (rule : Rules) (node entry : ℕ)
+            → IsErrOf result (Broken rule node entry)
+            → IsFirstBroken (work_traced self.old) (record_traced self.old) rule node entry
+            ⊎ IsUnfinished (work_traced self.old) (record_traced self.old) rule node entry }
+    {
+        let Some(event) = self.replayer.next() else {
+            self.replayer.finish()?;
+            return Ok(None);
+        };
+        let traced = match event {
+            Event::Exec(node) => self.word(node)?,
+            Event::Take { node, from } => self.take(node, from)?,
+        };
+        Ok(Some(traced))
+    }
+
+    /// Makes words that neither miss nor send nor print, at most so many, and says how many: for a
+    /// caller that shows none of them.
+    pub fn pass(&mut self, most: u64) -> u64
+        requires traced { (seen : List OfEvent) × HasTraced self.old seen }
+        ensures passed { (seen : List OfEvent) → HasTraced self.old seen
+            → HasPassedOn self.new seen result }
+        ensures most { result ≤ most }
+        ensures same { IsSame self.old self.new }
+    {
+        self.replayer.pass(most)
+    }
+
+    /// What the next event does, which is a word.
+    fn word(&mut self, node: u8) -> Result<Traced, ReplayRefused>
+        requires running { IsRunning (replayer_in self.old) }
+        requires code { IsCodeOf self.old }
+        requires next { IsNextOf (replayer_in self.old) (Exec node) }
+        ensures made { (before : List Told) → HasMade (replayer_in self.old) before
+            → IfOk result (HasTracedOne self.old self.new before) }
+        ensures same { OnOk result (IsSame self.old self.new) }
+        ensures fewer { OnOk result
+            (events_to_trace self.new < events_to_trace self.old) }
+        ensures refused { (rule : Rules) (i entry : ℕ) → IsErrOf result (Broken rule i entry)
+            → IsFirstBroken (work_traced self.old) (record_traced self.old) rule i entry }
+    {
+        let before = before_word(self.replayer.core().node(node), self.plan, self.code);
+        let seen = self.replayer.make(Event::Exec(node))?;
+        let core = self.replayer.core();
+        let after = core.node(node);
+        Ok(Traced {
+            stamp: after.stamp(),
+            node,
+            what: What::Word(word_traced(before, seen, core.layout(), after)),
+        })
+    }
+
+    /// What the next event does, which is a take.
+    fn take(&mut self, node: u8, from: u8) -> Result<Traced, ReplayRefused>
+        requires running { IsRunning (replayer_in self.old) }
+        requires next { IsNextOf (replayer_in self.old) (Take node from) }
+        ensures made { (before : List Told) → HasMade (replayer_in self.old) before
+            → IfOk result (HasTracedOne self.old self.new before) }
+        ensures same { OnOk result (IsSame self.old self.new) }
+        ensures fewer { OnOk result
+            (events_to_trace self.new < events_to_trace self.old) }
+        ensures refused { (rule : Rules) (i entry : ℕ) → IsErrOf result (Broken rule i entry)
+            → IsFirstBroken (work_traced self.old) (record_traced self.old) rule i entry }
+    {
+        let core = self.replayer.core();
+        let first = core.first(from, node);
+        let block = block_in(first);
+        let before = look(core.node(node), core.layout(), block);
+        let seen = self.replayer.make(Event::Take { node, from })?;
+        let Some(incoming) = first else {
+            unreachable!()
+        };
+        let core = self.replayer.core();
+        let after = core.node(node);
+        let now = look(after, core.layout(), block);
+        let nodes = core.layout().nodes();
+        Ok(Traced {
+            stamp: after.stamp(),
+            node,
+            what: What::Take(take_traced(from, incoming, before, seen, now, nodes)),
+        })
+    }
+}
+
+/// The block of a message, if there is one.
+fn block_in(first: Option<Incoming>) -> Option<Block>
+    ensures { result ≡ block_of_first first }
+{
+    match first {
+        Some(incoming) => incoming.header.block,
+        None => None,
+    }
+}

@@ -1,0 +1,202 @@
+//! What a word did, by what is seen before and after it.
+
+ghost use Rattle.std.specs.Prelude.{◌≡◌, ◌-◌, ◌||◌, ℕ, List, false, if◌then◌else◌, length, take};
+ghost use Rattle.std.specs.Option.{option_map};
+ghost use Rattle.rv32_program.specs.Program.{Program};
+ghost use Rattle.templates.specs.Code.{HasCode};
+ghost use Rattle.templates.specs.Commits as model;
+ghost use Rattle.templates.specs.declared.plans.PlanEntry.{PlanEntry};
+ghost use Rattle.jump_map.specs.Maps.{old_of};
+ghost use Rattle.node_model.specs.Node.{Work, Node as OfNode, Tally, counts_after};
+ghost use Rattle.node_machine.specs.Frame.{work_of, node_of};
+ghost use Rattle.run_trace.specs.Given.{tally_of, word_of};
+ghost use Rattle.run_trace.specs.Looks.{IsBefore, IsAfterWord, reached_by, accessed_at, is_exited};
+ghost use Rattle.run_trace.specs.Looks.{commits_when, waits_in};
+ghost use Rattle.run_trace.specs.Traced as trace;
+
+use crate::reach::{Reach, Reached, reach_of};
+use crate::traced::{AccessKind, Accessed, Tallied, WordTraced};
+use block_layout::Layout;
+use dsm_core::Seen;
+use home_directory::Headers;
+use node_machine::{Node, NodeCounts, Standing};
+use rv32_program::End;
+use templates::{Code, CommitKind, Place, Plan, commit_at};
+
+/// What is seen of a word before it.
+#[derive(Clone, Copy)]
+pub(crate) struct Before {
+    pub place: Option<Place>,
+    pub kind: CommitKind,
+    pub reach: Reach,
+    pub counts: NodeCounts,
+}
+
+/// What is seen of a node's next word.
+pub(crate) fn before_word(node: &Node<'_>, plan: &Plan, code: &Code) -> Before
+    requires code { HasCode (work_of node.now).program code.now }
+    ensures { IsBefore (work_of node.now) plan.now (node_of node.now) result }
+{
+    let place = place_of(node);
+    Before {
+        place,
+        kind: kind_at(plan, code, place),
+        reach: reach_of(node),
+        counts: node.counts(),
+    }
+}
+
+/// Where a node's next word stands.
+fn place_of(node: &Node<'_>) -> Option<Place>
+    ensures { result ≡ old_of (work_of node.now).image (node_of node.now).lane.at }
+{
+    match node.next_word() {
+        Some(word) => word.place,
+        None => None,
+    }
+}
+
+/// When the word at a place commits, if there is one.
+fn kind_at(plan: &Plan, code: &Code, place: Option<Place>) -> CommitKind
+    ensures { (program : Program) → HasCode program code.now
+        → result ≡ model.commit_at program plan.now place }
+{
+    match place {
+        Some(place) => commit_at(plan, code, place),
+        None => CommitKind::Never,
+    }
+}
+
+/// What a word did, by what was seen before it, while it was made, and of its node after it.
+pub(crate) fn word_traced(
+    before: Before,
+    seen: Seen,
+    layout: &Layout,
+    node: &Node<'_>,
+) -> WordTraced
+    ensures { (work : Work) (plan : List PlanEntry) (n : OfNode)
+        → IsAfterWord work plan n before seen layout.now node.now
+        → word_of result ≡ trace.word_traced work plan n }
+{
+    let end = node.end();
+    let reached = reached(before.reach, seen.printed);
+    let exits = exits(end);
+    let waits = waits(node.standing());
+    WordTraced {
+        place: before.place,
+        commits: commits(before.kind, reached, exits, waits),
+        access: accessed(layout, reached),
+        wants: seen.wants,
+        tally: tally(before.counts, node.counts()),
+        printed: seen.printed,
+        sends: but_byes(seen.sends, end.is_some(), layout.nodes()),
+        end,
+    }
+}
+
+/// What a word reaches that prints this.
+fn reached(reach: Reach, printed: Option<u8>) -> Option<Reached>
+    ensures { result ≡ reached_by reach printed }
+{
+    match (reach, printed) {
+        (Reach::At(reached), _) => Some(reached),
+        (Reach::IfPrints(address), Some(byte)) => Some(Reached {
+            kind: AccessKind::Reads,
+            address,
+            value: Some(u32::from(byte)),
+        }),
+        _ => None,
+    }
+}
+
+/// An access, with its block.
+fn accessed(layout: &Layout, reached: Option<Reached>) -> Option<Accessed>
+    ensures { result ≡ option_map (accessed_at layout.now) reached }
+{
+    match reached {
+        Some(reached) => Some(Accessed {
+            kind: reached.kind,
+            address: reached.address,
+            block: layout.block_of(reached.address / 64),
+        }),
+        None => None,
+    }
+}
+
+/// Whether a processor has ended by an exit.
+fn exits(end: Option<End>) -> bool
+    ensures { result ≡ is_exited end }
+{
+    match end {
+        Some(End::Exited(_)) => true,
+        _ => false,
+    }
+}
+
+/// Whether a node waits.
+fn waits(standing: Standing) -> bool
+    ensures { result ≡ waits_in standing }
+{
+    match standing {
+        Standing::Waiting => true,
+        _ => false,
+    }
+}
+
+/// The word of a line that a node doesn't have.
+const FLAG: u32 = 0xffff_ff03;
+
+/// Whether a word commits a step of the original.
+fn commits(kind: CommitKind, reached: Option<Reached>, exits: bool, waits: bool) -> bool
+    ensures { result ≡ (exits || commits_when kind reached waits) }
+{
+    exits
+        || match kind {
+            CommitKind::Never => false,
+            CommitKind::Always => true,
+            CommitKind::IfNotFlag => reads_other(reached),
+            CommitKind::IfNoWait => !waits,
+        }
+}
+
+/// Whether a value is read that isn't the flag word.
+fn reads_other(reached: Option<Reached>) -> bool
+    ensures { result ≡ commits_when CommitKind.IfNotFlag reached false }
+{
+    match reached {
+        Some(
+            Reached {
+                value: Some(value),
+                ..
+            },
+        ) => value != FLAG,
+        _ => false,
+    }
+}
+
+/// What was counted between, beside misses and messages.
+pub(crate) fn tally(before: NodeCounts, after: NodeCounts) -> Tallied
+    ensures { (t : Tally) → after.falses ≡ (counts_after t before).falses
+        → after.fallbacks ≡ (counts_after t before).fallbacks → tally_of result ≡ t }
+{
+    if after.falses != before.falses {
+        return Tallied::FalseMiss;
+    }
+    if after.fallbacks != before.fallbacks {
+        return Tallied::FallsBack;
+    }
+    Tallied::Nothing
+}
+
+/// What was sent but for farewells, which come last where the processor ended.
+pub(crate) fn but_byes(sends: Headers, ended: bool, nodes: u8) -> Headers
+    ensures { result.items ≡ (if ended then take (length sends.items - nodes) sends.items
+        else sends.items) }
+{
+    let mut sends = sends;
+    if ended {
+        let len = sends.len();
+        sends.truncate(len.saturating_sub(nodes as usize));
+    }
+    sends
+}
