@@ -1,7 +1,7 @@
-mod templates
-mod batches
-mod words
-mod one_memory
-mod protocol_side
-mod runs
-mod progress
+pub mod templates
+pub mod batches
+pub mod words
+pub mod one_memory
+pub mod protocol_side
+pub mod runs
+pub mod progress

@@ -48,6 +48,21 @@ module _ (original : Original) where
     pub ends : (p : ℕ) → p < original.nodes
         → Ends p ((run original s picks).processors p).exit
 
+  -- some picks more behind
+  pub join_advanced : (s : State) (ks js : List Pick) (here there : ℕ → List ℕ)
+      (out printed : List ℕ) → Advanced s ks here out → Advanced (run original s ks) js there printed
+      → Advanced s (ks ++ js) (λ p. here p ++ there p) (out ++ printed)
+  join_advanced s ks js here there out printed a b =
+      let t = run original s ks in
+      record {
+        allowed = is_run_append ks js s a.allowed b.allowed;
+        same_values = λ p. values_append p ks js s
+            ∙ ap (λ xs. xs ++ values_read original p t js) (a.same_values p)
+            ∙ ap (λ xs. here p ++ xs) (b.same_values p);
+        output = ap (λ (u : State). u.output) (run_append ks js s) ∙ b.output
+            ∙ ap (λ xs. xs ++ printed) a.output ∙ append_assoc s.output out printed;
+      }
+
   -- some picks more at the front
   pub join : (Ends : ℕ → Option Exit → Type 0) (s : State) (ks js : List Pick)
       (here there : ℕ → List ℕ) (out printed : List ℕ) → Advanced s ks here out

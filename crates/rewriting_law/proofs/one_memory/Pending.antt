@@ -129,7 +129,7 @@ module _ (layout : Shape) (work : Work) (plan : List PlanEntry) (laid : AreLaidO
   }
 
   -- a want that isn't pending is of a block that isn't waited for
-  not_pending : (wait : ℕ → Option Need) (w : Want) (ws : List Want)
+  pub not_pending : (wait : ℕ → Option Need) (w : Want) (ws : List Want)
       → pending layout wait (w ∷ ws) ≡ [] → (b : ℕ) → block_of layout (line_of w.at) ≡ Some b
       → wait b ≡ None
   not_pending wait w ws none b lies = go (wait b) refl
@@ -218,7 +218,7 @@ module _ (layout : Shape) (work : Work) (plan : List PlanEntry) (laid : AreLaidO
           (sym g)
 
   -- what is pending is what is still waited for
-  pending_wanted : (wait : ℕ → Option Need) (b : ℕ) (ws : List Want)
+  pub pending_wanted : (wait : ℕ → Option Need) (b : ℕ) (ws : List Want)
       → wanted_in layout b (pending layout wait ws)
       ≡ cond (is_some (wait b)) (wanted_in layout b ws) None
   pending_wanted wait b [] = none (is_some (wait b))

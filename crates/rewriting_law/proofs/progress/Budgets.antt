@@ -16,7 +16,7 @@ module _ (work : Work) where
     pub most : n.executed ≤ work.budget
     pub less : can_execute n.phase ≡ true → n.executed < work.budget
 
-  stop_less : (executed : ℕ) (phase : Phase) → executed ≤ work.budget
+  pub stop_less : (executed : ℕ) (phase : Phase) → executed ≤ work.budget
       → can_execute (stop_or work.budget executed phase) ≡ true → executed < work.budget
   stop_less executed phase most h = elim (eqb_tells executed work.budget) [
     | inl t ↦ (
@@ -25,7 +25,7 @@ module _ (work : Work) where
     | inr t ↦ (let apart = t.1 in grind (arith, nat_tests))
   ]
 
-  move_less : (executed : ℕ) (m : Move) → executed ≤ work.budget
+  pub move_less : (executed : ℕ) (m : Move) → executed ≤ work.budget
       → can_execute (phase_after work.budget executed m) ≡ true → executed < work.budget
   move_less executed (Leaves e) most h = let bad : false ≡ true = h in cc
   move_less executed (Waits resume want more) most h = let bad : false ≡ true = h in cc

@@ -82,7 +82,7 @@ module _ (layout : Shape) where
   want_plain t want (Some b) h =
       miss_plain t want (block_facts layout b) (block_at layout t.node b) b h
 
-  wants_plain : (ws : List Want) (t : Turn) → NoneIs is_bye t.sends
+  pub wants_plain : (ws : List Want) (t : Turn) → NoneIs is_bye t.sends
       → NoneIs is_bye (want_all layout t ws).sends
   wants_plain [] t h = h
   wants_plain (w ∷ ws) t h =
@@ -112,7 +112,7 @@ module _ (layout : Shape) where
   row_byes n (Some (AtHome b row)) = refl
   row_byes n (Some (AtNode b row)) = refl
 
-  row_sends : (n : Node) (row : Row) → (by_row_or layout n (Some row)).sends ≡ sends_in row
+  pub row_sends : (n : Node) (row : Row) → (by_row_or layout n (Some row)).sends ≡ sends_in row
   row_sends n (AtHome b row) = refl
   row_sends n (AtNode b row) = refl
 

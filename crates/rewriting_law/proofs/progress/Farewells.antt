@@ -43,14 +43,14 @@ either_list (w ∷ ws) xs e = elim (left_or_right (is_bye w.message) (has_bye (w
   ])
 ]
 
-in_front : (ws xs : List Wire) → has_bye ws ≡ true → has_bye (ws ++ xs) ≡ true
+pub in_front : (ws xs : List Wire) → has_bye ws ≡ true → has_bye (ws ++ xs) ≡ true
 in_front [] xs e = let bad : false ≡ true = e in cc
 in_front (w ∷ ws) xs e = elim (left_or_right (is_bye w.message) (has_bye ws) e) [
   | inl f ↦ from_left (is_bye w.message) (has_bye (ws ++ xs)) f
   | inr f ↦ from_right (is_bye w.message) (has_bye (ws ++ xs)) (in_front ws xs f)
 ]
 
-behind : (ws xs : List Wire) → has_bye xs ≡ true → has_bye (ws ++ xs) ≡ true
+pub behind : (ws xs : List Wire) → has_bye xs ≡ true → has_bye (ws ++ xs) ≡ true
 behind [] xs e = e
 behind (w ∷ ws) xs e = from_right (is_bye w.message) (has_bye (ws ++ xs)) (behind ws xs e)
 

@@ -46,7 +46,7 @@ use Rattle.rewriting_law.proofs.progress.Budgets.{within}
 
 -- 1. What is counted
 
-scaled : (c a b : ℕ) → a ≤ b → c * a ≤ c * b
+pub scaled : (c a b : ℕ) → a ≤ b → c * a ≤ c * b
 scaled zero a b h = omega arith
 scaled (suc c) a b h = let rest = scaled c a b h in omega (arith, rest, h)
 
@@ -86,7 +86,7 @@ asked_counts layout work plan locals i (w ∷ ws) t =
     record { most = omega (arith, one, more); same = rest.same ∙ first.same }
 
 -- a message was taken, by its row or without one
-took_counts : (layout : Shape) (n : Local) (rest : Rest) (i j : ℕ) (ms : List Message)
+pub took_counts : (layout : Shape) (n : Local) (rest : Rest) (i j : ℕ) (ms : List Message)
     (o : Option Row)
     → ((took layout n rest i j ms o).rest.counts.asked ≡ rest.counts.asked)
     × (rest.counts.taken ≤ (took layout n rest i j ms o).rest.counts.taken)
@@ -94,7 +94,7 @@ took_counts layout n rest i j ms None = (refl, omega arith)
 took_counts layout n rest i j ms (Some (AtHome b row)) = (refl, omega arith)
 took_counts layout n rest i j ms (Some (AtNode b row)) = (refl, omega arith)
 
-took_one : (layout : Shape) (n : Local) (rest : Rest) (i j : ℕ) (ms : List Message) (row : Row)
+pub took_one : (layout : Shape) (n : Local) (rest : Rest) (i j : ℕ) (ms : List Message) (row : Row)
     → (took layout n rest i j ms (Some row)).rest.counts.taken ≡ rest.counts.taken + 1
 took_one layout n rest i j ms (AtHome b row) = refl
 took_one layout n rest i j ms (AtNode b row) = refl
@@ -112,7 +112,7 @@ resumed_executed work n (Waiting resume) =
     ])
 
 -- a Bye at the head of a list wasn't taken before
-bye_ahead : (taken : Bool) (wire : Wire) (ws : List Wire) → is_bye wire.message ≡ true
+pub bye_ahead : (taken : Bool) (wire : Wire) (ws : List Wire) → is_bye wire.message ≡ true
     → is_calm taken (wire ∷ ws) ≡ true → taken ≡ false
 bye_ahead false wire ws bye calm = refl
 bye_ahead true wire ws bye calm =

@@ -36,7 +36,7 @@ use Rattle.rewriting_law.proofs.progress.Closing.{row_there, Closing, event_clos
 
 -- 1. Searches
 
-search : (f : ℕ → Bool) (n : ℕ) → ((k : ℕ) × (k < n) × (f k ≡ true))
+pub search : (f : ℕ → Bool) (n : ℕ) → ((k : ℕ) × (k < n) × (f k ≡ true))
     ⊎ ((k : ℕ) → k < n → f k ≡ false)
 search f zero = inr (λ k low. absurd (omega (arith, low)))
 search f (suc n) = go (f n) refl (search f n)
@@ -60,14 +60,14 @@ count_most set (suc n) =
       | false ↦ omega (arith, rest)
     ])
 
-count_all : (set : ℕ → Bool) (n : ℕ) → ((k : ℕ) → k < n → set k ≡ true) → count_of set n ≡ n
+pub count_all : (set : ℕ → Bool) (n : ℕ) → ((k : ℕ) → k < n → set k ≡ true) → count_of set n ≡ n
 count_all set zero h = refl
 count_all set (suc n) h =
     let rest = count_all set n (λ k low. h k (omega (arith, low))) in
     ap (λ t. cond t (count_of set n + 1) (count_of set n)) (h n (omega arith))
     ∙ (let z : count_of set n + 1 ≡ suc n = omega (arith, rest) in z)
 
-count_full : (set : ℕ → Bool) (n k : ℕ) → count_of set n ≡ n → k < n → set k ≡ true
+pub count_full : (set : ℕ → Bool) (n k : ℕ) → count_of set n ≡ n → k < n → set k ≡ true
 count_full set zero k e low = absurd (omega (arith, low))
 count_full set (suc n) k e low = go (set n) refl (count_most set n) e
     (λ full below. count_full set n k full below)

@@ -34,7 +34,8 @@ use Rattle.rewriting_law.proofs.one_memory.Matching.{Activity, Runs, Awaits, Has
 use Rattle.rewriting_law.proofs.protocol_side.DirectorySide.{Layout, laid_out}
 use Rattle.rewriting_law.proofs.runs.Turns.{byes_node}
 use Rattle.rewriting_law.proofs.runs.TurnTies.{resumed_blocks}
-use Rattle.rewriting_law.proofs.runs.Composed.{IsPhase, MatchesCore, pace_of_word, may_run, next_word, event_leads, start_matches, byes_are}
+use Rattle.rewriting_law.proofs.runs.Composed.{IsPhase, MatchesCore, pace_of_word, may_run, next_word, event_leads, start_matches}
+use Rattle.rewriting_law.proofs.runs.Behind.{byes_are}
 
 -- Byes alone
 abbrev OnlyByes : List Wire → Type 0

@@ -1,15 +1,12 @@
 -- Core runs beside runs of the original processors.
-use Rattle.std.proofs.Common.{◌≡◌, ℕ, zero, suc, ◌+◌, ◌<◌, ◌⊎◌, cond, eqb, Bool, true, false, List, [], ◌∷◌, ◌++◌, Option, Some, None, refl, sym, ap, ◌∙◌, subst, inl, inr, append-nil, arith}
+use Rattle.std.proofs.Common.{◌≡◌, ℕ, ◌+◌, ◌<◌, ◌⊎◌, cond, eqb, Bool, true, false, List, [], ◌∷◌, Option, Some, None, refl, sym, ap, ◌∙◌, subst, inl, inr, append-nil, arith}
 use Rattle.std.specs.Prelude.{is_some, option_and_then, not, ◌&&◌}
 use Rattle.std.specs.Option.{option_map_or}
-use Rattle.block_layout.specs.Layout.{Shape, blocks, first_line}
-use Rattle.state_table.specs.StateByte.{state_with}
-use Rattle.home_directory.specs.declared.messages.Post.{Post}
-use Rattle.home_directory.specs.declared.messages.Message.TheVariants.{Bye}
+use Rattle.block_layout.specs.Layout.{Shape, blocks}
 use Rattle.home_directory.specs.declared.messages.Wire.{Wire}
 use Rattle.home_directory.specs.declared.messages.Need.{Need}
 use Rattle.home_directory.specs.declared.wait.Wait.{Wait}
-use Rattle.home_directory.specs.Home.{post, count_of}
+use Rattle.home_directory.specs.Home.{count_of}
 use Rattle.miss_handlers.specs.Rows.{row_of, taker_in}
 use Rattle.rv32_program.specs.declared.Exit.{Exit}
 use Rattle.rv32_program.specs.declared.End.TheVariants.{Exited, Stopped}
@@ -20,13 +17,10 @@ use Rattle.templates.specs.declared.commits.CommitKind.{CommitKind}
 use Rattle.templates.specs.declared.plans.PlanEntry.{PlanEntry}
 use Rattle.templates.specs.Commits.{commit_at}
 use Rattle.jump_map.specs.Maps.{old_of, fetch}
-use Rattle.dsm_protocol.specs.World.{with_sends}
-use Rattle.dsm_protocol.specs.Holds.{AreByes, wanted}
-use Rattle.dsm_protocol.proofs.ProtocolSide as world
-use Rattle.dsm_protocol.proofs.ByAddress.{bytes_in}
+use Rattle.dsm_protocol.specs.Holds.{wanted}
 use Rattle.node_model.specs.declared.Standing.TheVariants as standing
 use Rattle.node_model.specs.Node.{Work, Node, Lane, Local, Want, Move, Next, Again, To, Enters, Waits, Leaves, Resume, Outcome, Phase, Running, Resumed, Waiting, Ended, lane_after, lane_resumed, phase_after, stop_or, takes_messages, standing_in, has_all_byes, word_outcome}
-use Rattle.node_model.specs.Turns.{Turn, holding, byes_to, with_byes, is_ended, wants_of, after_word, after_wants, treated, has_no_wait, resumed, journaled, after_message, take_turn, each_block_once}
+use Rattle.node_model.specs.Turns.{Turn, holding, with_byes, is_ended, wants_of, after_word, after_wants, treated, has_no_wait, resumed, journaled, after_message, take_turn, each_block_once}
 use Rattle.node_model.specs.Core.{Core, Event, Exec, Take, May, IsCoreRun, may_execute, may_take, opening_core, with_turn, with_list, take_first, event_step, after, printed_at, printed_by}
 use Rattle.rewriting_law.specs.ProtocolLists.{messages_of}
 use Rattle.rewriting_law.specs.CoreRun.{Order, is_wait, order_by, break_by, picks_of_take, picks_at, picks_of, values_at, values_of}
@@ -39,25 +33,16 @@ use Rattle.rewriting_law.proofs.one_memory.Advances.{Advanced, FollowsTo, run_ap
 use Rattle.rewriting_law.proofs.one_memory.Messages.{AreLaidOut}
 use Rattle.rewriting_law.proofs.one_memory.Pending.{wanted_in, pending}
 use Rattle.rewriting_law.proofs.protocol_side.ProtocolSide.{Treated, Protocol, ProtocolSide}
-use Rattle.rewriting_law.proofs.protocol_side.Spending.{Counts, no_counts, AreCounted}
+use Rattle.rewriting_law.proofs.protocol_side.Spending.{Counts, no_counts}
 use Rattle.rewriting_law.proofs.one_memory.Wants.{ask_all}
 use Rattle.rewriting_law.proofs.one_memory.Matching.{Activity, Runs, Awaits, HasEnded, StandsIn, wait_in, goes_or_stops, no_wait, doing_after, doing_still, lane_still, doing_taken, lane_taken, MayTake, EndsIn, ends_in, with_at, Matches, opening_matches, here, word_event, message_event}
-use Rattle.rewriting_law.proofs.protocol_side.Directory.{Rest, world_of, took, take_from, order_from, is_some_list, directory}
-use Rattle.rewriting_law.proofs.protocol_side.Blocks.{Fits}
+use Rattle.rewriting_law.proofs.protocol_side.Directory.{Rest, took, take_from, order_from, is_some_list, directory}
 use Rattle.rewriting_law.proofs.protocol_side.CountedBlocks.{none_counted, some_counted}
-use Rattle.rewriting_law.proofs.protocol_side.DirectorySide.{Layout, by_list, Held, is_waiting, laid_out, directory_side}
+use Rattle.rewriting_law.proofs.protocol_side.DirectorySide.{Layout, Held, is_waiting, laid_out, directory_side}
 use Rattle.rewriting_law.proofs.runs.Turns.{SameProcessor, byes_node, wants_same, treated_same, goes_on_from}
-use Rattle.rewriting_law.proofs.runs.TurnTies.{rest_at, rest_of, locals_of, SameRest, IsTurn, local_after, own_wait, other_node, sends_more, word_turned, AllFound, wants_turned, message_turned, resumed_blocks}
+use Rattle.rewriting_law.proofs.runs.Behind.{held_like, counting, byes_behind}
+use Rattle.rewriting_law.proofs.runs.TurnTies.{rest_at, rest_of, locals_of, IsTurn, local_after, own_wait, other_node, word_turned, AllFound, wants_turned, message_turned, resumed_blocks}
 use Rattle.rewriting_law.proofs.protocol_side.Start.{opens}
-
--- Byes alone
-one_bye_more : (ps : List Post) (k : ℕ) → AreByes ps → AreByes (ps ++ post k Bye ∷ [])
-one_bye_more [] k h = (refl, tt)
-one_bye_more (p ∷ ps) k h = (h.0, one_bye_more ps k h.1)
-
-pub byes_are : (n : ℕ) → AreByes (byes_to n)
-byes_are zero = tt
-byes_are (suc n) = one_bye_more (byes_to n) n (byes_are n)
 
 resumed_me : (work : Work) (n : Node) (phase : Phase) → (resumed work n phase).me ≡ n.me
 resumed_me work n Running = refl
@@ -117,38 +102,6 @@ module _ (work : Work) (plan : List PlanEntry) (lay : Layout work)
     pub counts : Counts
     pub matches : MatchesHere paces (lanes_of c) doing (locals_of c) (rest_at counts c) s
 
-  -- the same parts, stored otherwise
-  held_like : (locals others : ℕ → Local) (old new : Rest) (memory : ℕ → ℕ)
-      → ((x : ℕ) → others x ≡ locals x) → SameRest old new → new.counts ≡ old.counts
-      → Held work lay locals old memory → Held work lay others new memory
-  held_like locals others old new memory same rest counts h = record {
-    holds = by_list (world.like lay.laws layout lay.valid lay.laid (world_of layout locals old)
-        (world_of layout others new) memory (record {
-          entry = λ i b bi bb. ap (λ f. f b) (rest.entry i);
-          waiting = λ i b bi. ap (λ f. f b) (rest.waiting i);
-          occupancy = λ i bi. rest.occupancy i;
-          state = λ i b bi bb.
-              ap (λ (n : Local). state_with (n.state (first_line layout b))) (same i);
-          bytes = λ i b bi bb. ap (λ (n : Local). bytes_in layout n.copy b) (same i);
-          wait = λ i b bi bb. ap (λ f. f b) (rest.wait i);
-          list = λ j i bj bi. rest.list j i;
-        }) h.holds);
-    fits = λ i low. subst (λ (n : Local). Fits lay.laws layout lay.valid lay.some work.program
-        n.state) (sym (same i)) (h.fits i low);
-    counted = subst (AreCounted layout h.holds.first h.holds.events) (sym counts) h.counted;
-  }
-
-  -- whatever was counted
-  counting : (old : Rest) (c : Core) (counts : Counts) → SameRest old (rest_of c)
-      → SameRest old (rest_at counts c)
-  counting old c counts h = record {
-    entry = h.entry;
-    waiting = h.waiting;
-    occupancy = h.occupancy;
-    wait = h.wait;
-    list = h.list;
-  }
-
   matches_like : (paces : ℕ → Pace) (lanes lanes' : ℕ → Lane) (doing : ℕ → Activity) (locals others : ℕ → Local)
       (old new : Rest) (s : State) → MatchesHere paces lanes doing locals old s
       → ((x : ℕ) → lanes' x ≡ lanes x) → ((x : ℕ) → others x ≡ locals x)
@@ -169,45 +122,7 @@ module _ (work : Work) (plan : List PlanEntry) (lay : Layout work)
     waits = λ i b low. waits i b ∙ m.waits i b low;
   }
 
-  -- 2. Byes behind a turn
-
-  record WithByes (c : Core) (i : ℕ) (t : Turn) (u : Treated Rest) (ends : Bool) : Type 0 where
-    left : Treated Rest
-    turned : IsTurn c i (with_byes layout.nodes t ends) left
-    local : left.local ≡ u.local
-    waits : (x b : ℕ) → left.rest.wait x b ≡ u.rest.wait x b
-    counts : left.rest.counts ≡ u.rest.counts
-    held : (locals : ℕ → Local) (memory : ℕ → ℕ) → Held work lay locals u.rest memory
-        → Held work lay locals left.rest memory
-
-  byes_behind : (c : Core) (i : ℕ) (t : Turn) (u : Treated Rest) (ends : Bool) → IsTurn c i t u
-      → WithByes c i t u ends
-  byes_behind c i t u false h = record {
-    left = u;
-    turned = h;
-    local = refl;
-    waits = λ x b. refl;
-    counts = refl;
-    held = λ locals memory g. g;
-  }
-  byes_behind c i t u true h =
-      let left : Treated Rest = record u {
-        rest = record u.rest { list = with_sends u.rest.list i (byes_to layout.nodes) };
-      } in
-      record {
-        left = left;
-        turned = sends_more c i t u (byes_to layout.nodes) h;
-        local = refl;
-        waits = λ x b. refl;
-        counts = refl;
-        held = λ locals memory g. record {
-          holds = by_list (world.says_byes lay.laws layout lay.valid lay.laid
-              (world_of layout locals u.rest) memory g.holds i (byes_to layout.nodes)
-              (byes_are layout.nodes));
-          fits = g.fits;
-          counted = g.counted;
-        };
-      }
+  -- 2. A turn, with the Byes behind it
 
   -- a node's turn, with what it leaves
   module _ (c : Core) (i : ℕ) (t : Turn) (u : Treated Rest) (h : IsTurn c i t u) (ends : Bool)
@@ -234,16 +149,16 @@ module _ (work : Work) (plan : List PlanEntry) (lay : Layout work)
         → MatchesHere (with_at paces i p) (lanes_of c') (with_at doing i a) (locals_of c')
         (rest_at u.rest.counts c') s
     matches_then lane =
-        let b = byes_behind c i t u ends h in
+        let b = byes_behind work lay c i t u ends h in
         let locals : (x : ℕ) → locals_of c' x ≡ with_local (locals_of c) i u.local x =
         (λ x. local_after c i t' b.left b.turned x
         ∙ ap (λ n. with_local (locals_of c) i n x) b.local) in
         matches_like (with_at paces i p) (with_at (lanes_of c) i l) (lanes_of c') (with_at doing i a)
         (with_local (locals_of c) i u.local) (locals_of c') u.rest (rest_at u.rest.counts c') s m
         (lane_is lane) locals
-        (held_like (with_local (locals_of c) i u.local) (locals_of c') b.left.rest
+        (held_like work lay (with_local (locals_of c) i u.local) (locals_of c') b.left.rest
         (rest_at u.rest.counts c') s.shared locals
-        (counting b.left.rest c' u.rest.counts b.turned.rest) (sym b.counts)
+        (counting work lay b.left.rest c' u.rest.counts b.turned.rest) (sym b.counts)
         (b.held (with_local (locals_of c) i u.local) s.shared m.shares.held))
         (λ x d. ap (λ (f : ℕ → Option Wait). wanted (f d)) (b.turned.rest.wait x)
         ∙ ap wanted (b.waits x d))
