@@ -13,7 +13,7 @@ use Rattle.clap.specs.declared.parser.matches.ValueSource.TheVariants.{CommandLi
 use Rattle.clap.specs.Faults.{fault_of, built_fault}
 use Rattle.clap.proofs.FaultLemmas.{leaf_fault}
 use Rattle.command_line.specs.declared.table.Setting.{Setting}
-use Rattle.command_line.specs.declared.table.Setting.TheVariants.{Nodes, Order, Budget, Layout, Code, Verify, Record, Brief, NoBatch, Loss}
+use Rattle.command_line.specs.declared.table.Setting.TheVariants.{Nodes, Order, Budget, Layout, Code, Verify, Record, Brief, NoBatch, Loss, From, To, Block, Node}
 use Rattle.command_line.specs.declared.table.Role.{Role}
 use Rattle.command_line.specs.declared.table.Role.TheVariants as role
 use Rattle.command_line.specs.Commands.{option_word}
@@ -74,6 +74,10 @@ no_operand Record = refl
 no_operand Brief = refl
 no_operand NoBatch = refl
 no_operand Loss = refl
+no_operand From = refl
+no_operand To = refl
+no_operand Block = refl
+no_operand Node = refl
 
 no_option : (s : Setting) → bytes_eq (name_of s) (codes "operand") ≡ false
 no_option Nodes = refl
@@ -86,6 +90,10 @@ no_option Record = refl
 no_option Brief = refl
 no_option NoBatch = refl
 no_option Loss = refl
+no_option From = refl
+no_option To = refl
+no_option Block = refl
+no_option Node = refl
 
 same_names : (s t : Setting) → bytes_eq (name_of s) (name_of t) ≡ is_same s t
 same_names s t = sym (ap (λ w. bytes_eq w (option_word t)) (dashed s)
@@ -187,6 +195,14 @@ module _ (settings : List Setting) where
       record { more = omega (arith, length-append (codes "--no-batch") (61 ∷ v)); first = refl; second = refl }
   long_joined Loss v =
       record { more = omega (arith, length-append (codes "--loss") (61 ∷ v)); first = refl; second = refl }
+  long_joined From v =
+      record { more = omega (arith, length-append (codes "--from") (61 ∷ v)); first = refl; second = refl }
+  long_joined To v =
+      record { more = omega (arith, length-append (codes "--to") (61 ∷ v)); first = refl; second = refl }
+  long_joined Block v =
+      record { more = omega (arith, length-append (codes "--block") (61 ∷ v)); first = refl; second = refl }
+  long_joined Node v =
+      record { more = omega (arith, length-append (codes "--node") (61 ∷ v)); first = refl; second = refl }
 
   long_alone : (s : Setting) → IsLong (option_word s)
   long_alone Nodes = record { more = omega arith; first = refl; second = refl }
@@ -199,6 +215,10 @@ module _ (settings : List Setting) where
   long_alone Brief = record { more = omega arith; first = refl; second = refl }
   long_alone NoBatch = record { more = omega arith; first = refl; second = refl }
   long_alone Loss = record { more = omega arith; first = refl; second = refl }
+  long_alone From = record { more = omega arith; first = refl; second = refl }
+  long_alone To = record { more = omega arith; first = refl; second = refl }
+  long_alone Block = record { more = omega arith; first = refl; second = refl }
+  long_alone Node = record { more = omega arith; first = refl; second = refl }
 
   readable : (arguments : List Argument) → AreArguments settings arguments →
       AreReadable (flat_map words_of arguments)

@@ -7,14 +7,14 @@ use Rattle.clap.proofs.WalkLemmas.{raw_values-rows}
 use Rattle.command_line.specs.declared.table.Access.{Access}
 use Rattle.command_line.specs.declared.table.Access.TheVariants.{Read, Write}
 use Rattle.command_line.specs.declared.table.Kind.{Kind}
-use Rattle.command_line.specs.declared.table.Kind.TheVariants.{Number, MaybeNumber, File, Flag}
+use Rattle.command_line.specs.declared.table.Kind.TheVariants.{Number, MaybeNumber, MaybeAddress, File, Flag}
 use Rattle.command_line.specs.declared.table.Setting.{Setting}
 use Rattle.command_line.specs.declared.table.Setting.TheVariants.{Nodes, Order, Budget, Layout, Code, Verify, Record, Brief, NoBatch, Loss}
 use Rattle.command_line.specs.declared.table.Role.{Role}
 use Rattle.command_line.specs.declared.table.Role.TheVariants as role
 use Rattle.command_line.specs.declared.table.CommandWord.{CommandWord}
 use Rattle.command_line.specs.declared.table.CommandWord.TheVariants as word
-use Rattle.command_line.specs.Commands.{Command, Rewrite, Run, Listing, One, Sim, Replay, Generate, Assemble, Named, Between, Value, Amount, MaybeAmount, Name, Switch, name_or_none, Row, row_of, IsFit, is_alone, kind_of, settings_in}
+use Rattle.command_line.specs.Commands.{Command, Rewrite, Run, Listing, One, Sim, Replay, Generate, Assemble, Named, Between, Value, Amount, MaybeAmount, MaybeAt, Name, Switch, name_or_none, Row, row_of, IsFit, is_alone, kind_of, settings_in}
 use Rattle.command_line.specs.Asks.{Argument, IsNumber, ArePlaced, IsSet, AreSet, AreOfRow, Asks}
 use Rattle.command_line.specs.declared.Command.{Command as OfCode}
 use Rattle.command_line.specs.Meaning.{meaning_of}
@@ -42,6 +42,9 @@ same_name x y e = cc
 not_maybe : (n : ℕ) (o : Option ℕ) → Amount n ≡ MaybeAmount o → ⊥
 not_maybe n o e = absurd (cc)
 
+not_at : (n : ℕ) (o : Option ℕ) → Amount n ≡ MaybeAt o → ⊥
+not_at n o e = absurd (cc)
+
 set_one : (kind : Kind) (values : List (List ℕ)) (n m : ℕ) → IsSet kind values (Amount n) →
     IsSet kind values (Amount m) → n ≡ m
 set_one (Number low high default) [] n m h k = same_amount n m (h ∙ sym k)
@@ -53,6 +56,9 @@ set_one (Number low high default) (x ∷ y ∷ more) n m h k = absurd h
 set_one (MaybeNumber low high) [] n m h k = same_amount n m (h ∙ sym k)
 set_one (MaybeNumber low high) (x ∷ []) n m h k = absurd (not_maybe n _ h.2)
 set_one (MaybeNumber low high) (x ∷ y ∷ more) n m h k = absurd h
+set_one MaybeAddress [] n m h k = same_amount n m (h ∙ sym k)
+set_one MaybeAddress (x ∷ []) n m h k = absurd (not_at n _ h.2)
+set_one MaybeAddress (x ∷ y ∷ more) n m h k = absurd h
 set_one (File access) [] n m h k = same_amount n m (h ∙ sym k)
 set_one (File access) (x ∷ []) n m h k = same_amount n m (h.1 ∙ sym k.1)
 set_one (File access) (x ∷ y ∷ more) n m h k = absurd h
@@ -112,6 +118,10 @@ no_maybe : (n : Option (List ℕ)) (o : Option ℕ) → name_or_none n ≡ Maybe
 no_maybe None o e = absurd (cc)
 no_maybe (Some x) o e = absurd (cc)
 
+no_at : (n : Option (List ℕ)) (o : Option ℕ) → name_or_none n ≡ MaybeAt o → ⊥
+no_at None o e = absurd (cc)
+no_at (Some x) o e = absurd (cc)
+
 name_one : (kind : Kind) (values : List (List ℕ)) (n m : Option (List ℕ)) →
     IsSet kind values (name_or_none n) → IsSet kind values (name_or_none m) → n ≡ m
 name_one (Number low high default) [] n m h k = absurd (no_amount n _ h)
@@ -120,6 +130,9 @@ name_one (Number low high default) (x ∷ y ∷ more) n m h k = absurd h
 name_one (MaybeNumber low high) [] n m h k = absurd (no_maybe n _ h)
 name_one (MaybeNumber low high) (x ∷ []) n m h k = absurd (no_maybe n _ h.2)
 name_one (MaybeNumber low high) (x ∷ y ∷ more) n m h k = absurd h
+name_one MaybeAddress [] n m h k = absurd (no_at n _ h)
+name_one MaybeAddress (x ∷ []) n m h k = absurd (no_at n _ h.2)
+name_one MaybeAddress (x ∷ y ∷ more) n m h k = absurd h
 name_one (File access) [] n m h k = same_named n m (h ∙ sym k)
 name_one (File access) (x ∷ []) n m h k = same_named n m (h.1 ∙ sym k.1)
 name_one (File access) (x ∷ y ∷ more) n m h k = absurd h
@@ -137,6 +150,9 @@ same_maybe n m e = cc
 some_maybe : (n : Option ℕ) (k : ℕ) → MaybeAmount n ≡ MaybeAmount (Some k) → n ≡ Some k
 some_maybe n k e = same_maybe n (Some k) e
 
+maybe_at : (n o : Option ℕ) → MaybeAmount n ≡ MaybeAt o → ⊥
+maybe_at n o e = absurd (cc)
+
 maybe_one : (kind : Kind) (values : List (List ℕ)) (n m : Option ℕ)
     → IsSet kind values (MaybeAmount n) → IsSet kind values (MaybeAmount m) → n ≡ m
 maybe_one (Number low high default) [] n m h k = same_maybe n m (h ∙ sym k)
@@ -146,6 +162,9 @@ maybe_one (MaybeNumber low high) [] n m h k = same_maybe n m (h ∙ sym k)
 maybe_one (MaybeNumber low high) (x ∷ []) n m h k =
     some_maybe n h.0 h.2 ∙ ap Some (sym h.1.value ∙ k.1.value) ∙ sym (some_maybe m k.0 k.2)
 maybe_one (MaybeNumber low high) (x ∷ y ∷ more) n m h k = absurd h
+maybe_one MaybeAddress [] n m h k = same_maybe n m (h ∙ sym k)
+maybe_one MaybeAddress (x ∷ []) n m h k = absurd (maybe_at n _ h.2)
+maybe_one MaybeAddress (x ∷ y ∷ more) n m h k = absurd h
 maybe_one (File access) [] n m h k = same_maybe n m (h ∙ sym k)
 maybe_one (File access) (x ∷ []) n m h k = same_maybe n m (h.1 ∙ sym k.1)
 maybe_one (File access) (x ∷ y ∷ more) n m h k = absurd h
@@ -153,7 +172,7 @@ maybe_one Flag [] n m h k = same_maybe n m (h ∙ sym k)
 maybe_one Flag (x ∷ []) n m h k = same_maybe n m (h ∙ sym k)
 maybe_one Flag (x ∷ y ∷ more) n m h k = absurd h
 
-maybes_one : (g : Given) (s : Setting) (n m : Option ℕ) → SaysMaybe g s n → SaysMaybe g s m
+pub maybes_one : (g : Given) (s : Setting) (n m : Option ℕ) → SaysMaybe g s n → SaysMaybe g s m
     → n ≡ m
 maybes_one g s n m h k = maybe_one (kind_of s) (g (role.Option s)) n m h k
 
@@ -251,7 +270,7 @@ pub placed_files : (a : Access) (x y : List ℕ) (words : List (List ℕ)) → w
 placed_files a x y words e =
     subst (ArePlaced ((Named Read, Name x) ∷ (Named a, Name y) ∷ [])) (sym e) (refl, (refl, tt))
 
-same_files : (a : Access) (x y v w : List ℕ) (words : List (List ℕ)) →
+pub same_files : (a : Access) (x y v w : List ℕ) (words : List (List ℕ)) →
     ArePlaced ((Named Read, Name x) ∷ (Named a, Name y) ∷ []) words →
     ArePlaced ((Named Read, Name v) ∷ (Named a, Name w) ∷ []) words → (x ≡ v) × (y ≡ w)
 same_files a x y v w words h k =

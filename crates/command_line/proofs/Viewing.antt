@@ -3,16 +3,18 @@ use Rattle.std.proofs.Common.{◌≡◌, ℕ, Bool, MatchOption, List, [], ◌�
 use Rattle.clap.specs.declared.parser.matches.ArgMatches.{ArgMatches}
 use Rattle.command_line.specs.declared.table.Role.{Role}
 use Rattle.command_line.specs.declared.table.Role.TheVariants as role
-use Rattle.command_line.specs.declared.table.Setting.TheVariants.{NoBatch}
+use Rattle.command_line.specs.declared.table.Access.TheVariants.{Read}
+use Rattle.command_line.specs.declared.table.Setting.TheVariants.{NoBatch, From, To, Block, Node}
 use Rattle.command_line.specs.declared.table.ViewWord.{ViewWord}
 use Rattle.command_line.specs.declared.table.ViewWord.TheVariants as word
 use Rattle.command_line.specs.declared.view.View.{View as OfCode}
 use Rattle.command_line.specs.Commands.{settings_in}
 use Rattle.command_line.specs.Asks.{Argument, AreOfRow, ArePlaced}
 use Rattle.command_line.specs.Reading.{IsCut, Reads, IsOfRow, given_by, words_for}
-use Rattle.command_line.specs.Views.{View, Help, Code, AsksView, IsViewGiven, meaning_of_view, row_of, view_settings, view_text}
+use Rattle.command_line.specs.Views.{View, Help, Code, Trace, AsksView, IsViewGiven, meaning_of_view, row_of, view_settings, view_text}
+use Rattle.command_line.proofs.Addresses.{at_one}
 use Rattle.command_line.proofs.Cuts.{same_cut}
-use Rattle.command_line.proofs.Rows.{cut_of, flag_one, given_set, other_first, row_given, same_file, same_head, same_tail}
+use Rattle.command_line.proofs.Rows.{cut_of, flag_one, given_set, other_first, row_given, maybes_one, same_file, same_files, same_head, same_tail}
 
 abbrev Given : Type 0
 Given = Role → List (List ℕ)
@@ -21,11 +23,19 @@ Given = Role → List (List ℕ)
 pub as_help : (g : Given) (v : View) → IsViewGiven (codes "--help") g v → IsOfRow (row_of Help) g
 as_help g Help h = h.of_row
 as_help g (Code file no_batch) h = absurd (other_first _ _ h.word_is (omega arith))
+as_help g (Trace f r a z b n) h = absurd (other_first _ _ h.word_is (omega arith))
 
 pub as_code : (g : Given) (v : View) → IsViewGiven (codes "code") g v
     → (file : List ℕ) × (no_batch : Bool) × IsOfRow (row_of (Code file no_batch)) g
 as_code g Help h = absurd (other_first _ _ h.word_is (omega arith))
 as_code g (Code file no_batch) h = (file, no_batch, h.of_row)
+as_code g (Trace f r a z b n) h = absurd (other_first _ _ h.word_is (omega arith))
+
+pub as_trace : (g : Given) (v : View) → IsViewGiven (codes "trace") g v
+    → (f r : List ℕ) × (a z b n : Option ℕ) × IsOfRow (row_of (Trace f r a z b n)) g
+as_trace g Help h = absurd (other_first _ _ h.word_is (omega arith))
+as_trace g (Code file no_batch) h = absurd (other_first _ _ h.word_is (omega arith))
+as_trace g (Trace f r a z b n) h = (f, r, a, z, b, n, h.of_row)
 
 -- without a place there is no operand
 pub no_place : (words : List (List ℕ)) → ArePlaced [] words → words ≡ []
@@ -40,23 +50,43 @@ one_view g (Code x nb) Help p q e = absurd (other_first _ _ e (omega arith))
 one_view g (Code x nb) (Code y nc) p q e =
     ap (λ f. Code f nb) (same_file x y _ p.places q.places)
     ∙ ap (λ b. Code y b) (flag_one g NoBatch nb nc refl p.options.0 q.options.0)
+one_view g (Trace f r a z b n) (Trace f' r' a' z' b' n') p q e =
+    let files = same_files Read f r f' r' _ p.places q.places in
+    let from = maybes_one g From a a' p.options.0 q.options.0 in
+    let to = maybes_one g To z z' p.options.1.0 q.options.1.0 in
+    let block = at_one (g (role.Option Block)) b b' p.options.1.1.0 q.options.1.1.0 in
+    let node = maybes_one g Node n n' p.options.1.1.1.0 q.options.1.1.1.0 in
+    ap (λ x. Trace x r a z b n) files.0 ∙ ap (λ x. Trace f' x a z b n) files.1
+    ∙ ap (λ x. Trace f' r' x z b n) from ∙ ap (λ x. Trace f' r' a' x b n) to
+    ∙ ap (λ x. Trace f' r' a' z' x n) block ∙ ap (λ x. Trace f' r' a' z' b' x) node
+one_view g Help (Trace f r a z b n) p q e = absurd (other_first _ _ e (omega arith))
+one_view g (Code x nb) (Trace f r a z b n) p q e = absurd (other_first _ _ e (omega arith))
+one_view g (Trace f r a z b n) Help p q e = absurd (other_first _ _ e (omega arith))
+one_view g (Trace f r a z b n) (Code x nb) p q e = absurd (other_first _ _ e (omega arith))
 
 -- the word of a view, with its options
 pub view_word : View → ViewWord
 view_word Help = word.Help
 view_word (Code file no_batch) = word.Code
+view_word (Trace f r a z b n) = word.Trace
 
 pub word_is : (v : View) → view_text (view_word v) ≡ (row_of v).word
 unfolding view_word
 word_is Help = refl
 word_is (Code file no_batch) = refl
+word_is (Trace f r a z b n) = refl
 
 word_settings : (w : ViewWord) (v : View) → view_text w ≡ (row_of v).word
     → settings_in (row_of v).options ≡ view_settings w
 word_settings word.Help Help e = refl
 word_settings word.Code (Code file no_batch) e = refl
+word_settings word.Trace (Trace f r a z b n) e = refl
 word_settings word.Help (Code file no_batch) e = absurd (other_first _ _ e (omega arith))
 word_settings word.Code Help e = absurd (other_first _ _ e (omega arith))
+word_settings word.Help (Trace f r a z b n) e = absurd (other_first _ _ e (omega arith))
+word_settings word.Code (Trace f r a z b n) e = absurd (other_first _ _ e (omega arith))
+word_settings word.Trace Help e = absurd (other_first _ _ e (omega arith))
+word_settings word.Trace (Code file no_batch) e = absurd (other_first _ _ e (omega arith))
 
 -- what is asked by a word and the words behind it
 record Behind (w : ViewWord) (words : List (List ℕ)) (v : View) : Type 0 where

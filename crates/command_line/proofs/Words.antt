@@ -4,7 +4,7 @@ use Rattle.std.specs.List.{list_any, position_or_len, before_first, after_first}
 use Rattle.std.proofs.lemmas.List.Sums.{passes_at_first, split_at_first}
 use Rattle.std.proofs.lemmas.Slice.Eq.{bytes_eq-Decides}
 use Rattle.command_line.specs.declared.table.Setting.{Setting}
-use Rattle.command_line.specs.declared.table.Setting.TheVariants.{Nodes, Order, Budget, Layout, Code, Verify, Record, Brief, NoBatch, Loss}
+use Rattle.command_line.specs.declared.table.Setting.TheVariants.{Nodes, Order, Budget, Layout, Code, Verify, Record, Brief, NoBatch, Loss, From, To, Block, Node}
 use Rattle.command_line.specs.Commands.{option_word, kind_of}
 use Rattle.command_line.specs.Asks.{option_of, HasOption, IsPlain, takes_value}
 use Rattle.command_line.specs.Reading.{name_of}
@@ -24,6 +24,10 @@ dashed Record = refl
 dashed Brief = refl
 dashed NoBatch = refl
 dashed Loss = refl
+dashed From = refl
+dashed To = refl
+dashed Block = refl
+dashed Node = refl
 
 pub no_equals : (s : Setting) → has_equals (option_word s) ≡ false
 no_equals Nodes = refl
@@ -36,6 +40,10 @@ no_equals Record = refl
 no_equals Brief = refl
 no_equals NoBatch = refl
 no_equals Loss = refl
+no_equals From = refl
+no_equals To = refl
+no_equals Block = refl
+no_equals Node = refl
 
 dash_first : (s : Setting) (v : List ℕ) → slice_index (option_word s ++ v) 0 ≡ 45
 dash_first Nodes v = refl
@@ -48,6 +56,10 @@ dash_first Record v = refl
 dash_first Brief v = refl
 dash_first NoBatch v = refl
 dash_first Loss v = refl
+dash_first From v = refl
+dash_first To v = refl
+dash_first Block v = refl
+dash_first Node v = refl
 
 pub not_plain : (s : Setting) (w : List ℕ) → w ≡ option_word s → IsPlain w → ⊥
 not_plain Nodes w e p = p.no_dash (ap (λ x. slice_index x 0) e)
@@ -60,6 +72,10 @@ not_plain Record w e p = p.no_dash (ap (λ x. slice_index x 0) e)
 not_plain Brief w e p = p.no_dash (ap (λ x. slice_index x 0) e)
 not_plain NoBatch w e p = p.no_dash (ap (λ x. slice_index x 0) e)
 not_plain Loss w e p = p.no_dash (ap (λ x. slice_index x 0) e)
+not_plain From w e p = p.no_dash (ap (λ x. slice_index x 0) e)
+not_plain To w e p = p.no_dash (ap (λ x. slice_index x 0) e)
+not_plain Block w e p = p.no_dash (ap (λ x. slice_index x 0) e)
+not_plain Node w e p = p.no_dash (ap (λ x. slice_index x 0) e)
 
 pub not_plain_joined : (s : Setting) (v w : List ℕ) → w ≡ option_word s ++ (61 ∷ v) → IsPlain w → ⊥
 not_plain_joined s v w e p = p.no_dash (ap (λ x. slice_index x 0) e ∙ dash_first s (61 ∷ v))

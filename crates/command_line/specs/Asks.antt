@@ -1,11 +1,11 @@
 -- What it is that the words of the command line ask for a command.
-use Rattle.std.specs.Prelude.{◌≡◌, ◌≢◌, ℕ, ◌<◌, ◌≤◌, Bool, true, false, if◌then◌else◌, List, [], ◌∷◌, ◌++◌, length, Option, None, Some, bytes_eq, find, slice_index}
+use Rattle.std.specs.Prelude.{◌≡◌, ◌≢◌, ℕ, ◌<◌, ◌≤◌, ◌^◌, nat_le, Bool, true, false, if◌then◌else◌, List, [], ◌∷◌, ◌++◌, length, Option, None, Some, bytes_eq, codes, find, slice_index}
 use Rattle.std.specs.List.{flat_map}
 use Rattle.std.specs.Str.Parse.{IsNumeral, digits_value}
 use Rattle.command_line.specs.declared.table.Kind.{Kind}
-use Rattle.command_line.specs.declared.table.Kind.TheVariants.{Number, MaybeNumber, File, Flag}
+use Rattle.command_line.specs.declared.table.Kind.TheVariants.{Number, MaybeNumber, MaybeAddress, File, Flag}
 use Rattle.command_line.specs.declared.table.Setting.{Setting}
-use Rattle.command_line.specs.Commands.{Command, Place, Named, Between, Value, Amount, MaybeAmount, Name, NoName, Switch, Row, row_of, IsFit, option_word, kind_of, settings_in}
+use Rattle.command_line.specs.Commands.{Command, Place, Named, Between, Value, Amount, MaybeAmount, MaybeAt, Name, NoName, Switch, Row, row_of, IsFit, option_word, kind_of, settings_in}
 
 -- an argument behind the command's word: an operand, which is a word of its own; or an option with
 -- its value, as two words or as one; or a flag
@@ -72,13 +72,26 @@ value_in setting (Bare s) = if is_same s setting then [] ∷ [] else []
 abbrev pub values_of : Setting → List Argument → List (List ℕ)
 values_of setting arguments = flat_map (value_in setting) arguments
 
--- a word is a number from low to high, in 1 to 10 decimal digits
+-- the most decimal digits in which a number is written that is at most so high
+abbrev pub most_digits : (high : ℕ) → ℕ
+most_digits high = if nat_le high (2 ^ 32) then 10 else 17
+
+-- a word is a number from low to high, in 1 to 10 decimal digits, or in 1 to 17 where it may be
+-- greater than 2^32
 pub record IsNumber (low high : ℕ) (word : List ℕ) (number : ℕ) : Type 0 where
   pub digits : IsNumeral 10 word
-  pub few : length word ≤ 10
+  pub few : length word ≤ most_digits high
   pub value : digits_value 10 word ≡ number
   pub above : low ≤ number
   pub below : number ≤ high
+
+-- a word is an address, in 1 to 8 hexadecimal digits of either case behind 0x
+pub record IsAddress (word : List ℕ) (address : ℕ) : Type 0 where
+  pub digits : List ℕ
+  pub word_is : word ≡ codes "0x" ++ digits
+  pub numeral : IsNumeral 16 digits
+  pub few : length digits ≤ 8
+  pub value : digits_value 16 digits ≡ address
 
 -- what a word says in its place
 abbrev pub IsPlaced : Place → List ℕ → Value → Type 0
@@ -95,6 +108,7 @@ ArePlaced places words = ⊥
 abbrev pub IsDefault : Kind → Value → Type 0
 IsDefault (Number low high default) value = value ≡ Amount default
 IsDefault (MaybeNumber low high) value = value ≡ MaybeAmount None
+IsDefault MaybeAddress value = value ≡ MaybeAt None
 IsDefault (File access) value = value ≡ NoName
 IsDefault Flag value = value ≡ Switch false
 
@@ -104,6 +118,8 @@ IsGiven (Number low high default) word value =
     (n : ℕ) × IsNumber low high word n × (value ≡ Amount n)
 IsGiven (MaybeNumber low high) word value =
     (n : ℕ) × IsNumber low high word n × (value ≡ MaybeAmount (Some n))
+IsGiven MaybeAddress word value =
+    (a : ℕ) × IsAddress word a × (value ≡ MaybeAt (Some a))
 IsGiven (File access) word value = (0 < length word) × (value ≡ Name word)
 IsGiven Flag word value = value ≡ Switch true
 

@@ -1,13 +1,13 @@
 -- The commands of the program, in one table: of each its word, what stands in its places, and its
--- options.
+-- options. The options are those of the viewer's views too.
 use Rattle.std.specs.Prelude.{◌≡◌, ℕ, ◌-◌, ◌^◌, Bool, true, false, not, IsTrue, List, [], ◌∷◌, ◌++◌, Option, None, Some, codes}
 use Rattle.std.specs.List.{flat_map}
 use Rattle.command_line.specs.declared.table.Access.{Access}
 use Rattle.command_line.specs.declared.table.Access.TheVariants.{Read, Write}
 use Rattle.command_line.specs.declared.table.Kind.{Kind}
-use Rattle.command_line.specs.declared.table.Kind.TheVariants.{Number, MaybeNumber, File, Flag}
+use Rattle.command_line.specs.declared.table.Kind.TheVariants.{Number, MaybeNumber, MaybeAddress, File, Flag}
 use Rattle.command_line.specs.declared.table.Setting.{Setting}
-use Rattle.command_line.specs.declared.table.Setting.TheVariants.{Nodes, Order, Budget, Layout, Code, Verify, Record, Brief, NoBatch, Loss}
+use Rattle.command_line.specs.declared.table.Setting.TheVariants.{Nodes, Order, Budget, Layout, Code, Verify, Record, Brief, NoBatch, Loss, From, To, Block, Node}
 
 pub data Command : Type 0 where
   -- write the rewritten executable of the one in a file into another, without batches where these
@@ -51,6 +51,10 @@ option_word Record = codes "--record"
 option_word Brief = codes "--brief"
 option_word NoBatch = codes "--no-batch"
 option_word Loss = codes "--loss"
+option_word From = codes "--from"
+option_word To = codes "--to"
+option_word Block = codes "--block"
+option_word Node = codes "--node"
 
 -- what an option is given
 abbrev pub kind_of : Setting → Kind
@@ -64,6 +68,10 @@ kind_of Record = File Write
 kind_of Brief = Flag
 kind_of NoBatch = Flag
 kind_of Loss = MaybeNumber 0 (2 ^ 32 - 1)
+kind_of From = MaybeNumber 0 (2 ^ 56 - 1)
+kind_of To = MaybeNumber 0 (2 ^ 56 - 1)
+kind_of Block = MaybeAddress
+kind_of Node = MaybeNumber 0 15
 
 -- the place of an operand, which stands behind the command's word without an option: the name of
 -- a file, or a number
@@ -71,11 +79,12 @@ pub data Place : Type 0 where
   Named : (access : Access) → Place
   Between : (low high : ℕ) → Place
 
--- what a place or an option says: a number; a number that may be left out; the name of a file; no
--- name; or whether a flag is there
+-- what a place or an option says: a number; a number that may be left out, or an address that may
+-- be; the name of a file; no name; or whether a flag is there
 pub data Value : Type 0 where
   Amount : ℕ → Value
   MaybeAmount : Option ℕ → Value
+  MaybeAt : Option ℕ → Value
   Name : List ℕ → Value
   NoName : Value
   Switch : Bool → Value

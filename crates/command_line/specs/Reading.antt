@@ -14,7 +14,7 @@ use Rattle.command_line.specs.declared.table.Role.{Role}
 use Rattle.command_line.specs.declared.table.Role.TheVariants as role
 use Rattle.command_line.specs.declared.parsing.Given.{Given}
 use Rattle.command_line.specs.declared.parsing.Given.TheVariants as are
-use Rattle.command_line.specs.Commands.{Command, Value, Row, Amount, MaybeAmount, Switch, name_or_none, option_word, kind_of, row_of, IsFit}
+use Rattle.command_line.specs.Commands.{Command, Value, Row, Amount, MaybeAmount, MaybeAt, Switch, name_or_none, option_word, kind_of, row_of, IsFit}
 use Rattle.command_line.specs.Asks.{IsPlain, IsSet, ArePlaced, Argument, words_of, AreArguments, operands_of, values_of, takes_value}
 
 -- the text of a command's word, and the command's options
@@ -125,6 +125,11 @@ SaysNumber given setting number =
 abbrev pub SaysMaybe : (Role → List (List ℕ)) → Setting → Option ℕ → Type 0
 SaysMaybe given setting number =
     IsSet (kind_of setting) (given (role.Option setting)) (MaybeAmount number)
+
+-- what is given says this address of the option, or none
+abbrev pub SaysAt : (Role → List (List ℕ)) → Setting → Option ℕ → Type 0
+SaysAt given setting address =
+    IsSet (kind_of setting) (given (role.Option setting)) (MaybeAt address)
 
 -- what is given says this name of the option, or none
 abbrev pub SaysName : (Role → List (List ℕ)) → Setting → Option (List ℕ) → Type 0

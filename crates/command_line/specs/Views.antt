@@ -1,14 +1,14 @@
 -- The views of the viewer, in a table of their own, and what it is that the words ask for a view.
-use Rattle.std.specs.Prelude.{◌≡◌, ℕ, Bool, List, [], ◌∷◌, codes}
+use Rattle.std.specs.Prelude.{◌≡◌, ℕ, Bool, List, [], ◌∷◌, codes, Option}
 use Rattle.command_line.specs.declared.table.Access.TheVariants.{Read}
 use Rattle.command_line.specs.declared.table.Role.{Role}
 use Rattle.command_line.specs.declared.table.Setting.{Setting}
-use Rattle.command_line.specs.declared.table.Setting.TheVariants.{NoBatch}
+use Rattle.command_line.specs.declared.table.Setting.TheVariants.{NoBatch, From, To, Block, Node}
 use Rattle.command_line.specs.declared.table.ViewWord.{ViewWord}
 use Rattle.command_line.specs.declared.table.ViewWord.TheVariants as word
 use Rattle.command_line.specs.declared.view.View.{View as OfCode}
 use Rattle.command_line.specs.declared.view.View.TheVariants as asked
-use Rattle.command_line.specs.Commands.{Row, Named, Name, Switch, files_of}
+use Rattle.command_line.specs.Commands.{Row, Named, Name, MaybeAmount, MaybeAt, Switch, files_of}
 use Rattle.command_line.specs.Asks.{AreOfRow}
 use Rattle.command_line.specs.Reading.{IsOfRow}
 
@@ -18,6 +18,10 @@ pub data View : Type 0 where
   -- show the rewritten code of the executable in a file; it has no batches where these aren't
   -- wanted
   Code : (file : List ℕ) (no_batch : Bool) → View
+  -- show the events of the run of a record, in a line each: a file holds the executable, and another
+  -- the record; of those that have such stamps, are about the block that has the byte at an address,
+  -- and are of a node, where these are given
+  Trace : (file record_file : List ℕ) (from to block node : Option ℕ) → View
 
 -- the table
 abbrev pub row_of : View → Row
@@ -26,6 +30,13 @@ row_of (Code file no_batch) = record {
   word = codes "code";
   places = (Named Read, Name file) ∷ [];
   options = (NoBatch, Switch no_batch) ∷ [];
+}
+row_of (Trace file record_file from to block node) = record {
+  word = codes "trace";
+  places = (Named Read, Name file) ∷ (Named Read, Name record_file) ∷ [];
+  options =
+      (From, MaybeAmount from) ∷ (To, MaybeAmount to) ∷ (Block, MaybeAt block)
+      ∷ (Node, MaybeAmount node) ∷ [];
 }
 
 -- the names of the files that a view reads; it writes none
@@ -42,15 +53,19 @@ pub record AsksView (words : List (List ℕ)) (view : View) : Type 0 where
 abbrev pub meaning_of_view : OfCode → View
 meaning_of_view asked.Help = Help
 meaning_of_view (asked.Code file no_batch) = Code file.now no_batch
+meaning_of_view (asked.Trace file record_file from to block node) =
+    Trace file.now record_file.now from to block node
 
 -- the text of a view's word, and the view's options
 abbrev pub view_text : ViewWord → List ℕ
 view_text word.Help = codes "--help"
 view_text word.Code = codes "code"
+view_text word.Trace = codes "trace"
 
 abbrev pub view_settings : ViewWord → List Setting
 view_settings word.Help = []
 view_settings word.Code = NoBatch ∷ []
+view_settings word.Trace = From ∷ To ∷ Block ∷ Node ∷ []
 
 -- a view's word, and what is given, are of the view's row
 pub record IsViewGiven (word : List ℕ) (given : Role → List (List ℕ)) (view : View) : Type 0 where

@@ -20,6 +20,8 @@ pub(crate) enum Kind {
     Number { low: u64, high: u64, default: u64 },
     /// A number from `low` to `high`, or none where the option is not there.
     MaybeNumber { low: u64, high: u64 },
+    /// An address of 32 bits, or none where the option is not there.
+    MaybeAddress,
     /// The name of a file.
     File(Access),
     /// Nothing: it is there, or not.
@@ -39,6 +41,10 @@ pub(crate) enum Setting {
     Brief,
     NoBatch,
     Loss,
+    From,
+    To,
+    Block,
+    Node,
 }
 
 /// What an argument is for.
@@ -67,6 +73,7 @@ pub(crate) enum CommandWord {
 pub(crate) enum ViewWord {
     Help,
     Code,
+    Trace,
 }
 
 impl CommandWord {
@@ -138,6 +145,7 @@ impl ViewWord {
         match word {
             "--help" => Some(ViewWord::Help),
             "code" => Some(ViewWord::Code),
+            "trace" => Some(ViewWord::Trace),
             _ => None,
         }
     }
@@ -149,6 +157,7 @@ impl ViewWord {
         match self {
             ViewWord::Help => &[],
             ViewWord::Code => &[Setting::NoBatch],
+            ViewWord::Trace => &[Setting::From, Setting::To, Setting::Block, Setting::Node],
         }
     }
 }
@@ -169,6 +178,10 @@ impl Setting {
             Setting::Brief => "brief",
             Setting::NoBatch => "no-batch",
             Setting::Loss => "loss",
+            Setting::From => "from",
+            Setting::To => "to",
+            Setting::Block => "block",
+            Setting::Node => "node",
         }
     }
 
@@ -199,6 +212,12 @@ impl Setting {
                 low: 0,
                 high: u32::MAX as u64,
             },
+            Setting::From | Setting::To => Kind::MaybeNumber {
+                low: 0,
+                high: (1 << 56) - 1,
+            },
+            Setting::Block => Kind::MaybeAddress,
+            Setting::Node => Kind::MaybeNumber { low: 0, high: 15 },
         }
     }
 
@@ -207,7 +226,8 @@ impl Setting {
         ensures { result ≡ rule.takes_value (model.kind_of self) }
     {
         match self.kind() {
-            Kind::Number { .. } | Kind::MaybeNumber { .. } | Kind::File(_) => true,
+            Kind::Number { .. } | Kind::MaybeNumber { .. } | Kind::MaybeAddress | Kind::File(_) =>
+                true,
             Kind::Flag => false,
         }
     }

@@ -1,6 +1,6 @@
 //! Lines that are commands, and lines that are not.
 
-use crate::{Command, command_of};
+use crate::{Command, View, command_of, view_of};
 use dsm_io::Text;
 use std::alloc::{AllocError, Global};
 use std::test::Fail;
@@ -207,6 +207,56 @@ fn reads_the_words_of_other_commands(rt: HostRuntime) -> Result<(), Fail> {
         ("asm a b --brief", None),
     ] {
         assert_eq!(rt; asked_by(rt.alloc(), line)?, wanted, "at {line}");
+    }
+    Ok(())
+}
+
+/// What of the trace of the record `r` of a run of `a` a line asks for: from which stamp, to which,
+/// of the block of which address, and of which node.
+fn traced_by(
+    alloc: Global,
+    line: &str,
+) -> Result<Option<(Option<u64>, Option<u64>, Option<u32>, Option<u8>)>, Fail> {
+    let words = words_of(alloc, line)?;
+    match view_of(alloc, words.as_slice())? {
+        Some(
+            View::Trace {
+                file: "a",
+                record_file: "r",
+                from,
+                to,
+                block,
+                node,
+            },
+        ) => Ok(Some((from, to, block, node))),
+        _ => Ok(None),
+    }
+}
+
+#[test]
+fn reads_the_words_of_trace(rt: HostRuntime) -> Result<(), Fail> {
+    let greatest = (1 << 56) - 1;
+    for (line, wanted) in [
+        ("trace a r", Some((None, None, None, None))),
+        (
+            "trace --from 72057594037927935 a --to=0 r",
+            Some((Some(greatest), Some(0), None, None)),
+        ),
+        (
+            "trace a r --block=0xffffFFFF --node 15",
+            Some((None, None, Some(u32::MAX), Some(15))),
+        ),
+        ("trace a r --from 72057594037927936", None),
+        ("trace a r --to 000000000000000000", None),
+        ("trace a r --block 20000", None),
+        ("trace a r --block 0x", None),
+        ("trace a r --block 0x+1", None),
+        ("trace a r --block 0x123456789", None),
+        ("trace a r --node 16", None),
+        ("trace a", None),
+        ("trace a r --no-batch", None),
+    ] {
+        assert_eq!(rt; traced_by(rt.alloc(), line)?, wanted, "at {line}");
     }
     Ok(())
 }

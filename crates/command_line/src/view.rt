@@ -1,13 +1,14 @@
 //! The words of the viewer's command line, and what they ask for.
 
-ghost use Rattle.std.specs.Prelude.{◌≡◌, codes, IfOk, MatchOption};
-ghost use Rattle.command_line.specs.Reading.{given_by};
+ghost use Rattle.std.specs.Prelude.{◌≡◌, ℕ, codes, IfOk, MatchOption, Option};
+ghost use Rattle.command_line.specs.Reading.{given_by, SaysAt, SaysMaybe};
 ghost use Rattle.command_line.specs.Views.{View as Asked, AsksView, IsViewGiven, meaning_of_view};
 ghost use Rattle.command_line.specs.Views.{view_text};
 
+use crate::number::address_of;
 use crate::parsing::{Given, arguments_in, given_for};
 use crate::table::{Role, Setting, ViewWord};
-use crate::{file_in, flag_in};
+use crate::{file_in, flag_in, maybe_number_in, two_operands_in};
 use clap::ArgMatches;
 use dsm_io::Text;
 use std::alloc::{AllocError, Global};
@@ -19,7 +20,22 @@ pub enum View<'a> {
     Help,
     /// Show the rewritten code of the executable in a file: with `no_batch`, no run of accesses
     /// shares a check.
-    Code { file: &'a str, no_batch: bool },
+    Code {
+        file: &'a str,
+        no_batch: bool,
+    },
+    /// Show what each event of a run did, a line an event: of the run of the executable in `file`
+    /// whose record is in the file `record_file`. Where they are given, only events with stamps
+    /// that are at least `from` and at most `to`, those that are about the block in which the
+    /// address `block` lies, and those of the node `node`.
+    Trace {
+        file: &'a str,
+        record_file: &'a str,
+        from: Option<u64>,
+        to: Option<u64>,
+        block: Option<u32>,
+        node: Option<u8>,
+    },
 }
 
 /// The view `--help`.
@@ -47,6 +63,59 @@ fn code_of<'a>(matches: &ArgMatches<'a>) -> Option<View<'a>>
     Some(View::Code { file, no_batch })
 }
 
+/// The address that an option has. None in it where the option is not there.
+fn address_in(matches: &ArgMatches<'_>) -> Option<Option<u32>>
+    ensures { MatchOption result
+        ((a : Option ℕ) → SaysAt (given_by matches.now) Setting.Block a → ⊥)
+        (λ a. SaysAt (given_by matches.now) Setting.Block a) }
+{
+    match given_for(matches, Role::Option(Setting::Block)) {
+        Given::Nothing => Some(None),
+        Given::One(word) => {
+            let address = address_of(word)?;
+            Some(Some(address))
+        }
+        Given::Two(_, _) => None,
+        Given::More => None,
+    }
+}
+
+/// The number of a node. None in it where the option is not there.
+fn node_in(matches: &ArgMatches<'_>) -> Option<Option<u8>>
+    ensures { MatchOption result
+        ((n : Option ℕ) → SaysMaybe (given_by matches.now) Setting.Node n → ⊥)
+        (λ n. SaysMaybe (given_by matches.now) Setting.Node n) }
+{
+    match maybe_number_in(matches, Setting::Node)? {
+        None => Some(None),
+        Some(number) => match u8::try_from(number) {
+            Ok(node) => Some(Some(node)),
+            Err(_) => None,
+        },
+    }
+}
+
+/// The view `trace`.
+fn trace_of<'a>(matches: &ArgMatches<'a>) -> Option<View<'a>>
+    ensures { MatchOption result
+        ((v : Asked) → IsViewGiven (codes "trace") (given_by matches.now) v → ⊥)
+        (λ v. IsViewGiven (codes "trace") (given_by matches.now) (meaning_of_view v)) }
+{
+    let (file, record_file) = two_operands_in(matches)?;
+    let from = maybe_number_in(matches, Setting::From)?;
+    let to = maybe_number_in(matches, Setting::To)?;
+    let block = address_in(matches)?;
+    let node = node_in(matches)?;
+    Some(View::Trace {
+        file,
+        record_file,
+        from,
+        to,
+        block,
+        node,
+    })
+}
+
 /// The view of a word that is a view's, with these arguments.
 fn view_in<'a>(word: ViewWord, matches: &ArgMatches<'a>) -> Option<View<'a>>
     ensures { MatchOption result
@@ -56,6 +125,7 @@ fn view_in<'a>(word: ViewWord, matches: &ArgMatches<'a>) -> Option<View<'a>>
     match word {
         ViewWord::Help => help_of(matches),
         ViewWord::Code => code_of(matches),
+        ViewWord::Trace => trace_of(matches),
     }
 }
 

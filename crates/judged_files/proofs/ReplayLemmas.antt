@@ -13,7 +13,7 @@ use Rattle.judged_files.specs.Failures.{IsRecordRefusal, IsRefusal, IsReplayRefu
 use Rattle.judged_files.specs.Ready.{IsReadyFor}
 use Rattle.judged_files.specs.Code.{choice_of}
 use Rattle.judged_files.specs.Inputs.{Inputs}
-use Rattle.judged_files.specs.Replays.{IsBadRecord, IsBadReplayLayout, IsLayoutOfBlocks, IsReplayRefused, IsTextOf}
+use Rattle.judged_files.specs.Replays.{IsBadRecord, IsBadReplayLayout, IsLayoutOfBlocks, IsReplayRefused, IsTextOf, IsWorkOf}
 use Rattle.judged_files.proofs.RunLemmas.{AreReady, HaveLaws, gives_code}
 
 -- ---- refusals before the run
@@ -48,6 +48,23 @@ text_refused inputs OfRecord OutOfMemory records h = tt
 -- ---- the run
 
 -- the work is what the record asks to be run
+pub asked_for : (inputs : Inputs) (kept : Kept) (elf : Elf) (plan : List PlanEntry)
+    (image : List Cell) (layout : Shape) (budget : ℕ)
+    → AreReady (choice_of kept.batch inputs.verified) inputs.executable elf plan image layout
+    → IsTextOf kept inputs.text
+    → (NamesOtherCode kept (length image) → ⊥) → IsLayoutOfBlocks elf kept layout → budget ≡ kept.budget
+    → IsWorkOf inputs kept elf plan (work_with elf image layout budget)
+asked_for inputs kept elf plan image layout budget ready text code laid_out limit = record {
+  text = text;
+  rewritten = ready.rewritten;
+  same_code = code;
+  program = refl;
+  laid_out = laid_out;
+  valid = ready.valid;
+  limit = limit;
+}
+
+-- and its own runs are runs of the code
 pub ready_for : (inputs : Inputs) (kept : Kept) (elf : Elf) (plan : List PlanEntry)
     (image : List Cell) (layout : Shape) (budget : ℕ)
     → AreReady (choice_of kept.batch inputs.verified) inputs.executable elf plan image layout
@@ -57,15 +74,7 @@ pub ready_for : (inputs : Inputs) (kept : Kept) (elf : Elf) (plan : List PlanEnt
 ready_for inputs kept elf plan image layout budget ready text code laid_out limit some few laws = record {
   elf = elf;
   plan = plan;
-  asked = record {
-    text = text;
-    rewritten = ready.rewritten;
-    same_code = code;
-    program = refl;
-    laid_out = laid_out;
-    valid = ready.valid;
-    limit = limit;
-  };
+  asked = asked_for inputs kept elf plan image layout budget ready text code laid_out limit;
   gives = gives_code (choice_of kept.batch inputs.verified) inputs.executable budget elf plan image layout
       ready some few laws;
 }

@@ -7,6 +7,7 @@ ghost use Rattle.judged_files.specs.Executables.{ReadsAs};
 ghost use Rattle.judged_files.specs.Ready.{IsReadyFor, GivesRuns, work_for};
 ghost use Rattle.judged_files.specs.Failures.{IsRefusal, IsReplayRefusal};
 ghost use Rattle.judged_files.specs.Given.{bytes_of};
+ghost use Rattle.judged_files.specs.Replays.{IsWorkOf};
 ghost use Rattle.judged_files.specs.Refusals.{IsRunRefused, IsBadRunLayout};
 
 use crate::code::{judge_code, rewriting_of};
@@ -94,6 +95,8 @@ pub fn prepare_replay<'a>(
     requires reads { ReadsAs (bytes_of inputs.now).executable elf.now }
     ensures rewritten { IfOk result (λ p. RunsRewritten (work_for p.0)) }
     ensures ready { IfOk result (λ p. IsReadyFor (bytes_of inputs.now) p.1 (work_for p.0)) }
+    ensures asked { IfOk result (λ p. IsWorkOf (bytes_of inputs.now) p.1 p.0.program
+        p.0.rewritten.plan (work_for p.0)) }
     ensures refused { IfErr result (IsReplayRefusal (bytes_of inputs.now)) }
 {
     let program = program_of(alloc, elf)?;

@@ -7,7 +7,7 @@ use Rattle.judged_files.specs.Failures.{IsNever, IsRecordRefusal}
 use Rattle.judged_files.specs.Given.{bytes_of}
 use Rattle.judged_files.specs.Replays.{AreFaultyBlocks, IsBadReplayLayout, IsFaultyText, IsOtherCode, IsReplayRefused}
 use Rattle.judged_files.proofs.Pieces.{never}
-use Rattle.judged_files.proofs.ReplayLemmas.{ready_for, replay_refused, text_refused}
+use Rattle.judged_files.proofs.ReplayLemmas.{asked_for, ready_for, replay_refused, text_refused}
 use Rattle.judged_files.proofs.RunLemmas.{AreReady, HaveLaws, are_ready, laid_over_blocks, runs_rewritten}
 use Rattle.judged_files.proofs.prepare.prepare_replay.Goals as goal
 
@@ -157,3 +157,24 @@ returns-clause-ready c =
     (subst (λ i. NamesOtherCode kept (length i) → ⊥) c.image.ensures.value c.in_ok-judge_words.ensures.ok)
     c.in_ok-layout.ensures.ok budget.0 (subst (λ n. 0 < n) (sym budget.0) budget.1.0)
     (subst (λ n. n ≤ 2 ^ 32) (sym budget.0) budget.1.1) laws
+
+pub returns-clause-asked : goal.returns-clause-asked
+returns-clause-asked c =
+    let inputs = bytes_of c.args.inputs.now in
+    let p = c.in_ok-program.program in
+    let kept = c.in_ok-kept.kept in
+    let image = c.in_ok-rewritten.rewritten.image in
+    let plan = c.in_ok-rewritten.rewritten.plan in
+    let layout = c.in_ok-layout.layout in
+    let reads : IsProgramOf inputs.executable c.args.elf.now =
+    record { reads = c.requires.reads; accepted = c.in_ok-program.ensures.acceptable } in
+    let choice = choice_of c.in_ok-kept.kept.batch inputs.verified in
+    let ready : AreReady choice inputs.executable p plan image layout =
+    are_ready choice inputs.executable c.args.elf.now p plan image layout c.in_ok-program.ensures.ok reads
+    c.in_ok-program.ensures.accepted c.in_ok-rewritten.ensures.chosen
+    c.in_ok-rewritten.ensures.rewriting
+    (laid_over_blocks p kept layout c.in_ok-layout.ensures.ok) c.in_ok-layout.ensures.valid in
+    let budget = c.in-Some.ensures in
+    asked_for inputs kept p plan image layout c.in-Some.budget ready c.in_ok-kept.ensures.ok
+    (subst (λ i. NamesOtherCode kept (length i) → ⊥) c.image.ensures.value c.in_ok-judge_words.ensures.ok)
+    c.in_ok-layout.ensures.ok budget.0
