@@ -1,11 +1,9 @@
 //! `code` and `--help`: their texts, and what is told of faulty words and files.
 
-use command_calls::calls::{Answer, Called, executable};
+use crate::calls::{USAGE, show};
+use command_calls::calls::{Answer, executable};
 use command_calls::samples::HI;
-use dsm_io::{MemFiles, MemSink, Text};
-use std::alloc::Global;
 use std::test::Fail;
-use views::shasta_view;
 
 /// A program that loads a word, whose line may be read.
 const LOADS: &str = "lui x5, 0x20; lw x6, 0(x5); addi x10, x6, 0; addi x17, x0, 93; ecall";
@@ -64,35 +62,6 @@ const LOADS_CODE: &str = "00010000: 000202b7 lui x5, 0x20                   ; as
   a0000030: 0000002b 00010014 single   * trap.fetch
 ";
 
-/// How the viewer is called.
-const USAGE: &str = "usage: shasta_view code IN [--no-batch]
-       shasta_view --help
-";
-
-/// Calls the viewer with these words, with spaces between them, where IN holds a file; the puts to
-/// the output with these numbers fail.
-fn show(alloc: Global, file: &[u8], line: &str, fails: &[u64]) -> Result<Called, Fail> {
-    let mut words = Vec::new(alloc);
-    for word in line.split_whitespace() {
-        words.push(Text::of(String::from_str(alloc, word)?))?;
-    }
-    let mut held = Vec::new(alloc);
-    held.push((
-        Text::of(String::from_str(alloc, "IN")?),
-        file.to_vec(alloc)?,
-    ))?;
-    let mut files = MemFiles::new(alloc, held, Vec::new(alloc));
-    let mut out = MemSink::with_refusals(alloc, fails.to_vec(alloc)?, Vec::new(alloc));
-    let mut err = MemSink::with_refusals(alloc, Vec::new(alloc), Vec::new(alloc));
-    let status = shasta_view(alloc, &words, &mut files, &mut out, &mut err);
-    Ok(Called {
-        status,
-        out: out.taken().to_vec(alloc)?,
-        err: err.taken().to_vec(alloc)?,
-        written: Vec::new(alloc),
-    })
-}
-
 /// A program without data, a call, and its status, output and errors.
 const CALLS: [(&str, &str, u8, &[&str], &str); 11] = [
     (HI, "code IN", 0, &[HEAD, HI_CODE], ""),
@@ -114,7 +83,7 @@ fn shows_code(rt: HostRuntime) -> Result<(), Fail> {
     for (program, line, status, out, err) in CALLS {
         let file = executable(alloc, program, b"", 64)?;
         let answer = Answer { status, out, err };
-        show(alloc, &file, line, &[])?.expect(alloc, line, &answer)?;
+        show(alloc, &[("IN", &file)], line, &[])?.expect(alloc, line, &answer)?;
     }
     Ok(())
 }
@@ -125,7 +94,7 @@ fn shows_runs(rt: HostRuntime) -> Result<(), Fail> {
     let alloc = rt.alloc();
     let file = executable(alloc, PAIR, b"", 64)?;
     for (line, runs) in [("code IN", true), ("code IN --no-batch", false)] {
-        let called = show(alloc, &file, line, &[])?;
+        let called = show(alloc, &[("IN", &file)], line, &[])?;
         let text = std::str::from_utf8(&called.out)?;
         assert_eq!(rt; text.contains("; run of 2, s "), runs);
         assert_eq!(rt; text.contains(" batch.r ("), runs);
@@ -137,7 +106,7 @@ fn shows_runs(rt: HostRuntime) -> Result<(), Fail> {
 #[test]
 fn tells_refusals_and_faults(rt: HostRuntime) -> Result<(), Fail> {
     let alloc = rt.alloc();
-    let called = show(alloc, b"text", "code IN", &[])?;
+    let called = show(alloc, &[("IN", b"text")], "code IN", &[])?;
     let refused = Answer {
         status: 4,
         out: &[],
@@ -145,7 +114,7 @@ fn tells_refusals_and_faults(rt: HostRuntime) -> Result<(), Fail> {
     };
     called.expect(alloc, "code IN", &refused)?;
     let file = executable(alloc, HI, b"", 64)?;
-    let called = show(alloc, &file, "code IN", &[1])?;
+    let called = show(alloc, &[("IN", &file)], "code IN", &[1])?;
     assert_eq!(rt; called.status, 3);
     assert_eq!(rt;
         std::str::from_utf8(&called.err)?,

@@ -1,3 +1,5 @@
 mod Shown
 mod Entries
 mod Viewed
+mod Lines
+mod Runs

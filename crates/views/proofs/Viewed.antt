@@ -11,9 +11,9 @@ use Rattle.judged_files.specs.Answers.{file_limit}
 use Rattle.judged_files.specs.Code.{Planned, IsUnrewritten}
 use Rattle.judged_files.specs.Failures.{FailsAs, IsContent, IsNever, IsNoRefusal, IsPutFailure, IsReadFailure, Puts, line_of, status_of}
 use Rattle.judged_files.specs.Text.{out_of_memory}
-use Rattle.views.specs.Answers.{IsFault}
+use Rattle.views.specs.Answers.{IsFault, IsRefusalStatus}
 use Rattle.views.specs.Failures.{IsFailure, IsSuccess, IsTextOfCode}
-use Rattle.views.specs.Headline.{AreTold, IsRefused, Prints, PrintsPrefix, usage}
+use Rattle.views.specs.Headline.{AreTold, IsLayoutRefused, IsRecordRefused, IsRefused, Prints, PrintsPrefix, usage}
 
 -- 1. What the words ask for, and where they ask for nothing
 
@@ -41,7 +41,7 @@ reads_only file no_batch name h =
     let zero : h.0 ≡ 0 = omega (arith, there) in
     sym (subst (λ k. get_or (file ∷ []) k name ≡ name) zero h.2)
 
-content_is : (o : Option (List ℕ)) (bytes content : List ℕ) → IsContent o bytes
+pub content_is : (o : Option (List ℕ)) (bytes content : List ℕ) → IsContent o bytes
     → o ≡ Some content → bytes ≡ content
 content_is o bytes content h is =
     subst (λ (x : Option (List ℕ)). IfSome x (λ c. bytes ≡ c)) is h.same
@@ -104,8 +104,8 @@ code_fails file no_batch files files_now before now bytes (Refused line) h faile
   λ contents told. subst (λ b. IsUnrewritten (Planned (not no_batch)) b line.items)
       (file_is file no_batch files bytes contents h told) failed.0,
 )
-code_fails file no_batch files files_now before now bytes (Layout line) h failed = failed.0
-code_fails file no_batch files files_now before now bytes (Record line) h failed = failed
+code_fails file no_batch files files_now before now bytes (Layout line) h failed = absurd failed.0
+code_fails file no_batch files files_now before now bytes (Record line) h failed = absurd failed
 code_fails file no_batch files files_now before now bytes (Text line) h failed = failed
 code_fails file no_batch files files_now before now bytes Output h failed = (
   failed.0,
@@ -133,8 +133,8 @@ read_fails file no_batch files files_now state (Input line) h =
     (refl, (file, reads_file file no_batch, h))
 read_fails file no_batch files files_now state (NotWritten line) h = h
 read_fails file no_batch files files_now state (Refused line) h = absurd h
-read_fails file no_batch files files_now state (Layout line) h = h
-read_fails file no_batch files files_now state (Record line) h = h
+read_fails file no_batch files files_now state (Layout line) h = absurd h
+read_fails file no_batch files files_now state (Record line) h = absurd h
 read_fails file no_batch files files_now state (Text line) h = h
 read_fails file no_batch files files_now state Output h = absurd h
 read_fails file no_batch files files_now state OutOfMemory h = λ contents told. inl refl
@@ -153,18 +153,18 @@ no_refusal files files_now name OutOfMemory h = inr refl
 -- 4. What the status of a failure says
 
 abbrev IsFailing : ℕ → Type 0
-IsFailing status = (status ≡ 3) ⊎ ((status ≡ 4) ⊎ (status ≡ 5))
+IsFailing status = (status ≡ 3) ⊎ ((status ≡ 5) ⊎ IsRefusalStatus status)
 
 pub failing : (v : View) (files files_now : FilesState) (before now : SinkState) (f : Failure)
     → IsFailure v files files_now before now f → IsFailing (status_of f)
 failing v files files_now before now (Input line) h = inl refl
 failing v files files_now before now (NotWritten line) h = absurd h
-failing v files files_now before now (Refused line) h = inr (inl refl)
-failing v files files_now before now (Layout line) h = absurd h
-failing v files files_now before now (Record line) h = absurd h
+failing v files files_now before now (Refused line) h = inr (inr (inl refl))
+failing v files files_now before now (Layout line) h = inr (inr (inr (inl refl)))
+failing v files files_now before now (Record line) h = inr (inr (inr (inr refl)))
 failing v files files_now before now (Text line) h = absurd h
 failing v files files_now before now Output h = inl refl
-failing v files files_now before now OutOfMemory h = inr (inr refl)
+failing v files files_now before now OutOfMemory h = inr (inl refl)
 
 pub fault_of : (v : View) (files files_now : FilesState) (before now : SinkState) (f : Failure)
     (Told : List ℕ → Type 0) → IsFailure v files files_now before now f → Told (line_of f)
@@ -184,8 +184,8 @@ fault_of v files files_now before now (Input line) Told h told three =
     )
 fault_of v files files_now before now (NotWritten line) Told h told three = absurd h
 fault_of v files files_now before now (Refused line) Told h told three = absurd (omega (arith, three))
-fault_of v files files_now before now (Layout line) Told h told three = absurd h
-fault_of v files files_now before now (Record line) Told h told three = absurd h
+fault_of v files files_now before now (Layout line) Told h told three = absurd (omega (arith, three))
+fault_of v files files_now before now (Record line) Told h told three = absurd (omega (arith, three))
 fault_of v files files_now before now (Text line) Told h told three = absurd h
 fault_of v files files_now before now Output Told h told three = inr (h, told)
 fault_of v files files_now before now OutOfMemory Told h told three = absurd (omega (arith, three))
@@ -198,20 +198,48 @@ refusal_of v files files_now before now (Input line) Told h told four contents k
 refusal_of v files files_now before now (NotWritten line) Told h told four contents known = absurd h
 refusal_of v files files_now before now (Refused line) Told h told four contents known =
     (line.items, h.1 contents known, told)
-refusal_of v files files_now before now (Layout line) Told h told four contents known = absurd h
-refusal_of v files files_now before now (Record line) Told h told four contents known = absurd h
+refusal_of v files files_now before now (Layout line) Told h told four contents known = absurd (omega (arith, four))
+refusal_of v files files_now before now (Record line) Told h told four contents known = absurd (omega (arith, four))
 refusal_of v files files_now before now (Text line) Told h told four contents known = absurd h
 refusal_of v files files_now before now Output Told h told four contents known = absurd (omega (arith, four))
 refusal_of v files files_now before now OutOfMemory Told h told four contents known = absurd (omega (arith, four))
 
+pub layout_of : (v : View) (files files_now : FilesState) (before now : SinkState) (f : Failure)
+    (Told : List ℕ → Type 0) → IsFailure v files files_now before now f → Told (line_of f)
+    → status_of f ≡ 6 → (contents : List ℕ → List ℕ) → AreTold v files contents
+    → (line : List ℕ) × IsLayoutRefused v contents line × Told line
+layout_of v files files_now before now (Input line) Told h told six contents known = absurd (omega (arith, six))
+layout_of v files files_now before now (NotWritten line) Told h told six contents known = absurd h
+layout_of v files files_now before now (Refused line) Told h told six contents known = absurd (omega (arith, six))
+layout_of v files files_now before now (Layout line) Told h told six contents known =
+    (line.items, h.1 contents known, told)
+layout_of v files files_now before now (Record line) Told h told six contents known = absurd (omega (arith, six))
+layout_of v files files_now before now (Text line) Told h told six contents known = absurd h
+layout_of v files files_now before now Output Told h told six contents known = absurd (omega (arith, six))
+layout_of v files files_now before now OutOfMemory Told h told six contents known = absurd (omega (arith, six))
+
+pub record_of : (v : View) (files files_now : FilesState) (before now : SinkState) (f : Failure)
+    (Told : List ℕ → Type 0) → IsFailure v files files_now before now f → Told (line_of f)
+    → status_of f ≡ 7 → (contents : List ℕ → List ℕ) → AreTold v files contents
+    → (line : List ℕ) × IsRecordRefused v contents line × Told line
+record_of v files files_now before now (Input line) Told h told seven contents known = absurd (omega (arith, seven))
+record_of v files files_now before now (NotWritten line) Told h told seven contents known = absurd h
+record_of v files files_now before now (Refused line) Told h told seven contents known = absurd (omega (arith, seven))
+record_of v files files_now before now (Layout line) Told h told seven contents known = absurd (omega (arith, seven))
+record_of v files files_now before now (Record line) Told h told seven contents known =
+    (line.items, h.1 contents known, told)
+record_of v files files_now before now (Text line) Told h told seven contents known = absurd h
+record_of v files files_now before now Output Told h told seven contents known = absurd (omega (arith, seven))
+record_of v files files_now before now OutOfMemory Told h told seven contents known = absurd (omega (arith, seven))
+
 pub nothing_of : (v : View) (files files_now : FilesState) (before now : SinkState) (f : Failure)
-    → IsFailure v files files_now before now f → (status_of f ≡ 2) ⊎ (status_of f ≡ 4)
+    → IsFailure v files files_now before now f → (status_of f ≡ 2) ⊎ IsRefusalStatus (status_of f)
     → now.taken ≡ before.taken
 nothing_of v files files_now before now (Input line) h s = h.0
 nothing_of v files files_now before now (NotWritten line) h s = absurd h
 nothing_of v files files_now before now (Refused line) h s = h.0
-nothing_of v files files_now before now (Layout line) h s = absurd h
-nothing_of v files files_now before now (Record line) h s = absurd h
+nothing_of v files files_now before now (Layout line) h s = h.0
+nothing_of v files files_now before now (Record line) h s = h.0
 nothing_of v files files_now before now (Text line) h s = absurd h
 nothing_of v files files_now before now Output h s = absurd (omega (arith, s))
 nothing_of v files files_now before now OutOfMemory h s = absurd (omega (arith, s))
@@ -223,8 +251,8 @@ pub prefix_of_failure : (v : View) (files files_now : FilesState) (before now : 
 prefix_of_failure v files files_now before now (Input line) h five contents told = absurd (omega (arith, five))
 prefix_of_failure v files files_now before now (NotWritten line) h five contents told = absurd h
 prefix_of_failure v files files_now before now (Refused line) h five contents told = absurd (omega (arith, five))
-prefix_of_failure v files files_now before now (Layout line) h five contents told = absurd h
-prefix_of_failure v files files_now before now (Record line) h five contents told = absurd h
+prefix_of_failure v files files_now before now (Layout line) h five contents told = absurd (omega (arith, five))
+prefix_of_failure v files files_now before now (Record line) h five contents told = absurd (omega (arith, five))
 prefix_of_failure v files files_now before now (Text line) h five contents told = absurd h
 prefix_of_failure v files files_now before now Output h five contents told = absurd (omega (arith, five))
 prefix_of_failure v files files_now before now OutOfMemory h five contents told = h contents told

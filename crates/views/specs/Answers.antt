@@ -28,3 +28,7 @@ abbrev pub IsFault : View → FilesState → FilesState → SinkState → SinkSt
 IsFault view before now out_before out Told =
     ((out.taken ≡ out_before.taken) × IsReadFault view before now Told)
     ⊎ (IsPutFault view before out_before out × Told cannot_write_output)
+
+-- the status of a refusal: of an executable, of the layout of a record, or of a record
+abbrev pub IsRefusalStatus : ℕ → Type 0
+IsRefusalStatus status = (status ≡ 4) ⊎ ((status ≡ 6) ⊎ (status ≡ 7))

@@ -6,13 +6,17 @@ use Rattle.jump_map.specs.Image.{Cell}
 use Rattle.code_view.specs.Code.{code_text}
 use Rattle.dsm_io.specs.Causes.{Appends, AppendsPrefix}
 use Rattle.dsm_io.specs.States.{FilesState, SinkState}
-use Rattle.command_line.specs.Views.{View, Help, Code, reads}
+use Rattle.command_line.specs.Views.{View, Help, Code, Trace, reads}
 use Rattle.judged_files.specs.Code.{Planned, IsRewritingOf, IsUnrewritten}
+use Rattle.judged_files.specs.Replays.{IsReplayRefused, IsBadReplayLayout, IsBadRecord}
+use Rattle.views.specs.Trace.{recorded, IsTraceText}
 
 -- how the viewer is called
 unfoldable pub usage : List ℕ
 usage =
-    codes "usage: shasta_view code IN [--no-batch]\n" ++ codes "       shasta_view --help\n"
+    codes "usage: shasta_view code IN [--no-batch]\n"
+    ++ (codes "       shasta_view trace IN RECORD [--from S] [--to S] [--block 0xA] [--node I]\n"
+    ++ codes "       shasta_view --help\n")
 
 -- the text of the rewritten code of the executable in a file, by the program's plan, with batches
 -- or without
@@ -27,12 +31,29 @@ pub record IsCodeText (batches : Bool) (file text : List ℕ) : Type 0 where
 abbrev pub IsText : View → (List ℕ → List ℕ) → List ℕ → Type 0
 IsText Help contents text = text ≡ usage
 IsText (Code file no_batch) contents text = IsCodeText (not no_batch) (contents file) text
+IsText (Trace file record_file from to block i) contents text =
+    IsTraceText (recorded (contents file) (contents record_file))
+    (record { from = from; to = to; address = block; node = i }) text
 
 -- the executable of a view is refused with this line
 abbrev pub IsRefused : View → (List ℕ → List ℕ) → List ℕ → Type 0
 IsRefused Help contents line = ⊥
 IsRefused (Code file no_batch) contents line =
     IsUnrewritten (Planned (not no_batch)) (contents file) line
+IsRefused (Trace file record_file from to block i) contents line =
+    IsReplayRefused (recorded (contents file) (contents record_file)) line
+
+-- the layout of a view's record is refused with this line
+abbrev pub IsLayoutRefused : View → (List ℕ → List ℕ) → List ℕ → Type 0
+IsLayoutRefused (Trace file record_file from to block i) contents line =
+    IsBadReplayLayout (recorded (contents file) (contents record_file)) line
+IsLayoutRefused view contents line = ⊥
+
+-- a view's record is refused with this line
+abbrev pub IsRecordRefused : View → (List ℕ → List ℕ) → List ℕ → Type 0
+IsRecordRefused (Trace file record_file from to block i) contents line =
+    IsBadRecord (recorded (contents file) (contents record_file)) line
+IsRecordRefused view contents line = ⊥
 
 -- each file that a view reads is told to have its content
 abbrev pub AreTold : View → FilesState → (List ℕ → List ℕ) → Type 0

@@ -1,3 +1,4 @@
+pub mod Trace
 pub mod Headline
 pub mod Answers
 pub mod Failures

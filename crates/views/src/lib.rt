@@ -3,8 +3,10 @@
 //! for.
 
 mod code;
+mod recorded;
 mod text;
 mod top;
+mod trace;
 
 pub use judged_files::output::tell_out_of_memory;
 pub use top::shasta_view;

@@ -3,5 +3,6 @@
 /// How the viewer is called.
 pub(crate) const USAGE: &str = concat!(
     "usage: shasta_view code IN [--no-batch]\n",
+    "       shasta_view trace IN RECORD [--from S] [--to S] [--block 0xA] [--node I]\n",
     "       shasta_view --help\n",
 );

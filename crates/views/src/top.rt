@@ -6,12 +6,15 @@ ghost use Rattle.command_line.specs.Views.{View as Asked, AsksView, meaning_of_v
 ghost use Rattle.judged_files.specs.Answers.{Tells, file_limit};
 ghost use Rattle.judged_files.specs.Failures.{IsNoRefusal};
 ghost use Rattle.judged_files.specs.Text.{out_of_memory};
-ghost use Rattle.views.specs.Headline.{AreTold, IsRefused, Prints, PrintsPrefix, usage};
-ghost use Rattle.views.specs.Answers.{IsFault};
+ghost use Rattle.views.specs.Headline.{AreTold, IsLayoutRefused, IsRecordRefused, IsRefused};
+ghost use Rattle.views.specs.Headline.{Prints, PrintsPrefix, usage};
+ghost use Rattle.views.specs.Answers.{IsFault, IsRefusalStatus};
 ghost use Rattle.views.specs.Failures.{IsFailure, IsSuccess};
 
 use crate::code::put_code;
+use crate::recorded::read_recorded;
 use crate::text::USAGE;
+use crate::trace::{Selection, put_trace};
 use command_line::{View, view_of};
 use dsm_io::{Files, Sink, Text};
 use judged_files::failure::Failure;
@@ -21,7 +24,7 @@ use std::alloc::Global;
 
 /// Shows what the words ask for, and answers the status: 0 where the whole text was put; 2 for a
 /// faulty command line; 3 where a file or the output failed; 4 where the executable is refused; 5
-/// where it was out of memory.
+/// where it was out of memory; 6 where the layout of a record is refused; 7 where the record is.
 pub fn shasta_view<F: Files, O: Sink, E: Sink>(
     alloc: Global,
     words: &[Text],
@@ -29,8 +32,8 @@ pub fn shasta_view<F: Files, O: Sink, E: Sink>(
     out: &mut O,
     err: &mut E,
 ) -> u8
-    ensures range { (result ≡ 0) ⊎ ((result ≡ 2) ⊎ ((result ≡ 3) ⊎ ((result ≡ 4)
-        ⊎ (result ≡ 5)))) }
+    ensures range { (result ≡ 0) ⊎ ((result ≡ 2) ⊎ ((result ≡ 3) ⊎ ((result ≡ 5)
+        ⊎ IsRefusalStatus result))) }
 
     // Status 2 is for words that ask for nothing, and where there is memory for exactly those; the
     // usage text is told.
@@ -49,11 +52,22 @@ pub fn shasta_view<F: Files, O: Sink, E: Sink>(
         → AreTold v (F.state files.old) contents → result ≡ 4
         → (line : List ℕ) × IsRefused v contents line
         × Tells (E.state err.old) (E.state err.new) line }
-    ensures nothing { (result ≡ 2) ⊎ (result ≡ 4)
+    ensures nothing { (result ≡ 2) ⊎ IsRefusalStatus result
         → (O.state out.new).taken ≡ (O.state out.old).taken }
 
-    // Status 3 comes only where a count of faults rose in this call, or the file is too long; its
-    // line names which. A fault of the file comes before anything is put, one of the output only
+    // Status 6 is for a refused layout of a record, and status 7 for a refused record, by its text
+    // or by the events that it tells of; the refusal is told.
+    ensures layout { (v : Asked) (contents : List ℕ → List ℕ) → AsksView words.now v
+        → AreTold v (F.state files.old) contents → result ≡ 6
+        → (line : List ℕ) × IsLayoutRefused v contents line
+        × Tells (E.state err.old) (E.state err.new) line }
+    ensures record { (v : Asked) (contents : List ℕ → List ℕ) → AsksView words.now v
+        → AreTold v (F.state files.old) contents → result ≡ 7
+        → (line : List ℕ) × IsRecordRefused v contents line
+        × Tells (E.state err.old) (E.state err.new) line }
+
+    // Status 3 comes only where a count of faults rose in this call, or a file is too long; its
+    // line names which. A fault of a file comes before anything is put, one of the output only
     // where a text that the words ask for is being put. A file that is too long is never shown.
     ensures fault { (v : Asked) → AsksView words.now v → result ≡ 3
         → IsFault v (F.state files.old) (F.state files.new) (O.state out.old) (O.state out.new)
@@ -90,7 +104,7 @@ pub fn shasta_view<F: Files, O: Sink, E: Sink>(
     }
 }
 
-/// Reads the file of a view, and puts the view's text.
+/// Reads the files of a view, and puts the view's text.
 fn answer<F: Files, O: Sink>(
     alloc: Global,
     view: &View<'_>,
@@ -111,6 +125,23 @@ fn answer<F: Files, O: Sink>(
         View::Code { file, no_batch } => {
             let bytes = read_file(alloc, files, file)?;
             put_code(alloc, &bytes, !*no_batch, out)
+        }
+        View::Trace {
+            file,
+            record_file,
+            from,
+            to,
+            block,
+            node,
+        } => {
+            let read = read_recorded(alloc, files, file, record_file)?;
+            let selection = Selection {
+                from: *from,
+                to: *to,
+                address: *block,
+                node: *node,
+            };
+            put_trace(alloc, &read.lend(), selection, out)
         }
     }
 }

@@ -4,9 +4,10 @@ use Rattle.command_line.specs.Views.{meaning_of_view, reads}
 use Rattle.dsm_io.specs.States.{SinkState, FilesState}
 use Rattle.judged_files.specs.Answers.{Tells}
 use Rattle.judged_files.specs.Failures.{line_of}
+use Rattle.views.specs.Answers.{IsRefusalStatus}
 use Rattle.views.specs.Failures.{IsFailure, IsSuccess}
 use Rattle.views.specs.Headline.{usage}
-use Rattle.views.proofs.Viewed.{asked_as, failing, fault_of, line_five, none_as, nothing_of, prefix_of_failure, refusal_of}
+use Rattle.views.proofs.Viewed.{asked_as, failing, fault_of, layout_of, line_five, none_as, nothing_of, prefix_of_failure, record_of, refusal_of}
 use Rattle.views.proofs.top.shasta_view.Goals as goal
 
 pub returns-in-Ok-None-clause-usage : goal.returns-in-Ok-None-clause-usage
@@ -57,6 +58,42 @@ returns-in-Err-answer-clause-refused g c = λ v contents asks known four.
     subst (Tells err_before err_now) c.line.ensures.value c.tell-in-Err-answer.ensures in
     refusal_of v files files_now before now c.in-Err-answer.failure (Tells err_before err_now) failure told
     (sym c.status.ensures.value ∙ four) contents known
+
+pub returns-in-Err-answer-clause-layout : goal.returns-in-Err-answer-clause-layout
+returns-in-Err-answer-clause-layout g c = λ v contents asks known six.
+    let own = meaning_of_view c.in-Ok-Some.view in
+    let same : own ≡ v = c.in-Ok-Some.ensures.only own v
+    (asked_as c.args.words.now _ c.in-Ok-Some.view (search rules) c.in-Ok-Some.ensures.asks) asks in
+    let before : SinkState = g.O.Sink.state c.args.out.now in
+    let now : SinkState = g.O.Sink.state c.answer.new.out in
+    let files : FilesState = g.F.Files.state c.args.files.now in
+    let files_now : FilesState = g.F.Files.state c.answer.new.files in
+    let failure : IsFailure v files files_now before now c.in-Err-answer.failure =
+    subst (λ x. IsFailure x files files_now before now c.in-Err-answer.failure) same c.in-Err-answer.ensures.failure in
+    let err_before : SinkState = g.E.Sink.state c.args.err.now in
+    let err_now : SinkState = g.E.Sink.state c.tell-in-Err-answer.new.err in
+    let told : Tells err_before err_now (line_of c.in-Err-answer.failure) =
+    subst (Tells err_before err_now) c.line.ensures.value c.tell-in-Err-answer.ensures in
+    layout_of v files files_now before now c.in-Err-answer.failure (Tells err_before err_now) failure told
+    (sym c.status.ensures.value ∙ six) contents known
+
+pub returns-in-Err-answer-clause-record : goal.returns-in-Err-answer-clause-record
+returns-in-Err-answer-clause-record g c = λ v contents asks known seven.
+    let own = meaning_of_view c.in-Ok-Some.view in
+    let same : own ≡ v = c.in-Ok-Some.ensures.only own v
+    (asked_as c.args.words.now _ c.in-Ok-Some.view (search rules) c.in-Ok-Some.ensures.asks) asks in
+    let before : SinkState = g.O.Sink.state c.args.out.now in
+    let now : SinkState = g.O.Sink.state c.answer.new.out in
+    let files : FilesState = g.F.Files.state c.args.files.now in
+    let files_now : FilesState = g.F.Files.state c.answer.new.files in
+    let failure : IsFailure v files files_now before now c.in-Err-answer.failure =
+    subst (λ x. IsFailure x files files_now before now c.in-Err-answer.failure) same c.in-Err-answer.ensures.failure in
+    let err_before : SinkState = g.E.Sink.state c.args.err.now in
+    let err_now : SinkState = g.E.Sink.state c.tell-in-Err-answer.new.err in
+    let told : Tells err_before err_now (line_of c.in-Err-answer.failure) =
+    subst (Tells err_before err_now) c.line.ensures.value c.tell-in-Err-answer.ensures in
+    record_of v files files_now before now c.in-Err-answer.failure (Tells err_before err_now) failure told
+    (sym c.status.ensures.value ∙ seven) contents known
 
 pub returns-in-Err-answer-clause-fault : goal.returns-in-Err-answer-clause-fault
 returns-in-Err-answer-clause-fault g c = λ v asks three.
@@ -109,7 +146,7 @@ returns-in-Err-answer-clause-nothing g c = λ s.
     let files : FilesState = g.F.Files.state c.args.files.now in
     let files_now : FilesState = g.F.Files.state c.answer.new.files in
     nothing_of (meaning_of_view c.in-Ok-Some.view) files files_now before now c.in-Err-answer.failure
-    c.in-Err-answer.ensures.failure (subst (λ n. (n ≡ 2) ⊎ (n ≡ 4)) c.status.ensures.value s)
+    c.in-Err-answer.ensures.failure (subst (λ n. (n ≡ 2) ⊎ IsRefusalStatus n) c.status.ensures.value s)
 
 pub returns-in-Err-answer-clause-wanted : goal.returns-in-Err-answer-clause-wanted
 returns-in-Err-answer-clause-wanted g c = λ five.
@@ -129,6 +166,6 @@ returns-in-Err-answer-clause-range g c =
     elim (failing (meaning_of_view c.in-Ok-Some.view) files files_now before now c.in-Err-answer.failure
     c.in-Err-answer.ensures.failure) [
       | inl three ↦ inr (inr (inl (status ∙ three)))
-      | inr (inl four) ↦ inr (inr (inr (inl (status ∙ four))))
-      | inr (inr five) ↦ inr (inr (inr (inr (status ∙ five))))
+      | inr (inl five) ↦ inr (inr (inr (inl (status ∙ five))))
+      | inr (inr refused) ↦ inr (inr (inr (inr (subst IsRefusalStatus (sym status) refused))))
     ]

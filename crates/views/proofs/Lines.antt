@@ -1,0 +1,180 @@
+-- The lines of a trace, which are put in pieces, an event after another.
+use Rattle.std.proofs.Common.{◌≡◌, ℕ, Bool, true, false, cond, List, [], ◌∷◌, ◌++◌, filter, refl, sym, ap, ◌∙◌, subst, append-nil, append_assoc}
+use Rattle.std.specs.List.{flat_map}
+use Rattle.std.proofs.lemmas.Grind.{flat_map-append}
+use Rattle.std.proofs.lemmas.List.Elements.{filter-append}
+use Rattle.elf32_read.specs.Elf.{Elf}
+use Rattle.dsm_io.specs.Causes.{Appends}
+use Rattle.dsm_io.specs.States.{SinkState}
+use Rattle.templates.specs.declared.plans.PlanEntry.{PlanEntry}
+use Rattle.node_model.specs.Node.{Work}
+use Rattle.run_record.specs.declared.Record.{Record as Kept}
+use Rattle.run_trace.specs.declared.tracer.Tracer.{Tracer}
+use Rattle.run_trace.specs.Traced.{Traced}
+use Rattle.run_trace.specs.Trace.{IsTraceOf, trace_of}
+use Rattle.run_trace.specs.Tracing.{HasTraced, IsSame, plan_traced, record_traced, work_traced}
+use Rattle.run_trace.proofs.Wholes.{HasOne, goes_on, so_far}
+use Rattle.event_text.specs.declared.shown.Options.{Options}
+use Rattle.event_text.specs.Events.{event_line}
+use Rattle.event_text.specs.Shown.{head, is_shown, shown, trace_text}
+use Rattle.judged_files.specs.declared.failure.Failure.{Failure}
+use Rattle.judged_files.specs.declared.failure.Failure.TheVariants.{OutOfMemory}
+use Rattle.judged_files.specs.Failures.{FailsAs, IsLike, IsNever, IsPutFailure}
+use Rattle.judged_files.proofs.Pieces.{joins, put_fails, stops_behind}
+use Rattle.views.specs.Failures.{TellsWhole}
+
+-- the lines of some events
+abbrev pub lines_of : Elf → Options → List Traced → List ℕ
+lines_of elf o events = flat_map (event_line elf) (shown o events)
+
+text_more : (elf : Elf) (o : Options) (seen more : List Traced)
+    → trace_text elf o (seen ++ more) ≡ trace_text elf o seen ++ lines_of elf o more
+text_more elf o seen more =
+    ap (λ xs. head ++ flat_map (event_line elf) xs) (filter-append (is_shown o) seen more)
+    ∙ ap (λ t. head ++ t) (flat_map-append (event_line elf) (shown o seen) (shown o more))
+    ∙ sym (append_assoc head (lines_of elf o seen) (lines_of elf o more))
+
+-- an event that is shown has a line, and one that isn't has none
+pub line_shown : (elf : Elf) (o : Options) (x : Traced) → is_shown o x ≡ true
+    → lines_of elf o (x ∷ []) ≡ event_line elf x
+line_shown elf o x e =
+    ap (λ b. flat_map (event_line elf) (cond b (x ∷ []) [])) e ∙ append-nil (event_line elf x)
+
+pub line_hidden : (elf : Elf) (o : Options) (x : Traced) → is_shown o x ≡ false
+    → lines_of elf o (x ∷ []) ≡ []
+line_hidden elf o x e = ap (λ b. flat_map (event_line elf) (cond b (x ∷ []) [])) e
+
+-- events were made, and their lines were put in pieces, or are gathered
+pub record IsUnderWay (elf : Elf) (o : Options) (first t : Tracer) (start now : SinkState) (lines : List ℕ) : Type 0
+  where
+    pub seen : List Traced
+    pub traced : HasTraced t seen
+    pub same : IsSame first t
+    pub pieces : List ℕ
+    pub put : Appends start.taken now.taken pieces
+    pub faults : now.faults ≡ start.faults
+    pub reached : pieces ++ lines ≡ trace_text elf o seen
+
+pub same_on : (s t u : Tracer) → IsSame s t → IsSame t u → IsSame s u
+same_on s t u h k = record {
+  work = k.work ∙ h.work;
+  plan = k.plan ∙ h.plan;
+  rec_is = k.rec_is ∙ h.rec_is;
+  code = k.code ∙ h.code;
+}
+
+pub same_self : (t : Tracer) → IsSame t t
+same_self t = record { work = refl; plan = refl; rec_is = refl; code = refl }
+
+-- an event more
+pub event_gathered : (elf : Elf) (o : Options) (first t u : Tracer) (start now : SinkState) (lines more : List ℕ)
+    (x : Traced) (way : IsUnderWay elf o first t start now lines) → IsSame t u → HasTraced u (way.seen ++ x ∷ [])
+    → more ≡ lines ++ lines_of elf o (x ∷ []) → IsUnderWay elf o first u start now more
+event_gathered elf o first t u start now lines more x way same traced text = record {
+  seen = way.seen ++ x ∷ [];
+  traced = traced;
+  same = same_on first t u way.same same;
+  pieces = way.pieces;
+  put = way.put;
+  faults = way.faults;
+  reached = ap (λ l. way.pieces ++ l) text
+      ∙ sym (append_assoc way.pieces lines (lines_of elf o (x ∷ [])))
+      ∙ ap (λ l. l ++ lines_of elf o (x ∷ [])) way.reached
+      ∙ sym (text_more elf o way.seen (x ∷ []));
+}
+
+-- the lines are put
+pub lines_put : (elf : Elf) (o : Options) (first t : Tracer) (start before now : SinkState) (lines rest : List ℕ)
+    → IsUnderWay elf o first t start before lines → Appends before.taken now.taken lines
+    → now.faults ≡ before.faults → rest ≡ [] → IsUnderWay elf o first t start now rest
+lines_put elf o first t start before now lines rest way put same nil = record {
+  seen = way.seen;
+  traced = way.traced;
+  same = way.same;
+  pieces = way.pieces ++ lines;
+  put = joins start.taken before.taken now.taken way.pieces lines way.put put;
+  faults = same ∙ way.faults;
+  reached = ap (λ r. (way.pieces ++ lines) ++ r) nil ∙ append-nil (way.pieces ++ lines) ∙ way.reached;
+}
+
+-- the trace of the whole run
+abbrev pub IsWhole : Tracer → List Traced → Type 0
+IsWhole t trace = IsTraceOf (work_traced t) (plan_traced t) (record_traced t) trace
+
+whole_same : (first t : Tracer) (trace : List Traced) → IsSame first t → IsWhole first trace → IsWhole t trace
+whole_same first t trace same whole =
+    subst (λ r. IsTraceOf (work_traced t) (plan_traced t) r trace) (sym same.rec_is)
+    (subst (λ p. IsTraceOf (work_traced t) p (record_traced first) trace) (sym same.plan)
+    (subst (λ w. IsTraceOf w (plan_traced first) (record_traced first) trace) (sym same.work) whole))
+
+-- what is left of the whole text
+pub rest_of : (elf : Elf) (o : Options) (first t : Tracer) (start now : SinkState) (lines : List ℕ)
+    (trace : List Traced) → HasOne (record_traced t) → (way : IsUnderWay elf o first t start now lines)
+    → IsWhole first trace
+    → (rest : List ℕ) × (trace_text elf o trace ≡ way.pieces ++ (lines ++ rest))
+rest_of elf o first t start now lines trace one way whole =
+    let more = goes_on (work_traced t) (plan_traced t) (record_traced t) way.seen trace one
+    (so_far t way.seen way.traced) (whole_same first t trace way.same whole) in
+    let rest = lines_of elf o more.0 in (
+      rest,
+      ap (trace_text elf o) more.1 ∙ text_more elf o way.seen more.0
+          ∙ ap (λ l. l ++ rest) (sym way.reached) ∙ append_assoc way.pieces lines rest,
+    )
+
+-- the lines aren't put
+pub lines_fail : (elf : Elf) (o : Options) (first t : Tracer) (start before now : SinkState) (lines : List ℕ)
+    (trace : List Traced) (f : Failure) → HasOne (record_traced t)
+    → IsUnderWay elf o first t start before lines → IsWhole first trace → IsPutFailure before now lines f
+    → FailsAs (IsLike (trace_text elf o trace)) IsNever IsNever start now f
+lines_fail elf o first t start before now lines trace f one way whole h =
+    let rest = rest_of elf o first t start before lines trace one way whole in
+    put_fails (IsLike (trace_text elf o trace)) IsNever IsNever (trace_text elf o trace) 0 start before now
+    way.pieces lines rest.0 f refl rest.1 way.put way.faults h
+
+-- no line more is gathered
+pub lines_stop : (elf : Elf) (o : Options) (first t : Tracer) (start now : SinkState) (lines : List ℕ)
+    (trace : List Traced) (f : Failure) → HasOne (record_traced t) → f ≡ OutOfMemory
+    → IsUnderWay elf o first t start now lines → IsWhole first trace
+    → FailsAs (IsLike (trace_text elf o trace)) IsNever IsNever start now f
+lines_stop elf o first t start now lines trace f one out way whole =
+    let rest = rest_of elf o first t start now lines trace one way whole in
+    stops_behind (IsLike (trace_text elf o trace)) IsNever IsNever (trace_text elf o trace) 0 start now
+    way.pieces (lines ++ rest.0) f out refl rest.1 way.put
+
+-- all lines are put
+pub all_put : (elf : Elf) (o : Options) (first t : Tracer) (start before now : SinkState) (lines : List ℕ)
+    (seen trace : List Traced) → trace ≡ seen
+    → (way : IsUnderWay elf o first t start before lines) → way.seen ≡ seen
+    → Appends before.taken now.taken lines → Appends start.taken now.taken (trace_text elf o trace)
+all_put elf o first t start before now lines seen trace same way is put =
+    subst (Appends start.taken now.taken) (way.reached ∙ ap (trace_text elf o) (is ∙ sym same))
+    (joins start.taken before.taken now.taken way.pieces lines way.put put)
+
+-- by the work, the plan and the record of a tracer
+pub whole_by : (t : Tracer) (work : Work) (plan : List PlanEntry) (r : Kept) (trace : List Traced)
+    → work_traced t ≡ work → plan_traced t ≡ plan → record_traced t ≡ r → IsTraceOf work plan r trace
+    → IsWhole t trace
+whole_by t work plan r trace w p k whole =
+    subst (λ x. IsTraceOf (work_traced t) (plan_traced t) x trace) (sym k)
+    (subst (λ x. IsTraceOf (work_traced t) x r trace) (sym p)
+    (subst (λ x. IsTraceOf x plan r trace) (sym w) whole))
+
+pub tells_by : (t : Tracer) (work : Work) (r : Kept) → work_traced t ≡ work → record_traced t ≡ r
+    → TellsWhole work r → TellsWhole (work_traced t) (record_traced t)
+tells_by t work r w k whole =
+    subst (λ x. TellsWhole (work_traced t) x) (sym k) (subst (λ x. TellsWhole x r) (sym w) whole)
+
+pub same_trace : (work : Work) (plan : List PlanEntry) (r : Kept) (one other : List Traced) → HasOne r
+    → IsTraceOf work plan r one → IsTraceOf work plan r other → one ≡ other
+same_trace work plan r one other law a b =
+    a.trace_is ∙ ap (trace_of work plan) (law a.told b.told a.whole.are_told b.whole.are_told) ∙ sym b.trace_is
+
+-- all were made, and their lines are put
+pub whole_put : (elf : Elf) (o : Options) (first t u : Tracer) (start before now : SinkState) (lines : List ℕ)
+    (trace : List Traced) → HasOne (record_traced u) → (way : IsUnderWay elf o first t start before lines)
+    → IsSame t u → IsWhole u way.seen → IsWhole first trace → Appends before.taken now.taken lines
+    → Appends start.taken now.taken (trace_text elf o trace)
+whole_put elf o first t u start before now lines trace one way same all whole put =
+    all_put elf o first t start before now lines way.seen trace
+    (same_trace (work_traced u) (plan_traced u) (record_traced u) trace way.seen one
+    (whole_same first u trace (same_on first t u way.same same) whole) all) way refl put

@@ -1,0 +1,59 @@
+-- The trace of a recorded run, as a text.
+use Rattle.std.specs.Prelude.{◌≡◌, ℕ, ◌-◌, ◌^◌, ◌/◌, Bool, true, false, List, Option, None, Some, option_map, unwrap_or}
+use Rattle.std.specs.Option.{option_map_or}
+use Rattle.elf32_read.specs.Elf.{Elf}
+use Rattle.block_layout.specs.Layout.{Shape, block_of}
+use Rattle.templates.specs.declared.plans.PlanEntry.{PlanEntry}
+use Rattle.node_model.specs.Node.{Work}
+use Rattle.run_record.specs.declared.Record.{Record}
+use Rattle.run_trace.specs.Traced.{Traced}
+use Rattle.run_trace.specs.Trace.{IsTraceOf}
+use Rattle.event_text.specs.declared.shown.Options.{Options}
+use Rattle.event_text.specs.Shown.{head, trace_text}
+use Rattle.judged_files.specs.Inputs.{Inputs}
+use Rattle.judged_files.specs.Replays.{IsWorkOf}
+use Rattle.views.specs.declared.trace.Selection.{Selection}
+
+-- what a view of a recorded run reads: an executable, and the text of a record
+abbrev pub recorded : (executable text : List ℕ) → Inputs
+recorded executable text = record {
+  executable = executable;
+  code = None;
+  verified = None;
+  layout = None;
+  text = text;
+  batches = true;
+}
+
+-- the events that are asked for, about one block, or about any or none
+abbrev pub options_about : Selection → Option ℕ → Options
+options_about s block = record {
+  from = unwrap_or s.from 0;
+  to = unwrap_or s.to (2 ^ 64 - 1);
+  node = s.node;
+  block = block;
+  words = false;
+}
+
+-- about the block in which an address lies, where one is asked for; none where it lies in no block
+abbrev pub options_at : Shape → Selection → (address : Option ℕ) → Option Options
+options_at layout s None = Some (options_about s None)
+options_at layout s (Some address) =
+    option_map (λ b. options_about s (Some b)) (block_of layout (address / 64))
+
+-- the text of a trace: the first line, and a line for each event that is asked for, of which there
+-- are none where the address lies in no block
+abbrev pub selected_text : Elf → Shape → Selection → List Traced → List ℕ
+selected_text elf layout s trace =
+    option_map_or (λ o. trace_text elf o trace) (options_at layout s s.address) head
+
+-- the text of the trace of the run that a record asks for and tells of whole
+pub record IsTraceText (inputs : Inputs) (s : Selection) (text : List ℕ) : Type 0 where
+  pub kept : Record
+  pub elf : Elf
+  pub plan : List PlanEntry
+  pub work : Work
+  pub asked : IsWorkOf inputs kept elf plan work
+  pub trace : List Traced
+  pub is_trace : IsTraceOf work plan kept trace
+  pub text_is : text ≡ selected_text elf work.layout s trace

@@ -1,0 +1,116 @@
+//! A recorded run: its files, what is judged of them, and its events.
+
+ghost use Rattle.std.specs.Prelude.{◌≡◌, ◌≤◌, ℕ, List, IfErr, IfOk, OnOk};
+ghost use Rattle.rewriting_law.specs.Bounds.{RunsRewritten};
+ghost use Rattle.run_trace.specs.Traced.{Traced as OfEvent};
+ghost use Rattle.run_trace.specs.Tracing.{HasTraced, HasGoneOn, IsFewer, IsSame};
+ghost use Rattle.run_trace.specs.Tracing.{record_traced, work_traced};
+ghost use Rattle.judged_files.specs.Executables.{ReadsAs};
+ghost use Rattle.judged_files.specs.Failures.{IsRecordRefusal, IsReplayRefusal};
+ghost use Rattle.judged_files.specs.Given.{bytes_of, contents_of};
+ghost use Rattle.judged_files.specs.Ready.{work_for};
+ghost use Rattle.judged_files.specs.Replays.{IsBrokenRun, IsWorkOf};
+ghost use Rattle.run_record.specs.Record.{IsRecord};
+ghost use Rattle.dsm_core.specs.CoreParts.{outcome_of};
+ghost use Rattle.replay.specs.Replay.{IsReplay};
+ghost use Rattle.views.specs.Failures.{AreRecorded, IsRecordingFailure, TellsWhole};
+
+use dsm_core::Outcome;
+use dsm_io::Files;
+use elf32_read::Elf;
+use judged_files::failure::Failure;
+use judged_files::input::{InputFiles, Inputs, read_file};
+use judged_files::prepare::{Prepared, prepare_replay};
+use judged_files::refusal::event_line;
+use replay::{ReplayRefused, replay, replay_law};
+use run_record::Record;
+use run_trace::{Traced, Tracer};
+use std::alloc::{AllocError, Global};
+
+/// A recorded run that was judged.
+#[derive(Drop)]
+pub(crate) struct RecordedRun<'a> {
+    /// What it is a run of.
+    pub(crate) prepared: Prepared<'a>,
+    /// Its record, which tells of a whole run.
+    pub(crate) kept: Record,
+}
+
+/// Reads the files of a recorded run: the executable, and the record, in this order.
+pub(crate) fn read_recorded<F: Files>(
+    alloc: Global,
+    files: &mut F,
+    file: &str,
+    record_file: &str,
+) -> Result<InputFiles, Failure>
+    ensures ok { IfOk result (λ r. AreRecorded (F.state files.old) file.now record_file.now
+        (contents_of r)) }
+    ensures failure { IfErr result (IsRecordingFailure file.now record_file.now
+        (F.state files.old) (F.state files.new)) }
+    ensures contents { (n : List ℕ) → (F.state files.new).held n ≡ (F.state files.old).held n }
+{
+    let executable = read_file(alloc, files, file)?;
+    let text = read_file(alloc, files, record_file)?;
+    Ok(InputFiles {
+        executable,
+        code: None,
+        verified: None,
+        layout: None,
+        text,
+        batches: true,
+    })
+}
+
+/// Judges the executable, which was read, and the record, and makes the run once more: what it is
+/// of and its record.
+pub(crate) fn judged_run<'a>(
+    alloc: Global,
+    elf: &'a Elf<'_>,
+    inputs: &Inputs<'_>,
+) -> Result<RecordedRun<'a>, Failure>
+    requires reads { ReadsAs (bytes_of inputs.now).executable elf.now }
+    ensures rewritten { IfOk result (λ r. RunsRewritten (work_for r.prepared)) }
+    ensures asked { IfOk result (λ r. IsWorkOf (bytes_of inputs.now) r.kept r.prepared.program
+        r.prepared.rewritten.plan (work_for r.prepared)) }
+    ensures whole { IfOk result (λ r. TellsWhole (work_for r.prepared) r.kept) }
+    ensures refused { IfErr result (IsReplayRefusal (bytes_of inputs.now)) }
+{
+    let (prepared, kept) = prepare_replay(alloc, elf, inputs)?;
+    judge_events(alloc, &prepared, &kept)?;
+    Ok(RecordedRun { prepared, kept })
+}
+
+/// Makes the run that a record tells of, whose events are refused otherwise.
+fn judge_events(alloc: Global, prepared: &Prepared<'_>, kept: &Record) -> Result<Outcome, Failure>
+    requires rewritten { RunsRewritten (work_for prepared.now) }
+    requires record { IsRecord kept.now }
+    requires nodes { prepared.now.layout.nodes ≡ kept.now.nodes }
+    ensures ok { IfOk result (λ o. IsReplay (work_for prepared.now) kept.now (outcome_of o)) }
+    ensures refused { IfErr result
+        (IsRecordRefusal (IsBrokenRun (work_for prepared.now) kept.now)) }
+{
+    match replay(alloc, &prepared.work(), kept) {
+        Ok(outcome) => Ok(outcome),
+        Err(ReplayRefused::Broken { rule, node, entry }) => {
+            Err(Failure::Record(event_line(alloc, rule, node, entry)?))
+        }
+        Err(ReplayRefused::OutOfMemory) => Err(Failure::OutOfMemory),
+    }
+}
+
+/// What the next event of a whole run does; None where all were made.
+pub(crate) fn next_event(tracer: &mut Tracer<'_>) -> Result<Option<Traced>, AllocError>
+    requires traced { (seen : List OfEvent) × HasTraced tracer.old seen }
+    requires whole { TellsWhole (work_traced tracer.old) (record_traced tracer.old) }
+    ensures next { (seen : List OfEvent) → HasTraced tracer.old seen
+        → IfOk result (HasGoneOn tracer.new seen) }
+    ensures same { OnOk result (IsSame tracer.old tracer.new) }
+    ensures fewer { IfOk result (IsFewer tracer.old tracer.new) }
+{
+    replay_law();
+    match tracer.next() {
+        Ok(event) => Ok(event),
+        Err(ReplayRefused::Broken { .. }) => unreachable!(),
+        Err(ReplayRefused::OutOfMemory) => Err(AllocError),
+    }
+}

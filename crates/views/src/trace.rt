@@ -1,0 +1,210 @@
+//! `trace`: what each event of a recorded run did, a line an event.
+
+ghost use Rattle.std.specs.Prelude.{◌≡◌, ◌++◌, ◌∷◌, [], List, IfErr, IfOk, OnOk};
+ghost use Rattle.std.specs.List.{flat_map};
+ghost use Rattle.dsm_io.specs.Causes.{Appends};
+ghost use Rattle.rewriting_law.specs.Bounds.{RunsRewritten};
+ghost use Rattle.run_record.specs.Record.{IsRecord};
+ghost use Rattle.run_trace.specs.Given.{traced_of};
+ghost use Rattle.run_trace.specs.Traced.{Traced as OfEvent};
+ghost use Rattle.run_trace.specs.Trace.{IsTraceOf};
+ghost use Rattle.run_trace.specs.Tracing.{HasTraced, plan_traced, record_traced, work_traced};
+ghost use Rattle.event_text.specs.Events.{event_line};
+ghost use Rattle.event_text.specs.Shown.{head, shown, trace_text};
+ghost use Rattle.judged_files.specs.Failures.{FailsAs, IsLike, IsNever, Puts};
+ghost use Rattle.judged_files.specs.Given.{bytes_of};
+ghost use Rattle.judged_files.specs.Ready.{work_for};
+ghost use Rattle.views.specs.Failures.{FailsAsRun, IsTextOfTrace, TellsWhole};
+ghost use Rattle.views.specs.Trace.{options_about, options_at, selected_text};
+
+use crate::recorded::{RecordedRun, judged_run, next_event};
+use block_layout::{Block, Layout};
+use dsm_io::Sink;
+use event_text::{Options, is_shown, push_event, push_head};
+use exec_map::Program;
+use flow_graph::Graph;
+use judged_files::failure::Failure;
+use judged_files::input::{Inputs, elf_of};
+use judged_files::output::put;
+use judged_files::refusal::Subject;
+use replay::replay_law;
+use run_trace::{Traced, Tracer};
+use std::alloc::{AllocError, Global};
+
+/// The text is put in pieces of about so many bytes.
+const PIECE: usize = 0x1_0000;
+
+/// Which events are asked for: all, but for what is given.
+#[derive(Clone, Copy)]
+pub(crate) struct Selection {
+    /// The least stamp.
+    pub(crate) from: Option<u64>,
+    /// The greatest stamp.
+    pub(crate) to: Option<u64>,
+    /// An address in the block that they are about.
+    pub(crate) address: Option<u32>,
+    /// Their node.
+    pub(crate) node: Option<u8>,
+}
+
+impl Selection {
+    /// The events about one block, or about any or none.
+    fn about(self, block: Option<Block>) -> Options
+        ensures { result ≡ options_about self block }
+    {
+        Options {
+            from: self.from.unwrap_or(0),
+            to: self.to.unwrap_or(u64::MAX),
+            node: self.node,
+            block,
+            words: false,
+        }
+    }
+
+    /// The events that are asked for. None where the address lies in no block.
+    fn options(self, layout: &Layout) -> Option<Options>
+        ensures { result ≡ options_at layout.now self self.address }
+    {
+        match self.address {
+            None => Some(self.about(None)),
+            Some(address) => {
+                let block = layout.block_of(address / 64)?;
+                Some(self.about(Some(block)))
+            }
+        }
+    }
+}
+
+/// Puts the lines of the events that are asked for, of the run of the record among these files and
+/// the executable among them.
+pub(crate) fn put_trace<O: Sink>(
+    alloc: Global,
+    inputs: &Inputs<'_>,
+    selection: Selection,
+    out: &mut O,
+) -> Result<(), Failure>
+    ensures ok { OnOk result (Puts (IsTextOfTrace (bytes_of inputs.now) selection) 0
+        (O.state out.old) (O.state out.new)) }
+    ensures failure { IfErr result (FailsAsRun (IsTextOfTrace (bytes_of inputs.now) selection)
+        (bytes_of inputs.now) (O.state out.old) (O.state out.new)) }
+{
+    let elf = elf_of(alloc, Subject::Executable, inputs.executable)?;
+    let run = judged_run(alloc, &elf, inputs)?;
+    put_selected(alloc, &run, selection, out)
+}
+
+/// Puts the lines of the events of a judged run that are asked for.
+fn put_selected<O: Sink>(
+    alloc: Global,
+    run: &RecordedRun<'_>,
+    selection: Selection,
+    out: &mut O,
+) -> Result<(), Failure>
+    requires rewritten { RunsRewritten (work_for run.now.prepared) }
+    requires record { IsRecord run.now.kept }
+    requires nodes { run.now.prepared.layout.nodes ≡ run.now.kept.nodes }
+    requires whole { TellsWhole (work_for run.now.prepared) run.now.kept }
+    ensures ok { (trace : List OfEvent)
+        → IsTraceOf (work_for run.now.prepared) run.now.prepared.rewritten.plan run.now.kept trace
+        → OnOk result (Appends (O.state out.old).taken (O.state out.new).taken
+        (selected_text run.now.prepared.program run.now.prepared.layout selection trace)) }
+    ensures failure { (trace : List OfEvent)
+        → IsTraceOf (work_for run.now.prepared) run.now.prepared.rewritten.plan run.now.kept trace
+        → IfErr result (FailsAs (IsLike (selected_text run.now.prepared.program
+        run.now.prepared.layout selection trace)) IsNever IsNever
+        (O.state out.old) (O.state out.new)) }
+{
+    match selection.options(&run.prepared.layout) {
+        Some(options) => put_run(alloc, run, &options, out),
+        None => put_head(alloc, out),
+    }
+}
+
+/// Puts the first line alone.
+fn put_head<O: Sink>(alloc: Global, out: &mut O) -> Result<(), Failure>
+    ensures ok { OnOk result (Appends (O.state out.old).taken (O.state out.new).taken head) }
+    ensures failure { IfErr result (FailsAs (IsLike head) IsNever IsNever
+        (O.state out.old) (O.state out.new)) }
+{
+    let mut line = Vec::new(alloc);
+    push_head(&mut line)?;
+    put(out, &line)
+}
+
+/// Puts the lines of the events of a judged run that are shown.
+fn put_run<O: Sink>(
+    alloc: Global,
+    run: &RecordedRun<'_>,
+    options: &Options,
+    out: &mut O,
+) -> Result<(), Failure>
+    requires rewritten { RunsRewritten (work_for run.now.prepared) }
+    requires record { IsRecord run.now.kept }
+    requires nodes { run.now.prepared.layout.nodes ≡ run.now.kept.nodes }
+    requires whole { TellsWhole (work_for run.now.prepared) run.now.kept }
+    ensures ok { (trace : List OfEvent)
+        → IsTraceOf (work_for run.now.prepared) run.now.prepared.rewritten.plan run.now.kept trace
+        → OnOk result (Appends (O.state out.old).taken (O.state out.new).taken
+        (trace_text run.now.prepared.program options.now trace)) }
+    ensures failure { (trace : List OfEvent)
+        → IsTraceOf (work_for run.now.prepared) run.now.prepared.rewritten.plan run.now.kept trace
+        → IfErr result (FailsAs (IsLike (trace_text run.now.prepared.program options.now trace))
+        IsNever IsNever (O.state out.old) (O.state out.new)) }
+{
+    let program = &run.prepared.program;
+    let graph = Graph::of(alloc, program)?;
+    let plan = run.prepared.rewritten.plan();
+    let mut tracer = Tracer::new(alloc, &run.prepared.work(), plan, graph.code(), &run.kept)?;
+    put_events(alloc, program, &mut tracer, options, out)
+}
+
+/// Puts the lines of the events of a whole run that are shown, from its start on.
+fn put_events<O: Sink>(
+    alloc: Global,
+    program: &Program<'_>,
+    tracer: &mut Tracer<'_>,
+    options: &Options,
+    out: &mut O,
+) -> Result<(), Failure>
+    requires start { HasTraced tracer.old [] }
+    requires whole { TellsWhole (work_traced tracer.old) (record_traced tracer.old) }
+    ensures ok { (trace : List OfEvent)
+        → IsTraceOf (work_traced tracer.old) (plan_traced tracer.old) (record_traced tracer.old)
+        trace
+        → OnOk result (Appends (O.state out.old).taken (O.state out.new).taken
+        (trace_text program.now options.now trace)) }
+    ensures failure { (trace : List OfEvent)
+        → IsTraceOf (work_traced tracer.old) (plan_traced tracer.old) (record_traced tracer.old)
+        trace
+        → IfErr result (FailsAs (IsLike (trace_text program.now options.now trace)) IsNever
+        IsNever (O.state out.old) (O.state out.new)) }
+{
+    replay_law();
+    let mut lines = Vec::new(alloc);
+    push_head(&mut lines)?;
+    while let Some(event) = next_event(tracer)? {
+        push_if_shown(&mut lines, program, options, &event)?;
+        if lines.len() >= PIECE {
+            put(out, &lines)?;
+            lines.clear();
+        }
+    }
+    put(out, &lines)?;
+    Ok(())
+}
+
+/// Appends the line of an event, if it is shown.
+fn push_if_shown(
+    lines: &mut Vec<u8>,
+    program: &Program<'_>,
+    options: &Options,
+    event: &Traced,
+) -> Result<(), AllocError>
+    ensures { OnOk result (lines.new.items ≡ lines.old.items
+        ++ flat_map (event_line program.now) (shown options.now (traced_of event.now ∷ []))) }
+{
+    if !is_shown(options, event) {
+        return Ok(());
+    }
+    push_event(lines, program, event)
+}
