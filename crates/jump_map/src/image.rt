@@ -1,7 +1,7 @@
 //! Rewritten code, and the maps between original and rewritten addresses.
 
 ghost use Rattle.std.specs.Prelude.{◌≡◌, ◌≤◌, ℕ, List, length, option_copied, IfOk, IfSome};
-ghost use Rattle.std.specs.Prelude.{IsErrOf};
+ghost use Rattle.std.specs.Prelude.{IsErrOf, slice_get};
 ghost use Rattle.rv32_program.specs.Program.{Program};
 ghost use Rattle.templates.specs.declared.plans.PlanEntry.{PlanEntry};
 ghost use Rattle.templates.specs.Plans.{AscendsFrom};
@@ -147,6 +147,16 @@ impl Image {
         ensures value { result ≡ word_at self.now new }
     {
         self.cells.word(index_of(new)?)
+    }
+
+    /// The micro-ops of all words, each at its number, so many as there are words.
+    #[inline(always)]
+    pub fn micros(&self) -> &[MicroOp]
+        ensures value { (index : ℕ) → IsMicroAnswer self.now index (slice_get result.now index) }
+        ensures looks { (index : ℕ) →
+            IfSome (slice_get result.now index) (IsLookAt self.now index) }
+    {
+        self.micros.as_slice()
     }
 
     /// The micro-op of the word of a number; None exactly where there is no such word.
