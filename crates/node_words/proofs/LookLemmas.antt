@@ -1,9 +1,9 @@
 -- Words that belong together, one after another.
-use Rattle.std.proofs.Common.{◌≡◌, ◌≢◌, ℕ, zero, ◌+◌, ◌/◌, ◌%◌, ◌^◌, ◌<◌, ◌≤◌, Bool, true, false, List, length, eqb, ltb, Some, refl, sym, ap, ◌∙◌, subst, arith}
+use Rattle.std.proofs.Common.{◌≡◌, ◌≢◌, ℕ, zero, suc, ◌+◌, ◌/◌, ◌%◌, ◌^◌, ◌<◌, ◌≤◌, Bool, true, false, List, [], ◌∷◌, length, eqb, ltb, Option, Some, None, refl, sym, ap, ◌∙◌, subst, arith}
 use Rattle.std.proofs.lemmas.Bool.Decides.{nat_tests}
 use Rattle.rv32_decode.specs.declared.LoadKind.{LoadKind}
 use Rattle.rv32_decode.specs.declared.LoadKind.TheVariants.{ByteU}
-use Rattle.std.specs.Prelude.{bit_and}
+use Rattle.std.specs.Prelude.{bit_and, slice_get}
 use Rattle.rv32_step.specs.Registers.{reg, put, registers_of}
 use Rattle.rv32_step.specs.declared.Demand.TheVariants.{Sets, Loads}
 use Rattle.rv32_step.specs.Demands.{branch_demand}
@@ -19,13 +19,14 @@ use Rattle.micro_op.specs.declared.MicroKind.TheVariants as kind
 use Rattle.rv32_decode.specs.declared.Op.TheVariants as op_kind
 use Rattle.micro_op.specs.Micro.{Meaning, Demands, by_immediate, meaning_by, meaning_of}
 use Rattle.jump_map.specs.Image.{Cell, image_base, most_words}
-use Rattle.jump_map.specs.Micro.{IsMicroAt, ReadsState, SkipsAt, op_of}
+use Rattle.jump_map.specs.Micro.{IsMicroAnswer, IsMicroAt, ReadsState, SkipsAt, op_of}
 use Rattle.node_words.specs.declared.body.Body.{Body}
+use Rattle.node_words.specs.declared.looks.Onward.{Onward}
 use Rattle.node_words.specs.Address.{word_address}
 use Rattle.node_words.specs.Kept.{LeavesBehind, StepsTo, ground_of, lane_of, local_of}
-use Rattle.node_words.specs.GoingOn.{GoesFurther, BeginsLook, DoesNext, PutsNext}
+use Rattle.node_words.specs.GoingOn.{GoesFurther, BeginsLook, DoesNext, PutsNext, StridesOr, leads_to, words_of}
 use Rattle.node_words.proofs.StepLemmas.{micro_step, got_below, load_next, next_follows}
-use Rattle.node_words.proofs.WordLemmas.{goes_one, goes_both}
+use Rattle.node_words.proofs.WordLemmas.{goes_one, goes_none, goes_both}
 
 -- registers after a write
 
@@ -195,3 +196,38 @@ pub masks : (s v : ℕ) (registers : ℕ → ℕ) → v ≡ reg registers s
     → meaning_of image_base (op_of kind.AndImm s s 0 2) registers ≡ Demands (Sets s (bit_and v 2))
 unfolding alu
 masks s v registers is = ap (λ (x : ℕ). Demands (Sets s (bit_and x 2))) (sym is)
+
+-- where words lead, by how many they are and by the word that follows
+pub led : (image : List Cell) (at words n next : ℕ) (o : Onward) (b b' : Body) → leads_to at o ≡ next → words_of o ≡ n
+    → GoesFurther image b at words b' next (words + n)
+    → GoesFurther image b at words b' (leads_to at o) (words + words_of o)
+led image at words n next o b b' place count goes =
+    subst (λ (k : ℕ). GoesFurther image b at words b' k (words + words_of o)) (sym place)
+    (subst (λ (k : ℕ). GoesFurther image b at words b' next (words + k)) (sym count) goes)
+
+pub strides : (image : List Cell) (at n next room : ℕ) (o : Onward) (b b' : Body) → leads_to at o ≡ next
+    → words_of o ≡ n → 0 < n → n ≤ room → ((words : ℕ) → GoesFurther image b at words b' next (words + n))
+    → StridesOr image at room b b' (Some o)
+strides image at n next room o b b' place count some few goes = (
+  omega (arith, count, some),
+  omega (arith, count, few),
+  λ words. led image at words n next o b b' place count (goes words),
+)
+
+-- a stride from a body that is the same
+pub strides_from : (image : List Cell) (at room : ℕ) (b m b' : Body) (r : Option Onward) → m.lane ≡ b.lane
+    → m.local ≡ b.local → StridesOr image at room m b' r → StridesOr image at room b b' r
+strides_from image at room b m b' None lane local goes = (goes.0 ∙ lane, goes.1 ∙ local)
+strides_from image at room b m b' (Some o) lane local goes = (
+  goes.0,
+  goes.1,
+  λ words. goes_both image at words at words (leads_to at o) (words + words_of o) b m b'
+      (goes_none image at words b m lane local) (goes.2 words),
+)
+
+-- the image has a word for each micro-op
+pub answered : (image : List Cell) (at : ℕ) (ops : List MicroOp) (k : ℕ) → k < length ops
+    → IsMicroAnswer image at (slice_get ops k) → at < length image
+answered image at [] k below answer = omega (arith, below)
+answered image at (op ∷ ops) zero below answer = got_below image at answer.cell answer.there
+answered image at (op ∷ ops) (suc k) below answer = answered image at ops k (omega (arith, below)) answer

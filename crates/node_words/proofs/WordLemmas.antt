@@ -1,5 +1,5 @@
 -- A node after a word, by what the word left.
-use Rattle.std.proofs.Common.{◌≡◌, ◌≢◌, ℕ, zero, suc, ◌+◌, ◌<◌, true, List, [], refl, sym, ap, ◌∙◌, subst, inl, inr, arith}
+use Rattle.std.proofs.Common.{◌≡◌, ◌≢◌, ℕ, zero, suc, ◌+◌, ◌<◌, ◌≤◌, true, List, [], refl, sym, ap, ◌∙◌, subst, inl, inr, arith}
 use Rattle.std.proofs.lemmas.Bool.Decides.{eqb_tells}
 use Rattle.exec_map.specs.Contents.{program_of}
 use Rattle.jump_map.specs.Image.{Cell}
@@ -152,3 +152,23 @@ goes_both image at words at1 words1 at2 words2 b m b' one two =
       goes = λ most from first few ground on.
           two.goes most from first few (one.ground_same ∙ ground) (one.goes most from first (omega (arith, few, more)) ground on);
     }
+
+-- by so many words, after those before
+pub goes_by : (image : List Cell) (most from words at here next to n total : ℕ) (first b b' : Body) → here ≡ at
+    → next ≡ to → words + n ≡ total → total ≤ most
+    → ((w : ℕ) → GoesFurther image b here w b' next (w + n)) → ground_of b.local ≡ ground_of first.local
+    → BodyGoesOn image most from first words at b → BodyGoesOn image most from first total to b'
+goes_by image most from words at here next to n total first b b' same lead sum few goes ground on =
+    subst (λ (k : ℕ). BodyGoesOn image most from first total k b') lead
+    (subst (λ (k : ℕ). BodyGoesOn image most from first k next b') sum
+    ((goes words).goes most from first (omega (arith, sum, few)) ground
+    (subst (λ (k : ℕ). BodyGoesOn image most from first words k b) (sym same) on)))
+
+-- a smaller budget
+pub goes_within : (image : List Cell) (few most from words at words' at' : ℕ) (first b : Body) → few ≤ most
+    → words ≡ words' → at ≡ at' → BodyGoesOn image few from first words at b
+    → BodyGoesOn image most from first words' at' b
+goes_within image few most from words at words' at' first b less same here on =
+    subst (λ (k : ℕ). BodyGoesOn image most from first words' k b) here
+    (subst (λ (k : ℕ). BodyGoesOn image most from first k at b) same
+    (λ work n is program may room. on work n is program may (omega (arith, less, room))))

@@ -1,5 +1,5 @@
 -- Helps the code alone: bodies from word to word.
-use Rattle.std.specs.Prelude.{◌≡◌, ℕ, zero, suc, ◌+◌, ◌^◌, ◌<◌, ◌≤◌, true, List, Some}
+use Rattle.std.specs.Prelude.{◌≡◌, ℕ, zero, suc, ◌+◌, ◌%◌, ◌^◌, ◌<◌, ◌≤◌, true, List, Option, Some, None}
 use Rattle.rv32_decode.specs.declared.Op.TheVariants as op
 use Rattle.rv32_step.specs.Registers.{put, registers_of}
 use Rattle.rv32_step.specs.declared.Demand.{Demand}
@@ -12,6 +12,11 @@ use Rattle.jump_map.specs.Image.{Cell, image_base}
 use Rattle.node_words.specs.Address.{word_address}
 use Rattle.node_words.specs.declared.body.Body.{Body}
 use Rattle.node_model.specs.Node.{Node, Work, Phase, Running, can_execute}
+use Rattle.node_words.specs.declared.hot.Way.{Way}
+use Rattle.node_words.specs.declared.hot.Way.TheVariants.{To}
+use Rattle.node_words.specs.declared.hot.Way.TheVariants as way
+use Rattle.node_words.specs.declared.looks.Onward.{Onward}
+use Rattle.node_words.specs.declared.looks.Onward.TheVariants.{Next, Straight, Leap}
 use Rattle.node_words.specs.Runs.{GoesOnBy}
 use Rattle.node_words.specs.Kept.{local_of, lane_of, ground_of, StepsTo}
 
@@ -45,6 +50,32 @@ pub record GoesFurther (image : List Cell) (b : Body) (at words : ℕ) (b' : Bod
   pub goes : (most from : ℕ) (first : Body) → words' ≤ most
       → ground_of b.local ≡ ground_of first.local → BodyGoesOn image most from first words at b
       → BodyGoesOn image most from first words' at' b'
+
+-- the index of the word that a way leads to from the word with an index
+abbrev pub index_by : (at : ℕ) → Option Way → Option ℕ
+index_by at None = None
+index_by at (Some way.Next) = Some ((at + 1) % 2 ^ 32)
+index_by at (Some (To index)) = Some index
+
+-- where words lead that were executed from the word with an index on
+abbrev pub leads_to : (at : ℕ) → Onward → ℕ
+leads_to at Next = (at + 1) % 2 ^ 32
+leads_to at (Straight words) = (at + words) % 2 ^ 32
+leads_to at (Leap done) = done.at
+
+-- how many they are
+abbrev pub words_of : Onward → ℕ
+words_of Next = 1
+words_of (Straight words) = words
+words_of (Leap done) = done.words
+
+-- a body goes on from a word with an index by at least one word, and at most as many as there is
+-- room for; or nothing changed
+abbrev pub StridesOr : List Cell → (at room : ℕ) → Body → Body → Option Onward → Type 0
+StridesOr image at room b b' None = (b'.lane ≡ b.lane) × (b'.local ≡ b.local)
+StridesOr image at room b b' (Some o) =
+    (0 < words_of o) × (words_of o ≤ room)
+    × ((words : ℕ) → GoesFurther image b at words b' (leads_to at o) (words + words_of o))
 
 -- a micro-op adds its immediate
 abbrev pub AddsImmediate : MicroOp → Type 0

@@ -1,8 +1,8 @@
 //! Words in a row: one by its micro-op, or those that belong together, which are executed at once:
 //! they read the state of a line and test it, or load a word and compare it with the flag word.
 
-ghost use Rattle.std.specs.Prelude.{◌≡◌, ◌+◌, ◌^◌, ◌≤◌, ◌<◌, ◌%◌, ℕ, List, Some, true, false};
-ghost use Rattle.std.specs.Prelude.{MatchOption, length};
+ghost use Rattle.std.specs.Prelude.{◌≡◌, ◌+◌, ◌^◌, ◌≤◌, ◌<◌, ◌-◌, ◌%◌, ℕ, List, Some, true, false};
+ghost use Rattle.std.specs.Prelude.{length};
 ghost use Rattle.rv32_decode.specs.Widths.{is_aligned};
 ghost use Rattle.rv32_step.specs.Demands.{branch_demand};
 ghost use Rattle.rv32_step.specs.Registers.{reg, registers_of};
@@ -11,11 +11,13 @@ ghost use Rattle.jump_map.specs.Image.{Cell, most_words};
 ghost use Rattle.jump_map.specs.Micro.{IsLookAt, IsMicroAt, PassesAt, ReadsValue, SkipsAt, op_of};
 ghost use Rattle.node_words.specs.Address.{word_address};
 ghost use Rattle.node_words.specs.GoingOn.{BeginsLook, BeginsSecondLook, BeginsValueLook};
-ghost use Rattle.node_words.specs.GoingOn.{GoesFurther, OrsAt, PutsNext};
+ghost use Rattle.node_words.specs.GoingOn.{GoesFurther, OrsAt, PutsNext, StridesOr};
+ghost use Rattle.node_words.specs.GoingOn.{leads_to, words_of};
 ghost use Rattle.node_words.specs.Kept.{Shelf, StepsTo};
 ghost use Rattle.node_words.specs.declared.lane.Lane.{Lane};
 
 use crate::body::Body;
+use crate::hot::Way;
 use crate::serve::Stretch;
 use jump_map::Image;
 use micro_op::{MicroKind, MicroOp};
@@ -31,170 +33,116 @@ const STATE_TABLE: u32 = 0x8000_0000;
 /// The flag word, which a node's copy holds wherever it may not be read.
 const FLAG_WORD: u32 = 0xffff_ff03;
 
-impl<'a> Body<'a> {
-    /// Executes the next word by its micro-op, those that it begins, or a quiet one that has none,
-    /// and no more words than there may be with those before. `None` where the path that serves
-    /// every word has to; then nothing changed.
-    #[inline(always)]
-    pub(crate) fn stride(&mut self, image: &Image, start: Stretch, most: u64) -> Option<Stretch>
-        requires few { length image.now ≤ most_words }
-        requires room { start.words < most }
-        ensures goes { MatchOption result
-            ((self.new.lane ≡ self.old.lane) × (self.new.local ≡ self.old.local))
-            (λ done. (start.words < done.words) × (done.words ≤ most)
-            × GoesFurther image.now self.old start.at start.words
-            self.new done.at done.words) }
-        ensures counts { self.new.counts ≡ self.old.counts }
-    {
-        match image.micro(start.at) {
-            Some(op) => self.stride_by(image, op, start, most),
-            None => None,
-        }
-    }
+/// How many words were executed, and where they lead.
+#[derive(Clone, Copy, Debug, PartialEq, Eq)]
+pub(crate) enum Onward {
+    /// One word, to the next.
+    Next,
+    /// So many words, to the one behind them.
+    Straight(u64),
+    /// A stretch that may lead elsewhere.
+    Leap(Stretch),
+}
 
-    /// The same of the word of a micro-op.
+impl<'a> Body<'a> {
+    /// Executes the word of a micro-op, those that it begins, or a quiet one that has none, and no
+    /// more words than there are from its index to the end. `None` where the path that serves every
+    /// word has to; then nothing changed.
     #[inline(always)]
-    fn stride_by(
+    pub(crate) fn stride(
         &mut self,
         image: &Image,
         op: &MicroOp,
-        start: Stretch,
-        most: u64,
-    ) -> Option<Stretch>
+        at: u32,
+        end: u64,
+    ) -> Option<Onward>
         requires few { length image.now ≤ most_words }
-        requires room { start.words < most }
-        requires here { IsMicroAt image.now start.at op.now }
-        requires looks { IsLookAt image.now start.at op.now }
-        ensures goes { MatchOption result
-            ((self.new.lane ≡ self.old.lane) × (self.new.local ≡ self.old.local))
-            (λ done. (start.words < done.words) × (done.words ≤ most)
-            × GoesFurther image.now self.old start.at start.words
-            self.new done.at done.words) }
+        requires room { at < end }
+        requires here { IsMicroAt image.now at op.now }
+        requires looks { IsLookAt image.now at op.now }
+        ensures goes { StridesOr image.now at (end - at) self.old self.new result }
         ensures counts { self.new.counts ≡ self.old.counts }
     {
-        match self.step::<true, false>(image, op, start.at) {
-            Some(at) => Some(Stretch {
-                at,
-                words: start.words + 1,
-            }),
-            None => self.stride_apart(image, op, start, most),
+        match self.way::<true, false>(image, op, at) {
+            Some(Way::Next) => Some(Onward::Next),
+            Some(Way::To(next)) => Some(Onward::Leap(Stretch { at: next, words: 1 })),
+            None => self.stride_apart(image, op, at, end),
         }
     }
 
     /// The same of words that belong together, and of those that no micro-op serves.
     #[inline(always)]
-    fn stride_apart(
-        &mut self,
-        image: &Image,
-        op: &MicroOp,
-        start: Stretch,
-        most: u64,
-    ) -> Option<Stretch>
+    fn stride_apart(&mut self, image: &Image, op: &MicroOp, at: u32, end: u64) -> Option<Onward>
         requires few { length image.now ≤ most_words }
-        requires room { start.words < most }
-        requires here { IsMicroAt image.now start.at op.now }
-        requires looks { IsLookAt image.now start.at op.now }
-        ensures goes { MatchOption result
-            ((self.new.lane ≡ self.old.lane) × (self.new.local ≡ self.old.local))
-            (λ done. (start.words < done.words) × (done.words ≤ most)
-            × GoesFurther image.now self.old start.at start.words
-            self.new done.at done.words) }
+        requires room { at < end }
+        requires here { IsMicroAt image.now at op.now }
+        requires looks { IsLookAt image.now at op.now }
+        ensures goes { StridesOr image.now at (end - at) self.old self.new result }
         ensures counts { self.new.counts ≡ self.old.counts }
     {
-        if is_look(op.kind) && most - start.words >= MOST_AT_ONCE {
-            return self.stride_look(image, op, start);
+        if is_look(op.kind) && end - u64::from(at) >= MOST_AT_ONCE {
+            return self.stride_look(image, op, at);
         }
-        match self.step_apart(image, start.at) {
-            Some(at) => Some(Stretch {
-                at,
-                words: start.words + 1,
-            }),
+        match self.step_apart(image, at) {
+            Some(next) => Some(lead_on(at, 1, next)),
             None => None,
         }
     }
 
     /// Executes the words that a micro-op begins, where that begins a look; else `None`.
     #[inline(always)]
-    fn stride_look(&mut self, image: &Image, op: &MicroOp, start: Stretch) -> Option<Stretch>
+    fn stride_look(&mut self, image: &Image, op: &MicroOp, at: u32) -> Option<Onward>
         requires few { length image.now ≤ most_words }
-        requires room { start.words + 7 < 2 ^ 64 }
-        requires here { IsMicroAt image.now start.at op.now }
-        requires looks { IsLookAt image.now start.at op.now }
-        ensures goes { (most : ℕ) → start.words + 7 ≤ most → MatchOption result
-            ((self.new.lane ≡ self.old.lane) × (self.new.local ≡ self.old.local))
-            (λ done. (start.words < done.words) × (done.words ≤ most)
-            × GoesFurther image.now self.old start.at start.words
-            self.new done.at done.words) }
+        requires here { IsMicroAt image.now at op.now }
+        requires looks { IsLookAt image.now at op.now }
+        ensures goes { (room : ℕ) → 7 ≤ room →
+            StridesOr image.now at room self.old self.new result }
         ensures counts { self.new.counts ≡ self.old.counts }
     {
-        let words = start.words;
         let a = self.lane.registers.get(op.rs1);
         match op.kind {
             MicroKind::Look => {
                 self.look(op, a);
-                let at = start.at.wrapping_add(5);
-                Some(Stretch {
-                    at,
-                    words: words + 5,
-                })
+                let next = at.wrapping_add(5);
+                Some(lead_on(at, 5, next))
             }
             MicroKind::LookToWrite => {
-                let at = self.look_to_write(op, a, start.at);
-                Some(Stretch {
-                    at,
-                    words: words + 6,
-                })
+                let next = self.look_to_write(op, a, at);
+                Some(lead_on(at, 6, next))
             }
             MicroKind::LookToRead => {
-                let at = self.look_to_read(op, a, start.at);
-                Some(Stretch {
-                    at,
-                    words: words + 7,
-                })
+                let next = self.look_to_read(op, a, at);
+                Some(lead_on(at, 7, next))
             }
-            MicroKind::LookAtValue => Some(self.look_at_value(op, a, start)),
-            _ => self.stride_batch(image, op, start),
+            MicroKind::LookAtValue => Some(self.look_at_value(op, a, at)),
+            _ => self.stride_batch(image, op, at),
         }
     }
 
     /// The same, where it begins words behind the first look of a batch.
     #[inline(always)]
-    fn stride_batch(&mut self, image: &Image, op: &MicroOp, start: Stretch) -> Option<Stretch>
+    fn stride_batch(&mut self, image: &Image, op: &MicroOp, at: u32) -> Option<Onward>
         requires few { length image.now ≤ most_words }
-        requires room { start.words + 7 < 2 ^ 64 }
-        requires here { IsMicroAt image.now start.at op.now }
-        requires looks { IsLookAt image.now start.at op.now }
-        ensures goes { (most : ℕ) → start.words + 7 ≤ most → MatchOption result
-            ((self.new.lane ≡ self.old.lane) × (self.new.local ≡ self.old.local))
-            (λ done. (start.words < done.words) × (done.words ≤ most)
-            × GoesFurther image.now self.old start.at start.words
-            self.new done.at done.words) }
+        requires here { IsMicroAt image.now at op.now }
+        requires looks { IsLookAt image.now at op.now }
+        ensures goes { (room : ℕ) → 7 ≤ room →
+            StridesOr image.now at room self.old self.new result }
         ensures counts { self.new.counts ≡ self.old.counts }
     {
-        let words = start.words;
         let a = self.lane.registers.get(op.rs1);
         match op.kind {
             MicroKind::LookAgain => {
                 self.look_again(op, a);
-                let at = start.at.wrapping_add(4);
-                Some(Stretch {
-                    at,
-                    words: words + 4,
-                })
+                let next = at.wrapping_add(4);
+                Some(lead_on(at, 4, next))
             }
             MicroKind::BothToWrite => {
-                let at = self.both_to_write(op, a, start.at);
-                Some(Stretch {
-                    at,
-                    words: words + 2,
-                })
+                let next = self.both_to_write(op, a, at);
+                Some(lead_on(at, 2, next))
             }
             MicroKind::BothToRead => {
-                let at = self.both_to_read(op, a, start.at);
-                Some(Stretch {
-                    at,
-                    words: words + 3,
-                })
+                let next = self.both_to_read(op, a, at);
+                Some(lead_on(at, 3, next))
             }
             _ => None,
         }
@@ -255,27 +203,25 @@ impl<'a> Body<'a> {
     /// whose first register has this value. The first two stand alone where the address is one of
     /// the upper half, or misaligned.
     #[inline(always)]
-    fn look_at_value(&mut self, op: &MicroOp, a: u32, start: Stretch) -> Stretch
-        requires value { a ≡ reg (registers_of self.old.lane.registers) op.now.rs1 }
-        requires room { start.words + 7 < 2 ^ 64 }
-        ensures more { start.words < result.words }
-        ensures few { result.words ≤ start.words + 5 }
-        ensures goes { (image : List Cell) → length image ≤ most_words
-            → BeginsValueLook image start.at op.now
-            → GoesFurther image self.old start.at start.words self.new result.at result.words }
+    fn look_at_value(&mut self, op: &MicroOp, a: u32, at: u32) -> Onward
+        requires { a ≡ reg (registers_of self.old.lane.registers) op.now.rs1 }
+        ensures more { 0 < words_of result }
+        ensures few { words_of result ≤ 5 }
+        ensures goes { (image : List Cell) (words : ℕ) → length image ≤ most_words
+            → BeginsValueLook image at op.now
+            → GoesFurther image self.old at words self.new (leads_to at result)
+            (words + words_of result) }
         ensures counts { self.new.counts ≡ self.old.counts }
     {
         let address = a.wrapping_add(op.imm);
         self.put_next(op.rd, address);
         let upper = taken(Cond::Lt, address, 0);
-        let at = branch_next(upper, start.at.wrapping_add(5), start.at.wrapping_add(1));
+        let next = branch_next(upper, at.wrapping_add(5), at.wrapping_add(1));
         if upper || !Width::Word.is_aligned(address) {
-            let words = start.words + 2;
-            return Stretch { at, words };
+            return lead_on(at, 2, next);
         }
-        let at = self.test_value(op, address, start.at);
-        let words = start.words + 5;
-        Stretch { at, words }
+        let next = self.test_value(op, address, at);
+        lead_on(at, 5, next)
     }
 
     /// Loads the word at an address and compares it with the flag word, by the last three of those
@@ -372,6 +318,22 @@ fn is_look(kind: MicroKind) -> bool {
             | MicroKind::BothToRead
             | MicroKind::BothToWrite
     )
+}
+
+/// The way that so many words lead from an index, behind which the word with another follows.
+#[inline(always)]
+fn lead_on(at: u32, words: u32, next: u32) -> Onward
+    ensures place { leads_to at result ≡ next }
+    ensures words { words_of result ≡ words }
+{
+    if next == at.wrapping_add(words) {
+        Onward::Straight(u64::from(words))
+    } else {
+        Onward::Leap(Stretch {
+            at: next,
+            words: u64::from(words),
+        })
+    }
 }
 
 /// The word that follows a branch.

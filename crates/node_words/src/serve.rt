@@ -12,9 +12,13 @@ ghost use Rattle.node_words.specs.GoingOn.{BodyGoesOn};
 
 use crate::body::Body;
 use crate::lane::{Move, Resume, Tally, Wants};
+use crate::looks::Onward;
 use exec_map::Exit;
 use jump_map::{IMAGE_BASE, Image};
 use node_model::NodeCounts;
+
+/// The most words that are executed in a row.
+const MOST_IN_A_ROW: u64 = 0x8000_0000;
 
 /// What follows a word.
 #[derive(Clone, Copy, PartialEq, Eq)]
@@ -63,7 +67,8 @@ impl<'a> Body<'a> {
     }
 
     /// Executes words from an index on by their micro-ops, and quiet ones that have none, and at
-    /// most so many.
+    /// most so many. Those of a straight line are counted by their index, since the budget ends
+    /// at an index on it; a jump moves that one as far as it goes.
     #[inline(never)]
     pub fn run(&mut self, image: &Image, from: u32, most: u64) -> Stretch
         requires { length image.now ≤ most_words }
@@ -72,14 +77,28 @@ impl<'a> Body<'a> {
         ensures ground { ground_of self.new.local ≡ ground_of self.old.local }
         ensures counts { self.new.counts ≡ self.old.counts }
     {
-        let mut done = Stretch { at: from, words: 0 };
-        while done.words < most {
-            match self.stride(image, done, most) {
-                Some(further) => done = further,
+        let micros = image.micros();
+        let length = micros.len() as u64;
+        let budget = most.min(MOST_IN_A_ROW);
+        let mut at = u64::from(from);
+        let mut end = at + budget;
+        let mut limit = end.min(length);
+        while at < limit {
+            match self.stride(image, &micros[at as usize], at as u32, end) {
+                Some(Onward::Next) => at += 1,
+                Some(Onward::Straight(words)) => at += words,
+                Some(Onward::Leap(done)) => {
+                    end = end - at - done.words + u64::from(done.at);
+                    at = u64::from(done.at);
+                    limit = end.min(length);
+                }
                 None => break,
             }
         }
-        done
+        Stretch {
+            at: at as u32,
+            words: budget - (end - at),
+        }
     }
 
     /// Executes the word with an index, whichever it is.

@@ -8,12 +8,12 @@ use Rattle.node_words.proofs.StepLemmas.{store_next, next_follows}
 use Rattle.node_words.proofs.body.Body.store_at.Goals as goal
 
 pub returns-then-is_aligned-clause-steps : goal.returns-then-is_aligned-clause-steps
-returns-then-is_aligned-clause-steps c image place =
+returns-then-is_aligned-clause-steps c image at place =
     let b = c.args.self.now in
     let program = program_of b.local.program in
-    let l = lane_of b.lane (word_address c.args.at) in
+    let l = lane_of b.lane (word_address at) in
     let n = local_of b.local in
     let region = region_of c.args.address in
     let next = store_next program l n c.args.width c.args.address c.args.value region in
     let aligned : is_aligned c.args.width c.args.address ≡ true = sym c.if-is_aligned.ensures.value in
-    rw aligned (next_follows image (store program l n c.args.width c.args.address c.args.value region) (ground_of b.local) c.args.at _ c.store.new.self.lane c.store.new.self.local refl next.0 next.1 next.2 (c.store.ensures.leaves (word_address c.args.at)))
+    rw aligned (next_follows image (store program l n c.args.width c.args.address c.args.value region) (ground_of b.local) at _ c.store.new.self.lane c.store.new.self.local refl next.0 next.1 next.2 (c.store.ensures.leaves (word_address at)))
