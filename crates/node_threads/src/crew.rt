@@ -5,7 +5,7 @@ ghost use Rattle.node_threads.specs.Crew.{AllIdle};
 
 use crate::worker::Worker;
 use fifo_link::{SendEnd, TakeEnd};
-use home_directory::Wire;
+use home_directory::{Sends, Wire};
 use node_machine::Node;
 use std::alloc::{AllocError, Global};
 use std::collections::VecDeque;
@@ -57,6 +57,7 @@ pub fn hire<'a>(
             takes: takes.remove(0),
             outs: outs.remove(0),
             hand: None,
+            posts: Sends::new(),
         })?;
         number = number.wrapping_add(1);
     }

@@ -44,6 +44,8 @@ pub struct Worker<'a> {
     pub outs: Vec<VecDeque<Wire>>,
     /// A wire that came from a link and wasn't taken, and its sender.
     pub hand: Option<(u8, Wire)>,
+    /// Where an event leaves what it sends, until that is put behind what waits.
+    pub posts: Sends,
 }
 
 /// Moves wires from an outbox to its link while there is room. Says whether any was moved.
@@ -68,10 +70,10 @@ fn flush<R: Wait>(rt: &R, end: &mut SendEnd, out: &mut VecDeque<Wire>) -> Result
 }
 
 /// Puts what an event sends behind what waits.
-fn post(outs: &mut Vec<VecDeque<Wire>>, stamp: u64, mut sends: Sends) -> Result<(), AllocError>
+fn post(outs: &mut Vec<VecDeque<Wire>>, stamp: u64, sends: &mut Sends) -> Result<(), AllocError>
     ensures wires { OnOk result ((k : ℕ) → k < length outs.old.items
         → waiting outs.new.items k
-        ≡ waiting outs.old.items k ++ wires_to stamp k sends.items) }
+        ≡ waiting outs.old.items k ++ wires_to stamp k sends.old.items) }
     ensures len { length outs.new.items ≡ length outs.old.items }
 {
     while !sends.is_empty() {
@@ -374,12 +376,11 @@ impl<'a> Worker<'a> {
         ensures works { OnOk result (Works self.old self.new) }
     {
         self.node.room()?;
-        let mut sends = Sends::new();
-        let turn = self.node.exec(&mut sends);
-        if !sends.is_empty() {
+        let turn = self.node.exec(&mut self.posts);
+        if !self.posts.is_empty() {
             pace.posted = true;
         }
-        post(&mut self.outs, turn.stamp, sends)
+        post(&mut self.outs, turn.stamp, &mut self.posts)
     }
 
     /// Looks at the links by sender, and takes the first message that is there. Says whether there
@@ -436,9 +437,8 @@ impl<'a> Worker<'a> {
         }
         pass_gate(gate, self.number, &mut self.events);
         self.node.room()?;
-        let mut sends = Sends::new();
-        let turn = self.node.take(from, wire, &mut sends);
-        post(&mut self.outs, turn.stamp, sends)?;
+        let turn = self.node.take(from, wire, &mut self.posts);
+        post(&mut self.outs, turn.stamp, &mut self.posts)?;
         Ok(true)
     }
 }

@@ -19,6 +19,7 @@ nodes-preserved c =
       takes = c.remove-in-nodes-2.result;
       outs = c.remove-in-nodes-3.result;
       hand = None;
+      posts = c.new.result;
     } in
     let l0 = c.remove.ensures.len in let l1 = c.remove-in-nodes.ensures.len in
     let l2 = c.remove-in-nodes-2.ensures.len in let l3 = c.remove-in-nodes-3.ensures.len in
