@@ -1,0 +1,7 @@
+mod Summing
+mod Known
+mod Costing
+mod Ordering
+mod Texts
+mod Writing
+mod Hexadecimal

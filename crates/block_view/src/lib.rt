@@ -1,0 +1,14 @@
+#![tactic(auto)]
+//! What each block of the shared memory costs in a recorded run.
+
+mod costs;
+mod law;
+mod lines;
+mod names;
+mod order;
+mod sharing;
+mod sums;
+mod totals;
+
+pub use law::block_law;
+pub use sums::Sums;
