@@ -8,4 +8,6 @@ mod shown;
 mod takes;
 
 pub use events::push_event;
+pub use names::{access_name, message_name, need_name, state_name};
+pub use parts::{push_decimal, push_header, push_if, push_number, push_original, push_state};
 pub use shown::{Options, is_shown, push_head};

@@ -7,7 +7,8 @@ use home_directory::{MessageKind, Need};
 use run_trace::AccessKind;
 use state_table::State;
 
-pub(crate) fn message_name(kind: MessageKind) -> &'static [u8]
+/// The name of a kind of messages.
+pub fn message_name(kind: MessageKind) -> &'static [u8]
     ensures { result.now ≡ model.message_name kind }
 {
     match kind {
@@ -24,7 +25,8 @@ pub(crate) fn message_name(kind: MessageKind) -> &'static [u8]
     }
 }
 
-pub(crate) fn state_name(state: State) -> &'static [u8]
+/// The name of a block's state.
+pub fn state_name(state: State) -> &'static [u8]
     ensures { result.now ≡ model.state_name state }
 {
     match state {
@@ -35,7 +37,8 @@ pub(crate) fn state_name(state: State) -> &'static [u8]
     }
 }
 
-pub(crate) fn access_name(kind: AccessKind) -> &'static [u8]
+/// The name of a kind of accesses, between `; ` and a space.
+pub fn access_name(kind: AccessKind) -> &'static [u8]
     ensures { result.now ≡ model.access_name kind }
 {
     match kind {
@@ -46,7 +49,8 @@ pub(crate) fn access_name(kind: AccessKind) -> &'static [u8]
     }
 }
 
-pub(crate) fn need_name(need: Need) -> &'static [u8]
+/// What a block is wanted for, behind a space.
+pub fn need_name(need: Need) -> &'static [u8]
     ensures { result.now ≡ model.need_name need }
 {
     match need {

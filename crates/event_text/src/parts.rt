@@ -16,7 +16,7 @@ use state_table::State;
 use std::alloc::AllocError;
 
 /// Appends a number in decimal.
-pub(crate) fn push_decimal(out: &mut Vec<u8>, n: u64) -> Result<(), AllocError>
+pub fn push_decimal(out: &mut Vec<u8>, n: u64) -> Result<(), AllocError>
     ensures { OnOk result (out.new.items ≡ out.old.items ++ decimal n) }
 {
     let mut buffer = Buffer::new();
@@ -25,11 +25,7 @@ pub(crate) fn push_decimal(out: &mut Vec<u8>, n: u64) -> Result<(), AllocError>
 }
 
 /// Appends a number behind a name, where there is one.
-pub(crate) fn push_number(
-    out: &mut Vec<u8>,
-    name: &[u8],
-    number: Option<u8>,
-) -> Result<(), AllocError>
+pub fn push_number(out: &mut Vec<u8>, name: &[u8], number: Option<u8>) -> Result<(), AllocError>
     ensures { OnOk result (out.new.items ≡ out.old.items ++ model.number_text name.now number) }
 {
     if let Some(n) = number {
@@ -52,7 +48,7 @@ fn push_block(out: &mut Vec<u8>, block: Option<u32>) -> Result<(), AllocError>
 }
 
 /// Appends a text where this holds.
-pub(crate) fn push_if(out: &mut Vec<u8>, holds: bool, text: &[u8]) -> Result<(), AllocError>
+pub fn push_if(out: &mut Vec<u8>, holds: bool, text: &[u8]) -> Result<(), AllocError>
     ensures { OnOk result (out.new.items ≡ out.old.items ++ model.text_if holds text.now) }
 {
     if holds {
@@ -71,7 +67,7 @@ fn push_address(out: &mut Vec<u8>, address: u32) -> Result<(), AllocError>
 }
 
 /// Appends a message, its block, for whom, and how many Acks come.
-pub(crate) fn push_header(out: &mut Vec<u8>, header: &Header) -> Result<(), AllocError>
+pub fn push_header(out: &mut Vec<u8>, header: &Header) -> Result<(), AllocError>
     ensures { OnOk result (out.new.items ≡ out.old.items ++ model.header_text header.now) }
 {
     out.extend_from_slice(message_name(header.kind))?;
@@ -115,11 +111,7 @@ pub(crate) fn push_accessed(out: &mut Vec<u8>, access: &Option<Accessed>) -> Res
 }
 
 /// Appends a state behind a name, where there is one.
-pub(crate) fn push_state(
-    out: &mut Vec<u8>,
-    name: &[u8],
-    state: Option<State>,
-) -> Result<(), AllocError>
+pub fn push_state(out: &mut Vec<u8>, name: &[u8], state: Option<State>) -> Result<(), AllocError>
     ensures { OnOk result (out.new.items ≡ out.old.items ++ model.state_text name.now state) }
 {
     if let Some(state) = state {
@@ -167,11 +159,7 @@ pub(crate) fn push_tally(out: &mut Vec<u8>, tally: Tallied) -> Result<(), AllocE
 }
 
 /// Appends an original word, where one stands there.
-pub(crate) fn push_original(
-    out: &mut Vec<u8>,
-    address: u32,
-    word: Option<u32>,
-) -> Result<(), AllocError>
+pub fn push_original(out: &mut Vec<u8>, address: u32, word: Option<u32>) -> Result<(), AllocError>
     ensures { OnOk result (out.new.items ≡ out.old.items ++ model.original_text address word) }
 {
     match word {
