@@ -1,0 +1,4 @@
+pub mod Walks
+mod Searches
+mod Adds
+mod Escapes

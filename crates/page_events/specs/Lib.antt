@@ -1,0 +1,4 @@
+pub mod Escape
+pub mod Shown
+pub mod Sought
+pub mod Places

@@ -1,0 +1,16 @@
+#![tactic(auto)]
+//! The events that a page of a recorded run shows: what is looked for among them, where each is
+//! drawn, and texts within HTML.
+
+mod escape;
+mod places;
+mod shown;
+mod sought;
+
+pub use escape::{escape_law, push_escaped};
+pub use places::{
+    Spot, down_from, down_to, line_of, lower_edge, own_row, push_at, push_count, push_edge,
+    push_line_of, push_node, push_spot, spot_of,
+};
+pub use shown::Shown;
+pub use sought::{Sought, count_of, first_block, goes_on, is_miss, other_block, row_of};

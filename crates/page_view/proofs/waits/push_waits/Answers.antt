@@ -1,0 +1,23 @@
+use Rattle.run_trace.specs.Given.{traced_of}
+use Rattle.page_view.specs.Waits.{wait_text_of}
+use Rattle.page_events.proofs.Walks.{first_left, none_left, past, whole_is}
+use Rattle.page_view.proofs.waits.push_waits.Goals as goal
+
+pub loop-event-preserved : goal.loop-event-preserved
+loop-event-preserved c =
+    let events = c.args.shown.now.events in
+    let i = c.loop-event.event-index in
+    let x = c.event-item.result in
+    let left = first_left events c.events-event-items.result.now i x c.events-event-items.ensures.events
+    c.loop-event-test.true c.event-item.is in
+    past (wait_text_of c.args.layout.now.nodes events) events i (traced_of x)
+    c.loop-event.out.items c.push_wait_of.new.out.items _ left
+    c.in_ok-push_wait_of.ensures c.loop-event.invariant
+
+pub returns : goal.returns
+returns c =
+    let events = c.args.shown.now.events in
+    let none = none_left events c.events-event-items.result.now c.loop-event.event-index
+    c.events-event-items.ensures.events c.loop-event-test.false in
+    whole_is (wait_text_of c.args.layout.now.nodes events) events c.loop-event.event-index
+    c.loop-event.out.items _ none c.loop-event.invariant

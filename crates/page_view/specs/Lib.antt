@@ -1,0 +1,8 @@
+pub mod Marks
+pub mod Waits
+pub mod Arrows
+pub mod Rows
+pub mod Blocks
+pub mod Frame
+pub mod Figure
+pub mod Page
