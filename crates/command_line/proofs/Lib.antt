@@ -5,4 +5,5 @@ pub mod Walking
 pub mod Gives
 pub mod Addresses
 pub mod Rows
+pub mod Triples
 pub mod Viewing

@@ -36,7 +36,7 @@ given_raw m r id o f e =
 same_amount : (n m : ℕ) → Amount n ≡ Amount m → n ≡ m
 same_amount n m e = cc
 
-same_name : (x y : List ℕ) → Name x ≡ Name y → x ≡ y
+pub same_name : (x y : List ℕ) → Name x ≡ Name y → x ≡ y
 same_name x y e = cc
 
 not_maybe : (n : ℕ) (o : Option ℕ) → Amount n ≡ MaybeAmount o → ⊥

@@ -11,9 +11,10 @@ use Rattle.command_line.specs.declared.view.View.{View as OfCode}
 use Rattle.command_line.specs.Commands.{settings_in}
 use Rattle.command_line.specs.Asks.{Argument, AreOfRow, ArePlaced}
 use Rattle.command_line.specs.Reading.{IsCut, Reads, IsOfRow, given_by, words_for}
-use Rattle.command_line.specs.Views.{View, Help, Code, Trace, AsksView, IsViewGiven, meaning_of_view, row_of, view_settings, view_text}
+use Rattle.command_line.specs.Views.{View, Help, Code, Trace, Blocks, Page, AsksView, IsViewGiven, meaning_of_view, row_of, view_settings, view_text}
 use Rattle.command_line.proofs.Addresses.{at_one}
 use Rattle.command_line.proofs.Cuts.{same_cut}
+use Rattle.command_line.proofs.Triples.{same_three}
 use Rattle.command_line.proofs.Rows.{cut_of, flag_one, given_set, other_first, row_given, maybes_one, same_file, same_files, same_head, same_tail}
 
 abbrev Given : Type 0
@@ -24,18 +25,40 @@ pub as_help : (g : Given) (v : View) → IsViewGiven (codes "--help") g v → Is
 as_help g Help h = h.of_row
 as_help g (Code file no_batch) h = absurd (other_first _ _ h.word_is (omega arith))
 as_help g (Trace f r a z b n) h = absurd (other_first _ _ h.word_is (omega arith))
+as_help g (Blocks f r) h = absurd (other_first _ _ h.word_is (omega arith))
+as_help g (Page f r o a z) h = absurd (other_first _ _ h.word_is (omega arith))
 
 pub as_code : (g : Given) (v : View) → IsViewGiven (codes "code") g v
     → (file : List ℕ) × (no_batch : Bool) × IsOfRow (row_of (Code file no_batch)) g
 as_code g Help h = absurd (other_first _ _ h.word_is (omega arith))
 as_code g (Code file no_batch) h = (file, no_batch, h.of_row)
 as_code g (Trace f r a z b n) h = absurd (other_first _ _ h.word_is (omega arith))
+as_code g (Blocks f r) h = absurd (other_first _ _ h.word_is (omega arith))
+as_code g (Page f r o a z) h = absurd (other_first _ _ h.word_is (omega arith))
 
 pub as_trace : (g : Given) (v : View) → IsViewGiven (codes "trace") g v
     → (f r : List ℕ) × (a z b n : Option ℕ) × IsOfRow (row_of (Trace f r a z b n)) g
 as_trace g Help h = absurd (other_first _ _ h.word_is (omega arith))
 as_trace g (Code file no_batch) h = absurd (other_first _ _ h.word_is (omega arith))
 as_trace g (Trace f r a z b n) h = (f, r, a, z, b, n, h.of_row)
+as_trace g (Blocks f r) h = absurd (other_first _ _ h.word_is (omega arith))
+as_trace g (Page f r o a z) h = absurd (other_first _ _ h.word_is (omega arith))
+
+pub as_blocks : (g : Given) (v : View) → IsViewGiven (codes "blocks") g v
+    → (f r : List ℕ) × IsOfRow (row_of (Blocks f r)) g
+as_blocks g Help h = absurd (other_first _ _ h.word_is (omega arith))
+as_blocks g (Code file no_batch) h = absurd (other_first _ _ h.word_is (omega arith))
+as_blocks g (Trace f r a z b n) h = absurd (other_first _ _ h.word_is (omega arith))
+as_blocks g (Blocks f r) h = (f, r, h.of_row)
+as_blocks g (Page f r o a z) h = absurd (other_first _ _ h.word_is (omega arith))
+
+pub as_page : (g : Given) (v : View) → IsViewGiven (codes "page") g v
+    → (f r o : List ℕ) × (a z : Option ℕ) × IsOfRow (row_of (Page f r o a z)) g
+as_page g Help h = absurd (other_first _ _ h.word_is (omega arith))
+as_page g (Code file no_batch) h = absurd (other_first _ _ h.word_is (omega arith))
+as_page g (Trace f r a z b n) h = absurd (other_first _ _ h.word_is (omega arith))
+as_page g (Blocks f r) h = absurd (other_first _ _ h.word_is (omega arith))
+as_page g (Page f r o a z) h = (f, r, o, a, z, h.of_row)
 
 -- without a place there is no operand
 pub no_place : (words : List (List ℕ)) → ArePlaced [] words → words ≡ []
@@ -63,18 +86,46 @@ one_view g Help (Trace f r a z b n) p q e = absurd (other_first _ _ e (omega ari
 one_view g (Code x nb) (Trace f r a z b n) p q e = absurd (other_first _ _ e (omega arith))
 one_view g (Trace f r a z b n) Help p q e = absurd (other_first _ _ e (omega arith))
 one_view g (Trace f r a z b n) (Code x nb) p q e = absurd (other_first _ _ e (omega arith))
+one_view g (Blocks f r) (Blocks f' r') p q e =
+    let files = same_files Read f r f' r' _ p.places q.places in
+    ap (λ x. Blocks x r) files.0 ∙ ap (λ x. Blocks f' x) files.1
+one_view g (Page f r o a z) (Page f' r' o' a' z') p q e =
+    let files = same_three f r o f' r' o' _ p.places q.places in
+    let from = maybes_one g From a a' p.options.0 q.options.0 in
+    let to = maybes_one g To z z' p.options.1.0 q.options.1.0 in
+    ap (λ x. Page x r o a z) files.0 ∙ ap (λ x. Page f' x o a z) files.1
+    ∙ ap (λ x. Page f' r' x a z) files.2 ∙ ap (λ x. Page f' r' o' x z) from
+    ∙ ap (λ x. Page f' r' o' a' x) to
+one_view g Help (Blocks f' r') p q e = absurd (other_first _ _ e (omega arith))
+one_view g Help (Page f' r' o' a' z') p q e = absurd (other_first _ _ e (omega arith))
+one_view g (Code file no_batch) (Blocks f' r') p q e = absurd (other_first _ _ e (omega arith))
+one_view g (Code file no_batch) (Page f' r' o' a' z') p q e = absurd (other_first _ _ e (omega arith))
+one_view g (Trace f r a z b n) (Blocks f' r') p q e = absurd (other_first _ _ e (omega arith))
+one_view g (Trace f r a z b n) (Page f' r' o' a' z') p q e = absurd (other_first _ _ e (omega arith))
+one_view g (Blocks f r) Help p q e = absurd (other_first _ _ e (omega arith))
+one_view g (Blocks f r) (Code y nc) p q e = absurd (other_first _ _ e (omega arith))
+one_view g (Blocks f r) (Trace f' r' a' z' b' n') p q e = absurd (other_first _ _ e (omega arith))
+one_view g (Blocks f r) (Page f' r' o' a' z') p q e = absurd (other_first _ _ e (omega arith))
+one_view g (Page f r o a z) Help p q e = absurd (other_first _ _ e (omega arith))
+one_view g (Page f r o a z) (Code y nc) p q e = absurd (other_first _ _ e (omega arith))
+one_view g (Page f r o a z) (Trace f' r' a' z' b' n') p q e = absurd (other_first _ _ e (omega arith))
+one_view g (Page f r o a z) (Blocks f' r') p q e = absurd (other_first _ _ e (omega arith))
 
 -- the word of a view, with its options
 pub view_word : View → ViewWord
 view_word Help = word.Help
 view_word (Code file no_batch) = word.Code
 view_word (Trace f r a z b n) = word.Trace
+view_word (Blocks f r) = word.Blocks
+view_word (Page f r o a z) = word.Page
 
 pub word_is : (v : View) → view_text (view_word v) ≡ (row_of v).word
 unfolding view_word
 word_is Help = refl
 word_is (Code file no_batch) = refl
 word_is (Trace f r a z b n) = refl
+word_is (Blocks f r) = refl
+word_is (Page f r o a z) = refl
 
 word_settings : (w : ViewWord) (v : View) → view_text w ≡ (row_of v).word
     → settings_in (row_of v).options ≡ view_settings w
@@ -87,6 +138,22 @@ word_settings word.Help (Trace f r a z b n) e = absurd (other_first _ _ e (omega
 word_settings word.Code (Trace f r a z b n) e = absurd (other_first _ _ e (omega arith))
 word_settings word.Trace Help e = absurd (other_first _ _ e (omega arith))
 word_settings word.Trace (Code file no_batch) e = absurd (other_first _ _ e (omega arith))
+word_settings word.Blocks (Blocks f r) e = refl
+word_settings word.Page (Page f r o a z) e = refl
+word_settings word.Help (Blocks f r) e = absurd (other_first _ _ e (omega arith))
+word_settings word.Help (Page f r o a z) e = absurd (other_first _ _ e (omega arith))
+word_settings word.Code (Blocks f r) e = absurd (other_first _ _ e (omega arith))
+word_settings word.Code (Page f r o a z) e = absurd (other_first _ _ e (omega arith))
+word_settings word.Trace (Blocks f r) e = absurd (other_first _ _ e (omega arith))
+word_settings word.Trace (Page f r o a z) e = absurd (other_first _ _ e (omega arith))
+word_settings word.Blocks Help e = absurd (other_first _ _ e (omega arith))
+word_settings word.Blocks (Code file no_batch) e = absurd (other_first _ _ e (omega arith))
+word_settings word.Blocks (Trace f r a z b n) e = absurd (other_first _ _ e (omega arith))
+word_settings word.Blocks (Page f r o a z) e = absurd (other_first _ _ e (omega arith))
+word_settings word.Page Help e = absurd (other_first _ _ e (omega arith))
+word_settings word.Page (Code file no_batch) e = absurd (other_first _ _ e (omega arith))
+word_settings word.Page (Trace f r a z b n) e = absurd (other_first _ _ e (omega arith))
+word_settings word.Page (Blocks f r) e = absurd (other_first _ _ e (omega arith))
 
 -- what is asked by a word and the words behind it
 record Behind (w : ViewWord) (words : List (List ℕ)) (v : View) : Type 0 where

@@ -1,6 +1,6 @@
 -- The views of the viewer, in a table of their own, and what it is that the words ask for a view.
 use Rattle.std.specs.Prelude.{◌≡◌, ℕ, Bool, List, [], ◌∷◌, codes, Option}
-use Rattle.command_line.specs.declared.table.Access.TheVariants.{Read}
+use Rattle.command_line.specs.declared.table.Access.TheVariants.{Read, Write}
 use Rattle.command_line.specs.declared.table.Role.{Role}
 use Rattle.command_line.specs.declared.table.Setting.{Setting}
 use Rattle.command_line.specs.declared.table.Setting.TheVariants.{NoBatch, From, To, Block, Node}
@@ -22,6 +22,11 @@ pub data View : Type 0 where
   -- the record; of those that have such stamps, are about the block that has the byte at an address,
   -- and are of a node, where these are given
   Trace : (file record_file : List ℕ) (from to block node : Option ℕ) → View
+  -- show what each block cost in the run of a record
+  Blocks : (file record_file : List ℕ) → View
+  -- write a page that draws the run of a record, of events that have such stamps, where these are
+  -- given
+  Page : (file record_file output : List ℕ) (from to : Option ℕ) → View
 
 -- the table
 abbrev pub row_of : View → Row
@@ -38,10 +43,24 @@ row_of (Trace file record_file from to block node) = record {
       (From, MaybeAmount from) ∷ (To, MaybeAmount to) ∷ (Block, MaybeAt block)
       ∷ (Node, MaybeAmount node) ∷ [];
 }
+row_of (Blocks file record_file) = record {
+  word = codes "blocks";
+  places = (Named Read, Name file) ∷ (Named Read, Name record_file) ∷ [];
+  options = [];
+}
+row_of (Page file record_file output from to) = record {
+  word = codes "page";
+  places =
+      (Named Read, Name file) ∷ (Named Read, Name record_file) ∷ (Named Write, Name output) ∷ [];
+  options = (From, MaybeAmount from) ∷ (To, MaybeAmount to) ∷ [];
+}
 
--- the names of the files that a view reads; it writes none
+-- the names of the files that a view reads, and of those that it writes
 abbrev pub reads : View → List (List ℕ)
 reads view = files_of Read (row_of view)
+
+abbrev pub writes : View → List (List ℕ)
+writes view = files_of Write (row_of view)
 
 -- the first word is the view's, and the words behind it are of the view's row
 pub record AsksView (words : List (List ℕ)) (view : View) : Type 0 where
@@ -55,17 +74,24 @@ meaning_of_view asked.Help = Help
 meaning_of_view (asked.Code file no_batch) = Code file.now no_batch
 meaning_of_view (asked.Trace file record_file from to block node) =
     Trace file.now record_file.now from to block node
+meaning_of_view (asked.Blocks file record_file) = Blocks file.now record_file.now
+meaning_of_view (asked.Page file record_file output from to) =
+    Page file.now record_file.now output.now from to
 
 -- the text of a view's word, and the view's options
 abbrev pub view_text : ViewWord → List ℕ
 view_text word.Help = codes "--help"
 view_text word.Code = codes "code"
 view_text word.Trace = codes "trace"
+view_text word.Blocks = codes "blocks"
+view_text word.Page = codes "page"
 
 abbrev pub view_settings : ViewWord → List Setting
 view_settings word.Help = []
 view_settings word.Code = NoBatch ∷ []
 view_settings word.Trace = From ∷ To ∷ Block ∷ Node ∷ []
+view_settings word.Blocks = []
+view_settings word.Page = From ∷ To ∷ []
 
 -- a view's word, and what is given, are of the view's row
 pub record IsViewGiven (word : List ℕ) (given : Role → List (List ℕ)) (view : View) : Type 0 where

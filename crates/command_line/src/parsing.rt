@@ -1,6 +1,6 @@
 //! The arguments behind a command's word, as `clap` reads them.
 
-ghost use Rattle.std.specs.Prelude.{◌≡◌, ◌≢◌, ◌⊎◌, ◌∷◌, ◌↔◌, ℕ, List, IsTrue, IfOk, MatchOption};
+ghost use Rattle.std.specs.Prelude.{◌≡◌, ◌≢◌, ◌⊎◌, ◌∷◌, ◌↔◌, [], ℕ, List, IsTrue, IfOk, MatchOption};
 ghost use Rattle.std.specs.Prelude.{false, map};
 ghost use Rattle.clap.specs.Words.{app_of, rule_of};
 ghost use Rattle.command_line.specs.Asks.{Argument, IsPlain};
@@ -115,5 +115,21 @@ pub(crate) fn given_for<'a>(matches: &ArgMatches<'a>, role: Role) -> Given<'a>
         [word] => Given::One(*word),
         [one, other] => Given::Two(*one, *other),
         _ => Given::More,
+    }
+}
+
+/// The three operands.
+pub(crate) fn three_operands_in<'a>(matches: &ArgMatches<'a>) -> Option<(&'a str, &'a str, &'a str)>
+    ensures { MatchOption result
+        ((f g h : List ℕ) → given_by matches.now Role.Operand ≡ f ∷ g ∷ h ∷ [] → ⊥)
+        (λ p. given_by matches.now Role.Operand ≡ p.0.now ∷ p.1.now ∷ p.2.now ∷ []) }
+{
+    let words = matches.get_raw(Role::Operand.id())?;
+    match words {
+        [] => None,
+        [_] => None,
+        [_, _] => None,
+        [one, other, third] => Some((*one, *other, *third)),
+        _ => None,
     }
 }

@@ -74,6 +74,8 @@ pub(crate) enum ViewWord {
     Help,
     Code,
     Trace,
+    Blocks,
+    Page,
 }
 
 impl CommandWord {
@@ -146,6 +148,8 @@ impl ViewWord {
             "--help" => Some(ViewWord::Help),
             "code" => Some(ViewWord::Code),
             "trace" => Some(ViewWord::Trace),
+            "blocks" => Some(ViewWord::Blocks),
+            "page" => Some(ViewWord::Page),
             _ => None,
         }
     }
@@ -158,6 +162,8 @@ impl ViewWord {
             ViewWord::Help => &[],
             ViewWord::Code => &[Setting::NoBatch],
             ViewWord::Trace => &[Setting::From, Setting::To, Setting::Block, Setting::Node],
+            ViewWord::Blocks => &[],
+            ViewWord::Page => &[Setting::From, Setting::To],
         }
     }
 }

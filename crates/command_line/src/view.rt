@@ -6,7 +6,7 @@ ghost use Rattle.command_line.specs.Views.{View as Asked, AsksView, IsViewGiven,
 ghost use Rattle.command_line.specs.Views.{view_text};
 
 use crate::number::address_of;
-use crate::parsing::{Given, arguments_in, given_for};
+use crate::parsing::{Given, arguments_in, given_for, three_operands_in};
 use crate::table::{Role, Setting, ViewWord};
 use crate::{file_in, flag_in, maybe_number_in, two_operands_in};
 use clap::ArgMatches;
@@ -35,6 +35,21 @@ pub enum View<'a> {
         to: Option<u64>,
         block: Option<u32>,
         node: Option<u8>,
+    },
+    /// Show what each block cost in a run: of the run of the executable in `file` whose record is
+    /// in the file `record_file`.
+    Blocks {
+        file: &'a str,
+        record_file: &'a str,
+    },
+    /// Write a page that draws such a run into the file `output`: where they are given, of events
+    /// with stamps that are at least `from` and at most `to`.
+    Page {
+        file: &'a str,
+        record_file: &'a str,
+        output: &'a str,
+        from: Option<u64>,
+        to: Option<u64>,
     },
 }
 
@@ -116,6 +131,34 @@ fn trace_of<'a>(matches: &ArgMatches<'a>) -> Option<View<'a>>
     })
 }
 
+/// The view `blocks`.
+fn blocks_of<'a>(matches: &ArgMatches<'a>) -> Option<View<'a>>
+    ensures { MatchOption result
+        ((v : Asked) → IsViewGiven (codes "blocks") (given_by matches.now) v → ⊥)
+        (λ v. IsViewGiven (codes "blocks") (given_by matches.now) (meaning_of_view v)) }
+{
+    let (file, record_file) = two_operands_in(matches)?;
+    Some(View::Blocks { file, record_file })
+}
+
+/// The view `page`.
+fn page_of<'a>(matches: &ArgMatches<'a>) -> Option<View<'a>>
+    ensures { MatchOption result
+        ((v : Asked) → IsViewGiven (codes "page") (given_by matches.now) v → ⊥)
+        (λ v. IsViewGiven (codes "page") (given_by matches.now) (meaning_of_view v)) }
+{
+    let (file, record_file, output) = three_operands_in(matches)?;
+    let from = maybe_number_in(matches, Setting::From)?;
+    let to = maybe_number_in(matches, Setting::To)?;
+    Some(View::Page {
+        file,
+        record_file,
+        output,
+        from,
+        to,
+    })
+}
+
 /// The view of a word that is a view's, with these arguments.
 fn view_in<'a>(word: ViewWord, matches: &ArgMatches<'a>) -> Option<View<'a>>
     ensures { MatchOption result
@@ -126,6 +169,8 @@ fn view_in<'a>(word: ViewWord, matches: &ArgMatches<'a>) -> Option<View<'a>>
         ViewWord::Help => help_of(matches),
         ViewWord::Code => code_of(matches),
         ViewWord::Trace => trace_of(matches),
+        ViewWord::Blocks => blocks_of(matches),
+        ViewWord::Page => page_of(matches),
     }
 }
 

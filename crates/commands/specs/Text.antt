@@ -1,24 +1,10 @@
 -- The texts that are printed.
-use Rattle.std.specs.Prelude.{ℕ, ◌+◌, List, [], ◌∷◌, ◌++◌, length, codes}
-use Rattle.std.specs.Fmt.{decimal}
+use Rattle.std.specs.Prelude.{List, ℕ, ◌++◌, length, codes}
 use Rattle.rv32_program.specs.declared.End.{End}
 use Rattle.node_model.specs.declared.NodeCounts.{NodeCounts}
 use Rattle.node_model.specs.Outcome.{Outcome}
+use Rattle.judged_files.specs.Text.{node_lines}
 use Rattle.commands.specs.Processors.{outcome_head, processor_lines}
-
-abbrev pub counts_text : NodeCounts → List ℕ
-counts_text c =
-    codes "read " ++ (decimal c.read ++ (codes " exclusive " ++ (decimal c.exclusive
-    ++ (codes " upgrade " ++ (decimal c.upgrade ++ (codes " false " ++ (decimal c.falses
-    ++ (codes " invalidations " ++ (decimal c.invalidations ++ (codes " fallbacks "
-    ++ (decimal c.fallbacks ++ (codes " messages " ++ decimal c.messages))))))))))))
-
--- a line for each node, from this number on
-abbrev pub node_lines : ℕ → List NodeCounts → List ℕ
-node_lines i [] = []
-node_lines i (c ∷ cs) =
-    codes "node " ++ (decimal i ++ (codes " " ++ (counts_text c
-    ++ (codes "\n" ++ node_lines (i + 1) cs))))
 
 -- what stands behind the bytes printed: how each processor ended, and what each node counted
 abbrev pub outcome_tail : List End → List NodeCounts → List ℕ

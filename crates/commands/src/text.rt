@@ -6,7 +6,7 @@ ghost use Rattle.commands.specs.Text as model;
 ghost use Rattle.judged_files.specs.Text.{hex8};
 
 use exec_map::{End, Exit};
-use judged_files::text::{push_address, push_count, push_number};
+use judged_files::text::{push_address, push_nodes, push_number};
 use node_model::NodeCounts;
 use std::alloc::{AllocError, Global};
 
@@ -110,40 +110,5 @@ fn push_place(text: &mut Vec<u8>, name: &[u8], address: u32) -> Result<(), Alloc
 {
     text.extend_from_slice(name)?;
     push_address(text, address)?;
-    Ok(())
-}
-
-/// Appends a line for each node.
-fn push_nodes(text: &mut Vec<u8>, counts: &[NodeCounts]) -> Result<(), AllocError>
-    ensures { OnOk result (text.new.items ≡ text.old.items ++ model.node_lines 0 counts.now) }
-{
-    for (node, counts) in counts.iter().enumerate() {
-        push_node(text, node as u64, counts)?;
-    }
-    Ok(())
-}
-
-/// Appends the line of a node.
-fn push_node(text: &mut Vec<u8>, node: u64, counts: &NodeCounts) -> Result<(), AllocError>
-    ensures { OnOk result
-        (text.new.items ≡ text.old.items ++ model.node_lines node (counts.now ∷ [])) }
-{
-    push_count(text, b"node ", node)?;
-    text.extend_from_slice(b" ")?;
-    push_counts(text, counts)?;
-    text.extend_from_slice(b"\n")?;
-    Ok(())
-}
-
-fn push_counts(text: &mut Vec<u8>, counts: &NodeCounts) -> Result<(), AllocError>
-    ensures { OnOk result (text.new.items ≡ text.old.items ++ model.counts_text counts.now) }
-{
-    push_count(text, b"read ", counts.read)?;
-    push_count(text, b" exclusive ", counts.exclusive)?;
-    push_count(text, b" upgrade ", counts.upgrade)?;
-    push_count(text, b" false ", counts.falses)?;
-    push_count(text, b" invalidations ", counts.invalidations)?;
-    push_count(text, b" fallbacks ", counts.fallbacks)?;
-    push_count(text, b" messages ", counts.messages)?;
     Ok(())
 }

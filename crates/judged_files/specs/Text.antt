@@ -1,5 +1,5 @@
 -- The lines that errors have.
-use Rattle.std.specs.Prelude.{ℕ, List, [], ◌++◌, codes}
+use Rattle.std.specs.Prelude.{ℕ, ◌+◌, List, [], ◌∷◌, ◌++◌, codes}
 use Rattle.std.specs.Fmt.{decimal}
 use Rattle.rv32_text.specs.Listing.{word_digits}
 use Rattle.rv32_program.specs.declared.Exit.TheVariants.{Code}
@@ -19,12 +19,28 @@ use Rattle.block_layout.specs.Text as layouts
 use Rattle.block_layout.specs.declared.refused.Rule.{Rule}
 use Rattle.run_record.specs.Rules as records
 use Rattle.run_record.specs.declared.refused.RecordRule.{RecordRule}
+use Rattle.node_model.specs.declared.NodeCounts.{NodeCounts}
 use Rattle.replay.specs.Refusals as replays
 use Rattle.replay.specs.declared.refused.ReplayRule.{ReplayRule}
 use Rattle.rv32_asm.specs.Rules as assembly
 use Rattle.rv32_asm.specs.declared.refused.AsmRule.{AsmRule}
 use Rattle.judged_files.specs.declared.refusal.Subject.{Subject}
 use Rattle.judged_files.specs.declared.refusal.Subject.TheVariants as subject
+
+-- what a node counts
+abbrev pub counts_text : NodeCounts → List ℕ
+counts_text c =
+    codes "read " ++ (decimal c.read ++ (codes " exclusive " ++ (decimal c.exclusive
+    ++ (codes " upgrade " ++ (decimal c.upgrade ++ (codes " false " ++ (decimal c.falses
+    ++ (codes " invalidations " ++ (decimal c.invalidations ++ (codes " fallbacks "
+    ++ (decimal c.fallbacks ++ (codes " messages " ++ decimal c.messages))))))))))))
+
+-- a line for each node, from this number on
+abbrev pub node_lines : ℕ → List NodeCounts → List ℕ
+node_lines i [] = []
+node_lines i (c ∷ cs) =
+    codes "node " ++ (decimal i ++ (codes " " ++ (counts_text c
+    ++ (codes "\n" ++ node_lines (i + 1) cs))))
 
 -- a word in eight hexadecimal digits, behind 0x
 abbrev pub hex8 : ℕ → List ℕ
