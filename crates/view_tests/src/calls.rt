@@ -9,11 +9,14 @@ use views::shasta_view;
 /// How the viewer is called.
 pub(crate) const USAGE: &str = "usage: shasta_view code IN [--no-batch]
        shasta_view trace IN RECORD [--from S] [--to S] [--block 0xA] [--node I]
+       shasta_view blocks IN RECORD
+       shasta_view page IN RECORD OUT [--from S] [--to S]
        shasta_view --help
 ";
 
 /// Calls the viewer with these words, with spaces between them, where files have these names and
-/// contents; the puts to the output with these numbers fail.
+/// contents; the puts to the output with these numbers fail. What was written is what OUT then
+/// holds.
 pub(crate) fn show(
     alloc: Global,
     all: &[(&str, &[u8])],
@@ -37,6 +40,6 @@ pub(crate) fn show(
         status,
         out: out.taken().to_vec(alloc)?,
         err: err.taken().to_vec(alloc)?,
-        written: Vec::new(alloc),
+        written: files.held("OUT").unwrap_or(b"").to_vec(alloc)?,
     })
 }

@@ -2,8 +2,12 @@
 //! The viewer on small programs, byte by byte.
 
 #[cfg(test)]
+mod blocks;
+#[cfg(test)]
 mod calls;
 #[cfg(test)]
 mod code;
+#[cfg(test)]
+mod page;
 #[cfg(test)]
 mod trace;

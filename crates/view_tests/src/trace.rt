@@ -5,11 +5,11 @@ use command_calls::calls::{Answer, executable};
 use std::test::Fail;
 
 /// A processor other than 0 loads a shared word; each exits with code 0.
-const ROW: &str = "lui x5, 0x20; beq x10, x0, end; lw x6, 0(x5); end:; addi x10, x0, 0;
+pub(crate) const ROW: &str = "lui x5, 0x20; beq x10, x0, end; lw x6, 0(x5); end:; addi x10, x0, 0;
     addi x17, x0, 93; ecall";
 
 /// The record of a run of it by two nodes.
-const RECORD: &str = "shasta-record 1
+pub(crate) const RECORD: &str = "shasta-record 1
 nodes 2
 budget 100000000
 batch 1

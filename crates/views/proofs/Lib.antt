@@ -1,5 +1,10 @@
 mod Shown
 mod Entries
 mod Viewed
+mod Ordered
 mod Lines
+mod Ends
+mod Summed
 mod Runs
+mod Pages
+mod Written

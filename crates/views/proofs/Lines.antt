@@ -1,5 +1,5 @@
 -- The lines of a trace, which are put in pieces, an event after another.
-use Rattle.std.proofs.Common.{◌≡◌, ℕ, Bool, true, false, cond, List, [], ◌∷◌, ◌++◌, filter, refl, sym, ap, ◌∙◌, subst, append-nil, append_assoc}
+use Rattle.std.proofs.Common.{◌≡◌, ℕ, Bool, true, false, cond, List, [], ◌∷◌, ◌++◌, filter, None, refl, sym, ap, ◌∙◌, subst, append-nil, append_assoc}
 use Rattle.std.specs.List.{flat_map}
 use Rattle.std.proofs.lemmas.Grind.{flat_map-append}
 use Rattle.std.proofs.lemmas.List.Elements.{filter-append}
@@ -21,7 +21,8 @@ use Rattle.judged_files.specs.declared.failure.Failure.{Failure}
 use Rattle.judged_files.specs.declared.failure.Failure.TheVariants.{OutOfMemory}
 use Rattle.judged_files.specs.Failures.{FailsAs, IsLike, IsNever, IsPutFailure}
 use Rattle.judged_files.proofs.Pieces.{joins, put_fails, stops_behind}
-use Rattle.views.specs.Failures.{TellsWhole}
+use Rattle.views.specs.Failures.{HasGoneOnTo, TellsWhole}
+use Rattle.views.proofs.Ordered.{all_shown}
 
 -- the lines of some events
 abbrev pub lines_of : Elf → Options → List Traced → List ℕ
@@ -101,11 +102,18 @@ lines_put elf o first t start before now lines rest way put same nil = record {
 abbrev pub IsWhole : Tracer → List Traced → Type 0
 IsWhole t trace = IsTraceOf (work_traced t) (plan_traced t) (record_traced t) trace
 
-whole_same : (first t : Tracer) (trace : List Traced) → IsSame first t → IsWhole first trace → IsWhole t trace
+pub whole_same : (first t : Tracer) (trace : List Traced) → IsSame first t → IsWhole first trace → IsWhole t trace
 whole_same first t trace same whole =
     subst (λ r. IsTraceOf (work_traced t) (plan_traced t) r trace) (sym same.rec_is)
     (subst (λ p. IsTraceOf (work_traced t) p (record_traced first) trace) (sym same.plan)
     (subst (λ w. IsTraceOf w (plan_traced first) (record_traced first) trace) (sym same.work) whole))
+
+-- the trace of the whole run begins with what is traced so far
+pub goes_further : (first t : Tracer) (seen trace : List Traced) → HasOne (record_traced t) → HasTraced t seen
+    → IsSame first t → IsWhole first trace → (more : List Traced) × (trace ≡ seen ++ more)
+goes_further first t seen trace one traced same whole =
+    goes_on (work_traced t) (plan_traced t) (record_traced t) seen trace one (so_far t seen traced)
+    (whole_same first t trace same whole)
 
 -- what is left of the whole text
 pub rest_of : (elf : Elf) (o : Options) (first t : Tracer) (start now : SinkState) (lines : List ℕ)
@@ -113,8 +121,7 @@ pub rest_of : (elf : Elf) (o : Options) (first t : Tracer) (start now : SinkStat
     → IsWhole first trace
     → (rest : List ℕ) × (trace_text elf o trace ≡ way.pieces ++ (lines ++ rest))
 rest_of elf o first t start now lines trace one way whole =
-    let more = goes_on (work_traced t) (plan_traced t) (record_traced t) way.seen trace one
-    (so_far t way.seen way.traced) (whole_same first t trace way.same whole) in
+    let more = goes_further first t way.seen trace one way.traced way.same whole in
     let rest = lines_of elf o more.0 in (
       rest,
       ap (trace_text elf o) more.1 ∙ text_more elf o way.seen more.0
@@ -141,15 +148,6 @@ lines_stop elf o first t start now lines trace f one out way whole =
     stops_behind (IsLike (trace_text elf o trace)) IsNever IsNever (trace_text elf o trace) 0 start now
     way.pieces (lines ++ rest.0) f out refl rest.1 way.put
 
--- all lines are put
-pub all_put : (elf : Elf) (o : Options) (first t : Tracer) (start before now : SinkState) (lines : List ℕ)
-    (seen trace : List Traced) → trace ≡ seen
-    → (way : IsUnderWay elf o first t start before lines) → way.seen ≡ seen
-    → Appends before.taken now.taken lines → Appends start.taken now.taken (trace_text elf o trace)
-all_put elf o first t start before now lines seen trace same way is put =
-    subst (Appends start.taken now.taken) (way.reached ∙ ap (trace_text elf o) (is ∙ sym same))
-    (joins start.taken before.taken now.taken way.pieces lines way.put put)
-
 -- by the work, the plan and the record of a tracer
 pub whole_by : (t : Tracer) (work : Work) (plan : List PlanEntry) (r : Kept) (trace : List Traced)
     → work_traced t ≡ work → plan_traced t ≡ plan → record_traced t ≡ r → IsTraceOf work plan r trace
@@ -169,12 +167,14 @@ pub same_trace : (work : Work) (plan : List PlanEntry) (r : Kept) (one other : L
 same_trace work plan r one other law a b =
     a.trace_is ∙ ap (trace_of work plan) (law a.told b.told a.whole.are_told b.whole.are_told) ∙ sym b.trace_is
 
--- all were made, and their lines are put
+-- all that are asked for were made, and their lines are put
 pub whole_put : (elf : Elf) (o : Options) (first t u : Tracer) (start before now : SinkState) (lines : List ℕ)
-    (trace : List Traced) → HasOne (record_traced u) → (way : IsUnderWay elf o first t start before lines)
-    → IsSame t u → IsWhole u way.seen → IsWhole first trace → Appends before.taken now.taken lines
+    (trace : List Traced) → (way : IsUnderWay elf o first t start before lines) → IsSame t u
+    → HasGoneOnTo o.to u way.seen None → IsWhole first trace → Appends before.taken now.taken lines
     → Appends start.taken now.taken (trace_text elf o trace)
-whole_put elf o first t u start before now lines trace one way same all whole put =
-    all_put elf o first t start before now lines way.seen trace
-    (same_trace (work_traced u) (plan_traced u) (record_traced u) trace way.seen one
-    (whole_same first u trace (same_on first t u way.same same) whole) all) way refl put
+whole_put elf o first t u start before now lines trace way same all whole put =
+    let shown_is = all_shown o way.seen trace
+    (all trace (whole_same first u trace (same_on first t u way.same same) whole)) in
+    subst (Appends start.taken now.taken)
+    (way.reached ∙ ap (λ xs. head ++ flat_map (event_line elf) xs) (sym shown_is))
+    (joins start.taken before.taken now.taken way.pieces lines way.put put)

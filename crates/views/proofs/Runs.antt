@@ -3,13 +3,15 @@ use Rattle.std.proofs.Common.{◌≡◌, ◌⊎◌, ℕ, ◌<◌, ◌≤◌, Lis
 use Rattle.std.specs.Prelude.{Contains, MatchOption}
 use Rattle.std.proofs.lemmas.List.Elements.{Contains-append_cases}
 use Rattle.elf32_read.specs.Elf.{Elf}
+use Rattle.elf_symbols.specs.Symbols.{functions_of}
 use Rattle.templates.specs.declared.plans.PlanEntry.{PlanEntry}
 use Rattle.node_model.specs.Node.{Work}
 use Rattle.run_record.specs.declared.Record.{Record as Kept}
 use Rattle.replay.specs.Told.{Told}
 use Rattle.replay.specs.Replay.{TellsWholeRun}
-use Rattle.run_trace.specs.Trace.{trace_of}
-use Rattle.command_line.specs.Views.{View, Trace, reads}
+use Rattle.run_trace.specs.Traced.{Traced}
+use Rattle.run_trace.specs.Trace.{IsTraceOf, trace_of}
+use Rattle.command_line.specs.Views.{View, Trace, Blocks, reads}
 use Rattle.dsm_io.specs.Causes.{Rose}
 use Rattle.dsm_io.specs.States.{FilesState, SinkState}
 use Rattle.judged_files.specs.declared.failure.Failure.{Failure}
@@ -18,8 +20,9 @@ use Rattle.judged_files.specs.Answers.{IsTooLong, file_limit}
 use Rattle.judged_files.specs.Failures.{FailsAs, IsContent, IsLike, IsNever, IsNoRefusal, IsReadFailure, IsReplayRefusal, Puts}
 use Rattle.judged_files.specs.Inputs.{Inputs}
 use Rattle.judged_files.specs.Replays.{IsReplayRefused, IsBadReplayLayout, IsBadRecord, IsWorkOf}
-use Rattle.views.specs.Failures.{AreRecorded, FailsAsRun, IsFailure, IsRecordingFailure, IsSuccess, IsTextOfTrace}
+use Rattle.views.specs.Failures.{AreRecorded, FailsAsRun, IsFailure, IsRecordingFailure, IsSuccess, IsTextOfBlocks, IsTextOfTrace}
 use Rattle.views.specs.Headline.{AreTold, IsLayoutRefused, IsRecordRefused, IsRefused, IsText}
+use Rattle.views.specs.Blocks.{AreCostsOfRun, IsCostsText}
 use Rattle.views.specs.Trace.{IsTraceText, recorded, selected_text}
 use Rattle.views.specs.declared.trace.Selection.{Selection}
 use Rattle.views.proofs.Viewed.{content_is, no_refusal}
@@ -52,13 +55,23 @@ trace_of_run file record_file from to block one = record {
   kept = λ contents line h. h;
 }
 
+pub blocks_of_run : (file record_file : List ℕ)
+    → IsOfRun (Blocks file record_file) file record_file IsTextOfBlocks
+blocks_of_run file record_file = record {
+  reads_are = refl;
+  text = λ contents t s h. h;
+  refused = λ contents line h. h;
+  laid_out = λ contents line h. h;
+  kept = λ contents line h. h;
+}
+
 first_of : (x y : List ℕ) → Contains (x ∷ y ∷ []) x
 first_of x y = (0, omega arith, refl)
 
 second_of : (x y : List ℕ) → Contains (x ∷ y ∷ []) y
 second_of x y = (1, omega arith, refl)
 
-only_of : (x name : List ℕ) → Contains (x ∷ []) name → name ≡ x
+pub only_of : (x name : List ℕ) → Contains (x ∷ []) name → name ≡ x
 only_of x name h =
     let zero : h.0 ≡ 0 = omega (arith, h.1) in
     sym (subst (λ k. get_or (x ∷ []) k name ≡ name) zero h.2)
@@ -78,7 +91,7 @@ reads_one v x y name e h = subst (λ ns. Contains ns name) (sym e) (elim h [
 ])
 
 -- what was read is what the files are told to have
-inputs_are : (v : View) (x y : List ℕ) (files : FilesState) (inputs : Inputs) (contents : List ℕ → List ℕ)
+pub inputs_are : (v : View) (x y : List ℕ) (files : FilesState) (inputs : Inputs) (contents : List ℕ → List ℕ)
     → reads v ≡ x ∷ y ∷ [] → AreRecorded files x y inputs → AreTold v files contents
     → inputs ≡ recorded (contents x) (contents y)
 inputs_are v x y files inputs contents e h told =
@@ -156,7 +169,7 @@ pub run_fails : (v : View) (x y : List ℕ) (T : Inputs → List ℕ → ℕ →
     → AreRecorded files x y inputs → FailsAsRun (T inputs) inputs before now f
     → IsFailure v files files_now before now f
 run_fails v x y T run files files_now before now inputs (Input line) h failed = absurd failed
-run_fails v x y T run files files_now before now inputs (NotWritten line) h failed = failed
+run_fails v x y T run files files_now before now inputs (NotWritten line) h failed = absurd failed
 run_fails v x y T run files files_now before now inputs (Refused line) h failed = (
   failed.1,
   λ contents told. run.refused contents line.items (subst (λ i. IsReplayRefused i line.items)
@@ -196,7 +209,7 @@ pub unread_fails : (v : View) (x y : List ℕ) → reads v ≡ x ∷ y ∷ [] �
     (state : SinkState) (f : Failure) → IsRecordingFailure x y files files_now f
     → IsFailure v files files_now state state f
 unread_fails v x y e files files_now state (Input line) h = (refl, (h.0, reads_one v x y h.0 e h.1, h.2))
-unread_fails v x y e files files_now state (NotWritten line) h = h.2
+unread_fails v x y e files files_now state (NotWritten line) h = absurd h.2
 unread_fails v x y e files files_now state (Refused line) h = absurd h.2
 unread_fails v x y e files files_now state (Layout line) h = absurd h.2
 unread_fails v x y e files files_now state (Record line) h = absurd h.2
@@ -253,4 +266,36 @@ unput_run T inputs text is before now Output h =
 unput_run T inputs text is before now OutOfMemory h = elim h [
   | inl same ↦ inl same
   | inr part ↦ inr (part.0, part.1, subst (λ x. T x part.1) (sym part.2) (is part.1), part.3)
+]
+
+-- 5. What blocks cost
+
+pub costs_are : (inputs : Inputs) (kept : Kept) (elf : Elf) (plan : List PlanEntry) (work : Work) (trace : List Traced)
+    → IsWorkOf inputs kept elf plan work → IsTraceOf work plan kept trace → (text : List ℕ)
+    → IsCostsText (functions_of elf) work.layout trace text → AreCostsOfRun inputs text
+costs_are inputs kept elf plan work trace asked is text h = record {
+  kept = kept;
+  elf = elf;
+  plan = plan;
+  work = work;
+  asked = asked;
+  trace = trace;
+  is_trace = is;
+  text_is = h;
+}
+
+-- a failure while one of some texts is put is one of the view whose texts these are
+pub costs_unput : (T U : List ℕ → ℕ → Type 0) (inputs : Inputs)
+    → ((text : List ℕ) (status : ℕ) → T text status → U text status) → (before now : SinkState) (f : Failure)
+    → FailsAs T IsNever IsNever before now f → FailsAsRun U inputs before now f
+costs_unput T U inputs is before now (Input line) h = absurd h
+costs_unput T U inputs is before now (NotWritten line) h = absurd h
+costs_unput T U inputs is before now (Refused line) h = absurd h.0
+costs_unput T U inputs is before now (Layout line) h = absurd h.0
+costs_unput T U inputs is before now (Record line) h = absurd h
+costs_unput T U inputs is before now (Text line) h = absurd h
+costs_unput T U inputs is before now Output h = (h.0, (h.1.0, h.1.1, is h.1.0 h.1.1 h.1.2, h.1.3))
+costs_unput T U inputs is before now OutOfMemory h = elim h [
+  | inl same ↦ inl same
+  | inr part ↦ inr (part.0, part.1, is part.0 part.1 part.2, part.3)
 ]

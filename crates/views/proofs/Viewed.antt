@@ -98,7 +98,7 @@ pub code_fails : (file : List ℕ) (no_batch : Bool) (files files_now : FilesSta
     → FailsAs (IsTextOfCode (not no_batch) bytes) (IsUnrewritten (Planned (not no_batch)) bytes) IsNever before now f
     → IsFailure (Code file no_batch) files files_now before now f
 code_fails file no_batch files files_now before now bytes (Input line) h failed = absurd failed
-code_fails file no_batch files files_now before now bytes (NotWritten line) h failed = failed
+code_fails file no_batch files files_now before now bytes (NotWritten line) h failed = absurd failed
 code_fails file no_batch files files_now before now bytes (Refused line) h failed = (
   failed.1,
   λ contents told. subst (λ b. IsUnrewritten (Planned (not no_batch)) b line.items)
@@ -131,7 +131,7 @@ pub read_fails : (file : List ℕ) (no_batch : Bool) (files files_now : FilesSta
     → IsFailure (Code file no_batch) files files_now state state f
 read_fails file no_batch files files_now state (Input line) h =
     (refl, (file, reads_file file no_batch, h))
-read_fails file no_batch files files_now state (NotWritten line) h = h
+read_fails file no_batch files files_now state (NotWritten line) h = absurd h
 read_fails file no_batch files files_now state (Refused line) h = absurd h
 read_fails file no_batch files files_now state (Layout line) h = absurd h
 read_fails file no_batch files files_now state (Record line) h = absurd h
@@ -158,7 +158,7 @@ IsFailing status = (status ≡ 3) ⊎ ((status ≡ 5) ⊎ IsRefusalStatus status
 pub failing : (v : View) (files files_now : FilesState) (before now : SinkState) (f : Failure)
     → IsFailure v files files_now before now f → IsFailing (status_of f)
 failing v files files_now before now (Input line) h = inl refl
-failing v files files_now before now (NotWritten line) h = absurd h
+failing v files files_now before now (NotWritten line) h = inl refl
 failing v files files_now before now (Refused line) h = inr (inr (inl refl))
 failing v files files_now before now (Layout line) h = inr (inr (inr (inl refl)))
 failing v files files_now before now (Record line) h = inr (inr (inr (inr refl)))
@@ -173,7 +173,7 @@ fault_of v files files_now before now (Input line) Told h told three =
     let fault = h.1 in
     inl (
       h.0,
-      (
+      inl (
         fault.0,
         fault.1,
         elim fault.2 [
@@ -182,7 +182,10 @@ fault_of v files files_now before now (Input line) Told h told three =
         ],
       ),
     )
-fault_of v files files_now before now (NotWritten line) Told h told three = absurd h
+fault_of v files files_now before now (NotWritten line) Told h told three =
+    let fault = h.1 in
+    let write = fault.1 in
+    inl (h.0, inr (fault.0, (write.0, write.1, write.2, subst Told write.3 told)))
 fault_of v files files_now before now (Refused line) Told h told three = absurd (omega (arith, three))
 fault_of v files files_now before now (Layout line) Told h told three = absurd (omega (arith, three))
 fault_of v files files_now before now (Record line) Told h told three = absurd (omega (arith, three))
@@ -195,7 +198,8 @@ pub refusal_of : (v : View) (files files_now : FilesState) (before now : SinkSta
     → status_of f ≡ 4 → (contents : List ℕ → List ℕ) → AreTold v files contents
     → (line : List ℕ) × IsRefused v contents line × Told line
 refusal_of v files files_now before now (Input line) Told h told four contents known = absurd (omega (arith, four))
-refusal_of v files files_now before now (NotWritten line) Told h told four contents known = absurd h
+refusal_of v files files_now before now (NotWritten line) Told h told four contents known =
+    absurd (omega (arith, four))
 refusal_of v files files_now before now (Refused line) Told h told four contents known =
     (line.items, h.1 contents known, told)
 refusal_of v files files_now before now (Layout line) Told h told four contents known = absurd (omega (arith, four))
@@ -209,7 +213,8 @@ pub layout_of : (v : View) (files files_now : FilesState) (before now : SinkStat
     → status_of f ≡ 6 → (contents : List ℕ → List ℕ) → AreTold v files contents
     → (line : List ℕ) × IsLayoutRefused v contents line × Told line
 layout_of v files files_now before now (Input line) Told h told six contents known = absurd (omega (arith, six))
-layout_of v files files_now before now (NotWritten line) Told h told six contents known = absurd h
+layout_of v files files_now before now (NotWritten line) Told h told six contents known =
+    absurd (omega (arith, six))
 layout_of v files files_now before now (Refused line) Told h told six contents known = absurd (omega (arith, six))
 layout_of v files files_now before now (Layout line) Told h told six contents known =
     (line.items, h.1 contents known, told)
@@ -223,7 +228,8 @@ pub record_of : (v : View) (files files_now : FilesState) (before now : SinkStat
     → status_of f ≡ 7 → (contents : List ℕ → List ℕ) → AreTold v files contents
     → (line : List ℕ) × IsRecordRefused v contents line × Told line
 record_of v files files_now before now (Input line) Told h told seven contents known = absurd (omega (arith, seven))
-record_of v files files_now before now (NotWritten line) Told h told seven contents known = absurd h
+record_of v files files_now before now (NotWritten line) Told h told seven contents known =
+    absurd (omega (arith, seven))
 record_of v files files_now before now (Refused line) Told h told seven contents known = absurd (omega (arith, seven))
 record_of v files files_now before now (Layout line) Told h told seven contents known = absurd (omega (arith, seven))
 record_of v files files_now before now (Record line) Told h told seven contents known =
@@ -236,7 +242,7 @@ pub nothing_of : (v : View) (files files_now : FilesState) (before now : SinkSta
     → IsFailure v files files_now before now f → (status_of f ≡ 2) ⊎ IsRefusalStatus (status_of f)
     → now.taken ≡ before.taken
 nothing_of v files files_now before now (Input line) h s = h.0
-nothing_of v files files_now before now (NotWritten line) h s = absurd h
+nothing_of v files files_now before now (NotWritten line) h s = h.0
 nothing_of v files files_now before now (Refused line) h s = h.0
 nothing_of v files files_now before now (Layout line) h s = h.0
 nothing_of v files files_now before now (Record line) h s = h.0
@@ -249,13 +255,35 @@ pub prefix_of_failure : (v : View) (files files_now : FilesState) (before now : 
     → (contents : List ℕ → List ℕ) → AreTold v files contents
     → (now.taken ≡ before.taken) ⊎ PrintsPrefix v contents before now
 prefix_of_failure v files files_now before now (Input line) h five contents told = absurd (omega (arith, five))
-prefix_of_failure v files files_now before now (NotWritten line) h five contents told = absurd h
+prefix_of_failure v files files_now before now (NotWritten line) h five contents told =
+    absurd (omega (arith, five))
 prefix_of_failure v files files_now before now (Refused line) h five contents told = absurd (omega (arith, five))
 prefix_of_failure v files files_now before now (Layout line) h five contents told = absurd (omega (arith, five))
 prefix_of_failure v files files_now before now (Record line) h five contents told = absurd (omega (arith, five))
 prefix_of_failure v files files_now before now (Text line) h five contents told = absurd h
 prefix_of_failure v files files_now before now Output h five contents told = absurd (omega (arith, five))
 prefix_of_failure v files files_now before now OutOfMemory h five contents told = h contents told
+
+-- no failure has the status of wrong words or of success
+pub not_two : (f : Failure) → (status_of f ≡ 2) ⊎ IsRefusalStatus (status_of f) → IsRefusalStatus (status_of f)
+not_two (Input line) s = absurd (omega (arith, s))
+not_two (NotWritten line) s = absurd (omega (arith, s))
+not_two (Refused line) s = inl refl
+not_two (Layout line) s = inr (inl refl)
+not_two (Record line) s = inr (inr refl)
+not_two (Text line) s = absurd (omega (arith, s))
+not_two Output s = absurd (omega (arith, s))
+not_two OutOfMemory s = absurd (omega (arith, s))
+
+pub not_zero : (f : Failure) → status_of f ≡ 0 → ⊥
+not_zero (Input line) zero = omega (arith, zero)
+not_zero (NotWritten line) zero = omega (arith, zero)
+not_zero (Refused line) zero = omega (arith, zero)
+not_zero (Layout line) zero = omega (arith, zero)
+not_zero (Record line) zero = omega (arith, zero)
+not_zero (Text line) zero = omega (arith, zero)
+not_zero Output zero = omega (arith, zero)
+not_zero OutOfMemory zero = omega (arith, zero)
 
 pub line_five : (f : Failure) → status_of f ≡ 5 → line_of f ≡ out_of_memory
 line_five (Input line) five = absurd (omega (arith, five))

@@ -1,11 +1,11 @@
 -- Why the viewer answers a fault.
-use Rattle.std.specs.Prelude.{◌≡◌, ℕ, ◌⊎◌, List, Contains}
+use Rattle.std.specs.Prelude.{◌≡◌, ℕ, ◌⊎◌, List, IfSome, Contains}
 use Rattle.dsm_io.specs.Causes.{Rose}
 use Rattle.dsm_io.specs.States.{FilesState, SinkState}
-use Rattle.command_line.specs.Views.{View, reads}
+use Rattle.command_line.specs.Views.{View, reads, writes}
 use Rattle.judged_files.specs.Answers.{IsTooLong}
-use Rattle.judged_files.specs.Text.{cannot_read, too_long, cannot_write_output}
-use Rattle.views.specs.Headline.{AreTold, PrintsPrefix}
+use Rattle.judged_files.specs.Text.{cannot_read, cannot_write, too_long, cannot_write_output}
+use Rattle.views.specs.Headline.{AreTold, IsWritten, PrintsPrefix}
 
 -- a file that the view reads couldn't be read, or is too long, and the line says so
 abbrev pub IsReadFault : View → FilesState → FilesState → (List ℕ → Type 0) → Type 0
@@ -13,6 +13,24 @@ IsReadFault view before now Told =
     (name : List ℕ) × Contains (reads view) name
     × ((Rose (before.failed_reads name) (now.failed_reads name) × Told (cannot_read name))
     ⊎ (IsTooLong before now name × Told (too_long name)))
+
+-- the file that the view writes couldn't be written, though the files that it reads define what it
+-- writes, and the line says so
+abbrev pub IsWriteFault : View → FilesState → FilesState → (List ℕ → Type 0) → Type 0
+IsWriteFault view before now Told =
+    ((contents : List ℕ → List ℕ) → AreTold view before contents
+    → (bytes : List ℕ) × IsWritten view contents bytes)
+    × ((name : List ℕ) × Contains (writes view) name
+    × Rose (before.failed_writes name) (now.failed_writes name) × Told (cannot_write name))
+
+-- each file that a view writes holds what it held before, or what the view writes; or it couldn't
+-- be written
+abbrev pub AreLeft : View → (List ℕ → List ℕ) → (before now : FilesState) → Type 0
+AreLeft view contents before now =
+    (name : List ℕ) → Contains (writes view) name
+    → (now.held name ≡ before.held name)
+    ⊎ (IfSome (now.held name) (IsWritten view contents)
+    ⊎ Rose (before.failed_writes name) (now.failed_writes name))
 
 -- the output failed where a text that the view asks for was being put
 abbrev pub IsPutFault : View → FilesState → SinkState → SinkState → Type 0
@@ -26,7 +44,8 @@ IsPutFault view files before now =
 abbrev pub IsFault : View → FilesState → FilesState → SinkState → SinkState → (List ℕ → Type 0)
     → Type 0
 IsFault view before now out_before out Told =
-    ((out.taken ≡ out_before.taken) × IsReadFault view before now Told)
+    ((out.taken ≡ out_before.taken)
+    × (IsReadFault view before now Told ⊎ IsWriteFault view before now Told))
     ⊎ (IsPutFault view before out_before out × Told cannot_write_output)
 
 -- the status of a refusal: of an executable, of the layout of a record, or of a record

@@ -1,5 +1,5 @@
 -- Helps the code alone: how a view fails, and how it succeeds.
-use Rattle.std.specs.Prelude.{◌≡◌, ℕ, ◌⊎◌, Bool, List}
+use Rattle.std.specs.Prelude.{◌≡◌, ℕ, ◌<◌, ◌⊎◌, Bool, List, [], ◌∷◌, ◌++◌, All, Option, None, Some, IfSome}
 use Rattle.dsm_io.specs.States.{FilesState, SinkState}
 use Rattle.command_line.specs.Views.{View}
 use Rattle.code_view.specs.Code.{code_text}
@@ -10,12 +10,22 @@ use Rattle.replay.specs.Told.{Told}
 use Rattle.replay.specs.Replay.{TellsWholeRun}
 use Rattle.judged_files.specs.declared.failure.Failure.{Failure}
 use Rattle.judged_files.specs.declared.failure.Failure.TheVariants.{Input, NotWritten, Refused, Layout, Record, Text, Output, OutOfMemory}
-use Rattle.judged_files.specs.Failures.{FailsAs, IsContent, IsReadFailure}
+use Rattle.judged_files.specs.Failures.{FailsAs, IsContent, IsReadFailure, IsReplayRefusal, IsWriteFailure, status_of}
 use Rattle.judged_files.specs.Inputs.{Inputs}
 use Rattle.judged_files.specs.Replays.{IsReplayRefused, IsBadReplayLayout, IsBadRecord}
 use Rattle.views.specs.declared.trace.Selection.{Selection}
+use Rattle.elf_symbols.specs.Symbols.{Symbol}
+use Rattle.block_layout.specs.Layout.{Shape}
+use Rattle.run_trace.specs.declared.tracer.Tracer.{Tracer}
+use Rattle.run_trace.specs.declared.traced.Traced.{Traced as Stored}
+use Rattle.run_trace.specs.Given.{traced_of}
+use Rattle.run_trace.specs.Traced.{Traced}
+use Rattle.run_trace.specs.Trace.{IsTraceOf}
+use Rattle.run_trace.specs.Tracing.{HasTraced, plan_traced, record_traced, work_traced}
 use Rattle.views.specs.Trace.{recorded, IsTraceText}
-use Rattle.views.specs.Answers.{IsReadFault, IsPutFault}
+use Rattle.views.specs.Blocks.{AreCostsOfRun, IsCostsText}
+use Rattle.views.specs.Answers.{IsReadFault, IsPutFault, IsWriteFault, IsRefusalStatus}
+use Rattle.views.specs.Page.{IsPageText}
 use Rattle.views.specs.Headline.{AreTold, IsCodeText, IsRefused, IsLayoutRefused, IsRecordRefused, Prints, PrintsPrefix}
 
 -- the text of what is shown
@@ -29,6 +39,13 @@ IsTextOfCode batches file text status = IsCodeText batches file text
 -- the text of a trace, with any status
 abbrev pub IsTextOfTrace : Inputs → Selection → List ℕ → ℕ → Type 0
 IsTextOfTrace inputs s text status = IsTraceText inputs s text
+
+-- the text of what blocks cost in a run, and in a trace, with any status
+abbrev pub IsTextOfBlocks : Inputs → List ℕ → ℕ → Type 0
+IsTextOfBlocks inputs text status = AreCostsOfRun inputs text
+
+abbrev pub IsTextOfCosts : List Symbol → Shape → List Traced → List ℕ → ℕ → Type 0
+IsTextOfCosts symbols layout trace text status = IsCostsText symbols layout trace text
 
 -- how a view fails that makes a recorded run once more, and whose texts are these
 abbrev pub FailsAsRun : (List ℕ → ℕ → Type 0) → Inputs → SinkState → SinkState → Failure → Type 0
@@ -54,6 +71,56 @@ IsRecordingFailure file record_file before now f =
 abbrev pub TellsWhole : Work → Kept → Type 0
 TellsWhole work kept = (told : List Told) × TellsWholeRun work kept told
 
+-- the trace begins with these events, and all behind them have later stamps than this one
+pub record AreAllUpTo (to : ℕ) (seen trace : List Traced) : Type 0 where
+  pub behind : List Traced
+  pub trace_is : trace ≡ seen ++ behind
+  pub later : All (λ (x : Traced). to < x.stamp) behind
+
+-- one event more is given, or all up to this stamp were
+abbrev pub HasGoneOnTo : (to : ℕ) → Tracer → List Traced → Option Stored → Type 0
+HasGoneOnTo to t seen None = (trace : List Traced)
+    → IsTraceOf (work_traced t) (plan_traced t) (record_traced t) trace → AreAllUpTo to seen trace
+HasGoneOnTo to t seen (Some x) = HasTraced t (seen ++ traced_of x ∷ [])
+
+-- the record tells of a run that is refused, or is refused itself, or its executable is
+pub record IsRunRefused (file record_file : List ℕ) (files : FilesState) (f : Failure) : Type 0
+  where
+    pub inputs : Inputs
+    pub are_recorded : AreRecorded files file record_file inputs
+    pub refusal : IsReplayRefusal inputs f
+
+-- a file holds the page of the recorded run of two files
+pub record IsPageWritten (file record_file output : List ℕ) (s : Selection)
+    (before now : FilesState) : Type 0
+  where
+    pub inputs : Inputs
+    pub are_recorded : AreRecorded before file record_file inputs
+    pub written : IfSome (now.held output) (IsPageText inputs s)
+
+-- the page of the recorded run of two files could not be written
+pub record IsPageUnwritten (file record_file output : List ℕ) (s : Selection)
+    (before now : FilesState) (f : Failure) : Type 0
+  where
+    pub inputs : Inputs
+    pub are_recorded : AreRecorded before file record_file inputs
+    pub page : List ℕ
+    pub is_page : IsPageText inputs s page
+    pub failure : IsWriteFailure before now output f
+
+-- each file holds what it held
+abbrev pub AreSame : FilesState → FilesState → Type 0
+AreSame before now = (name : List ℕ) → now.held name ≡ before.held name
+
+-- how the page of a recorded run fails
+abbrev pub IsPageFailure : (file record_file output : List ℕ) → Selection → FilesState → FilesState
+    → Failure → Type 0
+IsPageFailure file record_file output s before now f =
+    (AreSame before now
+    × (IsRecordingFailure file record_file before now f
+    ⊎ IsRunRefused file record_file before f))
+    ⊎ IsPageUnwritten file record_file output s before now f
+
 -- how a view succeeds: its whole text was put
 abbrev pub IsSuccess : View → FilesState → SinkState → SinkState → Type 0
 IsSuccess view files before now =
@@ -71,7 +138,8 @@ IsFailure view files files_now before now Output = IsPutFault view files before 
 IsFailure view files files_now before now OutOfMemory =
     (contents : List ℕ → List ℕ) → AreTold view files contents
     → (now.taken ≡ before.taken) ⊎ PrintsPrefix view contents before now
-IsFailure view files files_now before now (NotWritten line) = ⊥
+IsFailure view files files_now before now (NotWritten line) =
+    (now.taken ≡ before.taken) × IsWriteFault view files files_now (λ l. line.items ≡ l)
 IsFailure view files files_now before now (Layout line) =
     (now.taken ≡ before.taken)
     × ((contents : List ℕ → List ℕ) → AreTold view files contents
@@ -81,3 +149,8 @@ IsFailure view files files_now before now (Record line) =
     × ((contents : List ℕ → List ℕ) → AreTold view files contents
     → IsRecordRefused view contents line.items)
 IsFailure view files files_now before now (Text line) = ⊥
+
+-- where a view is refused, no file changes
+abbrev pub AreKept : FilesState → FilesState → Failure → Type 0
+AreKept before now f =
+    IsRefusalStatus (status_of f) → (name : List ℕ) → now.held name ≡ before.held name

@@ -1,22 +1,26 @@
 -- What the viewer promises of each view.
-use Rattle.std.specs.Prelude.{◌≡◌, ℕ, Bool, not, List, ◌++◌, Some, Contains, codes}
+use Rattle.std.specs.Prelude.{◌≡◌, ℕ, Bool, not, List, [], ◌++◌, Some, None, IfSome, Contains, codes}
 use Rattle.elf32_read.specs.Elf.{Elf}
 use Rattle.templates.specs.declared.plans.PlanEntry.{PlanEntry}
 use Rattle.jump_map.specs.Image.{Cell}
 use Rattle.code_view.specs.Code.{code_text}
 use Rattle.dsm_io.specs.Causes.{Appends, AppendsPrefix}
 use Rattle.dsm_io.specs.States.{FilesState, SinkState}
-use Rattle.command_line.specs.Views.{View, Help, Code, Trace, reads}
+use Rattle.command_line.specs.Views.{View, Help, Code, Trace, Blocks, reads, Page, writes}
 use Rattle.judged_files.specs.Code.{Planned, IsRewritingOf, IsUnrewritten}
 use Rattle.judged_files.specs.Replays.{IsReplayRefused, IsBadReplayLayout, IsBadRecord}
 use Rattle.views.specs.Trace.{recorded, IsTraceText}
+use Rattle.views.specs.Blocks.{AreCostsOfRun}
+use Rattle.views.specs.Page.{IsPageText}
 
 -- how the viewer is called
 unfoldable pub usage : List ℕ
 usage =
     codes "usage: shasta_view code IN [--no-batch]\n"
     ++ (codes "       shasta_view trace IN RECORD [--from S] [--to S] [--block 0xA] [--node I]\n"
-    ++ codes "       shasta_view --help\n")
+    ++ (codes "       shasta_view blocks IN RECORD\n"
+    ++ (codes "       shasta_view page IN RECORD OUT [--from S] [--to S]\n"
+    ++ codes "       shasta_view --help\n")))
 
 -- the text of the rewritten code of the executable in a file, by the program's plan, with batches
 -- or without
@@ -34,6 +38,22 @@ IsText (Code file no_batch) contents text = IsCodeText (not no_batch) (contents 
 IsText (Trace file record_file from to block i) contents text =
     IsTraceText (recorded (contents file) (contents record_file))
     (record { from = from; to = to; address = block; node = i }) text
+IsText (Blocks file record_file) contents text =
+    AreCostsOfRun (recorded (contents file) (contents record_file)) text
+IsText (Page file record_file output from to) contents text = text ≡ []
+
+-- what a view writes into a file
+abbrev pub IsWritten : View → (List ℕ → List ℕ) → List ℕ → Type 0
+IsWritten (Page file record_file output from to) contents bytes =
+    IsPageText (recorded (contents file) (contents record_file))
+    (record { from = from; to = to; address = None; node = None }) bytes
+IsWritten view contents bytes = ⊥
+
+-- the files that a view writes hold what it writes
+abbrev pub AreWritten : View → (List ℕ → List ℕ) → FilesState → Type 0
+AreWritten view contents now =
+    (name : List ℕ) → Contains (writes view) name
+    → IfSome (now.held name) (IsWritten view contents)
 
 -- the executable of a view is refused with this line
 abbrev pub IsRefused : View → (List ℕ → List ℕ) → List ℕ → Type 0
@@ -42,16 +62,28 @@ IsRefused (Code file no_batch) contents line =
     IsUnrewritten (Planned (not no_batch)) (contents file) line
 IsRefused (Trace file record_file from to block i) contents line =
     IsReplayRefused (recorded (contents file) (contents record_file)) line
+IsRefused (Blocks file record_file) contents line =
+    IsReplayRefused (recorded (contents file) (contents record_file)) line
+IsRefused (Page file record_file output from to) contents line =
+    IsReplayRefused (recorded (contents file) (contents record_file)) line
 
 -- the layout of a view's record is refused with this line
 abbrev pub IsLayoutRefused : View → (List ℕ → List ℕ) → List ℕ → Type 0
 IsLayoutRefused (Trace file record_file from to block i) contents line =
+    IsBadReplayLayout (recorded (contents file) (contents record_file)) line
+IsLayoutRefused (Blocks file record_file) contents line =
+    IsBadReplayLayout (recorded (contents file) (contents record_file)) line
+IsLayoutRefused (Page file record_file output from to) contents line =
     IsBadReplayLayout (recorded (contents file) (contents record_file)) line
 IsLayoutRefused view contents line = ⊥
 
 -- a view's record is refused with this line
 abbrev pub IsRecordRefused : View → (List ℕ → List ℕ) → List ℕ → Type 0
 IsRecordRefused (Trace file record_file from to block i) contents line =
+    IsBadRecord (recorded (contents file) (contents record_file)) line
+IsRecordRefused (Blocks file record_file) contents line =
+    IsBadRecord (recorded (contents file) (contents record_file)) line
+IsRecordRefused (Page file record_file output from to) contents line =
     IsBadRecord (recorded (contents file) (contents record_file)) line
 IsRecordRefused view contents line = ⊥
 

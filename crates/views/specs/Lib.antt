@@ -1,4 +1,6 @@
 pub mod Trace
+pub mod Blocks
+pub mod Page
 pub mod Headline
 pub mod Answers
 pub mod Failures

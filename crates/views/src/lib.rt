@@ -2,7 +2,9 @@
 //! The commands of the viewer, and its top call, [`shasta_view`], which shows what the words ask
 //! for.
 
+mod blocks;
 mod code;
+mod page;
 mod recorded;
 mod text;
 mod top;

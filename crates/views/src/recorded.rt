@@ -13,7 +13,7 @@ ghost use Rattle.judged_files.specs.Replays.{IsBrokenRun, IsWorkOf};
 ghost use Rattle.run_record.specs.Record.{IsRecord};
 ghost use Rattle.dsm_core.specs.CoreParts.{outcome_of};
 ghost use Rattle.replay.specs.Replay.{IsReplay};
-ghost use Rattle.views.specs.Failures.{AreRecorded, IsRecordingFailure, TellsWhole};
+ghost use Rattle.views.specs.Failures.{AreRecorded, HasGoneOnTo, IsRecordingFailure, TellsWhole};
 
 use dsm_core::Outcome;
 use dsm_io::Files;
@@ -48,6 +48,8 @@ pub(crate) fn read_recorded<F: Files>(
     ensures failure { IfErr result (IsRecordingFailure file.now record_file.now
         (F.state files.old) (F.state files.new)) }
     ensures contents { (n : List ℕ) → (F.state files.new).held n ≡ (F.state files.old).held n }
+    ensures writes { (n : List ℕ)
+        → (F.state files.old).failed_writes n ≤ (F.state files.new).failed_writes n }
 {
     let executable = read_file(alloc, files, file)?;
     let text = read_file(alloc, files, record_file)?;
@@ -113,4 +115,24 @@ pub(crate) fn next_event(tracer: &mut Tracer<'_>) -> Result<Option<Traced>, Allo
         Err(ReplayRefused::Broken { .. }) => unreachable!(),
         Err(ReplayRefused::OutOfMemory) => Err(AllocError),
     }
+}
+
+/// What the next event of a whole run does, up to this stamp; None where all events that are left
+/// have later ones.
+pub(crate) fn next_event_to(tracer: &mut Tracer<'_>, to: u64) -> Result<Option<Traced>, AllocError>
+    requires traced { (seen : List OfEvent) × HasTraced tracer.old seen }
+    requires whole { TellsWhole (work_traced tracer.old) (record_traced tracer.old) }
+    ensures next { (seen : List OfEvent) → HasTraced tracer.old seen
+        → IfOk result (HasGoneOnTo to tracer.new seen) }
+    ensures same { OnOk result (IsSame tracer.old tracer.new) }
+    ensures fewer { IfOk result (IsFewer tracer.old tracer.new) }
+{
+    replay_law();
+    let Some(event) = next_event(tracer)? else {
+        return Ok(None);
+    };
+    if event.stamp > to {
+        return Ok(None);
+    }
+    Ok(Some(event))
 }

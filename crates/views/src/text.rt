@@ -4,5 +4,7 @@
 pub(crate) const USAGE: &str = concat!(
     "usage: shasta_view code IN [--no-batch]\n",
     "       shasta_view trace IN RECORD [--from S] [--to S] [--block 0xA] [--node I]\n",
+    "       shasta_view blocks IN RECORD\n",
+    "       shasta_view page IN RECORD OUT [--from S] [--to S]\n",
     "       shasta_view --help\n",
 );

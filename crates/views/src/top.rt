@@ -2,16 +2,18 @@
 
 ghost use Rattle.std.specs.Prelude.{◌≡◌, ◌≢◌, ◌≤◌, ◌⊎◌, ◌<◌, ℕ, List, Some, length, Contains};
 ghost use Rattle.std.specs.Prelude.{IfErr, OnOk, MatchResult};
-ghost use Rattle.command_line.specs.Views.{View as Asked, AsksView, meaning_of_view, reads};
+ghost use Rattle.command_line.specs.Views.{View as Asked, AsksView, meaning_of_view, reads, writes};
 ghost use Rattle.judged_files.specs.Answers.{Tells, file_limit};
 ghost use Rattle.judged_files.specs.Failures.{IsNoRefusal};
 ghost use Rattle.judged_files.specs.Text.{out_of_memory};
 ghost use Rattle.views.specs.Headline.{AreTold, IsLayoutRefused, IsRecordRefused, IsRefused};
-ghost use Rattle.views.specs.Headline.{Prints, PrintsPrefix, usage};
-ghost use Rattle.views.specs.Answers.{IsFault, IsRefusalStatus};
-ghost use Rattle.views.specs.Failures.{IsFailure, IsSuccess};
+ghost use Rattle.views.specs.Headline.{AreWritten, Prints, PrintsPrefix, usage};
+ghost use Rattle.views.specs.Answers.{AreLeft, IsFault, IsRefusalStatus};
+ghost use Rattle.views.specs.Failures.{AreKept, IsFailure, IsSuccess};
 
+use crate::blocks::put_blocks;
 use crate::code::put_code;
+use crate::page::write_page;
 use crate::recorded::read_recorded;
 use crate::text::USAGE;
 use crate::trace::{Selection, put_trace};
@@ -22,9 +24,10 @@ use judged_files::input::read_file;
 use judged_files::output::{put, tell, tell_out_of_memory};
 use std::alloc::Global;
 
-/// Shows what the words ask for, and answers the status: 0 where the whole text was put; 2 for a
-/// faulty command line; 3 where a file or the output failed; 4 where the executable is refused; 5
-/// where it was out of memory; 6 where the layout of a record is refused; 7 where the record is.
+/// Shows what the words ask for, or writes it into a file, and answers the status: 0 where the
+/// whole text was put or the file written; 2 for a faulty command line; 3 where a file or the
+/// output failed; 4 where the executable is refused; 5 where it was out of memory; 6 where the
+/// layout of a record is refused; 7 where the record is.
 pub fn shasta_view<F: Files, O: Sink, E: Sink>(
     alloc: Global,
     words: &[Text],
@@ -83,9 +86,18 @@ pub fn shasta_view<F: Files, O: Sink, E: Sink>(
         → ((O.state out.new).taken ≡ (O.state out.old).taken)
         ⊎ PrintsPrefix v contents (O.state out.old) (O.state out.new) }
 
-    // No file changes.
+    // No file changes but one that the view writes; and that one does only with status 0, 3 or 5.
     ensures files { (name : List ℕ)
+        → ((v : Asked) → AsksView words.now v → Contains (writes v) name → ⊥)
         → (F.state files.new).held name ≡ (F.state files.old).held name }
+    ensures kept { (result ≡ 2) ⊎ IsRefusalStatus result
+        → (name : List ℕ) → (F.state files.new).held name ≡ (F.state files.old).held name }
+    ensures written { (v : Asked) (contents : List ℕ → List ℕ) → AsksView words.now v
+        → AreTold v (F.state files.old) contents → result ≡ 0
+        → AreWritten v contents (F.state files.new) }
+    ensures left { (v : Asked) (contents : List ℕ → List ℕ) → AsksView words.now v
+        → AreTold v (F.state files.old) contents → (result ≡ 3) ⊎ (result ≡ 5)
+        → AreLeft v contents (F.state files.old) (F.state files.new) }
 {
     let view = match view_of(alloc, words) {
         Ok(Some(view)) => view,
@@ -104,7 +116,7 @@ pub fn shasta_view<F: Files, O: Sink, E: Sink>(
     }
 }
 
-/// Reads the files of a view, and puts the view's text.
+/// Reads the files of a view, and puts the view's text, or writes it into the view's file.
 fn answer<F: Files, O: Sink>(
     alloc: Global,
     view: &View<'_>,
@@ -118,7 +130,15 @@ fn answer<F: Files, O: Sink>(
     ensures longer { (name content : List ℕ) → Contains (reads (meaning_of_view view.now)) name
         → (F.state files.old).held name ≡ Some content → file_limit < length content
         → MatchResult result (λ _. ⊥) IsNoRefusal }
-    ensures contents { (n : List ℕ) → (F.state files.new).held n ≡ (F.state files.old).held n }
+    ensures others { (n : List ℕ) → (Contains (writes (meaning_of_view view.now)) n → ⊥)
+        → (F.state files.new).held n ≡ (F.state files.old).held n }
+    ensures kept { IfErr result (AreKept (F.state files.old) (F.state files.new)) }
+    ensures written { OnOk result ((contents : List ℕ → List ℕ)
+        → AreTold (meaning_of_view view.now) (F.state files.old) contents
+        → AreWritten (meaning_of_view view.now) contents (F.state files.new)) }
+    ensures left { IfErr result (λ f. (contents : List ℕ → List ℕ)
+        → AreTold (meaning_of_view view.now) (F.state files.old) contents
+        → AreLeft (meaning_of_view view.now) contents (F.state files.old) (F.state files.new)) }
 {
     match view {
         View::Help => put(out, USAGE.as_bytes()),
@@ -142,6 +162,25 @@ fn answer<F: Files, O: Sink>(
                 node: *node,
             };
             put_trace(alloc, &read.lend(), selection, out)
+        }
+        View::Blocks { file, record_file } => {
+            let read = read_recorded(alloc, files, file, record_file)?;
+            put_blocks(alloc, &read.lend(), out)
+        }
+        View::Page {
+            file,
+            record_file,
+            output,
+            from,
+            to,
+        } => {
+            let selection = Selection {
+                from: *from,
+                to: *to,
+                address: None,
+                node: None,
+            };
+            write_page(alloc, files, file, record_file, output, selection)
         }
     }
 }

@@ -17,7 +17,7 @@ ghost use Rattle.judged_files.specs.Ready.{work_for};
 ghost use Rattle.views.specs.Failures.{FailsAsRun, IsTextOfTrace, TellsWhole};
 ghost use Rattle.views.specs.Trace.{options_about, options_at, selected_text};
 
-use crate::recorded::{RecordedRun, judged_run, next_event};
+use crate::recorded::{RecordedRun, judged_run, next_event_to};
 use block_layout::{Block, Layout};
 use dsm_io::Sink;
 use event_text::{Options, is_shown, push_event, push_head};
@@ -49,7 +49,7 @@ pub(crate) struct Selection {
 
 impl Selection {
     /// The events about one block, or about any or none.
-    fn about(self, block: Option<Block>) -> Options
+    pub(crate) fn about(self, block: Option<Block>) -> Options
         ensures { result ≡ options_about self block }
     {
         Options {
@@ -158,7 +158,8 @@ fn put_run<O: Sink>(
     put_events(alloc, program, &mut tracer, options, out)
 }
 
-/// Puts the lines of the events of a whole run that are shown, from its start on.
+/// Puts the lines of the events of a whole run that are shown, from its start on. None is made
+/// behind the first that is later than all asked for.
 fn put_events<O: Sink>(
     alloc: Global,
     program: &Program<'_>,
@@ -182,7 +183,7 @@ fn put_events<O: Sink>(
     replay_law();
     let mut lines = Vec::new(alloc);
     push_head(&mut lines)?;
-    while let Some(event) = next_event(tracer)? {
+    while let Some(event) = next_event_to(tracer, options.to)? {
         push_if_shown(&mut lines, program, options, &event)?;
         if lines.len() >= PIECE {
             put(out, &lines)?;

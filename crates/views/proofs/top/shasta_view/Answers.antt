@@ -4,10 +4,10 @@ use Rattle.command_line.specs.Views.{meaning_of_view, reads}
 use Rattle.dsm_io.specs.States.{SinkState, FilesState}
 use Rattle.judged_files.specs.Answers.{Tells}
 use Rattle.judged_files.specs.Failures.{line_of}
-use Rattle.views.specs.Answers.{IsRefusalStatus}
+use Rattle.views.specs.Answers.{AreLeft, IsRefusalStatus}
 use Rattle.views.specs.Failures.{IsFailure, IsSuccess}
-use Rattle.views.specs.Headline.{usage}
-use Rattle.views.proofs.Viewed.{asked_as, failing, fault_of, layout_of, line_five, none_as, nothing_of, prefix_of_failure, record_of, refusal_of}
+use Rattle.views.specs.Headline.{AreTold, AreWritten, usage}
+use Rattle.views.proofs.Viewed.{asked_as, failing, fault_of, layout_of, line_five, none_as, not_two, not_zero, nothing_of, prefix_of_failure, record_of, refusal_of}
 use Rattle.views.proofs.top.shasta_view.Goals as goal
 
 pub returns-in-Ok-None-clause-usage : goal.returns-in-Ok-None-clause-usage
@@ -169,3 +169,44 @@ returns-in-Err-answer-clause-range g c =
       | inr (inl five) ↦ inr (inr (inr (inl (status ∙ five))))
       | inr (inr refused) ↦ inr (inr (inr (inr (subst IsRefusalStatus (sym status) refused))))
     ]
+
+pub returns-in-Ok-clause-files : goal.returns-in-Ok-clause-files
+returns-in-Ok-clause-files g c = λ name none.
+    let own = meaning_of_view c.in-Ok-Some.view in
+    let asks = asked_as c.args.words.now _ c.in-Ok-Some.view (search rules) c.in-Ok-Some.ensures.asks in
+    c.answer.ensures.others name (λ among. none own asks among)
+
+pub returns-in-Ok-clause-written : goal.returns-in-Ok-clause-written
+returns-in-Ok-clause-written g c = λ v contents asks told zero.
+    let own = meaning_of_view c.in-Ok-Some.view in
+    let same : own ≡ v = c.in-Ok-Some.ensures.only own v
+    (asked_as c.args.words.now _ c.in-Ok-Some.view (search rules) c.in-Ok-Some.ensures.asks) asks in
+    let files : FilesState = g.F.Files.state c.args.files.now in
+    let files_now : FilesState = g.F.Files.state c.answer.new.files in
+    subst (λ x. AreWritten x contents files_now) same
+    (c.in-Ok.ensures.written contents (subst (λ x. AreTold x files contents) (sym same) told))
+
+pub returns-in-Err-answer-clause-files : goal.returns-in-Err-answer-clause-files
+returns-in-Err-answer-clause-files g c = λ name none.
+    let own = meaning_of_view c.in-Ok-Some.view in
+    let asks = asked_as c.args.words.now _ c.in-Ok-Some.view (search rules) c.in-Ok-Some.ensures.asks in
+    c.answer.ensures.others name (λ among. none own asks among)
+
+pub returns-in-Err-answer-clause-kept : goal.returns-in-Err-answer-clause-kept
+returns-in-Err-answer-clause-kept g c = λ s.
+    c.in-Err-answer.ensures.kept (not_two c.in-Err-answer.failure
+    (subst (λ n. (n ≡ 2) ⊎ IsRefusalStatus n) c.status.ensures.value s))
+
+pub returns-in-Err-answer-clause-written : goal.returns-in-Err-answer-clause-written
+returns-in-Err-answer-clause-written g c = λ v contents asks told zero.
+    absurd (not_zero c.in-Err-answer.failure (sym c.status.ensures.value ∙ zero))
+
+pub returns-in-Err-answer-clause-left : goal.returns-in-Err-answer-clause-left
+returns-in-Err-answer-clause-left g c = λ v contents asks told s.
+    let own = meaning_of_view c.in-Ok-Some.view in
+    let same : own ≡ v = c.in-Ok-Some.ensures.only own v
+    (asked_as c.args.words.now _ c.in-Ok-Some.view (search rules) c.in-Ok-Some.ensures.asks) asks in
+    let files : FilesState = g.F.Files.state c.args.files.now in
+    let files_now : FilesState = g.F.Files.state c.answer.new.files in
+    subst (λ x. AreLeft x contents files files_now) same
+    (c.in-Err-answer.ensures.left contents (subst (λ x. AreTold x files contents) (sym same) told))

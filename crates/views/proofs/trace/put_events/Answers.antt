@@ -6,8 +6,9 @@ use Rattle.event_text.specs.Shown.{head}
 use Rattle.judged_files.specs.Failures.{IsPutFailure}
 use Rattle.judged_files.proofs.Pieces.{nothing_put}
 use Rattle.run_trace.specs.Given.{traced_of}
-use Rattle.run_trace.specs.Tracing.{HasGoneOn, HasTraced, record_traced, work_traced}
-use Rattle.views.proofs.Lines.{IsUnderWay, all_put, event_gathered, lines_fail, lines_put, lines_stop, same_self, tells_by, whole_put}
+use Rattle.run_trace.specs.Tracing.{HasTraced, record_traced, work_traced}
+use Rattle.views.specs.Failures.{HasGoneOnTo}
+use Rattle.views.proofs.Lines.{IsUnderWay, event_gathered, lines_fail, lines_put, lines_stop, same_self, tells_by, whole_put}
 use Rattle.views.proofs.trace.put_events.Goals as goal
 
 pub loop-lines-init : goal.loop-lines-init
@@ -21,11 +22,11 @@ loop-lines-init g c = record {
   reached = c.in_ok-push_head.ensures ∙ ap (λ l. l ++ head) c.new-lines.ensures.items ∙ sym (append-nil head);
 }
 
-pub next_event-requires-clause-traced : goal.next_event-requires-clause-traced
-next_event-requires-clause-traced g c = (c.loop-lines.invariant.seen, c.loop-lines.invariant.traced)
+pub next_event_to-requires-clause-traced : goal.next_event_to-requires-clause-traced
+next_event_to-requires-clause-traced g c = (c.loop-lines.invariant.seen, c.loop-lines.invariant.traced)
 
-pub next_event-requires-clause-whole : goal.next_event-requires-clause-whole
-next_event-requires-clause-whole g c =
+pub next_event_to-requires-clause-whole : goal.next_event_to-requires-clause-whole
+next_event_to-requires-clause-whole g c =
     let first = c.args.tracer.now in
     tells_by c.loop-lines.tracer (work_traced first) (record_traced first) c.loop-lines.invariant.same.work
     c.loop-lines.invariant.same.rec_is c.requires.whole
@@ -48,7 +49,7 @@ returns-in_err-event-clause-failure g c = λ trace whole.
     let o = c.args.options.now in
     let first = c.args.tracer.now in
     let t = c.loop-lines.tracer in
-    let u = c.next_event.new.tracer in
+    let u = c.next_event_to.new.tracer in
     let way = c.loop-lines.invariant in
     let p = err_from_is_err_and c.from_residual-in_err-event.result c.from_residual-in_err-event.ensures.1 in
     rw p.1 (lines_stop elf o first t start before c.loop-lines.lines.items trace p.0
@@ -62,11 +63,11 @@ returns-in_err-put-clause-failure g c = λ trace whole.
     let o = c.args.options.now in
     let first = c.args.tracer.now in
     let t = c.loop-lines.tracer in
-    let u = c.next_event.new.tracer in
+    let u = c.next_event_to.new.tracer in
     let way = c.loop-lines.invariant in
     let lines = c.push_if_shown.new.lines.items in
     let traced : HasTraced u (way.seen ++ traced_of c.in-Some.event ∷ []) =
-    subst (HasGoneOn u way.seen) c.in-Some.is (c.in_ok-event.ensures.next way.seen way.traced) in
+    subst (HasGoneOnTo o.to u way.seen) c.in-Some.is (c.in_ok-event.ensures.next way.seen way.traced) in
     let more : IsUnderWay elf o first u start before lines =
     event_gathered elf o first t u start before c.loop-lines.lines.items lines (traced_of c.in-Some.event) way
     c.in_ok-event.ensures.same traced c.in_ok-push_if_shown.ensures in
@@ -84,11 +85,11 @@ loop-lines-preserved-then-len-ge-PIECE g c =
     let o = c.args.options.now in
     let first = c.args.tracer.now in
     let t = c.loop-lines.tracer in
-    let u = c.next_event.new.tracer in
+    let u = c.next_event_to.new.tracer in
     let way = c.loop-lines.invariant in
     let lines = c.push_if_shown.new.lines.items in
     let traced : HasTraced u (way.seen ++ traced_of c.in-Some.event ∷ []) =
-    subst (HasGoneOn u way.seen) c.in-Some.is (c.in_ok-event.ensures.next way.seen way.traced) in
+    subst (HasGoneOnTo o.to u way.seen) c.in-Some.is (c.in_ok-event.ensures.next way.seen way.traced) in
     let more : IsUnderWay elf o first u start before lines =
     event_gathered elf o first t u start before c.loop-lines.lines.items lines (traced_of c.in-Some.event) way
     c.in_ok-event.ensures.same traced c.in_ok-push_if_shown.ensures in
@@ -106,11 +107,11 @@ loop-lines-preserved g c =
     let o = c.args.options.now in
     let first = c.args.tracer.now in
     let t = c.loop-lines.tracer in
-    let u = c.next_event.new.tracer in
+    let u = c.next_event_to.new.tracer in
     let way = c.loop-lines.invariant in
     let lines = c.push_if_shown.new.lines.items in
     let traced : HasTraced u (way.seen ++ traced_of c.in-Some.event ∷ []) =
-    subst (HasGoneOn u way.seen) c.in-Some.is (c.in_ok-event.ensures.next way.seen way.traced) in
+    subst (HasGoneOnTo o.to u way.seen) c.in-Some.is (c.in_ok-event.ensures.next way.seen way.traced) in
     let more : IsUnderWay elf o first u start before lines =
     event_gathered elf o first t u start before c.loop-lines.lines.items lines (traced_of c.in-Some.event) way
     c.in_ok-event.ensures.same traced c.in_ok-push_if_shown.ensures in
@@ -124,7 +125,7 @@ returns-in_err-put-2-clause-failure g c = λ trace whole.
     let o = c.args.options.now in
     let first = c.args.tracer.now in
     let t = c.loop-lines.tracer in
-    let u = c.next_event.new.tracer in
+    let u = c.next_event_to.new.tracer in
     let way = c.loop-lines.invariant in
     let now : SinkState = g.O.Sink.state c.put-2.new.out in
     let p = err_from_is_err_and c.from_residual-in_err-put-2.result c.from_residual-in_err-put-2.ensures.1 in
@@ -141,11 +142,11 @@ returns-clause-ok g c = λ trace whole.
     let o = c.args.options.now in
     let first = c.args.tracer.now in
     let t = c.loop-lines.tracer in
-    let u = c.next_event.new.tracer in
+    let u = c.next_event_to.new.tracer in
     let way = c.loop-lines.invariant in
     let now : SinkState = g.O.Sink.state c.put-2.new.out in
-    let all : HasGoneOn u way.seen None =
-    subst (HasGoneOn u way.seen) c.in_default.is (c.in_ok-event.ensures.next way.seen way.traced) in
-    whole_put elf o first t u start before now c.loop-lines.lines.items trace
-    (c.replay_law.ensures.one (record_traced u)) way c.in_ok-event.ensures.same all whole
+    let all : HasGoneOnTo o.to u way.seen None =
+    subst (HasGoneOnTo o.to u way.seen) c.in_default.is (c.in_ok-event.ensures.next way.seen way.traced) in
+    whole_put elf o first t u start before now c.loop-lines.lines.items trace way
+    c.in_ok-event.ensures.same all whole
     (subst (Appends before.taken now.taken) c.deref-2.ensures.value c.in_ok-put-2.ensures.ok)

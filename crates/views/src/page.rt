@@ -1,0 +1,133 @@
+//! `page`: a page that draws a recorded run.
+
+ghost use Rattle.std.specs.Prelude.{◌≡◌, ◌≢◌, [], ◌∷◌, ◌++◌, None, ℕ, List};
+ghost use Rattle.std.specs.Prelude.{IfErr, IfOk, OnOk};
+ghost use Rattle.rewriting_law.specs.Bounds.{RunsRewritten};
+ghost use Rattle.run_record.specs.Record.{IsRecord};
+ghost use Rattle.run_trace.specs.Given.{traced_of};
+ghost use Rattle.run_trace.specs.Traced.{Traced as OfEvent};
+ghost use Rattle.run_trace.specs.Trace.{IsTraceOf};
+ghost use Rattle.run_trace.specs.Tracing.{HasTraced, plan_traced, record_traced, work_traced};
+ghost use Rattle.event_text.specs.Shown.{shown};
+ghost use Rattle.page_events.specs.Shown.{kept};
+ghost use Rattle.judged_files.specs.Failures.{IsReplayRefusal};
+ghost use Rattle.judged_files.specs.Given.{bytes_of};
+ghost use Rattle.judged_files.specs.Ready.{work_for};
+ghost use Rattle.views.specs.Failures.{IsPageFailure, IsPageWritten, TellsWhole};
+ghost use Rattle.views.specs.Page.{IsPageText, drawn_text};
+
+use crate::recorded::{RecordedRun, judged_run, next_event_to, read_recorded};
+use crate::trace::Selection;
+use dsm_io::Files;
+use event_text::{Options, is_shown};
+use flow_graph::Graph;
+use judged_files::failure::Failure;
+use judged_files::input::{Inputs, elf_of};
+use judged_files::output::write_file;
+use judged_files::refusal::Subject;
+use page_events::Shown;
+use page_view::{Page, push_page};
+use replay::replay_law;
+use run_trace::{Traced, Tracer};
+use std::alloc::{AllocError, Global};
+
+/// Writes the page of the events that are asked for, of the run of an executable whose record is in
+/// a file, into another file.
+pub(crate) fn write_page<F: Files>(
+    alloc: Global,
+    files: &mut F,
+    file: &str,
+    record_file: &str,
+    output: &str,
+    selection: Selection,
+) -> Result<(), Failure>
+    ensures ok { OnOk result (IsPageWritten file.now record_file.now output.now selection
+        (F.state files.old) (F.state files.new)) }
+    ensures failure { IfErr result (IsPageFailure file.now record_file.now output.now selection
+        (F.state files.old) (F.state files.new)) }
+    ensures others { (n : List ℕ) → n ≢ output.now
+        → (F.state files.new).held n ≡ (F.state files.old).held n }
+{
+    let read = read_recorded(alloc, files, file, record_file)?;
+    let page = page_of(alloc, &read.lend(), selection)?;
+    write_file(alloc, files, output, &page)
+}
+
+/// The page of the events that are asked for, of the run of the record among these files and the
+/// executable among them.
+fn page_of(alloc: Global, inputs: &Inputs<'_>, selection: Selection) -> Result<Vec<u8>, Failure>
+    ensures ok { IfOk result (λ page. IsPageText (bytes_of inputs.now) selection page.items) }
+    ensures failure { IfErr result (IsReplayRefusal (bytes_of inputs.now)) }
+{
+    let elf = elf_of(alloc, Subject::Executable, inputs.executable)?;
+    let run = judged_run(alloc, &elf, inputs)?;
+    let page = page_of_run(alloc, &run, selection)?;
+    Ok(page)
+}
+
+/// The page of the events of a judged run that are asked for.
+fn page_of_run(
+    alloc: Global,
+    run: &RecordedRun<'_>,
+    selection: Selection,
+) -> Result<Vec<u8>, AllocError>
+    requires rewritten { RunsRewritten (work_for run.now.prepared) }
+    requires record { IsRecord run.now.kept }
+    requires nodes { run.now.prepared.layout.nodes ≡ run.now.kept.nodes }
+    requires whole { TellsWhole (work_for run.now.prepared) run.now.kept }
+    ensures { (trace : List OfEvent)
+        → IsTraceOf (work_for run.now.prepared) run.now.prepared.rewritten.plan run.now.kept trace
+        → IfOk result (λ page. page.items ≡ drawn_text run.now.prepared.program
+        run.now.prepared.layout selection trace) }
+{
+    let program = &run.prepared.program;
+    let graph = Graph::of(alloc, program)?;
+    let plan = run.prepared.rewritten.plan();
+    let mut tracer = Tracer::new(alloc, &run.prepared.work(), plan, graph.code(), &run.kept)?;
+    let shown = shown_events(alloc, &mut tracer, &selection.about(None))?;
+    let mut page = Vec::new(alloc);
+    let drawn = Page {
+        program,
+        layout: &run.prepared.layout,
+        shown: &shown,
+        to: selection.to,
+    };
+    push_page(alloc, &mut page, &drawn)?;
+    Ok(page)
+}
+
+/// The events of a whole run that a page shows, from its start on. None is made behind the one that
+/// fills the page, nor behind the first that is later than all asked for.
+fn shown_events(
+    alloc: Global,
+    tracer: &mut Tracer<'_>,
+    options: &Options,
+) -> Result<Shown, AllocError>
+    requires start { HasTraced tracer.old [] }
+    requires whole { TellsWhole (work_traced tracer.old) (record_traced tracer.old) }
+    ensures { (trace : List OfEvent)
+        → IsTraceOf (work_traced tracer.old) (plan_traced tracer.old) (record_traced tracer.old)
+        trace
+        → IfOk result (λ s. s ≡ kept (shown options.now trace)) }
+{
+    replay_law();
+    let mut events = Shown::new(alloc);
+    while let Some(event) = next_event_to(tracer, options.to)? {
+        add_if_shown(&mut events, options, event)?;
+        if events.is_full() {
+            return Ok(events);
+        }
+    }
+    Ok(events)
+}
+
+/// Adds an event to those of a page, if it is shown.
+fn add_if_shown(events: &mut Shown, options: &Options, event: Traced) -> Result<(), AllocError>
+    ensures { (seen : List OfEvent) → events.old ≡ kept (shown options.now seen)
+        → OnOk result (events.new ≡ kept (shown options.now (seen ++ traced_of event ∷ []))) }
+{
+    if !is_shown(options, &event) {
+        return Ok(());
+    }
+    events.add(event)
+}
