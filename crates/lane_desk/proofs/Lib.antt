@@ -1,0 +1,3 @@
+pub mod WaitLists
+pub mod AskLemmas
+pub mod StoreLemmas

@@ -1,0 +1,282 @@
+//! What a lane's word wants of blocks: the node asks for those that none of its lanes waits for,
+//! and for the others the lane waits with their holders.
+
+ghost use Rattle.std.specs.Prelude.{◌≡◌, ◌+◌, ◌/◌, ◌^◌, ◌≤◌, ◌<◌, ◌||◌, ◌++◌, ℕ, [], ◌∷◌};
+ghost use Rattle.std.specs.Prelude.{None, Some, true, false, List, Bool, Option, length, is_some};
+ghost use Rattle.std.specs.Option.{option_to_list};
+ghost use Rattle.block_layout.specs.Layout.{blocks, block_of};
+ghost use Rattle.rv32_program.specs.Program.{line_of};
+ghost use Rattle.home_directory.specs.declared.messages.Post.{Post};
+ghost use Rattle.miss_handlers.specs.Waits.{wait_of};
+ghost use Rattle.node_model.specs.Node as model;
+ghost use Rattle.node_model.specs.Turns as turns;
+ghost use Rattle.home_directory.specs.Table.{meets};
+ghost use Rattle.state_table.specs.States.{state_of};
+ghost use Rattle.node_words.specs.Kept.{ground_of, local_of, all_wants, wants_by};
+ghost use Rattle.node_machine.specs.Frame.{layout_of, IsDesk, AreCountsBelow, HasBegun};
+ghost use Rattle.node_machine.specs.Desk.{is_unmet, AreUnmet};
+ghost use Rattle.lane_model.specs.Turns as lanes;
+ghost use Rattle.lane_desk.specs.Waits.{wait_among, all_waits, awaits_of, AreApart};
+ghost use Rattle.lane_desk.specs.Desks.{asked_by, stood};
+
+use crate::place::{Place, need_of};
+use block_layout::{Block, layout_law};
+use home_directory::{Need, Post, Sends};
+use node_machine::{Desk, put, want_of_other_block};
+use node_words::{Body, Following, Want, Wants};
+
+/// The blocks that a lane waits for: at most two.
+#[derive(Clone, Copy, PartialEq, Eq)]
+pub struct Awaits {
+    pub first: Option<Block>,
+    pub other: Option<Block>,
+}
+
+/// No block.
+pub const NO_BLOCK: Awaits = Awaits {
+    first: None,
+    other: None,
+};
+
+/// What came of a want of a line.
+#[derive(Drop)]
+pub struct Asked {
+    /// The message that asks for its block.
+    pub post: Option<Post>,
+    /// The block, where the lane waits for it.
+    pub block: Option<Block>,
+    /// Whether the lane executes its word again then.
+    pub again: bool,
+}
+
+/// What came of all that a word wants.
+#[derive(Clone, Copy, PartialEq, Eq)]
+pub struct AskedAll {
+    pub awaits: Awaits,
+    pub again: bool,
+}
+
+/// A word wants a line.
+pub fn ask(body: &mut Body<'_>, desk: &mut Desk, places: &[Place], want: Want) -> Asked
+    requires desk { IsDesk (layout_of body.old) desk.old }
+    requires apart { AreApart (all_waits desk.old places.now) }
+    requires few { length desk.old.waits.waits < 2 }
+    requires counts { AreCountsBelow (2 ^ 63) body.old.counts }
+    ensures turn { (n : model.Node) (posts : List Post) (p : Option ℕ) (again : Bool) →
+        lanes.ask (layout_of body.old) want.need (block_of (layout_of body.old) (line_of want.at))
+        (asked_by (stood n body.old desk.old places.now) posts p again)
+        ≡ asked_by (stood n body.new desk.new places.now) (posts ++ option_to_list result.post) p
+        (again || result.again) }
+    ensures awaits { option_to_list result.block
+        ≡ lanes.still (wait_among (all_waits desk.new places.now))
+        (option_to_list (block_of (layout_of body.old) (line_of want.at))) }
+    ensures begun { length desk.old.waits.waits ≡ 0
+        → is_unmet want.need ((local_of body.old.local).state (line_of want.at)) ≡ true
+        → is_some result.block ≡ true }
+    ensures others { (b : ℕ)
+        → (block_of (layout_of body.old) (line_of want.at) ≡ Some b → ⊥)
+        → wait_among (all_waits desk.new places.now) b
+        ≡ wait_among (all_waits desk.old places.now) b }
+    ensures own { (b : ℕ) → is_some (wait_of desk.new.waits b) ≡ true
+        → (result.block ≡ Some b → ⊥) → is_some (wait_of desk.old.waits b) ≡ true }
+    ensures more { (b : ℕ) → is_some (wait_among (all_waits desk.old places.now) b) ≡ true
+        → is_some (wait_among (all_waits desk.new places.now) b) ≡ true }
+    ensures one { length desk.new.waits.waits ≤ length desk.old.waits.waits + 1 }
+    ensures apart { AreApart (all_waits desk.new places.now) }
+    ensures desk { IsDesk (layout_of body.old) desk.new }
+    ensures directory { desk.new.directory ≡ desk.old.directory }
+    ensures lane { body.new.lane ≡ body.old.lane }
+    ensures ground { ground_of body.new.local ≡ ground_of body.old.local }
+    ensures counts { (most : ℕ) → AreCountsBelow most body.old.counts
+        → AreCountsBelow (most + 1) body.new.counts }
+{
+    layout_law();
+    body.local.laws();
+    match body.local.block_of(want.at) {
+        None => Asked {
+            post: None,
+            block: None,
+            again: false,
+        },
+        Some(block) => ask_block(body, desk, places, block, want.need),
+    }
+}
+
+/// A word wants a block.
+fn ask_block(
+    body: &mut Body<'_>,
+    desk: &mut Desk,
+    places: &[Place],
+    block: Block,
+    need: Need,
+) -> Asked
+    requires desk { IsDesk (layout_of body.old) desk.old }
+    requires apart { AreApart (all_waits desk.old places.now) }
+    requires few { length desk.old.waits.waits < 2 }
+    requires counts { AreCountsBelow (2 ^ 63) body.old.counts }
+    requires block { block < blocks (layout_of body.old) }
+    ensures turn { (n : model.Node) (posts : List Post) (p : Option ℕ) (again : Bool) →
+        lanes.ask_block (layout_of body.old) block need
+        (asked_by (stood n body.old desk.old places.now) posts p again)
+        ≡ asked_by (stood n body.new desk.new places.now) (posts ++ option_to_list result.post) p
+        (again || result.again) }
+    ensures awaits { option_to_list result.block
+        ≡ lanes.still (wait_among (all_waits desk.new places.now)) (block ∷ []) }
+    ensures begun { length desk.old.waits.waits ≡ 0
+        → meets need (state_of body.old.local.states block) ≡ false
+        → is_some result.block ≡ true }
+    ensures others { (b : ℕ) → (b ≡ block → ⊥)
+        → wait_among (all_waits desk.new places.now) b
+        ≡ wait_among (all_waits desk.old places.now) b }
+    ensures own { (b : ℕ) → is_some (wait_of desk.new.waits b) ≡ true
+        → (result.block ≡ Some b → ⊥) → is_some (wait_of desk.old.waits b) ≡ true }
+    ensures more { (b : ℕ) → is_some (wait_among (all_waits desk.old places.now) b) ≡ true
+        → is_some (wait_among (all_waits desk.new places.now) b) ≡ true }
+    ensures one { length desk.new.waits.waits ≤ length desk.old.waits.waits + 1 }
+    ensures apart { AreApart (all_waits desk.new places.now) }
+    ensures desk { IsDesk (layout_of body.old) desk.new }
+    ensures directory { desk.new.directory ≡ desk.old.directory }
+    ensures lane { body.new.lane ≡ body.old.lane }
+    ensures ground { ground_of body.new.local ≡ ground_of body.old.local }
+    ensures counts { (most : ℕ) → AreCountsBelow most body.old.counts
+        → AreCountsBelow (most + 1) body.new.counts }
+{
+    match need_of(desk, places, block) {
+        Some(have) => Asked {
+            post: None,
+            block: Some(block),
+            again: is_beyond(have, need),
+        },
+        None => {
+            let post = desk.want_block(body, block, need);
+            Asked {
+                post,
+                block: awaited(desk, block),
+                again: false,
+            }
+        }
+    }
+}
+
+/// A block, where the node waits for it on behalf of the lane in use.
+fn awaited(desk: &Desk, block: Block) -> Option<Block>
+    ensures { option_to_list result ≡ lanes.still (wait_of desk.now.waits) (block ∷ []) }
+{
+    if desk.waits.waits_for(block) {
+        Some(block)
+    } else {
+        None
+    }
+}
+
+/// Whether a block that is waited for isn't what a lane needs of it then: it is needed to write it,
+/// and will come to be read.
+fn is_beyond(have: Need, need: Need) -> bool
+    ensures { result ≡ lanes.is_beyond have need }
+{
+    have == Need::Read && need == Need::Write
+}
+
+/// A word wants lines.
+fn ask_wants(
+    body: &mut Body<'_>,
+    desk: &mut Desk,
+    places: &[Place],
+    wants: Wants,
+    sends: &mut Sends,
+) -> AskedAll
+    requires nothing { sends.old.items ≡ [] }
+    requires desk { IsDesk (layout_of body.old) desk.old }
+    requires apart { AreApart (all_waits desk.old places.now) }
+    requires idle { length desk.old.waits.waits ≡ 0 }
+    requires counts { AreCountsBelow (2 ^ 62) body.old.counts }
+    ensures turn { (n : model.Node) (p : Option ℕ) → lanes.ask_all (layout_of body.old)
+        (turns.each_block_once (layout_of body.old) (all_wants wants))
+        (asked_by (stood n body.old desk.old places.now) [] p false)
+        ≡ asked_by (stood n body.new desk.new places.now) sends.new.items p result.again }
+    ensures awaits { awaits_of result.awaits
+        ≡ lanes.still (wait_among (all_waits desk.new places.now))
+        (lanes.blocks_of (layout_of body.old)
+        (turns.each_block_once (layout_of body.old) (all_wants wants))) }
+    ensures begun { let state = (local_of body.old.local).state (line_of wants.first.at) in
+        is_unmet wants.first.need state ≡ true → is_some result.awaits.first ≡ true }
+    ensures own { (b : ℕ) → is_some (wait_of desk.new.waits b) ≡ true
+        → (result.awaits.first ≡ Some b → ⊥) → (result.awaits.other ≡ Some b → ⊥) → ⊥ }
+    ensures more { (b : ℕ) → is_some (wait_among (all_waits desk.old places.now) b) ≡ true
+        → is_some (wait_among (all_waits desk.new places.now) b) ≡ true }
+    ensures apart { AreApart (all_waits desk.new places.now) }
+    ensures desk { IsDesk (layout_of body.old) desk.new }
+    ensures directory { desk.new.directory ≡ desk.old.directory }
+    ensures lane { body.new.lane ≡ body.old.lane }
+    ensures ground { ground_of body.new.local ≡ ground_of body.old.local }
+    ensures counts { (most : ℕ) → AreCountsBelow most body.old.counts
+        → AreCountsBelow (most + 2) body.new.counts }
+{
+    layout_law();
+    body.local.laws();
+    let first = ask(body, desk, places, wants.first);
+    let Some(want) = want_of_other_block(&body.local, wants) else {
+        put(sends, first.post, None);
+        return AskedAll {
+            awaits: Awaits {
+                first: first.block,
+                other: None,
+            },
+            again: first.again,
+        };
+    };
+    let other = ask(body, desk, places, want);
+    put(sends, first.post, other.post);
+    AskedAll {
+        awaits: Awaits {
+            first: first.block,
+            other: other.block,
+        },
+        again: first.again || other.again,
+    }
+}
+
+/// Asks for what a word wants, by what follows it.
+pub fn ask_all(
+    body: &mut Body<'_>,
+    desk: &mut Desk,
+    places: &[Place],
+    following: Following,
+    sends: &mut Sends,
+) -> AskedAll
+    requires nothing { sends.old.items ≡ [] }
+    requires desk { IsDesk (layout_of body.old) desk.old }
+    requires apart { AreApart (all_waits desk.old places.now) }
+    requires idle { length desk.old.waits.waits ≡ 0 }
+    requires counts { AreCountsBelow (2 ^ 62) body.old.counts }
+    ensures turn { (n : model.Node) (p : Option ℕ) → lanes.ask_all (layout_of body.old)
+        (turns.each_block_once (layout_of body.old) (wants_by following))
+        (asked_by (stood n body.old desk.old places.now) [] p false)
+        ≡ asked_by (stood n body.new desk.new places.now) sends.new.items p result.again }
+    ensures awaits { awaits_of result.awaits
+        ≡ lanes.still (wait_among (all_waits desk.new places.now))
+        (lanes.blocks_of (layout_of body.old)
+        (turns.each_block_once (layout_of body.old) (wants_by following))) }
+    ensures begun { AreUnmet (local_of body.old.local) (wants_by following)
+        → HasBegun following (length (awaits_of result.awaits)) }
+    ensures own { (b : ℕ) → is_some (wait_of desk.new.waits b) ≡ true
+        → (result.awaits.first ≡ Some b → ⊥) → (result.awaits.other ≡ Some b → ⊥) → ⊥ }
+    ensures more { (b : ℕ) → is_some (wait_among (all_waits desk.old places.now) b) ≡ true
+        → is_some (wait_among (all_waits desk.new places.now) b) ≡ true }
+    ensures quiet { wants_by following ≡ [] → sends.new.items ≡ [] }
+    ensures apart { AreApart (all_waits desk.new places.now) }
+    ensures desk { IsDesk (layout_of body.old) desk.new }
+    ensures directory { desk.new.directory ≡ desk.old.directory }
+    ensures lane { body.new.lane ≡ body.old.lane }
+    ensures ground { ground_of body.new.local ≡ ground_of body.old.local }
+    ensures counts { (most : ℕ) → AreCountsBelow most body.old.counts
+        → AreCountsBelow (most + 2) body.new.counts }
+{
+    match following {
+        Following::Waits(_, wants) => ask_wants(body, desk, places, wants, sends),
+        Following::GoesOn | Following::Leaves(_) => AskedAll {
+            awaits: NO_BLOCK,
+            again: false,
+        },
+    }
+}

@@ -1,0 +1,102 @@
+//! Where a word stores: there the reservations of its node's other lanes end.
+
+ghost use Rattle.std.specs.Prelude.{◌≡◌, ℕ, List, Some, None};
+ghost use Rattle.llsc.specs.Reservation.{holds};
+ghost use Rattle.jump_map.specs.Maps.{fetch};
+ghost use Rattle.jump_map.specs.Image.{Cell};
+ghost use Rattle.rv32_program.specs.Program.{Program};
+ghost use Rattle.node_model.specs.Node as model;
+ghost use Rattle.node_words.specs.Address.{word_address};
+ghost use Rattle.node_words.specs.Kept.{lane_of};
+ghost use Rattle.lane_desk.specs.Words.{stored_by};
+
+use jump_map::ImageWord;
+use node_words::{Lane, address_of};
+use runtime_words::RtWord;
+use rv32_decode::Width;
+use rv32_step::{Demand, demand_of};
+
+/// The address at which the word with an index stores, where it does.
+pub fn stored_at(
+    fetched: Option<ImageWord>,
+    lane: &Lane,
+    reserved: Option<u32>,
+    at: u32,
+) -> Option<u32>
+    ensures { (program : Program) (image : List Cell) (n : model.Local)
+        → fetch image (word_address at) ≡ fetched → n.reservation ≡ reserved
+        → result ≡ stored_by
+        (model.next_outcome program image (lane_of lane.now (word_address at)) n).access }
+{
+    match fetched {
+        None => None,
+        Some(word) => match word.what {
+            None => None,
+            Some(what) => stored_in(what, lane, reserved, at),
+        },
+    }
+}
+
+/// The address at which a word of rewritten code stores, where it does.
+fn stored_in(what: RtWord, lane: &Lane, reserved: Option<u32>, at: u32) -> Option<u32>
+    ensures { (program : Program) (place : ℕ) (n : model.Local) → n.reservation ≡ reserved
+        → let l = lane_of lane.now (word_address at) in
+        result ≡ stored_by (model.execute program place (word_address at) what l n).access }
+{
+    match what {
+        RtWord::Native(i) => { stored_on(demand_of(i, &lane.registers, address_of(at)), reserved) }
+        _ => None,
+    }
+}
+
+/// The address at which what a native instruction demands stores.
+fn stored_on(demand: Demand, reserved: Option<u32>) -> Option<u32>
+    ensures { (program : Program) (place at : ℕ) (l : model.Lane) (n : model.Local)
+        → n.reservation ≡ reserved
+        → result ≡ stored_by (model.native program place at l n demand).access }
+{
+    match demand {
+        Demand::Stores(width, address, _) => {
+            if width.is_aligned(address) && address < MEMORY {
+                Some(address)
+            } else {
+                None
+            }
+        }
+        Demand::StoresIf(_, address, _) => {
+            if Width::Word.is_aligned(address) && is_held(reserved, address) {
+                Some(address)
+            } else {
+                None
+            }
+        }
+        Demand::Updates(_, _, address, _) => {
+            if Width::Word.is_aligned(address) {
+                Some(address)
+            } else {
+                None
+            }
+        }
+        Demand::Sets(..)
+        | Demand::Continues
+        | Demand::Jumps(..)
+        | Demand::Branches(_)
+        | Demand::Loads(..)
+        | Demand::Calls
+        | Demand::Traps(_)
+        | Demand::Reserves(..) => None,
+    }
+}
+
+/// Whether an address is the reserved one.
+fn is_held(reserved: Option<u32>, address: u32) -> bool
+    ensures { result ≡ holds reserved address }
+{
+    match reserved {
+        Some(held) => held == address,
+        None => false,
+    }
+}
+
+/// Addresses of memory are below this.
+const MEMORY: u32 = 0x8000_0000;

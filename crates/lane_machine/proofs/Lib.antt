@@ -1,0 +1,13 @@
+pub mod WaitPlaces
+pub mod RowFrames
+pub mod PlaceLemmas
+pub mod TreatLemmas
+pub mod ReceiveLemmas
+pub mod WordLemmas
+pub mod ExecLemmas
+pub mod TakeLemmas
+pub mod HoldLemmas
+pub mod ClearLemmas
+pub mod FirstPlaces
+pub mod LanesLemmas
+pub mod StandingLemmas

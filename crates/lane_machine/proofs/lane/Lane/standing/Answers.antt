@@ -1,0 +1,52 @@
+-- By the lane's own part.
+use Rattle.std.proofs.Common.{ap, sym, ◌∙◌, cond}
+use Rattle.std.specs.Prelude.{option_and_then}
+use Rattle.jump_map.specs.Maps.{fetch}
+use Rattle.jump_map.specs.declared.image.ImageWord.{ImageWord}
+use Rattle.node_model.specs.declared.Standing.TheVariants as standing
+use Rattle.node_model.specs.Node.{takes_messages}
+use Rattle.node_machine.specs.Frame.{phase_of}
+use Rattle.lane_model.specs.Core.{standing_in}
+use Rattle.lane_machine.specs.declared.frame.LaneFrame.{LaneFrame}
+use Rattle.lane_machine.specs.Stored.{part_of}
+use Rattle.lane_machine.proofs.StandingLemmas.{stands_by}
+use Rattle.lane_machine.proofs.lane.Lane.standing.Goals as goal
+
+pub returns-in-Running : goal.returns-in-Running
+returns-in-Running c = record {
+  value = λ w x k image is.
+      let p = part_of c.self.inside.frame in
+      let here = is ∙ ap part_of (sym c.self.view_is) in
+      let found = c.fetch.ensures.value ∙ (λ t. fetch (sym (image ∙ ap (λ (l : LaneFrame). l.image.now) (sym c.self.view_is)) t) (c.address_of.ensures t)) in
+      c.standing_at.ensures
+      ∙ ap (λ o. cond (takes_messages (option_and_then (λ (v : ImageWord). v.what) o)) standing.AtPoll standing.Running) found
+      ∙ sym (stands_by w x k p here
+      ∙ ap (standing_in w (record { lanes = λ j. p; shared = x.shared }) k) (ap phase_of c.in-Running.is));
+}
+
+pub returns-in-Resumed : goal.returns-in-Resumed
+returns-in-Resumed c = record {
+  value = λ w x k image is.
+      let p = part_of c.self.inside.frame in
+      let here = is ∙ ap part_of (sym c.self.view_is) in
+      sym (stands_by w x k p here
+      ∙ ap (standing_in w (record { lanes = λ j. p; shared = x.shared }) k) (ap phase_of c.in-Resumed.is));
+}
+
+pub returns-in-Waiting : goal.returns-in-Waiting
+returns-in-Waiting c = record {
+  value = λ w x k image is.
+      let p = part_of c.self.inside.frame in
+      let here = is ∙ ap part_of (sym c.self.view_is) in
+      sym (stands_by w x k p here
+      ∙ ap (standing_in w (record { lanes = λ j. p; shared = x.shared }) k) (ap phase_of c.in-Waiting.is));
+}
+
+pub returns-in-Ended : goal.returns-in-Ended
+returns-in-Ended c = record {
+  value = λ w x k image is.
+      let p = part_of c.self.inside.frame in
+      let here = is ∙ ap part_of (sym c.self.view_is) in
+      sym (stands_by w x k p here
+      ∙ ap (standing_in w (record { lanes = λ j. p; shared = x.shared }) k) (ap phase_of c.in-Ended.is));
+}

@@ -1,0 +1,52 @@
+-- By how many lanes have ended, and the Byes taken.
+use Rattle.std.proofs.Common.{◌≡◌, ◌≢◌, ℕ, ◌&&◌, ◌∙◌, true, false, ap, sym, eqb, length, arith}
+use Rattle.std.proofs.lemmas.Bool.Decides.{nat_tests}
+use Rattle.block_layout.specs.Layout.{Shape}
+use Rattle.home_directory.specs.Effects.{members}
+use Rattle.home_directory.specs.Home.{count_of}
+use Rattle.node_machine.specs.Frame.{layout_of}
+use Rattle.lane_machine.specs.declared.frame.SharedFrame.{SharedFrame}
+use Rattle.lane_machine.specs.Stored.{shared_of}
+use Rattle.lane_machine.specs.Words.{is_over}
+use Rattle.lane_machine.proofs.StandingLemmas.{over_is, over_by}
+use Rattle.lane_machine.proofs.shared.Shared.over.Goals as goal
+
+same_test : (x y : ℕ) → x ≡ y → eqb x y ≡ true
+same_test x y e = grind (arith, nat_tests)
+
+apart_test : (x y : ℕ) → x ≢ y → eqb x y ≡ false
+apart_test x y e = grind (arith, nat_tests)
+
+pub returns-then-self-len : goal.returns-then-self-len
+returns-then-self-len c = record {
+  value = λ w x layout lanes shared ended.
+      let f = c.self.inside.frame in
+      let view = c.self.view_is in
+      let nodes = (layout_of f.body.value).nodes in
+      let over = over_is w x f (layout ∙ ap (λ (g : SharedFrame). layout_of g.body.value) (sym view))
+      (lanes ∙ ap (λ (g : SharedFrame). length g.places.items) (sym view)) (shared ∙ ap shared_of (sym view))
+      (ap (λ (g : SharedFrame). g.ended) view ∙ ended) in
+      let count = c.len.ensures ∙ f.places.ok.0 in
+      let some : eqb f.ended (length f.places.items) ≡ false =
+      ap (eqb f.ended) (sym count) ∙ apart_test f.ended c.len.result c.if-self-len.true in
+      sym (over ∙ ap (λ t. t && eqb (count_of (members f.byes) nodes) nodes) some);
+}
+
+pub returns : goal.returns
+returns c = record {
+  value = λ w x layout lanes shared ended.
+      let f = c.self.inside.frame in
+      let view = c.self.view_is in
+      let nodes = (layout_of f.body.value).nodes in
+      let over = over_is w x f (layout ∙ ap (λ (g : SharedFrame). layout_of g.body.value) (sym view))
+      (lanes ∙ ap (λ (g : SharedFrame). length g.places.items) (sym view)) (shared ∙ ap shared_of (sym view))
+      (ap (λ (g : SharedFrame). g.ended) view ∙ ended) in
+      let count = c.len.ensures ∙ f.places.ok.0 in
+      let all : eqb f.ended (length f.places.items) ≡ true =
+      ap (eqb f.ended) (sym count) ∙ same_test f.ended c.len.result c.if-self-len.false in
+      let many : c.nodes.result ≡ nodes = c.nodes.ensures.nodes ∙ ap (λ (s : Shape). s.nodes) c.self.invariant.layout in
+      c.is_over.ensures ∙ ap is_over c.ended_standing.ensures
+      ∙ over_by (eqb (count_of (members f.byes) c.nodes.result) c.nodes.result)
+      ∙ (λ t. eqb (count_of (members f.byes) (many t)) (many t))
+      ∙ sym (over ∙ ap (λ t. t && eqb (count_of (members f.byes) nodes) nodes) all);
+}

@@ -1,0 +1,22 @@
+-- Helps the code alone: what a node keeps for each of its lanes.
+use Rattle.std.specs.Prelude.{ℕ, Bool, false, ◌==◌, List, map, slice_index_or, Option, None}
+use Rattle.std.specs.Option.{option_map_or}
+use Rattle.buf_pool.specs.Pool.{Slots}
+use Rattle.home_directory.specs.declared.wait.Wait.{Wait}
+use Rattle.miss_handlers.specs.Waits.{wait_of}
+use Rattle.lane_desk.specs.declared.place.Place.{Place}
+
+-- the address that a lane has reserved
+abbrev pub reserved_in : List Place → (k : ℕ) → Option ℕ
+reserved_in places k = slice_index_or (map (λ p. p.reservation) places) k None
+
+-- the wait that the node has for lane k, by block
+abbrev pub wait_at : List Place → (k : ℕ) → ℕ → Option Wait
+wait_at places k = slice_index_or (map (λ p. wait_of p.waits) places) k (λ b. None)
+
+abbrev pub pools_in : List Place → List Slots
+pools_in places = map (λ p. p.pool) places
+
+-- lane k is the one that is spared
+abbrev pub is_spared : Option ℕ → (k : ℕ) → Bool
+is_spared spared k = option_map_or (λ j. k == j) spared false

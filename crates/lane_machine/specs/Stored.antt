@@ -1,0 +1,226 @@
+-- Helps the code alone: what lanes, and the node that they share, store, and what it stands for.
+use Rattle.std.specs.Prelude.{◌≡◌, ◌⊎◌, ℕ, ◌+◌, ◌*◌, ◌<◌, ◌≤◌, Bool, true, false, List, [], ◌∷◌, length, slice_index_or, Option, Some, is_some}
+use Rattle.std.specs.Vec.{vec_capacity}
+use Rattle.buf_pool.specs.Pool.{Slots}
+use Rattle.block_layout.specs.Layout.{Shape}
+use Rattle.block_layout.specs.Update.{changed}
+use Rattle.run_limits.specs.Ranges.{IsBudget}
+use Rattle.exec_map.specs.Contents.{program_of}
+use Rattle.home_directory.specs.declared.messages.Post.{Post}
+use Rattle.home_directory.specs.declared.wait.Wait.{Wait}
+use Rattle.home_directory.specs.Effects.{entry_at, entries_of, members}
+use Rattle.home_directory.specs.Home.{count_of}
+use Rattle.miss_handlers.specs.Waits.{NodeWaits}
+use Rattle.jump_map.specs.Image.{Cell, most_words}
+use Rattle.node_words.specs.declared.body.Body.{Body}
+use Rattle.node_words.specs.declared.lane.Lane as kept
+use Rattle.node_words.specs.declared.serve.Served.{Served}
+use Rattle.node_words.specs.Address.{word_address}
+use Rattle.node_words.specs.Kept.{lane_of, local_of, phase_by}
+use Rattle.node_model.specs.Node.{Node, Work, can_execute, printed_also, word_outcome}
+use Rattle.node_model.specs.Turns.{after_word, each_block_once, wants_of, words_before}
+use Rattle.node_machine.specs.declared.desk.Desk.{Desk}
+use Rattle.node_machine.specs.Frame.{with_parts, phase_of, layout_of, entries_in, IsDesk, AreCountsBelow, WaitsInPhase}
+use Rattle.lane_model.specs.Nodes.{LaneWork, LanePart, Shared, LaneNode}
+use Rattle.lane_model.specs.Turns.{Asked, LaneTurn, ask_all, held_by, has_ended, resumed}
+use Rattle.lane_desk.specs.declared.place.Place.{Place}
+use Rattle.lane_machine.specs.declared.frame.LaneFrame.{LaneFrame}
+use Rattle.lane_machine.specs.declared.frame.SharedFrame.{SharedFrame}
+use Rattle.lane_desk.specs.Waits.{wait_among, place_among, waits_in, awaits_of, AreApart}
+use Rattle.lane_machine.specs.Places.{pools_in, reserved_in, wait_at}
+
+-- 1. A node at rest
+
+-- the node as lane k sees it: its reservation, and the waits of all its lanes
+abbrev pub seen : Node → (k : ℕ) → Body → Desk → List Place → Node
+seen n k b d places = record (with_parts n b d) {
+  local = record (local_of b.local) { reservation = reserved_in places k };
+  wait = wait_among (waits_in places);
+}
+
+abbrev pub seen_with : Node → (k : ℕ) → Body → Desk → List Place → List Bool → Node
+seen_with n k b d places byes = record (seen n k b d places) { byes = members byes }
+
+-- with the lane at a word
+abbrev pub seen_at : Node → (k : ℕ) → kept.Lane → (at : ℕ) → Body → Desk → List Place → Node
+seen_at n k l at b d places =
+    record (seen n k b d places) { lane = lane_of l (word_address at) }
+
+-- a lane's waits, with its buffers, are as a node's of one lane
+pub record IsKept (layout : Shape) (w : NodeWaits) (q : Slots) : Type 0 where
+  pub waits : w.layout ≡ layout
+  pub slots : q.slots ≡ 2
+  pub bytes : q.bytes ≡ 4096
+  pub buffers : q.free + length w.waits ≡ 2
+
+abbrev pub AreKept : Shape → List NodeWaits → List Slots → Type 0
+AreKept layout [] qs = Unit {0}
+AreKept layout (w ∷ ws) [] = ⊥
+AreKept layout (w ∷ ws) (q ∷ qs) = IsKept layout w q × AreKept layout ws qs
+
+-- no place is in use
+pub record IsAtRest (layout : Shape) (d : Desk) (places : List Place) : Type 0 where
+  pub desk : IsDesk layout d
+  pub empty : length d.waits.waits ≡ 0
+  pub kept : AreKept layout (waits_in places) (pools_in places)
+  pub apart : AreApart (waits_in places)
+
+abbrev pub work_in : Body → List Cell → (budget : ℕ) → Work
+work_in b image budget = record {
+  program = program_of b.local.program;
+  image = image;
+  layout = layout_of b;
+  budget = budget;
+}
+
+-- what a node's next word wants, and what came of it
+abbrev pub word_asks : Work → Node → Asked
+word_asks work n =
+    ask_all work.layout (each_block_once work.layout (wants_of (word_outcome work n).move))
+    (record { turn = after_word work n; again = false })
+
+-- the node then: its lane has executed a word more
+abbrev pub served : Node → (budget : ℕ) → Served → Node
+served n budget done = record n {
+  executed = n.executed + 1;
+  phase = phase_by budget (n.executed + 1) done.following;
+  stamp = n.stamp + 1;
+  output = printed_also n.output (n.stamp + 1) done.output;
+}
+
+-- 2. What a lane, and what the lanes share, stand for
+
+abbrev pub part_of : LaneFrame → LanePart
+part_of l = record {
+  lane = lane_of l.lane (word_address l.at);
+  executed = l.executed;
+  phase = phase_of l.phase;
+  awaits = awaits_of l.awaits;
+  again = l.again;
+}
+
+abbrev pub shared_of : SharedFrame → Shared
+shared_of f = record {
+  me = f.desk.directory.me;
+  copy = (local_of f.body.value.local).copy;
+  state = (local_of f.body.value.local).state;
+  reservation = reserved_in f.places.items;
+  entry = entries_in f.desk.directory.layout f.desk.directory.me
+      (entry_at f.desk.directory.entries);
+  waiting = (entries_of f.desk.directory).waiting;
+  occupancy = (entries_of f.desk.directory).occupancy;
+  wait = wait_among (waits_in f.places.items);
+  holder = held_by (wait_among (waits_in f.places.items)) (place_among (waits_in f.places.items));
+  byes = members f.byes;
+  stamp = f.stamp;
+  journal = f.journal.items;
+  output = f.output.items;
+  counts = f.body.value.counts;
+}
+
+-- what they run
+abbrev pub work_of : LaneFrame → SharedFrame → LaneWork
+work_of l f = record {
+  work = work_in f.body.value l.image.now l.budget;
+  lanes = length f.places.items;
+}
+
+-- how many of a node's lanes have ended
+abbrev pub ended_in : LaneNode → (lanes : ℕ) → ℕ
+ended_in x lanes = count_of (has_ended x) lanes
+
+-- the lane, and what it shares, are those of a node
+pub record HasLane (l : LaneFrame) (f : SharedFrame) (x : LaneNode) : Type 0 where
+  pub lane : x.lanes l.number ≡ part_of l
+  pub shared : x.shared ≡ shared_of f
+  pub ended : f.ended ≡ ended_in x (length f.places.items)
+
+-- the node where this lane, and what it shares, are others
+abbrev pub with_lane : LaneNode → LaneFrame → SharedFrame → LaneNode
+with_lane x l f =
+    record { lanes = changed x.lanes l.number (part_of l); shared = shared_of f }
+
+abbrev pub lane_turn : LaneNode → List Post → Option ℕ → LaneTurn
+lane_turn x posts p = record { node = x; sends = posts; printed = p }
+
+-- what is true of every lane
+pub record IsLane (l : LaneFrame) : Type 0 where
+  pub within : l.executed ≤ l.budget
+  pub going : can_execute (phase_of l.phase) ≡ true → l.executed < l.budget
+  pub range : IsBudget l.budget
+  pub short : length l.image.now ≤ most_words
+  pub awaits : WaitsInPhase (phase_of l.phase) (length (awaits_of l.awaits))
+
+-- what is true of what lanes share
+pub record IsShared (f : SharedFrame) : Type 0 where
+  pub rest : IsAtRest (layout_of f.body.value) f.desk f.places.items
+  pub layout : f.layout ≡ layout_of f.body.value
+  pub some : 0 < length f.places.items
+  pub few : length f.places.items ≤ 4
+  pub noted : f.noted ≡ words_before f.journal.items
+  pub counts : AreCountsBelow (32 * f.stamp) f.body.value.counts
+
+-- there is room for one entry of the journal and one byte of output
+pub record HasRoom (f : SharedFrame) : Type 0 where
+  pub journal : length f.journal.items < vec_capacity f.journal
+  pub output : length f.output.items < vec_capacity f.output
+
+-- the lane waits for this block
+abbrev pub IsAwaited : LaneFrame → (b : ℕ) → Type 0
+IsAwaited l b = (l.awaits.first ≡ Some b) ⊎ (l.awaits.other ≡ Some b)
+
+-- the node waits on behalf of a lane for blocks that the lane waits for
+abbrev pub WaitsFor : LaneFrame → SharedFrame → Type 0
+WaitsFor l f =
+    (b : ℕ) → is_some (wait_at f.places.items l.number b) ≡ true → IsAwaited l b
+
+-- the node has a wait for each block that the lane waits for
+abbrev pub IsHeld : LaneFrame → SharedFrame → Type 0
+IsHeld l f =
+    (b : ℕ) → IsAwaited l b → is_some (wait_among (waits_in f.places.items) b) ≡ true
+
+-- what an event doesn't change of a lane that executes no word
+pub record IsSameLane (l m : LaneFrame) : Type 0 where
+  pub image : m.image.now ≡ l.image.now
+  pub budget : m.budget ≡ l.budget
+  pub number : m.number ≡ l.number
+
+abbrev pub AllWaitFor : List LaneFrame → SharedFrame → Type 0
+AllWaitFor ls f = (k : ℕ) (d : LaneFrame) → k < length ls → WaitsFor (slice_index_or ls k d) f
+
+abbrev pub AllHeld : List LaneFrame → SharedFrame → Type 0
+AllHeld ls f = (k : ℕ) (d : LaneFrame) → k < length ls → IsHeld (slice_index_or ls k d) f
+
+-- lane k of the nodes that run this
+pub record IsLaneOf (w : LaneWork) (k : ℕ) (l : LaneFrame) : Type 0 where
+  pub image : l.image.now ≡ w.work.image
+  pub budget : l.budget ≡ w.work.budget
+  pub number : l.number ≡ k
+
+-- the lanes of a node, in order
+pub record AreLanes (w : LaneWork) (ls : List LaneFrame) (f : SharedFrame) : Type 0 where
+  pub count : length ls ≡ w.lanes
+  pub places : length f.places.items ≡ w.lanes
+  pub program : program_of f.body.value.local.program ≡ w.work.program
+  pub layout : layout_of f.body.value ≡ w.work.layout
+  pub each : (k : ℕ) (d : LaneFrame) → k < length ls → IsLaneOf w k (slice_index_or ls k d)
+
+abbrev pub HaveParts : List LaneFrame → LaneNode → Type 0
+HaveParts ls x =
+    (k : ℕ) (d : LaneFrame) → k < length ls → x.lanes k ≡ part_of (slice_index_or ls k d)
+
+-- the lanes, and what they share, are those of a node
+pub record HaveLanes (ls : List LaneFrame) (f : SharedFrame) (x : LaneNode) : Type 0 where
+  pub lanes : HaveParts ls x
+  pub shared : x.shared ≡ shared_of f
+  pub ended : f.ended ≡ ended_in x (length f.places.items)
+
+-- a lane has gone on where it waits for no block any more, by its node's waits and states
+pub record HasGoneOn (state : ℕ → ℕ) (wait : ℕ → Option Wait) (l m : LaneFrame) : Type 0 where
+  pub part : (work : Work) (n : Node) → work.budget ≡ l.budget → n.wait ≡ wait
+      → n.local.state ≡ state → part_of m ≡ resumed work n (part_of l)
+  pub same : IsSameLane l m
+  pub stays : ((b : ℕ) → IsAwaited l b → is_some (wait b) ≡ true)
+      → phase_of m.phase ≡ phase_of l.phase
+  pub held : (b : ℕ) → IsAwaited m b → is_some (wait b) ≡ true
+  pub kept : (b : ℕ) → is_some (wait b) ≡ true → IsAwaited l b → IsAwaited m b

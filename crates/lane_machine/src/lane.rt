@@ -1,0 +1,183 @@
+//! A processor of a node of several.
+
+ghost use Rattle.std.specs.Prelude.{◌≡◌, ◌≢◌, ◌+◌, ◌^◌, ◌<◌, ◌≤◌, ℕ, None, true, IfOk};
+ghost use Rattle.std.specs.Prelude.{is_some, length};
+ghost use Rattle.exec_map.specs.Contents.{program_of};
+ghost use Rattle.node_model.specs.Node as model;
+ghost use Rattle.node_model.specs.Turns as turns;
+ghost use Rattle.node_words.specs.Kept.{local_of};
+ghost use Rattle.node_machine.specs.Frame.{AreCountsBelow};
+ghost use Rattle.lane_model.specs.Nodes as lanes;
+ghost use Rattle.lane_model.specs.Turns as moves;
+ghost use Rattle.lane_model.specs.Core as core;
+ghost use Rattle.lane_desk.specs.Waits.{wait_among, waits_in};
+ghost use Rattle.lane_machine.specs.Places.{wait_at};
+ghost use Rattle.lane_machine.specs.Stored.{HasLane, HasRoom, HasGoneOn, IsHeld};
+ghost use Rattle.lane_machine.specs.Stored.{WaitsFor, part_of, work_of, with_lane};
+
+use crate::frame::LaneFrame;
+use crate::shared::Shared;
+use byte_range::Window;
+use exec_map::{End, Program};
+use home_directory::Sends;
+use jump_map::Image;
+use lane_desk::{NO_BLOCK, Place};
+use node_machine::{Phase, Standing, Turn, is_ended, standing_at};
+use node_words::{Body, address_of, index_of};
+use run_limits::Budget;
+use rv32_step::Registers;
+use std::alloc::{AllocError, Global};
+use std::marker::Model;
+
+/// A processor that runs rewritten code of a program, on a node which it shares with others.
+#[derive(Drop)]
+pub struct Lane<'a> {
+    pub(crate) frame: LaneFrame<'a>,
+}
+
+impl<'a> Model for Lane<'a> {
+    ghost use Rattle.lane_machine.specs.declared.frame.LaneFrame.{LaneFrame as Stored};
+    ghost use Rattle.lane_machine.specs.Stored.{IsLane};
+
+    ghost Value = { Stored };
+
+    ghost view = { λ l. l.frame };
+
+    ghost invariant = { λ l. IsLane l.frame };
+}
+
+impl<'a> Lane<'a> {
+    /// Processor p of so many at the start: lane number `lane` of its node. It executes at most
+    /// `budget` words.
+    pub fn new(
+        alloc: Global,
+        image: &'a Image,
+        program: &'a Program<'a>,
+        lane: u8,
+        p: u8,
+        processors: u8,
+        budget: Budget,
+    ) -> Result<Lane<'a>, AllocError>
+        ensures opening { IfOk result (λ l. (w : lanes.LaneWork)
+            → w.work.program ≡ program_of program.now → w.work.image ≡ image.now
+            → lanes.processors w ≡ processors → part_of l ≡ lanes.first_part w p) }
+        ensures image { IfOk result (λ l. l.image.now ≡ image.now) }
+        ensures budget { IfOk result (λ l. l.budget ≡ budget) }
+        ensures number { IfOk result (λ l. l.number ≡ lane) }
+    {
+        // brings: the image's words have 32 bits, and are few enough
+        let _ = image.len();
+        // brings: the budget is in its range
+        let _ = budget.number();
+        Ok(Lane {
+            frame: LaneFrame {
+                image,
+                budget,
+                number: lane,
+                lane: node_words::Lane {
+                    registers: Registers::first(p, processors),
+                    private: Window::zeros(alloc)?,
+                    written: 0,
+                    off: 0,
+                    spills: [0; 3],
+                },
+                at: index_of(image.new_of(program.entry()).unwrap_or(0)),
+                executed: 0,
+                phase: Phase::Running,
+                awaits: NO_BLOCK,
+                again: false,
+            },
+        })
+    }
+
+    /// What the lane may do next. It is never over.
+    pub fn standing(&self) -> Standing
+        ensures value { (w : lanes.LaneWork) (x : lanes.LaneNode) (k : ℕ)
+            → w.work.image ≡ self.now.image.now → x.lanes k ≡ part_of self.now
+            → result ≡ core.standing_of w x k }
+    {
+        match self.frame.phase {
+            Phase::Running => standing_at(self.frame.image.fetch(address_of(self.frame.at))),
+            Phase::Resumed => Standing::Running,
+            Phase::Waiting(_) => Standing::Waiting,
+            Phase::Ended(_) => Standing::Ended,
+        }
+    }
+
+    /// How the lane ended; `None` exactly where it hasn't.
+    pub fn end(&self) -> Option<End>
+        ensures value { result ≡ model.end_of (part_of self.now).phase }
+    {
+        match self.frame.phase {
+            Phase::Ended(end) => Some(end),
+            _ => None,
+        }
+    }
+
+    /// How many words the lane has executed.
+    pub(crate) fn executed(&self) -> u64
+        ensures value { result ≡ (part_of self.now).executed }
+        ensures few { result ≤ 2 ^ 32 }
+    {
+        // brings: the budget is in its range
+        let _ = self.frame.budget.number();
+        self.frame.executed
+    }
+
+    /// Whether the lane has ended.
+    pub(crate) fn has_ended(&self) -> bool
+        ensures { result ≡ turns.is_ended (part_of self.now).phase }
+    {
+        is_ended(self.frame.phase)
+    }
+
+    /// Executes one word, and leaves what the node sends, in order.
+    pub fn exec(&mut self, shared: &mut Shared<'_>, sends: &mut Sends) -> Turn
+        requires number { self.old.number < length shared.old.places.items }
+        requires idle { (b : ℕ) → wait_at shared.old.places.items self.old.number b ≡ None }
+        requires may { model.can_execute (part_of self.old).phase ≡ true }
+        requires goes_on { shared.old.ended < length shared.old.places.items }
+        requires room { HasRoom shared.old }
+        requires stamp { shared.old.stamp < 2 ^ 56 }
+        ensures node { (x : lanes.LaneNode) → HasLane self.old shared.old x →
+            with_lane x self.new shared.new
+            ≡ (moves.word_turn (work_of self.old shared.old) x self.old.number).node }
+        ensures sends { (x : lanes.LaneNode) → HasLane self.old shared.old x →
+            sends.new.items
+            ≡ (moves.word_turn (work_of self.old shared.old) x self.old.number).sends }
+        ensures output { (x : lanes.LaneNode) → HasLane self.old shared.old x →
+            result.output
+            ≡ (moves.word_turn (work_of self.old shared.old) x self.old.number).printed }
+        ensures ended { (x : lanes.LaneNode) → HasLane self.old shared.old x →
+            HasLane self.new shared.new (with_lane x self.new shared.new) }
+        ensures waits { WaitsFor self.new shared.new }
+        ensures held { IsHeld self.new shared.new }
+        ensures more { (b : ℕ)
+            → is_some (wait_among (waits_in shared.old.places.items) b) ≡ true
+            → is_some (wait_among (waits_in shared.new.places.items) b) ≡ true }
+        ensures others { (k b : ℕ) → k ≢ self.old.number
+            → wait_at shared.new.places.items k b ≡ wait_at shared.old.places.items k b }
+        ensures stamp { result.stamp ≡ shared.new.stamp }
+        ensures stamps { shared.new.stamp ≡ shared.old.stamp + 1 }
+        ensures number { self.new.number ≡ self.old.number }
+        ensures work { work_of self.new shared.new ≡ work_of self.old shared.old }
+    {
+        self.frame.exec(&mut shared.frame, sends)
+    }
+
+    /// Goes on where it waits for no block any more, by what its word's lines allow now.
+    pub(crate) fn go_on(&mut self, body: &mut Body<'_>, places: &[Place])
+        requires counts { AreCountsBelow (2 ^ 63) body.old.counts }
+        ensures gone { HasGoneOn (local_of body.old.local).state
+            (wait_among (waits_in places.now)) self.old self.new }
+        ensures counts { (n : model.Node) → n.wait ≡ wait_among (waits_in places.now)
+            → n.local.state ≡ (local_of body.old.local).state
+            → body.new.counts ≡ model.counts_after
+            (moves.tally_on n.local (part_of self.old) (part_of self.old).phase
+            (moves.still n.wait (part_of self.old).awaits)) body.old.counts }
+        ensures lane { body.new.lane ≡ body.old.lane }
+        ensures local { body.new.local ≡ body.old.local }
+    {
+        self.frame.go_on(body, places);
+    }
+}
