@@ -74,6 +74,7 @@ pub(crate) fn layout_over(alloc: Global, program: &Program<'_>, nodes: u8) -> Re
     requires few { nodes ≤ 16 }
     ensures valid { IfOk result IsValid }
     ensures laid_over { IfOk result (λ layout. IsLaidOver (program_of program.now) layout) }
+    ensures nodes { IfOk result (λ layout. layout.nodes ≡ nodes) }
 {
     let ranges = program.shared_ranges(alloc)?;
     let layout = default_layout(alloc, &ranges, nodes)?;

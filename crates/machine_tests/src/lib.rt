@@ -8,6 +8,8 @@ mod files;
 #[cfg(test)]
 mod images;
 #[cfg(test)]
+mod lanes;
+#[cfg(test)]
 mod lossy;
 #[cfg(test)]
 mod machines;

@@ -17,7 +17,7 @@ use std::alloc::Global;
 use std::test::Fail;
 
 /// A processor other than 0 loads a shared word; each exits with code 0.
-const READS: &str = "lui x5, 0x20
+pub(crate) const READS: &str = "lui x5, 0x20
 beq x10, x0, end
 lw x6, 0(x5)
 end:

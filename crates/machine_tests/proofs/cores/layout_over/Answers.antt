@@ -25,4 +25,5 @@ returns c = record {
       (shared_as c.in_ok-layout.layout line
       ∙ ap (λ (s : Shape). is_in s.shared line) c.in_ok-layout.ensures.value
       ∙ c.in_ok-ranges.ensures.ranges.lines line);
+  nodes = ap (λ (s : Shape). s.nodes) c.in_ok-layout.ensures.value;
 }

@@ -1,0 +1,6 @@
+pub mod NodeLemmas
+pub mod CoreRuns
+pub mod CoreSteps
+pub mod Promised
+pub mod Ends
+pub mod Firsts

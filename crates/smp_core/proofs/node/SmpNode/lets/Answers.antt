@@ -1,0 +1,9 @@
+-- By the lane's standing.
+use Rattle.std.proofs.Common.{ap, ◌∙◌}
+use Rattle.node_model.specs.Core.{may_take}
+use Rattle.smp_core.proofs.node.SmpNode.lets.Goals as goal
+
+pub returns : goal.returns
+returns c = record {
+  value = λ w i is. c.may_take.ensures ∙ ap may_take (c.standing.ensures.value w i is);
+}

@@ -1,0 +1,2 @@
+pub mod CoreParts
+pub mod CoreSteps

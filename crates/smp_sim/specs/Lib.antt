@@ -1,0 +1,3 @@
+pub mod ByOrder
+pub mod Listing
+pub mod Turns

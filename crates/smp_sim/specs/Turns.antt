@@ -1,0 +1,23 @@
+-- Helps the code alone: the turns of an order, one after another.
+use Rattle.std.specs.Prelude.{◌≡◌, ℕ, List, [], ◌∷◌, Some, length}
+use Rattle.workload.specs.Orders.{following, after_turns}
+use Rattle.lane_model.specs.Nodes.{LaneWork}
+use Rattle.lane_model.specs.Core.{LaneCore, LaneEvent, event_step, opening_core}
+use Rattle.smp_core.specs.CoreParts.{CoreParts, IsRunTo, work_of}
+use Rattle.smp_sim.specs.ByOrder.{choices, pick_among}
+
+-- the order's next numbers pick these events
+abbrev pub ArePicked : LaneWork → ℕ → LaneCore → List LaneEvent → Type 0
+ArePicked w number c [] = Unit {0}
+ArePicked w number c (e ∷ es) =
+    (pick_among (choices w c) (following number) ≡ Some e)
+    × ArePicked w (following number) (event_step w c e) es
+
+-- so many events that an order picks lead from the start to a core, and the order has come to this
+-- number meanwhile
+pub record LeadsTo (first turns last : ℕ) (p : CoreParts) : Type 0 where
+  pub events : List LaneEvent
+  pub many : length events ≡ turns
+  pub picked : ArePicked (work_of p) first (opening_core (work_of p)) events
+  pub numbers : last ≡ after_turns (length events) first
+  pub run : IsRunTo events p

@@ -1,0 +1,67 @@
+//! A core of nodes of several processors whose events follow an order.
+
+ghost use Rattle.std.specs.Prelude.{◌≡◌, ◌≤◌, ◌*◌, List, Some, map, length, IfOk};
+ghost use Rattle.templates.specs.declared.plans.PlanEntry.{PlanEntry};
+ghost use Rattle.workload.specs.Orders.{following};
+ghost use Rattle.rewriting_law.specs.Bounds.{RunsRewritten};
+ghost use Rattle.dsm_core.specs.CoreParts.{work_in, outcome_of};
+ghost use Rattle.lane_model.specs.Core.{LaneEvent};
+ghost use Rattle.lane_law.specs.Law.{Interleaves, RunsOnLanes};
+ghost use Rattle.smp_core.specs.CoreParts.{event_of, work_with};
+ghost use Rattle.smp_sim.specs.ByOrder.{IsLaneOutcomeByOrder, IsLaneRunByOrder, pick_among};
+
+use crate::listing::{MOST_EVENTS, list_events};
+use lane_law::lane_law;
+use smp_core::{Outcome, SmpCore, SmpEvent, Work};
+use std::alloc::{AllocError, Global};
+use workload::{Order, order_of};
+
+/// Runs the nodes of a layout, each of so many processors, to their ends, on one thread: at each
+/// turn the order of a number picks one of the events that are allowed, which are listed with the
+/// words of all processors first, and then the takes of each node by sender.
+pub fn smp_simulate(
+    alloc: Global,
+    work: &Work<'_>,
+    lanes: u8,
+    order: u32,
+) -> Result<Outcome, AllocError>
+    requires rewritten { RunsRewritten (work_in work.now) }
+    requires some { 1 ≤ lanes }
+    requires four { lanes ≤ 4 }
+    requires few { (work_in work.now).layout.nodes * lanes ≤ 16 }
+    ensures outcome { IfOk result (λ o. IsLaneOutcomeByOrder (work_with (work_in work.now) lanes)
+        order (outcome_of o)) }
+    // The run that the order makes is, by its picks, an interleaved run of as many original
+    // processors on one memory.
+    ensures interleaves { (plan : List PlanEntry) (events : List LaneEvent)
+        → RunsOnLanes (work_with (work_in work.now) lanes) plan
+        → IsLaneRunByOrder (work_with (work_in work.now) lanes) order events
+        → Interleaves (work_with (work_in work.now) lanes) plan events }
+{
+    lane_law();
+    let mut core = SmpCore::new(alloc, work, lanes)?;
+    let mut order = order_of(order);
+    let mut events = Vec::with_capacity(alloc, MOST_EVENTS)?;
+    for _turn in 0..u64::MAX {
+        list_events(&core, &mut events);
+        if events.is_empty() {
+            core.promises();
+            return core.outcome(alloc);
+        }
+        core.step(pick(&events, &mut order))?;
+    }
+    core.promises();
+    unreachable!()
+}
+
+/// The event that the order picks next among those that are listed.
+fn pick(events: &[SmpEvent], order: &mut Order) -> SmpEvent
+    requires some { 1 ≤ length events.now }
+    requires few { length events.now ≤ 65536 }
+    ensures picked { pick_among (map event_of events.now) (following order.old)
+        ≡ Some (event_of result) }
+    ensures goes_on { order.new ≡ following order.old }
+{
+    let place = order.next(events.len() as u32);
+    events[place as usize]
+}
