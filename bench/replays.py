@@ -4,13 +4,16 @@
     ./replays.py PROGRAM [RUNS]
 
 PROGRAM is the built program (crates/shasta/out/shasta). Each program of examples/ that several
-processors work on is run so many times (10) on 2, 4 and 16 nodes, four runs at once, so that threads
-wait for processors too; then `replay` takes the record of each run, and must print its text, with its
-status. It says what differs, and how many runs there were."""
+processors work on, and each of threads/ up to 3,000,000 words of a node, is run so many times (10) on
+2, 4 and 16 nodes, four runs at once, so that threads wait for processors too; then `replay` takes the
+record of each run, and must print its text, with its status. It says what differs, and how many runs
+there were."""
 import concurrent.futures, pathlib, subprocess, sys, tempfile
 
-examples = pathlib.Path(__file__).resolve().parent.parent / "examples"
+bench = pathlib.Path(__file__).resolve().parent
 NAMES = ("counter", "lock", "queue", "tally", "sum", "sieve", "matrix", "checksum", "exits")
+PROGRAMS = [(bench.parent / f"examples/{name}.elf", []) for name in NAMES]
+PROGRAMS += [(file, ["--budget", "3000000"]) for file in sorted((bench / "threads").glob("*.elf"))]
 
 
 def said(*words):
@@ -19,22 +22,24 @@ def said(*words):
     return call.stdout + call.stderr, call.returncode
 
 
-def is_repeated(name, nodes, record):
+def is_repeated(file, options, nodes, record):
     """Whether the replay of a run gives what the run gave."""
-    file = str(examples / f"{name}.elf")
-    ran = said("run", file, "--nodes", str(nodes), "--record", record)
-    return ran[1] in (0, 1) and said("replay", file, record) == ran
+    ran = said("run", file, "--nodes", str(nodes), "--record", record, *options)
+    same = ran[1] in (0, 1) and said("replay", file, record) == ran
+    pathlib.Path(record).unlink()
+    return same
 
 
 def main():
     rounds = int(sys.argv[2]) if len(sys.argv) > 2 else 10
     with tempfile.TemporaryDirectory() as folder, concurrent.futures.ThreadPoolExecutor(4) as pool:
-        runs = [(name, nodes, f"{folder}/{name}.{nodes}.{k}")
-                for name in NAMES for nodes in (2, 4, 16) for k in range(rounds)]
+        runs = [(file, options, nodes, f"{folder}/{k}.{nodes}.{number}")
+                for number, (file, options) in enumerate(PROGRAMS) for nodes in (2, 4, 16)
+                for k in range(rounds)]
         results = list(pool.map(lambda run: is_repeated(*run), runs))
     for run, is_same in zip(runs, results):
         if not is_same:
-            print(f"{run[0]} on {run[1]} nodes: its replay differs")
+            print(f"{run[0].name} on {run[2]} nodes: its replay differs")
     print(f"{len(runs)} runs, {results.count(False)} differ")
     return 1 if False in results else 0
 

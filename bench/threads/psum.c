@@ -2,7 +2,7 @@
    often, so that each does as much as one. */
 #include "common.h"
 
-enum { WORDS = 1 << 18, ROUNDS = 12 };
+enum { WORDS = 1 << 18, ROUNDS = 144 };
 
 static volatile unsigned array[WORDS] LINE;
 

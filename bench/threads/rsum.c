@@ -1,7 +1,7 @@
 /* Each processor sums all of an array of 1 MiB. */
 #include "common.h"
 
-enum { WORDS = 1 << 18, ROUNDS = 12 };
+enum { WORDS = 1 << 18, ROUNDS = 144 };
 
 static volatile unsigned array[WORDS] LINE;
 

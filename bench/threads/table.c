@@ -1,7 +1,7 @@
 /* Each processor looks numbers up in a table that all read. */
 #include "common.h"
 
-enum { WORDS = 1024, ROUNDS = 3000000 };
+enum { WORDS = 1024, ROUNDS = 15000000 };
 
 static volatile unsigned table[WORDS] LINE;
 
