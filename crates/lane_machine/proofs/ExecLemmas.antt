@@ -150,19 +150,19 @@ module _ (l l' : LaneFrame) (f f' : SharedFrame) (x : LaneNode) (h : HasLane l f
     (lane' : kept.Lane) (b' : Body) (d' : Desk) (ps' : List Place) (done : Served) (again : Bool) (posts : List Post)
     (stored : Option ℕ) where
   abbrev pub work : Work
-  work = work_in f.body.value l.image.now l.budget
+  work = work_in f.state.body.value l.state.image.now l.state.budget
 
   abbrev pub k : ℕ
   k = l.number
 
   abbrev pub before : Node
-  before = seen_at (stored_node l f) k l.lane l.at f.body.value f.desk f.places.items
+  before = seen_at (stored_node l f) k l.lane l.state.at f.state.body.value f.state.desk f.places.items
 
   before_is : as_node x k ≡ before
   before_is = λ t. as_of (h.lane t) (h.shared t) k
 
   abbrev pub after : Node
-  after = served (seen_at (stored_node l f) k lane' done.at b' d' ps') l.budget done
+  after = served (seen_at (stored_node l f) k lane' done.at b' d' ps') l.state.budget done
 
   pub turn_is : word_asks work before ≡ asked_by after posts done.output again
       → awaits_of l'.awaits ≡ still (wait_among (waits_in ps'))
@@ -172,17 +172,17 @@ module _ (l l' : LaneFrame) (f f' : SharedFrame) (x : LaneNode) (h : HasLane l f
       ≡ cond (is_some (wait_among (waits_in f.places.items) b)) (place_among (waits_in f.places.items) b) k)
       → ((j : ℕ) → (j ≡ k → ⊥) → reserved_in ps' j ≡ reserved_in f.places.items j)
       → ((j : ℕ) → reserved_in f'.places.items j
-      ≡ cond (eqb j k) (reserved_in ps' j) (reserved_then (layout_of f.body.value) stored (reserved_in ps' j)))
+      ≡ cond (eqb j k) (reserved_in ps' j) (reserved_then (layout_of f.state.body.value) stored (reserved_in ps' j)))
       → waits_in f'.places.items ≡ waits_in ps'
       → part_of l' ≡ record {
         lane = lane_of lane' (word_address done.at);
-        executed = l.executed + 1;
-        phase = phase_by l.budget (l.executed + 1) done.following;
+        executed = l.state.executed + 1;
+        phase = phase_by l.state.budget (l.state.executed + 1) done.following;
         awaits = awaits_of l'.awaits;
         again = again;
       }
-      → f'.body.value ≡ b' → f'.desk ≡ d' → d'.directory.me ≡ f.desk.directory.me → f'.byes ≡ f.byes
-      → f'.stamp ≡ f.stamp + 1 → f'.journal.items ≡ f.journal.items → f'.output.items ≡ after.output
+      → f'.state.body.value ≡ b' → f'.state.desk ≡ d' → d'.directory.me ≡ f.state.desk.directory.me → f'.state.byes ≡ f.state.byes
+      → f'.state.stamp ≡ f.state.stamp + 1 → f'.state.journal.items ≡ f.state.journal.items → f'.state.output.items ≡ after.output
       → (word_before (work_of l f) x k) ≡ lane_turn (record { lanes = changed x.lanes k (part_of l'); shared = shared_of f' }) posts done.output
   turn_is asks awaits stored_is holders others reserved waits part body desk me byes stamp journal output =
       let r = word_outcome work (as_node x k) in
@@ -193,11 +193,11 @@ module _ (l l' : LaneFrame) (f f' : SharedFrame) (x : LaneNode) (h : HasLane l f
       let access : stored ≡ stored_by r.access = stored_is ∙ ap (λ (n : Node). stored_by (word_outcome work n).access) (sym before_is) in
       let res : reserved_after (work_of l f) x k ≡ reserved_in f'.places.items = fun_ext (λ j. elim (eqb_tells j k) [
         | inl q ↦ (let a : reserved_after (work_of l f) x k j ≡ r.local.reservation = rw q.0 refl in
-            let c : reserved_in f'.places.items j ≡ reserved_in ps' j = reserved j ∙ ap (λ t. cond t (reserved_in ps' j) (reserved_then (layout_of f.body.value) stored (reserved_in ps' j))) q.0 in
+            let c : reserved_in f'.places.items j ≡ reserved_in ps' j = reserved j ∙ ap (λ t. cond t (reserved_in ps' j) (reserved_then (layout_of f.state.body.value) stored (reserved_in ps' j))) q.0 in
             a ∙ own ∙ ap (reserved_in ps') (sym q.1) ∙ sym c)
         | inr q ↦ (let a : reserved_after (work_of l f) x k j ≡ lost work.layout r.access (x.shared.reservation j) = rw q.0 refl in
-            let c : reserved_in f'.places.items j ≡ reserved_then (layout_of f.body.value) stored (reserved_in ps' j) =
-            reserved j ∙ ap (λ t. cond t (reserved_in ps' j) (reserved_then (layout_of f.body.value) stored (reserved_in ps' j))) q.0 in
+            let c : reserved_in f'.places.items j ≡ reserved_then (layout_of f.state.body.value) stored (reserved_in ps' j) =
+            reserved j ∙ ap (λ t. cond t (reserved_in ps' j) (reserved_then (layout_of f.state.body.value) stored (reserved_in ps' j))) q.0 in
             a ∙ lost_is work.layout r.access (x.shared.reservation j)
             ∙ (λ t. reserved_then work.layout (sym access t) ((h.shared t).reservation j))
             ∙ ap (reserved_then work.layout stored) (sym (others j q.1)) ∙ sym c)

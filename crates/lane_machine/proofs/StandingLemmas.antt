@@ -30,10 +30,10 @@ over_by true = refl
 over_by false = refl
 
 -- by how many lanes have ended, and the Byes taken
-pub over_is : (w : LaneWork) (x : LaneNode) (f : SharedFrame) → w.work.layout ≡ layout_of f.body.value
+pub over_is : (w : LaneWork) (x : LaneNode) (f : SharedFrame) → w.work.layout ≡ layout_of f.state.body.value
     → w.lanes ≡ length f.places.items → x.shared ≡ shared_of f → f.ended ≡ ended_in x w.lanes
     → is_over_node w x ≡ (eqb f.ended (length f.places.items)
-    && eqb (count_of (members f.byes) (layout_of f.body.value).nodes) (layout_of f.body.value).nodes)
+    && eqb (count_of (members f.state.byes) (layout_of f.state.body.value).nodes) (layout_of f.state.body.value).nodes)
 over_is w x f layout lanes shared ended =
     let have : have_ended w x ≡ eqb f.ended (length f.places.items) =
     all_count (has_ended x) w.lanes ∙ (λ t. eqb (sym ended t) (lanes t)) in

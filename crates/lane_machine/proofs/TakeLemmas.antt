@@ -36,14 +36,14 @@ byes_sends nodes t false = refl
 module _ (w : LaneWork) (x : LaneNode) (from : ℕ) (wire : Wire) (ls ls' : List LaneFrame) (f f' : SharedFrame)
     (are : AreLanes w ls f) (h : HaveLanes ls f x)
     (b1 : Body) (d1 : Desk) (ps1 : List Place) (byes1 : List Bool) (posts : List Post)
-    (turn : (n : Node) (k : ℕ) → n.me ≡ f.desk.directory.me
-    → treated (layout_of f.body.value) (seen_with n k f.body.value f.desk f.places.items f.byes) from wire.message
+    (turn : (n : Node) (k : ℕ) → n.me ≡ f.state.desk.directory.me
+    → treated (layout_of f.state.body.value) (seen_with n k f.state.body.value f.state.desk f.places.items f.state.byes) from wire.message
     ≡ turn_by (seen_with n k b1 d1 ps1 byes1) posts None) where
   abbrev pub node_then : (k : ℕ) → Node
   node_then k = seen_with (journaled w x k from wire) k b1 d1 ps1 byes1
 
   before_is : (k : ℕ) → journaled w x k from wire
-      ≡ seen_with (journaled w x k from wire) k f.body.value f.desk f.places.items f.byes
+      ≡ seen_with (journaled w x k from wire) k f.state.body.value f.state.desk f.places.items f.state.byes
   before_is k = λ t. record (journaled w x k from wire) {
     local = record {
       copy = (h.shared t).copy;
@@ -67,15 +67,15 @@ module _ (w : LaneWork) (x : LaneNode) (from : ℕ) (wire : Wire) (ls ls' : List
   pub message_is : ((k : ℕ) (d : LaneFrame) → k < length ls → resumed w.work (node_then 0) (x.lanes k) ≡ part_of (get_or ls' k d))
       → ((b : ℕ) → is_some (wait_among (waits_in ps1) b) ≡ true
       → place_among (waits_in ps1) b ≡ held_in (waits_in f.places.items) b)
-      → f'.places.items ≡ ps1 → f'.desk ≡ d1 → d1.directory.me ≡ f.desk.directory.me
-      → f'.body.value.local ≡ b1.local → f'.body.value.counts ≡ counted (node_then 0) x.lanes w.lanes
-      → f'.byes ≡ byes1 → f'.stamp ≡ later f.stamp wire.stamp + 1
-      → f'.journal.items ≡ f.journal.items ++ (record {
-        stamp = later f.stamp wire.stamp + 1;
+      → f'.places.items ≡ ps1 → f'.state.desk ≡ d1 → d1.directory.me ≡ f.state.desk.directory.me
+      → f'.state.body.value.local ≡ b1.local → f'.state.body.value.counts ≡ counted (node_then 0) x.lanes w.lanes
+      → f'.state.byes ≡ byes1 → f'.state.stamp ≡ later f.state.stamp wire.stamp + 1
+      → f'.state.journal.items ≡ f.state.journal.items ++ (record {
+        stamp = later f.state.stamp wire.stamp + 1;
         from = from;
-        words = words_of x w.lanes - words_before f.journal.items;
+        words = words_of x w.lanes - words_before f.state.journal.items;
       }) ∷ []
-      → f'.output.items ≡ f.output.items → length ls' ≡ length ls
+      → f'.state.output.items ≡ f.state.output.items → length ls' ≡ length ls
       → f'.ended ≡ count_of (has_ended (after_message w x from wire)) (length f'.places.items)
       → HaveLanes ls' f' (after_message w x from wire)
   message_is parts holders places desk me local counts byes stamp journal output len ended =
@@ -167,7 +167,7 @@ node_has ls s k d low = get_or-map part_of ls k d empty_part low
 -- where each lane stays in its phase, as many have ended as before
 pub ended_same : (ls ls' : List LaneFrame) (s : Shared) (old new m : ℕ) → length ls ≡ m → length ls' ≡ m
     → ((x : LaneNode) → HaveParts ls x → old ≡ ended_in x m) → ((x : LaneNode) → HaveParts ls' x → new ≡ ended_in x m)
-    → ((k : ℕ) (d : LaneFrame) → k < m → phase_of (get_or ls' k d).phase ≡ phase_of (get_or ls k d).phase)
+    → ((k : ℕ) (d : LaneFrame) → k < m → phase_of (get_or ls' k d).state.phase ≡ phase_of (get_or ls k d).state.phase)
     → new ≡ old
 ended_same [] ls' s old new m len len' was is phases =
     let z = len in

@@ -1,26 +1,25 @@
 -- Helps the code alone: what lanes, and the node that they share, store, and what it stands for.
 use Rattle.std.specs.Prelude.{◌≡◌, ◌⊎◌, ℕ, ◌+◌, ◌*◌, ◌<◌, ◌≤◌, Bool, true, false, List, [], ◌∷◌, length, slice_index_or, Option, Some, is_some}
-use Rattle.std.specs.Vec.{vec_capacity}
 use Rattle.buf_pool.specs.Pool.{Slots}
 use Rattle.block_layout.specs.Layout.{Shape}
 use Rattle.block_layout.specs.Update.{changed}
-use Rattle.run_limits.specs.Ranges.{IsBudget}
 use Rattle.exec_map.specs.Contents.{program_of}
 use Rattle.home_directory.specs.declared.messages.Post.{Post}
 use Rattle.home_directory.specs.declared.wait.Wait.{Wait}
 use Rattle.home_directory.specs.Effects.{entry_at, entries_of, members}
 use Rattle.home_directory.specs.Home.{count_of}
 use Rattle.miss_handlers.specs.Waits.{NodeWaits}
-use Rattle.jump_map.specs.Image.{Cell, most_words}
+use Rattle.jump_map.specs.Image.{Cell}
 use Rattle.node_words.specs.declared.body.Body.{Body}
 use Rattle.node_words.specs.declared.lane.Lane as kept
 use Rattle.node_words.specs.declared.serve.Served.{Served}
 use Rattle.node_words.specs.Address.{word_address}
 use Rattle.node_words.specs.Kept.{lane_of, local_of, phase_by}
-use Rattle.node_model.specs.Node.{Node, Work, can_execute, printed_also, word_outcome}
+use Rattle.node_model.specs.Node.{Node, Work, printed_also, word_outcome}
 use Rattle.node_model.specs.Turns.{after_word, each_block_once, wants_of, words_before}
 use Rattle.node_machine.specs.declared.desk.Desk.{Desk}
-use Rattle.node_machine.specs.Frame.{with_parts, phase_of, layout_of, entries_in, IsDesk, AreCountsBelow, WaitsInPhase}
+use Rattle.node_machine.specs.States as states
+use Rattle.node_machine.specs.Frame.{with_parts, phase_of, layout_of, entries_in, IsDesk, IsLaneState, AreCountsBelow, WaitsInPhase}
 use Rattle.lane_model.specs.Nodes.{LaneWork, LanePart, Shared, LaneNode}
 use Rattle.lane_model.specs.Turns.{Asked, LaneTurn, ask_all, held_by, has_ended, resumed}
 use Rattle.lane_desk.specs.declared.place.Place.{Place}
@@ -92,36 +91,36 @@ served n budget done = record n {
 
 abbrev pub part_of : LaneFrame → LanePart
 part_of l = record {
-  lane = lane_of l.lane (word_address l.at);
-  executed = l.executed;
-  phase = phase_of l.phase;
+  lane = lane_of l.lane (word_address l.state.at);
+  executed = l.state.executed;
+  phase = phase_of l.state.phase;
   awaits = awaits_of l.awaits;
   again = l.again;
 }
 
 abbrev pub shared_of : SharedFrame → Shared
 shared_of f = record {
-  me = f.desk.directory.me;
-  copy = (local_of f.body.value.local).copy;
-  state = (local_of f.body.value.local).state;
+  me = f.state.desk.directory.me;
+  copy = (local_of f.state.body.value.local).copy;
+  state = (local_of f.state.body.value.local).state;
   reservation = reserved_in f.places.items;
-  entry = entries_in f.desk.directory.layout f.desk.directory.me
-      (entry_at f.desk.directory.entries);
-  waiting = (entries_of f.desk.directory).waiting;
-  occupancy = (entries_of f.desk.directory).occupancy;
+  entry = entries_in f.state.desk.directory.layout f.state.desk.directory.me
+      (entry_at f.state.desk.directory.entries);
+  waiting = (entries_of f.state.desk.directory).waiting;
+  occupancy = (entries_of f.state.desk.directory).occupancy;
   wait = wait_among (waits_in f.places.items);
   holder = held_by (wait_among (waits_in f.places.items)) (place_among (waits_in f.places.items));
-  byes = members f.byes;
-  stamp = f.stamp;
-  journal = f.journal.items;
-  output = f.output.items;
-  counts = f.body.value.counts;
+  byes = members f.state.byes;
+  stamp = f.state.stamp;
+  journal = f.state.journal.items;
+  output = f.state.output.items;
+  counts = f.state.body.value.counts;
 }
 
 -- what they run
 abbrev pub work_of : LaneFrame → SharedFrame → LaneWork
 work_of l f = record {
-  work = work_in f.body.value l.image.now l.budget;
+  work = work_in f.state.body.value l.state.image.now l.state.budget;
   lanes = length f.places.items;
 }
 
@@ -145,25 +144,21 @@ lane_turn x posts p = record { node = x; sends = posts; printed = p }
 
 -- what is true of every lane
 pub record IsLane (l : LaneFrame) : Type 0 where
-  pub within : l.executed ≤ l.budget
-  pub going : can_execute (phase_of l.phase) ≡ true → l.executed < l.budget
-  pub range : IsBudget l.budget
-  pub short : length l.image.now ≤ most_words
-  pub awaits : WaitsInPhase (phase_of l.phase) (length (awaits_of l.awaits))
+  pub state : IsLaneState l.state
+  pub awaits : WaitsInPhase (phase_of l.state.phase) (length (awaits_of l.awaits))
 
 -- what is true of what lanes share
 pub record IsShared (f : SharedFrame) : Type 0 where
-  pub rest : IsAtRest (layout_of f.body.value) f.desk f.places.items
-  pub layout : f.layout ≡ layout_of f.body.value
+  pub rest : IsAtRest (layout_of f.state.body.value) f.state.desk f.places.items
+  pub layout : f.layout ≡ layout_of f.state.body.value
   pub some : 0 < length f.places.items
   pub few : length f.places.items ≤ 4
-  pub noted : f.noted ≡ words_before f.journal.items
-  pub counts : AreCountsBelow (32 * f.stamp) f.body.value.counts
+  pub noted : f.state.noted ≡ words_before f.state.journal.items
+  pub counts : AreCountsBelow (32 * f.state.stamp) f.state.body.value.counts
 
 -- there is room for one entry of the journal and one byte of output
-pub record HasRoom (f : SharedFrame) : Type 0 where
-  pub journal : length f.journal.items < vec_capacity f.journal
-  pub output : length f.output.items < vec_capacity f.output
+abbrev pub HasRoom : SharedFrame → Type 0
+HasRoom f = states.HasRoom f.state
 
 -- the lane waits for this block
 abbrev pub IsAwaited : LaneFrame → (b : ℕ) → Type 0
@@ -181,8 +176,8 @@ IsHeld l f =
 
 -- what an event doesn't change of a lane that executes no word
 pub record IsSameLane (l m : LaneFrame) : Type 0 where
-  pub image : m.image.now ≡ l.image.now
-  pub budget : m.budget ≡ l.budget
+  pub image : m.state.image.now ≡ l.state.image.now
+  pub budget : m.state.budget ≡ l.state.budget
   pub number : m.number ≡ l.number
 
 abbrev pub AllWaitFor : List LaneFrame → SharedFrame → Type 0
@@ -193,16 +188,16 @@ AllHeld ls f = (k : ℕ) (d : LaneFrame) → k < length ls → IsHeld (slice_ind
 
 -- lane k of the nodes that run this
 pub record IsLaneOf (w : LaneWork) (k : ℕ) (l : LaneFrame) : Type 0 where
-  pub image : l.image.now ≡ w.work.image
-  pub budget : l.budget ≡ w.work.budget
+  pub image : l.state.image.now ≡ w.work.image
+  pub budget : l.state.budget ≡ w.work.budget
   pub number : l.number ≡ k
 
 -- the lanes of a node, in order
 pub record AreLanes (w : LaneWork) (ls : List LaneFrame) (f : SharedFrame) : Type 0 where
   pub count : length ls ≡ w.lanes
   pub places : length f.places.items ≡ w.lanes
-  pub program : program_of f.body.value.local.program ≡ w.work.program
-  pub layout : layout_of f.body.value ≡ w.work.layout
+  pub program : program_of f.state.body.value.local.program ≡ w.work.program
+  pub layout : layout_of f.state.body.value ≡ w.work.layout
   pub each : (k : ℕ) (d : LaneFrame) → k < length ls → IsLaneOf w k (slice_index_or ls k d)
 
 abbrev pub HaveParts : List LaneFrame → LaneNode → Type 0
@@ -217,10 +212,10 @@ pub record HaveLanes (ls : List LaneFrame) (f : SharedFrame) (x : LaneNode) : Ty
 
 -- a lane has gone on where it waits for no block any more, by its node's waits and states
 pub record HasGoneOn (state : ℕ → ℕ) (wait : ℕ → Option Wait) (l m : LaneFrame) : Type 0 where
-  pub part : (work : Work) (n : Node) → work.budget ≡ l.budget → n.wait ≡ wait
+  pub part : (work : Work) (n : Node) → work.budget ≡ l.state.budget → n.wait ≡ wait
       → n.local.state ≡ state → part_of m ≡ resumed work n (part_of l)
   pub same : IsSameLane l m
   pub stays : ((b : ℕ) → IsAwaited l b → is_some (wait b) ≡ true)
-      → phase_of m.phase ≡ phase_of l.phase
+      → phase_of m.state.phase ≡ phase_of l.state.phase
   pub held : (b : ℕ) → IsAwaited m b → is_some (wait b) ≡ true
   pub kept : (b : ℕ) → is_some (wait b) ≡ true → IsAwaited l b → IsAwaited m b

@@ -26,23 +26,16 @@ use block_layout::{Block, Layout, layout_law};
 use home_directory::Sends;
 use jump_map::Image;
 use lane_desk::{AskedAll, Awaits, Place, ask_all, is_waited_for, stored_at, swap_lane};
-use node_machine::{Desk, Phase, Turn, add_byes, is_ended, phase_by, print, stop_or};
-use node_model::{Entry, OutByte};
-use node_words::{Body, Lane, Served, address_of};
-use run_limits::Budget;
+use node_machine::{Desk, LaneState, Phase, SharedState, Turn, add_byes, is_ended};
+use node_words::{Body, Lane, Served};
 
 /// What a lane stores.
 #[derive(Drop)]
 pub struct LaneFrame<'a> {
-    pub image: &'a Image,
-    pub budget: Budget,
+    pub state: LaneState<'a>,
     /// The number of the lane on its node.
     pub number: u8,
     pub lane: Lane,
-    /// The index of its next word.
-    pub at: u32,
-    pub executed: u64,
-    pub phase: Phase,
     /// The blocks that it waits for.
     pub awaits: Awaits,
     /// Whether it executes its word again once it waits for none.
@@ -52,20 +45,10 @@ pub struct LaneFrame<'a> {
 /// What the lanes of a node share, as it is stored.
 #[derive(Drop)]
 pub struct SharedFrame<'a> {
-    /// What words see of the node, and its counts.
-    pub body: Box<Body<'a>>,
-    pub desk: Desk,
+    pub state: SharedState<'a>,
     pub layout: Layout,
     /// What the node keeps for each lane.
     pub places: Vec<Place>,
-    /// The nodes whose Byes it has taken.
-    pub byes: [bool; 256],
-    /// The stamp of its last event.
-    pub stamp: u64,
-    pub journal: Vec<Entry>,
-    /// How many words the journal has.
-    pub noted: u64,
-    pub output: Vec<OutByte>,
     /// How many lanes have ended.
     pub ended: u8,
 }
@@ -160,10 +143,10 @@ impl<'a> LaneFrame<'a> {
         requires shared { IsShared shared.old }
         requires number { self.old.number < length shared.old.places.items }
         requires idle { (b : ℕ) → wait_at shared.old.places.items self.old.number b ≡ None }
-        requires may { model.can_execute (phase_of self.old.phase) ≡ true }
+        requires may { model.can_execute (phase_of self.old.state.phase) ≡ true }
         requires goes_on { shared.old.ended < length shared.old.places.items }
         requires room { HasRoom shared.old }
-        requires stamp { shared.old.stamp < 2 ^ 56 }
+        requires stamp { shared.old.state.stamp < 2 ^ 56 }
         ensures turn { (x : lanes.LaneNode) → HasLane self.old shared.old x →
             moves.word_turn (work_of self.old shared.old) x self.old.number
             ≡ lane_turn (with_lane x self.new shared.new) sends.new.items result.output }
@@ -176,8 +159,8 @@ impl<'a> LaneFrame<'a> {
             → is_some (wait_among (waits_in shared.new.places.items) b) ≡ true }
         ensures others { (k b : ℕ) → (k ≡ self.old.number → ⊥)
             → wait_at shared.new.places.items k b ≡ wait_at shared.old.places.items k b }
-        ensures stamp { result.stamp ≡ shared.new.stamp }
-        ensures stamps { shared.new.stamp ≡ shared.old.stamp + 1 }
+        ensures stamp { result.stamp ≡ shared.new.state.stamp }
+        ensures stamps { shared.new.state.stamp ≡ shared.old.state.stamp + 1 }
         ensures number { self.new.number ≡ self.old.number }
         ensures work { work_of self.new shared.new ≡ work_of self.old shared.old }
         ensures lane { IsLane self.new }
@@ -185,31 +168,29 @@ impl<'a> LaneFrame<'a> {
     {
         sends.clear();
         let reserved = shared.places[self.number as usize].reservation.address();
-        let fetched = self.image.fetch(address_of(self.at));
-        let stored = stored_at(fetched, &self.lane, reserved, self.at);
+        let fetched = self.state.next_word();
+        let stored = stored_at(fetched, &self.lane, reserved, self.state.at);
+        let state = &mut shared.state;
         let done = execute(
-            &mut shared.body,
-            &mut shared.desk,
+            &mut state.body,
+            &mut state.desk,
             &mut shared.places,
             &mut self.lane,
             self.number,
-            self.image,
-            self.at,
+            self.state.image,
+            self.state.at,
             sends,
         );
         end_reservations(&mut shared.places, &shared.layout, self.number, stored);
-        self.at = done.served.at;
-        self.executed += 1;
-        self.phase = phase_by(self.budget, self.executed, done.served.following);
+        self.state.advance(done.served);
         self.awaits = done.asked.awaits;
         self.again = done.asked.again;
-        shared.stamp += 1;
-        print(&mut shared.output, shared.stamp, done.served.output);
-        shared.ended = ended_with(shared.ended, self.phase);
+        shared.state.note_word(done.served.output);
+        shared.ended = ended_with(shared.ended, self.state.phase);
         let all_ended = shared.ended as usize == shared.places.len();
         add_byes(sends, shared.layout.nodes(), all_ended);
         Turn {
-            stamp: shared.stamp,
+            stamp: shared.state.stamp,
             output: done.served.output,
         }
     }
@@ -233,12 +214,15 @@ impl<'a> LaneFrame<'a> {
             first: still_waited(self.awaits.first, places),
             other: still_waited(self.awaits.other, places),
         };
-        if let Phase::Waiting(resume) = self.phase {
+        if let Phase::Waiting(resume) = self.state.phase {
             if self.awaits.first.is_none() && self.awaits.other.is_none() {
-                if !self.again {
-                    self.at = body.resume(resume, self.at);
+                let at = self.state.at;
+                if self.again {
+                    self.state.go_on_at(at);
+                } else {
+                    let at = body.resume(resume, at);
+                    self.state.go_on_at(at);
                 }
-                self.phase = stop_or(self.budget, self.executed, Phase::Resumed);
                 self.again = false;
             }
         }

@@ -22,8 +22,8 @@ use exec_map::{End, Program};
 use home_directory::Sends;
 use jump_map::Image;
 use lane_desk::{NO_BLOCK, Place};
-use node_machine::{Phase, Standing, Turn, is_ended, standing_at};
-use node_words::{Body, address_of, index_of};
+use node_machine::{LaneState, Phase, Standing, Turn, standing_at};
+use node_words::{Body, index_of};
 use run_limits::Budget;
 use rv32_step::Registers;
 use std::alloc::{AllocError, Global};
@@ -61,8 +61,8 @@ impl<'a> Lane<'a> {
         ensures opening { IfOk result (λ l. (w : lanes.LaneWork)
             → w.work.program ≡ program_of program.now → w.work.image ≡ image.now
             → lanes.processors w ≡ processors → part_of l ≡ lanes.first_part w p) }
-        ensures image { IfOk result (λ l. l.image.now ≡ image.now) }
-        ensures budget { IfOk result (λ l. l.budget ≡ budget) }
+        ensures image { IfOk result (λ l. l.state.image.now ≡ image.now) }
+        ensures budget { IfOk result (λ l. l.state.budget ≡ budget) }
         ensures number { IfOk result (λ l. l.number ≡ lane) }
     {
         // brings: the image's words have 32 bits, and are few enough
@@ -71,8 +71,13 @@ impl<'a> Lane<'a> {
         let _ = budget.number();
         Ok(Lane {
             frame: LaneFrame {
-                image,
-                budget,
+                state: LaneState {
+                    image,
+                    budget,
+                    at: index_of(image.new_of(program.entry()).unwrap_or(0)),
+                    executed: 0,
+                    phase: Phase::Running,
+                },
                 number: lane,
                 lane: node_words::Lane {
                     registers: Registers::first(p, processors),
@@ -81,9 +86,6 @@ impl<'a> Lane<'a> {
                     off: 0,
                     spills: [0; 3],
                 },
-                at: index_of(image.new_of(program.entry()).unwrap_or(0)),
-                executed: 0,
-                phase: Phase::Running,
                 awaits: NO_BLOCK,
                 again: false,
             },
@@ -93,11 +95,11 @@ impl<'a> Lane<'a> {
     /// What the lane may do next. It is never over.
     pub fn standing(&self) -> Standing
         ensures value { (w : lanes.LaneWork) (x : lanes.LaneNode) (k : ℕ)
-            → w.work.image ≡ self.now.image.now → x.lanes k ≡ part_of self.now
+            → w.work.image ≡ self.now.state.image.now → x.lanes k ≡ part_of self.now
             → result ≡ core.standing_of w x k }
     {
-        match self.frame.phase {
-            Phase::Running => standing_at(self.frame.image.fetch(address_of(self.frame.at))),
+        match self.frame.state.phase {
+            Phase::Running => standing_at(self.frame.state.next_word()),
             Phase::Resumed => Standing::Running,
             Phase::Waiting(_) => Standing::Waiting,
             Phase::Ended(_) => Standing::Ended,
@@ -108,10 +110,7 @@ impl<'a> Lane<'a> {
     pub fn end(&self) -> Option<End>
         ensures value { result ≡ model.end_of (part_of self.now).phase }
     {
-        match self.frame.phase {
-            Phase::Ended(end) => Some(end),
-            _ => None,
-        }
+        self.frame.state.end()
     }
 
     /// How many words the lane has executed.
@@ -120,15 +119,15 @@ impl<'a> Lane<'a> {
         ensures few { result ≤ 2 ^ 32 }
     {
         // brings: the budget is in its range
-        let _ = self.frame.budget.number();
-        self.frame.executed
+        let _ = self.frame.state.budget.number();
+        self.frame.state.executed
     }
 
     /// Whether the lane has ended.
     pub(crate) fn has_ended(&self) -> bool
         ensures { result ≡ turns.is_ended (part_of self.now).phase }
     {
-        is_ended(self.frame.phase)
+        self.frame.state.has_ended()
     }
 
     /// Executes one word, and leaves what the node sends, in order.
@@ -138,7 +137,7 @@ impl<'a> Lane<'a> {
         requires may { model.can_execute (part_of self.old).phase ≡ true }
         requires goes_on { shared.old.ended < length shared.old.places.items }
         requires room { HasRoom shared.old }
-        requires stamp { shared.old.stamp < 2 ^ 56 }
+        requires stamp { shared.old.state.stamp < 2 ^ 56 }
         ensures node { (x : lanes.LaneNode) → HasLane self.old shared.old x →
             with_lane x self.new shared.new
             ≡ (moves.word_turn (work_of self.old shared.old) x self.old.number).node }
@@ -157,8 +156,8 @@ impl<'a> Lane<'a> {
             → is_some (wait_among (waits_in shared.new.places.items) b) ≡ true }
         ensures others { (k b : ℕ) → k ≢ self.old.number
             → wait_at shared.new.places.items k b ≡ wait_at shared.old.places.items k b }
-        ensures stamp { result.stamp ≡ shared.new.stamp }
-        ensures stamps { shared.new.stamp ≡ shared.old.stamp + 1 }
+        ensures stamp { result.stamp ≡ shared.new.state.stamp }
+        ensures stamps { shared.new.state.stamp ≡ shared.old.state.stamp + 1 }
         ensures number { self.new.number ≡ self.old.number }
         ensures work { work_of self.new shared.new ≡ work_of self.old shared.old }
     {

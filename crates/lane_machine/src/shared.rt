@@ -31,7 +31,7 @@ use lane_desk::Place;
 use llsc::Reservation;
 use miss_handlers::Waits;
 use node_machine::{
-    Desk, NO_COUNTS, PAGE_BYTES, Standing, Turn, WAITS, ended_standing, first_local,
+    Desk, NO_COUNTS, PAGE_BYTES, SharedState, Standing, Turn, WAITS, ended_standing, first_local,
 };
 use node_model::NodeCounts;
 use node_words::Body;
@@ -73,23 +73,25 @@ impl<'a> Shared<'a> {
             → work.program ≡ program_of program.now → work.layout ≡ layout.now
             → shared_of s ≡ first_shared work me) }
         ensures program { IfOk result
-            (λ s. program_of s.body.value.local.program ≡ program_of program.now) }
-        ensures layout { IfOk result (λ s. layout_of s.body.value ≡ layout.now) }
+            (λ s. program_of s.state.body.value.local.program ≡ program_of program.now) }
+        ensures layout { IfOk result (λ s. layout_of s.state.body.value ≡ layout.now) }
         ensures lanes { IfOk result (λ s. length s.places.items ≡ lanes) }
         ensures waits { IfOk result (λ s. (k b : ℕ) → wait_at s.places.items k b ≡ None) }
         ensures ended { IfOk result (λ s. s.ended ≡ 0) }
     {
         Ok(Shared {
             frame: SharedFrame {
-                body: first_body(alloc, program, layout, me)?,
-                desk: first_desk(alloc, layout, me)?,
+                state: SharedState {
+                    body: first_body(alloc, program, layout, me)?,
+                    desk: first_desk(alloc, layout, me)?,
+                    byes: [false; 256],
+                    stamp: 0,
+                    journal: Vec::new(alloc),
+                    noted: 0,
+                    output: Vec::new(alloc),
+                },
                 layout: layout.copy(alloc)?,
                 places: first_places(alloc, layout, lanes)?,
-                byes: [false; 256],
-                stamp: 0,
-                journal: Vec::new(alloc),
-                noted: 0,
-                output: Vec::new(alloc),
                 ended: 0,
             },
         })
@@ -99,26 +101,24 @@ impl<'a> Shared<'a> {
     pub fn room(&mut self) -> Result<(), AllocError>
         ensures shared { shared_of self.new ≡ shared_of self.old }
         ensures places { self.new.places.items ≡ self.old.places.items }
-        ensures body { self.new.body.value ≡ self.old.body.value }
+        ensures body { self.new.state.body.value ≡ self.old.state.body.value }
         ensures ended { self.new.ended ≡ self.old.ended }
         ensures room { OnOk result (HasRoom self.new) }
     {
-        self.frame.journal.reserve(1)?;
-        self.frame.output.reserve(1)?;
-        Ok(())
+        self.frame.state.make_room()
     }
 
     /// What the node has counted over its lanes.
     pub fn counts(&self) -> NodeCounts
         ensures value { result ≡ (shared_of self.now).counts }
     {
-        self.frame.body.counts
+        self.frame.state.body.counts
     }
 
     /// Whether all lanes have ended, and all nodes have said so of theirs.
     pub fn over(&self) -> bool
         ensures value { (w : LaneWork) (x : LaneNode)
-            → w.work.layout ≡ layout_of self.now.body.value
+            → w.work.layout ≡ layout_of self.now.state.body.value
             → w.lanes ≡ length self.now.places.items → x.shared ≡ shared_of self.now
             → self.now.ended ≡ ended_in x w.lanes
             → result ≡ core.is_over w x }
@@ -126,14 +126,14 @@ impl<'a> Shared<'a> {
         if self.frame.ended as usize != self.frame.places.len() {
             return false;
         }
-        is_over(ended_standing(&self.frame.byes, self.frame.layout.nodes()))
+        is_over(ended_standing(&self.frame.state.byes, self.frame.layout.nodes()))
     }
 
     /// Takes a message from a node, and leaves what the node sends, in order.
     pub fn take(&mut self, lanes: &mut [Lane<'_>], from: u8, wire: Wire, sends: &mut Sends) -> Turn
         requires count { length lanes.old ≡ length self.old.places.items }
         requires room { HasRoom self.old }
-        requires stamp { self.old.stamp < 2 ^ 56 }
+        requires stamp { self.old.state.stamp < 2 ^ 56 }
         requires wire { wire.stamp < 2 ^ 56 }
         requires held { AllHeld lanes.old self.old }
         requires ended { (x : LaneNode) → HaveParts lanes.old x
@@ -150,8 +150,8 @@ impl<'a> Shared<'a> {
             → AllWaitFor lanes.old self.old → AllWaitFor lanes.new self.new }
         ensures held { AllHeld lanes.new self.new }
         ensures output { result.output ≡ None }
-        ensures stamp { result.stamp ≡ self.new.stamp }
-        ensures stamps { self.new.stamp ≡ turns.later self.old.stamp wire.stamp + 1 }
+        ensures stamp { result.stamp ≡ self.new.state.stamp }
+        ensures stamps { self.new.state.stamp ≡ turns.later self.old.state.stamp wire.stamp + 1 }
     {
         take(&mut self.frame, lanes, from, wire, sends)
     }

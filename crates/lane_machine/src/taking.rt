@@ -26,8 +26,7 @@ use crate::lane::Lane;
 use block_layout::{Block, Layout};
 use home_directory::{Message, Sends, Wire};
 use lane_desk::{Place, holder_of, swap_waits};
-use node_machine::{Desk, Turn, add_byes, later, treat};
-use node_model::Entry;
+use node_machine::{Desk, Turn, add_byes, treat};
 use node_words::Body;
 
 /// Takes a message from a node, and leaves what the node sends, in order.
@@ -41,7 +40,7 @@ pub fn take(
     requires shared { IsShared shared.old }
     requires count { length lanes.old ≡ length shared.old.places.items }
     requires room { HasRoom shared.old }
-    requires stamp { shared.old.stamp < 2 ^ 56 }
+    requires stamp { shared.old.state.stamp < 2 ^ 56 }
     requires wire { wire.stamp < 2 ^ 56 }
     requires held { AllHeld lanes.old shared.old }
     requires ended { (x : LaneNode) → HaveParts lanes.old x
@@ -58,34 +57,29 @@ pub fn take(
         → AllWaitFor lanes.old shared.old → AllWaitFor lanes.new shared.new }
     ensures held { AllHeld lanes.new shared.new }
     ensures output { result.output ≡ None }
-    ensures stamp { result.stamp ≡ shared.new.stamp }
-    ensures stamps { shared.new.stamp ≡ turns.later shared.old.stamp wire.stamp + 1 }
+    ensures stamp { result.stamp ≡ shared.new.state.stamp }
+    ensures stamps { shared.new.state.stamp ≡ turns.later shared.old.state.stamp wire.stamp + 1 }
     ensures shared { IsShared shared.new }
 {
     let ended_before = shared.ended;
-    let words = words_of(lanes).saturating_sub(shared.noted);
-    shared.stamp = later(shared.stamp, wire.stamp) + 1;
-    shared.journal.push_reserved(Entry {
-        stamp: shared.stamp,
-        from,
-        words,
-    });
-    shared.noted += words;
+    let executed = words_of(lanes);
+    shared.state.note_take(from, wire.stamp, executed);
+    let state = &mut shared.state;
     receive(
-        &mut shared.body,
-        &mut shared.desk,
+        &mut state.body,
+        &mut state.desk,
         &mut shared.places,
         &shared.layout,
-        &mut shared.byes,
+        &mut state.byes,
         from,
         wire.message,
         sends,
     );
-    shared.ended = go_on(lanes, &mut shared.body, &shared.places);
+    shared.ended = go_on(lanes, &mut shared.state.body, &shared.places);
     let last = is_last_end(ended_before, shared.ended, lanes.len());
     add_byes(sends, shared.layout.nodes(), last);
     Turn {
-        stamp: shared.stamp,
+        stamp: shared.state.stamp,
         output: None,
     }
 }

@@ -34,29 +34,29 @@ byes_by nodes n posts p false = refl
 abbrev pub work_at : Frame → Body → Work
 work_at i b = record {
   program = program_of b.local.program;
-  image = i.image.now;
+  image = i.lane.image.now;
   layout = layout_of b;
-  budget = i.budget;
+  budget = i.lane.budget;
 }
 
 abbrev pub node_at : Frame → Body → Node
 node_at i b = record (node_of i) {
-  lane = lane_of b.lane (word_address i.at);
+  lane = lane_of b.lane (word_address i.lane.at);
   local = local_of b.local;
   counts = b.counts;
 }
 
 -- after a word that its micro-op served, where the budget has a further one
 pub passed_turn : (i : Frame) (b : Body) (k : ℕ)
-    → Follows i.image.now (word_outcome (work_of i) (node_of i)) (ground_of i.body.value.local) (word_address k) b.lane b.local
-    → b.counts ≡ i.body.value.counts → i.executed + 1 < i.budget
+    → Follows i.lane.image.now (word_outcome (work_of i) (node_of i)) (ground_of i.shared.body.value.local) (word_address k) b.lane b.local
+    → b.counts ≡ i.shared.body.value.counts → i.lane.executed + 1 < i.lane.budget
     → word_turn (work_of i) (node_of i)
     ≡ quiet (record (moved (work_of i) (node_of i) b.lane b.local k) { phase = Running; counts = b.counts })
 passed_turn i b k f counts below =
-    let apart : i.executed + 1 ≢ i.budget = λ e. omega (arith, e, below) in
+    let apart : i.lane.executed + 1 ≢ i.lane.budget = λ e. omega (arith, e, below) in
     let next = moved (work_of i) (node_of i) b.lane b.local k in
-    hot_turn (work_of i) (node_of i) (ground_of i.body.value.local) b.lane b.local k f
-    ∙ ap (λ (p : Phase). ending (layout_of i.body.value).nodes (quiet (record next { phase = p }))) (runs_on i.budget (i.executed + 1) apart)
+    hot_turn (work_of i) (node_of i) (ground_of i.shared.body.value.local) b.lane b.local k f
+    ∙ ap (λ (p : Phase). ending (layout_of i.shared.body.value).nodes (quiet (record next { phase = p }))) (runs_on i.lane.budget (i.lane.executed + 1) apart)
     ∙ (λ t. quiet (record next { phase = Running; counts = sym counts t }))
 
 -- the node after a word that was served, before its wants
@@ -99,32 +99,32 @@ cold_turn work n g l s counts done f =
 
 -- what it wants
 pub served_wants : (i : Frame) (b : Body) (done : kept_served.Served) (ws : List Wanted)
-    → Serves i.image.now (word_outcome (work_of i) (node_of i)) (ground_of i.body.value.local) i.body.value.counts b.lane b.local b.counts done
-    → ((m : Node) (p : Option ℕ) → wants_along (layout_of b) (turn_by (with_parts m b i.desk) [] p) (each_block_once (layout_of b) (wants_by done.following)) ≡ ws)
+    → Serves i.lane.image.now (word_outcome (work_of i) (node_of i)) (ground_of i.shared.body.value.local) i.shared.body.value.counts b.lane b.local b.counts done
+    → ((m : Node) (p : Option ℕ) → wants_along (layout_of b) (turn_by (with_parts m b i.shared.desk) [] p) (each_block_once (layout_of b) (wants_by done.following)) ≡ ws)
     → ws ≡ wants_of_word (work_of i) (node_of i)
 served_wants i b done ws s asked =
     let before = served_node (work_of i) (node_of i) b.lane b.local b.counts done in
-    let word = served_word (work_of i) (node_of i) (ground_of i.body.value.local) b.lane b.local b.counts done s in
-    let l = layout_of i.body.value in
+    let word = served_word (work_of i) (node_of i) (ground_of i.shared.body.value.local) b.lane b.local b.counts done s in
+    let l = layout_of i.shared.body.value in
     sym (asked before done.output)
     ∙ ap (λ (g : Ground). wants_along g.layout (turn_by before [] done.output) (each_block_once g.layout (wants_by done.following))) s.ground_same
     ∙ (λ t. wants_along l (sym word t) (each_block_once l (s.wants t)))
 
 -- after a word that was served, and whose wants were asked for
 pub served_turn : (i : Frame) (b b' : Body) (d : Desk) (done : kept_served.Served) (posts : List Post) (last : Node)
-    → Serves i.image.now (word_outcome (work_of i) (node_of i)) (ground_of i.body.value.local) i.body.value.counts b.lane b.local b.counts done
-    → ((m : Node) (p : Option ℕ) → want_all (layout_of b) (turn_by (with_parts m b i.desk) [] p) (each_block_once (layout_of b) (wants_by done.following))
+    → Serves i.lane.image.now (word_outcome (work_of i) (node_of i)) (ground_of i.shared.body.value.local) i.shared.body.value.counts b.lane b.local b.counts done
+    → ((m : Node) (p : Option ℕ) → want_all (layout_of b) (turn_by (with_parts m b i.shared.desk) [] p) (each_block_once (layout_of b) (wants_by done.following))
     ≡ turn_by (with_parts m b' d) posts p)
     → last ≡ with_parts (served_node (work_of i) (node_of i) b.lane b.local b.counts done) b' d
-    → ending (layout_of i.body.value).nodes (turn_by last posts done.output) ≡ word_turn (work_of i) (node_of i)
+    → ending (layout_of i.shared.body.value).nodes (turn_by last posts done.output) ≡ word_turn (work_of i) (node_of i)
 served_turn i b b' d done posts last s ask is =
     let before = served_node (work_of i) (node_of i) b.lane b.local b.counts done in
-    let wants : want_all (layout_of i.body.value) (turn_by before [] done.output) (each_block_once (layout_of i.body.value) (wants_by done.following)) ≡ turn_by last posts done.output =
+    let wants : want_all (layout_of i.shared.body.value) (turn_by before [] done.output) (each_block_once (layout_of i.shared.body.value) (wants_by done.following)) ≡ turn_by last posts done.output =
     ap (λ (g : Ground). want_all g.layout (turn_by before [] done.output) (each_block_once g.layout (wants_by done.following))) (sym s.ground_same)
     ∙ ask before done.output
     ∙ ap (λ (x : Node). turn_by x posts done.output) (sym is) in
-    sym (cold_turn (work_of i) (node_of i) (ground_of i.body.value.local) b.lane b.local b.counts done s
-    ∙ ap (ending (layout_of i.body.value).nodes) wants)
+    sym (cold_turn (work_of i) (node_of i) (ground_of i.shared.body.value.local) b.lane b.local b.counts done s
+    ∙ ap (ending (layout_of i.shared.body.value).nodes) wants)
 
 -- 2. What is true of every node
 
@@ -169,12 +169,12 @@ tally_below FallsBack m c a =
 pub served_below : (t : Tally) (m : ℕ) (c c' : NodeCounts) → c' ≡ counts_after t c → AreCountsBelow m c → AreCountsBelow (m + 1) c'
 served_below t m c c' is a = subst (AreCountsBelow (m + 1)) (sym is) (tally_below t m c a)
 
--- a processor whose budget isn't used up runs, and another is stopped
-pub still_runs : (budget executed : ℕ) (p : Phase) → p ≡ stop_at budget executed → executed ≤ budget
+-- a processor whose budget isn't used up goes on, and another is stopped
+pub stop_goes : (budget executed : ℕ) (p q : Phase) → p ≡ stop_or budget executed q → executed ≤ budget
     → can_execute p ≡ true → executed < budget
-still_runs budget executed p is within may = elim (eqb_tells executed budget) [
+stop_goes budget executed p q is within may = elim (eqb_tells executed budget) [
   | inl e ↦
-      (let stopped : stop_at budget executed ≡ Ended (Stopped budget) = rw e.0 refl in
+      (let stopped : stop_or budget executed q ≡ Ended (Stopped budget) = rw e.0 refl in
       let both : true ≡ false = sym may ∙ ap can_execute (is ∙ stopped) in
       absurd (cc))
   | inr e ↦ (let apart = e.1 in lt_of executed budget within apart)
@@ -208,7 +208,7 @@ begun_waits budget executed w (following_by.Leaves e) h = h
 -- a processor that may go on after a word has words left
 pub following_runs : (budget executed : ℕ) (following : Following) (p : Phase) → p ≡ phase_by budget executed following
     → executed ≤ budget → can_execute p ≡ true → executed < budget
-following_runs budget executed following_by.GoesOn p is within may = still_runs budget executed p is within may
+following_runs budget executed following_by.GoesOn p is within may = stop_goes budget executed p Running is within may
 following_runs budget executed (following_by.Waits r want) p is within may =
     let both : true ≡ false = sym may ∙ ap can_execute is in absurd (cc)
 following_runs budget executed (following_by.Leaves e) p is within may =

@@ -8,3 +8,4 @@ pub mod UnmetLemmas
 pub mod OpeningLemmas
 pub mod TakeLemmas
 pub mod WantedLemmas
+pub mod TouchLemmas

@@ -1,5 +1,5 @@
 -- A node after a message, by what it stores.
-use Rattle.std.proofs.Common.{◌≡◌, ◌≢◌, ℕ, ◌+◌, ◌<◌, ◌≤◌, ◌&&◌, ◌⊎◌, not, Bool, true, false, cond, eqb, List, [], ◌∷◌, ◌++◌, length, set, None, refl, sym, ap, ◌∙◌, subst, inl, inr, arith}
+use Rattle.std.proofs.Common.{◌≡◌, ℕ, ◌+◌, ◌<◌, ◌≤◌, ◌&&◌, ◌⊎◌, not, Bool, true, false, cond, eqb, List, [], ◌∷◌, ◌++◌, length, set, None, refl, sym, ap, ◌∙◌, subst, inl, inr, arith}
 use Rattle.std.specs.Prelude.{is_some}
 use Rattle.std.proofs.Math.Path.{fun_ext}
 use Rattle.std.proofs.lemmas.List.{get_or-set_same, get_or-set_other}
@@ -20,7 +20,7 @@ use Rattle.node_machine.specs.declared.desk.Desk.{Desk}
 use Rattle.node_machine.specs.declared.frame.Frame.{Frame}
 use Rattle.node_model.specs.declared.Entry.{Entry}
 use Rattle.node_model.specs.declared.NodeCounts.{NodeCounts}
-use Rattle.node_model.specs.Node.{Node, Work, Local, Phase, Running, Resumed, Waiting, Ended, can_execute, stop_or, tally_resumed}
+use Rattle.node_model.specs.Node.{Node, Work, Local, Phase, Running, Resumed, Waiting, Ended, tally_resumed}
 use Rattle.node_model.specs.Turns.{Turn, treated, journaled, later, resumed, has_no_wait, after_message, take_turn, with_byes, is_ended, by_row_or, holding, words_before}
 use Rattle.node_machine.specs.Frame.{work_of, node_of, layout_of, with_all, phase_resumed, lane_after_wait, counts_after_wait, AreCountsBelow, WaitsInPhase}
 use Rattle.node_machine.specs.Desk.{turn_by}
@@ -70,12 +70,12 @@ resumed_by work n (Waiting r) false is none = rw none (λ t. record n { phase = 
 -- a message that was treated
 pub taken : (i : Frame) (from : ℕ) (wire : Wire) (b : Body) (d : Desk) (byes : List Bool) (posts : List Post)
     (idle : Bool) (last : Node)
-    → ((n : Node) → n.me ≡ i.desk.directory.me → treated (layout_of i.body.value) (with_all n i.body.value i.desk i.byes) from wire.message
+    → ((n : Node) → n.me ≡ i.shared.desk.directory.me → treated (layout_of i.shared.body.value) (with_all n i.shared.body.value i.shared.desk i.shared.byes) from wire.message
     ≡ turn_by (with_all n b d byes) posts None)
-    → eqb (count_of (λ x. is_some (wait_of d.waits x)) (blocks (layout_of i.body.value))) 0 ≡ idle
+    → eqb (count_of (λ x. is_some (wait_of d.waits x)) (blocks (layout_of i.shared.body.value))) 0 ≡ idle
     → last ≡ record (with_all (journaled (node_of i) from wire) b d byes) {
       lane = lane_after_wait (local_of b.local) idle (node_of i).phase (node_of i).lane;
-      phase = phase_resumed i.budget i.executed idle (node_of i).phase;
+      phase = phase_resumed i.lane.budget i.lane.executed idle (node_of i).phase;
       counts = counts_after_wait (local_of b.local) idle (node_of i).phase b.counts;
     }
     → after_message (work_of i) (node_of i) from wire ≡ turn_by last posts None
@@ -108,17 +108,17 @@ pub taken_ended : (i : Frame) (from : ℕ) (wire : Wire) (posts : List Post) (la
 taken_ended i from wire posts last is ended =
     let quiet : (is_ended last.phase && not (is_ended (node_of i).phase)) ≡ false =
     ap (λ t. is_ended last.phase && not t) ended ∙ and_false (is_ended last.phase) in
-    sym (ap (λ (t : Turn). with_byes (layout_of i.body.value).nodes t (is_ended t.node.phase && not (is_ended (node_of i).phase))) is
-    ∙ ap (with_byes (layout_of i.body.value).nodes (turn_by last posts None)) quiet)
+    sym (ap (λ (t : Turn). with_byes (layout_of i.shared.body.value).nodes t (is_ended t.node.phase && not (is_ended (node_of i).phase))) is
+    ∙ ap (with_byes (layout_of i.shared.body.value).nodes (turn_by last posts None)) quiet)
 
 pub taken_going : (i : Frame) (from : ℕ) (wire : Wire) (posts : List Post) (last : Node)
     → after_message (work_of i) (node_of i) from wire ≡ turn_by last posts None → is_ended (node_of i).phase ≡ false
-    → with_byes (layout_of i.body.value).nodes (turn_by last posts None) (is_ended last.phase) ≡ take_turn (work_of i) (node_of i) from wire
+    → with_byes (layout_of i.shared.body.value).nodes (turn_by last posts None) (is_ended last.phase) ≡ take_turn (work_of i) (node_of i) from wire
 taken_going i from wire posts last is ended =
     let same : (is_ended last.phase && not (is_ended (node_of i).phase)) ≡ is_ended last.phase =
     ap (λ t. is_ended last.phase && not t) ended ∙ and_true (is_ended last.phase) in
-    sym (ap (λ (t : Turn). with_byes (layout_of i.body.value).nodes t (is_ended t.node.phase && not (is_ended (node_of i).phase))) is
-    ∙ ap (with_byes (layout_of i.body.value).nodes (turn_by last posts None)) same)
+    sym (ap (λ (t : Turn). with_byes (layout_of i.shared.body.value).nodes t (is_ended t.node.phase && not (is_ended (node_of i).phase))) is
+    ∙ ap (with_byes (layout_of i.shared.body.value).nodes (turn_by last posts None)) same)
 
 -- the waits and the phase after a message
 
@@ -150,23 +150,6 @@ resumed_few budget executed (Waiting r) old new posts false is h few going ended
 resumed_few budget executed (Waiting r) old new posts true is h (inl one) going ended = omega (arith, one)
 resumed_few budget executed (Waiting r) old new posts true is h (inr same) going ended =
     let z = zero_test new is in absurd (omega (arith, z, same, h))
-
-pub resumed_goes : (budget executed : ℕ) (p : Phase) (idle : Bool) → executed ≤ budget → (can_execute p ≡ true → executed < budget)
-    → can_execute (phase_resumed budget executed idle p) ≡ true → executed < budget
-resumed_goes budget executed Running idle within going may = going refl
-resumed_goes budget executed Resumed idle within going may = going refl
-resumed_goes budget executed (Ended e) idle within going may = absurd (let f : false ≡ true = may in cc)
-resumed_goes budget executed (Waiting r) false within going may = absurd (let f : false ≡ true = may in cc)
-resumed_goes budget executed (Waiting r) true within going may = elim (eqb_tells executed budget) [
-  | inl e ↦
-      (let stopped : stop_or budget executed Resumed ≡ Ended (Stopped budget) = rw e.0 refl in
-      let both : true ≡ false = sym may ∙ ap can_execute stopped in
-      absurd (cc))
-  | inr e ↦ (let apart = e.1 in lt_of executed budget within apart)
-]
-  where
-    lt_of : (x y : ℕ) → x ≤ y → x ≢ y → x < y
-    lt_of x y a b = grind (arith, nat_tests)
 
 -- the words that the journal has
 pub words_more : (es : List Entry) (e : Entry) → words_before (es ++ e ∷ []) ≡ words_before es + e.words

@@ -1,6 +1,5 @@
 -- Helps the code alone: what a node stores, and the node that it stands for.
 use Rattle.std.specs.Prelude.{◌≡◌, ℕ, ◌+◌, ◌*◌, ◌<◌, ◌≤◌, Bool, true, if◌then◌else◌, nat_lt, List, length}
-use Rattle.std.specs.Vec.{vec_capacity}
 use Rattle.block_layout.specs.Layout.{Shape, blocks}
 use Rattle.run_limits.specs.Ranges.{IsBudget}
 use Rattle.exec_map.specs.Contents.{program_of}
@@ -13,10 +12,12 @@ use Rattle.node_model.specs.declared.NodeCounts.{NodeCounts}
 use Rattle.node_words.specs.declared.body.Body.{Body}
 use Rattle.node_machine.specs.declared.desk.Desk.{Desk}
 use Rattle.node_machine.specs.declared.frame.Frame.{Frame}
-use Rattle.node_machine.specs.declared.frame.Phase as kept
-use Rattle.node_machine.specs.declared.frame.Phase.TheVariants as kept_phase
+use Rattle.node_machine.specs.declared.phase.Phase as kept
+use Rattle.node_machine.specs.declared.phase.Phase.TheVariants as kept_phase
 use Rattle.node_words.specs.declared.serve.Following.{Following}
 use Rattle.node_words.specs.declared.serve.Following.TheVariants as following_by
+use Rattle.node_machine.specs.declared.states.LaneState.{LaneState}
+use Rattle.node_machine.specs.States as states
 use Rattle.node_model.specs.Node.{Node, Work, Lane, Local, Phase, Running, Resumed, Waiting, Ended, can_execute, counts_after, lane_resumed, tally_resumed, stop_or}
 use Rattle.node_model.specs.Turns.{words_before}
 use Rattle.node_words.specs.Kept.{lane_of, local_of, resume_of}
@@ -49,36 +50,35 @@ with_parts n b d = record n {
 -- what a node runs
 abbrev pub work_of : Frame → Work
 work_of f = record {
-  program = program_of f.body.value.local.program;
-  image = f.image.now;
-  layout = layout_of f.body.value;
-  budget = f.budget;
+  program = program_of f.shared.body.value.local.program;
+  image = f.lane.image.now;
+  layout = layout_of f.shared.body.value;
+  budget = f.lane.budget;
 }
 
 -- the node that it stands for
 abbrev pub node_of : Frame → Node
 node_of f = record {
-  me = f.desk.directory.me;
-  lane = lane_of f.body.value.lane (word_address f.at);
-  local = local_of f.body.value.local;
-  executed = f.executed;
-  phase = phase_of f.phase;
-  entry = entries_in f.desk.directory.layout f.desk.directory.me
-      (entry_at f.desk.directory.entries);
-  waiting = (entries_of f.desk.directory).waiting;
-  occupancy = (entries_of f.desk.directory).occupancy;
-  wait = wait_of f.desk.waits;
-  byes = members f.byes;
-  stamp = f.stamp;
-  journal = f.journal.items;
-  output = f.output.items;
-  counts = f.body.value.counts;
+  me = f.shared.desk.directory.me;
+  lane = lane_of f.shared.body.value.lane (word_address f.lane.at);
+  local = local_of f.shared.body.value.local;
+  executed = f.lane.executed;
+  phase = phase_of f.lane.phase;
+  entry = entries_in f.shared.desk.directory.layout f.shared.desk.directory.me
+      (entry_at f.shared.desk.directory.entries);
+  waiting = (entries_of f.shared.desk.directory).waiting;
+  occupancy = (entries_of f.shared.desk.directory).occupancy;
+  wait = wait_of f.shared.desk.waits;
+  byes = members f.shared.byes;
+  stamp = f.shared.stamp;
+  journal = f.shared.journal.items;
+  output = f.shared.output.items;
+  counts = f.shared.body.value.counts;
 }
 
 -- there is room for one entry of the journal and one byte of output
-pub record HasRoom (f : Frame) : Type 0 where
-  pub journal : length f.journal.items < vec_capacity f.journal
-  pub output : length f.output.items < vec_capacity f.output
+abbrev pub HasRoom : Frame → Type 0
+HasRoom f = states.HasRoom f.shared
 
 -- the parts of the protocol are of one layout, and the two buffers are in the pool or belong to
 -- waits
@@ -112,17 +112,21 @@ HasBegun following_by.GoesOn waits = waits ≡ 0
 HasBegun (following_by.Waits resume want) waits = 0 < waits
 HasBegun (following_by.Leaves exit) waits = waits ≡ 0
 
+-- what is true of every processor
+pub record IsLaneState (l : LaneState) : Type 0 where
+  pub within : l.executed ≤ l.budget
+  pub going : can_execute (phase_of l.phase) ≡ true → l.executed < l.budget
+  pub range : IsBudget l.budget
+  pub short : length l.image.now ≤ most_words
+
 -- what is true of every node
 pub record IsNode (f : Frame) : Type 0 where
-  pub within : f.executed ≤ f.budget
-  pub going : can_execute (phase_of f.phase) ≡ true → f.executed < f.budget
-  pub range : IsBudget f.budget
-  pub short : length f.image.now ≤ most_words
-  pub desk : IsDesk (layout_of f.body.value) f.desk
-  pub waits : WaitsInPhase (phase_of f.phase) (length f.desk.waits.waits)
-  pub noted : f.noted ≡ words_before f.journal.items
-  pub behind : f.noted ≤ f.executed
-  pub counts : AreCountsBelow (19 * f.stamp) f.body.value.counts
+  pub lane : IsLaneState f.lane
+  pub desk : IsDesk (layout_of f.shared.body.value) f.shared.desk
+  pub waits : WaitsInPhase (phase_of f.lane.phase) (length f.shared.desk.waits.waits)
+  pub noted : f.shared.noted ≡ words_before f.shared.journal.items
+  pub behind : f.shared.noted ≤ f.lane.executed
+  pub counts : AreCountsBelow (19 * f.shared.stamp) f.shared.body.value.counts
 
 -- the node with what it has of blocks, its counts and the Byes, as they are stored here
 abbrev pub with_all : Node → Body → Desk → List Bool → Node

@@ -7,18 +7,19 @@ use Rattle.node_machine.specs.Frame.{IsNode}
 
 -- the trail takes a node back to another
 pub record TakesNodeBack (t : Trail) (f first : Frame) : Type 0 where
-  pub words : TakesBack t.words.saved t.words.notes.items f.body.value.lane f.body.value.local
-      first.body.value.lane first.body.value.local
-  pub counts : f.body.value.counts ≡ first.body.value.counts
-  pub at : t.at ≡ first.at
-  pub executed : t.executed ≡ first.executed
-  pub stamp : t.stamp ≡ first.stamp
-  pub phase : t.phase ≡ first.phase
-  pub image : f.image.now ≡ first.image.now
-  pub budget : f.budget ≡ first.budget
-  pub desk : f.desk ≡ first.desk
-  pub byes : f.byes ≡ first.byes
-  pub journal : f.journal.items ≡ first.journal.items
-  pub noted : f.noted ≡ first.noted
-  pub output : f.output.items ≡ first.output.items
+  pub words : TakesBack t.words.saved t.words.notes.items
+      f.shared.body.value.lane f.shared.body.value.local
+      first.shared.body.value.lane first.shared.body.value.local
+  pub counts : f.shared.body.value.counts ≡ first.shared.body.value.counts
+  pub at : t.at ≡ first.lane.at
+  pub executed : t.executed ≡ first.lane.executed
+  pub stamp : t.stamp ≡ first.shared.stamp
+  pub phase : t.phase ≡ first.lane.phase
+  pub image : f.lane.image.now ≡ first.lane.image.now
+  pub budget : f.lane.budget ≡ first.lane.budget
+  pub desk : f.shared.desk ≡ first.shared.desk
+  pub byes : f.shared.byes ≡ first.shared.byes
+  pub journal : f.shared.journal.items ≡ first.shared.journal.items
+  pub noted : f.shared.noted ≡ first.shared.noted
+  pub output : f.shared.output.items ≡ first.shared.output.items
   pub is_node : IsNode first

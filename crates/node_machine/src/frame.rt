@@ -1,30 +1,24 @@
 //! What a node stores, and its events. How the parts fit together is said by each call's clauses,
 //! and kept by the type of the node above it.
 
-ghost use Rattle.std.specs.Prelude.{◌≡◌, ◌+◌, ◌*◌, ◌^◌, ◌<◌, ◌≤◌, ◌&&◌, ◌++◌, ◌⊎◌, ◌==◌};
+ghost use Rattle.std.specs.Prelude.{◌≡◌, ◌+◌, ◌*◌, ◌^◌, ◌<◌, ◌≤◌, ◌&&◌, ◌++◌, ◌⊎◌};
 ghost use Rattle.std.specs.Prelude.{if◌then◌else◌, ℕ, [], true, false, None, Option, length};
-ghost use Rattle.std.specs.Vec.{vec_capacity};
 ghost use Rattle.node_model.specs.Node as model;
 ghost use Rattle.node_model.specs.Turns as turns;
-ghost use Rattle.node_words.specs.Address.{word_address};
-ghost use Rattle.node_words.specs.Kept.{ground_of, local_of, lane_of, phase_by, wants_by};
+ghost use Rattle.node_words.specs.Kept.{ground_of, local_of, wants_by};
 ghost use Rattle.node_machine.specs.Wanted.{wants_along, wanted_in, wants_of_word};
 ghost use Rattle.node_machine.specs.Frame.{work_of, node_of, layout_of, with_parts, phase_of};
 ghost use Rattle.node_machine.specs.Frame.{HasRoom, IsNode, IsDesk, AreCountsBelow, HasBegun};
-ghost use Rattle.node_machine.specs.Frame.{with_all, phase_resumed, lane_after_wait};
-ghost use Rattle.node_machine.specs.Frame.{counts_after_wait};
-ghost use Rattle.node_words.specs.GoingOn.{phase_on};
+ghost use Rattle.node_machine.specs.Frame.{with_all};
 ghost use Rattle.node_machine.specs.Desk.{turn_by, AreUnmet};
 ghost use Rattle.node_machine.specs.Runs.{HasExecuted, GoesOnBy};
 
 use crate::desk::Desk;
+use crate::phase::{Phase, phase_on};
+use crate::states::{LaneState, SharedState};
 use crate::wanted::WantedBlocks;
-use exec_map::End;
 use home_directory::{Message, Post, Sends, Wire};
-use jump_map::Image;
-use node_model::{Entry, OutByte};
-use node_words::{Body, Following, Resume};
-use run_limits::Budget;
+use node_words::{Body, Following};
 
 /// What a node did in one event, but for what it sent.
 #[derive(Drop)]
@@ -42,37 +36,11 @@ pub struct WordTurn {
     pub wants: Option<WantedBlocks>,
 }
 
-/// Whether a processor runs, has just got what it waited for, waits for blocks, or has ended.
-#[derive(Clone, Copy, PartialEq, Eq)]
-pub enum Phase {
-    Running,
-    Resumed,
-    Waiting(Resume),
-    Ended(End),
-}
-
-/// What a node stores.
-///
-/// What words change is in a box of its own, so that the position and the count of words can stay
-/// in registers of the machine while words are executed.
+/// What a node of one processor stores: what is the processor's own, and what it would share.
 #[derive(Drop)]
 pub struct Frame<'a> {
-    pub image: &'a Image,
-    pub budget: Budget,
-    pub body: Box<Body<'a>>,
-    pub desk: Desk,
-    /// The index of its next word.
-    pub at: u32,
-    pub executed: u64,
-    pub phase: Phase,
-    /// The nodes whose Byes it has taken.
-    pub byes: [bool; 256],
-    /// The stamp of its last event.
-    pub stamp: u64,
-    pub journal: Vec<Entry>,
-    /// How many words the journal has.
-    pub noted: u64,
-    pub output: Vec<OutByte>,
+    pub lane: LaneState<'a>,
+    pub shared: SharedState<'a>,
 }
 
 impl<'a> Frame<'a> {
@@ -81,17 +49,17 @@ impl<'a> Frame<'a> {
         requires node { IsNode self.old }
         requires may { model.can_execute (node_of self.old).phase ≡ true }
         requires room { HasRoom self.old }
-        requires stamp { self.old.stamp < 2 ^ 56 }
+        requires stamp { self.old.shared.stamp < 2 ^ 56 }
         ensures turn { turn_by (node_of self.new) sends.new.items result.output
             ≡ turns.word_turn (work_of self.old) (node_of self.old) }
-        ensures stamp { result.stamp ≡ self.new.stamp }
+        ensures stamp { result.stamp ≡ self.new.shared.stamp }
         ensures work { work_of self.new ≡ work_of self.old }
         ensures node { IsNode self.new }
     {
         sends.clear();
         if self.pass() {
             return Turn {
-                stamp: self.stamp,
+                stamp: self.shared.stamp,
                 output: None,
             };
         }
@@ -103,12 +71,12 @@ impl<'a> Frame<'a> {
         requires node { IsNode self.old }
         requires may { model.can_execute (node_of self.old).phase ≡ true }
         requires room { HasRoom self.old }
-        requires stamp { self.old.stamp < 2 ^ 56 }
+        requires stamp { self.old.shared.stamp < 2 ^ 56 }
         ensures turn { turn_by (node_of self.new) sends.new.items result.turn.output
             ≡ turns.word_turn (work_of self.old) (node_of self.old) }
         ensures wants { wanted_in result.wants
             ≡ wants_of_word (work_of self.old) (node_of self.old) }
-        ensures stamp { result.turn.stamp ≡ self.new.stamp }
+        ensures stamp { result.turn.stamp ≡ self.new.shared.stamp }
         ensures work { work_of self.new ≡ work_of self.old }
         ensures node { IsNode self.new }
     {
@@ -122,7 +90,7 @@ impl<'a> Frame<'a> {
     pub fn pass(&mut self) -> bool
         requires node { IsNode self.old }
         requires may { model.can_execute (node_of self.old).phase ≡ true }
-        requires stamp { self.old.stamp < 2 ^ 56 }
+        requires stamp { self.old.shared.stamp < 2 ^ 56 }
         ensures passed { result ≡ true →
             (turns.word_turn (work_of self.old) (node_of self.old) ≡ turns.quiet (node_of self.new))
             × (model.can_execute (node_of self.new).phase ≡ true) }
@@ -130,15 +98,15 @@ impl<'a> Frame<'a> {
         ensures work { work_of self.new ≡ work_of self.old }
         ensures node { IsNode self.new }
     {
-        if self.executed + 1 >= self.budget.number() {
+        if self.lane.executed + 1 >= self.lane.budget.number() {
             return false;
         }
-        match self.body.step_at(self.image, self.at) {
+        match self.shared.body.step_at(self.lane.image, self.lane.at) {
             Some(at) => {
-                self.at = at;
-                self.executed += 1;
-                self.stamp += 1;
-                self.phase = Phase::Running;
+                self.lane.at = at;
+                self.lane.executed += 1;
+                self.shared.stamp += 1;
+                self.lane.phase = Phase::Running;
                 true
             }
             None => false,
@@ -151,24 +119,27 @@ impl<'a> Frame<'a> {
     pub fn go_on(&mut self, most: u64) -> u64
         requires node { IsNode self.old }
         requires may { model.can_execute (node_of self.old).phase ≡ true }
-        requires stamp { self.old.stamp < 2 ^ 56 }
+        requires stamp { self.old.shared.stamp < 2 ^ 56 }
         ensures goes_on { GoesOnBy (work_of self.old) result (node_of self.old) (node_of self.new) }
         ensures may { model.can_execute (node_of self.new).phase ≡ true }
         ensures most { result ≤ most }
-        ensures stamp { self.new.stamp < 2 ^ 56 }
+        ensures stamp { self.new.shared.stamp < 2 ^ 56 }
         ensures room { HasRoom self.old → HasRoom self.new }
         ensures work { work_of self.new ≡ work_of self.old }
         ensures node { IsNode self.new }
     {
         let left = most_words(
-            self.budget.number() - self.executed - 1,
-            STAMPS - self.stamp - 1,
+            self.lane.budget.number() - self.lane.executed - 1,
+            STAMPS - self.shared.stamp - 1,
         );
-        let stretch = self.body.run(self.image, self.at, most_words(most, left));
-        self.at = stretch.at;
-        self.executed += stretch.words;
-        self.stamp += stretch.words;
-        self.phase = phase_on(self.phase, stretch.words);
+        let stretch = self
+            .shared
+            .body
+            .run(self.lane.image, self.lane.at, most_words(most, left));
+        self.lane.at = stretch.at;
+        self.lane.executed += stretch.words;
+        self.shared.stamp += stretch.words;
+        self.lane.phase = phase_on(self.lane.phase, stretch.words);
         stretch.words
     }
 
@@ -178,10 +149,10 @@ impl<'a> Frame<'a> {
         requires node { IsNode self.old }
         requires may { model.can_execute (node_of self.old).phase ≡ true }
         requires room { HasRoom self.old }
-        requires stamp { self.old.stamp < 2 ^ 56 }
+        requires stamp { self.old.shared.stamp < 2 ^ 56 }
         ensures ran { HasExecuted (work_of self.old) (node_of self.old) (node_of self.new)
             sends.new.items result.output }
-        ensures stamp { result.stamp ≡ self.new.stamp }
+        ensures stamp { result.stamp ≡ self.new.shared.stamp }
         ensures work { work_of self.new ≡ work_of self.old }
         ensures node { IsNode self.new }
     {
@@ -194,44 +165,31 @@ impl<'a> Frame<'a> {
     pub fn take(&mut self, from: u8, wire: Wire, sends: &mut Sends) -> Turn
         requires node { IsNode self.old }
         requires room { HasRoom self.old }
-        requires stamp { self.old.stamp < 2 ^ 56 }
+        requires stamp { self.old.shared.stamp < 2 ^ 56 }
         requires wire { wire.stamp < 2 ^ 56 }
         ensures turn { turn_by (node_of self.new) sends.new.items result.output
             ≡ turns.take_turn (work_of self.old) (node_of self.old) from wire }
-        ensures stamp { result.stamp ≡ self.new.stamp }
+        ensures stamp { result.stamp ≡ self.new.shared.stamp }
         ensures work { work_of self.new ≡ work_of self.old }
         ensures node { IsNode self.new }
     {
-        let was_ended = is_ended(self.phase);
-        self.stamp = later(self.stamp, wire.stamp) + 1;
-        self.journal.push_reserved(Entry {
-            stamp: self.stamp,
-            from,
-            words: self.executed - self.noted,
-        });
-        self.noted = self.executed;
+        let was_ended = self.lane.has_ended();
+        let executed = self.lane.executed;
+        self.shared.note_take(from, wire.stamp, executed);
+        let shared = &mut self.shared;
         treat(
-            &mut self.desk,
-            &mut self.body,
-            &mut self.byes,
+            &mut shared.desk,
+            &mut shared.body,
+            &mut shared.byes,
             from,
             wire.message,
             sends,
         );
-        let pending = self.desk.waits.pending();
-        let position = resumed(
-            &mut self.body,
-            self.phase,
-            self.at,
-            pending,
-            self.budget,
-            self.executed,
-        );
-        self.at = position.at;
-        self.phase = position.phase;
+        let pending = shared.desk.waits.pending();
+        self.lane.resume(&mut self.shared.body, pending);
         if was_ended {
             return Turn {
-                stamp: self.stamp,
+                stamp: self.shared.stamp,
                 output: None,
             };
         }
@@ -244,10 +202,10 @@ impl<'a> Frame<'a> {
         requires node { IsNode self.old }
         requires may { model.can_execute (node_of self.old).phase ≡ true }
         requires room { HasRoom self.old }
-        requires stamp { self.old.stamp < 2 ^ 56 }
+        requires stamp { self.old.shared.stamp < 2 ^ 56 }
         ensures turn { turn_by (node_of self.new) sends.new.items result.output
             ≡ turns.word_turn (work_of self.old) (node_of self.old) }
-        ensures stamp { result.stamp ≡ self.new.stamp }
+        ensures stamp { result.stamp ≡ self.new.shared.stamp }
         ensures work { work_of self.new ≡ work_of self.old }
         ensures node { IsNode self.new }
     {
@@ -260,22 +218,20 @@ impl<'a> Frame<'a> {
         requires node { IsNode self.old }
         requires may { model.can_execute (node_of self.old).phase ≡ true }
         requires room { HasRoom self.old }
-        requires stamp { self.old.stamp < 2 ^ 56 }
+        requires stamp { self.old.shared.stamp < 2 ^ 56 }
         ensures turn { turn_by (node_of self.new) sends.new.items result.turn.output
             ≡ turns.word_turn (work_of self.old) (node_of self.old) }
         ensures wants { wanted_in result.wants
             ≡ wants_of_word (work_of self.old) (node_of self.old) }
-        ensures stamp { result.turn.stamp ≡ self.new.stamp }
+        ensures stamp { result.turn.stamp ≡ self.new.shared.stamp }
         ensures work { work_of self.new ≡ work_of self.old }
         ensures node { IsNode self.new }
     {
-        let served = self.body.serve(self.image, self.at);
-        self.at = served.at;
-        self.executed += 1;
-        self.stamp += 1;
-        self.phase = phase_by(self.budget, self.executed, served.following);
-        print(&mut self.output, self.stamp, served.output);
-        let wants = ask(&mut self.desk, &mut self.body, served.following, sends);
+        let served = self.shared.body.serve(self.lane.image, self.lane.at);
+        self.lane.advance(served);
+        self.shared.note_word(served.output);
+        let shared = &mut self.shared;
+        let wants = ask(&mut shared.desk, &mut shared.body, served.following, sends);
         WordTurn {
             turn: self.turn(sends, served.output),
             wants,
@@ -285,17 +241,17 @@ impl<'a> Frame<'a> {
     /// The turn that ends with a node so, once this was sent and printed: a node that has just
     /// ended says so to all nodes.
     fn turn(&self, sends: &mut Sends, output: Option<u8>) -> Turn
-        requires few { turns.is_ended (phase_of self.now.phase) ≡ true
+        requires few { turns.is_ended (phase_of self.now.lane.phase) ≡ true
             → length sends.old.items ≤ 2 }
         ensures turn { turn_by (node_of self.now) sends.new.items result.output
-            ≡ turns.with_byes (layout_of self.now.body.value).nodes
+            ≡ turns.with_byes (layout_of self.now.shared.body.value).nodes
             (turn_by (node_of self.now) sends.old.items output)
-            (turns.is_ended (phase_of self.now.phase)) }
-        ensures stamp { result.stamp ≡ self.now.stamp }
+            (turns.is_ended (phase_of self.now.lane.phase)) }
+        ensures stamp { result.stamp ≡ self.now.shared.stamp }
     {
-        add_byes(sends, self.body.local.nodes(), is_ended(self.phase));
+        add_byes(sends, self.shared.body.local.nodes(), self.lane.has_ended());
         Turn {
-            stamp: self.stamp,
+            stamp: self.shared.stamp,
             output,
         }
     }
@@ -310,96 +266,6 @@ pub fn most_words(a: u64, b: u64) -> u64
     ensures second { result ≤ b }
 {
     if a < b { a } else { b }
-}
-
-/// The phase of a node that may execute words, after so many that go on.
-pub fn phase_on(phase: Phase, words: u64) -> Phase
-    ensures { phase_of result ≡ phase_on (phase_of phase) words }
-{
-    if words == 0 { phase } else { Phase::Running }
-}
-
-/// The phase of a node that has executed so many words and has nothing pending: the one given, or
-/// stopped by its budget.
-pub fn stop_or(budget: Budget, executed: u64, phase: Phase) -> Phase
-    ensures { phase_of result ≡ model.stop_or budget executed (phase_of phase) }
-{
-    if executed == budget.number() {
-        Phase::Ended(End::Stopped(executed))
-    } else {
-        phase
-    }
-}
-
-/// The phase after a word, by what follows it.
-pub fn phase_by(budget: Budget, executed: u64, following: Following) -> Phase
-    ensures { phase_of result ≡ phase_by budget executed following }
-{
-    match following {
-        Following::GoesOn => stop_or(budget, executed, Phase::Running),
-        Following::Waits(resume, _) => Phase::Waiting(resume),
-        Following::Leaves(exit) => Phase::Ended(End::Exited(exit)),
-    }
-}
-
-/// Whether a processor has ended.
-pub fn is_ended(phase: Phase) -> bool
-    ensures { result ≡ turns.is_ended (phase_of phase) }
-{
-    match phase {
-        Phase::Ended(_) => true,
-        _ => false,
-    }
-}
-
-/// Where a processor is: the index of its next word, and its phase.
-#[derive(Clone, Copy, PartialEq, Eq)]
-pub struct Position {
-    pub at: u32,
-    pub phase: Phase,
-}
-
-/// Where a processor is after a message, with so many waits left: where none is left it goes on by
-/// what its word's lines allow now, or is stopped by its budget.
-fn resumed(
-    body: &mut Body<'_>,
-    phase: Phase,
-    at: u32,
-    pending: u8,
-    budget: Budget,
-    executed: u64,
-) -> Position
-    requires counts { AreCountsBelow (2 ^ 63) body.old.counts }
-    ensures phase { phase_of result.phase
-        ≡ phase_resumed budget executed (pending == 0) (phase_of phase) }
-    ensures resumed { let old = lane_of body.old.lane (word_address at) in
-        lane_of body.new.lane (word_address result.at)
-        ≡ lane_after_wait (local_of body.old.local) (pending == 0) (phase_of phase) old }
-    ensures counts { body.new.counts ≡ counts_after_wait (local_of body.old.local) (pending == 0)
-        (phase_of phase) body.old.counts }
-    ensures lane { body.new.lane ≡ body.old.lane }
-    ensures local { body.new.local ≡ body.old.local }
-{
-    match phase {
-        Phase::Waiting(resume) => {
-            if pending == 0 {
-                Position {
-                    at: body.resume(resume, at),
-                    phase: stop_or(budget, executed, Phase::Resumed),
-                }
-            } else {
-                Position { at, phase }
-            }
-        }
-        Phase::Running | Phase::Resumed | Phase::Ended(_) => Position { at, phase },
-    }
-}
-
-/// The greater of two stamps.
-pub fn later(s: u64, t: u64) -> u64
-    ensures { result ≡ turns.later s t }
-{
-    if s < t { t } else { s }
 }
 
 /// A message from a node: a Bye is noted, another has its row.
@@ -433,17 +299,6 @@ pub fn treat(
             sends.clear();
         }
         message => desk.treat(body, from, message, sends),
-    }
-}
-
-/// Keeps a byte that was printed, where one was.
-pub fn print(output: &mut Vec<OutByte>, stamp: u64, byte: Option<u8>)
-    requires { length output.old.items < vec_capacity output.old }
-    ensures { output.new.items ≡ model.printed_also output.old.items stamp byte }
-{
-    match byte {
-        Some(byte) => output.push_reserved(OutByte { stamp, byte }),
-        None => {}
     }
 }
 

@@ -1,9 +1,12 @@
 //! Where a node was, to see whether it comes round in a loop that changes nothing.
 
+ghost use Rattle.std.specs.Prelude.{◌≡◌};
+ghost use Rattle.micro_op.specs.Micro.{sum_address};
+ghost use Rattle.node_machine.specs.Frame.{node_of};
+
 use crate::frame::Frame;
 use jump_map::ImageWord;
 use micro_op::{MicroKind, MicroOp};
-use node_words::address_of;
 use runtime_words::RtWord;
 use rv32_decode::{Instr, Reg};
 
@@ -24,37 +27,45 @@ impl<'a> Frame<'a> {
     pub fn mark(&self) -> Mark {
         let mut registers = [0; 32];
         for number in 1..32_u8 {
-            registers[number as usize] = self.body.lane.registers.get(Reg::new(number));
+            registers[number as usize] = self.shared.body.lane.registers.get(Reg::new(number));
         }
         Mark {
-            at: self.at,
+            at: self.lane.at,
             registers,
-            spills: self.body.lane.spills,
+            spills: self.shared.body.lane.spills,
         }
     }
 
     /// Whether the node is where it was, with the same in its registers.
     pub fn is_at(&self, mark: &Mark) -> bool {
-        self.at == mark.at && self.mark() == *mark
+        self.lane.at == mark.at && self.mark() == *mark
     }
 
     /// Whether the next word may change more than what a [`Mark`] keeps. One that waits, or that
     /// reserves an address, may change more too, and isn't counted.
     pub fn stirs(&self) -> bool {
-        match self.image.micro(self.at) {
+        match self.lane.image.micro(self.lane.at) {
             Some(op) => match op.kind {
                 MicroKind::StoreByte | MicroKind::StoreHalf => true,
                 MicroKind::StoreWord => self.address_by(op) < SPILLS,
-                MicroKind::Rare => word_stirs(self.image.fetch(address_of(self.at))),
+                MicroKind::Rare => word_stirs(self.lane.next_word()),
                 _ => false,
             },
             None => true,
         }
     }
 
-    /// The address that a micro-op stores to.
-    fn address_by(&self, op: &MicroOp) -> u32 {
-        self.body.lane.registers.get(op.rs1).wrapping_add(op.imm)
+    /// The address that a micro-op loads from or stores to.
+    #[inline(always)]
+    pub(crate) fn address_by(&self, op: &MicroOp) -> u32
+        ensures { result ≡ sum_address op.now (node_of self.now).lane.registers }
+    {
+        self.shared
+            .body
+            .lane
+            .registers
+            .get(op.rs1)
+            .wrapping_add(op.imm)
     }
 }
 

@@ -2,7 +2,7 @@
 
 ghost use Rattle.std.specs.Prelude.{◌≡◌, ◌+◌, ◌^◌, ◌<◌, ◌==◌, ◌≤◌, ℕ, true, false, None, IfOk};
 ghost use Rattle.std.specs.Prelude.{OnOk, if◌then◌else◌, length, option_and_then, is_some};
-ghost use Rattle.std.specs.Prelude.{MatchOption, Some};
+ghost use Rattle.std.specs.Prelude.{MatchOption, Some, IfSome};
 ghost use Rattle.block_layout.specs.Layout.{blocks};
 ghost use Rattle.rv32_decode.specs.Widths.{width_of, is_aligned};
 ghost use Rattle.rv32_step.specs.Registers.{reg, registers_of};
@@ -17,13 +17,17 @@ ghost use Rattle.node_model.specs.Turns as turns;
 ghost use Rattle.node_machine.specs.Wanted.{wanted_in, wants_of_word};
 ghost use Rattle.node_machine.specs.Frame.{node_of, work_of, HasRoom};
 ghost use Rattle.node_machine.specs.Runs.{HasExecuted, GoesOnBy};
+ghost use Rattle.node_machine.specs.Touch.{IsTouch};
 ghost use Rattle.node_machine.specs.Trails.{TakesNodeBack};
 ghost use Rattle.node_machine.specs.declared.frame.Frame.{Frame as Stored};
 
 use crate::desk::Desk;
-use crate::frame::{Frame, Phase, Turn, WordTurn};
+use crate::frame::{Frame, Turn, WordTurn};
 use crate::mark::Mark;
 use crate::opening::first_local;
+use crate::phase::Phase;
+use crate::states::{LaneState, SharedState};
+use crate::touch::Touch;
 use crate::trail::Trail;
 use block_layout::{Block, Layout, layout_law};
 use buf_pool::Pool;
@@ -108,18 +112,22 @@ impl<'a> Node<'a> {
         };
         Ok(Node {
             frame: Frame {
-                image,
-                budget,
-                body: Box::new(alloc, body)?,
-                desk,
-                at: index_of(image.new_of(program.entry()).unwrap_or(0)),
-                executed: 0,
-                phase: Phase::Running,
-                byes: [false; 256],
-                stamp: 0,
-                journal: Vec::new(alloc),
-                noted: 0,
-                output: Vec::new(alloc),
+                lane: LaneState {
+                    image,
+                    budget,
+                    at: index_of(image.new_of(program.entry()).unwrap_or(0)),
+                    executed: 0,
+                    phase: Phase::Running,
+                },
+                shared: SharedState {
+                    body: Box::new(alloc, body)?,
+                    desk,
+                    byes: [false; 256],
+                    stamp: 0,
+                    journal: Vec::new(alloc),
+                    noted: 0,
+                    output: Vec::new(alloc),
+                },
             },
         })
     }
@@ -128,42 +136,42 @@ impl<'a> Node<'a> {
     pub fn end(&self) -> Option<End>
         ensures value { result ≡ model.end_of (node_of self.now).phase }
     {
-        match self.frame.phase {
-            Phase::Ended(end) => Some(end),
-            _ => None,
-        }
+        self.frame.lane.end()
     }
 
     /// What the node has counted.
     pub fn counts(&self) -> NodeCounts
         ensures value { result ≡ (node_of self.now).counts }
     {
-        self.frame.body.counts
+        self.frame.shared.body.counts
     }
 
     /// How many buffers are in the node's pool: those of its two that it hasn't taken for a wait.
     pub fn free(&self) -> u8
-        ensures { result + length self.now.desk.waits.waits ≡ 2 }
+        ensures { result + length self.now.shared.desk.waits.waits ≡ 2 }
     {
-        self.frame.desk.pool.free()
+        self.frame.shared.desk.pool.free()
     }
 
     /// The stamp of the node's last event.
     pub fn stamp(&self) -> u64
         ensures value { result ≡ (node_of self.now).stamp }
     {
-        self.frame.stamp
+        self.frame.shared.stamp
     }
 
     /// What the node may do next.
     pub fn standing(&self) -> Standing
         ensures value { result ≡ model.standing_of (work_of self.now) (node_of self.now) }
     {
-        match self.frame.phase {
-            Phase::Running => standing_at(self.frame.image.fetch(address_of(self.frame.at))),
+        match self.frame.lane.phase {
+            Phase::Running => standing_at(self.frame.lane.next_word()),
             Phase::Resumed => Standing::Running,
             Phase::Waiting(_) => Standing::Waiting,
-            Phase::Ended(_) => ended_standing(&self.frame.byes, self.frame.body.local.nodes()),
+            Phase::Ended(_) => ended_standing(
+                &self.frame.shared.byes,
+                self.frame.shared.body.local.nodes(),
+            ),
         }
     }
 
@@ -171,7 +179,15 @@ impl<'a> Node<'a> {
     pub fn next_word(&self) -> Option<ImageWord>
         ensures value { result ≡ fetch (work_of self.now).image (node_of self.now).lane.at }
     {
-        self.frame.image.fetch(address_of(self.frame.at))
+        self.frame.lane.next_word()
+    }
+
+    /// What the next word does to memory, where its micro-op tells: that one counts nothing.
+    #[inline(always)]
+    pub fn touch(&self) -> Option<Touch>
+        ensures { IfSome result (IsTouch (work_of self.now) (node_of self.now)) }
+    {
+        self.frame.touch()
     }
 
     /// What a register holds.
@@ -185,7 +201,7 @@ impl<'a> Node<'a> {
     pub fn registers(&self) -> &Registers
         ensures value { registers_of result.now ≡ (node_of self.now).lane.registers }
     {
-        &self.frame.body.lane.registers
+        &self.frame.shared.body.lane.registers
     }
 
     /// What a load from an aligned address gives.
@@ -194,21 +210,21 @@ impl<'a> Node<'a> {
         ensures value { result ≡ load_value kind (model.byte_at (work_of self.now).program
             (node_of self.now).lane (node_of self.now).local) address }
     {
-        self.frame.body.value(kind, address)
+        self.frame.shared.body.value(kind, address)
     }
 
     /// How many bytes a write in progress has written.
     pub fn written(&self) -> u32
         ensures value { result ≡ (node_of self.now).lane.written }
     {
-        self.frame.body.lane.written
+        self.frame.shared.body.lane.written
     }
 
     /// The address that the processor has reserved.
     pub fn reserved(&self) -> Option<u32>
         ensures value { result ≡ (node_of self.now).local.reservation }
     {
-        self.frame.body.local.reserved()
+        self.frame.shared.body.local.reserved()
     }
 
     /// The state of a block.
@@ -218,15 +234,15 @@ impl<'a> Node<'a> {
             ≡ (turns.block_at (work_of self.now).layout (node_of self.now) block).state }
     {
         layout_law();
-        self.frame.body.local.laws();
-        self.frame.body.local.block_state(block)
+        self.frame.shared.body.local.laws();
+        self.frame.shared.body.local.block_state(block)
     }
 
     /// Whether the node waits for a block.
     pub fn waits_for(&self, block: Block) -> bool
         ensures value { result ≡ is_some ((node_of self.now).wait block) }
     {
-        self.frame.desk.waits.waits_for(block)
+        self.frame.shared.desk.waits.waits_for(block)
     }
 
     /// The wait for a block.
@@ -234,7 +250,7 @@ impl<'a> Node<'a> {
         ensures value { MatchOption result ((node_of self.now).wait block ≡ None)
             (λ w. (node_of self.now).wait block ≡ Some w.now) }
     {
-        self.frame.desk.waits.wait(block)
+        self.frame.shared.desk.waits.wait(block)
     }
 
     /// The request that the home of a block is busy with, where this node is the home.
@@ -242,35 +258,35 @@ impl<'a> Node<'a> {
         requires block { block < blocks (work_of self.now).layout }
         ensures value { result ≡ ((node_of self.now).entry block).busy }
     {
-        self.frame.desk.directory.busy(block)
+        self.frame.shared.desk.directory.busy(block)
     }
 
     /// How many requests wait at this home.
     pub fn pending(&self) -> u8
         ensures value { result ≡ (node_of self.now).occupancy }
     {
-        self.frame.desk.directory.pending()
+        self.frame.shared.desk.directory.pending()
     }
 
     /// The address of the word at which the processor goes on.
     pub fn at(&self) -> u32
         ensures value { result ≡ (node_of self.now).lane.at }
     {
-        address_of(self.frame.at)
+        address_of(self.frame.lane.at)
     }
 
     /// The takes of messages, in order.
     pub fn journal(&self) -> &[Entry]
         ensures value { result.now ≡ (node_of self.now).journal }
     {
-        &self.frame.journal
+        &self.frame.shared.journal
     }
 
     /// The bytes that the node printed, in order.
     pub fn output(&self) -> &[OutByte]
         ensures value { result.now ≡ (node_of self.now).output }
     {
-        &self.frame.output
+        &self.frame.shared.output
     }
 
     /// Makes room for one entry of the journal and one byte of output.
@@ -279,9 +295,7 @@ impl<'a> Node<'a> {
         ensures work { work_of self.new ≡ work_of self.old }
         ensures room { OnOk result (HasRoom self.new) }
     {
-        self.frame.journal.reserve(1)?;
-        self.frame.output.reserve(1)?;
-        Ok(())
+        self.frame.shared.make_room()
     }
 
     /// Executes one word, and leaves what it sends, in order.

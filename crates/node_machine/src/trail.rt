@@ -7,7 +7,8 @@ ghost use Rattle.node_machine.specs.Runs.{GoesOnBy};
 ghost use Rattle.node_machine.specs.Trails.{TakesNodeBack};
 ghost use Rattle.node_machine.specs.declared.frame.Frame as stored;
 
-use crate::frame::{Frame, Phase, most_words, phase_on};
+use crate::frame::{Frame, most_words};
+use crate::phase::{Phase, phase_on};
 use std::alloc::{AllocError, Global};
 
 /// What takes back words that a node has executed by their micro-ops.
@@ -40,7 +41,7 @@ impl<'a> Frame<'a> {
     pub fn pass_on(&mut self, most: u32, trail: &mut Trail) -> u64
         requires node { IsNode self.old }
         requires may { 1 ≤ most → model.can_execute (node_of self.old).phase ≡ true }
-        requires stamp { self.old.stamp < 2 ^ 56 }
+        requires stamp { self.old.shared.stamp < 2 ^ 56 }
         ensures goes_on { GoesOnBy (work_of self.old) result (node_of self.old) (node_of self.new) }
         ensures may { model.can_execute (node_of self.old).phase ≡ true
             → model.can_execute (node_of self.new).phase ≡ true }
@@ -49,19 +50,24 @@ impl<'a> Frame<'a> {
         ensures work { work_of self.new ≡ work_of self.old }
         ensures node { IsNode self.new }
     {
-        trail.at = self.at;
-        trail.executed = self.executed;
-        trail.stamp = self.stamp;
-        trail.phase = self.phase;
-        let left = self.budget.number().saturating_sub(self.executed + 1);
+        trail.at = self.lane.at;
+        trail.executed = self.lane.executed;
+        trail.stamp = self.shared.stamp;
+        trail.phase = self.lane.phase;
+        let left = self
+            .lane
+            .budget
+            .number()
+            .saturating_sub(self.lane.executed + 1);
         let most = most_words(u64::from(most), left);
         let stretch = self
+            .shared
             .body
-            .run_noting(self.image, self.at, most, &mut trail.words);
-        self.at = stretch.at;
-        self.executed += stretch.words;
-        self.stamp += stretch.words;
-        self.phase = phase_on(self.phase, stretch.words);
+            .run_noting(self.lane.image, self.lane.at, most, &mut trail.words);
+        self.lane.at = stretch.at;
+        self.lane.executed += stretch.words;
+        self.shared.stamp += stretch.words;
+        self.lane.phase = phase_on(self.lane.phase, stretch.words);
         stretch.words
     }
 
@@ -73,10 +79,10 @@ impl<'a> Frame<'a> {
         ensures work { work_of self.new ≡ work_of self.old }
         ensures node { IsNode self.new }
     {
-        self.body.take_back(&mut trail.words);
-        self.at = trail.at;
-        self.executed = trail.executed;
-        self.stamp = trail.stamp;
-        self.phase = trail.phase;
+        self.shared.body.take_back(&mut trail.words);
+        self.lane.at = trail.at;
+        self.lane.executed = trail.executed;
+        self.shared.stamp = trail.stamp;
+        self.lane.phase = trail.phase;
     }
 }

@@ -92,7 +92,7 @@ core_same w ns ms q0 q1 nodes wires t = record {
 
 pub turned : (w : LaneWork) (i : ℕ) (ns : List SmpNode) (y : SmpNode) (q1 q2 : List Queue)
     (stamp : ℕ) (posts : List Post) (out : Option ℕ) (base : LaneCore)
-    → i < length ns → stamp ≡ y.shared.stamp
+    → i < length ns → stamp ≡ y.shared.state.stamp
     → AreAlike w.work.layout.nodes (core_with w ns q1) base
     → IsSent q1 q2 w.work.layout.nodes i stamp posts
     → AreAlike w.work.layout.nodes (core_with w (set ns i y) q2)
@@ -125,7 +125,7 @@ sent_within stamp k most (p ∷ ps) le = let more = sent_within stamp k most ps 
 
 stamps_then : (w : LaneWork) (i : ℕ) (ns : List SmpNode) (y : SmpNode) (q1 q2 : List Queue)
     (stamp most : ℕ) (posts : List Post)
-    → i < length ns → stamp ≡ y.shared.stamp → y.shared.stamp ≤ most + 1
+    → i < length ns → stamp ≡ y.shared.state.stamp → y.shared.state.stamp ≤ most + 1
     → ((k : ℕ) → k < w.work.layout.nodes → ((core_with w ns q1).nodes k).shared.stamp ≤ most)
     → ((j k : ℕ) → j < w.work.layout.nodes → k < w.work.layout.nodes
     → All (λ (wire : Wire). wire.stamp ≤ most) (wires_of q1 w.work.layout.nodes j k))
@@ -162,7 +162,7 @@ pub executed : (w : LaneWork) (p : ℕ) (ns0 ns1 : List SmpNode) (q0 q1 q2 : Lis
     → IsSent q1 q2 w.work.layout.nodes (node_of w p) stamp posts
     → word_turn w (node_in w (node_of w p) x) (lane_of w p)
     ≡ lane_turn (node_in w (node_of w p) y) posts out
-    → stamp ≡ y.shared.stamp → y.shared.stamp ≡ x.shared.stamp + 1
+    → stamp ≡ y.shared.state.stamp → y.shared.state.stamp ≡ x.shared.state.stamp + 1
     → node_of w p < w.work.layout.nodes
     → o1 ≡ o0 → o2 ≡ o1 ++ option_to_list out
     → HaveMade w ns0 (set ns1 (node_of w p) y) q0 q2 o0 o2 (Exec p)
@@ -187,7 +187,7 @@ executed w p ns0 ns1 q0 q1 q2 o0 o1 o2 x y stamp posts out below is same sent tu
           ∙ word_printed w (node_in w i x) k
           ∙ ap (λ z. (word_outcome w.work (as_node z k)).printed) (sym was));
       stamps = λ most h.
-          let old : x.shared.stamp ≤ most =
+          let old : x.shared.state.stamp ≤ most =
           subst (λ (z : LaneNode). z.shared.stamp ≤ most) was (h.nodes i bi) in
           let here_now = subst (HasStamps n most) (sym same) h in
           stamps_then w i ns1 y q1 q2 stamp most posts below es (omega (arith, next, old))
@@ -202,7 +202,7 @@ pub taken : (w : LaneWork) (i j : ℕ) (ns0 ns1 : List SmpNode) (q0 q1 q2 q3 : L
     → IsTaken q1 q2 w.work.layout.nodes j i wire
     → IsSent q2 q3 w.work.layout.nodes i stamp posts
     → take_turn w (node_in w i x) j wire ≡ lane_turn (node_in w i y) posts out
-    → stamp ≡ y.shared.stamp → y.shared.stamp ≡ later x.shared.stamp wire.stamp + 1
+    → stamp ≡ y.shared.state.stamp → y.shared.state.stamp ≡ later x.shared.state.stamp wire.stamp + 1
     → i < w.work.layout.nodes → j < w.work.layout.nodes → o1 ≡ o0
     → HaveMade w ns0 (set ns1 i y) q0 q3 o0 o1 (Take i j)
 taken w i j ns0 ns1 q0 q1 q2 q3 o0 o1 x y stamp posts out wire below is same first sent turn es
@@ -230,13 +230,13 @@ taken w i j ns0 ns1 q0 q1 q2 q3 o0 o1 x y stamp posts out wire below is same fir
           (turned w i ns1 y q2 q3 stamp posts out base below es alike sent)));
       output = kept ∙ sym (append_none o0);
       stamps = λ most h.
-          let old : x.shared.stamp ≤ most =
+          let old : x.shared.state.stamp ≤ most =
           subst (λ (z : LaneNode). z.shared.stamp ≤ most) was (h.nodes i bi) in
           let now = subst (HasStamps n most) (sym same) h in
           let front = subst (All (λ (v : Wire). v.stamp ≤ most)) first.first (now.wires j i bj bi) in
           let wired : wire.stamp ≤ most = All-head (λ (v : Wire). v.stamp ≤ most) wire rest front in
           let left = All-tail (λ (v : Wire). v.stamp ≤ most) wire rest front in
-          let high = later_within x.shared.stamp wire.stamp most old wired in
+          let high = later_within x.shared.state.stamp wire.stamp most old wired in
           stamps_then w i ns1 y q2 q3 stamp most posts below es (omega (arith, next, high))
           now.nodes (λ a b ba bb. subst (All (λ (v : Wire). v.stamp ≤ most))
           (sym (first.others a b ba bb))

@@ -85,8 +85,8 @@ module _ (w : LaneWork) (me : ℕ) (x : SmpNode) (first : AreFirstLanes w me w.l
         → awaits_of (get_or x.lanes.items k d).awaits ≡ []
     none_awaited k d low = ap (λ (p : LanePart). p.awaits) (first.parts k d low)
 
-    pub first_is : program_of x.shared.body.value.local.program ≡ w.work.program
-        → layout_of x.shared.body.value ≡ w.work.layout → length x.shared.places.items ≡ w.lanes
+    pub first_is : program_of x.shared.state.body.value.local.program ≡ w.work.program
+        → layout_of x.shared.state.body.value ≡ w.work.layout → length x.shared.places.items ≡ w.lanes
         → ((k b : ℕ) → wait_at x.shared.places.items k b ≡ None) → x.shared.ended ≡ 0 → IsNode w x
     first_is program layout places none ended = record {
       lanes = record {

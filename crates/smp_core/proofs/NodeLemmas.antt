@@ -230,8 +230,8 @@ module _ (w : LaneWork) (x : SmpNode) (k : ℕ) (l m : LaneFrame) (y : SmpNode) 
   pub work_is : work_of l x.shared ≡ w
   work_is =
       let each = is.lanes.each k l low in
-      let image = ap (λ (z : LaneFrame). z.image.now) at ∙ each.image in
-      let budget = ap (λ (z : LaneFrame). z.budget) at ∙ each.budget in
+      let image = ap (λ (z : LaneFrame). z.state.image.now) at ∙ each.image in
+      let budget = ap (λ (z : LaneFrame). z.state.budget) at ∙ each.budget in
       λ t. record {
         work = record {
           program = is.lanes.program t;
@@ -489,7 +489,7 @@ module _ (w : LaneWork) (x y : SmpNode) (j : ℕ) (wire : Wire) (is : IsNode w x
 -- 5. A node with more room stands for the same
 
 pub same_node : (w : LaneWork) (x : SmpNode) (f : SharedFrame) → IsNode w x
-    → f.places.items ≡ x.shared.places.items → f.body.value ≡ x.shared.body.value
+    → f.places.items ≡ x.shared.places.items → f.state.body.value ≡ x.shared.state.body.value
     → f.ended ≡ x.shared.ended → IsNode w (record x { shared = f })
 same_node w x f is places body ended = record {
   lanes = record {

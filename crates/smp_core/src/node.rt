@@ -66,13 +66,13 @@ impl<'a> SmpNode<'a> {
         requires lane { lane < length self.old.lanes.items }
         requires may { CanExecute self.old lane }
         requires room { HasRoom self.old.shared }
-        requires stamp { self.old.shared.stamp < 2 ^ 56 }
+        requires stamp { self.old.shared.state.stamp < 2 ^ 56 }
         ensures is_node { (w : LaneWork) → IsNode w self.old → IsNode w self.new }
         ensures turn { (w : LaneWork) (i : ℕ) → IsNode w self.old
             → word_turn w (node_in w i self.old) lane
             ≡ lane_turn (node_in w i self.new) sends.new.items result.output }
-        ensures stamp { result.stamp ≡ self.new.shared.stamp }
-        ensures stamps { self.new.shared.stamp ≡ self.old.shared.stamp + 1 }
+        ensures stamp { result.stamp ≡ self.new.shared.state.stamp }
+        ensures stamps { self.new.shared.state.stamp ≡ self.old.shared.state.stamp + 1 }
     {
         self.lanes[lane as usize].exec(&mut self.shared, sends)
     }
@@ -81,14 +81,15 @@ impl<'a> SmpNode<'a> {
     pub fn take(&mut self, from: u8, wire: Wire, sends: &mut Sends) -> Turn
         requires node { (w : LaneWork) × IsNode w self.old }
         requires room { HasRoom self.old.shared }
-        requires stamp { self.old.shared.stamp < 2 ^ 56 }
+        requires stamp { self.old.shared.state.stamp < 2 ^ 56 }
         requires wire { wire.stamp < 2 ^ 56 }
         ensures is_node { (w : LaneWork) → IsNode w self.old → IsNode w self.new }
         ensures turn { (w : LaneWork) (i : ℕ) → IsNode w self.old
             → take_turn w (node_in w i self.old) from wire
             ≡ lane_turn (node_in w i self.new) sends.new.items result.output }
-        ensures stamp { result.stamp ≡ self.new.shared.stamp }
-        ensures stamps { self.new.shared.stamp ≡ later self.old.shared.stamp wire.stamp + 1 }
+        ensures stamp { result.stamp ≡ self.new.shared.state.stamp }
+        ensures stamps { self.new.shared.state.stamp
+            ≡ later self.old.shared.state.stamp wire.stamp + 1 }
     {
         self.shared.take(&mut self.lanes, from, wire, sends)
     }

@@ -11,6 +11,7 @@ use Rattle.node_model.specs.Node.{Node}
 use Rattle.node_model.specs.Turns.{byes_to, later, treated, words_before}
 use Rattle.node_machine.specs.Frame.{layout_of, phase_of, AreCountsBelow}
 use Rattle.node_machine.specs.Desk.{turn_by}
+use Rattle.node_machine.specs.declared.states.SharedState.{SharedState}
 use Rattle.node_machine.proofs.FrameLemmas.{counts_up}
 use Rattle.node_machine.proofs.TakeLemmas.{words_more, later_above}
 use Rattle.lane_model.specs.Turns.{after_message, counted, resumed, words_of}
@@ -31,22 +32,29 @@ both_not false e = let f : false ≡ true = e in cc
 pub receive-requires-clause-rest : goal.receive-requires-clause-rest
 receive-requires-clause-rest c =
     let f = c.args.shared.now in
-    subst (λ (b : Body). IsAtRest (layout_of b) f.desk f.places.items) (sym c.deref_mut.ensures.value) c.requires.shared.rest
+    let noted = c.note_take.ensures.same in
+    let body = c.deref_mut.ensures.value ∙ ap (λ (s : SharedState). s.body.value) noted in
+    subst (λ (s : SharedState). IsAtRest (layout_of c.deref_mut.result.now) s.desk f.places.items) (sym noted)
+    (subst (λ (b : Body). IsAtRest (layout_of b) f.state.desk f.places.items) (sym body) c.requires.shared.rest)
 
 pub receive-requires-clause-counts : goal.receive-requires-clause-counts
 receive-requires-clause-counts c =
     let f = c.args.shared.now in
+    let noted = c.note_take.ensures.same in
+    let body = c.deref_mut.ensures.value ∙ ap (λ (s : SharedState). s.body.value) noted in
     let stamp = c.requires.stamp in
-    subst (λ (b : Body). AreCountsBelow (2 ^ 63) b.counts) (sym c.deref_mut.ensures.value)
-    (counts_up (32 * f.stamp) (2 ^ 63) f.body.value.counts (omega (arith, stamp)) c.requires.shared.counts)
+    subst (λ (b : Body). AreCountsBelow (2 ^ 63) b.counts) (sym body)
+    (counts_up (32 * f.state.stamp) (2 ^ 63) f.state.body.value.counts (omega (arith, stamp)) c.requires.shared.counts)
 
 pub go_on-shared-requires-clause-counts : goal.go_on-shared-requires-clause-counts
 go_on-shared-requires-clause-counts c =
     let f = c.args.shared.now in
+    let noted = c.note_take.ensures.same in
+    let body = c.deref_mut.ensures.value ∙ ap (λ (s : SharedState). s.body.value) noted in
     let stamp = c.requires.stamp in
-    let old = subst (λ (b : Body). AreCountsBelow (32 * f.stamp) b.counts) (sym c.deref_mut.ensures.value) c.requires.shared.counts in
+    let old = subst (λ (b : Body). AreCountsBelow (32 * f.state.stamp) b.counts) (sym body) c.requires.shared.counts in
     subst (λ (b : Body). AreCountsBelow (2 ^ 62) b.counts) (sym c.deref_mut-2.ensures.value)
-    (counts_up (32 * f.stamp + 18) (2 ^ 62) c.receive.new.body.counts (omega (arith, stamp)) (c.receive.ensures.counts (32 * f.stamp) old))
+    (counts_up (32 * f.state.stamp + 18) (2 ^ 62) c.receive.new.body.counts (omega (arith, stamp)) (c.receive.ensures.counts (32 * f.state.stamp) old))
 
 pub add_byes-requires-clause-few : goal.add_byes-requires-clause-few
 add_byes-requires-clause-few c both =
@@ -65,7 +73,7 @@ add_byes-requires-clause-few c both =
     elim c.receive.ensures.few [
       | inl few ↦ omega (arith, few)
       | inr same ↦ (
-          let phases : (k : ℕ) (d : LaneFrame) → k < length ls → phase_of (get_or ls' k d).phase ≡ phase_of (get_or ls k d).phase =
+          let phases : (k : ℕ) (d : LaneFrame) → k < length ls → phase_of (get_or ls' k d).state.phase ≡ phase_of (get_or ls k d).state.phase =
           λ k d low. (c.go_on-shared.ensures.gone k d low).stays
           (λ b awaited. ap (λ (ps : List Place). is_some (wait_among (waits_in ps) b)) c.deref.ensures.value
           ∙ same b ∙ c.requires.held k d low b awaited) in
@@ -78,6 +86,9 @@ add_byes-requires-clause-few c both =
 pub returns-clause-node : goal.returns-clause-node
 returns-clause-node c w x are h =
     let f = c.args.shared.now in
+    let sh = c.note_take.new.self in
+    let noted = c.note_take.ensures.same in
+    let body = c.deref_mut.ensures.value ∙ ap (λ (s : SharedState). s.body.value) noted in
     let ls = c.args.lanes.now in
     let wire = c.args.wire in
     let from = c.args.from in
@@ -93,20 +104,21 @@ returns-clause-node c w x are h =
     let wait : wait_among (waits_in ps1) ≡ wait_among (waits_in c.deref.result.now) =
     ap (λ (ps : List Place). wait_among (waits_in ps)) (sym c.deref.ensures.value) in
     let f' : SharedFrame = record f {
-      body = with_value (with_value f.body b1) b2;
-      desk = d1;
+      state = record sh { body = with_value (with_value sh.body b1) b2; desk = d1; byes = byes1 };
       places = c.receive.new.places;
-      byes = byes1;
-      stamp = c.later.result + 1;
-      journal = c.push_reserved.new.self;
-      noted = f.noted + c.saturating_sub-words.result;
       ended = c.go_on-shared.result;
     } in
-    let turn : (n : Node) (k : ℕ) → n.me ≡ f.desk.directory.me
-    → treated (layout_of f.body.value) (seen_with n k f.body.value f.desk f.places.items f.byes) from wire.message
+    let turn : (n : Node) (k : ℕ) → n.me ≡ f.state.desk.directory.me
+    → treated (layout_of f.state.body.value) (seen_with n k f.state.body.value f.state.desk f.places.items f.state.byes) from wire.message
     ≡ turn_by (seen_with n k b1 d1 ps1 byes1) posts None =
-    λ n k me. subst (λ (b : Body). treated (layout_of b) (seen_with n k b f.desk f.places.items f.byes) from wire.message
-    ≡ turn_by (seen_with n k b1 d1 ps1 byes1) posts None) c.deref_mut.ensures.value (c.receive.ensures.turn n k me) in
+    λ n k of. subst (λ (s : SharedState). treated (layout_of f.state.body.value) (seen_with n k f.state.body.value s.desk f.places.items s.byes) from wire.message
+    ≡ turn_by (seen_with n k b1 d1 ps1 byes1) posts None) noted
+    (subst (λ (b : Body). treated (layout_of b) (seen_with n k b sh.desk f.places.items sh.byes) from wire.message
+    ≡ turn_by (seen_with n k b1 d1 ps1 byes1) posts None) body
+    (c.receive.ensures.turn n k (of ∙ ap (λ (s : SharedState). s.desk.directory.me) (sym noted)))) in
+    let me = c.receive.ensures.me ∙ ap (λ (s : SharedState). s.desk.directory.me) noted in
+    let stamp = ap (λ (s : SharedState). s.stamp) noted in
+    let output = ap (λ (s : SharedState). s.output.items) noted in
     let n = node_then w x from wire ls ls' f f' are h b1 d1 ps1 byes1 posts turn 0 in
     let parts : (k : ℕ) (d : LaneFrame) → k < length ls → resumed w.work n (x.lanes k) ≡ part_of (get_or ls' k d) =
     λ k d low. ap (resumed w.work n) (h.lanes k d low)
@@ -119,26 +131,27 @@ returns-clause-node c w x are h =
     let counts : b2.counts ≡ counted n x.lanes w.lanes =
     c.go_on-shared.ensures.counts n x wait state (sym (ap (λ (b : Body). b.counts) c.deref_mut-2.ensures.value)) h.lanes
     ∙ ap (counted n x.lanes) are.count in
-    let words : c.saturating_sub-words.result ≡ words_of x w.lanes - words_before f.journal.items =
-    c.saturating_sub-words.ensures
-    ∙ (λ t. (c.words_of.ensures.words x h.lanes ∙ ap (words_of x) are.count) t - c.requires.shared.noted t) in
-    let entry : Entry = record { stamp = c.later.result + 1; from = from; words = c.saturating_sub-words.result } in
-    let entry_is : entry ≡ record {
-      stamp = later f.stamp wire.stamp + 1;
+    let entry_is : record { stamp = later f.state.stamp wire.stamp + 1; from = from; words = c.words_of-executed.result - f.state.noted }
+    ≡ record { stamp = later f.state.stamp wire.stamp + 1; from = from; words = words_of x w.lanes - words_before f.state.journal.items } =
+    λ t. record {
+      stamp = later f.state.stamp wire.stamp + 1;
       from = from;
-      words = words_of x w.lanes - words_before f.journal.items;
-    } = λ t. record { stamp = c.later.ensures t + 1; from = from; words = words t } in
-    let journal = c.push_reserved.ensures.items ∙ ap (λ (e : Entry). f.journal.items ++ e ∷ []) entry_is in
+      words = (c.words_of-executed.ensures.words x h.lanes ∙ ap (words_of x) are.count) t - c.requires.shared.noted t;
+    } in
+    let journal = c.note_take.ensures.journal ∙ ap (λ (e : Entry). f.state.journal.items ++ e ∷ []) entry_is in
     let ended = c.go_on-shared.ensures.ended (after_message w x from wire) parts_then
     ∙ ap (ended_in (after_message w x from wire)) (c.requires.count ∙ sym c.receive.ensures.places) in
     let now : HaveLanes ls' f' (after_message w x from wire) =
     message_is w x from wire ls ls' f f' are h b1 d1 ps1 byes1 posts turn parts c.receive.ensures.holders refl refl
-    c.receive.ensures.me local counts refl (ap (λ z. z + 1) c.later.ensures) journal refl len ended in
+    me local counts refl stamp journal output len ended in
     node_is w x from wire ls ls' f f' are h b1 d1 ps1 byes1 posts turn now
 
 pub returns-clause-sends : goal.returns-clause-sends
 returns-clause-sends c w x are h =
     let f = c.args.shared.now in
+    let sh = c.note_take.new.self in
+    let noted = c.note_take.ensures.same in
+    let body = c.deref_mut.ensures.value ∙ ap (λ (s : SharedState). s.body.value) noted in
     let ls = c.args.lanes.now in
     let wire = c.args.wire in
     let from = c.args.from in
@@ -154,20 +167,21 @@ returns-clause-sends c w x are h =
     let wait : wait_among (waits_in ps1) ≡ wait_among (waits_in c.deref.result.now) =
     ap (λ (ps : List Place). wait_among (waits_in ps)) (sym c.deref.ensures.value) in
     let f' : SharedFrame = record f {
-      body = with_value (with_value f.body b1) b2;
-      desk = d1;
+      state = record sh { body = with_value (with_value sh.body b1) b2; desk = d1; byes = byes1 };
       places = c.receive.new.places;
-      byes = byes1;
-      stamp = c.later.result + 1;
-      journal = c.push_reserved.new.self;
-      noted = f.noted + c.saturating_sub-words.result;
       ended = c.go_on-shared.result;
     } in
-    let turn : (n : Node) (k : ℕ) → n.me ≡ f.desk.directory.me
-    → treated (layout_of f.body.value) (seen_with n k f.body.value f.desk f.places.items f.byes) from wire.message
+    let turn : (n : Node) (k : ℕ) → n.me ≡ f.state.desk.directory.me
+    → treated (layout_of f.state.body.value) (seen_with n k f.state.body.value f.state.desk f.places.items f.state.byes) from wire.message
     ≡ turn_by (seen_with n k b1 d1 ps1 byes1) posts None =
-    λ n k me. subst (λ (b : Body). treated (layout_of b) (seen_with n k b f.desk f.places.items f.byes) from wire.message
-    ≡ turn_by (seen_with n k b1 d1 ps1 byes1) posts None) c.deref_mut.ensures.value (c.receive.ensures.turn n k me) in
+    λ n k of. subst (λ (s : SharedState). treated (layout_of f.state.body.value) (seen_with n k f.state.body.value s.desk f.places.items s.byes) from wire.message
+    ≡ turn_by (seen_with n k b1 d1 ps1 byes1) posts None) noted
+    (subst (λ (b : Body). treated (layout_of b) (seen_with n k b sh.desk f.places.items sh.byes) from wire.message
+    ≡ turn_by (seen_with n k b1 d1 ps1 byes1) posts None) body
+    (c.receive.ensures.turn n k (of ∙ ap (λ (s : SharedState). s.desk.directory.me) (sym noted)))) in
+    let me = c.receive.ensures.me ∙ ap (λ (s : SharedState). s.desk.directory.me) noted in
+    let stamp = ap (λ (s : SharedState). s.stamp) noted in
+    let output = ap (λ (s : SharedState). s.output.items) noted in
     let n = node_then w x from wire ls ls' f f' are h b1 d1 ps1 byes1 posts turn 0 in
     let parts : (k : ℕ) (d : LaneFrame) → k < length ls → resumed w.work n (x.lanes k) ≡ part_of (get_or ls' k d) =
     λ k d low. ap (resumed w.work n) (h.lanes k d low)
@@ -180,21 +194,19 @@ returns-clause-sends c w x are h =
     let counts : b2.counts ≡ counted n x.lanes w.lanes =
     c.go_on-shared.ensures.counts n x wait state (sym (ap (λ (b : Body). b.counts) c.deref_mut-2.ensures.value)) h.lanes
     ∙ ap (counted n x.lanes) are.count in
-    let words : c.saturating_sub-words.result ≡ words_of x w.lanes - words_before f.journal.items =
-    c.saturating_sub-words.ensures
-    ∙ (λ t. (c.words_of.ensures.words x h.lanes ∙ ap (words_of x) are.count) t - c.requires.shared.noted t) in
-    let entry : Entry = record { stamp = c.later.result + 1; from = from; words = c.saturating_sub-words.result } in
-    let entry_is : entry ≡ record {
-      stamp = later f.stamp wire.stamp + 1;
+    let entry_is : record { stamp = later f.state.stamp wire.stamp + 1; from = from; words = c.words_of-executed.result - f.state.noted }
+    ≡ record { stamp = later f.state.stamp wire.stamp + 1; from = from; words = words_of x w.lanes - words_before f.state.journal.items } =
+    λ t. record {
+      stamp = later f.state.stamp wire.stamp + 1;
       from = from;
-      words = words_of x w.lanes - words_before f.journal.items;
-    } = λ t. record { stamp = c.later.ensures t + 1; from = from; words = words t } in
-    let journal = c.push_reserved.ensures.items ∙ ap (λ (e : Entry). f.journal.items ++ e ∷ []) entry_is in
+      words = (c.words_of-executed.ensures.words x h.lanes ∙ ap (words_of x) are.count) t - c.requires.shared.noted t;
+    } in
+    let journal = c.note_take.ensures.journal ∙ ap (λ (e : Entry). f.state.journal.items ++ e ∷ []) entry_is in
     let ended = c.go_on-shared.ensures.ended (after_message w x from wire) parts_then
     ∙ ap (ended_in (after_message w x from wire)) (c.requires.count ∙ sym c.receive.ensures.places) in
     let now : HaveLanes ls' f' (after_message w x from wire) =
     message_is w x from wire ls ls' f f' are h b1 d1 ps1 byes1 posts turn parts c.receive.ensures.holders refl refl
-    c.receive.ensures.me local counts refl (ap (λ z. z + 1) c.later.ensures) journal refl len ended in
+    me local counts refl stamp journal output len ended in
     let places : length f'.places.items ≡ w.lanes = c.receive.ensures.places ∙ are.places in
     let nodes : c.nodes.result ≡ w.work.layout.nodes =
     c.nodes.ensures.nodes ∙ ap (λ (s : Shape). s.nodes) (c.requires.shared.layout ∙ are.layout) in
@@ -207,6 +219,8 @@ returns-clause-sends c w x are h =
 pub returns-clause-lanes : goal.returns-clause-lanes
 returns-clause-lanes c w are =
     let f = c.args.shared.now in
+    let noted = c.note_take.ensures.same in
+    let body = c.deref_mut.ensures.value ∙ ap (λ (s : SharedState). s.body.value) noted in
     let ls = c.args.lanes.now in
     let wire = c.args.wire in
     let from = c.args.from in
@@ -219,7 +233,7 @@ returns-clause-lanes c w are =
     let b2 = c.go_on-shared.new.body in
     let len = c.go_on-shared.ensures.count in
     let ground = ap (λ (s : Shelf). ground_of s) (c.go_on-shared.ensures.local ∙ ap (λ (b : Body). b.local) c.deref_mut-2.ensures.value)
-    ∙ c.receive.ensures.ground ∙ ap (λ (b : Body). ground_of b.local) c.deref_mut.ensures.value in
+    ∙ c.receive.ensures.ground ∙ ap (λ (b : Body). ground_of b.local) body in
     record {
       count = len ∙ are.count;
       places = c.receive.ensures.places ∙ are.places;
@@ -265,6 +279,9 @@ returns-clause-held c k d low b awaited =
 pub returns-clause-shared : goal.returns-clause-shared
 returns-clause-shared c =
     let f = c.args.shared.now in
+    let sh = c.note_take.new.self in
+    let noted = c.note_take.ensures.same in
+    let body = c.deref_mut.ensures.value ∙ ap (λ (s : SharedState). s.body.value) noted in
     let ls = c.args.lanes.now in
     let wire = c.args.wire in
     let from = c.args.from in
@@ -277,26 +294,27 @@ returns-clause-shared c =
     let b2 = c.go_on-shared.new.body in
     let is = c.requires.shared in
     let stamp = c.requires.stamp in
-    let above = later_above f.stamp wire.stamp in
-    let later_is = c.later.ensures in
+    let above = later_above f.state.stamp wire.stamp in
+    let later_is = ap (λ (s : SharedState). s.stamp) noted in
     let ground = ap (λ (s : Shelf). ground_of s) (c.go_on-shared.ensures.local ∙ ap (λ (b : Body). b.local) c.deref_mut-2.ensures.value)
-    ∙ c.receive.ensures.ground ∙ ap (λ (b : Body). ground_of b.local) c.deref_mut.ensures.value in
-    let layout : layout_of b2 ≡ layout_of f.body.value = ap (λ (g : Ground). g.layout) ground in
-    let rest = subst (λ (b : Body). IsAtRest (layout_of b) d1 ps1) c.deref_mut.ensures.value c.receive.ensures.rest in
-    let entry : Entry = record { stamp = c.later.result + 1; from = from; words = c.saturating_sub-words.result } in
+    ∙ c.receive.ensures.ground ∙ ap (λ (b : Body). ground_of b.local) body in
+    let layout : layout_of b2 ≡ layout_of f.state.body.value = ap (λ (g : Ground). g.layout) ground in
+    let rest = subst (λ (b : Body). IsAtRest (layout_of b) d1 ps1) body c.receive.ensures.rest in
+    let words = c.words_of-executed.result - f.state.noted in
+    let entry : Entry = record { stamp = later f.state.stamp wire.stamp + 1; from = from; words = words } in
     let count = c.receive.ensures.places in
     let some = is.some in
     let few = is.few in
-    let old = subst (λ (b : Body). AreCountsBelow (32 * f.stamp) b.counts) (sym c.deref_mut.ensures.value) is.counts in
-    let treated = c.receive.ensures.counts (32 * f.stamp) old in
-    let gone = c.go_on-shared.ensures.below (32 * f.stamp + 18)
-    (subst (λ (b : Body). AreCountsBelow (32 * f.stamp + 18) b.counts) (sym c.deref_mut-2.ensures.value) treated) in
+    let old = subst (λ (b : Body). AreCountsBelow (32 * f.state.stamp) b.counts) (sym body) is.counts in
+    let treated = c.receive.ensures.counts (32 * f.state.stamp) old in
+    let gone = c.go_on-shared.ensures.below (32 * f.state.stamp + 18)
+    (subst (λ (b : Body). AreCountsBelow (32 * f.state.stamp + 18) b.counts) (sym c.deref_mut-2.ensures.value) treated) in
     record {
       rest = subst (λ s. IsAtRest s d1 ps1) (sym layout) rest;
       layout = is.layout ∙ sym layout;
       some = omega (arith, count, some);
       few = omega (arith, count, few);
-      noted = ap (λ z. z + c.saturating_sub-words.result) is.noted
-          ∙ sym (ap words_before c.push_reserved.ensures.items ∙ words_more f.journal.items entry);
-      counts = counts_up (32 * f.stamp + 18 + 4) (32 * (c.later.result + 1)) b2.counts (omega (arith, above, later_is)) gone;
+      noted = ap (λ (s : SharedState). s.noted) noted ∙ ap (λ z. z + words) is.noted
+          ∙ sym (ap words_before c.note_take.ensures.journal ∙ words_more f.state.journal.items entry);
+      counts = counts_up (32 * f.state.stamp + 18 + 4) (32 * sh.stamp) b2.counts (omega (arith, above, later_is)) gone;
     }

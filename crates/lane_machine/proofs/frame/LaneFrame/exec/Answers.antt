@@ -1,17 +1,16 @@
 -- By the lemmas on a lane's word.
 use Rattle.std.proofs.Common.{◌≡◌, ℕ, ◌+◌, ◌*◌, ◌∙◌, ◌++◌, ap, sym, subst, refl, eqb, cond, true, arith}
 use Rattle.std.specs.Prelude.{is_some}
-use Rattle.std.specs.Box.{with_value}
 use Rattle.std.proofs.lemmas.Bool.Decides.{nat_tests}
 use Rattle.block_layout.specs.Layout.{Shape}
 use Rattle.block_layout.specs.Update.{changed}
-use Rattle.jump_map.specs.Maps.{fetch}
 use Rattle.node_words.specs.declared.body.Body.{Body}
 use Rattle.node_words.specs.Address.{word_address}
 use Rattle.node_words.specs.Kept.{Ground, ground_of, lane_of, phase_by}
 use Rattle.node_model.specs.Node.{word_outcome}
-use Rattle.node_model.specs.Turns.{byes_to, each_block_once, is_ended, wants_of}
+use Rattle.node_model.specs.Turns.{byes_to, each_block_once, is_ended, wants_of, words_before}
 use Rattle.node_machine.specs.Frame.{layout_of, phase_of, AreCountsBelow}
+use Rattle.node_machine.specs.declared.states.SharedState.{SharedState}
 use Rattle.node_machine.proofs.FrameLemmas.{counts_up}
 use Rattle.lane_model.specs.Nodes.{LanePart}
 use Rattle.lane_model.specs.Turns.{blocks_of, still}
@@ -40,51 +39,53 @@ returns-clause-turn c x h =
     let ps' = c.execute-done.new.places.items in
     let lane' = c.execute-done.new.lane in
     let posts = c.execute-done.new.sends.items in
-    let image = l.image.now in
-    let work = work_in f.body.value image l.budget in
-    let before = seen_at n k l.lane l.at f.body.value f.desk f.places.items in
-    let asks = subst (λ (b : Body). word_asks (work_in b image l.budget) (seen_at n k l.lane l.at b f.desk f.places.items)
-    ≡ asked_by (served (seen_at n k lane' done.at b' d' ps') l.budget done) posts done.output asked.again)
-    c.deref_mut.ensures.value (c.execute-done.ensures.word n l.budget) in
+    let image = l.state.image.now in
+    let work = work_in f.state.body.value image l.state.budget in
+    let before = seen_at n k l.lane l.state.at f.state.body.value f.state.desk f.places.items in
+    let asks = subst (λ (b : Body). word_asks (work_in b image l.state.budget) (seen_at n k l.lane l.state.at b f.state.desk f.places.items)
+    ≡ asked_by (served (seen_at n k lane' done.at b' d' ps') l.state.budget done) posts done.output asked.again)
+    c.deref_mut.ensures.value (c.execute-done.ensures.word n l.state.budget) in
     let awaits = subst (λ (b : Body). awaits_of asked.awaits ≡ still (wait_among (waits_in ps'))
-    (blocks_of (layout_of b) (each_block_once (layout_of b) (wants_of (word_outcome (work_in b image l.budget)
-    (seen_at n k l.lane l.at b f.desk f.places.items)).move))))
-    c.deref_mut.ensures.value (c.execute-done.ensures.awaits n l.budget) in
+    (blocks_of (layout_of b) (each_block_once (layout_of b) (wants_of (word_outcome (work_in b image l.state.budget)
+    (seen_at n k l.lane l.state.at b f.state.desk f.places.items)).move))))
+    c.deref_mut.ensures.value (c.execute-done.ensures.awaits n l.state.budget) in
     let reserved = reserved_at f.places.items k c.index.result.now c.index.ensures c.requires.number c.address-reserved.result
     ∙ sym c.address-reserved.ensures in
     let stored = c.stored_at-stored.ensures work.program image before.local
-    (ap (fetch image) (sym c.address_of.ensures) ∙ sym c.fetch-fetched.ensures.value) reserved in
+    (sym c.next_word-fetched.ensures) reserved in
     let ends : (j : ℕ) → reserved_in c.end_reservations.new.places.items j
-    ≡ cond (eqb j k) (reserved_in ps' j) (reserved_after (layout_of f.body.value) c.stored_at-stored.result (reserved_in ps' j)) =
+    ≡ cond (eqb j k) (reserved_in ps' j) (reserved_after (layout_of f.state.body.value) c.stored_at-stored.result (reserved_in ps' j)) =
     λ j. c.end_reservations.ensures.reserved j
     ∙ ap (λ (s : Shape). cond (eqb j k) (reserved_in ps' j) (reserved_after s c.stored_at-stored.result (reserved_in ps' j))) c.requires.shared.layout in
     let l' : LaneFrame = record l {
+      state = c.advance.new.self;
       lane = lane';
-      at = done.at;
-      executed = l.executed + 1;
-      phase = c.phase_by-self.result;
       awaits = asked.awaits;
       again = asked.again;
     } in
     let f' : SharedFrame = record f {
-      body = with_value f.body b';
-      desk = d';
+      state = c.note_word.new.self;
       places = c.end_reservations.new.places;
-      stamp = f.stamp + 1;
-      output = c.print.new.output;
       ended = c.ended_with-shared.result;
     } in
     let part : part_of l' ≡ record {
       lane = lane_of lane' (word_address done.at);
-      executed = l.executed + 1;
-      phase = phase_by l.budget (l.executed + 1) done.following;
+      executed = l.state.executed + 1;
+      phase = phase_by l.state.budget (l.state.executed + 1) done.following;
       awaits = awaits_of asked.awaits;
       again = asked.again;
-    } = λ t. record (part_of l') { phase = c.phase_by-self.ensures t } in
+    } = λ t. record (part_of l') {
+      lane = lane_of lane' (word_address (c.advance.ensures.same t).at);
+      executed = (c.advance.ensures.same t).executed;
+      phase = c.advance.ensures.phase t;
+    } in
+    let noted = c.note_word.ensures.same in
     let before_turn = turn_is l l' f f' x h lane' b' d' ps' done asked.again posts c.stored_at-stored.result asks awaits stored
-    c.execute-done.ensures.holders c.execute-done.ensures.reserved ends c.end_reservations.ensures.waits part refl refl
-    c.execute-done.ensures.me refl refl refl c.print.ensures in
-    let going = ap (λ (p : LanePart). is_ended p.phase) h.lane ∙ going_on (phase_of l.phase) c.requires.may in
+    c.execute-done.ensures.holders c.execute-done.ensures.reserved ends c.end_reservations.ensures.waits part
+    (ap (λ (s : SharedState). s.body.value) noted) (ap (λ (s : SharedState). s.desk) noted) c.execute-done.ensures.me
+    (ap (λ (s : SharedState). s.byes) noted) (ap (λ (s : SharedState). s.stamp) noted)
+    (ap (λ (s : SharedState). s.journal.items) noted) c.note_word.ensures.output in
+    let going = ap (λ (p : LanePart). is_ended p.phase) h.lane ∙ going_on (phase_of l.state.phase) c.requires.may in
     let both = ending_is l l' f f' x h lane' b' d' ps' done asked.again posts c.stored_at-stored.result (with_lane x l' f')
     c.requires.number c.requires.goes_on going refl before_turn c.ended_with-shared.ensures in
     let count = c.len.ensures ∙ c.end_reservations.new.places.ok.0 ∙ c.end_reservations.ensures.places ∙ c.execute-done.ensures.places in
@@ -106,51 +107,53 @@ returns-clause-ended c x h =
     let ps' = c.execute-done.new.places.items in
     let lane' = c.execute-done.new.lane in
     let posts = c.execute-done.new.sends.items in
-    let image = l.image.now in
-    let work = work_in f.body.value image l.budget in
-    let before = seen_at n k l.lane l.at f.body.value f.desk f.places.items in
-    let asks = subst (λ (b : Body). word_asks (work_in b image l.budget) (seen_at n k l.lane l.at b f.desk f.places.items)
-    ≡ asked_by (served (seen_at n k lane' done.at b' d' ps') l.budget done) posts done.output asked.again)
-    c.deref_mut.ensures.value (c.execute-done.ensures.word n l.budget) in
+    let image = l.state.image.now in
+    let work = work_in f.state.body.value image l.state.budget in
+    let before = seen_at n k l.lane l.state.at f.state.body.value f.state.desk f.places.items in
+    let asks = subst (λ (b : Body). word_asks (work_in b image l.state.budget) (seen_at n k l.lane l.state.at b f.state.desk f.places.items)
+    ≡ asked_by (served (seen_at n k lane' done.at b' d' ps') l.state.budget done) posts done.output asked.again)
+    c.deref_mut.ensures.value (c.execute-done.ensures.word n l.state.budget) in
     let awaits = subst (λ (b : Body). awaits_of asked.awaits ≡ still (wait_among (waits_in ps'))
-    (blocks_of (layout_of b) (each_block_once (layout_of b) (wants_of (word_outcome (work_in b image l.budget)
-    (seen_at n k l.lane l.at b f.desk f.places.items)).move))))
-    c.deref_mut.ensures.value (c.execute-done.ensures.awaits n l.budget) in
+    (blocks_of (layout_of b) (each_block_once (layout_of b) (wants_of (word_outcome (work_in b image l.state.budget)
+    (seen_at n k l.lane l.state.at b f.state.desk f.places.items)).move))))
+    c.deref_mut.ensures.value (c.execute-done.ensures.awaits n l.state.budget) in
     let reserved = reserved_at f.places.items k c.index.result.now c.index.ensures c.requires.number c.address-reserved.result
     ∙ sym c.address-reserved.ensures in
     let stored = c.stored_at-stored.ensures work.program image before.local
-    (ap (fetch image) (sym c.address_of.ensures) ∙ sym c.fetch-fetched.ensures.value) reserved in
+    (sym c.next_word-fetched.ensures) reserved in
     let ends : (j : ℕ) → reserved_in c.end_reservations.new.places.items j
-    ≡ cond (eqb j k) (reserved_in ps' j) (reserved_after (layout_of f.body.value) c.stored_at-stored.result (reserved_in ps' j)) =
+    ≡ cond (eqb j k) (reserved_in ps' j) (reserved_after (layout_of f.state.body.value) c.stored_at-stored.result (reserved_in ps' j)) =
     λ j. c.end_reservations.ensures.reserved j
     ∙ ap (λ (s : Shape). cond (eqb j k) (reserved_in ps' j) (reserved_after s c.stored_at-stored.result (reserved_in ps' j))) c.requires.shared.layout in
     let l' : LaneFrame = record l {
+      state = c.advance.new.self;
       lane = lane';
-      at = done.at;
-      executed = l.executed + 1;
-      phase = c.phase_by-self.result;
       awaits = asked.awaits;
       again = asked.again;
     } in
     let f' : SharedFrame = record f {
-      body = with_value f.body b';
-      desk = d';
+      state = c.note_word.new.self;
       places = c.end_reservations.new.places;
-      stamp = f.stamp + 1;
-      output = c.print.new.output;
       ended = c.ended_with-shared.result;
     } in
     let part : part_of l' ≡ record {
       lane = lane_of lane' (word_address done.at);
-      executed = l.executed + 1;
-      phase = phase_by l.budget (l.executed + 1) done.following;
+      executed = l.state.executed + 1;
+      phase = phase_by l.state.budget (l.state.executed + 1) done.following;
       awaits = awaits_of asked.awaits;
       again = asked.again;
-    } = λ t. record (part_of l') { phase = c.phase_by-self.ensures t } in
+    } = λ t. record (part_of l') {
+      lane = lane_of lane' (word_address (c.advance.ensures.same t).at);
+      executed = (c.advance.ensures.same t).executed;
+      phase = c.advance.ensures.phase t;
+    } in
+    let noted = c.note_word.ensures.same in
     let before_turn = turn_is l l' f f' x h lane' b' d' ps' done asked.again posts c.stored_at-stored.result asks awaits stored
-    c.execute-done.ensures.holders c.execute-done.ensures.reserved ends c.end_reservations.ensures.waits part refl refl
-    c.execute-done.ensures.me refl refl refl c.print.ensures in
-    let going = ap (λ (p : LanePart). is_ended p.phase) h.lane ∙ going_on (phase_of l.phase) c.requires.may in
+    c.execute-done.ensures.holders c.execute-done.ensures.reserved ends c.end_reservations.ensures.waits part
+    (ap (λ (s : SharedState). s.body.value) noted) (ap (λ (s : SharedState). s.desk) noted) c.execute-done.ensures.me
+    (ap (λ (s : SharedState). s.byes) noted) (ap (λ (s : SharedState). s.stamp) noted)
+    (ap (λ (s : SharedState). s.journal.items) noted) c.note_word.ensures.output in
+    let going = ap (λ (p : LanePart). is_ended p.phase) h.lane ∙ going_on (phase_of l.state.phase) c.requires.may in
     let both = ending_is l l' f f' x h lane' b' d' ps' done asked.again posts c.stored_at-stored.result (with_lane x l' f')
     c.requires.number c.requires.goes_on going refl before_turn c.ended_with-shared.ensures in
     let k = l.number in
@@ -191,18 +194,21 @@ returns-clause-shared c =
     let ps' = c.execute-done.new.places.items in
     let qs = c.end_reservations.new.places.items in
     let ground = c.execute-done.ensures.ground ∙ ap (λ (b : Body). ground_of b.local) c.deref_mut.ensures.value in
-    let layout : layout_of b' ≡ layout_of f.body.value = ap (λ (g : Ground). g.layout) ground in
+    let layout : layout_of b' ≡ layout_of f.state.body.value = ap (λ (g : Ground). g.layout) ground in
     let rest = subst (λ (b : Body). IsAtRest (layout_of b) c.execute-done.new.desk ps') c.deref_mut.ensures.value c.execute-done.ensures.rest in
     let count = c.end_reservations.ensures.places ∙ c.execute-done.ensures.places in
     let some = is.some in
     let few = is.few in
-    let old = subst (λ (b : Body). AreCountsBelow (32 * f.stamp) b.counts) (sym c.deref_mut.ensures.value) is.counts in
+    let old = subst (λ (b : Body). AreCountsBelow (32 * f.state.stamp) b.counts) (sym c.deref_mut.ensures.value) is.counts in
+    let noted = c.note_word.ensures.same in
     record {
-      rest = subst (λ s. IsAtRest s c.execute-done.new.desk qs) (sym layout)
-          (rest_same (layout_of f.body.value) c.execute-done.new.desk ps' qs c.end_reservations.ensures.waits c.end_reservations.ensures.pools rest);
-      layout = is.layout ∙ sym layout;
+      rest = subst (λ (s : SharedState). IsAtRest (layout_of s.body.value) s.desk qs) (sym noted)
+          (subst (λ s. IsAtRest s c.execute-done.new.desk qs) (sym layout)
+          (rest_same (layout_of f.state.body.value) c.execute-done.new.desk ps' qs c.end_reservations.ensures.waits c.end_reservations.ensures.pools rest));
+      layout = is.layout ∙ sym layout ∙ ap (λ (s : SharedState). layout_of s.body.value) (sym noted);
       some = omega (arith, count, some);
       few = omega (arith, count, few);
-      noted = is.noted;
-      counts = counts_up (32 * f.stamp + 3) (32 * (f.stamp + 1)) b'.counts (omega arith) (c.execute-done.ensures.counts (32 * f.stamp) old);
+      noted = subst (λ (s : SharedState). s.noted ≡ words_before s.journal.items) (sym noted) is.noted;
+      counts = subst (λ (s : SharedState). AreCountsBelow (32 * s.stamp) s.body.value.counts) (sym noted)
+          (counts_up (32 * f.state.stamp + 3) (32 * (f.state.stamp + 1)) b'.counts (omega arith) (c.execute-done.ensures.counts (32 * f.state.stamp) old));
     }

@@ -3,6 +3,7 @@ use Rattle.std.proofs.Common.{ap, sym, ◌∙◌, cond}
 use Rattle.std.specs.Prelude.{option_and_then}
 use Rattle.jump_map.specs.Maps.{fetch}
 use Rattle.jump_map.specs.declared.image.ImageWord.{ImageWord}
+use Rattle.node_words.specs.Address.{word_address}
 use Rattle.node_model.specs.declared.Standing.TheVariants as standing
 use Rattle.node_model.specs.Node.{takes_messages}
 use Rattle.node_machine.specs.Frame.{phase_of}
@@ -17,7 +18,9 @@ returns-in-Running c = record {
   value = λ w x k image is.
       let p = part_of c.self.inside.frame in
       let here = is ∙ ap part_of (sym c.self.view_is) in
-      let found = c.fetch.ensures.value ∙ (λ t. fetch (sym (image ∙ ap (λ (l : LaneFrame). l.image.now) (sym c.self.view_is)) t) (c.address_of.ensures t)) in
+      let l = c.self.inside.frame in
+      let found = c.next_word.ensures
+      ∙ ap (λ cells. fetch cells (word_address l.state.at)) (sym (image ∙ ap (λ (m : LaneFrame). m.state.image.now) (sym c.self.view_is))) in
       c.standing_at.ensures
       ∙ ap (λ o. cond (takes_messages (option_and_then (λ (v : ImageWord). v.what) o)) standing.AtPoll standing.Running) found
       ∙ sym (stands_by w x k p here

@@ -22,14 +22,14 @@ returns-then-self-len c = record {
   value = λ w x layout lanes shared ended.
       let f = c.self.inside.frame in
       let view = c.self.view_is in
-      let nodes = (layout_of f.body.value).nodes in
-      let over = over_is w x f (layout ∙ ap (λ (g : SharedFrame). layout_of g.body.value) (sym view))
+      let nodes = (layout_of f.state.body.value).nodes in
+      let over = over_is w x f (layout ∙ ap (λ (g : SharedFrame). layout_of g.state.body.value) (sym view))
       (lanes ∙ ap (λ (g : SharedFrame). length g.places.items) (sym view)) (shared ∙ ap shared_of (sym view))
       (ap (λ (g : SharedFrame). g.ended) view ∙ ended) in
       let count = c.len.ensures ∙ f.places.ok.0 in
       let some : eqb f.ended (length f.places.items) ≡ false =
       ap (eqb f.ended) (sym count) ∙ apart_test f.ended c.len.result c.if-self-len.true in
-      sym (over ∙ ap (λ t. t && eqb (count_of (members f.byes) nodes) nodes) some);
+      sym (over ∙ ap (λ t. t && eqb (count_of (members f.state.byes) nodes) nodes) some);
 }
 
 pub returns : goal.returns
@@ -37,8 +37,8 @@ returns c = record {
   value = λ w x layout lanes shared ended.
       let f = c.self.inside.frame in
       let view = c.self.view_is in
-      let nodes = (layout_of f.body.value).nodes in
-      let over = over_is w x f (layout ∙ ap (λ (g : SharedFrame). layout_of g.body.value) (sym view))
+      let nodes = (layout_of f.state.body.value).nodes in
+      let over = over_is w x f (layout ∙ ap (λ (g : SharedFrame). layout_of g.state.body.value) (sym view))
       (lanes ∙ ap (λ (g : SharedFrame). length g.places.items) (sym view)) (shared ∙ ap shared_of (sym view))
       (ap (λ (g : SharedFrame). g.ended) view ∙ ended) in
       let count = c.len.ensures ∙ f.places.ok.0 in
@@ -46,7 +46,7 @@ returns c = record {
       ap (eqb f.ended) (sym count) ∙ same_test f.ended c.len.result c.if-self-len.false in
       let many : c.nodes.result ≡ nodes = c.nodes.ensures.nodes ∙ ap (λ (s : Shape). s.nodes) c.self.invariant.layout in
       c.is_over.ensures ∙ ap is_over c.ended_standing.ensures
-      ∙ over_by (eqb (count_of (members f.byes) c.nodes.result) c.nodes.result)
-      ∙ (λ t. eqb (count_of (members f.byes) (many t)) (many t))
-      ∙ sym (over ∙ ap (λ t. t && eqb (count_of (members f.byes) nodes) nodes) all);
+      ∙ over_by (eqb (count_of (members f.state.byes) c.nodes.result) c.nodes.result)
+      ∙ (λ t. eqb (count_of (members f.state.byes) (many t)) (many t))
+      ∙ sym (over ∙ ap (λ t. t && eqb (count_of (members f.state.byes) nodes) nodes) all);
 }

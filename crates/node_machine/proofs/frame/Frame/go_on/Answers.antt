@@ -15,22 +15,22 @@ use Rattle.node_machine.proofs.frame.Frame.go_on.Goals as goal
 pub returns-clause-goes_on : goal.returns-clause-goes_on
 returns-clause-goes_on c =
     let i = c.args.self.now in
-    let low = c.requires.node.going c.requires.may in
+    let low = c.requires.node.lane.going c.requires.may in
     let budget = c.number.ensures.value in
     let first = c.most_words-left.ensures.first in
     let second = c.most_words.ensures.second in
     let words = c.run-stretch.result.words in
     let at = c.run-stretch.result.at in
     let b = c.run-stretch.new.self in
-    let room : i.executed + c.most_words.result < i.budget = omega (arith, low, budget, first, second) in
-    let on = subst (λ (x : Body). GoesOnBy (work_of i) words (node_on (node_of i) x i.at 0)
+    let room : i.lane.executed + c.most_words.result < i.lane.budget = omega (arith, low, budget, first, second) in
+    let on = subst (λ (x : Body). GoesOnBy (work_of i) words (node_on (node_of i) x i.lane.at 0)
     (node_on (node_of i) b at words)) c.deref_mut.ensures.value
     (c.run-stretch.ensures.words (work_of i) (node_of i) refl
     (ap (λ (x : Body). program_of x.local.program) (sym c.deref_mut.ensures.value))
     c.requires.may room) in
-    let start : node_on (node_of i) i.body.value i.at 0 ≡ node_of i = λ t. record (node_of i) {
-      executed = add-zero i.executed t;
-      stamp = add-zero i.stamp t;
+    let start : node_on (node_of i) i.shared.body.value i.lane.at 0 ≡ node_of i = λ t. record (node_of i) {
+      executed = add-zero i.lane.executed t;
+      stamp = add-zero i.shared.stamp t;
     } in
     let counts = c.run-stretch.ensures.counts ∙ ap (λ (x : Body). x.counts) c.deref_mut.ensures.value in
     let phase = c.phase_on-self.ensures in
@@ -42,19 +42,19 @@ returns-clause-goes_on c =
 pub returns-clause-may : goal.returns-clause-may
 returns-clause-may c =
     let i = c.args.self.now in
-    ap can_execute c.phase_on-self.ensures ∙ still_may (phase_of i.phase) c.run-stretch.result.words c.requires.may
+    ap can_execute c.phase_on-self.ensures ∙ still_may (phase_of i.lane.phase) c.run-stretch.result.words c.requires.may
 
 pub returns-clause-work : goal.returns-clause-work
 returns-clause-work c =
     let i = c.args.self.now in
     let g = c.run-stretch.ensures.ground ∙ ap (λ (x : Body). ground_of x.local) c.deref_mut.ensures.value in
-    λ t. record { program = program_of (g t).program; image = i.image.now; layout = (g t).layout; budget = i.budget }
+    λ t. record { program = program_of (g t).program; image = i.lane.image.now; layout = (g t).layout; budget = i.lane.budget }
 
 pub returns-clause-node : goal.returns-clause-node
 returns-clause-node c =
     let i = c.args.self.now in
     let n = c.requires.node in
-    let low = n.going c.requires.may in
+    let low = n.lane.going c.requires.may in
     let behind = n.behind in
     let budget = c.number.ensures.value in
     let first = c.most_words-left.ensures.first in
@@ -63,17 +63,19 @@ returns-clause-node c =
     let layout = ap (λ (g : Ground). g.layout) c.run-stretch.ensures.ground ∙ ap layout_of c.deref_mut.ensures.value in
     let counts = c.run-stretch.ensures.counts ∙ ap (λ (b : Body). b.counts) c.deref_mut.ensures.value in
     record {
-      within = omega (arith, low, budget, first, second, words);
-      going = λ may. omega (arith, low, budget, first, second, words);
-      range = n.range;
-      short = n.short;
-      desk = subst (λ (l : Shape). IsDesk l i.desk) (sym layout) n.desk;
-      waits = subst (λ p. WaitsInPhase p (length i.desk.waits.waits)) (sym c.phase_on-self.ensures)
-          (on_waits (phase_of i.phase) c.run-stretch.result.words (length i.desk.waits.waits)
+      lane = record {
+        within = omega (arith, low, budget, first, second, words);
+        going = λ may. omega (arith, low, budget, first, second, words);
+        range = n.lane.range;
+        short = n.lane.short;
+      };
+      desk = subst (λ (l : Shape). IsDesk l i.shared.desk) (sym layout) n.desk;
+      waits = subst (λ p. WaitsInPhase p (length i.shared.desk.waits.waits)) (sym c.phase_on-self.ensures)
+          (on_waits (phase_of i.lane.phase) c.run-stretch.result.words (length i.shared.desk.waits.waits)
           c.requires.may n.waits);
       noted = n.noted;
       behind = omega (arith, behind);
-      counts = counts_up (19 * i.stamp) (19 * (i.stamp + c.run-stretch.result.words))
+      counts = counts_up (19 * i.shared.stamp) (19 * (i.shared.stamp + c.run-stretch.result.words))
           c.run-stretch.new.self.counts (omega arith)
-          (subst (AreCountsBelow (19 * i.stamp)) (sym counts) n.counts);
+          (subst (AreCountsBelow (19 * i.shared.stamp)) (sym counts) n.counts);
     }

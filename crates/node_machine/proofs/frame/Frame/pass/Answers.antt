@@ -15,7 +15,7 @@ pub returns-in-Some-clause-passed : goal.returns-in-Some-clause-passed
 returns-in-Some-clause-passed c =
     let i = c.args.self.now in
     let b = c.step_at.new.self in
-    let f = subst (λ (x : Body). Follows i.image.now (next_outcome (program_of x.local.program) i.image.now (lane_of x.lane (word_address i.at)) (local_of x.local))
+    let f = subst (λ (x : Body). Follows i.lane.image.now (next_outcome (program_of x.local.program) i.lane.image.now (lane_of x.lane (word_address i.lane.at)) (local_of x.local))
     (ground_of x.local) (word_address c.in-Some.at) b.lane b.local) c.deref_mut.ensures.value c.in-Some.ensures.steps in
     let counts = c.step_at.ensures.counts ∙ ap (λ (x : Body). x.counts) c.deref_mut.ensures.value in
     let budget = c.number.ensures.value in
@@ -25,37 +25,41 @@ pub returns-in-Some-clause-work : goal.returns-in-Some-clause-work
 returns-in-Some-clause-work c =
     let i = c.args.self.now in
     let g = c.in-Some.ensures.steps.ground_same ∙ ap (λ (b : Body). ground_of b.local) c.deref_mut.ensures.value in
-    λ t. record { program = program_of (g t).program; image = i.image.now; layout = (g t).layout; budget = i.budget }
+    λ t. record { program = program_of (g t).program; image = i.lane.image.now; layout = (g t).layout; budget = i.lane.budget }
 
 pub returns-in-Some-clause-node : goal.returns-in-Some-clause-node
 returns-in-Some-clause-node c =
     let i = c.args.self.now in
     let n = c.requires.node in
-    let low = n.going c.requires.may in
+    let low = n.lane.going c.requires.may in
     let budget = c.number.ensures.value in
     let behind = n.behind in
     let layout = ap (λ (g : Ground). g.layout) c.in-Some.ensures.steps.ground_same ∙ ap layout_of c.deref_mut.ensures.value in
     let counts = c.step_at.ensures.counts ∙ ap (λ (b : Body). b.counts) c.deref_mut.ensures.value in
     record {
-      within = omega (arith, low);
-      going = λ may. omega (arith, budget);
-      range = n.range;
-      short = n.short;
-      desk = subst (λ (l : Shape). IsDesk l i.desk) (sym layout) n.desk;
-      waits = may_waits (phase_of i.phase) (length i.desk.waits.waits) c.requires.may n.waits;
+      lane = record {
+        within = omega (arith, low);
+        going = λ may. omega (arith, budget);
+        range = n.lane.range;
+        short = n.lane.short;
+      };
+      desk = subst (λ (l : Shape). IsDesk l i.shared.desk) (sym layout) n.desk;
+      waits = may_waits (phase_of i.lane.phase) (length i.shared.desk.waits.waits) c.requires.may n.waits;
       noted = n.noted;
       behind = omega (arith, behind);
-      counts = counts_up (19 * i.stamp) (19 * (i.stamp + 1)) c.step_at.new.self.counts (omega arith)
-          (subst (AreCountsBelow (19 * i.stamp)) (sym counts) n.counts);
+      counts = counts_up (19 * i.shared.stamp) (19 * (i.shared.stamp + 1)) c.step_at.new.self.counts (omega arith)
+          (subst (AreCountsBelow (19 * i.shared.stamp)) (sym counts) n.counts);
     }
 
 -- where the micro-op served nothing, the frame is as it was
 
-kept_frame : (i : Frame) (b : Body) → b ≡ i.body.value → record i { body = with_value i.body b } ≡ i
-kept_frame i b same = λ t. record i { body = with_value i.body (same t) }
+abbrev with_body : Frame → Body → Frame
+with_body i b = record i { shared = record i.shared { body = with_value i.shared.body b } }
 
-none_changed : (c : goal.In-None)
-    → record c.args.self.now { body = with_value c.args.self.now.body c.step_at.new.self } ≡ c.args.self.now
+kept_frame : (i : Frame) (b : Body) → b ≡ i.shared.body.value → with_body i b ≡ i
+kept_frame i b same = λ t. with_body i (same t)
+
+none_changed : (c : goal.In-None) → with_body c.args.self.now c.step_at.new.self ≡ c.args.self.now
 none_changed c = kept_frame c.args.self.now c.step_at.new.self ((λ t. record {
   lane = c.in-None.ensures.steps.0 t;
   local = c.in-None.ensures.steps.1 t;

@@ -18,7 +18,7 @@ returns-clause-goes_on c =
     let run = c.run_noting-stretch in
     let most = c.most_words-most.result in
     let body = c.deref_mut.ensures.value in
-    let on = subst (λ (x : Body). BodyGoesOn i.image.now most i.at x run.result.words run.result.at run.new.self) body run.ensures.words in
+    let on = subst (λ (x : Body). BodyGoesOn i.lane.image.now most i.lane.at x run.result.words run.result.at run.new.self) body run.ensures.words in
     let counts = run.ensures.counts ∙ ap (λ (x : Body). x.counts) body in
     let few = run.ensures.most in
     let first = c.most_words-most.ensures.first in
@@ -27,13 +27,13 @@ returns-clause-goes_on c =
     let left = c.saturating_sub-left.ensures in
     let budget = c.number.ensures.value in
     goes_on_noted i run.new.self run.result.at most run.result.words c.phase_on-self.result on
-    (λ some. (c.requires.may (omega (arith, some, few, first, from)), (let low = c.requires.node.going (c.requires.may (omega (arith, some, few, first, from))) in omega (arith, low, second, left, budget))))
+    (λ some. (c.requires.may (omega (arith, some, few, first, from)), (let low = c.requires.node.lane.going (c.requires.may (omega (arith, some, few, first, from))) in omega (arith, low, second, left, budget))))
     counts c.phase_on-self.ensures
 
 pub returns-clause-may : goal.returns-clause-may
 returns-clause-may c may =
     let i = c.args.self.now in
-    ap can_execute c.phase_on-self.ensures ∙ still_may (phase_of i.phase) c.run_noting-stretch.result.words may
+    ap can_execute c.phase_on-self.ensures ∙ still_may (phase_of i.lane.phase) c.run_noting-stretch.result.words may
 
 pub returns-clause-back : goal.returns-clause-back
 returns-clause-back c =
@@ -60,7 +60,7 @@ pub returns-clause-work : goal.returns-clause-work
 returns-clause-work c =
     let i = c.args.self.now in
     let g = c.run_noting-stretch.ensures.back.ground_same ∙ ap (λ (x : Body). ground_of x.local) c.deref_mut.ensures.value in
-    λ t. record { program = program_of (g t).program; image = i.image.now; layout = (g t).layout; budget = i.budget }
+    λ t. record { program = program_of (g t).program; image = i.lane.image.now; layout = (g t).layout; budget = i.lane.budget }
 
 pub returns-clause-node : goal.returns-clause-node
 returns-clause-node c =
@@ -70,7 +70,7 @@ returns-clause-node c =
     let most = c.most_words-most.result in
     let words = run.result.words in
     let behind = n.behind in
-    let within = n.within in
+    let within = n.lane.within in
     let few = run.ensures.most in
     let first = c.most_words-most.ensures.first in
     let from = c.from.ensures in
@@ -80,15 +80,17 @@ returns-clause-node c =
     let layout = ap (λ (g : Ground). g.layout) run.ensures.back.ground_same ∙ ap layout_of c.deref_mut.ensures.value in
     let counts = run.ensures.counts ∙ ap (λ (b : Body). b.counts) c.deref_mut.ensures.value in
     record {
-      within = omega (arith, within, few, second, left, budget);
-      going = λ may. left_after i words most n few (omega (arith, second, left, budget)) (ap can_execute (sym c.phase_on-self.ensures) ∙ may);
-      range = n.range;
-      short = n.short;
-      desk = subst (λ (l : Shape). IsDesk l i.desk) (sym layout) n.desk;
-      waits = subst (λ p. WaitsInPhase p (length i.desk.waits.waits)) (sym c.phase_on-self.ensures)
-          (noted_waits (phase_of i.phase) words (length i.desk.waits.waits) (λ some. c.requires.may (omega (arith, some, few, first, from))) n.waits);
+      lane = record {
+        within = omega (arith, within, few, second, left, budget);
+        going = λ may. left_after i words most n few (omega (arith, second, left, budget)) (ap can_execute (sym c.phase_on-self.ensures) ∙ may);
+        range = n.lane.range;
+        short = n.lane.short;
+      };
+      desk = subst (λ (l : Shape). IsDesk l i.shared.desk) (sym layout) n.desk;
+      waits = subst (λ p. WaitsInPhase p (length i.shared.desk.waits.waits)) (sym c.phase_on-self.ensures)
+          (noted_waits (phase_of i.lane.phase) words (length i.shared.desk.waits.waits) (λ some. c.requires.may (omega (arith, some, few, first, from))) n.waits);
       noted = n.noted;
       behind = omega (arith, behind);
-      counts = counts_up (19 * i.stamp) (19 * (i.stamp + words)) run.new.self.counts (omega arith)
-          (subst (AreCountsBelow (19 * i.stamp)) (sym counts) n.counts);
+      counts = counts_up (19 * i.shared.stamp) (19 * (i.shared.stamp + words)) run.new.self.counts (omega arith)
+          (subst (AreCountsBelow (19 * i.shared.stamp)) (sym counts) n.counts);
     }

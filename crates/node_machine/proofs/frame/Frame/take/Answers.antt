@@ -8,241 +8,284 @@ use Rattle.miss_handlers.specs.Waits.{wait_of}
 use Rattle.node_words.specs.declared.body.Body.{Body}
 use Rattle.node_model.specs.declared.Entry.{Entry}
 use Rattle.node_words.specs.Address.{word_address}
-use Rattle.node_model.specs.Node.{Node, can_execute}
+use Rattle.node_model.specs.Node.{Node}
 use Rattle.node_model.specs.Turns.{treated, journaled, later, words_before, with_byes, is_ended}
 use Rattle.node_words.specs.declared.lane.Lane as kept
 use Rattle.node_words.specs.Kept.{Shelf, Ground, ground_of, lane_of, local_of}
 use Rattle.node_machine.specs.Frame.{node_of, layout_of, phase_of, with_all, entries_in, phase_resumed, lane_after_wait, counts_after_wait, IsDesk, AreCountsBelow, WaitsInPhase}
 use Rattle.node_machine.specs.Desk.{turn_by}
+use Rattle.node_machine.specs.declared.states.LaneState.{LaneState}
+use Rattle.node_machine.specs.declared.states.SharedState.{SharedState}
 use Rattle.node_machine.proofs.FrameLemmas.{counts_up}
-use Rattle.node_machine.proofs.TakeLemmas.{no_wait_is, taken, taken_ended, taken_going, wait_below, resumed_waits, resumed_goes, words_more, later_above}
+use Rattle.node_machine.proofs.TakeLemmas.{no_wait_is, taken, taken_ended, taken_going, wait_below, resumed_waits, words_more, later_above}
 use Rattle.node_machine.proofs.frame.Frame.take.Goals as goal
 
-pub resumed-position-requires : goal.resumed-position-requires
-resumed-position-requires c = record {
+pub resume-requires : goal.resume-requires
+resume-requires c = record {
+  lane = c.requires.node.lane;
   counts =
       let i = c.args.self.now in
+      let noted = c.note_take.ensures.same in
+      let body = c.deref_mut.ensures.value ∙ ap (λ (s : SharedState). s.body.value) noted in
       let stamp = c.requires.stamp in
-      let old = subst (λ (x : Body). AreCountsBelow (19 * i.stamp) x.counts) (sym c.deref_mut.ensures.value) c.requires.node.counts in
+      let old = subst (λ (x : Body). AreCountsBelow (19 * i.shared.stamp) x.counts) (sym body) c.requires.node.counts in
       subst (λ (x : Body). AreCountsBelow (2 ^ 63) x.counts) (sym c.deref_mut-2.ensures.value)
-      (counts_up (19 * i.stamp + 18) (2 ^ 63) c.treat.new.body.counts (omega (arith, stamp)) (c.treat.ensures.counts (19 * i.stamp) old));
+      (counts_up (19 * i.shared.stamp + 18) (2 ^ 63) c.treat.new.body.counts (omega (arith, stamp)) (c.treat.ensures.counts (19 * i.shared.stamp) old));
 }
 
 pub returns-then-was_ended-clause-turn : goal.returns-then-was_ended-clause-turn
 returns-then-was_ended-clause-turn c =
     let i = c.args.self.now in
+    let sh = c.note_take.new.self in
+    let noted = c.note_take.ensures.same in
+    let body = c.deref_mut.ensures.value ∙ ap (λ (s : SharedState). s.body.value) noted in
     let wire = c.args.wire in
     let from = c.args.from in
     let b = c.treat.new.body in
-    let b' = c.resumed-position.new.body in
+    let b' = c.resume.new.body in
     let d = c.treat.new.desk in
     let byes = c.treat.new.byes in
     let posts = c.treat.new.sends.items in
     let idle = eqb c.pending-pending.result 0 in
-    let p = phase_of i.phase in
-    let lane = c.treat.ensures.lane ∙ ap (λ (x : Body). x.lane) c.deref_mut.ensures.value in
+    let p = phase_of i.lane.phase in
+    let lane = c.treat.ensures.lane ∙ ap (λ (x : Body). x.lane) body in
     let after = c.deref_mut-2.ensures.value in
-    let entry : Entry = record { stamp = c.later.result + 1; from = from; words = i.executed - i.noted } in
-    let entry_is : entry ≡ record { stamp = later i.stamp wire.stamp + 1; from = from; words = i.executed - words_before i.journal.items } =
-    λ t. record { stamp = c.later.ensures t + 1; from = from; words = i.executed - c.requires.node.noted t } in
-    let journal = c.push_reserved.ensures.items ∙ ap (λ (e : Entry). i.journal.items ++ e ∷ []) entry_is in
+    let entry_is : record { stamp = later i.shared.stamp wire.stamp + 1; from = from; words = i.lane.executed - i.shared.noted }
+    ≡ record { stamp = later i.shared.stamp wire.stamp + 1; from = from; words = i.lane.executed - words_before i.shared.journal.items } =
+    λ t. record { stamp = later i.shared.stamp wire.stamp + 1; from = from; words = i.lane.executed - c.requires.node.noted t } in
+    let journal = c.note_take.ensures.journal ∙ ap (λ (e : Entry). i.shared.journal.items ++ e ∷ []) entry_is in
     let last : Node = record {
       me = d.directory.me;
-      lane = lane_of b'.lane (word_address c.resumed-position.result.at);
+      lane = lane_of b'.lane (word_address c.resume.new.self.at);
       local = local_of b'.local;
-      executed = i.executed;
-      phase = phase_of c.resumed-position.result.phase;
+      executed = c.resume.new.self.executed;
+      phase = phase_of c.resume.new.self.phase;
       entry = entries_in d.directory.layout d.directory.me (entry_at d.directory.entries);
       waiting = (entries_of d.directory).waiting;
       occupancy = (entries_of d.directory).occupancy;
       wait = wait_of d.waits;
       byes = members byes;
-      stamp = c.later.result + 1;
-      journal = c.push_reserved.new.self.items;
-      output = i.output.items;
+      stamp = sh.stamp;
+      journal = sh.journal.items;
+      output = sh.output.items;
       counts = b'.counts;
     } in
-    let treat : (n : Node) → n.me ≡ i.desk.directory.me → treated (layout_of i.body.value) (with_all n i.body.value i.desk i.byes) from wire.message
+    let treat : (n : Node) → n.me ≡ i.shared.desk.directory.me → treated (layout_of i.shared.body.value) (with_all n i.shared.body.value i.shared.desk i.shared.byes) from wire.message
     ≡ turn_by (with_all n b d byes) posts None =
-    λ n me. subst (λ (x : Body). treated (layout_of x) (with_all n x i.desk i.byes) from wire.message ≡ turn_by (with_all n b d byes) posts None)
-    c.deref_mut.ensures.value (c.treat.ensures.turn n me) in
-    let desk = subst (λ (x : Body). IsDesk (layout_of x) d) c.deref_mut.ensures.value c.treat.ensures.desk in
-    let none : eqb (count_of (λ x. is_some (wait_of d.waits x)) (blocks (layout_of i.body.value))) 0 ≡ idle =
-    no_wait_is (layout_of i.body.value) d.waits c.pending-pending.result desk.waits c.pending-pending.ensures.waits c.pending-pending.ensures.count in
-    let goes : lane_of b'.lane (word_address c.resumed-position.result.at)
-    ≡ lane_after_wait (local_of b.local) idle p (lane_of i.body.value.lane (word_address i.at)) =
-    c.resumed-position.ensures.resumed
-    ∙ ap (λ (x : Body). lane_after_wait (local_of x.local) idle p (lane_of x.lane (word_address i.at))) after
-    ∙ ap (λ (x : kept.Lane). lane_after_wait (local_of b.local) idle p (lane_of x (word_address i.at))) lane in
+    λ n of. subst (λ (s : SharedState). treated (layout_of i.shared.body.value) (with_all n i.shared.body.value s.desk s.byes) from wire.message ≡ turn_by (with_all n b d byes) posts None)
+    noted (subst (λ (x : Body). treated (layout_of x) (with_all n x sh.desk sh.byes) from wire.message ≡ turn_by (with_all n b d byes) posts None)
+    body (c.treat.ensures.turn n (of ∙ ap (λ (s : SharedState). s.desk.directory.me) (sym noted)))) in
+    let me = c.treat.ensures.me ∙ ap (λ (s : SharedState). s.desk.directory.me) noted in
+    let desk = subst (λ (x : Body). IsDesk (layout_of x) d) body c.treat.ensures.desk in
+    let none : eqb (count_of (λ x. is_some (wait_of d.waits x)) (blocks (layout_of i.shared.body.value))) 0 ≡ idle =
+    no_wait_is (layout_of i.shared.body.value) d.waits c.pending-pending.result desk.waits c.pending-pending.ensures.waits c.pending-pending.ensures.count in
+    let goes : lane_of b'.lane (word_address c.resume.new.self.at)
+    ≡ lane_after_wait (local_of b.local) idle p (lane_of i.shared.body.value.lane (word_address i.lane.at)) =
+    c.resume.ensures.resumed
+    ∙ ap (λ (x : Body). lane_after_wait (local_of x.local) idle p (lane_of x.lane (word_address i.lane.at))) after
+    ∙ ap (λ (x : kept.Lane). lane_after_wait (local_of b.local) idle p (lane_of x (word_address i.lane.at))) lane in
     let counts : b'.counts ≡ counts_after_wait (local_of b.local) idle p b.counts =
-    c.resumed-position.ensures.counts ∙ ap (λ (x : Body). counts_after_wait (local_of x.local) idle p x.counts) after in
-    let local : b'.local ≡ b.local = c.resumed-position.ensures.local ∙ ap (λ (x : Body). x.local) after in
+    c.resume.ensures.counts ∙ ap (λ (x : Body). counts_after_wait (local_of x.local) idle p x.counts) after in
+    let local : b'.local ≡ b.local = c.resume.ensures.local ∙ ap (λ (x : Body). x.local) after in
     let is : last ≡ record (with_all (journaled (node_of i) from wire) b d byes) {
       lane = lane_after_wait (local_of b.local) idle p (node_of i).lane;
-      phase = phase_resumed i.budget i.executed idle p;
+      phase = phase_resumed i.lane.budget i.lane.executed idle p;
       counts = counts_after_wait (local_of b.local) idle p b.counts;
     } = λ t. record last {
-      me = c.treat.ensures.me t;
+      me = me t;
       lane = goes t;
       local = local_of (local t);
-      phase = c.resumed-position.ensures.phase t;
-      stamp = c.later.ensures t + 1;
+      executed = (c.resume.ensures.same t).executed;
+      phase = c.resume.ensures.phase t;
+      stamp = (noted t).stamp;
       journal = journal t;
+      output = (noted t).output.items;
       counts = counts t;
     } in
     let whole = taken i from wire b d byes posts idle last treat none is in
-    taken_ended i from wire posts last whole (sym c.is_ended-was_ended.ensures ∙ c.if-was_ended.true)
+    taken_ended i from wire posts last whole (sym c.has_ended-was_ended.ensures ∙ c.if-was_ended.true)
 
 pub returns-then-was_ended-clause-work : goal.returns-then-was_ended-clause-work
 returns-then-was_ended-clause-work c =
     let i = c.args.self.now in
-    let g = ap (λ (x : Shelf). ground_of x) c.resumed-position.ensures.local ∙ ap (λ (x : Body). ground_of x.local) c.deref_mut-2.ensures.value ∙ c.treat.ensures.ground
-    ∙ ap (λ (x : Body). ground_of x.local) c.deref_mut.ensures.value in
-    λ t. record { program = program_of (g t).program; image = i.image.now; layout = (g t).layout; budget = i.budget }
+    let sh = c.note_take.new.self in
+    let noted = c.note_take.ensures.same in
+    let body = c.deref_mut.ensures.value ∙ ap (λ (s : SharedState). s.body.value) noted in
+    let g = ap (λ (x : Shelf). ground_of x) c.resume.ensures.local ∙ ap (λ (x : Body). ground_of x.local) c.deref_mut-2.ensures.value ∙ c.treat.ensures.ground
+    ∙ ap (λ (x : Body). ground_of x.local) body in
+    λ t. record {
+      program = program_of (g t).program;
+      image = (c.resume.ensures.same t).image.now;
+      layout = (g t).layout;
+      budget = (c.resume.ensures.same t).budget;
+    }
 
 pub returns-then-was_ended-clause-node : goal.returns-then-was_ended-clause-node
 returns-then-was_ended-clause-node c =
     let i = c.args.self.now in
+    let sh = c.note_take.new.self in
+    let noted = c.note_take.ensures.same in
+    let body = c.deref_mut.ensures.value ∙ ap (λ (s : SharedState). s.body.value) noted in
     let n = c.requires.node in
     let b = c.treat.new.body in
-    let b' = c.resumed-position.new.body in
+    let b' = c.resume.new.body in
     let d = c.treat.new.desk in
     let idle = eqb c.pending-pending.result 0 in
     let left = ap (λ x. eqb x 0) (sym c.pending-pending.ensures.count) in
-    let entry : Entry = record { stamp = c.later.result + 1; from = c.args.from; words = i.executed - i.noted } in
-    let words = ap words_before c.push_reserved.ensures.items ∙ words_more i.journal.items entry in
-    let noted = n.noted in
+    let entry : Entry = record { stamp = later i.shared.stamp c.args.wire.stamp + 1; from = c.args.from; words = i.lane.executed - i.shared.noted } in
+    let words = ap words_before c.note_take.ensures.journal ∙ words_more i.shared.journal.items entry in
+    let noted_before = n.noted in
+    let noted_now = ap (λ (s : SharedState). s.noted) noted in
     let behind = n.behind in
-    let above = later_above i.stamp c.args.wire.stamp in
-    let stamp = c.later.ensures in
-    let old = subst (λ (x : Body). AreCountsBelow (19 * i.stamp) x.counts) (sym c.deref_mut.ensures.value) n.counts in
+    let above = later_above i.shared.stamp c.args.wire.stamp in
+    let stamp = ap (λ (s : SharedState). s.stamp) noted in
+    let lane = c.resume.ensures.same in
+    let executed = ap (λ (l : LaneState). l.executed) lane in
+    let old = subst (λ (x : Body). AreCountsBelow (19 * i.shared.stamp) x.counts) (sym body) n.counts in
     let after = c.deref_mut-2.ensures.value in
-    let treated = c.treat.ensures.counts (19 * i.stamp) old in
-    let counts : b'.counts ≡ counts_after_wait (local_of b.local) idle (phase_of i.phase) b.counts =
-    c.resumed-position.ensures.counts ∙ ap (λ (x : Body). counts_after_wait (local_of x.local) idle (phase_of i.phase) x.counts) after in
-    let below = subst (AreCountsBelow (19 * i.stamp + 18 + 1)) (sym counts) (wait_below (local_of b.local) idle (phase_of i.phase) (19 * i.stamp + 18) b.counts treated) in
-    let local : b'.local ≡ b.local = c.resumed-position.ensures.local ∙ ap (λ (x : Body). x.local) after in
+    let treated = c.treat.ensures.counts (19 * i.shared.stamp) old in
+    let counts : b'.counts ≡ counts_after_wait (local_of b.local) idle (phase_of i.lane.phase) b.counts =
+    c.resume.ensures.counts ∙ ap (λ (x : Body). counts_after_wait (local_of x.local) idle (phase_of i.lane.phase) x.counts) after in
+    let below = subst (AreCountsBelow (19 * i.shared.stamp + 18 + 1)) (sym counts) (wait_below (local_of b.local) idle (phase_of i.lane.phase) (19 * i.shared.stamp + 18) b.counts treated) in
+    let local : b'.local ≡ b.local = c.resume.ensures.local ∙ ap (λ (x : Body). x.local) after in
     let layout = ap (λ (x : Shelf). x.copy.layout) local ∙ ap (λ (x : Ground). x.layout) c.treat.ensures.ground in
     record {
-      within = n.within;
-      going = λ may. resumed_goes i.budget i.executed (phase_of i.phase) idle n.within n.going (sym (ap can_execute c.resumed-position.ensures.phase) ∙ may);
-      range = n.range;
-      short = n.short;
+      lane = c.resume.ensures.lane;
       desk = subst (λ (l : Shape). IsDesk l d) (sym layout) c.treat.ensures.desk;
-      waits = subst (λ p. WaitsInPhase p (length d.waits.waits)) (sym c.resumed-position.ensures.phase)
-          (resumed_waits i.budget i.executed (phase_of i.phase) (length i.desk.waits.waits) (length d.waits.waits) idle left n.waits c.treat.ensures.none);
-      noted = omega (arith, words, noted, behind);
-      behind = omega arith;
-      counts = counts_up (19 * i.stamp + 18 + 1) (19 * (c.later.result + 1)) b'.counts (omega (arith, above, stamp)) below;
+      waits = subst (λ p. WaitsInPhase p (length d.waits.waits)) (sym c.resume.ensures.phase)
+          (resumed_waits i.lane.budget i.lane.executed (phase_of i.lane.phase) (length i.shared.desk.waits.waits) (length d.waits.waits) idle left n.waits
+          (λ z. c.treat.ensures.none (ap (λ (s : SharedState). length s.desk.waits.waits) noted ∙ z)));
+      noted = omega (arith, words, noted_before, noted_now);
+      behind = omega (arith, behind, noted_now, executed);
+      counts = counts_up (19 * i.shared.stamp + 18 + 1) (19 * sh.stamp) b'.counts (omega (arith, above, stamp)) below;
     }
 
 pub returns-clause-turn : goal.returns-clause-turn
 returns-clause-turn c =
     let i = c.args.self.now in
+    let sh = c.note_take.new.self in
+    let noted = c.note_take.ensures.same in
+    let body = c.deref_mut.ensures.value ∙ ap (λ (s : SharedState). s.body.value) noted in
     let wire = c.args.wire in
     let from = c.args.from in
     let b = c.treat.new.body in
-    let b' = c.resumed-position.new.body in
+    let b' = c.resume.new.body in
     let d = c.treat.new.desk in
     let byes = c.treat.new.byes in
     let posts = c.treat.new.sends.items in
     let idle = eqb c.pending-pending.result 0 in
-    let p = phase_of i.phase in
-    let lane = c.treat.ensures.lane ∙ ap (λ (x : Body). x.lane) c.deref_mut.ensures.value in
+    let p = phase_of i.lane.phase in
+    let lane = c.treat.ensures.lane ∙ ap (λ (x : Body). x.lane) body in
     let after = c.deref_mut-2.ensures.value in
-    let entry : Entry = record { stamp = c.later.result + 1; from = from; words = i.executed - i.noted } in
-    let entry_is : entry ≡ record { stamp = later i.stamp wire.stamp + 1; from = from; words = i.executed - words_before i.journal.items } =
-    λ t. record { stamp = c.later.ensures t + 1; from = from; words = i.executed - c.requires.node.noted t } in
-    let journal = c.push_reserved.ensures.items ∙ ap (λ (e : Entry). i.journal.items ++ e ∷ []) entry_is in
+    let entry_is : record { stamp = later i.shared.stamp wire.stamp + 1; from = from; words = i.lane.executed - i.shared.noted }
+    ≡ record { stamp = later i.shared.stamp wire.stamp + 1; from = from; words = i.lane.executed - words_before i.shared.journal.items } =
+    λ t. record { stamp = later i.shared.stamp wire.stamp + 1; from = from; words = i.lane.executed - c.requires.node.noted t } in
+    let journal = c.note_take.ensures.journal ∙ ap (λ (e : Entry). i.shared.journal.items ++ e ∷ []) entry_is in
     let last : Node = record {
       me = d.directory.me;
-      lane = lane_of b'.lane (word_address c.resumed-position.result.at);
+      lane = lane_of b'.lane (word_address c.resume.new.self.at);
       local = local_of b'.local;
-      executed = i.executed;
-      phase = phase_of c.resumed-position.result.phase;
+      executed = c.resume.new.self.executed;
+      phase = phase_of c.resume.new.self.phase;
       entry = entries_in d.directory.layout d.directory.me (entry_at d.directory.entries);
       waiting = (entries_of d.directory).waiting;
       occupancy = (entries_of d.directory).occupancy;
       wait = wait_of d.waits;
       byes = members byes;
-      stamp = c.later.result + 1;
-      journal = c.push_reserved.new.self.items;
-      output = i.output.items;
+      stamp = sh.stamp;
+      journal = sh.journal.items;
+      output = sh.output.items;
       counts = b'.counts;
     } in
-    let treat : (n : Node) → n.me ≡ i.desk.directory.me → treated (layout_of i.body.value) (with_all n i.body.value i.desk i.byes) from wire.message
+    let treat : (n : Node) → n.me ≡ i.shared.desk.directory.me → treated (layout_of i.shared.body.value) (with_all n i.shared.body.value i.shared.desk i.shared.byes) from wire.message
     ≡ turn_by (with_all n b d byes) posts None =
-    λ n me. subst (λ (x : Body). treated (layout_of x) (with_all n x i.desk i.byes) from wire.message ≡ turn_by (with_all n b d byes) posts None)
-    c.deref_mut.ensures.value (c.treat.ensures.turn n me) in
-    let desk = subst (λ (x : Body). IsDesk (layout_of x) d) c.deref_mut.ensures.value c.treat.ensures.desk in
-    let none : eqb (count_of (λ x. is_some (wait_of d.waits x)) (blocks (layout_of i.body.value))) 0 ≡ idle =
-    no_wait_is (layout_of i.body.value) d.waits c.pending-pending.result desk.waits c.pending-pending.ensures.waits c.pending-pending.ensures.count in
-    let goes : lane_of b'.lane (word_address c.resumed-position.result.at)
-    ≡ lane_after_wait (local_of b.local) idle p (lane_of i.body.value.lane (word_address i.at)) =
-    c.resumed-position.ensures.resumed
-    ∙ ap (λ (x : Body). lane_after_wait (local_of x.local) idle p (lane_of x.lane (word_address i.at))) after
-    ∙ ap (λ (x : kept.Lane). lane_after_wait (local_of b.local) idle p (lane_of x (word_address i.at))) lane in
+    λ n of. subst (λ (s : SharedState). treated (layout_of i.shared.body.value) (with_all n i.shared.body.value s.desk s.byes) from wire.message ≡ turn_by (with_all n b d byes) posts None)
+    noted (subst (λ (x : Body). treated (layout_of x) (with_all n x sh.desk sh.byes) from wire.message ≡ turn_by (with_all n b d byes) posts None)
+    body (c.treat.ensures.turn n (of ∙ ap (λ (s : SharedState). s.desk.directory.me) (sym noted)))) in
+    let me = c.treat.ensures.me ∙ ap (λ (s : SharedState). s.desk.directory.me) noted in
+    let desk = subst (λ (x : Body). IsDesk (layout_of x) d) body c.treat.ensures.desk in
+    let none : eqb (count_of (λ x. is_some (wait_of d.waits x)) (blocks (layout_of i.shared.body.value))) 0 ≡ idle =
+    no_wait_is (layout_of i.shared.body.value) d.waits c.pending-pending.result desk.waits c.pending-pending.ensures.waits c.pending-pending.ensures.count in
+    let goes : lane_of b'.lane (word_address c.resume.new.self.at)
+    ≡ lane_after_wait (local_of b.local) idle p (lane_of i.shared.body.value.lane (word_address i.lane.at)) =
+    c.resume.ensures.resumed
+    ∙ ap (λ (x : Body). lane_after_wait (local_of x.local) idle p (lane_of x.lane (word_address i.lane.at))) after
+    ∙ ap (λ (x : kept.Lane). lane_after_wait (local_of b.local) idle p (lane_of x (word_address i.lane.at))) lane in
     let counts : b'.counts ≡ counts_after_wait (local_of b.local) idle p b.counts =
-    c.resumed-position.ensures.counts ∙ ap (λ (x : Body). counts_after_wait (local_of x.local) idle p x.counts) after in
-    let local : b'.local ≡ b.local = c.resumed-position.ensures.local ∙ ap (λ (x : Body). x.local) after in
+    c.resume.ensures.counts ∙ ap (λ (x : Body). counts_after_wait (local_of x.local) idle p x.counts) after in
+    let local : b'.local ≡ b.local = c.resume.ensures.local ∙ ap (λ (x : Body). x.local) after in
     let is : last ≡ record (with_all (journaled (node_of i) from wire) b d byes) {
       lane = lane_after_wait (local_of b.local) idle p (node_of i).lane;
-      phase = phase_resumed i.budget i.executed idle p;
+      phase = phase_resumed i.lane.budget i.lane.executed idle p;
       counts = counts_after_wait (local_of b.local) idle p b.counts;
     } = λ t. record last {
-      me = c.treat.ensures.me t;
+      me = me t;
       lane = goes t;
       local = local_of (local t);
-      phase = c.resumed-position.ensures.phase t;
-      stamp = c.later.ensures t + 1;
+      executed = (c.resume.ensures.same t).executed;
+      phase = c.resume.ensures.phase t;
+      stamp = (noted t).stamp;
       journal = journal t;
+      output = (noted t).output.items;
       counts = counts t;
     } in
     let whole = taken i from wire b d byes posts idle last treat none is in
-    let g = ap (λ (x : Shelf). ground_of x) local ∙ c.treat.ensures.ground ∙ ap (λ (x : Body). ground_of x.local) c.deref_mut.ensures.value in
+    let g = ap (λ (x : Shelf). ground_of x) local ∙ c.treat.ensures.ground ∙ ap (λ (x : Body). ground_of x.local) body in
     c.turn.ensures.turn
     ∙ ap (λ (x : Ground). with_byes x.layout.nodes (turn_by last posts None) (is_ended last.phase)) g
-    ∙ taken_going i from wire posts last whole (sym c.is_ended-was_ended.ensures ∙ c.if-was_ended.false)
+    ∙ taken_going i from wire posts last whole (sym c.has_ended-was_ended.ensures ∙ c.if-was_ended.false)
 
 pub returns-clause-work : goal.returns-clause-work
 returns-clause-work c =
     let i = c.args.self.now in
-    let g = ap (λ (x : Shelf). ground_of x) c.resumed-position.ensures.local ∙ ap (λ (x : Body). ground_of x.local) c.deref_mut-2.ensures.value ∙ c.treat.ensures.ground
-    ∙ ap (λ (x : Body). ground_of x.local) c.deref_mut.ensures.value in
-    λ t. record { program = program_of (g t).program; image = i.image.now; layout = (g t).layout; budget = i.budget }
+    let sh = c.note_take.new.self in
+    let noted = c.note_take.ensures.same in
+    let body = c.deref_mut.ensures.value ∙ ap (λ (s : SharedState). s.body.value) noted in
+    let g = ap (λ (x : Shelf). ground_of x) c.resume.ensures.local ∙ ap (λ (x : Body). ground_of x.local) c.deref_mut-2.ensures.value ∙ c.treat.ensures.ground
+    ∙ ap (λ (x : Body). ground_of x.local) body in
+    λ t. record {
+      program = program_of (g t).program;
+      image = (c.resume.ensures.same t).image.now;
+      layout = (g t).layout;
+      budget = (c.resume.ensures.same t).budget;
+    }
 
 pub returns-clause-node : goal.returns-clause-node
 returns-clause-node c =
     let i = c.args.self.now in
+    let sh = c.note_take.new.self in
+    let noted = c.note_take.ensures.same in
+    let body = c.deref_mut.ensures.value ∙ ap (λ (s : SharedState). s.body.value) noted in
     let n = c.requires.node in
     let b = c.treat.new.body in
-    let b' = c.resumed-position.new.body in
+    let b' = c.resume.new.body in
     let d = c.treat.new.desk in
     let idle = eqb c.pending-pending.result 0 in
     let left = ap (λ x. eqb x 0) (sym c.pending-pending.ensures.count) in
-    let entry : Entry = record { stamp = c.later.result + 1; from = c.args.from; words = i.executed - i.noted } in
-    let words = ap words_before c.push_reserved.ensures.items ∙ words_more i.journal.items entry in
-    let noted = n.noted in
+    let entry : Entry = record { stamp = later i.shared.stamp c.args.wire.stamp + 1; from = c.args.from; words = i.lane.executed - i.shared.noted } in
+    let words = ap words_before c.note_take.ensures.journal ∙ words_more i.shared.journal.items entry in
+    let noted_before = n.noted in
+    let noted_now = ap (λ (s : SharedState). s.noted) noted in
     let behind = n.behind in
-    let above = later_above i.stamp c.args.wire.stamp in
-    let stamp = c.later.ensures in
-    let old = subst (λ (x : Body). AreCountsBelow (19 * i.stamp) x.counts) (sym c.deref_mut.ensures.value) n.counts in
+    let above = later_above i.shared.stamp c.args.wire.stamp in
+    let stamp = ap (λ (s : SharedState). s.stamp) noted in
+    let lane = c.resume.ensures.same in
+    let executed = ap (λ (l : LaneState). l.executed) lane in
+    let old = subst (λ (x : Body). AreCountsBelow (19 * i.shared.stamp) x.counts) (sym body) n.counts in
     let after = c.deref_mut-2.ensures.value in
-    let treated = c.treat.ensures.counts (19 * i.stamp) old in
-    let counts : b'.counts ≡ counts_after_wait (local_of b.local) idle (phase_of i.phase) b.counts =
-    c.resumed-position.ensures.counts ∙ ap (λ (x : Body). counts_after_wait (local_of x.local) idle (phase_of i.phase) x.counts) after in
-    let below = subst (AreCountsBelow (19 * i.stamp + 18 + 1)) (sym counts) (wait_below (local_of b.local) idle (phase_of i.phase) (19 * i.stamp + 18) b.counts treated) in
-    let local : b'.local ≡ b.local = c.resumed-position.ensures.local ∙ ap (λ (x : Body). x.local) after in
+    let treated = c.treat.ensures.counts (19 * i.shared.stamp) old in
+    let counts : b'.counts ≡ counts_after_wait (local_of b.local) idle (phase_of i.lane.phase) b.counts =
+    c.resume.ensures.counts ∙ ap (λ (x : Body). counts_after_wait (local_of x.local) idle (phase_of i.lane.phase) x.counts) after in
+    let below = subst (AreCountsBelow (19 * i.shared.stamp + 18 + 1)) (sym counts) (wait_below (local_of b.local) idle (phase_of i.lane.phase) (19 * i.shared.stamp + 18) b.counts treated) in
+    let local : b'.local ≡ b.local = c.resume.ensures.local ∙ ap (λ (x : Body). x.local) after in
     let layout = ap (λ (x : Shelf). x.copy.layout) local ∙ ap (λ (x : Ground). x.layout) c.treat.ensures.ground in
     record {
-      within = n.within;
-      going = λ may. resumed_goes i.budget i.executed (phase_of i.phase) idle n.within n.going (sym (ap can_execute c.resumed-position.ensures.phase) ∙ may);
-      range = n.range;
-      short = n.short;
+      lane = c.resume.ensures.lane;
       desk = subst (λ (l : Shape). IsDesk l d) (sym layout) c.treat.ensures.desk;
-      waits = subst (λ p. WaitsInPhase p (length d.waits.waits)) (sym c.resumed-position.ensures.phase)
-          (resumed_waits i.budget i.executed (phase_of i.phase) (length i.desk.waits.waits) (length d.waits.waits) idle left n.waits c.treat.ensures.none);
-      noted = omega (arith, words, noted, behind);
-      behind = omega arith;
-      counts = counts_up (19 * i.stamp + 18 + 1) (19 * (c.later.result + 1)) b'.counts (omega (arith, above, stamp)) below;
+      waits = subst (λ p. WaitsInPhase p (length d.waits.waits)) (sym c.resume.ensures.phase)
+          (resumed_waits i.lane.budget i.lane.executed (phase_of i.lane.phase) (length i.shared.desk.waits.waits) (length d.waits.waits) idle left n.waits
+          (λ z. c.treat.ensures.none (ap (λ (s : SharedState). length s.desk.waits.waits) noted ∙ z)));
+      noted = omega (arith, words, noted_before, noted_now);
+      behind = omega (arith, behind, noted_now, executed);
+      counts = counts_up (19 * i.shared.stamp + 18 + 1) (19 * sh.stamp) b'.counts (omega (arith, above, stamp)) below;
     }

@@ -12,7 +12,7 @@ use Rattle.node_words.specs.Trails.{TakesBack}
 use Rattle.node_model.specs.Node.{can_execute}
 use Rattle.node_model.specs.Turns.{words_before}
 use Rattle.node_machine.specs.declared.desk.Desk.{Desk}
-use Rattle.node_machine.specs.declared.frame.Phase as kept
+use Rattle.node_machine.specs.declared.phase.Phase as kept
 use Rattle.node_machine.specs.Frame.{layout_of, phase_of, entries_in, IsDesk, AreCountsBelow, WaitsInPhase}
 use Rattle.node_machine.proofs.frame.Frame.take_back.Goals as goal
 
@@ -24,9 +24,9 @@ returns-clause-back c first back =
     let i = c.args.self.now in
     let t = c.args.trail.now in
     let body = c.deref_mut.ensures.value in
-    let words = subst (λ (x : Body). TakesBack t.words.saved t.words.notes.items x.lane x.local first.body.value.lane first.body.value.local) (sym body) back.words in
-    let same = c.take_back.ensures.back first.body.value.lane first.body.value.local words in
-    let lane = same.lane (word_address t.at) ∙ ap (λ a. lane_of first.body.value.lane (word_address a)) back.at in
+    let words = subst (λ (x : Body). TakesBack t.words.saved t.words.notes.items x.lane x.local first.shared.body.value.lane first.shared.body.value.local) (sym body) back.words in
+    let same = c.take_back.ensures.back first.shared.body.value.lane first.shared.body.value.local words in
+    let lane = same.lane (word_address t.at) ∙ ap (λ a. lane_of first.shared.body.value.lane (word_address a)) back.at in
     let counts = c.take_back.ensures.counts ∙ ap (λ (x : Body). x.counts) body ∙ back.counts in
     λ t. record {
       me = (back.desk t).directory.me;
@@ -49,7 +49,7 @@ pub returns-clause-work : goal.returns-clause-work
 returns-clause-work c =
     let i = c.args.self.now in
     let g = c.take_back.ensures.ground ∙ ap (λ (x : Body). ground_of x.local) c.deref_mut.ensures.value in
-    λ t. record { program = program_of (g t).program; image = i.image.now; layout = (g t).layout; budget = i.budget }
+    λ t. record { program = program_of (g t).program; image = i.lane.image.now; layout = (g t).layout; budget = i.lane.budget }
 
 pub returns-clause-node : goal.returns-clause-node
 returns-clause-node c =
@@ -61,20 +61,22 @@ returns-clause-node c =
     let executed = back.executed in
     let budget = back.budget in
     let noted = back.noted in
-    let within = n.within in
+    let within = n.lane.within in
     let behind = n.behind in
     let g = c.take_back.ensures.ground ∙ ap (λ (x : Body). ground_of x.local) c.deref_mut.ensures.value ∙ back.words.ground_same in
     let layout = ap (λ (z : Ground). z.layout) g in
     let counts = c.take_back.ensures.counts ∙ ap (λ (x : Body). x.counts) c.deref_mut.ensures.value ∙ back.counts in
     record {
-      within = omega (arith, within, executed, budget);
-      going = λ may. let low = n.going (ap (λ (p : kept.Phase). can_execute (phase_of p)) (sym back.phase) ∙ may) in omega (arith, low, executed, budget);
-      range = subst IsBudget (sym budget) n.range;
-      short = subst (λ (cells : List Cell). length cells ≤ most_words) (sym back.image) n.short;
-      desk = subst (λ (l : Shape). IsDesk l i.desk) (sym layout) (subst (λ (d : Desk). IsDesk (layout_of first.body.value) d) (sym back.desk) n.desk);
+      lane = record {
+        within = omega (arith, within, executed, budget);
+        going = λ may. let low = n.lane.going (ap (λ (p : kept.Phase). can_execute (phase_of p)) (sym back.phase) ∙ may) in omega (arith, low, executed, budget);
+        range = subst IsBudget (sym budget) n.lane.range;
+        short = subst (λ (cells : List Cell). length cells ≤ most_words) (sym back.image) n.lane.short;
+      };
+      desk = subst (λ (l : Shape). IsDesk l i.shared.desk) (sym layout) (subst (λ (d : Desk). IsDesk (layout_of first.shared.body.value) d) (sym back.desk) n.desk);
       waits = subst (λ (d : Desk). WaitsInPhase (phase_of t.phase) (length d.waits.waits)) (sym back.desk)
-          (subst (λ (p : kept.Phase). WaitsInPhase (phase_of p) (length first.desk.waits.waits)) (sym back.phase) n.waits);
+          (subst (λ (p : kept.Phase). WaitsInPhase (phase_of p) (length first.shared.desk.waits.waits)) (sym back.phase) n.waits);
       noted = noted ∙ n.noted ∙ ap words_before (sym back.journal);
       behind = omega (arith, behind, noted, executed);
-      counts = subst (AreCountsBelow (19 * t.stamp)) (sym counts) (subst (λ s. AreCountsBelow (19 * s) first.body.value.counts) (sym back.stamp) n.counts);
+      counts = subst (AreCountsBelow (19 * t.stamp)) (sym counts) (subst (λ s. AreCountsBelow (19 * s) first.shared.body.value.counts) (sym back.stamp) n.counts);
     }

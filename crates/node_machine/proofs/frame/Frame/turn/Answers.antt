@@ -13,5 +13,5 @@ returns-clause-turn c =
     let posts = c.args.sends.now.items in
     let nodes = c.nodes.ensures.nodes ∙ ap (λ (b : Body). (layout_of b).nodes) c.deref.ensures in
     ap (λ (x : List Post). turn_by (node_of f) x c.args.output)
-    (c.add_byes.ensures ∙ (λ t. cond (c.is_ended.ensures t) (posts ++ byes_to (nodes t)) posts))
-    ∙ byes_by (layout_of f.body.value).nodes (node_of f) posts c.args.output (is_ended (phase_of f.phase))
+    (c.add_byes.ensures ∙ (λ t. cond (c.has_ended.ensures t) (posts ++ byes_to (nodes t)) posts))
+    ∙ byes_by (layout_of f.shared.body.value).nodes (node_of f) posts c.args.output (is_ended (phase_of f.lane.phase))

@@ -12,8 +12,8 @@ pub returns : goal.returns
 returns c =
     let law = c.layout_law.ensures in
     let laws : LineLaws = record { ends = law.ends; has = law.has; found = law.found; shared = law.shared; some = law.some } in
-    let b = c.args.self.now.body.value in
-    let view = ap (λ (f : Stored). f.body.value) c.self.view_is in
+    let b = c.args.self.now.shared.body.value in
+    let view = ap (λ (f : Stored). f.shared.body.value) c.self.view_is in
     let here : ShelfLaws b.local = subst (λ (x : Body). ShelfLaws x.local) (c.deref.ensures ∙ view) c.laws.ensures in
     record {
       value = c.block_state.ensures

@@ -14,6 +14,6 @@ returns c = record {
       let l = c.index.result.now in
       let at = c.index.ensures in
       c.standing.ensures.value w (node_in w i x) k
-      (sym (ap (λ (z : LaneFrame). z.image.now) at ∙ (is.lanes.each k l c.requires.lane).image))
+      (sym (ap (λ (z : LaneFrame). z.state.image.now) at ∙ (is.lanes.each k l c.requires.lane).image))
       (part_at w i x k l c.requires.lane ∙ ap part_of (sym at));
 }

@@ -1,0 +1,78 @@
+//! What a node's next word does to memory, as far as its micro-op tells.
+
+ghost use Rattle.std.specs.Prelude.{ℕ, IfSome};
+ghost use Rattle.micro_op.specs.Micro.{sum_address};
+ghost use Rattle.rv32_step.specs.declared.Demand.TheVariants.{Loads, Stores};
+ghost use Rattle.node_model.specs.Node.{native};
+ghost use Rattle.node_machine.specs.Frame.{node_of, work_of, IsNode};
+ghost use Rattle.node_machine.specs.Touch.{IsAccess, IsTouch};
+
+use crate::frame::Frame;
+use micro_op::{MicroKind, MicroOp};
+use rv32_decode::{LoadKind, Width};
+
+/// What a word does to memory.
+#[derive(Clone, Copy, Debug, PartialEq, Eq)]
+pub enum Touch {
+    Nothing,
+    /// It reads so much at an address.
+    Reads(LoadKind, u32),
+    /// It writes so much at an address.
+    Writes(Width, u32),
+}
+
+/// The state table begins at this address; from there on lies no memory of a program.
+const STATE_TABLE: u32 = 0x8000_0000;
+
+impl<'a> Frame<'a> {
+    /// What the next word does to memory, where its micro-op tells.
+    #[inline(always)]
+    pub fn touch(&self) -> Option<Touch>
+        requires node { IsNode self.now }
+        ensures { IfSome result (IsTouch (work_of self.now) (node_of self.now)) }
+    {
+        let op = self.lane.image.micro(self.lane.at)?;
+        match op.kind {
+            MicroKind::Rare | MicroKind::JumpBy => None,
+            MicroKind::LoadByte => Some(self.reads(LoadKind::Byte, op)),
+            MicroKind::LoadHalf => Some(self.reads(LoadKind::Half, op)),
+            MicroKind::LoadWord => Some(self.reads(LoadKind::Word, op)),
+            MicroKind::LoadByteU => Some(self.reads(LoadKind::ByteU, op)),
+            MicroKind::LoadHalfU => Some(self.reads(LoadKind::HalfU, op)),
+            MicroKind::StoreByte => Some(self.writes(Width::Byte, op)),
+            MicroKind::StoreHalf => Some(self.writes(Width::Half, op)),
+            MicroKind::StoreWord => Some(self.writes(Width::Word, op)),
+            _ => Some(Touch::Nothing),
+        }
+    }
+
+    /// What a micro-op reads.
+    #[inline(always)]
+    fn reads(&self, kind: LoadKind, op: &MicroOp) -> Touch
+        ensures access { let work = work_of self.now in let n = node_of self.now in
+            (place at rd : ℕ) → IsAccess work n result (native work.program place at n.lane n.local
+            (Loads kind rd (sum_address op.now n.lane.registers))).access }
+    {
+        let address = self.address_by(op);
+        if address < STATE_TABLE && kind.width().is_aligned(address) {
+            Touch::Reads(kind, address)
+        } else {
+            Touch::Nothing
+        }
+    }
+
+    /// What a micro-op writes.
+    #[inline(always)]
+    fn writes(&self, width: Width, op: &MicroOp) -> Touch
+        ensures access { let work = work_of self.now in let n = node_of self.now in
+            (place at value : ℕ) → IsAccess work n result (native work.program place at n.lane
+            n.local (Stores width (sum_address op.now n.lane.registers) value)).access }
+    {
+        let address = self.address_by(op);
+        if address < STATE_TABLE && width.is_aligned(address) {
+            Touch::Writes(width, address)
+        } else {
+            Touch::Nothing
+        }
+    }
+}
