@@ -10,9 +10,9 @@ use Rattle.run_record.specs.Lists.{items_of}
 use Rattle.run_record.specs.Record.{IsRecord, IsTakeBehind, AreTakesBehind}
 use Rattle.replay.specs.declared.cursor.Cursor.{Cursor}
 use Rattle.replay.specs.declared.cursor.Cursors.{Cursors}
-use Rattle.replay.specs.declared.cursor.Next.{Next}
+use Rattle.replay.specs.declared.cursor.First.{First}
 use Rattle.replay.specs.Told.{Told, told_by, told_in, entries_of, stamp_told, maker_told}
-use Rattle.replay.specs.Way.{without, left_of, start_of, cursor_at, entries_at, left_at, last_at, IsEntryOf, AreLawful, IsNext, ComesBefore, ComesFirst, IsFirst, IsLeast, HasFollowed, count_left, all_left}
+use Rattle.replay.specs.Way.{without, left_of, start_of, cursor_at, entries_at, left_at, last_at, IsEntryOf, AreLawful, IsNext, ComesBefore, ComesFirst, IsFirst, IsFirstBelow, HasFollowed, count_left, all_left}
 use Rattle.replay.proofs.Sorting.{AreOf}
 use Rattle.replay.proofs.Journals.{take_of, told_word, told_take, left_word, left_take, words_first, without_none, behind_takes, rising_in}
 use Rattle.replay.proofs.Way.{IsAhead, AreNow}
@@ -438,31 +438,34 @@ entry_within t l e es is = ⊎_elim
 -- 9. The first of the next events, over one node more
 
 -- a node to which nothing is left
-pub least_kept : (w : Cursors) (m : ℕ) (o : Option Next) → IsLeast w m o → left_at w m ≡ []
-    → IsLeast w (m + 1) o
-least_kept w m None h none = λ i lt. ⊎_elim
+pub first_without : (w : Cursors) (m : ℕ) (o : Option First) → IsFirstBelow w m o
+    → left_at w m ≡ [] → IsFirstBelow w (m + 1) o
+first_without w m None h none = λ i lt. ⊎_elim
     (λ (e : i ≡ m). subst (λ k. left_at w k ≡ []) (sym e) none)
     (λ (e : i ≢ m). h i (omega arith)) (cases_eq i m)
-least_kept w m (Some x) h none = record {
+first_without w m (Some x) h none = record {
   below = (let a = h.below in omega arith);
   next = h.next;
+  some = h.some;
   others = λ i lt other. ⊎_elim
-      (λ (e : i ≡ m). subst (λ k. ComesBefore x.stamp x.node k (left_at w k)) (sym e)
-      (before_none x.stamp x.node m (left_at w m) none))
+      (λ (e : i ≡ m). subst (λ k. ComesBefore x.to x.node k (left_at w k)) (sym e)
+      (before_none x.to x.node m (left_at w m) none))
       (λ (e : i ≢ m). h.others i (omega arith) other) (cases_eq i m);
 }
 
 -- a node whose next event doesn't come before that of a lower node
-pub least_before : (w : Cursors) (m : ℕ) (x : Next) (stamp : ℕ) → IsLeast w m (Some x)
-    → IsNext m stamp (left_at w m) → x.stamp ≤ stamp → IsLeast w (m + 1) (Some x)
-least_before w m x stamp h next le = record {
+pub first_still : (w : Cursors) (m : ℕ) (x : First) (stamp to : ℕ) → IsFirst w m x
+    → IsNext m stamp (left_at w m) → x.stamp ≤ to → to ≤ x.to → to ≤ stamp
+    → IsFirst w (m + 1) (record { node = x.node; stamp = x.stamp; to = to })
+first_still w m x stamp to h next some sooner le = record {
   below = (let a = h.below in omega arith);
   next = h.next;
+  some = some;
   others = λ i lt other. ⊎_elim
-      (λ (e : i ≡ m). subst (λ k. ComesBefore x.stamp x.node k (left_at w k)) (sym e)
-      (before_next x.stamp x.node m stamp (left_at w m) next
-      (before_or x.stamp stamp x.node m le h.below)))
-      (λ (e : i ≢ m). h.others i (omega arith) other) (cases_eq i m);
+      (λ (e : i ≡ m). subst (λ k. ComesBefore to x.node k (left_at w k)) (sym e)
+      (before_next to x.node m stamp (left_at w m) next (before_or to stamp x.node m le h.below)))
+      (λ (e : i ≢ m). before_sooner x.to to x.node i (left_at w i) sooner
+      (h.others i (omega arith) other)) (cases_eq i m);
 }
   where
     before_or : (a b n k : ℕ) → a ≤ b → n < k → (a < b) ⊎ ((a ≡ b) × (n < k))
@@ -470,41 +473,44 @@ least_before w m x stamp h next le = record {
         (λ (e : a ≢ b). inl (omega arith)) (cases_eq a b)
 
 -- a node whose next event comes before that of every lower node
-pub least_next : (w : Cursors) (m : ℕ) (o : Option Next) (stamp : ℕ) → IsLeast w m o
-    → IsNext m stamp (left_at w m) → ((x : Next) → o ≡ Some x → stamp < x.stamp)
-    → IsFirst w (m + 1) stamp m
-least_next w m None stamp h next less = record {
+pub first_now : (w : Cursors) (m : ℕ) (x : First) (stamp to : ℕ) → IsFirst w m x
+    → IsNext m stamp (left_at w m) → stamp ≤ to → to < x.stamp
+    → IsFirst w (m + 1) (record { node = m; stamp = stamp; to = to })
+first_now w m x stamp to h next some lt = record {
   below = omega arith;
   next = next;
-  others = λ i lt other. before_none stamp m i (left_at w i) (h i (omega arith));
-}
-least_next w m (Some x) stamp h next less = record {
-  below = omega arith;
-  next = next;
-  others = λ i lt other. ⊎_elim
-      (λ (e : i ≡ x.node). subst (λ k. ComesBefore stamp m k (left_at w k)) (sym e)
-      (before_next stamp m x.node x.stamp (left_at w x.node) h.next (inl (less x refl))))
+  some = some;
+  others = λ i below other. ⊎_elim
+      (λ (e : i ≡ x.node). subst (λ k. ComesBefore to m k (left_at w k)) (sym e)
+      (before_next to m x.node x.stamp (left_at w x.node) h.next (inl lt)))
       (λ (e : i ≢ x.node). λ s its. ⊎_elim
-      (λ (l : x.stamp < s). inl (let a = less x refl in omega arith))
-      (λ (r : (x.stamp ≡ s) × (x.node < i)). inl (let a = less x refl in omega arith))
+      (λ (l : x.to < s). inl (let a = h.some in omega arith))
+      (λ (r : (x.to ≡ s) × (x.node < i)). inl (let a = h.some in let q = r.0 in omega arith))
       (h.others i (omega arith) e s its)) (cases_eq i x.node);
 }
 
--- 10. The words that come before the events of one node more
+-- 10. The first event, and the words behind it
 
-pub words_over : (w : Cursors) (m node last first before next : ℕ)
-    → ComesFirst w m (last + first) node
-    → ((words : ℕ) → words ≤ before → ComesBefore (last + words) node m (left_at w m))
-    → next ≤ first → next ≤ before → ComesFirst w (m + 1) (last + next) node
-words_over w m node last first before next h each a b i lt other = ⊎_elim
-    (λ (e : i ≡ m). subst (λ k. ComesBefore (last + next) node k (left_at w k)) (sym e)
-    (each next b))
-    (λ (e : i ≢ m). before_sooner (last + first) (last + next) node i (left_at w i) (omega arith)
-    (h i (omega arith) other)) (cases_eq i m)
+pub first_event : (w : Cursors) (m stamp : ℕ) (x : First) → IsFirst w m x
+    → IsNext x.node stamp (left_at w x.node) → ComesFirst w m stamp x.node
+first_event w m stamp x h next =
+    let same = one_next x.node x.stamp stamp (left_at w x.node) h.next next in
+    let some = h.some in
+    first_sooner w m x.to stamp x.node (omega arith) h.others
 
-pub words_past : (w : Cursors) (m node stamp : ℕ) → m ≡ node → ComesFirst w m stamp node
-    → ComesFirst w (m + 1) stamp node
-words_past w m node stamp is h i lt other = h i (omega arith) other
+pub word_within : (w : Cursors) (m : ℕ) (x : First) (e : JournalEntry) → IsFirst w m x
+    → IsEntryOf w x.node e → (cursor_at w x.node).words < e.words → last_at w x.node + 1 ≤ x.to
+word_within w m x e h is lt =
+    let same = one_next x.node x.stamp (last_at w x.node + 1) (left_at w x.node) h.next
+    (next_word w x.node e is lt) in
+    let some = h.some in omega arith
+
+pub words_first_of : (w : Cursors) (m words : ℕ) (x : First) (e : JournalEntry) → IsFirst w m x
+    → IsEntryOf w x.node e → (cursor_at w x.node).words < e.words
+    → words ≤ x.to - last_at w x.node → ComesFirst w m (last_at w x.node + words) x.node
+words_first_of w m words x e h is lt le =
+    let within = word_within w m x e h is lt in
+    first_sooner w m x.to (last_at w x.node + words) x.node (omega arith) h.others
 
 -- 11. In the middle of words
 

@@ -1,104 +1,68 @@
--- Quiet words, one after another.
-use Rattle.std.proofs.Common.{◌≡◌, ℕ, ◌+◌, ◌<◌, ◌≤◌, true, List, [], ◌∷◌, ◌++◌, map, length, refl, sym, ap, ◌∙◌, subst, append_assoc, append-nil, length-append, eq-eqb, arith}
+-- A quiet word of a stretch.
+use Rattle.std.proofs.Common.{◌≡◌, ℕ, ◌+◌, ◌<◌, true, List, [], ◌∷◌, ◌++◌, refl, sym, ap, ◌∙◌, subst, eq-eqb, arith}
 use Rattle.node_model.specs.declared.Entry.{Entry as JournalEntry}
 use Rattle.node_model.specs.Node.{Work, Node, standing_of}
-use Rattle.node_model.specs.Turns.{quiet, word_turn}
-use Rattle.node_model.specs.Core.{Core, Event, Exec, May, may_execute, AreAlike, opening_core, event_step, after}
+use Rattle.node_model.specs.Turns.{word_turn}
+use Rattle.node_model.specs.Core.{Core, Exec, May, may_execute, event_step}
 use Rattle.run_record.specs.declared.Record.{Record}
-use Rattle.run_order.specs.OwnRun.{run_of}
-use Rattle.dsm_core.specs.CoreParts.{CoreParts, work_of, core_of}
-use Rattle.dsm_core.specs.CoreWords.{HasPassed as HasPassedWord}
+use Rattle.dsm_core.specs.CoreParts.{work_of, core_of}
+use Rattle.dsm_core.specs.CoreWords.{HasPassed}
+use Rattle.replay.specs.declared.cursor.Cursor.{Cursor}
 use Rattle.replay.specs.declared.events.Replayer.{Replayer}
-use Rattle.replay.specs.Told.{Told, what_told, events_told}
-use Rattle.replay.specs.declared.cursor.Cursors.{Cursors}
-use Rattle.replay.specs.Way.{cursor_at, last_at, left_at, AreLawful, IsBehind, IsEntryOf, ComesFirst, HasFollowed, HasMade, HasPassed, IsQuiet, AreQuiet, IsSame}
-use Rattle.replay.proofs.Made.{what_append, after_more}
-use Rattle.replay.proofs.Cursors.{word_next, after_word}
-use Rattle.replay.proofs.Runs.{made_word}
-
-pub none_passed : (a : Replayer) (before : List Told) → HasMade a before → HasPassed a a before 0
-none_passed a before h = record {
-  more = [];
-  made = subst (HasMade a) (sym (append-nil before)) h;
-  count = refl;
-  quiet = tt;
-}
-
--- a core that shows the same has made the same
-kept_made : (a b : Replayer) (before : List Told) → core_of b.core ≡ core_of a.core
-    → work_of b.core ≡ work_of a.core → b.cursors ≡ a.cursors → HasMade a before → HasMade b before
-kept_made a b before core work cursors h = record {
-  lawful = subst (λ (w : Cursors). AreLawful w) (sym cursors) h.lawful;
-  nodes = ap (λ (w : Work). w.layout.nodes) work ∙ h.nodes ∙ ap (λ (w : Cursors). w.rec.now.nodes) (sym cursors);
-  way = subst (λ (w : Cursors). IsBehind (work_of b.core) w.rec.now (left_at w) (last_at w) (core_of b.core) before)
-      (sym cursors)
-      (subst (λ (c : Core). IsBehind (work_of b.core) a.cursors.rec.now (left_at a.cursors) (last_at a.cursors) c before)
-      (sym core)
-      (subst (λ (w : Work). IsBehind w a.cursors.rec.now (left_at a.cursors) (last_at a.cursors) (core_of a.core) before)
-      (sym work) h.way));
-}
-
-pub passed_kept : (a b d : Replayer) (before : List Told) (k : ℕ) → core_of d.core ≡ core_of b.core
-    → work_of d.core ≡ work_of b.core → d.cursors ≡ b.cursors → HasPassed a b before k → HasPassed a d before k
-passed_kept a b d before k core work cursors h = record {
-  more = h.more;
-  made = kept_made b d (before ++ h.more) core work cursors h.made;
-  count = h.count;
-  quiet = h.quiet;
-}
-
-quiet_last : (work : Work) (c : Core) (es : List Event) (e : Event) → AreQuiet work c es
-    → IsQuiet work (after work c es) e → AreQuiet work c (es ++ e ∷ [])
-quiet_last work c [] e q h = (h, tt)
-quiet_last work c (x ∷ xs) e q h = (q.0, quiet_last work (event_step work c x) xs e q.1 h)
-
-told_last : (xs : List Told) (x : Told) → events_told (xs ++ x ∷ []) ≡ events_told xs ++ x.what.event ∷ []
-told_last [] x = refl
-told_last (y ∷ ys) x = ap (λ l. y.what.event ∷ l) (told_last ys x)
+use Rattle.replay.specs.declared.events.Stretch.{Stretch}
+use Rattle.replay.specs.Told.{Told}
+use Rattle.replay.specs.Way.{cursor_at, last_at, IsEntryOf, ComesFirst, HasFollowed, HasMade, HasMadeWord, IsQuiet, IsStretch}
+use Rattle.replay.proofs.Cursors.{word_next, after_word, entry_kept, first_kept, mid_node}
+use Rattle.replay.proofs.Runs.{made_word, stamp_now}
 
 word_node : (work : Work) (c : Core) (i : ℕ)
     → (event_step work c (Exec i)).nodes i ≡ (word_turn work (c.nodes i)).node
 word_node work c i = rw (eq-eqb i i refl) refl
 
--- a word that was passed is quiet where a core is alike
-quiet_there : (work : Work) (c d t : Core) (i : ℕ) → i < work.layout.nodes → HasPassedWord work i c d
-    → AreAlike work.layout.nodes c t → IsQuiet work t (Exec i)
-quiet_there work c d t i bi p a =
-    let same = a.nodes i bi in (
-      subst (λ (n : Node). word_turn work n ≡ quiet (word_turn work n).node) same p.quiet,
-      subst (λ (n : Node). may_execute (standing_of work (word_turn work n).node) ≡ true) same
-          (subst (λ (n : Node). may_execute (standing_of work n) ≡ true)
-          (p.event.nodes i bi ∙ word_node work c i) p.may.1),
-    )
+-- a word that was passed is quiet
+quiet_word : (work : Work) (c d : Core) (i : ℕ) → i < work.layout.nodes → HasPassed work i c d
+    → IsQuiet work c (Exec i)
+quiet_word work c d i bi p = (
+  p.quiet,
+  subst (λ (n : Node). may_execute (standing_of work n) ≡ true) (p.event.nodes i bi ∙ word_node work c i) p.may.1,
+)
 
--- one word more
-pub passed_more : (a b d : Replayer) (before : List Told) (k i : ℕ) (e : JournalEntry) → IsSame a b
-    → HasPassed a b before k → i < b.cursors.rec.now.nodes → IsEntryOf b.cursors i e
-    → (cursor_at b.cursors i).words < e.words
-    → ComesFirst b.cursors b.cursors.rec.now.nodes (last_at b.cursors i + 1) i
-    → May (work_of b.core) (core_of b.core) (Exec i)
-    → HasPassedWord (work_of b.core) i (core_of b.core) (core_of d.core)
-    → work_of d.core ≡ work_of b.core
-    → HasFollowed b.cursors i (after_word b.cursors i) d.cursors → HasPassed a d before (k + 1)
-passed_more a b d before k i e same h bi entry lt first may p work f =
-    let x = word_next b.cursors i in
-    let w = work_of a.core in
-    let then = after w (opening_core w) (events_told before) in
-    let p1 : HasPassedWord w i (core_of b.core) (core_of d.core) =
-    subst (λ (z : Work). HasPassedWord z i (core_of b.core) (core_of d.core)) same.work p in
-    let alike : AreAlike w.layout.nodes (core_of b.core) (after w then (events_told h.more)) =
-    subst (λ (c : Core). AreAlike w.layout.nodes (core_of b.core) c)
-    (ap (λ l. after w (opening_core w) (run_of l)) (what_append before h.more)
-    ∙ after_more w (opening_core w) (map what_told before) (map what_told h.more))
-    (subst (λ (z : Work). AreAlike z.layout.nodes (core_of b.core) (after z (opening_core z) (events_told (before ++ h.more))))
-    same.work h.made.way.alike) in
-    let below : i < w.layout.nodes = subst (λ (z : Work). i < z.layout.nodes) same.work may.0 in
+-- and it is one word more
+pub passed_word : (a d : Replayer) (before : List Told) (i : ℕ) (e : JournalEntry) → HasMade a before
+    → i < a.cursors.rec.now.nodes → IsEntryOf a.cursors i e → (cursor_at a.cursors i).words < e.words
+    → ComesFirst a.cursors a.cursors.rec.now.nodes (last_at a.cursors i + 1) i
+    → May (work_of a.core) (core_of a.core) (Exec i)
+    → HasPassed (work_of a.core) i (core_of a.core) (core_of d.core) → work_of d.core ≡ work_of a.core
+    → HasFollowed a.cursors i (after_word a.cursors i) d.cursors → HasMadeWord a d before i
+passed_word a d before i e h bi entry lt first may p work f =
+    let made = made_word a d before i e h bi entry lt first may p.event work f in
     record {
-      more = h.more ++ x ∷ [];
-      made = subst (HasMade d) (append_assoc before h.more (x ∷ []))
-          (made_word b d (before ++ h.more) i e h.made bi entry lt first may p.event work f);
-      count = length-append h.more (x ∷ []) ∙ ap (λ z. z + 1) h.count;
-      quiet = subst (AreQuiet w then) (sym (told_last h.more x))
-          (quiet_last w then (events_told h.more) (Exec i) h.quiet
-          (quiet_there w (core_of b.core) (core_of d.core) (after w then (events_told h.more)) i below p1 alike));
+      told = word_next a.cursors i;
+      event_is = refl;
+      made = made;
+      may = may;
+      stamp = stamp_now a d i (before ++ word_next a.cursors i ∷ []) made f.rec_is bi
+          ∙ ap (λ (z : Cursor). z.last) f.own;
+      quiet = quiet_word (work_of a.core) (core_of a.core) (core_of d.core) i may.0 p;
+    }
+
+-- the words of a stretch behind one more are a stretch
+pub stretch_on : (a d : Replayer) (s : Stretch) (k : ℕ) → s.words ≡ k + 1 → IsStretch a s
+    → HasFollowed a.cursors s.node (after_word a.cursors s.node) d.cursors
+    → May (work_of d.core) (core_of d.core) (Exec s.node) → IsStretch d (record s { words = k })
+stretch_on a d s k count is f may =
+    let w = a.cursors in let v = d.cursors in let i = s.node in
+    let words : (cursor_at v i).words ≡ (cursor_at w i).words + 1 = ap (λ (c : Cursor). c.words) f.own in
+    let last : last_at v i ≡ last_at w i + 1 = ap (λ (c : Cursor). c.last) f.own in
+    let same : last_at w i + s.words ≡ last_at v i + k = omega (arith, last, count) in
+    let within = is.words in
+    record {
+      node = mid_node w v i i (after_word w i) f is.node;
+      may = may;
+      is_entry = entry_kept w v i 1 s.entry f is.is_entry;
+      words = omega (arith, words, within, count);
+      first = λ some. subst (λ (r : Record). ComesFirst v r.nodes (last_at v i + k) i) (sym f.rec_is)
+          (subst (λ x. ComesFirst v w.rec.now.nodes x i) same
+          (first_kept w v i w.rec.now.nodes (last_at w i + s.words) (after_word w i) f
+          (is.first (omega (arith, count)))));
     }

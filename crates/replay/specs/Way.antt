@@ -1,5 +1,5 @@
 -- Helps the code alone: how far the journals of a record were followed, and a core on its way.
-use Rattle.std.specs.Prelude.{◌≡◌, ◌≢◌, ℕ, true, zero, suc, ◌+◌, ◌-◌, ◌<◌, ◌≤◌, ◌⊎◌, List, [], ◌∷◌, ◌++◌, drop, map, length, slice_index_or, Option, Some, None}
+use Rattle.std.specs.Prelude.{◌≡◌, ◌≢◌, ℕ, true, zero, suc, ◌+◌, ◌-◌, ◌<◌, ◌≤◌, ◌⊎◌, List, [], ◌∷◌, ◌++◌, drop, map, length, slice_index_or, Option, MatchOption}
 use Rattle.node_model.specs.declared.Entry.{Entry as JournalEntry}
 use Rattle.node_model.specs.Node.{Work, standing_of}
 use Rattle.node_model.specs.Turns.{quiet, word_turn}
@@ -12,8 +12,9 @@ use Rattle.dsm_core.specs.CoreParts.{CoreParts, work_of, core_of}
 use Rattle.dsm_core.specs.Seen.{IsSeen}
 use Rattle.replay.specs.declared.cursor.Cursor.{Cursor}
 use Rattle.replay.specs.declared.cursor.Cursors.{Cursors}
-use Rattle.replay.specs.declared.cursor.Next.{Next}
+use Rattle.replay.specs.declared.cursor.First.{First}
 use Rattle.replay.specs.declared.events.Replayer.{Replayer}
+use Rattle.replay.specs.declared.events.Stretch.{Stretch}
 use Rattle.replay.specs.Told.{Told, told_in, entries_of, stamp_told, maker_told, what_told, AreToldBy, events_told, AreMadeAs}
 
 -- the entries, the first without so many of its words
@@ -73,16 +74,17 @@ ComesBefore stamp node i left = (s : ℕ) → IsNext i s left
 abbrev pub ComesFirst : (w : Cursors) (m stamp node : ℕ) → Type 0
 ComesFirst w m stamp node = (i : ℕ) → i < m → i ≢ node → ComesBefore stamp node i (left_at w i)
 
--- of the nodes below m, this one's next event, with this stamp, is the first
-pub record IsFirst (w : Cursors) (m stamp node : ℕ) : Type 0 where
-  pub below : node < m
-  pub next : IsNext node stamp (left_at w node)
-  pub others : ComesFirst w m stamp node
+-- of the nodes below m, this one's next event has this stamp; it and the words behind it, up to the
+-- stamp `to`, come before the events of all others
+pub record IsFirst (w : Cursors) (m : ℕ) (x : First) : Type 0 where
+  pub below : x.node < m
+  pub next : IsNext x.node x.stamp (left_at w x.node)
+  pub some : x.stamp ≤ x.to
+  pub others : ComesFirst w m x.to x.node
 
 -- the first of the next events of the nodes below m, if there is any
-abbrev pub IsLeast : (w : Cursors) (m : ℕ) → Option Next → Type 0
-IsLeast w m None = (i : ℕ) → i < m → left_at w i ≡ []
-IsLeast w m (Some x) = IsFirst w m x.stamp x.node
+abbrev pub IsFirstBelow : (w : Cursors) (m : ℕ) → Option First → Type 0
+IsFirstBelow w m first = MatchOption first ((i : ℕ) → i < m → left_at w i ≡ []) (IsFirst w m)
 
 -- one node's journal was followed to here, and no other
 pub record HasFollowed (old : Cursors) (node : ℕ) (c : Cursor) (new : Cursors) : Type 0 where
@@ -162,19 +164,29 @@ IsQuiet work c (Exec i) =
     × (may_execute (standing_of work (word_turn work (c.nodes i)).node) ≡ true)
 IsQuiet work c (Take i j) = ⊥
 
--- each is so where it comes
-abbrev pub AreQuiet : Work → Core → List Event → Type 0
-AreQuiet work c [] = Unit {0}
-AreQuiet work c (e ∷ es) = IsQuiet work c e × AreQuiet work (event_step work c e) es
+-- a run has made one such word more, of node i
+pub record HasMadeWord (old new : Replayer) (before : List Told) (i : ℕ) : Type 0 where
+  pub told : Told
+  pub event_is : told.what.event ≡ Exec i
+  pub made : HasMade new (before ++ told ∷ [])
+  pub may : May (work_of old.core) (core_of old.core) (Exec i)
+  pub stamp : ((core_of new.core).nodes i).stamp ≡ stamp_told told
+  pub quiet : IsQuiet (work_of old.core) (core_of old.core) (Exec i)
 
--- a run has made so many quiet words more
-pub record HasPassed (old new : Replayer) (before : List Told) (words : ℕ) : Type 0 where
-  pub more : List Told
-  pub made : HasMade new (before ++ more)
-  pub count : length more ≡ words
-  pub quiet : AreQuiet (work_of old.core)
-      (after (work_of old.core) (opening_core (work_of old.core)) (events_told before))
-      (events_told more)
+-- these words of a node are told of next, before the events of all others, and it may execute one
+pub record IsStretch (r : Replayer) (s : Stretch) : Type 0 where
+  pub node : s.node < r.cursors.rec.now.nodes
+  pub may : May (work_of r.core) (core_of r.core) (Exec s.node)
+  pub is_entry : IsEntryOf r.cursors s.node s.entry
+  pub words : (cursor_at r.cursors s.node).words + s.words ≤ s.entry.words
+  pub first : 0 < s.words
+      → ComesFirst r.cursors r.cursors.rec.now.nodes (last_at r.cursors s.node + s.words) s.node
+
+-- a stretch has a word less
+pub record IsWordLess (old new : Stretch) : Type 0 where
+  pub node : new.node ≡ old.node
+  pub entry : new.entry ≡ old.entry
+  pub words : old.words ≡ new.words + 1
 
 -- no journal tells of more
 abbrev pub AreThrough : Replayer → Type 0

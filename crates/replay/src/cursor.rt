@@ -21,11 +21,13 @@ const START: Cursor = Cursor {
     last: 0,
 };
 
-/// The next event of a node.
+/// The first of the next events of nodes.
 #[derive(Clone, Copy)]
-pub(crate) struct Next {
-    pub stamp: u64,
+pub(crate) struct First {
     pub node: u8,
+    pub stamp: u64,
+    /// The last stamp of a word of that node before the next events of all others.
+    pub to: u64,
 }
 
 /// The journals of a record, and how far each was followed, by node.
@@ -36,12 +38,11 @@ pub(crate) struct Cursors<'a> {
 }
 
 impl<'a> Cursors<'a> {
-    ghost use Rattle.std.specs.Prelude.{◌≡◌, ◌≢◌, ◌≤◌, ◌<◌, ◌+◌, ℕ, MatchOption, [], length};
+    ghost use Rattle.std.specs.Prelude.{◌≡◌, ◌≤◌, ◌<◌, ◌+◌, ℕ, MatchOption, [], length};
     ghost use Rattle.run_record.specs.Record.{IsRecord};
     ghost use Rattle.replay.specs.Told.{told_in, entries_of};
-    ghost use Rattle.replay.specs.Way.{AreLawful, IsNext, IsFirst, IsLeast, ComesBefore};
-    ghost use Rattle.replay.specs.Way.{ComesFirst, HasFollowed, IsEntryOf, cursor_at, entries_at};
-    ghost use Rattle.replay.specs.Way.{left_at, last_at};
+    ghost use Rattle.replay.specs.Way.{AreLawful, IsNext, IsFirst, IsFirstBelow, HasFollowed};
+    ghost use Rattle.replay.specs.Way.{IsEntryOf, cursor_at, entries_at, left_at, last_at};
 
     /// All journals at their start.
     pub(crate) fn new(rec: &'a Record) -> Cursors<'a>
@@ -118,79 +119,47 @@ impl<'a> Cursors<'a> {
         Some(entry.stamp)
     }
 
-    /// The node whose next event is the first of all.
-    pub(crate) fn first(&self) -> Option<u8>
+    /// The node whose next event is the first of all, and up to which stamp its words come before
+    /// the next events of all others.
+    pub(crate) fn first(&self) -> Option<First>
         requires lawful { AreLawful self.now }
         ensures { MatchOption result
             ((i : ℕ) → i < self.now.rec.now.nodes → left_at self.now i ≡ [])
-            (λ node. (stamp : ℕ) × IsFirst self.now self.now.rec.now.nodes stamp node) }
+            (IsFirst self.now self.now.rec.now.nodes) }
     {
-        let mut least = None;
+        let mut first = None;
         for node in 0..self.rec.nodes {
-            least = self.lesser(least, node);
-        }
-        match least {
-            Some(next) => Some(next.node),
-            None => None,
-        }
-    }
-
-    /// The first of the next events of the nodes up to a node, by that of the nodes below it.
-    fn lesser(&self, least: Option<Next>, node: u8) -> Option<Next>
-        requires lawful { AreLawful self.now }
-        requires node { node < self.now.rec.now.nodes }
-        requires least { IsLeast self.now node least }
-        ensures { IsLeast self.now (node + 1) result }
-    {
-        let Some(stamp) = self.next(node) else {
-            return least;
-        };
-        match least {
-            Some(before) if before.stamp <= stamp => least,
-            _ => Some(Next { stamp, node }),
-        }
-    }
-
-    /// How many words of a node, of so many that are left, come before the next events of all other
-    /// nodes, where the first of them does.
-    pub(crate) fn words_first(&self, node: u8, words: u64) -> u64
-        requires lawful { AreLawful self.now }
-        requires node { node < self.now.rec.now.nodes }
-        requires some { 1 ≤ words }
-        requires first { ComesFirst self.now self.now.rec.now.nodes
-            (last_at self.now node + 1) node }
-        ensures some { 1 ≤ result }
-        ensures most { result ≤ words }
-        ensures first { ComesFirst self.now self.now.rec.now.nodes
-            (last_at self.now node + result) node }
-    {
-        let mut first = words;
-        for other in 0..self.rec.nodes {
-            if other != node {
-                first = first.min(self.words_before(node, other));
-            }
+            first = self.first_among(first, node);
         }
         first
     }
 
-    /// How many words of a node come before the next event of another, where the first of them
-    /// does.
-    fn words_before(&self, node: u8, other: u8) -> u64
+    /// The first of the next events of the nodes up to a node, by that of the nodes below it.
+    #[inline(always)]
+    fn first_among(&self, first: Option<First>, node: u8) -> Option<First>
         requires lawful { AreLawful self.now }
         requires node { node < self.now.rec.now.nodes }
-        requires other { other < self.now.rec.now.nodes }
-        requires apart { other ≢ node }
-        requires first { ComesBefore (last_at self.now node + 1) node other
-            (left_at self.now other) }
-        ensures some { 1 ≤ result }
-        ensures before { (words : ℕ) → words ≤ result
-            → ComesBefore (last_at self.now node + words) node other (left_at self.now other) }
+        requires first { IsFirstBelow self.now node first }
+        ensures { IsFirstBelow self.now (node + 1) result }
     {
-        let last = self.at(node).last;
-        match self.next(other) {
-            Some(stamp) if other < node => stamp - last - 1,
-            Some(stamp) => stamp - last,
-            None => u64::MAX,
+        let Some(stamp) = self.next(node) else {
+            return first;
+        };
+        match first {
+            Some(before) if before.stamp <= stamp => Some(First {
+                to: before.to.min(stamp),
+                ..before
+            }),
+            Some(before) => Some(First {
+                node,
+                stamp,
+                to: before.stamp - 1,
+            }),
+            None => Some(First {
+                node,
+                stamp,
+                to: u64::MAX,
+            }),
         }
     }
 

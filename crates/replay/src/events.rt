@@ -1,11 +1,21 @@
 //! Makes the events that a record tells of.
 
-use crate::cursor::Cursors;
+use crate::cursor::{Cursors, First};
 use crate::refused::{ReplayRefused, ReplayRule};
 use dsm_core::{Core, Event, Outcome, Seen, Work};
 use node_model::{Entry, Standing};
 use run_record::Record;
 use std::alloc::{AllocError, Global};
+
+/// Words of one node that come before the events of all others.
+#[derive(Clone, Copy)]
+pub struct Stretch {
+    pub node: u8,
+    /// How many they are.
+    pub words: u64,
+    /// The entry of the node's journal that tells of them.
+    pub(crate) entry: Entry,
+}
 
 /// A recorded run that is made once more: a core, and how far the journals of a record were
 /// followed to it.
@@ -17,6 +27,7 @@ pub struct Replayer<'a> {
 
 impl<'a> Replayer<'a> {
     ghost use Rattle.std.specs.Prelude.{◌≡◌, ◌≤◌, ◌<◌, ◌+◌, ◌↔◌, ℕ, true, length, IfOk, OnOk};
+    ghost use Rattle.std.specs.Prelude.{false, IfSome};
     ghost use Rattle.std.specs.Prelude.{IsErrOf, MatchOption, List, []};
     ghost use Rattle.node_model.specs.Core.{Exec, Take, May, IsOver};
     ghost use Rattle.rewriting_law.specs.Bounds.{RunsRewritten};
@@ -28,7 +39,8 @@ impl<'a> Replayer<'a> {
     ghost use Rattle.replay.specs.Way.{IsRunning, AreThrough, IsSame, IsEntryOf, IsFirst};
     ghost use Rattle.replay.specs.Way.{ComesFirst, HasFollowed, cursor_at, last_at, entries_at};
     ghost use Rattle.replay.specs.Way.{all_left, HasMade, HasMadeOne, IsNextOf, IsNextWord};
-    ghost use Rattle.replay.specs.Way.{IsNextTake, HasPassed, core_in, record_in, events_left};
+    ghost use Rattle.replay.specs.Way.{IsNextTake, HasMadeWord, IsStretch, IsWordLess};
+    ghost use Rattle.replay.specs.Way.{core_in, record_in, events_left};
     ghost use Rattle.replay.specs.Told.{Told};
     ghost use Rattle.replay.specs.declared.refused.ReplayRule.{ReplayRule as Rules};
     ghost use Rattle.replay.specs.declared.refused.ReplayRule.TheVariants.{NotThere};
@@ -62,7 +74,7 @@ impl<'a> Replayer<'a> {
         ensures { MatchOption result (AreThrough self.now)
             (λ event. IsNextOf self.now (event_of event)) }
     {
-        let node = self.cursors.first()?;
+        let node = self.cursors.first()?.node;
         let Some(entry) = self.cursors.entry(node) else {
             unreachable!()
         };
@@ -94,57 +106,51 @@ impl<'a> Replayer<'a> {
         }
     }
 
-    /// Makes words of the node whose event the record tells of next, as long as these come before
-    /// the events of all others and their micro-ops serve them, and at most so many; and says how
-    /// many. Such words send nothing and print nothing.
-    pub fn pass(&mut self, most: u64) -> u64
-        requires running { IsRunning self.old }
-        ensures passed { (before : List Told) → HasMade self.old before
-            → HasPassed self.old self.new before result }
-        ensures most { result ≤ most }
-        ensures same { IsSame self.old self.new }
+    /// The words that the record tells of next, where its next event is a word and the node may
+    /// execute it: those that come before the events of all other nodes. They are at least one.
+    pub fn stretch(&self) -> Option<Stretch>
+        requires running { IsRunning self.now }
+        ensures words { IfSome result (IsStretch self.now) }
+        ensures some { IfSome result (λ s. 0 < s.words) }
     {
-        let Some(Event::Exec(node)) = self.next() else {
-            return 0;
-        };
+        let first = self.cursors.first()?;
+        let node = first.node;
         let Some(entry) = self.cursors.entry(node) else {
             unreachable!()
         };
-        let done = self.cursors.at(node).words;
-        if done >= entry.words {
-            return 0;
+        let cursor = self.cursors.at(node);
+        if cursor.words >= entry.words || !self.core.enabled(Event::Exec(node)) {
+            return None;
         }
-        let words = self.cursors.words_first(node, entry.words - done);
-        self.pass_words(node, entry, words, most)
+        Some(Stretch {
+            node,
+            words: (entry.words - cursor.words).min(first.to - cursor.last),
+            entry,
+        })
     }
 
-    /// Makes words of an entry as long as their micro-ops serve them, of so many that come before
-    /// the events of all others, and at most so many.
-    fn pass_words(&mut self, node: u8, entry: Entry, words: u64, most: u64) -> u64
+    /// Makes the next word of a stretch by its micro-op, where that serves it: such a word sends
+    /// nothing and prints nothing. It says whether it did; where it didn't, nothing has changed.
+    #[inline(always)]
+    pub fn pass_word(&mut self, stretch: &mut Stretch) -> bool
         requires running { IsRunning self.old }
-        requires node { node < self.old.cursors.rec.now.nodes }
-        requires entry { IsEntryOf self.old.cursors node entry }
-        requires words { (cursor_at self.old.cursors node).words + words ≤ entry.words }
-        requires first { ComesFirst self.old.cursors self.old.cursors.rec.now.nodes
-            (last_at self.old.cursors node + words) node }
-        ensures passed { (before : List Told) → HasMade self.old before
-            → HasPassed self.old self.new before result }
-        ensures most { result ≤ most }
+        requires stretch { IsStretch self.old stretch.old }
+        requires some { 0 < stretch.old.words }
+        ensures passed { (before : List Told) → HasMade self.old before → result ≡ true
+            → HasMadeWord self.old self.new before stretch.old.node }
+        ensures stretch { result ≡ true → IsStretch self.new stretch.new }
+        ensures fewer { result ≡ true → events_left self.new < events_left self.old }
+        ensures left { result ≡ true → IsWordLess stretch.old stretch.new }
+        ensures kept { result ≡ false → (before : List Told) → HasMade self.old before
+            → HasMade self.new before }
         ensures same { IsSame self.old self.new }
     {
-        if !self.core.enabled(Event::Exec(node)) {
-            return 0;
+        if !self.core.pass(stretch.node) {
+            return false;
         }
-        for word in 0..words {
-            if word >= most {
-                return word;
-            }
-            if !self.core.pass(node) {
-                return word;
-            }
-            self.cursors.pass_word(node, entry);
-        }
-        words
+        self.cursors.pass_word(stretch.node, stretch.entry);
+        stretch.words -= 1;
+        true
     }
 
     /// Makes the next event, which is a word.
@@ -199,17 +205,16 @@ impl<'a> Replayer<'a> {
             → IsErrOf result (Broken rule node entry) → IsFirstBroken (work_of self.old.core)
             self.old.cursors.rec.now rule node entry }
     {
-        while let Some(node) = self.cursors.first() {
-            self.make_first(node)?;
+        while let Some(first) = self.cursors.first() {
+            self.make_first(first)?;
         }
         Ok(())
     }
 
     /// Makes the next event of the node that comes first, and more of its words that do.
-    fn make_first(&mut self, node: u8) -> Result<(), ReplayRefused>
+    fn make_first(&mut self, first: First) -> Result<(), ReplayRefused>
         requires running { IsRunning self.old }
-        requires first { (stamp : ℕ) × IsFirst self.old.cursors self.old.cursors.rec.now.nodes
-            stamp node }
+        requires first { IsFirst self.old.cursors self.old.cursors.rec.now.nodes first }
         ensures running { OnOk result (IsRunning self.new) }
         ensures fewer { OnOk result (all_left self.new.cursors < all_left self.old.cursors) }
         ensures same { OnOk result (IsSame self.old self.new) }
@@ -217,12 +222,13 @@ impl<'a> Replayer<'a> {
             → IsErrOf result (Broken rule i entry) → IsFirstBroken (work_of self.old.core)
             self.old.cursors.rec.now rule i entry }
     {
+        let node = first.node;
         let Some(entry) = self.cursors.entry(node) else {
             unreachable!()
         };
-        let done = self.cursors.at(node).words;
-        if done < entry.words {
-            let words = self.cursors.words_first(node, entry.words - done);
+        let cursor = self.cursors.at(node);
+        if cursor.words < entry.words {
+            let words = (entry.words - cursor.words).min(first.to - cursor.last);
             return self.execute(node, entry, words);
         }
         self.take(node, entry)?;

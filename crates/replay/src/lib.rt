@@ -16,7 +16,7 @@ mod law;
 mod refused;
 
 use dsm_core::{Outcome, Work};
-pub use events::Replayer;
+pub use events::{Replayer, Stretch};
 pub use law::replay_law;
 pub use refused::{ReplayRefused, ReplayRule};
 use run_record::Record;

@@ -1,3 +1,4 @@
+mod Entering
 mod Counting
 mod Reaches
 mod WordEnds
@@ -5,4 +6,5 @@ mod Meets
 mod TakeEnds
 mod Quiet
 mod Tracings
+mod Passes
 pub mod Wholes

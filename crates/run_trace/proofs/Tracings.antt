@@ -1,5 +1,5 @@
 -- A trace, one event after another.
-use Rattle.std.proofs.Common.{◌≡◌, ℕ, ◌<◌, List, [], ◌∷◌, ◌++◌, map, Option, Some, None, refl, sym, ap, ap₂, ◌∙◌, subst, append_assoc, eq-eqb}
+use Rattle.std.proofs.Common.{◌≡◌, ℕ, List, [], ◌∷◌, ◌++◌, map, Option, Some, refl, sym, ap, ap₂, ◌∙◌, subst, append_assoc, eq-eqb}
 use Rattle.std.specs.Prelude.{option_to_list}
 use Rattle.std.specs.Option.{option_map}
 use Rattle.templates.specs.declared.plans.PlanEntry.{PlanEntry}
@@ -8,18 +8,16 @@ use Rattle.home_directory.specs.declared.messages.Wire.{Wire}
 use Rattle.node_model.specs.Node.{Work, Node}
 use Rattle.node_model.specs.Core.{Core, Event, Exec, Take, May, AreAlike, opening_core, event_step, take_first, after}
 use Rattle.run_order.specs.OwnRun.{Stamped, maker, node_of, run_of}
-use Rattle.run_record.specs.declared.Record.{Record}
-use Rattle.dsm_core.specs.CoreParts.{work_of, core_of}
+use Rattle.dsm_core.specs.CoreParts.{core_of}
 use Rattle.replay.specs.Told.{Told, what_told, events_told}
-use Rattle.replay.specs.Way.{HasMade, HasPassed, core_in}
+use Rattle.replay.specs.Way.{HasMade, HasMadeWord, core_in}
 use Rattle.run_trace.specs.declared.tracer.Tracer.{Tracer}
 use Rattle.run_trace.specs.declared.traced.Traced.{Traced as Stored}
 use Rattle.node_model.specs.Turns.{word_turn, take_turn}
 use Rattle.run_trace.specs.Traced.{Traced, What, Word, Taken, OfWord, OfTake, what_at, traced_at, first_traced, word_traced, take_traced}
 use Rattle.run_trace.specs.Trace.{trace_from, trace_of}
 use Rattle.run_trace.specs.Given.{traced_of}
-use Rattle.run_trace.specs.Tracing.{HasTraced, HasTracedOne, HasPassedOn, IsCodeOf, IsSame, work_traced, plan_traced}
-use Rattle.run_trace.proofs.Quiet.{quiet_trace}
+use Rattle.run_trace.specs.Tracing.{HasTraced, HasTracedOne, HasEntries, IsCodeOf, IsSame, work_traced, plan_traced}
 
 what_alike : (work : Work) (plan : List PlanEntry) (c d : Core) (e : Event) → May work c e
     → AreAlike work.layout.nodes c d → what_at work plan c e ≡ what_at work plan d e
@@ -89,47 +87,50 @@ code_same : (t u : Tracer) → IsCodeOf t → IsSame t u → IsCodeOf u
 code_same t u code same = subst (λ (w : Work). HasCode w.program u.code.now) (sym same.work)
     (subst (λ c. HasCode (work_traced t).program c) (sym same.code) code)
 
--- quiet words were made
-pub passed_on : (t u : Tracer) (seen : List Traced) (words : ℕ) (h : HasTraced t seen)
-    → HasPassed t.replayer u.replayer h.before words → IsSame t u → HasPassedOn u seen words
-passed_on t u seen words h p same =
-    let work = work_traced t in
-    let plan = plan_traced t in
-    let o = opening_core work in
-    let then = after work o (events_told h.before) in
-    let quiet = quiet_trace work plan then p.more p.quiet in
-    let more = trace_from work plan then (map what_told p.more) in
-    let all : trace_of work plan (h.before ++ p.more) ≡ seen ++ more =
-    ap (trace_from work plan o) (what_append h.before p.more)
-    ∙ trace_more work plan o (map what_told h.before) (map what_told p.more)
-    ∙ ap (λ l. l ++ more) (sym h.seen_is) in
-    record {
-      more = more;
-      traced = record {
-        before = h.before ++ p.more;
-        made = p.made;
-        code = code_same t u h.code same;
-        seen_is = sym all
-            ∙ ap₂ (λ w q. trace_of w q (h.before ++ p.more)) (sym same.work) (sym same.plan);
-      };
-      quiet = quiet.0;
-      count = quiet.1 ∙ p.count;
-    }
-
--- one event more was traced
-pub traced_on : (t u : Tracer) (seen : List Traced) (x : Stored) (h : HasTraced t seen)
-    → HasTracedOne t u h.before x → IsSame t u → HasTraced u (seen ++ traced_of x ∷ [])
-traced_on t u seen x h one same =
+-- one event more was made
+traced_after : (t u : Tracer) (seen : List Traced) (x : Traced) (told : Told) (h : HasTraced t seen)
+    → HasMade u.replayer (h.before ++ told ∷ []) → May (work_traced t) (core_of (core_in t.replayer)) told.what.event
+    → traced_at (work_traced t) (plan_traced t) (core_of (core_in t.replayer)) told.what ≡ Some x
+    → HasEntries u → IsSame t u → HasTraced u (seen ++ x ∷ [])
+traced_after t u seen x told h made may did entries same =
     let work = work_traced t in
     let plan = plan_traced t in
     let then = after work (opening_core work) (events_told h.before) in
-    let is : traced_at work plan then one.told.what ≡ Some (traced_of x) =
-    sym (traced_alike work plan (core_of (core_in t.replayer)) then one.told.what one.may h.made.way.alike) ∙ one.is in
+    let is : traced_at work plan then told.what ≡ Some x =
+    sym (traced_alike work plan (core_of (core_in t.replayer)) then told.what may h.made.way.alike) ∙ did in
     record {
-      before = h.before ++ one.told ∷ [];
-      made = one.made;
+      before = h.before ++ told ∷ [];
+      made = made;
       code = code_same t u h.code same;
-      seen_is = ap (λ l. l ++ traced_of x ∷ []) h.seen_is
-          ∙ sym (trace_one work plan h.before one.told (traced_of x) is)
-          ∙ ap₂ (λ w p. trace_of w p (h.before ++ one.told ∷ [])) (sym same.work) (sym same.plan);
+      entries = entries;
+      seen_is = ap (λ l. l ++ x ∷ []) h.seen_is
+          ∙ sym (trace_one work plan h.before told x is)
+          ∙ ap₂ (λ w p. trace_of w p (h.before ++ told ∷ [])) (sym same.work) (sym same.plan);
     }
+
+pub traced_on : (t u : Tracer) (seen : List Traced) (x : Stored) (h : HasTraced t seen)
+    → HasTracedOne t u h.before x → IsSame t u → HasTraced u (seen ++ traced_of x ∷ [])
+traced_on t u seen x h one same =
+    traced_after t u seen (traced_of x) one.told h one.made one.may one.is one.entries same
+
+-- a quiet word more was made, which did this
+pub word_after : (t u : Tracer) (seen : List Traced) (i s : ℕ) (w : OfWord) (h : HasTraced t seen)
+    → HasMadeWord t.replayer u.replayer h.before i → ((core_of (core_in u.replayer)).nodes i).stamp ≡ s
+    → word_traced (work_traced t) (plan_traced t) ((core_of (core_in t.replayer)).nodes i) ≡ w
+    → HasEntries u → IsSame t u → HasTraced u (seen ++ record { stamp = s; node = i; what = Word w } ∷ [])
+word_after t u seen i s w h m stamp did entries same =
+    let work = work_traced t in
+    let c = core_of (core_in t.replayer) in
+    traced_after t u seen _ m.told h m.made (subst (λ e. May work c e) (sym m.event_is) m.may)
+    (exec_traced work (plan_traced t) c m.told.what i s w m.event_is (sym m.stamp ∙ stamp) did) entries same
+
+-- none was made
+pub traced_still : (t u : Tracer) (seen : List Traced) (h : HasTraced t seen) → HasMade u.replayer h.before
+    → HasEntries u → IsSame t u → HasTraced u seen
+traced_still t u seen h made entries same = record {
+  before = h.before;
+  made = made;
+  code = code_same t u h.code same;
+  entries = entries;
+  seen_is = h.seen_is ∙ ap₂ (λ w p. trace_of w p h.before) (sym same.work) (sym same.plan);
+}

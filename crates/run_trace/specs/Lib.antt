@@ -5,3 +5,5 @@ pub mod Given
 pub mod Looks
 pub mod Taking
 pub mod Tracing
+pub mod Entries
+pub mod Passing

@@ -1,5 +1,5 @@
 -- A recorded run that is made once more, event by event.
-use Rattle.std.specs.Prelude.{◌≡◌, ◌<◌, ℕ, List, ◌∷◌, [], ◌++◌, length, All, Option, None, Some}
+use Rattle.std.specs.Prelude.{◌≡◌, ◌<◌, ℕ, List, ◌∷◌, [], ◌++◌, Option, None, Some}
 use Rattle.templates.specs.declared.plans.PlanEntry.{PlanEntry}
 use Rattle.templates.specs.Code.{HasCode}
 use Rattle.node_model.specs.Node.{Work}
@@ -11,7 +11,8 @@ use Rattle.replay.specs.Told.{Told}
 use Rattle.replay.specs.Way.{HasMade, core_in, record_in, events_left}
 use Rattle.run_trace.specs.declared.tracer.Tracer.{Tracer}
 use Rattle.run_trace.specs.declared.traced.Traced.{Traced as Stored}
-use Rattle.run_trace.specs.Traced.{OfWord, What, Word, Taken, Traced, traced_at}
+use Rattle.run_trace.specs.Traced.{Traced, traced_at}
+use Rattle.run_trace.specs.Entries.{AreEntriesOf}
 use Rattle.run_trace.specs.Trace.{trace_of, IsTraceOf}
 use Rattle.run_trace.specs.Given.{traced_of}
 
@@ -31,38 +32,22 @@ record_traced t = record_in t.replayer
 abbrev pub IsCodeOf : Tracer → Type 0
 IsCodeOf t = HasCode (work_traced t).program t.code.now
 
+-- the entries are those of the plan
+abbrev pub HasEntries : Tracer → Type 0
+HasEntries t = AreEntriesOf (plan_traced t) t.entries
+
 -- these are what the events did that were made so far
 pub record HasTraced (t : Tracer) (seen : List Traced) : Type 0 where
   pub before : List Told
   pub made : HasMade t.replayer before
   pub code : IsCodeOf t
+  pub entries : HasEntries t
   pub seen_is : seen ≡ trace_of (work_traced t) (plan_traced t) before
 
 -- one more is given, or all were
 abbrev pub HasGoneOn : Tracer → List Traced → Option Stored → Type 0
 HasGoneOn t seen None = IsTraceOf (work_traced t) (plan_traced t) (record_traced t) seen
 HasGoneOn t seen (Some x) = HasTraced t (seen ++ traced_of x ∷ [])
-
--- a word that neither wants a block nor sends, prints or ends
-pub record IsQuietWord (w : OfWord) : Type 0 where
-  pub wants : w.wants ≡ []
-  pub sends : w.sends ≡ []
-  pub printed : w.printed ≡ None
-  pub end : w.end ≡ None
-
-abbrev pub IsQuietWhat : What → Type 0
-IsQuietWhat (Word w) = IsQuietWord w
-IsQuietWhat (Taken t) = ⊥
-
-abbrev pub IsQuiet : Traced → Type 0
-IsQuiet x = IsQuietWhat x.what
-
--- so many quiet words were made
-pub record HasPassedOn (t : Tracer) (seen : List Traced) (words : ℕ) : Type 0 where
-  pub more : List Traced
-  pub traced : HasTraced t (seen ++ more)
-  pub quiet : All IsQuiet more
-  pub count : length more ≡ words
 
 -- how many events are left to be made
 abbrev pub events_to_trace : Tracer → ℕ
@@ -77,6 +62,7 @@ IsFewer old new (Some x) = events_to_trace new < events_to_trace old
 pub record HasTracedOne (old new : Tracer) (before : List Told) (x : Stored) : Type 0 where
   pub told : Told
   pub made : HasMade new.replayer (before ++ told ∷ [])
+  pub entries : HasEntries new
   pub may : May (work_traced old) (core_of (core_in old.replayer)) told.what.event
   pub is : traced_at (work_traced old) (plan_traced old) (core_of (core_in old.replayer)) told.what
       ≡ Some (traced_of x)

@@ -1,7 +1,9 @@
 #![tactic(auto)]
 //! What a recorded run did, event by event.
 
+mod entries;
 mod law;
+mod passed;
 mod reach;
 mod takes;
 mod traced;
@@ -9,5 +11,6 @@ mod tracer;
 mod words;
 
 pub use law::trace_law;
+pub use passed::{Until, WordPassed};
 pub use traced::{AccessKind, Accessed, TakeTraced, Tallied, Traced, What, WordTraced};
 pub use tracer::Tracer;

@@ -3,12 +3,15 @@
 ghost use Rattle.std.specs.Prelude.{◌≡◌};
 ghost use Rattle.run_trace.specs.Taking.{block_of_first};
 
+use crate::entries::Entries;
+use crate::passed::{Until, WordPassed, ending, reached_by_touch};
 use crate::takes::{look, take_traced};
 use crate::traced::{Traced, What};
-use crate::words::{before_word, word_traced};
+use crate::words::{accessed_at, before_word, commits, place_of, word_traced};
 use block_layout::Block;
 use dsm_core::{Event, Incoming, Work};
-use replay::{ReplayRefused, Replayer};
+use node_machine::Touch;
+use replay::{ReplayRefused, Replayer, Stretch};
 use run_record::Record;
 use std::alloc::{AllocError, Global};
 use templates::{Code, Plan};
@@ -19,26 +22,41 @@ pub struct Tracer<'a> {
     replayer: Replayer<'a>,
     plan: &'a Plan,
     code: &'a Code,
+    entries: Entries,
+}
+
+/// Where the words of a stretch were stopped.
+#[derive(Clone, Copy)]
+enum Stop {
+    /// Behind a word that ends the pass.
+    Ended(WordPassed),
+    /// Before an event that does more than to access memory.
+    Before,
+    /// Behind its last word.
+    Through,
 }
 
 impl<'a> Tracer<'a> {
     ghost use Rattle.std.specs.Prelude.{◌≡◌, ◌⊎◌, ◌<◌, ◌≤◌, ℕ, List, [], IfOk, OnOk, IsErrOf};
+    ghost use Rattle.std.specs.Prelude.{◌≢◌, ◌++◌, IfSome, option_to_list};
+    ghost use Rattle.std.specs.Option.{option_map};
     ghost use Rattle.templates.specs.Code.{HasCode};
     ghost use Rattle.node_model.specs.Core.{Exec, Take};
     ghost use Rattle.rewriting_law.specs.Bounds.{RunsRewritten};
-    ghost use Rattle.dsm_core.specs.CoreParts.{work_in};
+    ghost use Rattle.node_machine.specs.Touch.{IsTouch};
+    ghost use Rattle.dsm_core.specs.CoreParts.{work_in, core_of};
     ghost use Rattle.run_record.specs.Record.{IsRecord};
     ghost use Rattle.replay.specs.Told.{Told};
     ghost use Rattle.replay.specs.Refusals.{IsFirstBroken, IsUnfinished};
-    ghost use Rattle.replay.specs.Way.{HasMade, IsRunning, IsNextOf};
+    ghost use Rattle.replay.specs.Way.{HasMade, IsRunning, IsNextOf, IsStretch, core_in};
     ghost use Rattle.replay.specs.declared.refused.ReplayRule.{ReplayRule as Rules};
     ghost use Rattle.replay.specs.declared.refused.ReplayRefused.TheVariants.{Broken};
     ghost use Rattle.run_trace.specs.Traced.{Traced as OfEvent};
-    ghost use Rattle.run_trace.specs.Tracing.{HasTraced, HasGoneOn, HasTracedOne, IsSame};
     ghost use Rattle.run_trace.specs.Trace.{IsTraceSoFar};
-    ghost use Rattle.run_trace.specs.Tracing.{HasPassedOn, IsFewer, events_to_trace};
+    ghost use Rattle.run_trace.specs.Tracing.{HasTraced, HasGoneOn, HasTracedOne, IsSame};
+    ghost use Rattle.run_trace.specs.Tracing.{IsFewer, events_to_trace, IsCodeOf, HasEntries};
     ghost use Rattle.run_trace.specs.Tracing.{work_traced, plan_traced, record_traced, replayer_in};
-    ghost use Rattle.run_trace.specs.Tracing.{IsCodeOf};
+    ghost use Rattle.run_trace.specs.Passing.{HasPassedOn, passed_of, word_ended};
 
     /// The run at its start, of rewritten code that the plan says.
     pub fn new(
@@ -61,6 +79,7 @@ impl<'a> Tracer<'a> {
             replayer: Replayer::new(alloc, work, rec)?,
             plan,
             code,
+            entries: Entries::of(alloc, plan)?,
         })
     }
 
@@ -95,22 +114,91 @@ impl<'a> Tracer<'a> {
         Ok(Some(traced))
     }
 
-    /// Makes words that neither miss nor send nor print, at most so many, and says how many: for a
-    /// caller that shows none of them.
-    pub fn pass(&mut self, most: u64) -> u64
+    /// Makes words that only compute or access memory, up to the first whose access ends the pass,
+    /// and says what that did. `None` where an event comes before it that does more: `next` makes
+    /// that one; and where all were made.
+    pub fn pass(&mut self, until: Until) -> Option<WordPassed>
         requires traced { (seen : List OfEvent) × HasTraced self.old seen }
         ensures passed { (seen : List OfEvent) → HasTraced self.old seen
-            → HasPassedOn self.new seen result }
-        ensures most { result ≤ most }
+            → HasPassedOn until self.new seen result }
+        ensures fewer { IfSome result (λ w. events_to_trace self.new < events_to_trace self.old) }
+        ensures most { events_to_trace self.new ≤ events_to_trace self.old }
         ensures same { IsSame self.old self.new }
     {
-        self.replayer.pass(most)
+        while let Some(stretch) = self.replayer.stretch() {
+            match self.pass_stretch(stretch, until) {
+                Stop::Ended(word) => return Some(word),
+                Stop::Before => return None,
+                Stop::Through => {}
+            }
+        }
+        None
+    }
+
+    /// Makes words of a stretch, up to the first whose access ends the pass.
+    fn pass_stretch(&mut self, stretch: Stretch, until: Until) -> Stop
+        requires traced { (seen : List OfEvent) × HasTraced self.old seen }
+        requires stretch { IsStretch (replayer_in self.old) stretch }
+        requires some { 0 < stretch.words }
+        ensures passed { (seen : List OfEvent) → HasTraced self.old seen
+            → HasPassedOn until self.new seen (word_ended result) }
+        ensures fewer { result ≢ Stop.Before → events_to_trace self.new < events_to_trace self.old }
+        ensures most { events_to_trace self.new ≤ events_to_trace self.old }
+        ensures same { IsSame self.old self.new }
+    {
+        let mut stretch = stretch;
+        while stretch.words > 0 {
+            let Some(touch) = self.replayer.core().node(stretch.node).touch() else {
+                return Stop::Before;
+            };
+            if let Some(touch) = ending(until, touch) {
+                return match self.pass_access(&mut stretch, touch) {
+                    Some(word) => Stop::Ended(word),
+                    None => Stop::Before,
+                };
+            }
+            if !self.replayer.pass_word(&mut stretch) {
+                return Stop::Before;
+            }
+        }
+        Stop::Through
+    }
+
+    /// Makes the next word of a stretch, which touches memory so, and says what it did.
+    fn pass_access(&mut self, stretch: &mut Stretch, touch: Touch) -> Option<WordPassed>
+        requires traced { (seen : List OfEvent) × HasTraced self.old seen }
+        requires stretch { IsStretch (replayer_in self.old) stretch.old }
+        requires some { 0 < stretch.old.words }
+        requires touch { IsTouch (work_traced self.old)
+            ((core_of (core_in (replayer_in self.old))).nodes stretch.old.node) touch }
+        ensures passed { (seen : List OfEvent) → HasTraced self.old seen
+            → HasTraced self.new (seen ++ option_to_list (option_map passed_of result)) }
+        ensures fewer { IfSome result (λ w. events_to_trace self.new < events_to_trace self.old) }
+        ensures most { events_to_trace self.new ≤ events_to_trace self.old }
+        ensures same { IsSame self.old self.new }
+    {
+        let node = self.replayer.core().node(stretch.node);
+        let reached = reached_by_touch(node, touch)?;
+        let place = place_of(node);
+        let kind = self.entries.commit_at(self.plan, self.code, place);
+        if !self.replayer.pass_word(stretch) {
+            return None;
+        }
+        let core = self.replayer.core();
+        Some(WordPassed {
+            stamp: core.node(stretch.node).stamp(),
+            node: stretch.node,
+            place,
+            commits: commits(kind, Some(reached), false, false),
+            access: accessed_at(core.layout(), reached),
+        })
     }
 
     /// What the next event does, which is a word.
     fn word(&mut self, node: u8) -> Result<Traced, ReplayRefused>
         requires running { IsRunning (replayer_in self.old) }
         requires code { IsCodeOf self.old }
+        requires entries { HasEntries self.old }
         requires next { IsNextOf (replayer_in self.old) (Exec node) }
         ensures made { (before : List Told) → HasMade (replayer_in self.old) before
             → IfOk result (HasTracedOne self.old self.new before) }
@@ -120,7 +208,12 @@ impl<'a> Tracer<'a> {
         ensures refused { (rule : Rules) (i entry : ℕ) → IsErrOf result (Broken rule i entry)
             → IsFirstBroken (work_traced self.old) (record_traced self.old) rule i entry }
     {
-        let before = before_word(self.replayer.core().node(node), self.plan, self.code);
+        let before = before_word(
+            self.replayer.core().node(node),
+            self.plan,
+            self.code,
+            &mut self.entries,
+        );
         let seen = self.replayer.make(Event::Exec(node))?;
         let core = self.replayer.core();
         let after = core.node(node);
@@ -134,6 +227,7 @@ impl<'a> Tracer<'a> {
     /// What the next event does, which is a take.
     fn take(&mut self, node: u8, from: u8) -> Result<Traced, ReplayRefused>
         requires running { IsRunning (replayer_in self.old) }
+        requires entries { HasEntries self.old }
         requires next { IsNextOf (replayer_in self.old) (Take node from) }
         ensures made { (before : List Told) → HasMade (replayer_in self.old) before
             → IfOk result (HasTracedOne self.old self.new before) }

@@ -1,19 +1,19 @@
 //! What a word did, by what is seen before and after it.
 
-ghost use Rattle.std.specs.Prelude.{◌≡◌, ◌-◌, ◌||◌, ℕ, List, false, if◌then◌else◌, length, take};
+ghost use Rattle.std.specs.Prelude.{◌≡◌, ◌-◌, ◌||◌, List, false, if◌then◌else◌, length, take};
 ghost use Rattle.std.specs.Option.{option_map};
-ghost use Rattle.rv32_program.specs.Program.{Program};
 ghost use Rattle.templates.specs.Code.{HasCode};
-ghost use Rattle.templates.specs.Commits as model;
 ghost use Rattle.templates.specs.declared.plans.PlanEntry.{PlanEntry};
 ghost use Rattle.jump_map.specs.Maps.{old_of};
 ghost use Rattle.node_model.specs.Node.{Work, Node as OfNode, Tally, counts_after};
 ghost use Rattle.node_machine.specs.Frame.{work_of, node_of};
 ghost use Rattle.run_trace.specs.Given.{tally_of, word_of};
+ghost use Rattle.run_trace.specs.Entries.{AreEntriesOf};
 ghost use Rattle.run_trace.specs.Looks.{IsBefore, IsAfterWord, reached_by, accessed_at, is_exited};
 ghost use Rattle.run_trace.specs.Looks.{commits_when, waits_in};
 ghost use Rattle.run_trace.specs.Traced as trace;
 
+use crate::entries::Entries;
 use crate::reach::{Reach, Reached, reach_of};
 use crate::traced::{AccessKind, Accessed, Tallied, WordTraced};
 use block_layout::Layout;
@@ -21,7 +21,7 @@ use dsm_core::Seen;
 use home_directory::Headers;
 use node_machine::{Node, NodeCounts, Standing};
 use rv32_program::End;
-use templates::{Code, CommitKind, Place, Plan, commit_at};
+use templates::{Code, CommitKind, Place, Plan};
 
 /// What is seen of a word before it.
 #[derive(Clone, Copy)]
@@ -33,37 +33,33 @@ pub(crate) struct Before {
 }
 
 /// What is seen of a node's next word.
-pub(crate) fn before_word(node: &Node<'_>, plan: &Plan, code: &Code) -> Before
+pub(crate) fn before_word(
+    node: &Node<'_>,
+    plan: &Plan,
+    code: &Code,
+    entries: &mut Entries,
+) -> Before
+    requires entries { AreEntriesOf plan.now entries.old }
     requires code { HasCode (work_of node.now).program code.now }
-    ensures { IsBefore (work_of node.now) plan.now (node_of node.now) result }
+    ensures before { IsBefore (work_of node.now) plan.now (node_of node.now) result }
+    ensures entries { AreEntriesOf plan.now entries.new }
 {
     let place = place_of(node);
     Before {
         place,
-        kind: kind_at(plan, code, place),
+        kind: entries.commit_at(plan, code, place),
         reach: reach_of(node),
         counts: node.counts(),
     }
 }
 
 /// Where a node's next word stands.
-fn place_of(node: &Node<'_>) -> Option<Place>
+pub(crate) fn place_of(node: &Node<'_>) -> Option<Place>
     ensures { result ≡ old_of (work_of node.now).image (node_of node.now).lane.at }
 {
     match node.next_word() {
         Some(word) => word.place,
         None => None,
-    }
-}
-
-/// When the word at a place commits, if there is one.
-fn kind_at(plan: &Plan, code: &Code, place: Option<Place>) -> CommitKind
-    ensures { (program : Program) → HasCode program code.now
-        → result ≡ model.commit_at program plan.now place }
-{
-    match place {
-        Some(place) => commit_at(plan, code, place),
-        None => CommitKind::Never,
     }
 }
 
@@ -114,12 +110,19 @@ fn accessed(layout: &Layout, reached: Option<Reached>) -> Option<Accessed>
     ensures { result ≡ option_map (accessed_at layout.now) reached }
 {
     match reached {
-        Some(reached) => Some(Accessed {
-            kind: reached.kind,
-            address: reached.address,
-            block: layout.block_of(reached.address / 64),
-        }),
+        Some(reached) => Some(accessed_at(layout, reached)),
         None => None,
+    }
+}
+
+/// What is reached, with its block.
+pub(crate) fn accessed_at(layout: &Layout, reached: Reached) -> Accessed
+    ensures { result ≡ accessed_at layout.now reached }
+{
+    Accessed {
+        kind: reached.kind,
+        address: reached.address,
+        block: layout.block_of(reached.address / 64),
     }
 }
 
@@ -147,7 +150,7 @@ fn waits(standing: Standing) -> bool
 const FLAG: u32 = 0xffff_ff03;
 
 /// Whether a word commits a step of the original.
-fn commits(kind: CommitKind, reached: Option<Reached>, exits: bool, waits: bool) -> bool
+pub(crate) fn commits(kind: CommitKind, reached: Option<Reached>, exits: bool, waits: bool) -> bool
     ensures { result ≡ (exits || commits_when kind reached waits) }
 {
     exits

@@ -1,12 +1,11 @@
 -- By what is seen before and after.
-use Rattle.std.proofs.Common.{◌≡◌, ◌-◌, ◌||◌, not, eqb, cond, length, take, refl, sym, ap, ◌∙◌}
+use Rattle.std.proofs.Common.{◌-◌, ◌||◌, not, eqb, cond, length, take, refl, sym, ap, ◌∙◌}
 use Rattle.std.specs.Prelude.{is_some}
 use Rattle.std.specs.Option.{option_map}
 use Rattle.home_directory.specs.Headers.{header_of}
 use Rattle.node_model.specs.declared.NodeCounts.{NodeCounts}
 use Rattle.node_model.specs.Node.{Node, counts_after}
 use Rattle.node_model.specs.Turns.{after_message, take_turn, journaled}
-use Rattle.dsm_core.specs.declared.seen.Incoming.{Incoming}
 use Rattle.run_trace.specs.declared.takes.Sight.{Sight}
 use Rattle.run_trace.specs.Traced.{take_traced, stops, ends_anew}
 use Rattle.run_trace.specs.Taking.{sight_of, has_items, is_changed}

@@ -1,24 +1,43 @@
--- By the run that was made.
-use Rattle.std.proofs.Common.{refl}
+-- One stretch after another.
+use Rattle.std.proofs.Common.{◌++◌, Some, None, arith}
 use Rattle.replay.proofs.Runs.{running_of}
-use Rattle.run_trace.specs.declared.tracer.Tracer.{Tracer}
-use Rattle.run_trace.specs.Tracing.{IsSame}
-use Rattle.run_trace.proofs.Tracings.{passed_on}
+use Rattle.run_trace.proofs.Passes.{ends_here, joins, is_on, same_on}
 use Rattle.run_trace.proofs.tracer.Tracer.pass.Goals as goal
 
-pub pass-requires : goal.pass-requires
-pass-requires c =
-    let h = c.requires.traced.1 in
-    record { running = running_of c.args.self.now.replayer h.before h.made }
+pub stretch-requires : goal.stretch-requires
+stretch-requires c =
+    let on = c.loop-stretch.invariant.on c.requires.traced.0 c.requires.traced.1 in
+    record { running = running_of c.loop-stretch.self.replayer on.traced.before on.traced.made }
+
+pub pass_stretch-requires-clause-traced : goal.pass_stretch-requires-clause-traced
+pass_stretch-requires-clause-traced c =
+    let on = c.loop-stretch.invariant.on c.requires.traced.0 c.requires.traced.1 in
+    (c.requires.traced.0 ++ on.more, on.traced)
+
+pub returns-in-Ended-clause-passed : goal.returns-in-Ended-clause-passed
+returns-in-Ended-clause-passed c = λ seen h.
+    joins c.args.until c.loop-stretch.self c.pass_stretch.new.self seen (Some c.in-Ended.word)
+    (c.loop-stretch.invariant.on seen h) c.in-Ended.ensures.passed
+
+pub returns-in-Before-clause-passed : goal.returns-in-Before-clause-passed
+returns-in-Before-clause-passed c = λ seen h.
+    joins c.args.until c.loop-stretch.self c.pass_stretch.new.self seen None
+    (c.loop-stretch.invariant.on seen h) c.in-Before.ensures.passed
+
+pub loop-stretch-preserved : goal.loop-stretch-preserved
+loop-stretch-preserved c =
+    let u = c.args.until in
+    let t = c.loop-stretch.self in
+    let s = c.pass_stretch.new.self in
+    let most = c.loop-stretch.invariant.most in
+    let more = c.pass_stretch.ensures.most in
+    record {
+      on = λ seen h. is_on u s seen (joins u t s seen None (c.loop-stretch.invariant.on seen h)
+          c.in-Through.ensures.passed);
+      most = omega (arith, most, more);
+      same = same_on c.args.self.now t s c.loop-stretch.invariant.same c.pass_stretch.ensures.same;
+    }
 
 pub returns-clause-passed : goal.returns-clause-passed
 returns-clause-passed c = λ seen h.
-    let t = c.args.self.now in
-    let u : Tracer = record { replayer = c.pass.new.self; plan = t.plan; code = t.code } in
-    let same : IsSame t u = record {
-      work = c.pass.ensures.same.work;
-      plan = refl;
-      rec_is = c.pass.ensures.same.rec_is;
-      code = refl;
-    } in
-    passed_on t u seen c.pass.result h (c.pass.ensures.passed h.before h.made) same
+    ends_here c.args.until c.loop-stretch.self seen (c.loop-stretch.invariant.on seen h)

@@ -1,14 +1,13 @@
 -- A take, by what is seen of it.
-use Rattle.std.proofs.Common.{◌≡◌, ◌<◌, ◌∷◌, map, ap, ap₂, sym, subst, ◌∙◌}
+use Rattle.std.proofs.Common.{◌≡◌, ◌<◌, ◌∷◌, map, ap, sym, subst, ◌∙◌}
 use Rattle.block_layout.specs.Layout.{Shape}
-use Rattle.home_directory.specs.declared.messages.Wire.{Wire}
 use Rattle.home_directory.specs.Headers.{header_of, sent_by}
 use Rattle.node_model.specs.Node.{Work, Node}
-use Rattle.node_model.specs.Core.{Event, Take, May}
+use Rattle.node_model.specs.Core.{Event, May}
 use Rattle.run_order.specs.OwnRun.{node_of as event_node}
-use Rattle.node_machine.specs.Frame.{node_of, work_of as work_at}
+use Rattle.node_machine.specs.Frame.{node_of}
 use Rattle.dsm_core.specs.declared.seen.Incoming.{Incoming}
-use Rattle.dsm_core.specs.CoreParts.{CoreParts, work_of, core_of}
+use Rattle.dsm_core.specs.CoreParts.{CoreParts, core_of}
 use Rattle.dsm_core.specs.Seen.{incoming_of, sends_of_take}
 use Rattle.replay.specs.Way.{core_in}
 use Rattle.run_trace.specs.Taking.{IsAfterTake, sight_of, block_of_first}
@@ -65,6 +64,7 @@ returns-clause-made c = λ before h.
     record {
       told = m.told;
       made = m.made;
+      entries = c.requires.entries;
       may = subst (λ e. May work (core_of p0) e) (sym m.event_is) m.may;
       is = take_traced_at work plan (core_of p0) m.told.what i j c.stamp.result wire rest (take_of c.take_traced.result) m.event_is
           (sym m.stamp ∙ ap (λ (e : Event). ((core_of p1).nodes (event_node e)).stamp) m.event_is

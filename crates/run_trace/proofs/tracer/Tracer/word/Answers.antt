@@ -1,8 +1,7 @@
 -- A word, by what is seen of it.
-use Rattle.std.proofs.Common.{◌≡◌, ◌<◌, ap, sym, subst, ◌∙◌}
-use Rattle.block_layout.specs.Layout.{Shape}
+use Rattle.std.proofs.Common.{◌<◌, ap, sym, subst, ◌∙◌}
 use Rattle.node_model.specs.Node.{Work, Node}
-use Rattle.node_model.specs.Core.{Event, Exec, May}
+use Rattle.node_model.specs.Core.{Event, May}
 use Rattle.run_order.specs.OwnRun.{node_of as event_node}
 use Rattle.node_machine.specs.Frame.{node_of, work_of as work_at}
 use Rattle.dsm_core.specs.CoreParts.{CoreParts, work_of, core_of}
@@ -34,7 +33,7 @@ returns-clause-made c = λ before h.
     let before_work = c.node.ensures.work ∙ ap work_of before_core in
     let look = subst (λ (w : Work). IsBefore w plan n c.before_word-before.result) before_work
     (subst (λ (k : Node). IsBefore (work_at c.node.result.now) plan k c.before_word-before.result) before_node
-    c.before_word-before.ensures) in
+    c.before_word-before.ensures.before) in
     let all : IsAfterWord work plan n c.before_word-before.result c.in_ok-seen.seen c.layout.result.now c.node-after.result.now = record {
       before = look;
       node = led;
@@ -47,6 +46,7 @@ returns-clause-made c = λ before h.
     record {
       told = m.told;
       made = m.made;
+      entries = c.before_word-before.ensures.entries;
       may = subst (λ e. May work (core_of p0) e) (sym m.event_is) m.may;
       is = exec_traced work plan (core_of p0) m.told.what i c.stamp.result (word_of c.word_traced.result) m.event_is
           (sym m.stamp ∙ ap (λ (e : Event). ((core_of p1).nodes (event_node e)).stamp) m.event_is
