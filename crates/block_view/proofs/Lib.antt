@@ -5,3 +5,4 @@ mod Ordering
 mod Texts
 mod Writing
 mod Hexadecimal
+mod Passing

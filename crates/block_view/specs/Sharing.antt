@@ -2,22 +2,15 @@
 use Rattle.std.specs.Prelude.{ℕ, ◌/◌, Bool, true, false, not, ◌&&◌, ◌||◌, ◌==◌, if◌then◌else◌, List, [], ◌∷◌, Option}
 use Rattle.std.specs.Option.{option_map_or}
 use Rattle.std.specs.List.{flat_map, list_any, list_all}
-use Rattle.run_trace.specs.declared.traced.AccessKind.{AccessKind}
-use Rattle.run_trace.specs.declared.traced.AccessKind.TheVariants as access
 use Rattle.run_trace.specs.declared.traced.Accessed.{Accessed}
 use Rattle.run_trace.specs.Traced.{Traced, What, Word, Taken}
+use Rattle.run_trace.specs.Passing.{is_write}
 use Rattle.event_text.specs.Shown.{is_block}
 
 -- a write: the node that makes it, and the aligned word of four bytes that it writes in
 pub record Write : Type 0 where
   pub node : ℕ
   pub word : ℕ
-
-abbrev pub is_write : AccessKind → Bool
-is_write access.Writes = true
-is_write access.Exchanges = true
-is_write access.Reads = false
-is_write access.WritesNot = false
 
 -- an access that writes in a block
 abbrev pub writes_in : (b : ℕ) → Accessed → Bool

@@ -4,6 +4,7 @@ ghost use Rattle.std.specs.Prelude.{◌≡◌, ◌++◌, ◌∷◌, ℕ, List, [
 ghost use Rattle.std.specs.Ordering.{nat_cmp};
 ghost use Rattle.std.specs.BTreeMap.{get};
 ghost use Rattle.block_layout.specs.Update.{changed};
+ghost use Rattle.run_trace.specs.Passing.{is_write};
 ghost use Rattle.block_view.specs.Sharing as model;
 ghost use Rattle.block_view.specs.Writers.{IsWriterOf, write_of};
 
@@ -123,7 +124,7 @@ fn with_node(who: Writer, node: u8) -> Writer
 
 /// Whether an access of a kind writes.
 fn is_write(kind: AccessKind) -> bool
-    ensures { result ≡ model.is_write kind }
+    ensures { result ≡ is_write kind }
 {
     match kind {
         AccessKind::Writes | AccessKind::Exchanges => true,
@@ -169,7 +170,11 @@ impl Sharing {
     }
 
     /// A node has accessed memory.
-    fn add_access(&mut self, node: u8, access: Option<Accessed>) -> Result<(), AllocError>
+    pub(crate) fn add_access(
+        &mut self,
+        node: u8,
+        access: Option<Accessed>,
+    ) -> Result<(), AllocError>
         ensures count { length self.new.blocks.items ≡ length self.old.blocks.items }
         ensures writes { OnOk result ((writes : ℕ → List Write)
             → AreSharedBy self.old.blocks.items writes

@@ -5,7 +5,7 @@ use crate::sharing::Sharing;
 use crate::totals::Totals;
 use block_layout::Layout;
 use node_machine::NodeCounts;
-use run_trace::Traced;
+use run_trace::{Traced, WordPassed};
 use std::alloc::{AllocError, Global};
 
 /// Sums over the events of a run: what each block costs, what each node counts, and which nodes
@@ -20,9 +20,11 @@ pub struct Sums<'a> {
 }
 
 impl<'a> Sums<'a> {
-    ghost use Rattle.std.specs.Prelude.{◌≡◌, ◌++◌, ◌∷◌, List, [], IfOk, OnOk};
+    ghost use Rattle.std.specs.Prelude.{◌≡◌, ◌++◌, ◌∷◌, List, [], All, IfOk, OnOk};
     ghost use Rattle.run_trace.specs.Given.{traced_of};
     ghost use Rattle.run_trace.specs.Traced.{Traced as OfEvent};
+    ghost use Rattle.run_trace.specs.Passing.{IsPassed, passed_of};
+    ghost use Rattle.run_trace.specs.declared.passed.Until.TheVariants.{Write};
     ghost use Rattle.run_trace.specs.Sums.{counts_by_node};
     ghost use Rattle.block_view.specs.Kept.{AreSumsOf, layout_in};
 
@@ -53,6 +55,21 @@ impl<'a> Sums<'a> {
         self.sharing.add(event)?;
         Ok(())
     }
+
+    /// One word more, which only accesses memory. Fails also where a count has no room.
+    pub fn add_passed(&mut self, word: &WordPassed) -> Result<(), AllocError>
+        ensures more { OnOk result ((seen : List OfEvent) → AreSumsOf self.old seen
+            → AreSumsOf self.new (seen ++ passed_of word.now ∷ [])) }
+        ensures layout { OnOk result (layout_in self.new ≡ layout_in self.old) }
+    {
+        self.sharing.add_access(word.node, Some(word.access))
+    }
+
+    /// Words that only compute or read change no sum; the call does nothing.
+    pub fn laws(&self)
+        ensures passed { (seen more : List OfEvent) → AreSumsOf self.now seen
+            → All (IsPassed Write) more → AreSumsOf self.now (seen ++ more) }
+    {}
 
     /// What each node counts in all, as `run` says it.
     pub fn nodes(&self) -> &[NodeCounts]

@@ -1,5 +1,5 @@
 -- A line of a trace: what an event did.
-use Rattle.std.specs.Prelude.{ℕ, Bool, true, false, not, List, [], ◌∷◌, ◌++◌, Option, Some, None, codes, is_some}
+use Rattle.std.specs.Prelude.{ℕ, Bool, true, false, List, [], ◌∷◌, ◌++◌, Option, Some, None, codes, is_some}
 use Rattle.std.specs.Fmt.{decimal}
 use Rattle.elf32_read.specs.Elf.{Elf}
 use Rattle.exec_map.specs.Contents.{word_at}
@@ -56,8 +56,10 @@ abbrev pub what_text : Elf → What → List ℕ
 what_text elf (Word w) = word_text elf w
 what_text elf (Taken t) = take_text t
 
+-- the stamp and the node of an event
+abbrev pub maker_text : (stamp node : ℕ) → List ℕ
+maker_text stamp i = decimal stamp ++ (codes " node " ++ (decimal i ++ codes ": "))
+
 -- the stamp, the node, and what the event did
 abbrev pub event_line : Elf → Traced → List ℕ
-event_line elf x =
-    decimal x.stamp ++ (codes " node " ++ (decimal x.node
-    ++ (codes ": " ++ (what_text elf x.what ++ codes "\n"))))
+event_line elf x = maker_text x.stamp x.node ++ (what_text elf x.what ++ codes "\n")

@@ -2,6 +2,7 @@
 
 ghost use Rattle.std.specs.Prelude.{◌≡◌, ◌++◌, OnOk};
 ghost use Rattle.run_trace.specs.Given.{word_of, what_of, traced_of};
+ghost use Rattle.run_trace.specs.Passing.{passed_of};
 ghost use Rattle.event_text.specs.Events as model;
 
 use crate::parts::{
@@ -10,7 +11,7 @@ use crate::parts::{
 };
 use crate::takes::push_take;
 use exec_map::Program;
-use run_trace::{Traced, What, WordTraced};
+use run_trace::{Traced, What, WordPassed, WordTraced};
 use rv32_text::push_word;
 use std::alloc::AllocError;
 use templates::Place;
@@ -24,12 +25,37 @@ pub fn push_event(
     ensures { OnOk result (out.new.items
         ≡ out.old.items ++ model.event_line program.now (traced_of event.now)) }
 {
-    push_decimal(out, event.stamp)?;
-    out.extend_from_slice(b" node ")?;
-    push_decimal(out, u64::from(event.node))?;
-    out.extend_from_slice(b": ")?;
+    push_maker(out, event.stamp, event.node)?;
     push_what(out, program, &event.what)?;
     out.extend_from_slice(b"\n")?;
+    Ok(())
+}
+
+/// Appends the line of a word of a program that only accesses memory.
+pub fn push_passed(
+    out: &mut Vec<u8>,
+    program: &Program<'_>,
+    word: &WordPassed,
+) -> Result<(), AllocError>
+    ensures { OnOk result (out.new.items
+        ≡ out.old.items ++ model.event_line program.now (passed_of word.now)) }
+{
+    push_maker(out, word.stamp, word.node)?;
+    push_where(out, program, word.place)?;
+    push_accessed(out, &Some(word.access))?;
+    push_if(out, word.commits, b"; commits")?;
+    out.extend_from_slice(b"\n")?;
+    Ok(())
+}
+
+/// Appends the stamp of an event, and the node that made it.
+fn push_maker(out: &mut Vec<u8>, stamp: u64, node: u8) -> Result<(), AllocError>
+    ensures { OnOk result (out.new.items ≡ out.old.items ++ model.maker_text stamp node) }
+{
+    push_decimal(out, stamp)?;
+    out.extend_from_slice(b" node ")?;
+    push_decimal(out, u64::from(node))?;
+    out.extend_from_slice(b": ")?;
     Ok(())
 }
 

@@ -2,12 +2,14 @@
 //! The lines of a trace.
 
 mod events;
+mod law;
 mod names;
 mod parts;
 mod shown;
 mod takes;
 
-pub use events::push_event;
+pub use events::{push_event, push_passed};
+pub use law::shown_law;
 pub use names::{access_name, message_name, need_name, state_name};
 pub use parts::{push_decimal, push_header, push_if, push_number, push_original, push_state};
-pub use shown::{Options, is_shown, push_head};
+pub use shown::{Options, is_passed_shown, is_shown, push_head};

@@ -4,11 +4,12 @@ ghost use Rattle.std.specs.Prelude.{◌≡◌, ◌++◌, OnOk, true};
 ghost use Rattle.std.specs.Option.{option_map_or};
 ghost use Rattle.node_machine.specs.Wanted.{wanted_in};
 ghost use Rattle.run_trace.specs.Given.{word_of, what_of, traced_of};
+ghost use Rattle.run_trace.specs.Passing.{passed_of};
 ghost use Rattle.event_text.specs.Shown as model;
 
 use block_layout::Block;
 use node_machine::WantedBlocks;
-use run_trace::{Accessed, Traced, What, WordTraced};
+use run_trace::{Accessed, Traced, What, WordPassed, WordTraced};
 use std::alloc::AllocError;
 
 /// Which events are asked for.
@@ -34,6 +35,27 @@ pub fn is_shown(options: &Options, event: &Traced) -> bool
         && is_of_node(options.node, event.node)
         && is_about_any(options.block, &event.what)
         && is_of_kind(options.words, &event.what)
+}
+
+/// Whether a word that only accesses memory has a line.
+pub fn is_passed_shown(options: &Options, word: &WordPassed) -> bool
+    ensures { result ≡ model.is_shown options.now (passed_of word.now) }
+{
+    options.from <= word.stamp
+        && word.stamp <= options.to
+        && is_of_node(options.node, word.node)
+        && accesses_any(options.block, word.access.block)
+        && (options.words || word.access.block.is_some())
+}
+
+/// Whether a block is accessed, where one is asked for.
+fn accesses_any(block: Option<Block>, of: Option<Block>) -> bool
+    ensures { result ≡ option_map_or (λ b. model.is_block b of) block true }
+{
+    match block {
+        Some(block) => is_block(block, of),
+        None => true,
+    }
 }
 
 /// Whether an event is of a node, where one is asked for.

@@ -2,9 +2,11 @@
 
 ghost use Rattle.std.specs.Prelude.{◌≡◌, ◌≤◌, List, map, length};
 ghost use Rattle.run_trace.specs.Given.{traced_of};
+ghost use Rattle.run_trace.specs.Passing.{passed_of};
 ghost use Rattle.page_events.specs.Shown as model;
 
-use run_trace::Traced;
+use home_directory::Headers;
+use run_trace::{Tallied, Traced, What, WordPassed, WordTraced};
 use std::alloc::{AllocError, Global};
 use std::marker::Model;
 
@@ -35,6 +37,7 @@ impl Shown {
     ghost use Rattle.std.specs.Prelude.{◌≡◌, ◌≤◌, ◌++◌, [], ◌∷◌, List, map, length, OnOk};
     ghost use Rattle.std.specs.Prelude.{true, is_some};
     ghost use Rattle.run_trace.specs.Given.{traced_of};
+    ghost use Rattle.run_trace.specs.Passing.{passed_of};
     ghost use Rattle.run_trace.specs.Traced.{Traced as OfEvent};
     ghost use Rattle.page_events.specs.Shown.{kept};
 
@@ -59,6 +62,14 @@ impl Shown {
             self.behind = Some(event.stamp);
         }
         Ok(())
+    }
+
+    /// One word more, which only accesses memory.
+    pub fn add_passed(&mut self, word: &WordPassed) -> Result<(), AllocError>
+        ensures { (seen : List OfEvent) → self.old ≡ kept seen
+            → OnOk result (self.new ≡ kept (seen ++ passed_of word.now ∷ [])) }
+    {
+        self.add(event_of(word))
     }
 
     /// Whether the first 400 are there and one is behind them: of what is added from here on nothing
@@ -92,5 +103,25 @@ impl Shown {
         ensures { result ≡ self.now.behind }
     {
         self.behind
+    }
+}
+
+/// A word that only accesses memory, as an event.
+fn event_of(word: &WordPassed) -> Traced
+    ensures { traced_of result ≡ passed_of word.now }
+{
+    Traced {
+        stamp: word.stamp,
+        node: word.node,
+        what: What::Word(WordTraced {
+            place: word.place,
+            commits: word.commits,
+            access: Some(word.access),
+            wants: None,
+            tally: Tallied::Nothing,
+            printed: None,
+            sends: Headers::new(),
+            end: None,
+        }),
     }
 }
