@@ -13,7 +13,7 @@ use Rattle.clap.specs.declared.parser.matches.ValueSource.TheVariants.{CommandLi
 use Rattle.clap.specs.Faults.{fault_of, built_fault}
 use Rattle.clap.proofs.FaultLemmas.{leaf_fault}
 use Rattle.command_line.specs.declared.table.Setting.{Setting}
-use Rattle.command_line.specs.declared.table.Setting.TheVariants.{Nodes, Order, Budget, Layout, Code, Verify, Record, Brief, NoBatch, Loss, From, To, Block, Node}
+use Rattle.command_line.specs.declared.table.Setting.TheVariants.{Nodes, Order, Budget, Layout, Code, Verify, Record, Brief, NoBatch, Loss, PerNode, From, To, Block, Node}
 use Rattle.command_line.specs.declared.table.Role.{Role}
 use Rattle.command_line.specs.declared.table.Role.TheVariants as role
 use Rattle.command_line.specs.Commands.{option_word}
@@ -74,6 +74,7 @@ no_operand Record = refl
 no_operand Brief = refl
 no_operand NoBatch = refl
 no_operand Loss = refl
+no_operand PerNode = refl
 no_operand From = refl
 no_operand To = refl
 no_operand Block = refl
@@ -90,6 +91,7 @@ no_option Record = refl
 no_option Brief = refl
 no_option NoBatch = refl
 no_option Loss = refl
+no_option PerNode = refl
 no_option From = refl
 no_option To = refl
 no_option Block = refl
@@ -195,6 +197,8 @@ module _ (settings : List Setting) where
       record { more = omega (arith, length-append (codes "--no-batch") (61 ∷ v)); first = refl; second = refl }
   long_joined Loss v =
       record { more = omega (arith, length-append (codes "--loss") (61 ∷ v)); first = refl; second = refl }
+  long_joined PerNode v =
+      record { more = omega (arith, length-append (codes "--per-node") (61 ∷ v)); first = refl; second = refl }
   long_joined From v =
       record { more = omega (arith, length-append (codes "--from") (61 ∷ v)); first = refl; second = refl }
   long_joined To v =
@@ -215,6 +219,7 @@ module _ (settings : List Setting) where
   long_alone Brief = record { more = omega arith; first = refl; second = refl }
   long_alone NoBatch = record { more = omega arith; first = refl; second = refl }
   long_alone Loss = record { more = omega arith; first = refl; second = refl }
+  long_alone PerNode = record { more = omega arith; first = refl; second = refl }
   long_alone From = record { more = omega arith; first = refl; second = refl }
   long_alone To = record { more = omega arith; first = refl; second = refl }
   long_alone Block = record { more = omega arith; first = refl; second = refl }

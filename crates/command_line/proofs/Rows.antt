@@ -9,12 +9,12 @@ use Rattle.command_line.specs.declared.table.Access.TheVariants.{Read, Write}
 use Rattle.command_line.specs.declared.table.Kind.{Kind}
 use Rattle.command_line.specs.declared.table.Kind.TheVariants.{Number, MaybeNumber, MaybeAddress, File, Flag}
 use Rattle.command_line.specs.declared.table.Setting.{Setting}
-use Rattle.command_line.specs.declared.table.Setting.TheVariants.{Nodes, Order, Budget, Layout, Code, Verify, Record, Brief, NoBatch, Loss}
+use Rattle.command_line.specs.declared.table.Setting.TheVariants.{Nodes, Order, Budget, Layout, Code, Verify, Record, Brief, NoBatch, Loss, PerNode}
 use Rattle.command_line.specs.declared.table.Role.{Role}
 use Rattle.command_line.specs.declared.table.Role.TheVariants as role
 use Rattle.command_line.specs.declared.table.CommandWord.{CommandWord}
 use Rattle.command_line.specs.declared.table.CommandWord.TheVariants as word
-use Rattle.command_line.specs.Commands.{Command, Rewrite, Run, Listing, One, Sim, Replay, Generate, Assemble, Named, Between, Value, Amount, MaybeAmount, MaybeAt, Name, Switch, name_or_none, Row, row_of, IsFit, is_alone, kind_of, settings_in}
+use Rattle.command_line.specs.Commands.{Command, Rewrite, Run, Listing, One, Sim, Replay, Generate, Assemble, Named, Between, Value, Amount, MaybeAmount, MaybeAt, Name, Switch, name_or_none, Row, row_of, IsFit, AreFew, is_alone, kind_of, settings_in}
 use Rattle.command_line.specs.Asks.{Argument, IsNumber, ArePlaced, IsSet, AreSet, AreOfRow, Asks}
 use Rattle.command_line.specs.declared.Command.{Command as OfCode}
 use Rattle.command_line.specs.Meaning.{meaning_of}
@@ -333,7 +333,7 @@ as_rewrite g (Rewrite x y nb) h = (x, y, nb, h.of_row)
 as_rewrite g (Run f n b w k ve l t nb) h = absurd (other_second _ _ h.word_is (omega arith))
 as_rewrite g (Listing f) h = absurd (other_first _ _ h.word_is (omega arith))
 as_rewrite g (One f n o b l) h = absurd (other_first _ _ h.word_is (omega arith))
-as_rewrite g (Sim f n o b k ve l t nb ls) h = absurd (other_first _ _ h.word_is (omega arith))
+as_rewrite g (Sim f n o b k ve l t nb ls pn) h = absurd (other_first _ _ h.word_is (omega arith))
 as_rewrite g (Replay f ve w t) h = absurd (other_third _ _ h.word_is (omega arith))
 as_rewrite g (Generate n y) h = absurd (other_first _ _ h.word_is (omega arith))
 as_rewrite g (Assemble x y) h = absurd (other_first _ _ h.word_is (omega arith))
@@ -345,7 +345,7 @@ as_run g (Rewrite f o nb) h = absurd (other_second _ _ h.word_is (omega arith))
 as_run g (Run f n b w k ve l t nb) h = (f, n, b, w, k, ve, l, t, nb, h.of_row, h.fits)
 as_run g (Listing f) h = absurd (other_first _ _ h.word_is (omega arith))
 as_run g (One f n o b l) h = absurd (other_first _ _ h.word_is (omega arith))
-as_run g (Sim f n o b k ve l t nb ls) h = absurd (other_first _ _ h.word_is (omega arith))
+as_run g (Sim f n o b k ve l t nb ls pn) h = absurd (other_first _ _ h.word_is (omega arith))
 as_run g (Replay f ve w t) h = absurd (other_second _ _ h.word_is (omega arith))
 as_run g (Generate n y) h = absurd (other_first _ _ h.word_is (omega arith))
 as_run g (Assemble x y) h = absurd (other_first _ _ h.word_is (omega arith))
@@ -356,7 +356,7 @@ as_list g (Rewrite f o nb) h = absurd (other_first _ _ h.word_is (omega arith))
 as_list g (Run f n b w k ve l t nb) h = absurd (other_first _ _ h.word_is (omega arith))
 as_list g (Listing f) h = (f, h.of_row)
 as_list g (One f n o b l) h = absurd (other_first _ _ h.word_is (omega arith))
-as_list g (Sim f n o b k ve l t nb ls) h = absurd (other_first _ _ h.word_is (omega arith))
+as_list g (Sim f n o b k ve l t nb ls pn) h = absurd (other_first _ _ h.word_is (omega arith))
 as_list g (Replay f ve w t) h = absurd (other_first _ _ h.word_is (omega arith))
 as_list g (Generate n y) h = absurd (other_first _ _ h.word_is (omega arith))
 as_list g (Assemble x y) h = absurd (other_first _ _ h.word_is (omega arith))
@@ -367,19 +367,20 @@ as_one g (Rewrite f o nb) h = absurd (other_first _ _ h.word_is (omega arith))
 as_one g (Run f n b w k ve l t nb) h = absurd (other_first _ _ h.word_is (omega arith))
 as_one g (Listing f) h = absurd (other_first _ _ h.word_is (omega arith))
 as_one g (One f n o b l) h = (f, n, o, b, l, h.of_row)
-as_one g (Sim f n o b k ve l t nb ls) h = absurd (other_first _ _ h.word_is (omega arith))
+as_one g (Sim f n o b k ve l t nb ls pn) h = absurd (other_first _ _ h.word_is (omega arith))
 as_one g (Replay f ve w t) h = absurd (other_first _ _ h.word_is (omega arith))
 as_one g (Generate n y) h = absurd (other_first _ _ h.word_is (omega arith))
 as_one g (Assemble x y) h = absurd (other_first _ _ h.word_is (omega arith))
 
 pub as_sim : (g : Given) (c : Command) → Completes (codes "sim") g c → (f : List ℕ)
     × (n : ℕ) × (o : ℕ) × (b : ℕ) × (k ve l : Option (List ℕ)) × (t nb : Bool)
-    × (ls : Option ℕ) × IsOfRow (row_of (Sim f n o b k ve l t nb ls)) g × IsTrue (is_alone ve k nb)
+    × (ls pn : Option ℕ) × IsOfRow (row_of (Sim f n o b k ve l t nb ls pn)) g
+    × IsTrue (is_alone ve k nb) × AreFew n ls pn
 as_sim g (Rewrite f o nb) h = absurd (other_first _ _ h.word_is (omega arith))
 as_sim g (Run f n b w k ve l t nb) h = absurd (other_first _ _ h.word_is (omega arith))
 as_sim g (Listing f) h = absurd (other_first _ _ h.word_is (omega arith))
 as_sim g (One f n o b l) h = absurd (other_first _ _ h.word_is (omega arith))
-as_sim g (Sim f n o b k ve l t nb ls) h = (f, n, o, b, k, ve, l, t, nb, ls, h.of_row, h.fits)
+as_sim g (Sim f n o b k ve l t nb ls pn) h = (f, n, o, b, k, ve, l, t, nb, ls, pn, h.of_row, h.fits.0, h.fits.1)
 as_sim g (Replay f ve w t) h = absurd (other_first _ _ h.word_is (omega arith))
 as_sim g (Generate n y) h = absurd (other_first _ _ h.word_is (omega arith))
 as_sim g (Assemble x y) h = absurd (other_first _ _ h.word_is (omega arith))
@@ -390,7 +391,7 @@ as_replay g (Rewrite x y nb) h = absurd (other_third _ _ h.word_is (omega arith)
 as_replay g (Run f n b w k ve l t nb) h = absurd (other_second _ _ h.word_is (omega arith))
 as_replay g (Listing f) h = absurd (other_first _ _ h.word_is (omega arith))
 as_replay g (One f n o b l) h = absurd (other_first _ _ h.word_is (omega arith))
-as_replay g (Sim f n o b k ve l t nb ls) h = absurd (other_first _ _ h.word_is (omega arith))
+as_replay g (Sim f n o b k ve l t nb ls pn) h = absurd (other_first _ _ h.word_is (omega arith))
 as_replay g (Replay f ve w t) h = (f, ve, w, t, h.of_row)
 as_replay g (Generate n y) h = absurd (other_first _ _ h.word_is (omega arith))
 as_replay g (Assemble x y) h = absurd (other_first _ _ h.word_is (omega arith))
@@ -401,7 +402,7 @@ as_generate g (Rewrite x y nb) h = absurd (other_first _ _ h.word_is (omega arit
 as_generate g (Run f n b w k ve l t nb) h = absurd (other_first _ _ h.word_is (omega arith))
 as_generate g (Listing f) h = absurd (other_first _ _ h.word_is (omega arith))
 as_generate g (One f n o b l) h = absurd (other_first _ _ h.word_is (omega arith))
-as_generate g (Sim f n o b k ve l t nb ls) h = absurd (other_first _ _ h.word_is (omega arith))
+as_generate g (Sim f n o b k ve l t nb ls pn) h = absurd (other_first _ _ h.word_is (omega arith))
 as_generate g (Replay f ve w t) h = absurd (other_first _ _ h.word_is (omega arith))
 as_generate g (Generate n y) h = (n, y, h.of_row)
 as_generate g (Assemble x y) h = absurd (other_first _ _ h.word_is (omega arith))
@@ -412,7 +413,7 @@ as_assemble g (Rewrite x y nb) h = absurd (other_first _ _ h.word_is (omega arit
 as_assemble g (Run f n b w k ve l t nb) h = absurd (other_first _ _ h.word_is (omega arith))
 as_assemble g (Listing f) h = absurd (other_first _ _ h.word_is (omega arith))
 as_assemble g (One f n o b l) h = absurd (other_first _ _ h.word_is (omega arith))
-as_assemble g (Sim f n o b k ve l t nb ls) h = absurd (other_first _ _ h.word_is (omega arith))
+as_assemble g (Sim f n o b k ve l t nb ls pn) h = absurd (other_first _ _ h.word_is (omega arith))
 as_assemble g (Replay f ve w t) h = absurd (other_first _ _ h.word_is (omega arith))
 as_assemble g (Generate n y) h = absurd (other_first _ _ h.word_is (omega arith))
 as_assemble g (Assemble x y) h = (x, y, h.of_row)
@@ -447,8 +448,18 @@ pub sim_alone : (g : Given) (c : Command) (v k : Option (List ℕ)) (b : Bool)
     → Completes (codes "sim") g c → IsTrue (is_alone v k b)
 sim_alone g c v k b code verified batch h =
     let r = as_sim g c h in
-    alone_by g r.5 v r.4 k r.8 b r.10.options.1.1.1.1.0 verified r.10.options.1.1.1.0 code
-    r.10.options.1.1.1.1.1.1.1.0 batch r.11
+    alone_by g r.5 v r.4 k r.8 b r.11.options.1.1.1.1.0 verified r.11.options.1.1.1.0 code
+    r.11.options.1.1.1.1.1.1.1.0 batch r.12
+
+-- the nodes, the loss and the processors of each node that are given are those of the command
+pub sim_few : (g : Given) (c : Command) (n : ℕ) (l p : Option ℕ) → SaysNumber g Nodes n
+    → SaysMaybe g Loss l → SaysMaybe g PerNode p → Completes (codes "sim") g c → AreFew n l p
+sim_few g c n l p nodes loss lanes h =
+    let r = as_sim g c h in
+    subst (λ x. AreFew x l p) (says_one g Nodes r.1 n r.11.options.0 nodes)
+    (subst (λ x. AreFew r.1 x p) (maybes_one g Loss r.9 l r.11.options.1.1.1.1.1.1.1.1.0 loss)
+    (subst (λ x. AreFew r.1 r.9 x)
+    (maybes_one g PerNode r.10 p r.11.options.1.1.1.1.1.1.1.1.1.0 lanes) r.13))
 
 one_row : (g : Given) (c d : Command) → IsOfRow (row_of c) g → IsOfRow (row_of d) g →
     (row_of c).word ≡ (row_of d).word → c ≡ d
@@ -476,7 +487,7 @@ one_row g (One x n o b k) (One y m r d l) p q e =
     let budget = says_one g Budget b d p.options.1.1.0 q.options.1.1.0 in
     let layout = names_one g Layout k l p.options.1.1.1.0 q.options.1.1.1.0 in
     cc
-one_row g (Sim x n o b c ve k s nb ls) (Sim y m r d f vf l t nc lt) p q e =
+one_row g (Sim x n o b c ve k s nb ls pn) (Sim y m r d f vf l t nc lt pm) p q e =
     let file = same_file x y _ p.places q.places in
     let nodes = says_one g Nodes n m p.options.0 q.options.0 in
     let order = says_one g Order o r p.options.1.0 q.options.1.0 in
@@ -487,6 +498,7 @@ one_row g (Sim x n o b c ve k s nb ls) (Sim y m r d f vf l t nc lt) p q e =
     let brief = flag_one g Brief s t refl p.options.1.1.1.1.1.1.0 q.options.1.1.1.1.1.1.0 in
     let batch = flag_one g NoBatch nb nc refl p.options.1.1.1.1.1.1.1.0 q.options.1.1.1.1.1.1.1.0 in
     let loss = maybes_one g Loss ls lt p.options.1.1.1.1.1.1.1.1.0 q.options.1.1.1.1.1.1.1.1.0 in
+    let lanes = maybes_one g PerNode pn pm p.options.1.1.1.1.1.1.1.1.1.0 q.options.1.1.1.1.1.1.1.1.1.0 in
     cc
 one_row g (Replay x ve y s) (Replay v vf w t) p q e =
     let files = same_files Read x y v w _ p.places q.places in
@@ -500,23 +512,23 @@ one_row g (Generate n y) (Generate m w) p q e =
 one_row g (Rewrite x y nb) (Run v m r z d ve l t nc) p q e = absurd (other_second _ _ e (omega arith))
 one_row g (Rewrite x y nb) (Listing v) p q e = absurd (other_first _ _ e (omega arith))
 one_row g (Rewrite x y nb) (One v m r d l) p q e = absurd (other_first _ _ e (omega arith))
-one_row g (Rewrite x y nb) (Sim v m r d f ve l t nc ls) p q e = absurd (other_first _ _ e (omega arith))
+one_row g (Rewrite x y nb) (Sim v m r d f ve l t nc ls pn) p q e = absurd (other_first _ _ e (omega arith))
 one_row g (Run x n b u c ve k s nb) (Rewrite v w nc) p q e = absurd (other_second _ _ e (omega arith))
 one_row g (Run x n b u c ve k s nb) (Listing v) p q e = absurd (other_first _ _ e (omega arith))
 one_row g (Run x n b u c ve k s nb) (One v m r d l) p q e = absurd (other_first _ _ e (omega arith))
-one_row g (Run x n b u c ve k s nb) (Sim v m r d f vf l t nc ls) p q e = absurd (other_first _ _ e (omega arith))
+one_row g (Run x n b u c ve k s nb) (Sim v m r d f vf l t nc ls pn) p q e = absurd (other_first _ _ e (omega arith))
 one_row g (Listing x) (Rewrite v w nb) p q e = absurd (other_first _ _ e (omega arith))
 one_row g (Listing x) (Run v m r z d ve l t nb) p q e = absurd (other_first _ _ e (omega arith))
 one_row g (Listing x) (One v m r d l) p q e = absurd (other_first _ _ e (omega arith))
-one_row g (Listing x) (Sim v m r d f ve l t nb ls) p q e = absurd (other_first _ _ e (omega arith))
+one_row g (Listing x) (Sim v m r d f ve l t nb ls pn) p q e = absurd (other_first _ _ e (omega arith))
 one_row g (One x n o b k) (Rewrite v w nb) p q e = absurd (other_first _ _ e (omega arith))
 one_row g (One x n o b k) (Run v m r z d ve l t nb) p q e = absurd (other_first _ _ e (omega arith))
 one_row g (One x n o b k) (Listing v) p q e = absurd (other_first _ _ e (omega arith))
-one_row g (One x n o b k) (Sim v m r d f ve l t nb ls) p q e = absurd (other_first _ _ e (omega arith))
-one_row g (Sim x n o b c ve k s nb ls) (Rewrite v w nc) p q e = absurd (other_first _ _ e (omega arith))
-one_row g (Sim x n o b c ve k s nb ls) (Run v m r z d vf l t nc) p q e = absurd (other_first _ _ e (omega arith))
-one_row g (Sim x n o b c ve k s nb ls) (Listing v) p q e = absurd (other_first _ _ e (omega arith))
-one_row g (Sim x n o b c ve k s nb ls) (One v m r d l) p q e = absurd (other_first _ _ e (omega arith))
+one_row g (One x n o b k) (Sim v m r d f ve l t nb ls pn) p q e = absurd (other_first _ _ e (omega arith))
+one_row g (Sim x n o b c ve k s nb ls pn) (Rewrite v w nc) p q e = absurd (other_first _ _ e (omega arith))
+one_row g (Sim x n o b c ve k s nb ls pn) (Run v m r z d vf l t nc) p q e = absurd (other_first _ _ e (omega arith))
+one_row g (Sim x n o b c ve k s nb ls pn) (Listing v) p q e = absurd (other_first _ _ e (omega arith))
+one_row g (Sim x n o b c ve k s nb ls pn) (One v m r d l) p q e = absurd (other_first _ _ e (omega arith))
 one_row g (Rewrite x y nb) (Replay v ve w t) p q e = absurd (other_third _ _ e (omega arith))
 one_row g (Rewrite x y nb) (Generate m w) p q e = absurd (other_first _ _ e (omega arith))
 one_row g (Run x n b u c ve k s nb) (Replay v vf w t) p q e = absurd (other_second _ _ e (omega arith))
@@ -525,19 +537,19 @@ one_row g (Listing x) (Replay v ve w t) p q e = absurd (other_first _ _ e (omega
 one_row g (Listing x) (Generate m w) p q e = absurd (other_first _ _ e (omega arith))
 one_row g (One x n o b k) (Replay v ve w t) p q e = absurd (other_first _ _ e (omega arith))
 one_row g (One x n o b k) (Generate m w) p q e = absurd (other_first _ _ e (omega arith))
-one_row g (Sim x n o b c ve k s nb ls) (Replay v vf w t) p q e = absurd (other_first _ _ e (omega arith))
-one_row g (Sim x n o b c ve k s nb ls) (Generate m w) p q e = absurd (other_first _ _ e (omega arith))
+one_row g (Sim x n o b c ve k s nb ls pn) (Replay v vf w t) p q e = absurd (other_first _ _ e (omega arith))
+one_row g (Sim x n o b c ve k s nb ls pn) (Generate m w) p q e = absurd (other_first _ _ e (omega arith))
 one_row g (Replay x ve u s) (Rewrite v w nb) p q e = absurd (other_third _ _ e (omega arith))
 one_row g (Replay x ve u s) (Run v m r z d vf l t nb) p q e = absurd (other_second _ _ e (omega arith))
 one_row g (Replay x ve u s) (Listing v) p q e = absurd (other_first _ _ e (omega arith))
 one_row g (Replay x ve u s) (One v m r d l) p q e = absurd (other_first _ _ e (omega arith))
-one_row g (Replay x ve u s) (Sim v m r d f vf l t nb ls) p q e = absurd (other_first _ _ e (omega arith))
+one_row g (Replay x ve u s) (Sim v m r d f vf l t nb ls pn) p q e = absurd (other_first _ _ e (omega arith))
 one_row g (Replay x ve u s) (Generate m w) p q e = absurd (other_first _ _ e (omega arith))
 one_row g (Generate n y) (Rewrite v w nb) p q e = absurd (other_first _ _ e (omega arith))
 one_row g (Generate n y) (Run v m r z d ve l t nb) p q e = absurd (other_first _ _ e (omega arith))
 one_row g (Generate n y) (Listing v) p q e = absurd (other_first _ _ e (omega arith))
 one_row g (Generate n y) (One v m r d l) p q e = absurd (other_first _ _ e (omega arith))
-one_row g (Generate n y) (Sim v m r d f ve l t nb ls) p q e = absurd (other_first _ _ e (omega arith))
+one_row g (Generate n y) (Sim v m r d f ve l t nb ls pn) p q e = absurd (other_first _ _ e (omega arith))
 one_row g (Generate n y) (Replay v ve w t) p q e = absurd (other_first _ _ e (omega arith))
 one_row g (Assemble x y) (Assemble v w) p q e =
     let files = same_files Write x y v w _ p.places q.places in
@@ -550,8 +562,8 @@ one_row g (Listing f) (Assemble v' w') p q e = absurd (other_first _ _ e (omega 
 one_row g (Assemble v' w') (Listing f) p q e = absurd (other_first _ _ e (omega arith))
 one_row g (One f n o b l) (Assemble v' w') p q e = absurd (other_first _ _ e (omega arith))
 one_row g (Assemble v' w') (One f n o b l) p q e = absurd (other_first _ _ e (omega arith))
-one_row g (Sim f n o b k ve l t nb ls) (Assemble v' w') p q e = absurd (other_first _ _ e (omega arith))
-one_row g (Assemble v' w') (Sim f n o b k ve l t nb ls) p q e = absurd (other_first _ _ e (omega arith))
+one_row g (Sim f n o b k ve l t nb ls pn) (Assemble v' w') p q e = absurd (other_first _ _ e (omega arith))
+one_row g (Assemble v' w') (Sim f n o b k ve l t nb ls pn) p q e = absurd (other_first _ _ e (omega arith))
 one_row g (Replay f ve w t) (Assemble v' w') p q e = absurd (other_first _ _ e (omega arith))
 one_row g (Assemble v' w') (Replay f ve w t) p q e = absurd (other_first _ _ e (omega arith))
 one_row g (Generate n y) (Assemble v' w') p q e = absurd (other_first _ _ e (omega arith))
@@ -595,7 +607,7 @@ command_word (Rewrite x y nb) = word.Rewrite
 command_word (Run f n b w k ve l t nb) = word.Run
 command_word (Listing f) = word.List
 command_word (One f n o b l) = word.One
-command_word (Sim f n o b k ve l t nb ls) = word.Sim
+command_word (Sim f n o b k ve l t nb ls pn) = word.Sim
 command_word (Replay f ve w t) = word.Replay
 command_word (Generate n y) = word.Generate
 command_word (Assemble x y) = word.Assemble
@@ -606,7 +618,7 @@ word_is (Rewrite x y nb) = refl
 word_is (Run f n b w k ve l t nb) = refl
 word_is (Listing f) = refl
 word_is (One f n o b l) = refl
-word_is (Sim f n o b k ve l t nb ls) = refl
+word_is (Sim f n o b k ve l t nb ls pn) = refl
 word_is (Replay f ve w t) = refl
 word_is (Generate n y) = refl
 word_is (Assemble x y) = refl
@@ -617,26 +629,26 @@ word_settings word.Rewrite (Rewrite x y nb) e = refl
 word_settings word.Run (Run f n b w k ve l t nb) e = refl
 word_settings word.List (Listing f) e = refl
 word_settings word.One (One f n o b l) e = refl
-word_settings word.Sim (Sim f n o b k ve l t nb ls) e = refl
+word_settings word.Sim (Sim f n o b k ve l t nb ls pn) e = refl
 word_settings word.Replay (Replay f ve w t) e = refl
 word_settings word.Generate (Generate n y) e = refl
 word_settings word.Assemble (Assemble x y) e = refl
 word_settings word.Rewrite (Run f n b w k ve l t nb) e = absurd (other_second _ _ e (omega arith))
 word_settings word.Rewrite (Listing f) e = absurd (other_first _ _ e (omega arith))
 word_settings word.Rewrite (One f n o b l) e = absurd (other_first _ _ e (omega arith))
-word_settings word.Rewrite (Sim f n o b k ve l t nb ls) e = absurd (other_first _ _ e (omega arith))
+word_settings word.Rewrite (Sim f n o b k ve l t nb ls pn) e = absurd (other_first _ _ e (omega arith))
 word_settings word.Run (Rewrite x y nb) e = absurd (other_second _ _ e (omega arith))
 word_settings word.Run (Listing f) e = absurd (other_first _ _ e (omega arith))
 word_settings word.Run (One f n o b l) e = absurd (other_first _ _ e (omega arith))
-word_settings word.Run (Sim f n o b k ve l t nb ls) e = absurd (other_first _ _ e (omega arith))
+word_settings word.Run (Sim f n o b k ve l t nb ls pn) e = absurd (other_first _ _ e (omega arith))
 word_settings word.List (Rewrite x y nb) e = absurd (other_first _ _ e (omega arith))
 word_settings word.List (Run f n b w k ve l t nb) e = absurd (other_first _ _ e (omega arith))
 word_settings word.List (One f n o b l) e = absurd (other_first _ _ e (omega arith))
-word_settings word.List (Sim f n o b k ve l t nb ls) e = absurd (other_first _ _ e (omega arith))
+word_settings word.List (Sim f n o b k ve l t nb ls pn) e = absurd (other_first _ _ e (omega arith))
 word_settings word.One (Rewrite x y nb) e = absurd (other_first _ _ e (omega arith))
 word_settings word.One (Run f n b w k ve l t nb) e = absurd (other_first _ _ e (omega arith))
 word_settings word.One (Listing f) e = absurd (other_first _ _ e (omega arith))
-word_settings word.One (Sim f n o b k ve l t nb ls) e = absurd (other_first _ _ e (omega arith))
+word_settings word.One (Sim f n o b k ve l t nb ls pn) e = absurd (other_first _ _ e (omega arith))
 word_settings word.Sim (Rewrite x y nb) e = absurd (other_first _ _ e (omega arith))
 word_settings word.Sim (Run f n b w k ve l t nb) e = absurd (other_first _ _ e (omega arith))
 word_settings word.Sim (Listing f) e = absurd (other_first _ _ e (omega arith))
@@ -655,13 +667,13 @@ word_settings word.Replay (Rewrite x y nb) e = absurd (other_third _ _ e (omega 
 word_settings word.Replay (Run f n b w k ve l t nb) e = absurd (other_second _ _ e (omega arith))
 word_settings word.Replay (Listing f) e = absurd (other_first _ _ e (omega arith))
 word_settings word.Replay (One f n o b l) e = absurd (other_first _ _ e (omega arith))
-word_settings word.Replay (Sim f n o b k ve l t nb ls) e = absurd (other_first _ _ e (omega arith))
+word_settings word.Replay (Sim f n o b k ve l t nb ls pn) e = absurd (other_first _ _ e (omega arith))
 word_settings word.Replay (Generate n y) e = absurd (other_first _ _ e (omega arith))
 word_settings word.Generate (Rewrite x y nb) e = absurd (other_first _ _ e (omega arith))
 word_settings word.Generate (Run f n b w k ve l t nb) e = absurd (other_first _ _ e (omega arith))
 word_settings word.Generate (Listing f) e = absurd (other_first _ _ e (omega arith))
 word_settings word.Generate (One f n o b l) e = absurd (other_first _ _ e (omega arith))
-word_settings word.Generate (Sim f n o b k ve l t nb ls) e = absurd (other_first _ _ e (omega arith))
+word_settings word.Generate (Sim f n o b k ve l t nb ls pn) e = absurd (other_first _ _ e (omega arith))
 word_settings word.Generate (Replay f ve w t) e = absurd (other_first _ _ e (omega arith))
 word_settings word.Rewrite (Assemble x y) e = absurd (other_first _ _ e (omega arith))
 word_settings word.Assemble (Rewrite x y nb) e = absurd (other_first _ _ e (omega arith))
@@ -672,7 +684,7 @@ word_settings word.Assemble (Listing f) e = absurd (other_first _ _ e (omega ari
 word_settings word.One (Assemble x y) e = absurd (other_first _ _ e (omega arith))
 word_settings word.Assemble (One f n o b l) e = absurd (other_first _ _ e (omega arith))
 word_settings word.Sim (Assemble x y) e = absurd (other_first _ _ e (omega arith))
-word_settings word.Assemble (Sim f n o b k ve l t nb ls) e = absurd (other_first _ _ e (omega arith))
+word_settings word.Assemble (Sim f n o b k ve l t nb ls pn) e = absurd (other_first _ _ e (omega arith))
 word_settings word.Replay (Assemble x y) e = absurd (other_first _ _ e (omega arith))
 word_settings word.Assemble (Replay f ve w t) e = absurd (other_first _ _ e (omega arith))
 word_settings word.Generate (Assemble x y) e = absurd (other_first _ _ e (omega arith))

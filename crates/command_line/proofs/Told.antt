@@ -10,7 +10,7 @@ use Rattle.clap.specs.Kinds.{or_else}
 use Rattle.clap.specs.Takes.{is_given}
 use Rattle.clap.specs.Faults.{is_simple_and_free, is_free_app, defaults_fault, default_fault, given_default_fault, check_fault}
 use Rattle.command_line.specs.declared.table.Setting.{Setting}
-use Rattle.command_line.specs.declared.table.Setting.TheVariants.{Nodes, Order, Budget, Layout, Code, Verify, Record, Brief, NoBatch, Loss, From, To, Block, Node}
+use Rattle.command_line.specs.declared.table.Setting.TheVariants.{Nodes, Order, Budget, Layout, Code, Verify, Record, Brief, NoBatch, Loss, PerNode, From, To, Block, Node}
 use Rattle.command_line.specs.Commands.{option_word, kind_of}
 use Rattle.command_line.specs.Asks.{option_of, HasOption, takes_value}
 use Rattle.command_line.specs.Reading.{name_of, rule_for, rule_by, operand_rule, app_for}
@@ -157,6 +157,7 @@ no_operand Record = refl
 no_operand Brief = refl
 no_operand NoBatch = refl
 no_operand Loss = refl
+no_operand PerNode = refl
 no_operand From = refl
 no_operand To = refl
 no_operand Block = refl

@@ -12,7 +12,7 @@ use Rattle.clap.specs.declared.error.kind.ErrorKind.{ErrorKind}
 use Rattle.clap.specs.declared.error.kind.ErrorKind.TheVariants.{UnknownArgument, TooManyValues, InvalidValue}
 use Rattle.clap.specs.Faults.{walk_fault, turn_fault, settle_fault}
 use Rattle.command_line.specs.declared.table.Setting.{Setting}
-use Rattle.command_line.specs.declared.table.Setting.TheVariants.{Nodes, Order, Budget, Layout, Code, Verify, Record, Brief, NoBatch, Loss, From, To, Block, Node}
+use Rattle.command_line.specs.declared.table.Setting.TheVariants.{Nodes, Order, Budget, Layout, Code, Verify, Record, Brief, NoBatch, Loss, PerNode, From, To, Block, Node}
 use Rattle.command_line.specs.Commands.{option_word, kind_of}
 use Rattle.command_line.specs.Asks.{Argument, Operand, Apart, Joined, Bare, words_of, IsPlain, IsArgument, AreArguments, option_of, HasOption, takes_value}
 use Rattle.command_line.specs.Reading.{name_of, IsCut, IsLong, IsReadable, AreReadable}
@@ -71,6 +71,7 @@ long_joined Record v = record { dashes = refl; long = refl }
 long_joined Brief v = record { dashes = refl; long = refl }
 long_joined NoBatch v = record { dashes = refl; long = refl }
 long_joined Loss v = record { dashes = refl; long = refl }
+long_joined PerNode v = record { dashes = refl; long = refl }
 long_joined From v = record { dashes = refl; long = refl }
 long_joined To v = record { dashes = refl; long = refl }
 long_joined Block v = record { dashes = refl; long = refl }
@@ -87,6 +88,7 @@ long_alone Record = record { dashes = refl; long = refl }
 long_alone Brief = record { dashes = refl; long = refl }
 long_alone NoBatch = record { dashes = refl; long = refl }
 long_alone Loss = record { dashes = refl; long = refl }
+long_alone PerNode = record { dashes = refl; long = refl }
 long_alone From = record { dashes = refl; long = refl }
 long_alone To = record { dashes = refl; long = refl }
 long_alone Block = record { dashes = refl; long = refl }

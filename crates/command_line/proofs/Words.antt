@@ -4,7 +4,7 @@ use Rattle.std.specs.List.{list_any, position_or_len, before_first, after_first}
 use Rattle.std.proofs.lemmas.List.Sums.{passes_at_first, split_at_first}
 use Rattle.std.proofs.lemmas.Slice.Eq.{bytes_eq-Decides}
 use Rattle.command_line.specs.declared.table.Setting.{Setting}
-use Rattle.command_line.specs.declared.table.Setting.TheVariants.{Nodes, Order, Budget, Layout, Code, Verify, Record, Brief, NoBatch, Loss, From, To, Block, Node}
+use Rattle.command_line.specs.declared.table.Setting.TheVariants.{Nodes, Order, Budget, Layout, Code, Verify, Record, Brief, NoBatch, Loss, PerNode, From, To, Block, Node}
 use Rattle.command_line.specs.Commands.{option_word, kind_of}
 use Rattle.command_line.specs.Asks.{option_of, HasOption, IsPlain, takes_value}
 use Rattle.command_line.specs.Reading.{name_of}
@@ -24,6 +24,7 @@ dashed Record = refl
 dashed Brief = refl
 dashed NoBatch = refl
 dashed Loss = refl
+dashed PerNode = refl
 dashed From = refl
 dashed To = refl
 dashed Block = refl
@@ -40,6 +41,7 @@ no_equals Record = refl
 no_equals Brief = refl
 no_equals NoBatch = refl
 no_equals Loss = refl
+no_equals PerNode = refl
 no_equals From = refl
 no_equals To = refl
 no_equals Block = refl
@@ -56,6 +58,7 @@ dash_first Record v = refl
 dash_first Brief v = refl
 dash_first NoBatch v = refl
 dash_first Loss v = refl
+dash_first PerNode v = refl
 dash_first From v = refl
 dash_first To v = refl
 dash_first Block v = refl
@@ -72,6 +75,7 @@ not_plain Record w e p = p.no_dash (ap (λ x. slice_index x 0) e)
 not_plain Brief w e p = p.no_dash (ap (λ x. slice_index x 0) e)
 not_plain NoBatch w e p = p.no_dash (ap (λ x. slice_index x 0) e)
 not_plain Loss w e p = p.no_dash (ap (λ x. slice_index x 0) e)
+not_plain PerNode w e p = p.no_dash (ap (λ x. slice_index x 0) e)
 not_plain From w e p = p.no_dash (ap (λ x. slice_index x 0) e)
 not_plain To w e p = p.no_dash (ap (λ x. slice_index x 0) e)
 not_plain Block w e p = p.no_dash (ap (λ x. slice_index x 0) e)

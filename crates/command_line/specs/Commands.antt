@@ -1,13 +1,13 @@
 -- The commands of the program, in one table: of each its word, what stands in its places, and its
 -- options. The options are those of the viewer's views too.
-use Rattle.std.specs.Prelude.{◌≡◌, ℕ, ◌-◌, ◌^◌, Bool, true, false, not, IsTrue, List, [], ◌∷◌, ◌++◌, Option, None, Some, codes}
+use Rattle.std.specs.Prelude.{◌≡◌, ℕ, ◌-◌, ◌*◌, ◌^◌, ◌≤◌, Bool, true, false, not, IsTrue, List, [], ◌∷◌, ◌++◌, Option, None, Some, codes}
 use Rattle.std.specs.List.{flat_map}
 use Rattle.command_line.specs.declared.table.Access.{Access}
 use Rattle.command_line.specs.declared.table.Access.TheVariants.{Read, Write}
 use Rattle.command_line.specs.declared.table.Kind.{Kind}
 use Rattle.command_line.specs.declared.table.Kind.TheVariants.{Number, MaybeNumber, MaybeAddress, File, Flag}
 use Rattle.command_line.specs.declared.table.Setting.{Setting}
-use Rattle.command_line.specs.declared.table.Setting.TheVariants.{Nodes, Order, Budget, Layout, Code, Verify, Record, Brief, NoBatch, Loss, From, To, Block, Node}
+use Rattle.command_line.specs.declared.table.Setting.TheVariants.{Nodes, Order, Budget, Layout, Code, Verify, Record, Brief, NoBatch, Loss, PerNode, From, To, Block, Node}
 
 pub data Command : Type 0 where
   -- write the rewritten executable of the one in a file into another, without batches where these
@@ -27,9 +27,10 @@ pub data Command : Type 0 where
   One : (file : List ℕ) (nodes order budget : ℕ) (layout : Option (List ℕ)) → Command
   -- run so many nodes of the rewritten code by the order of a number, at most so many words of each
   -- processor; the code, the blocks and the text are as of a run; where a loss is given, over links
-  -- that lose packets, by the order of its number
+  -- that lose packets, by the order of its number; where lanes are, with so many processors on each
+  -- node
   Sim : (file : List ℕ) (nodes order budget : ℕ) (code verified layout : Option (List ℕ))
-      (brief no_batch : Bool) (loss : Option ℕ) → Command
+      (brief no_batch : Bool) (loss lanes : Option ℕ) → Command
   -- make the run of a record once more: a file holds the executable, and another the record; a
   -- verified file and the text are as of a run
   Replay : (file : List ℕ) (verified : Option (List ℕ)) (record_file : List ℕ) (brief : Bool)
@@ -51,6 +52,7 @@ option_word Record = codes "--record"
 option_word Brief = codes "--brief"
 option_word NoBatch = codes "--no-batch"
 option_word Loss = codes "--loss"
+option_word PerNode = codes "--per-node"
 option_word From = codes "--from"
 option_word To = codes "--to"
 option_word Block = codes "--block"
@@ -68,6 +70,7 @@ kind_of Record = File Write
 kind_of Brief = Flag
 kind_of NoBatch = Flag
 kind_of Loss = MaybeNumber 0 (2 ^ 32 - 1)
+kind_of PerNode = MaybeNumber 2 4
 kind_of From = MaybeNumber 0 (2 ^ 56 - 1)
 kind_of To = MaybeNumber 0 (2 ^ 56 - 1)
 kind_of Block = MaybeAddress
@@ -127,14 +130,14 @@ row_of (One file nodes order budget layout) = record {
       (Nodes, Amount nodes) ∷ (Order, Amount order) ∷ (Budget, Amount budget)
       ∷ (Layout, name_or_none layout) ∷ [];
 }
-row_of (Sim file nodes order budget code verified layout brief no_batch loss) = record {
+row_of (Sim file nodes order budget code verified layout brief no_batch loss lanes) = record {
   word = codes "sim";
   places = (Named Read, Name file) ∷ [];
   options =
       (Nodes, Amount nodes) ∷ (Order, Amount order) ∷ (Budget, Amount budget)
       ∷ (Code, name_or_none code) ∷ (Verify, name_or_none verified)
       ∷ (Layout, name_or_none layout) ∷ (Brief, Switch brief) ∷ (NoBatch, Switch no_batch)
-      ∷ (Loss, MaybeAmount loss) ∷ [];
+      ∷ (Loss, MaybeAmount loss) ∷ (PerNode, MaybeAmount lanes) ∷ [];
 }
 row_of (Replay file verified record_file brief) = record {
   word = codes "replay";
@@ -164,12 +167,19 @@ is_alone None code no_batch = true
 is_alone (Some file) None no_batch = not no_batch
 is_alone (Some file) (Some other) no_batch = false
 
+-- whether nodes may have so many processors each: only over links that lose nothing, and at most 16
+-- together
+abbrev pub AreFew : (nodes : ℕ) → (loss lanes : Option ℕ) → Type 0
+AreFew nodes loss None = Unit {0}
+AreFew nodes None (Some lanes) = nodes * lanes ≤ 16
+AreFew nodes (Some loss) (Some lanes) = ⊥
+
 -- a command lacks nothing, and has nothing too much
 abbrev pub IsFit : Command → Type 0
 IsFit (Run file nodes budget record_file code verified layout brief no_batch) =
     IsKept record_file nodes × IsTrue (is_alone verified code no_batch)
-IsFit (Sim file nodes order budget code verified layout brief no_batch loss) =
-    IsTrue (is_alone verified code no_batch)
+IsFit (Sim file nodes order budget code verified layout brief no_batch loss lanes) =
+    IsTrue (is_alone verified code no_batch) × AreFew nodes loss lanes
 IsFit command = Unit {0}
 
 -- the options that a command has

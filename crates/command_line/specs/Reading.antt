@@ -7,7 +7,7 @@ use Rattle.clap.specs.declared.parser.matches.ArgMatches.{ArgMatches}
 use Rattle.clap.specs.Words.{App, Rule, all_of, found_of, new_rule, rows_of}
 use Rattle.clap.specs.Simple.{new_shape}
 use Rattle.command_line.specs.declared.table.Setting.{Setting}
-use Rattle.command_line.specs.declared.table.Setting.TheVariants.{Nodes, Order, Budget, Layout, Code, Verify, Record, Brief, NoBatch, Loss}
+use Rattle.command_line.specs.declared.table.Setting.TheVariants.{Nodes, Order, Budget, Layout, Code, Verify, Record, Brief, NoBatch, Loss, PerNode}
 use Rattle.command_line.specs.declared.table.CommandWord.{CommandWord}
 use Rattle.command_line.specs.declared.table.CommandWord.TheVariants as word
 use Rattle.command_line.specs.declared.table.Role.{Role}
@@ -35,7 +35,7 @@ settings_of word.Run =
 settings_of word.List = []
 settings_of word.One = Nodes ∷ Order ∷ Budget ∷ Layout ∷ []
 settings_of word.Sim =
-    Nodes ∷ Order ∷ Budget ∷ Code ∷ Verify ∷ Layout ∷ Brief ∷ NoBatch ∷ Loss ∷ []
+    Nodes ∷ Order ∷ Budget ∷ Code ∷ Verify ∷ Layout ∷ Brief ∷ NoBatch ∷ Loss ∷ PerNode ∷ []
 settings_of word.Replay = Verify ∷ Brief ∷ []
 settings_of word.Generate = []
 settings_of word.Assemble = []

@@ -4,9 +4,9 @@
 ghost use Rattle.std.specs.Prelude.{◌≡◌, ℕ, ◌-◌, ◌^◌, Bool, List, [], ◌∷◌, codes, Option};
 ghost use Rattle.std.specs.Prelude.{option_map, IfOk, MatchOption};
 ghost use Rattle.command_line.specs.Commands as model;
-ghost use Rattle.command_line.specs.Commands.{is_alone};
+ghost use Rattle.command_line.specs.Commands.{AreFew, is_alone};
 ghost use Rattle.command_line.specs.Asks.{Asks, IsNumber};
-ghost use Rattle.command_line.specs.Meaning.{file_name, meaning_of};
+ghost use Rattle.command_line.specs.Meaning.{file_name, lanes_of, loss_of, meaning_of};
 ghost use Rattle.command_line.specs.Reading.{Completes, SaysFlag, SaysMaybe, SaysName};
 ghost use Rattle.command_line.specs.Reading.{SaysNumber, given_by, text_of};
 
@@ -14,7 +14,7 @@ use clap::ArgMatches;
 use dsm_io::Text;
 use number::number_of;
 use parsing::{Given, arguments_in, given_for};
-use run_limits::{Budget, NodeCount};
+use run_limits::{Budget, LaneCount, NodeCount};
 use std::alloc::{AllocError, Global};
 use table::{CommandWord, Kind, Role, Setting};
 
@@ -67,8 +67,8 @@ pub enum Command<'a> {
         layout: Option<&'a str>,
     },
     /// Run `nodes` nodes of its rewritten code by the order of a number, at most `budget` words of
-    /// each processor. The code, the blocks and the text are as of `Run`. Where there is a `loss`,
-    /// the links between the nodes lose packets, by the order of its number.
+    /// each processor. The code, the blocks and the text are as of `Run`. The `machine` says what
+    /// the nodes, and the links between them, are like.
     Sim {
         file: &'a str,
         nodes: NodeCount,
@@ -79,7 +79,7 @@ pub enum Command<'a> {
         layout: Option<&'a str>,
         brief: bool,
         no_batch: bool,
-        loss: Option<u32>,
+        machine: Machine,
     },
     /// Make the run of the record in the file `record_file` once more, of the executable in `file`.
     /// A verified file and the text are as of `Run`.
@@ -99,6 +99,18 @@ pub enum Command<'a> {
         text: &'a str,
         output: &'a str,
     },
+}
+
+/// What the nodes of a run by an order, and the links between them, are like.
+#[derive(Clone, Copy, Debug, PartialEq, Eq)]
+pub enum Machine {
+    /// Each node is one processor, and the links lose nothing.
+    Plain,
+    /// Each node is one processor, and the links lose packets, by the order of a number.
+    Lossy(u32),
+    /// Each node has so many processors, at most 16 with those of the other nodes; and the links
+    /// lose nothing.
+    Lanes(LaneCount),
 }
 
 /// The one operand, the name of a file.
@@ -235,6 +247,41 @@ fn loss_in(matches: &ArgMatches<'_>) -> Option<Option<u32>>
     }
 }
 
+/// How many processors each node has. None in it where each is one processor.
+fn lanes_in(matches: &ArgMatches<'_>) -> Option<Option<LaneCount>>
+    ensures { MatchOption result
+        ((n : Option ℕ) → SaysMaybe (given_by matches.now) Setting.PerNode n → ⊥)
+        (λ l. SaysMaybe (given_by matches.now) Setting.PerNode l) }
+{
+    match maybe_number_in(matches, Setting::PerNode)? {
+        None => Some(None),
+        Some(number) => {
+            let lanes = LaneCount::of(number)?;
+            Some(Some(lanes))
+        }
+    }
+}
+
+/// The machine of so many nodes with this loss and so many processors each, where there is one.
+fn machine_of(nodes: NodeCount, loss: Option<u32>, lanes: Option<LaneCount>) -> Option<Machine>
+    ensures { MatchOption result (AreFew nodes loss lanes → ⊥) (λ m. AreFew nodes loss lanes
+        × (loss_of m ≡ loss) × (lanes_of m ≡ lanes)) }
+{
+    match lanes {
+        None => match loss {
+            None => Some(Machine::Plain),
+            Some(loss) => Some(Machine::Lossy(loss)),
+        },
+        Some(lanes) => {
+            if loss.is_none() && lanes.on(nodes) <= 16 {
+                Some(Machine::Lanes(lanes))
+            } else {
+                None
+            }
+        }
+    }
+}
+
 /// Whether a flag is there.
 fn flag_in(matches: &ArgMatches<'_>, setting: Setting) -> Option<bool>
     requires flag { model.kind_of setting ≡ Kind.Flag }
@@ -358,6 +405,8 @@ fn sim_of<'a>(matches: &ArgMatches<'a>) -> Option<Command<'a>>
     let brief = flag_in(matches, Setting::Brief)?;
     let no_batch = flag_in(matches, Setting::NoBatch)?;
     let loss = loss_in(matches)?;
+    let lanes = lanes_in(matches)?;
+    let machine = machine_of(nodes, loss, lanes)?;
     if !is_alone(verified, code, no_batch) {
         return None;
     }
@@ -371,7 +420,7 @@ fn sim_of<'a>(matches: &ArgMatches<'a>) -> Option<Command<'a>>
         layout,
         brief,
         no_batch,
-        loss,
+        machine,
     })
 }
 

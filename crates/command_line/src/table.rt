@@ -41,6 +41,7 @@ pub(crate) enum Setting {
     Brief,
     NoBatch,
     Loss,
+    PerNode,
     From,
     To,
     Block,
@@ -133,6 +134,7 @@ impl CommandWord {
                 Setting::Brief,
                 Setting::NoBatch,
                 Setting::Loss,
+                Setting::PerNode,
             ],
         }
     }
@@ -184,6 +186,7 @@ impl Setting {
             Setting::Brief => "brief",
             Setting::NoBatch => "no-batch",
             Setting::Loss => "loss",
+            Setting::PerNode => "per-node",
             Setting::From => "from",
             Setting::To => "to",
             Setting::Block => "block",
@@ -218,6 +221,7 @@ impl Setting {
                 low: 0,
                 high: u32::MAX as u64,
             },
+            Setting::PerNode => Kind::MaybeNumber { low: 2, high: 4 },
             Setting::From | Setting::To => Kind::MaybeNumber {
                 low: 0,
                 high: (1 << 56) - 1,

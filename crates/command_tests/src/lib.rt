@@ -16,6 +16,8 @@ mod far;
 #[cfg(test)]
 mod instructions;
 #[cfg(test)]
+mod lanes;
+#[cfg(test)]
 mod layouts;
 #[cfg(test)]
 mod losses;

@@ -44,7 +44,7 @@ is_low (Run file nodes budget record_file code verified layout brief no_batch) f
     subst (λ s. s ≤ 1) (sym h.status_is) (low_status _)
 is_low (One file nodes order budget layout) files inputs text status h =
     subst (λ s. s ≤ 1) (sym h.status_is) (low_status _)
-is_low (Sim file nodes order budget code verified layout brief no_batch loss) files inputs text status h =
+is_low (Sim file nodes order budget code verified layout brief no_batch loss lanes) files inputs text status h =
     subst (λ s. s ≤ 1) (sym h.status_is) (low_status _)
 is_low (Listing file) files inputs text status h = let zero = h.1 in omega (arith, zero)
 is_low (Replay file verified record_file brief) files inputs text status h =

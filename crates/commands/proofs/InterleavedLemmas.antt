@@ -1,5 +1,5 @@
 -- A whole run of nodes is an interleaved run of the original.
-use Rattle.std.proofs.Common.{◌≡◌, ℕ, zero, suc, ◌+◌, ◌<◌, ◌≤◌, ◌&&◌, not, Bool, true, false, List, [], ◌∷◌, ◌++◌, length, map, get_or, Option, Some, None, refl, sym, ap, ◌∙◌, subst, inl, inr, arith}
+use Rattle.std.proofs.Common.{◌≡◌, ℕ, zero, suc, ◌+◌, ◌*◌, ◌<◌, ◌≤◌, ◌&&◌, not, Bool, true, false, List, [], ◌∷◌, ◌++◌, length, map, get_or, Option, Some, None, refl, sym, ap, ◌∙◌, subst, inl, inr, arith}
 use Rattle.std.specs.Prelude.{is_some, nat_lt}
 use Rattle.std.specs.List.{filter, range_with_len}
 use Rattle.std.proofs.Math.Nat.{mod-lt}
@@ -21,6 +21,10 @@ use Rattle.node_model.specs.Outcome.{Outcome}
 use Rattle.run_order.specs.OwnRun.{Stamped, run_of}
 use Rattle.rewriting_law.specs.CoreRun.{picks_of}
 use Rattle.rewriting_law.specs.Interleaving.{EndsAs, original_by_node, original_after}
+use Rattle.lane_model.specs.Nodes.{LaneWork, processors}
+use Rattle.lane_model.specs.Core.{LaneEvent, opening_core as opening_lanes, after as after_lanes}
+use Rattle.lane_law.specs.Law.{original_by_lane, phase_of, original_after as lanes_after}
+use Rattle.lane_law.specs.Picks.{picks_of as picks_of_lanes}
 use Rattle.dsm_io.specs.States.{FilesState, SinkState}
 use Rattle.command_line.specs.Commands.{Command, Rewrite, Run, Listing, One, Sim, Replay, Generate, Assemble}
 use Rattle.commands.specs.Headline.{IsOutcomeByOrder, IsText, Prints}
@@ -30,6 +34,7 @@ use Rattle.judged_files.specs.Inputs.{Inputs}
 use Rattle.commands.specs.Inputs.{inputs_of}
 use Rattle.commands.specs.Interleaved.{IsInterleaved, IsLayoutGiven, IsSomeLayout, IsTextOfOriginal, PrintsOriginal, TellsOfOriginal}
 use Rattle.judged_files.specs.WholeRuns.{IsRunOfCode, IsWholeRun}
+use Rattle.commands.specs.LaneRuns.{IsLaneRunOf, IsWholeLaneRun}
 use Rattle.commands.specs.Outcomes.{told}
 use Rattle.commands.specs.Processors.{outcome_head}
 use Rattle.commands.specs.Text.{outcome_tail, text_of}
@@ -128,6 +133,41 @@ of_run inputs nodes budget work own o brief text h is =
     of_code (choice_of inputs.batches inputs.verified) inputs.executable h.elf h.plan work own o
     (IsLayoutGiven inputs nodes) nodes budget brief text h.of_code h.laid_out h.count h.limit is
 
+-- ---- nodes of several processors
+
+-- a whole run of them is, by its picks, an interleaved run
+of_whole_lanes : (w : LaneWork) (plan : List PlanEntry) (events : List LaneEvent) (o : Outcome)
+    → IsWholeLaneRun w plan events o → IsInterleaved (original_by_lane w) w.work.budget o.output o.ends
+of_whole_lanes w plan events o whole = record {
+  picks = picks_of_lanes w plan (opening_lanes w) events;
+  allowed = whole.original.allowed;
+  output_is = whole.output;
+  ends_are = ends_from w.work.budget (λ p. ((lanes_after w plan events).processors p).exit)
+      (λ p. phase_of w (after_lanes w (opening_lanes w) events) p) 0 (processors w) o.ends
+      (λ p low high. whole.original.ends p (omega (arith, high))) whole.ends;
+}
+
+of_lane_run : (inputs : Inputs) (nodes lanes budget : ℕ) (w : LaneWork) (events : List LaneEvent)
+    (o : Outcome) (brief : Bool) (text : List ℕ)
+    → IsLaneRunOf inputs nodes lanes budget w events o → text ≡ text_of (told brief o)
+    → TellsOfOriginal inputs.executable (IsLayoutGiven inputs nodes) (nodes * lanes) budget text
+of_lane_run inputs nodes lanes budget w events o brief text h is =
+    let many : processors w ≡ nodes * lanes =
+    ap (λ n. n * w.lanes) h.asked.count ∙ ap (λ m. nodes * m) h.lanes_are in
+    record {
+      elf = h.elf;
+      executable = h.asked.rewritten.executable;
+      layout = w.work.layout;
+      laid_out = h.asked.laid_out;
+      output = o.output;
+      ends = o.ends;
+      counts = (told brief o).counts;
+      interleaved = original_as w.work.program w.work.layout (processors w) w.work.budget
+          (program_of h.elf) (nodes * lanes) budget o.output o.ends h.asked.program many
+          h.asked.limit (of_whole_lanes w h.plan events o h.whole);
+      text_is = is ∙ text_as brief o;
+    }
+
 -- ---- runs by an order
 
 no_exit : (o : Option Exit) (b : Bool) → (not (is_some o) && b) ≡ true → o ≡ None
@@ -209,10 +249,13 @@ tells (Run file nodes budget record_file code verified layout brief no_batch) fi
     of_run inputs nodes budget h.is.work h.is.own h.outcome brief text h.is.is_run h.text_is
 tells (One file nodes order budget layout) files inputs text status h =
     by_order inputs nodes order budget h.outcome text h.is h.text_is
-tells (Sim file nodes order budget code verified layout brief no_batch None) files inputs text status h =
+tells (Sim file nodes order budget code verified layout brief no_batch None None) files inputs text status h =
     of_run inputs nodes budget h.is.work h.is.own h.outcome brief text h.is.is_run h.text_is
-tells (Sim file nodes order budget code verified layout brief no_batch (Some loss)) files inputs text status h =
+tells (Sim file nodes order budget code verified layout brief no_batch (Some loss) None) files inputs text status h =
     of_run inputs nodes budget h.is.work h.is.own h.outcome brief text h.is.is_run h.text_is
+tells (Sim file nodes order budget code verified layout brief no_batch loss (Some lanes)) files inputs text status
+    h =
+    of_lane_run inputs nodes lanes budget h.is.work h.is.events h.outcome brief text h.is.is_run h.text_is
 tells (Listing file) files inputs text status h = tt
 tells (Replay file verified record_file brief) files inputs text status h =
     let work = h.is.work in

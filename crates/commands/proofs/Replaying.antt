@@ -36,7 +36,7 @@ module _ (contents later : List ℕ → List ℕ) (left : FilesState) where
   by_commands P here (Run file nodes budget (Some name) code verified layout brief no_batch) (One a b d e f)
       is = absurd is
   by_commands P here (Run file nodes budget (Some name) code verified layout brief no_batch)
-      (Sim a b d e f g i j k l) is = absurd is
+      (Sim a b d e f g i j k l m) is = absurd is
   by_commands P here (Run file nodes budget (Some name) code verified layout brief no_batch) (Generate a b)
       is = absurd is
   by_commands P here (Run file nodes budget (Some name) code verified layout brief no_batch) (Assemble a b)
@@ -45,7 +45,7 @@ module _ (contents later : List ℕ → List ℕ) (left : FilesState) where
   by_commands P here (Rewrite a b d) replay is = absurd is
   by_commands P here (Listing a) replay is = absurd is
   by_commands P here (One a b d e f) replay is = absurd is
-  by_commands P here (Sim a b d e f g i j k l) replay is = absurd is
+  by_commands P here (Sim a b d e f g i j k l m) replay is = absurd is
   by_commands P here (Replay a b d e) replay is = absurd is
   by_commands P here (Generate a b) replay is = absurd is
   by_commands P here (Assemble a b) replay is = absurd is

@@ -15,6 +15,9 @@ use Rattle.node_model.specs.Outcome.{Outcome}
 use Rattle.run_order.specs.OwnRun.{Stamped, StandsForOwnRun}
 use Rattle.run_record.specs.Text.{record_text}
 use Rattle.shared_sim.specs.ByOrder.{FollowsOrder}
+use Rattle.lane_model.specs.Nodes.{LaneWork}
+use Rattle.lane_model.specs.Core.{LaneEvent, opening_core as opening_lanes}
+use Rattle.smp_sim.specs.ByOrder.{FollowsOrder as FollowsOrderOnLanes}
 use Rattle.lossy_sim.specs.UnderWay.{StandFor}
 use Rattle.lossy_sim.specs.WithLoss.{State, Turn, AreAllOver, FollowsLoss, opening_state, ordinary}
 use Rattle.block_layout.specs.Layout.{Shape}
@@ -28,6 +31,7 @@ use Rattle.judged_files.specs.Executables.{IsProgramOf}
 use Rattle.judged_files.specs.Inputs.{Inputs}
 use Rattle.commands.specs.Inputs.{inputs_of}
 use Rattle.judged_files.specs.Layouts.{IsLayoutFor}
+use Rattle.commands.specs.LaneRuns.{IsLaneRunOf}
 use Rattle.commands.specs.Outcomes.{status_of, told}
 use Rattle.commands.specs.Records.{record_of}
 use Rattle.judged_files.specs.Replays.{IsOutcomeOfReplay}
@@ -84,12 +88,25 @@ pub record IsOutcomeOfLossySim (inputs : Inputs) (nodes order budget loss : ℕ)
         (after work (opening_core work) (ordinary turns))
     pub stands : StandsForOwnRun work (after work (opening_core work) (ordinary turns)) own
 
--- by the links that are asked for
-abbrev pub IsOutcomeOfSim : Inputs → (nodes order budget : ℕ) → (loss : Option ℕ) → Outcome → Type 0
-IsOutcomeOfSim inputs nodes order budget None outcome =
+-- The outcome of the run by the order of a number on nodes of so many processors each: at each turn
+-- it picks one of the events that are allowed, until each node is over.
+pub record IsOutcomeOfLaneSim (inputs : Inputs) (nodes lanes order budget : ℕ) (outcome : Outcome)
+    : Type 0
+  where
+    pub work : LaneWork
+    pub events : List LaneEvent
+    pub is_run : IsLaneRunOf inputs nodes lanes budget work events outcome
+    pub ordered : FollowsOrderOnLanes work order (opening_lanes work) events
+
+-- by the links and the processors of a node that are asked for
+abbrev pub IsOutcomeOfSim : Inputs → (nodes order budget : ℕ) → (lanes loss : Option ℕ) → Outcome
+    → Type 0
+IsOutcomeOfSim inputs nodes order budget None None outcome =
     IsOutcomeOfLosslessSim inputs nodes order budget outcome
-IsOutcomeOfSim inputs nodes order budget (Some loss) outcome =
+IsOutcomeOfSim inputs nodes order budget None (Some loss) outcome =
     IsOutcomeOfLossySim inputs nodes order budget loss outcome
+IsOutcomeOfSim inputs nodes order budget (Some lanes) loss outcome =
+    IsOutcomeOfLaneSim inputs nodes lanes order budget outcome
 
 -- the outcome of the original's processors on one memory, by the order of a number, with the blocks
 -- of the layout; no node counts anything
@@ -179,9 +196,9 @@ IsText (Run file nodes budget record_file code verified layout brief no_batch) f
     IsTextWith (IsOutcomeRecorded inputs nodes budget (held_by files record_file)) brief text status
 IsText (One file nodes order budget layout) files inputs text status =
     IsTextWith (IsOutcomeByOrder inputs nodes order budget) false text status
-IsText (Sim file nodes order budget code verified layout brief no_batch loss) files inputs text
-    status =
-    IsTextWith (IsOutcomeOfSim inputs nodes order budget loss) brief text status
+IsText (Sim file nodes order budget code verified layout brief no_batch loss lanes) files inputs
+    text status =
+    IsTextWith (IsOutcomeOfSim inputs nodes order budget lanes loss) brief text status
 IsText (Listing file) files inputs text status = IsListingText inputs.executable text status
 IsText (Replay file verified record_file brief) files inputs text status =
     IsTextWith (IsOutcomeOfReplay inputs) brief text status

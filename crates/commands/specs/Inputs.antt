@@ -10,7 +10,7 @@ input_of (Rewrite input output no_batch) = Some input
 input_of (Run file nodes budget record_file code verified layout brief no_batch) = Some file
 input_of (Listing file) = Some file
 input_of (One file nodes order budget layout) = Some file
-input_of (Sim file nodes order budget code verified layout brief no_batch loss) = Some file
+input_of (Sim file nodes order budget code verified layout brief no_batch loss lanes) = Some file
 input_of (Replay file verified record_file brief) = Some file
 input_of (Generate number output) = None
 input_of (Assemble text output) = None
@@ -18,14 +18,14 @@ input_of (Assemble text output) = None
 -- the file that a command reads as the rewritten executable
 abbrev pub code_of : Command → Option (List ℕ)
 code_of (Run file nodes budget record_file code verified layout brief no_batch) = code
-code_of (Sim file nodes order budget code verified layout brief no_batch loss) = code
+code_of (Sim file nodes order budget code verified layout brief no_batch loss lanes) = code
 code_of command = None
 
 -- the file that a command reads as a verified one, whose code is run in place of that by the
 -- program's own plan
 abbrev pub verified_of : Command → Option (List ℕ)
 verified_of (Run file nodes budget record_file code verified layout brief no_batch) = verified
-verified_of (Sim file nodes order budget code verified layout brief no_batch loss) = verified
+verified_of (Sim file nodes order budget code verified layout brief no_batch loss lanes) = verified
 verified_of (Replay file verified record_file brief) = verified
 verified_of command = None
 
@@ -33,7 +33,7 @@ verified_of command = None
 abbrev pub layout_of : Command → Option (List ℕ)
 layout_of (Run file nodes budget record_file code verified layout brief no_batch) = layout
 layout_of (One file nodes order budget layout) = layout
-layout_of (Sim file nodes order budget code verified layout brief no_batch loss) = layout
+layout_of (Sim file nodes order budget code verified layout brief no_batch loss lanes) = layout
 layout_of command = None
 
 -- the file that a command reads as a record, or as an assembly text
@@ -46,7 +46,8 @@ text_file_of command = None
 abbrev pub batches_of : Command → Bool
 batches_of (Rewrite input output no_batch) = not no_batch
 batches_of (Run file nodes budget record_file code verified layout brief no_batch) = not no_batch
-batches_of (Sim file nodes order budget code verified layout brief no_batch loss) = not no_batch
+batches_of (Sim file nodes order budget code verified layout brief no_batch loss lanes) =
+    not no_batch
 batches_of command = true
 
 -- the bytes of a file, which are none where there is no file

@@ -1,6 +1,7 @@
 -- What `one`, `sim`, `run` and `replay` print, by the original alone: a run of its processors on
 -- one memory, interleaved instruction by instruction.
-use Rattle.std.specs.Prelude.{◌≡◌, ℕ, List, ◌++◌, Option, length}
+use Rattle.std.specs.Prelude.{◌≡◌, ℕ, ◌*◌, List, ◌++◌, Option, length}
+use Rattle.std.specs.Option.{option_map_or}
 use Rattle.elf32_read.specs.Elf.{Elf}
 use Rattle.exec_map.specs.Contents.{program_of, AreSharedRanges}
 use Rattle.block_layout.specs.Layout.{Shape, IsValid}
@@ -32,8 +33,8 @@ pub record IsInterleaved (original : Original) (budget : ℕ) (output : List ℕ
 -- The text tells of such a run of the program of the executable in a file, on so many processors,
 -- whose shared lines have the blocks of such a layout. Behind the ends stand the lines of what
 -- nodes counted, or none.
-pub record TellsOfOriginal (file : List ℕ) (IsLaidOut : Elf → Shape → Type 0) (nodes budget : ℕ)
-    (text : List ℕ) : Type 0 where
+pub record TellsOfOriginal (file : List ℕ) (IsLaidOut : Elf → Shape → Type 0)
+    (processors budget : ℕ) (text : List ℕ) : Type 0 where
   pub elf : Elf
   pub executable : IsProgramOf file elf
   pub layout : Shape
@@ -42,12 +43,16 @@ pub record TellsOfOriginal (file : List ℕ) (IsLaidOut : Elf → Shape → Type
   pub ends : List End
   pub counts : List NodeCounts
   pub interleaved : IsInterleaved
-      (record { program = program_of elf; layout = layout; nodes = nodes }) budget output ends
+      (record { program = program_of elf; layout = layout; nodes = processors }) budget output ends
   pub text_is : text ≡ outcome_head (length output) ++ (output ++ outcome_tail ends counts)
 
 -- the blocks that a command's layout gives the executable's shared lines
 abbrev pub IsLayoutGiven : Inputs → ℕ → Elf → Shape → Type 0
 IsLayoutGiven inputs nodes elf layout = IsLayoutFor elf inputs.layout nodes layout
+
+-- how many processors so many nodes have, each one or so many
+abbrev pub processors_on : (nodes : ℕ) → (lanes : Option ℕ) → ℕ
+processors_on nodes lanes = option_map_or (λ m. nodes * m) lanes nodes
 
 -- some layout of the executable's shared lines
 abbrev pub IsSomeLayout : Elf → Shape → Type 0
@@ -59,9 +64,10 @@ abbrev pub IsTextOfOriginal : Command → Inputs → List ℕ → Type 0
 IsTextOfOriginal (Run file nodes budget record_file code verified layout brief no_batch) inputs
     text =
     TellsOfOriginal inputs.executable (IsLayoutGiven inputs nodes) nodes budget text
-IsTextOfOriginal (Sim file nodes order budget code verified layout brief no_batch loss) inputs
+IsTextOfOriginal (Sim file nodes order budget code verified layout brief no_batch loss lanes) inputs
     text =
-    TellsOfOriginal inputs.executable (IsLayoutGiven inputs nodes) nodes budget text
+    TellsOfOriginal inputs.executable (IsLayoutGiven inputs nodes) (processors_on nodes lanes)
+    budget text
 IsTextOfOriginal (One file nodes order budget layout) inputs text =
     TellsOfOriginal inputs.executable (IsLayoutGiven inputs nodes) nodes budget text
 IsTextOfOriginal (Replay file verified record_file brief) inputs text =

@@ -4,6 +4,7 @@ pub mod Inputs
 pub mod Refusals
 pub mod Outcomes
 pub mod Records
+pub mod LaneRuns
 pub mod Headline
 pub mod Again
 pub mod Interleaved

@@ -27,7 +27,7 @@ IsRefused (Run file nodes budget record_file code verified layout brief no_batch
     IsRunRefused inputs line
 IsRefused (Listing file) inputs line = IsUnaccepted inputs.executable line
 IsRefused (One file nodes order budget layout) inputs line = IsUnaccepted inputs.executable line
-IsRefused (Sim file nodes order budget code verified layout brief no_batch loss) inputs line =
+IsRefused (Sim file nodes order budget code verified layout brief no_batch loss lanes) inputs line =
     IsRunRefused inputs line
 IsRefused (Replay file verified record_file brief) inputs line = IsReplayRefused inputs line
 IsRefused (Generate number output) inputs line = ⊥
@@ -39,7 +39,8 @@ IsLayoutRefused (Run file nodes budget record_file code verified layout brief no
     line =
     IsBadRunLayout inputs nodes line
 IsLayoutRefused (One file nodes order budget layout) inputs line = IsBadLayout inputs nodes line
-IsLayoutRefused (Sim file nodes order budget code verified layout brief no_batch loss) inputs line =
+IsLayoutRefused (Sim file nodes order budget code verified layout brief no_batch loss lanes) inputs
+    line =
     IsBadRunLayout inputs nodes line
 IsLayoutRefused (Replay file verified record_file brief) inputs line = IsBadReplayLayout inputs line
 IsLayoutRefused command inputs line = ⊥

@@ -16,7 +16,7 @@ pub const USAGE: &str = concat!(
     "       shasta list IN\n",
     "       shasta one IN [--nodes N] [--order K] [--budget B] [--layout FILE]\n",
     "       shasta sim IN [--nodes N] [--order K] [--budget B] [--layout FILE]",
-    " [--code FILE | --verify FILE] [--no-batch] [--brief] [--loss L]\n",
+    " [--code FILE | --verify FILE] [--no-batch] [--brief] [--loss L] [--per-node M]\n",
     "       shasta run IN [--nodes N] [--record FILE] [--budget B] [--layout FILE]",
     " [--code FILE | --verify FILE] [--no-batch] [--brief]\n",
     "       shasta replay IN RECORD [--verify FILE] [--brief]\n",

@@ -2,7 +2,7 @@
 
 ghost use Rattle.std.specs.Prelude.{◌≡◌, ◌≢◌, ◌≤◌, ◌⊎◌, ◌<◌, ℕ, List, Some, length, Contains, IfOk};
 ghost use Rattle.std.specs.Prelude.{IfErr, MatchResult};
-ghost use Rattle.command_line.specs.Commands.{Command as Asked, reads, writes};
+ghost use Rattle.command_line.specs.Commands.{Command as Asked, IsFit, reads, writes};
 ghost use Rattle.command_line.specs.Asks.{Asks};
 ghost use Rattle.command_line.specs.Meaning.{meaning_of};
 ghost use Rattle.commands.specs.Headline.{IsText, Prints, PrintsPrefix};
@@ -161,6 +161,7 @@ fn answer<R: Threads + Wait + Sync, F: Files, O: Sink, G: Gate + Sync>(
     out: &mut O,
     gate: &G,
 ) -> Result<u8, Failure>
+    requires fits { IsFit (meaning_of command.now) }
     ensures ok { IfOk result (IsSuccess (meaning_of command.now) (F.state files.old)
         (F.state files.new) (O.state out.old) (O.state out.new)) }
     ensures failure { IfErr result (IsFailure (meaning_of command.now) (F.state files.old)
@@ -194,6 +195,7 @@ fn perform<R: Threads + Wait + Sync, F: Files, O: Sink, G: Gate + Sync>(
     out: &mut O,
     gate: &G,
 ) -> Result<u8, Failure>
+    requires fits { IsFit (meaning_of command.now) }
     ensures ok { IfOk result (λ status.
         Puts (IsText (meaning_of command.now) (F.state files.new) (bytes_of inputs.now))
         status (O.state out.old) (O.state out.new)) }
@@ -239,14 +241,14 @@ fn perform<R: Threads + Wait + Sync, F: Files, O: Sink, G: Gate + Sync>(
             order,
             budget,
             brief,
-            loss,
+            machine,
             ..
         } => {
             let options = SimOptions {
                 nodes: *nodes,
                 order: *order,
                 budget: *budget,
-                loss: *loss,
+                machine: *machine,
                 brief: *brief,
             };
             sim(alloc, inputs, options, out)

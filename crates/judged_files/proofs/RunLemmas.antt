@@ -23,7 +23,7 @@ use Rattle.rewriting_law.specs.Interleaving.{Interleaves, IsCoherent, original_a
 use Rattle.dsm_core.specs.CoreParts.{work_with}
 use Rattle.judged_files.specs.Code.{Choice, choice_of, IsChosen, IsFileOf, IsRewritingOf}
 use Rattle.judged_files.specs.Executables.{IsProgramOf}
-use Rattle.judged_files.specs.Ready.{GivesCode, GivesRuns}
+use Rattle.judged_files.specs.Ready.{GivesCode, GivesRuns, IsAskedWork}
 use Rattle.judged_files.specs.Inputs.{Inputs}
 use Rattle.judged_files.specs.Layouts.{IsLayoutBy, IsLayoutFor}
 use Rattle.judged_files.specs.WholeRuns.{HasMail}
@@ -255,3 +255,19 @@ gives_runs inputs nodes budget elf plan image layout code laid_out gives core ow
       count = nodes_of elf inputs.layout nodes layout laid_out;
       limit = refl;
     }
+
+-- the work is what the inputs ask to be run
+pub asked_work : (inputs : Inputs) (nodes budget : ℕ) (elf : Elf) (plan : List PlanEntry)
+    (image : List Cell) (layout : Shape)
+    → AreReady (choice_of inputs.batches inputs.verified) inputs.executable elf plan image layout
+    → IsFileOf (rewritten_elf elf image plan) inputs.code
+    → IsLayoutFor elf inputs.layout nodes layout
+    → IsAskedWork inputs nodes budget elf plan (work_with elf image layout budget)
+asked_work inputs nodes budget elf plan image layout ready code laid_out = record {
+  rewritten = ready.rewritten;
+  program = refl;
+  code = code;
+  laid_out = laid_out;
+  count = nodes_of elf inputs.layout nodes layout laid_out;
+  limit = refl;
+}

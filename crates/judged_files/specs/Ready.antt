@@ -1,6 +1,7 @@
 -- Parts of a run that are ready: what their own runs are.
-use Rattle.std.specs.Prelude.{ℕ, List}
+use Rattle.std.specs.Prelude.{◌≡◌, ℕ, List}
 use Rattle.elf32_read.specs.Elf.{Elf}
+use Rattle.exec_map.specs.Contents.{program_of}
 use Rattle.templates.specs.declared.plans.PlanEntry.{PlanEntry}
 use Rattle.node_model.specs.Node.{Work}
 use Rattle.node_model.specs.Core.{Core, IsOver}
@@ -10,9 +11,11 @@ use Rattle.run_record.specs.declared.Record.{Record as Kept}
 use Rattle.dsm_core.specs.CoreParts.{work_with}
 use Rattle.judged_files.specs.declared.prepare.Prepared.{Prepared}
 use Rattle.judged_files.specs.WholeRuns.{IsRunOfCode, IsRunOf}
-use Rattle.judged_files.specs.Code.{Choice, choice_of}
+use Rattle.rewriter.specs.RewrittenFile.{rewritten_elf}
+use Rattle.judged_files.specs.Code.{Choice, IsFileOf, IsRewritingOf, choice_of}
 use Rattle.judged_files.specs.Replays.{IsWorkOf}
 use Rattle.judged_files.specs.Inputs.{Inputs}
+use Rattle.judged_files.specs.Layouts.{IsLayoutFor}
 
 -- what the nodes run by prepared parts
 abbrev pub work_for : Prepared → Work
@@ -39,6 +42,19 @@ abbrev pub GivesRuns : Inputs → (nodes budget : ℕ) → Work → Type 0
 GivesRuns inputs nodes budget work =
     (core : Core) (own : List Stamped) (o : Outcome) → StandsForOwnRun work core own
     → IsOver work core → IsOutcomeOf work (run_of own) o → IsRunOf inputs nodes budget work own o
+
+-- What the inputs ask to be run: the chosen rewriting of the executable's program, by this plan,
+-- which a file of code that is given holds; on so many nodes, and the blocks of its shared lines
+-- that their layout gives; and at most so many words of each processor.
+pub record IsAskedWork (inputs : Inputs) (nodes budget : ℕ) (elf : Elf) (plan : List PlanEntry)
+    (work : Work) : Type 0 where
+  pub rewritten : IsRewritingOf (choice_of inputs.batches inputs.verified) inputs.executable elf
+      plan work.image
+  pub program : work.program ≡ program_of elf
+  pub code : IsFileOf (rewritten_elf elf work.image plan) inputs.code
+  pub laid_out : IsLayoutFor elf inputs.layout nodes work.layout
+  pub count : work.layout.nodes ≡ nodes
+  pub limit : work.budget ≡ budget
 
 -- the work is what the record asks to be run
 pub record IsReadyFor (inputs : Inputs) (kept : Kept) (work : Work) : Type 0 where

@@ -4,7 +4,7 @@ ghost use Rattle.std.specs.Prelude.{◌≡◌, IfOk, IfErr};
 ghost use Rattle.rewriting_law.specs.Bounds.{RunsRewritten};
 ghost use Rattle.dsm_core.specs.CoreParts.{work_in};
 ghost use Rattle.judged_files.specs.Executables.{ReadsAs};
-ghost use Rattle.judged_files.specs.Ready.{IsReadyFor, GivesRuns, work_for};
+ghost use Rattle.judged_files.specs.Ready.{IsAskedWork, IsReadyFor, GivesRuns, work_for};
 ghost use Rattle.judged_files.specs.Failures.{IsRefusal, IsReplayRefusal};
 ghost use Rattle.judged_files.specs.Given.{bytes_of};
 ghost use Rattle.judged_files.specs.Replays.{IsWorkOf};
@@ -63,6 +63,8 @@ pub fn prepare<'a>(
     ensures rewritten { IfOk result (λ p. RunsRewritten (work_for p)) }
     ensures batches { IfOk result (λ p. p.batches ≡ inputs.now.batches) }
     ensures runs { IfOk result (λ p. GivesRuns (bytes_of inputs.now) nodes budget (work_for p)) }
+    ensures asked { IfOk result (λ p. IsAskedWork (bytes_of inputs.now) nodes budget p.program
+        p.rewritten.plan (work_for p)) }
     ensures refused { IfErr result (IsRefusal (IsRunRefused (bytes_of inputs.now))
         (IsBadRunLayout (bytes_of inputs.now) nodes)) }
 {

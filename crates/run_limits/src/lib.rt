@@ -1,8 +1,8 @@
 #![tactic(auto)]
 //! The limits of a run, each of a type that holds its range.
 
-ghost use Rattle.std.specs.Prelude.{◌≡◌, ◌^◌, ◌≤◌, MatchOption};
-ghost use Rattle.run_limits.specs.Ranges.{IsBudget, IsNodeCount};
+ghost use Rattle.std.specs.Prelude.{◌≡◌, ◌*◌, ◌^◌, ◌≤◌, MatchOption};
+ghost use Rattle.run_limits.specs.Ranges.{IsBudget, IsLaneCount, IsNodeCount};
 
 use std::marker::Model;
 
@@ -89,5 +89,55 @@ impl NodeCount {
         ensures range { IsNodeCount result }
     {
         self.number
+    }
+}
+
+/// How many processors each node of a run has, where it has several: 2 to 4. Contracts see the
+/// number.
+#[derive(Clone, Copy, Debug, PartialEq, Eq)]
+pub struct LaneCount {
+    number: u8,
+}
+
+impl Model for LaneCount {
+    ghost use Rattle.std.specs.Prelude.{ℕ};
+    ghost use Rattle.run_limits.specs.Ranges.{IsLaneCount};
+
+    ghost Value = { ℕ };
+
+    ghost view = { λ c. c.number };
+
+    ghost inverse = { λ n. record { number = n } };
+
+    ghost invariant = { λ c. IsLaneCount c.number };
+}
+
+impl LaneCount {
+    /// The count of so many processors, or `None` where the number is out of range.
+    pub fn of(number: u64) -> Option<LaneCount>
+        ensures { MatchOption result (IsLaneCount number → ⊥)
+            (λ c. (c ≡ number) × IsLaneCount number) }
+    {
+        if number < 2 || number > 4 {
+            return None;
+        }
+        Some(LaneCount {
+            number: number as u8,
+        })
+    }
+
+    /// How many.
+    pub fn number(self) -> u8
+        ensures value { result ≡ self }
+        ensures range { IsLaneCount result }
+    {
+        self.number
+    }
+
+    /// How many processors so many nodes have together.
+    pub fn on(self, nodes: NodeCount) -> u8
+        ensures { result ≡ nodes * self }
+    {
+        nodes.number() * self.number()
     }
 }

@@ -1,4 +1,5 @@
-use Rattle.command_line.specs.Commands.{Assemble, Generate, Replay, Rewrite}
+use Rattle.std.proofs.Common.{subst}
+use Rattle.command_line.specs.Commands.{Assemble, Generate, IsFit, Replay, Rewrite}
 use Rattle.command_line.specs.Meaning.{meaning_of, file_name}
 use Rattle.dsm_io.specs.States.{SinkState, FilesState}
 use Rattle.commands.specs.Failures.{IsAssemblyFailure, IsPerformFailure, IsReplayFailure, IsRewriteFailure}
@@ -157,3 +158,6 @@ returns-in-Run-clause-others g c =
       layout = file_name c.in-Run.layout;
       no_batch = c.in-Run.no_batch;
     }))
+
+pub sim-requires : goal.sim-requires
+sim-requires g c = record { few = (subst (λ x. IsFit (meaning_of x)) c.in-Sim.is c.requires.fits).1 }

@@ -186,3 +186,8 @@ returns-in-Err-answer-clause-left g c = λ d contents asks told failed.
     let files_now : FilesState = g.F.Files.state c.answer.new.files in
     subst (λ x. (k : List ℕ → List ℕ) → AreTold x files k → AreLeft x (inputs_of x k) files files_now) same
     c.in-Err-answer.ensures.left contents told
+
+pub answer-requires : goal.answer-requires
+answer-requires g c =
+    let asks = asked_as c.args.words.now _ c.in-Ok-Some.command (search rules) c.in-Ok-Some.ensures.asks in
+    (search rules, (search rules, asks.fits))

@@ -7,7 +7,7 @@ use Rattle.judged_files.specs.Failures.{IsNever}
 use Rattle.judged_files.specs.Given.{bytes_of}
 use Rattle.judged_files.specs.Refusals.{IsRunRefused, IsBadRunLayout, IsFaultyLayout}
 use Rattle.judged_files.proofs.Pieces.{never, refused_too}
-use Rattle.judged_files.proofs.RunLemmas.{AreReady, HaveLaws, are_ready, gives_code, gives_runs, laid_over, runs_rewritten}
+use Rattle.judged_files.proofs.RunLemmas.{AreReady, HaveLaws, are_ready, asked_work, gives_code, gives_runs, laid_over, runs_rewritten}
 use Rattle.judged_files.proofs.prepare.prepare.Goals as goal
 
 pub returns-in_err-program-clause-refused : goal.returns-in_err-program-clause-refused
@@ -145,3 +145,25 @@ returns-clause-runs c =
     gives_runs inputs c.args.nodes c.args.budget p plan image layout code c.in_ok-layout.ensures.ok
     (gives_code choice inputs.executable c.args.budget p plan image layout ready
     (subst (λ n. 0 < n) number range.0) (subst (λ n. n ≤ 2 ^ 32) number range.1) laws)
+
+pub returns-clause-asked : goal.returns-clause-asked
+returns-clause-asked c =
+    let inputs = bytes_of c.args.inputs.now in
+    let p = c.in_ok-program.program in
+    let image = c.in_ok-rewritten.rewritten.image in
+    let plan = c.in_ok-rewritten.rewritten.plan in
+    let layout = c.in_ok-layout.layout in
+    let reads : IsProgramOf inputs.executable c.args.elf.now =
+    record { reads = c.requires.reads; accepted = c.in_ok-program.ensures.acceptable } in
+    let choice = choice_of inputs.batches inputs.verified in
+    let ready : AreReady choice inputs.executable p plan image layout =
+    are_ready choice inputs.executable c.args.elf.now p plan image layout c.in_ok-program.ensures.ok reads
+    c.in_ok-program.ensures.accepted c.in_ok-rewritten.ensures.chosen
+    c.in_ok-rewritten.ensures.rewriting
+    (laid_over p inputs.layout c.args.nodes layout c.in_ok-layout.ensures.ok)
+    c.in_ok-layout.ensures.valid in
+    let code : IsFileOf (rewritten_elf p image plan) inputs.code =
+    subst (λ e. IsFileOf (rewritten_elf e image plan) inputs.code) (sym c.in_ok-program.ensures.ok)
+    c.in_ok-judge_code.ensures.ok in
+    asked_work inputs c.args.nodes c.args.budget p plan image layout ready code
+    c.in_ok-layout.ensures.ok

@@ -1,0 +1,71 @@
+//! `sim` on nodes of several processors: what is printed under each order.
+
+use crate::threads::{COUNTED, COUNTS};
+use command_calls::calls::{Answer, NODE, call, executable, sure};
+use command_calls::samples::READS;
+use command_calls::watch::Watch;
+use std::str::from_utf8;
+use std::test::Fail;
+
+/// What four processors on two nodes end with where those but the first read a word of node 0: the
+/// line of node 1, up to what it counts by chance.
+const READ: &str = "output 0
+
+processor 0 exit 0
+processor 1 exit 0
+processor 2 exit 0
+processor 3 exit 0
+node 0 read 0 exclusive 0 upgrade 0 false 0 invalidations 0 fallbacks 0 messages 2
+node 1 read 1 exclusive 0 upgrade 0 false ";
+
+/// What stands behind that: node 1 asks node 0 once, for both of its processors.
+const BEHIND: &str = " invalidations 0 fallbacks 0 messages 2\n";
+
+/// Two processors of one node add to a word, and no message is sent.
+#[test]
+fn counts_on_one_node(rt: HostRuntime) -> Result<(), Fail> {
+    let file = executable(rt.alloc(), COUNTS, b"", 128)?;
+    let mut wanted = COUNTED.to_vec(rt.alloc())?;
+    wanted.extend_from_slice(NODE.as_bytes())?;
+    for line in [
+        "sim IN --nodes 1 --per-node 2",
+        "sim --per-node=2 IN --order 1",
+        "sim IN --per-node 2 --order 77",
+        "sim IN --per-node 2 --order 4294967295 --no-batch",
+    ] {
+        let called = call(&rt, sure(&[("IN", &file)]), line, "", &Watch::new(false))?;
+        assert_eq!(rt; called.status, 0, "at {line}");
+        assert_eq!(rt; called.out.as_slice(), wanted.as_slice(), "at {line}");
+        assert_eq!(rt; called.err.len(), 0, "at {line}");
+    }
+    Ok(())
+}
+
+/// Where one processor of node 1 waits for the block, the other waits with it, or finds the word
+/// there before the node has counted it.
+#[test]
+fn reads_by_two_processors_of_a_node(rt: HostRuntime) -> Result<(), Fail> {
+    let file = executable(rt.alloc(), READS, b"\x07\x00\x00\x00", 64)?;
+    for line in [
+        "sim IN --nodes 2 --per-node 2",
+        "sim --per-node=2 IN --nodes=2 --order 1",
+        "sim IN --nodes 2 --per-node 2 --order 2",
+        "sim IN --nodes 2 --per-node 2 --order 3",
+        "sim IN --nodes 2 --per-node 2 --order 77",
+        "sim IN --nodes 2 --per-node 2 --order 4294967295",
+    ] {
+        let called = call(&rt, sure(&[("IN", &file)]), line, "", &Watch::new(false))?;
+        let chance = if from_utf8(&called.out)?.contains("false 1") {
+            "1"
+        } else {
+            "0"
+        };
+        let answer = Answer {
+            status: 0,
+            out: &[READ, chance, BEHIND],
+            err: "",
+        };
+        called.expect(rt.alloc(), line, &answer)?;
+    }
+    Ok(())
+}
