@@ -4,6 +4,7 @@ mod Viewed
 mod Ordered
 mod Lines
 mod Ends
+mod Passed
 mod Summed
 mod Runs
 mod Pages

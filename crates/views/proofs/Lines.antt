@@ -1,5 +1,5 @@
 -- The lines of a trace, which are put in pieces, an event after another.
-use Rattle.std.proofs.Common.{◌≡◌, ℕ, Bool, true, false, cond, List, [], ◌∷◌, ◌++◌, filter, None, refl, sym, ap, ◌∙◌, subst, append-nil, append_assoc}
+use Rattle.std.proofs.Common.{◌≡◌, ℕ, true, false, cond, List, [], ◌∷◌, ◌++◌, refl, sym, ap, ◌∙◌, subst, append-nil, append_assoc}
 use Rattle.std.specs.List.{flat_map}
 use Rattle.std.proofs.lemmas.Grind.{flat_map-append}
 use Rattle.std.proofs.lemmas.List.Elements.{filter-append}
@@ -21,8 +21,8 @@ use Rattle.judged_files.specs.declared.failure.Failure.{Failure}
 use Rattle.judged_files.specs.declared.failure.Failure.TheVariants.{OutOfMemory}
 use Rattle.judged_files.specs.Failures.{FailsAs, IsLike, IsNever, IsPutFailure}
 use Rattle.judged_files.proofs.Pieces.{joins, put_fails, stops_behind}
-use Rattle.views.specs.Failures.{HasGoneOnTo, TellsWhole}
-use Rattle.views.proofs.Ordered.{all_shown}
+use Rattle.views.specs.Failures.{TellsWhole}
+use Rattle.views.specs.Trace.{HasPushedMore, ShowsNoMore}
 
 -- the lines of some events
 abbrev pub lines_of : Elf → Options → List Traced → List ℕ
@@ -67,21 +67,21 @@ same_on s t u h k = record {
 pub same_self : (t : Tracer) → IsSame t t
 same_self t = record { work = refl; plan = refl; rec_is = refl; code = refl }
 
--- an event more
-pub event_gathered : (elf : Elf) (o : Options) (first t u : Tracer) (start now : SinkState) (lines more : List ℕ)
-    (x : Traced) (way : IsUnderWay elf o first t start now lines) → IsSame t u → HasTraced u (way.seen ++ x ∷ [])
-    → more ≡ lines ++ lines_of elf o (x ∷ []) → IsUnderWay elf o first u start now more
-event_gathered elf o first t u start now lines more x way same traced text = record {
-  seen = way.seen ++ x ∷ [];
-  traced = traced;
+-- more events
+pub events_gathered : (elf : Elf) (o : Options) (first t u : Tracer) (start now : SinkState) (lines more : List ℕ)
+    (way : IsUnderWay elf o first t start now lines) → IsSame t u → HasPushedMore elf o u way.seen lines more
+    → IsUnderWay elf o first u start now more
+events_gathered elf o first t u start now lines more way same pushed = record {
+  seen = way.seen ++ pushed.more;
+  traced = pushed.traced;
   same = same_on first t u way.same same;
   pieces = way.pieces;
   put = way.put;
   faults = way.faults;
-  reached = ap (λ l. way.pieces ++ l) text
-      ∙ sym (append_assoc way.pieces lines (lines_of elf o (x ∷ [])))
-      ∙ ap (λ l. l ++ lines_of elf o (x ∷ [])) way.reached
-      ∙ sym (text_more elf o way.seen (x ∷ []));
+  reached = ap (λ l. way.pieces ++ l) pushed.lines_are
+      ∙ sym (append_assoc way.pieces lines (lines_of elf o pushed.more))
+      ∙ ap (λ l. l ++ lines_of elf o pushed.more) way.reached
+      ∙ sym (text_more elf o way.seen pushed.more);
 }
 
 -- the lines are put
@@ -170,11 +170,10 @@ same_trace work plan r one other law a b =
 -- all that are asked for were made, and their lines are put
 pub whole_put : (elf : Elf) (o : Options) (first t u : Tracer) (start before now : SinkState) (lines : List ℕ)
     (trace : List Traced) → (way : IsUnderWay elf o first t start before lines) → IsSame t u
-    → HasGoneOnTo o.to u way.seen None → IsWhole first trace → Appends before.taken now.taken lines
+    → ShowsNoMore o u way.seen → IsWhole first trace → Appends before.taken now.taken lines
     → Appends start.taken now.taken (trace_text elf o trace)
 whole_put elf o first t u start before now lines trace way same all whole put =
-    let shown_is = all_shown o way.seen trace
-    (all trace (whole_same first u trace (same_on first t u way.same same) whole)) in
+    let shown_is = all trace (whole_same first u trace (same_on first t u way.same same) whole) in
     subst (Appends start.taken now.taken)
     (way.reached ∙ ap (λ xs. head ++ flat_map (event_line elf) xs) (sym shown_is))
     (joins start.taken before.taken now.taken way.pieces lines way.put put)

@@ -1,16 +1,17 @@
 -- The events of a page, one after another.
-use Rattle.std.proofs.Common.{◌≡◌, Bool, true, false, cond, List, [], ◌∷◌, ◌++◌, None, refl, sym, ap, ◌∙◌, append-nil}
+use Rattle.std.proofs.Common.{◌≡◌, true, false, cond, List, [], ◌∷◌, ◌++◌, sym, ap, ◌∙◌, subst, append-nil, append_assoc}
 use Rattle.std.proofs.lemmas.List.Elements.{filter-append}
 use Rattle.run_trace.specs.declared.tracer.Tracer.{Tracer}
 use Rattle.run_trace.specs.Traced.{Traced}
-use Rattle.run_trace.specs.Tracing.{HasTraced, IsSame, plan_traced, record_traced, work_traced}
+use Rattle.run_trace.specs.Tracing.{HasTraced, IsSame, record_traced}
 use Rattle.run_trace.proofs.Wholes.{HasOne}
 use Rattle.event_text.specs.declared.shown.Options.{Options}
 use Rattle.event_text.specs.Shown.{is_shown, shown}
 use Rattle.page_events.specs.Shown.{Kept, kept}
-use Rattle.views.specs.Failures.{HasGoneOnTo}
+use Rattle.views.specs.Page.{HasAddedMore}
+use Rattle.views.specs.Trace.{ShowsNoMore}
 use Rattle.views.proofs.Lines.{IsWhole, goes_further, same_on, whole_same}
-use Rattle.views.proofs.Ordered.{all_shown}
+use Rattle.views.proofs.Passed.{passed_hidden}
 
 pub more_shown : (o : Options) (seen : List Traced) (x : Traced) → is_shown o x ≡ true
     → kept (shown o seen ++ x ∷ []) ≡ kept (shown o (seen ++ x ∷ []))
@@ -29,24 +30,44 @@ pub record IsGathered (o : Options) (first t : Tracer) (k : Kept) : Type 0 where
   pub same : IsSame first t
   pub kept_is : k ≡ kept (shown o seen)
 
--- an event more
-pub added : (o : Options) (first t u : Tracer) (k now : Kept) (x : Traced) (way : IsGathered o first t k)
-    → IsSame t u → HasTraced u (way.seen ++ x ∷ []) → now ≡ kept (shown o (way.seen ++ x ∷ []))
-    → IsGathered o first u now
-added o first t u k now x way same traced is = record {
-  seen = way.seen ++ x ∷ [];
-  traced = traced;
+-- more events
+pub added : (o : Options) (first t u : Tracer) (k now : Kept) (way : IsGathered o first t k) → IsSame t u
+    → HasAddedMore o u way.seen now → IsGathered o first u now
+added o first t u k now way same more = record {
+  seen = way.seen ++ more.more;
+  traced = more.traced;
   same = same_on first t u way.same same;
-  kept_is = is;
+  kept_is = more.kept_is;
 }
 
 -- all that are asked for were made
-pub all_gathered : (o : Options) (first t u : Tracer) (k : Kept) (trace : List Traced)
-    → (way : IsGathered o first t k) → IsSame t u → HasGoneOnTo o.to u way.seen None → IsWhole first trace
-    → k ≡ kept (shown o trace)
-all_gathered o first t u k trace way same all whole =
-    way.kept_is
-    ∙ ap kept (sym (all_shown o way.seen trace (all trace (whole_same first u trace (same_on first t u way.same same) whole))))
+pub all_gathered : (o : Options) (first t u : Tracer) (k now : Kept) (trace : List Traced)
+    → (way : IsGathered o first t k) → IsSame t u → now ≡ kept (shown o way.seen) → ShowsNoMore o u way.seen
+    → IsWhole first trace → now ≡ kept (shown o trace)
+all_gathered o first t u k now trace way same is all whole =
+    is ∙ ap kept (sym (all trace (whole_same first u trace (same_on first t u way.same same) whole)))
+
+-- words that were passed are kept with those before them
+pub passed_kept : (o : Options) (seen more : List Traced) (k : Kept) → shown o more ≡ [] → k ≡ kept (shown o seen)
+    → k ≡ kept (shown o (seen ++ more))
+passed_kept o seen more k hidden is = is ∙ ap kept (sym (passed_hidden o seen more hidden))
+
+-- a word that ends a pass
+pub word_added : (o : Options) (t : Tracer) (seen more : List Traced) (x : Traced) (now : Kept)
+    → HasTraced t (seen ++ (more ++ x ∷ [])) → now ≡ kept (shown o ((seen ++ more) ++ x ∷ []))
+    → HasAddedMore o t seen now
+word_added o t seen more x now traced is = record {
+  more = more ++ x ∷ [];
+  traced = traced;
+  kept_is = is ∙ ap (λ xs. kept (shown o xs)) (append_assoc seen more (x ∷ []));
+}
+
+-- an event behind a pass that no word ends
+pub event_added : (o : Options) (t : Tracer) (seen more : List Traced) (x : Traced) (now : Kept)
+    → HasTraced t ((seen ++ more) ++ x ∷ []) → now ≡ kept (shown o ((seen ++ more) ++ x ∷ []))
+    → HasAddedMore o t seen now
+event_added o t seen more x now traced is =
+    word_added o t seen more x now (subst (HasTraced t) (append_assoc seen more (x ∷ [])) traced) is
 
 -- of those that follow none is kept
 pub full_gathered : (o : Options) (first t : Tracer) (k : Kept) (trace : List Traced) → HasOne (record_traced t)

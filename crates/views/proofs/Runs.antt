@@ -3,24 +3,26 @@ use Rattle.std.proofs.Common.{◌≡◌, ◌⊎◌, ℕ, ◌<◌, ◌≤◌, Lis
 use Rattle.std.specs.Prelude.{Contains, MatchOption}
 use Rattle.std.proofs.lemmas.List.Elements.{Contains-append_cases}
 use Rattle.elf32_read.specs.Elf.{Elf}
-use Rattle.elf_symbols.specs.Symbols.{functions_of}
+use Rattle.elf_symbols.specs.Symbols.{Symbol, functions_of}
 use Rattle.templates.specs.declared.plans.PlanEntry.{PlanEntry}
 use Rattle.node_model.specs.Node.{Work}
 use Rattle.run_record.specs.declared.Record.{Record as Kept}
 use Rattle.replay.specs.Told.{Told}
 use Rattle.replay.specs.Replay.{TellsWholeRun}
-use Rattle.run_trace.specs.Traced.{Traced}
-use Rattle.run_trace.specs.Trace.{IsTraceOf, trace_of}
+use Rattle.run_trace.specs.Trace.{trace_of}
 use Rattle.command_line.specs.Views.{View, Trace, Blocks, reads}
 use Rattle.dsm_io.specs.Causes.{Rose}
 use Rattle.dsm_io.specs.States.{FilesState, SinkState}
 use Rattle.judged_files.specs.declared.failure.Failure.{Failure}
 use Rattle.judged_files.specs.declared.failure.Failure.TheVariants.{Input, NotWritten, Refused, Layout, Record, Text, Output, OutOfMemory}
 use Rattle.judged_files.specs.Answers.{IsTooLong, file_limit}
-use Rattle.judged_files.specs.Failures.{FailsAs, IsContent, IsLike, IsNever, IsNoRefusal, IsReadFailure, IsReplayRefusal, Puts}
+use Rattle.judged_files.specs.Failures.{FailsAs, IsContent, IsLike, IsNever, IsNoRefusal, IsReadFailure, IsRecordRefusal, IsReplayRefusal, Puts}
 use Rattle.judged_files.specs.Inputs.{Inputs}
-use Rattle.judged_files.specs.Replays.{IsReplayRefused, IsBadReplayLayout, IsBadRecord, IsWorkOf}
-use Rattle.views.specs.Failures.{AreRecorded, FailsAsRun, IsFailure, IsRecordingFailure, IsSuccess, IsTextOfBlocks, IsTextOfTrace}
+use Rattle.judged_files.specs.Ready.{work_for}
+use Rattle.judged_files.specs.Replays.{IsReplayRefused, IsBadReplayLayout, IsBadRecord, IsBrokenRun, IsWorkOf}
+use Rattle.judged_files.specs.declared.prepare.Prepared.{Prepared}
+use Rattle.judged_files.proofs.ReplayLemmas.{text_refused}
+use Rattle.views.specs.Failures.{AreRecorded, FailsAsRun, IsFailure, IsRecordingFailure, IsSuccess, IsTextOfBlocks, IsTextOfRun, IsTextOfTrace}
 use Rattle.views.specs.Headline.{AreTold, IsLayoutRefused, IsRecordRefused, IsRefused, IsText}
 use Rattle.views.specs.Blocks.{AreCostsOfRun, IsCostsText}
 use Rattle.views.specs.Trace.{IsTraceText, recorded, selected_text}
@@ -234,6 +236,21 @@ refused_run T inputs state (Text line) h = absurd h
 refused_run T inputs state Output h = absurd h
 refused_run T inputs state OutOfMemory h = inl refl
 
+-- the events of a run that is asked for are refused
+pub broken_refused : (inputs : Inputs) (prepared : Prepared) (kept : Kept) (f : Failure)
+    → IsWorkOf inputs kept prepared.program prepared.rewritten.plan (work_for prepared)
+    → IsRecordRefusal (IsBrokenRun (work_for prepared) kept) f → IsReplayRefusal inputs f
+broken_refused inputs prepared kept f asked h =
+    text_refused inputs (IsBrokenRun (work_for prepared) kept) f
+    (λ line broken. inr (inr (record {
+      kept = kept;
+      elf = prepared.program;
+      plan = prepared.rewritten.plan;
+      work = work_for prepared;
+      asked = asked;
+      broken = broken;
+    }))) h
+
 -- 4. The text of a trace
 
 -- the text of the trace of a judged run is the text that is asked for
@@ -270,32 +287,29 @@ unput_run T inputs text is before now OutOfMemory h = elim h [
 
 -- 5. What blocks cost
 
-pub costs_are : (inputs : Inputs) (kept : Kept) (elf : Elf) (plan : List PlanEntry) (work : Work) (trace : List Traced)
-    → IsWorkOf inputs kept elf plan work → IsTraceOf work plan kept trace → (text : List ℕ)
-    → IsCostsText (functions_of elf) work.layout trace text → AreCostsOfRun inputs text
-costs_are inputs kept elf plan work trace asked is text h = record {
+-- the text of the costs of a run that is asked for
+pub costs_are : (inputs : Inputs) (prepared : Prepared) (kept : Kept) (symbols : List Symbol) (text : List ℕ)
+    → IsWorkOf inputs kept prepared.program prepared.rewritten.plan (work_for prepared)
+    → symbols ≡ functions_of prepared.program → IsTextOfRun symbols prepared kept text → AreCostsOfRun inputs text
+costs_are inputs prepared kept symbols text asked named h = record {
   kept = kept;
-  elf = elf;
-  plan = plan;
-  work = work;
+  elf = prepared.program;
+  plan = prepared.rewritten.plan;
+  work = work_for prepared;
   asked = asked;
-  trace = trace;
-  is_trace = is;
-  text_is = h;
+  trace = h.trace;
+  is_trace = h.is_trace;
+  text_is = subst (λ s. IsCostsText s prepared.layout h.trace text) named h.text_is;
 }
 
--- a failure while one of some texts is put is one of the view whose texts these are
-pub costs_unput : (T U : List ℕ → ℕ → Type 0) (inputs : Inputs)
-    → ((text : List ℕ) (status : ℕ) → T text status → U text status) → (before now : SinkState) (f : Failure)
-    → FailsAs T IsNever IsNever before now f → FailsAsRun U inputs before now f
-costs_unput T U inputs is before now (Input line) h = absurd h
-costs_unput T U inputs is before now (NotWritten line) h = absurd h
-costs_unput T U inputs is before now (Refused line) h = absurd h.0
-costs_unput T U inputs is before now (Layout line) h = absurd h.0
-costs_unput T U inputs is before now (Record line) h = absurd h
-costs_unput T U inputs is before now (Text line) h = absurd h
-costs_unput T U inputs is before now Output h = (h.0, (h.1.0, h.1.1, is h.1.0 h.1.1 h.1.2, h.1.3))
-costs_unput T U inputs is before now OutOfMemory h = elim h [
-  | inl same ↦ inl same
-  | inr part ↦ inr (part.0, part.1, is part.0 part.1 part.2, part.3)
-]
+-- a failure while a text is put is one of the view whose text it is
+pub costs_unput : (T : List ℕ → ℕ → Type 0) (inputs : Inputs) (before now : SinkState) (f : Failure)
+    → FailsAs T (IsReplayRefused inputs) (IsBadReplayLayout inputs) before now f → FailsAsRun T inputs before now f
+costs_unput T inputs before now (Input line) h = h
+costs_unput T inputs before now (NotWritten line) h = h
+costs_unput T inputs before now (Refused line) h = h
+costs_unput T inputs before now (Layout line) h = h
+costs_unput T inputs before now (Record line) h = absurd h
+costs_unput T inputs before now (Text line) h = h
+costs_unput T inputs before now Output h = h
+costs_unput T inputs before now OutOfMemory h = h

@@ -12,10 +12,11 @@ use Rattle.judged_files.specs.declared.failure.Failure.{Failure}
 use Rattle.judged_files.specs.declared.failure.Failure.TheVariants.{Input, NotWritten, Refused, Layout, Record, Text, Output, OutOfMemory}
 use Rattle.judged_files.specs.Failures.{FailsAs, IsContent, IsReadFailure, IsReplayRefusal, IsWriteFailure, status_of}
 use Rattle.judged_files.specs.Inputs.{Inputs}
+use Rattle.judged_files.specs.Ready.{work_for}
+use Rattle.judged_files.specs.declared.prepare.Prepared.{Prepared}
 use Rattle.judged_files.specs.Replays.{IsReplayRefused, IsBadReplayLayout, IsBadRecord}
 use Rattle.views.specs.declared.trace.Selection.{Selection}
 use Rattle.elf_symbols.specs.Symbols.{Symbol}
-use Rattle.block_layout.specs.Layout.{Shape}
 use Rattle.run_trace.specs.declared.tracer.Tracer.{Tracer}
 use Rattle.run_trace.specs.declared.traced.Traced.{Traced as Stored}
 use Rattle.run_trace.specs.Given.{traced_of}
@@ -40,12 +41,17 @@ IsTextOfCode batches file text status = IsCodeText batches file text
 abbrev pub IsTextOfTrace : Inputs → Selection → List ℕ → ℕ → Type 0
 IsTextOfTrace inputs s text status = IsTraceText inputs s text
 
--- the text of what blocks cost in a run, and in a trace, with any status
+-- the text of what blocks cost in a run, with any status
 abbrev pub IsTextOfBlocks : Inputs → List ℕ → ℕ → Type 0
 IsTextOfBlocks inputs text status = AreCostsOfRun inputs text
 
-abbrev pub IsTextOfCosts : List Symbol → Shape → List Traced → List ℕ → ℕ → Type 0
-IsTextOfCosts symbols layout trace text status = IsCostsText symbols layout trace text
+-- there is a trace of the whole run that a record tells of, and the text is that of its costs
+pub record IsTextOfRun (symbols : List Symbol) (prepared : Prepared) (kept : Kept) (text : List ℕ)
+    : Type 0
+  where
+    pub trace : List Traced
+    pub is_trace : IsTraceOf (work_for prepared) prepared.rewritten.plan kept trace
+    pub text_is : IsCostsText symbols prepared.layout trace text
 
 -- how a view fails that makes a recorded run once more, and whose texts are these
 abbrev pub FailsAsRun : (List ℕ → ℕ → Type 0) → Inputs → SinkState → SinkState → Failure → Type 0

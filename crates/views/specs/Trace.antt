@@ -1,15 +1,19 @@
 -- The trace of a recorded run, as a text.
-use Rattle.std.specs.Prelude.{◌≡◌, ℕ, ◌-◌, ◌^◌, ◌/◌, Bool, true, false, List, Option, None, Some, option_map, unwrap_or}
+use Rattle.std.specs.Prelude.{◌≡◌, ℕ, ◌-◌, ◌^◌, ◌/◌, Bool, true, false, List, ◌++◌, Option, None, Some, option_map, unwrap_or}
 use Rattle.std.specs.Option.{option_map_or}
+use Rattle.std.specs.List.{flat_map}
 use Rattle.elf32_read.specs.Elf.{Elf}
 use Rattle.block_layout.specs.Layout.{Shape, block_of}
 use Rattle.templates.specs.declared.plans.PlanEntry.{PlanEntry}
 use Rattle.node_model.specs.Node.{Work}
 use Rattle.run_record.specs.declared.Record.{Record}
+use Rattle.run_trace.specs.declared.tracer.Tracer.{Tracer}
 use Rattle.run_trace.specs.Traced.{Traced}
 use Rattle.run_trace.specs.Trace.{IsTraceOf}
+use Rattle.run_trace.specs.Tracing.{HasTraced, plan_traced, record_traced, work_traced}
 use Rattle.event_text.specs.declared.shown.Options.{Options}
-use Rattle.event_text.specs.Shown.{head, trace_text}
+use Rattle.event_text.specs.Events.{event_line}
+use Rattle.event_text.specs.Shown.{head, shown, trace_text}
 use Rattle.judged_files.specs.Inputs.{Inputs}
 use Rattle.judged_files.specs.Replays.{IsWorkOf}
 use Rattle.views.specs.declared.trace.Selection.{Selection}
@@ -57,3 +61,23 @@ pub record IsTraceText (inputs : Inputs) (s : Selection) (text : List ℕ) : Typ
   pub trace : List Traced
   pub is_trace : IsTraceOf work plan kept trace
   pub text_is : text ≡ selected_text elf work.layout s trace
+
+-- of the events of the whole run, none is shown but those that are among these
+abbrev pub ShowsNoMore : Options → Tracer → (seen : List Traced) → Type 0
+ShowsNoMore o t seen = (trace : List Traced)
+    → IsTraceOf (work_traced t) (plan_traced t) (record_traced t) trace
+    → shown o trace ≡ shown o seen
+
+-- more events are traced, and their lines are appended
+pub record HasPushedMore (elf : Elf) (o : Options) (t : Tracer) (seen : List Traced)
+    (lines now : List ℕ) : Type 0
+  where
+    pub more : List Traced
+    pub traced : HasTraced t (seen ++ more)
+    pub lines_are : now ≡ lines ++ flat_map (event_line elf) (shown o more)
+
+-- the lines of more events are appended, or there are no more
+abbrev pub HasPushedOn : Elf → Options → Tracer → (seen : List Traced) → (lines now : List ℕ)
+    → Bool → Type 0
+HasPushedOn elf o t seen lines now true = HasPushedMore elf o t seen lines now
+HasPushedOn elf o t seen lines now false = (now ≡ lines) × ShowsNoMore o t seen

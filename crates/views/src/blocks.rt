@@ -1,19 +1,23 @@
 //! `blocks`: what each block cost in a recorded run.
 
-ghost use Rattle.std.specs.Prelude.{◌≡◌, [], List, IfErr, IfOk, OnOk};
+ghost use Rattle.std.specs.Prelude.{◌≡◌, ◌⊎◌, ℕ, [], List, IfErr, IfOk, IsErrOf, OnOk};
 ghost use Rattle.rewriting_law.specs.Bounds.{RunsRewritten};
 ghost use Rattle.run_record.specs.Record.{IsRecord};
+ghost use Rattle.replay.specs.Refusals.{IsFirstBroken, IsUnfinished};
+ghost use Rattle.replay.specs.declared.refused.ReplayRule.{ReplayRule as Rules};
+ghost use Rattle.replay.specs.declared.refused.ReplayRefused.TheVariants.{Broken};
 ghost use Rattle.run_trace.specs.Traced.{Traced as OfEvent};
 ghost use Rattle.run_trace.specs.Trace.{IsTraceOf};
 ghost use Rattle.run_trace.specs.Tracing.{HasTraced, plan_traced, record_traced, work_traced};
 ghost use Rattle.block_view.specs.Kept.{AreSumsOf, layout_in};
-ghost use Rattle.judged_files.specs.Failures.{FailsAs, IsNever, Puts};
+ghost use Rattle.judged_files.specs.Failures.{IsRecordRefusal, Puts};
 ghost use Rattle.judged_files.specs.Given.{bytes_of};
 ghost use Rattle.judged_files.specs.Ready.{work_for};
+ghost use Rattle.judged_files.specs.Replays.{IsBrokenRun};
 ghost use Rattle.views.specs.Blocks.{IsCostsText};
-ghost use Rattle.views.specs.Failures.{FailsAsRun, IsTextOfBlocks, IsTextOfCosts, TellsWhole};
+ghost use Rattle.views.specs.Failures.{FailsAsRun, IsTextOfBlocks, IsTextOfRun};
 
-use crate::recorded::{RecordedRun, judged_run, next_event};
+use crate::recorded::refusal_of;
 use block_layout::Layout;
 use block_view::Sums;
 use dsm_io::Sink;
@@ -22,10 +26,12 @@ use flow_graph::Graph;
 use judged_files::failure::Failure;
 use judged_files::input::{Inputs, elf_of};
 use judged_files::output::put;
+use judged_files::prepare::{Prepared, prepare_replay};
 use judged_files::refusal::Subject;
 use judged_files::text::push_nodes;
-use replay::replay_law;
-use run_trace::Tracer;
+use replay::ReplayRefused;
+use run_record::Record;
+use run_trace::{Tracer, Until};
 use std::alloc::{AllocError, Global};
 
 /// Puts what each block cost in the run of the record among these files and the executable among
@@ -41,76 +47,63 @@ pub(crate) fn put_blocks<O: Sink>(
         (bytes_of inputs.now) (O.state out.old) (O.state out.new)) }
 {
     let elf = elf_of(alloc, Subject::Executable, inputs.executable)?;
-    let run = judged_run(alloc, &elf, inputs)?;
+    let (prepared, kept) = prepare_replay(alloc, &elf, inputs)?;
     let symbols = Symbols::of(alloc, &elf)?;
-    put_costs(alloc, &run, &symbols, out)
-}
-
-/// Puts what each block cost in a judged run, where these functions name the code.
-fn put_costs<O: Sink>(
-    alloc: Global,
-    run: &RecordedRun<'_>,
-    symbols: &Symbols<'_>,
-    out: &mut O,
-) -> Result<(), Failure>
-    requires rewritten { RunsRewritten (work_for run.now.prepared) }
-    requires record { IsRecord run.now.kept }
-    requires nodes { run.now.prepared.layout.nodes ≡ run.now.kept.nodes }
-    requires whole { TellsWhole (work_for run.now.prepared) run.now.kept }
-    ensures ok { (trace : List OfEvent)
-        → IsTraceOf (work_for run.now.prepared) run.now.prepared.rewritten.plan run.now.kept trace
-        → OnOk result (Puts (IsTextOfCosts symbols.now run.now.prepared.layout trace) 0
-        (O.state out.old) (O.state out.new)) }
-    ensures failure { (trace : List OfEvent)
-        → IsTraceOf (work_for run.now.prepared) run.now.prepared.rewritten.plan run.now.kept trace
-        → IfErr result (FailsAs (IsTextOfCosts symbols.now run.now.prepared.layout trace) IsNever
-        IsNever (O.state out.old) (O.state out.new)) }
-{
-    let text = costs_text(alloc, run, symbols)?;
+    let text = costs_text(alloc, &prepared, &kept, &symbols)?;
     put(out, &text)
 }
 
-/// The text of what each block cost in a judged run. Fails also where a sum has no room.
+/// The text of what each block cost in the run that a record tells of, whose events are refused
+/// otherwise. Fails also where a sum has no room.
 fn costs_text(
     alloc: Global,
-    run: &RecordedRun<'_>,
+    prepared: &Prepared<'_>,
+    kept: &Record,
     symbols: &Symbols<'_>,
-) -> Result<Vec<u8>, AllocError>
-    requires rewritten { RunsRewritten (work_for run.now.prepared) }
-    requires record { IsRecord run.now.kept }
-    requires nodes { run.now.prepared.layout.nodes ≡ run.now.kept.nodes }
-    requires whole { TellsWhole (work_for run.now.prepared) run.now.kept }
-    ensures { (trace : List OfEvent)
-        → IsTraceOf (work_for run.now.prepared) run.now.prepared.rewritten.plan run.now.kept trace
-        → IfOk result (λ t. IsCostsText symbols.now run.now.prepared.layout trace t.items) }
+) -> Result<Vec<u8>, Failure>
+    requires rewritten { RunsRewritten (work_for prepared.now) }
+    requires record { IsRecord kept.now }
+    requires nodes { prepared.now.layout.nodes ≡ kept.now.nodes }
+    ensures ok { IfOk result (λ t. IsTextOfRun symbols.now prepared.now kept.now t.items) }
+    ensures refused { IfErr result
+        (IsRecordRefusal (IsBrokenRun (work_for prepared.now) kept.now)) }
 {
-    let graph = Graph::of(alloc, &run.prepared.program)?;
-    let plan = run.prepared.rewritten.plan();
-    let mut tracer = Tracer::new(alloc, &run.prepared.work(), plan, graph.code(), &run.kept)?;
-    let sums = sums_of(alloc, &run.prepared.layout, &mut tracer)?;
-    text_of(alloc, &sums, symbols)
+    let graph = Graph::of(alloc, &prepared.program)?;
+    let plan = prepared.rewritten.plan();
+    let mut tracer = Tracer::new(alloc, &prepared.work(), plan, graph.code(), kept)?;
+    match sums_of(alloc, &prepared.layout, &mut tracer) {
+        Ok(sums) => Ok(text_of(alloc, &sums, symbols)?),
+        Err(refused) => Err(refusal_of(alloc, refused)),
+    }
 }
 
-/// The sums over the events of a whole run, from its start on. Fails also where a sum has no room.
+/// The sums over the events of a run, from its start on; a run whose events can't be made as they
+/// are told of is refused. Fails also where a sum has no room.
 fn sums_of<'a>(
     alloc: Global,
     layout: &'a Layout,
     tracer: &mut Tracer<'_>,
-) -> Result<Sums<'a>, AllocError>
+) -> Result<Sums<'a>, ReplayRefused>
     requires start { HasTraced tracer.old [] }
-    requires whole { TellsWhole (work_traced tracer.old) (record_traced tracer.old) }
-    ensures sums { (trace : List OfEvent)
-        → IsTraceOf (work_traced tracer.old) (plan_traced tracer.old) (record_traced tracer.old)
-        trace
-        → IfOk result (λ s. AreSumsOf s trace) }
+    ensures sums { IfOk result (λ s. (trace : List OfEvent)
+        × IsTraceOf (work_traced tracer.old) (plan_traced tracer.old) (record_traced tracer.old)
+        trace × AreSumsOf s trace) }
     ensures layout { IfOk result (λ s. layout_in s ≡ layout.now) }
+    ensures refused { (rule : Rules) (node entry : ℕ) → IsErrOf result (Broken rule node entry)
+        → IsFirstBroken (work_traced tracer.old) (record_traced tracer.old) rule node entry
+        ⊎ IsUnfinished (work_traced tracer.old) (record_traced tracer.old) rule node entry }
 {
-    replay_law();
     let mut sums = Sums::new(alloc, layout)?;
-    while let Some(event) = next_event(tracer)? {
-        sums.add(&event)?;
+    loop {
+        sums.laws();
+        if let Some(word) = tracer.pass(Until::Write) {
+            sums.add_passed(&word)?;
+        } else if let Some(event) = tracer.next()? {
+            sums.add(&event)?;
+        } else {
+            return Ok(sums);
+        }
     }
-    Ok(sums)
 }
 
 /// The text of sums: what each node counts, and the lines of the blocks. Fails also where a cost

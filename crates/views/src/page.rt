@@ -1,25 +1,27 @@
 //! `page`: a page that draws a recorded run.
 
-ghost use Rattle.std.specs.Prelude.{◌≡◌, ◌≢◌, [], ◌∷◌, ◌++◌, None, ℕ, List};
+ghost use Rattle.std.specs.Prelude.{◌≡◌, ◌≢◌, ◌<◌, [], ◌∷◌, ◌++◌, None, ℕ, List, true, false};
 ghost use Rattle.std.specs.Prelude.{IfErr, IfOk, OnOk};
 ghost use Rattle.rewriting_law.specs.Bounds.{RunsRewritten};
 ghost use Rattle.run_record.specs.Record.{IsRecord};
 ghost use Rattle.run_trace.specs.Given.{traced_of};
 ghost use Rattle.run_trace.specs.Traced.{Traced as OfEvent};
 ghost use Rattle.run_trace.specs.Trace.{IsTraceOf};
-ghost use Rattle.run_trace.specs.Tracing.{HasTraced, plan_traced, record_traced, work_traced};
+ghost use Rattle.run_trace.specs.Passing.{passed_of};
+ghost use Rattle.run_trace.specs.Tracing.{HasTraced, IsSame, events_to_trace};
+ghost use Rattle.run_trace.specs.Tracing.{plan_traced, record_traced, work_traced};
 ghost use Rattle.event_text.specs.Shown.{shown};
 ghost use Rattle.page_events.specs.Shown.{kept};
 ghost use Rattle.judged_files.specs.Failures.{IsReplayRefusal};
 ghost use Rattle.judged_files.specs.Given.{bytes_of};
 ghost use Rattle.judged_files.specs.Ready.{work_for};
 ghost use Rattle.views.specs.Failures.{IsPageFailure, IsPageWritten, TellsWhole};
-ghost use Rattle.views.specs.Page.{IsPageText, drawn_text};
+ghost use Rattle.views.specs.Page.{HasAddedOn, IsPageText, drawn_text};
 
 use crate::recorded::{RecordedRun, judged_run, next_event_to, read_recorded};
 use crate::trace::Selection;
 use dsm_io::Files;
-use event_text::{Options, is_shown};
+use event_text::{Options, is_passed_shown, is_shown, shown_law};
 use flow_graph::Graph;
 use judged_files::failure::Failure;
 use judged_files::input::{Inputs, elf_of};
@@ -28,7 +30,7 @@ use judged_files::refusal::Subject;
 use page_events::Shown;
 use page_view::{Page, push_page};
 use replay::replay_law;
-use run_trace::{Traced, Tracer};
+use run_trace::{Traced, Tracer, Until, WordPassed};
 use std::alloc::{AllocError, Global};
 
 /// Writes the page of the events that are asked for, of the run of an executable whose record is in
@@ -105,6 +107,7 @@ fn shown_events(
 ) -> Result<Shown, AllocError>
     requires start { HasTraced tracer.old [] }
     requires whole { TellsWhole (work_traced tracer.old) (record_traced tracer.old) }
+    requires words { options.now.words ≡ false }
     ensures { (trace : List OfEvent)
         → IsTraceOf (work_traced tracer.old) (plan_traced tracer.old) (record_traced tracer.old)
         trace
@@ -112,13 +115,60 @@ fn shown_events(
 {
     replay_law();
     let mut events = Shown::new(alloc);
-    while let Some(event) = next_event_to(tracer, options.to)? {
-        add_if_shown(&mut events, options, event)?;
+    while add_next(&mut events, tracer, options)? {
         if events.is_full() {
             return Ok(events);
         }
     }
     Ok(events)
+}
+
+/// Makes words up to the first that accesses memory, or else the next event, and adds it to those
+/// of a page, if it is shown. It says whether there was one that isn't later than all asked for.
+fn add_next(
+    events: &mut Shown,
+    tracer: &mut Tracer<'_>,
+    options: &Options,
+) -> Result<bool, AllocError>
+    requires traced { (seen : List OfEvent) × HasTraced tracer.old seen }
+    requires whole { TellsWhole (work_traced tracer.old) (record_traced tracer.old) }
+    requires words { options.now.words ≡ false }
+    ensures next { (seen : List OfEvent) → HasTraced tracer.old seen
+        → events.old ≡ kept (shown options.now seen)
+        → IfOk result (HasAddedOn options.now tracer.new seen events.new) }
+    ensures same { OnOk result (IsSame tracer.old tracer.new) }
+    ensures fewer { IfOk result (λ more. more ≡ true
+        → events_to_trace tracer.new < events_to_trace tracer.old) }
+{
+    replay_law();
+    shown_law();
+    if let Some(word) = tracer.pass(Until::Access) {
+        if word.stamp > options.to {
+            return Ok(false);
+        }
+        add_passed_if_shown(events, options, &word)?;
+        return Ok(true);
+    }
+    let Some(event) = next_event_to(tracer, options.to)? else {
+        return Ok(false);
+    };
+    add_if_shown(events, options, event)?;
+    Ok(true)
+}
+
+/// Adds a word that only accesses memory to the events of a page, if it is shown.
+fn add_passed_if_shown(
+    events: &mut Shown,
+    options: &Options,
+    word: &WordPassed,
+) -> Result<(), AllocError>
+    ensures { (seen : List OfEvent) → events.old ≡ kept (shown options.now seen)
+        → OnOk result (events.new ≡ kept (shown options.now (seen ++ passed_of word.now ∷ []))) }
+{
+    if !is_passed_shown(options, word) {
+        return Ok(());
+    }
+    events.add_passed(word)
 }
 
 /// Adds an event to those of a page, if it is shown.

@@ -1,6 +1,7 @@
 //! A recorded run: its files, what is judged of them, and its events.
 
-ghost use Rattle.std.specs.Prelude.{◌≡◌, ◌≤◌, ℕ, List, IfErr, IfOk, OnOk};
+ghost use Rattle.std.specs.Prelude.{◌≡◌, ◌⊎◌, ◌≤◌, ℕ, List, IfErr, IfOk, OnOk};
+ghost use Rattle.node_model.specs.Node.{Work as OfRun};
 ghost use Rattle.rewriting_law.specs.Bounds.{RunsRewritten};
 ghost use Rattle.run_trace.specs.Traced.{Traced as OfEvent};
 ghost use Rattle.run_trace.specs.Tracing.{HasTraced, HasGoneOn, IsFewer, IsSame};
@@ -11,8 +12,12 @@ ghost use Rattle.judged_files.specs.Given.{bytes_of, contents_of};
 ghost use Rattle.judged_files.specs.Ready.{work_for};
 ghost use Rattle.judged_files.specs.Replays.{IsBrokenRun, IsWorkOf};
 ghost use Rattle.run_record.specs.Record.{IsRecord};
+ghost use Rattle.run_record.specs.declared.Record.{Record as Kept};
 ghost use Rattle.dsm_core.specs.CoreParts.{outcome_of};
+ghost use Rattle.replay.specs.Refusals.{IsFirstBroken, IsUnfinished};
 ghost use Rattle.replay.specs.Replay.{IsReplay};
+ghost use Rattle.replay.specs.declared.refused.ReplayRule.{ReplayRule as Rules};
+ghost use Rattle.replay.specs.declared.refused.ReplayRefused.TheVariants.{Broken};
 ghost use Rattle.views.specs.Failures.{AreRecorded, HasGoneOnTo, IsRecordingFailure, TellsWhole};
 
 use dsm_core::Outcome;
@@ -93,15 +98,31 @@ fn judge_events(alloc: Global, prepared: &Prepared<'_>, kept: &Record) -> Result
 {
     match replay(alloc, &prepared.work(), kept) {
         Ok(outcome) => Ok(outcome),
-        Err(ReplayRefused::Broken { rule, node, entry }) => {
-            Err(Failure::Record(event_line(alloc, rule, node, entry)?))
+        Err(refused) => Err(refusal_of(alloc, refused)),
+    }
+}
+
+/// The failure of a view whose run is refused: the line of the rule that an event breaks, or want
+/// of memory.
+pub(crate) fn refusal_of(alloc: Global, refused: ReplayRefused) -> Failure
+    ensures { (work : OfRun) (kept : Kept)
+        → ((rule : Rules) (node entry : ℕ) → refused ≡ Broken rule node entry
+        → IsFirstBroken work kept rule node entry ⊎ IsUnfinished work kept rule node entry)
+        → IsRecordRefusal (IsBrokenRun work kept) result }
+{
+    match refused {
+        ReplayRefused::Broken { rule, node, entry } => {
+            match event_line(alloc, rule, node, entry) {
+                Ok(line) => Failure::Record(line),
+                Err(AllocError) => Failure::OutOfMemory,
+            }
         }
-        Err(ReplayRefused::OutOfMemory) => Err(Failure::OutOfMemory),
+        ReplayRefused::OutOfMemory => Failure::OutOfMemory,
     }
 }
 
 /// What the next event of a whole run does; None where all were made.
-pub(crate) fn next_event(tracer: &mut Tracer<'_>) -> Result<Option<Traced>, AllocError>
+fn next_event(tracer: &mut Tracer<'_>) -> Result<Option<Traced>, AllocError>
     requires traced { (seen : List OfEvent) × HasTraced tracer.old seen }
     requires whole { TellsWhole (work_traced tracer.old) (record_traced tracer.old) }
     ensures next { (seen : List OfEvent) → HasTraced tracer.old seen

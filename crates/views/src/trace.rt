@@ -1,6 +1,7 @@
 //! `trace`: what each event of a recorded run did, a line an event.
 
-ghost use Rattle.std.specs.Prelude.{◌≡◌, ◌++◌, ◌∷◌, [], List, IfErr, IfOk, OnOk};
+ghost use Rattle.std.specs.Prelude.{◌≡◌, ◌<◌, ◌++◌, ◌∷◌, [], List, true, false};
+ghost use Rattle.std.specs.Prelude.{IfErr, IfOk, OnOk};
 ghost use Rattle.std.specs.List.{flat_map};
 ghost use Rattle.dsm_io.specs.Causes.{Appends};
 ghost use Rattle.rewriting_law.specs.Bounds.{RunsRewritten};
@@ -8,19 +9,23 @@ ghost use Rattle.run_record.specs.Record.{IsRecord};
 ghost use Rattle.run_trace.specs.Given.{traced_of};
 ghost use Rattle.run_trace.specs.Traced.{Traced as OfEvent};
 ghost use Rattle.run_trace.specs.Trace.{IsTraceOf};
-ghost use Rattle.run_trace.specs.Tracing.{HasTraced, plan_traced, record_traced, work_traced};
+ghost use Rattle.run_trace.specs.Passing.{passed_of};
+ghost use Rattle.run_trace.specs.Tracing.{HasTraced, IsSame, events_to_trace};
+ghost use Rattle.run_trace.specs.Tracing.{plan_traced, record_traced, work_traced};
 ghost use Rattle.event_text.specs.Events.{event_line};
 ghost use Rattle.event_text.specs.Shown.{head, shown, trace_text};
 ghost use Rattle.judged_files.specs.Failures.{FailsAs, IsLike, IsNever, Puts};
 ghost use Rattle.judged_files.specs.Given.{bytes_of};
 ghost use Rattle.judged_files.specs.Ready.{work_for};
 ghost use Rattle.views.specs.Failures.{FailsAsRun, IsTextOfTrace, TellsWhole};
-ghost use Rattle.views.specs.Trace.{options_about, options_at, selected_text};
+ghost use Rattle.views.specs.Trace.{HasPushedOn, options_about, options_at, selected_text};
 
 use crate::recorded::{RecordedRun, judged_run, next_event_to};
 use block_layout::{Block, Layout};
 use dsm_io::Sink;
-use event_text::{Options, is_shown, push_event, push_head};
+use event_text::{
+    Options, is_passed_shown, is_shown, push_event, push_head, push_passed, shown_law,
+};
 use exec_map::Program;
 use flow_graph::Graph;
 use judged_files::failure::Failure;
@@ -28,7 +33,7 @@ use judged_files::input::{Inputs, elf_of};
 use judged_files::output::put;
 use judged_files::refusal::Subject;
 use replay::replay_law;
-use run_trace::{Traced, Tracer};
+use run_trace::{Traced, Tracer, Until, WordPassed};
 use std::alloc::{AllocError, Global};
 
 /// The text is put in pieces of about so many bytes.
@@ -142,6 +147,7 @@ fn put_run<O: Sink>(
     requires record { IsRecord run.now.kept }
     requires nodes { run.now.prepared.layout.nodes ≡ run.now.kept.nodes }
     requires whole { TellsWhole (work_for run.now.prepared) run.now.kept }
+    requires words { options.now.words ≡ false }
     ensures ok { (trace : List OfEvent)
         → IsTraceOf (work_for run.now.prepared) run.now.prepared.rewritten.plan run.now.kept trace
         → OnOk result (Appends (O.state out.old).taken (O.state out.new).taken
@@ -169,6 +175,7 @@ fn put_events<O: Sink>(
 ) -> Result<(), Failure>
     requires start { HasTraced tracer.old [] }
     requires whole { TellsWhole (work_traced tracer.old) (record_traced tracer.old) }
+    requires words { options.now.words ≡ false }
     ensures ok { (trace : List OfEvent)
         → IsTraceOf (work_traced tracer.old) (plan_traced tracer.old) (record_traced tracer.old)
         trace
@@ -183,8 +190,7 @@ fn put_events<O: Sink>(
     replay_law();
     let mut lines = Vec::new(alloc);
     push_head(&mut lines)?;
-    while let Some(event) = next_event_to(tracer, options.to)? {
-        push_if_shown(&mut lines, program, options, &event)?;
+    while push_next(&mut lines, program, tracer, options)? {
         if lines.len() >= PIECE {
             put(out, &lines)?;
             lines.clear();
@@ -192,6 +198,55 @@ fn put_events<O: Sink>(
     }
     put(out, &lines)?;
     Ok(())
+}
+
+/// Makes words up to the first that accesses memory, or else the next event, and appends its line,
+/// if it is shown. It says whether there was one that isn't later than all asked for.
+fn push_next(
+    lines: &mut Vec<u8>,
+    program: &Program<'_>,
+    tracer: &mut Tracer<'_>,
+    options: &Options,
+) -> Result<bool, AllocError>
+    requires traced { (seen : List OfEvent) × HasTraced tracer.old seen }
+    requires whole { TellsWhole (work_traced tracer.old) (record_traced tracer.old) }
+    requires words { options.now.words ≡ false }
+    ensures next { (seen : List OfEvent) → HasTraced tracer.old seen → IfOk result
+        (HasPushedOn program.now options.now tracer.new seen lines.old.items lines.new.items) }
+    ensures same { OnOk result (IsSame tracer.old tracer.new) }
+    ensures fewer { IfOk result (λ more. more ≡ true
+        → events_to_trace tracer.new < events_to_trace tracer.old) }
+{
+    replay_law();
+    shown_law();
+    if let Some(word) = tracer.pass(Until::Access) {
+        if word.stamp > options.to {
+            return Ok(false);
+        }
+        push_passed_if_shown(lines, program, options, &word)?;
+        return Ok(true);
+    }
+    let Some(event) = next_event_to(tracer, options.to)? else {
+        return Ok(false);
+    };
+    push_if_shown(lines, program, options, &event)?;
+    Ok(true)
+}
+
+/// Appends the line of a word that only accesses memory, if it is shown.
+fn push_passed_if_shown(
+    lines: &mut Vec<u8>,
+    program: &Program<'_>,
+    options: &Options,
+    word: &WordPassed,
+) -> Result<(), AllocError>
+    ensures { OnOk result (lines.new.items ≡ lines.old.items
+        ++ flat_map (event_line program.now) (shown options.now (passed_of word.now ∷ []))) }
+{
+    if !is_passed_shown(options, word) {
+        return Ok(());
+    }
+    push_passed(lines, program, word)
 }
 
 /// Appends the line of an event, if it is shown.

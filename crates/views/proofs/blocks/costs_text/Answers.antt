@@ -1,35 +1,31 @@
-use Rattle.std.proofs.Common.{List, refl, ◌∙◌, subst}
-use Rattle.std.specs.Prelude.{IfOk}
-use Rattle.run_trace.specs.Trace.{IsTraceOf, trace_of}
+use Rattle.std.proofs.Common.{◌∙◌, subst}
 use Rattle.judged_files.specs.Ready.{work_for}
 use Rattle.views.specs.Blocks.{IsCostsText}
-use Rattle.views.proofs.Lines.{tells_by, whole_by}
+use Rattle.views.proofs.Summed.{refused_by, traced_by}
 use Rattle.views.proofs.blocks.costs_text.Goals as goal
 
-pub sums_of-requires-clause-whole : goal.sums_of-requires-clause-whole
-sums_of-requires-clause-whole c =
-    tells_by c.in_ok-tracer.tracer (work_for c.args.run.now.prepared) c.args.run.now.kept
-    (c.in_ok-tracer.ensures.work ∙ c.work.ensures.value) c.in_ok-tracer.ensures.rec c.requires.whole
-
 pub text_of-requires : goal.text_of-requires
-text_of-requires c =
-    let run = c.args.run.now in
-    let work = work_for run.prepared in
-    let plan = run.prepared.rewritten.plan in
-    let told = c.requires.whole in
-    let trace = trace_of work plan told.0 in
-    let whole : IsTraceOf work plan run.kept trace = record { told = told.0; whole = told.1; trace_is = refl } in
-    let sums = c.in_ok-sums.ensures.sums trace (whole_by c.in_ok-tracer.tracer work plan run.kept trace
-    (c.in_ok-tracer.ensures.work ∙ c.work.ensures.value) (c.in_ok-tracer.ensures.plan ∙ c.plan-plan.ensures.value)
-    c.in_ok-tracer.ensures.rec whole) in
-    record { kept = (trace, sums) }
+text_of-requires c = record { kept = (c.in-Ok.ensures.sums.0, c.in-Ok.ensures.sums.2) }
 
-pub returns : goal.returns
-returns c = λ trace whole.
-    let run = c.args.run.now in
-    let sums = c.in_ok-sums.ensures.sums trace (whole_by c.in_ok-tracer.tracer (work_for run.prepared)
-    run.prepared.rewritten.plan run.kept trace
-    (c.in_ok-tracer.ensures.work ∙ c.work.ensures.value) (c.in_ok-tracer.ensures.plan ∙ c.plan-plan.ensures.value)
-    c.in_ok-tracer.ensures.rec whole) in
-    subst (λ layout. IfOk c.text_of.result (λ t. IsCostsText c.args.symbols.now layout trace t.items)) c.in_ok-sums.ensures.layout
-    (c.text_of.ensures trace sums)
+pub returns-in-Ok-clause-ok : goal.returns-in-Ok-clause-ok
+returns-in-Ok-clause-ok c =
+    let sums = c.in-Ok.ensures.sums in
+    let prepared = c.args.prepared.now in
+    record {
+      trace = sums.0;
+      is_trace = traced_by c.in_ok-tracer.tracer (work_for prepared) prepared.rewritten.plan c.args.kept.now sums.0
+          (c.in_ok-tracer.ensures.work ∙ c.work.ensures.value) (c.in_ok-tracer.ensures.plan ∙ c.plan-plan.ensures.value)
+          c.in_ok-tracer.ensures.rec sums.1;
+      text_is = subst (λ layout. IsCostsText c.args.symbols.now layout sums.0 c.in_ok-text_of-in-Ok.field-0.items)
+          c.in-Ok.ensures.layout (c.in_ok-text_of-in-Ok.ensures sums.0 sums.2);
+    }
+
+pub returns-clause-refused : goal.returns-clause-refused
+returns-clause-refused c =
+    let work = work_for c.args.prepared.now in
+    let kept = c.args.kept.now in
+    let is = c.in-Err.is in
+    c.refusal_of.ensures work kept (λ rule node entry e.
+    refused_by c.in_ok-tracer.tracer work kept rule node entry
+    (c.in_ok-tracer.ensures.work ∙ c.work.ensures.value) c.in_ok-tracer.ensures.rec
+    (c.sums_of.ensures.refused rule node entry (cc)))

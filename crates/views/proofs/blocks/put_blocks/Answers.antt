@@ -1,20 +1,19 @@
-use Rattle.std.proofs.Common.{◌≡◌, ◌∙◌, ap, inl, refl, subst, sym}
+use Rattle.std.proofs.Common.{◌∙◌, [], ap, append-nil, inl, refl, subst, sym}
 use Rattle.std.proofs.lemmas.Result.{err_from_is_err_and}
 use Rattle.block_layout.specs.Layout.{Shape}
+use Rattle.dsm_io.specs.Causes.{Appends}
 use Rattle.dsm_io.specs.States.{SinkState}
 use Rattle.elf_symbols.specs.Symbols.{functions_of}
-use Rattle.run_trace.specs.Trace.{IsTraceOf, trace_of}
 use Rattle.judged_files.specs.Executables.{IsUnread}
-use Rattle.judged_files.specs.Failures.{FailsAs, IsNever, Puts}
+use Rattle.judged_files.specs.Failures.{IsNever, IsPutFailure, Puts}
 use Rattle.judged_files.specs.Given.{bytes_of}
-use Rattle.judged_files.specs.Ready.{work_for}
-use Rattle.judged_files.specs.Replays.{IsBadReplayLayout}
+use Rattle.judged_files.specs.Replays.{IsBadReplayLayout, IsReplayRefused}
 use Rattle.judged_files.specs.declared.refusal.Subject.TheVariants.{Executable}
-use Rattle.judged_files.proofs.Pieces.{never}
+use Rattle.judged_files.proofs.Pieces.{never, nothing_put, put_fails}
 use Rattle.judged_files.proofs.ReplayLemmas.{replay_refused}
-use Rattle.views.specs.Blocks.{IsCostsText}
-use Rattle.views.specs.Failures.{FailsAsRun, IsTextOfBlocks, IsTextOfCosts}
-use Rattle.views.proofs.Runs.{costs_are, costs_unput, refused_run}
+use Rattle.views.specs.Blocks.{AreCostsOfRun}
+use Rattle.views.specs.Failures.{FailsAsRun, IsTextOfBlocks}
+use Rattle.views.proofs.Runs.{broken_refused, costs_are, costs_unput, refused_run}
 use Rattle.views.proofs.Viewed.{err_as, on_ok_as}
 use Rattle.views.proofs.blocks.put_blocks.Goals as goal
 
@@ -27,65 +26,59 @@ returns-in_err-elf-clause-failure g c =
     (replay_refused inputs (IsUnread Executable inputs.executable) IsNever c.in_err-elf.field-0.0
     (λ line h. inl (inl h)) (never (IsBadReplayLayout inputs)) c.in_err-elf.ensures.refused))
 
-pub returns-in_err-run-clause-failure : goal.returns-in_err-run-clause-failure
-returns-in_err-run-clause-failure g c =
+pub returns-in_err-prepared-clause-failure : goal.returns-in_err-prepared-clause-failure
+returns-in_err-prepared-clause-failure g c =
     let inputs = bytes_of c.args.inputs.now in
     let state : SinkState = g.O.Sink.state c.args.out.now in
-    let e = err_from_is_err_and c.from_residual-in_err-run.result c.from_residual-in_err-run.ensures.1 in
-    rw (e.1, e.2) (refused_run (IsTextOfBlocks inputs) inputs state c.in_err-run.field-0.0
-    c.in_err-run.ensures.refused)
+    let e = err_from_is_err_and c.from_residual-in_err-prepared.result c.from_residual-in_err-prepared.ensures.1 in
+    rw (e.1, e.2) (refused_run (IsTextOfBlocks inputs) inputs state c.in_err-prepared.field-0.0
+    c.in_err-prepared.ensures.refused)
 
-pub put_costs-requires-clause-record : goal.put_costs-requires-clause-record
-put_costs-requires-clause-record g c = c.in_ok-run.ensures.asked.text.is_record
+pub costs_text-requires-clause-record : goal.costs_text-requires-clause-record
+costs_text-requires-clause-record g c = c.in_ok-prepared.ensures.asked.text.is_record
 
-pub put_costs-requires-clause-nodes : goal.put_costs-requires-clause-nodes
-put_costs-requires-clause-nodes g c = ap (λ (s : Shape). s.nodes) c.in_ok-run.ensures.asked.laid_out.layout_is
+pub costs_text-requires-clause-nodes : goal.costs_text-requires-clause-nodes
+costs_text-requires-clause-nodes g c = ap (λ (s : Shape). s.nodes) c.in_ok-prepared.ensures.asked.laid_out.layout_is
+
+pub returns-in_err-text-clause-failure : goal.returns-in_err-text-clause-failure
+returns-in_err-text-clause-failure g c =
+    let inputs = bytes_of c.args.inputs.now in
+    let state : SinkState = g.O.Sink.state c.args.out.now in
+    let e = err_from_is_err_and c.from_residual-in_err-text.result c.from_residual-in_err-text.ensures.1 in
+    rw (e.1, e.2) (refused_run (IsTextOfBlocks inputs) inputs state c.in_err-text.field-0.0
+    (broken_refused inputs c.in_ok-prepared.prepared c.in_ok-prepared.kept c.in_err-text.field-0.0
+    c.in_ok-prepared.ensures.asked c.in_err-text.ensures.refused))
 
 pub returns-clause-ok : goal.returns-clause-ok
 returns-clause-ok g c =
     let inputs = bytes_of c.args.inputs.now in
     let before : SinkState = g.O.Sink.state c.args.out.now in
-    let now : SinkState = g.O.Sink.state c.put_costs.new.out in
-    let run = c.in_ok-run.run' in
-    let work = work_for run.prepared in
-    let plan = run.prepared.rewritten.plan in
-    let elf = run.prepared.program in
-    let whole = c.in_ok-run.ensures.whole in
-    let trace = trace_of work plan whole.0 in
-    let one : IsTraceOf work plan run.kept trace = record { told = whole.0; whole = whole.1; trace_is = refl } in
-    let symbols = c.in_ok-symbols.symbols in
-    let named : symbols ≡ functions_of elf =
-    c.in_ok-symbols.ensures
-    ∙ ap functions_of (c.in_ok-elf.ensures.ok.1 ∙ sym c.in_ok-run.ensures.asked.rewritten.executable.reads.1) in
-    on_ok_as (Puts (IsTextOfCosts symbols work.layout trace) 0 before now) (Puts (IsTextOfBlocks inputs) 0 before now)
-    c.put_costs.result
-    (λ put. (
-      put.0,
-      costs_are inputs run.kept elf plan work trace c.in_ok-run.ensures.asked one put.0
-          (subst (λ s. IsCostsText s work.layout trace put.0) named put.1),
-      put.2,
-    ))
-    (c.put_costs.ensures.ok trace one)
+    let now : SinkState = g.O.Sink.state c.put.new.out in
+    let text = c.deref.result.now in
+    let prepared = c.in_ok-prepared.prepared in
+    let asked = c.in_ok-prepared.ensures.asked in
+    let named = c.in_ok-symbols.ensures
+    ∙ ap functions_of (c.in_ok-elf.ensures.ok.1 ∙ sym asked.rewritten.executable.reads.1) in
+    let is : AreCostsOfRun inputs text = subst (AreCostsOfRun inputs) (sym c.deref.ensures.value)
+    (costs_are inputs prepared c.in_ok-prepared.kept c.in_ok-symbols.symbols c.in_ok-text.text.items asked named
+    c.in_ok-text.ensures.ok) in
+    on_ok_as (Appends before.taken now.taken text) (Puts (IsTextOfBlocks inputs) 0 before now) c.put.result
+    (λ put. (text, is, put)) c.put.ensures.ok
 
 pub returns-clause-failure : goal.returns-clause-failure
 returns-clause-failure g c =
     let inputs = bytes_of c.args.inputs.now in
     let before : SinkState = g.O.Sink.state c.args.out.now in
-    let now : SinkState = g.O.Sink.state c.put_costs.new.out in
-    let run = c.in_ok-run.run' in
-    let work = work_for run.prepared in
-    let plan = run.prepared.rewritten.plan in
-    let elf = run.prepared.program in
-    let whole = c.in_ok-run.ensures.whole in
-    let trace = trace_of work plan whole.0 in
-    let one : IsTraceOf work plan run.kept trace = record { told = whole.0; whole = whole.1; trace_is = refl } in
-    let symbols = c.in_ok-symbols.symbols in
-    let named : symbols ≡ functions_of elf =
-    c.in_ok-symbols.ensures
-    ∙ ap functions_of (c.in_ok-elf.ensures.ok.1 ∙ sym c.in_ok-run.ensures.asked.rewritten.executable.reads.1) in
-    err_as (FailsAs (IsTextOfCosts symbols work.layout trace) IsNever IsNever before now)
-    (FailsAsRun (IsTextOfBlocks inputs) inputs before now) c.put_costs.result
-    (costs_unput (IsTextOfCosts symbols work.layout trace) (IsTextOfBlocks inputs) inputs
-    (λ text status h. costs_are inputs run.kept elf plan work trace c.in_ok-run.ensures.asked one text
-    (subst (λ s. IsCostsText s work.layout trace text) named h)) before now)
-    (c.put_costs.ensures.failure trace one)
+    let now : SinkState = g.O.Sink.state c.put.new.out in
+    let text = c.deref.result.now in
+    let prepared = c.in_ok-prepared.prepared in
+    let asked = c.in_ok-prepared.ensures.asked in
+    let named = c.in_ok-symbols.ensures
+    ∙ ap functions_of (c.in_ok-elf.ensures.ok.1 ∙ sym asked.rewritten.executable.reads.1) in
+    let is : AreCostsOfRun inputs text = subst (AreCostsOfRun inputs) (sym c.deref.ensures.value)
+    (costs_are inputs prepared c.in_ok-prepared.kept c.in_ok-symbols.symbols c.in_ok-text.text.items asked named
+    c.in_ok-text.ensures.ok) in
+    err_as (IsPutFailure before now text) (FailsAsRun (IsTextOfBlocks inputs) inputs before now) c.put.result
+    (λ f h. costs_unput (IsTextOfBlocks inputs) inputs before now f
+    (put_fails (IsTextOfBlocks inputs) (IsReplayRefused inputs) (IsBadReplayLayout inputs) text 0 before before now []
+    text [] f is (sym (append-nil text)) (nothing_put before.taken) refl h)) c.put.ensures.failure

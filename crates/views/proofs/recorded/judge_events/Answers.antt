@@ -1,24 +1,11 @@
+use Rattle.views.proofs.Summed.{IsRefusedAt}
 use Rattle.std.proofs.Common.{subst}
-use Rattle.std.specs.Prelude.{◌⊎◌}
-use Rattle.node_model.specs.Node.{Work}
-use Rattle.replay.specs.Refusals.{IsFirstBroken, IsUnfinished}
+use Rattle.judged_files.specs.Ready.{work_for}
 use Rattle.views.proofs.recorded.judge_events.Goals as goal
 
-pub returns-in_ok-event_line-in-Err-Broken-clause-refused :
-    goal.returns-in_ok-event_line-in-Err-Broken-clause-refused
-returns-in_ok-event_line-in-Err-Broken-clause-refused c =
+pub returns-in-Err-clause-refused : goal.returns-in-Err-clause-refused
+returns-in-Err-clause-refused c =
     let kept = c.args.kept.now in
-    let rule = c.in-Err-Broken.rule in
-    let node = c.in-Err-Broken.node in
-    let entry = c.in-Err-Broken.entry in
-    let is = c.in-Err-Broken.is in
-    let rule_is = c.in-Err-Broken.field-0-is in
-    record {
-      rule = rule;
-      node = node;
-      entry = entry;
-      broken = subst (λ (w : Work). IsFirstBroken w kept rule node entry
-          ⊎ IsUnfinished w kept rule node entry) c.work.ensures.value
-          (c.replay.ensures.refused rule node entry (cc));
-      line_is = c.in_ok-event_line-in-Err-Broken.ensures;
-    }
+    let is = c.in-Err.is in
+    c.refusal_of.ensures (work_for c.args.prepared.now) kept (λ rule node entry e.
+    subst (λ w. IsRefusedAt w kept rule node entry) c.work.ensures.value (c.replay.ensures.refused rule node entry (cc)))
