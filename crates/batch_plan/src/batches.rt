@@ -6,8 +6,8 @@ ghost use Rattle.templates.specs.WholePlan.{IsPlanOf, IsRunChoice};
 ghost use Rattle.batch_plan.specs.Batches.{without_run, behind, HasRunFrom};
 
 use crate::runs::longest_run;
+use check_plan::liveness::Live;
 use check_plan::{NO_SCRATCHES, choose};
-use liveness::Live;
 use rv32_decode::{Reg, RegSet};
 use templates::{Plan, PlanEntry, Scratches};
 

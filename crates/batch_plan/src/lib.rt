@@ -8,4 +8,6 @@ mod runs;
 mod stretches;
 
 pub use batches::plan_batches;
+pub use check_plan;
+pub use check_plan::liveness;
 pub use runs::run_base;

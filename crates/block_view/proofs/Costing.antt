@@ -11,13 +11,13 @@ use Rattle.templates.specs.declared.places.Place.{Place}
 use Rattle.node_model.specs.declared.NodeCounts.{NodeCounts}
 use Rattle.node_model.specs.Node.{no_counts}
 use Rattle.block_layout.specs.Update.{changed}
-use Rattle.node_machine.specs.declared.wanted.Wanted.{Wanted}
-use Rattle.node_machine.specs.declared.wanted.WantedBlocks.{WantedBlocks}
-use Rattle.node_machine.specs.Wanted.{wanted_in}
-use Rattle.run_trace.specs.declared.traced.WordTraced.{WordTraced}
-use Rattle.run_trace.specs.Given.{word_of}
-use Rattle.run_trace.specs.Traced.{Traced, What, Word, Taken}
-use Rattle.run_trace.specs.Sums.{count_asked, count_wants, count_in, counts_from}
+use Rattle.event_text.specs.node_machine.declared.wanted.Wanted.{Wanted}
+use Rattle.event_text.specs.node_machine.declared.wanted.WantedBlocks.{WantedBlocks}
+use Rattle.event_text.specs.node_machine.Wanted.{wanted_in}
+use Rattle.event_text.specs.run_trace.declared.traced.WordTraced.{WordTraced}
+use Rattle.event_text.specs.run_trace.Given.{word_of}
+use Rattle.event_text.specs.run_trace.Traced.{Traced, What, Word, Taken}
+use Rattle.event_text.specs.run_trace.Sums.{count_asked, count_wants, count_in, counts_from}
 use Rattle.event_text.specs.Shown.{is_block}
 use Rattle.block_view.specs.declared.costs.BlockCosts.{BlockCosts}
 use Rattle.block_view.specs.Counts.{messages_in, wants_of, count_about, block_counts_from, misses_of, asks_in, times}

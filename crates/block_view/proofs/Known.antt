@@ -18,11 +18,11 @@ use Rattle.node_model.specs.Node.{Work, Node, Want}
 use Rattle.node_model.specs.Turns.{Turn, want_in, by_row_or, treated, journaled, after_word, each_block_once, wants_of}
 use Rattle.node_model.specs.Node.{word_outcome}
 use Rattle.node_model.specs.Core.{Core, Event, Exec, Take, event_step}
-use Rattle.run_order.specs.OwnRun.{Stamped}
-use Rattle.node_machine.specs.Wanted.{block_with, wanted, wants_along, wants_of_word}
-use Rattle.node_machine.specs.declared.wanted.Wanted.{Wanted}
-use Rattle.run_trace.specs.Traced.{Traced, What, Word, Taken, row_met, take_traced, word_traced, first_traced, traced_at}
-use Rattle.run_trace.specs.Trace.{trace_from}
+use Rattle.event_text.specs.run_order.OwnRun.{Stamped}
+use Rattle.event_text.specs.node_machine.Wanted.{block_with, wanted, wants_along, wants_of_word}
+use Rattle.event_text.specs.node_machine.declared.wanted.Wanted.{Wanted}
+use Rattle.event_text.specs.run_trace.Traced.{Traced, What, Word, Taken, row_met, take_traced, word_traced, first_traced, traced_at}
+use Rattle.event_text.specs.run_trace.Trace.{trace_from}
 use Rattle.block_view.specs.Counts.{is_below, IsOfBlocks}
 
 abbrev pub HasBlocks : Shape → Type 0

@@ -6,12 +6,12 @@ use Rattle.std.proofs.lemmas.List.Elements.{All-head, All-tail}
 use Rattle.templates.specs.declared.places.Place.{Place}
 use Rattle.node_model.specs.declared.NodeCounts.{NodeCounts}
 use Rattle.node_model.specs.Node.{no_counts, counts_after}
-use Rattle.node_machine.specs.declared.wanted.Wanted.{Wanted}
-use Rattle.run_trace.specs.declared.passed.Until.TheVariants as until
-use Rattle.run_trace.specs.declared.traced.Accessed.{Accessed}
-use Rattle.run_trace.specs.Traced.{OfWord, What, Word, Taken, Traced}
-use Rattle.run_trace.specs.Sums.{count_in, count_wants, counts_from}
-use Rattle.run_trace.specs.Passing.{IsPassed, IsPassedWhat, IsPlainWord, is_write}
+use Rattle.event_text.specs.node_machine.declared.wanted.Wanted.{Wanted}
+use Rattle.event_text.specs.run_trace.declared.passed.Until.TheVariants as until
+use Rattle.event_text.specs.run_trace.declared.traced.Accessed.{Accessed}
+use Rattle.event_text.specs.run_trace.Traced.{OfWord, What, Word, Taken, Traced}
+use Rattle.event_text.specs.run_trace.Sums.{count_in, count_wants, counts_from}
+use Rattle.event_text.specs.run_trace.Passing.{IsPassed, IsPassedWhat, IsPlainWord, is_write}
 use Rattle.event_text.specs.Shown.{is_block}
 use Rattle.block_view.specs.Counts.{count_about, block_counts, wants_of, asks_in, misses_of}
 use Rattle.block_view.specs.Kept.{AreCostsOf, AreTotals, AreSumsOf}

@@ -14,9 +14,9 @@ use Rattle.home_directory.specs.declared.messages.Need.TheVariants as need
 use Rattle.node_model.specs.declared.NodeCounts.{NodeCounts}
 use Rattle.node_model.specs.Node.{Tally, Nothing_counted, FalseMiss, FallsBack, no_counts, counts_after}
 use Rattle.node_model.specs.Turns.{count_want, count_row}
-use Rattle.node_machine.specs.declared.wanted.Wanted.{Wanted}
-use Rattle.run_trace.specs.Traced.{OfWord, OfTake, Traced, What, Word, Taken}
-use Rattle.run_trace.specs.Sums.{count_asked, count_wants, count_in, counts_from}
+use Rattle.event_text.specs.node_machine.declared.wanted.Wanted.{Wanted}
+use Rattle.event_text.specs.run_trace.Traced.{OfWord, OfTake, Traced, What, Word, Taken}
+use Rattle.event_text.specs.run_trace.Sums.{count_asked, count_wants, count_in, counts_from}
 use Rattle.event_text.specs.Shown.{is_block}
 use Rattle.block_view.specs.Counts.{wants_of, count_about, block_counts_from, block_counts, is_below, IsOfBlocks, AreSums, sum_over}
 

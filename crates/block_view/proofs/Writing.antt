@@ -9,8 +9,8 @@ use Rattle.std.proofs.lemmas.Bool.{eq-eqb, ne_eqb, eqb-true}
 use Rattle.std.proofs.lemmas.Bool.Decides.{eqb_tells}
 use Rattle.std.proofs.lemmas.List.{length-append, append-nil, append_assoc, get_or_append_left}
 use Rattle.std.proofs.Math.Seq.{get_or-append_seam}
-use Rattle.run_trace.specs.declared.traced.Accessed.{Accessed}
-use Rattle.run_trace.specs.Traced.{Traced, What, Word, Taken}
+use Rattle.event_text.specs.run_trace.declared.traced.Accessed.{Accessed}
+use Rattle.event_text.specs.run_trace.Traced.{Traced, What, Word, Taken}
 use Rattle.block_view.specs.declared.sharing.Writer.{Writer}
 use Rattle.block_view.specs.declared.sharing.Writer.TheVariants as writer
 use Rattle.block_view.specs.declared.sharing.Words.{Words}

@@ -5,9 +5,9 @@ use Rattle.std.specs.List.{range_with_len, sum_by, count_by, flat_map}
 use Rattle.node_model.specs.declared.NodeCounts.{NodeCounts}
 use Rattle.node_model.specs.Node.{no_counts}
 use Rattle.node_model.specs.Turns.{count_row}
-use Rattle.node_machine.specs.declared.wanted.Wanted.{Wanted}
-use Rattle.run_trace.specs.Traced.{OfWord, OfTake, Traced, What, Word, Taken}
-use Rattle.run_trace.specs.Sums.{count_wants, counts_from}
+use Rattle.event_text.specs.node_machine.declared.wanted.Wanted.{Wanted}
+use Rattle.event_text.specs.run_trace.Traced.{OfWord, OfTake, Traced, What, Word, Taken}
+use Rattle.event_text.specs.run_trace.Sums.{count_wants, counts_from}
 use Rattle.event_text.specs.Shown.{is_block}
 
 -- 1. What a node counts of a block

@@ -9,9 +9,9 @@ use Rattle.templates.specs.declared.places.Place.{Place}
 use Rattle.node_model.specs.declared.NodeCounts.{NodeCounts}
 use Rattle.node_model.specs.Node.{no_counts}
 use Rattle.node_model.specs.Turns.{count_row}
-use Rattle.node_machine.specs.declared.wanted.Wanted.{Wanted}
-use Rattle.run_trace.specs.Traced.{Traced, What}
-use Rattle.run_trace.specs.Sums.{count_asked, count_in, counts_from}
+use Rattle.event_text.specs.node_machine.declared.wanted.Wanted.{Wanted}
+use Rattle.event_text.specs.run_trace.Traced.{Traced, What}
+use Rattle.event_text.specs.run_trace.Sums.{count_asked, count_in, counts_from}
 use Rattle.event_text.specs.Shown.{is_block}
 use Rattle.block_view.specs.Text.{IsNoted, Section}
 use Rattle.block_view.specs.Sharing.{writes_of}

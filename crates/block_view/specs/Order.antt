@@ -2,7 +2,7 @@
 use Rattle.std.specs.Prelude.{◌≡◌, ℕ, ◌+◌, ◌^◌, ◌<◌, ◌≤◌, nat_lt, All, List, map, filter, length, slice_index_or}
 use Rattle.std.specs.List.{range_with_len}
 use Rattle.std.specs.List.Sorted.{IsPermutation}
-use Rattle.run_trace.specs.Traced.{Traced}
+use Rattle.event_text.specs.run_trace.Traced.{Traced}
 use Rattle.block_view.specs.declared.order.Ranked.{Ranked}
 use Rattle.block_view.specs.Counts.{cost_of}
 

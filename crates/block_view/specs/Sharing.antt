@@ -2,9 +2,9 @@
 use Rattle.std.specs.Prelude.{ℕ, ◌/◌, Bool, true, false, not, ◌&&◌, ◌||◌, ◌==◌, if◌then◌else◌, List, [], ◌∷◌, Option}
 use Rattle.std.specs.Option.{option_map_or}
 use Rattle.std.specs.List.{flat_map, list_any, list_all}
-use Rattle.run_trace.specs.declared.traced.Accessed.{Accessed}
-use Rattle.run_trace.specs.Traced.{Traced, What, Word, Taken}
-use Rattle.run_trace.specs.Passing.{is_write}
+use Rattle.event_text.specs.run_trace.declared.traced.Accessed.{Accessed}
+use Rattle.event_text.specs.run_trace.Traced.{Traced, What, Word, Taken}
+use Rattle.event_text.specs.run_trace.Passing.{is_write}
 use Rattle.event_text.specs.Shown.{is_block}
 
 -- a write: the node that makes it, and the aligned word of four bytes that it writes in

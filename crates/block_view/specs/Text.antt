@@ -10,7 +10,7 @@ use Rattle.elf_symbols.specs.Symbols.{Symbol, symbol_at}
 use Rattle.rv32_text.specs.Listing.{word_digits}
 use Rattle.block_layout.specs.Layout.{Shape, blocks, first_line, lines, home}
 use Rattle.node_model.specs.declared.NodeCounts.{NodeCounts}
-use Rattle.run_trace.specs.Traced.{Traced}
+use Rattle.event_text.specs.run_trace.Traced.{Traced}
 use Rattle.block_view.specs.declared.order.Ranked.{Ranked}
 use Rattle.block_view.specs.Counts.{block_counts, misses_of, times}
 use Rattle.block_view.specs.Order.{costly, IsOrder}

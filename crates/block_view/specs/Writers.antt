@@ -3,8 +3,8 @@ use Rattle.std.specs.Prelude.{◌≡◌, ◌≢◌, ℕ, zero, suc, ◌<◌, Boo
 use Rattle.std.specs.Option.{option_map_or}
 use Rattle.std.specs.Ordering.{nat_cmp}
 use Rattle.std.specs.BTreeMap.{get}
-use Rattle.run_trace.specs.declared.traced.Accessed.{Accessed}
-use Rattle.run_trace.specs.Traced.{Traced}
+use Rattle.event_text.specs.run_trace.declared.traced.Accessed.{Accessed}
+use Rattle.event_text.specs.run_trace.Traced.{Traced}
 use Rattle.block_view.specs.Sharing.{Write, writes_in, written_at, written_by}
 use Rattle.block_view.specs.declared.sharing.Writer.{Writer}
 use Rattle.block_view.specs.declared.sharing.Writer.TheVariants as writer

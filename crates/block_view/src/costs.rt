@@ -5,18 +5,18 @@ ghost use Rattle.block_layout.specs.Update.{changed};
 ghost use Rattle.node_model.specs.Turns as turns;
 ghost use Rattle.std.specs.Option.{option_map};
 ghost use Rattle.node_model.specs.Node.{counts_after};
-ghost use Rattle.node_machine.specs.Wanted.{wanted_in};
-ghost use Rattle.run_trace.specs.Given.{what_of, tally_of};
-ghost use Rattle.run_trace.specs.Sums.{count_asked, count_wants, count_in};
+ghost use Rattle.event_text.specs.node_machine.Wanted.{wanted_in};
+ghost use Rattle.event_text.specs.run_trace.Given.{what_of, tally_of};
+ghost use Rattle.event_text.specs.run_trace.Sums.{count_asked, count_wants, count_in};
 ghost use Rattle.block_view.specs.Kept.{counts_at, noted};
 ghost use Rattle.block_view.specs.Text.{IsNoted};
 ghost use Rattle.std.specs.Ordering.{nat_cmp};
 ghost use Rattle.std.specs.BTreeMap.{get};
 
 use block_layout::Block;
+use event_text::node_machine::{NodeCounts, Wanted, WantedBlocks};
+use event_text::run_trace::{TakeTraced, Tallied, Traced, What, WordTraced};
 use home_directory::Need;
-use node_machine::{NodeCounts, Wanted, WantedBlocks};
-use run_trace::{TakeTraced, Tallied, Traced, What, WordTraced};
 use state_table::State;
 use std::alloc::{AllocError, Global};
 use std::collections::BTreeMap;
@@ -49,7 +49,7 @@ impl BlockCosts {
     ghost use Rattle.node_model.specs.declared.NodeCounts.{NodeCounts as OfNode};
     ghost use Rattle.node_model.specs.Node.{no_counts};
     ghost use Rattle.node_model.specs.Turns as turns;
-    ghost use Rattle.run_trace.specs.Sums.{count_asked};
+    ghost use Rattle.event_text.specs.run_trace.Sums.{count_asked};
     ghost use Rattle.block_view.specs.Kept.{IsCostOf, counts_at, place_asked};
 
     /// Of a block that has cost nothing.
@@ -281,8 +281,8 @@ impl Costs {
     ghost use Rattle.std.specs.Option.{option_map};
     ghost use Rattle.node_model.specs.declared.NodeCounts.{NodeCounts as OfNode};
     ghost use Rattle.node_model.specs.Node.{no_counts};
-    ghost use Rattle.run_trace.specs.Given.{what_of, traced_of, word_of, take_of};
-    ghost use Rattle.run_trace.specs.Traced.{Word, Taken};
+    ghost use Rattle.event_text.specs.run_trace.Given.{what_of, traced_of, word_of, take_of};
+    ghost use Rattle.event_text.specs.run_trace.Traced.{Word, Taken};
     ghost use Rattle.block_view.specs.Kept.{AreCostsOf, counts_with, places_with, counts_by};
     ghost use Rattle.block_view.specs.Kept.{places_by, places_for, counts_for, counts_at};
     ghost use Rattle.block_view.specs.Kept.{counts_in, sites_in};

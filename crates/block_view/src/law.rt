@@ -4,14 +4,14 @@ ghost use Rattle.std.specs.Prelude.{◌≡◌, ◌<◌, ℕ, List, All, slice_in
 ghost use Rattle.block_layout.specs.Layout.{IsValid, blocks};
 ghost use Rattle.node_model.specs.Node.{Work, no_counts};
 ghost use Rattle.node_model.specs.Outcome.{counts_after};
-ghost use Rattle.replay.specs.Told.{Told, events_told};
+ghost use Rattle.event_text.specs.replay.Told.{Told, events_told};
 ghost use Rattle.templates.specs.declared.plans.PlanEntry.{PlanEntry};
-ghost use Rattle.run_trace.specs.Traced.{Traced};
-ghost use Rattle.run_trace.specs.Trace.{trace_of};
+ghost use Rattle.event_text.specs.run_trace.Traced.{Traced};
+ghost use Rattle.event_text.specs.run_trace.Trace.{trace_of};
 ghost use Rattle.block_view.specs.Counts.{IsOfBlocks, AreSums, AreSumsTo};
 
 use block_layout::layout_law;
-use run_trace::trace_law;
+use event_text::run_trace::trace_law;
 
 /// What a node counts in a run is the sum of what it counts of each block. The call does nothing.
 pub fn block_law()

@@ -10,5 +10,6 @@ mod sharing;
 mod sums;
 mod totals;
 
+pub use event_text;
 pub use law::block_law;
 pub use sums::Sums;

@@ -12,8 +12,8 @@ use crate::order::{Ranked, in_order};
 use crate::sums::Sums;
 use block_layout::{Block, Layout, layout_law};
 use elf_symbols::Symbols;
+use event_text::node_machine::NodeCounts;
 use itoa::Buffer;
-use node_machine::NodeCounts;
 use rv32_text::push_word;
 use std::alloc::{AllocError, Global};
 use std::collections::BTreeMap;
@@ -24,7 +24,7 @@ const WIDTH: usize = 10;
 impl<'a> Sums<'a> {
     ghost use Rattle.std.specs.Prelude.{◌≡◌, ◌++◌, ◌<◌, List, OnOk, All, length};
     ghost use Rattle.block_layout.specs.Layout.{blocks};
-    ghost use Rattle.run_trace.specs.Traced.{Traced as OfEvent};
+    ghost use Rattle.event_text.specs.run_trace.Traced.{Traced as OfEvent};
     ghost use Rattle.block_view.specs.Kept.{AreSumsOf, layout_in, kept_in, sites_in};
     ghost use Rattle.block_view.specs.Text.{IsAscending, IsBlocksText, block_text, block_lines};
 

@@ -3,7 +3,7 @@
 ghost use Rattle.std.specs.Prelude.{◌≡◌, ◌<◌, ◌++◌, ◌∷◌, [], ℕ, List, OnOk, IfOk, length, nat_lt};
 ghost use Rattle.std.specs.Prelude.{All, if◌then◌else◌};
 ghost use Rattle.node_model.specs.declared.NodeCounts.{NodeCounts as OfNode};
-ghost use Rattle.run_trace.specs.Traced.{Traced as OfEvent};
+ghost use Rattle.event_text.specs.run_trace.Traced.{Traced as OfEvent};
 ghost use Rattle.block_view.specs.Counts.{block_counts, misses_of, messages_in};
 ghost use Rattle.block_view.specs.Kept.{AreCostsOf};
 ghost use Rattle.block_view.specs.Order as model;

@@ -4,12 +4,12 @@ ghost use Rattle.std.specs.Prelude.{◌≡◌, ◌++◌, ◌∷◌, ℕ, List, [
 ghost use Rattle.std.specs.Ordering.{nat_cmp};
 ghost use Rattle.std.specs.BTreeMap.{get};
 ghost use Rattle.block_layout.specs.Update.{changed};
-ghost use Rattle.run_trace.specs.Passing.{is_write};
+ghost use Rattle.event_text.specs.run_trace.Passing.{is_write};
 ghost use Rattle.block_view.specs.Sharing as model;
 ghost use Rattle.block_view.specs.Writers.{IsWriterOf, write_of};
 
 use block_layout::Block;
-use run_trace::{AccessKind, Accessed, Traced, What};
+use event_text::run_trace::{AccessKind, Accessed, Traced, What};
 use std::alloc::{AllocError, Global};
 use std::collections::BTreeMap;
 
@@ -140,7 +140,7 @@ pub(crate) struct Sharing {
 
 impl Sharing {
     ghost use Rattle.std.specs.Prelude.{◌≡◌, ◌<◌, ℕ, List, [], length, IfOk, OnOk};
-    ghost use Rattle.run_trace.specs.Given.{traced_of};
+    ghost use Rattle.event_text.specs.run_trace.Given.{traced_of};
     ghost use Rattle.block_view.specs.Sharing.{Write};
     ghost use Rattle.block_view.specs.Writers.{AreSharedBy, writes_by, writes_with, shared_in};
 

@@ -4,8 +4,8 @@ use crate::costs::Costs;
 use crate::sharing::Sharing;
 use crate::totals::Totals;
 use block_layout::Layout;
-use node_machine::NodeCounts;
-use run_trace::{Traced, WordPassed};
+use event_text::node_machine::NodeCounts;
+use event_text::run_trace::{Traced, WordPassed};
 use std::alloc::{AllocError, Global};
 
 /// Sums over the events of a run: what each block costs, what each node counts, and which nodes
@@ -21,11 +21,11 @@ pub struct Sums<'a> {
 
 impl<'a> Sums<'a> {
     ghost use Rattle.std.specs.Prelude.{◌≡◌, ◌++◌, ◌∷◌, List, [], All, IfOk, OnOk};
-    ghost use Rattle.run_trace.specs.Given.{traced_of};
-    ghost use Rattle.run_trace.specs.Traced.{Traced as OfEvent};
-    ghost use Rattle.run_trace.specs.Passing.{IsPassed, passed_of};
-    ghost use Rattle.run_trace.specs.declared.passed.Until.TheVariants.{Write};
-    ghost use Rattle.run_trace.specs.Sums.{counts_by_node};
+    ghost use Rattle.event_text.specs.run_trace.Given.{traced_of};
+    ghost use Rattle.event_text.specs.run_trace.Traced.{Traced as OfEvent};
+    ghost use Rattle.event_text.specs.run_trace.Passing.{IsPassed, passed_of};
+    ghost use Rattle.event_text.specs.run_trace.declared.passed.Until.TheVariants.{Write};
+    ghost use Rattle.event_text.specs.run_trace.Sums.{counts_by_node};
     ghost use Rattle.block_view.specs.Kept.{AreSumsOf, layout_in};
 
     /// The sums of no event, over the blocks of a layout.

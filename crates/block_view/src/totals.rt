@@ -1,8 +1,8 @@
 //! What each node counts in all.
 
 use crate::costs::{NO_COUNTS, counted};
-use node_machine::NodeCounts;
-use run_trace::Traced;
+use event_text::node_machine::NodeCounts;
+use event_text::run_trace::Traced;
 use std::alloc::{AllocError, Global};
 
 /// What each node counts.
@@ -15,7 +15,7 @@ impl Totals {
     ghost use Rattle.std.specs.Prelude.{◌≡◌, ℕ, List, length, IfOk, OnOk};
     ghost use Rattle.node_model.specs.declared.NodeCounts.{NodeCounts as OfNode};
     ghost use Rattle.node_model.specs.Node.{no_counts};
-    ghost use Rattle.run_trace.specs.Given.{traced_of};
+    ghost use Rattle.event_text.specs.run_trace.Given.{traced_of};
     ghost use Rattle.block_view.specs.Kept.{AreTotals, total_by};
 
     /// Of so many nodes that have counted nothing.

@@ -1,1 +1,2 @@
 pub mod Members
+pub use Rattle.liveness.specs as liveness

@@ -8,5 +8,6 @@ mod planning;
 mod scratches;
 
 pub use laws::plan_law;
+pub use liveness;
 pub use planning::{plan_checks, scratch_count};
 pub use scratches::{NO_SCRATCH, NO_SCRATCHES, choose};

@@ -5,3 +5,5 @@ pub mod calls;
 pub mod cases;
 pub mod samples;
 pub mod watch;
+
+pub use commands;

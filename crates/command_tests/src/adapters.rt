@@ -1,6 +1,6 @@
 //! The adapters of the real system.
 
-use commands::{Gate, OpenGate};
+use command_calls::commands::{Gate, OpenGate};
 use dsm_io::{FileError, Files, RealFiles, Sink, StdSink, Text};
 use std::alloc::{AllocError, Global};
 use std::fs;

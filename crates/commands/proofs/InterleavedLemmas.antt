@@ -18,13 +18,13 @@ use Rattle.templates.specs.declared.plans.PlanEntry.{PlanEntry}
 use Rattle.node_model.specs.Node.{Work, Phase, Running, Resumed, Waiting, Ended, end_of}
 use Rattle.node_model.specs.Core.{Event, opening_core, after}
 use Rattle.node_model.specs.Outcome.{Outcome}
-use Rattle.run_order.specs.OwnRun.{Stamped, run_of}
-use Rattle.rewriting_law.specs.CoreRun.{picks_of}
-use Rattle.rewriting_law.specs.Interleaving.{EndsAs, original_by_node, original_after}
-use Rattle.lane_model.specs.Nodes.{LaneWork, processors}
-use Rattle.lane_model.specs.Core.{LaneEvent, opening_core as opening_lanes, after as after_lanes}
-use Rattle.lane_law.specs.Law.{original_by_lane, phase_of, original_after as lanes_after}
-use Rattle.lane_law.specs.Picks.{picks_of as picks_of_lanes}
+use Rattle.judged_files.specs.run_order.OwnRun.{Stamped, run_of}
+use Rattle.judged_files.specs.rewriting_law.CoreRun.{picks_of}
+use Rattle.judged_files.specs.rewriting_law.Interleaving.{EndsAs, original_by_node, original_after}
+use Rattle.smp_sim.specs.lane_model.Nodes.{LaneWork, processors}
+use Rattle.smp_sim.specs.lane_model.Core.{LaneEvent, opening_core as opening_lanes, after as after_lanes}
+use Rattle.smp_sim.specs.lane_law.Law.{original_by_lane, phase_of, original_after as lanes_after}
+use Rattle.smp_sim.specs.lane_law.Picks.{picks_of as picks_of_lanes}
 use Rattle.dsm_io.specs.States.{FilesState, SinkState}
 use Rattle.command_line.specs.Commands.{Command, Rewrite, Run, Listing, One, Sim, Replay, Generate, Assemble}
 use Rattle.commands.specs.Headline.{IsOutcomeByOrder, IsText, Prints}

@@ -15,11 +15,11 @@ use Rattle.block_layout.specs.declared.refused.Rule.{Rule}
 use Rattle.templates.specs.declared.plans.PlanEntry.{PlanEntry}
 use Rattle.templates.specs.WholePlan.{IsPlanOf}
 use Rattle.jump_map.specs.Image.{Cell, IsRewriting, image_words, most_words, read_cell}
-use Rattle.rewriter.specs.RewrittenFile.{rewritten_elf}
-use Rattle.rewriter.specs.TooLarge.{IsTooLarge}
-use Rattle.rewrite_verify.specs.Refusals as verify
-use Rattle.rewrite_verify.specs.declared.refused.VerifyRefused.{VerifyRefused}
-use Rattle.rewrite_verify.specs.declared.refused.VerifyRefused.TheVariants.{OutOfMemory}
+use Rattle.judged_files.specs.rewriter.RewrittenFile.{rewritten_elf}
+use Rattle.judged_files.specs.rewriter.TooLarge.{IsTooLarge}
+use Rattle.judged_files.specs.rewrite_verify.Refusals as verify
+use Rattle.judged_files.specs.rewrite_verify.declared.refused.VerifyRefused.{VerifyRefused}
+use Rattle.judged_files.specs.rewrite_verify.declared.refused.VerifyRefused.TheVariants.{OutOfMemory}
 use Rattle.node_model.specs.Node.{Work}
 use Rattle.node_model.specs.Outcome.{Outcome}
 use Rattle.run_record.specs.declared.Record.{Record}
@@ -28,10 +28,10 @@ use Rattle.run_record.specs.Record.{IsRecord, NamesOtherCode}
 use Rattle.run_record.specs.Rules.{IsFirstFault}
 use Rattle.run_record.specs.Telling.{IsOfWords}
 use Rattle.run_record.specs.Text.{record_text}
-use Rattle.replay.specs.declared.refused.ReplayRule.{ReplayRule}
-use Rattle.replay.specs.Refusals as events
-use Rattle.replay.specs.Replay.{TellsWholeRun}
-use Rattle.replay.specs.Told.{Told}
+use Rattle.judged_files.specs.replay.declared.refused.ReplayRule.{ReplayRule}
+use Rattle.judged_files.specs.replay.Refusals as events
+use Rattle.judged_files.specs.replay.Replay.{TellsWholeRun}
+use Rattle.judged_files.specs.replay.Told.{Told}
 use Rattle.judged_files.specs.Code.{Choice, Planned, Verified, choice_of, IsRewritingOf, IsUnchosen}
 use Rattle.judged_files.specs.Executables.{IsUnaccepted, ReadsAs}
 use Rattle.judged_files.specs.Inputs.{Inputs}

@@ -5,7 +5,7 @@ use Rattle.dsm_io.specs.Causes.{Rose}
 use Rattle.node_model.specs.Node.{Work}
 use Rattle.node_model.specs.Core.{Core, IsOver}
 use Rattle.node_model.specs.Outcome.{Outcome, IsOutcomeOf}
-use Rattle.run_order.specs.OwnRun.{Stamped, StandsForOwnRun, run_of}
+use Rattle.judged_files.specs.run_order.OwnRun.{Stamped, StandsForOwnRun, run_of}
 use Rattle.run_record.specs.Text.{record_text}
 use Rattle.command_line.specs.Commands.{Command, Run, writes}
 use Rattle.judged_files.specs.declared.failure.Failure.{Failure}

@@ -4,8 +4,8 @@ use Rattle.node_model.specs.Core.{opening_core, after}
 use Rattle.node_model.specs.Node.{Work}
 use Rattle.node_model.specs.Outcome.{Outcome}
 use Rattle.run_record.specs.declared.Record.{Record as Kept}
-use Rattle.replay.specs.Replay.{IsReplay}
-use Rattle.replay.specs.Told.{what_told, events_told}
+use Rattle.judged_files.specs.replay.Replay.{IsReplay}
+use Rattle.judged_files.specs.replay.Told.{what_told, events_told}
 use Rattle.command_line.specs.Commands.{Replay}
 use Rattle.judged_files.specs.declared.failure.Failure.{Failure}
 use Rattle.judged_files.specs.declared.failure.Failure.TheVariants.{Input, NotWritten, Refused, Layout, Record, Text, Output, OutOfMemory}

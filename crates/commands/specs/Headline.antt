@@ -8,15 +8,15 @@ use Rattle.templates.specs.declared.plans.PlanEntry.{PlanEntry}
 use Rattle.templates.specs.WholePlan.{IsPlanOf}
 use Rattle.jump_map.specs.Image.{Cell, IsRewriting}
 use Rattle.elf32_write.specs.Layout.{file_of}
-use Rattle.rewriter.specs.RewrittenFile.{rewritten_elf}
+use Rattle.judged_files.specs.rewriter.RewrittenFile.{rewritten_elf}
 use Rattle.node_model.specs.Node.{Work}
 use Rattle.node_model.specs.Core.{Event, IsOver, opening_core, after}
 use Rattle.node_model.specs.Outcome.{Outcome}
-use Rattle.run_order.specs.OwnRun.{Stamped, StandsForOwnRun}
+use Rattle.judged_files.specs.run_order.OwnRun.{Stamped, StandsForOwnRun}
 use Rattle.run_record.specs.Text.{record_text}
-use Rattle.shared_sim.specs.ByOrder.{FollowsOrder}
-use Rattle.lane_model.specs.Nodes.{LaneWork}
-use Rattle.lane_model.specs.Core.{LaneEvent, opening_core as opening_lanes}
+use Rattle.lossy_sim.specs.shared_sim.ByOrder.{FollowsOrder}
+use Rattle.smp_sim.specs.lane_model.Nodes.{LaneWork}
+use Rattle.smp_sim.specs.lane_model.Core.{LaneEvent, opening_core as opening_lanes}
 use Rattle.smp_sim.specs.ByOrder.{FollowsOrder as FollowsOrderOnLanes}
 use Rattle.lossy_sim.specs.UnderWay.{StandFor}
 use Rattle.lossy_sim.specs.WithLoss.{State, Turn, AreAllOver, FollowsLoss, opening_state, ordinary}

@@ -4,12 +4,12 @@ use Rattle.templates.specs.declared.plans.PlanEntry.{PlanEntry}
 use Rattle.jump_map.specs.Image.{IsRewriting}
 use Rattle.node_model.specs.Node.{Work}
 use Rattle.node_model.specs.Outcome.{Outcome}
-use Rattle.lane_model.specs.Nodes.{LaneWork}
-use Rattle.lane_model.specs.Core.{LaneEvent, opening_core}
-use Rattle.lane_law.specs.Law.{RunsOnLanes}
-use Rattle.smp_core.specs.CoreParts.{work_with}
+use Rattle.smp_sim.specs.lane_model.Nodes.{LaneWork}
+use Rattle.smp_sim.specs.lane_model.Core.{LaneEvent, opening_core}
+use Rattle.smp_sim.specs.lane_law.Law.{RunsOnLanes}
+use Rattle.smp_sim.specs.smp_core.CoreParts.{work_with}
 use Rattle.smp_sim.specs.ByOrder.{FollowsOrder}
-use Rattle.shared_sim.specs.ByOrder.{IsOutcomeByOrder}
+use Rattle.lossy_sim.specs.shared_sim.ByOrder.{IsOutcomeByOrder}
 use Rattle.lossy_sim.specs.WithLoss.{IsOutcomeWithLoss}
 use Rattle.command_line.specs.declared.Machine.{Machine}
 use Rattle.command_line.specs.declared.Machine.TheVariants.{Plain, Lossy, Lanes}

@@ -1,9 +1,9 @@
 //! `replay`: the run of a record, made once more.
 
 ghost use Rattle.std.specs.Prelude.{◌≡◌, IfOk, IfErr};
-ghost use Rattle.dsm_core.specs.CoreParts.{outcome_of};
-ghost use Rattle.replay.specs.Replay.{IsReplay};
-ghost use Rattle.rewriting_law.specs.Bounds.{RunsRewritten};
+ghost use Rattle.lossy_sim.specs.dsm_core.CoreParts.{outcome_of};
+ghost use Rattle.judged_files.specs.replay.Replay.{IsReplay};
+ghost use Rattle.judged_files.specs.rewriting_law.Bounds.{RunsRewritten};
 ghost use Rattle.run_record.specs.Record.{IsRecord};
 ghost use Rattle.commands.specs.Headline.{IsTextWith};
 ghost use Rattle.judged_files.specs.Failures.{Puts, IsRecordRefusal};
@@ -13,13 +13,13 @@ ghost use Rattle.judged_files.specs.Given.{bytes_of};
 ghost use Rattle.judged_files.specs.Replays.{IsBrokenRun, IsOutcomeOfReplay};
 
 use crate::outcome::put_told;
-use dsm_core::Outcome;
 use dsm_io::Sink;
 use judged_files::failure::Failure;
 use judged_files::input::{Inputs, elf_of};
 use judged_files::prepare::{Prepared, prepare_replay};
 use judged_files::refusal::{Subject, event_line};
-use replay::{ReplayRefused, replay};
+use judged_files::replay::{ReplayRefused, replay};
+use lossy_sim::dsm_core::Outcome;
 use run_record::Record;
 use std::alloc::Global;
 

@@ -1,9 +1,9 @@
 //! `run`: the executable's rewritten code on nodes in threads, and the record of the run.
 
 ghost use Rattle.std.specs.Prelude.{◌≡◌, ◌≢◌, ℕ, List, Some, Contains, IfOk, IfErr};
-ghost use Rattle.rewriting_law.specs.Bounds.{RunsRewritten};
+ghost use Rattle.judged_files.specs.rewriting_law.Bounds.{RunsRewritten};
 ghost use Rattle.node_model.specs.Core.{IsOver};
-ghost use Rattle.dsm_core.specs.CoreParts.{work_of, core_of, outcome_of};
+ghost use Rattle.lossy_sim.specs.dsm_core.CoreParts.{work_of, core_of, outcome_of};
 ghost use Rattle.command_line.specs.Commands.{writes};
 ghost use Rattle.command_line.specs.Meaning.{file_name};
 ghost use Rattle.commands.specs.Answers.{AreLeft, AreWritten};
@@ -17,12 +17,12 @@ ghost use Rattle.commands.specs.Runs.{Names, asked_by};
 
 use crate::outcome::put_told;
 use crate::record::write_record_of;
-use dsm_core::{Core, Outcome};
 use dsm_io::{Files, Sink};
 use judged_files::failure::Failure;
 use judged_files::input::{Inputs, elf_of};
 use judged_files::prepare::{Prepared, prepare};
 use judged_files::refusal::Subject;
+use lossy_sim::dsm_core::{Core, Outcome};
 use node_threads::{Gate, race};
 use run_limits::{Budget, NodeCount};
 use std::alloc::{AllocError, Global};

@@ -3,9 +3,9 @@
 //! is of several processors.
 
 ghost use Rattle.std.specs.Prelude.{◌≤◌, ◌*◌, IfOk, IfErr};
-ghost use Rattle.rewriting_law.specs.Bounds.{RunsRewritten};
-ghost use Rattle.dsm_core.specs.CoreParts.{outcome_of, work_in};
-ghost use Rattle.smp_core.specs.CoreParts.{work_with};
+ghost use Rattle.judged_files.specs.rewriting_law.Bounds.{RunsRewritten};
+ghost use Rattle.lossy_sim.specs.dsm_core.CoreParts.{outcome_of, work_in};
+ghost use Rattle.smp_sim.specs.smp_core.CoreParts.{work_with};
 ghost use Rattle.command_line.specs.Commands.{AreFew};
 ghost use Rattle.command_line.specs.Meaning.{lanes_of, loss_of};
 ghost use Rattle.commands.specs.Headline.{IsTextWith, IsOutcomeOfSim};
@@ -17,15 +17,15 @@ ghost use Rattle.judged_files.specs.Refusals.{IsRunRefused, IsBadRunLayout};
 
 use crate::outcome::put_told;
 use command_line::Machine;
-use dsm_core::{Outcome, Work};
 use dsm_io::Sink;
 use judged_files::failure::Failure;
 use judged_files::input::{Inputs, elf_of};
 use judged_files::prepare::{Prepared, prepare};
 use judged_files::refusal::Subject;
+use lossy_sim::dsm_core::{Outcome, Work};
 use lossy_sim::lossy_simulate;
+use lossy_sim::shared_sim::simulate;
 use run_limits::{Budget, LaneCount, NodeCount};
-use shared_sim::simulate;
 use smp_sim::{lane_law, lane_progress_law, smp_simulate};
 use std::alloc::{AllocError, Global};
 

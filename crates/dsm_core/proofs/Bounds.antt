@@ -4,11 +4,11 @@ use Rattle.std.specs.Prelude.{All}
 use Rattle.std.proofs.lemmas.Nat.{mul-le}
 use Rattle.block_layout.specs.Layout.{IsValid}
 use Rattle.rv32_program.specs.Program.{IsAccepted}
-use Rattle.templates.specs.declared.plans.PlanEntry.{PlanEntry}
-use Rattle.jump_map.specs.Image.{IsRewriting}
-use Rattle.home_directory.specs.declared.messages.Wire.{Wire}
-use Rattle.node_model.specs.Node.{Work, Node, IsLaidOver}
-use Rattle.node_model.specs.Core.{Core, Event, IsCoreRun, opening_core, after, AreAlike}
+use Rattle.rewriting_law.specs.templates.declared.plans.PlanEntry.{PlanEntry}
+use Rattle.node_machine.specs.jump_map.Image.{IsRewriting}
+use Rattle.rewriting_law.specs.home_directory.declared.messages.Wire.{Wire}
+use Rattle.run_order.specs.node_model.Node.{Work, Node, IsLaidOver}
+use Rattle.run_order.specs.node_model.Core.{Core, Event, IsCoreRun, opening_core, after, AreAlike}
 use Rattle.run_order.specs.OwnRun.{Stamped, OnlyAdds, events_of}
 use Rattle.rewriting_law.specs.Bounds.{RunsRewritten, most_events}
 use Rattle.dsm_core.specs.CoreParts.{CoreParts, work_of, core_of, IsCore, IsLedTo, GoesOnTo, HasStampsInRange}

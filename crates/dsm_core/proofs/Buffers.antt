@@ -3,16 +3,16 @@ use Rattle.std.proofs.Common.{◌≡◌, ℕ, zero, suc, ◌+◌, ◌<◌, List,
 use Rattle.std.specs.Prelude.{is_some}
 use Rattle.block_layout.specs.Layout.{Shape, IsValid, blocks, home}
 use Rattle.rv32_program.specs.Program.{IsAccepted}
-use Rattle.templates.specs.declared.plans.PlanEntry.{PlanEntry}
-use Rattle.jump_map.specs.Image.{IsRewriting}
-use Rattle.home_directory.specs.declared.messages.Wire.{Wire}
-use Rattle.node_model.specs.Node.{Work, Node, IsLaidOver}
-use Rattle.node_model.specs.Core.{Core, Event, IsCoreRun, opening_core, after, AreAlike}
+use Rattle.rewriting_law.specs.templates.declared.plans.PlanEntry.{PlanEntry}
+use Rattle.node_machine.specs.jump_map.Image.{IsRewriting}
+use Rattle.rewriting_law.specs.home_directory.declared.messages.Wire.{Wire}
+use Rattle.run_order.specs.node_model.Node.{Work, Node, IsLaidOver}
+use Rattle.run_order.specs.node_model.Core.{Core, Event, IsCoreRun, opening_core, after, AreAlike}
 use Rattle.coherence.specs.Table.{sum_below}
 use Rattle.coherence.specs.Claims.{one_if}
-use Rattle.dsm_protocol.specs.World.{World}
-use Rattle.dsm_protocol.specs.Holds.{Holds}
-use Rattle.dsm_protocol.specs.Buffers.{carrying, asked_by, is_answered, buffer_places, AreInOnePlace}
+use Rattle.rewriting_law.specs.dsm_protocol.World.{World}
+use Rattle.rewriting_law.specs.dsm_protocol.Holds.{Holds}
+use Rattle.rewriting_law.specs.dsm_protocol.Buffers.{carrying, asked_by, is_answered, buffer_places, AreInOnePlace}
 use Rattle.rewriting_law.specs.ProtocolLists.{messages_of, world_shown, HasProtocolList}
 use Rattle.rewriting_law.specs.Interleaving.{original_after}
 use Rattle.dsm_core.specs.CoreParts.{CoreParts, work_of, core_of, IsCore}

@@ -4,14 +4,14 @@ use Rattle.std.specs.Prelude.{All}
 use Rattle.std.proofs.Math.Path.{fun_ext}
 use Rattle.std.proofs.lemmas.List.{get_or_default, length-map}
 use Rattle.std.proofs.lemmas.List.Elements.{All-head}
-use Rattle.home_directory.specs.declared.messages.Wire.{Wire}
-use Rattle.node_model.specs.declared.Standing.TheVariants as standing
-use Rattle.node_model.specs.Node.{Work, Node, Phase, Running, Resumed, Waiting, Ended, opening_node, standing_in, standing_of, can_execute, has_all_byes}
-use Rattle.node_model.specs.Turns.{Turn, word_turn, take_turn}
-use Rattle.node_model.specs.Core.{Core, Event, Exec, Take, May, may_execute, may_take, opening_core, with_turn, with_list, take_first, event_step, IsCoreRun, after, wires_to, AreAlike}
+use Rattle.rewriting_law.specs.home_directory.declared.messages.Wire.{Wire}
+use Rattle.run_order.specs.node_model.declared.Standing.TheVariants as standing
+use Rattle.run_order.specs.node_model.Node.{Work, Node, Phase, Running, Resumed, Waiting, Ended, opening_node, standing_in, standing_of, can_execute, has_all_byes}
+use Rattle.run_order.specs.node_model.Turns.{Turn, word_turn, take_turn}
+use Rattle.run_order.specs.node_model.Core.{Core, Event, Exec, Take, May, may_execute, may_take, opening_core, with_turn, with_list, take_first, event_step, IsCoreRun, after, wires_to, AreAlike}
 use Rattle.node_machine.specs.declared.frame.Frame.{Frame}
 use Rattle.node_machine.specs.Frame.{node_of}
-use Rattle.dsm_protocol.specs.Queue.{Queue, wires_of, AreQueues}
+use Rattle.rewriting_law.specs.dsm_protocol.Queue.{Queue, wires_of, AreQueues}
 use Rattle.rewriting_law.specs.Bounds.{RunsRewritten}
 use Rattle.dsm_core.specs.CoreParts.{CoreParts, work_of, core_with, core_of, HaveWork, IsLedTo, IsCore, AreParts, GoesOnTo, HasStampsInRange}
 use Rattle.dsm_core.specs.CoreSteps.{node_or, SameWorks, MayExecute, IsStamped, IsFirstStamped, CanMake, HaveMade, HaveKept, AreFirst, GoesOnFor}

@@ -3,14 +3,14 @@ use Rattle.std.proofs.Common.{◌≡◌, ℕ, suc, ◌<◌, ◌^◌, true, false
 use Rattle.std.proofs.Math.Path.{fun_ext}
 use Rattle.std.proofs.lemmas.List.{get_or-map, get_or-set_same, get_or-set_other, get_or_past, get_or_push, get_or_append_left, map-set, map_push, set-get_or, length-map, length-append}
 use Rattle.std.proofs.lemmas.Bool.Decides.{eqb_tells, leb_tells, nat_tests}
-use Rattle.home_directory.specs.declared.messages.Post.{Post}
-use Rattle.home_directory.specs.declared.messages.Wire.{Wire}
-use Rattle.node_model.specs.Node.{Work, Node, opening_node, can_execute}
-use Rattle.node_model.specs.Turns.{Turn, word_turn, take_turn}
-use Rattle.node_model.specs.Core.{Core, Event, Exec, Take, wires_to, with_turn, with_list, take_first, event_step, AreAlike}
+use Rattle.rewriting_law.specs.home_directory.declared.messages.Post.{Post}
+use Rattle.rewriting_law.specs.home_directory.declared.messages.Wire.{Wire}
+use Rattle.run_order.specs.node_model.Node.{Work, Node, opening_node, can_execute}
+use Rattle.run_order.specs.node_model.Turns.{Turn, word_turn, take_turn}
+use Rattle.run_order.specs.node_model.Core.{Core, Event, Exec, Take, wires_to, with_turn, with_list, take_first, event_step, AreAlike}
 use Rattle.node_machine.specs.declared.frame.Frame.{Frame}
 use Rattle.node_machine.specs.Frame.{node_of, work_of as work_at}
-use Rattle.dsm_protocol.specs.Queue.{Queue, wires_of, SameWires, IsSent, IsTaken}
+use Rattle.rewriting_law.specs.dsm_protocol.Queue.{Queue, wires_of, SameWires, IsSent, IsTaken}
 use Rattle.dsm_core.specs.CoreParts.{core_with, HaveWork}
 use Rattle.dsm_core.specs.CoreSteps.{node_or, SameNodes, MayExecute, IsStamped, HaveMade, HaveKept, HavePassed}
 

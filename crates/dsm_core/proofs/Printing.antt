@@ -5,10 +5,10 @@ use Rattle.std.specs.List.Sorted.{IsPermutation, IsNonDecreasingBy}
 use Rattle.std.proofs.lemmas.Bool.Decides.{eqb_tells}
 use Rattle.std.proofs.lemmas.List.Sums.{sum_by-cons}
 use Rattle.std.proofs.lemmas.List.Sorted.{sum_by-IsPermutation}
-use Rattle.node_model.specs.declared.OutByte.{OutByte}
-use Rattle.node_model.specs.declared.Standing.TheVariants.{Over, AtPoll, Running as Going}
-use Rattle.node_model.specs.Node.{Work, Node, Phase, Running, Resumed, Waiting, Ended, end_of, standing_in, standing_of, is_at_poll}
-use Rattle.node_model.specs.Core.{Core, AreAlike}
+use Rattle.run_order.specs.node_model.declared.OutByte.{OutByte}
+use Rattle.run_order.specs.node_model.declared.Standing.TheVariants.{Over, AtPoll, Running as Going}
+use Rattle.run_order.specs.node_model.Node.{Work, Node, Phase, Running, Resumed, Waiting, Ended, end_of, standing_in, standing_of, is_at_poll}
+use Rattle.run_order.specs.node_model.Core.{Core, AreAlike}
 use Rattle.run_order.specs.Sorted.{Precedes, PrecedesAll, AreSorted, AreMadeBelow, made_by}
 use Rattle.run_order.specs.Merge.{Printed, AreMerged, stamp_of, printer, byte_in, printed_of as merge_of}
 use Rattle.dsm_core.specs.declared.outcome.Printed.{Printed as Stored}

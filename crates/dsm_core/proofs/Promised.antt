@@ -2,12 +2,12 @@
 use Rattle.std.proofs.Common.{◌≡◌, ◌≢◌, ℕ, ◌<◌, List, [], ◌∷◌, ◌++◌, refl, sym, ap, ◌∙◌, subst}
 use Rattle.block_layout.specs.Layout.{IsValid}
 use Rattle.rv32_program.specs.Program.{IsAccepted}
-use Rattle.templates.specs.declared.plans.PlanEntry.{PlanEntry}
-use Rattle.jump_map.specs.Image.{IsRewriting}
-use Rattle.home_directory.specs.declared.messages.Wire.{Wire}
-use Rattle.node_model.specs.declared.Standing.TheVariants.{Over}
-use Rattle.node_model.specs.Node.{Work, Node, Resume, Waiting, IsLaidOver, standing_of}
-use Rattle.node_model.specs.Core.{Core, Event, May, IsOver, IsCoreRun, opening_core, after, AreAlike}
+use Rattle.rewriting_law.specs.templates.declared.plans.PlanEntry.{PlanEntry}
+use Rattle.node_machine.specs.jump_map.Image.{IsRewriting}
+use Rattle.rewriting_law.specs.home_directory.declared.messages.Wire.{Wire}
+use Rattle.run_order.specs.node_model.declared.Standing.TheVariants.{Over}
+use Rattle.run_order.specs.node_model.Node.{Work, Node, Resume, Waiting, IsLaidOver, standing_of}
+use Rattle.run_order.specs.node_model.Core.{Core, Event, May, IsOver, IsCoreRun, opening_core, after, AreAlike}
 use Rattle.run_order.specs.OwnRun.{Stamped, StandsForOwnRun, AreEventsOf, events_of, run_of}
 use Rattle.dsm_core.specs.CoreParts.{CoreParts, work_of, core_of, IsCore}
 use Rattle.dsm_core.proofs.CoreRuns.{alike_also, alike_back, may_alike}

@@ -1,10 +1,10 @@
 -- Rounds of events until every node is over.
 use Rattle.std.proofs.Common.{◌≡◌, ◌≢◌, ℕ, ◌+◌, ◌<◌, ◌≤◌, ltb, true, false, refl, sym, ap, ◌∙◌, subst, inl, inr, arith}
 use Rattle.std.proofs.lemmas.Bool.Decides.{leb_tells, nat_tests}
-use Rattle.node_model.specs.declared.Standing.{Standing}
-use Rattle.node_model.specs.declared.Standing.TheVariants.{Running, AtPoll, Waiting, Ended, Over}
-use Rattle.node_model.specs.Node.{Work, standing_of}
-use Rattle.node_model.specs.Core.{Core, Event, Exec, Take, May, IsOver}
+use Rattle.run_order.specs.node_model.declared.Standing.{Standing}
+use Rattle.run_order.specs.node_model.declared.Standing.TheVariants.{Running, AtPoll, Waiting, Ended, Over}
+use Rattle.run_order.specs.node_model.Node.{Work, standing_of}
+use Rattle.run_order.specs.node_model.Core.{Core, Event, Exec, Take, May, IsOver}
 use Rattle.dsm_core.specs.CoreParts.{GoesOnTo}
 use Rattle.dsm_core.specs.CoreSteps.{GoesOnFor, HasGone, IsStill, one_if}
 use Rattle.dsm_core.proofs.CoreRuns.{goes_also, for_none, for_also, for_fewer}

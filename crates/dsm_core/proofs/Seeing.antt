@@ -1,15 +1,15 @@
 -- What was seen of an event of nodes and lists, as they are stored.
 use Rattle.std.proofs.Common.{◌≡◌, ℕ, ◌<◌, List, [], ◌∷◌, map, length, get_or, None, sym, ap, ◌∙◌, subst}
-use Rattle.home_directory.specs.declared.messages.Post.{Post}
-use Rattle.home_directory.specs.declared.messages.Wire.{Wire}
-use Rattle.home_directory.specs.Headers.{sent_by}
-use Rattle.node_model.specs.Node.{Work, Node, opening_node}
-use Rattle.node_model.specs.Turns.{word_turn, take_turn}
-use Rattle.node_model.specs.Core.{Core, Exec, Take}
+use Rattle.rewriting_law.specs.home_directory.declared.messages.Post.{Post}
+use Rattle.rewriting_law.specs.home_directory.declared.messages.Wire.{Wire}
+use Rattle.rewriting_law.specs.home_directory.Headers.{sent_by}
+use Rattle.run_order.specs.node_model.Node.{Work, Node, opening_node}
+use Rattle.run_order.specs.node_model.Turns.{word_turn, take_turn}
+use Rattle.run_order.specs.node_model.Core.{Core, Exec, Take}
 use Rattle.node_machine.specs.declared.frame.Frame.{Frame}
 use Rattle.node_machine.specs.Frame.{node_of, work_of as work_at}
 use Rattle.node_machine.specs.Wanted.{wanted_in, wants_of_word}
-use Rattle.dsm_protocol.specs.Queue.{Queue, wires_of, SameWires, IsTaken}
+use Rattle.rewriting_law.specs.dsm_protocol.Queue.{Queue, wires_of, SameWires, IsTaken}
 use Rattle.dsm_core.specs.declared.seen.Seen.{Seen}
 use Rattle.dsm_core.specs.CoreParts.{core_with}
 use Rattle.dsm_core.specs.CoreSteps.{node_or, SameNodes}

@@ -3,14 +3,14 @@ use Rattle.std.proofs.Common.{◌≡◌, ◌≢◌, ℕ, zero, suc, ◌+◌, ◌
 use Rattle.std.proofs.Math.Path.{fun_ext}
 use Rattle.std.proofs.lemmas.Bool.Decides.{eqb_tells, nat_tests}
 use Rattle.std.proofs.lemmas.List.{get_or-map, get_or-set_same, get_or-set_other, get_or_past, length-map}
-use Rattle.node_model.specs.Node.{Work, Node, opening_node, can_execute}
-use Rattle.node_model.specs.Core.{Core, AreAlike}
+use Rattle.run_order.specs.node_model.Node.{Work, Node, opening_node, can_execute}
+use Rattle.run_order.specs.node_model.Core.{Core, AreAlike}
 use Rattle.node_machine.specs.declared.frame.Frame.{Frame}
 use Rattle.node_machine.specs.declared.trail.Trail.{Trail}
 use Rattle.node_machine.specs.Frame.{node_of, work_of as work_at}
 use Rattle.node_machine.specs.Runs.{GoesOnBy as HasGoneBy}
 use Rattle.node_machine.specs.Trails.{TakesNodeBack}
-use Rattle.dsm_protocol.specs.Queue.{Queue}
+use Rattle.rewriting_law.specs.dsm_protocol.Queue.{Queue}
 use Rattle.dsm_core.specs.CoreParts.{core_with, HaveWork, GoesOnTo}
 use Rattle.dsm_core.specs.CoreWords.{HaveEachPassed}
 use Rattle.dsm_core.specs.CoreSteps.{node_or}

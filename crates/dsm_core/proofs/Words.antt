@@ -3,18 +3,18 @@ use Rattle.std.proofs.Common.{◌≡◌, ◌≢◌, ℕ, zero, suc, ◌+◌, ◌
 use Rattle.std.proofs.lemmas.List.{append-nil}
 use Rattle.std.proofs.lemmas.Bool.Decides.{eqb_tells}
 use Rattle.block_layout.specs.Layout.{Shape, block_of}
-use Rattle.home_directory.specs.declared.messages.Need.{Need}
-use Rattle.home_directory.specs.declared.messages.Post.{Post}
-use Rattle.home_directory.specs.Table.{Miss}
+use Rattle.rewriting_law.specs.home_directory.declared.messages.Need.{Need}
+use Rattle.rewriting_law.specs.home_directory.declared.messages.Post.{Post}
+use Rattle.rewriting_law.specs.home_directory.Table.{Miss}
 use Rattle.rv32_program.specs.Program.{line_of}
-use Rattle.node_model.specs.declared.Standing.TheVariants as standing
-use Rattle.node_model.specs.Node.{Work, Node, Phase, Running, Resumed, Waiting, Ended, Want, opening_node, word_outcome, standing_in, is_at_poll, can_execute}
-use Rattle.node_model.specs.Turns.{Turn, quiet, with_miss, want_in, want_all, each_block_once, with_byes, word_turn, after_word, after_wants, wants_of}
-use Rattle.node_model.specs.Core.{Core, Exec, May, may_execute, wires_to, with_turn, event_step, AreAlike}
+use Rattle.run_order.specs.node_model.declared.Standing.TheVariants as standing
+use Rattle.run_order.specs.node_model.Node.{Work, Node, Phase, Running, Resumed, Waiting, Ended, Want, opening_node, word_outcome, standing_in, is_at_poll, can_execute}
+use Rattle.run_order.specs.node_model.Turns.{Turn, quiet, with_miss, want_in, want_all, each_block_once, with_byes, word_turn, after_word, after_wants, wants_of}
+use Rattle.run_order.specs.node_model.Core.{Core, Exec, May, may_execute, wires_to, with_turn, event_step, AreAlike}
 use Rattle.node_machine.specs.declared.frame.Frame.{Frame}
 use Rattle.node_machine.specs.Frame.{node_of, work_of as work_at}
 use Rattle.node_machine.specs.Runs.{HasExecuted, GoesOnBy as HasGoneBy}
-use Rattle.dsm_protocol.specs.Queue.{Queue, SameWires, IsSent}
+use Rattle.rewriting_law.specs.dsm_protocol.Queue.{Queue, SameWires, IsSent}
 use Rattle.dsm_core.specs.CoreParts.{core_with, GoesOnTo}
 use Rattle.dsm_core.specs.CoreWords.{GoesOnBy, HasExecutedOn, HasPassed}
 use Rattle.dsm_core.specs.CoreSteps.{node_or, SameNodes, HavePassed, HaveExecutedOn, GoesOnFor}

@@ -3,12 +3,12 @@
 use Rattle.std.specs.Prelude.{◌≡◌, ℕ, ◌^◌, ◌<◌, List, map, length, slice_index_or, All}
 use Rattle.elf32_read.specs.Elf.{Elf}
 use Rattle.block_layout.specs.Layout.{Shape}
-use Rattle.exec_map.specs.Contents.{program_of}
-use Rattle.home_directory.specs.declared.messages.Wire.{Wire}
-use Rattle.jump_map.specs.Image.{Cell}
-use Rattle.node_model.specs.Node.{Work, opening_node}
-use Rattle.node_model.specs.Core.{Core, Event, Exec, Take, AreAlike, opening_core, IsCoreRun, after}
-use Rattle.node_model.specs.Outcome.{Outcome}
+use Rattle.node_machine.specs.exec_map.Contents.{program_of}
+use Rattle.rewriting_law.specs.home_directory.declared.messages.Wire.{Wire}
+use Rattle.node_machine.specs.jump_map.Image.{Cell}
+use Rattle.run_order.specs.node_model.Node.{Work, opening_node}
+use Rattle.run_order.specs.node_model.Core.{Core, Event, Exec, Take, AreAlike, opening_core, IsCoreRun, after}
+use Rattle.run_order.specs.node_model.Outcome.{Outcome}
 use Rattle.node_machine.specs.declared.frame.Frame.{Frame}
 use Rattle.node_machine.specs.Frame.{node_of, work_of as work_at}
 use Rattle.rewriting_law.specs.Bounds.{RunsRewritten}
@@ -16,7 +16,7 @@ use Rattle.dsm_core.specs.declared.cores.Event as chosen
 use Rattle.dsm_core.specs.declared.cores.Event.TheVariants as choice
 use Rattle.dsm_core.specs.declared.outcome.Outcome.{Outcome as Given}
 use Rattle.dsm_core.specs.declared.work.Work.{Work as Asked}
-use Rattle.dsm_protocol.specs.Queue.{Queue, wires_of, AreQueues}
+use Rattle.rewriting_law.specs.dsm_protocol.Queue.{Queue, wires_of, AreQueues}
 
 -- what the nodes run; the nodes, and the lists
 pub record CoreParts : Type 0 where

@@ -1,11 +1,11 @@
 -- Helps the code alone: events of nodes and lists, as they are stored.
 use Rattle.std.specs.Prelude.{◌≡◌, ◌≢◌, ℕ, ◌<◌, ◌≤◌, ◌^◌, Bool, true, false, if◌then◌else◌, List, [], ◌∷◌, map, slice_index_or, length}
-use Rattle.home_directory.specs.declared.messages.Wire.{Wire}
-use Rattle.node_model.specs.Node.{Work, Node, opening_node, can_execute}
-use Rattle.node_model.specs.Core.{Core, Event, Exec, Take, May, event_step, AreAlike}
+use Rattle.rewriting_law.specs.home_directory.declared.messages.Wire.{Wire}
+use Rattle.run_order.specs.node_model.Node.{Work, Node, opening_node, can_execute}
+use Rattle.run_order.specs.node_model.Core.{Core, Event, Exec, Take, May, event_step, AreAlike}
 use Rattle.node_machine.specs.declared.frame.Frame.{Frame}
 use Rattle.node_machine.specs.Frame.{node_of, work_of as work_at, HasRoom}
-use Rattle.dsm_protocol.specs.Queue.{Queue, wires_of}
+use Rattle.rewriting_law.specs.dsm_protocol.Queue.{Queue, wires_of}
 use Rattle.dsm_core.specs.CoreParts.{core_with, HaveWork, GoesOnTo}
 use Rattle.dsm_core.specs.CoreWords.{HasExecutedOn, HasPassed}
 

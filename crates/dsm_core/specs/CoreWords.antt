@@ -1,9 +1,9 @@
 -- Words of one node of a core, one after another.
 use Rattle.std.specs.Prelude.{◌≡◌, ℕ, zero, suc, ◌+◌, ◌<◌}
-use Rattle.node_model.specs.Node.{Work}
+use Rattle.run_order.specs.node_model.Node.{Work}
 use Rattle.node_machine.specs.Runs.{GoesOnBy as NodeGoesOnBy}
-use Rattle.node_model.specs.Turns.{quiet, word_turn}
-use Rattle.node_model.specs.Core.{Core, Exec, May, AreAlike, event_step}
+use Rattle.run_order.specs.node_model.Turns.{quiet, word_turn}
+use Rattle.run_order.specs.node_model.Core.{Core, Exec, May, AreAlike, event_step}
 
 -- so many words of node i, each of which prints nothing and sends nothing, lead from one core to
 -- another

@@ -1,7 +1,7 @@
 -- The bytes that nodes printed, gathered node by node.
 use Rattle.std.specs.Prelude.{ℕ, zero, suc, ◌+◌, ◌*◌, List, [], ◌++◌, map}
-use Rattle.node_model.specs.declared.OutByte.{OutByte}
-use Rattle.node_model.specs.Node.{Node}
+use Rattle.run_order.specs.node_model.declared.OutByte.{OutByte}
+use Rattle.run_order.specs.node_model.Node.{Node}
 use Rattle.dsm_core.specs.declared.outcome.Printed.{Printed}
 
 -- what node i printed

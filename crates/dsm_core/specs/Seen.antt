@@ -1,15 +1,15 @@
 -- What an event takes, sends and wants where a core stands.
 use Rattle.std.specs.Prelude.{◌≡◌, ℕ, List, [], ◌∷◌, map, Option, None}
-use Rattle.home_directory.specs.declared.messages.Post.{Post}
-use Rattle.home_directory.specs.declared.messages.Wire.{Wire}
-use Rattle.home_directory.specs.Headers.{header_of, sent_by}
-use Rattle.node_model.specs.Node.{Work, Node}
-use Rattle.node_model.specs.Turns.{word_turn, take_turn}
-use Rattle.node_model.specs.Core.{Core, Event, Exec, Take}
+use Rattle.rewriting_law.specs.home_directory.declared.messages.Post.{Post}
+use Rattle.rewriting_law.specs.home_directory.declared.messages.Wire.{Wire}
+use Rattle.rewriting_law.specs.home_directory.Headers.{header_of, sent_by}
+use Rattle.run_order.specs.node_model.Node.{Work, Node}
+use Rattle.run_order.specs.node_model.Turns.{word_turn, take_turn}
+use Rattle.run_order.specs.node_model.Core.{Core, Event, Exec, Take}
 use Rattle.node_machine.specs.declared.frame.Frame.{Frame}
 use Rattle.node_machine.specs.Wanted.{wanted_in, wants_of_word}
 use Rattle.node_machine.specs.declared.wanted.Wanted.{Wanted}
-use Rattle.dsm_protocol.specs.Queue.{Queue}
+use Rattle.rewriting_law.specs.dsm_protocol.Queue.{Queue}
 use Rattle.dsm_core.specs.declared.seen.Incoming.{Incoming}
 use Rattle.dsm_core.specs.declared.seen.Seen.{Seen}
 use Rattle.dsm_core.specs.CoreParts.{core_with, HaveWork}

@@ -1,6 +1,6 @@
 -- Helps the code alone: words of every node, as they are stored, and what takes them back.
 use Rattle.std.specs.Prelude.{◌≡◌, ℕ, ◌<◌, ◌≤◌, true, List, slice_index_or}
-use Rattle.node_model.specs.Node.{can_execute}
+use Rattle.run_order.specs.node_model.Node.{can_execute}
 use Rattle.node_machine.specs.declared.frame.Frame.{Frame}
 use Rattle.node_machine.specs.declared.trail.Trail.{Trail}
 use Rattle.node_machine.specs.Frame.{node_of, work_of as work_at}

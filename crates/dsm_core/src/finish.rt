@@ -1,18 +1,18 @@
 //! Runs a core until every node is over.
 
 ghost use Rattle.std.specs.Prelude.{◌≡◌, ◌<◌, ℕ, true, false, IfOk, OnOk, MatchOption};
-ghost use Rattle.node_model.specs.Node.{standing_of};
-ghost use Rattle.node_model.specs.Core as model;
-ghost use Rattle.node_model.specs.Core.{May, IsOver, may_execute};
+ghost use Rattle.run_order.specs.node_model.Node.{standing_of};
+ghost use Rattle.run_order.specs.node_model.Core as model;
+ghost use Rattle.run_order.specs.node_model.Core.{May, IsOver, may_execute};
 ghost use Rattle.node_machine.specs.Frame.{node_of, work_of as work_at};
 ghost use Rattle.run_order.specs.OwnRun.{OnlyAdds};
 ghost use Rattle.dsm_core.specs.CoreParts.{work_of, core_of, GoesOnTo};
 ghost use Rattle.dsm_core.specs.CoreSteps.{GoesOnFor, HasGone, TakesNone, IsStill, one_if};
 
 use crate::cores::{Core, Event};
-use jump_map::ImageWord;
+use node_machine::jump_map::ImageWord;
 use node_machine::{Node, Standing};
-use runtime_words::RtWord;
+use rewriting_law::runtime_words::RtWord;
 use std::alloc::AllocError;
 
 impl<'a> Core<'a> {

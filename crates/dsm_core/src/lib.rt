@@ -11,9 +11,12 @@ mod trails;
 mod work;
 
 pub use cores::{Core, Event};
-pub use dsm_protocol::Protocol;
+pub use node_machine;
 pub use outcome::Outcome;
 pub use parts::Parts;
+pub use rewriting_law;
+pub use rewriting_law::dsm_protocol::Protocol;
+pub use run_order;
 pub use seen::{Incoming, Seen};
 pub use trails::{Stop, Trails};
 pub use work::Work;

@@ -3,20 +3,20 @@
 ghost use Rattle.std.specs.Prelude.{◌≡◌, ℕ, ◌/◌, ◌<◌, ◌≤◌, ◌++◌, List, Some, map, IfOk, OnOk};
 ghost use Rattle.std.specs.List.{range_with_len};
 ghost use Rattle.rv32_program.specs.declared.End.TheVariants.{Stopped};
-ghost use Rattle.templates.specs.declared.plans.PlanEntry.{PlanEntry};
-ghost use Rattle.jump_map.specs.Image.{IsRewriting};
+ghost use Rattle.rewriting_law.specs.templates.declared.plans.PlanEntry.{PlanEntry};
+ghost use Rattle.node_machine.specs.jump_map.Image.{IsRewriting};
 ghost use Rattle.rewriting_law.specs.Ascents.{AscendsBetweenPolls};
 ghost use Rattle.rewriting_law.specs.Bounds.{steps_of};
 ghost use Rattle.rewriting_law.specs.CoreRun.{picks_of};
-ghost use Rattle.node_model.specs.Node.{Ended, end_of};
-ghost use Rattle.node_model.specs.Core.{IsOver, opening_core, printed_by};
-ghost use Rattle.node_model.specs.Outcome.{IsOutcomeOf, AreFrugal};
+ghost use Rattle.run_order.specs.node_model.Node.{Ended, end_of};
+ghost use Rattle.run_order.specs.node_model.Core.{IsOver, opening_core, printed_by};
+ghost use Rattle.run_order.specs.node_model.Outcome.{IsOutcomeOf, AreFrugal};
 ghost use Rattle.run_order.specs.OwnRun.{Stamped, StandsForOwnRun, run_of};
 ghost use Rattle.dsm_core.specs.CoreParts.{work_of, core_of, outcome_of};
 ghost use Rattle.dsm_core.specs.Printing.{printed_of, printed_below, place_of, byte_of};
 
 use crate::cores::Core;
-use exec_map::End;
+use node_machine::exec_map::End;
 use node_machine::{NodeCounts, OutByte};
 use rewriting_law::bounds_law;
 use run_order::stamp_law;

@@ -2,8 +2,8 @@
 
 ghost use Rattle.std.specs.Prelude.{◌≡◌, ◌≢◌, ◌<◌, ◌≤◌, ◌↔◌, ℕ, [], true, false, IfOk, OnOk, OnErr};
 ghost use Rattle.std.specs.Prelude.{slice_index_or, MatchOption};
-ghost use Rattle.node_model.specs.Core as model;
-ghost use Rattle.node_model.specs.Core.{May, IsOver, AreAlike, event_step};
+ghost use Rattle.run_order.specs.node_model.Core as model;
+ghost use Rattle.run_order.specs.node_model.Core.{May, IsOver, AreAlike, event_step};
 ghost use Rattle.node_machine.specs.Frame.{node_of, work_of as work_at};
 ghost use Rattle.dsm_core.specs.CoreParts.{work_of, core_of, event_of, AreParts, HasStampsInRange};
 ghost use Rattle.dsm_core.specs.CoreWords.{HasPassed, HasExecutedOn, HaveEachPassed};
@@ -14,11 +14,11 @@ use crate::seen::{Incoming, Seen, first, make_seen};
 use crate::steps::{are_over, execute_on, has_mail, has_wire, is_enabled, make, pass};
 use crate::trails::{Stop, Trails, pass_each};
 use block_layout::Layout;
-use dsm_protocol::Queue;
-use exec_map::Program;
-use home_directory::Sends;
-use jump_map::Image;
 use node_machine::Node;
+use node_machine::exec_map::Program;
+use node_machine::jump_map::Image;
+use rewriting_law::dsm_protocol::Queue;
+use rewriting_law::home_directory::Sends;
 use run_limits::Budget;
 use std::alloc::AllocError;
 use std::marker::Model;

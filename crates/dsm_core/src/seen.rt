@@ -1,18 +1,18 @@
 //! Events that are looked at: what they send, and what their words want.
 
 ghost use Rattle.std.specs.Prelude.{◌≡◌, ◌<◌, [], length, IfOk, OnOk, OnErr, MatchOption};
-ghost use Rattle.node_model.specs.Core as model;
-ghost use Rattle.dsm_protocol.specs.Queue.{AreQueues, wires_of};
+ghost use Rattle.run_order.specs.node_model.Core as model;
+ghost use Rattle.rewriting_law.specs.dsm_protocol.Queue.{AreQueues, wires_of};
 ghost use Rattle.dsm_core.specs.CoreParts.{event_of};
 ghost use Rattle.dsm_core.specs.CoreSteps.{SameWorks, CanExecute, CanMake, HaveMade, HaveKept};
 ghost use Rattle.dsm_core.specs.Seen.{IsFirstIn, HaveSeen};
 
 use crate::cores::Event;
 use crate::steps::make_room;
-use dsm_protocol::Queue;
-use dsm_protocol::lists::{first_wire, send, take_first};
-use home_directory::{Header, Headers, Sends, headers_of};
 use node_machine::{Node, WantedBlocks};
+use rewriting_law::dsm_protocol::Queue;
+use rewriting_law::dsm_protocol::lists::{first_wire, send, take_first};
+use rewriting_law::home_directory::{Header, Headers, Sends, headers_of};
 use std::alloc::AllocError;
 
 /// A message on its way, without its buffer.

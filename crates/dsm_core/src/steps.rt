@@ -2,21 +2,21 @@
 
 ghost use Rattle.std.specs.Prelude.{◌≡◌, ◌≢◌, ◌<◌, ◌↔◌, ℕ, List, [], true, false, length, IfOk};
 ghost use Rattle.std.specs.Prelude.{OnOk, OnErr};
-ghost use Rattle.node_model.specs.Node.{Work, IsLaidOver, standing_of};
-ghost use Rattle.node_model.specs.Core as model;
-ghost use Rattle.dsm_protocol.specs.Queue.{Queue as Stored, AreQueues, SameWires, HasRoom};
-ghost use Rattle.dsm_protocol.specs.Queue.{wires_of};
+ghost use Rattle.run_order.specs.node_model.Node.{Work, IsLaidOver, standing_of};
+ghost use Rattle.run_order.specs.node_model.Core as model;
+ghost use Rattle.rewriting_law.specs.dsm_protocol.Queue.{Queue as Stored, AreQueues, SameWires, HasRoom};
+ghost use Rattle.rewriting_law.specs.dsm_protocol.Queue.{wires_of};
 ghost use Rattle.dsm_core.specs.CoreParts.{work_in, core_with, event_of, HaveWork};
-ghost use Rattle.node_model.specs.Core.{IsOver};
+ghost use Rattle.run_order.specs.node_model.Core.{IsOver};
 ghost use Rattle.dsm_core.specs.CoreSteps.{SameNodes, SameWorks, HasNodeRoom, CanExecute, HaveMade};
 ghost use Rattle.dsm_core.specs.CoreSteps.{HaveKept, HavePassed, HaveExecutedOn, AreFirst, CanMake};
 
 use crate::cores::Event;
 use crate::work;
-use dsm_protocol::Queue;
-use dsm_protocol::lists::{first_wire, reserve_from, send, take_first};
-use home_directory::Sends;
 use node_machine::{Node, Standing};
+use rewriting_law::dsm_protocol::Queue;
+use rewriting_law::dsm_protocol::lists::{first_wire, reserve_from, send, take_first};
+use rewriting_law::home_directory::Sends;
 use std::alloc::{AllocError, Global};
 
 /// The nodes at the start.

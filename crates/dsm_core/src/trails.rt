@@ -2,7 +2,7 @@
 
 ghost use Rattle.std.specs.Prelude.{◌≡◌, ◌<◌, ◌≤◌, ℕ, List, IfOk, OnErr, length, slice_index_or};
 ghost use Rattle.node_machine.specs.declared.frame.Frame.{Frame};
-ghost use Rattle.node_model.specs.Node as model;
+ghost use Rattle.run_order.specs.node_model.Node as model;
 ghost use Rattle.dsm_core.specs.CoreSteps.{SameWorks, MayExecute, IsStamped, node_or};
 ghost use Rattle.dsm_core.specs.Trails.{HaveGone, TakeBack, AreSameBelow, AreSameFrom};
 

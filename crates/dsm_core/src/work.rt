@@ -1,8 +1,8 @@
 //! What the nodes of a core run.
 
 use block_layout::Layout;
-use exec_map::Program;
-use jump_map::Image;
+use node_machine::exec_map::Program;
+use node_machine::jump_map::Image;
 use run_limits::Budget;
 
 /// What n nodes run: the rewritten code of a program over a layout.

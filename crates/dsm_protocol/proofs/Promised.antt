@@ -5,7 +5,7 @@ use Rattle.block_layout.specs.Layout.{Shape, blocks, home}
 use Rattle.state_table.specs.declared.State.{State}
 use Rattle.state_table.specs.declared.State.TheVariants.{Exclusive, Shared, Invalid, Pending}
 use Rattle.state_table.specs.StateByte.{can_read, can_write}
-use Rattle.flag_memory.specs.Flag.{flags}
+use Rattle.home_directory.specs.flag_memory.Flag.{flags}
 use Rattle.home_directory.specs.declared.wait.Wait.{Wait}
 use Rattle.coherence.specs.Messages as m
 use Rattle.coherence.specs.Machine as k

@@ -5,15 +5,15 @@ use Rattle.std.specs.Prelude.{is_some}
 use Rattle.std.proofs.lemmas.Bool.Decides.{eqb_tells, nat_tests}
 use Rattle.rv32_decode.specs.declared.Width.{Width}
 use Rattle.rv32_decode.specs.Widths.{size_of, is_aligned}
-use Rattle.byte_range.specs.Memory.{stored}
+use Rattle.home_directory.specs.byte_range.Memory.{stored}
 use Rattle.block_layout.specs.Layout.{Shape, IsValid, blocks, home, first_line, block_of}
 use Rattle.block_layout.specs.Update.{changed}
 use Rattle.buf_pool.specs.Pool.{Buffer}
 use Rattle.state_table.specs.declared.State.{State}
 use Rattle.state_table.specs.declared.State.TheVariants.{Exclusive, Shared, Invalid, Pending}
 use Rattle.state_table.specs.StateByte.{can_read, can_write}
-use Rattle.flag_memory.specs.Copy.{bytes_from}
-use Rattle.flag_memory.specs.Flag.{flags}
+use Rattle.home_directory.specs.flag_memory.Copy.{bytes_from}
+use Rattle.home_directory.specs.flag_memory.Flag.{flags}
 use Rattle.home_directory.specs.declared.messages.Need.{Need}
 use Rattle.home_directory.specs.declared.messages.Need.TheVariants as want
 use Rattle.home_directory.specs.declared.messages.Message.{Message}
@@ -22,8 +22,8 @@ use Rattle.home_directory.specs.declared.messages.Post.{Post}
 use Rattle.home_directory.specs.declared.wait.Wait.{Wait}
 use Rattle.home_directory.specs.Table.{meets, state_in_wait, request, first_wait, Miss, want_row}
 use Rattle.home_directory.specs.Home.{post}
-use Rattle.miss_handlers.specs.Effects.{block_facts as facts}
-use Rattle.miss_handlers.specs.Rows.{Row, AtHome, AtNode, taker_in, is_bye}
+use Rattle.node_model.specs.miss_handlers.Effects.{block_facts as facts}
+use Rattle.node_model.specs.miss_handlers.Rows.{Row, AtHome, AtNode, taker_in, is_bye}
 use Rattle.coherence.specs.Messages as m
 use Rattle.coherence.specs.Machine as k
 use Rattle.coherence.specs.Table.{update}

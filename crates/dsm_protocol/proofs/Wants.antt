@@ -5,20 +5,20 @@ use Rattle.std.proofs.lemmas.List.{get_or_default, length-set}
 use Rattle.block_layout.specs.Layout.{Shape, blocks}
 use Rattle.buf_pool.specs.Pool.{empty_buffer}
 use Rattle.state_table.specs.States.{state_of}
-use Rattle.flag_memory.specs.Copy.{bytes_of}
+use Rattle.home_directory.specs.flag_memory.Copy.{bytes_of}
 use Rattle.home_directory.specs.declared.messages.Need.{Need}
 use Rattle.home_directory.specs.declared.messages.Post.{Post}
 use Rattle.home_directory.specs.Effects.{Directory, entry_at, entries_of}
 use Rattle.home_directory.specs.Table.{meets, Miss, want_row}
-use Rattle.miss_handlers.specs.Waits.{wait_of}
-use Rattle.miss_handlers.specs.Effects.{miss_of, states_after, waits_after}
+use Rattle.node_model.specs.miss_handlers.Waits.{wait_of}
+use Rattle.node_model.specs.miss_handlers.Effects.{miss_of, states_after, waits_after}
 use Rattle.coherence.specs.Machine.{Event, Want}
 use Rattle.dsm_protocol.specs.declared.nodes.BareNode.{BareNode}
 use Rattle.dsm_protocol.specs.World.{messages_to, with_sends, after_miss}
 use Rattle.dsm_protocol.specs.Abstraction.{Contents, need_of}
 use Rattle.dsm_protocol.specs.Sound.{NoByes, Sound}
 use Rattle.dsm_protocol.specs.Queue.{Queue, list_of, AreQueues, SameMessages, AreSent}
-use Rattle.miss_handlers.specs.Effects.{block_facts as facts}
+use Rattle.node_model.specs.miss_handlers.Effects.{block_facts as facts}
 use Rattle.dsm_protocol.specs.Events.{pending, Leads}
 use Rattle.dsm_protocol.specs.Nodes.{Nodes, no_node, node_in, node_at, world_of, IsNode, AreReached}
 use Rattle.dsm_protocol.specs.Want.{posts_of, HasWanted}

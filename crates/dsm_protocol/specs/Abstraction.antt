@@ -1,7 +1,7 @@
 -- The core of blocks for which the nodes stand.
 use Rattle.std.specs.Prelude.{◌≡◌, ℕ, ◌<◌, nat_lt, if◌then◌else◌, List, [], ◌∷◌, ◌++◌, length, drop, Option, Some, None}
 use Rattle.block_layout.specs.Layout.{Shape, blocks, home}
-use Rattle.flag_memory.specs.Flag.{flags}
+use Rattle.home_directory.specs.flag_memory.Flag.{flags}
 use Rattle.state_table.specs.declared.State.{State}
 use Rattle.state_table.specs.declared.State.TheVariants.{Exclusive, Shared, Invalid, Pending}
 use Rattle.home_directory.specs.declared.messages.Need as need

@@ -6,8 +6,8 @@ use Rattle.block_layout.specs.Update.{changed}
 use Rattle.rv32_decode.specs.declared.Width.{Width}
 use Rattle.state_table.specs.declared.State.TheVariants.{Exclusive, Invalid}
 use Rattle.state_table.specs.StateByte.{can_read, can_write}
-use Rattle.flag_memory.specs.Copy.{bytes_from}
-use Rattle.flag_memory.specs.Flag.{flags}
+use Rattle.home_directory.specs.flag_memory.Copy.{bytes_from}
+use Rattle.home_directory.specs.flag_memory.Flag.{flags}
 use Rattle.home_directory.specs.declared.messages.Need.{Need}
 use Rattle.home_directory.specs.declared.messages.Need.TheVariants as need
 use Rattle.home_directory.specs.declared.messages.Message.{Message}
@@ -16,7 +16,7 @@ use Rattle.home_directory.specs.declared.messages.Post.{Post}
 use Rattle.home_directory.specs.declared.wait.Wait.{Wait}
 use Rattle.home_directory.specs.Home.{first_entry}
 use Rattle.home_directory.specs.Table.{meets}
-use Rattle.miss_handlers.specs.Rows.{Row, block_in, clears, taker_in, takes_away, is_bye}
+use Rattle.node_model.specs.miss_handlers.Rows.{Row, block_in, clears, taker_in, takes_away, is_bye}
 use Rattle.coherence.specs.Machine.{Event, after}
 use Rattle.dsm_protocol.specs.World.{World, with_list, with_sends}
 use Rattle.dsm_protocol.specs.Abstraction.{Contents, setting_of}

@@ -3,11 +3,11 @@ use Rattle.std.specs.Prelude.{ℕ, Bool, true, false, List, [], ◌∷◌, ◌++
 use Rattle.std.specs.Fmt.{decimal}
 use Rattle.rv32_text.specs.Listing.{word_digits, text_of_word}
 use Rattle.state_table.specs.declared.State.{State}
-use Rattle.node_model.specs.Node.{Tally, Nothing_counted, FalseMiss, FallsBack}
+use Rattle.run_trace.specs.node_model.Node.{Tally, Nothing_counted, FalseMiss, FallsBack}
 use Rattle.home_directory.specs.declared.headers.Header.{Header}
 use Rattle.home_directory.specs.declared.headers.Sent.{Sent}
 use Rattle.run_trace.specs.declared.traced.Accessed.{Accessed}
-use Rattle.node_machine.specs.declared.wanted.Wanted.{Wanted}
+use Rattle.run_trace.specs.node_machine.declared.wanted.Wanted.{Wanted}
 use Rattle.event_text.specs.Names.{message_name, state_name, access_name, need_name}
 
 -- a number behind a name, where there is one

@@ -3,7 +3,7 @@ use Rattle.std.specs.Prelude.{ℕ, Bool, true, false, ◌&&◌, ◌||◌, ◌==�
 use Rattle.std.specs.Option.{option_map_or}
 use Rattle.std.specs.List.{flat_map}
 use Rattle.elf32_read.specs.Elf.{Elf}
-use Rattle.node_machine.specs.declared.wanted.Wanted.{Wanted}
+use Rattle.run_trace.specs.node_machine.declared.wanted.Wanted.{Wanted}
 use Rattle.run_trace.specs.declared.traced.Accessed.{Accessed}
 use Rattle.run_trace.specs.Traced.{OfWord, What, Word, Taken, Traced}
 use Rattle.event_text.specs.declared.shown.Options.{Options}

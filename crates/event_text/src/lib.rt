@@ -12,4 +12,6 @@ pub use events::{push_event, push_passed};
 pub use law::shown_law;
 pub use names::{access_name, message_name, need_name, state_name};
 pub use parts::{push_decimal, push_header, push_if, push_number, push_original, push_state};
+pub use run_trace;
+pub use run_trace::node_machine;
 pub use shown::{Options, is_passed_shown, is_shown, push_head};

@@ -2,14 +2,14 @@
 
 ghost use Rattle.std.specs.Prelude.{◌≡◌, ◌++◌, OnOk, codes};
 ghost use Rattle.std.specs.Fmt.{decimal};
-ghost use Rattle.node_machine.specs.Wanted.{wanted_in};
+ghost use Rattle.run_trace.specs.node_machine.Wanted.{wanted_in};
 ghost use Rattle.run_trace.specs.Given.{tally_of};
 ghost use Rattle.event_text.specs.Parts as model;
 
 use crate::names::{access_name, message_name, need_name, state_name};
 use home_directory::{Header, Sent};
 use itoa::Buffer;
-use node_machine::{Wanted, WantedBlocks};
+use run_trace::node_machine::{Wanted, WantedBlocks};
 use run_trace::{Accessed, Tallied};
 use rv32_text::{push_word, push_word_text};
 use state_table::State;

@@ -2,13 +2,13 @@
 
 ghost use Rattle.std.specs.Prelude.{◌≡◌, ◌++◌, OnOk, true};
 ghost use Rattle.std.specs.Option.{option_map_or};
-ghost use Rattle.node_machine.specs.Wanted.{wanted_in};
+ghost use Rattle.run_trace.specs.node_machine.Wanted.{wanted_in};
 ghost use Rattle.run_trace.specs.Given.{word_of, what_of, traced_of};
 ghost use Rattle.run_trace.specs.Passing.{passed_of};
 ghost use Rattle.event_text.specs.Shown as model;
 
 use block_layout::Block;
-use node_machine::WantedBlocks;
+use run_trace::node_machine::WantedBlocks;
 use run_trace::{Accessed, Traced, What, WordPassed, WordTraced};
 use std::alloc::AllocError;
 

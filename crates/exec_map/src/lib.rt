@@ -19,6 +19,7 @@ mod segments;
 mod stretches;
 
 pub use block_layout::{Lines, Ranges};
+pub use byte_range;
 use elf32_read::{Elf, Segment};
 pub use refused::{ProgramRefused, ProgramRule};
 use rv32_decode::{Instr, Width, decode};

@@ -12,11 +12,11 @@ use Rattle.exec_map.specs.Contents.{program_of, class_of_line, first_byte, first
 use Rattle.first_memory.specs.Ranges.{line_range}
 use Rattle.block_layout.specs.Layout.{AreRanges, is_in, is_among}
 use Rattle.block_layout.specs.declared.ranges.Lines.{Lines}
-use Rattle.byte_range.specs.Lines.{LineBytes, lines_memory, place_of, line_count, has_line, byte_of_place, Ascend}
-use Rattle.byte_range.specs.declared.lines.LineRange.{LineRange}
-use Rattle.rv32_program.specs.declared.Class.{Class}
-use Rattle.rv32_program.specs.declared.Class.TheVariants.{Unmapped}
-use Rattle.rv32_program.specs.Program.{IsAccepted}
+use Rattle.exec_map.specs.byte_range.Lines.{LineBytes, lines_memory, place_of, line_count, has_line, byte_of_place, Ascend}
+use Rattle.exec_map.specs.byte_range.declared.lines.LineRange.{LineRange}
+use Rattle.exec_map.specs.rv32_program.declared.Class.{Class}
+use Rattle.exec_map.specs.rv32_program.declared.Class.TheVariants.{Unmapped}
+use Rattle.exec_map.specs.rv32_program.Program.{IsAccepted}
 
 -- the first bytes of the lines of ranges
 abbrev pub bytes_of : Elf → List Lines → List ℕ

@@ -2,8 +2,8 @@
 use Rattle.std.specs.Prelude.{◌≡◌, ℕ, Bool, is_some}
 use Rattle.elf32_read.specs.Elf.{Elf}
 use Rattle.exec_map.specs.Contents.{class_of_line, is_shared, is_read_only}
-use Rattle.byte_range.specs.Lines.{LineBytes, place_of}
-use Rattle.rv32_program.specs.declared.Class.{Class}
+use Rattle.exec_map.specs.byte_range.Lines.{LineBytes, place_of}
+use Rattle.exec_map.specs.rv32_program.declared.Class.{Class}
 
 -- it has exactly the lines of these classes
 abbrev pub HasLinesOf : (Class → Bool) → Elf → LineBytes → Type 0

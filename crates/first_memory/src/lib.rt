@@ -5,11 +5,12 @@
 ghost use Rattle.std.specs.Prelude.{◌≡◌, ℕ, IfOk};
 ghost use Rattle.exec_map.specs.Contents.{first_byte};
 ghost use Rattle.block_layout.specs.Layout.{AreRanges};
-ghost use Rattle.byte_range.specs.Lines.{lines_memory, Ascend};
+ghost use Rattle.exec_map.specs.byte_range.Lines.{lines_memory, Ascend};
 ghost use Rattle.first_memory.specs.SharedLines.{HasSharedLines, HasReadOnlyLines};
 ghost use Rattle.first_memory.specs.Ranges.{line_ranges};
 
-use byte_range::{LineMemory, LineRange};
+pub use exec_map;
+use exec_map::byte_range::{LineMemory, LineRange};
 use exec_map::{Lines, Program, first_bytes_law};
 use std::alloc::{AllocError, Global};
 

@@ -11,6 +11,8 @@ mod request_lists;
 mod wait;
 
 pub use directory::{Busy, Directory, Entry, Request};
+pub use flag_memory;
 pub use headers::{Header, Headers, MessageKind, Sent, headers_of};
 pub use messages::{Message, Need, Post, Sends, Wire};
+pub use state_table;
 pub use wait::{Answer, Wait};

@@ -3,10 +3,10 @@ use Rattle.std.proofs.Common.{◌≡◌, ℕ, ◌<◌, ◌≤◌, ◌^◌, List,
 use Rattle.elf32_read.specs.Elf.{Elf}
 use Rattle.block_layout.specs.Layout.{Shape}
 use Rattle.templates.specs.declared.plans.PlanEntry.{PlanEntry}
-use Rattle.jump_map.specs.Image.{Cell}
-use Rattle.run_record.specs.declared.Record.{Record as Kept}
-use Rattle.run_record.specs.Record.{NamesOtherCode}
-use Rattle.dsm_core.specs.CoreParts.{work_with}
+use Rattle.rewrite_verify.specs.jump_map.Image.{Cell}
+use Rattle.replay.specs.run_record.declared.Record.{Record as Kept}
+use Rattle.replay.specs.run_record.Record.{NamesOtherCode}
+use Rattle.replay.specs.dsm_core.CoreParts.{work_with}
 use Rattle.judged_files.specs.declared.failure.Failure.{Failure}
 use Rattle.judged_files.specs.declared.failure.Failure.TheVariants.{Input, NotWritten, Refused, Layout, Record, Text, Output, OutOfMemory}
 use Rattle.judged_files.specs.Failures.{IsRecordRefusal, IsRefusal, IsReplayRefusal}

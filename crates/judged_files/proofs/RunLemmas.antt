@@ -8,19 +8,19 @@ use Rattle.block_layout.specs.Layout.{Shape, IsValid, is_in, is_shared as is_sha
 use Rattle.elf32_read.specs.Elf.{Elf}
 use Rattle.exec_map.specs.Contents.{program_of, class_of_line, is_shared}
 use Rattle.templates.specs.declared.plans.PlanEntry.{PlanEntry}
-use Rattle.jump_map.specs.Image.{Cell, IsRewriting}
-use Rattle.rewriter.specs.RewrittenFile.{rewritten_elf}
-use Rattle.node_model.specs.Node.{Work, Resume, IsLaidOver, Ended, Waiting, standing_of}
-use Rattle.node_model.specs.Outcome.{AreFrugal, counts_after}
-use Rattle.node_model.specs.Core.{Core, Event, AreAlike, IsCoreRun, IsOver, opening_core, after, event_step}
-use Rattle.run_order.specs.OwnRun.{Stamped, StandsForOwnRun, events_of, run_of}
-use Rattle.run_record.specs.declared.Record.{Record}
-use Rattle.rewriting_law.specs.Ascents.{AscendsBetweenPolls}
-use Rattle.rewriting_law.specs.Bounds.{RunsRewritten, steps_of}
-use Rattle.rewriting_law.specs.CoreRun.{picks_of}
-use Rattle.rewriting_law.specs.Licence.{AllLicensed}
-use Rattle.rewriting_law.specs.Interleaving.{Interleaves, IsCoherent, original_after}
-use Rattle.dsm_core.specs.CoreParts.{work_with}
+use Rattle.rewrite_verify.specs.jump_map.Image.{Cell, IsRewriting}
+use Rattle.rewrite_verify.specs.rewriter.RewrittenFile.{rewritten_elf}
+use Rattle.replay.specs.node_model.Node.{Work, Resume, IsLaidOver, Ended, Waiting, standing_of}
+use Rattle.replay.specs.node_model.Outcome.{AreFrugal, counts_after}
+use Rattle.replay.specs.node_model.Core.{Core, Event, AreAlike, IsCoreRun, IsOver, opening_core, after, event_step}
+use Rattle.replay.specs.run_order.OwnRun.{Stamped, StandsForOwnRun, events_of, run_of}
+use Rattle.replay.specs.run_record.declared.Record.{Record}
+use Rattle.replay.specs.rewriting_law.Ascents.{AscendsBetweenPolls}
+use Rattle.replay.specs.rewriting_law.Bounds.{RunsRewritten, steps_of}
+use Rattle.replay.specs.rewriting_law.CoreRun.{picks_of}
+use Rattle.replay.specs.rewriting_law.Licence.{AllLicensed}
+use Rattle.replay.specs.rewriting_law.Interleaving.{Interleaves, IsCoherent, original_after}
+use Rattle.replay.specs.dsm_core.CoreParts.{work_with}
 use Rattle.judged_files.specs.Code.{Choice, choice_of, IsChosen, IsFileOf, IsRewritingOf}
 use Rattle.judged_files.specs.Executables.{IsProgramOf}
 use Rattle.judged_files.specs.Ready.{GivesCode, GivesRuns, IsAskedWork}

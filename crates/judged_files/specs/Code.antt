@@ -5,9 +5,9 @@ use Rattle.elf32_read.specs.Elf.{Elf}
 use Rattle.exec_map.specs.Contents.{program_of}
 use Rattle.templates.specs.declared.plans.PlanEntry.{PlanEntry}
 use Rattle.templates.specs.WholePlan.{IsPlanOf}
-use Rattle.jump_map.specs.Image.{Cell, IsRewriting}
-use Rattle.rewriter.specs.declared.file.Part.{Part}
-use Rattle.rewriter.specs.RewrittenFile.{rewritten_elf, IsFirstDifference}
+use Rattle.rewrite_verify.specs.jump_map.Image.{Cell, IsRewriting}
+use Rattle.rewrite_verify.specs.rewriter.declared.file.Part.{Part}
+use Rattle.rewrite_verify.specs.rewriter.RewrittenFile.{rewritten_elf, IsFirstDifference}
 use Rattle.rewrite_verify.specs.Refusals.{Fits}
 use Rattle.rewrite_verify.specs.declared.refused.VerifyRefused.{VerifyRefused}
 use Rattle.rewrite_verify.specs.declared.refused.VerifyRefused.TheVariants.{OutOfMemory}

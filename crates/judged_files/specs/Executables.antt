@@ -8,7 +8,7 @@ use Rattle.elf32_read.specs.declared.refused.FileRule.{FileRule}
 use Rattle.exec_map.specs.Contents.{program_of}
 use Rattle.exec_map.specs.Refusals.{IsAcceptable, IsRefusedBy}
 use Rattle.exec_map.specs.declared.refused.ProgramRule.{ProgramRule}
-use Rattle.rewriter.specs.TooLarge.{IsTooLarge}
+use Rattle.rewrite_verify.specs.rewriter.TooLarge.{IsTooLarge}
 use Rattle.judged_files.specs.declared.refusal.Subject.{Subject}
 use Rattle.judged_files.specs.declared.refusal.Subject.TheVariants.{Executable}
 use Rattle.judged_files.specs.Text.{file_line, program_line, too_many_words}

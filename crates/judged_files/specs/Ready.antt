@@ -3,15 +3,15 @@ use Rattle.std.specs.Prelude.{◌≡◌, ℕ, List}
 use Rattle.elf32_read.specs.Elf.{Elf}
 use Rattle.exec_map.specs.Contents.{program_of}
 use Rattle.templates.specs.declared.plans.PlanEntry.{PlanEntry}
-use Rattle.node_model.specs.Node.{Work}
-use Rattle.node_model.specs.Core.{Core, IsOver}
-use Rattle.node_model.specs.Outcome.{Outcome, IsOutcomeOf}
-use Rattle.run_order.specs.OwnRun.{Stamped, StandsForOwnRun, run_of}
-use Rattle.run_record.specs.declared.Record.{Record as Kept}
-use Rattle.dsm_core.specs.CoreParts.{work_with}
+use Rattle.replay.specs.node_model.Node.{Work}
+use Rattle.replay.specs.node_model.Core.{Core, IsOver}
+use Rattle.replay.specs.node_model.Outcome.{Outcome, IsOutcomeOf}
+use Rattle.replay.specs.run_order.OwnRun.{Stamped, StandsForOwnRun, run_of}
+use Rattle.replay.specs.run_record.declared.Record.{Record as Kept}
+use Rattle.replay.specs.dsm_core.CoreParts.{work_with}
 use Rattle.judged_files.specs.declared.prepare.Prepared.{Prepared}
 use Rattle.judged_files.specs.WholeRuns.{IsRunOfCode, IsRunOf}
-use Rattle.rewriter.specs.RewrittenFile.{rewritten_elf}
+use Rattle.rewrite_verify.specs.rewriter.RewrittenFile.{rewritten_elf}
 use Rattle.judged_files.specs.Code.{Choice, IsFileOf, IsRewritingOf, choice_of}
 use Rattle.judged_files.specs.Replays.{IsWorkOf}
 use Rattle.judged_files.specs.Inputs.{Inputs}

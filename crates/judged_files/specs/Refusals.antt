@@ -7,8 +7,8 @@ use Rattle.block_layout.specs.declared.ranges.Lines.{Lines}
 use Rattle.block_layout.specs.declared.refused.Rule.{Rule}
 use Rattle.block_layout.specs.Text.{IsFirstFault}
 use Rattle.templates.specs.declared.plans.PlanEntry.{PlanEntry}
-use Rattle.jump_map.specs.Image.{Cell}
-use Rattle.rewriter.specs.RewrittenFile.{rewritten_elf}
+use Rattle.rewrite_verify.specs.jump_map.Image.{Cell}
+use Rattle.rewrite_verify.specs.rewriter.RewrittenFile.{rewritten_elf}
 use Rattle.judged_files.specs.Code.{choice_of, IsCodeRefused, IsFileOf, IsRewritingOf, IsUnrewritten}
 use Rattle.judged_files.specs.Inputs.{Inputs}
 use Rattle.judged_files.specs.Text.{layout_line}

@@ -7,16 +7,16 @@ use Rattle.block_layout.specs.declared.refused.Rule.{Rule}
 use Rattle.block_layout.specs.Layout.{Shape, IsValid}
 use Rattle.block_layout.specs.Text.{IsFirstBroken}
 use Rattle.templates.specs.declared.plans.PlanEntry.{PlanEntry}
-use Rattle.jump_map.specs.Image.{Cell}
-use Rattle.node_model.specs.Node.{Work}
-use Rattle.node_model.specs.Outcome.{Outcome}
-use Rattle.run_record.specs.declared.Record.{Record}
-use Rattle.run_record.specs.declared.refused.RecordRule.{RecordRule}
-use Rattle.run_record.specs.declared.refused.RecordRule.TheVariants as rules
-use Rattle.run_record.specs.Record.{IsRecord, NamesOtherCode}
-use Rattle.run_record.specs.Rules.{IsFirstFault}
-use Rattle.run_record.specs.Telling.{IsOfWords}
-use Rattle.run_record.specs.Text.{record_text}
+use Rattle.rewrite_verify.specs.jump_map.Image.{Cell}
+use Rattle.replay.specs.node_model.Node.{Work}
+use Rattle.replay.specs.node_model.Outcome.{Outcome}
+use Rattle.replay.specs.run_record.declared.Record.{Record}
+use Rattle.replay.specs.run_record.declared.refused.RecordRule.{RecordRule}
+use Rattle.replay.specs.run_record.declared.refused.RecordRule.TheVariants as rules
+use Rattle.replay.specs.run_record.Record.{IsRecord, NamesOtherCode}
+use Rattle.replay.specs.run_record.Rules.{IsFirstFault}
+use Rattle.replay.specs.run_record.Telling.{IsOfWords}
+use Rattle.replay.specs.run_record.Text.{record_text}
 use Rattle.replay.specs.declared.refused.ReplayRule.{ReplayRule}
 use Rattle.replay.specs.Refusals as events
 use Rattle.replay.specs.Replay.{TellsWholeRun}

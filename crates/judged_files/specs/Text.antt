@@ -11,15 +11,15 @@ use Rattle.exec_map.specs.declared.refused.ProgramRule.{ProgramRule}
 use Rattle.exec_map.specs.declared.refused.ProgramRule.TheVariants.{TooHigh, Overlap, WritableCode, NoCode, TooMuch, EntryNotCode, Unsupported, CodeAlign, TooManySegments}
 use Rattle.rv32_program.specs.declared.Class.{Class}
 use Rattle.rv32_program.specs.declared.Class.TheVariants.{Shared}
-use Rattle.rewriter.specs.declared.file.Part.{Part}
-use Rattle.rewriter.specs.declared.file.Part.TheVariants as part
+use Rattle.rewrite_verify.specs.rewriter.declared.file.Part.{Part}
+use Rattle.rewrite_verify.specs.rewriter.declared.file.Part.TheVariants as part
 use Rattle.rewrite_verify.specs.declared.refused.VerifyRefused.{VerifyRefused}
 use Rattle.rewrite_verify.specs.declared.refused.VerifyRefused.TheVariants as verify
 use Rattle.block_layout.specs.Text as layouts
 use Rattle.block_layout.specs.declared.refused.Rule.{Rule}
-use Rattle.run_record.specs.Rules as records
-use Rattle.run_record.specs.declared.refused.RecordRule.{RecordRule}
-use Rattle.node_model.specs.declared.NodeCounts.{NodeCounts}
+use Rattle.replay.specs.run_record.Rules as records
+use Rattle.replay.specs.run_record.declared.refused.RecordRule.{RecordRule}
+use Rattle.replay.specs.node_model.declared.NodeCounts.{NodeCounts}
 use Rattle.replay.specs.Refusals as replays
 use Rattle.replay.specs.declared.refused.ReplayRule.{ReplayRule}
 use Rattle.rv32_asm.specs.Rules as assembly

@@ -2,19 +2,19 @@
 use Rattle.std.specs.Prelude.{◌≡◌, ◌≢◌, ℕ, ◌/◌, ◌<◌, ◌≤◌, List, [], ◌++◌, Some, map}
 use Rattle.rv32_program.specs.declared.End.TheVariants.{Stopped}
 use Rattle.templates.specs.declared.plans.PlanEntry.{PlanEntry}
-use Rattle.node_model.specs.Node.{Work, Resume, Ended, Waiting}
-use Rattle.node_model.specs.Core.{Core, Event, IsCoreRun, IsOver, opening_core, after}
-use Rattle.node_model.specs.Outcome.{Outcome, AreFrugal, ends_after, counts_after}
-use Rattle.run_order.specs.OwnRun.{Stamped, StandsForOwnRun, run_of}
+use Rattle.replay.specs.node_model.Node.{Work, Resume, Ended, Waiting}
+use Rattle.replay.specs.node_model.Core.{Core, Event, IsCoreRun, IsOver, opening_core, after}
+use Rattle.replay.specs.node_model.Outcome.{Outcome, AreFrugal, ends_after, counts_after}
+use Rattle.replay.specs.run_order.OwnRun.{Stamped, StandsForOwnRun, run_of}
 use Rattle.elf32_read.specs.Elf.{Elf}
 use Rattle.exec_map.specs.Contents.{program_of}
 use Rattle.judged_files.specs.Code.{Choice, IsRewritingOf, IsFileOf, choice_of}
-use Rattle.rewriting_law.specs.Ascents.{AscendsBetweenPolls}
-use Rattle.rewriting_law.specs.Bounds.{RunsRewritten, steps_of}
-use Rattle.rewriting_law.specs.CoreRun.{picks_of}
-use Rattle.rewriting_law.specs.Interleaving.{Interleaves, IsCoherent, original_after}
-use Rattle.rewriting_law.specs.Licence.{AllLicensed}
-use Rattle.rewriter.specs.RewrittenFile.{rewritten_elf}
+use Rattle.replay.specs.rewriting_law.Ascents.{AscendsBetweenPolls}
+use Rattle.replay.specs.rewriting_law.Bounds.{RunsRewritten, steps_of}
+use Rattle.replay.specs.rewriting_law.CoreRun.{picks_of}
+use Rattle.replay.specs.rewriting_law.Interleaving.{Interleaves, IsCoherent, original_after}
+use Rattle.replay.specs.rewriting_law.Licence.{AllLicensed}
+use Rattle.rewrite_verify.specs.rewriter.RewrittenFile.{rewritten_elf}
 use Rattle.judged_files.specs.Inputs.{Inputs}
 use Rattle.judged_files.specs.Layouts.{IsLayoutFor}
 

@@ -4,8 +4,8 @@
 ghost use Rattle.std.specs.Prelude.{◌≡◌, option_map, IfOk, IfErr, OnOk};
 ghost use Rattle.exec_map.specs.Contents.{program_of as meaning_of};
 ghost use Rattle.templates.specs.WholePlan.{IsPlanOf};
-ghost use Rattle.jump_map.specs.Image.{IsRewriting};
-ghost use Rattle.rewriter.specs.RewrittenFile.{rewritten_elf};
+ghost use Rattle.rewrite_verify.specs.jump_map.Image.{IsRewriting};
+ghost use Rattle.rewrite_verify.specs.rewriter.RewrittenFile.{rewritten_elf};
 ghost use Rattle.judged_files.specs.Code.{IsChosen, IsFileOf, IsOtherFile, IsUnchosen, Verified};
 ghost use Rattle.judged_files.specs.Code.{choice_of};
 ghost use Rattle.judged_files.specs.Executables.{HasLongCode, ReadsAs};
@@ -16,9 +16,9 @@ use crate::input::elf_of;
 use crate::refusal::{Subject, code_line, too_many_words, verify_line};
 use elf32_read::Elf;
 use exec_map::Program;
-use jump_map::ImageRefused;
+use rewrite_verify::jump_map::ImageRefused;
+use rewrite_verify::rewriter::{Options, Rewritten, rewrite};
 use rewrite_verify::{VerifyRefused, verify};
-use rewriter::{Options, Rewritten, rewrite};
 use std::alloc::Global;
 
 /// The rewriting of a program that was accepted from the original: that of the verified file, where

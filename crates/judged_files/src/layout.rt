@@ -12,8 +12,8 @@ use crate::failure::Failure;
 use crate::refusal::layout_line;
 use block_layout::{Layout, LayoutRefused, default_layout, layout_with, read_layout};
 use exec_map::Program;
+use replay::run_record::Record;
 use run_limits::NodeCount;
-use run_record::Record;
 use std::alloc::Global;
 
 /// The layout of a program's shared lines for so many nodes: that of a text, or, where there is

@@ -11,3 +11,8 @@ pub mod prepare;
 pub mod record;
 pub mod refusal;
 pub mod text;
+
+pub use replay;
+pub use replay::{dsm_core, rewriting_law, run_order};
+pub use rewrite_verify;
+pub use rewrite_verify::{check_plan, rewriter};

@@ -1,8 +1,8 @@
 //! What a run of rewritten code is of: the program, its rewriting, and the layout.
 
 ghost use Rattle.std.specs.Prelude.{◌≡◌, IfOk, IfErr};
-ghost use Rattle.rewriting_law.specs.Bounds.{RunsRewritten};
-ghost use Rattle.dsm_core.specs.CoreParts.{work_in};
+ghost use Rattle.replay.specs.rewriting_law.Bounds.{RunsRewritten};
+ghost use Rattle.replay.specs.dsm_core.CoreParts.{work_in};
 ghost use Rattle.judged_files.specs.Executables.{ReadsAs};
 ghost use Rattle.judged_files.specs.Ready.{IsAskedWork, IsReadyFor, GivesRuns, work_for};
 ghost use Rattle.judged_files.specs.Failures.{IsRefusal, IsReplayRefusal};
@@ -16,13 +16,13 @@ use crate::input::{Inputs, program_of};
 use crate::layout::{layout_for, layout_of_blocks};
 use crate::record::{judge_words, record_in};
 use block_layout::Layout;
-use dsm_core::Work;
 use elf32_read::Elf;
 use exec_map::Program;
-use rewriter::Rewritten;
-use rewriting_law::{bounds_law, interleaving_law, progress_law};
+use replay::dsm_core::Work;
+use replay::rewriting_law::{bounds_law, interleaving_law, progress_law};
+use replay::run_record::Record;
+use rewrite_verify::rewriter::Rewritten;
 use run_limits::{Budget, NodeCount};
-use run_record::Record;
 use std::alloc::Global;
 
 /// The parts of a run.

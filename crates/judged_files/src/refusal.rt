@@ -10,9 +10,9 @@ use block_layout::Rule;
 use elf32_read::FileRule;
 use exec_map::{Class, ProgramRule};
 use replay::ReplayRule;
+use replay::run_record::RecordRule;
 use rewrite_verify::VerifyRefused;
-use rewriter::Part;
-use run_record::RecordRule;
+use rewrite_verify::rewriter::Part;
 use rv32_asm::AsmRule;
 use std::alloc::{AllocError, Global};
 

@@ -5,7 +5,7 @@ ghost use Rattle.std.specs.Fmt.{decimal};
 ghost use Rattle.judged_files.specs.Text as model;
 
 use itoa::Buffer;
-use node_model::NodeCounts;
+use replay::node_model::NodeCounts;
 use rv32_text::push_word;
 use std::alloc::AllocError;
 

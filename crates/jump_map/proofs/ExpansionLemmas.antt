@@ -5,7 +5,7 @@ use Rattle.std.specs.List.{list_all}
 use Rattle.std.specs.Option.{option_map}
 use Rattle.std.proofs.lemmas.List.{length-map}
 use Rattle.rv32_decode.specs.declared.Instr.{Instr}
-use Rattle.rv32_program.specs.Program.{Program}
+use Rattle.templates.specs.rv32_program.Program.{Program}
 use Rattle.templates.specs.declared.code.CodeWord.{CodeWord}
 use Rattle.templates.specs.declared.plans.PlanEntry.{PlanEntry}
 use Rattle.templates.specs.declared.places.Part.{Part}

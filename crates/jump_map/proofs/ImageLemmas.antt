@@ -3,7 +3,7 @@ use Rattle.std.proofs.Common.{◌≡◌, ℕ, ◌+◌, Bool, true, false, List, 
 use Rattle.std.specs.Prelude.{◌&&◌}
 use Rattle.std.specs.List.{list_all}
 use Rattle.std.proofs.lemmas.Bool.{ltb-true}
-use Rattle.rv32_program.specs.Program.{Program}
+use Rattle.templates.specs.rv32_program.Program.{Program}
 use Rattle.runtime_words.specs.declared.RtWord.{RtWord}
 use Rattle.runtime_words.specs.declared.RtWord.TheVariants.{TrapOff}
 use Rattle.templates.specs.declared.plans.PlanEntry.{PlanEntry}

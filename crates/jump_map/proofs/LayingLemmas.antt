@@ -1,6 +1,6 @@
 -- The words of sequences as they are laid out are those of the definition.
 use Rattle.std.proofs.Common.{◌≡◌, ℕ, zero, suc, ◌+◌, ◌*◌, ◌<◌, ◌≤◌, List, [], ◌∷◌, ◌++◌, length, get_or, drop, refl, sym, ap, ◌∙◌, arith}
-use Rattle.rv32_program.specs.Program.{Program}
+use Rattle.templates.specs.rv32_program.Program.{Program}
 use Rattle.templates.specs.declared.places.Part.{Part}
 use Rattle.templates.specs.declared.plans.PlanEntry.{PlanEntry}
 use Rattle.templates.specs.Sequences.{SequenceItem}

@@ -4,9 +4,9 @@ use Rattle.std.specs.Prelude.{slice_get}
 use Rattle.std.specs.Option.{option_map}
 use Rattle.rv32_decode.specs.Fields.{unsigned}
 use Rattle.rv32_decode.specs.declared.Op.TheVariants as op
-use Rattle.rv32_step.specs.Registers.{reg}
-use Rattle.rv32_step.specs.Demands.{demand_of}
-use Rattle.rv32_step.specs.declared.Demand.TheVariants.{Continues, Jumps}
+use Rattle.micro_op.specs.rv32_step.Registers.{reg}
+use Rattle.micro_op.specs.rv32_step.Demands.{demand_of}
+use Rattle.micro_op.specs.rv32_step.declared.Demand.TheVariants.{Continues, Jumps}
 use Rattle.runtime_words.specs.declared.RtWord.{RtWord}
 use Rattle.runtime_words.specs.declared.RtWord.TheVariants.{Native, Poll, Xjalr, Far}
 use Rattle.micro_op.specs.declared.MicroKind.{MicroKind}

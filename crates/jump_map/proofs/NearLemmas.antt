@@ -8,8 +8,8 @@ use Rattle.rv32_decode.specs.declared.Instr.TheVariants.{Lui, Auipc, Jal, Jalr, 
 use Rattle.rv32_decode.specs.declared.Cond.{Cond}
 use Rattle.rv32_decode.specs.declared.LoadKind.{LoadKind}
 use Rattle.rv32_decode.specs.declared.Width.{Width}
-use Rattle.rv32_program.specs.Program.{Program}
-use Rattle.rv32_program.specs.Targets.{offset_address}
+use Rattle.templates.specs.rv32_program.Program.{Program}
+use Rattle.templates.specs.rv32_program.Targets.{offset_address}
 use Rattle.runtime_words.specs.declared.RtWord.{RtWord}
 use Rattle.runtime_words.specs.declared.RtWord.TheVariants.{Native, Far, TrapOff}
 use Rattle.runtime_words.specs.Reading.{read_word}

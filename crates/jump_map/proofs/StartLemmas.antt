@@ -8,8 +8,8 @@ use Rattle.rv32_decode.specs.declared.Instr.{Instr}
 use Rattle.rv32_decode.specs.declared.Cond.{Cond}
 use Rattle.rv32_decode.specs.declared.LoadKind.{LoadKind}
 use Rattle.rv32_decode.specs.declared.Instr.TheVariants.{Lui, Auipc, Jal, Jalr, Branch, Load, Store, OpImm, ShiftImm, Op, Fence, Ecall, Ebreak, Lr, Sc, Amo, Illegal}
-use Rattle.rv32_program.specs.Program.{Program}
-use Rattle.rv32_program.specs.Targets.{offset_address}
+use Rattle.templates.specs.rv32_program.Program.{Program}
+use Rattle.templates.specs.rv32_program.Targets.{offset_address}
 use Rattle.templates.specs.declared.places.Part.{Part}
 use Rattle.templates.specs.declared.places.Part.TheVariants.{Single, Head, Fast, Fallback}
 use Rattle.templates.specs.declared.plans.PlanEntry.{PlanEntry}

@@ -1,7 +1,7 @@
 -- Helps the code alone: an image while it is made.
 use Rattle.std.specs.Prelude.{◌≡◌, ◌≢◌, ℕ, ◌+◌, ◌<◌, ◌++◌, List, [], ◌∷◌, Option, map, length}
 use Rattle.std.specs.Option.{option_map}
-use Rattle.rv32_program.specs.Program.{Program}
+use Rattle.templates.specs.rv32_program.Program.{Program}
 use Rattle.runtime_words.specs.declared.RtWord.{RtWord}
 use Rattle.templates.specs.declared.code.CodeWord.{CodeWord}
 use Rattle.templates.specs.declared.places.Part.{Part}

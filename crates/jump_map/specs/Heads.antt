@@ -1,8 +1,8 @@
 -- Helps the code alone: where the words of each place begin.
 use Rattle.std.specs.Prelude.{ℕ, ◌+◌, ◌==◌, ◌≤◌, if◌then◌else◌, List, [], ◌∷◌, Option, Some, None, unwrap_or, length}
 use Rattle.std.specs.Option.{option_map}
-use Rattle.rv32_program.specs.Program.{Program}
-use Rattle.rv32_program.specs.declared.Class.TheVariants.{Unmapped}
+use Rattle.templates.specs.rv32_program.Program.{Program}
+use Rattle.templates.specs.rv32_program.declared.Class.TheVariants.{Unmapped}
 use Rattle.templates.specs.declared.code.CodeWord.{CodeWord}
 use Rattle.templates.specs.declared.plans.PlanEntry.{PlanEntry}
 use Rattle.templates.specs.Code.{code_of}

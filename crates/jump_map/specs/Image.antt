@@ -3,7 +3,7 @@ use Rattle.std.specs.Prelude.{◌≡◌, ◌≢◌, ℕ, ◌+◌, ◌-◌, ◌*�
 use Rattle.std.specs.List.{list_all}
 use Rattle.rv32_decode.specs.Fields.{signed}
 use Rattle.rv32_decode.specs.declared.Instr.TheVariants.{Jal}
-use Rattle.rv32_program.specs.Program.{Program}
+use Rattle.templates.specs.rv32_program.Program.{Program}
 use Rattle.runtime_words.specs.declared.RtWord.{RtWord}
 use Rattle.runtime_words.specs.declared.RtWord.TheVariants.{Native, Far, TrapOff}
 use Rattle.templates.specs.declared.places.Part.{Part}

@@ -7,7 +7,7 @@ use Rattle.runtime_words.specs.declared.RtWord.TheVariants.{Native, Poll, Xjalr,
 use Rattle.micro_op.specs.declared.micro_op.MicroOp.{MicroOp}
 use Rattle.micro_op.specs.declared.MicroKind.{MicroKind}
 use Rattle.micro_op.specs.declared.MicroKind.TheVariants.{Rare, Constant, SrlImm, Add, AddImm, AndImm, LoadByteU, LoadWord, BranchEq, BranchNe, BranchLt, Look, LookToRead, LookToWrite, LookAtValue, LookAgain, BothToRead, BothToWrite}
-use Rattle.rv32_step.specs.declared.Demand.TheVariants.{Continues, Jumps}
+use Rattle.micro_op.specs.rv32_step.declared.Demand.TheVariants.{Continues, Jumps}
 use Rattle.micro_op.specs.Micro.{IsMicroOf, IsEntryOf, Meets, meaning_of}
 use Rattle.jump_map.specs.Image.{Cell, image_base, address_of_word, read_cell}
 

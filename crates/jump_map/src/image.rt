@@ -2,7 +2,7 @@
 
 ghost use Rattle.std.specs.Prelude.{◌≡◌, ◌≤◌, ℕ, List, length, option_copied, IfOk, IfSome};
 ghost use Rattle.std.specs.Prelude.{IsErrOf, slice_get};
-ghost use Rattle.rv32_program.specs.Program.{Program};
+ghost use Rattle.templates.specs.rv32_program.Program.{Program};
 ghost use Rattle.templates.specs.declared.plans.PlanEntry.{PlanEntry};
 ghost use Rattle.templates.specs.Plans.{AscendsFrom};
 ghost use Rattle.jump_map.specs.Image.{Cell, most_words, HasRunsOf, HasNoFar, Expands, IsRewriting};

@@ -11,3 +11,7 @@ mod looks;
 mod micros;
 
 pub use image::{IMAGE_BASE, Image, ImageRefused, ImageWord, MOST_WORDS, image_law};
+pub use micro_op;
+pub use micro_op::rv32_step;
+pub use runtime_words;
+pub use templates;

@@ -1,7 +1,7 @@
 //! The micro-ops of an image's words.
 
 ghost use Rattle.std.specs.Prelude.{◌≡◌, ◌+◌, ◌*◌, ◌<◌, ℕ, Some, slice_get, IfOk};
-ghost use Rattle.rv32_step.specs.declared.Demand.TheVariants.{Jumps};
+ghost use Rattle.micro_op.specs.rv32_step.declared.Demand.TheVariants.{Jumps};
 ghost use Rattle.micro_op.specs.Micro.{Meets, meaning_of};
 ghost use Rattle.jump_map.specs.Image.{Cell, image_base, address_of_word, most_words, read_cell};
 ghost use Rattle.jump_map.specs.Micro.{IsMicroWord, IsLookAt};

@@ -11,9 +11,9 @@ use Rattle.buf_pool.specs.Pool.{empty_buffer}
 use Rattle.home_directory.specs.declared.messages.Need.{Need}
 use Rattle.home_directory.specs.declared.wait.Wait.{Wait}
 use Rattle.home_directory.specs.Table.{Miss, want_row}
-use Rattle.miss_handlers.specs.Effects.{block_facts}
-use Rattle.miss_handlers.specs.Waits.{NodeWaits, wait_of}
-use Rattle.node_model.specs.Turns.{Turn, block_at, with_miss, want_in}
+use Rattle.node_machine.specs.miss_handlers.Effects.{block_facts}
+use Rattle.node_machine.specs.miss_handlers.Waits.{NodeWaits, wait_of}
+use Rattle.lane_model.specs.node_model.Turns.{Turn, block_at, with_miss, want_in}
 use Rattle.node_machine.specs.Desk.{turn_by}
 use Rattle.node_machine.proofs.WaitLemmas.{none_waits, no_waits}
 use Rattle.lane_model.specs.Turns.{still}

@@ -16,7 +16,7 @@ use Rattle.runtime_words.specs.declared.RtWord.{RtWord}
 use Rattle.runtime_words.specs.declared.RtWord.TheVariants.{Native, MissR, MissW, Poll, Call, Xjalr, Batch, Prepare, Far, TrapFetch, TrapOff, TrapIllegal, TrapEbreak}
 use Rattle.home_directory.specs.declared.messages.Need.{Need}
 use Rattle.home_directory.specs.declared.messages.Need.TheVariants.{Read, Write}
-use Rattle.node_model.specs.Node.{Lane, Local, Outcome, Want, FalseMiss, Next, Waits, Enters, PastWord, SameWord, batch, batch_by, byte_at, execute, exit_by, fall_back, go_on, indirect, is_fixed_state, is_mapped_state, is_readable_state, is_writable_state, lane_after_call, make_call, miss_r_by, miss_w_by, need_of_run, one_refuses, prepare_by, print_byte, set_register, unmet}
+use Rattle.lane_model.specs.node_model.Node.{Lane, Local, Outcome, Want, FalseMiss, Next, Waits, Enters, PastWord, SameWord, batch, batch_by, byte_at, execute, exit_by, fall_back, go_on, indirect, is_fixed_state, is_mapped_state, is_readable_state, is_writable_state, lane_after_call, make_call, miss_r_by, miss_w_by, need_of_run, one_refuses, prepare_by, print_byte, set_register, unmet}
 use Rattle.lane_desk.specs.Words.{stored_by}
 
 abbrev StoresNowhere : Outcome → Type 0

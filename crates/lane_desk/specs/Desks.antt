@@ -1,8 +1,8 @@
 -- Helps the code alone: a node while one of its lanes is in use.
 use Rattle.std.specs.Prelude.{ℕ, Bool, List, Option}
 use Rattle.home_directory.specs.declared.messages.Post.{Post}
-use Rattle.node_words.specs.declared.body.Body.{Body}
-use Rattle.node_model.specs.Node.{Node}
+use Rattle.node_machine.specs.node_words.declared.body.Body.{Body}
+use Rattle.lane_model.specs.node_model.Node.{Node}
 use Rattle.node_machine.specs.declared.desk.Desk.{Desk}
 use Rattle.node_machine.specs.Frame.{with_parts}
 use Rattle.node_machine.specs.Desk.{turn_by}

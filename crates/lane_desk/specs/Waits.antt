@@ -2,7 +2,7 @@
 use Rattle.std.specs.Prelude.{◌≡◌, ℕ, suc, if◌then◌else◌, List, [], ◌∷◌, ◌++◌, map, Option, Some, None, is_some}
 use Rattle.std.specs.Option.{option_to_list}
 use Rattle.home_directory.specs.declared.wait.Wait.{Wait}
-use Rattle.miss_handlers.specs.Waits.{NodeWaits, wait_of}
+use Rattle.node_machine.specs.miss_handlers.Waits.{NodeWaits, wait_of}
 use Rattle.node_machine.specs.declared.desk.Desk.{Desk}
 use Rattle.lane_desk.specs.declared.place.Place.{Place}
 use Rattle.lane_desk.specs.declared.asking.Awaits.{Awaits}

@@ -7,12 +7,12 @@ ghost use Rattle.std.specs.Option.{option_to_list};
 ghost use Rattle.block_layout.specs.Layout.{blocks, block_of};
 ghost use Rattle.rv32_program.specs.Program.{line_of};
 ghost use Rattle.home_directory.specs.declared.messages.Post.{Post};
-ghost use Rattle.miss_handlers.specs.Waits.{wait_of};
-ghost use Rattle.node_model.specs.Node as model;
-ghost use Rattle.node_model.specs.Turns as turns;
+ghost use Rattle.node_machine.specs.miss_handlers.Waits.{wait_of};
+ghost use Rattle.lane_model.specs.node_model.Node as model;
+ghost use Rattle.lane_model.specs.node_model.Turns as turns;
 ghost use Rattle.home_directory.specs.Table.{meets};
 ghost use Rattle.state_table.specs.States.{state_of};
-ghost use Rattle.node_words.specs.Kept.{ground_of, local_of, all_wants, wants_by};
+ghost use Rattle.node_machine.specs.node_words.Kept.{ground_of, local_of, all_wants, wants_by};
 ghost use Rattle.node_machine.specs.Frame.{layout_of, IsDesk, AreCountsBelow, HasBegun};
 ghost use Rattle.node_machine.specs.Desk.{is_unmet, AreUnmet};
 ghost use Rattle.lane_model.specs.Turns as lanes;
@@ -22,8 +22,8 @@ ghost use Rattle.lane_desk.specs.Desks.{asked_by, stood};
 use crate::place::{Place, need_of};
 use block_layout::{Block, layout_law};
 use home_directory::{Need, Post, Sends};
+use node_machine::node_words::{Body, Following, Want, Wants};
 use node_machine::{Desk, put, want_of_other_block};
-use node_words::{Body, Following, Want, Wants};
 
 /// The blocks that a lane waits for: at most two.
 #[derive(Clone, Copy, PartialEq, Eq)]

@@ -9,9 +9,9 @@ use block_layout::Block;
 use buf_pool::Pool;
 use home_directory::Need;
 use llsc::Reservation;
-use miss_handlers::Waits;
 use node_machine::Desk;
-use node_words::{Body, Lane};
+use node_machine::miss_handlers::Waits;
+use node_machine::node_words::{Body, Lane};
 use std::mem::swap;
 
 /// What a node keeps for one of its lanes.

@@ -2,16 +2,16 @@
 
 ghost use Rattle.std.specs.Prelude.{◌≡◌, ℕ, List, Some, None};
 ghost use Rattle.llsc.specs.Reservation.{holds};
-ghost use Rattle.jump_map.specs.Maps.{fetch};
-ghost use Rattle.jump_map.specs.Image.{Cell};
+ghost use Rattle.node_machine.specs.jump_map.Maps.{fetch};
+ghost use Rattle.node_machine.specs.jump_map.Image.{Cell};
 ghost use Rattle.rv32_program.specs.Program.{Program};
-ghost use Rattle.node_model.specs.Node as model;
-ghost use Rattle.node_words.specs.Address.{word_address};
-ghost use Rattle.node_words.specs.Kept.{lane_of};
+ghost use Rattle.lane_model.specs.node_model.Node as model;
+ghost use Rattle.node_machine.specs.node_words.Address.{word_address};
+ghost use Rattle.node_machine.specs.node_words.Kept.{lane_of};
 ghost use Rattle.lane_desk.specs.Words.{stored_by};
 
-use jump_map::ImageWord;
-use node_words::{Lane, address_of};
+use node_machine::jump_map::ImageWord;
+use node_machine::node_words::{Lane, address_of};
 use runtime_words::RtWord;
 use rv32_decode::Width;
 use rv32_step::{Demand, demand_of};

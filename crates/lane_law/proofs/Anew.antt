@@ -21,7 +21,7 @@ use Rattle.rv32_step.specs.Demands.{demand_of, call_step}
 use Rattle.runtime_words.specs.declared.RtWord.{RtWord}
 use Rattle.runtime_words.specs.declared.RtWord.TheVariants.{Native, MissR, MissW, Poll, Call, Batch, Xjalr, Prepare, Far, TrapFetch, TrapOff, TrapIllegal, TrapEbreak}
 use Rattle.templates.specs.Sequences.{ItemWord, Runs, GoesTo}
-use Rattle.jump_map.specs.Image.{item_word, is_near, number_of_word, distance}
+use Rattle.node_model.specs.jump_map.Image.{item_word, is_near, number_of_word, distance}
 use Rattle.node_model.specs.Node as node
 use Rattle.home_directory.specs.declared.messages.Need.{Need}
 use Rattle.node_model.specs.Node.{Work, Lane, Local, Want, Outcome, Region, Memory, StateOf, Elsewhere, region_of, load, store, store_if, make_call, native, is_mapped_state, is_readable_state, is_fixed_state, is_writable_state, one_refuses, unmet, batch_by, batch, need_of_run, execute}

@@ -7,7 +7,7 @@ use Rattle.block_layout.specs.Layout.{Shape, block_of}
 use Rattle.block_layout.specs.Update.{changed}
 use Rattle.home_directory.specs.declared.messages.Need.{Need}
 use Rattle.home_directory.specs.declared.messages.Wire.{Wire}
-use Rattle.miss_handlers.specs.Rows.{Row, is_bye, row_of, block_in}
+use Rattle.node_model.specs.miss_handlers.Rows.{Row, is_bye, row_of, block_in}
 use Rattle.rv32_program.specs.declared.End.TheVariants.{Stopped}
 use Rattle.rv32_program.specs.Program.{line_of}
 use Rattle.rv32_step.specs.OneMemory.{State}

@@ -10,8 +10,8 @@ use Rattle.rv32_step.specs.OneMemory.{Original, Processor, first_processor, requ
 use Rattle.templates.specs.declared.commits.CommitKind.{CommitKind}
 use Rattle.templates.specs.declared.plans.PlanEntry.{PlanEntry}
 use Rattle.templates.specs.Commits.{commit_at}
-use Rattle.jump_map.specs.Image.{IsRewriting, head_of}
-use Rattle.jump_map.specs.Maps.{old_of, fetch}
+use Rattle.node_model.specs.jump_map.Image.{IsRewriting, head_of}
+use Rattle.node_model.specs.jump_map.Maps.{old_of, fetch}
 use Rattle.node_model.specs.Node.{Work, Lane, Local, Move, Next, Again, To, Enters, Waits, Leaves, Outcome, exit_by, execute, execute_at, next_outcome, lane_after, first_lane, takes_messages}
 use Rattle.rewriting_law.specs.CoreRun.{is_wait, commits_by}
 use Rattle.rewriting_law.proofs.templates.States.{Suits, Later}

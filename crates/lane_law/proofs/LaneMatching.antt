@@ -12,7 +12,7 @@ use Rattle.rv32_step.specs.OneMemory.{Original, Processor, State, Pick, Step, st
 use Rattle.templates.specs.declared.commits.CommitKind.{CommitKind}
 use Rattle.templates.specs.declared.plans.PlanEntry.{PlanEntry}
 use Rattle.templates.specs.Commits.{commit_at}
-use Rattle.jump_map.specs.Maps.{old_of}
+use Rattle.node_model.specs.jump_map.Maps.{old_of}
 use Rattle.home_directory.specs.Home.{count_of}
 use Rattle.home_directory.specs.declared.messages.Need.{Need}
 use Rattle.node_model.specs.Node.{Work, Lane, Local, Want, Move, Next, Again, To, Enters, Waits, Leaves, Resume, Outcome, lane_after, next_outcome, is_readable_state, is_writable_state}

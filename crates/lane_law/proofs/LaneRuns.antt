@@ -7,7 +7,7 @@ use Rattle.rv32_program.specs.declared.Exit.{Exit}
 use Rattle.rv32_program.specs.declared.End.TheVariants.{Exited, Stopped}
 use Rattle.rv32_step.specs.OneMemory.{Processor, State, opening, run}
 use Rattle.templates.specs.declared.plans.PlanEntry.{PlanEntry}
-use Rattle.jump_map.specs.Maps.{fetch}
+use Rattle.node_model.specs.jump_map.Maps.{fetch}
 use Rattle.node_model.specs.declared.Standing.TheVariants as standing
 use Rattle.node_model.specs.Node.{Lane, Local, takes_messages}
 use Rattle.node_model.specs.Core.{may_execute, may_take}

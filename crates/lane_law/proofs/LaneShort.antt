@@ -5,7 +5,7 @@ use Rattle.std.specs.Prelude.{not, ◌&&◌}
 use Rattle.block_layout.specs.Update.{changed}
 use Rattle.home_directory.specs.declared.messages.Wire.{Wire}
 use Rattle.home_directory.specs.Home.{count_of}
-use Rattle.miss_handlers.specs.Rows.{is_bye, row_of}
+use Rattle.node_model.specs.miss_handlers.Rows.{is_bye, row_of}
 use Rattle.rv32_step.specs.OneMemory.{State, opening, run}
 use Rattle.templates.specs.declared.plans.PlanEntry.{PlanEntry}
 use Rattle.dsm_protocol.proofs.Counting.{count_one}

@@ -6,7 +6,7 @@ use Rattle.std.specs.Option.{option_to_list}
 use Rattle.home_directory.specs.declared.messages.Need.{Need}
 use Rattle.home_directory.specs.declared.messages.Wire.{Wire}
 use Rattle.home_directory.specs.declared.wait.Wait.{Wait}
-use Rattle.miss_handlers.specs.Rows.{Row, row_of, taker_in, is_bye}
+use Rattle.node_model.specs.miss_handlers.Rows.{Row, row_of, taker_in, is_bye}
 use Rattle.rv32_program.specs.declared.End.TheVariants.{Stopped}
 use Rattle.rv32_program.specs.Program.{line_of}
 use Rattle.rv32_step.specs.OneMemory.{Processor, State, Pick, run}

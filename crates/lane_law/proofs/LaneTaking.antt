@@ -11,7 +11,7 @@ use Rattle.rv32_program.specs.Program.{line_of}
 use Rattle.rv32_step.specs.Breaks.{is_in_block, stands_at_store, RunsToStore}
 use Rattle.rv32_step.specs.OneMemory.{Original, Processor, State, Pick, run}
 use Rattle.templates.specs.declared.plans.PlanEntry.{PlanEntry}
-use Rattle.jump_map.specs.Maps.{fetch}
+use Rattle.node_model.specs.jump_map.Maps.{fetch}
 use Rattle.home_directory.specs.declared.messages.Need.{Need}
 use Rattle.home_directory.specs.declared.messages.Need.TheVariants.{Write}
 use Rattle.node_model.specs.Node.{Work, Lane, Local, Want, Resume, lane_resumed, takes_messages, is_readable_state, is_writable_state}

@@ -12,7 +12,7 @@ use Rattle.rv32_step.specs.OneMemory.{Processor, State, Pick, run}
 use Rattle.templates.specs.declared.commits.CommitKind.{CommitKind}
 use Rattle.templates.specs.declared.plans.PlanEntry.{PlanEntry}
 use Rattle.templates.specs.Commits.{commit_at}
-use Rattle.jump_map.specs.Maps.{old_of}
+use Rattle.node_model.specs.jump_map.Maps.{old_of}
 use Rattle.dsm_protocol.specs.Abstraction.{most_waits}
 use Rattle.dsm_protocol.specs.Holds.{wanted}
 use Rattle.node_model.specs.Core.{Core}

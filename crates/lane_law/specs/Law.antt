@@ -7,10 +7,10 @@ use Rattle.rv32_program.specs.declared.End.TheVariants.{Stopped}
 use Rattle.rv32_program.specs.Program.{IsAccepted, class_at, line_of}
 use Rattle.rv32_step.specs.OneMemory.{Original, State, opening, IsRun, run, values_read}
 use Rattle.templates.specs.declared.plans.PlanEntry.{PlanEntry}
-use Rattle.jump_map.specs.Image.{IsRewriting}
+use Rattle.node_model.specs.jump_map.Image.{IsRewriting}
 use Rattle.node_model.specs.Node.{Phase, Ended, IsLaidOver, is_readable_state, is_writable_state, word_outcome}
 use Rattle.home_directory.specs.declared.messages.Wire.{Wire}
-use Rattle.miss_handlers.specs.Rows.{Row, row_of, is_bye}
+use Rattle.node_model.specs.miss_handlers.Rows.{Row, row_of, is_bye}
 use Rattle.node_model.specs.Turns.{holding}
 use Rattle.rewriting_law.specs.CoreRun.{commits}
 use Rattle.rewriting_law.specs.Licence.{Licensed}

@@ -11,6 +11,7 @@ ghost use Rattle.lane_law.specs.Law.{SameReservations, StopsAtBudget, original_a
 ghost use Rattle.lane_law.specs.Law.{GoesOn, AreAllOver, AreEmpty, HaveRows, most_lane_events};
 
 use block_layout::layout_law;
+pub use dsm_protocol;
 
 /// The law of nodes of several processors, which the callers use by its clauses; the call does
 /// nothing.

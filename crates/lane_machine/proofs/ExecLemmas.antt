@@ -15,17 +15,17 @@ use Rattle.miss_handlers.specs.Effects.{block_facts}
 use Rattle.buf_pool.specs.Pool.{empty_buffer}
 use Rattle.rv32_program.specs.Program.{line_of}
 use Rattle.rv32_step.specs.OneMemory.{Access, Nothing, Reads, Writes, WritesIf, Exchanges}
-use Rattle.node_words.specs.declared.body.Body.{Body}
-use Rattle.node_words.specs.declared.lane.Lane as kept
-use Rattle.node_words.specs.declared.serve.Served.{Served}
-use Rattle.node_words.specs.Address.{word_address}
-use Rattle.node_words.specs.Kept.{lane_of, local_of, phase_by}
+use Rattle.node_machine.specs.node_words.declared.body.Body.{Body}
+use Rattle.node_machine.specs.node_words.declared.lane.Lane as kept
+use Rattle.node_machine.specs.node_words.declared.serve.Served.{Served}
+use Rattle.node_machine.specs.node_words.Address.{word_address}
+use Rattle.node_machine.specs.node_words.Kept.{lane_of, local_of, phase_by}
 use Rattle.node_model.specs.Node.{Node, Work, Want, Phase, Running, Resumed, Waiting, Ended, can_execute, word_outcome}
 use Rattle.node_model.specs.Turns.{Turn, after_word, block_at, byes_to, each_block_once, is_ended, wants_of, want_in, with_miss}
 use Rattle.node_machine.specs.declared.desk.Desk.{Desk}
 use Rattle.node_machine.specs.Frame.{layout_of, entries_in}
-use Rattle.lane_model.specs.Nodes.{LanePart, Shared, LaneNode, as_node, shared_by, all_lanes}
-use Rattle.lane_model.specs.Turns.{Asked, ask, ask_all, blocks_of, has_ended, have_ended, held_by, holder_after, lost, part_after, reserved_after, still, with_byes, word_asked, word_before, word_turn}
+use Rattle.lane_desk.specs.lane_model.Nodes.{LanePart, Shared, LaneNode, as_node, shared_by, all_lanes}
+use Rattle.lane_desk.specs.lane_model.Turns.{Asked, ask, ask_all, blocks_of, has_ended, have_ended, held_by, holder_after, lost, part_after, reserved_after, still, with_byes, word_asked, word_before, word_turn}
 use Rattle.lane_desk.specs.declared.place.Place.{Place}
 use Rattle.lane_machine.specs.declared.frame.LaneFrame.{LaneFrame}
 use Rattle.lane_machine.specs.declared.frame.SharedFrame.{SharedFrame}

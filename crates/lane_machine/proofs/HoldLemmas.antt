@@ -5,7 +5,7 @@ use Rattle.std.specs.Option.{option_to_list}
 use Rattle.block_layout.specs.Layout.{Shape}
 use Rattle.home_directory.specs.declared.wait.Wait.{Wait}
 use Rattle.node_machine.specs.declared.desk.Desk.{Desk}
-use Rattle.lane_model.specs.Turns.{still}
+use Rattle.lane_desk.specs.lane_model.Turns.{still}
 use Rattle.lane_desk.specs.declared.place.Place.{Place}
 use Rattle.lane_desk.specs.Waits.{first_in, waits_for, wait_among, waits_in, AreApart}
 use Rattle.lane_machine.specs.Places.{pools_in, wait_at}

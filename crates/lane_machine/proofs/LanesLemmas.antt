@@ -4,15 +4,15 @@ use Rattle.std.proofs.lemmas.List.{length-set, get_or-set_same, get_or-set_other
 use Rattle.std.proofs.lemmas.Bool.Decides.{eqb_tells, nat_tests}
 use Rattle.home_directory.specs.declared.wait.Wait.{Wait}
 use Rattle.home_directory.specs.Home.{first_entry}
-use Rattle.node_words.specs.declared.body.Body.{Body}
-use Rattle.node_words.specs.Kept.{lane_of, local_of}
+use Rattle.node_machine.specs.node_words.declared.body.Body.{Body}
+use Rattle.node_machine.specs.node_words.Kept.{lane_of, local_of}
 use Rattle.node_model.specs.declared.NodeCounts.{NodeCounts}
 use Rattle.node_model.specs.Node.{Node, Running, counts_after}
 use Rattle.node_model.specs.Turns.{is_ended}
 use Rattle.node_machine.specs.Frame.{AreCountsBelow}
 use Rattle.node_machine.proofs.FrameLemmas.{counts_up, tally_below}
-use Rattle.lane_model.specs.Nodes.{LaneNode}
-use Rattle.lane_model.specs.Turns.{counted, still, tally_on}
+use Rattle.lane_desk.specs.lane_model.Nodes.{LaneNode}
+use Rattle.lane_desk.specs.lane_model.Turns.{counted, still, tally_on}
 use Rattle.lane_machine.specs.declared.frame.LaneFrame.{LaneFrame}
 use Rattle.lane_machine.specs.Stored.{part_of, ended_in, HasGoneOn, HaveParts}
 

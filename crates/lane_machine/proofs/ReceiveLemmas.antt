@@ -9,8 +9,8 @@ use Rattle.home_directory.specs.declared.messages.Post.{Post}
 use Rattle.home_directory.specs.Home.{first_entry}
 use Rattle.miss_handlers.specs.Waits.{NodeWaits, wait_of}
 use Rattle.miss_handlers.specs.Effects.{named_block}
-use Rattle.node_words.specs.declared.body.Body.{Body}
-use Rattle.node_words.specs.Kept.{lane_of, local_of}
+use Rattle.node_machine.specs.node_words.declared.body.Body.{Body}
+use Rattle.node_machine.specs.node_words.Kept.{lane_of, local_of}
 use Rattle.node_model.specs.Node.{Node, Running}
 use Rattle.node_model.specs.Turns.{Turn, treated}
 use Rattle.node_machine.specs.declared.desk.Desk.{Desk}

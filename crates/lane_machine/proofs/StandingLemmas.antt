@@ -4,10 +4,10 @@ use Rattle.home_directory.specs.Effects.{members}
 use Rattle.home_directory.specs.Home.{count_of}
 use Rattle.node_model.specs.declared.Standing.TheVariants as standing
 use Rattle.node_model.specs.Node.{Phase, Running, Resumed, Waiting, Ended}
-use Rattle.lane_model.specs.Nodes.{LaneWork, LanePart, LaneNode}
+use Rattle.lane_desk.specs.lane_model.Nodes.{LaneWork, LanePart, LaneNode}
 use Rattle.node_machine.specs.Frame.{layout_of}
-use Rattle.lane_model.specs.Core.{standing_in, standing_of, is_over as is_over_node}
-use Rattle.lane_model.specs.Turns.{has_ended, have_ended}
+use Rattle.lane_desk.specs.lane_model.Core.{standing_in, standing_of, is_over as is_over_node}
+use Rattle.lane_desk.specs.lane_model.Turns.{has_ended, have_ended}
 use Rattle.lane_machine.specs.declared.frame.SharedFrame.{SharedFrame}
 use Rattle.lane_machine.specs.Stored.{ended_in, shared_of}
 use Rattle.lane_machine.proofs.ExecLemmas.{all_count}

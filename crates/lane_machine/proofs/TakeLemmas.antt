@@ -7,15 +7,15 @@ use Rattle.home_directory.specs.declared.messages.Post.{Post}
 use Rattle.home_directory.specs.declared.messages.Wire.{Wire}
 use Rattle.home_directory.specs.Effects.{entry_at, entries_of, members}
 use Rattle.home_directory.specs.Home.{count_of}
-use Rattle.node_words.specs.declared.body.Body.{Body}
-use Rattle.node_words.specs.Kept.{local_of}
+use Rattle.node_machine.specs.node_words.declared.body.Body.{Body}
+use Rattle.node_machine.specs.node_words.Kept.{local_of}
 use Rattle.node_model.specs.Node.{Node, Running}
 use Rattle.node_model.specs.Turns.{Turn, byes_to, is_ended, later, treated, words_before}
 use Rattle.node_machine.specs.declared.desk.Desk.{Desk}
 use Rattle.node_machine.specs.Frame.{layout_of, phase_of, entries_in}
 use Rattle.node_machine.specs.Desk.{turn_by}
-use Rattle.lane_model.specs.Nodes.{LaneWork, LanePart, Shared, LaneNode}
-use Rattle.lane_model.specs.Turns.{LaneTurn, after_message, counted, has_ended, have_ended, held_by, journaled, resumed, take_turn, treated_for, with_byes, words_of}
+use Rattle.lane_desk.specs.lane_model.Nodes.{LaneWork, LanePart, Shared, LaneNode}
+use Rattle.lane_desk.specs.lane_model.Turns.{LaneTurn, after_message, counted, has_ended, have_ended, held_by, journaled, resumed, take_turn, treated_for, with_byes, words_of}
 use Rattle.lane_desk.specs.declared.place.Place.{Place}
 use Rattle.lane_machine.specs.declared.frame.LaneFrame.{LaneFrame}
 use Rattle.lane_machine.specs.declared.frame.SharedFrame.{SharedFrame}

@@ -6,19 +6,19 @@ use Rattle.std.proofs.lemmas.List.{map-set, get_or-map, length-map, length-set, 
 use Rattle.home_directory.specs.declared.messages.Post.{Post}
 use Rattle.home_directory.specs.declared.wait.Wait.{Wait}
 use Rattle.miss_handlers.specs.Waits.{NodeWaits, wait_of}
-use Rattle.jump_map.specs.Image.{Cell}
-use Rattle.node_words.specs.declared.body.Body.{Body}
-use Rattle.node_words.specs.declared.lane.Lane as kept
-use Rattle.node_words.specs.declared.serve.Served.{Served}
-use Rattle.node_words.specs.Address.{word_address}
-use Rattle.node_words.specs.Kept.{Ground, Serves, ground_of, lane_of, local_of, wants_by}
+use Rattle.node_model.specs.jump_map.Image.{Cell}
+use Rattle.node_machine.specs.node_words.declared.body.Body.{Body}
+use Rattle.node_machine.specs.node_words.declared.lane.Lane as kept
+use Rattle.node_machine.specs.node_words.declared.serve.Served.{Served}
+use Rattle.node_machine.specs.node_words.Address.{word_address}
+use Rattle.node_machine.specs.node_words.Kept.{Ground, Serves, ground_of, lane_of, local_of, wants_by}
 use Rattle.node_model.specs.Node.{Node, Work, next_outcome, word_outcome}
 use Rattle.node_model.specs.Turns.{each_block_once, wants_of}
 use Rattle.node_machine.specs.declared.desk.Desk.{Desk}
 use Rattle.node_machine.specs.Frame.{layout_of, IsDesk}
 use Rattle.node_machine.proofs.FrameLemmas.{served_node, served_word}
 use Rattle.node_machine.proofs.WaitLemmas.{none_waits, no_waits}
-use Rattle.lane_model.specs.Turns.{ask_all, blocks_of, still}
+use Rattle.lane_desk.specs.lane_model.Turns.{ask_all, blocks_of, still}
 use Rattle.lane_desk.specs.declared.place.Place.{Place}
 use Rattle.lane_desk.specs.Waits.{first_in, place_in, AtMostOne, waits_for, wait_among, place_among, waits_in, all_waits, AreApart}
 use Rattle.lane_machine.specs.Places.{wait_at, pools_in, reserved_in}

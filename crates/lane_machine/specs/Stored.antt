@@ -9,19 +9,19 @@ use Rattle.home_directory.specs.declared.wait.Wait.{Wait}
 use Rattle.home_directory.specs.Effects.{entry_at, entries_of, members}
 use Rattle.home_directory.specs.Home.{count_of}
 use Rattle.miss_handlers.specs.Waits.{NodeWaits}
-use Rattle.jump_map.specs.Image.{Cell}
-use Rattle.node_words.specs.declared.body.Body.{Body}
-use Rattle.node_words.specs.declared.lane.Lane as kept
-use Rattle.node_words.specs.declared.serve.Served.{Served}
-use Rattle.node_words.specs.Address.{word_address}
-use Rattle.node_words.specs.Kept.{lane_of, local_of, phase_by}
+use Rattle.node_model.specs.jump_map.Image.{Cell}
+use Rattle.node_machine.specs.node_words.declared.body.Body.{Body}
+use Rattle.node_machine.specs.node_words.declared.lane.Lane as kept
+use Rattle.node_machine.specs.node_words.declared.serve.Served.{Served}
+use Rattle.node_machine.specs.node_words.Address.{word_address}
+use Rattle.node_machine.specs.node_words.Kept.{lane_of, local_of, phase_by}
 use Rattle.node_model.specs.Node.{Node, Work, printed_also, word_outcome}
 use Rattle.node_model.specs.Turns.{after_word, each_block_once, wants_of, words_before}
 use Rattle.node_machine.specs.declared.desk.Desk.{Desk}
 use Rattle.node_machine.specs.States as states
 use Rattle.node_machine.specs.Frame.{with_parts, phase_of, layout_of, entries_in, IsDesk, IsLaneState, AreCountsBelow, WaitsInPhase}
-use Rattle.lane_model.specs.Nodes.{LaneWork, LanePart, Shared, LaneNode}
-use Rattle.lane_model.specs.Turns.{Asked, LaneTurn, ask_all, held_by, has_ended, resumed}
+use Rattle.lane_desk.specs.lane_model.Nodes.{LaneWork, LanePart, Shared, LaneNode}
+use Rattle.lane_desk.specs.lane_model.Turns.{Asked, LaneTurn, ask_all, held_by, has_ended, resumed}
 use Rattle.lane_desk.specs.declared.place.Place.{Place}
 use Rattle.lane_machine.specs.declared.frame.LaneFrame.{LaneFrame}
 use Rattle.lane_machine.specs.declared.frame.SharedFrame.{SharedFrame}

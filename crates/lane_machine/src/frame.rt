@@ -6,10 +6,10 @@ ghost use Rattle.std.specs.Prelude.{length, is_some, if◌then◌else◌};
 ghost use Rattle.std.specs.Option.{option_to_list};
 ghost use Rattle.node_model.specs.Node as model;
 ghost use Rattle.node_model.specs.Turns as turns;
-ghost use Rattle.node_words.specs.Kept.{ground_of, local_of, wants_by};
+ghost use Rattle.node_machine.specs.node_words.Kept.{ground_of, local_of, wants_by};
 ghost use Rattle.node_machine.specs.Frame.{layout_of, phase_of, AreCountsBelow, HasBegun};
-ghost use Rattle.lane_model.specs.Nodes as lanes;
-ghost use Rattle.lane_model.specs.Turns as moves;
+ghost use Rattle.lane_desk.specs.lane_model.Nodes as lanes;
+ghost use Rattle.lane_desk.specs.lane_model.Turns as moves;
 ghost use Rattle.lane_desk.specs.Waits.{wait_among, place_among, waits_in, awaits_of};
 ghost use Rattle.lane_machine.specs.Places.{wait_at};
 ghost use Rattle.lane_machine.specs.Places.{reserved_in, pools_in};
@@ -24,10 +24,10 @@ ghost use Rattle.lane_desk.specs.Desks.{asked_by};
 use crate::taking::clear;
 use block_layout::{Block, Layout, layout_law};
 use home_directory::Sends;
-use jump_map::Image;
 use lane_desk::{AskedAll, Awaits, Place, ask_all, is_waited_for, stored_at, swap_lane};
+use node_machine::node_words::{Body, Lane, Served};
 use node_machine::{Desk, LaneState, Phase, SharedState, Turn, add_byes, is_ended};
-use node_words::{Body, Lane, Served};
+use node_model::jump_map::Image;
 
 /// What a lane stores.
 #[derive(Drop)]

@@ -5,11 +5,11 @@ ghost use Rattle.std.specs.Prelude.{is_some, length};
 ghost use Rattle.exec_map.specs.Contents.{program_of};
 ghost use Rattle.node_model.specs.Node as model;
 ghost use Rattle.node_model.specs.Turns as turns;
-ghost use Rattle.node_words.specs.Kept.{local_of};
+ghost use Rattle.node_machine.specs.node_words.Kept.{local_of};
 ghost use Rattle.node_machine.specs.Frame.{AreCountsBelow};
-ghost use Rattle.lane_model.specs.Nodes as lanes;
-ghost use Rattle.lane_model.specs.Turns as moves;
-ghost use Rattle.lane_model.specs.Core as core;
+ghost use Rattle.lane_desk.specs.lane_model.Nodes as lanes;
+ghost use Rattle.lane_desk.specs.lane_model.Turns as moves;
+ghost use Rattle.lane_desk.specs.lane_model.Core as core;
 ghost use Rattle.lane_desk.specs.Waits.{wait_among, waits_in};
 ghost use Rattle.lane_machine.specs.Places.{wait_at};
 ghost use Rattle.lane_machine.specs.Stored.{HasLane, HasRoom, HasGoneOn, IsHeld};
@@ -20,10 +20,10 @@ use crate::shared::Shared;
 use byte_range::Window;
 use exec_map::{End, Program};
 use home_directory::Sends;
-use jump_map::Image;
 use lane_desk::{NO_BLOCK, Place};
+use node_machine::node_words::{Body, index_of};
 use node_machine::{LaneState, Phase, Standing, Turn, standing_at};
-use node_words::{Body, index_of};
+use node_model::jump_map::Image;
 use run_limits::Budget;
 use rv32_step::Registers;
 use std::alloc::{AllocError, Global};
@@ -79,7 +79,7 @@ impl<'a> Lane<'a> {
                     phase: Phase::Running,
                 },
                 number: lane,
-                lane: node_words::Lane {
+                lane: node_machine::node_words::Lane {
                     registers: Registers::first(p, processors),
                     private: Window::zeros(alloc)?,
                     written: 0,

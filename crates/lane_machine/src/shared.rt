@@ -6,11 +6,11 @@ ghost use Rattle.node_model.specs.Node as model;
 ghost use Rattle.node_model.specs.Turns as turns;
 ghost use Rattle.home_directory.specs.Home.{first_entry};
 ghost use Rattle.home_directory.specs.Effects.{entry_at};
-ghost use Rattle.node_words.specs.Kept.{local_of};
+ghost use Rattle.node_machine.specs.node_words.Kept.{local_of};
 ghost use Rattle.node_machine.specs.Frame.{layout_of, entries_in, IsDesk};
-ghost use Rattle.lane_model.specs.Nodes.{LaneWork, LaneNode, first_shared};
-ghost use Rattle.lane_model.specs.Turns as moves;
-ghost use Rattle.lane_model.specs.Core as core;
+ghost use Rattle.lane_desk.specs.lane_model.Nodes.{LaneWork, LaneNode, first_shared};
+ghost use Rattle.lane_desk.specs.lane_model.Turns as moves;
+ghost use Rattle.lane_desk.specs.lane_model.Core as core;
 ghost use Rattle.lane_desk.specs.Waits.{wait_among, waits_in};
 ghost use Rattle.lane_machine.specs.Places.{wait_at, pools_in, reserved_in};
 ghost use Rattle.lane_desk.specs.Waits.{AreApart};
@@ -30,11 +30,11 @@ use home_directory::{Directory, Sends, Wire};
 use lane_desk::Place;
 use llsc::Reservation;
 use miss_handlers::Waits;
+use node_machine::node_words::Body;
 use node_machine::{
     Desk, NO_COUNTS, PAGE_BYTES, SharedState, Standing, Turn, WAITS, ended_standing, first_local,
 };
 use node_model::NodeCounts;
-use node_words::Body;
 use rv32_step::Registers;
 use std::alloc::{AllocError, Global};
 use std::marker::Model;
@@ -175,7 +175,7 @@ fn first_body<'a>(
     ensures counts { IfOk result (λ b. b.value.counts ≡ model.no_counts) }
 {
     let body = Body {
-        lane: node_words::Lane {
+        lane: node_machine::node_words::Lane {
             registers: Registers::first(me, me),
             private: Window::zeros(alloc)?,
             written: 0,

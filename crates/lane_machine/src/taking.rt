@@ -7,11 +7,11 @@ ghost use Rattle.llsc.specs.Reservation.{cleared};
 ghost use Rattle.miss_handlers.specs.Effects.{named_block};
 ghost use Rattle.node_model.specs.Node as model;
 ghost use Rattle.node_model.specs.Turns as turns;
-ghost use Rattle.node_words.specs.Kept.{ground_of, local_of};
+ghost use Rattle.node_machine.specs.node_words.Kept.{ground_of, local_of};
 ghost use Rattle.node_machine.specs.Frame.{layout_of, AreCountsBelow};
 ghost use Rattle.node_machine.specs.Desk.{turn_by, is_order};
-ghost use Rattle.lane_model.specs.Nodes.{LaneWork, LaneNode};
-ghost use Rattle.lane_model.specs.Turns as moves;
+ghost use Rattle.lane_desk.specs.lane_model.Nodes.{LaneWork, LaneNode};
+ghost use Rattle.lane_desk.specs.lane_model.Turns as moves;
 ghost use Rattle.lane_desk.specs.Waits.{wait_among, place_among, waits_in, held_in};
 ghost use Rattle.lane_machine.specs.Places.{reserved_in};
 ghost use Rattle.lane_machine.specs.Places.{wait_at, pools_in, is_spared};
@@ -26,8 +26,8 @@ use crate::lane::Lane;
 use block_layout::{Block, Layout};
 use home_directory::{Message, Sends, Wire};
 use lane_desk::{Place, holder_of, swap_waits};
+use node_machine::node_words::Body;
 use node_machine::{Desk, Turn, add_byes, treat};
-use node_words::Body;
 
 /// Takes a message from a node, and leaves what the node sends, in order.
 pub fn take(

@@ -2,8 +2,8 @@
 use Rattle.std.specs.Prelude.{◌≡◌, ◌≢◌, ℕ, ◌<◌, Bool, true, false, if◌then◌else◌, ◌==◌, ◌&&◌, ◌||◌, not, List, [], ◌∷◌, ◌++◌}
 use Rattle.std.specs.Option.{option_to_list}
 use Rattle.block_layout.specs.Update.{changed}
-use Rattle.home_directory.specs.declared.messages.Wire.{Wire}
-use Rattle.miss_handlers.specs.Rows.{takes_away}
+use Rattle.node_model.specs.home_directory.declared.messages.Wire.{Wire}
+use Rattle.node_model.specs.miss_handlers.Rows.{takes_away}
 use Rattle.node_model.specs.declared.Standing.{Standing}
 use Rattle.node_model.specs.declared.Standing.TheVariants as standing
 use Rattle.node_model.specs.Node.{Phase, Running, Resumed, Waiting, Ended, is_at_poll, has_all_byes, word_outcome}

@@ -1,9 +1,9 @@
 -- A node of several processors, its lanes: what is each lane's own, and what they share.
 use Rattle.std.specs.Prelude.{ℕ, zero, suc, ◌+◌, ◌*◌, ◌/◌, ◌%◌, Bool, true, false, ◌&&◌, ◌||◌, List, [], Option, None}
-use Rattle.home_directory.specs.declared.wait.Wait.{Wait}
-use Rattle.home_directory.specs.declared.directory.Request.{Request}
-use Rattle.home_directory.specs.Home.{Entry, first_entry}
-use Rattle.rv32_step.specs.Registers.{registers_of, first_values}
+use Rattle.node_model.specs.home_directory.declared.wait.Wait.{Wait}
+use Rattle.node_model.specs.home_directory.declared.directory.Request.{Request}
+use Rattle.node_model.specs.home_directory.Home.{Entry, first_entry}
+use Rattle.node_model.specs.rv32_step.Registers.{registers_of, first_values}
 use Rattle.node_model.specs.declared.NodeCounts.{NodeCounts}
 use Rattle.node_model.specs.declared.Entry.{Entry as JournalEntry}
 use Rattle.node_model.specs.declared.OutByte.{OutByte}

@@ -4,14 +4,14 @@ use Rattle.std.specs.Option.{option_to_list}
 use Rattle.std.specs.Prelude.{ℕ, zero, suc, ◌+◌, ◌-◌, Bool, true, false, not, if◌then◌else◌, ◌==◌, ◌&&◌, ◌||◌, List, [], ◌∷◌, ◌++◌, Option, Some, None, is_some}
 use Rattle.block_layout.specs.Layout.{Shape, block_of}
 use Rattle.block_layout.specs.Update.{changed}
-use Rattle.home_directory.specs.declared.messages.Need.{Need}
-use Rattle.home_directory.specs.declared.messages.Need.TheVariants.{Read, Write}
-use Rattle.home_directory.specs.declared.messages.Post.{Post}
-use Rattle.home_directory.specs.declared.messages.Wire.{Wire}
-use Rattle.home_directory.specs.declared.wait.Wait.{Wait}
+use Rattle.node_model.specs.home_directory.declared.messages.Need.{Need}
+use Rattle.node_model.specs.home_directory.declared.messages.Need.TheVariants.{Read, Write}
+use Rattle.node_model.specs.home_directory.declared.messages.Post.{Post}
+use Rattle.node_model.specs.home_directory.declared.messages.Wire.{Wire}
+use Rattle.node_model.specs.home_directory.declared.wait.Wait.{Wait}
 use Rattle.rv32_program.specs.Program.{line_of}
-use Rattle.rv32_step.specs.Reservations.{after_other}
-use Rattle.rv32_step.specs.OneMemory.{Access, Nothing, Reads, Writes, WritesIf, Exchanges}
+use Rattle.node_model.specs.rv32_step.Reservations.{after_other}
+use Rattle.node_model.specs.rv32_step.OneMemory.{Access, Nothing, Reads, Writes, WritesIf, Exchanges}
 use Rattle.node_model.specs.declared.NodeCounts.{NodeCounts}
 use Rattle.node_model.specs.Node.{Work, Node, Local, Want, Tally, Nothing_counted, Phase, Waiting, Resumed, word_outcome, lane_resumed, tally_resumed, counts_after, stop_or}
 use Rattle.node_model.specs.Turns.{Turn, want_in, wants_of, each_block_once, after_word, treated, later, words_before, is_ended, byes_to}

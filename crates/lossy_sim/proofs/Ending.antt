@@ -6,7 +6,7 @@ use Rattle.std.proofs.lemmas.Nat.{mul-le}
 use Rattle.block_layout.specs.Layout.{IsValid}
 use Rattle.rv32_program.specs.Program.{IsAccepted}
 use Rattle.templates.specs.declared.plans.PlanEntry.{PlanEntry}
-use Rattle.jump_map.specs.Image.{IsRewriting}
+use Rattle.node_model.specs.jump_map.Image.{IsRewriting}
 use Rattle.home_directory.specs.declared.messages.Wire.{Wire}
 use Rattle.workload.specs.Orders.{following}
 use Rattle.lossy_link.specs.Receiver.{Receiving}
@@ -16,7 +16,7 @@ use Rattle.node_model.specs.Node.{Work, Node, IsLaidOver, standing_of}
 use Rattle.node_model.specs.Turns as turns
 use Rattle.node_model.specs.Turns.{word_turn, take_turn}
 use Rattle.node_model.specs.Core.{Core, Event, Exec, Take, May, IsCoreRun, may_execute, may_take, wires_to, event_step, after, opening_core}
-use Rattle.rewriting_law.specs.Bounds.{RunsRewritten, most_events}
+use Rattle.dsm_core.specs.rewriting_law.Bounds.{RunsRewritten, most_events}
 use Rattle.dsm_core.proofs.CoreRuns.{run_append, after_append}
 use Rattle.dsm_core.proofs.Promised.{RunsGoOn}
 use Rattle.dsm_core.proofs.Bounds.{AreShort}

@@ -6,8 +6,8 @@ use Rattle.lossy_link.specs.Receiver.{Receiving, Delivers}
 use Rattle.node_model.specs.Node.{Work, Node, opening_node, can_execute}
 use Rattle.node_model.specs.Turns.{Turn, quiet, word_turn, take_turn}
 use Rattle.node_model.specs.Core.{Exec, Take, wires_to}
-use Rattle.node_machine.specs.declared.frame.Frame.{Frame}
-use Rattle.node_machine.specs.Frame.{node_of, work_of as work_at}
+use Rattle.dsm_core.specs.node_machine.declared.frame.Frame.{Frame}
+use Rattle.dsm_core.specs.node_machine.Frame.{node_of, work_of as work_at}
 use Rattle.dsm_core.specs.CoreSteps.{node_or, SameNodes, SameWorks, MayExecute, IsStamped}
 use Rattle.dsm_core.proofs.CoreSteps.{same_node, same_work, set_same, set_node}
 use Rattle.lossy_sim.specs.Links.{LossyLink, with_offered}

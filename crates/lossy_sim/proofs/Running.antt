@@ -12,9 +12,9 @@ use Rattle.lossy_link.specs.Sender.{number_offered}
 use Rattle.node_model.specs.Node.{Work, Node, opening_node, standing_of, can_execute}
 use Rattle.node_model.specs.Core.{Core, Event, Exec, Take, IsCoreRun, opening_core, after, may_take, AreAlike}
 use Rattle.node_model.specs.Outcome.{Outcome, IsOutcomeOf}
-use Rattle.node_machine.specs.declared.frame.Frame.{Frame}
-use Rattle.run_order.specs.OwnRun.{Stamped, StandsForOwnRun, run_of}
-use Rattle.rewriting_law.specs.Bounds.{RunsRewritten, most_events}
+use Rattle.dsm_core.specs.node_machine.declared.frame.Frame.{Frame}
+use Rattle.dsm_core.specs.run_order.OwnRun.{Stamped, StandsForOwnRun, run_of}
+use Rattle.dsm_core.specs.rewriting_law.Bounds.{RunsRewritten, most_events}
 use Rattle.dsm_core.specs.declared.cores.Event.{Event as Stored}
 use Rattle.dsm_core.specs.CoreParts.{CoreParts, work_of, core_of, event_of, AreParts, HaveWork, HasStampsInRange}
 use Rattle.dsm_core.specs.CoreSteps.{node_or, IsStamped, SameWorks}

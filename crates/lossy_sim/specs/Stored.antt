@@ -4,7 +4,7 @@ use Rattle.home_directory.specs.declared.messages.Post.{Post}
 use Rattle.home_directory.specs.declared.messages.Wire.{Wire}
 use Rattle.lossy_link.specs.Sender.{number_offered}
 use Rattle.lossy_link.specs.Receiver.{Receiving, Delivers}
-use Rattle.node_machine.specs.declared.frame.Frame.{Frame}
+use Rattle.dsm_core.specs.node_machine.declared.frame.Frame.{Frame}
 use Rattle.node_model.specs.Node.{Work, opening_node}
 use Rattle.node_model.specs.Core.{Event, Exec, Take, wires_to}
 use Rattle.dsm_core.specs.CoreParts.{HaveWork}

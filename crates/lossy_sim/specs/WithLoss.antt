@@ -11,7 +11,7 @@ use Rattle.node_model.specs.Turns as turns
 use Rattle.node_model.specs.Turns.{word_turn, take_turn}
 use Rattle.node_model.specs.Core.{Event, Exec, Take, may_execute, may_take, wires_to, opening_core, after, IsCoreRun}
 use Rattle.node_model.specs.Outcome.{Outcome, IsOutcomeOf}
-use Rattle.run_order.specs.OwnRun.{Stamped, StandsForOwnRun, run_of}
+use Rattle.dsm_core.specs.run_order.OwnRun.{Stamped, StandsForOwnRun, run_of}
 use Rattle.shared_sim.specs.ByOrder.{all_events, pick_among}
 use Rattle.lossy_sim.specs.Links.{LossyLink, HasNetworkTurn, new_link, with_offered}
 use Rattle.lossy_sim.specs.UnderWay.{StandFor}

@@ -4,7 +4,7 @@
 ghost use Rattle.std.specs.Prelude.{◌≡◌, ◌+◌, ◌*◌, ◌≤◌, ℕ, List, Some, length};
 ghost use Rattle.node_model.specs.Node.{Work};
 ghost use Rattle.node_model.specs.Core.{IsCoreRun, opening_core, after};
-ghost use Rattle.rewriting_law.specs.Bounds.{RunsRewritten, most_events};
+ghost use Rattle.dsm_core.specs.rewriting_law.Bounds.{RunsRewritten, most_events};
 ghost use Rattle.lossy_sim.specs.UnderWay.{StandFor};
 ghost use Rattle.lossy_sim.specs.WithLoss.{State, Turn, FollowsLoss, opening_state, ordinary};
 
@@ -13,8 +13,10 @@ mod listing;
 mod nodes;
 mod run;
 
-use rewriting_law::progress_law;
+pub use dsm_core;
+use dsm_core::rewriting_law::progress_law;
 pub use run::lossy_simulate;
+pub use shared_sim;
 
 /// The law of runs with loss, which callers use by its clauses; the call does nothing. It holds of
 /// whatever the nodes run.

@@ -16,7 +16,7 @@ ghost use Rattle.lossy_sim.specs.WithLoss.{State, AreAllOver, is_allowed, choice
 
 use crate::links::Link;
 use dsm_core::Event;
-use node_machine::{Node, Standing};
+use dsm_core::node_machine::{Node, Standing};
 
 /// Lists the events that the nodes may make: of each its word, and then its takes by sender.
 pub(crate) fn list(nodes: &[Node<'_>], links: &[Link], count: u8, events: &mut Vec<Event>)

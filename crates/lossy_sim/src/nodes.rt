@@ -10,8 +10,8 @@ ghost use Rattle.lossy_sim.specs.Stored.{HaveOfferedFew, HaveSentFewer, HaveTurn
 
 use crate::links::Link;
 use dsm_core::Event;
+use dsm_core::node_machine::Node;
 use home_directory::{Sends, Wire};
-use node_machine::Node;
 use std::alloc::{AllocError, Global};
 use workload::Order;
 

@@ -1,7 +1,7 @@
 //! Nodes over lossy links, by an order and a loss.
 
 ghost use Rattle.std.specs.Prelude.{◌≡◌, ◌+◌, ◌*◌, ◌^◌, ◌≤◌, ◌↔◌, true, length, IfOk, OnOk};
-ghost use Rattle.rewriting_law.specs.Bounds.{RunsRewritten};
+ghost use Rattle.dsm_core.specs.rewriting_law.Bounds.{RunsRewritten};
 ghost use Rattle.dsm_core.specs.CoreParts.{work_in, work_of, outcome_of};
 ghost use Rattle.lossy_sim.specs.Runs.{IsReady, IsInRange, IsListed, HasPicked, HasTurned};
 ghost use Rattle.lossy_sim.specs.Runs.{state_in};
@@ -13,9 +13,9 @@ use crate::links::Link;
 use crate::listing::{are_over, list};
 use crate::loss_law;
 use crate::nodes::{make, network_turn, new_links};
+use dsm_core::rewriting_law::progress_law;
+use dsm_core::run_order::stamp_law;
 use dsm_core::{Core, Event, Outcome, Parts, Work};
-use rewriting_law::progress_law;
-use run_order::stamp_law;
 use std::alloc::{AllocError, Global};
 use workload::{Order, order_of};
 

@@ -8,9 +8,9 @@ ghost use Rattle.node_model.specs.Node.{IsLaidOver};
 
 use crate::files::{HI, executable};
 use block_layout::{Layout, default_layout};
-use dsm_core::{Core, Event, Work};
 use elf32_read::{Elf, read_elf};
 use exec_map::{End, Exit, Program, accept};
+use lossy_sim::dsm_core::{Core, Event, Work};
 use node_machine::{Entry, Node, NodeCounts, Standing};
 use node_threads::{OpenGate, race_with};
 use rewriter::{Options, Rewritten, rewrite};

@@ -6,13 +6,13 @@ ghost use Rattle.jump_map.specs.Image.{IsRewriting};
 
 use crate::cores::layout_over;
 use crate::files::executable;
-use dsm_core::{Outcome, Work};
 use elf32_read::read_elf;
 use exec_map::{Program, accept};
+use lossy_sim::dsm_core::{Outcome, Work};
 use lossy_sim::lossy_simulate;
+use lossy_sim::shared_sim::simulate;
 use rewriter::{Options, Rewritten, rewrite};
 use run_limits::Budget;
-use shared_sim::simulate;
 use std::alloc::Global;
 use std::test::Fail;
 

@@ -12,8 +12,8 @@ use Rattle.rv32_decode.specs.declared.LoadKind.{LoadKind}
 use Rattle.rv32_decode.specs.declared.LoadKind.TheVariants as load_kind
 use Rattle.rv32_decode.specs.declared.Width.{Width}
 use Rattle.rv32_decode.specs.declared.Width.TheVariants as width
-use Rattle.rv32_ops.specs.Operations.{alu, taken}
-use Rattle.rv32_program.specs.Targets.{offset_address}
+use Rattle.rv32_step.specs.rv32_ops.Operations.{alu, taken}
+use Rattle.rv32_step.specs.rv32_program.Targets.{offset_address}
 use Rattle.rv32_step.specs.Registers.{reg}
 use Rattle.rv32_step.specs.Demands.{demand_of, branch_demand}
 use Rattle.rv32_step.specs.declared.Demand.{Demand}

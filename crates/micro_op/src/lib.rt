@@ -11,6 +11,7 @@ mod kinds;
 mod micro_op;
 
 pub use micro_op::MicroOp;
+pub use rv32_step;
 
 /// What a micro-op does.
 #[derive(Clone, Copy, Debug, PartialEq, Eq)]

@@ -5,7 +5,7 @@ ghost use Rattle.std.specs.Prelude.{MatchOption};
 ghost use Rattle.rv32_decode.specs.Fields.{unsigned};
 ghost use Rattle.micro_op.specs.Micro.{IsMicroOf, IsEntryOf, Meets, meaning_of, index_address};
 ghost use Rattle.micro_op.specs.Micro.{is_rare};
-ghost use Rattle.rv32_ops.specs.Operations.{taken};
+ghost use Rattle.rv32_step.specs.rv32_ops.Operations.{taken};
 ghost use Rattle.rv32_step.specs.Registers.{reg};
 ghost use Rattle.rv32_step.specs.Demands.{branch_demand};
 ghost use Rattle.rv32_step.specs.declared.Demand.TheVariants.{Jumps};

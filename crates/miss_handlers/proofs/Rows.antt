@@ -4,8 +4,8 @@ use Rattle.std.proofs.lemmas.Bool.Decides.{nat_tests}
 use Rattle.block_layout.specs.Layout.{Shape, blocks, lines, home}
 use Rattle.block_layout.specs.Update.{changed}
 use Rattle.llsc.specs.Reservation.{cleared}
-use Rattle.state_table.specs.States.{States, state_of}
-use Rattle.flag_memory.specs.Copy.{Copy}
+use Rattle.home_directory.specs.state_table.States.{States, state_of}
+use Rattle.home_directory.specs.flag_memory.Copy.{Copy}
 use Rattle.home_directory.specs.declared.messages.Message.TheVariants.{Ack}
 use Rattle.home_directory.specs.declared.messages.Post.{Post}
 use Rattle.home_directory.specs.declared.wait.Wait.{Wait}

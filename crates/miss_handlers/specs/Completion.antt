@@ -1,7 +1,7 @@
 -- Helps the code alone: the completion of a wait that was taken out of the list.
 use Rattle.std.specs.Prelude.{ℕ, None}
-use Rattle.state_table.specs.States.{States}
-use Rattle.flag_memory.specs.Copy.{Copy}
+use Rattle.home_directory.specs.state_table.States.{States}
+use Rattle.home_directory.specs.flag_memory.Copy.{Copy}
 use Rattle.home_directory.specs.declared.wait.Wait.{Wait}
 use Rattle.home_directory.specs.Table.{NodeRow, completion}
 use Rattle.miss_handlers.specs.Waits.{NodeWaits}

@@ -4,9 +4,9 @@ use Rattle.block_layout.specs.Layout.{Shape, blocks, home, lines}
 use Rattle.block_layout.specs.Update.{changed}
 use Rattle.buf_pool.specs.Pool.{Slots, empty_buffer, one_more, one_less}
 use Rattle.llsc.specs.Reservation.{cleared}
-use Rattle.state_table.specs.declared.State.{State}
-use Rattle.state_table.specs.States.{States, state_of}
-use Rattle.flag_memory.specs.Copy.{Copy, bytes_of}
+use Rattle.home_directory.specs.state_table.declared.State.{State}
+use Rattle.home_directory.specs.state_table.States.{States, state_of}
+use Rattle.home_directory.specs.flag_memory.Copy.{Copy, bytes_of}
 use Rattle.home_directory.specs.declared.messages.Message.{Message}
 use Rattle.home_directory.specs.declared.messages.Message.TheVariants.{Read, Write, FwdRead, FwdWrite, Inval, Data, Grant, Ack, Done, Bye}
 use Rattle.home_directory.specs.declared.messages.Need.{Need}

@@ -3,3 +3,7 @@ pub mod Effects
 pub mod Rows
 pub mod Search
 pub mod Completion
+pub use Rattle.llsc.specs as llsc
+pub use Rattle.home_directory.specs.state_table as state_table
+pub use Rattle.home_directory.specs.flag_memory as flag_memory
+pub use Rattle.home_directory.specs as home_directory

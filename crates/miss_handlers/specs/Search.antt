@@ -1,7 +1,7 @@
 -- Helps the code alone: which messages a wait takes, and where the wait for a block stands.
 use Rattle.std.specs.Prelude.{◌≡◌, ◌==◌, ℕ, ◌*◌, ◌<◌, Bool, false, ◌&&◌, nat_lt, nat_le, List, length, slice_index_or, Option, Some, None, is_none}
 use Rattle.block_layout.specs.Layout.{blocks, home, lines}
-use Rattle.state_table.specs.declared.State.{State}
+use Rattle.home_directory.specs.state_table.declared.State.{State}
 use Rattle.home_directory.specs.declared.messages.Message.{Message}
 use Rattle.home_directory.specs.declared.messages.Message.TheVariants.{Data, Grant}
 use Rattle.home_directory.specs.declared.wait.Wait.{Wait}

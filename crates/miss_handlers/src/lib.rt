@@ -8,7 +8,7 @@ ghost use Rattle.std.specs.Prelude.{◌≡◌, ◌+◌, ◌<◌, ◌≤◌, [], 
 ghost use Rattle.std.specs.Prelude.{MatchOption, option_map};
 ghost use Rattle.home_directory.specs.declared.wait.Wait.{Wait};
 ghost use Rattle.block_layout.specs.Layout.{blocks};
-ghost use Rattle.state_table.specs.States.{state_of};
+ghost use Rattle.home_directory.specs.state_table.States.{state_of};
 ghost use Rattle.home_directory.specs.Table.{meets, state_in_wait, request};
 ghost use Rattle.home_directory.specs.Home.{post};
 ghost use Rattle.miss_handlers.specs.Waits.{AreWaits, wait_of};
@@ -21,8 +21,11 @@ mod search;
 use crate::search::find;
 use block_layout::{Block, Layout};
 use buf_pool::{Buf, Pool};
+pub use home_directory;
+use home_directory::state_table::{State, States};
+pub use home_directory::{flag_memory, state_table};
 use home_directory::{Message, Need, Post, Sends, Wait};
-use state_table::{State, States};
+pub use llsc;
 use std::alloc::{AllocError, Global};
 use std::marker::Model;
 

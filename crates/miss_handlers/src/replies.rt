@@ -6,9 +6,9 @@ ghost use Rattle.std.specs.Option.{option_to_list, ForSome};
 ghost use Rattle.block_layout.specs.Layout.{blocks, lines};
 ghost use Rattle.block_layout.specs.Update.{changed};
 ghost use Rattle.llsc.specs.Reservation.{cleared};
-ghost use Rattle.state_table.specs.States.{state_of};
-ghost use Rattle.flag_memory.specs.Flag.{flags};
-ghost use Rattle.flag_memory.specs.Copy.{bytes_of};
+ghost use Rattle.home_directory.specs.state_table.States.{state_of};
+ghost use Rattle.home_directory.specs.flag_memory.Flag.{flags};
+ghost use Rattle.home_directory.specs.flag_memory.Copy.{bytes_of};
 ghost use Rattle.home_directory.specs.Table.{is_complete, is_shared, state_for, state_without};
 ghost use Rattle.home_directory.specs.Table.{bytes_by};
 ghost use Rattle.miss_handlers.specs.Waits.{wait_of, IsWaitFor, IsAnswerFor};
@@ -21,10 +21,10 @@ use crate::search::{find, is_waited_for, takes_ack, takes_data, takes_grant};
 use crate::{Waiting, Waits, one};
 use block_layout::Block;
 use buf_pool::{Buf, Pool};
-use flag_memory::Copy32;
+use home_directory::flag_memory::Copy32;
+use home_directory::state_table::{State, States};
 use home_directory::{Answer, Message, Need, Sends, Wait};
 use llsc::Reservation;
-use state_table::{State, States};
 
 impl Waits {
     /// A message from a node: the row that the table has for it, or none. The messages to a home

@@ -11,12 +11,12 @@ use Rattle.state_table.specs.declared.classes.LineClass.{LineClass}
 use Rattle.state_table.specs.LineClasses.{class_byte}
 use Rattle.state_table.specs.StateByte.{byte_of, state_with}
 use Rattle.state_table.specs.States.{States, state_of, line_byte, line_byte_in}
-use Rattle.flag_memory.specs.Copy.{Copy, memory, bytes_of, bytes_from}
-use Rattle.flag_memory.specs.Flag.{flag_byte}
-use Rattle.miss_handlers.specs.Waits.{NodeWaits, wait_of}
-use Rattle.miss_handlers.specs.Effects.{local_block}
-use Rattle.node_model.specs.Node.{Node}
-use Rattle.node_model.specs.Turns.{with_state, with_bytes, block_at}
+use Rattle.node_words.specs.flag_memory.Copy.{Copy, memory, bytes_of, bytes_from}
+use Rattle.node_words.specs.flag_memory.Flag.{flag_byte}
+use Rattle.node_words.specs.miss_handlers.Waits.{NodeWaits, wait_of}
+use Rattle.node_words.specs.miss_handlers.Effects.{local_block}
+use Rattle.node_words.specs.node_model.Node.{Node}
+use Rattle.node_words.specs.node_model.Turns.{with_state, with_bytes, block_at}
 use Rattle.node_words.specs.Kept.{Shelf, copy_of, local_of}
 use Rattle.node_words.specs.Blocks.{CopyLaws, blocks_at}
 use Rattle.node_words.proofs.ShelfLemmas.{copy_shared, copy_outside}

@@ -7,7 +7,7 @@ use Rattle.std.specs.Option.{option_map_or}
 use Rattle.block_layout.specs.Layout.{Shape, IsValid, blocks, home, block_of, has_line}
 use Rattle.block_layout.specs.Update.{changed}
 use Rattle.buf_pool.specs.Pool.{Buffer, Slots, empty_buffer}
-use Rattle.exec_map.specs.Contents.{class_of_line, is_shared as is_shared_class}
+use Rattle.node_words.specs.exec_map.Contents.{class_of_line, is_shared as is_shared_class}
 use Rattle.rv32_program.specs.Program.{line_of}
 use Rattle.rv32_program.specs.declared.Class.{Class}
 use Rattle.rv32_program.specs.declared.Class.TheVariants as class
@@ -15,23 +15,23 @@ use Rattle.state_table.specs.declared.State.{State}
 use Rattle.state_table.specs.declared.State.TheVariants.{Exclusive, Shared, Invalid, Pending}
 use Rattle.state_table.specs.StateByte.{byte_of}
 use Rattle.state_table.specs.States.{state_of, line_byte}
-use Rattle.home_directory.specs.declared.messages.Need.{Need}
-use Rattle.home_directory.specs.declared.messages.Need.TheVariants as need
-use Rattle.home_directory.specs.declared.messages.Message.{Message}
-use Rattle.home_directory.specs.declared.messages.Message.TheVariants.{Read, Write, FwdRead, FwdWrite, Inval, Data, Grant, Ack, Done, Bye}
-use Rattle.home_directory.specs.declared.messages.Post.{Post}
-use Rattle.home_directory.specs.declared.wait.Wait.{Wait}
-use Rattle.home_directory.specs.Home.{Entry, Home, first_entry, post}
-use Rattle.home_directory.specs.Effects.{Directory, HomeEffect, entry_at, entries_of, home_at, home_effect, is_home, ask_effect, done_effect}
-use Rattle.home_directory.specs.Table.{BlockFacts, LocalBlock, HomeRow, NodeRow, Miss, node_row, ask_row, done_row, want_row, meets, state_in_wait, first_wait, request}
-use Rattle.miss_handlers.specs.Waits.{NodeWaits, wait_of}
-use Rattle.miss_handlers.specs.Effects.{NodeBlocks, block_facts, local_block, row_effect, node_row_at, message_effect, miss_of, states_after, waits_after, buffers, pool_after, pool_after_miss}
-use Rattle.miss_handlers.specs.Rows.{AtHome, AtNode, at_home, at_node, if_home, home_of, node_row_of, row_of}
-use Rattle.node_model.specs.declared.NodeCounts.{NodeCounts}
+use Rattle.node_words.specs.home_directory.declared.messages.Need.{Need}
+use Rattle.node_words.specs.home_directory.declared.messages.Need.TheVariants as need
+use Rattle.node_words.specs.home_directory.declared.messages.Message.{Message}
+use Rattle.node_words.specs.home_directory.declared.messages.Message.TheVariants.{Read, Write, FwdRead, FwdWrite, Inval, Data, Grant, Ack, Done, Bye}
+use Rattle.node_words.specs.home_directory.declared.messages.Post.{Post}
+use Rattle.node_words.specs.home_directory.declared.wait.Wait.{Wait}
+use Rattle.node_words.specs.home_directory.Home.{Entry, Home, first_entry, post}
+use Rattle.node_words.specs.home_directory.Effects.{Directory, HomeEffect, entry_at, entries_of, home_at, home_effect, is_home, ask_effect, done_effect}
+use Rattle.node_words.specs.home_directory.Table.{BlockFacts, LocalBlock, HomeRow, NodeRow, Miss, node_row, ask_row, done_row, want_row, meets, state_in_wait, first_wait, request}
+use Rattle.node_words.specs.miss_handlers.Waits.{NodeWaits, wait_of}
+use Rattle.node_words.specs.miss_handlers.Effects.{NodeBlocks, block_facts, local_block, row_effect, node_row_at, message_effect, miss_of, states_after, waits_after, buffers, pool_after, pool_after_miss}
+use Rattle.node_words.specs.miss_handlers.Rows.{AtHome, AtNode, at_home, at_node, if_home, home_of, node_row_of, row_of}
+use Rattle.node_words.specs.node_model.declared.NodeCounts.{NodeCounts}
 use Rattle.node_words.specs.declared.body.Body.{Body}
 use Rattle.node_machine.specs.declared.desk.Desk.{Desk}
-use Rattle.node_model.specs.Node.{Node, Want, first_state}
-use Rattle.node_model.specs.Turns.{quiet, holding, block_at, by_row, by_row_or, count_row, count_want, with_state, with_miss, want_in, is_same_want}
+use Rattle.node_words.specs.node_model.Node.{Node, Want, first_state}
+use Rattle.node_words.specs.node_model.Turns.{quiet, holding, block_at, by_row, by_row_or, count_row, count_want, with_state, with_miss, want_in, is_same_want}
 use Rattle.node_words.specs.Kept.{Shelf, copy_of, local_of}
 use Rattle.node_words.specs.Blocks.{ShelfLaws, blocks_at}
 use Rattle.node_machine.specs.Frame.{entries_in, layout_of, with_parts, IsDesk}

@@ -2,9 +2,9 @@
 use Rattle.std.proofs.Common.{◌≡◌, ◌≢◌, ℕ, zero, suc, ◌+◌, ◌<◌, ◌≤◌, Bool, true, false, cond, eqb, List, [], ◌++◌, Option, refl, sym, ap, ◌∙◌, subst, inl, inr, arith}
 use Rattle.std.proofs.lemmas.Bool.Decides.{eqb_tells, nat_tests}
 use Rattle.rv32_program.specs.declared.End.TheVariants.{Stopped}
-use Rattle.exec_map.specs.Contents.{program_of}
-use Rattle.home_directory.specs.declared.messages.Post.{Post}
-use Rattle.node_model.specs.declared.NodeCounts.{NodeCounts}
+use Rattle.node_words.specs.exec_map.Contents.{program_of}
+use Rattle.node_words.specs.home_directory.declared.messages.Post.{Post}
+use Rattle.node_words.specs.node_model.declared.NodeCounts.{NodeCounts}
 use Rattle.node_words.specs.declared.body.Body.{Body}
 use Rattle.node_machine.specs.declared.desk.Desk.{Desk}
 use Rattle.node_machine.specs.declared.frame.Frame.{Frame}
@@ -13,8 +13,8 @@ use Rattle.node_words.specs.declared.serve.Served as kept_served
 use Rattle.node_words.specs.declared.serve.Following.{Following}
 use Rattle.node_words.specs.declared.serve.Following.TheVariants as following_by
 use Rattle.node_words.specs.Address.{word_address}
-use Rattle.node_model.specs.Node.{Node, Work, Phase, Running, Resumed, Waiting, Ended, Tally, Nothing_counted, FalseMiss, FallsBack, can_execute, counts_after, printed_also, stop_at, stop_or, word_outcome}
-use Rattle.node_model.specs.Turns.{quiet, want_all, each_block_once, with_byes, byes_to, is_ended, after_word, word_turn}
+use Rattle.node_words.specs.node_model.Node.{Node, Work, Phase, Running, Resumed, Waiting, Ended, Tally, Nothing_counted, FalseMiss, FallsBack, can_execute, counts_after, printed_also, stop_at, stop_or, word_outcome}
+use Rattle.node_words.specs.node_model.Turns.{quiet, want_all, each_block_once, with_byes, byes_to, is_ended, after_word, word_turn}
 use Rattle.node_words.specs.Kept.{Shelf, Ground, Follows, Serves, phase_by, wants_by, ground_of, lane_of, local_of}
 use Rattle.node_machine.specs.Frame.{work_of, node_of, layout_of, with_parts, AreCountsBelow, WaitsInPhase, HasBegun}
 use Rattle.node_machine.specs.Desk.{turn_by}

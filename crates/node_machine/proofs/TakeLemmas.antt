@@ -6,22 +6,22 @@ use Rattle.std.proofs.lemmas.List.{get_or-set_same, get_or-set_other}
 use Rattle.std.proofs.lemmas.Bool.Decides.{eqb_tells, nat_tests}
 use Rattle.block_layout.specs.Layout.{Shape, blocks}
 use Rattle.block_layout.specs.Update.{changed}
-use Rattle.home_directory.specs.declared.messages.Message.{Message}
-use Rattle.home_directory.specs.declared.messages.Message.TheVariants.{Read, Write, FwdRead, FwdWrite, Inval, Data, Grant, Ack, Done, Bye}
-use Rattle.home_directory.specs.declared.messages.Post.{Post}
-use Rattle.home_directory.specs.declared.messages.Wire.{Wire}
-use Rattle.home_directory.specs.Effects.{members}
-use Rattle.home_directory.specs.Home.{count_of}
-use Rattle.miss_handlers.specs.Rows.{row_of}
-use Rattle.miss_handlers.specs.Waits.{NodeWaits, AreWaits, wait_of}
+use Rattle.node_words.specs.home_directory.declared.messages.Message.{Message}
+use Rattle.node_words.specs.home_directory.declared.messages.Message.TheVariants.{Read, Write, FwdRead, FwdWrite, Inval, Data, Grant, Ack, Done, Bye}
+use Rattle.node_words.specs.home_directory.declared.messages.Post.{Post}
+use Rattle.node_words.specs.home_directory.declared.messages.Wire.{Wire}
+use Rattle.node_words.specs.home_directory.Effects.{members}
+use Rattle.node_words.specs.home_directory.Home.{count_of}
+use Rattle.node_words.specs.miss_handlers.Rows.{row_of}
+use Rattle.node_words.specs.miss_handlers.Waits.{NodeWaits, AreWaits, wait_of}
 use Rattle.rv32_program.specs.declared.End.TheVariants.{Stopped}
 use Rattle.node_words.specs.declared.body.Body.{Body}
 use Rattle.node_machine.specs.declared.desk.Desk.{Desk}
 use Rattle.node_machine.specs.declared.frame.Frame.{Frame}
-use Rattle.node_model.specs.declared.Entry.{Entry}
-use Rattle.node_model.specs.declared.NodeCounts.{NodeCounts}
-use Rattle.node_model.specs.Node.{Node, Work, Local, Phase, Running, Resumed, Waiting, Ended, tally_resumed}
-use Rattle.node_model.specs.Turns.{Turn, treated, journaled, later, resumed, has_no_wait, after_message, take_turn, with_byes, is_ended, by_row_or, holding, words_before}
+use Rattle.node_words.specs.node_model.declared.Entry.{Entry}
+use Rattle.node_words.specs.node_model.declared.NodeCounts.{NodeCounts}
+use Rattle.node_words.specs.node_model.Node.{Node, Work, Local, Phase, Running, Resumed, Waiting, Ended, tally_resumed}
+use Rattle.node_words.specs.node_model.Turns.{Turn, treated, journaled, later, resumed, has_no_wait, after_message, take_turn, with_byes, is_ended, by_row_or, holding, words_before}
 use Rattle.node_machine.specs.Frame.{work_of, node_of, layout_of, with_all, phase_resumed, lane_after_wait, counts_after_wait, AreCountsBelow, WaitsInPhase}
 use Rattle.node_machine.specs.Desk.{turn_by}
 use Rattle.node_words.specs.Kept.{local_of}

@@ -6,28 +6,28 @@ use Rattle.rv32_decode.specs.declared.LoadKind.{LoadKind}
 use Rattle.rv32_decode.specs.declared.Width.{Width}
 use Rattle.rv32_decode.specs.Fields.{unsigned}
 use Rattle.rv32_decode.specs.Widths.{width_of, is_aligned}
-use Rattle.rv32_ops.specs.Operations.{taken}
+use Rattle.node_words.specs.rv32_ops.Operations.{taken}
 use Rattle.rv32_decode.specs.declared.Cond.{Cond}
 use Rattle.rv32_decode.specs.declared.Cond.TheVariants.{Eq, Ne, Lt, Ge, Ltu, Geu}
 use Rattle.rv32_program.specs.Program.{Program}
-use Rattle.rv32_step.specs.Demands.{branch_demand}
-use Rattle.rv32_step.specs.OneMemory as memory
-use Rattle.rv32_step.specs.Registers.{reg}
-use Rattle.rv32_step.specs.declared.Demand.{Demand}
-use Rattle.rv32_step.specs.declared.Demand.TheVariants.{Continues, Jumps, Loads, Stores}
-use Rattle.micro_op.specs.declared.micro_op.MicroOp.{MicroOp}
-use Rattle.micro_op.specs.declared.MicroKind.{MicroKind}
-use Rattle.micro_op.specs.declared.MicroKind.TheVariants.{Rare, Jump, JumpBy, EnterBy, BranchEq, BranchNe, BranchLt, BranchGe, BranchLtu, BranchGeu, LoadByte, LoadHalf, LoadWord, LoadByteU, LoadHalfU, StoreByte, StoreHalf, StoreWord}
-use Rattle.micro_op.specs.Micro.{Meaning, Unserved, Demands, Enters, Meets, EntersAt, meaning_by, meaning_of, index_address, sum_address, loads, stores}
-use Rattle.runtime_words.specs.declared.RtWord.{RtWord}
-use Rattle.runtime_words.specs.declared.RtWord.TheVariants.{Native, Poll, Xjalr, Far}
-use Rattle.runtime_words.specs.Reading.{read_word}
-use Rattle.templates.specs.declared.places.Place.{Place}
-use Rattle.jump_map.specs.declared.image.ImageWord.{ImageWord}
-use Rattle.jump_map.specs.Image.{Cell, image_base, most_words, address_of_word, read_cell}
-use Rattle.jump_map.specs.Maps.{fetch}
-use Rattle.jump_map.specs.Micro.{IsMicroWord, IsMicroAt}
-use Rattle.node_model.specs.Node.{Node, Work, Lane, Local, Outcome, Nothing_counted, region_of, native, indirect, execute_read, execute_at, place_address}
+use Rattle.node_words.specs.rv32_step.Demands.{branch_demand}
+use Rattle.node_words.specs.rv32_step.OneMemory as memory
+use Rattle.node_words.specs.rv32_step.Registers.{reg}
+use Rattle.node_words.specs.rv32_step.declared.Demand.{Demand}
+use Rattle.node_words.specs.rv32_step.declared.Demand.TheVariants.{Continues, Jumps, Loads, Stores}
+use Rattle.node_words.specs.micro_op.declared.micro_op.MicroOp.{MicroOp}
+use Rattle.node_words.specs.micro_op.declared.MicroKind.{MicroKind}
+use Rattle.node_words.specs.micro_op.declared.MicroKind.TheVariants.{Rare, Jump, JumpBy, EnterBy, BranchEq, BranchNe, BranchLt, BranchGe, BranchLtu, BranchGeu, LoadByte, LoadHalf, LoadWord, LoadByteU, LoadHalfU, StoreByte, StoreHalf, StoreWord}
+use Rattle.node_words.specs.micro_op.Micro.{Meaning, Unserved, Demands, Enters, Meets, EntersAt, meaning_by, meaning_of, index_address, sum_address, loads, stores}
+use Rattle.node_words.specs.runtime_words.declared.RtWord.{RtWord}
+use Rattle.node_words.specs.runtime_words.declared.RtWord.TheVariants.{Native, Poll, Xjalr, Far}
+use Rattle.node_words.specs.runtime_words.Reading.{read_word}
+use Rattle.node_words.specs.templates.declared.places.Place.{Place}
+use Rattle.node_words.specs.jump_map.declared.image.ImageWord.{ImageWord}
+use Rattle.node_words.specs.jump_map.Image.{Cell, image_base, most_words, address_of_word, read_cell}
+use Rattle.node_words.specs.jump_map.Maps.{fetch}
+use Rattle.node_words.specs.jump_map.Micro.{IsMicroWord, IsMicroAt}
+use Rattle.node_words.specs.node_model.Node.{Node, Work, Lane, Local, Outcome, Nothing_counted, region_of, native, indirect, execute_read, execute_at, place_address}
 use Rattle.node_words.specs.Address.{word_address}
 use Rattle.node_words.proofs.StepLemmas.{got_below, load_next, store_next}
 use Rattle.node_machine.specs.declared.frame.Frame.{Frame}

@@ -3,7 +3,7 @@ use Rattle.std.proofs.Common.{◌≡◌, ℕ, zero, suc, ◌+◌, ◌-◌, ◌<�
 use Rattle.node_words.specs.declared.body.Body.{Body}
 use Rattle.node_words.specs.GoingOn.{BodyGoesOn, node_on, phase_on}
 use Rattle.node_words.specs.Runs.{GoesOnBy}
-use Rattle.node_model.specs.Node.{Node, Work, Phase, Running, can_execute}
+use Rattle.node_words.specs.node_model.Node.{Node, Work, Phase, Running, can_execute}
 use Rattle.node_machine.specs.declared.frame.Frame.{Frame}
 use Rattle.node_machine.specs.declared.phase.Phase as kept
 use Rattle.node_machine.specs.Frame.{node_of, work_of, phase_of, IsNode, WaitsInPhase}

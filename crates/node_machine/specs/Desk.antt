@@ -1,17 +1,17 @@
 -- Helps the code alone: messages and wants, by what a node stores.
 use Rattle.std.specs.Prelude.{◌≡◌, ℕ, Bool, true, false, not, ◌&&◌, List, [], ◌∷◌, Option}
 use Rattle.block_layout.specs.Layout.{Shape}
-use Rattle.home_directory.specs.declared.messages.Need.{Need}
-use Rattle.home_directory.specs.declared.messages.Need.TheVariants as need
-use Rattle.home_directory.specs.declared.messages.Message.{Message}
-use Rattle.home_directory.specs.declared.messages.Message.TheVariants.{Read, Write, FwdRead, FwdWrite, Inval, Data, Grant, Ack, Done, Bye}
-use Rattle.home_directory.specs.declared.messages.Post.{Post}
-use Rattle.home_directory.specs.Effects.{HomeEffect, entries_of, ask_effect, done_effect}
-use Rattle.miss_handlers.specs.Effects.{NodeEffect, HasEffect, message_effect}
+use Rattle.node_words.specs.home_directory.declared.messages.Need.{Need}
+use Rattle.node_words.specs.home_directory.declared.messages.Need.TheVariants as need
+use Rattle.node_words.specs.home_directory.declared.messages.Message.{Message}
+use Rattle.node_words.specs.home_directory.declared.messages.Message.TheVariants.{Read, Write, FwdRead, FwdWrite, Inval, Data, Grant, Ack, Done, Bye}
+use Rattle.node_words.specs.home_directory.declared.messages.Post.{Post}
+use Rattle.node_words.specs.home_directory.Effects.{HomeEffect, entries_of, ask_effect, done_effect}
+use Rattle.node_words.specs.miss_handlers.Effects.{NodeEffect, HasEffect, message_effect}
 use Rattle.rv32_program.specs.Program.{line_of}
 use Rattle.node_machine.specs.declared.desk.Desk.{Desk}
-use Rattle.node_model.specs.Node.{Node, Local, Want, is_mapped_state, is_readable_state, is_fixed_state, is_writable_state}
-use Rattle.node_model.specs.Turns.{Turn}
+use Rattle.node_words.specs.node_model.Node.{Node, Local, Want, is_mapped_state, is_readable_state, is_fixed_state, is_writable_state}
+use Rattle.node_words.specs.node_model.Turns.{Turn}
 use Rattle.node_words.specs.Kept.{Shelf}
 use Rattle.node_words.specs.Blocks.{blocks_at}
 

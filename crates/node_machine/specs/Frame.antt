@@ -2,13 +2,13 @@
 use Rattle.std.specs.Prelude.{◌≡◌, ℕ, ◌+◌, ◌*◌, ◌<◌, ◌≤◌, Bool, true, if◌then◌else◌, nat_lt, List, length}
 use Rattle.block_layout.specs.Layout.{Shape, blocks}
 use Rattle.run_limits.specs.Ranges.{IsBudget}
-use Rattle.exec_map.specs.Contents.{program_of}
-use Rattle.home_directory.specs.Home.{Entry, first_entry}
-use Rattle.home_directory.specs.Effects.{entry_at, entries_of, members}
-use Rattle.miss_handlers.specs.Waits.{wait_of}
-use Rattle.jump_map.specs.Image.{most_words}
+use Rattle.node_words.specs.exec_map.Contents.{program_of}
+use Rattle.node_words.specs.home_directory.Home.{Entry, first_entry}
+use Rattle.node_words.specs.home_directory.Effects.{entry_at, entries_of, members}
+use Rattle.node_words.specs.miss_handlers.Waits.{wait_of}
+use Rattle.node_words.specs.jump_map.Image.{most_words}
 use Rattle.node_words.specs.Address.{word_address}
-use Rattle.node_model.specs.declared.NodeCounts.{NodeCounts}
+use Rattle.node_words.specs.node_model.declared.NodeCounts.{NodeCounts}
 use Rattle.node_words.specs.declared.body.Body.{Body}
 use Rattle.node_machine.specs.declared.desk.Desk.{Desk}
 use Rattle.node_machine.specs.declared.frame.Frame.{Frame}
@@ -18,8 +18,8 @@ use Rattle.node_words.specs.declared.serve.Following.{Following}
 use Rattle.node_words.specs.declared.serve.Following.TheVariants as following_by
 use Rattle.node_machine.specs.declared.states.LaneState.{LaneState}
 use Rattle.node_machine.specs.States as states
-use Rattle.node_model.specs.Node.{Node, Work, Lane, Local, Phase, Running, Resumed, Waiting, Ended, can_execute, counts_after, lane_resumed, tally_resumed, stop_or}
-use Rattle.node_model.specs.Turns.{words_before}
+use Rattle.node_words.specs.node_model.Node.{Node, Work, Lane, Local, Phase, Running, Resumed, Waiting, Ended, can_execute, counts_after, lane_resumed, tally_resumed, stop_or}
+use Rattle.node_words.specs.node_model.Turns.{words_before}
 use Rattle.node_words.specs.Kept.{lane_of, local_of, resume_of}
 
 abbrev pub phase_of : kept.Phase → Phase

@@ -1,8 +1,8 @@
 -- Words of a node, one after another.
 use Rattle.std.specs.Prelude.{◌≡◌, ℕ, true, List, Option}
-use Rattle.home_directory.specs.declared.messages.Post.{Post}
-use Rattle.node_model.specs.Node.{Node, Work, can_execute}
-use Rattle.node_model.specs.Turns.{word_turn}
+use Rattle.node_words.specs.home_directory.declared.messages.Post.{Post}
+use Rattle.node_words.specs.node_model.Node.{Node, Work, can_execute}
+use Rattle.node_words.specs.node_model.Turns.{word_turn}
 pub use Rattle.node_words.specs.Runs.{GoesOnBy}
 
 -- a node has executed words, of which those before the last print nothing and send nothing

@@ -3,8 +3,8 @@
 
 ghost use Rattle.std.specs.Prelude.{◌≡◌, ◌+◌, ◌*◌, ◌^◌, ◌<◌, ◌≤◌, ◌&&◌, ◌++◌, ◌⊎◌};
 ghost use Rattle.std.specs.Prelude.{if◌then◌else◌, ℕ, [], true, false, None, Option, length};
-ghost use Rattle.node_model.specs.Node as model;
-ghost use Rattle.node_model.specs.Turns as turns;
+ghost use Rattle.node_words.specs.node_model.Node as model;
+ghost use Rattle.node_words.specs.node_model.Turns as turns;
 ghost use Rattle.node_words.specs.Kept.{ground_of, local_of, wants_by};
 ghost use Rattle.node_machine.specs.Wanted.{wants_along, wanted_in, wants_of_word};
 ghost use Rattle.node_machine.specs.Frame.{work_of, node_of, layout_of, with_parts, phase_of};
@@ -17,7 +17,7 @@ use crate::desk::Desk;
 use crate::phase::{Phase, phase_on};
 use crate::states::{LaneState, SharedState};
 use crate::wanted::WantedBlocks;
-use home_directory::{Message, Post, Sends, Wire};
+use node_words::home_directory::{Message, Post, Sends, Wire};
 use node_words::{Body, Following};
 
 /// What a node did in one event, but for what it sent.

@@ -1,13 +1,13 @@
 //! Where a node was, to see whether it comes round in a loop that changes nothing.
 
 ghost use Rattle.std.specs.Prelude.{◌≡◌};
-ghost use Rattle.micro_op.specs.Micro.{sum_address};
+ghost use Rattle.node_words.specs.micro_op.Micro.{sum_address};
 ghost use Rattle.node_machine.specs.Frame.{node_of};
 
 use crate::frame::Frame;
-use jump_map::ImageWord;
-use micro_op::{MicroKind, MicroOp};
-use runtime_words::RtWord;
+use node_words::jump_map::ImageWord;
+use node_words::micro_op::{MicroKind, MicroOp};
+use node_words::runtime_words::RtWord;
 use rv32_decode::{Instr, Reg};
 
 /// Where a node was: the index of its next word, what its registers held, and what the words held

@@ -1,21 +1,21 @@
 //! What words see of their node at the start.
 
 ghost use Rattle.std.specs.Prelude.{◌≡◌, ◌+◌, ◌*◌, ◌^◌, ◌<◌, ◌≤◌, ℕ, IfOk, OnOk};
-ghost use Rattle.exec_map.specs.Contents.{program_of};
+ghost use Rattle.node_words.specs.exec_map.Contents.{program_of};
 ghost use Rattle.block_layout.specs.Layout.{blocks};
 ghost use Rattle.block_layout.specs.Update.{changed};
 ghost use Rattle.state_table.specs.States.{state_of};
-ghost use Rattle.flag_memory.specs.Copy.{bytes_of};
-ghost use Rattle.node_model.specs.Node as model;
+ghost use Rattle.node_words.specs.flag_memory.Copy.{bytes_of};
+ghost use Rattle.node_words.specs.node_model.Node as model;
 ghost use Rattle.node_words.specs.Kept.{local_of};
 ghost use Rattle.node_machine.specs.Opening.{AreFixedClasses, classes_of, opening_state};
 ghost use Rattle.node_machine.specs.Opening.{opening_bytes};
 
 use block_layout::{Block, Layout, layout_law};
-use exec_map::{Lines, Program, first_bytes_law};
-use first_memory::read_only_memory;
-use flag_memory::{Copy32, FirstBytes, copy_law};
 use node_words::Local;
+use node_words::exec_map::{Lines, Program, first_bytes_law};
+use node_words::first_memory::read_only_memory;
+use node_words::flag_memory::{Copy32, FirstBytes, copy_law};
 use state_table::{EXCLUSIVE, LineClass, LineClasses, READ_ONLY, State, States};
 use std::alloc::{AllocError, Global};
 

@@ -1,13 +1,13 @@
 //! Whether a processor runs, waits or has ended.
 
 ghost use Rattle.std.specs.Prelude.{◌≡◌};
-ghost use Rattle.node_model.specs.Node as model;
-ghost use Rattle.node_model.specs.Turns as turns;
+ghost use Rattle.node_words.specs.node_model.Node as model;
+ghost use Rattle.node_words.specs.node_model.Turns as turns;
 ghost use Rattle.node_words.specs.Kept.{phase_by};
 ghost use Rattle.node_words.specs.GoingOn.{phase_on};
 ghost use Rattle.node_machine.specs.Frame.{phase_of};
 
-use exec_map::End;
+use node_words::exec_map::End;
 use node_words::{Following, Resume};
 use run_limits::Budget;
 

@@ -3,9 +3,9 @@
 ghost use Rattle.std.specs.Prelude.{◌≡◌, ◌+◌, ◌-◌, ◌^◌, ◌<◌, ◌++◌, ◌∷◌, ◌==◌, [], OnOk};
 ghost use Rattle.std.specs.Prelude.{length, true};
 ghost use Rattle.std.specs.Vec.{vec_capacity};
-ghost use Rattle.jump_map.specs.Maps.{fetch};
-ghost use Rattle.node_model.specs.Node as model;
-ghost use Rattle.node_model.specs.Turns as turns;
+ghost use Rattle.node_words.specs.jump_map.Maps.{fetch};
+ghost use Rattle.node_words.specs.node_model.Node as model;
+ghost use Rattle.node_words.specs.node_model.Turns as turns;
 ghost use Rattle.node_words.specs.Address.{word_address};
 ghost use Rattle.node_words.specs.Kept.{lane_of, local_of, phase_by};
 ghost use Rattle.node_machine.specs.Frame.{phase_of, phase_resumed, lane_after_wait};
@@ -14,9 +14,9 @@ ghost use Rattle.node_machine.specs.States.{HasRoom};
 
 use crate::desk::Desk;
 use crate::phase::{Phase, is_ended, phase_by, stop_or};
-use exec_map::End;
-use jump_map::{Image, ImageWord};
-use node_model::{Entry, OutByte};
+use node_words::exec_map::End;
+use node_words::jump_map::{Image, ImageWord};
+use node_words::node_model::{Entry, OutByte};
 use node_words::{Body, Served, address_of};
 use run_limits::Budget;
 use std::alloc::AllocError;

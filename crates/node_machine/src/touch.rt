@@ -1,14 +1,14 @@
 //! What a node's next word does to memory, as far as its micro-op tells.
 
 ghost use Rattle.std.specs.Prelude.{ℕ, IfSome};
-ghost use Rattle.micro_op.specs.Micro.{sum_address};
-ghost use Rattle.rv32_step.specs.declared.Demand.TheVariants.{Loads, Stores};
-ghost use Rattle.node_model.specs.Node.{native};
+ghost use Rattle.node_words.specs.micro_op.Micro.{sum_address};
+ghost use Rattle.node_words.specs.rv32_step.declared.Demand.TheVariants.{Loads, Stores};
+ghost use Rattle.node_words.specs.node_model.Node.{native};
 ghost use Rattle.node_machine.specs.Frame.{node_of, work_of, IsNode};
 ghost use Rattle.node_machine.specs.Touch.{IsAccess, IsTouch};
 
 use crate::frame::Frame;
-use micro_op::{MicroKind, MicroOp};
+use node_words::micro_op::{MicroKind, MicroOp};
 use rv32_decode::{LoadKind, Width};
 
 /// What a word does to memory.

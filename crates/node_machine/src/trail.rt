@@ -1,7 +1,7 @@
 //! What takes back words of a node.
 
 ghost use Rattle.std.specs.Prelude.{◌≡◌, ◌+◌, ◌*◌, ◌^◌, ◌<◌, ◌≤◌, ℕ, true, IfOk};
-ghost use Rattle.node_model.specs.Node as model;
+ghost use Rattle.node_words.specs.node_model.Node as model;
 ghost use Rattle.node_machine.specs.Frame.{work_of, node_of, phase_of, IsNode};
 ghost use Rattle.node_machine.specs.Runs.{GoesOnBy};
 ghost use Rattle.node_machine.specs.Trails.{TakesNodeBack};

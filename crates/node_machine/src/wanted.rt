@@ -2,13 +2,13 @@
 
 ghost use Rattle.std.specs.Prelude.{◌≡◌, not, false};
 ghost use Rattle.std.specs.Option.{option_map_or};
-ghost use Rattle.home_directory.specs.Table.{meets};
-ghost use Rattle.node_model.specs.Node as model;
+ghost use Rattle.node_words.specs.home_directory.Table.{meets};
+ghost use Rattle.node_words.specs.node_model.Node as model;
 ghost use Rattle.node_words.specs.Kept.{local_of, want_of};
 ghost use Rattle.node_machine.specs.Wanted as look;
 
 use block_layout::{Block, layout_law};
-use home_directory::Need;
+use node_words::home_directory::Need;
 use node_words::{Local, Want};
 use state_table::State;
 

@@ -8,36 +8,36 @@ use Rattle.rv32_decode.specs.declared.LoadKind.TheVariants.{ByteU, Word as WordL
 use Rattle.rv32_decode.specs.declared.AmoOp.{AmoOp}
 use Rattle.rv32_decode.specs.declared.Width.{Width}
 use Rattle.rv32_decode.specs.declared.Width.TheVariants.{Word}
-use Rattle.rv32_ops.specs.Operations.{amo}
+use Rattle.jump_map.specs.rv32_ops.Operations.{amo}
 use Rattle.block_layout.specs.Layout.{Shape, is_shared, home, block_of}
-use Rattle.llsc.specs.Reservation.{holds}
-use Rattle.state_table.specs.declared.TheConstants.{EXCLUSIVE, INVALID, READ_ONLY, UNMAPPED}
-use Rattle.flag_memory.specs.Flag.{flag_byte}
-use Rattle.home_directory.specs.declared.messages.Need.{Need}
-use Rattle.home_directory.specs.declared.messages.Need.TheVariants.{Read, Write}
-use Rattle.home_directory.specs.declared.wait.Wait.{Wait}
-use Rattle.home_directory.specs.declared.directory.Request.{Request}
-use Rattle.home_directory.specs.Home.{Entry, first_entry, count_of}
-use Rattle.byte_range.specs.Memory.{stored}
-use Rattle.rv32_program.specs.declared.Class.{Class}
-use Rattle.rv32_program.specs.declared.Class.TheVariants.{Shared, ReadOnly, Private, Unmapped}
-use Rattle.rv32_program.specs.declared.Exit.{Exit}
-use Rattle.rv32_program.specs.declared.Exit.TheVariants.{Code, Ebreak, Illegal, Misaligned, Access as NoAccess, Fetch}
-use Rattle.rv32_program.specs.declared.End.{End}
-use Rattle.rv32_program.specs.declared.End.TheVariants.{Exited, Stopped}
-use Rattle.rv32_program.specs.Program.{Program, line_of, class_at}
-use Rattle.rv32_program.specs.Targets.{offset_address}
-use Rattle.rv32_step.specs.declared.Demand.{Demand}
-use Rattle.rv32_step.specs.declared.Demand.TheVariants.{Sets, Continues, Jumps, Branches, Loads, Stores, Calls, Traps, Reserves, StoresIf, Updates}
-use Rattle.rv32_step.specs.declared.CallStep.{CallStep}
-use Rattle.rv32_step.specs.declared.CallStep.TheVariants.{Ends, Returns, Puts}
-use Rattle.rv32_step.specs.Registers.{reg, put, registers_of, first_values}
-use Rattle.rv32_step.specs.Demands.{demand_of, call_step, cut_short}
-use Rattle.rv32_step.specs.Memory.{load_value, byte_by, shared_after, private_after}
-use Rattle.rv32_step.specs.OneMemory.{Access, Nothing, Reads, Writes, WritesIf, Exchanges, next_pc}
-use Rattle.runtime_words.specs.declared.RtWord.{RtWord}
-use Rattle.runtime_words.specs.declared.RtWord.TheVariants.{Native, MissR, MissW, Poll, Call, Xjalr, Batch, Prepare, Far, TrapFetch, TrapOff, TrapIllegal, TrapEbreak}
-use Rattle.templates.specs.declared.places.Place.{Place}
+use Rattle.miss_handlers.specs.llsc.Reservation.{holds}
+use Rattle.miss_handlers.specs.state_table.declared.TheConstants.{EXCLUSIVE, INVALID, READ_ONLY, UNMAPPED}
+use Rattle.miss_handlers.specs.flag_memory.Flag.{flag_byte}
+use Rattle.miss_handlers.specs.home_directory.declared.messages.Need.{Need}
+use Rattle.miss_handlers.specs.home_directory.declared.messages.Need.TheVariants.{Read, Write}
+use Rattle.miss_handlers.specs.home_directory.declared.wait.Wait.{Wait}
+use Rattle.miss_handlers.specs.home_directory.declared.directory.Request.{Request}
+use Rattle.miss_handlers.specs.home_directory.Home.{Entry, first_entry, count_of}
+use Rattle.jump_map.specs.byte_range.Memory.{stored}
+use Rattle.jump_map.specs.rv32_program.declared.Class.{Class}
+use Rattle.jump_map.specs.rv32_program.declared.Class.TheVariants.{Shared, ReadOnly, Private, Unmapped}
+use Rattle.jump_map.specs.rv32_program.declared.Exit.{Exit}
+use Rattle.jump_map.specs.rv32_program.declared.Exit.TheVariants.{Code, Ebreak, Illegal, Misaligned, Access as NoAccess, Fetch}
+use Rattle.jump_map.specs.rv32_program.declared.End.{End}
+use Rattle.jump_map.specs.rv32_program.declared.End.TheVariants.{Exited, Stopped}
+use Rattle.jump_map.specs.rv32_program.Program.{Program, line_of, class_at}
+use Rattle.jump_map.specs.rv32_program.Targets.{offset_address}
+use Rattle.jump_map.specs.rv32_step.declared.Demand.{Demand}
+use Rattle.jump_map.specs.rv32_step.declared.Demand.TheVariants.{Sets, Continues, Jumps, Branches, Loads, Stores, Calls, Traps, Reserves, StoresIf, Updates}
+use Rattle.jump_map.specs.rv32_step.declared.CallStep.{CallStep}
+use Rattle.jump_map.specs.rv32_step.declared.CallStep.TheVariants.{Ends, Returns, Puts}
+use Rattle.jump_map.specs.rv32_step.Registers.{reg, put, registers_of, first_values}
+use Rattle.jump_map.specs.rv32_step.Demands.{demand_of, call_step, cut_short}
+use Rattle.jump_map.specs.rv32_step.Memory.{load_value, byte_by, shared_after, private_after}
+use Rattle.jump_map.specs.rv32_step.OneMemory.{Access, Nothing, Reads, Writes, WritesIf, Exchanges, next_pc}
+use Rattle.jump_map.specs.runtime_words.declared.RtWord.{RtWord}
+use Rattle.jump_map.specs.runtime_words.declared.RtWord.TheVariants.{Native, MissR, MissW, Poll, Call, Xjalr, Batch, Prepare, Far, TrapFetch, TrapOff, TrapIllegal, TrapEbreak}
+use Rattle.jump_map.specs.templates.declared.places.Place.{Place}
 use Rattle.jump_map.specs.declared.image.ImageWord.{ImageWord}
 use Rattle.jump_map.specs.Image.{Cell, image_base, address_of_word}
 use Rattle.jump_map.specs.Maps.{fetch, new_of}

@@ -2,7 +2,7 @@
 -- counted.
 use Rattle.std.specs.Prelude.{◌≡◌, ℕ, ◌+◌, ◌*◌, ◌≤◌, List, Option, Some, map, sum_by}
 use Rattle.std.specs.List.{range_with_len}
-use Rattle.rv32_program.specs.declared.End.{End}
+use Rattle.jump_map.specs.rv32_program.declared.End.{End}
 use Rattle.node_model.specs.declared.NodeCounts.{NodeCounts}
 use Rattle.node_model.specs.Node.{Work, end_of}
 use Rattle.node_model.specs.Core.{Event, opening_core, after, printed_by}

@@ -5,21 +5,21 @@ use Rattle.std.specs.Option.{option_map_or}
 use Rattle.block_layout.specs.Layout.{Shape, blocks, block_of, has_line, first_line, lines}
 use Rattle.block_layout.specs.Update.{changed}
 use Rattle.buf_pool.specs.Pool.{empty_buffer}
-use Rattle.llsc.specs.Reservation.{cleared}
-use Rattle.state_table.specs.declared.State.{State}
-use Rattle.state_table.specs.StateByte.{byte_of, state_with, can_read}
-use Rattle.flag_memory.specs.Copy.{bytes_from}
-use Rattle.home_directory.specs.declared.messages.Need.{Need}
-use Rattle.home_directory.specs.declared.messages.Need.TheVariants as need
-use Rattle.home_directory.specs.declared.messages.Message.{Message}
-use Rattle.home_directory.specs.declared.messages.Message.TheVariants.{Bye}
-use Rattle.home_directory.specs.declared.messages.Post.{Post}
-use Rattle.home_directory.specs.declared.messages.Wire.{Wire}
-use Rattle.home_directory.specs.Home.{count_of, post}
-use Rattle.home_directory.specs.Table.{LocalBlock, Miss, want_row}
+use Rattle.miss_handlers.specs.llsc.Reservation.{cleared}
+use Rattle.miss_handlers.specs.state_table.declared.State.{State}
+use Rattle.miss_handlers.specs.state_table.StateByte.{byte_of, state_with, can_read}
+use Rattle.miss_handlers.specs.flag_memory.Copy.{bytes_from}
+use Rattle.miss_handlers.specs.home_directory.declared.messages.Need.{Need}
+use Rattle.miss_handlers.specs.home_directory.declared.messages.Need.TheVariants as need
+use Rattle.miss_handlers.specs.home_directory.declared.messages.Message.{Message}
+use Rattle.miss_handlers.specs.home_directory.declared.messages.Message.TheVariants.{Bye}
+use Rattle.miss_handlers.specs.home_directory.declared.messages.Post.{Post}
+use Rattle.miss_handlers.specs.home_directory.declared.messages.Wire.{Wire}
+use Rattle.miss_handlers.specs.home_directory.Home.{count_of, post}
+use Rattle.miss_handlers.specs.home_directory.Table.{LocalBlock, Miss, want_row}
 use Rattle.miss_handlers.specs.Effects.{block_facts}
 use Rattle.miss_handlers.specs.Rows.{Holding, Row, AtHome, AtNode, row_of}
-use Rattle.rv32_program.specs.Program.{line_of}
+use Rattle.jump_map.specs.rv32_program.Program.{line_of}
 use Rattle.node_model.specs.declared.NodeCounts.{NodeCounts}
 use Rattle.node_model.specs.declared.Entry.{Entry as JournalEntry}
 use Rattle.node_model.specs.Node.{Want, Move, Waits, Phase, Resumed, Waiting, Ended, Node, Work, word_outcome, word_step, lane_resumed, tally_resumed, counts_after, stop_or}

@@ -2,6 +2,11 @@
 //! What a node that runs rewritten code is, what it does in an event, and what a core of such nodes
 //! is. There is no code here but the types of what is seen of a node.
 
+pub use jump_map;
+pub use jump_map::{micro_op, runtime_words, rv32_step, templates};
+pub use miss_handlers;
+pub use miss_handlers::{flag_memory, home_directory, llsc, state_table};
+
 /// What a node may do next.
 #[derive(Clone, Copy, Debug, PartialEq, Eq)]
 pub enum Standing {

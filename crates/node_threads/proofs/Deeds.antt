@@ -1,12 +1,12 @@
 -- Deeds of a node, one after another.
 use Rattle.std.proofs.Common.{◌≡◌, ℕ, zero, suc, Bool, true, false, cond, eqb, List, [], ◌∷◌, ◌++◌, refl, ap, ◌∙◌, sym, subst, append_assoc}
 use Rattle.home_directory.specs.declared.messages.Wire.{Wire}
-use Rattle.node_model.specs.declared.Standing.TheVariants as standing
-use Rattle.node_model.specs.Node.{Work, Node, Phase, Running, Resumed, Waiting, Ended, standing_in, is_at_poll, has_all_byes, can_execute}
-use Rattle.node_model.specs.Turns.{Turn, word_turn}
-use Rattle.node_model.specs.Core.{wires_to, may_execute}
-use Rattle.node_machine.specs.Runs.{GoesOnBy}
-use Rattle.run_order.specs.Apart.{Deed, Executes, Takes, MayDo, LeadsBy, turn_of, taken_from, sent_to}
+use Rattle.dsm_protocol.specs.node_model.declared.Standing.TheVariants as standing
+use Rattle.dsm_protocol.specs.node_model.Node.{Work, Node, Phase, Running, Resumed, Waiting, Ended, standing_in, is_at_poll, has_all_byes, can_execute}
+use Rattle.dsm_protocol.specs.node_model.Turns.{Turn, word_turn}
+use Rattle.dsm_protocol.specs.node_model.Core.{wires_to, may_execute}
+use Rattle.dsm_core.specs.node_machine.Runs.{GoesOnBy}
+use Rattle.dsm_core.specs.run_order.Apart.{Deed, Executes, Takes, MayDo, LeadsBy, turn_of, taken_from, sent_to}
 
 pub leads_append : (work : Work) (n u m : Node) (ds es : List Deed) → LeadsBy work n ds u
     → LeadsBy work u es m → LeadsBy work n (ds ++ es) m

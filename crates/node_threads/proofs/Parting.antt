@@ -2,11 +2,11 @@
 use Rattle.std.proofs.Common.{◌≡◌, ℕ, ◌<◌, ◌*◌, List, ◌++◌, map, length, refl, ap, ◌∙◌, sym, subst, subst₂, append_assoc, Vec, Global}
 use Rattle.std.specs.declared.collections.VecDeque.{VecDeque}
 use Rattle.home_directory.specs.declared.messages.Wire.{Wire}
-use Rattle.node_model.specs.Node.{Work}
-use Rattle.node_model.specs.Core.{Core}
-use Rattle.node_machine.specs.declared.frame.Frame.{Frame}
-use Rattle.run_order.specs.OwnRun.{Stamped, StandsForOwnRun, OnlyAdds}
-use Rattle.run_order.specs.Apart.{Deed, HaveDone}
+use Rattle.dsm_protocol.specs.node_model.Node.{Work}
+use Rattle.dsm_protocol.specs.node_model.Core.{Core}
+use Rattle.dsm_core.specs.node_machine.declared.frame.Frame.{Frame}
+use Rattle.dsm_core.specs.run_order.OwnRun.{Stamped, StandsForOwnRun, OnlyAdds}
+use Rattle.dsm_core.specs.run_order.Apart.{Deed, HaveDone}
 use Rattle.dsm_protocol.specs.Queue.{Queue}
 use Rattle.dsm_core.specs.CoreParts.{CoreParts, AreParts, work_of, core_of}
 use Rattle.node_threads.specs.Crew.{RowsOf, AreNodesOf, flat}

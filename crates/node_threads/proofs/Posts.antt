@@ -4,9 +4,9 @@ use Rattle.std.proofs.lemmas.Bool.{cases_eq}
 use Rattle.std.specs.declared.collections.VecDeque.{VecDeque}
 use Rattle.home_directory.specs.declared.messages.Post.{Post}
 use Rattle.home_directory.specs.declared.messages.Wire.{Wire}
-use Rattle.node_model.specs.Core.{wires_to}
+use Rattle.dsm_protocol.specs.node_model.Core.{wires_to}
 use Rattle.fifo_link.specs.End.{End}
-use Rattle.run_order.specs.Apart.{Takes, taken_from}
+use Rattle.dsm_core.specs.run_order.Apart.{Takes, taken_from}
 use Rattle.node_threads.specs.Rows.{wires_at}
 use Rattle.node_threads.specs.Works.{through, waiting, links_of, in_hand}
 use Rattle.node_threads.proofs.Entries.{wires_same, wires_other, wires_get, map_same}

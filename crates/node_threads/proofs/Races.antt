@@ -6,11 +6,11 @@ use Rattle.std.specs.declared.alloc.AllocError.{AllocError}
 use Rattle.std.specs.declared.collections.VecDeque.{VecDeque}
 use Rattle.atomic_table.specs.Seated.{TableId}
 use Rattle.home_directory.specs.declared.messages.Wire.{Wire}
-use Rattle.node_model.specs.Node.{Work, Node}
-use Rattle.node_machine.specs.declared.frame.Frame.{Frame}
-use Rattle.node_machine.specs.Frame.{node_of, work_of}
+use Rattle.dsm_protocol.specs.node_model.Node.{Work, Node}
+use Rattle.dsm_core.specs.node_machine.declared.frame.Frame.{Frame}
+use Rattle.dsm_core.specs.node_machine.Frame.{node_of, work_of}
 use Rattle.fifo_link.specs.End.{End}
-use Rattle.run_order.specs.Apart.{Deed, LeadsBy, taken_from, sent_to}
+use Rattle.dsm_core.specs.run_order.Apart.{Deed, LeadsBy, taken_from, sent_to}
 use Rattle.node_threads.specs.Rows.{wires_at}
 use Rattle.node_threads.specs.Works.{Works, HasRows, IsReady, through, waiting, links_of, in_hand}
 use Rattle.node_threads.specs.Mesh.{BeginRows, Crosses, Gathers, GathersRow, AsLong, Unused, Fresh, IsMesh, first, tail}

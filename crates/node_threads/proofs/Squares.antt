@@ -3,10 +3,10 @@ use Rattle.std.proofs.Common.{◌≡◌, ℕ, zero, suc, ◌+◌, ◌*◌, ◌<�
 use Rattle.std.proofs.lemmas.List.{get_or-map, get_or_append_left, get_or-append-add, length-map, length-append}
 use Rattle.std.specs.declared.collections.VecDeque.{VecDeque}
 use Rattle.home_directory.specs.declared.messages.Wire.{Wire}
-use Rattle.node_model.specs.Node.{Work, Node, opening_node}
-use Rattle.node_machine.specs.declared.frame.Frame.{Frame}
-use Rattle.node_machine.specs.Frame.{node_of, work_of}
-use Rattle.run_order.specs.Apart.{HaveDone, taken_from, sent_to}
+use Rattle.dsm_protocol.specs.node_model.Node.{Work, Node, opening_node}
+use Rattle.dsm_core.specs.node_machine.declared.frame.Frame.{Frame}
+use Rattle.dsm_core.specs.node_machine.Frame.{node_of, work_of}
+use Rattle.dsm_core.specs.run_order.Apart.{HaveDone, taken_from, sent_to}
 use Rattle.dsm_protocol.specs.Queue.{Queue, no_queue, wires_of}
 use Rattle.dsm_protocol.proofs.Squares.{list_in, place_below}
 use Rattle.dsm_core.specs.CoreParts.{HaveWork, core_with}

@@ -5,18 +5,18 @@ use Rattle.std.proofs.lemmas.List.{length-map}
 use Rattle.std.specs.declared.collections.VecDeque.{VecDeque}
 use Rattle.home_directory.specs.declared.messages.Post.{Post}
 use Rattle.home_directory.specs.declared.messages.Wire.{Wire}
-use Rattle.node_model.specs.Node.{Work, Node}
-use Rattle.node_model.specs.Turns.{Turn, quiet, word_turn}
-use Rattle.node_model.specs.Core.{wires_to, may_execute}
-use Rattle.node_machine.specs.declared.frame.Frame.{Frame}
-use Rattle.node_machine.specs.Frame.{node_of, work_of}
-use Rattle.run_order.specs.Apart.{Deed, Executes, MayDo, LeadsBy, turn_of, taken_from, sent_to}
+use Rattle.dsm_protocol.specs.node_model.Node.{Work, Node}
+use Rattle.dsm_protocol.specs.node_model.Turns.{Turn, quiet, word_turn}
+use Rattle.dsm_protocol.specs.node_model.Core.{wires_to, may_execute}
+use Rattle.dsm_core.specs.node_machine.declared.frame.Frame.{Frame}
+use Rattle.dsm_core.specs.node_machine.Frame.{node_of, work_of}
+use Rattle.dsm_core.specs.run_order.Apart.{Deed, Executes, MayDo, LeadsBy, turn_of, taken_from, sent_to}
 use Rattle.fifo_link.specs.End.{End}
 use Rattle.node_threads.specs.Rows.{wires_at}
 use Rattle.node_threads.specs.Works.{Works, HasRows, standing, through, waiting, links_of, in_hand}
 use Rattle.node_threads.specs.declared.worker.Worker.{Worker}
 use Rattle.node_threads.proofs.Entries.{wires_same, wires_other, wires_get, map_same}
-use Rattle.node_machine.specs.Runs.{GoesOnBy}
+use Rattle.dsm_core.specs.node_machine.Runs.{GoesOnBy}
 use Rattle.node_threads.proofs.Deeds.{leads_append, taken_append, sent_append, words_of, words_lead, words_take, words_send}
 
 -- no deed, and no wire was moved

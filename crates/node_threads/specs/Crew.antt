@@ -3,9 +3,9 @@ use Rattle.std.specs.Prelude.{◌≡◌, ℕ, zero, suc, ◌<◌, List, [], ◌�
 use Rattle.std.specs.declared.alloc.Global.{Global}
 use Rattle.std.specs.declared.collections.VecDeque.{VecDeque}
 use Rattle.home_directory.specs.declared.messages.Wire.{Wire}
-use Rattle.node_model.specs.Node.{Work}
-use Rattle.node_machine.specs.declared.frame.Frame.{Frame}
-use Rattle.node_machine.specs.Frame.{work_of}
+use Rattle.dsm_protocol.specs.node_model.Node.{Work}
+use Rattle.dsm_core.specs.node_machine.declared.frame.Frame.{Frame}
+use Rattle.dsm_core.specs.node_machine.Frame.{work_of}
 use Rattle.node_threads.specs.Rows.{wires_at}
 use Rattle.node_threads.specs.Works.{Works}
 use Rattle.node_threads.specs.declared.worker.Worker.{Worker}

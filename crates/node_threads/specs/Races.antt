@@ -3,10 +3,10 @@ use Rattle.std.specs.Prelude.{◌≡◌, ℕ, ◌<◌, List, ◌++◌, map, leng
 use Rattle.std.specs.declared.alloc.Global.{Global}
 use Rattle.std.specs.declared.collections.VecDeque.{VecDeque}
 use Rattle.home_directory.specs.declared.messages.Wire.{Wire}
-use Rattle.node_model.specs.Node.{Work, Node}
-use Rattle.node_machine.specs.declared.frame.Frame.{Frame}
-use Rattle.node_machine.specs.Frame.{node_of}
-use Rattle.run_order.specs.Apart.{Deed, LeadsBy, HaveDone, taken_from, sent_to}
+use Rattle.dsm_protocol.specs.node_model.Node.{Work, Node}
+use Rattle.dsm_core.specs.node_machine.declared.frame.Frame.{Frame}
+use Rattle.dsm_core.specs.node_machine.Frame.{node_of}
+use Rattle.dsm_core.specs.run_order.Apart.{Deed, LeadsBy, HaveDone, taken_from, sent_to}
 use Rattle.dsm_core.specs.CoreParts.{CoreParts, work_of, core_of}
 use Rattle.node_threads.specs.Crew.{RowsOf, AreNodesOf, list_of}
 

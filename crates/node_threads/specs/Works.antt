@@ -4,11 +4,11 @@ use Rattle.std.specs.declared.alloc.Global.{Global}
 use Rattle.std.specs.declared.collections.VecDeque.{VecDeque}
 use Rattle.atomic_table.specs.Seated.{TableId}
 use Rattle.home_directory.specs.declared.messages.Wire.{Wire}
-use Rattle.node_model.specs.declared.Standing.{Standing}
-use Rattle.node_model.specs.Node.{standing_of}
-use Rattle.node_machine.specs.declared.frame.Frame.{Frame}
-use Rattle.node_machine.specs.Frame.{node_of, work_of}
-use Rattle.run_order.specs.Apart.{Deed, LeadsBy, taken_from, sent_to}
+use Rattle.dsm_protocol.specs.node_model.declared.Standing.{Standing}
+use Rattle.dsm_protocol.specs.node_model.Node.{standing_of}
+use Rattle.dsm_core.specs.node_machine.declared.frame.Frame.{Frame}
+use Rattle.dsm_core.specs.node_machine.Frame.{node_of, work_of}
+use Rattle.dsm_core.specs.run_order.Apart.{Deed, LeadsBy, taken_from, sent_to}
 use Rattle.fifo_link.specs.End.{End}
 use Rattle.node_threads.specs.Rows.{wires_at}
 use Rattle.node_threads.specs.declared.worker.Worker.{Worker}

@@ -4,9 +4,9 @@ ghost use Rattle.std.specs.Prelude.{◌≡◌, Ok, IfOk, length, map};
 ghost use Rattle.node_threads.specs.Crew.{AllIdle};
 
 use crate::worker::Worker;
+use dsm_core::node_machine::Node;
 use fifo_link::{SendEnd, TakeEnd};
 use home_directory::{Sends, Wire};
-use node_machine::Node;
 use std::alloc::{AllocError, Global};
 use std::collections::VecDeque;
 

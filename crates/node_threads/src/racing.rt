@@ -1,9 +1,9 @@
 //! The nodes of a core in threads of their own.
 
 ghost use Rattle.std.specs.Prelude.{◌≡◌, ◌≤◌, ℕ, Some, IfOk, All, length, slice_get};
-ghost use Rattle.node_model.specs.Node.{Work};
-ghost use Rattle.node_model.specs.Core.{IsOver};
-ghost use Rattle.run_order.specs.OwnRun.{OnlyAdds};
+ghost use Rattle.dsm_protocol.specs.node_model.Node.{Work};
+ghost use Rattle.dsm_protocol.specs.node_model.Core.{IsOver};
+ghost use Rattle.dsm_core.specs.run_order.OwnRun.{OnlyAdds};
 ghost use Rattle.dsm_core.specs.CoreParts.{AreParts, work_of, core_of};
 ghost use Rattle.node_threads.specs.Works.{Works, IsReady};
 ghost use Rattle.node_threads.specs.Crew.{RowsOf, AreNodesOf};
@@ -17,10 +17,10 @@ use crate::hands::put_hands;
 use crate::mesh::mesh;
 use crate::rows::{lists, rows};
 use crate::worker::Worker;
+use dsm_core::node_machine::Node;
+use dsm_core::run_order::stamp_law;
 use dsm_core::{Core, Parts};
 use home_directory::Wire;
-use node_machine::Node;
-use run_order::stamp_law;
 use std::alloc::{AllocError, Global};
 use std::collections::VecDeque;
 use std::sync::Wait;

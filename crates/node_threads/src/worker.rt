@@ -3,17 +3,17 @@
 ghost use Rattle.std.specs.Prelude.{◌≡◌, ◌<◌, ◌++◌, ◌^◌, ℕ, List, None, Ok, true, false, OnOk};
 ghost use Rattle.std.specs.Prelude.{IfOk, length};
 ghost use Rattle.home_directory.specs.declared.messages.Wire.{Wire};
-ghost use Rattle.node_model.specs.declared.Standing.TheVariants.{AtPoll};
-ghost use Rattle.node_model.specs.Core.{may_execute, may_take, wires_to};
-ghost use Rattle.node_machine.specs.Frame.{node_of};
+ghost use Rattle.dsm_protocol.specs.node_model.declared.Standing.TheVariants.{AtPoll};
+ghost use Rattle.dsm_protocol.specs.node_model.Core.{may_execute, may_take, wires_to};
+ghost use Rattle.dsm_core.specs.node_machine.Frame.{node_of};
 ghost use Rattle.node_threads.specs.Works.{Works, HasRows, standing, waiting};
 
 use crate::bells::Bells;
 use crate::gate::Gate;
 use crate::pace::Pace;
+use dsm_core::node_machine::{Node, Standing};
 use fifo_link::{Full, SendEnd, TakeEnd};
 use home_directory::{Sends, Wire};
-use node_machine::{Node, Standing};
 use std::alloc::AllocError;
 use std::collections::VecDeque;
 use std::sync::Wait;

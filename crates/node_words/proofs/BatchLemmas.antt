@@ -4,14 +4,14 @@ use Rattle.std.specs.Prelude.{bit_or}
 use Rattle.rv32_decode.specs.declared.Cond.TheVariants.{Eq}
 use Rattle.rv32_decode.specs.declared.LoadKind.TheVariants.{ByteU}
 use Rattle.rv32_ops.specs.Operations.{alu, taken}
-use Rattle.rv32_step.specs.Registers.{reg, registers_of}
-use Rattle.rv32_step.specs.Demands.{branch_demand}
-use Rattle.rv32_step.specs.declared.Demand.TheVariants.{Sets, Loads}
-use Rattle.micro_op.specs.declared.micro_op.MicroOp.{MicroOp}
-use Rattle.micro_op.specs.declared.MicroKind.TheVariants as kind
-use Rattle.micro_op.specs.Micro.{Demands}
-use Rattle.jump_map.specs.Image.{Cell, most_words}
-use Rattle.jump_map.specs.Micro.{PassesAt, op_of}
+use Rattle.node_model.specs.rv32_step.Registers.{reg, registers_of}
+use Rattle.node_model.specs.rv32_step.Demands.{branch_demand}
+use Rattle.node_model.specs.rv32_step.declared.Demand.TheVariants.{Sets, Loads}
+use Rattle.node_model.specs.micro_op.declared.micro_op.MicroOp.{MicroOp}
+use Rattle.node_model.specs.micro_op.declared.MicroKind.TheVariants as kind
+use Rattle.node_model.specs.micro_op.Micro.{Demands}
+use Rattle.node_model.specs.jump_map.Image.{Cell, most_words}
+use Rattle.node_model.specs.jump_map.Micro.{PassesAt, op_of}
 use Rattle.node_words.specs.declared.body.Body.{Body}
 use Rattle.node_words.specs.Address.{word_address}
 use Rattle.node_words.specs.GoingOn.{BeginsSecondLook, DoesNext, GoesFurther, OrsAt, PutsNext}

@@ -4,22 +4,22 @@ use Rattle.std.proofs.lemmas.Bool.Decides.{nat_tests}
 use Rattle.rv32_decode.specs.declared.LoadKind.{LoadKind}
 use Rattle.rv32_decode.specs.declared.LoadKind.TheVariants.{ByteU}
 use Rattle.std.specs.Prelude.{bit_and, slice_get}
-use Rattle.rv32_step.specs.Registers.{reg, put, registers_of}
-use Rattle.rv32_step.specs.declared.Demand.TheVariants.{Sets, Loads}
-use Rattle.rv32_step.specs.Demands.{branch_demand}
+use Rattle.node_model.specs.rv32_step.Registers.{reg, put, registers_of}
+use Rattle.node_model.specs.rv32_step.declared.Demand.TheVariants.{Sets, Loads}
+use Rattle.node_model.specs.rv32_step.Demands.{branch_demand}
 use Rattle.rv32_decode.specs.Widths.{is_aligned, width_of}
 use Rattle.rv32_decode.specs.declared.Width.TheVariants.{Byte}
 use Rattle.rv32_decode.specs.declared.Cond.TheVariants.{Eq}
 use Rattle.rv32_ops.specs.Operations.{alu, taken}
-use Rattle.exec_map.specs.Contents.{program_of}
+use Rattle.first_memory.specs.exec_map.Contents.{program_of}
 use Rattle.node_model.specs.Node.{Next, go_on, load, region_of, set_register}
-use Rattle.micro_op.specs.declared.micro_op.MicroOp.{MicroOp}
-use Rattle.micro_op.specs.declared.MicroKind.{MicroKind}
-use Rattle.micro_op.specs.declared.MicroKind.TheVariants as kind
+use Rattle.node_model.specs.micro_op.declared.micro_op.MicroOp.{MicroOp}
+use Rattle.node_model.specs.micro_op.declared.MicroKind.{MicroKind}
+use Rattle.node_model.specs.micro_op.declared.MicroKind.TheVariants as kind
 use Rattle.rv32_decode.specs.declared.Op.TheVariants as op_kind
-use Rattle.micro_op.specs.Micro.{Meaning, Demands, by_immediate, meaning_by, meaning_of}
-use Rattle.jump_map.specs.Image.{Cell, image_base, most_words}
-use Rattle.jump_map.specs.Micro.{IsMicroAnswer, IsMicroAt, ReadsState, SkipsAt, op_of}
+use Rattle.node_model.specs.micro_op.Micro.{Meaning, Demands, by_immediate, meaning_by, meaning_of}
+use Rattle.node_model.specs.jump_map.Image.{Cell, image_base, most_words}
+use Rattle.node_model.specs.jump_map.Micro.{IsMicroAnswer, IsMicroAt, ReadsState, SkipsAt, op_of}
 use Rattle.node_words.specs.declared.body.Body.{Body}
 use Rattle.node_words.specs.declared.looks.Onward.{Onward}
 use Rattle.node_words.specs.Address.{word_address}

@@ -8,11 +8,11 @@ use Rattle.rv32_decode.specs.declared.Width.TheVariants.{Byte, Half, Word}
 use Rattle.rv32_decode.specs.Widths.{is_aligned}
 use Rattle.rv32_program.specs.declared.Class.{Class}
 use Rattle.rv32_program.specs.declared.Class.TheVariants.{Shared, ReadOnly, Private, Unmapped}
-use Rattle.exec_map.specs.Contents.{class_of_line, first_byte, is_private, is_read_only, segment_class, is_writable, touches}
+use Rattle.first_memory.specs.exec_map.Contents.{class_of_line, first_byte, is_private, is_read_only, segment_class, is_writable, touches}
 use Rattle.node_words.specs.Kept.{HasFixed}
 use Rattle.byte_range.specs.Memory.{raw}
 use Rattle.byte_range.specs.Window.{is_in_window}
-use Rattle.rv32_step.specs.Memory.{byte_by}
+use Rattle.node_model.specs.rv32_step.Memory.{byte_by}
 use Rattle.byte_range.specs.Lines.{LineBytes, lines_memory, place_of}
 use Rattle.node_model.specs.Node.{Memory, Spill, region_of}
 

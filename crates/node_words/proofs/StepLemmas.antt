@@ -7,15 +7,15 @@ use Rattle.rv32_decode.specs.declared.LoadKind.TheVariants.{Word as WordLoad}
 use Rattle.rv32_decode.specs.Widths.{is_aligned}
 use Rattle.rv32_ops.specs.Operations.{alu, amo}
 use Rattle.rv32_decode.specs.declared.Op.{Op as Operation}
-use Rattle.rv32_step.specs.Memory.{load_value}
-use Rattle.llsc.specs.Reservation.{holds}
+use Rattle.node_model.specs.rv32_step.Memory.{load_value}
+use Rattle.node_model.specs.llsc.Reservation.{holds}
 use Rattle.rv32_decode.specs.declared.Width.{Width}
 use Rattle.rv32_decode.specs.declared.Width.TheVariants.{Word}
 use Rattle.rv32_program.specs.Program.{Program}
-use Rattle.micro_op.specs.declared.micro_op.MicroOp.{MicroOp}
-use Rattle.micro_op.specs.declared.MicroKind.{MicroKind}
-use Rattle.micro_op.specs.Micro.{Meaning, meaning_by, meaning_of}
-use Rattle.jump_map.specs.Image.{Cell, image_base}
+use Rattle.node_model.specs.micro_op.declared.micro_op.MicroOp.{MicroOp}
+use Rattle.node_model.specs.micro_op.declared.MicroKind.{MicroKind}
+use Rattle.node_model.specs.micro_op.Micro.{Meaning, meaning_by, meaning_of}
+use Rattle.node_model.specs.jump_map.Image.{Cell, image_base}
 use Rattle.node_words.specs.declared.lane.Lane as kept
 use Rattle.node_words.specs.declared.lane.Move.TheVariants as kept_to
 use Rattle.node_words.specs.declared.lane.Tally.TheVariants as kept_count
@@ -25,29 +25,29 @@ use Rattle.std.proofs.Common.{eqb, ◌&&◌}
 use Rattle.std.specs.Prelude.{position}
 use Rattle.std.specs.Option.{option_map}
 use Rattle.std.proofs.lemmas.Bool.Decides.{nat_tests}
-use Rattle.home_directory.specs.declared.messages.Need.TheVariants.{Read}
-use Rattle.rv32_step.specs.Demands.{cut_short}
-use Rattle.rv32_step.specs.Registers.{put, registers_of}
-use Rattle.jump_map.specs.Image.{address_of_word}
-use Rattle.jump_map.specs.Maps.{new_of, begins_at}
-use Rattle.rv32_step.specs.OneMemory.{Exchanges, next_pc}
+use Rattle.node_model.specs.home_directory.declared.messages.Need.TheVariants.{Read}
+use Rattle.node_model.specs.rv32_step.Demands.{cut_short}
+use Rattle.node_model.specs.rv32_step.Registers.{put, registers_of}
+use Rattle.node_model.specs.jump_map.Image.{address_of_word}
+use Rattle.node_model.specs.jump_map.Maps.{new_of, begins_at}
+use Rattle.node_model.specs.rv32_step.OneMemory.{Exchanges, next_pc}
 use Rattle.std.proofs.Common.{◌-◌, [], ◌∷◌, leb, length, zero, suc}
 use Rattle.std.specs.Prelude.{slice_get}
 use Rattle.rv32_decode.specs.Fields.{unsigned}
-use Rattle.rv32_step.specs.declared.Demand.{Demand}
-use Rattle.rv32_step.specs.declared.Demand.TheVariants.{Continues, Jumps, Reserves, Sets, StoresIf, Updates}
-use Rattle.rv32_step.specs.Registers.{reg}
-use Rattle.micro_op.specs.declared.MicroKind.TheVariants.{Rare}
-use Rattle.micro_op.specs.Micro.{Unserved, Demands, Enters as EntersBy, Meets, EntersAt, by_registers}
-use Rattle.runtime_words.specs.declared.RtWord.{RtWord}
-use Rattle.runtime_words.specs.declared.RtWord.TheVariants.{Native, Poll, Xjalr, Far}
-use Rattle.templates.specs.declared.places.Place.{Place}
-use Rattle.runtime_words.specs.Reading.{read_word}
-use Rattle.exec_map.specs.Contents.{program_of}
-use Rattle.jump_map.specs.declared.image.ImageWord.{ImageWord}
-use Rattle.jump_map.specs.Image.{read_cell, most_words}
-use Rattle.jump_map.specs.Maps.{fetch}
-use Rattle.jump_map.specs.Micro.{IsMicroWord}
+use Rattle.node_model.specs.rv32_step.declared.Demand.{Demand}
+use Rattle.node_model.specs.rv32_step.declared.Demand.TheVariants.{Continues, Jumps, Reserves, Sets, StoresIf, Updates}
+use Rattle.node_model.specs.rv32_step.Registers.{reg}
+use Rattle.node_model.specs.micro_op.declared.MicroKind.TheVariants.{Rare}
+use Rattle.node_model.specs.micro_op.Micro.{Unserved, Demands, Enters as EntersBy, Meets, EntersAt, by_registers}
+use Rattle.node_model.specs.runtime_words.declared.RtWord.{RtWord}
+use Rattle.node_model.specs.runtime_words.declared.RtWord.TheVariants.{Native, Poll, Xjalr, Far}
+use Rattle.node_model.specs.templates.declared.places.Place.{Place}
+use Rattle.node_model.specs.runtime_words.Reading.{read_word}
+use Rattle.first_memory.specs.exec_map.Contents.{program_of}
+use Rattle.node_model.specs.jump_map.declared.image.ImageWord.{ImageWord}
+use Rattle.node_model.specs.jump_map.Image.{read_cell, most_words}
+use Rattle.node_model.specs.jump_map.Maps.{fetch}
+use Rattle.node_model.specs.jump_map.Micro.{IsMicroWord}
 use Rattle.node_words.specs.Kept.{StepsOr}
 use Rattle.node_words.specs.Kept.{Shelf, Ground, ground_of, LeavesBehind, Does, Follows, StepsTo, lane_of, local_of, move_of, tally_of}
 use Rattle.node_words.specs.Address.{word_address}

@@ -17,21 +17,21 @@ use Rattle.byte_range.specs.Memory.{raw, stored}
 use Rattle.rv32_program.specs.Program.{Program, class_at}
 use Rattle.rv32_program.specs.declared.Class.{Class}
 use Rattle.rv32_program.specs.declared.Class.TheVariants.{Shared, ReadOnly, Private, Unmapped}
-use Rattle.rv32_step.specs.Memory.{shared_after, private_after, byte_by}
-use Rattle.rv32_step.specs.Registers.{reg, put, registers_of}
-use Rattle.rv32_step.specs.Demands.{branch_demand}
-use Rattle.rv32_step.specs.declared.Demand.{Demand}
-use Rattle.rv32_step.specs.declared.Demand.TheVariants.{Sets, Continues, Jumps, Branches, Loads, Stores, Calls, Traps, Reserves, StoresIf, Updates}
-use Rattle.exec_map.specs.Contents.{program_of}
-use Rattle.flag_memory.specs.Flag.{flag_byte}
-use Rattle.micro_op.specs.declared.micro_op.MicroOp.{MicroOp}
-use Rattle.micro_op.specs.declared.MicroKind.{MicroKind}
-use Rattle.micro_op.specs.declared.MicroKind.TheVariants as kind
-use Rattle.micro_op.specs.Micro.{Meaning, Unserved, Demands, Enters as EntersBy, meaning_by, meaning_of, sum_address}
-use Rattle.jump_map.specs.Image.{Cell, image_base}
+use Rattle.node_model.specs.rv32_step.Memory.{shared_after, private_after, byte_by}
+use Rattle.node_model.specs.rv32_step.Registers.{reg, put, registers_of}
+use Rattle.node_model.specs.rv32_step.Demands.{branch_demand}
+use Rattle.node_model.specs.rv32_step.declared.Demand.{Demand}
+use Rattle.node_model.specs.rv32_step.declared.Demand.TheVariants.{Sets, Continues, Jumps, Branches, Loads, Stores, Calls, Traps, Reserves, StoresIf, Updates}
+use Rattle.first_memory.specs.exec_map.Contents.{program_of}
+use Rattle.node_model.specs.flag_memory.Flag.{flag_byte}
+use Rattle.node_model.specs.micro_op.declared.micro_op.MicroOp.{MicroOp}
+use Rattle.node_model.specs.micro_op.declared.MicroKind.{MicroKind}
+use Rattle.node_model.specs.micro_op.declared.MicroKind.TheVariants as kind
+use Rattle.node_model.specs.micro_op.Micro.{Meaning, Unserved, Demands, Enters as EntersBy, meaning_by, meaning_of, sum_address}
+use Rattle.node_model.specs.jump_map.Image.{Cell, image_base}
 use Rattle.rv32_program.specs.declared.Exit.TheVariants.{Misaligned}
-use Rattle.rv32_step.specs.OneMemory.{next_pc}
-use Rattle.jump_map.specs.Maps.{new_of}
+use Rattle.node_model.specs.rv32_step.OneMemory.{next_pc}
+use Rattle.node_model.specs.jump_map.Maps.{new_of}
 use Rattle.node_words.proofs.StepLemmas.{put_zero}
 use Rattle.node_model.specs.Node.{Lane, Local, Outcome, Region, Memory, StateOf, Spill, Elsewhere, native, indirect, load, store, lane_after, region_of, set_register, byte_at, exit_by, go_on, enter, Move, Next, Again, To, Enters, Waits, Leaves}
 use Rattle.node_words.specs.declared.lane.Lane as kept

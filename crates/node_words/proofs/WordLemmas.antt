@@ -1,8 +1,8 @@
 -- A node after a word, by what the word left.
 use Rattle.std.proofs.Common.{◌≡◌, ◌≢◌, ℕ, zero, suc, ◌+◌, ◌<◌, ◌≤◌, true, List, [], refl, sym, ap, ◌∙◌, subst, inl, inr, arith}
 use Rattle.std.proofs.lemmas.Bool.Decides.{eqb_tells}
-use Rattle.exec_map.specs.Contents.{program_of}
-use Rattle.jump_map.specs.Image.{Cell}
+use Rattle.first_memory.specs.exec_map.Contents.{program_of}
+use Rattle.node_model.specs.jump_map.Image.{Cell}
 use Rattle.node_words.specs.declared.body.Body.{Body}
 use Rattle.node_words.specs.declared.lane.Lane as kept
 use Rattle.node_words.specs.Address.{word_address}

@@ -1,9 +1,9 @@
 -- Helps the code alone: what the parts of the protocol at a node change of what words see.
 use Rattle.std.specs.Prelude.{◌≡◌, ℕ, ◌+◌, ◌*◌, ◌<◌, length, slice_index}
 use Rattle.block_layout.specs.Layout.{IsValid, blocks, lines, first_line}
-use Rattle.flag_memory.specs.Copy.{Copy, memory, bytes_of}
-use Rattle.miss_handlers.specs.Waits.{NodeWaits}
-use Rattle.miss_handlers.specs.Effects.{NodeBlocks, node_blocks}
+use Rattle.node_model.specs.flag_memory.Copy.{Copy, memory, bytes_of}
+use Rattle.node_model.specs.miss_handlers.Waits.{NodeWaits}
+use Rattle.node_model.specs.miss_handlers.Effects.{NodeBlocks, node_blocks}
 use Rattle.node_words.specs.Kept.{Shelf, HasLines}
 
 -- the bytes of a block are those of its addresses

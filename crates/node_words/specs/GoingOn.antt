@@ -1,14 +1,14 @@
 -- Helps the code alone: bodies from word to word.
 use Rattle.std.specs.Prelude.{◌≡◌, ℕ, zero, suc, ◌+◌, ◌%◌, ◌^◌, ◌<◌, ◌≤◌, true, List, Option, Some, None}
 use Rattle.rv32_decode.specs.declared.Op.TheVariants as op
-use Rattle.rv32_step.specs.Registers.{put, registers_of}
-use Rattle.rv32_step.specs.declared.Demand.{Demand}
-use Rattle.rv32_step.specs.declared.Demand.TheVariants.{Sets}
-use Rattle.micro_op.specs.declared.micro_op.MicroOp.{MicroOp}
-use Rattle.micro_op.specs.Micro.{Demands, meaning_of, by_immediate, by_registers}
-use Rattle.jump_map.specs.Micro.{IsMicroAt, ReadsState, ReadsStateBy, ReadsValue}
-use Rattle.exec_map.specs.Contents.{program_of}
-use Rattle.jump_map.specs.Image.{Cell, image_base}
+use Rattle.node_model.specs.rv32_step.Registers.{put, registers_of}
+use Rattle.node_model.specs.rv32_step.declared.Demand.{Demand}
+use Rattle.node_model.specs.rv32_step.declared.Demand.TheVariants.{Sets}
+use Rattle.node_model.specs.micro_op.declared.micro_op.MicroOp.{MicroOp}
+use Rattle.node_model.specs.micro_op.Micro.{Demands, meaning_of, by_immediate, by_registers}
+use Rattle.node_model.specs.jump_map.Micro.{IsMicroAt, ReadsState, ReadsStateBy, ReadsValue}
+use Rattle.first_memory.specs.exec_map.Contents.{program_of}
+use Rattle.node_model.specs.jump_map.Image.{Cell, image_base}
 use Rattle.node_words.specs.Address.{word_address}
 use Rattle.node_words.specs.declared.body.Body.{Body}
 use Rattle.node_model.specs.Node.{Node, Work, Phase, Running, can_execute}

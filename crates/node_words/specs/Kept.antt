@@ -5,16 +5,16 @@ use Rattle.block_layout.specs.Layout.{Shape, is_shared}
 use Rattle.byte_range.specs.Lines.{LineBytes, lines_memory}
 use Rattle.byte_range.specs.Window.{window_memory}
 use Rattle.first_memory.specs.SharedLines.{HasReadOnlyLines}
-use Rattle.exec_map.specs.Contents.{program_of, class_of_line, first_byte, is_shared as is_shared_class}
+use Rattle.first_memory.specs.exec_map.Contents.{program_of, class_of_line, first_byte, is_shared as is_shared_class}
 use Rattle.rv32_program.specs.declared.Class.TheVariants.{ReadOnly}
 use Rattle.rv32_program.specs.declared.End.TheVariants.{Exited}
-use Rattle.rv32_step.specs.Registers.{registers_of}
-use Rattle.state_table.specs.States.{States, line_byte}
-use Rattle.state_table.specs.LineClasses.{class_byte}
-use Rattle.flag_memory.specs.Copy.{Copy, memory, place}
-use Rattle.flag_memory.specs.Flag.{flag_byte}
-use Rattle.micro_op.specs.Micro.{Meaning, Unserved, Demands, Enters as EntersBy}
-use Rattle.jump_map.specs.Image.{Cell}
+use Rattle.node_model.specs.rv32_step.Registers.{registers_of}
+use Rattle.node_model.specs.state_table.States.{States, line_byte}
+use Rattle.node_model.specs.state_table.LineClasses.{class_byte}
+use Rattle.node_model.specs.flag_memory.Copy.{Copy, memory, place}
+use Rattle.node_model.specs.flag_memory.Flag.{flag_byte}
+use Rattle.node_model.specs.micro_op.Micro.{Meaning, Unserved, Demands, Enters as EntersBy}
+use Rattle.node_model.specs.jump_map.Image.{Cell}
 use Rattle.node_words.specs.Address.{word_address}
 use Rattle.node_model.specs.declared.NodeCounts.{NodeCounts}
 use Rattle.node_words.specs.declared.lane.Lane as kept

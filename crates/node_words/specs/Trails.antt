@@ -6,11 +6,11 @@ use Rattle.rv32_decode.specs.Widths.{is_aligned, size_of}
 use Rattle.byte_range.specs.Memory.{stored}
 use Rattle.byte_range.specs.Window.{window_memory}
 use Rattle.rv32_program.specs.Program.{Program, class_at}
-use Rattle.rv32_step.specs.Memory.{shared_after, private_after}
-use Rattle.rv32_step.specs.Registers.{registers_of}
-use Rattle.exec_map.specs.Contents.{program_of}
-use Rattle.micro_op.specs.declared.MicroKind.{MicroKind}
-use Rattle.micro_op.specs.declared.MicroKind.TheVariants as kind
+use Rattle.node_model.specs.rv32_step.Memory.{shared_after, private_after}
+use Rattle.node_model.specs.rv32_step.Registers.{registers_of}
+use Rattle.first_memory.specs.exec_map.Contents.{program_of}
+use Rattle.node_model.specs.micro_op.declared.MicroKind.{MicroKind}
+use Rattle.node_model.specs.micro_op.declared.MicroKind.TheVariants as kind
 use Rattle.node_words.specs.declared.lane.Lane as kept
 use Rattle.node_words.specs.declared.trail.Note.{Note}
 use Rattle.node_words.specs.declared.trail.Saved.{Saved}

@@ -4,12 +4,12 @@ ghost use Rattle.std.specs.Prelude.{◌≡◌, ◌+◌, ◌*◌, ◌/◌, ◌%�
 ghost use Rattle.rv32_decode.specs.Widths.{width_of, is_aligned};
 ghost use Rattle.rv32_program.specs.Program.{class_at};
 ghost use Rattle.rv32_program.specs.declared.Class.TheVariants.{Shared};
-ghost use Rattle.exec_map.specs.Contents.{program_of};
+ghost use Rattle.first_memory.specs.exec_map.Contents.{program_of};
 ghost use Rattle.byte_range.specs.Memory.{raw};
-ghost use Rattle.rv32_step.specs.Memory.{load_value};
+ghost use Rattle.node_model.specs.rv32_step.Memory.{load_value};
 ghost use Rattle.node_model.specs.Node as model;
 ghost use Rattle.node_words.specs.Kept.{ground_of, local_of, lane_of, LeavesBehind};
-ghost use Rattle.flag_memory.specs.Flag.{flag_byte as flag_at};
+ghost use Rattle.node_model.specs.flag_memory.Flag.{flag_byte as flag_at};
 
 use crate::lane::Lane;
 use crate::local::Local;

@@ -3,13 +3,13 @@
 ghost use Rattle.std.specs.Prelude.{◌≡◌, ◌*◌, ◌/◌, ◌%◌, ◌<◌, ℕ, Option, Some, None};
 ghost use Rattle.std.specs.Prelude.{List, false};
 ghost use Rattle.rv32_ops.specs.Operations as operations;
-ghost use Rattle.rv32_step.specs.Registers.{reg, registers_of};
-ghost use Rattle.rv32_step.specs.Demands.{branch_demand};
-ghost use Rattle.rv32_step.specs.declared.Demand.TheVariants.{Sets, Jumps};
-ghost use Rattle.rv32_step.specs.declared.Demand.TheVariants.{Loads, Stores};
-ghost use Rattle.micro_op.specs.Micro.{Demands, Enters, meaning_of};
-ghost use Rattle.jump_map.specs.Image.{Cell, image_base};
-ghost use Rattle.jump_map.specs.Maps.{new_of};
+ghost use Rattle.node_model.specs.rv32_step.Registers.{reg, registers_of};
+ghost use Rattle.node_model.specs.rv32_step.Demands.{branch_demand};
+ghost use Rattle.node_model.specs.rv32_step.declared.Demand.TheVariants.{Sets, Jumps};
+ghost use Rattle.node_model.specs.rv32_step.declared.Demand.TheVariants.{Loads, Stores};
+ghost use Rattle.node_model.specs.micro_op.Micro.{Demands, Enters, meaning_of};
+ghost use Rattle.node_model.specs.jump_map.Image.{Cell, image_base};
+ghost use Rattle.node_model.specs.jump_map.Maps.{new_of};
 ghost use Rattle.node_words.specs.GoingOn.{index_by};
 ghost use Rattle.node_words.specs.Kept.{StepsTo, Shelf};
 ghost use Rattle.node_words.specs.Trails.{IsPlain, store_width};
@@ -17,8 +17,8 @@ ghost use Rattle.node_words.specs.Address.{word_address};
 ghost use Rattle.node_words.specs.declared.lane.Lane.{Lane};
 
 use crate::body::Body;
-use jump_map::{IMAGE_BASE, Image};
-use micro_op::{MicroKind, MicroOp};
+use node_model::jump_map::{IMAGE_BASE, Image};
+use node_model::micro_op::{MicroKind, MicroOp};
 use rv32_decode::{Cond, LoadKind, Op, Reg, Width};
 use rv32_ops::{alu, taken};
 

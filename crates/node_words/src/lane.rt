@@ -4,10 +4,10 @@ ghost use Rattle.std.specs.Prelude.{◌≡◌, ◌+◌, ◌*◌, ◌%◌, ◌^�
 ghost use Rattle.node_words.specs.Address.{word_address};
 
 use byte_range::Window;
-use exec_map::Exit;
-use home_directory::Need;
-use jump_map::IMAGE_BASE;
-use rv32_step::Registers;
+use first_memory::exec_map::Exit;
+use node_model::home_directory::Need;
+use node_model::jump_map::IMAGE_BASE;
+use node_model::rv32_step::Registers;
 
 /// A processor in rewritten code, but for the position of its next word.
 #[derive(Drop)]

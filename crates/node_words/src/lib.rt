@@ -18,7 +18,14 @@ mod serve;
 mod trail;
 
 pub use body::Body;
+pub use byte_range;
+pub use first_memory;
+pub use first_memory::exec_map;
 pub use lane::{Lane, Resume, Tally, Want, Wants, address_of, index_of};
 pub use local::Local;
+pub use node_model;
+pub use node_model::{
+    flag_memory, home_directory, jump_map, micro_op, miss_handlers, runtime_words, rv32_step,
+};
 pub use serve::{Following, Served, Stretch};
 pub use trail::{Note, Saved, Trail};

@@ -6,8 +6,8 @@ ghost use Rattle.node_words.specs.Kept.{local_of, others_of, wants_in};
 
 use crate::lane::{Want, Wants};
 use crate::local::Local;
-use home_directory::Need;
-use state_table::{EXCLUSIVE, READ_ONLY, UNMAPPED};
+use node_model::home_directory::Need;
+use node_model::state_table::{EXCLUSIVE, READ_ONLY, UNMAPPED};
 
 /// Whether a line with this state byte is mapped.
 pub fn is_mapped(state: u8) -> bool

@@ -4,11 +4,11 @@
 ghost use Rattle.std.specs.Prelude.{◌≡◌, ◌+◌, ◌^◌, ◌≤◌, ◌<◌, ◌-◌, ◌%◌, ℕ, List, Some, true, false};
 ghost use Rattle.std.specs.Prelude.{length};
 ghost use Rattle.rv32_decode.specs.Widths.{is_aligned};
-ghost use Rattle.rv32_step.specs.Demands.{branch_demand};
-ghost use Rattle.rv32_step.specs.Registers.{reg, registers_of};
-ghost use Rattle.micro_op.specs.Micro.{Demands};
-ghost use Rattle.jump_map.specs.Image.{Cell, most_words};
-ghost use Rattle.jump_map.specs.Micro.{IsLookAt, IsMicroAt, PassesAt, ReadsValue, SkipsAt, op_of};
+ghost use Rattle.node_model.specs.rv32_step.Demands.{branch_demand};
+ghost use Rattle.node_model.specs.rv32_step.Registers.{reg, registers_of};
+ghost use Rattle.node_model.specs.micro_op.Micro.{Demands};
+ghost use Rattle.node_model.specs.jump_map.Image.{Cell, most_words};
+ghost use Rattle.node_model.specs.jump_map.Micro.{IsLookAt, IsMicroAt, PassesAt, ReadsValue, SkipsAt, op_of};
 ghost use Rattle.node_words.specs.Address.{word_address};
 ghost use Rattle.node_words.specs.GoingOn.{BeginsLook, BeginsSecondLook, BeginsValueLook};
 ghost use Rattle.node_words.specs.GoingOn.{GoesFurther, OrsAt, PutsNext, StridesOr};
@@ -19,8 +19,8 @@ ghost use Rattle.node_words.specs.declared.lane.Lane.{Lane};
 use crate::body::Body;
 use crate::hot::Way;
 use crate::serve::Stretch;
-use jump_map::Image;
-use micro_op::{MicroKind, MicroOp};
+use node_model::jump_map::Image;
+use node_model::micro_op::{MicroKind, MicroOp};
 use rv32_decode::{Cond, LoadKind, Reg, Width};
 use rv32_ops::taken;
 

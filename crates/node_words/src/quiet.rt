@@ -2,10 +2,10 @@
 //! they are executed in a row with those that micro-ops serve.
 
 ghost use Rattle.std.specs.Prelude.{◌≡◌, ◌*◌, ◌≤◌, ◌<◌, ℕ, List, length};
-ghost use Rattle.exec_map.specs.Contents.{program_of};
-ghost use Rattle.rv32_step.specs.Demands as demands;
-ghost use Rattle.rv32_step.specs.Registers.{registers_of};
-ghost use Rattle.jump_map.specs.Image.{Cell, most_words};
+ghost use Rattle.first_memory.specs.exec_map.Contents.{program_of};
+ghost use Rattle.node_model.specs.rv32_step.Demands as demands;
+ghost use Rattle.node_model.specs.rv32_step.Registers.{registers_of};
+ghost use Rattle.node_model.specs.jump_map.Image.{Cell, most_words};
 ghost use Rattle.node_model.specs.Node as model;
 ghost use Rattle.node_words.specs.Address.{word_address};
 ghost use Rattle.node_words.specs.Kept.{StepsOr, Does, Shelf, ground_of, local_of, lane_of};
@@ -14,10 +14,10 @@ ghost use Rattle.node_words.specs.declared.lane.Lane.{Lane};
 use crate::body::Body;
 use crate::lane::{Move, Outcome, Tally, address_of};
 use crate::rare::place_address;
-use jump_map::{IMAGE_BASE, Image, ImageWord};
-use runtime_words::RtWord;
+use node_model::jump_map::{IMAGE_BASE, Image, ImageWord};
+use node_model::runtime_words::RtWord;
+use node_model::rv32_step::Demand;
 use rv32_decode::{Instr, Reg, Width};
-use rv32_step::Demand;
 
 impl<'a> Body<'a> {
     /// Executes the word with an index by its micro-op, or as a quiet one that has none, and gives

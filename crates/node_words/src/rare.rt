@@ -1,16 +1,16 @@
 //! The path that serves every word.
 
 ghost use Rattle.std.specs.Prelude.{◌≡◌, ◌+◌, ◌*◌, ◌/◌, ◌%◌, ◌^◌, ◌<◌, ◌≤◌, ℕ, true, None};
-ghost use Rattle.exec_map.specs.Contents.{program_of};
+ghost use Rattle.first_memory.specs.exec_map.Contents.{program_of};
 ghost use Rattle.rv32_program.specs.Targets.{offset_address};
-ghost use Rattle.rv32_step.specs.declared.Demand.TheVariants.{Sets, Jumps, Branches, Loads, Stores};
-ghost use Rattle.rv32_step.specs.declared.Demand.TheVariants.{Reserves, StoresIf, Updates};
-ghost use Rattle.rv32_step.specs.declared.CallStep.TheVariants.{Puts, Returns};
-ghost use Rattle.rv32_step.specs.Demands as demands;
-ghost use Rattle.rv32_step.specs.Registers.{reg, registers_of};
+ghost use Rattle.node_model.specs.rv32_step.declared.Demand.TheVariants.{Sets, Jumps, Branches, Loads, Stores};
+ghost use Rattle.node_model.specs.rv32_step.declared.Demand.TheVariants.{Reserves, StoresIf, Updates};
+ghost use Rattle.node_model.specs.rv32_step.declared.CallStep.TheVariants.{Puts, Returns};
+ghost use Rattle.node_model.specs.rv32_step.Demands as demands;
+ghost use Rattle.node_model.specs.rv32_step.Registers.{reg, registers_of};
 ghost use Rattle.byte_range.specs.Memory.{raw};
 ghost use Rattle.rv32_decode.specs.Widths.{is_aligned};
-ghost use Rattle.rv32_step.specs.Memory.{load_value};
+ghost use Rattle.node_model.specs.rv32_step.Memory.{load_value};
 ghost use Rattle.node_model.specs.Node as model;
 ghost use Rattle.node_words.specs.Address.{word_address};
 ghost use Rattle.node_words.specs.Kept.{Does, Shelf, ground_of, local_of, lane_of};
@@ -19,14 +19,14 @@ ghost use Rattle.node_words.specs.declared.lane.Lane.{Lane};
 use crate::body::Body;
 use crate::lane::{Move, Outcome, Resume, Tally, address_of, exit_by, go_on, index_of, wait_for};
 use crate::lines::{is_fixed, is_mapped, is_readable, is_writable};
-use exec_map::Exit;
-use home_directory::Need;
-use jump_map::{Image, ImageWord};
-use runtime_words::RtWord;
+use first_memory::exec_map::Exit;
+use node_model::home_directory::Need;
+use node_model::jump_map::{Image, ImageWord};
+use node_model::runtime_words::RtWord;
+use node_model::rv32_step::{CallStep, Demand, call_step, cut_short, demand_of};
+use node_model::templates::Place;
 use rv32_decode::{AmoOp, Imm12, Instr, LoadKind, Reg, Width};
 use rv32_ops::amo;
-use rv32_step::{CallStep, Demand, call_step, cut_short, demand_of};
-use templates::Place;
 
 impl<'a> Body<'a> {
     /// Executes the word with an index, and doesn't go on yet.

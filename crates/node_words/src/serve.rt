@@ -1,8 +1,8 @@
 //! One word of a node: by its micro-op, or by the path that serves every word.
 
 ghost use Rattle.std.specs.Prelude.{◌≡◌, ◌+◌, ◌^◌, ◌<◌, ◌≤◌, ℕ, Some, None, length};
-ghost use Rattle.exec_map.specs.Contents.{program_of};
-ghost use Rattle.jump_map.specs.Image.{most_words};
+ghost use Rattle.first_memory.specs.exec_map.Contents.{program_of};
+ghost use Rattle.node_model.specs.jump_map.Image.{most_words};
 ghost use Rattle.node_model.specs.Node as model;
 ghost use Rattle.node_words.specs.Address.{word_address};
 ghost use Rattle.node_words.specs.Kept.{StepsOr, Serves, ground_of, local_of, lane_of, move_of};
@@ -13,9 +13,9 @@ ghost use Rattle.node_words.specs.GoingOn.{BodyGoesOn};
 use crate::body::Body;
 use crate::lane::{Move, Resume, Tally, Wants};
 use crate::looks::Onward;
-use exec_map::Exit;
-use jump_map::{IMAGE_BASE, Image};
+use first_memory::exec_map::Exit;
 use node_model::NodeCounts;
+use node_model::jump_map::{IMAGE_BASE, Image};
 
 /// The most words that are executed in a row.
 const MOST_IN_A_ROW: u64 = 0x8000_0000;

@@ -3,10 +3,10 @@
 ghost use Rattle.std.specs.Prelude.{◌≡◌, ◌+◌, ◌*◌, ◌/◌, ◌^◌, ◌<◌, ◌≤◌, ℕ, true, false};
 ghost use Rattle.std.specs.Prelude.{None, All, length, slice_index};
 ghost use Rattle.rv32_decode.specs.Widths.{is_aligned};
-ghost use Rattle.rv32_step.specs.Registers.{registers_of};
-ghost use Rattle.exec_map.specs.Contents.{program_of};
-ghost use Rattle.jump_map.specs.Image.{most_words, image_base};
-ghost use Rattle.micro_op.specs.Micro.{sum_address, meaning_of};
+ghost use Rattle.node_model.specs.rv32_step.Registers.{registers_of};
+ghost use Rattle.first_memory.specs.exec_map.Contents.{program_of};
+ghost use Rattle.node_model.specs.jump_map.Image.{most_words, image_base};
+ghost use Rattle.node_model.specs.micro_op.Micro.{sum_address, meaning_of};
 ghost use Rattle.node_model.specs.Node as model;
 ghost use Rattle.node_words.specs.Address.{word_address};
 ghost use Rattle.node_words.specs.Kept.{Shelf, StepsOr, StepsTo, ground_of, local_of, lane_of};
@@ -18,8 +18,8 @@ ghost use Rattle.node_words.specs.declared.lane.Lane as kept;
 use crate::body::Body;
 use crate::lane::Lane;
 use crate::serve::Stretch;
-use jump_map::Image;
-use micro_op::{MicroKind, MicroOp};
+use node_model::jump_map::Image;
+use node_model::micro_op::{MicroKind, MicroOp};
 use rv32_decode::{Reg, Width};
 use std::alloc::{AllocError, Global};
 

@@ -3,9 +3,9 @@ use Rattle.std.proofs.Common.{◌≡◌, ℕ, zero, suc, ◌<◌, ◌≤◌, Lis
 use Rattle.std.specs.Prelude.{is_some}
 use Rattle.std.proofs.lemmas.Bool.{true≢false}
 use Rattle.std.proofs.lemmas.List.{length-map, map-append}
-use Rattle.run_trace.specs.declared.traced.Traced.{Traced as Stored}
-use Rattle.run_trace.specs.Given.{traced_of}
-use Rattle.run_trace.specs.Traced.{Traced}
+use Rattle.event_text.specs.run_trace.declared.traced.Traced.{Traced as Stored}
+use Rattle.event_text.specs.run_trace.Given.{traced_of}
+use Rattle.event_text.specs.run_trace.Traced.{Traced}
 use Rattle.page_events.specs.Shown.{Kept, first_stamp, kept}
 
 -- where fewer than n are taken, one more is

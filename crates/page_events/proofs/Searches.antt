@@ -2,7 +2,7 @@
 use Rattle.std.proofs.Common.{◌≡◌, ℕ, suc, ◌+◌, List, [], ◌∷◌, Bool, true, false, cond, Option, Some, None, length, drop, filter, refl, sym, ap, ◌∙◌, arith, ◌≤◌}
 use Rattle.std.specs.List.{position_from}
 use Rattle.std.proofs.lemmas.Iterator.Adapters.{position_from-zero}
-use Rattle.run_trace.specs.Traced.{Traced}
+use Rattle.event_text.specs.run_trace.Traced.{Traced}
 use Rattle.page_events.specs.declared.sought.Sought.{Sought}
 use Rattle.page_events.specs.Sought.{is_sought, row_of, count_of}
 

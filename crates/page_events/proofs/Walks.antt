@@ -2,9 +2,9 @@
 use Rattle.std.proofs.Common.{◌≡◌, ℕ, zero, suc, ◌+◌, ◌<◌, ◌≤◌, List, [], ◌∷◌, ◌++◌, length, map, drop, refl, sym, ap, ◌∙◌, arith, get_or, append_assoc, append-nil}
 use Rattle.std.proofs.lemmas.List.{drop-map, drop_more}
 use Rattle.std.specs.List.{flat_map}
-use Rattle.run_trace.specs.declared.traced.Traced.{Traced as Stored}
-use Rattle.run_trace.specs.Given.{traced_of}
-use Rattle.run_trace.specs.Traced.{Traced}
+use Rattle.event_text.specs.run_trace.declared.traced.Traced.{Traced as Stored}
+use Rattle.event_text.specs.run_trace.Given.{traced_of}
+use Rattle.event_text.specs.run_trace.Traced.{Traced}
 
 -- the events that are left begin with this one
 pub first_left : (events : List Traced) (items : List Stored) (i : ℕ) (x : Stored)

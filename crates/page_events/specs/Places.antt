@@ -1,7 +1,7 @@
 -- Where things are drawn, in pixels: a line down the page for each node, a row for each event.
 use Rattle.std.specs.Prelude.{ℕ, ◌+◌, ◌*◌, ◌/◌, List, ◌++◌, length, Option, None, Some, codes}
 use Rattle.std.specs.Fmt.{decimal}
-use Rattle.run_trace.specs.Traced.{Traced}
+use Rattle.event_text.specs.run_trace.Traced.{Traced}
 use Rattle.page_events.specs.declared.places.Spot.{Spot}
 use Rattle.page_events.specs.declared.sought.Sought.TheVariants.{Event}
 use Rattle.page_events.specs.Sought.{row_of}

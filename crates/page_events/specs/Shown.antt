@@ -1,6 +1,6 @@
 -- The events that a page shows.
 use Rattle.std.specs.Prelude.{ℕ, List, [], ◌∷◌, take, drop, Option, Some, None}
-use Rattle.run_trace.specs.Traced.{Traced}
+use Rattle.event_text.specs.run_trace.Traced.{Traced}
 
 -- events, and the stamp of the one behind them, if there is one
 pub record Kept : Type 0 where

@@ -2,9 +2,9 @@
 use Rattle.std.specs.Prelude.{ℕ, Bool, true, false, ◌&&◌, ◌||◌, ◌==◌, nat_lt, List, [], ◌∷◌, filter, length, Option, None, Some, option_and_then, position}
 use Rattle.std.specs.List.{list_any}
 use Rattle.std.specs.Option.{option_map, option_map_or}
-use Rattle.node_machine.specs.declared.wanted.Wanted.{Wanted}
-use Rattle.run_trace.specs.declared.traced.Accessed.{Accessed}
-use Rattle.run_trace.specs.Traced.{OfWord, What, Word, Taken, Traced}
+use Rattle.event_text.specs.node_machine.declared.wanted.Wanted.{Wanted}
+use Rattle.event_text.specs.run_trace.declared.traced.Accessed.{Accessed}
+use Rattle.event_text.specs.run_trace.Traced.{OfWord, What, Word, Taken, Traced}
 use Rattle.page_events.specs.declared.sought.Sought.{Sought}
 use Rattle.page_events.specs.declared.sought.Sought.TheVariants.{Event, GoesOn, Misses, Takes, About, MissOf, TakeOf}
 

@@ -8,6 +8,8 @@ mod shown;
 mod sought;
 
 pub use escape::{escape_law, push_escaped};
+pub use event_text;
+pub use event_text::{node_machine, run_trace};
 pub use places::{
     Spot, down_from, down_to, line_of, lower_edge, own_row, push_at, push_count, push_edge,
     push_line_of, push_node, push_spot, spot_of,

@@ -2,14 +2,14 @@
 
 ghost use Rattle.std.specs.Prelude.{◌≡◌, ◌≤◌, ◌++◌, OnOk};
 ghost use Rattle.std.specs.Fmt.{decimal};
-ghost use Rattle.run_trace.specs.Given.{traced_of};
+ghost use Rattle.event_text.specs.run_trace.Given.{traced_of};
 ghost use Rattle.page_events.specs.Places as model;
 
 use crate::shown::Shown;
 use crate::sought::{Sought, row_of};
 use block_layout::Layout;
 use event_text::push_decimal;
-use run_trace::Traced;
+use event_text::run_trace::Traced;
 use std::alloc::AllocError;
 
 /// The lines of the nodes begin here.

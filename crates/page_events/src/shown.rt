@@ -1,12 +1,12 @@
 //! The events that a page shows.
 
 ghost use Rattle.std.specs.Prelude.{◌≡◌, ◌≤◌, List, map, length};
-ghost use Rattle.run_trace.specs.Given.{traced_of};
-ghost use Rattle.run_trace.specs.Passing.{passed_of};
+ghost use Rattle.event_text.specs.run_trace.Given.{traced_of};
+ghost use Rattle.event_text.specs.run_trace.Passing.{passed_of};
 ghost use Rattle.page_events.specs.Shown as model;
 
+use event_text::run_trace::{Tallied, Traced, What, WordPassed, WordTraced};
 use home_directory::Headers;
-use run_trace::{Tallied, Traced, What, WordPassed, WordTraced};
 use std::alloc::{AllocError, Global};
 use std::marker::Model;
 
@@ -23,7 +23,7 @@ pub struct Shown {
 
 impl Model for Shown {
     ghost use Rattle.std.specs.Prelude.{◌≤◌, map, length};
-    ghost use Rattle.run_trace.specs.Given.{traced_of};
+    ghost use Rattle.event_text.specs.run_trace.Given.{traced_of};
     ghost use Rattle.page_events.specs.Shown.{Kept};
 
     ghost Value = { Kept };
@@ -36,9 +36,9 @@ impl Model for Shown {
 impl Shown {
     ghost use Rattle.std.specs.Prelude.{◌≡◌, ◌≤◌, ◌++◌, [], ◌∷◌, List, map, length, OnOk};
     ghost use Rattle.std.specs.Prelude.{true, is_some};
-    ghost use Rattle.run_trace.specs.Given.{traced_of};
-    ghost use Rattle.run_trace.specs.Passing.{passed_of};
-    ghost use Rattle.run_trace.specs.Traced.{Traced as OfEvent};
+    ghost use Rattle.event_text.specs.run_trace.Given.{traced_of};
+    ghost use Rattle.event_text.specs.run_trace.Passing.{passed_of};
+    ghost use Rattle.event_text.specs.run_trace.Traced.{Traced as OfEvent};
     ghost use Rattle.page_events.specs.Shown.{kept};
 
     /// No event.

@@ -1,14 +1,14 @@
 //! What is looked for among the events of a page.
 
 ghost use Rattle.std.specs.Prelude.{◌≡◌, ◌+◌, ◌≤◌, if◌then◌else◌};
-ghost use Rattle.node_machine.specs.Wanted.{wanted_in};
-ghost use Rattle.run_trace.specs.Given.{word_of, what_of, traced_of};
+ghost use Rattle.event_text.specs.node_machine.Wanted.{wanted_in};
+ghost use Rattle.event_text.specs.run_trace.Given.{word_of, what_of, traced_of};
 ghost use Rattle.page_events.specs.Sought as model;
 
 use crate::shown::Shown;
 use block_layout::Block;
-use node_machine::{Wanted, WantedBlocks};
-use run_trace::{Accessed, TakeTraced, Traced, What, WordTraced};
+use event_text::node_machine::{Wanted, WantedBlocks};
+use event_text::run_trace::{Accessed, TakeTraced, Traced, What, WordTraced};
 
 /// What is looked for among the events of a page.
 #[derive(Clone, Copy)]

@@ -7,9 +7,9 @@ use Rattle.home_directory.specs.declared.headers.Header.{Header}
 use Rattle.home_directory.specs.declared.headers.Sent.{Sent}
 use Rattle.home_directory.specs.declared.headers.MessageKind.{MessageKind}
 use Rattle.home_directory.specs.declared.headers.MessageKind.TheVariants as kind
-use Rattle.run_trace.specs.Traced.{OfTake, What, Word, Taken, Traced}
-use Rattle.event_text.specs.Names.{message_name}
-use Rattle.event_text.specs.Parts.{header_text}
+use Rattle.page_events.specs.run_trace.Traced.{OfTake, What, Word, Taken, Traced}
+use Rattle.page_events.specs.event_text.Names.{message_name}
+use Rattle.page_events.specs.event_text.Parts.{header_text}
 use Rattle.page_view.specs.declared.arrows.Arrow.{Arrow}
 use Rattle.page_events.specs.declared.places.Spot.{Spot}
 use Rattle.page_events.specs.declared.sought.Sought.TheVariants.{Event, Takes}

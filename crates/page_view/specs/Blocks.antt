@@ -5,7 +5,7 @@ use Rattle.std.specs.Option.{option_map_or}
 use Rattle.std.specs.List.{flat_map}
 use Rattle.block_layout.specs.Layout.{Shape, blocks, first_line, lines, home}
 use Rattle.rv32_text.specs.Listing.{word_digits}
-use Rattle.run_trace.specs.Traced.{Traced}
+use Rattle.page_events.specs.run_trace.Traced.{Traced}
 use Rattle.page_events.specs.declared.sought.Sought.TheVariants.{About, MissOf, TakeOf}
 use Rattle.page_events.specs.Sought.{first_block, other_block, row_of, count_of}
 use Rattle.page_events.specs.Places.{own_row}

@@ -2,7 +2,7 @@
 use Rattle.std.specs.Prelude.{ℕ, zero, suc, List, [], ◌++◌, codes}
 use Rattle.std.specs.Fmt.{decimal}
 use Rattle.elf32_read.specs.Elf.{Elf}
-use Rattle.run_trace.specs.Traced.{Traced}
+use Rattle.page_events.specs.run_trace.Traced.{Traced}
 use Rattle.page_view.specs.Frame.{columns, drawings, opening}
 use Rattle.page_events.specs.Places.{line_of, lower_edge}
 use Rattle.page_view.specs.Waits.{waits_text}

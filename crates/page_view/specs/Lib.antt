@@ -6,3 +6,4 @@ pub mod Blocks
 pub mod Frame
 pub mod Figure
 pub mod Page
+pub use Rattle.page_events.specs as page_events

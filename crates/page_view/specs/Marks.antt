@@ -2,11 +2,11 @@
 use Rattle.std.specs.Prelude.{ℕ, Bool, true, false, if◌then◌else◌, List, [], ◌∷◌, ◌++◌, Option, None, Some, codes}
 use Rattle.state_table.specs.declared.State.{State}
 use Rattle.state_table.specs.declared.State.TheVariants.{Exclusive, Shared, Invalid, Pending}
-use Rattle.node_machine.specs.declared.wanted.Wanted.{Wanted}
-use Rattle.run_trace.specs.declared.traced.Accessed.{Accessed}
-use Rattle.run_trace.specs.declared.traced.AccessKind.{AccessKind}
-use Rattle.run_trace.specs.declared.traced.AccessKind.TheVariants as access
-use Rattle.run_trace.specs.Traced.{What, Word, Taken}
+use Rattle.page_events.specs.node_machine.declared.wanted.Wanted.{Wanted}
+use Rattle.page_events.specs.run_trace.declared.traced.Accessed.{Accessed}
+use Rattle.page_events.specs.run_trace.declared.traced.AccessKind.{AccessKind}
+use Rattle.page_events.specs.run_trace.declared.traced.AccessKind.TheVariants as access
+use Rattle.page_events.specs.run_trace.Traced.{What, Word, Taken}
 use Rattle.page_view.specs.declared.marks.Mark.{Mark}
 use Rattle.page_view.specs.declared.marks.Mark.TheVariants.{Holds, Misses, Reads, Writes, Acts}
 use Rattle.page_events.specs.declared.places.Spot.{Spot}

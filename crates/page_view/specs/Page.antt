@@ -3,8 +3,8 @@ use Rattle.std.specs.Prelude.{ℕ, List, [], ◌∷◌, ◌++◌, length, Option
 use Rattle.std.specs.Fmt.{decimal}
 use Rattle.elf32_read.specs.Elf.{Elf}
 use Rattle.block_layout.specs.Layout.{Shape}
-use Rattle.run_trace.specs.Traced.{Traced}
-use Rattle.event_text.specs.Parts.{number_text}
+use Rattle.page_events.specs.run_trace.Traced.{Traced}
+use Rattle.page_events.specs.event_text.Parts.{number_text}
 use Rattle.page_events.specs.Shown.{Kept, kept}
 use Rattle.page_events.specs.Escape.{escaped}
 use Rattle.page_view.specs.Frame.{command, end, style, marks, legend, notes, table, top}

@@ -3,7 +3,7 @@ use Rattle.std.specs.Prelude.{ℕ, Bool, ◌&&◌, not, if◌then◌else◌, Lis
 use Rattle.std.specs.Fmt.{decimal}
 use Rattle.std.specs.Option.{option_map_or}
 use Rattle.std.specs.List.{flat_map}
-use Rattle.run_trace.specs.Traced.{Traced}
+use Rattle.page_events.specs.run_trace.Traced.{Traced}
 use Rattle.page_events.specs.declared.places.Spot.{Spot}
 use Rattle.page_view.specs.declared.waits.Wait.{Wait}
 use Rattle.page_events.specs.declared.sought.Sought.TheVariants.{GoesOn, Misses}

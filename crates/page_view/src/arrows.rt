@@ -1,17 +1,17 @@
 //! The messages, as arrows from where they are sent to where they are taken.
 
 ghost use Rattle.std.specs.Prelude.{◌≡◌, ◌++◌, OnOk};
-ghost use Rattle.run_trace.specs.Given.{traced_of, take_of, what_of};
+ghost use Rattle.page_events.specs.run_trace.Given.{traced_of, take_of, what_of};
 ghost use Rattle.page_view.specs.Arrows as model;
 
 use block_layout::Layout;
-use event_text::{message_name, push_decimal, push_header};
 use home_directory::{Header, MessageKind, Sent};
+use page_events::event_text::{message_name, push_decimal, push_header};
+use page_events::run_trace::{TakeTraced, Traced, What};
 use page_events::{
     Shown, Sought, Spot, down_from, down_to, line_of, own_row, push_at, push_count, push_escaped,
     push_node, push_spot, row_of,
 };
-use run_trace::{TakeTraced, Traced, What};
 use std::alloc::{AllocError, Global};
 
 /// A message: between which nodes, and in which rows it is sent and taken, where the page has

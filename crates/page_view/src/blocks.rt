@@ -2,13 +2,13 @@
 
 ghost use Rattle.std.specs.Prelude.{◌≡◌, ◌<◌, ◌++◌, OnOk};
 ghost use Rattle.block_layout.specs.Layout.{blocks, home};
-ghost use Rattle.run_trace.specs.Given.{traced_of};
+ghost use Rattle.page_events.specs.run_trace.Given.{traced_of};
 ghost use Rattle.page_view.specs.Blocks as model;
 ghost use Rattle.page_events.specs.Sought.{count_of as count_events};
 
 use block_layout::{Block, Layout, layout_law};
+use page_events::run_trace::Traced;
 use page_events::{Shown, Sought, count_of, first_block, other_block, own_row, push_count, row_of};
-use run_trace::Traced;
 use rv32_text::push_word;
 use std::alloc::AllocError;
 

@@ -11,3 +11,4 @@ mod rows;
 mod waits;
 
 pub use page::{Page, push_page};
+pub use page_events;

@@ -1,13 +1,13 @@
 //! What is drawn on a node's line at an event of its own.
 
 ghost use Rattle.std.specs.Prelude.{◌≡◌, ◌++◌, OnOk};
-ghost use Rattle.node_machine.specs.Wanted.{wanted_in};
-ghost use Rattle.run_trace.specs.Given.{what_of};
+ghost use Rattle.page_events.specs.node_machine.Wanted.{wanted_in};
+ghost use Rattle.page_events.specs.run_trace.Given.{what_of};
 ghost use Rattle.page_view.specs.Marks as model;
 
-use node_machine::{Wanted, WantedBlocks};
+use page_events::node_machine::{Wanted, WantedBlocks};
+use page_events::run_trace::{AccessKind, Accessed, What};
 use page_events::{Spot, push_at};
-use run_trace::{AccessKind, Accessed, What};
 use state_table::State;
 use std::alloc::AllocError;
 

@@ -1,15 +1,15 @@
 //! The page.
 
 ghost use Rattle.std.specs.Prelude.{◌≡◌, ◌++◌, None, OnOk, codes};
-ghost use Rattle.event_text.specs.Parts.{number_text};
+ghost use Rattle.page_events.specs.event_text.Parts.{number_text};
 ghost use Rattle.page_view.specs.Page as model;
 
 use crate::blocks::push_block_rows;
 use crate::figure::push_figure;
 use crate::frame::{Fixed, push_fixed};
 use block_layout::Layout;
-use event_text::push_decimal;
 use exec_map::Program;
+use page_events::event_text::push_decimal;
 use page_events::{Shown, push_count, push_escaped};
 use std::alloc::{AllocError, Global};
 

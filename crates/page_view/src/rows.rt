@@ -1,20 +1,20 @@
 //! What each event did, in a row of its own.
 
 ghost use Rattle.std.specs.Prelude.{◌≡◌, ◌++◌, OnOk};
-ghost use Rattle.node_machine.specs.Wanted.{wanted_in};
-ghost use Rattle.run_trace.specs.Given.{traced_of, word_of, take_of, what_of};
+ghost use Rattle.page_events.specs.node_machine.Wanted.{wanted_in};
+ghost use Rattle.page_events.specs.run_trace.Given.{traced_of, word_of, take_of, what_of};
 ghost use Rattle.page_view.specs.Rows as model;
 
 use crate::marks::{mark_of, push_mark};
 use block_layout::Layout;
-use event_text::{
+use exec_map::Program;
+use page_events::event_text::{
     access_name, need_name, push_decimal, push_event, push_header, push_if, push_number,
     push_original, push_state,
 };
-use exec_map::Program;
-use node_machine::{Wanted, WantedBlocks};
+use page_events::node_machine::{Wanted, WantedBlocks};
+use page_events::run_trace::{Accessed, TakeTraced, Traced, What, WordTraced};
 use page_events::{Shown, Spot, is_miss, push_count, push_escaped, push_node, spot_of};
-use run_trace::{Accessed, TakeTraced, Traced, What, WordTraced};
 use std::alloc::{AllocError, Global};
 use templates::Place;
 

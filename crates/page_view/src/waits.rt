@@ -1,15 +1,15 @@
 //! Where nodes wait.
 
 ghost use Rattle.std.specs.Prelude.{◌≡◌, ◌++◌, OnOk};
-ghost use Rattle.run_trace.specs.Given.{traced_of};
+ghost use Rattle.page_events.specs.run_trace.Given.{traced_of};
 ghost use Rattle.page_view.specs.Waits as model;
 
 use block_layout::Layout;
+use page_events::run_trace::Traced;
 use page_events::{
     Shown, Sought, Spot, down_from, down_to, goes_on, is_miss, line_of, own_row, push_count,
     push_spot, row_of,
 };
-use run_trace::Traced;
 use std::alloc::AllocError;
 
 /// A wait of a node: from the row where it misses, if the page has it, to that where it goes on.

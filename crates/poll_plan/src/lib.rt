@@ -5,4 +5,5 @@ ghost use Rattle.std.specs.Prelude.{◌≡◌, ℕ};
 
 mod polls;
 
+pub use flow_graph;
 pub use polls::{closes_loop_at, plan_polls};

@@ -3,7 +3,7 @@ use Rattle.std.proofs.Common.{◌≡◌, ◌≢◌, ℕ, zero, suc, Vec, Global,
 use Rattle.std.proofs.lemmas.Bool.{cases_eq, cases_order}
 use Rattle.std.proofs.lemmas.List.{drop_all}
 use Rattle.std.proofs.lemmas.List.Elements.{All-get_or}
-use Rattle.node_model.specs.declared.Entry.{Entry as JournalEntry}
+use Rattle.run_order.specs.node_model.declared.Entry.{Entry as JournalEntry}
 use Rattle.run_order.specs.OwnRun.{words_from}
 use Rattle.run_record.specs.declared.Record.{Record}
 use Rattle.run_record.specs.Lists.{items_of}

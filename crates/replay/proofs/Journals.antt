@@ -1,7 +1,7 @@
 -- What journals tell of: one event after another, by ascending stamps.
 use Rattle.std.proofs.Common.{◌≡◌, ℕ, zero, suc, ◌+◌, ◌-◌, ◌<◌, ◌≤◌, Bool, true, false, cond, eqb, List, [], ◌∷◌, ◌++◌, map, sym, refl, ap, ◌∙◌, subst, append_assoc, arith}
-use Rattle.node_model.specs.declared.Entry.{Entry as JournalEntry}
-use Rattle.node_model.specs.Core.{Exec, Take}
+use Rattle.run_order.specs.node_model.declared.Entry.{Entry as JournalEntry}
+use Rattle.run_order.specs.node_model.Core.{Exec, Take}
 use Rattle.run_order.specs.OwnRun.{Stamped, words_from, events_in, stamp_in, maker}
 use Rattle.run_order.specs.Sorted.{PrecedesAll, AreSorted, AreMadeBelow, made_by}
 use Rattle.run_order.specs.Takes.{AreTakesWithin}

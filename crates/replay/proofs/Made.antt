@@ -1,8 +1,8 @@
 -- Events that are made as they are told of.
 use Rattle.std.proofs.Common.{◌≡◌, ◌≢◌, ℕ, ◌+◌, List, [], ◌∷◌, ◌++◌, map, Option, Some, None, sym, refl, ap, ap₂, ◌∙◌, subst, eq-eqb, ne_eqb}
-use Rattle.home_directory.specs.declared.messages.Wire.{Wire}
-use Rattle.node_model.specs.Node.{Work}
-use Rattle.node_model.specs.Core.{Core, Event, Exec, Take, May, take_first, event_step, opening_core, IsCoreRun, after}
+use Rattle.dsm_core.specs.home_directory.declared.messages.Wire.{Wire}
+use Rattle.run_order.specs.node_model.Node.{Work}
+use Rattle.run_order.specs.node_model.Core.{Core, Event, Exec, Take, May, take_first, event_step, opening_core, IsCoreRun, after}
 use Rattle.run_order.specs.OwnRun.{Stamped, StandsForOwnRun, events_of, stamp_in, maker, node_of, run_of}
 use Rattle.run_order.specs.Sorted.{AreSorted, AreMadeBelow, made_by}
 use Rattle.run_order.proofs.Deeds.{Deed, stamped, event_by, Run}

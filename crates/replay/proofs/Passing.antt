@@ -1,9 +1,9 @@
 -- A quiet word of a stretch.
 use Rattle.std.proofs.Common.{◌≡◌, ℕ, ◌+◌, ◌<◌, true, List, [], ◌∷◌, ◌++◌, refl, sym, ap, ◌∙◌, subst, eq-eqb, arith}
-use Rattle.node_model.specs.declared.Entry.{Entry as JournalEntry}
-use Rattle.node_model.specs.Node.{Work, Node, standing_of}
-use Rattle.node_model.specs.Turns.{word_turn}
-use Rattle.node_model.specs.Core.{Core, Exec, May, may_execute, event_step}
+use Rattle.run_order.specs.node_model.declared.Entry.{Entry as JournalEntry}
+use Rattle.run_order.specs.node_model.Node.{Work, Node, standing_of}
+use Rattle.run_order.specs.node_model.Turns.{word_turn}
+use Rattle.run_order.specs.node_model.Core.{Core, Exec, May, may_execute, event_step}
 use Rattle.run_record.specs.declared.Record.{Record}
 use Rattle.dsm_core.specs.CoreParts.{work_of, core_of}
 use Rattle.dsm_core.specs.CoreWords.{HasPassed}

@@ -1,9 +1,9 @@
 -- Runs on their way, one event after another.
 use Rattle.std.proofs.Common.{◌≡◌, ◌≢◌, ℕ, ◌+◌, ◌<◌, ◌≤◌, Bool, true, false, List, [], ◌∷◌, ◌++◌, Err, IsErrOf, sym, refl, ap, ◌∙◌, subst}
-use Rattle.home_directory.specs.declared.messages.Wire.{Wire}
-use Rattle.node_model.specs.declared.Entry.{Entry as JournalEntry}
-use Rattle.node_model.specs.Node.{Work, Node}
-use Rattle.node_model.specs.Core.{Core, Exec, Take, May, AreAlike, event_step, opening_core}
+use Rattle.dsm_core.specs.home_directory.declared.messages.Wire.{Wire}
+use Rattle.run_order.specs.node_model.declared.Entry.{Entry as JournalEntry}
+use Rattle.run_order.specs.node_model.Node.{Work, Node}
+use Rattle.run_order.specs.node_model.Core.{Core, Exec, Take, May, AreAlike, event_step, opening_core}
 use Rattle.run_record.specs.declared.Record.{Record}
 use Rattle.run_record.specs.Record.{IsRecord}
 use Rattle.dsm_core.specs.CoreParts.{CoreParts, work_of, core_of}

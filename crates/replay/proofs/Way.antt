@@ -1,10 +1,10 @@
 -- A core on its way through the events that a record tells of.
 use Rattle.std.proofs.Common.{◌≡◌, ◌≢◌, ℕ, ◌+◌, ◌<◌, Bool, true, false, List, [], ◌∷◌, ◌++◌, map, length, sym, refl, ap, ◌∙◌, subst, append_assoc, append-nil, arith, ⊎_elim}
 use Rattle.std.proofs.lemmas.Bool.{cases_eq}
-use Rattle.node_model.specs.declared.Standing.TheVariants.{Over}
-use Rattle.node_model.specs.Node.{Work, Node, standing_of}
-use Rattle.node_model.specs.Outcome.{Outcome, IsOutcomeOf}
-use Rattle.node_model.specs.Core.{Core, Event, Exec, Take, May, IsOver, may_execute, may_take, AreAlike, event_step, opening_core, after}
+use Rattle.run_order.specs.node_model.declared.Standing.TheVariants.{Over}
+use Rattle.run_order.specs.node_model.Node.{Work, Node, standing_of}
+use Rattle.run_order.specs.node_model.Outcome.{Outcome, IsOutcomeOf}
+use Rattle.run_order.specs.node_model.Core.{Core, Event, Exec, Take, May, IsOver, may_execute, may_take, AreAlike, event_step, opening_core, after}
 use Rattle.run_order.specs.Sorted.{Precedes, AreMadeBelow, made_by}
 use Rattle.run_order.specs.OwnRun.{Stamped, StandsForOwnRun, AreEventsOf, events_of, stamp_in, maker, run_of}
 use Rattle.run_order.proofs.Unique.{one_sorted}

@@ -1,16 +1,16 @@
 -- What a record tells of, and what it doesn't.
 use Rattle.std.proofs.Common.{◌≡◌, ◌≢◌, ℕ, zero, suc, ◌+◌, ◌-◌, ◌<◌, ◌≤◌, Bool, true, false, cond, eqb, ◌&&◌, ◌⊎◌, List, [], ◌∷◌, ◌++◌, map, length, sym, refl, ap, ◌∙◌, subst, append-nil, arith, eq-eqb, ne_eqb, ⊎_elim, inl, inr}
 use Rattle.std.proofs.lemmas.Bool.{cases_eq}
-use Rattle.home_directory.specs.declared.messages.Message.TheVariants.{Bye}
-use Rattle.home_directory.specs.declared.messages.Post.{Post}
-use Rattle.home_directory.specs.declared.messages.Wire.{Wire}
-use Rattle.home_directory.specs.Home.{post}
-use Rattle.node_model.specs.declared.Entry.{Entry as JournalEntry}
-use Rattle.node_model.specs.declared.Standing.TheVariants.{Over}
-use Rattle.node_model.specs.declared.Standing.TheVariants as standing
-use Rattle.node_model.specs.Node.{Work, Node, Phase, Running, Resumed, Waiting, Ended, standing_in, standing_of, is_at_poll, word_step}
-use Rattle.node_model.specs.Turns.{Turn, words_before, byes_to, is_ended, with_byes, after_wants, word_turn, take_turn, journaled}
-use Rattle.node_model.specs.Core.{Core, Event, Exec, Take, May, IsOver, wires_to, take_first, event_step, opening_core, IsCoreRun, after}
+use Rattle.dsm_core.specs.home_directory.declared.messages.Message.TheVariants.{Bye}
+use Rattle.dsm_core.specs.home_directory.declared.messages.Post.{Post}
+use Rattle.dsm_core.specs.home_directory.declared.messages.Wire.{Wire}
+use Rattle.dsm_core.specs.home_directory.Home.{post}
+use Rattle.run_order.specs.node_model.declared.Entry.{Entry as JournalEntry}
+use Rattle.run_order.specs.node_model.declared.Standing.TheVariants.{Over}
+use Rattle.run_order.specs.node_model.declared.Standing.TheVariants as standing
+use Rattle.run_order.specs.node_model.Node.{Work, Node, Phase, Running, Resumed, Waiting, Ended, standing_in, standing_of, is_at_poll, word_step}
+use Rattle.run_order.specs.node_model.Turns.{Turn, words_before, byes_to, is_ended, with_byes, after_wants, word_turn, take_turn, journaled}
+use Rattle.run_order.specs.node_model.Core.{Core, Event, Exec, Take, May, IsOver, wires_to, take_first, event_step, opening_core, IsCoreRun, after}
 use Rattle.run_order.specs.Sorted.{AreMadeBelow}
 use Rattle.run_order.specs.Takes.{AreTakesWithin}
 use Rattle.run_order.specs.OwnRun.{Stamped, StandsForOwnRun, AreEventsOf, events_in, events_of, words_from, last_take, stamp_in, maker, run_of}

@@ -1,8 +1,8 @@
 -- How a record is refused that doesn't tell of a whole run.
 use Rattle.std.specs.Prelude.{◌≡◌, ◌≢◌, ℕ, ◌+◌, ◌<◌, false, List, [], ◌∷◌, ◌++◌, map, length}
-use Rattle.node_model.specs.Node.{Work, standing_of}
-use Rattle.node_model.specs.declared.Standing.TheVariants.{Over}
-use Rattle.node_model.specs.Core.{Core, Event, Exec, Take, may_execute, may_take, event_step, opening_core, after}
+use Rattle.run_order.specs.node_model.Node.{Work, standing_of}
+use Rattle.run_order.specs.node_model.declared.Standing.TheVariants.{Over}
+use Rattle.run_order.specs.node_model.Core.{Core, Event, Exec, Take, may_execute, may_take, event_step, opening_core, after}
 use Rattle.run_order.specs.OwnRun.{Stamped, maker}
 use Rattle.run_record.specs.declared.Record.{Record}
 use Rattle.replay.specs.declared.refused.ReplayRule.{ReplayRule}

@@ -1,8 +1,8 @@
 -- A record of a run, made once more.
 use Rattle.std.specs.Prelude.{◌≡◌, ℕ, ◌<◌, List, map}
-use Rattle.node_model.specs.Node.{Work}
-use Rattle.node_model.specs.Core.{Core, IsOver, opening_core, after}
-use Rattle.node_model.specs.Outcome.{Outcome, IsOutcomeOf}
+use Rattle.run_order.specs.node_model.Node.{Work}
+use Rattle.run_order.specs.node_model.Core.{Core, IsOver, opening_core, after}
+use Rattle.run_order.specs.node_model.Outcome.{Outcome, IsOutcomeOf}
 use Rattle.run_order.specs.OwnRun.{StandsForOwnRun}
 use Rattle.run_record.specs.declared.Record.{Record}
 use Rattle.replay.specs.Told.{Told, AreToldBy, AreMadeAs, what_told, events_told, entries_of}

@@ -1,8 +1,8 @@
 -- The events that a record tells of, in their order.
 use Rattle.std.specs.Prelude.{◌≡◌, ℕ, ◌+◌, List, [], ◌∷◌, ◌++◌, map, slice_index_or}
-use Rattle.node_model.specs.declared.Entry.{Entry as JournalEntry}
-use Rattle.node_model.specs.Node.{Work}
-use Rattle.node_model.specs.Core.{Core, Event, Take, May, event_step}
+use Rattle.run_order.specs.node_model.declared.Entry.{Entry as JournalEntry}
+use Rattle.run_order.specs.node_model.Node.{Work}
+use Rattle.run_order.specs.node_model.Core.{Core, Event, Take, May, event_step}
 use Rattle.run_order.specs.OwnRun.{Stamped, words_from, stamp_in, maker, run_of}
 use Rattle.run_order.specs.Sorted.{AreSortedOf}
 use Rattle.run_record.specs.declared.Record.{Record}

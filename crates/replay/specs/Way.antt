@@ -1,9 +1,9 @@
 -- Helps the code alone: how far the journals of a record were followed, and a core on its way.
 use Rattle.std.specs.Prelude.{◌≡◌, ◌≢◌, ℕ, true, zero, suc, ◌+◌, ◌-◌, ◌<◌, ◌≤◌, ◌⊎◌, List, [], ◌∷◌, ◌++◌, drop, map, length, slice_index_or, Option, MatchOption}
-use Rattle.node_model.specs.declared.Entry.{Entry as JournalEntry}
-use Rattle.node_model.specs.Node.{Work, standing_of}
-use Rattle.node_model.specs.Turns.{quiet, word_turn}
-use Rattle.node_model.specs.Core.{Core, Event, Exec, Take, May, may_execute, AreAlike, event_step, opening_core, after}
+use Rattle.run_order.specs.node_model.declared.Entry.{Entry as JournalEntry}
+use Rattle.run_order.specs.node_model.Node.{Work, standing_of}
+use Rattle.run_order.specs.node_model.Turns.{quiet, word_turn}
+use Rattle.run_order.specs.node_model.Core.{Core, Event, Exec, Take, May, may_execute, AreAlike, event_step, opening_core, after}
 use Rattle.run_order.specs.Sorted.{made_by}
 use Rattle.run_record.specs.declared.Record.{Record}
 use Rattle.run_record.specs.Record.{IsRecord, AreTakesBehind}

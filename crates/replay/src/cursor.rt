@@ -1,6 +1,6 @@
 //! How far the journals of a record were followed, and which event comes next.
 
-use node_model::Entry;
+use run_order::node_model::Entry;
 use run_record::Record;
 
 /// How far the journal of a node was followed.

@@ -3,7 +3,7 @@
 use crate::cursor::{Cursors, First};
 use crate::refused::{ReplayRefused, ReplayRule};
 use dsm_core::{Core, Event, Outcome, Seen, Work};
-use node_model::{Entry, Standing};
+use run_order::node_model::{Entry, Standing};
 use run_record::Record;
 use std::alloc::{AllocError, Global};
 
@@ -29,8 +29,8 @@ impl<'a> Replayer<'a> {
     ghost use Rattle.std.specs.Prelude.{◌≡◌, ◌≤◌, ◌<◌, ◌+◌, ◌↔◌, ℕ, true, length, IfOk, OnOk};
     ghost use Rattle.std.specs.Prelude.{false, IfSome};
     ghost use Rattle.std.specs.Prelude.{IsErrOf, MatchOption, List, []};
-    ghost use Rattle.node_model.specs.Core.{Exec, Take, May, IsOver};
-    ghost use Rattle.rewriting_law.specs.Bounds.{RunsRewritten};
+    ghost use Rattle.run_order.specs.node_model.Core.{Exec, Take, May, IsOver};
+    ghost use Rattle.dsm_core.specs.rewriting_law.Bounds.{RunsRewritten};
     ghost use Rattle.dsm_core.specs.CoreParts.{work_in, work_of, core_of, outcome_of};
     ghost use Rattle.dsm_core.specs.CoreParts.{event_of};
     ghost use Rattle.run_record.specs.Record.{IsRecord};

@@ -1,17 +1,17 @@
 //! What a record tells of. There is no code here.
 
 ghost use Rattle.std.specs.Prelude.{◌≡◌, ℕ, List, map};
-ghost use Rattle.node_model.specs.Node.{Work};
-ghost use Rattle.node_model.specs.Core.{Core, IsOver};
+ghost use Rattle.run_order.specs.node_model.Node.{Work};
+ghost use Rattle.run_order.specs.node_model.Core.{Core, IsOver};
 ghost use Rattle.run_order.specs.OwnRun.{Stamped, StandsForOwnRun};
-ghost use Rattle.rewriting_law.specs.Bounds.{RunsRewritten};
+ghost use Rattle.dsm_core.specs.rewriting_law.Bounds.{RunsRewritten};
 ghost use Rattle.run_record.specs.declared.Record.{Record};
 ghost use Rattle.replay.specs.Told.{Told, AreToldBy, what_told};
 ghost use Rattle.replay.specs.Refusals.{IsFirstBroken, IsUnfinished};
 ghost use Rattle.replay.specs.Replay.{TellsWholeRun, HasJournalsOf};
 ghost use Rattle.replay.specs.declared.refused.ReplayRule.{ReplayRule as Rules};
 
-use rewriting_law::progress_law;
+use dsm_core::rewriting_law::progress_law;
 use run_order::journal_law;
 
 /// The law of records, which the callers use by its clauses; the call does nothing.

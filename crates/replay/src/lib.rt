@@ -2,7 +2,7 @@
 //! Makes the run of a record once more.
 
 ghost use Rattle.std.specs.Prelude.{◌≡◌, ℕ, ◌⊎◌, IfOk, IsErrOf};
-ghost use Rattle.rewriting_law.specs.Bounds.{RunsRewritten};
+ghost use Rattle.dsm_core.specs.rewriting_law.Bounds.{RunsRewritten};
 ghost use Rattle.dsm_core.specs.CoreParts.{work_in, outcome_of};
 ghost use Rattle.run_record.specs.Record.{IsRecord};
 ghost use Rattle.replay.specs.Refusals.{IsFirstBroken, IsUnfinished};
@@ -15,10 +15,15 @@ mod events;
 mod law;
 mod refused;
 
+pub use dsm_core;
+pub use dsm_core::{node_machine, rewriting_law};
 use dsm_core::{Outcome, Work};
 pub use events::{Replayer, Stretch};
 pub use law::replay_law;
 pub use refused::{ReplayRefused, ReplayRule};
+pub use run_order;
+pub use run_order::node_model;
+pub use run_record;
 use run_record::Record;
 use std::alloc::Global;
 

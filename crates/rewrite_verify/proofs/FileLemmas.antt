@@ -11,7 +11,7 @@ use Rattle.elf32_read.specs.Elf.{Elf, Segment}
 use Rattle.exec_map.specs.Contents.{program_of}
 use Rattle.templates.specs.declared.plans.PlanEntry.{PlanEntry}
 use Rattle.templates.specs.Plans.{Serves, AscendsFrom, IsAdmissible, addresses}
-use Rattle.jump_map.specs.Image.{Cell, HasTooManyWords, IsRewriting, read_cell}
+use Rattle.rewriter.specs.jump_map.Image.{Cell, HasTooManyWords, IsRewriting, read_cell}
 use Rattle.rewriter.specs.RewrittenFile.{entry_bytes, plan_bytes, map_bytes, code_bytes, plan_section, map_section, segment_with, without_execution, rewritten_elf}
 use Rattle.rewriter.proofs.SizeLemmas.{plan_size, code_size}
 use Rattle.rewrite_verify.specs.Sections.{HasOnly}

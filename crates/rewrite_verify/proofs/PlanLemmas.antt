@@ -16,9 +16,9 @@ use Rattle.templates.specs.declared.plans.PlanEntry.{PlanEntry}
 use Rattle.templates.specs.Code.{HasCode, code_of}
 use Rattle.templates.specs.Plans.{Serves, RunsApart, AscendsFrom, IsAdmissible, addresses}
 use Rattle.templates.specs.Runs.{IsInRun}
-use Rattle.batch_plan.specs.Batches.{behind}
+use Rattle.rewriter.specs.batch_plan.Batches.{behind}
 use Rattle.exec_map.specs.Contents.{program_of}
-use Rattle.jump_map.specs.Image.{Cell, Expands, HasRunsOf, IsTooLong}
+use Rattle.rewriter.specs.jump_map.Image.{Cell, Expands, HasRunsOf, IsTooLong}
 use Rattle.rewriter.specs.RewrittenFile.{entry_bytes}
 use Rattle.rewrite_verify.specs.Refusals.{IsByPlan, IsTooLarge}
 use Rattle.rewrite_verify.specs.FilePlan.{IsGoodFront, IsFirstBadPlace, place_bytes}

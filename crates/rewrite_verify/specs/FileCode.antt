@@ -1,7 +1,7 @@
 -- The rewritten words that a file has, and the first that isn't that of an image.
 use Rattle.std.specs.Prelude.{◌≡◌, ◌≢◌, ℕ, ◌*◌, ◌<◌, ◌⊎◌, List, [], ◌∷◌, length, take, drop}
 use Rattle.elf32_read.specs.Elf.{Elf, Segment}
-use Rattle.jump_map.specs.Image.{Cell, image_base, address_of_word}
+use Rattle.rewriter.specs.jump_map.Image.{Cell, image_base, address_of_word}
 use Rattle.rewriter.specs.RewrittenFile.{code_bytes, segment_with}
 
 -- the segments behind the original's

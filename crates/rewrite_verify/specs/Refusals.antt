@@ -5,7 +5,7 @@ use Rattle.elf32_read.specs.Elf.{Elf}
 use Rattle.exec_map.specs.Contents.{program_of}
 use Rattle.templates.specs.declared.plans.PlanEntry.{PlanEntry}
 use Rattle.templates.specs.Plans.{IsAdmissible}
-use Rattle.jump_map.specs.Image.{Cell, IsRewriting, HasTooManyWords}
+use Rattle.rewriter.specs.jump_map.Image.{Cell, IsRewriting, HasTooManyWords}
 use Rattle.rewriter.specs.RewrittenFile.{code_bytes, map_bytes, map_section, rewritten_elf}
 use Rattle.rewrite_verify.specs.Sections.{HasOnly}
 use Rattle.rewrite_verify.specs.FilePlan.{SaysPlan, HasNoPlan, HasBadPlan}

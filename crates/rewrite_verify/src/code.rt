@@ -4,14 +4,14 @@ ghost use Rattle.std.specs.Prelude.{◌≡◌, ◌≢◌, ◌↔◌, ◌*◌, �
 ghost use Rattle.std.specs.Prelude.{MatchOption, length};
 ghost use Rattle.elf32_read.specs.Elf.{Segment as Fields};
 ghost use Rattle.elf32_read.specs.Segments.{segment_of};
-ghost use Rattle.jump_map.specs.Image.{most_words};
+ghost use Rattle.rewriter.specs.jump_map.Image.{most_words};
 ghost use Rattle.rewriter.specs.RewrittenFile.{code_bytes, segment_with};
 ghost use Rattle.rewrite_verify.specs.FileCode.{HasBadWord, HasWords, IsFirstOther};
 ghost use Rattle.rewrite_verify.specs.FileCode.{later_segments};
 
 use elf32_read::{Elf, Segment};
-use jump_map::{IMAGE_BASE, Image};
 use rewriter::code_bytes;
+use rewriter::jump_map::{IMAGE_BASE, Image};
 use std::alloc::{AllocError, Global};
 
 /// The address of the first word of a file that isn't an image's; that of the first word of all

@@ -4,13 +4,13 @@ ghost use Rattle.std.specs.Prelude.{◌≡◌, List};
 ghost use Rattle.elf32_read.specs.Elf.{Elf};
 ghost use Rattle.exec_map.specs.Contents.{program_of};
 ghost use Rattle.templates.specs.declared.plans.PlanEntry.{PlanEntry};
-ghost use Rattle.jump_map.specs.Image.{Cell, IsRewriting};
+ghost use Rattle.rewriter.specs.jump_map.Image.{Cell, IsRewriting};
 ghost use Rattle.rewriter.specs.RewrittenFile.{rewritten_elf};
 ghost use Rattle.rewrite_verify.specs.Refusals.{Fits};
 ghost use Rattle.rewrite_verify.specs.declared.refused.VerifyRefused.{VerifyRefused};
 ghost use Rattle.rewrite_verify.specs.declared.refused.VerifyRefused.TheVariants as refused;
 
-use jump_map::image_law;
+use rewriter::jump_map::image_law;
 
 /// The law of the files of rewritings, which the callers use by its clauses; the call does nothing.
 pub fn verify_law()

@@ -14,4 +14,6 @@ mod verifying;
 
 pub use law::verify_law;
 pub use refused::VerifyRefused;
+pub use rewriter;
+pub use rewriter::{check_plan, jump_map};
 pub use verifying::verify;

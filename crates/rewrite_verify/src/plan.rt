@@ -4,7 +4,7 @@ ghost use Rattle.std.specs.Prelude.{◌≡◌, ◌≢◌, ◌*◌, ◌≤◌, �
 ghost use Rattle.std.specs.Prelude.{MatchOption, length};
 ghost use Rattle.std.specs.List.Sorted.{IsStrictlyIncreasing};
 ghost use Rattle.templates.specs.Code.{code_of};
-ghost use Rattle.batch_plan.specs.Batches.{behind};
+ghost use Rattle.rewriter.specs.batch_plan.Batches.{behind};
 ghost use Rattle.rewriter.specs.RewrittenFile.{plan_section};
 ghost use Rattle.rewrite_verify.specs.Sections.{HasOnly};
 ghost use Rattle.rewrite_verify.specs.FilePlan.{IsGoodFront};
@@ -16,7 +16,7 @@ use crate::refused::VerifyRefused;
 use crate::sections::only_named;
 use crate::serving::serves;
 use elf32_read::Elf;
-use liveness::Live;
+use rewriter::liveness::Live;
 use rewriter::plan_section;
 use std::alloc::Global;
 use templates::{Plan, PlanEntry, list_places};

@@ -7,10 +7,10 @@ ghost use Rattle.templates.specs.Plans.{IsScratch, Serves, StartsNoRun, StartsRu
 ghost use Rattle.templates.specs.Plans.{closes_loop_at, may_poll, template_at};
 ghost use Rattle.templates.specs.Runs.{HasRunScratches, IsRunScratch};
 
-use batch_plan::run_base;
-use check_plan::{NO_SCRATCH, NO_SCRATCHES, scratch_count};
-use liveness::{Live, used_registers};
-use poll_plan::closes_loop_at;
+use rewriter::batch_plan::run_base;
+use rewriter::check_plan::{NO_SCRATCH, NO_SCRATCHES, scratch_count};
+use rewriter::liveness::{Live, used_registers};
+use rewriter::poll_plan::closes_loop_at;
 use rv32_decode::{Instr, Reg, defs};
 use templates::{PlanEntry, Scratch, Scratches, Template, template_of};
 

@@ -3,7 +3,7 @@
 ghost use Rattle.std.specs.Prelude.{◌≡◌, List, IfOk, IfErr, MatchResult, OnOk};
 ghost use Rattle.exec_map.specs.Contents.{program_of};
 ghost use Rattle.templates.specs.declared.plans.PlanEntry.{PlanEntry};
-ghost use Rattle.jump_map.specs.Image.{Cell, IsRewriting};
+ghost use Rattle.rewriter.specs.jump_map.Image.{Cell, IsRewriting};
 ghost use Rattle.rewriter.specs.RewrittenFile.{rewritten_elf};
 ghost use Rattle.rewrite_verify.specs.FilePlan.{SaysPlan};
 ghost use Rattle.rewrite_verify.specs.Refusals.{Fits, IsByPlan};
@@ -15,9 +15,9 @@ use crate::refused::VerifyRefused;
 use crate::sections::has_only;
 use elf32_read::Elf;
 use exec_map::Program;
-use flow_graph::Graph;
-use jump_map::{ImageRefused, image_law};
-use liveness::Live;
+use rewriter::flow_graph::Graph;
+use rewriter::jump_map::{ImageRefused, image_law};
+use rewriter::liveness::Live;
 use rewriter::{Rewritten, map_bytes, map_section};
 use std::alloc::{AllocError, Global};
 

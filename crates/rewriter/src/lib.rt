@@ -8,6 +8,11 @@ mod file;
 mod file_bytes;
 mod rewriting;
 
+pub use batch_plan;
+pub use batch_plan::{check_plan, liveness};
 pub use file::{CodeRefused, Part, map_section, plan_section};
 pub use file_bytes::{MARK, code_bytes, map_bytes};
+pub use jump_map;
+pub use poll_plan;
+pub use poll_plan::flow_graph;
 pub use rewriting::{Options, Rewritten, rewrite, rewrite_law};

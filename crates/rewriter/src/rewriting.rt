@@ -11,12 +11,12 @@ ghost use Rattle.templates.specs.WholePlan.{IsPlanOf};
 ghost use Rattle.rewriter.specs.Parts.{Parts, IsRewritten};
 ghost use Rattle.rewriter.specs.TooLarge.{IsTooLarge};
 
+use batch_plan::check_plan::{plan_checks, plan_law};
+use batch_plan::liveness::Live;
 use batch_plan::plan_batches;
-use check_plan::{plan_checks, plan_law};
 use exec_map::Program;
-use flow_graph::Graph;
 use jump_map::{Image, ImageRefused, image_law};
-use liveness::Live;
+use poll_plan::flow_graph::Graph;
 use poll_plan::plan_polls;
 use std::alloc::{AllocError, Global};
 use std::marker::Model;

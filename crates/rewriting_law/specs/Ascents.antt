@@ -3,9 +3,9 @@
 use Rattle.std.specs.Prelude.{◌≡◌, ℕ, ◌+◌, ◌<◌, ◌≤◌, false, ◌==◌, ◌&&◌, if◌then◌else◌, List, [], ◌∷◌, ◌++◌, length}
 use Rattle.std.specs.Option.{option_map_or}
 use Rattle.templates.specs.declared.plans.PlanEntry.{PlanEntry}
-use Rattle.jump_map.specs.Maps.{old_of}
-use Rattle.node_model.specs.Node.{Work, Lane, standing_of}
-use Rattle.node_model.specs.Core.{Core, Event, Exec, Take, may_take, opening_core, event_step, after}
+use Rattle.dsm_protocol.specs.jump_map.Maps.{old_of}
+use Rattle.dsm_protocol.specs.node_model.Node.{Work, Lane, standing_of}
+use Rattle.dsm_protocol.specs.node_model.Core.{Core, Event, Exec, Take, may_take, opening_core, event_step, after}
 use Rattle.rewriting_law.specs.CoreRun.{commits}
 
 -- the original address of a processor's next word: that of the word's place, or, at the word that

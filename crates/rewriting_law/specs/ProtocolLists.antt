@@ -2,15 +2,15 @@
 use Rattle.std.specs.Prelude.{◌≡◌, ℕ, ◌<◌, List, [], ◌∷◌, Some}
 use Rattle.block_layout.specs.Layout.{Shape, block_of, first_line}
 use Rattle.state_table.specs.StateByte.{byte_of, state_with}
-use Rattle.flag_memory.specs.Copy.{bytes_from}
+use Rattle.home_directory.specs.flag_memory.Copy.{bytes_from}
 use Rattle.home_directory.specs.declared.messages.Message.{Message}
 use Rattle.home_directory.specs.declared.messages.Wire.{Wire}
 use Rattle.dsm_protocol.specs.World.{World}
 use Rattle.dsm_protocol.specs.Memory.{address_of}
 use Rattle.dsm_protocol.specs.Sound.{size}
 use Rattle.dsm_protocol.specs.Holds.{Holds}
-use Rattle.node_model.specs.Node.{Work}
-use Rattle.node_model.specs.Core.{Core}
+use Rattle.dsm_protocol.specs.node_model.Node.{Work}
+use Rattle.dsm_protocol.specs.node_model.Core.{Core}
 
 -- the messages of a list, without their stamps
 abbrev pub messages_of : List Wire → List Message

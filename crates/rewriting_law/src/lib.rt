@@ -7,14 +7,14 @@ ghost use Rattle.block_layout.specs.Layout.{IsValid};
 ghost use Rattle.rv32_program.specs.declared.End.TheVariants.{Stopped};
 ghost use Rattle.rv32_program.specs.Program.{IsAccepted};
 ghost use Rattle.templates.specs.declared.plans.PlanEntry.{PlanEntry};
-ghost use Rattle.jump_map.specs.Image.{IsRewriting};
-ghost use Rattle.node_model.specs.declared.Standing.TheVariants.{Over};
+ghost use Rattle.dsm_protocol.specs.jump_map.Image.{IsRewriting};
+ghost use Rattle.dsm_protocol.specs.node_model.declared.Standing.TheVariants.{Over};
 ghost use Rattle.rv32_step.specs.OneMemory.{WritesIf};
-ghost use Rattle.node_model.specs.Node.{Work, Node, Resume, Waiting, Ended, IsLaidOver};
-ghost use Rattle.node_model.specs.Node.{can_execute, standing_of, word_outcome};
-ghost use Rattle.node_model.specs.Core.{Core, Event, Exec, May, IsCoreRun, opening_core};
-ghost use Rattle.node_model.specs.Core.{event_step, after};
-ghost use Rattle.node_model.specs.Outcome.{AreFrugal, counts_after};
+ghost use Rattle.dsm_protocol.specs.node_model.Node.{Work, Node, Resume, Waiting, Ended, IsLaidOver};
+ghost use Rattle.dsm_protocol.specs.node_model.Node.{can_execute, standing_of, word_outcome};
+ghost use Rattle.dsm_protocol.specs.node_model.Core.{Core, Event, Exec, May, IsCoreRun, opening_core};
+ghost use Rattle.dsm_protocol.specs.node_model.Core.{event_step, after};
+ghost use Rattle.dsm_protocol.specs.node_model.Outcome.{AreFrugal, counts_after};
 ghost use Rattle.rewriting_law.specs.Licence.{AllLicensed};
 ghost use Rattle.rewriting_law.specs.Bounds.{most_events, steps_of};
 ghost use Rattle.rewriting_law.specs.CoreRun.{commits, picks_of};
@@ -25,6 +25,9 @@ ghost use Rattle.rewriting_law.specs.Interleaving.{Interleaves, IsCoherent, Goes
 ghost use Rattle.rewriting_law.specs.Interleaving.{SameReservations, HaveRows, original_after};
 
 use block_layout::layout_law;
+pub use dsm_protocol;
+pub use home_directory;
+pub use runtime_words;
 
 /// The law of rewriting, which the callers use by its clauses; the call does nothing.
 pub fn interleaving_law()

@@ -1,7 +1,7 @@
 -- What the events of a core did, and the runs that they make.
 use Rattle.std.proofs.Common.{◌≡◌, ◌≢◌, ℕ, ◌+◌, ◌<◌, ◌≤◌, cond, eqb, Option, Some, None, List, [], ◌∷◌, ◌++◌}
-use Rattle.home_directory.specs.declared.messages.Post.{Post}
-use Rattle.home_directory.specs.declared.messages.Wire.{Wire}
+use Rattle.node_model.specs.home_directory.declared.messages.Post.{Post}
+use Rattle.node_model.specs.home_directory.declared.messages.Wire.{Wire}
 use Rattle.node_model.specs.Node.{Node}
 use Rattle.node_model.specs.Core.{Core, Event, Exec, Take, wires_to}
 use Rattle.run_order.specs.OwnRun.{Stamped}

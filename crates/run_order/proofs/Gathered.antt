@@ -1,7 +1,7 @@
 -- The events of nodes, gathered node by node, and events behind others.
 use Rattle.std.proofs.Common.{◌≡◌, ◌≢◌, ℕ, zero, suc, ◌<◌, ◌≤◌, Bool, true, false, cond, eqb, List, [], ◌∷◌, ◌++◌, sym, refl, ap, ◌∙◌, subst, append_assoc, append-nil, arith, eq-eqb, ne_eqb, ⊎_elim}
 use Rattle.std.proofs.lemmas.Bool.{cases_eq}
-use Rattle.home_directory.specs.declared.messages.Wire.{Wire}
+use Rattle.node_model.specs.home_directory.declared.messages.Wire.{Wire}
 use Rattle.node_model.specs.Node.{Node}
 use Rattle.node_model.specs.Core.{Core}
 use Rattle.run_order.proofs.Deeds.{Deed, takes, sends, taken, sent, of, Local, Fits}

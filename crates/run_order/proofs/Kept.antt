@@ -1,13 +1,13 @@
 -- What a turn does to a node's stamp, count of words, journal and printed bytes.
 use Rattle.std.proofs.Common.{◌≡◌, ℕ, Bool, true, false, cond, List, [], ◌∷◌, Option, Some, None, refl, ◌∙◌}
 use Rattle.block_layout.specs.Layout.{Shape, block_of}
-use Rattle.home_directory.specs.declared.messages.Need.{Need}
-use Rattle.home_directory.specs.declared.messages.Message.{Message}
-use Rattle.home_directory.specs.declared.messages.Message.TheVariants.{Read, Write, FwdRead, FwdWrite, Inval, Data, Grant, Ack, Done, Bye}
-use Rattle.home_directory.specs.declared.messages.Wire.{Wire}
-use Rattle.home_directory.specs.Table.{Miss}
-use Rattle.miss_handlers.specs.Rows.{Row, AtHome, AtNode}
-use Rattle.rv32_program.specs.Program.{line_of}
+use Rattle.node_model.specs.home_directory.declared.messages.Need.{Need}
+use Rattle.node_model.specs.home_directory.declared.messages.Message.{Message}
+use Rattle.node_model.specs.home_directory.declared.messages.Message.TheVariants.{Read, Write, FwdRead, FwdWrite, Inval, Data, Grant, Ack, Done, Bye}
+use Rattle.node_model.specs.home_directory.declared.messages.Wire.{Wire}
+use Rattle.node_model.specs.home_directory.Table.{Miss}
+use Rattle.node_model.specs.miss_handlers.Rows.{Row, AtHome, AtNode}
+use Rattle.node_model.specs.rv32_program.Program.{line_of}
 use Rattle.node_model.specs.declared.Entry.{Entry as JournalEntry}
 use Rattle.node_model.specs.declared.OutByte.{OutByte}
 use Rattle.node_model.specs.Node.{Work, Node, Phase, Running, Resumed, Waiting, Ended, Want, word_outcome, word_step, counts_after, lane_resumed, tally_resumed, stop_or}

@@ -1,7 +1,7 @@
 -- Events in the order of their stamps are a run.
 use Rattle.std.proofs.Common.{◌≡◌, ◌≢◌, ℕ, ◌<◌, ◌≤◌, Bool, true, false, cond, eqb, Option, Some, None, List, [], ◌∷◌, ◌++◌, sym, refl, ap, ◌∙◌, subst, true≢false, append_assoc, append-nil, arith, eq-eqb, ne_eqb, eqb-true}
-use Rattle.home_directory.specs.declared.messages.Post.{Post}
-use Rattle.home_directory.specs.declared.messages.Wire.{Wire}
+use Rattle.node_model.specs.home_directory.declared.messages.Post.{Post}
+use Rattle.node_model.specs.home_directory.declared.messages.Wire.{Wire}
 use Rattle.node_model.specs.Node.{Node}
 use Rattle.node_model.specs.Core.{Core, wires_to}
 use Rattle.run_order.proofs.Deeds.{Deed, if_from, takes, sends, taken, sent, of, From, Ascends, IsLater, AreLater, Local, Run, Fits}

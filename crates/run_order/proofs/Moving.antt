@@ -1,7 +1,7 @@
 -- A core run and what its events did.
 use Rattle.std.proofs.Common.{◌≡◌, ◌≢◌, ℕ, ◌+◌, ◌<◌, Bool, true, false, cond, eqb, ltb, ◌&&◌, List, [], ◌∷◌, ◌++◌, map, Option, Some, None, option_to_list, refl, sym, ap, ◌∙◌, subst, append-nil, arith, eq-eqb, ne_eqb, eqb-true, ltb-false, ltb-true, ⊎_elim}
 use Rattle.std.proofs.lemmas.Bool.{cases_eq}
-use Rattle.home_directory.specs.declared.messages.Wire.{Wire}
+use Rattle.node_model.specs.home_directory.declared.messages.Wire.{Wire}
 use Rattle.node_model.specs.Node.{Work, Node, standing_of, word_outcome}
 use Rattle.node_model.specs.Turns.{Turn, later, word_turn, take_turn}
 use Rattle.node_model.specs.Core.{Core, Event, Exec, Take, May, may_execute, may_take, wires_to, with_turn, with_list, take_first, event_step, IsCoreRun, after, printed_at, printed_by}

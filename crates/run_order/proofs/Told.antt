@@ -1,6 +1,6 @@
 -- What a node's journal and printed bytes tell of its events.
 use Rattle.std.proofs.Common.{◌≡◌, ℕ, ◌+◌, ◌-◌, cond, eqb, List, [], ◌∷◌, ◌++◌, map, Option, Some, None, sym, refl, ap, ap₂, ◌∙◌, subst, append_assoc, append-nil, true, false, eqb-true, arith}
-use Rattle.home_directory.specs.declared.messages.Wire.{Wire}
+use Rattle.node_model.specs.home_directory.declared.messages.Wire.{Wire}
 use Rattle.node_model.specs.declared.Entry.{Entry as JournalEntry}
 use Rattle.node_model.specs.declared.OutByte.{OutByte}
 use Rattle.node_model.specs.Node.{Work, Node, opening_node, printed_also, word_outcome, word_step}

@@ -1,7 +1,7 @@
 -- Nodes that make events apart, each by itself, and the lists between them: what is known where no
 -- order in time is.
 use Rattle.std.specs.Prelude.{◌≡◌, ℕ, ◌<◌, ◌==◌, true, if◌then◌else◌, List, [], ◌∷◌, ◌++◌}
-use Rattle.home_directory.specs.declared.messages.Wire.{Wire}
+use Rattle.node_model.specs.home_directory.declared.messages.Wire.{Wire}
 use Rattle.node_model.specs.Node.{Work, Node, standing_of}
 use Rattle.node_model.specs.Turns.{Turn, word_turn, take_turn}
 use Rattle.node_model.specs.Core.{Core, may_execute, may_take, wires_to}

@@ -9,6 +9,8 @@ ghost use Rattle.run_order.specs.Apart.{Deed, HaveDone};
 ghost use Rattle.run_order.specs.Merge.{Printed, AreMerged, byte_in};
 ghost use Rattle.run_order.specs.Takes.{AreTakesWithin};
 
+pub use node_model;
+
 /// The law of stamps, which the callers use by its clauses; the call does nothing. It holds of
 /// whatever the nodes run.
 pub fn stamp_law()

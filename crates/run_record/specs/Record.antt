@@ -3,7 +3,7 @@ use Rattle.std.specs.Prelude.{◌≡◌, ◌≢◌, ℕ, ◌+◌, ◌^◌, ◌<�
 use Rattle.block_layout.specs.declared.layout.BlockRange.{BlockRange}
 use Rattle.node_model.specs.declared.Entry.{Entry}
 use Rattle.run_limits.specs.Ranges.{IsNodeCount, IsBudget}
-use Rattle.jump_map.specs.Image.{most_words}
+use Rattle.node_model.specs.jump_map.Image.{most_words}
 use Rattle.run_record.specs.declared.Record.{Record}
 
 -- a block's size has at most five digits, and its home at most two

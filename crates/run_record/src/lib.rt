@@ -16,8 +16,8 @@ mod refused;
 mod text;
 mod version;
 
-use jump_map::Image;
 pub use law::record_law;
+use node_model::jump_map::Image;
 pub use parts::{Blocks, Journals};
 pub use read::read_record;
 pub use refused::{RecordRefused, RecordRule};

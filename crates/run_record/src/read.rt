@@ -25,8 +25,8 @@ use crate::parts::{Blocks, Journals};
 use crate::refused::{RecordRefused, RecordRule};
 use crate::version::Version;
 use block_layout::BlockRange;
-use jump_map::MOST_WORDS;
 use node_model::Entry;
+use node_model::jump_map::MOST_WORDS;
 use run_limits::{Budget, NodeCount};
 use std::alloc::Global;
 

@@ -4,8 +4,8 @@ use Rattle.std.specs.Prelude.{All, option_to_list}
 use Rattle.std.specs.Option.{option_map}
 use Rattle.std.proofs.lemmas.List.{append_cancel_left}
 use Rattle.std.proofs.lemmas.List.Elements.{All-nil, All-cons, All-append}
-use Rattle.run_order.specs.Sorted.{made_by}
-use Rattle.run_record.specs.declared.Record.{Record}
+use Rattle.replay.specs.run_order.Sorted.{made_by}
+use Rattle.replay.specs.run_record.declared.Record.{Record}
 use Rattle.replay.specs.declared.cursor.Cursors.{Cursors}
 use Rattle.replay.specs.declared.events.Replayer.{Replayer}
 use Rattle.replay.specs.Told.{Told, AreToldBy, stamp_told, maker_told}

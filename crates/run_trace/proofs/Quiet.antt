@@ -4,7 +4,7 @@ use Rattle.std.specs.Option.{option_map, option_map_or}
 use Rattle.rv32_step.specs.OneMemory.{Access}
 use Rattle.templates.specs.Commits.{commit_at}
 use Rattle.templates.specs.declared.plans.PlanEntry.{PlanEntry}
-use Rattle.jump_map.specs.Maps.{old_of}
+use Rattle.node_model.specs.jump_map.Maps.{old_of}
 use Rattle.home_directory.specs.declared.messages.Post.{Post}
 use Rattle.home_directory.specs.Headers.{sent_by}
 use Rattle.node_model.specs.declared.Standing.{Standing}
@@ -12,11 +12,11 @@ use Rattle.node_model.specs.declared.Standing.TheVariants as standing
 use Rattle.node_model.specs.Node.{Work, Node, Move, Next, Again, To, Enters, Waits, Leaves, Phase, Running, Resumed, Waiting, Ended, Nothing_counted, word_outcome, phase_after, end_of, standing_in, standing_of, has_all_byes}
 use Rattle.node_model.specs.Turns.{Turn, quiet, with_byes, byes_to, is_ended, wants_of, each_block_once, after_word, after_wants}
 use Rattle.node_model.specs.Core.{Core, Exec, may_execute}
-use Rattle.rewriting_law.specs.CoreRun.{is_exit, is_wait}
-use Rattle.node_machine.specs.declared.touch.Touch.{Touch}
-use Rattle.node_machine.specs.declared.touch.Touch.TheVariants as touch
-use Rattle.node_machine.specs.Touch.{IsAccess, IsTouch}
-use Rattle.node_machine.specs.Wanted.{wants_along}
+use Rattle.replay.specs.rewriting_law.CoreRun.{is_exit, is_wait}
+use Rattle.replay.specs.node_machine.declared.touch.Touch.{Touch}
+use Rattle.replay.specs.node_machine.declared.touch.Touch.TheVariants as touch
+use Rattle.replay.specs.node_machine.Touch.{IsAccess, IsTouch}
+use Rattle.replay.specs.node_machine.Wanted.{wants_along}
 use Rattle.replay.specs.Way.{IsQuiet}
 use Rattle.run_trace.specs.declared.passed.Until.{Until}
 use Rattle.run_trace.specs.declared.passed.Until.TheVariants as until

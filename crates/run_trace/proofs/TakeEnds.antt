@@ -14,13 +14,13 @@ use Rattle.home_directory.specs.declared.messages.Post.{Post}
 use Rattle.home_directory.specs.declared.messages.Wire.{Wire}
 use Rattle.home_directory.specs.Headers.{header_of, sent_by}
 use Rattle.home_directory.specs.Table.{HomeRow, NodeRow, ask_row, done_row, node_row}
-use Rattle.miss_handlers.specs.Effects.{block_facts}
-use Rattle.miss_handlers.specs.Rows.{Holding, Row, AtHome, AtNode, row_of, ask_row_of, node_row_of, home_of, at_home, at_node}
+use Rattle.node_model.specs.miss_handlers.Effects.{block_facts}
+use Rattle.node_model.specs.miss_handlers.Rows.{Holding, Row, AtHome, AtNode, row_of, ask_row_of, node_row_of, home_of, at_home, at_node}
 use Rattle.node_model.specs.declared.NodeCounts.{NodeCounts}
 use Rattle.node_model.specs.Node.{Work, Node, Phase, Running, Resumed, Waiting, Ended, Tally, Nothing_counted, FalseMiss, FallsBack, counts_after, end_of}
 use Rattle.node_model.specs.Turns.{Turn, block_at, holding, by_row_or, treated, has_no_wait, resumed, journaled, count_row, after_message, is_ended, take_turn}
 use Rattle.run_trace.specs.declared.takes.Sight.{Sight}
-use Rattle.node_machine.specs.Wanted.{state_at}
+use Rattle.replay.specs.node_machine.Wanted.{state_at}
 use Rattle.run_trace.specs.Traced.{state_if, ends_anew}
 use Rattle.run_trace.specs.Taking.{has_items, answered_in, counted_in, view_of, view_in, sight_of, is_apart, is_other, is_changed}
 use Rattle.run_trace.proofs.Counting.{byes_node, take_counts}

@@ -7,8 +7,8 @@ use Rattle.templates.specs.Code.{HasCode}
 use Rattle.home_directory.specs.declared.messages.Wire.{Wire}
 use Rattle.node_model.specs.Node.{Work, Node}
 use Rattle.node_model.specs.Core.{Core, Event, Exec, Take, May, AreAlike, opening_core, event_step, take_first, after}
-use Rattle.run_order.specs.OwnRun.{Stamped, maker, node_of, run_of}
-use Rattle.dsm_core.specs.CoreParts.{core_of}
+use Rattle.replay.specs.run_order.OwnRun.{Stamped, maker, node_of, run_of}
+use Rattle.replay.specs.dsm_core.CoreParts.{core_of}
 use Rattle.replay.specs.Told.{Told, what_told, events_told}
 use Rattle.replay.specs.Way.{HasMade, HasMadeWord, core_in}
 use Rattle.run_trace.specs.declared.tracer.Tracer.{Tracer}

@@ -3,7 +3,7 @@ use Rattle.std.proofs.Common.{◌≡◌, List, ◌++◌, map, sym, ap, ◌∙◌
 use Rattle.templates.specs.declared.plans.PlanEntry.{PlanEntry}
 use Rattle.node_model.specs.Node.{Work}
 use Rattle.node_model.specs.Core.{opening_core, after}
-use Rattle.run_record.specs.declared.Record.{Record}
+use Rattle.replay.specs.run_record.declared.Record.{Record}
 use Rattle.replay.specs.Told.{Told, AreToldBy, what_told, events_told}
 use Rattle.run_trace.specs.declared.tracer.Tracer.{Tracer}
 use Rattle.run_trace.specs.Traced.{Traced}

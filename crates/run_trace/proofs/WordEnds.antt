@@ -22,15 +22,15 @@ use Rattle.home_directory.specs.Headers.{sent_by}
 use Rattle.home_directory.specs.declared.messages.Message.TheVariants.{Bye}
 use Rattle.home_directory.specs.Home.{post}
 use Rattle.home_directory.specs.Table.{Miss, want_row}
-use Rattle.miss_handlers.specs.Effects.{block_facts}
+use Rattle.node_model.specs.miss_handlers.Effects.{block_facts}
 use Rattle.node_model.specs.declared.NodeCounts.{NodeCounts}
 use Rattle.node_model.specs.Node.{Work, Node, Want, Move, Next, Again, To, Enters, Waits, Leaves, Phase, Running, Resumed, Waiting, Ended, Outcome, word_outcome, phase_after, stop_at, end_of, is_at_poll, standing_in, has_all_byes, counts_after}
 use Rattle.node_model.specs.declared.Standing.{Standing}
 use Rattle.node_model.specs.declared.Standing.TheVariants as standing
 use Rattle.node_model.specs.Turns.{Turn, block_at, want_in, want_all, with_miss, with_byes, byes_to, is_ended, count_want, wants_of, each_block_once, after_word, after_wants, word_turn}
-use Rattle.rewriting_law.specs.CoreRun.{is_exit, is_wait, commits_by}
-use Rattle.node_machine.specs.Wanted.{block_with, wants_of_word}
-use Rattle.node_machine.specs.declared.wanted.Wanted.{Wanted}
+use Rattle.replay.specs.rewriting_law.CoreRun.{is_exit, is_wait, commits_by}
+use Rattle.replay.specs.node_machine.Wanted.{block_with, wants_of_word}
+use Rattle.replay.specs.node_machine.declared.wanted.Wanted.{Wanted}
 use Rattle.run_trace.specs.declared.reach.Reached.{Reached}
 use Rattle.run_trace.specs.Traced.{accessed}
 use Rattle.run_trace.specs.Sums.{count_asked, count_wants}

@@ -7,3 +7,7 @@ pub mod Taking
 pub mod Tracing
 pub mod Entries
 pub mod Passing
+pub use Rattle.node_model.specs as node_model
+pub use Rattle.replay.specs.run_order as run_order
+pub use Rattle.replay.specs.node_machine as node_machine
+pub use Rattle.replay.specs as replay

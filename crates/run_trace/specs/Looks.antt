@@ -9,17 +9,17 @@ use Rattle.templates.specs.declared.commits.CommitKind.TheVariants.{Never, Alway
 use Rattle.templates.specs.declared.plans.PlanEntry.{PlanEntry}
 use Rattle.templates.specs.Commits.{commit_at}
 use Rattle.templates.specs.Sequences.{flag_word}
-use Rattle.jump_map.specs.Maps.{old_of}
+use Rattle.node_model.specs.jump_map.Maps.{old_of}
 use Rattle.block_layout.specs.Layout.{Shape}
 use Rattle.home_directory.specs.Headers.{sent_by}
 use Rattle.node_model.specs.declared.Standing.{Standing}
 use Rattle.node_model.specs.declared.Standing.TheVariants as standing
 use Rattle.node_model.specs.Node.{Work, Node, Outcome, word_outcome}
 use Rattle.node_model.specs.Turns.{word_turn}
-use Rattle.node_machine.specs.declared.frame.Frame.{Frame}
-use Rattle.node_machine.specs.Frame.{work_of, node_of}
-use Rattle.node_machine.specs.Wanted.{block_with, wanted_in, wants_of_word}
-use Rattle.dsm_core.specs.declared.seen.Seen.{Seen}
+use Rattle.replay.specs.node_machine.declared.frame.Frame.{Frame}
+use Rattle.replay.specs.node_machine.Frame.{work_of, node_of}
+use Rattle.replay.specs.node_machine.Wanted.{block_with, wanted_in, wants_of_word}
+use Rattle.replay.specs.dsm_core.declared.seen.Seen.{Seen}
 use Rattle.run_trace.specs.declared.traced.Accessed.{Accessed}
 use Rattle.run_trace.specs.declared.words.Before.{Before}
 use Rattle.run_trace.specs.declared.traced.AccessKind.TheVariants as access

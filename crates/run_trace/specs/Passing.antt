@@ -2,8 +2,8 @@
 use Rattle.std.specs.Prelude.{◌≡◌, Bool, true, false, List, [], ◌++◌, All, Option, None, Some, option_to_list}
 use Rattle.std.specs.Option.{option_map, option_map_or}
 use Rattle.node_model.specs.Node.{Nothing_counted}
-use Rattle.node_machine.specs.declared.touch.Touch.{Touch}
-use Rattle.node_machine.specs.declared.touch.Touch.TheVariants as touch
+use Rattle.replay.specs.node_machine.declared.touch.Touch.{Touch}
+use Rattle.replay.specs.node_machine.declared.touch.Touch.TheVariants as touch
 use Rattle.run_trace.specs.declared.passed.Until.{Until}
 use Rattle.run_trace.specs.declared.passed.Until.TheVariants as until
 use Rattle.run_trace.specs.declared.passed.WordPassed.{WordPassed}

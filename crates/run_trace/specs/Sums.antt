@@ -5,7 +5,7 @@ use Rattle.std.specs.Option.{option_map_or}
 use Rattle.node_model.specs.declared.NodeCounts.{NodeCounts}
 use Rattle.node_model.specs.Node.{no_counts, counts_after}
 use Rattle.node_model.specs.Turns.{count_want, count_row}
-use Rattle.node_machine.specs.declared.wanted.Wanted.{Wanted}
+use Rattle.replay.specs.node_machine.declared.wanted.Wanted.{Wanted}
 use Rattle.run_trace.specs.Traced.{Traced, What, Word, Taken}
 
 -- a block that is asked for counts by its state before

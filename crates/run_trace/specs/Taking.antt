@@ -8,9 +8,9 @@ use Rattle.home_directory.specs.declared.wait.Wait.{Wait}
 use Rattle.home_directory.specs.Headers.{header_of, sent_by}
 use Rattle.node_model.specs.Node.{Work, Node, end_of}
 use Rattle.node_model.specs.Turns.{block_at, after_message, take_turn}
-use Rattle.dsm_core.specs.declared.seen.Seen.{Seen}
-use Rattle.dsm_core.specs.declared.seen.Incoming.{Incoming}
-use Rattle.dsm_core.specs.Seen.{incoming_of}
+use Rattle.replay.specs.dsm_core.declared.seen.Seen.{Seen}
+use Rattle.replay.specs.dsm_core.declared.seen.Incoming.{Incoming}
+use Rattle.replay.specs.dsm_core.Seen.{incoming_of}
 use Rattle.run_trace.specs.declared.takes.BlockView.{BlockView}
 use Rattle.run_trace.specs.declared.takes.Sight.{Sight}
 use Rattle.run_trace.specs.Traced.{waits_for, is_waiting}

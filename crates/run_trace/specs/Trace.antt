@@ -3,8 +3,8 @@ use Rattle.std.specs.Prelude.{◌≡◌, List, [], ◌∷◌, ◌++◌, map, opt
 use Rattle.templates.specs.declared.plans.PlanEntry.{PlanEntry}
 use Rattle.node_model.specs.Node.{Work}
 use Rattle.node_model.specs.Core.{Core, event_step, opening_core}
-use Rattle.run_order.specs.OwnRun.{Stamped}
-use Rattle.run_record.specs.declared.Record.{Record}
+use Rattle.replay.specs.run_order.OwnRun.{Stamped}
+use Rattle.replay.specs.run_record.declared.Record.{Record}
 use Rattle.replay.specs.Told.{Told, what_told, AreToldBy, AreMadeAs}
 use Rattle.replay.specs.Replay.{TellsWholeRun}
 use Rattle.run_trace.specs.Traced.{Traced, traced_at}

@@ -10,17 +10,17 @@ use Rattle.home_directory.specs.declared.messages.Wire.{Wire}
 use Rattle.home_directory.specs.declared.headers.Header.{Header}
 use Rattle.home_directory.specs.declared.headers.Sent.{Sent}
 use Rattle.home_directory.specs.Headers.{header_of, sent_by}
-use Rattle.miss_handlers.specs.Rows.{Row, row_of, clears}
+use Rattle.node_model.specs.miss_handlers.Rows.{Row, row_of, clears}
 use Rattle.templates.specs.declared.places.Place.{Place}
 use Rattle.templates.specs.declared.plans.PlanEntry.{PlanEntry}
-use Rattle.jump_map.specs.Maps.{old_of}
+use Rattle.node_model.specs.jump_map.Maps.{old_of}
 use Rattle.node_model.specs.Node.{Work, Node, Tally, Nothing_counted, FalseMiss, FallsBack, Phase, Waiting, word_outcome, tally_resumed, end_of}
 use Rattle.node_model.specs.Turns.{Turn, holding, after_wants, after_message}
 use Rattle.node_model.specs.Core.{Core, Event, Exec, Take}
-use Rattle.node_machine.specs.Wanted.{block_with, state_at, wants_of_word}
-use Rattle.node_machine.specs.declared.wanted.Wanted.{Wanted}
-use Rattle.run_order.specs.OwnRun.{Stamped, maker}
-use Rattle.rewriting_law.specs.CoreRun.{commits}
+use Rattle.replay.specs.node_machine.Wanted.{block_with, state_at, wants_of_word}
+use Rattle.replay.specs.node_machine.declared.wanted.Wanted.{Wanted}
+use Rattle.replay.specs.run_order.OwnRun.{Stamped, maker}
+use Rattle.replay.specs.rewriting_law.CoreRun.{commits}
 use Rattle.run_trace.specs.declared.traced.AccessKind.{AccessKind}
 use Rattle.run_trace.specs.declared.traced.AccessKind.TheVariants as access
 pub use Rattle.run_trace.specs.declared.traced.Accessed.{Accessed}

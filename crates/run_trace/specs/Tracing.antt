@@ -4,8 +4,8 @@ use Rattle.templates.specs.declared.plans.PlanEntry.{PlanEntry}
 use Rattle.templates.specs.Code.{HasCode}
 use Rattle.node_model.specs.Node.{Work}
 use Rattle.node_model.specs.Core.{May}
-use Rattle.run_record.specs.declared.Record.{Record}
-use Rattle.dsm_core.specs.CoreParts.{work_of, core_of}
+use Rattle.replay.specs.run_record.declared.Record.{Record}
+use Rattle.replay.specs.dsm_core.CoreParts.{work_of, core_of}
 use Rattle.replay.specs.declared.events.Replayer.{Replayer}
 use Rattle.replay.specs.Told.{Told}
 use Rattle.replay.specs.Way.{HasMade, core_in, record_in, events_left}

@@ -4,7 +4,7 @@ ghost use Rattle.std.specs.Prelude.{◌≡◌, List};
 ghost use Rattle.node_model.specs.Node.{Work};
 ghost use Rattle.node_model.specs.Outcome.{counts_after};
 ghost use Rattle.replay.specs.Told.{Told, events_told};
-ghost use Rattle.run_record.specs.declared.Record.{Record as Kept};
+ghost use Rattle.replay.specs.run_record.declared.Record.{Record as Kept};
 ghost use Rattle.templates.specs.declared.plans.PlanEntry.{PlanEntry};
 ghost use Rattle.run_trace.specs.Traced.{Traced};
 ghost use Rattle.run_trace.specs.Trace.{IsTraceOf, trace_of};

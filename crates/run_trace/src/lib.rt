@@ -12,5 +12,6 @@ mod words;
 
 pub use law::trace_law;
 pub use passed::{Until, WordPassed};
+pub use replay::node_machine;
 pub use traced::{AccessKind, Accessed, TakeTraced, Tallied, Traced, What, WordTraced};
 pub use tracer::Tracer;

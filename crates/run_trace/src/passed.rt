@@ -2,14 +2,14 @@
 
 ghost use Rattle.std.specs.Prelude.{◌≡◌};
 ghost use Rattle.node_model.specs.Node.{word_outcome};
-ghost use Rattle.node_machine.specs.Frame.{work_of, node_of};
-ghost use Rattle.node_machine.specs.Touch.{IsTouch};
+ghost use Rattle.replay.specs.node_machine.Frame.{work_of, node_of};
+ghost use Rattle.replay.specs.node_machine.Touch.{IsTouch};
 ghost use Rattle.run_trace.specs.Looks.{access_seen};
 ghost use Rattle.run_trace.specs.Passing as model;
 
 use crate::reach::Reached;
 use crate::traced::{AccessKind, Accessed};
-use node_machine::{Node, Touch};
+use replay::node_machine::{Node, Touch};
 use templates::Place;
 
 /// Which words end a pass.

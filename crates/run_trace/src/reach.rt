@@ -3,7 +3,7 @@
 ghost use Rattle.std.specs.Prelude.{◌≡◌, ℕ};
 ghost use Rattle.rv32_program.specs.Program.{Program};
 ghost use Rattle.node_model.specs.Node as model;
-ghost use Rattle.node_machine.specs.Frame.{work_of, node_of};
+ghost use Rattle.replay.specs.node_machine.Frame.{work_of, node_of};
 ghost use Rattle.rv32_step.specs.declared.Demand.TheVariants.{Loads, Stores, StoresIf, Updates};
 ghost use Rattle.rv32_step.specs.declared.Demand.TheVariants.{Reserves};
 ghost use Rattle.rv32_decode.specs.declared.AmoOp.{AmoOp};
@@ -11,7 +11,7 @@ ghost use Rattle.llsc.specs.Reservation.{holds};
 ghost use Rattle.run_trace.specs.Looks.{IsReach};
 
 use crate::traced::AccessKind;
-use node_machine::Node;
+use replay::node_machine::Node;
 use runtime_words::RtWord;
 use rv32_decode::{LoadKind, Width};
 use rv32_step::{CallStep, Demand, call_step, demand_of};

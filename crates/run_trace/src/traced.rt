@@ -2,7 +2,7 @@
 
 use block_layout::Block;
 use home_directory::{Header, Headers};
-use node_machine::WantedBlocks;
+use replay::node_machine::WantedBlocks;
 use rv32_program::End;
 use state_table::State;
 use templates::Place;

@@ -9,10 +9,10 @@ use crate::takes::{look, take_traced};
 use crate::traced::{Traced, What};
 use crate::words::{accessed_at, before_word, commits, place_of, word_traced};
 use block_layout::Block;
-use dsm_core::{Event, Incoming, Work};
-use node_machine::Touch;
+use replay::dsm_core::{Event, Incoming, Work};
+use replay::node_machine::Touch;
+use replay::run_record::Record;
 use replay::{ReplayRefused, Replayer, Stretch};
-use run_record::Record;
 use std::alloc::{AllocError, Global};
 use templates::{Code, Plan};
 
@@ -42,10 +42,10 @@ impl<'a> Tracer<'a> {
     ghost use Rattle.std.specs.Option.{option_map};
     ghost use Rattle.templates.specs.Code.{HasCode};
     ghost use Rattle.node_model.specs.Core.{Exec, Take};
-    ghost use Rattle.rewriting_law.specs.Bounds.{RunsRewritten};
-    ghost use Rattle.node_machine.specs.Touch.{IsTouch};
-    ghost use Rattle.dsm_core.specs.CoreParts.{work_in, core_of};
-    ghost use Rattle.run_record.specs.Record.{IsRecord};
+    ghost use Rattle.replay.specs.rewriting_law.Bounds.{RunsRewritten};
+    ghost use Rattle.replay.specs.node_machine.Touch.{IsTouch};
+    ghost use Rattle.replay.specs.dsm_core.CoreParts.{work_in, core_of};
+    ghost use Rattle.replay.specs.run_record.Record.{IsRecord};
     ghost use Rattle.replay.specs.Told.{Told};
     ghost use Rattle.replay.specs.Refusals.{IsFirstBroken, IsUnfinished};
     ghost use Rattle.replay.specs.Way.{HasMade, IsRunning, IsNextOf, IsStretch, core_in};

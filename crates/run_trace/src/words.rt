@@ -4,9 +4,9 @@ ghost use Rattle.std.specs.Prelude.{◌≡◌, ◌-◌, ◌||◌, List, false, i
 ghost use Rattle.std.specs.Option.{option_map};
 ghost use Rattle.templates.specs.Code.{HasCode};
 ghost use Rattle.templates.specs.declared.plans.PlanEntry.{PlanEntry};
-ghost use Rattle.jump_map.specs.Maps.{old_of};
+ghost use Rattle.node_model.specs.jump_map.Maps.{old_of};
 ghost use Rattle.node_model.specs.Node.{Work, Node as OfNode, Tally, counts_after};
-ghost use Rattle.node_machine.specs.Frame.{work_of, node_of};
+ghost use Rattle.replay.specs.node_machine.Frame.{work_of, node_of};
 ghost use Rattle.run_trace.specs.Given.{tally_of, word_of};
 ghost use Rattle.run_trace.specs.Entries.{AreEntriesOf};
 ghost use Rattle.run_trace.specs.Looks.{IsBefore, IsAfterWord, reached_by, accessed_at, is_exited};
@@ -17,9 +17,9 @@ use crate::entries::Entries;
 use crate::reach::{Reach, Reached, reach_of};
 use crate::traced::{AccessKind, Accessed, Tallied, WordTraced};
 use block_layout::Layout;
-use dsm_core::Seen;
 use home_directory::Headers;
-use node_machine::{Node, NodeCounts, Standing};
+use replay::dsm_core::Seen;
+use replay::node_machine::{Node, NodeCounts, Standing};
 use rv32_program::End;
 use templates::{Code, CommitKind, Place, Plan};
 

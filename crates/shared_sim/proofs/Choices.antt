@@ -6,10 +6,10 @@ use Rattle.std.proofs.lemmas.List.{append-nil}
 use Rattle.std.proofs.lemmas.List.FromFn.{filter_of_map_range_with_len_more}
 use Rattle.std.proofs.lemmas.List.Elements.{filter-append}
 use Rattle.std.proofs.lemmas.Bool.Decides.{eqb_tells}
-use Rattle.home_directory.specs.declared.messages.Wire.{Wire}
-use Rattle.node_model.specs.Node.{Work, Node, standing_of}
-use Rattle.node_model.specs.Turns.{Turn, quiet, word_turn}
-use Rattle.node_model.specs.Core.{Core, Event, Exec, Take, May, may_execute, may_take, event_step, wires_to, AreAlike}
+use Rattle.dsm_core.specs.home_directory.declared.messages.Wire.{Wire}
+use Rattle.dsm_core.specs.node_model.Node.{Work, Node, standing_of}
+use Rattle.dsm_core.specs.node_model.Turns.{Turn, quiet, word_turn}
+use Rattle.dsm_core.specs.node_model.Core.{Core, Event, Exec, Take, May, may_execute, may_take, event_step, wires_to, AreAlike}
 use Rattle.shared_sim.specs.ByOrder.{events_at, all_events, has_wire, is_allowed, choices}
 use Rattle.shared_sim.specs.Turns.{HasNoMail}
 

@@ -5,8 +5,8 @@ use Rattle.std.specs.List.{flat_map, range_with_len}
 use Rattle.std.proofs.lemmas.List.{length-map, get_or-set_same, get_or-set_other}
 use Rattle.std.proofs.lemmas.Bool.Decides.{eqb_tells}
 use Rattle.workload.specs.Orders.{following, choice, how_often}
-use Rattle.node_model.specs.Node.{Work}
-use Rattle.node_model.specs.Core.{Core, Event, Exec, Take, May}
+use Rattle.dsm_core.specs.node_model.Node.{Work}
+use Rattle.dsm_core.specs.node_model.Core.{Core, Event, Exec, Take, May}
 use Rattle.dsm_core.specs.declared.cores.Event.{Event as Stored}
 use Rattle.dsm_core.specs.CoreParts.{event_of}
 use Rattle.shared_sim.specs.ByOrder.{events_at, is_allowed, choices}

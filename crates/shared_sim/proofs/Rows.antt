@@ -10,10 +10,10 @@ use Rattle.std.proofs.lemmas.List.FromFn.{length-map-range_with_len}
 use Rattle.std.proofs.lemmas.List.Elements.{filter-append}
 use Rattle.std.proofs.lemmas.Bool.Decides.{eqb_tells}
 use Rattle.std.proofs.lemmas.Option.{slice_get-map, slice_get_read}
-use Rattle.home_directory.specs.declared.messages.Wire.{Wire}
-use Rattle.node_model.specs.Node.{Work, Node, standing_of}
-use Rattle.node_model.specs.Turns.{Turn, word_turn, take_turn}
-use Rattle.node_model.specs.Core.{Core, Event, Exec, Take, AreAlike, may_execute, may_take, event_step, with_turn, with_list, take_first, wires_to}
+use Rattle.dsm_core.specs.home_directory.declared.messages.Wire.{Wire}
+use Rattle.dsm_core.specs.node_model.Node.{Work, Node, standing_of}
+use Rattle.dsm_core.specs.node_model.Turns.{Turn, word_turn, take_turn}
+use Rattle.dsm_core.specs.node_model.Core.{Core, Event, Exec, Take, AreAlike, may_execute, may_take, event_step, with_turn, with_list, take_first, wires_to}
 use Rattle.dsm_core.specs.declared.cores.Event.{Event as Stored}
 use Rattle.dsm_core.specs.CoreParts.{CoreParts, work_of, core_of, event_of}
 use Rattle.dsm_core.specs.CoreWords.{GoesOnBy, HasExecutedOn, HasPassed}

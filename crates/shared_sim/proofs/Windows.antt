@@ -4,11 +4,11 @@ use Rattle.std.specs.Prelude.{slice_get}
 use Rattle.std.proofs.Math.Nat.{mod-lt}
 use Rattle.std.proofs.lemmas.Bool.Decides.{eqb_tells}
 use Rattle.workload.specs.Orders.{following, choice, after_turns}
-use Rattle.node_model.specs.Node.{Work, Node, Phase, Running, Resumed, Waiting, Ended, standing_of, standing_in, is_at_poll, can_execute}
-use Rattle.node_model.specs.declared.Standing.TheVariants as standing
-use Rattle.node_model.specs.Turns.{quiet, word_turn}
-use Rattle.node_model.specs.Core.{Core, Event, Exec, Take, May, AreAlike, may_execute, may_take, after}
-use Rattle.node_machine.specs.Runs.{GoesOnBy}
+use Rattle.dsm_core.specs.node_model.Node.{Work, Node, Phase, Running, Resumed, Waiting, Ended, standing_of, standing_in, is_at_poll, can_execute}
+use Rattle.dsm_core.specs.node_model.declared.Standing.TheVariants as standing
+use Rattle.dsm_core.specs.node_model.Turns.{quiet, word_turn}
+use Rattle.dsm_core.specs.node_model.Core.{Core, Event, Exec, Take, May, AreAlike, may_execute, may_take, after}
+use Rattle.dsm_core.specs.node_machine.Runs.{GoesOnBy}
 use Rattle.dsm_core.specs.CoreParts.{CoreParts, work_of, core_of}
 use Rattle.dsm_core.specs.CoreWords.{HaveEachPassed}
 use Rattle.shared_sim.specs.ByOrder.{has_wire, is_allowed, choices, pick_among}

@@ -1,12 +1,12 @@
 -- Core runs whose events follow an order.
 use Rattle.std.specs.Prelude.{◌≡◌, ℕ, Bool, true, false, ◌&&◌, List, [], ◌∷◌, Option, Some, length, map, filter, slice_get}
 use Rattle.std.specs.List.{flat_map, range_with_len}
-use Rattle.home_directory.specs.declared.messages.Wire.{Wire}
+use Rattle.dsm_core.specs.home_directory.declared.messages.Wire.{Wire}
 use Rattle.workload.specs.Orders.{following, choice}
-use Rattle.node_model.specs.Node.{Work, standing_of}
-use Rattle.node_model.specs.Core.{Core, Event, Exec, Take, may_execute, may_take, opening_core, event_step, after, IsOver}
-use Rattle.node_model.specs.Outcome.{Outcome, IsOutcomeOf}
-use Rattle.run_order.specs.OwnRun.{Stamped, StandsForOwnRun, run_of}
+use Rattle.dsm_core.specs.node_model.Node.{Work, standing_of}
+use Rattle.dsm_core.specs.node_model.Core.{Core, Event, Exec, Take, may_execute, may_take, opening_core, event_step, after, IsOver}
+use Rattle.dsm_core.specs.node_model.Outcome.{Outcome, IsOutcomeOf}
+use Rattle.dsm_core.specs.run_order.OwnRun.{Stamped, StandsForOwnRun, run_of}
 
 -- the events that n nodes may ever make, node by node: its word, and then its takes by sender
 abbrev pub events_at : (n i : ℕ) → List Event

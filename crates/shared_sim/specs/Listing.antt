@@ -2,8 +2,8 @@
 use Rattle.std.specs.Prelude.{◌≡◌, ℕ, ◌+◌, ◌*◌, ◌<◌, ◌≤◌, true, false, List, length, map, filter, slice_index_or, Vec}
 use Rattle.std.specs.Vec.{vec_capacity}
 use Rattle.std.specs.declared.alloc.Global.{Global}
-use Rattle.node_model.specs.Node.{Work}
-use Rattle.node_model.specs.Core.{Core, Event}
+use Rattle.dsm_core.specs.node_model.Node.{Work}
+use Rattle.dsm_core.specs.node_model.Core.{Core, Event}
 use Rattle.dsm_core.specs.declared.cores.Event.{Event as Stored}
 use Rattle.dsm_core.specs.CoreParts.{CoreParts, work_of, core_of, event_of}
 use Rattle.shared_sim.specs.ByOrder.{choices, events_at, is_allowed}

@@ -1,8 +1,8 @@
 -- Helps the code alone: the turns of an order, one after another.
 use Rattle.std.specs.Prelude.{◌≡◌, ℕ, ◌≤◌, List, [], ◌∷◌, Some, length}
 use Rattle.workload.specs.Orders.{following, after_turns}
-use Rattle.node_model.specs.Node.{Work}
-use Rattle.node_model.specs.Core.{Core, Event, Exec, Take, AreAlike, event_step, after}
+use Rattle.dsm_core.specs.node_model.Node.{Work}
+use Rattle.dsm_core.specs.node_model.Core.{Core, Event, Exec, Take, AreAlike, event_step, after}
 use Rattle.shared_sim.specs.ByOrder.{choices, pick_among}
 use Rattle.shared_sim.specs.Listing.{Lists}
 pub use Rattle.shared_sim.specs.Mail.{HasNoMail}

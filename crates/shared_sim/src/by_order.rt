@@ -2,16 +2,16 @@
 
 ghost use Rattle.std.specs.Prelude.{◌≡◌, ◌≤◌, ◌<◌, ℕ, [], ◌∷◌, true, false, length, slice_get};
 ghost use Rattle.std.specs.Prelude.{Some, IfOk, OnOk, OnErr, MatchOption};
-ghost use Rattle.node_model.specs.Core.{Exec, May, IsOver, AreAlike, event_step, opening_core};
-ghost use Rattle.rewriting_law.specs.Bounds.{RunsRewritten};
+ghost use Rattle.dsm_core.specs.node_model.Core.{Exec, May, IsOver, AreAlike, event_step, opening_core};
+ghost use Rattle.dsm_core.specs.rewriting_law.Bounds.{RunsRewritten};
 ghost use Rattle.dsm_core.specs.CoreParts.{work_of, work_in, core_of, event_of, outcome_of};
 ghost use Rattle.shared_sim.specs.ByOrder.{IsOutcomeByOrder, choices};
 ghost use Rattle.shared_sim.specs.Listing.{Lists, IsCalm};
 ghost use Rattle.shared_sim.specs.Turns.{IsReady, LeadsOn, HasNoMail, maker};
 
 use crate::listing::Listing;
+use dsm_core::rewriting_law::progress_law;
 use dsm_core::{Core, Event, Outcome, Stop, Trails, Work};
-use rewriting_law::progress_law;
 use std::alloc::{AllocError, Global};
 use workload::{Order, order_of};
 

@@ -5,4 +5,4 @@ mod by_order;
 mod listing;
 
 pub use by_order::simulate;
-pub use rewriting_law::{conditional_law, interleaving_law, progress_law};
+pub use dsm_core::rewriting_law::{conditional_law, interleaving_law, progress_law};

@@ -5,16 +5,16 @@ ghost use Rattle.std.specs.Prelude.{filter, length, slice_get, slice_index_or, S
 ghost use Rattle.std.specs.Vec.{vec_capacity};
 ghost use Rattle.std.specs.List.{range_with_len};
 ghost use Rattle.workload.specs.Orders.{how_often};
-ghost use Rattle.node_model.specs.Node.{standing_of};
-ghost use Rattle.node_model.specs.Core.{Exec, Take, May, may_take};
+ghost use Rattle.dsm_core.specs.node_model.Node.{standing_of};
+ghost use Rattle.dsm_core.specs.node_model.Core.{Exec, Take, May, may_take};
 ghost use Rattle.dsm_core.specs.CoreParts.{work_of, core_of, event_of};
 ghost use Rattle.shared_sim.specs.ByOrder.{choices, events_at, is_allowed};
 ghost use Rattle.shared_sim.specs.Listing.{HasShape, Tells, TellsAll, Lists, IsCalm, HasRowRoom};
 ghost use Rattle.shared_sim.specs.Turns.{HasNoMail};
 ghost use Rattle.shared_sim.specs.Windows.{picks_of};
 
+use dsm_core::node_machine::Standing;
 use dsm_core::{Core, Event};
-use node_machine::Standing;
 use std::alloc::{AllocError, Global};
 
 /// The events of a core that are allowed, node by node.

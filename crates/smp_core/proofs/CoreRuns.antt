@@ -4,8 +4,8 @@ use Rattle.std.specs.Option.{option_to_list}
 use Rattle.std.proofs.Math.Nat.{div-lt_iff_lt-mul, mod-lt}
 use Rattle.std.proofs.lemmas.Nat.{mul-le}
 use Rattle.home_directory.specs.declared.messages.Wire.{Wire}
-use Rattle.node_model.specs.Node.{word_outcome}
-use Rattle.node_model.specs.Core.{may_execute, wires_to}
+use Rattle.lane_model.specs.node_model.Node.{word_outcome}
+use Rattle.lane_model.specs.node_model.Core.{may_execute, wires_to}
 use Rattle.lane_model.specs.Nodes.{LaneWork, as_node, processors, node_of, lane_of}
 use Rattle.lane_model.specs.Turns.{LaneTurn, word_turn, take_turn}
 use Rattle.lane_model.specs.Core.{LaneCore, LaneEvent, Exec, Take, May, may_take_first, standing_of, opening_core, with_turn, with_list, take_first, event_step, IsLaneRun, after, printed_at, printed_by}

@@ -8,10 +8,10 @@ use Rattle.std.proofs.lemmas.List.Elements.{All-append, All-cons, All-head, All-
 use Rattle.std.proofs.lemmas.Bool.Decides.{eqb_tells, leb_tells, nat_tests}
 use Rattle.home_directory.specs.declared.messages.Post.{Post}
 use Rattle.home_directory.specs.declared.messages.Wire.{Wire}
-use Rattle.node_model.specs.Node.{Phase, Running, Resumed, Waiting, Ended, can_execute, word_outcome}
-use Rattle.node_model.specs.Turns.{later}
-use Rattle.node_model.specs.Core.{may_execute, wires_to}
-use Rattle.dsm_protocol.specs.Queue.{Queue, wires_of, AreQueues, SameWires, IsSent, IsTaken}
+use Rattle.lane_model.specs.node_model.Node.{Phase, Running, Resumed, Waiting, Ended, can_execute, word_outcome}
+use Rattle.lane_model.specs.node_model.Turns.{later}
+use Rattle.lane_model.specs.node_model.Core.{may_execute, wires_to}
+use Rattle.lane_law.specs.dsm_protocol.Queue.{Queue, wires_of, AreQueues, SameWires, IsSent, IsTaken}
 use Rattle.lane_model.specs.Nodes.{LaneWork, LaneNode, LanePart, as_node, node_of, lane_of, opening_node}
 use Rattle.lane_model.specs.Turns.{LaneTurn, word_turn, take_turn}
 use Rattle.lane_model.specs.Core.{LaneCore, Exec, Take, standing_in, standing_of, with_turn, with_list, take_first, event_step}

@@ -3,9 +3,9 @@ use Rattle.std.proofs.Common.{◌≡◌, ℕ, zero, suc, ◌+◌, ◌<◌, ◌&&
 use Rattle.std.specs.List.{range_with_len}
 use Rattle.std.proofs.lemmas.Bool.Decides.{eqb_tells}
 use Rattle.rv32_program.specs.declared.End.{End}
-use Rattle.node_model.specs.Node.{Phase, Running, Resumed, Waiting, Ended, end_of, has_all_byes}
-use Rattle.node_model.specs.Turns.{is_ended}
-use Rattle.node_model.specs.Outcome.{Outcome}
+use Rattle.lane_model.specs.node_model.Node.{Phase, Running, Resumed, Waiting, Ended, end_of, has_all_byes}
+use Rattle.lane_model.specs.node_model.Turns.{is_ended}
+use Rattle.lane_model.specs.node_model.Outcome.{Outcome}
 use Rattle.lane_model.specs.Nodes.{LaneWork, LaneNode, all_lanes, as_node, processors, node_of, lane_of}
 use Rattle.lane_model.specs.Turns.{has_ended, have_ended}
 use Rattle.lane_model.specs.Core.{LaneEvent, after, is_over, opening_core}

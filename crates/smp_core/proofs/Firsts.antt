@@ -5,11 +5,11 @@ use Rattle.std.proofs.lemmas.List.{get_or_past, get_or_push, get_or_append_left,
 use Rattle.std.proofs.lemmas.Bool.Decides.{eqb_tells, leb_tells}
 use Rattle.exec_map.specs.Contents.{program_of}
 use Rattle.home_directory.specs.Home.{count_of}
-use Rattle.node_model.specs.Turns.{is_ended}
-use Rattle.node_machine.specs.Frame.{layout_of}
+use Rattle.lane_model.specs.node_model.Turns.{is_ended}
+use Rattle.lane_machine.specs.node_machine.Frame.{layout_of}
 use Rattle.lane_model.specs.Nodes.{LaneWork, LaneNode, LanePart, first_part, first_shared, opening_node, processor_of}
 use Rattle.lane_model.specs.Turns.{has_ended}
-use Rattle.lane_desk.specs.Waits.{awaits_of}
+use Rattle.lane_machine.specs.lane_desk.Waits.{awaits_of}
 use Rattle.lane_machine.specs.declared.frame.LaneFrame.{LaneFrame}
 use Rattle.lane_machine.specs.Places.{wait_at}
 use Rattle.lane_machine.specs.Stored.{IsLaneOf, ended_in, part_of, shared_of}

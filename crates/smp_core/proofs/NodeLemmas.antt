@@ -11,21 +11,21 @@ use Rattle.home_directory.specs.declared.messages.Post.{Post}
 use Rattle.home_directory.specs.declared.messages.Wire.{Wire}
 use Rattle.home_directory.specs.declared.wait.Wait.{Wait}
 use Rattle.home_directory.specs.Home.{count_of}
-use Rattle.node_model.specs.Node.{Work, Node, Local, Phase, Running, Resumed, Waiting, Ended, Move, Next, Again, To, Enters, Waits, Leaves, Want, can_execute, phase_after, word_outcome}
-use Rattle.node_model.specs.Turns.{Turn, want_in, wants_of, each_block_once, after_word, with_miss, is_ended}
+use Rattle.lane_model.specs.node_model.Node.{Work, Node, Local, Phase, Running, Resumed, Waiting, Ended, Move, Next, Again, To, Enters, Waits, Leaves, Want, can_execute, phase_after, word_outcome}
+use Rattle.lane_model.specs.node_model.Turns.{Turn, want_in, wants_of, each_block_once, after_word, with_miss, is_ended}
 use Rattle.block_layout.specs.Layout.{Shape, block_of}
 use Rattle.rv32_program.specs.Program.{line_of}
 use Rattle.home_directory.specs.declared.messages.Need.{Need}
 use Rattle.home_directory.specs.Table.{Miss}
 use Rattle.lane_model.specs.Nodes.{LaneWork, LaneNode, LanePart, as_node, first_part, processor_of}
 use Rattle.lane_model.specs.Turns.{LaneTurn, Asked, ask_block, ask, ask_all, blocks_of, still, wants_at, word_asked, part_after, word_turn, word_before, with_byes, take_turn, after_message, resumed, go_on, has_ended, have_ended, treated_for}
-use Rattle.lane_desk.specs.Waits.{wait_among, waits_in, awaits_of}
+use Rattle.lane_machine.specs.lane_desk.Waits.{wait_among, waits_in, awaits_of}
 use Rattle.lane_machine.specs.declared.frame.LaneFrame.{LaneFrame}
 use Rattle.lane_machine.specs.declared.frame.SharedFrame.{SharedFrame}
 use Rattle.exec_map.specs.Contents.{program_of}
-use Rattle.node_words.specs.declared.body.Body.{Body}
-use Rattle.node_machine.specs.Frame.{layout_of}
-use Rattle.lane_desk.specs.declared.place.Place.{Place}
+use Rattle.lane_machine.specs.node_words.declared.body.Body.{Body}
+use Rattle.lane_machine.specs.node_machine.Frame.{layout_of}
+use Rattle.lane_machine.specs.lane_desk.declared.place.Place.{Place}
 use Rattle.lane_machine.specs.Places.{wait_at}
 use Rattle.lane_machine.specs.Stored.{AllHeld, AllWaitFor, AreLanes, HasLane, HaveLanes, HaveParts, IsAwaited, IsHeld, IsLaneOf, WaitsFor, ended_in, lane_turn, part_of, shared_of, with_lane, work_of}
 use Rattle.lane_machine.proofs.ExecLemmas.{count_same}

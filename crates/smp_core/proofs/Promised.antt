@@ -5,7 +5,7 @@ use Rattle.std.proofs.lemmas.Nat.{mul-le}
 use Rattle.std.proofs.lemmas.List.Elements.{All-nil}
 use Rattle.templates.specs.declared.plans.PlanEntry.{PlanEntry}
 use Rattle.home_directory.specs.declared.messages.Wire.{Wire}
-use Rattle.dsm_protocol.specs.Queue.{Queue, wires_of}
+use Rattle.lane_law.specs.dsm_protocol.Queue.{Queue, wires_of}
 use Rattle.lane_model.specs.Nodes.{LaneWork, LaneNode, processors}
 use Rattle.lane_model.specs.Core.{LaneCore, LaneEvent, May, is_over, opening_core, IsLaneRun, after}
 use Rattle.lane_law.specs.Law.{AreAllOver, AreEmpty, GoesOn, RunsOnLanes, most_lane_events}

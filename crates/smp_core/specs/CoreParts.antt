@@ -2,13 +2,13 @@
 -- stored, and the core that they stand for.
 use Rattle.std.specs.Prelude.{◌≡◌, ℕ, ◌^◌, ◌<◌, ◌≤◌, true, List, [], map, length, slice_index_or, All}
 use Rattle.home_directory.specs.declared.messages.Wire.{Wire}
-use Rattle.node_model.specs.Node.{Work, can_execute}
-use Rattle.rewriting_law.specs.Bounds.{RunsRewritten}
-use Rattle.dsm_protocol.specs.Queue.{Queue, wires_of, AreQueues}
+use Rattle.lane_model.specs.node_model.Node.{Work, can_execute}
+use Rattle.dsm_core.specs.rewriting_law.Bounds.{RunsRewritten}
+use Rattle.lane_law.specs.dsm_protocol.Queue.{Queue, wires_of, AreQueues}
 use Rattle.dsm_core.specs.CoreParts.{work_with as plain_work}
 use Rattle.elf32_read.specs.Elf.{Elf}
 use Rattle.block_layout.specs.Layout.{Shape}
-use Rattle.jump_map.specs.Image.{Cell}
+use Rattle.lane_model.specs.jump_map.Image.{Cell}
 use Rattle.lane_model.specs.Nodes.{LaneWork, LaneNode, processors, processor_of, first_part, opening_node}
 use Rattle.lane_model.specs.Core.{LaneCore, LaneEvent, Exec, Take, IsLaneRun, after, opening_core, printed_by}
 use Rattle.lane_machine.specs.declared.frame.LaneFrame.{LaneFrame}

@@ -1,7 +1,7 @@
 -- Helps the code alone: events of nodes and lists, as they are stored.
 use Rattle.std.specs.Prelude.{◌≡◌, ℕ, ◌+◌, ◌<◌, true, List, ◌++◌, map, slice_index_or, length}
-use Rattle.node_model.specs.Node.{can_execute}
-use Rattle.dsm_protocol.specs.Queue.{Queue}
+use Rattle.lane_model.specs.node_model.Node.{can_execute}
+use Rattle.lane_law.specs.dsm_protocol.Queue.{Queue}
 use Rattle.lane_model.specs.Nodes.{LaneWork, opening_node, processor_of, first_part}
 use Rattle.lane_model.specs.Core.{LaneEvent, event_step, printed_at}
 use Rattle.lane_machine.specs.declared.frame.LaneFrame.{LaneFrame}

@@ -3,7 +3,7 @@
 
 ghost use Rattle.std.specs.Prelude.{◌≡◌, ◌*◌, ◌<◌, ◌≤◌, ◌↔◌, ◌++◌, List, [], ◌∷◌, true, length};
 ghost use Rattle.std.specs.Prelude.{IfOk, OnOk, OnErr};
-ghost use Rattle.rewriting_law.specs.Bounds.{RunsRewritten};
+ghost use Rattle.dsm_core.specs.rewriting_law.Bounds.{RunsRewritten};
 ghost use Rattle.lane_model.specs.Nodes.{processors};
 ghost use Rattle.lane_model.specs.Core as model;
 ghost use Rattle.lane_model.specs.Core.{May, event_step, opening_core};
@@ -16,9 +16,9 @@ use crate::node::SmpNode;
 use crate::steps::{are_over, first_nodes, is_enabled, make};
 use crate::work::SmpWork;
 use dsm_core::Work;
-use dsm_protocol::Queue;
-use dsm_protocol::lists::empty_lists;
 use home_directory::Sends;
+use lane_law::dsm_protocol::Queue;
+use lane_law::dsm_protocol::lists::empty_lists;
 use lane_law::lane_progress_law;
 use std::alloc::{AllocError, Global};
 use std::marker::Model;

@@ -9,3 +9,4 @@ mod work;
 
 pub use cores::{SmpCore, SmpEvent};
 pub use dsm_core::{Outcome, Work};
+pub use lane_law;

@@ -3,11 +3,11 @@
 ghost use Rattle.std.specs.Prelude.{◌≡◌, ◌+◌, ◌^◌, ◌<◌, ◌≤◌, ℕ, true, IfOk, OnOk};
 ghost use Rattle.std.specs.Prelude.{List, ◌∷◌, length};
 ghost use Rattle.home_directory.specs.declared.messages.Wire.{Wire as Sent};
-ghost use Rattle.miss_handlers.specs.Rows.{takes_away};
-ghost use Rattle.node_model.specs.Core as plain;
-ghost use Rattle.node_model.specs.Node as model;
-ghost use Rattle.node_model.specs.Node.{IsLaidOver};
-ghost use Rattle.node_model.specs.Turns.{later};
+ghost use Rattle.lane_machine.specs.miss_handlers.Rows.{takes_away};
+ghost use Rattle.lane_model.specs.node_model.Core as plain;
+ghost use Rattle.lane_model.specs.node_model.Node as model;
+ghost use Rattle.lane_model.specs.node_model.Node.{IsLaidOver};
+ghost use Rattle.lane_model.specs.node_model.Turns.{later};
 ghost use Rattle.lane_model.specs.Core as core;
 ghost use Rattle.lane_model.specs.Nodes.{LaneWork, all_lanes, opening_node, processors, some_lane};
 ghost use Rattle.lane_model.specs.Turns.{word_turn, take_turn};

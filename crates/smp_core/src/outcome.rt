@@ -2,7 +2,7 @@
 
 ghost use Rattle.std.specs.Prelude.{◌≡◌, List, Some, map, IfOk};
 ghost use Rattle.std.specs.List.{range_with_len};
-ghost use Rattle.node_model.specs.Node.{end_of};
+ghost use Rattle.lane_model.specs.node_model.Node.{end_of};
 ghost use Rattle.lane_model.specs.Nodes.{processors, node_of, lane_of};
 ghost use Rattle.lane_model.specs.Core.{LaneEvent};
 ghost use Rattle.lane_model.specs.Outcome.{IsLaneOutcomeOf};

@@ -4,8 +4,8 @@ ghost use Rattle.std.specs.Prelude.{◌≡◌, ◌<◌, ◌≤◌, ◌↔◌, �
 ghost use Rattle.std.specs.Prelude.{OnErr};
 ghost use Rattle.std.specs.Option.{option_to_list};
 ghost use Rattle.std.specs.Vec.{vec_capacity};
-ghost use Rattle.node_model.specs.Node.{IsLaidOver};
-ghost use Rattle.dsm_protocol.specs.Queue.{HasRoom};
+ghost use Rattle.lane_model.specs.node_model.Node.{IsLaidOver};
+ghost use Rattle.lane_law.specs.dsm_protocol.Queue.{HasRoom};
 ghost use Rattle.lane_model.specs.Nodes.{processors};
 ghost use Rattle.lane_model.specs.Core as model;
 ghost use Rattle.lane_model.specs.Core.{May};
@@ -17,9 +17,9 @@ ghost use Rattle.smp_core.specs.CoreSteps.{AreFirst, HaveKept, HaveMade, HasNode
 use crate::cores::SmpEvent;
 use crate::node::SmpNode;
 use crate::work::SmpWork;
-use dsm_protocol::Queue;
-use dsm_protocol::lists::{first_wire, reserve_from, send, take_first};
 use home_directory::Sends;
+use lane_law::dsm_protocol::Queue;
+use lane_law::dsm_protocol::lists::{first_wire, reserve_from, send, take_first};
 use std::alloc::{AllocError, Global};
 
 /// The nodes at the start.

@@ -2,7 +2,7 @@
 
 use block_layout::Layout;
 use exec_map::Program;
-use jump_map::Image;
+use lane_model::jump_map::Image;
 use run_limits::Budget;
 
 /// What the processors of n nodes run, and how many of them each node has.

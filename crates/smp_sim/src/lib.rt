@@ -5,4 +5,4 @@ mod by_order;
 mod listing;
 
 pub use by_order::smp_simulate;
-pub use lane_law::{lane_law, lane_progress_law};
+pub use smp_core::lane_law::{lane_law, lane_progress_law};

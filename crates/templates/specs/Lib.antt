@@ -12,3 +12,4 @@ pub mod Committing
 pub mod Counting
 pub mod Candidates
 pub mod Numbers
+pub use Rattle.rv32_program.specs as rv32_program

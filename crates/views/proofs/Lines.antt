@@ -14,9 +14,9 @@ use Rattle.run_trace.specs.Traced.{Traced}
 use Rattle.run_trace.specs.Trace.{IsTraceOf, trace_of}
 use Rattle.run_trace.specs.Tracing.{HasTraced, IsSame, plan_traced, record_traced, work_traced}
 use Rattle.run_trace.proofs.Wholes.{HasOne, goes_on, so_far}
-use Rattle.event_text.specs.declared.shown.Options.{Options}
-use Rattle.event_text.specs.Events.{event_line}
-use Rattle.event_text.specs.Shown.{head, is_shown, shown, trace_text}
+use Rattle.block_view.specs.event_text.declared.shown.Options.{Options}
+use Rattle.block_view.specs.event_text.Events.{event_line}
+use Rattle.block_view.specs.event_text.Shown.{head, is_shown, shown, trace_text}
 use Rattle.judged_files.specs.declared.failure.Failure.{Failure}
 use Rattle.judged_files.specs.declared.failure.Failure.TheVariants.{OutOfMemory}
 use Rattle.judged_files.specs.Failures.{FailsAs, IsLike, IsNever, IsPutFailure}

@@ -10,11 +10,11 @@ use Rattle.node_model.specs.Core.{Core, event_step, opening_core}
 use Rattle.run_order.specs.OwnRun.{Stamped, maker}
 use Rattle.run_order.specs.Sorted.{AreSorted, PrecedesAll}
 use Rattle.run_record.specs.declared.Record.{Record}
-use Rattle.replay.specs.Told.{Told, maker_told, stamp_told, what_told}
+use Rattle.judged_files.specs.replay.Told.{Told, maker_told, stamp_told, what_told}
 use Rattle.run_trace.specs.Traced.{Traced, What, traced_at, what_at}
 use Rattle.run_trace.specs.Trace.{IsTraceOf, trace_from}
-use Rattle.event_text.specs.declared.shown.Options.{Options}
-use Rattle.event_text.specs.Shown.{is_shown, shown}
+use Rattle.block_view.specs.event_text.declared.shown.Options.{Options}
+use Rattle.block_view.specs.event_text.Shown.{is_shown, shown}
 use Rattle.views.specs.Failures.{AreAllUpTo}
 
 -- each has at least this stamp

@@ -5,9 +5,9 @@ use Rattle.run_trace.specs.declared.tracer.Tracer.{Tracer}
 use Rattle.run_trace.specs.Traced.{Traced}
 use Rattle.run_trace.specs.Tracing.{HasTraced, IsSame, record_traced}
 use Rattle.run_trace.proofs.Wholes.{HasOne}
-use Rattle.event_text.specs.declared.shown.Options.{Options}
-use Rattle.event_text.specs.Shown.{is_shown, shown}
-use Rattle.page_events.specs.Shown.{Kept, kept}
+use Rattle.block_view.specs.event_text.declared.shown.Options.{Options}
+use Rattle.block_view.specs.event_text.Shown.{is_shown, shown}
+use Rattle.page_view.specs.page_events.Shown.{Kept, kept}
 use Rattle.views.specs.Page.{HasAddedMore}
 use Rattle.views.specs.Trace.{ShowsNoMore}
 use Rattle.views.proofs.Lines.{IsWhole, goes_further, same_on, whole_same}

@@ -9,9 +9,9 @@ use Rattle.run_trace.specs.declared.tracer.Tracer.{Tracer}
 use Rattle.run_trace.specs.Traced.{Traced}
 use Rattle.run_trace.specs.Tracing.{HasTraced, record_traced}
 use Rattle.run_trace.proofs.Wholes.{HasOne}
-use Rattle.event_text.specs.declared.shown.Options.{Options}
-use Rattle.event_text.specs.Events.{event_line}
-use Rattle.event_text.specs.Shown.{is_shown, shown}
+use Rattle.block_view.specs.event_text.declared.shown.Options.{Options}
+use Rattle.block_view.specs.event_text.Events.{event_line}
+use Rattle.block_view.specs.event_text.Shown.{is_shown, shown}
 use Rattle.views.specs.declared.trace.Selection.{Selection}
 use Rattle.views.specs.Failures.{AreAllUpTo}
 use Rattle.views.specs.Trace.{HasPushedMore, ShowsNoMore, options_about, options_at}

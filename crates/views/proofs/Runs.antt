@@ -7,8 +7,8 @@ use Rattle.elf_symbols.specs.Symbols.{Symbol, functions_of}
 use Rattle.templates.specs.declared.plans.PlanEntry.{PlanEntry}
 use Rattle.node_model.specs.Node.{Work}
 use Rattle.run_record.specs.declared.Record.{Record as Kept}
-use Rattle.replay.specs.Told.{Told}
-use Rattle.replay.specs.Replay.{TellsWholeRun}
+use Rattle.judged_files.specs.replay.Told.{Told}
+use Rattle.judged_files.specs.replay.Replay.{TellsWholeRun}
 use Rattle.run_trace.specs.Trace.{trace_of}
 use Rattle.command_line.specs.Views.{View, Trace, Blocks, reads}
 use Rattle.dsm_io.specs.Causes.{Rose}

@@ -6,8 +6,8 @@ use Rattle.code_view.specs.Code.{code_text}
 use Rattle.code_view.specs.declared.view.CodeView.{CodeView}
 use Rattle.node_model.specs.Node.{Work}
 use Rattle.run_record.specs.declared.Record.{Record as Kept}
-use Rattle.replay.specs.Told.{Told}
-use Rattle.replay.specs.Replay.{TellsWholeRun}
+use Rattle.judged_files.specs.replay.Told.{Told}
+use Rattle.judged_files.specs.replay.Replay.{TellsWholeRun}
 use Rattle.judged_files.specs.declared.failure.Failure.{Failure}
 use Rattle.judged_files.specs.declared.failure.Failure.TheVariants.{Input, NotWritten, Refused, Layout, Record, Text, Output, OutOfMemory}
 use Rattle.judged_files.specs.Failures.{FailsAs, IsContent, IsReadFailure, IsReplayRefusal, IsWriteFailure, status_of}

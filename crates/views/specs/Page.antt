@@ -9,9 +9,9 @@ use Rattle.run_trace.specs.declared.tracer.Tracer.{Tracer}
 use Rattle.run_trace.specs.Traced.{Traced}
 use Rattle.run_trace.specs.Trace.{IsTraceOf}
 use Rattle.run_trace.specs.Tracing.{HasTraced}
-use Rattle.event_text.specs.declared.shown.Options.{Options}
-use Rattle.event_text.specs.Shown.{shown}
-use Rattle.page_events.specs.Shown.{Kept, kept}
+use Rattle.block_view.specs.event_text.declared.shown.Options.{Options}
+use Rattle.block_view.specs.event_text.Shown.{shown}
+use Rattle.page_view.specs.page_events.Shown.{Kept, kept}
 use Rattle.page_view.specs.Page.{page_text}
 use Rattle.judged_files.specs.Inputs.{Inputs}
 use Rattle.judged_files.specs.Replays.{IsWorkOf}

@@ -11,9 +11,9 @@ use Rattle.run_trace.specs.declared.tracer.Tracer.{Tracer}
 use Rattle.run_trace.specs.Traced.{Traced}
 use Rattle.run_trace.specs.Trace.{IsTraceOf}
 use Rattle.run_trace.specs.Tracing.{HasTraced, plan_traced, record_traced, work_traced}
-use Rattle.event_text.specs.declared.shown.Options.{Options}
-use Rattle.event_text.specs.Events.{event_line}
-use Rattle.event_text.specs.Shown.{head, shown, trace_text}
+use Rattle.block_view.specs.event_text.declared.shown.Options.{Options}
+use Rattle.block_view.specs.event_text.Events.{event_line}
+use Rattle.block_view.specs.event_text.Shown.{head, shown, trace_text}
 use Rattle.judged_files.specs.Inputs.{Inputs}
 use Rattle.judged_files.specs.Replays.{IsWorkOf}
 use Rattle.views.specs.declared.trace.Selection.{Selection}

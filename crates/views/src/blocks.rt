@@ -1,11 +1,11 @@
 //! `blocks`: what each block cost in a recorded run.
 
 ghost use Rattle.std.specs.Prelude.{◌≡◌, ◌⊎◌, ℕ, [], List, IfErr, IfOk, IsErrOf, OnOk};
-ghost use Rattle.rewriting_law.specs.Bounds.{RunsRewritten};
+ghost use Rattle.judged_files.specs.rewriting_law.Bounds.{RunsRewritten};
 ghost use Rattle.run_record.specs.Record.{IsRecord};
-ghost use Rattle.replay.specs.Refusals.{IsFirstBroken, IsUnfinished};
-ghost use Rattle.replay.specs.declared.refused.ReplayRule.{ReplayRule as Rules};
-ghost use Rattle.replay.specs.declared.refused.ReplayRefused.TheVariants.{Broken};
+ghost use Rattle.judged_files.specs.replay.Refusals.{IsFirstBroken, IsUnfinished};
+ghost use Rattle.judged_files.specs.replay.declared.refused.ReplayRule.{ReplayRule as Rules};
+ghost use Rattle.judged_files.specs.replay.declared.refused.ReplayRefused.TheVariants.{Broken};
 ghost use Rattle.run_trace.specs.Traced.{Traced as OfEvent};
 ghost use Rattle.run_trace.specs.Trace.{IsTraceOf};
 ghost use Rattle.run_trace.specs.Tracing.{HasTraced, plan_traced, record_traced, work_traced};
@@ -28,8 +28,8 @@ use judged_files::input::{Inputs, elf_of};
 use judged_files::output::put;
 use judged_files::prepare::{Prepared, prepare_replay};
 use judged_files::refusal::Subject;
+use judged_files::replay::ReplayRefused;
 use judged_files::text::push_nodes;
-use replay::ReplayRefused;
 use run_record::Record;
 use run_trace::{Tracer, Until};
 use std::alloc::{AllocError, Global};

@@ -18,7 +18,7 @@ use judged_files::failure::Failure;
 use judged_files::input::{elf_of, program_of};
 use judged_files::output::put;
 use judged_files::refusal::Subject;
-use rewriter::Rewritten;
+use judged_files::rewriter::Rewritten;
 use std::alloc::Global;
 
 /// The text is put in pieces of about so many bytes.

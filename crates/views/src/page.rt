@@ -2,7 +2,7 @@
 
 ghost use Rattle.std.specs.Prelude.{◌≡◌, ◌≢◌, ◌<◌, [], ◌∷◌, ◌++◌, None, ℕ, List, true, false};
 ghost use Rattle.std.specs.Prelude.{IfErr, IfOk, OnOk};
-ghost use Rattle.rewriting_law.specs.Bounds.{RunsRewritten};
+ghost use Rattle.judged_files.specs.rewriting_law.Bounds.{RunsRewritten};
 ghost use Rattle.run_record.specs.Record.{IsRecord};
 ghost use Rattle.run_trace.specs.Given.{traced_of};
 ghost use Rattle.run_trace.specs.Traced.{Traced as OfEvent};
@@ -10,8 +10,8 @@ ghost use Rattle.run_trace.specs.Trace.{IsTraceOf};
 ghost use Rattle.run_trace.specs.Passing.{passed_of};
 ghost use Rattle.run_trace.specs.Tracing.{HasTraced, IsSame, events_to_trace};
 ghost use Rattle.run_trace.specs.Tracing.{plan_traced, record_traced, work_traced};
-ghost use Rattle.event_text.specs.Shown.{shown};
-ghost use Rattle.page_events.specs.Shown.{kept};
+ghost use Rattle.block_view.specs.event_text.Shown.{shown};
+ghost use Rattle.page_view.specs.page_events.Shown.{kept};
 ghost use Rattle.judged_files.specs.Failures.{IsReplayRefusal};
 ghost use Rattle.judged_files.specs.Given.{bytes_of};
 ghost use Rattle.judged_files.specs.Ready.{work_for};
@@ -20,16 +20,16 @@ ghost use Rattle.views.specs.Page.{HasAddedOn, IsPageText, drawn_text};
 
 use crate::recorded::{RecordedRun, judged_run, next_event_to, read_recorded};
 use crate::trace::Selection;
+use block_view::event_text::{Options, is_passed_shown, is_shown, shown_law};
 use dsm_io::Files;
-use event_text::{Options, is_passed_shown, is_shown, shown_law};
 use flow_graph::Graph;
 use judged_files::failure::Failure;
 use judged_files::input::{Inputs, elf_of};
 use judged_files::output::write_file;
 use judged_files::refusal::Subject;
-use page_events::Shown;
+use judged_files::replay::replay_law;
+use page_view::page_events::Shown;
 use page_view::{Page, push_page};
-use replay::replay_law;
 use run_trace::{Traced, Tracer, Until, WordPassed};
 use std::alloc::{AllocError, Global};
 

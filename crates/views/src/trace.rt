@@ -4,7 +4,7 @@ ghost use Rattle.std.specs.Prelude.{◌≡◌, ◌<◌, ◌++◌, ◌∷◌, [],
 ghost use Rattle.std.specs.Prelude.{IfErr, IfOk, OnOk};
 ghost use Rattle.std.specs.List.{flat_map};
 ghost use Rattle.dsm_io.specs.Causes.{Appends};
-ghost use Rattle.rewriting_law.specs.Bounds.{RunsRewritten};
+ghost use Rattle.judged_files.specs.rewriting_law.Bounds.{RunsRewritten};
 ghost use Rattle.run_record.specs.Record.{IsRecord};
 ghost use Rattle.run_trace.specs.Given.{traced_of};
 ghost use Rattle.run_trace.specs.Traced.{Traced as OfEvent};
@@ -12,8 +12,8 @@ ghost use Rattle.run_trace.specs.Trace.{IsTraceOf};
 ghost use Rattle.run_trace.specs.Passing.{passed_of};
 ghost use Rattle.run_trace.specs.Tracing.{HasTraced, IsSame, events_to_trace};
 ghost use Rattle.run_trace.specs.Tracing.{plan_traced, record_traced, work_traced};
-ghost use Rattle.event_text.specs.Events.{event_line};
-ghost use Rattle.event_text.specs.Shown.{head, shown, trace_text};
+ghost use Rattle.block_view.specs.event_text.Events.{event_line};
+ghost use Rattle.block_view.specs.event_text.Shown.{head, shown, trace_text};
 ghost use Rattle.judged_files.specs.Failures.{FailsAs, IsLike, IsNever, Puts};
 ghost use Rattle.judged_files.specs.Given.{bytes_of};
 ghost use Rattle.judged_files.specs.Ready.{work_for};
@@ -22,17 +22,17 @@ ghost use Rattle.views.specs.Trace.{HasPushedOn, options_about, options_at, sele
 
 use crate::recorded::{RecordedRun, judged_run, next_event_to};
 use block_layout::{Block, Layout};
-use dsm_io::Sink;
-use event_text::{
+use block_view::event_text::{
     Options, is_passed_shown, is_shown, push_event, push_head, push_passed, shown_law,
 };
+use dsm_io::Sink;
 use exec_map::Program;
 use flow_graph::Graph;
 use judged_files::failure::Failure;
 use judged_files::input::{Inputs, elf_of};
 use judged_files::output::put;
 use judged_files::refusal::Subject;
-use replay::replay_law;
+use judged_files::replay::replay_law;
 use run_trace::{Traced, Tracer, Until, WordPassed};
 use std::alloc::{AllocError, Global};
 

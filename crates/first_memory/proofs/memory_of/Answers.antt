@@ -3,8 +3,8 @@ use Rattle.std.proofs.lemmas.List.{take_more}
 use Rattle.std.proofs.lemmas.Result.{IfOk-weaker}
 use Rattle.exec_map.specs.Contents.{first_bytes}
 use Rattle.block_layout.specs.declared.ranges.Lines.{Lines}
-use Rattle.byte_range.specs.Lines.{line_count, Ascend}
-use Rattle.byte_range.specs.declared.lines.LineRange.{LineRange}
+use Rattle.exec_map.specs.byte_range.Lines.{line_count, Ascend}
+use Rattle.exec_map.specs.byte_range.declared.lines.LineRange.{LineRange}
 use Rattle.first_memory.specs.Ranges.{line_range}
 use Rattle.first_memory.proofs.LineLemmas.{bytes_of, bytes_push, ranges_push, bytes_len, take_whole, first_memory, if_ok_both, AreFirst}
 use Rattle.first_memory.proofs.memory_of.Goals as goal

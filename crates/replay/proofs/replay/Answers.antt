@@ -1,7 +1,7 @@
 -- The first event that can't be made.
 use Rattle.std.proofs.Common.{◌≡◌, Err, ap, sym, ◌∙◌, subst, inl}
 use Rattle.std.proofs.lemmas.Result.{err_from_is_err_and}
-use Rattle.node_model.specs.Node.{Work}
+use Rattle.run_order.specs.node_model.Node.{Work}
 use Rattle.run_record.specs.declared.Record.{Record}
 use Rattle.dsm_core.specs.CoreParts.{work_of}
 use Rattle.replay.specs.declared.refused.ReplayRefused.TheVariants.{Broken}

@@ -28,9 +28,9 @@ use Rattle.templates.specs.Plans.{StartsRun}
 use Rattle.templates.specs.declared.reaches.Reach.{Reach}
 use Rattle.templates.specs.Runs.{reach_of, code_from, IsRunScratch, HasRunScratches}
 use Rattle.templates.specs.Sequences.{SequenceItem, own, checking, committing, to_head, spill_by, spill, reload_by, reload, state_look, spills_of_run, reloads_of_run, mask_readable, head_items, run_items, fast_items, fallback_items, batch_items, batch_sequence}
-use Rattle.jump_map.specs.Image.{reload_count, address_in}
+use Rattle.dsm_protocol.specs.jump_map.Image.{reload_count, address_in}
 use Rattle.home_directory.specs.declared.messages.Need.{Need}
-use Rattle.node_model.specs.Node.{Lane, Local, Outcome, Want, To, Waits, ByLines, go_on, native, batch, fall_back, past_next, meets_need, refuses_need, need_of_run, execute}
+use Rattle.dsm_protocol.specs.node_model.Node.{Lane, Local, Outcome, Want, To, Waits, ByLines, go_on, native, batch, fall_back, past_next, meets_need, refuses_need, need_of_run, execute}
 use Rattle.rewriting_law.proofs.templates.RegisterLemmas.{apart, equal, reg_zero, put_here, put_other, put_zero}
 use Rattle.rewriting_law.proofs.templates.States.{Suits, Later}
 use Rattle.rewriting_law.proofs.templates.Does.{SequenceKind, OfRun, place_of, place_in_batch, AtHead, Rest, Seeks, IsWanted, AreWanted, lane_at, skip_to, Leads, Does, does_later}

@@ -13,7 +13,7 @@ use Rattle.rv32_program.specs.declared.Class.TheVariants.{Shared}
 use Rattle.rv32_program.specs.Program.{Program, is_mapped, is_writable, line_of}
 use Rattle.rv32_program.specs.Targets.{offset_address}
 use Rattle.templates.specs.declared.reaches.Reach.{Reach}
-use Rattle.node_model.specs.Node.{Local, is_readable_state, is_writable_state, meets_need, refuses_need, need_of_run}
+use Rattle.dsm_protocol.specs.node_model.Node.{Local, is_readable_state, is_writable_state, meets_need, refuses_need, need_of_run}
 use Rattle.rewriting_law.proofs.templates.States.{StateFits, Later, grants, ReadLook, Gone, Readable, Unreadable, read_look, WriteLook, Fixed, Writable, Unwritable, write_look}
 use Rattle.rewriting_law.proofs.templates.RegisterLemmas.{equal}
 use Rattle.rewriting_law.proofs.batches.RunStretches.{Within}

@@ -17,7 +17,7 @@ use Rattle.runtime_words.specs.declared.RtWord.TheVariants.{Native}
 use Rattle.templates.specs.declared.commits.CommitKind.TheVariants.{Always}
 use Rattle.templates.specs.declared.reaches.Reach.{Reach}
 use Rattle.templates.specs.Sequences.{SequenceItem, committing, run_items}
-use Rattle.node_model.specs.Node.{Lane, Local, Outcome, Next, go_on, lane_stored, local_stored, native, execute}
+use Rattle.dsm_protocol.specs.node_model.Node.{Lane, Local, Outcome, Next, go_on, lane_stored, local_stored, native, execute}
 use Rattle.rewriting_law.proofs.templates.RegisterLemmas.{put_other}
 use Rattle.rewriting_law.proofs.templates.Does.{SequenceKind, OfRun, place_of, lane_at, may_turn, is_where, Commits, Leads, Does, does_later}
 use Rattle.rewriting_law.proofs.templates.Mids.{Mid, shown, with_reg, mid_at}

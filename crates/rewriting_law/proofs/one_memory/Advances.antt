@@ -5,7 +5,7 @@ use Rattle.block_layout.specs.Layout.{Shape}
 use Rattle.rv32_program.specs.declared.Exit.{Exit}
 use Rattle.rv32_step.specs.OneMemory.{Original, Processor, State, Pick, Step, step, value_read, pick_step, value_of_pick, IsRun, run, values_read}
 use Rattle.templates.specs.declared.plans.PlanEntry.{PlanEntry}
-use Rattle.node_model.specs.Node.{Work, Lane, Local, Outcome}
+use Rattle.dsm_protocol.specs.node_model.Node.{Work, Lane, Local, Outcome}
 use Rattle.rewriting_law.specs.Licence.{Licensed}
 use Rattle.rewriting_law.proofs.one_memory.Originals.{original_with}
 use Rattle.rewriting_law.proofs.one_memory.Sharing.{Sharing, Shares, Worded, Advances}

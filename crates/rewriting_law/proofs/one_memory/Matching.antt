@@ -12,11 +12,11 @@ use Rattle.rv32_step.specs.OneMemory.{Processor, State, Pick, opening, run}
 use Rattle.templates.specs.declared.commits.CommitKind.{CommitKind}
 use Rattle.templates.specs.declared.plans.PlanEntry.{PlanEntry}
 use Rattle.templates.specs.Commits.{commit_at}
-use Rattle.jump_map.specs.Maps.{old_of, fetch}
+use Rattle.dsm_protocol.specs.jump_map.Maps.{old_of, fetch}
 use Rattle.home_directory.specs.declared.messages.Need.{Need}
 use Rattle.home_directory.specs.declared.messages.Need.TheVariants.{Write}
-use Rattle.node_model.specs.Node.{Work, Lane, Local, Want, Move, Next, Again, To, Enters, Waits, Leaves, Resume, Outcome, lane_after, lane_resumed, next_outcome, first_lane, takes_messages}
-use Rattle.node_model.specs.Turns.{wants_of, each_block_once}
+use Rattle.dsm_protocol.specs.node_model.Node.{Work, Lane, Local, Want, Move, Next, Again, To, Enters, Waits, Leaves, Resume, Outcome, lane_after, lane_resumed, next_outcome, first_lane, takes_messages}
+use Rattle.dsm_protocol.specs.node_model.Turns.{wants_of, each_block_once}
 use Rattle.rewriting_law.specs.CoreRun.{Order, break_by, is_exit, commits_by}
 use Rattle.rewriting_law.specs.Licence.{Licensed}
 use Rattle.rewriting_law.proofs.one_memory.Originals.{original_with}

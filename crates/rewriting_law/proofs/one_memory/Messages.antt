@@ -9,7 +9,7 @@ use Rattle.rv32_program.specs.Program.{class_at, line_of}
 use Rattle.rv32_step.specs.Breaks.{stands_at_store, RunsToStore}
 use Rattle.rv32_step.specs.Reservations.{with_reservation, after_other}
 use Rattle.rv32_step.specs.OneMemory.{State, Pick, Break, run}
-use Rattle.node_model.specs.Node.{Work, Local, is_readable_state, is_writable_state}
+use Rattle.dsm_protocol.specs.node_model.Node.{Work, Local, is_readable_state, is_writable_state}
 use Rattle.rewriting_law.specs.CoreRun.{Order, break_by}
 use Rattle.rewriting_law.proofs.one_memory.Originals.{original_with}
 use Rattle.rewriting_law.proofs.templates.RegisterLemmas.{equal}

@@ -10,7 +10,7 @@ use Rattle.rv32_step.specs.OneMemory.{Processor}
 use Rattle.templates.specs.declared.plans.PlanEntry.{PlanEntry}
 use Rattle.home_directory.specs.declared.messages.Need.{Need}
 use Rattle.home_directory.specs.declared.messages.Need.TheVariants.{Read, Write}
-use Rattle.node_model.specs.Node.{Work, Lane, Local, Want, Resume, Outcome, lane_resumed}
+use Rattle.dsm_protocol.specs.node_model.Node.{Work, Lane, Local, Want, Resume, Outcome, lane_resumed}
 use Rattle.rewriting_law.proofs.templates.RegisterLemmas.{equal}
 use Rattle.rewriting_law.proofs.templates.States.{Suits, grants}
 use Rattle.rewriting_law.proofs.templates.Does.{Seeks}

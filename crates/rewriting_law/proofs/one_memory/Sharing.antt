@@ -21,8 +21,8 @@ use Rattle.rv32_step.specs.Reservations.{with_reservation, after_other, after_st
 use Rattle.rv32_step.specs.OneMemory.{Processor, State, Reads, WritesIf, Exchanges, Request, Becomes, Prints, LoadsFrom, StoresTo, ReservesAt, StoresWhere, UpdatesAt, request, with_exit, after_print, after_store, after_exchange, after_conditional, with_conditional, set_register, byte_at, StepResult, answer, step}
 use Rattle.templates.specs.declared.commits.CommitKind.{CommitKind}
 use Rattle.templates.specs.declared.plans.PlanEntry.{PlanEntry}
-use Rattle.node_model.specs.Node.{Work, Lane, Local, Move, Next, Again, To, Enters, Waits, Leaves, Outcome, is_readable_state, is_writable_state, local_stored, lane_after}
-use Rattle.node_model.specs.Turns.{each_block_once}
+use Rattle.dsm_protocol.specs.node_model.Node.{Work, Lane, Local, Move, Next, Again, To, Enters, Waits, Leaves, Outcome, is_readable_state, is_writable_state, local_stored, lane_after}
+use Rattle.dsm_protocol.specs.node_model.Turns.{each_block_once}
 use Rattle.rewriting_law.specs.CoreRun.{is_exit, commits_by}
 use Rattle.rewriting_law.specs.Licence.{Licensed}
 use Rattle.rewriting_law.proofs.one_memory.Originals.{original_with}

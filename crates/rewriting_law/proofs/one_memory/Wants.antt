@@ -8,7 +8,7 @@ use Rattle.rv32_step.specs.Breaks.{is_in_block}
 use Rattle.rv32_step.specs.OneMemory.{Processor, State}
 use Rattle.templates.specs.declared.plans.PlanEntry.{PlanEntry}
 use Rattle.home_directory.specs.declared.messages.Need.{Need}
-use Rattle.node_model.specs.Node.{Work, Local, Want}
+use Rattle.dsm_protocol.specs.node_model.Node.{Work, Local, Want}
 use Rattle.rewriting_law.proofs.templates.RegisterLemmas.{apart, equal}
 use Rattle.rewriting_law.proofs.templates.States.{grants}
 use Rattle.rewriting_law.proofs.templates.Does.{IsWanted}

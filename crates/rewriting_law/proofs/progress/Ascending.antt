@@ -10,10 +10,10 @@ use Rattle.home_directory.specs.declared.messages.Wire.{Wire}
 use Rattle.templates.specs.declared.plans.PlanEntry.{PlanEntry}
 use Rattle.templates.specs.Places.{IsPlace}
 use Rattle.templates.specs.Plans.{AscendsFrom, addresses}
-use Rattle.node_model.specs.declared.Standing.TheVariants as standing
-use Rattle.node_model.specs.Node.{Work, Node, Move, Next, Again, To, Enters, Waits, Leaves, Running, Resumed, Ended, phase_after, word_outcome, is_at_poll, standing_of, standing_in}
-use Rattle.node_model.specs.Turns.{is_ended, wants_of, after_word, after_wants, word_turn, take_turn, each_block_once}
-use Rattle.node_model.specs.Core.{Core, Event, Exec, Take, May, IsCoreRun, opening_core, may_take, take_first, event_step, after}
+use Rattle.dsm_protocol.specs.node_model.declared.Standing.TheVariants as standing
+use Rattle.dsm_protocol.specs.node_model.Node.{Work, Node, Move, Next, Again, To, Enters, Waits, Leaves, Running, Resumed, Ended, phase_after, word_outcome, is_at_poll, standing_of, standing_in}
+use Rattle.dsm_protocol.specs.node_model.Turns.{is_ended, wants_of, after_word, after_wants, word_turn, take_turn, each_block_once}
+use Rattle.dsm_protocol.specs.node_model.Core.{Core, Event, Exec, Take, May, IsCoreRun, opening_core, may_take, take_first, event_step, after}
 use Rattle.rewriting_law.specs.Ascents.{pc_at, committed_at, committed, HasNoPollWithin, Ascend, AscendFromThird}
 use Rattle.rewriting_law.specs.CoreRun.{commits, picks_at}
 use Rattle.rewriting_law.specs.Interleaving.{original_by_node}

@@ -4,10 +4,10 @@ use Rattle.std.specs.Prelude.{◌&&◌, not}
 use Rattle.std.proofs.lemmas.Bool.Decides.{eqb_tells, nat_tests}
 use Rattle.rv32_program.specs.declared.End.TheVariants.{Stopped}
 use Rattle.home_directory.specs.declared.messages.Wire.{Wire}
-use Rattle.node_model.specs.declared.Standing.TheVariants as standing
-use Rattle.node_model.specs.Node.{Work, Node, Move, Next, Again, To, Enters, Waits, Leaves, Phase, Running, Resumed, Waiting, Ended, can_execute, phase_after, stop_or, has_all_byes, standing_in, word_outcome}
-use Rattle.node_model.specs.Turns.{is_ended, wants_of, after_word, after_wants, word_turn, treated, has_no_wait, resumed, journaled, after_message, take_turn, each_block_once}
-use Rattle.node_model.specs.Core.{Core, Event, Exec, Take, IsCoreRun, may_execute, take_first, event_step, after}
+use Rattle.dsm_protocol.specs.node_model.declared.Standing.TheVariants as standing
+use Rattle.dsm_protocol.specs.node_model.Node.{Work, Node, Move, Next, Again, To, Enters, Waits, Leaves, Phase, Running, Resumed, Waiting, Ended, can_execute, phase_after, stop_or, has_all_byes, standing_in, word_outcome}
+use Rattle.dsm_protocol.specs.node_model.Turns.{is_ended, wants_of, after_word, after_wants, word_turn, treated, has_no_wait, resumed, journaled, after_message, take_turn, each_block_once}
+use Rattle.dsm_protocol.specs.node_model.Core.{Core, Event, Exec, Take, IsCoreRun, may_execute, take_first, event_step, after}
 use Rattle.rewriting_law.proofs.runs.Turns.{byes_node, wants_same, treated_same, goes_on_from}
 
 module _ (work : Work) where

@@ -12,17 +12,17 @@ use Rattle.home_directory.specs.declared.messages.Post.{Post}
 use Rattle.home_directory.specs.declared.messages.Wire.{Wire}
 use Rattle.home_directory.specs.Home.{post}
 use Rattle.home_directory.specs.Table.{LocalBlock, BlockFacts, Miss, request, first_wait, state_in_wait, want_row, meets}
-use Rattle.miss_handlers.specs.Effects.{block_facts}
-use Rattle.miss_handlers.specs.Rows.{Row, AtHome, AtNode, row_of, block_in, is_bye}
+use Rattle.dsm_protocol.specs.miss_handlers.Effects.{block_facts}
+use Rattle.dsm_protocol.specs.miss_handlers.Rows.{Row, AtHome, AtNode, row_of, block_in, is_bye}
 use Rattle.rv32_program.specs.Program.{line_of}
 use Rattle.rv32_step.specs.OneMemory.{State}
 use Rattle.templates.specs.declared.plans.PlanEntry.{PlanEntry}
 use Rattle.dsm_protocol.specs.Events.{sends_in}
 use Rattle.dsm_protocol.specs.Holds.{NoneIs, is_for_home}
 use Rattle.dsm_protocol.proofs.ProtocolSide as world
-use Rattle.node_model.specs.Node.{Work, Node, Want, Phase, Running, Waiting, Ended, word_outcome, Resumed}
-use Rattle.node_model.specs.Turns.{Turn, byes_to, with_byes, is_ended, block_at, wants_of, with_miss, want_in, want_all, after_word, after_wants, by_row_or, treated, holding, has_no_wait, resumed, journaled, after_message, each_block_once}
-use Rattle.node_model.specs.Core.{Core, Event, Exec, Take, May, opening_core, wires_to, with_turn, with_list, take_first, event_step}
+use Rattle.dsm_protocol.specs.node_model.Node.{Work, Node, Want, Phase, Running, Waiting, Ended, word_outcome, Resumed}
+use Rattle.dsm_protocol.specs.node_model.Turns.{Turn, byes_to, with_byes, is_ended, block_at, wants_of, with_miss, want_in, want_all, after_word, after_wants, by_row_or, treated, holding, has_no_wait, resumed, journaled, after_message, each_block_once}
+use Rattle.dsm_protocol.specs.node_model.Core.{Core, Event, Exec, Take, May, opening_core, wires_to, with_turn, with_list, take_first, event_step}
 use Rattle.rewriting_law.specs.ProtocolLists.{messages_of}
 use Rattle.rewriting_law.proofs.words.CodeSide.{CodeSide}
 use Rattle.rewriting_law.proofs.one_memory.Sharing.{is_same}

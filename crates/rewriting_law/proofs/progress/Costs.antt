@@ -17,17 +17,17 @@ use Rattle.home_directory.specs.declared.messages.Message.TheVariants.{Read, Wri
 use Rattle.home_directory.specs.declared.messages.Wire.{Wire}
 use Rattle.home_directory.specs.Home.{post}
 use Rattle.home_directory.specs.Table.{BlockFacts, LocalBlock, Miss, meets, state_in_wait, first_wait, request, want_row}
-use Rattle.miss_handlers.specs.Effects.{block_facts}
-use Rattle.miss_handlers.specs.Rows.{Row, AtHome, AtNode, row_of}
+use Rattle.dsm_protocol.specs.miss_handlers.Effects.{block_facts}
+use Rattle.dsm_protocol.specs.miss_handlers.Rows.{Row, AtHome, AtNode, row_of}
 use Rattle.templates.specs.declared.plans.PlanEntry.{PlanEntry}
 use Rattle.dsm_protocol.specs.Holds.{wanted}
 use Rattle.dsm_protocol.specs.World.{local_block}
 use Rattle.dsm_protocol.proofs.Promised.{proper}
-use Rattle.node_model.specs.declared.NodeCounts.{NodeCounts}
-use Rattle.node_model.specs.Node.{Work, Node, Local, Want, Phase, Running, Resumed, Waiting, Ended, Tally, Nothing_counted, FalseMiss, FallsBack, counts_after as tallied, tally_resumed, word_outcome}
-use Rattle.node_model.specs.Turns.{Turn, block_at, count_want, holding, is_ended, wants_of, with_miss, want_in, want_all, after_word, after_wants, word_turn, by_row_or, treated, has_no_wait, resumed, journaled, after_message, take_turn, each_block_once}
-use Rattle.node_model.specs.Core.{Core, Event, Exec, Take, May, IsCoreRun, opening_core, take_first, event_step, after}
-use Rattle.node_model.specs.Outcome.{write_misses, AreFrugal, counts_after}
+use Rattle.dsm_protocol.specs.node_model.declared.NodeCounts.{NodeCounts}
+use Rattle.dsm_protocol.specs.node_model.Node.{Work, Node, Local, Want, Phase, Running, Resumed, Waiting, Ended, Tally, Nothing_counted, FalseMiss, FallsBack, counts_after as tallied, tally_resumed, word_outcome}
+use Rattle.dsm_protocol.specs.node_model.Turns.{Turn, block_at, count_want, holding, is_ended, wants_of, with_miss, want_in, want_all, after_word, after_wants, word_turn, by_row_or, treated, has_no_wait, resumed, journaled, after_message, take_turn, each_block_once}
+use Rattle.dsm_protocol.specs.node_model.Core.{Core, Event, Exec, Take, May, IsCoreRun, opening_core, take_first, event_step, after}
+use Rattle.dsm_protocol.specs.node_model.Outcome.{write_misses, AreFrugal, counts_after}
 use Rattle.rewriting_law.specs.ProtocolLists.{messages_of}
 use Rattle.rewriting_law.specs.CoreRun.{picks_at}
 use Rattle.rewriting_law.specs.Interleaving.{original_by_node}

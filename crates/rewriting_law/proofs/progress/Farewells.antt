@@ -7,10 +7,10 @@ use Rattle.home_directory.specs.declared.messages.Message.TheVariants.{Bye}
 use Rattle.home_directory.specs.declared.messages.Post.{Post}
 use Rattle.home_directory.specs.declared.messages.Wire.{Wire}
 use Rattle.home_directory.specs.Home.{post}
-use Rattle.miss_handlers.specs.Rows.{is_bye}
+use Rattle.dsm_protocol.specs.miss_handlers.Rows.{is_bye}
 use Rattle.dsm_protocol.specs.Holds.{NoneIs}
-use Rattle.node_model.specs.Turns.{Turn, byes_to, is_ended}
-use Rattle.node_model.specs.Core.{Core, wires_to, with_turn}
+use Rattle.dsm_protocol.specs.node_model.Turns.{Turn, byes_to, is_ended}
+use Rattle.dsm_protocol.specs.node_model.Core.{Core, wires_to, with_turn}
 use Rattle.rewriting_law.proofs.templates.RegisterLemmas.{equal}
 use Rattle.rewriting_law.proofs.one_memory.Sharing.{is_same}
 

@@ -8,20 +8,20 @@ use Rattle.home_directory.specs.declared.messages.Message.{Message}
 use Rattle.home_directory.specs.declared.messages.Wire.{Wire}
 use Rattle.home_directory.specs.Home.{count_of}
 use Rattle.home_directory.specs.Table.{Miss}
-use Rattle.miss_handlers.specs.Rows.{Row, AtHome, AtNode, row_of, is_bye}
+use Rattle.dsm_protocol.specs.miss_handlers.Rows.{Row, AtHome, AtNode, row_of, is_bye}
 use Rattle.rv32_step.specs.OneMemory.{Processor, State, opening, run}
 use Rattle.templates.specs.declared.commits.CommitKind.{CommitKind}
 use Rattle.templates.specs.declared.plans.PlanEntry.{PlanEntry}
 use Rattle.templates.specs.Commits.{commit_at}
-use Rattle.jump_map.specs.Maps.{old_of}
+use Rattle.dsm_protocol.specs.jump_map.Maps.{old_of}
 use Rattle.dsm_protocol.specs.Events.{row_of as row_at}
 use Rattle.dsm_protocol.specs.Holds.{is_for_home}
 use Rattle.dsm_protocol.proofs.Counting.{count_one}
 use Rattle.dsm_protocol.proofs.Promised.{proper}
 use Rattle.dsm_protocol.proofs.ProtocolSide as world
-use Rattle.node_model.specs.Node.{Work, Node, Local, Want, Move, Next, Again, To, Enters, Waits, Leaves, Outcome, Phase, Running, Resumed, Waiting, Ended, word_outcome}
-use Rattle.node_model.specs.Turns.{Turn, holding, wants_of, after_word, after_wants, word_turn, is_ended, treated, has_no_wait, resumed, journaled, after_message, take_turn, each_block_once}
-use Rattle.node_model.specs.Core.{Core, Event, Exec, Take, May, IsCoreRun, opening_core, take_first, event_step, after}
+use Rattle.dsm_protocol.specs.node_model.Node.{Work, Node, Local, Want, Move, Next, Again, To, Enters, Waits, Leaves, Outcome, Phase, Running, Resumed, Waiting, Ended, word_outcome}
+use Rattle.dsm_protocol.specs.node_model.Turns.{Turn, holding, wants_of, after_word, after_wants, word_turn, is_ended, treated, has_no_wait, resumed, journaled, after_message, take_turn, each_block_once}
+use Rattle.dsm_protocol.specs.node_model.Core.{Core, Event, Exec, Take, May, IsCoreRun, opening_core, take_first, event_step, after}
 use Rattle.rewriting_law.specs.ProtocolLists.{messages_of}
 use Rattle.rewriting_law.specs.Bounds.{most_events}
 use Rattle.rewriting_law.specs.CoreRun.{picks_at}

@@ -9,9 +9,9 @@ use Rattle.rv32_program.specs.Program.{line_of}
 use Rattle.rv32_step.specs.OneMemory.{Step, Break, State, opening, run}
 use Rattle.home_directory.specs.declared.messages.Wire.{Wire}
 use Rattle.templates.specs.declared.plans.PlanEntry.{PlanEntry}
-use Rattle.node_model.specs.Node.{Work, Node, Running, Resumed, Waiting, Ended, word_outcome}
-use Rattle.node_model.specs.Turns.{is_ended, wants_of, after_word, after_wants, word_turn, treated, journaled, after_message, take_turn, each_block_once}
-use Rattle.node_model.specs.Core.{Core, Event, Exec, Take, IsCoreRun, opening_core, take_first, event_step, after}
+use Rattle.dsm_protocol.specs.node_model.Node.{Work, Node, Running, Resumed, Waiting, Ended, word_outcome}
+use Rattle.dsm_protocol.specs.node_model.Turns.{is_ended, wants_of, after_word, after_wants, word_turn, treated, journaled, after_message, take_turn, each_block_once}
+use Rattle.dsm_protocol.specs.node_model.Core.{Core, Event, Exec, Take, IsCoreRun, opening_core, take_first, event_step, after}
 use Rattle.rewriting_law.specs.Bounds.{is_step_of, steps_of}
 use Rattle.rewriting_law.specs.CoreRun.{Order, break_by, order_of, commits, picks_of_take, picks_at, picks_of}
 use Rattle.rewriting_law.specs.Interleaving.{original_by_node}

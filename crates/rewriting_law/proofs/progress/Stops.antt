@@ -3,9 +3,9 @@ use Rattle.std.proofs.Common.{◌≡◌, ℕ, ◌+◌, cond, eqb, Bool, true, fa
 use Rattle.std.proofs.lemmas.Bool.Decides.{eqb_tells}
 use Rattle.rv32_program.specs.declared.End.TheVariants.{Stopped}
 use Rattle.home_directory.specs.declared.messages.Wire.{Wire}
-use Rattle.node_model.specs.Node.{Work, Node, Move, Next, Again, To, Enters, Waits, Leaves, Phase, Running, Resumed, Waiting, Ended, phase_after, stop_or, word_outcome}
-use Rattle.node_model.specs.Turns.{is_ended, after_word, after_wants, wants_of, treated, has_no_wait, resumed, journaled, word_turn, after_message, take_turn, each_block_once}
-use Rattle.node_model.specs.Core.{Core, Event, Exec, Take, take_first, event_step, after}
+use Rattle.dsm_protocol.specs.node_model.Node.{Work, Node, Move, Next, Again, To, Enters, Waits, Leaves, Phase, Running, Resumed, Waiting, Ended, phase_after, stop_or, word_outcome}
+use Rattle.dsm_protocol.specs.node_model.Turns.{is_ended, after_word, after_wants, wants_of, treated, has_no_wait, resumed, journaled, word_turn, after_message, take_turn, each_block_once}
+use Rattle.dsm_protocol.specs.node_model.Core.{Core, Event, Exec, Take, take_first, event_step, after}
 use Rattle.rewriting_law.proofs.runs.Turns.{byes_node, wants_same, treated_same, goes_on_from}
 
 -- a node that is stopped has executed its whole budget

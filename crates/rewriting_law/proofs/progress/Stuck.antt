@@ -14,10 +14,10 @@ use Rattle.rv32_step.specs.OneMemory.{State, opening, run}
 use Rattle.templates.specs.declared.plans.PlanEntry.{PlanEntry}
 use Rattle.dsm_protocol.specs.Holds.{wanted, has_message}
 use Rattle.dsm_protocol.proofs.ProtocolSide as world
-use Rattle.node_model.specs.declared.Standing.TheVariants as standing
-use Rattle.node_model.specs.Node.{Work, Node, Resume, Phase, Running, Resumed, Waiting, Ended, is_at_poll, has_all_byes, standing_in, standing_of}
-use Rattle.node_model.specs.Turns.{is_ended}
-use Rattle.node_model.specs.Core.{Core, Event, Exec, Take, May, IsCoreRun, may_execute, may_take, opening_core, event_step, after}
+use Rattle.dsm_protocol.specs.node_model.declared.Standing.TheVariants as standing
+use Rattle.dsm_protocol.specs.node_model.Node.{Work, Node, Resume, Phase, Running, Resumed, Waiting, Ended, is_at_poll, has_all_byes, standing_in, standing_of}
+use Rattle.dsm_protocol.specs.node_model.Turns.{is_ended}
+use Rattle.dsm_protocol.specs.node_model.Core.{Core, Event, Exec, Take, May, IsCoreRun, may_execute, may_take, opening_core, event_step, after}
 use Rattle.rewriting_law.specs.ProtocolLists.{messages_of}
 use Rattle.rewriting_law.specs.CoreRun.{picks_at}
 use Rattle.rewriting_law.specs.Interleaving.{original_by_node, HaveRows}

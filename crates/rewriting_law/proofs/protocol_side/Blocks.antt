@@ -11,8 +11,8 @@ use Rattle.home_directory.specs.declared.messages.Need.TheVariants as want
 use Rattle.home_directory.specs.Table.{meets}
 use Rattle.rv32_program.specs.Program.{Program}
 use Rattle.dsm_protocol.proofs.Openings.{LineLaws}
-use Rattle.node_model.specs.Node.{first_state, is_readable_state, is_writable_state}
-use Rattle.node_model.specs.Turns.{with_state}
+use Rattle.dsm_protocol.specs.node_model.Node.{first_state, is_readable_state, is_writable_state}
+use Rattle.dsm_protocol.specs.node_model.Turns.{with_state}
 use Rattle.rewriting_law.proofs.templates.States.{grants}
 
 -- a state's byte

@@ -7,7 +7,7 @@ use Rattle.block_layout.specs.Layout.{Shape, blocks, block_of}
 use Rattle.home_directory.specs.Home.{count_of}
 use Rattle.rv32_program.specs.Program.{line_of}
 use Rattle.rv32_step.specs.Breaks.{is_in_block}
-use Rattle.node_model.specs.Node.{Want}
+use Rattle.dsm_protocol.specs.node_model.Node.{Want}
 use Rattle.rewriting_law.proofs.one_memory.Sharing.{is_same}
 use Rattle.rewriting_law.proofs.one_memory.Pending.{wanted_in}
 

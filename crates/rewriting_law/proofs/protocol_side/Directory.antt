@@ -12,14 +12,14 @@ use Rattle.home_directory.specs.declared.wait.Wait.{Wait}
 use Rattle.home_directory.specs.declared.directory.Request.{Request}
 use Rattle.home_directory.specs.Home.{Entry}
 use Rattle.home_directory.specs.Table.{Miss, want_row}
-use Rattle.miss_handlers.specs.Effects.{block_facts}
-use Rattle.miss_handlers.specs.Rows.{Row, AtHome, AtNode, taker_in}
+use Rattle.dsm_protocol.specs.miss_handlers.Effects.{block_facts}
+use Rattle.dsm_protocol.specs.miss_handlers.Rows.{Row, AtHome, AtNode, taker_in}
 use Rattle.dsm_protocol.specs.World.{World, local_block, with_list, with_sends}
 use Rattle.dsm_protocol.specs.Events.{row_of}
 use Rattle.dsm_protocol.specs.Holds.{wanted}
 use Rattle.dsm_protocol.proofs.ByAddress.{bytes_in}
-use Rattle.node_model.specs.Node.{Local}
-use Rattle.node_model.specs.Turns.{with_state, with_bytes}
+use Rattle.dsm_protocol.specs.node_model.Node.{Local}
+use Rattle.dsm_protocol.specs.node_model.Turns.{with_state, with_bytes}
 use Rattle.rewriting_law.specs.CoreRun.{Order, order_by}
 use Rattle.rewriting_law.proofs.protocol_side.ProtocolSide.{Treated, Protocol}
 use Rattle.rewriting_law.proofs.protocol_side.Spending.{Counts, asks_more, takes_more}

@@ -12,7 +12,7 @@ use Rattle.buf_pool.specs.Pool.{empty_buffer}
 use Rattle.state_table.specs.declared.State.{State}
 use Rattle.state_table.specs.declared.State.TheVariants as state
 use Rattle.state_table.specs.StateByte.{byte_of, state_with, can_read, can_write}
-use Rattle.flag_memory.specs.Flag.{flag_byte}
+use Rattle.home_directory.specs.flag_memory.Flag.{flag_byte}
 use Rattle.home_directory.specs.declared.messages.Need.{Need}
 use Rattle.home_directory.specs.declared.messages.Message.TheVariants as message
 use Rattle.home_directory.specs.declared.messages.Message.{Message}
@@ -21,7 +21,7 @@ use Rattle.home_directory.specs.declared.wait.Wait.{Wait}
 use Rattle.home_directory.specs.Home.{count_of}
 use Rattle.home_directory.specs.Table.{Miss, meets}
 use Rattle.llsc.specs.Reservation.{cleared}
-use Rattle.miss_handlers.specs.Rows.{Row, AtHome, AtNode, block_in, clears, taker_in, is_bye, takes_away}
+use Rattle.dsm_protocol.specs.miss_handlers.Rows.{Row, AtHome, AtNode, block_in, clears, taker_in, is_bye, takes_away}
 use Rattle.rv32_program.specs.declared.Class.TheVariants.{Shared}
 use Rattle.rv32_program.specs.Program.{class_at, line_of}
 use Rattle.coherence.specs.Machine.{Event, Want as WantsBlock}
@@ -37,8 +37,8 @@ use Rattle.dsm_protocol.proofs.Alike.{Alike}
 use Rattle.dsm_protocol.proofs.Promised.{two_of_most}
 use Rattle.dsm_protocol.proofs.ProtocolSide as world
 use Rattle.dsm_protocol.proofs.ByAddress.{byte_of_block, flag_at}
-use Rattle.node_model.specs.Turns.{with_state}
-use Rattle.node_model.specs.Node.{Work, Local, Want, is_readable_state, is_writable_state, IsLaidOver}
+use Rattle.dsm_protocol.specs.node_model.Turns.{with_state}
+use Rattle.dsm_protocol.specs.node_model.Node.{Work, Local, Want, is_readable_state, is_writable_state, IsLaidOver}
 use Rattle.rewriting_law.specs.CoreRun.{Order, order_by}
 use Rattle.rewriting_law.proofs.templates.States.{Suits, StateFits, first_fits, grants}
 use Rattle.rewriting_law.proofs.templates.Flagged.{extend_word, flag_bytes}

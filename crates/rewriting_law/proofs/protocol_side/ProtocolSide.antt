@@ -12,7 +12,7 @@ use Rattle.rv32_step.specs.Breaks.{stands_at_store, RunsToStore}
 use Rattle.rv32_step.specs.OneMemory.{State}
 use Rattle.home_directory.specs.declared.messages.Need.{Need}
 use Rattle.home_directory.specs.declared.messages.Need.TheVariants.{Write}
-use Rattle.node_model.specs.Node.{Work, Local, Want, is_readable_state, is_writable_state}
+use Rattle.dsm_protocol.specs.node_model.Node.{Work, Local, Want, is_readable_state, is_writable_state}
 use Rattle.rewriting_law.proofs.templates.States.{Suits, grants}
 use Rattle.rewriting_law.proofs.one_memory.Sharing.{Sharing, with_local}
 use Rattle.rewriting_law.specs.CoreRun.{Order}

@@ -4,8 +4,8 @@ use Rattle.std.specs.Option.{option_map_or}
 use Rattle.block_layout.specs.Layout.{Shape, blocks, home, first_line, block_of}
 use Rattle.state_table.specs.declared.State.TheVariants.{Exclusive, Invalid}
 use Rattle.state_table.specs.StateByte.{byte_of, state_with}
-use Rattle.flag_memory.specs.Copy.{bytes_from}
-use Rattle.flag_memory.specs.Flag.{flag_byte, flags}
+use Rattle.home_directory.specs.flag_memory.Copy.{bytes_from}
+use Rattle.home_directory.specs.flag_memory.Flag.{flag_byte, flags}
 use Rattle.rv32_program.specs.declared.Class.TheVariants.{Shared}
 use Rattle.rv32_program.specs.Program.{line_of}
 use Rattle.dsm_protocol.specs.Sound.{size}
@@ -15,8 +15,8 @@ use Rattle.dsm_protocol.proofs.NodeRows.{len_flags}
 use Rattle.dsm_protocol.proofs.Openings.{contents_in, block_is, len_from, get_from}
 use Rattle.dsm_protocol.proofs.ProtocolSide as world
 use Rattle.dsm_protocol.proofs.ByAddress.{bytes_in, flag_at}
-use Rattle.node_model.specs.Node.{Work, first_state, first_local, is_at_home}
-use Rattle.node_model.specs.Core.{opening_core}
+use Rattle.dsm_protocol.specs.node_model.Node.{Work, first_state, first_local, is_at_home}
+use Rattle.dsm_protocol.specs.node_model.Core.{opening_core}
 use Rattle.rewriting_law.proofs.protocol_side.Directory.{world_of}
 use Rattle.rewriting_law.proofs.protocol_side.Blocks.{first_in, Fits}
 use Rattle.rewriting_law.proofs.protocol_side.DirectorySide.{Layout, by_list, Held, laid_out}

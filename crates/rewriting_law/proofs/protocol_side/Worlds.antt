@@ -10,7 +10,7 @@ use Rattle.state_table.specs.declared.State.{State}
 use Rattle.state_table.specs.StateByte.{state_with}
 use Rattle.home_directory.specs.declared.messages.Message.{Message}
 use Rattle.home_directory.specs.Table.{Miss}
-use Rattle.miss_handlers.specs.Rows.{Row, AtHome, AtNode}
+use Rattle.dsm_protocol.specs.miss_handlers.Rows.{Row, AtHome, AtNode}
 use Rattle.rv32_program.specs.Program.{line_of}
 use Rattle.dsm_protocol.specs.World.{World, after_miss}
 use Rattle.dsm_protocol.specs.Sound.{size}
@@ -20,8 +20,8 @@ use Rattle.dsm_protocol.specs.Holds.{after_store}
 use Rattle.dsm_protocol.proofs.Openings.{LineLaws}
 use Rattle.dsm_protocol.proofs.Alike.{Alike}
 use Rattle.dsm_protocol.proofs.ByAddress.{bytes_in, stored_bytes, stored_elsewhere, put_own, put_other}
-use Rattle.node_model.specs.Node.{Local}
-use Rattle.node_model.specs.Turns.{with_state, with_bytes}
+use Rattle.dsm_protocol.specs.node_model.Node.{Local}
+use Rattle.dsm_protocol.specs.node_model.Turns.{with_state, with_bytes}
 use Rattle.rewriting_law.proofs.one_memory.Sharing.{with_local, is_same}
 use Rattle.rewriting_law.proofs.protocol_side.Directory.{Rest, world_of, missed, took}
 use Rattle.rewriting_law.proofs.protocol_side.Blocks.{state_put}

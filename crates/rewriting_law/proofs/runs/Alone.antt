@@ -11,18 +11,18 @@ use Rattle.home_directory.specs.declared.messages.Message.{Message}
 use Rattle.home_directory.specs.declared.messages.Message.TheVariants.{Read, Write, FwdRead, FwdWrite, Inval, Data, Grant, Ack, Done, Bye}
 use Rattle.home_directory.specs.declared.messages.Post.{Post}
 use Rattle.home_directory.specs.declared.messages.Wire.{Wire}
-use Rattle.miss_handlers.specs.Rows.{is_bye}
+use Rattle.dsm_protocol.specs.miss_handlers.Rows.{is_bye}
 use Rattle.rv32_program.specs.declared.Class.TheVariants.{Shared}
 use Rattle.rv32_program.specs.Program.{line_of}
 use Rattle.rv32_step.specs.OneMemory.{Processor, State, Request, Becomes, Prints, LoadsFrom, StoresTo, ReservesAt, StoresWhere, UpdatesAt, opening, request, run}
 use Rattle.templates.specs.declared.commits.CommitKind.{CommitKind}
 use Rattle.templates.specs.declared.plans.PlanEntry.{PlanEntry}
 use Rattle.templates.specs.Commits.{commit_at}
-use Rattle.jump_map.specs.Maps.{old_of}
+use Rattle.dsm_protocol.specs.jump_map.Maps.{old_of}
 use Rattle.dsm_protocol.specs.Holds.{AreByes}
-use Rattle.node_model.specs.Node.{Work, Node, Local, Move, Next, Again, To, Enters, Waits, Leaves, Outcome, first_state, is_at_home, is_writable_state, can_execute, Phase, word_outcome}
-use Rattle.node_model.specs.Turns.{Turn, quiet, byes_to, with_byes, is_ended, wants_of, want_all, after_word, after_wants, word_turn, treated, journaled, after_message, take_turn, each_block_once}
-use Rattle.node_model.specs.Core.{Core, Event, Exec, Take, May, IsCoreRun, opening_core, wires_to, with_list, take_first, event_step, after}
+use Rattle.dsm_protocol.specs.node_model.Node.{Work, Node, Local, Move, Next, Again, To, Enters, Waits, Leaves, Outcome, first_state, is_at_home, is_writable_state, can_execute, Phase, word_outcome}
+use Rattle.dsm_protocol.specs.node_model.Turns.{Turn, quiet, byes_to, with_byes, is_ended, wants_of, want_all, after_word, after_wants, word_turn, treated, journaled, after_message, take_turn, each_block_once}
+use Rattle.dsm_protocol.specs.node_model.Core.{Core, Event, Exec, Take, May, IsCoreRun, opening_core, wires_to, with_list, take_first, event_step, after}
 use Rattle.rewriting_law.specs.CoreRun.{is_wait, commits_by, picks_at}
 use Rattle.rewriting_law.specs.Interleaving.{original_by_node, GoesAlone}
 use Rattle.rewriting_law.proofs.templates.States.{grants}

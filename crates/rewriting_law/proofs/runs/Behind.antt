@@ -10,9 +10,9 @@ use Rattle.dsm_protocol.specs.World.{with_sends}
 use Rattle.dsm_protocol.specs.Holds.{AreByes}
 use Rattle.dsm_protocol.proofs.ProtocolSide as world
 use Rattle.dsm_protocol.proofs.ByAddress.{bytes_in}
-use Rattle.node_model.specs.Node.{Work, Local}
-use Rattle.node_model.specs.Turns.{Turn, byes_to, with_byes}
-use Rattle.node_model.specs.Core.{Core}
+use Rattle.dsm_protocol.specs.node_model.Node.{Work, Local}
+use Rattle.dsm_protocol.specs.node_model.Turns.{Turn, byes_to, with_byes}
+use Rattle.dsm_protocol.specs.node_model.Core.{Core}
 use Rattle.rewriting_law.proofs.protocol_side.ProtocolSide.{Treated}
 use Rattle.rewriting_law.proofs.protocol_side.Spending.{Counts, AreCounted}
 use Rattle.rewriting_law.proofs.protocol_side.Directory.{Rest, world_of}

@@ -7,7 +7,7 @@ use Rattle.home_directory.specs.declared.messages.Wire.{Wire}
 use Rattle.home_directory.specs.declared.messages.Need.{Need}
 use Rattle.home_directory.specs.declared.wait.Wait.{Wait}
 use Rattle.home_directory.specs.Home.{count_of}
-use Rattle.miss_handlers.specs.Rows.{row_of, taker_in}
+use Rattle.dsm_protocol.specs.miss_handlers.Rows.{row_of, taker_in}
 use Rattle.rv32_program.specs.declared.Exit.{Exit}
 use Rattle.rv32_program.specs.declared.End.TheVariants.{Exited, Stopped}
 use Rattle.rv32_program.specs.Program.{line_of}
@@ -16,12 +16,12 @@ use Rattle.rv32_step.specs.OneMemory.{Original, Processor, State, Pick, opening,
 use Rattle.templates.specs.declared.commits.CommitKind.{CommitKind}
 use Rattle.templates.specs.declared.plans.PlanEntry.{PlanEntry}
 use Rattle.templates.specs.Commits.{commit_at}
-use Rattle.jump_map.specs.Maps.{old_of, fetch}
+use Rattle.dsm_protocol.specs.jump_map.Maps.{old_of, fetch}
 use Rattle.dsm_protocol.specs.Holds.{wanted}
-use Rattle.node_model.specs.declared.Standing.TheVariants as standing
-use Rattle.node_model.specs.Node.{Work, Node, Lane, Local, Want, Move, Next, Again, To, Enters, Waits, Leaves, Resume, Outcome, Phase, Running, Resumed, Waiting, Ended, lane_after, lane_resumed, phase_after, stop_or, takes_messages, standing_in, has_all_byes, word_outcome}
-use Rattle.node_model.specs.Turns.{Turn, holding, with_byes, is_ended, wants_of, after_word, after_wants, treated, has_no_wait, resumed, journaled, after_message, take_turn, each_block_once}
-use Rattle.node_model.specs.Core.{Core, Event, Exec, Take, May, IsCoreRun, may_execute, may_take, opening_core, with_turn, with_list, take_first, event_step, after, printed_at, printed_by}
+use Rattle.dsm_protocol.specs.node_model.declared.Standing.TheVariants as standing
+use Rattle.dsm_protocol.specs.node_model.Node.{Work, Node, Lane, Local, Want, Move, Next, Again, To, Enters, Waits, Leaves, Resume, Outcome, Phase, Running, Resumed, Waiting, Ended, lane_after, lane_resumed, phase_after, stop_or, takes_messages, standing_in, has_all_byes, word_outcome}
+use Rattle.dsm_protocol.specs.node_model.Turns.{Turn, holding, with_byes, is_ended, wants_of, after_word, after_wants, treated, has_no_wait, resumed, journaled, after_message, take_turn, each_block_once}
+use Rattle.dsm_protocol.specs.node_model.Core.{Core, Event, Exec, Take, May, IsCoreRun, may_execute, may_take, opening_core, with_turn, with_list, take_first, event_step, after, printed_at, printed_by}
 use Rattle.rewriting_law.specs.ProtocolLists.{messages_of}
 use Rattle.rewriting_law.specs.CoreRun.{Order, is_wait, order_by, break_by, picks_of_take, picks_at, picks_of, values_at, values_of}
 use Rattle.rewriting_law.specs.Licence.{AllLicensed, IsLicensed}

@@ -5,11 +5,11 @@ use Rattle.block_layout.specs.Layout.{Shape, IsValid, blocks, home, lines, block
 use Rattle.rv32_program.specs.Program.{IsAccepted, line_of}
 use Rattle.rv32_step.specs.OneMemory.{opening}
 use Rattle.templates.specs.declared.plans.PlanEntry.{PlanEntry}
-use Rattle.jump_map.specs.Image.{IsRewriting}
+use Rattle.dsm_protocol.specs.jump_map.Image.{IsRewriting}
 use Rattle.dsm_protocol.proofs.Openings.{LineLaws}
-use Rattle.node_model.specs.declared.Standing.TheVariants.{Over}
-use Rattle.node_model.specs.Node.{Work, Resume, Waiting, Ended, is_readable_state, is_writable_state, IsLaidOver, can_execute, standing_of}
-use Rattle.node_model.specs.Core.{Event, Exec, May, IsCoreRun, opening_core, after}
+use Rattle.dsm_protocol.specs.node_model.declared.Standing.TheVariants.{Over}
+use Rattle.dsm_protocol.specs.node_model.Node.{Work, Resume, Waiting, Ended, is_readable_state, is_writable_state, IsLaidOver, can_execute, standing_of}
+use Rattle.dsm_protocol.specs.node_model.Core.{Event, Exec, May, IsCoreRun, opening_core, after}
 use Rattle.rewriting_law.specs.Bounds.{most_events, steps_of}
 use Rattle.rewriting_law.specs.Licence.{AllLicensed}
 use Rattle.rewriting_law.specs.Interleaving.{Interleaves, IsCoherent, GoesAlone, SameReservations, HaveRows, original_by_node, original_after}
@@ -29,7 +29,7 @@ use Rattle.rewriting_law.proofs.progress.Ascending.{Climb, behind_first, climbs_
 use Rattle.rewriting_law.specs.Ascents.{AscendsBetweenPolls, pc_at, committed}
 use Rattle.rv32_program.specs.declared.End.TheVariants.{Stopped}
 use Rattle.rewriting_law.specs.CoreRun.{commits, picks_of}
-use Rattle.node_model.specs.Outcome.{AreFrugal, counts_after}
+use Rattle.dsm_protocol.specs.node_model.Outcome.{AreFrugal, counts_after}
 
 -- what the laws of blocks say of a layout
 pub layout_of : LineLaws → ((s : Shape) (b : ℕ) → IsValid s → b < blocks s → 0 < lines s b)

@@ -14,7 +14,7 @@ use Rattle.llsc.specs.Reservation.{holds, cleared}
 use Rattle.home_directory.specs.declared.messages.Need.{Need}
 use Rattle.home_directory.specs.declared.messages.Wire.{Wire}
 use Rattle.home_directory.specs.Table.{Miss, NodeRow}
-use Rattle.miss_handlers.specs.Rows.{Row, AtHome, AtNode, row_of, taker_in, is_bye}
+use Rattle.dsm_protocol.specs.miss_handlers.Rows.{Row, AtHome, AtNode, row_of, taker_in, is_bye}
 use Rattle.rv32_step.specs.declared.Demand.{Demand}
 use Rattle.rv32_step.specs.declared.Demand.TheVariants.{Sets, Continues, Jumps, Branches, Loads, Stores, Calls, Traps, Reserves, StoresIf, Updates}
 use Rattle.rv32_step.specs.declared.CallStep.{CallStep}
@@ -27,13 +27,13 @@ use Rattle.rv32_step.specs.OneMemory.{Access, WritesIf, Break}
 use Rattle.templates.specs.declared.plans.PlanEntry.{PlanEntry}
 use Rattle.runtime_words.specs.declared.RtWord.{RtWord}
 use Rattle.runtime_words.specs.declared.RtWord.TheVariants.{Native, MissR, MissW, Poll, Call, Xjalr, Prepare, Far, TrapFetch, TrapOff, TrapIllegal, TrapEbreak, Batch}
-use Rattle.jump_map.specs.declared.image.ImageWord.{ImageWord}
-use Rattle.jump_map.specs.Maps.{fetch}
+use Rattle.dsm_protocol.specs.jump_map.declared.image.ImageWord.{ImageWord}
+use Rattle.dsm_protocol.specs.jump_map.Maps.{fetch}
 use Rattle.dsm_protocol.specs.World.{World}
 use Rattle.dsm_protocol.proofs.RowFacts.{row_facts}
-use Rattle.node_model.specs.Node.{Work, Node, Lane, Local, Want, Outcome, Region, Memory, StateOf, Spill, Elsewhere, region_of, load, store, reserving, store_if, byte_at, native, miss_r_by, miss_w_by, prepare_by, make_call, place_address, execute, execute_read, execute_at, is_mapped_state, is_readable_state, is_fixed_state, is_writable_state, word_outcome, batch, batch_by, one_refuses, unmet, need_of_run}
-use Rattle.node_model.specs.Turns.{Turn, block_at, holding, with_miss, want_in, want_all, wants_of, after_word, after_wants, word_turn, is_ended, by_row_or, treated, journaled, after_message, take_turn, each_block_once}
-use Rattle.node_model.specs.Core.{Core, Event, Exec, Take, take_first, event_step}
+use Rattle.dsm_protocol.specs.node_model.Node.{Work, Node, Lane, Local, Want, Outcome, Region, Memory, StateOf, Spill, Elsewhere, region_of, load, store, reserving, store_if, byte_at, native, miss_r_by, miss_w_by, prepare_by, make_call, place_address, execute, execute_read, execute_at, is_mapped_state, is_readable_state, is_fixed_state, is_writable_state, word_outcome, batch, batch_by, one_refuses, unmet, need_of_run}
+use Rattle.dsm_protocol.specs.node_model.Turns.{Turn, block_at, holding, with_miss, want_in, want_all, wants_of, after_word, after_wants, word_turn, is_ended, by_row_or, treated, journaled, after_message, take_turn, each_block_once}
+use Rattle.dsm_protocol.specs.node_model.Core.{Core, Event, Exec, Take, take_first, event_step}
 use Rattle.rewriting_law.specs.CoreRun.{order_by, break_by, picks_of_take}
 use Rattle.rewriting_law.specs.Conditionals.{IsConditional, IsLostBy}
 use Rattle.rewriting_law.proofs.templates.RegisterLemmas.{equal}

@@ -12,15 +12,15 @@ use Rattle.home_directory.specs.declared.messages.Post.{Post}
 use Rattle.home_directory.specs.declared.messages.Wire.{Wire}
 use Rattle.home_directory.specs.declared.wait.Wait.{Wait}
 use Rattle.home_directory.specs.Table.{LocalBlock, Miss, want_row}
-use Rattle.miss_handlers.specs.Effects.{block_facts}
-use Rattle.miss_handlers.specs.Rows.{Row, AtHome, AtNode, row_of}
+use Rattle.dsm_protocol.specs.miss_handlers.Effects.{block_facts}
+use Rattle.dsm_protocol.specs.miss_handlers.Rows.{Row, AtHome, AtNode, row_of}
 use Rattle.rv32_program.specs.Program.{line_of}
 use Rattle.templates.specs.declared.plans.PlanEntry.{PlanEntry}
 use Rattle.dsm_protocol.specs.World.{local_block, messages_to, with_list as without_first, with_sends}
 use Rattle.dsm_protocol.proofs.ByAddress.{bytes_in}
-use Rattle.node_model.specs.Node.{Work, Node, Local, Want, Phase, Running, Resumed, Waiting, Ended, word_outcome, word_step}
-use Rattle.node_model.specs.Turns.{Turn, quiet, block_at, holding, with_state, with_miss, want_in, want_all, after_word, by_row_or, treated, has_no_wait, resumed}
-use Rattle.node_model.specs.Core.{Core, wires_to, with_turn}
+use Rattle.dsm_protocol.specs.node_model.Node.{Work, Node, Local, Want, Phase, Running, Resumed, Waiting, Ended, word_outcome, word_step}
+use Rattle.dsm_protocol.specs.node_model.Turns.{Turn, quiet, block_at, holding, with_state, with_miss, want_in, want_all, after_word, by_row_or, treated, has_no_wait, resumed}
+use Rattle.dsm_protocol.specs.node_model.Core.{Core, wires_to, with_turn}
 use Rattle.rewriting_law.specs.ProtocolLists.{messages_of}
 use Rattle.rewriting_law.proofs.one_memory.Sharing.{with_local, is_same, local_here}
 use Rattle.rewriting_law.proofs.protocol_side.ProtocolSide.{Treated}

@@ -6,9 +6,9 @@ use Rattle.home_directory.specs.declared.messages.Need.{Need}
 use Rattle.home_directory.specs.declared.messages.Message.{Message}
 use Rattle.home_directory.specs.declared.messages.Message.TheVariants.{Read, Write, FwdRead, FwdWrite, Inval, Data, Grant, Ack, Done, Bye}
 use Rattle.home_directory.specs.Table.{Miss}
-use Rattle.miss_handlers.specs.Rows.{Row, AtHome, AtNode, row_of}
-use Rattle.node_model.specs.Node.{Work, Node, Want, Resume, Resumed, lane_resumed, tally_resumed, counts_after, stop_or}
-use Rattle.node_model.specs.Turns.{Turn, with_miss, want_in, want_all, with_byes, by_row_or, holding, treated}
+use Rattle.dsm_protocol.specs.miss_handlers.Rows.{Row, AtHome, AtNode, row_of}
+use Rattle.dsm_protocol.specs.node_model.Node.{Work, Node, Want, Resume, Resumed, lane_resumed, tally_resumed, counts_after, stop_or}
+use Rattle.dsm_protocol.specs.node_model.Turns.{Turn, with_miss, want_in, want_all, with_byes, by_row_or, holding, treated}
 
 -- a node's number, and where its processor is, are as before
 pub record SameProcessor (old new : Node) : Type 0 where

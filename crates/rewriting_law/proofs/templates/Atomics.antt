@@ -22,7 +22,7 @@ use Rattle.templates.specs.declared.commits.CommitKind.TheVariants.{Always}
 use Rattle.templates.specs.declared.plans.Scratches.{Scratches}
 use Rattle.templates.specs.Plans.{HasTwoScratches}
 use Rattle.templates.specs.Sequences.{committing, reloads, read_sequence, write_sequence}
-use Rattle.node_model.specs.Node.{Lane, Local, Outcome, Region, Memory, is_readable_state, is_writable_state, byte_at, region_of, load, store, reserving, update, lane_stored, native, execute}
+use Rattle.dsm_protocol.specs.node_model.Node.{Lane, Local, Outcome, Region, Memory, is_readable_state, is_writable_state, byte_at, region_of, load, store, reserving, update, lane_stored, native, execute}
 use Rattle.rewriting_law.proofs.templates.Does.{OfPlace, AtHead, Rest, lane_at, word_seen, Commits, Leads, FirstLeads, Does}
 use Rattle.rewriting_law.proofs.templates.Mids.{Hide, Shown, Mid, with_reg, mid_at, read_shown}
 use Rattle.rewriting_law.proofs.templates.Checked.{asks, memory_at, hides_of, load_outcome, refused, source_shown, destination_shown, low_if_mapped, value_same_as, sets_both, holds_store, scratch_back, leaves}

@@ -34,8 +34,8 @@ use Rattle.templates.specs.declared.plans.Scratches.{Scratches}
 use Rattle.templates.specs.Plans.{IsScratch, HasTwoScratches}
 use Rattle.templates.specs.Sequences.{SequenceItem, committing, checking, spills, reloads, spill, reload, with_word}
 use Rattle.home_directory.specs.declared.messages.Need.TheVariants.{Read, Write}
-use Rattle.flag_memory.specs.Flag.{flag_byte}
-use Rattle.node_model.specs.Node.{Lane, Local, Outcome, Next, Waits, PastWord, Nothing_counted, FalseMiss, go_on, exit_by, Memory, region_of, byte_at, is_readable_state, is_writable_state, local_stored, lane_stored, native, miss_r, miss_w, execute}
+use Rattle.home_directory.specs.flag_memory.Flag.{flag_byte}
+use Rattle.dsm_protocol.specs.node_model.Node.{Lane, Local, Outcome, Next, Waits, PastWord, Nothing_counted, FalseMiss, go_on, exit_by, Memory, region_of, byte_at, is_readable_state, is_writable_state, local_stored, lane_stored, native, miss_r, miss_w, execute}
 use Rattle.rewriting_law.proofs.templates.RegisterLemmas.{apart, equal, put_other, put_both}
 use Rattle.rewriting_law.specs.CoreRun.{commits_by}
 use Rattle.rewriting_law.proofs.templates.States.{Suits, Later, ReadLook, Gone, Readable, Unreadable, read_look, WriteLook, Fixed, Writable, Unwritable, write_look}

@@ -20,7 +20,7 @@ use Rattle.runtime_words.specs.declared.RtWord.TheVariants.{Native, Prepare}
 use Rattle.templates.specs.declared.commits.CommitKind.TheVariants.{Never, Always}
 use Rattle.templates.specs.Sequences.{committing, conditional_sequence}
 use Rattle.home_directory.specs.declared.messages.Need.TheVariants.{Write}
-use Rattle.node_model.specs.Node.{Lane, Local, Outcome, Next, Waits, PastWord, Region, Memory, go_on, is_fixed_state, is_writable_state, region_of, set_register, store, store_if, prepare, native, execute}
+use Rattle.dsm_protocol.specs.node_model.Node.{Lane, Local, Outcome, Next, Waits, PastWord, Region, Memory, go_on, is_fixed_state, is_writable_state, region_of, set_register, store, store_if, prepare, native, execute}
 use Rattle.rewriting_law.proofs.templates.RegisterLemmas.{put_both}
 use Rattle.rewriting_law.proofs.templates.States.{Suits, WriteLook, Fixed, Writable, Unwritable, write_look}
 use Rattle.rewriting_law.proofs.templates.Does.{OfPlace, AtHead, Rest, lane_at, StandsToStore, Commits, CommitsConditional, Leads, FirstLeads, Does}

@@ -24,10 +24,10 @@ use Rattle.templates.specs.declared.plans.PlanEntry.{PlanEntry}
 use Rattle.templates.specs.Places.{IsPlace}
 use Rattle.templates.specs.Plans.{closes_loop}
 use Rattle.templates.specs.Sequences.{SequenceItem, ItemWord, Runs, GoesTo, items_in}
-use Rattle.jump_map.specs.Image.{address_in}
+use Rattle.dsm_protocol.specs.jump_map.Image.{address_in}
 use Rattle.home_directory.specs.declared.messages.Need.{Need}
 use Rattle.home_directory.specs.declared.messages.Need.TheVariants.{Read, Write}
-use Rattle.node_model.specs.Node.{Lane, Local, Want, Resume, PastWord, SameWord, ByLines, Move, Next, Again, To, Enters, Waits, Leaves, Outcome, local_stored, both_meet, execute}
+use Rattle.dsm_protocol.specs.node_model.Node.{Lane, Local, Want, Resume, PastWord, SameWord, ByLines, Move, Next, Again, To, Enters, Waits, Leaves, Outcome, local_stored, both_meet, execute}
 use Rattle.rewriting_law.specs.CoreRun.{commits_by}
 use Rattle.rewriting_law.specs.Licence.{Licensed}
 use Rattle.rewriting_law.proofs.templates.States.{Suits, Later, later_still, grants}

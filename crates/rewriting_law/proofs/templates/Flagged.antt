@@ -28,8 +28,8 @@ use Rattle.templates.specs.declared.commits.CommitKind.TheVariants.{Always, IfNo
 use Rattle.templates.specs.declared.plans.Scratches.{Scratches}
 use Rattle.templates.specs.Plans.{looks_at_value, HasOneScratch}
 use Rattle.templates.specs.Sequences.{SequenceItem, with_word, committing, checking, own, reload, lower_part, flag_word, flag_load_sequence}
-use Rattle.flag_memory.specs.Flag.{flag_byte}
-use Rattle.node_model.specs.Node.{Lane, Local, Outcome, byte_at, is_readable_state, native, execute}
+use Rattle.home_directory.specs.flag_memory.Flag.{flag_byte}
+use Rattle.dsm_protocol.specs.node_model.Node.{Lane, Local, Outcome, byte_at, is_readable_state, native, execute}
 use Rattle.rewriting_law.specs.CoreRun.{commits_by}
 use Rattle.rewriting_law.proofs.templates.RegisterLemmas.{apart, equal, reg_zero, put_here, put_other}
 use Rattle.rewriting_law.proofs.templates.States.{Suits, ReadLook, Gone, Readable, Unreadable, read_look}

@@ -25,7 +25,7 @@ use Rattle.runtime_words.specs.declared.RtWord.TheVariants.{Native}
 use Rattle.templates.specs.declared.commits.CommitKind.TheVariants.{Never}
 use Rattle.templates.specs.declared.plans.Scratches.{Scratches}
 use Rattle.templates.specs.Sequences.{SequenceItem, own, spill_offset, spill_by, reload_by, state_look}
-use Rattle.node_model.specs.Node.{Lane, Local, Outcome, Next, To, go_on, set_register, native, load, StateOf, Spill, region_of, execute}
+use Rattle.dsm_protocol.specs.node_model.Node.{Lane, Local, Outcome, Next, To, go_on, set_register, native, load, StateOf, Spill, region_of, execute}
 use Rattle.rewriting_law.proofs.templates.RegisterLemmas.{apart, equal, reg_zero, put_here, put_other}
 use Rattle.rewriting_law.proofs.templates.States.{Suits, Later}
 use Rattle.rewriting_law.proofs.templates.Does.{SequenceKind, place_of, lane_at, skip_to, Leads, Does, does_later}

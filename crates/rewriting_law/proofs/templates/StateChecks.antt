@@ -24,7 +24,7 @@ use Rattle.templates.specs.declared.commits.CommitKind.TheVariants.{Always}
 use Rattle.templates.specs.declared.plans.Scratches.{Scratches}
 use Rattle.templates.specs.Plans.{HasTwoScratches}
 use Rattle.templates.specs.Sequences.{SequenceItem, committing, own, checking, state_look, reloads, read_sequence, state_load_sequence, write_sequence, store_sequence}
-use Rattle.node_model.specs.Node.{Lane, Local, is_readable_state, is_writable_state, local_stored, lane_stored, native}
+use Rattle.dsm_protocol.specs.node_model.Node.{Lane, Local, is_readable_state, is_writable_state, local_stored, lane_stored, native}
 use Rattle.rewriting_law.proofs.templates.RegisterLemmas.{reg_zero, put_here}
 use Rattle.rewriting_law.proofs.templates.States.{Suits, ReadLook, Gone, Readable, Unreadable, read_look, WriteLook, Fixed, Writable, Unwritable, write_look}
 use Rattle.rewriting_law.proofs.templates.Does.{OfPlace, AtHead, lane_at, StandsToStore, Does}

@@ -37,9 +37,9 @@ use Rattle.templates.specs.Places.{IsPlace}
 use Rattle.templates.specs.Plans.{looks_at_value, may_poll, HasScratches, HasScratchesAt, template_at}
 use Rattle.templates.specs.Sequences.{SequenceItem, committing, with_word, to_head, constant, upper_part, lower_part, inverse, load_sequence, branch_sequence, jump_sequence, is_multiple_of_four, instruction_items, place_items, poll_first, items_of}
 use Rattle.home_directory.specs.declared.messages.Need.TheVariants.{Read}
-use Rattle.flag_memory.specs.Flag.{flag_byte}
-use Rattle.node_model.specs.Node as node
-use Rattle.node_model.specs.Node.{Lane, Local, Outcome, Next, To, Enters, Waits, SameWord, go_on, exit_by, is_readable_state, byte_at, native, make_call, print_byte, lane_after_call, indirect, execute}
+use Rattle.home_directory.specs.flag_memory.Flag.{flag_byte}
+use Rattle.dsm_protocol.specs.node_model.Node as node
+use Rattle.dsm_protocol.specs.node_model.Node.{Lane, Local, Outcome, Next, To, Enters, Waits, SameWord, go_on, exit_by, is_readable_state, byte_at, native, make_call, print_byte, lane_after_call, indirect, execute}
 use Rattle.rewriting_law.proofs.templates.RegisterLemmas.{apart, equal, put_here, put_both, put_twice, put_zero}
 use Rattle.rewriting_law.proofs.templates.States.{Suits, ReadLook, Gone, Readable, Unreadable, read_look}
 use Rattle.rewriting_law.proofs.templates.Does.{OfPlace, AtHead, byte_seen, lane_at, skip_to, Commits, Leads, Does, does_later}

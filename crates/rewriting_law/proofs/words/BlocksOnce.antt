@@ -5,8 +5,8 @@ use Rattle.block_layout.specs.Layout.{Shape, block_of, has_line}
 use Rattle.rv32_program.specs.Program.{line_of}
 use Rattle.rv32_step.specs.OneMemory.{Processor}
 use Rattle.templates.specs.declared.plans.PlanEntry.{PlanEntry}
-use Rattle.node_model.specs.Node.{Work, Local, Want}
-use Rattle.node_model.specs.Turns.{is_same_want, each_block_once}
+use Rattle.dsm_protocol.specs.node_model.Node.{Work, Local, Want}
+use Rattle.dsm_protocol.specs.node_model.Turns.{is_same_want, each_block_once}
 use Rattle.rewriting_law.proofs.templates.States.{grants}
 use Rattle.rewriting_law.proofs.templates.Does.{AreWanted, SomeGranted}
 use Rattle.rewriting_law.proofs.words.CodeSide.{IsAmong, IsAlone, AllWanted}

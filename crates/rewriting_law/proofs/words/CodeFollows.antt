@@ -25,9 +25,9 @@ use Rattle.home_directory.specs.declared.messages.Need.TheVariants.{Read}
 use Rattle.templates.specs.Places.{IsPlace}
 use Rattle.templates.specs.Sequences.{SequenceItem, ItemWord, Runs, GoesTo}
 use Rattle.templates.specs.Commits.{commit_at}
-use Rattle.jump_map.specs.Image.{IsRewriting, head_of, item_word, is_near, number_of_word, address_of_word, distance}
-use Rattle.jump_map.specs.Maps.{old_of, new_of, fetch}
-use Rattle.node_model.specs.Node.{Work, Lane, Local, Want, Move, Next, Again, To, Enters, Waits, Leaves, Resume, PastWord, SameWord, Tally, Outcome, go_on, exit_by, native, execute, execute_at, next_outcome, lane_after, lane_resumed, first_lane, ByLines, both_meet, past_next, enter, make_call, print_byte, byte_at, lane_after_call, is_mapped_state, is_readable_state, need_of_run}
+use Rattle.dsm_protocol.specs.jump_map.Image.{IsRewriting, head_of, item_word, is_near, number_of_word, address_of_word, distance}
+use Rattle.dsm_protocol.specs.jump_map.Maps.{old_of, new_of, fetch}
+use Rattle.dsm_protocol.specs.node_model.Node.{Work, Lane, Local, Want, Move, Next, Again, To, Enters, Waits, Leaves, Resume, PastWord, SameWord, Tally, Outcome, go_on, exit_by, native, execute, execute_at, next_outcome, lane_after, lane_resumed, first_lane, ByLines, both_meet, past_next, enter, make_call, print_byte, byte_at, lane_after_call, is_mapped_state, is_readable_state, need_of_run}
 use Rattle.rewriting_law.specs.CoreRun.{is_exit, is_wait, commits_by}
 use Rattle.rewriting_law.specs.Ascents.{pc_at}
 use Rattle.rewriting_law.proofs.one_memory.Originals.{original_with}

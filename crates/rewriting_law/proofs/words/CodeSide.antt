@@ -13,9 +13,9 @@ use Rattle.templates.specs.declared.commits.CommitKind.{CommitKind}
 use Rattle.templates.specs.declared.plans.PlanEntry.{PlanEntry}
 use Rattle.templates.specs.Places.{IsPlace}
 use Rattle.templates.specs.Commits.{commit_at}
-use Rattle.jump_map.specs.Maps.{old_of, fetch}
-use Rattle.node_model.specs.Node.{Work, Lane, Local, Want, Move, Waits, Leaves, Resume, Outcome, next_outcome, lane_after, lane_resumed, first_lane, takes_messages}
-use Rattle.node_model.specs.Turns.{each_block_once}
+use Rattle.dsm_protocol.specs.jump_map.Maps.{old_of, fetch}
+use Rattle.dsm_protocol.specs.node_model.Node.{Work, Lane, Local, Want, Move, Waits, Leaves, Resume, Outcome, next_outcome, lane_after, lane_resumed, first_lane, takes_messages}
+use Rattle.dsm_protocol.specs.node_model.Turns.{each_block_once}
 use Rattle.rewriting_law.specs.CoreRun.{is_exit, is_wait, commits_by}
 use Rattle.rewriting_law.specs.Licence.{Licensed}
 use Rattle.rewriting_law.specs.Ascents.{pc_at}

@@ -17,9 +17,9 @@ use Rattle.templates.specs.Plans.{AscendsFrom, addresses, IsAdmissible}
 use Rattle.templates.specs.Runs.{code_from}
 use Rattle.templates.specs.Sequences.{SequenceItem, batch_items}
 use Rattle.templates.specs.Commits.{part_items, commit_at}
-use Rattle.jump_map.specs.declared.image.ImageWord.{ImageWord}
-use Rattle.jump_map.specs.Image.{Cell, PlacedItem, read_cell, placed_items, address_in, part_of_entry, entry_items, words_before, head_of, item_word, words_at, plan_items, image_words, off_word, image_base, address_of_word, IsRewriting}
-use Rattle.jump_map.specs.Maps.{cell_at, is_first_of, begins_at, new_of, old_of, fetch}
+use Rattle.dsm_protocol.specs.jump_map.declared.image.ImageWord.{ImageWord}
+use Rattle.dsm_protocol.specs.jump_map.Image.{Cell, PlacedItem, read_cell, placed_items, address_in, part_of_entry, entry_items, words_before, head_of, item_word, words_at, plan_items, image_words, off_word, image_base, address_of_word, IsRewriting}
+use Rattle.dsm_protocol.specs.jump_map.Maps.{cell_at, is_first_of, begins_at, new_of, old_of, fetch}
 use Rattle.rewriting_law.proofs.words.Plans.{EntrySplit, AllBelow, below, Follows, place_in, entry_is}
 
 pub get_left : {X : Type 0} (xs ys : List X) (k : ℕ) (x : X) → slice_get xs k ≡ Some x

@@ -12,8 +12,8 @@ use Rattle.rv32_program.specs.Program.{line_of}
 use Rattle.rv32_step.specs.declared.Demand.{Demand}
 use Rattle.rv32_step.specs.declared.Demand.TheVariants as demand
 use Rattle.home_directory.specs.declared.messages.Need.{Need}
-use Rattle.node_model.specs.Node as node
-use Rattle.node_model.specs.Node.{Work, Lane, Local, Move, Next, To, Waits, Leaves, PastWord, ByLines, Outcome, Region, Memory, StateOf, Elsewhere, region_of, load, store, store_if, native, is_mapped_state, is_readable_state, is_fixed_state, is_writable_state, Want, batch, batch_by, one_refuses, unmet}
+use Rattle.dsm_protocol.specs.node_model.Node as node
+use Rattle.dsm_protocol.specs.node_model.Node.{Work, Lane, Local, Move, Next, To, Waits, Leaves, PastWord, ByLines, Outcome, Region, Memory, StateOf, Elsewhere, region_of, load, store, store_if, native, is_mapped_state, is_readable_state, is_fixed_state, is_writable_state, Want, batch, batch_by, one_refuses, unmet}
 
 pub either_move : (P : Move → Type 0) (b : Bool) (x y : Outcome) → P x.move → P y.move
     → P (cond b x y).move

@@ -9,9 +9,9 @@ use Rattle.templates.specs.declared.plans.PlanEntry.{PlanEntry}
 use Rattle.templates.specs.Places.{IsPlace}
 use Rattle.templates.specs.Plans.{may_poll, HasScratchesAt, template_at}
 use Rattle.templates.specs.Sequences.{SequenceItem}
-use Rattle.jump_map.specs.Image.{Cell, IsRewriting}
-use Rattle.jump_map.specs.Maps.{new_of}
-use Rattle.node_model.specs.Node.{Lane, Local, enter, next_outcome}
+use Rattle.dsm_protocol.specs.jump_map.Image.{Cell, IsRewriting}
+use Rattle.dsm_protocol.specs.jump_map.Maps.{new_of}
+use Rattle.dsm_protocol.specs.node_model.Node.{Lane, Local, enter, next_outcome}
 use Rattle.rewriting_law.specs.CoreRun.{is_wait}
 use Rattle.rewriting_law.proofs.words.CodeSide.{Pace, Rises}
 use Rattle.rewriting_law.proofs.words.Plans.{EntrySplit, follows}

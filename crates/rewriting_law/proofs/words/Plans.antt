@@ -12,7 +12,7 @@ use Rattle.templates.specs.declared.places.Place.{Place}
 use Rattle.templates.specs.Runs.{IsInRun}
 use Rattle.templates.specs.Plans.{AscendsFrom, addresses, RunsApart, IsAdmissible}
 use Rattle.templates.specs.Commits.{is_word_by, is_word_of}
-use Rattle.jump_map.specs.Image.{reload_count, address_in}
+use Rattle.dsm_protocol.specs.jump_map.Image.{reload_count, address_in}
 
 -- the plan, cut at the entry of an address
 pub record EntrySplit (plan : List PlanEntry) (a : ℕ) : Type 0 where

@@ -13,7 +13,7 @@ use Rattle.templates.specs.Runs.{code_from}
 use Rattle.templates.specs.Plans.{StartsNoRun, StartsRun}
 use Rattle.templates.specs.Sequences.{SequenceItem, items_of, reload, reload_by, reloads_of_run, run_items, to_head, fast_items, batch_items, batch_sequence}
 use Rattle.templates.specs.Commits.{part_items}
-use Rattle.jump_map.specs.Image.{reload_count, address_in, PlacedItem, part_of_entry, entry_items}
+use Rattle.dsm_protocol.specs.jump_map.Image.{reload_count, address_in, PlacedItem, part_of_entry, entry_items}
 use Rattle.rewriting_law.proofs.templates.Does.{SequenceKind, OfPlace, OfRun, place_of, place_in_batch}
 use Rattle.rewriting_law.proofs.words.Fetching.{get_left, get_right, get_item, items_length, placed_at, placed_item, has_run, placed_batch, entry_parts}
 

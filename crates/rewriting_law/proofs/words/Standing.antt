@@ -14,8 +14,8 @@ use Rattle.templates.specs.declared.plans.PlanEntry.{PlanEntry}
 use Rattle.templates.specs.declared.plans.Scratches.{Scratches}
 use Rattle.templates.specs.Plans.{looks_at_value, Serves}
 use Rattle.templates.specs.Sequences.{SequenceItem, instruction_items, place_items, poll_first, items_of, spills, spill, spill_by, load_sequence, branch_sequence, jump_sequence, is_multiple_of_four}
-use Rattle.jump_map.specs.Image.{Cell, IsRewriting, image_base, distance}
-use Rattle.node_model.specs.Node.{Lane, Local}
+use Rattle.dsm_protocol.specs.jump_map.Image.{Cell, IsRewriting, image_base, distance}
+use Rattle.dsm_protocol.specs.node_model.Node.{Lane, Local}
 use Rattle.rewriting_law.proofs.words.Plans.{EntrySplit, is_contained}
 use Rattle.rewriting_law.proofs.words.Fetching.{word_address, in_range, next_word}
 use Rattle.rewriting_law.proofs.words.Spots.{Spot, kind_of, sequence, number, next_number, spot}

@@ -23,7 +23,7 @@ use Rattle.templates.specs.declared.plans.PlanEntry.{PlanEntry}
 use Rattle.templates.specs.Places.{IsPlace}
 use Rattle.templates.specs.Plans.{closes_loop_at}
 use Rattle.templates.specs.Sequences.{ItemWord, Runs, SequenceItem, branch_sequence, jump_sequence, is_multiple_of_four, place_items, poll_first, items_of}
-use Rattle.node_model.specs.Node.{Local, Outcome}
+use Rattle.dsm_protocol.specs.node_model.Node.{Local, Outcome}
 use Rattle.rewriting_law.proofs.words.Idle.{is_jump}
 use Rattle.rewriting_law.proofs.words.Plans.{next_place}
 use Rattle.rewriting_law.proofs.templates.Does.{Commits, may_turn, turns_at}

@@ -1,12 +1,12 @@
 use Rattle.std.proofs.Common.{◌≡◌, map, slice_index_or, ap, sym, ◌∙◌, subst, arith}
 use Rattle.std.proofs.lemmas.List.FromFn.{get_or-map-range_with_len}
 use Rattle.block_layout.specs.Layout.{blocks}
-use Rattle.run_trace.specs.Sums.{counts_from}
-use Rattle.run_trace.specs.Trace.{trace_of}
+use Rattle.event_text.specs.run_trace.Sums.{counts_from}
+use Rattle.event_text.specs.run_trace.Trace.{trace_of}
 use Rattle.node_model.specs.Node.{no_counts}
 use Rattle.node_model.specs.Outcome.{counts_after}
 use Rattle.node_model.specs.Core.{opening_core}
-use Rattle.replay.specs.Told.{events_told, what_told}
+use Rattle.event_text.specs.replay.Told.{events_told, what_told}
 use Rattle.block_view.specs.Counts.{AreSumsTo}
 use Rattle.block_view.proofs.Known.{run_known}
 use Rattle.block_view.proofs.Summing.{sums}

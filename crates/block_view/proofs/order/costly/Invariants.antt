@@ -1,5 +1,5 @@
 use Rattle.std.proofs.Common.{◌≡◌, List}
-use Rattle.run_trace.specs.Traced.{Traced}
+use Rattle.event_text.specs.run_trace.Traced.{Traced}
 use Rattle.block_view.specs.Counts.{block_counts, misses_of}
 use Rattle.block_view.specs.Kept.{AreCostsOf}
 use Rattle.block_view.specs.Order.{costly, AreUpTo}

@@ -7,7 +7,7 @@ use Rattle.judged_files.specs.declared.failure.Failure.{Failure}
 use Rattle.commands.specs.Outcomes.{told}
 use Rattle.judged_files.specs.Failures.{FailsAs, IsNever}
 use Rattle.commands.specs.Failures.{IsTextOfOutcome}
-use Rattle.dsm_core.specs.CoreParts.{outcome_of}
+use Rattle.lossy_sim.specs.dsm_core.CoreParts.{outcome_of}
 use Rattle.commands.proofs.outcome.put_told.Goals as goal
 
 -- an outcome by its parts

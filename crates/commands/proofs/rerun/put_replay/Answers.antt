@@ -1,6 +1,6 @@
 use Rattle.std.proofs.Common.{inl, inr}
 use Rattle.std.proofs.lemmas.Result.{err_from_is_err_and}
-use Rattle.dsm_core.specs.CoreParts.{outcome_of}
+use Rattle.lossy_sim.specs.dsm_core.CoreParts.{outcome_of}
 use Rattle.node_model.specs.Outcome.{Outcome}
 use Rattle.dsm_io.specs.States.{SinkState}
 use Rattle.judged_files.specs.Executables.{IsUnread}

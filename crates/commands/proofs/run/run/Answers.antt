@@ -1,7 +1,7 @@
 use Rattle.std.proofs.Common.{ℕ, List, Option, inl, refl, subst}
 use Rattle.std.proofs.lemmas.Result.{err_from_is_err_and}
 use Rattle.command_line.specs.Meaning.{file_name}
-use Rattle.dsm_core.specs.CoreParts.{outcome_of}
+use Rattle.lossy_sim.specs.dsm_core.CoreParts.{outcome_of}
 use Rattle.node_model.specs.Outcome.{Outcome}
 use Rattle.dsm_io.specs.States.{SinkState, FilesState}
 use Rattle.commands.specs.Answers.{AreLeft, AreWritten}

@@ -2,7 +2,7 @@ use Rattle.std.proofs.Common.{inl, sym, subst}
 use Rattle.std.proofs.lemmas.Result.{err_from_is_err_and}
 use Rattle.command_line.specs.Commands.{AreFew}
 use Rattle.command_line.specs.Meaning.{lanes_of, loss_of}
-use Rattle.dsm_core.specs.CoreParts.{outcome_of}
+use Rattle.lossy_sim.specs.dsm_core.CoreParts.{outcome_of}
 use Rattle.node_model.specs.Outcome.{Outcome}
 use Rattle.dsm_io.specs.States.{SinkState}
 use Rattle.judged_files.specs.Executables.{IsUnread}

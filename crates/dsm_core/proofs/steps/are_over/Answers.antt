@@ -1,8 +1,8 @@
 -- Each node of the loop was over.
 use Rattle.std.proofs.Common.{◌≡◌, ◌<◌, true, false, ◌∙◌, refl, sym, subst, inl, inr, arith}
 use Rattle.std.proofs.lemmas.Bool.Decides.{eqb_tells}
-use Rattle.node_model.specs.declared.Standing.TheVariants.{Over}
-use Rattle.node_model.specs.Node.{standing_of}
+use Rattle.run_order.specs.node_model.declared.Standing.TheVariants.{Over}
+use Rattle.run_order.specs.node_model.Node.{standing_of}
 use Rattle.dsm_core.specs.CoreParts.{core_with}
 use Rattle.dsm_core.proofs.steps.are_over.Goals as goal
 

@@ -1,7 +1,7 @@
 use Rattle.std.proofs.Common.{◌≡◌, ℕ, ◌<◌, List}
-use Rattle.node_model.specs.declared.Standing.TheVariants.{Over}
-use Rattle.node_model.specs.Node.{Work, standing_of}
-use Rattle.dsm_protocol.specs.Queue.{Queue}
+use Rattle.run_order.specs.node_model.declared.Standing.TheVariants.{Over}
+use Rattle.run_order.specs.node_model.Node.{Work, standing_of}
+use Rattle.rewriting_law.specs.dsm_protocol.Queue.{Queue}
 use Rattle.dsm_core.specs.CoreParts.{core_with, HaveWork}
 use Rattle.dsm_core.proofs.steps.are_over.Given as goal
 

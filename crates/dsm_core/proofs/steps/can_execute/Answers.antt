@@ -1,6 +1,6 @@
 -- By the node's standing.
 use Rattle.std.proofs.Common.{◌<◌, ◌∙◌, sym, ap, subst}
-use Rattle.node_model.specs.Core.{may_execute}
+use Rattle.run_order.specs.node_model.Core.{may_execute}
 use Rattle.dsm_core.proofs.steps.can_execute.Goals as goal
 
 pub returns : goal.returns

@@ -1,7 +1,7 @@
 -- By the node's standing, where there is a message.
 use Rattle.std.proofs.Common.{◌≢◌, ◌<◌, [], ◌∙◌, sym, ap, subst}
-use Rattle.node_model.specs.Core.{may_take}
-use Rattle.dsm_protocol.specs.Queue.{wires_of}
+use Rattle.run_order.specs.node_model.Core.{may_take}
+use Rattle.rewriting_law.specs.dsm_protocol.Queue.{wires_of}
 use Rattle.dsm_core.proofs.steps.can_take.Goals as goal
 
 pub returns : goal.returns

@@ -1,5 +1,5 @@
 -- The word was passed, or it is executed with room.
-use Rattle.node_model.specs.Core.{Exec}
+use Rattle.run_order.specs.node_model.Core.{Exec}
 use Rattle.dsm_core.specs.CoreSteps.{HaveMade, HaveKept}
 use Rattle.dsm_core.proofs.CoreSteps.{made_same, kept_same, passed_made, on_ok, on_err}
 use Rattle.dsm_core.proofs.steps.execute.Goals as goal

@@ -1,6 +1,6 @@
 -- The node's words are the core's events.
 use Rattle.std.proofs.Common.{◌≡◌, ◌<◌, ◌^◌, ◌-◌, true, ◌∙◌, sym, subst, arith}
-use Rattle.node_model.specs.Node.{Node, can_execute}
+use Rattle.run_order.specs.node_model.Node.{Node, can_execute}
 use Rattle.node_machine.specs.Frame.{node_of, work_of as work_at}
 use Rattle.dsm_core.proofs.CoreSteps.{same_node, set_same}
 use Rattle.dsm_core.proofs.Words.{executed_on, ran_stamp}

@@ -1,8 +1,8 @@
 -- Each list of the loop was empty.
 use Rattle.std.proofs.Common.{◌≡◌, ◌≢◌, ◌<◌, true, false, List, [], ◌∷◌, refl, sym, subst, inl, inr, arith}
 use Rattle.std.proofs.lemmas.Bool.Decides.{eqb_tells}
-use Rattle.home_directory.specs.declared.messages.Wire.{Wire}
-use Rattle.dsm_protocol.specs.Queue.{wires_of}
+use Rattle.rewriting_law.specs.home_directory.declared.messages.Wire.{Wire}
+use Rattle.rewriting_law.specs.dsm_protocol.Queue.{wires_of}
 use Rattle.dsm_core.proofs.steps.has_mail.Goals as goal
 
 not_some : (ws : List Wire) → (ws ≢ [] → ⊥) → ws ≡ []

@@ -1,5 +1,5 @@
 use Rattle.std.proofs.Common.{◌≡◌, ℕ, ◌<◌, []}
-use Rattle.dsm_protocol.specs.Queue.{wires_of}
+use Rattle.rewriting_law.specs.dsm_protocol.Queue.{wires_of}
 use Rattle.dsm_core.proofs.steps.has_mail.Given as goal
 
 abbrev pub invariant-loop-from : goal.invariant-loop-from

@@ -1,7 +1,7 @@
 -- Whatever the lists hold, a node may execute a word by its standing.
 use Rattle.std.proofs.Common.{◌≡◌, true, sym, subst}
 use Rattle.std.specs.Prelude.{◌↔◌}
-use Rattle.node_model.specs.Core.{May}
+use Rattle.run_order.specs.node_model.Core.{May}
 use Rattle.dsm_core.specs.declared.cores.Event as chosen
 use Rattle.dsm_core.specs.CoreParts.{core_with, event_of}
 use Rattle.dsm_core.proofs.steps.is_enabled.Goals as goal

@@ -1,6 +1,6 @@
 use Rattle.std.proofs.Common.{◌≡◌, ◌<◌, ◌^◌, ◌+◌, ◌∙◌, true, sym, subst, length, slice_index_or, arith}
 use Rattle.std.proofs.lemmas.List.{length-set}
-use Rattle.node_model.specs.Node.{Node, can_execute}
+use Rattle.run_order.specs.node_model.Node.{Node, can_execute}
 use Rattle.node_machine.specs.Frame.{node_of, work_of as work_at}
 use Rattle.dsm_core.proofs.CoreSteps.{read_at, set_same}
 use Rattle.dsm_core.proofs.TrailLemmas.{from_set, read_here, gone_more, back_more, all_same}

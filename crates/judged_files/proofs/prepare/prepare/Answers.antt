@@ -1,6 +1,6 @@
 use Rattle.std.proofs.Common.{◌<◌, ◌≤◌, ◌^◌, inl, inr, sym, subst}
 use Rattle.std.proofs.lemmas.Result.{err_from_is_err_and}
-use Rattle.rewriter.specs.RewrittenFile.{rewritten_elf}
+use Rattle.rewrite_verify.specs.rewriter.RewrittenFile.{rewritten_elf}
 use Rattle.judged_files.specs.Code.{choice_of, IsRewritingOf, IsFileOf, IsOtherFile, IsUnchosen}
 use Rattle.judged_files.specs.Executables.{IsProgramOf, IsRejection}
 use Rattle.judged_files.specs.Failures.{IsNever}

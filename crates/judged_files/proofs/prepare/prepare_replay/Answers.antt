@@ -1,6 +1,6 @@
 use Rattle.std.proofs.Common.{◌≡◌, ◌<◌, ◌≤◌, ◌^◌, length, inl, inr, sym, subst}
 use Rattle.std.proofs.lemmas.Result.{err_from_is_err_and}
-use Rattle.run_record.specs.Record.{NamesOtherCode}
+use Rattle.replay.specs.run_record.Record.{NamesOtherCode}
 use Rattle.judged_files.specs.Code.{choice_of, IsRewritingOf, IsUnchosen}
 use Rattle.judged_files.specs.Executables.{IsProgramOf, IsRejection}
 use Rattle.judged_files.specs.Failures.{IsNever, IsRecordRefusal}

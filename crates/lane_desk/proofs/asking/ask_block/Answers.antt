@@ -2,8 +2,8 @@ use Rattle.std.proofs.Common.{◌≡◌, ◌||◌, ◌++◌, ◌∙◌, cond, sy
 use Rattle.std.specs.Prelude.{is_some}
 use Rattle.std.specs.Option.{option_to_list}
 use Rattle.block_layout.specs.Update.{changed}
-use Rattle.miss_handlers.specs.Waits.{wait_of}
-use Rattle.node_model.specs.Turns.{Turn, want_in}
+use Rattle.node_machine.specs.miss_handlers.Waits.{wait_of}
+use Rattle.lane_model.specs.node_model.Turns.{Turn, want_in}
 use Rattle.node_machine.specs.Frame.{layout_of, with_parts}
 use Rattle.node_machine.specs.Desk.{turn_by}
 use Rattle.lane_model.specs.Turns.{exceeds}

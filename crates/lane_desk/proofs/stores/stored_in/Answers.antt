@@ -3,9 +3,9 @@ use Rattle.rv32_step.specs.declared.Demand.{Demand}
 use Rattle.rv32_step.specs.Demands.{demand_of}
 use Rattle.rv32_step.specs.Registers.{registers_of}
 use Rattle.runtime_words.specs.declared.RtWord.{RtWord}
-use Rattle.node_words.specs.Address.{word_address}
-use Rattle.node_words.specs.Kept.{lane_of}
-use Rattle.node_model.specs.Node.{execute, native}
+use Rattle.node_machine.specs.node_words.Address.{word_address}
+use Rattle.node_machine.specs.node_words.Kept.{lane_of}
+use Rattle.lane_model.specs.node_model.Node.{execute, native}
 use Rattle.lane_desk.specs.Words.{stored_by}
 use Rattle.lane_desk.proofs.StoreLemmas.{other_stores}
 use Rattle.lane_desk.proofs.stores.stored_in.Goals as goal

@@ -8,20 +8,20 @@ use Rattle.miss_handlers.specs.Waits.{wait_of}
 use Rattle.node_machine.proofs.UnmetLemmas.{word_unmet}
 use Rattle.lane_machine.proofs.ReceiveLemmas.{any_node}
 use Rattle.lane_machine.proofs.TreatLemmas.{one_of_two}
-use Rattle.node_words.specs.declared.lane.Lane as kept
-use Rattle.node_words.specs.Address.{word_address}
+use Rattle.node_machine.specs.node_words.declared.lane.Lane as kept
+use Rattle.node_machine.specs.node_words.Address.{word_address}
 use Rattle.node_model.specs.Node.{Node, next_outcome, word_outcome}
 use Rattle.node_model.specs.Turns.{each_block_once}
 use Rattle.node_machine.proofs.WaitLemmas.{none_waits}
-use Rattle.lane_model.specs.Turns.{ask_all}
+use Rattle.lane_desk.specs.lane_model.Turns.{ask_all}
 use Rattle.lane_desk.specs.Desks.{asked_by, stood}
 use Rattle.lane_machine.specs.Stored.{seen_at, served, work_in, IsAtRest}
 use Rattle.block_layout.specs.Layout.{Shape}
-use Rattle.node_words.specs.declared.body.Body.{Body}
+use Rattle.node_machine.specs.node_words.declared.body.Body.{Body}
 use Rattle.node_machine.specs.declared.desk.Desk.{Desk}
 use Rattle.node_machine.specs.Frame.{layout_of, IsDesk, AreCountsBelow}
 use Rattle.node_machine.proofs.FrameLemmas.{counts_up, served_below}
-use Rattle.node_words.specs.Kept.{Ground, Serves, ground_of, lane_of, local_of, wants_by}
+use Rattle.node_machine.specs.node_words.Kept.{Ground, Serves, ground_of, lane_of, local_of, wants_by}
 use Rattle.lane_desk.specs.declared.place.Place.{Place}
 use Rattle.lane_desk.specs.Waits.{wait_among, place_among, waits_in, all_waits, AreApart}
 use Rattle.lane_machine.specs.Places.{wait_at, reserved_in}

@@ -1,12 +1,12 @@
 -- By the lemmas on lanes that go on, one after another.
 use Rattle.std.proofs.Common.{◌≡◌, ℕ, ◌+◌, ◌<◌, ◌^◌, ◌∙◌, ap, sym, subst, cond, true, false, refl, length, get_or, arith}
-use Rattle.node_words.specs.Kept.{Shelf, local_of}
+use Rattle.node_machine.specs.node_words.Kept.{Shelf, local_of}
 use Rattle.node_model.specs.Node.{Node, counts_after}
 use Rattle.node_model.specs.Turns.{is_ended}
 use Rattle.node_machine.specs.Frame.{AreCountsBelow}
 use Rattle.node_machine.proofs.FrameLemmas.{counts_up}
-use Rattle.lane_model.specs.Nodes.{LaneNode}
-use Rattle.lane_model.specs.Turns.{counted, still, tally_on}
+use Rattle.lane_desk.specs.lane_model.Nodes.{LaneNode}
+use Rattle.lane_desk.specs.lane_model.Turns.{counted, still, tally_on}
 use Rattle.lane_desk.specs.Waits.{wait_among, waits_in}
 use Rattle.lane_machine.specs.declared.frame.LaneFrame.{LaneFrame}
 use Rattle.lane_machine.specs.Stored.{part_of, HasGoneOn, HaveParts}

@@ -1,9 +1,9 @@
 use Rattle.std.proofs.Common.{◌≡◌, ℕ, ◌+◌, ◌<◌, ◌≤◌, length, get_or}
-use Rattle.node_words.specs.Kept.{local_of}
+use Rattle.node_machine.specs.node_words.Kept.{local_of}
 use Rattle.node_model.specs.Node.{Node}
 use Rattle.node_machine.specs.Frame.{AreCountsBelow}
-use Rattle.lane_model.specs.Nodes.{LaneNode}
-use Rattle.lane_model.specs.Turns.{counted}
+use Rattle.lane_desk.specs.lane_model.Nodes.{LaneNode}
+use Rattle.lane_desk.specs.lane_model.Turns.{counted}
 use Rattle.lane_machine.specs.declared.frame.LaneFrame.{LaneFrame}
 use Rattle.lane_desk.specs.Waits.{wait_among, waits_in}
 use Rattle.lane_machine.specs.Stored.{HasGoneOn, HaveParts, ended_in, part_of}

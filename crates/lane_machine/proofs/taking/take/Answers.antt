@@ -4,8 +4,8 @@ use Rattle.std.specs.Prelude.{is_some}
 use Rattle.std.specs.Box.{with_value}
 use Rattle.block_layout.specs.Layout.{Shape}
 use Rattle.exec_map.specs.Contents.{program_of}
-use Rattle.node_words.specs.declared.body.Body.{Body}
-use Rattle.node_words.specs.Kept.{Ground, Shelf, ground_of, local_of}
+use Rattle.node_machine.specs.node_words.declared.body.Body.{Body}
+use Rattle.node_machine.specs.node_words.Kept.{Ground, Shelf, ground_of, local_of}
 use Rattle.node_model.specs.declared.Entry.{Entry}
 use Rattle.node_model.specs.Node.{Node}
 use Rattle.node_model.specs.Turns.{byes_to, later, treated, words_before}
@@ -14,7 +14,7 @@ use Rattle.node_machine.specs.Desk.{turn_by}
 use Rattle.node_machine.specs.declared.states.SharedState.{SharedState}
 use Rattle.node_machine.proofs.FrameLemmas.{counts_up}
 use Rattle.node_machine.proofs.TakeLemmas.{words_more, later_above}
-use Rattle.lane_model.specs.Turns.{after_message, counted, resumed, words_of}
+use Rattle.lane_desk.specs.lane_model.Turns.{after_message, counted, resumed, words_of}
 use Rattle.lane_desk.specs.declared.place.Place.{Place}
 use Rattle.lane_desk.specs.Waits.{wait_among, waits_in}
 use Rattle.lane_machine.specs.declared.frame.LaneFrame.{LaneFrame}

@@ -3,7 +3,7 @@ use Rattle.std.proofs.Common.{◌≡◌, ◌^◌, true, false, List, sym, ◌∙
 use Rattle.node_model.specs.Node.{Work}
 use Rattle.node_model.specs.Core.{opening_core, after, IsOver}
 use Rattle.node_model.specs.Outcome.{IsOutcomeOf}
-use Rattle.run_order.specs.OwnRun.{Stamped, StandsForOwnRun, run_of}
+use Rattle.dsm_core.specs.run_order.OwnRun.{Stamped, StandsForOwnRun, run_of}
 use Rattle.dsm_core.specs.CoreParts.{CoreParts, work_of, work_in, core_of, outcome_of}
 use Rattle.dsm_core.proofs.CoreSteps.{if_ok}
 use Rattle.dsm_core.proofs.Promised.{stands_alike}

@@ -1,5 +1,5 @@
 use Rattle.std.proofs.Common.{◌≡◌, ◌∙◌, sym, true, Some, refl}
-use Rattle.state_table.specs.States.{state_of}
+use Rattle.home_directory.specs.state_table.States.{state_of}
 use Rattle.home_directory.specs.declared.wait.Wait.{Wait}
 use Rattle.home_directory.specs.Table.{with_answer}
 use Rattle.miss_handlers.specs.Search.{bringing, takes_answer}

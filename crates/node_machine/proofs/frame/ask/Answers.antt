@@ -1,6 +1,6 @@
 -- By what the desk does.
 use Rattle.std.proofs.Common.{◌≡◌, [], sym, subst}
-use Rattle.node_model.specs.Turns.{want_all, each_block_once}
+use Rattle.node_words.specs.node_model.Turns.{want_all, each_block_once}
 use Rattle.node_words.specs.Kept.{wants_by}
 use Rattle.node_machine.specs.Frame.{layout_of, with_parts}
 use Rattle.node_machine.specs.Desk.{turn_by}

@@ -1,5 +1,5 @@
 use Rattle.std.proofs.Common.{◌∙◌}
-use Rattle.home_directory.specs.Effects.{members}
+use Rattle.node_words.specs.home_directory.Effects.{members}
 use Rattle.node_machine.specs.Frame.{layout_of, with_all}
 use Rattle.node_machine.proofs.TakeLemmas.{treated_other}
 use Rattle.node_machine.proofs.frame.treat.Goals as goal

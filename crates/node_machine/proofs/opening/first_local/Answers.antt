@@ -1,6 +1,6 @@
 use Rattle.std.proofs.Common.{◌∙◌, None, ap, sym, subst}
 use Rattle.std.proofs.Math.Path.{fun_ext}
-use Rattle.node_model.specs.Node.{first_local}
+use Rattle.node_words.specs.node_model.Node.{first_local}
 use Rattle.node_words.specs.Kept.{HasSharedLines, local_of}
 use Rattle.node_words.specs.Blocks.{CopyLaws}
 use Rattle.node_machine.specs.Opening.{AreFixedClasses}

@@ -3,8 +3,8 @@ use Rattle.std.proofs.Common.{◌≡◌, ◌/◌, ◌∙◌, ap, sym}
 use Rattle.block_layout.specs.Layout.{first_line}
 use Rattle.state_table.specs.StateByte.{state_with}
 use Rattle.state_table.specs.States.{state_of}
-use Rattle.node_model.specs.Node.{Local}
-use Rattle.node_model.specs.Turns.{block_at}
+use Rattle.node_words.specs.node_model.Node.{Local}
+use Rattle.node_words.specs.node_model.Turns.{block_at}
 use Rattle.node_words.specs.Kept.{want_of}
 use Rattle.node_machine.specs.Wanted.{block_with}
 use Rattle.node_machine.proofs.BlockLemmas.{LineLaws, block_state}

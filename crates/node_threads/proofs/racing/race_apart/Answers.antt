@@ -1,6 +1,6 @@
 use Rattle.std.proofs.Common.{◌≡◌, ◌∙◌, ap, sym, subst}
-use Rattle.node_model.specs.Node.{Work}
-use Rattle.run_order.specs.OwnRun.{OnlyAdds}
+use Rattle.dsm_protocol.specs.node_model.Node.{Work}
+use Rattle.dsm_core.specs.run_order.OwnRun.{OnlyAdds}
 use Rattle.dsm_core.specs.CoreParts.{CoreParts, work_of, core_of}
 use Rattle.node_threads.proofs.Parting.{adds_trans, own_after}
 use Rattle.node_threads.proofs.racing.race_apart.Goals as goal

@@ -1,5 +1,5 @@
 use Rattle.std.proofs.Common.{◌≡◌, ◌<◌, ◌++◌, ℕ, length}
-use Rattle.node_model.specs.Core.{wires_to}
+use Rattle.dsm_protocol.specs.node_model.Core.{wires_to}
 use Rattle.node_threads.specs.Works.{waiting}
 use Rattle.node_threads.proofs.worker.post.Given as goal
 

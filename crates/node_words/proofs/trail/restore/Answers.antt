@@ -1,5 +1,5 @@
 use Rattle.std.proofs.Common.{refl, arith}
-use Rattle.rv32_step.specs.Registers.{registers_of}
+use Rattle.node_model.specs.rv32_step.Registers.{registers_of}
 use Rattle.node_words.proofs.TrailLemmas.{restored_on, others_on}
 use Rattle.node_words.proofs.trail.restore.Goals as goal
 

@@ -1,6 +1,6 @@
 use Rattle.std.proofs.Common.{◌∙◌, ap, refl, arith}
 use Rattle.std.proofs.lemmas.List.{length-set}
-use Rattle.rv32_step.specs.Registers.{reg, registers_of}
+use Rattle.node_model.specs.rv32_step.Registers.{reg, registers_of}
 use Rattle.node_words.proofs.TrailLemmas.{saved_on}
 use Rattle.node_words.proofs.trail.save.Goals as goal
 

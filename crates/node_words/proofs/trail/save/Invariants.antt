@@ -1,5 +1,5 @@
 use Rattle.std.proofs.Common.{◌≡◌, ◌<◌, ℕ, length, slice_index}
-use Rattle.rv32_step.specs.Registers.{registers_of}
+use Rattle.node_model.specs.rv32_step.Registers.{registers_of}
 use Rattle.node_words.proofs.trail.save.Given as goal
 
 abbrev pub invariant-loop-number : goal.invariant-loop-number

@@ -1,4 +1,4 @@
-use Rattle.run_trace.specs.Given.{traced_of}
+use Rattle.event_text.specs.run_trace.Given.{traced_of}
 use Rattle.page_events.proofs.Walks.{first_left, none_left}
 use Rattle.page_events.proofs.Searches.{all_counted, counts_on, grows}
 use Rattle.std.proofs.Common.{drop, ◌+◌}

@@ -1,5 +1,5 @@
 use Rattle.std.proofs.Common.{◌+◌, drop, refl, sym, ◌∙◌, arith}
-use Rattle.run_trace.specs.Given.{traced_of}
+use Rattle.event_text.specs.run_trace.Given.{traced_of}
 use Rattle.page_events.proofs.Walks.{first_left, none_left}
 use Rattle.page_events.proofs.Searches.{found_from, found_here, found_later, found_none}
 use Rattle.page_events.proofs.sought.row_of.Goals as goal

@@ -1,4 +1,4 @@
-use Rattle.run_trace.specs.Given.{traced_of}
+use Rattle.page_events.specs.run_trace.Given.{traced_of}
 use Rattle.page_view.specs.Arrows.{arrows_of}
 use Rattle.page_events.proofs.Walks.{first_left, none_left, past, whole_is}
 use Rattle.page_view.proofs.arrows.push_arrows.Goals as goal

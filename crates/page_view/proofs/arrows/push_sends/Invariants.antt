@@ -1,6 +1,6 @@
 use Rattle.std.proofs.Common.{◌≡◌, ◌++◌, drop}
 use Rattle.std.specs.List.{flat_map}
-use Rattle.run_trace.specs.Given.{traced_of}
+use Rattle.page_events.specs.run_trace.Given.{traced_of}
 use Rattle.page_view.specs.Arrows.{under_way_text}
 use Rattle.page_view.proofs.arrows.push_sends.Given as goal
 

@@ -1,5 +1,5 @@
 use Rattle.std.proofs.Common.{ap, ◌∙◌, sym}
-use Rattle.node_model.specs.Node.{standing_of}
+use Rattle.run_order.specs.node_model.Node.{standing_of}
 use Rattle.run_order.specs.OwnRun.{run_of}
 use Rattle.replay.proofs.Whole.{one_told, not_broken, not_unfinished, again}
 use Rattle.replay.proofs.law.replay_law.Goals as goal

@@ -1,10 +1,10 @@
 use Rattle.std.proofs.Common.{◌+◌, sym, subst, ◌∙◌, List, IfOk}
 use Rattle.std.proofs.lemmas.Result.{IfOk-weaker}
-use Rattle.node_model.specs.Node.{Work}
-use Rattle.node_model.specs.Core.{Core, opening_core}
-use Rattle.node_model.specs.Outcome.{IsOutcomeOf}
-use Rattle.run_order.specs.OwnRun.{Stamped, StandsForOwnRun, run_of}
-use Rattle.rewriting_law.specs.Bounds.{RunsRewritten}
+use Rattle.dsm_core.specs.node_model.Node.{Work}
+use Rattle.dsm_core.specs.node_model.Core.{Core, opening_core}
+use Rattle.dsm_core.specs.node_model.Outcome.{IsOutcomeOf}
+use Rattle.dsm_core.specs.run_order.OwnRun.{Stamped, StandsForOwnRun, run_of}
+use Rattle.dsm_core.specs.rewriting_law.Bounds.{RunsRewritten}
 use Rattle.dsm_core.specs.declared.outcome.Outcome.{Outcome}
 use Rattle.dsm_core.specs.CoreParts.{work_of, core_of, outcome_of}
 use Rattle.shared_sim.specs.ByOrder.{IsOutcomeByOrder}

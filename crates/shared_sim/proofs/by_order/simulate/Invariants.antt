@@ -1,5 +1,5 @@
 use Rattle.std.proofs.Common.{◌≡◌}
-use Rattle.node_model.specs.Core.{opening_core}
+use Rattle.dsm_core.specs.node_model.Core.{opening_core}
 use Rattle.dsm_core.specs.CoreParts.{work_of, work_in, core_of}
 use Rattle.shared_sim.specs.Turns.{IsReady, LeadsOn}
 use Rattle.shared_sim.proofs.by_order.simulate.Given as goal

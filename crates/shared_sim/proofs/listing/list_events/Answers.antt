@@ -3,7 +3,7 @@ use Rattle.std.specs.Prelude.{filter}
 use Rattle.std.specs.List.{range_with_len}
 use Rattle.std.specs.Vec.{vec_items}
 use Rattle.std.proofs.lemmas.List.{append-nil, map-append}
-use Rattle.node_model.specs.Core.{Exec, Take}
+use Rattle.dsm_core.specs.node_model.Core.{Exec, Take}
 use Rattle.dsm_core.specs.CoreParts.{work_of, core_of, event_of}
 use Rattle.shared_sim.specs.ByOrder.{is_allowed}
 use Rattle.shared_sim.proofs.Choices.{told, one_node, no_takes}

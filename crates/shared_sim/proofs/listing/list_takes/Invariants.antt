@@ -2,7 +2,7 @@ use Rattle.std.proofs.Common.{◌≡◌, ◌+◌, ◌≤◌, ◌++◌, length, m
 use Rattle.std.specs.Prelude.{filter}
 use Rattle.std.specs.List.{range_with_len}
 use Rattle.std.specs.Vec.{vec_capacity}
-use Rattle.node_model.specs.Core.{Take}
+use Rattle.dsm_core.specs.node_model.Core.{Take}
 use Rattle.dsm_core.specs.CoreParts.{work_of, core_of, event_of}
 use Rattle.shared_sim.specs.ByOrder.{is_allowed}
 use Rattle.shared_sim.proofs.listing.list_takes.Given as goal

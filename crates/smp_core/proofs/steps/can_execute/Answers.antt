@@ -1,6 +1,6 @@
 -- By the standing of the processor's lane.
 use Rattle.std.proofs.Common.{◌<◌, ◌*◌, ◌∙◌, ap, sym, subst}
-use Rattle.node_model.specs.Core.{may_execute}
+use Rattle.lane_model.specs.node_model.Core.{may_execute}
 use Rattle.lane_model.specs.Nodes.{LaneNode, node_of, lane_of, opening_node}
 use Rattle.lane_model.specs.Core.{standing_of}
 use Rattle.smp_core.specs.CoreParts.{lane_work, node_in}

@@ -1,6 +1,6 @@
 -- By the first message, and by the node.
 use Rattle.std.proofs.Common.{◌≡◌, ◌≢◌, ◌<◌, ◌∷◌, [], ◌∙◌, refl, ap, sym, subst}
-use Rattle.dsm_protocol.specs.Queue.{wires_of}
+use Rattle.lane_law.specs.dsm_protocol.Queue.{wires_of}
 use Rattle.lane_model.specs.Nodes.{LaneNode, opening_node}
 use Rattle.lane_model.specs.Core.{may_take_first}
 use Rattle.smp_core.specs.CoreParts.{core_with, lane_work, node_in}

@@ -1,7 +1,7 @@
 -- The node's turn is the core's event.
 use Rattle.std.proofs.Common.{◌≡◌, ◌<◌, ◌≤◌, ◌∙◌, true, ap, sym, subst, arith}
-use Rattle.dsm_protocol.specs.Queue.{AreQueues, IsSent}
-use Rattle.node_model.specs.Core.{may_execute}
+use Rattle.lane_law.specs.dsm_protocol.Queue.{AreQueues, IsSent}
+use Rattle.lane_model.specs.node_model.Core.{may_execute}
 use Rattle.lane_model.specs.Nodes.{LaneNode, node_of, lane_of, opening_node}
 use Rattle.lane_model.specs.Core.{LaneCore, standing_of}
 use Rattle.smp_core.specs.CoreParts.{lane_work, node_in}

@@ -1,6 +1,6 @@
 -- A node with more room stands for the same.
 use Rattle.std.proofs.Common.{◌<◌, sym, subst}
-use Rattle.dsm_protocol.specs.Queue.{AreQueues, SameWires}
+use Rattle.lane_law.specs.dsm_protocol.Queue.{AreQueues, SameWires}
 use Rattle.smp_core.specs.CoreParts.{lane_work, node_in}
 use Rattle.smp_core.proofs.CoreSteps.{core_same, node_at, set_same, stored_then}
 use Rattle.smp_core.proofs.steps.make_room.Goals as goal

@@ -3,7 +3,7 @@ use Rattle.std.proofs.Common.{◌≢◌, ◌<◌, ◌≤◌, ◌∙◌, [], List
 use Rattle.std.specs.Prelude.{All}
 use Rattle.std.proofs.lemmas.List.Elements.{All-head}
 use Rattle.home_directory.specs.declared.messages.Wire.{Wire}
-use Rattle.dsm_protocol.specs.Queue.{AreQueues, HasRoom, IsSent, IsTaken, wires_of}
+use Rattle.lane_law.specs.dsm_protocol.Queue.{AreQueues, HasRoom, IsSent, IsTaken, wires_of}
 use Rattle.lane_model.specs.Nodes.{LaneNode, opening_node}
 use Rattle.lane_model.specs.Core.{LaneCore}
 use Rattle.smp_core.specs.CoreParts.{lane_work, node_in}

@@ -1,6 +1,6 @@
 -- One take more.
 use Rattle.std.proofs.Common.{◌∙◌, map, arith}
-use Rattle.lane_model.specs.Core.{Take}
+use Rattle.smp_core.specs.lane_model.Core.{Take}
 use Rattle.smp_core.specs.CoreParts.{core_of, event_of, work_of}
 use Rattle.smp_sim.specs.ByOrder.{is_allowed}
 use Rattle.smp_sim.proofs.Choices.{one_more}

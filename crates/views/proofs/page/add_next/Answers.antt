@@ -3,7 +3,7 @@ use Rattle.run_trace.specs.declared.passed.Until.TheVariants.{Access}
 use Rattle.run_trace.specs.Given.{traced_of}
 use Rattle.run_trace.specs.Passing.{HasPassedOn, passed_of}
 use Rattle.run_trace.specs.Tracing.{HasTraced, record_traced}
-use Rattle.event_text.specs.Shown.{shown}
+use Rattle.block_view.specs.event_text.Shown.{shown}
 use Rattle.views.specs.Failures.{HasGoneOnTo}
 use Rattle.views.proofs.Pages.{event_added, passed_kept, word_added}
 use Rattle.views.proofs.Passed.{late_word, no_more_pushed}

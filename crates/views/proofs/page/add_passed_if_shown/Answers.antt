@@ -1,7 +1,7 @@
 use Rattle.std.proofs.Common.{◌≡◌, ◌++◌, ◌∷◌, [], sym, ◌∙◌}
 use Rattle.run_trace.specs.Passing.{passed_of}
-use Rattle.event_text.specs.Shown.{shown}
-use Rattle.page_events.specs.Shown.{kept}
+use Rattle.block_view.specs.event_text.Shown.{shown}
+use Rattle.page_view.specs.page_events.Shown.{kept}
 use Rattle.views.proofs.Pages.{more_shown, no_more_shown}
 use Rattle.views.proofs.Viewed.{on_ok_as}
 use Rattle.views.proofs.page.add_passed_if_shown.Goals as goal

@@ -1,5 +1,5 @@
 use Rattle.std.proofs.Common.{◌≡◌, None, ◌++◌, ap, ◌∙◌}
-use Rattle.event_text.specs.Shown.{shown}
+use Rattle.block_view.specs.event_text.Shown.{shown}
 use Rattle.judged_files.specs.Ready.{work_for}
 use Rattle.page_view.specs.Page.{page_text, text_of}
 use Rattle.views.proofs.Lines.{tells_by, whole_by}

@@ -1,5 +1,5 @@
 use Rattle.std.proofs.Common.{◌≡◌, ◌++◌, ◌∷◌, [], append-nil, ap, sym, ◌∙◌}
-use Rattle.event_text.specs.Events.{event_line}
+use Rattle.block_view.specs.event_text.Events.{event_line}
 use Rattle.run_trace.specs.Given.{traced_of}
 use Rattle.views.proofs.Lines.{line_hidden, line_shown, lines_of}
 use Rattle.views.proofs.Viewed.{on_ok_as}

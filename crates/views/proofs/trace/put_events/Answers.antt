@@ -2,7 +2,7 @@ use Rattle.std.proofs.Common.{true, false, [], ◌++◌, append-nil, refl, sym, 
 use Rattle.std.proofs.lemmas.Result.{err_from_is_err_and}
 use Rattle.dsm_io.specs.Causes.{Appends}
 use Rattle.dsm_io.specs.States.{SinkState}
-use Rattle.event_text.specs.Shown.{head}
+use Rattle.block_view.specs.event_text.Shown.{head}
 use Rattle.judged_files.specs.Failures.{IsPutFailure}
 use Rattle.judged_files.proofs.Pieces.{nothing_put}
 use Rattle.run_trace.specs.Tracing.{record_traced, work_traced}

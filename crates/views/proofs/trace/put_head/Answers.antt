@@ -1,7 +1,7 @@
 use Rattle.std.proofs.Common.{[], ◌++◌, append-nil, ap, refl, subst, sym, ◌∙◌}
 use Rattle.dsm_io.specs.Causes.{Appends}
 use Rattle.dsm_io.specs.States.{SinkState}
-use Rattle.event_text.specs.Shown.{head}
+use Rattle.block_view.specs.event_text.Shown.{head}
 use Rattle.judged_files.specs.Failures.{FailsAs, IsLike, IsNever, IsPutFailure}
 use Rattle.judged_files.proofs.Pieces.{nothing_put, put_fails}
 use Rattle.views.proofs.Viewed.{err_as}

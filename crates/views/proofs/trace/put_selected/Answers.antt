@@ -3,8 +3,8 @@ use Rattle.std.specs.Prelude.{false, IfErr, IfSome, OnOk}
 use Rattle.std.specs.Option.{option_map_or}
 use Rattle.dsm_io.specs.Causes.{Appends}
 use Rattle.dsm_io.specs.States.{SinkState}
-use Rattle.event_text.specs.declared.shown.Options.{Options}
-use Rattle.event_text.specs.Shown.{head, trace_text}
+use Rattle.block_view.specs.event_text.declared.shown.Options.{Options}
+use Rattle.block_view.specs.event_text.Shown.{head, trace_text}
 use Rattle.judged_files.specs.Failures.{FailsAs, IsLike, IsNever}
 use Rattle.views.specs.Trace.{selected_text}
 use Rattle.views.proofs.Passed.{no_words}

@@ -1,6 +1,6 @@
 use Rattle.std.proofs.Common.{◌≡◌, [], ◌∷◌, ap, ◌∙◌}
 use Rattle.std.specs.Option.{option_to_list}
-use Rattle.node_machine.specs.Wanted.{wanted_in}
+use Rattle.event_text.specs.node_machine.Wanted.{wanted_in}
 use Rattle.block_view.specs.Kept.{counts_with, places_with}
 use Rattle.block_view.proofs.Costing.{one_wanted, two_wanted}
 use Rattle.block_view.proofs.costs.Costs.add_word.Goals as goal

@@ -1,6 +1,6 @@
 use Rattle.std.proofs.Common.{◌++◌, ap, sym, ◌∙◌, subst, slice_index_or}
 use Rattle.std.proofs.lemmas.Result.{on_ok_weaker}
-use Rattle.run_trace.specs.Given.{what_of}
+use Rattle.event_text.specs.run_trace.Given.{what_of}
 use Rattle.block_view.specs.Sharing.{written_by}
 use Rattle.block_view.specs.Writers.{AreWritersOf}
 use Rattle.block_view.proofs.Writing.{accessed}

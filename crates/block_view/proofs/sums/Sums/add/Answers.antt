@@ -1,7 +1,7 @@
 use Rattle.std.proofs.Common.{◌≡◌, ℕ, ap, sym, ◌∙◌, subst, slice_index_or}
 use Rattle.node_model.specs.Node.{no_counts}
-use Rattle.run_trace.specs.Given.{traced_of}
-use Rattle.run_trace.specs.Sums.{counts_from}
+use Rattle.event_text.specs.run_trace.Given.{traced_of}
+use Rattle.event_text.specs.run_trace.Sums.{counts_from}
 use Rattle.block_view.specs.Counts.{block_counts, misses_of}
 use Rattle.block_view.specs.Sharing.{writes_of}
 use Rattle.block_view.specs.Writers.{AreWritersOf}

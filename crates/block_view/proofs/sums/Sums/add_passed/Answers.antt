@@ -1,6 +1,6 @@
 use Rattle.std.proofs.Common.{Some, refl, slice_index_or, subst, sym, ◌∙◌}
 use Rattle.std.proofs.lemmas.Result.{on_ok_weaker}
-use Rattle.run_trace.specs.Passing.{passed_of}
+use Rattle.event_text.specs.run_trace.Passing.{passed_of}
 use Rattle.block_view.specs.Sharing.{writes_of}
 use Rattle.block_view.specs.Writers.{AreWritersOf}
 use Rattle.block_view.proofs.Passing.{costs_free, plain_free, totals_free}

@@ -1,6 +1,6 @@
 use Rattle.std.proofs.Common.{ap, ◌∙◌, arith}
 use Rattle.node_model.specs.Node.{no_counts}
-use Rattle.run_trace.specs.Sums.{counts_from}
+use Rattle.event_text.specs.run_trace.Sums.{counts_from}
 use Rattle.block_view.proofs.Costing.{as_list}
 use Rattle.block_view.proofs.sums.Sums.nodes.Goals as goal
 

@@ -2,8 +2,8 @@
 use Rattle.std.proofs.Common.{◌≤◌, ◌∷◌, [], ◌++◌, ◌+◌, List, length, ap, ap₂, ◌∙◌, sym, subst, arith}
 use Rattle.std.proofs.lemmas.List.{length-append}
 use Rattle.std.proofs.lemmas.List.FromFn.{map-range_with_len_more}
-use Rattle.node_model.specs.declared.NodeCounts.{NodeCounts}
-use Rattle.node_model.specs.Node.{Node}
+use Rattle.run_order.specs.node_model.declared.NodeCounts.{NodeCounts}
+use Rattle.run_order.specs.node_model.Node.{Node}
 use Rattle.dsm_core.specs.CoreParts.{core_of}
 use Rattle.dsm_core.proofs.cores.Core.counts.Goals as goal
 

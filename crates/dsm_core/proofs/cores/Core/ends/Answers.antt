@@ -5,7 +5,7 @@ use Rattle.std.proofs.lemmas.List.{length-append, map_push}
 use Rattle.std.proofs.lemmas.List.FromFn.{map-range_with_len_more}
 use Rattle.block_layout.specs.Layout.{Shape}
 use Rattle.rv32_program.specs.declared.End.{End}
-use Rattle.node_model.specs.Node.{Node, end_of}
+use Rattle.run_order.specs.node_model.Node.{Node, end_of}
 use Rattle.dsm_core.specs.CoreParts.{work_of, core_of}
 use Rattle.dsm_core.proofs.Printing.{over_ends}
 use Rattle.dsm_core.proofs.cores.Core.ends.Goals.{in-Some, in_default}

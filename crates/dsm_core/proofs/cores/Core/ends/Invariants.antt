@@ -2,7 +2,7 @@ use Rattle.std.proofs.Common.{◌≡◌, ◌≤◌, Some, length, map}
 use Rattle.std.specs.List.{range_with_len}
 use Rattle.std.specs.Vec.{vec_capacity}
 use Rattle.rv32_program.specs.declared.End.{End}
-use Rattle.node_model.specs.Node.{end_of}
+use Rattle.run_order.specs.node_model.Node.{end_of}
 use Rattle.dsm_core.specs.CoreParts.{core_of}
 use Rattle.dsm_core.proofs.cores.Core.ends.Given as goal
 

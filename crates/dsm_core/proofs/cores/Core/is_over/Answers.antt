@@ -1,7 +1,7 @@
 -- By the nodes and lists.
 use Rattle.std.proofs.Common.{◌≡◌, true, subst}
 use Rattle.std.specs.Prelude.{◌↔◌}
-use Rattle.node_model.specs.Core.{IsOver}
+use Rattle.run_order.specs.node_model.Core.{IsOver}
 use Rattle.dsm_core.specs.CoreParts.{CoreParts, work_of, core_of}
 use Rattle.dsm_core.proofs.cores.Core.is_over.Goals as goal
 

@@ -1,8 +1,8 @@
 -- The nodes and lists of the start stand for the opening core.
 use Rattle.std.proofs.Common.{◌≡◌, ◌∙◌, sym, ap, subst}
 use Rattle.block_layout.specs.Layout.{Shape}
-use Rattle.node_model.specs.Core.{opening_core}
-use Rattle.dsm_protocol.specs.Queue.{AreQueues, wires_of}
+use Rattle.run_order.specs.node_model.Core.{opening_core}
+use Rattle.rewriting_law.specs.dsm_protocol.Queue.{AreQueues, wires_of}
 use Rattle.dsm_core.specs.CoreParts.{work_with, core_with, IsCore}
 use Rattle.dsm_core.proofs.CoreRuns.{opened, opened_core}
 use Rattle.dsm_core.proofs.cores.Core.new.Goals as goal

@@ -1,5 +1,5 @@
 use Rattle.std.proofs.Common.{ℕ, ◌<◌}
-use Rattle.node_model.specs.Core.{Take, May}
+use Rattle.run_order.specs.node_model.Core.{Take, May}
 use Rattle.dsm_core.specs.CoreParts.{work_of, core_of}
 use Rattle.dsm_core.proofs.cores.Core.next_take.Given as goal
 

@@ -1,8 +1,8 @@
 -- By its three parts, and by the law of bounds.
 use Rattle.std.proofs.Common.{◌∙◌, sym, ap, subst}
-use Rattle.node_model.specs.Node.{Node, end_of}
-use Rattle.node_model.specs.Core.{opening_core, after}
-use Rattle.node_model.specs.Outcome.{AreFrugal}
+use Rattle.run_order.specs.node_model.Node.{Node, end_of}
+use Rattle.run_order.specs.node_model.Core.{opening_core, after}
+use Rattle.run_order.specs.node_model.Outcome.{AreFrugal}
 use Rattle.run_order.specs.OwnRun.{run_of}
 use Rattle.dsm_core.specs.CoreParts.{work_of, core_of}
 use Rattle.dsm_core.proofs.Printing.{same_below}

@@ -1,6 +1,6 @@
 -- A word of the nodes and lists is one of the core.
 use Rattle.std.proofs.Common.{sym, subst}
-use Rattle.node_model.specs.Core.{Exec, May}
+use Rattle.run_order.specs.node_model.Core.{Exec, May}
 use Rattle.dsm_core.specs.CoreParts.{CoreParts, work_of, core_of}
 use Rattle.dsm_core.proofs.CoreRuns.{is_gone}
 use Rattle.dsm_core.proofs.Words.{passed_goes}

@@ -2,8 +2,8 @@
 use Rattle.std.proofs.Common.{◌≡◌, ◌<◌, false, true, ◌∙◌, refl, sym, ap, subst, inl, inr, arith}
 use Rattle.std.proofs.lemmas.Bool.Decides.{eqb_tells}
 use Rattle.block_layout.specs.Layout.{Shape}
-use Rattle.node_model.specs.Core.{Core}
-use Rattle.node_model.specs.Node.{Work}
+use Rattle.run_order.specs.node_model.Core.{Core}
+use Rattle.run_order.specs.node_model.Node.{Work}
 use Rattle.dsm_core.specs.CoreParts.{work_of, core_of}
 use Rattle.dsm_core.specs.CoreSteps.{HasGone, IsStill, one_if}
 use Rattle.dsm_core.proofs.Rounds.{gone_then, gone_still, gone_there, goes_there, still_there}

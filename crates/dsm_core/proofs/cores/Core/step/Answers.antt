@@ -1,6 +1,6 @@
 -- An event of the nodes and lists is one of the core.
 use Rattle.std.proofs.Common.{sym, subst}
-use Rattle.node_model.specs.Core.{May}
+use Rattle.run_order.specs.node_model.Core.{May}
 use Rattle.dsm_core.specs.CoreParts.{CoreParts, work_of, core_of, event_of}
 use Rattle.dsm_core.proofs.CoreRuns.{is_made}
 use Rattle.dsm_core.proofs.cores.Core.step.Goals as goal

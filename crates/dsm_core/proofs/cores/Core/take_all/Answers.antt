@@ -1,6 +1,6 @@
 -- One message more, and few can follow.
 use Rattle.std.proofs.Common.{◌^◌, ◌+◌, ◌∙◌, arith}
-use Rattle.node_model.specs.Core.{Take}
+use Rattle.run_order.specs.node_model.Core.{Take}
 use Rattle.dsm_core.specs.CoreParts.{work_of, core_of}
 use Rattle.dsm_core.proofs.CoreRuns.{for_one}
 use Rattle.dsm_core.proofs.Rounds.{gone_for, gone_also, gone_there}

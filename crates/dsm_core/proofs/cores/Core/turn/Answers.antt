@@ -1,6 +1,6 @@
 -- First messages, and then words.
 use Rattle.std.proofs.Common.{◌≡◌, false, true, refl, sym, subst}
-use Rattle.node_model.specs.Core.{Core, Exec, May}
+use Rattle.run_order.specs.node_model.Core.{Core, Exec, May}
 use Rattle.dsm_core.specs.CoreParts.{work_of, core_of}
 use Rattle.dsm_core.specs.CoreSteps.{HasGone, TakesNone, one_if}
 use Rattle.dsm_core.proofs.Rounds.{gone_then, gone_still, gone_flag, gone_there, goes_there}

@@ -2,8 +2,8 @@
 use Rattle.std.proofs.Common.{◌≡◌, true, List, sym, subst}
 use Rattle.std.specs.Prelude.{◌↔◌}
 use Rattle.node_machine.specs.declared.frame.Frame.{Frame}
-use Rattle.node_model.specs.Core.{May}
-use Rattle.dsm_protocol.specs.Queue.{Queue}
+use Rattle.run_order.specs.node_model.Core.{May}
+use Rattle.rewriting_law.specs.dsm_protocol.Queue.{Queue}
 use Rattle.dsm_core.specs.CoreParts.{CoreParts, work_of, core_with, core_of, event_of, HaveWork, AreParts}
 use Rattle.dsm_core.proofs.parts.Parts.enabled.Goals as goal
 

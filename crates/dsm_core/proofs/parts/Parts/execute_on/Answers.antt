@@ -1,7 +1,7 @@
 -- Words of the nodes and lists are those of the core.
 use Rattle.std.proofs.Common.{◌≡◌, ℕ, ◌∙◌, refl, sym, subst}
-use Rattle.node_model.specs.Core.{Exec, May}
-use Rattle.dsm_protocol.specs.Queue.{AreQueues}
+use Rattle.run_order.specs.node_model.Core.{Exec, May}
+use Rattle.rewriting_law.specs.dsm_protocol.Queue.{AreQueues}
 use Rattle.dsm_core.specs.CoreParts.{CoreParts, work_of, core_with, core_of, AreParts, HasStampsInRange}
 use Rattle.dsm_core.specs.CoreWords.{HasExecutedOn}
 use Rattle.dsm_core.specs.CoreSteps.{CanExecute, HaveExecutedOn, HaveKept}

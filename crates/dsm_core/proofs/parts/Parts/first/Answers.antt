@@ -1,7 +1,7 @@
 -- The lists that are stored are those of the core.
 use Rattle.std.proofs.Common.{◌≡◌, List, [], subst}
 use Rattle.std.specs.Prelude.{MatchOption}
-use Rattle.dsm_protocol.specs.Queue.{Queue, wires_of}
+use Rattle.rewriting_law.specs.dsm_protocol.Queue.{Queue, wires_of}
 use Rattle.dsm_core.specs.CoreParts.{CoreParts, core_of}
 use Rattle.dsm_core.specs.Seen.{IsFirstIn}
 use Rattle.dsm_core.proofs.parts.Parts.first.Goals as goal

@@ -2,7 +2,7 @@
 use Rattle.std.proofs.Common.{◌≡◌, true, List, sym, subst}
 use Rattle.std.specs.Prelude.{◌↔◌}
 use Rattle.node_machine.specs.declared.frame.Frame.{Frame}
-use Rattle.node_model.specs.Core.{IsOver}
+use Rattle.run_order.specs.node_model.Core.{IsOver}
 use Rattle.dsm_core.specs.CoreParts.{CoreParts, work_of, core_with, core_of, HaveWork, AreParts}
 use Rattle.dsm_core.proofs.parts.Parts.is_over.Goals as goal
 

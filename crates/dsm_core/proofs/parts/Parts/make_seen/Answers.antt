@@ -1,7 +1,7 @@
 -- An event of the nodes and lists is one of the core.
 use Rattle.std.proofs.Common.{◌≡◌, ◌∙◌, refl, sym, subst}
-use Rattle.node_model.specs.Core.{May, event_step, AreAlike}
-use Rattle.dsm_protocol.specs.Queue.{AreQueues}
+use Rattle.run_order.specs.node_model.Core.{May, event_step, AreAlike}
+use Rattle.rewriting_law.specs.dsm_protocol.Queue.{AreQueues}
 use Rattle.dsm_core.specs.CoreParts.{CoreParts, work_of, core_with, core_of, event_of, AreParts, HasStampsInRange}
 use Rattle.dsm_core.specs.CoreSteps.{CanMake, HaveMade, HaveKept}
 use Rattle.dsm_core.specs.declared.seen.Seen.{Seen}

@@ -1,6 +1,6 @@
 -- The node that was read is that of the core.
 use Rattle.std.proofs.Common.{◌≡◌, ◌<◌, ◌∙◌, sym, subst}
-use Rattle.node_model.specs.Node.{opening_node}
+use Rattle.run_order.specs.node_model.Node.{opening_node}
 use Rattle.node_machine.specs.Frame.{node_of, work_of as work_at}
 use Rattle.dsm_core.specs.CoreParts.{CoreParts, work_of, core_of, AreParts}
 use Rattle.dsm_core.proofs.CoreSteps.{read_at}

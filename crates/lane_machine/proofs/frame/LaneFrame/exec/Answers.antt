@@ -4,16 +4,16 @@ use Rattle.std.specs.Prelude.{is_some}
 use Rattle.std.proofs.lemmas.Bool.Decides.{nat_tests}
 use Rattle.block_layout.specs.Layout.{Shape}
 use Rattle.block_layout.specs.Update.{changed}
-use Rattle.node_words.specs.declared.body.Body.{Body}
-use Rattle.node_words.specs.Address.{word_address}
-use Rattle.node_words.specs.Kept.{Ground, ground_of, lane_of, phase_by}
+use Rattle.node_machine.specs.node_words.declared.body.Body.{Body}
+use Rattle.node_machine.specs.node_words.Address.{word_address}
+use Rattle.node_machine.specs.node_words.Kept.{Ground, ground_of, lane_of, phase_by}
 use Rattle.node_model.specs.Node.{word_outcome}
 use Rattle.node_model.specs.Turns.{byes_to, each_block_once, is_ended, wants_of, words_before}
 use Rattle.node_machine.specs.Frame.{layout_of, phase_of, AreCountsBelow}
 use Rattle.node_machine.specs.declared.states.SharedState.{SharedState}
 use Rattle.node_machine.proofs.FrameLemmas.{counts_up}
-use Rattle.lane_model.specs.Nodes.{LanePart}
-use Rattle.lane_model.specs.Turns.{blocks_of, still}
+use Rattle.lane_desk.specs.lane_model.Nodes.{LanePart}
+use Rattle.lane_desk.specs.lane_model.Turns.{blocks_of, still}
 use Rattle.lane_desk.specs.Waits.{awaits_of, wait_among, waits_in}
 use Rattle.lane_desk.specs.Words.{reserved_after}
 use Rattle.lane_machine.specs.declared.frame.LaneFrame.{LaneFrame}

@@ -1,6 +1,6 @@
 -- A turn, part by part.
 use Rattle.std.proofs.Common.{◌≡◌, ap, sym, subst}
-use Rattle.lane_model.specs.Turns.{LaneTurn, word_turn}
+use Rattle.lane_desk.specs.lane_model.Turns.{LaneTurn, word_turn}
 use Rattle.lane_machine.specs.declared.frame.LaneFrame.{LaneFrame}
 use Rattle.lane_machine.specs.declared.frame.SharedFrame.{SharedFrame}
 use Rattle.lane_machine.specs.Stored.{lane_turn, with_lane, work_of, HasLane}

@@ -4,7 +4,7 @@ use Rattle.std.specs.Prelude.{unwrap_or, slice_index}
 use Rattle.std.proofs.Math.Path.{fun_ext}
 use Rattle.rv32_program.specs.Program.{Program}
 use Rattle.rv32_step.specs.Registers.{registers_of, first_values}
-use Rattle.jump_map.specs.Maps.{new_of}
+use Rattle.node_model.specs.jump_map.Maps.{new_of}
 use Rattle.node_model.specs.Node.{Running}
 use Rattle.lane_machine.proofs.lane.Lane.new.Goals as goal
 

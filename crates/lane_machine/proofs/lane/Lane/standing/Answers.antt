@@ -1,13 +1,13 @@
 -- By the lane's own part.
 use Rattle.std.proofs.Common.{ap, sym, ◌∙◌, cond}
 use Rattle.std.specs.Prelude.{option_and_then}
-use Rattle.jump_map.specs.Maps.{fetch}
-use Rattle.jump_map.specs.declared.image.ImageWord.{ImageWord}
-use Rattle.node_words.specs.Address.{word_address}
+use Rattle.node_model.specs.jump_map.Maps.{fetch}
+use Rattle.node_model.specs.jump_map.declared.image.ImageWord.{ImageWord}
+use Rattle.node_machine.specs.node_words.Address.{word_address}
 use Rattle.node_model.specs.declared.Standing.TheVariants as standing
 use Rattle.node_model.specs.Node.{takes_messages}
 use Rattle.node_machine.specs.Frame.{phase_of}
-use Rattle.lane_model.specs.Core.{standing_in}
+use Rattle.lane_desk.specs.lane_model.Core.{standing_in}
 use Rattle.lane_machine.specs.declared.frame.LaneFrame.{LaneFrame}
 use Rattle.lane_machine.specs.Stored.{part_of}
 use Rattle.lane_machine.proofs.StandingLemmas.{stands_by}

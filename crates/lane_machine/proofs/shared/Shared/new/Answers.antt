@@ -5,7 +5,7 @@ use Rattle.std.proofs.Math.Path.{fun_ext}
 use Rattle.home_directory.specs.declared.wait.Wait.{Wait}
 use Rattle.home_directory.specs.Effects.{requests_for}
 use Rattle.node_machine.proofs.OpeningLemmas.{none_of}
-use Rattle.lane_model.specs.Turns.{held_by}
+use Rattle.lane_desk.specs.lane_model.Turns.{held_by}
 use Rattle.lane_desk.specs.Waits.{wait_among, place_among, waits_in}
 use Rattle.lane_machine.specs.Places.{reserved_in}
 use Rattle.lane_machine.proofs.shared.Shared.new.Goals as goal

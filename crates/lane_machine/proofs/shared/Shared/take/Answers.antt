@@ -1,7 +1,7 @@
 -- The stored node is the one that is seen.
 use Rattle.std.proofs.Common.{subst}
-use Rattle.lane_model.specs.Nodes.{LaneWork, LaneNode}
-use Rattle.lane_model.specs.Turns.{take_turn}
+use Rattle.lane_desk.specs.lane_model.Nodes.{LaneWork, LaneNode}
+use Rattle.lane_desk.specs.lane_model.Turns.{take_turn}
 use Rattle.lane_machine.specs.declared.frame.SharedFrame.{SharedFrame}
 use Rattle.lane_machine.specs.Stored.{AreLanes, HaveLanes, AllWaitFor}
 use Rattle.lane_machine.proofs.shared.Shared.take.Goals as goal

@@ -1,6 +1,6 @@
 -- The nodes are those of the run.
 use Rattle.std.proofs.Common.{◌≡◌, ◌↔◌, true, List, sym, ap, ◌∙◌, subst}
-use Rattle.node_machine.specs.declared.frame.Frame.{Frame}
+use Rattle.dsm_core.specs.node_machine.declared.frame.Frame.{Frame}
 use Rattle.dsm_core.specs.CoreParts.{work_of, HaveWork}
 use Rattle.lossy_sim.specs.Stored.{state_of}
 use Rattle.lossy_sim.specs.WithLoss.{AreAllOver}

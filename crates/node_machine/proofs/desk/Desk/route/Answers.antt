@@ -1,6 +1,6 @@
 use Rattle.std.proofs.Common.{sym, refl, subst}
-use Rattle.home_directory.specs.declared.messages.Message.{Message}
-use Rattle.miss_handlers.specs.Effects.{HasEffect, message_effect}
+use Rattle.node_words.specs.home_directory.declared.messages.Message.{Message}
+use Rattle.node_words.specs.miss_handlers.Effects.{HasEffect, message_effect}
 use Rattle.node_machine.specs.declared.desk.Desk.{Desk}
 use Rattle.node_words.specs.Blocks.{blocks_at}
 use Rattle.node_machine.specs.Desk.{HasRouted}

@@ -1,6 +1,6 @@
 use Rattle.std.proofs.Common.{◌≡◌, ◌∙◌, ◌&&◌, ltb, length}
 use Rattle.node_words.specs.declared.body.Body.{Body}
-use Rattle.node_model.specs.Turns.{count_row}
+use Rattle.node_words.specs.node_model.Turns.{count_row}
 use Rattle.node_machine.specs.Desk.{is_order}
 use Rattle.node_machine.proofs.BlockLemmas.{LineLaws}
 use Rattle.node_machine.proofs.DeskLemmas.{counted, routed_turn, routed_few}

@@ -1,16 +1,16 @@
 use Rattle.std.proofs.Common.{◌≡◌, ◌∙◌, ℕ, ap, sym, refl, [], ◌∷◌, Option, Some, None, arith}
-use Rattle.home_directory.specs.declared.messages.Post.{Post}
-use Rattle.home_directory.specs.declared.wait.Wait.{Wait}
-use Rattle.home_directory.specs.Table.{Miss}
+use Rattle.node_words.specs.home_directory.declared.messages.Post.{Post}
+use Rattle.node_words.specs.home_directory.declared.wait.Wait.{Wait}
+use Rattle.node_words.specs.home_directory.Table.{Miss}
 use Rattle.state_table.specs.States.{state_of}
-use Rattle.miss_handlers.specs.Effects.{miss_of, post_of}
-use Rattle.miss_handlers.specs.Waits.{wait_of}
-use Rattle.node_model.specs.declared.NodeCounts.{NodeCounts}
-use Rattle.home_directory.specs.declared.messages.Need.{Need}
+use Rattle.node_words.specs.miss_handlers.Effects.{miss_of, post_of}
+use Rattle.node_words.specs.miss_handlers.Waits.{wait_of}
+use Rattle.node_words.specs.node_model.declared.NodeCounts.{NodeCounts}
+use Rattle.node_words.specs.home_directory.declared.messages.Need.{Need}
 use Rattle.state_table.specs.declared.State.{State}
 use Rattle.node_words.specs.declared.body.Body.{Body}
 use Rattle.node_machine.specs.declared.desk.Desk.{Desk}
-use Rattle.node_model.specs.Turns.{count_want}
+use Rattle.node_words.specs.node_model.Turns.{count_want}
 use Rattle.node_machine.proofs.BlockLemmas.{LineLaws}
 use Rattle.node_machine.proofs.DeskLemmas.{HasWanted, want_turn, posts_of, counts_if, others_wait, waits_grow}
 use Rattle.node_machine.proofs.desk.Desk.want_block.Goals as goal

@@ -1,7 +1,7 @@
 use Rattle.std.proofs.Common.{◌/◌, ◌∙◌, ℕ, ap, sym, Some, List}
 use Rattle.std.proofs.lemmas.List.{append-nil}
-use Rattle.home_directory.specs.declared.messages.Post.{Post}
-use Rattle.node_model.specs.Turns.{want_in}
+use Rattle.node_words.specs.home_directory.declared.messages.Post.{Post}
+use Rattle.node_words.specs.node_model.Turns.{want_in}
 use Rattle.node_machine.specs.Frame.{layout_of, with_parts}
 use Rattle.node_machine.specs.Desk.{turn_by}
 use Rattle.node_machine.proofs.BlockLemmas.{LineLaws}

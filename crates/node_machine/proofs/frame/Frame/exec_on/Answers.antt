@@ -1,6 +1,6 @@
 use Rattle.std.proofs.Common.{◌∙◌, ap}
-use Rattle.node_model.specs.Turns.{word_turn}
-use Rattle.node_model.specs.Node.{Work}
+use Rattle.node_words.specs.node_model.Turns.{word_turn}
+use Rattle.node_words.specs.node_model.Node.{Work}
 use Rattle.node_machine.specs.Frame.{node_of, work_of}
 use Rattle.node_machine.proofs.frame.Frame.exec_on.Goals as goal
 

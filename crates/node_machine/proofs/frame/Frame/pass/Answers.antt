@@ -1,11 +1,11 @@
 use Rattle.std.proofs.Common.{◌≡◌, ◌+◌, ◌*◌, ◌∙◌, ap, sym, subst, refl, length, arith}
 use Rattle.std.specs.Box.{with_value}
 use Rattle.block_layout.specs.Layout.{Shape}
-use Rattle.exec_map.specs.Contents.{program_of}
+use Rattle.node_words.specs.exec_map.Contents.{program_of}
 use Rattle.node_words.specs.declared.body.Body.{Body}
 use Rattle.node_machine.specs.declared.frame.Frame.{Frame}
 use Rattle.node_words.specs.Address.{word_address}
-use Rattle.node_model.specs.Node.{next_outcome}
+use Rattle.node_words.specs.node_model.Node.{next_outcome}
 use Rattle.node_words.specs.Kept.{Ground, Follows, ground_of, lane_of, local_of}
 use Rattle.node_machine.specs.Frame.{layout_of, phase_of, work_of, IsDesk, IsNode, AreCountsBelow}
 use Rattle.node_machine.proofs.FrameLemmas.{passed_turn, may_waits, counts_up}

@@ -1,8 +1,8 @@
 use Rattle.std.proofs.Common.{◌+◌, ◌*◌, ◌∙◌, ap, sym, subst, refl, length, arith}
 use Rattle.block_layout.specs.Layout.{Shape}
-use Rattle.exec_map.specs.Contents.{program_of}
+use Rattle.node_words.specs.exec_map.Contents.{program_of}
 use Rattle.node_words.specs.declared.body.Body.{Body}
-use Rattle.node_model.specs.Node.{can_execute}
+use Rattle.node_words.specs.node_model.Node.{can_execute}
 use Rattle.node_words.specs.GoingOn.{BodyGoesOn}
 use Rattle.node_words.specs.Kept.{Ground, ground_of}
 use Rattle.node_words.specs.Trails.{TakesBack}

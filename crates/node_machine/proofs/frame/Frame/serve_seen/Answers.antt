@@ -1,12 +1,12 @@
 use Rattle.std.proofs.Common.{◌≡◌, ◌+◌, ◌*◌, ◌≤◌, ◌∙◌, ap, sym, subst, length, ℕ, [], Option, ◌^◌, arith}
 use Rattle.block_layout.specs.Layout.{Shape}
-use Rattle.exec_map.specs.Contents.{program_of}
-use Rattle.home_directory.specs.Effects.{entry_at, entries_of, members}
-use Rattle.miss_handlers.specs.Waits.{wait_of}
+use Rattle.node_words.specs.exec_map.Contents.{program_of}
+use Rattle.node_words.specs.home_directory.Effects.{entry_at, entries_of, members}
+use Rattle.node_words.specs.miss_handlers.Waits.{wait_of}
 use Rattle.node_words.specs.declared.body.Body.{Body}
 use Rattle.node_words.specs.Address.{word_address}
-use Rattle.node_model.specs.Node.{Node, next_outcome, word_outcome}
-use Rattle.node_model.specs.Turns.{want_all, each_block_once, is_ended, words_before}
+use Rattle.node_words.specs.node_model.Node.{Node, next_outcome, word_outcome}
+use Rattle.node_words.specs.node_model.Turns.{want_all, each_block_once, is_ended, words_before}
 use Rattle.node_words.specs.Kept.{Ground, Serves, ground_of, lane_of, local_of, wants_by}
 use Rattle.node_machine.specs.Frame.{node_of, work_of, layout_of, phase_of, with_parts, entries_in, IsDesk, AreCountsBelow, WaitsInPhase}
 use Rattle.node_machine.specs.Desk.{turn_by, AreUnmet}

@@ -1,15 +1,15 @@
 use Rattle.std.proofs.Common.{◌≡◌, ◌+◌, ◌-◌, ◌*◌, ◌∙◌, ◌++◌, ◌^◌, ap, sym, subst, eqb, length, [], ◌∷◌, None, arith}
 use Rattle.block_layout.specs.Layout.{Shape, blocks}
-use Rattle.exec_map.specs.Contents.{program_of}
-use Rattle.home_directory.specs.Effects.{entry_at, entries_of, members}
-use Rattle.home_directory.specs.Home.{count_of}
+use Rattle.node_words.specs.exec_map.Contents.{program_of}
+use Rattle.node_words.specs.home_directory.Effects.{entry_at, entries_of, members}
+use Rattle.node_words.specs.home_directory.Home.{count_of}
 use Rattle.std.specs.Prelude.{is_some}
-use Rattle.miss_handlers.specs.Waits.{wait_of}
+use Rattle.node_words.specs.miss_handlers.Waits.{wait_of}
 use Rattle.node_words.specs.declared.body.Body.{Body}
-use Rattle.node_model.specs.declared.Entry.{Entry}
+use Rattle.node_words.specs.node_model.declared.Entry.{Entry}
 use Rattle.node_words.specs.Address.{word_address}
-use Rattle.node_model.specs.Node.{Node}
-use Rattle.node_model.specs.Turns.{treated, journaled, later, words_before, with_byes, is_ended}
+use Rattle.node_words.specs.node_model.Node.{Node}
+use Rattle.node_words.specs.node_model.Turns.{treated, journaled, later, words_before, with_byes, is_ended}
 use Rattle.node_words.specs.declared.lane.Lane as kept
 use Rattle.node_words.specs.Kept.{Shelf, Ground, ground_of, lane_of, local_of}
 use Rattle.node_machine.specs.Frame.{node_of, layout_of, phase_of, with_all, entries_in, phase_resumed, lane_after_wait, counts_after_wait, IsDesk, AreCountsBelow, WaitsInPhase}

@@ -1,16 +1,16 @@
 use Rattle.std.proofs.Common.{◌*◌, ◌≤◌, List, ◌∙◌, ap, sym, subst, length, arith}
 use Rattle.block_layout.specs.Layout.{Shape}
-use Rattle.exec_map.specs.Contents.{program_of}
+use Rattle.node_words.specs.exec_map.Contents.{program_of}
 use Rattle.run_limits.specs.Ranges.{IsBudget}
-use Rattle.jump_map.specs.Image.{Cell, most_words}
-use Rattle.home_directory.specs.Effects.{entry_at, entries_of, members}
-use Rattle.miss_handlers.specs.Waits.{wait_of}
+use Rattle.node_words.specs.jump_map.Image.{Cell, most_words}
+use Rattle.node_words.specs.home_directory.Effects.{entry_at, entries_of, members}
+use Rattle.node_words.specs.miss_handlers.Waits.{wait_of}
 use Rattle.node_words.specs.declared.body.Body.{Body}
 use Rattle.node_words.specs.Address.{word_address}
 use Rattle.node_words.specs.Kept.{Ground, ground_of, lane_of}
 use Rattle.node_words.specs.Trails.{TakesBack}
-use Rattle.node_model.specs.Node.{can_execute}
-use Rattle.node_model.specs.Turns.{words_before}
+use Rattle.node_words.specs.node_model.Node.{can_execute}
+use Rattle.node_words.specs.node_model.Turns.{words_before}
 use Rattle.node_machine.specs.declared.desk.Desk.{Desk}
 use Rattle.node_machine.specs.declared.phase.Phase as kept
 use Rattle.node_machine.specs.Frame.{layout_of, phase_of, entries_in, IsDesk, AreCountsBelow, WaitsInPhase}

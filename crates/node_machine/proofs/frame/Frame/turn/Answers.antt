@@ -1,7 +1,7 @@
 use Rattle.std.proofs.Common.{◌∙◌, ◌++◌, ap, cond, List}
-use Rattle.home_directory.specs.declared.messages.Post.{Post}
+use Rattle.node_words.specs.home_directory.declared.messages.Post.{Post}
 use Rattle.node_words.specs.declared.body.Body.{Body}
-use Rattle.node_model.specs.Turns.{byes_to, is_ended}
+use Rattle.node_words.specs.node_model.Turns.{byes_to, is_ended}
 use Rattle.node_machine.specs.Frame.{node_of, layout_of, phase_of}
 use Rattle.node_machine.specs.Desk.{turn_by}
 use Rattle.node_machine.proofs.FrameLemmas.{byes_by}

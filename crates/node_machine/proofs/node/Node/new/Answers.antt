@@ -3,13 +3,13 @@ use Rattle.std.specs.Prelude.{unwrap_or, slice_index}
 use Rattle.std.proofs.Math.Path.{fun_ext}
 use Rattle.elf32_read.specs.Elf.{Elf}
 use Rattle.block_layout.specs.Layout.{Shape}
-use Rattle.rv32_step.specs.Registers.{registers_of, first_values}
-use Rattle.exec_map.specs.Contents.{program_of}
-use Rattle.jump_map.specs.Maps.{new_of}
-use Rattle.home_directory.specs.Effects.{entry_at, entries_of, requests_for, members}
-use Rattle.miss_handlers.specs.Waits.{wait_of}
+use Rattle.node_words.specs.rv32_step.Registers.{registers_of, first_values}
+use Rattle.node_words.specs.exec_map.Contents.{program_of}
+use Rattle.node_words.specs.jump_map.Maps.{new_of}
+use Rattle.node_words.specs.home_directory.Effects.{entry_at, entries_of, requests_for, members}
+use Rattle.node_words.specs.miss_handlers.Waits.{wait_of}
 use Rattle.node_words.specs.declared.body.Body.{Body}
-use Rattle.node_model.specs.Node.{Node, Work, Running, opening_node}
+use Rattle.node_words.specs.node_model.Node.{Node, Work, Running, opening_node}
 use Rattle.node_words.specs.Kept.{local_of, lane_of}
 use Rattle.node_machine.specs.Frame.{layout_of, entries_in}
 use Rattle.node_words.specs.Address.{word_address}

@@ -1,6 +1,6 @@
 -- By the registers.
 use Rattle.std.proofs.Common.{ap, ◌∙◌}
-use Rattle.rv32_step.specs.Registers.{reg}
+use Rattle.node_words.specs.rv32_step.Registers.{reg}
 use Rattle.node_machine.proofs.node.Node.register.Goals as goal
 
 pub returns : goal.returns

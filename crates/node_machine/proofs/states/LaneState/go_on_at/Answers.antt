@@ -1,5 +1,5 @@
 -- A processor that isn't stopped has words left.
-use Rattle.node_model.specs.Node.{Resumed}
+use Rattle.node_words.specs.node_model.Node.{Resumed}
 use Rattle.node_machine.specs.Frame.{phase_of}
 use Rattle.node_machine.proofs.FrameLemmas.{stop_goes}
 use Rattle.node_machine.proofs.states.LaneState.go_on_at.Goals as goal

@@ -1,6 +1,6 @@
 use Rattle.std.proofs.Common.{◌≡◌, ◌<◌, ◌^◌, true, None}
-use Rattle.node_machine.specs.Frame.{node_of}
-use Rattle.node_model.specs.Core.{may_execute}
+use Rattle.dsm_core.specs.node_machine.Frame.{node_of}
+use Rattle.dsm_protocol.specs.node_model.Core.{may_execute}
 use Rattle.node_threads.specs.Works.{Works, HasRows, standing}
 use Rattle.node_threads.proofs.worker.Worker.circle.Given as goal
 

@@ -1,5 +1,5 @@
 use Rattle.std.proofs.Common.{refl, sym, append-nil}
-use Rattle.run_order.specs.Apart.{Executes}
+use Rattle.dsm_core.specs.run_order.Apart.{Executes}
 use Rattle.node_threads.proofs.Working.{on_ok, works_turn}
 use Rattle.node_threads.proofs.worker.Worker.exec.Goals as goal
 

@@ -1,5 +1,5 @@
 use Rattle.std.proofs.Common.{refl, ◌<◌, length, arith, subst}
-use Rattle.run_order.specs.Apart.{Takes}
+use Rattle.dsm_core.specs.run_order.Apart.{Takes}
 use Rattle.node_threads.proofs.Posts.{through_pop, through_same, links_same}
 use Rattle.node_threads.proofs.Working.{works_still, works_hand, works_turn}
 use Rattle.node_threads.proofs.worker.Worker.look.Goals as goal

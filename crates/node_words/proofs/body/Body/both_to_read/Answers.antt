@@ -1,7 +1,7 @@
 use Rattle.std.proofs.Common.{◌≡◌, ◌+◌, ◌^◌, ◌%◌, refl, sym, arith}
 use Rattle.std.specs.Prelude.{bit_and, bit_or}
-use Rattle.rv32_step.specs.declared.Demand.TheVariants.{Sets}
-use Rattle.micro_op.specs.Micro.{Demands}
+use Rattle.node_model.specs.rv32_step.declared.Demand.TheVariants.{Sets}
+use Rattle.node_model.specs.micro_op.Micro.{Demands}
 use Rattle.node_words.proofs.LookLemmas.{further, index_below, masks, put_got, served}
 use Rattle.node_words.proofs.BatchLemmas.{ors_goes, passes}
 use Rattle.node_words.proofs.body.Body.both_to_read.Goals as goal

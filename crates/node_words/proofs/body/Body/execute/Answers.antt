@@ -1,8 +1,8 @@
 use Rattle.std.proofs.Common.{refl, ap, ◌≡◌, subst, ℕ, ◌+◌, ◌/◌, ◌*◌, ◌%◌, ◌^◌, arith}
-use Rattle.exec_map.specs.Contents.{program_of}
-use Rattle.rv32_step.specs.Demands.{demand_of}
-use Rattle.rv32_step.specs.Registers.{reg, registers_of}
-use Rattle.jump_map.specs.Image.{address_of_word}
+use Rattle.first_memory.specs.exec_map.Contents.{program_of}
+use Rattle.node_model.specs.rv32_step.Demands.{demand_of}
+use Rattle.node_model.specs.rv32_step.Registers.{reg, registers_of}
+use Rattle.node_model.specs.jump_map.Image.{address_of_word}
 use Rattle.node_model.specs.Node.{To, native, indirect, miss_r, miss_w, prepare}
 use Rattle.node_words.specs.Address.{word_address}
 use Rattle.node_words.specs.Kept.{ground_of, Does, lane_of, local_of}

@@ -1,7 +1,7 @@
 use Rattle.std.proofs.Common.{◌≡◌, true, sym, ap, ◌∙◌, refl}
 use Rattle.rv32_decode.specs.Widths.{is_aligned, width_of}
 use Rattle.rv32_decode.specs.declared.Width.{Width}
-use Rattle.exec_map.specs.Contents.{program_of}
+use Rattle.first_memory.specs.exec_map.Contents.{program_of}
 use Rattle.node_model.specs.Node.{load, region_of}
 use Rattle.node_words.specs.Kept.{ground_of, lane_of, local_of}
 use Rattle.node_words.specs.Address.{word_address}

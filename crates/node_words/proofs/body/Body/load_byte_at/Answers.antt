@@ -3,7 +3,7 @@ use Rattle.std.proofs.lemmas.Bool.Decides.{nat_tests}
 use Rattle.rv32_decode.specs.Widths.{is_aligned}
 use Rattle.rv32_decode.specs.declared.Width.TheVariants.{Byte}
 use Rattle.rv32_decode.specs.declared.LoadKind.TheVariants.{ByteU}
-use Rattle.exec_map.specs.Contents.{program_of}
+use Rattle.first_memory.specs.exec_map.Contents.{program_of}
 use Rattle.node_model.specs.Node.{load, region_of}
 use Rattle.node_words.specs.Kept.{ground_of, lane_of, local_of}
 use Rattle.node_words.specs.Address.{word_address}

@@ -1,5 +1,5 @@
 use Rattle.std.proofs.Common.{◌≡◌, ℕ, ◌+◌, ◌%◌, ◌^◌, refl, sym, ap, ◌∙◌, subst, arith}
-use Rattle.rv32_step.specs.Registers.{reg, registers_of}
+use Rattle.node_model.specs.rv32_step.Registers.{reg, registers_of}
 use Rattle.node_words.specs.GoingOn.{GoesFurther}
 use Rattle.node_words.proofs.WordLemmas.{goes_both}
 use Rattle.node_words.proofs.LookLemmas.{index_below, led, put_keeps}

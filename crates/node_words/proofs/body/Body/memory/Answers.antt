@@ -1,8 +1,8 @@
 use Rattle.std.proofs.Common.{sym, ◌∙◌, ◌≡◌, true, false, ◌/◌}
-use Rattle.exec_map.specs.Contents.{class_of_line, first_byte}
+use Rattle.first_memory.specs.exec_map.Contents.{class_of_line, first_byte}
 use Rattle.rv32_program.specs.declared.Class.TheVariants.{Shared, ReadOnly, Private, Unmapped}
 use Rattle.byte_range.specs.Memory.{raw}
-use Rattle.flag_memory.specs.Flag.{flag_byte}
+use Rattle.node_model.specs.flag_memory.Flag.{flag_byte}
 use Rattle.byte_range.specs.Window.{window_memory, is_in_window}
 use Rattle.node_words.specs.Kept.{local_of}
 use Rattle.node_words.proofs.MemoryLemmas.{raw_in_line, window_is_private, private_in_window, in_window, not_in_window, unmapped}

@@ -1,6 +1,6 @@
 use Rattle.std.proofs.Common.{subst}
-use Rattle.exec_map.specs.Contents.{program_of}
-use Rattle.rv32_step.specs.declared.Demand.{Demand}
+use Rattle.first_memory.specs.exec_map.Contents.{program_of}
+use Rattle.node_model.specs.rv32_step.declared.Demand.{Demand}
 use Rattle.node_model.specs.Node.{native}
 use Rattle.node_words.specs.Kept.{ground_of, Does, lane_of, local_of}
 use Rattle.node_words.proofs.body.Body.native.Goals as goal

@@ -1,8 +1,8 @@
 use Rattle.std.proofs.Common.{◌∙◌, ap, sym}
-use Rattle.exec_map.specs.Contents.{first_byte}
+use Rattle.first_memory.specs.exec_map.Contents.{first_byte}
 use Rattle.rv32_program.specs.declared.Class.{Class}
-use Rattle.rv32_step.specs.Memory.{byte_by}
-use Rattle.flag_memory.specs.Flag.{flag_byte}
+use Rattle.node_model.specs.rv32_step.Memory.{byte_by}
+use Rattle.node_model.specs.flag_memory.Flag.{flag_byte}
 use Rattle.rv32_decode.specs.declared.Width.TheVariants.{Byte}
 use Rattle.byte_range.specs.Memory.{raw}
 use Rattle.byte_range.specs.Window.{window_memory, is_in_window}

@@ -1,6 +1,6 @@
 use Rattle.std.proofs.Common.{◌+◌, ◌*◌, sym, subst}
 use Rattle.rv32_decode.specs.declared.Width.{Width}
-use Rattle.exec_map.specs.Contents.{program_of}
+use Rattle.first_memory.specs.exec_map.Contents.{program_of}
 use Rattle.node_model.specs.Node as model
 use Rattle.node_words.specs.Kept.{local_of, lane_of}
 use Rattle.node_words.specs.Trails.{HasBytes}

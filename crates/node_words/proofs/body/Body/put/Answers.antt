@@ -1,5 +1,5 @@
 use Rattle.std.proofs.Common.{◌≡◌, ◌+◌, ℕ, true, false, sym, ap, ◌∙◌, refl, subst, Some}
-use Rattle.exec_map.specs.Contents.{program_of}
+use Rattle.first_memory.specs.exec_map.Contents.{program_of}
 use Rattle.node_model.specs.Node.{Outcome, Next, go_on, lane_after_call, put_byte, is_mapped_state, is_readable_state}
 use Rattle.node_words.specs.Kept.{ground_of, Does, local_of, lane_of}
 use Rattle.node_words.specs.declared.lane.Move.TheVariants as again

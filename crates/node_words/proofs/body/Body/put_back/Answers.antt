@@ -1,5 +1,5 @@
 use Rattle.std.proofs.Common.{List, refl, sym, ap, ◌∙◌, subst, All}
-use Rattle.exec_map.specs.Contents.{program_of}
+use Rattle.first_memory.specs.exec_map.Contents.{program_of}
 use Rattle.rv32_program.specs.Program.{Program}
 use Rattle.node_words.specs.declared.trail.Note.{Note}
 use Rattle.node_words.specs.Trails.{IsAlignedNote, held_of, taken_back, undone}

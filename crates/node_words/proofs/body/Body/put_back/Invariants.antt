@@ -1,5 +1,5 @@
 use Rattle.std.proofs.Common.{◌≡◌, All}
-use Rattle.exec_map.specs.Contents.{program_of}
+use Rattle.first_memory.specs.exec_map.Contents.{program_of}
 use Rattle.node_words.specs.Kept.{ground_of}
 use Rattle.node_words.specs.Trails.{IsAlignedNote, held_of, taken_back}
 use Rattle.node_words.proofs.TrailLemmas.{Unchanged}

@@ -1,7 +1,7 @@
 use Rattle.std.proofs.Common.{◌≡◌, ◌∙◌, ℕ, Option, ap, sym, subst}
-use Rattle.exec_map.specs.Contents.{program_of}
-use Rattle.jump_map.specs.declared.image.ImageWord.{ImageWord}
-use Rattle.jump_map.specs.Maps.{fetch}
+use Rattle.first_memory.specs.exec_map.Contents.{program_of}
+use Rattle.node_model.specs.jump_map.declared.image.ImageWord.{ImageWord}
+use Rattle.node_model.specs.jump_map.Maps.{fetch}
 use Rattle.node_model.specs.Node.{execute_at}
 use Rattle.node_words.specs.Address.{word_address}
 use Rattle.node_words.specs.Kept.{StepsOr, lane_of, local_of}

@@ -1,5 +1,5 @@
 use Rattle.std.proofs.Common.{subst, refl}
-use Rattle.exec_map.specs.Contents.{program_of}
+use Rattle.first_memory.specs.exec_map.Contents.{program_of}
 use Rattle.node_model.specs.Node.{store, region_of}
 use Rattle.node_words.specs.Kept.{ground_of, Shelf, LeavesBehind, lane_of, local_of}
 use Rattle.node_words.proofs.body.Body.store.Goals as goal

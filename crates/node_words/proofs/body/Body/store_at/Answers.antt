@@ -1,6 +1,6 @@
 use Rattle.std.proofs.Common.{◌≡◌, true, sym, refl}
 use Rattle.rv32_decode.specs.Widths.{is_aligned}
-use Rattle.exec_map.specs.Contents.{program_of}
+use Rattle.first_memory.specs.exec_map.Contents.{program_of}
 use Rattle.node_model.specs.Node.{store, region_of}
 use Rattle.node_words.specs.Kept.{ground_of, lane_of, local_of}
 use Rattle.node_words.specs.Address.{word_address}

@@ -1,8 +1,8 @@
 use Rattle.std.proofs.Common.{◌≡◌, ℕ, true, None, sym, ap, ◌∙◌}
 use Rattle.rv32_decode.specs.declared.Width.TheVariants.{Word}
 use Rattle.rv32_decode.specs.Widths.{is_aligned}
-use Rattle.exec_map.specs.Contents.{program_of}
-use Rattle.llsc.specs.Reservation.{holds}
+use Rattle.first_memory.specs.exec_map.Contents.{program_of}
+use Rattle.node_model.specs.llsc.Reservation.{holds}
 use Rattle.node_model.specs.Node.{Lane, Local, region_of, set_register}
 use Rattle.node_words.specs.Kept.{lane_of, local_of, tally_of, move_of}
 use Rattle.node_words.specs.declared.lane.Outcome.{Outcome}

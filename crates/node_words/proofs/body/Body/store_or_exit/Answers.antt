@@ -1,6 +1,6 @@
 use Rattle.std.proofs.Common.{◌≡◌, true, sym, ap, ◌∙◌}
 use Rattle.rv32_decode.specs.Widths.{is_aligned}
-use Rattle.exec_map.specs.Contents.{program_of}
+use Rattle.first_memory.specs.exec_map.Contents.{program_of}
 use Rattle.node_model.specs.Node.{region_of}
 use Rattle.node_words.specs.Kept.{lane_of, local_of, tally_of, move_of}
 use Rattle.node_words.specs.declared.lane.Outcome.{Outcome}

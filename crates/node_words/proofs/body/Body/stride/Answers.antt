@@ -1,7 +1,7 @@
 use Rattle.std.proofs.Common.{◌+◌, ◌%◌, ◌^◌, Some, subst, arith}
-use Rattle.rv32_step.specs.Registers.{registers_of}
-use Rattle.micro_op.specs.Micro.{meaning_of}
-use Rattle.jump_map.specs.Image.{image_base}
+use Rattle.node_model.specs.rv32_step.Registers.{registers_of}
+use Rattle.node_model.specs.micro_op.Micro.{meaning_of}
+use Rattle.node_model.specs.jump_map.Image.{image_base}
 use Rattle.node_words.specs.declared.hot.Way.{Way}
 use Rattle.node_words.specs.GoingOn.{index_by}
 use Rattle.node_words.specs.Kept.{StepsTo}

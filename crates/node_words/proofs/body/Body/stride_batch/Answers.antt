@@ -1,8 +1,8 @@
 use Rattle.std.proofs.Common.{◌≡◌, ◌+◌, ◌^◌, ◌%◌, ℕ, ap, subst, arith}
-use Rattle.micro_op.specs.declared.MicroKind.{MicroKind}
-use Rattle.micro_op.specs.Micro.{meaning_by}
-use Rattle.jump_map.specs.Image.{image_base}
-use Rattle.jump_map.specs.Micro.{HasBehind}
+use Rattle.node_model.specs.micro_op.declared.MicroKind.{MicroKind}
+use Rattle.node_model.specs.micro_op.Micro.{meaning_by}
+use Rattle.node_model.specs.jump_map.Image.{image_base}
+use Rattle.node_model.specs.jump_map.Micro.{HasBehind}
 use Rattle.node_words.specs.GoingOn.{BeginsSecondLook, GoesFurther, OrsAt}
 use Rattle.node_words.proofs.LookLemmas.{index_below, strides}
 use Rattle.node_words.proofs.body.Body.stride_batch.Goals as goal

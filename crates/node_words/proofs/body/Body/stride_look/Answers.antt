@@ -1,11 +1,11 @@
 use Rattle.std.proofs.Common.{◌≡◌, ◌+◌, ◌^◌, ◌%◌, ℕ, refl, ap, subst, arith}
 use Rattle.node_words.specs.GoingOn.{BeginsValueLook, GoesFurther}
 use Rattle.node_words.proofs.LookLemmas.{begins_look, index_below, strides}
-use Rattle.micro_op.specs.declared.MicroKind.{MicroKind}
-use Rattle.micro_op.specs.declared.MicroKind.TheVariants as kind
-use Rattle.micro_op.specs.Micro.{meaning_by}
-use Rattle.jump_map.specs.Image.{image_base}
-use Rattle.jump_map.specs.Micro.{HasBehind}
+use Rattle.node_model.specs.micro_op.declared.MicroKind.{MicroKind}
+use Rattle.node_model.specs.micro_op.declared.MicroKind.TheVariants as kind
+use Rattle.node_model.specs.micro_op.Micro.{meaning_by}
+use Rattle.node_model.specs.jump_map.Image.{image_base}
+use Rattle.node_model.specs.jump_map.Micro.{HasBehind}
 use Rattle.node_words.proofs.body.Body.stride_look.Goals as goal
 
 pub returns-in-Look-clause-goes : goal.returns-in-Look-clause-goes

@@ -3,7 +3,7 @@ use Rattle.std.proofs.Common.{ap, ◌∙◌}
 use Rattle.rv32_decode.specs.declared.Width.{Width}
 use Rattle.rv32_ops.specs.Operations.{extend}
 use Rattle.byte_range.specs.Memory.{raw}
-use Rattle.exec_map.specs.Contents.{program_of}
+use Rattle.first_memory.specs.exec_map.Contents.{program_of}
 use Rattle.node_model.specs.Node.{byte_at}
 use Rattle.node_words.specs.Kept.{lane_of, local_of}
 use Rattle.node_words.proofs.body.Body.value.Goals as goal

@@ -1,10 +1,10 @@
 use Rattle.std.proofs.Common.{◌+◌, ◌*◌, ◌/◌, ◌%◌, false}
 use Rattle.rv32_decode.specs.declared.LoadKind.TheVariants as load_kind
 use Rattle.rv32_decode.specs.declared.Width.TheVariants as width
-use Rattle.rv32_step.specs.Demands.{branch_demand}
-use Rattle.rv32_step.specs.declared.Demand.TheVariants.{Sets, Jumps, Loads, Stores}
-use Rattle.micro_op.specs.declared.MicroKind.TheVariants as kind
-use Rattle.micro_op.specs.Micro.{Demands, Enters}
+use Rattle.node_model.specs.rv32_step.Demands.{branch_demand}
+use Rattle.node_model.specs.rv32_step.declared.Demand.TheVariants.{Sets, Jumps, Loads, Stores}
+use Rattle.node_model.specs.micro_op.declared.MicroKind.TheVariants as kind
+use Rattle.node_model.specs.micro_op.Micro.{Demands, Enters}
 use Rattle.node_words.specs.Address.{word_address}
 use Rattle.node_words.proofs.StepLemmas.{operates, stepped}
 use Rattle.node_words.proofs.body.Body.way.Goals as goal

@@ -1,5 +1,5 @@
 use Rattle.std.proofs.Common.{◌≡◌, ◌/◌, ◌∙◌, subst}
-use Rattle.flag_memory.specs.Copy.{memory}
+use Rattle.node_model.specs.flag_memory.Copy.{memory}
 use Rattle.byte_range.specs.Memory.{raw}
 use Rattle.node_words.specs.Kept.{Shelf, HasLines}
 use Rattle.node_words.proofs.ShelfLemmas.{shared_class, not_shared_class, low_address, raw_of_copy}

@@ -1,5 +1,5 @@
 use Rattle.std.proofs.Common.{subst}
-use Rattle.miss_handlers.specs.Effects.{HasEffect, message_effect}
+use Rattle.node_model.specs.miss_handlers.Effects.{HasEffect, message_effect}
 use Rattle.node_words.specs.Kept.{Shelf}
 use Rattle.node_words.specs.Blocks.{blocks_at}
 use Rattle.node_words.proofs.local.Local.on.Goals as goal

@@ -1,6 +1,6 @@
 -- So many words were executed.
 use Rattle.std.proofs.Common.{◌≡◌, ◌↔◌, true}
-use Rattle.node_model.specs.Core.{Exec, May}
+use Rattle.run_order.specs.node_model.Core.{Exec, May}
 use Rattle.dsm_core.specs.CoreParts.{work_of, core_of}
 use Rattle.replay.specs.Way.{IsRunning, IsSame, HasFollowed}
 use Rattle.replay.proofs.Cursors.{words_after}

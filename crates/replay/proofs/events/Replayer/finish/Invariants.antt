@@ -1,7 +1,7 @@
 -- The nodes below are over.
 use Rattle.std.proofs.Common.{◌≡◌, ℕ, ◌<◌}
-use Rattle.node_model.specs.declared.Standing.TheVariants.{Over}
-use Rattle.node_model.specs.Node.{standing_of}
+use Rattle.run_order.specs.node_model.declared.Standing.TheVariants.{Over}
+use Rattle.run_order.specs.node_model.Node.{standing_of}
 use Rattle.dsm_core.specs.CoreParts.{work_of, core_of}
 use Rattle.replay.proofs.events.Replayer.finish.Given as goal
 

@@ -1,7 +1,7 @@
 -- The next take.
 use Rattle.std.proofs.Common.{◌≡◌, ◌≤◌, ◌∙◌, IfOk, ap, sym, subst}
-use Rattle.node_model.specs.declared.Entry.{Entry as JournalEntry}
-use Rattle.node_model.specs.Core.{Take}
+use Rattle.run_order.specs.node_model.declared.Entry.{Entry as JournalEntry}
+use Rattle.run_order.specs.node_model.Core.{Take}
 use Rattle.replay.specs.Way.{cursor_at, ComesFirst, HasMadeOne}
 use Rattle.std.proofs.lemmas.Result.{on_ok_weaker}
 use Rattle.replay.proofs.Cursors.{take_less}

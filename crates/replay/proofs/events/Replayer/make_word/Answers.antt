@@ -1,6 +1,6 @@
 -- The next word.
 use Rattle.std.proofs.Common.{◌≡◌, ◌∙◌, ℕ, ◌+◌, ◌<◌, ◌≤◌, arith, [], ◌∷◌, ◌++◌, ap, refl, subst}
-use Rattle.node_model.specs.declared.Entry.{Entry as JournalEntry}
+use Rattle.run_order.specs.node_model.declared.Entry.{Entry as JournalEntry}
 use Rattle.dsm_core.specs.declared.seen.Seen.{Seen}
 use Rattle.dsm_core.specs.CoreParts.{work_of}
 use Rattle.replay.specs.declared.cursor.Cursor.{Cursor}

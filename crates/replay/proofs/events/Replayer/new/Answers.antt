@@ -1,6 +1,6 @@
 -- The start of a run.
 use Rattle.std.proofs.Common.{[], ap, sym, subst, ◌∙◌}
-use Rattle.node_model.specs.Node.{Work}
+use Rattle.run_order.specs.node_model.Node.{Work}
 use Rattle.run_record.specs.declared.Record.{Record}
 use Rattle.run_record.specs.Record.{IsRecord}
 use Rattle.dsm_core.specs.CoreParts.{work_of, core_of}

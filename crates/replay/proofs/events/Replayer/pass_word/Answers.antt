@@ -1,7 +1,7 @@
 -- A word more.
 use Rattle.std.proofs.Common.{◌<◌, ◌≤◌, ◌+◌, ◌-◌, sym, subst, arith}
-use Rattle.node_model.specs.Node.{Work}
-use Rattle.node_model.specs.Core.{Exec, May}
+use Rattle.run_order.specs.node_model.Node.{Work}
+use Rattle.run_order.specs.node_model.Core.{Exec, May}
 use Rattle.dsm_core.specs.CoreParts.{core_of}
 use Rattle.replay.specs.declared.events.Replayer.{Replayer}
 use Rattle.replay.specs.Way.{cursor_at, last_at}

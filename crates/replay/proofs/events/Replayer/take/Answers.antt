@@ -1,6 +1,6 @@
 -- A take, or why it can't be made.
 use Rattle.std.proofs.Common.{ℕ, ◌+◌, refl, ap, sym, ◌∙◌}
-use Rattle.node_model.specs.Node.{Node}
+use Rattle.run_order.specs.node_model.Node.{Node}
 use Rattle.dsm_core.specs.declared.seen.Seen.{Seen}
 use Rattle.dsm_core.specs.CoreParts.{work_of, core_of}
 use Rattle.replay.specs.declared.events.Replayer.{Replayer}

@@ -1,7 +1,7 @@
 -- Words of a stretch, one after another.
 use Rattle.std.proofs.Common.{◌+◌, ◌++◌, Some, None, refl, ap, sym, subst, ◌∙◌, append-nil, arith}
-use Rattle.node_machine.specs.Touch.{IsTouch}
-use Rattle.dsm_core.specs.CoreParts.{CoreParts, work_of, core_of}
+use Rattle.replay.specs.node_machine.Touch.{IsTouch}
+use Rattle.replay.specs.dsm_core.CoreParts.{CoreParts, work_of, core_of}
 use Rattle.replay.specs.Way.{core_in}
 use Rattle.replay.proofs.Runs.{running_of}
 use Rattle.run_trace.specs.Traced.{Traced, Word, word_traced}

@@ -4,11 +4,11 @@ use Rattle.block_layout.specs.Layout.{Shape}
 use Rattle.home_directory.specs.Headers.{header_of, sent_by}
 use Rattle.node_model.specs.Node.{Work, Node}
 use Rattle.node_model.specs.Core.{Event, May}
-use Rattle.run_order.specs.OwnRun.{node_of as event_node}
-use Rattle.node_machine.specs.Frame.{node_of}
-use Rattle.dsm_core.specs.declared.seen.Incoming.{Incoming}
-use Rattle.dsm_core.specs.CoreParts.{CoreParts, core_of}
-use Rattle.dsm_core.specs.Seen.{incoming_of, sends_of_take}
+use Rattle.replay.specs.run_order.OwnRun.{node_of as event_node}
+use Rattle.replay.specs.node_machine.Frame.{node_of}
+use Rattle.replay.specs.dsm_core.declared.seen.Incoming.{Incoming}
+use Rattle.replay.specs.dsm_core.CoreParts.{CoreParts, core_of}
+use Rattle.replay.specs.dsm_core.Seen.{incoming_of, sends_of_take}
 use Rattle.replay.specs.Way.{core_in}
 use Rattle.run_trace.specs.Taking.{IsAfterTake, sight_of, block_of_first}
 use Rattle.run_trace.specs.Given.{take_of}

@@ -1,6 +1,6 @@
 -- The one event that is listed is all that is allowed.
 use Rattle.std.proofs.Common.{◌≡◌, ◌∷◌, [], ap, ◌∙◌, length, arith}
-use Rattle.node_model.specs.Core.{Exec}
+use Rattle.dsm_core.specs.node_model.Core.{Exec}
 use Rattle.dsm_core.specs.CoreParts.{work_of, core_of, event_of}
 use Rattle.dsm_core.specs.declared.cores.Event.{Event as Stored}
 use Rattle.shared_sim.specs.ByOrder.{choices}

@@ -1,6 +1,6 @@
 -- A quiet word of a node changes what that node may do, and nothing where no message is on its way.
 use Rattle.std.proofs.Common.{◌<◌, ◌∙◌, ap, sym, subst}
-use Rattle.node_model.specs.Node.{Work}
+use Rattle.dsm_core.specs.node_model.Node.{Work}
 use Rattle.shared_sim.proofs.Rows.{tells_passed, shape_kept}
 use Rattle.shared_sim.proofs.Turns.{lists_passed, few_kept}
 use Rattle.shared_sim.proofs.Windows.{lists_same}

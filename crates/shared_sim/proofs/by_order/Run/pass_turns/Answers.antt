@@ -1,8 +1,8 @@
 -- The words that the nodes execute are those that the order picks.
 use Rattle.std.proofs.Common.{◌≤◌, ap, sym, subst, ◌∙◌, slice_index_or, arith}
 use Rattle.workload.specs.Orders.{how_often}
-use Rattle.node_model.specs.Node.{Work}
-use Rattle.node_model.specs.Core.{Core}
+use Rattle.dsm_core.specs.node_model.Node.{Work}
+use Rattle.dsm_core.specs.node_model.Core.{Core}
 use Rattle.dsm_core.specs.CoreParts.{work_of, core_of}
 use Rattle.shared_sim.specs.Turns.{LeadsOn}
 use Rattle.shared_sim.proofs.Places.{calm_few}

@@ -1,8 +1,8 @@
 -- The event at the place that the order chooses is the one that it picks.
 use Rattle.std.proofs.Common.{◌<◌, sym, ap, ◌∙◌, subst, refl, arith}
 use Rattle.workload.specs.Orders.{following}
-use Rattle.node_model.specs.Node.{Work}
-use Rattle.node_model.specs.Core.{Core, May}
+use Rattle.dsm_core.specs.node_model.Node.{Work}
+use Rattle.dsm_core.specs.node_model.Core.{Core, May}
 use Rattle.dsm_core.specs.CoreParts.{work_of, core_of, event_of}
 use Rattle.shared_sim.specs.ByOrder.{choices}
 use Rattle.shared_sim.specs.Turns.{maker}

@@ -1,6 +1,6 @@
 -- Words of a node alone.
 use Rattle.std.proofs.Common.{◌<◌, ◌∙◌, ap, sym, subst}
-use Rattle.node_model.specs.Node.{Work}
+use Rattle.dsm_core.specs.node_model.Node.{Work}
 use Rattle.dsm_core.specs.CoreParts.{work_of, core_of}
 use Rattle.shared_sim.specs.Turns.{LeadsOn}
 use Rattle.shared_sim.proofs.Rows.{tells_executed, shape_kept}

@@ -2,7 +2,7 @@
 use Rattle.std.proofs.Common.{◌≤◌, ◌∷◌, [], ◌++◌, ◌+◌, List, length, ap, ap₂, ◌∙◌, sym, subst, arith}
 use Rattle.std.proofs.lemmas.List.{length-append}
 use Rattle.std.proofs.lemmas.List.FromFn.{map-range_with_len_more}
-use Rattle.node_model.specs.declared.NodeCounts.{NodeCounts}
+use Rattle.lane_model.specs.node_model.declared.NodeCounts.{NodeCounts}
 use Rattle.lane_model.specs.Nodes.{LaneNode}
 use Rattle.smp_core.specs.CoreParts.{core_of, work_of}
 use Rattle.smp_core.proofs.cores.SmpCore.counts.Goals as goal

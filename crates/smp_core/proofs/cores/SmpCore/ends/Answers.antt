@@ -4,7 +4,7 @@ use Rattle.std.specs.Vec.{vec_capacity}
 use Rattle.std.proofs.lemmas.List.{length-append, map_push}
 use Rattle.std.proofs.lemmas.List.FromFn.{map-range_with_len_more}
 use Rattle.rv32_program.specs.declared.End.{End}
-use Rattle.node_model.specs.Node.{end_of}
+use Rattle.lane_model.specs.node_model.Node.{end_of}
 use Rattle.lane_model.specs.Nodes.{LaneNode, node_of, lane_of}
 use Rattle.smp_core.specs.CoreParts.{work_of, core_of}
 use Rattle.smp_core.proofs.CoreRuns.{placed, lane_low}

@@ -2,7 +2,7 @@ use Rattle.std.proofs.Common.{◌≡◌, ◌≤◌, Some, length, map}
 use Rattle.std.specs.List.{range_with_len}
 use Rattle.std.specs.Vec.{vec_capacity}
 use Rattle.rv32_program.specs.declared.End.{End}
-use Rattle.node_model.specs.Node.{end_of}
+use Rattle.lane_model.specs.node_model.Node.{end_of}
 use Rattle.lane_model.specs.Nodes.{node_of, lane_of}
 use Rattle.smp_core.specs.CoreParts.{core_of, work_of}
 use Rattle.smp_core.proofs.cores.SmpCore.ends.Given as goal

@@ -2,7 +2,7 @@
 use Rattle.std.proofs.Common.{◌≡◌, true, List, sym, subst}
 use Rattle.std.specs.Prelude.{◌↔◌}
 use Rattle.lane_law.specs.Law.{AreAllOver}
-use Rattle.dsm_protocol.specs.Queue.{Queue}
+use Rattle.lane_law.specs.dsm_protocol.Queue.{Queue}
 use Rattle.smp_core.specs.declared.node.SmpNode.{SmpNode}
 use Rattle.smp_core.specs.CoreParts.{AreStored, CoreParts, core_of, core_with, work_of}
 use Rattle.smp_core.proofs.cores.SmpCore.is_over.Goals as goal

@@ -1,6 +1,6 @@
 -- The nodes and lists of the start stand for the opening core.
 use Rattle.std.proofs.Common.{◌≤◌, ◌∙◌, sym, ap, subst}
-use Rattle.dsm_protocol.specs.Queue.{AreQueues, wires_of}
+use Rattle.lane_law.specs.dsm_protocol.Queue.{AreQueues, wires_of}
 use Rattle.dsm_core.specs.CoreParts.{work_in}
 use Rattle.smp_core.specs.CoreParts.{CoreParts, work_of, work_with}
 use Rattle.smp_core.proofs.CoreRuns.{few_nodes}

@@ -1,6 +1,6 @@
 -- By the lane's standing.
 use Rattle.std.proofs.Common.{ap, ◌∙◌}
-use Rattle.node_model.specs.Core.{may_execute}
+use Rattle.lane_model.specs.node_model.Core.{may_execute}
 use Rattle.smp_core.proofs.node.SmpNode.can_execute.Goals as goal
 
 pub returns : goal.returns

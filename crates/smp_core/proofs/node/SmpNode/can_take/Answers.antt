@@ -1,7 +1,7 @@
 -- By what its lanes let, and the message.
 use Rattle.std.proofs.Common.{◌≡◌, ◌&&◌, true, false, ap, ◌∙◌, sym}
 use Rattle.std.specs.Prelude.{◌||◌, not}
-use Rattle.miss_handlers.specs.Rows.{takes_away}
+use Rattle.lane_machine.specs.miss_handlers.Rows.{takes_away}
 use Rattle.lane_model.specs.Nodes.{all_lanes, some_lane}
 use Rattle.lane_model.specs.Core.{lane_lets}
 use Rattle.smp_core.specs.CoreParts.{node_in}

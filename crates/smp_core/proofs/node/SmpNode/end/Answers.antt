@@ -1,6 +1,6 @@
 -- The lane that was read is that of the node.
 use Rattle.std.proofs.Common.{ap, ◌∙◌, sym}
-use Rattle.node_model.specs.Node.{end_of}
+use Rattle.lane_model.specs.node_model.Node.{end_of}
 use Rattle.lane_model.specs.Nodes.{LanePart}
 use Rattle.lane_machine.specs.Stored.{part_of}
 use Rattle.smp_core.proofs.NodeLemmas.{part_at}

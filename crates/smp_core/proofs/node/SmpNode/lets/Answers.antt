@@ -1,6 +1,6 @@
 -- By the lane's standing.
 use Rattle.std.proofs.Common.{ap, ◌∙◌}
-use Rattle.node_model.specs.Core.{may_take}
+use Rattle.lane_model.specs.node_model.Core.{may_take}
 use Rattle.smp_core.proofs.node.SmpNode.lets.Goals as goal
 
 pub returns : goal.returns
