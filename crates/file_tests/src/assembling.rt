@@ -76,7 +76,7 @@ const REFUSED: [(&[u8], u8, usize); 39] = [
     ),
     (b".segment rx 0x10000\naddi x1, x0, -2049", 61, 2),
     (b".segment rx 0x10000\nslli x1, x0, 32", 61, 2),
-    (b".segment rx 0x10000\nslli x1, x0, -1", 60, 2),
+    (b".segment rx 0x10000\nslli x1, x0, -1", 61, 2),
     (b".segment rx 0x10000\nlui x1, 0x100000", 61, 2),
     (b".segment rx 0x10000\nlui x1, 0x00001", 60, 2),
     (b".segment rx 0x10000\njal x1, 0x10000", 60, 2),

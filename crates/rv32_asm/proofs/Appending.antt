@@ -6,7 +6,7 @@ use Rattle.std.proofs.lemmas.List.{replicate_more}
 use Rattle.std.specs.Int.{bytes_low_first}
 use Rattle.std.specs.Option.{option_map}
 use denote.Ref.{Bor}
-use Rattle.rv32_lines.specs.Texts.{Target, Address, Name, Written, Plain, Jump, Conditional}
+use Rattle.rv32_lines.specs.Texts.{Target, Address, Name, Written, Plain, NegativeShift, Jump, Conditional}
 use Rattle.rv32_lines.specs.Statements.{Statement, Label, Bytes, Word, Space, Instruction, IsWritten, is_hexadecimal_digit, byte_digits}
 use Rattle.rv32_lines.specs.Reading.{IsReadStatement, IsReadCommand}
 use Rattle.rv32_lines.specs.declared.commands.Command.{Command}
@@ -89,6 +89,7 @@ targeted : (all : List Statement) (labels : Labels) (w : Written) → AreSound a
     → (UsesUnknown all (name_in w) → ⊥)
     → (address : ℕ) × IsTargetOf all w address
 targeted all labels (Plain i) sound l known = (0, tt)
+targeted all labels (NegativeShift o rd r n) sound l known = (0, tt)
 targeted all labels (Jump rd to) sound l known = addressed all labels to sound l known
 targeted all labels (Conditional c a b to) sound l known = addressed all labels to sound l known
 

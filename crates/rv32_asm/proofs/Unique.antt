@@ -9,7 +9,7 @@ use Rattle.rv32_decode.specs.declared.IllegalWord.TheVariants.{Zeros}
 use Rattle.rv32_text.specs.Listing.{text_of_word, text_of_decoded, word_digits}
 use Rattle.rv32_text.specs.Telling.{ShowsAll}
 use Rattle.elf32_read.specs.Elf.{Elf, Section, Segment as Piece}
-use Rattle.rv32_lines.specs.Texts.{Target, Address, Name, Written, Plain, Jump, Conditional, written_text}
+use Rattle.rv32_lines.specs.Texts.{Target, Address, Name, Written, Plain, NegativeShift, Jump, Conditional, written_text}
 use Rattle.rv32_lines.specs.Statements.{Statement, Instruction, IsTarget, IsWritten, IsRead, AreRead, IsReading, lines_of}
 use Rattle.rv32_lines.proofs.EightDigits.{digits_of_word, eight_of_word}
 use Rattle.rv32_lines.proofs.Once.{no_unknown, written_once}
@@ -55,6 +55,7 @@ text_once : TextsTell → (all : List Statement) (a v u : ℕ) (w : Written) →
     → HasText all a w v → HasText all a w u → v ≡ u
 text_once tell all a v u (Plain (Fence rd r bits)) p low below h g = h ∙ sym g
 text_once tell all a v u (Plain (Illegal x)) p low below h g = h ∙ sym g
+text_once tell all a v u (NegativeShift o rd r n) p low below h g = absurd h
 text_once tell all a v u (Plain i) p low below h g =
     same_word tell a v u (Plain i) p (λ e. absurd (cc)) (λ e. absurd (cc)) low below h g
 text_once tell all a v u (Jump rd to) p low below h g =

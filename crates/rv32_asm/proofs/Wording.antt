@@ -12,7 +12,7 @@ use Rattle.rv32_decode.specs.declared.Instr.TheVariants.{Lui, Auipc, Jal, Jalr, 
 use Rattle.rv32_decode.specs.declared.IllegalWord.TheVariants.{Zeros, Ones, CycleWrite}
 use Rattle.rv32_text.specs.Listing.{branch_name, load_name, store_name, imm_name, shift_name, op_name, amo_name, order_suffix, with_two, with_three, word_digits, target_address, text_of, text_of_word, text_of_decoded}
 use Rattle.rv32_text.specs.Listing as listing
-use Rattle.rv32_lines.specs.Texts.{Target, Address, Name, Written, Plain, Jump, Conditional, register, base, signed_numeral, indexed, upper_digits, target_text, IsPlain, plain_text}
+use Rattle.rv32_lines.specs.Texts.{Target, Address, Name, Written, Plain, NegativeShift, Jump, Conditional, register, base, signed_numeral, indexed, upper_digits, target_text, IsPlain, plain_text}
 use Rattle.rv32_lines.specs.Statements.{Statement, IsTarget, IsWritten}
 use Rattle.rv32_lines.specs.Reading.{IsReadTarget, IsReadCommand}
 use Rattle.rv32_lines.specs.declared.commands.Command.TheVariants as command
@@ -130,12 +130,14 @@ plain_found all at i (Plain j) word p h range e only =
       (λ u. u),
       λ a is. plain_word all a word j p here (e ∙ ap Some h) (λ v low d. only v low (d ∙ ap Some (sym h))),
     )
+plain_found all at i (NegativeShift o rd r n) word p h range e only = absurd h
 plain_found all at i (Jump rd to) word p h range e only = absurd h
 plain_found all at i (Conditional k r n to) word p h range e only = absurd h
 
 pub too_large : (all : List Statement) (at : Option ℕ) (w : Written) → IsReadCommand command.OutOfRange w
     → IsOutOfRange all at w
 too_large all at (Plain i) h = h
+too_large all at (NegativeShift o rd r n) h = tt
 too_large all at (Jump rd to) h = inl h
 too_large all at (Conditional k r n to) h = inl h
 
@@ -147,6 +149,7 @@ pub jump_found : (all : List Statement) (at : Option ℕ) (rd : ℕ) (to : ReadT
 jump_found all at rd to (Jump d t) r p h f =
     subst (λ (x : ℕ). IsFoundWord all at (Jump x t) r) h.0 (f t p h.1 (subst (λ (x : ℕ). x < 32) (sym h.0) h.2))
 jump_found all at rd to (Plain i) r p h f = absurd h
+jump_found all at rd to (NegativeShift o a b n) r p h f = absurd h
 jump_found all at rd to (Conditional k a b t) r p h f = absurd h
 
 pub branch_found : (all : List Statement) (at : Option ℕ) (c : Cond) (a b : ℕ) (to : ReadTarget) (w : Written)
@@ -159,6 +162,7 @@ branch_found all at c a b to (Conditional k x y t) r p h f =
     subst (λ (w : Written). IsFoundWord all at w r) same
     (f t p h.3 (subst (λ (n : ℕ). n < 32) (sym h.1) h.4) (subst (λ (n : ℕ). n < 32) (sym h.2) h.5))
 branch_found all at c a b to (Plain i) r p h f = absurd h
+branch_found all at c a b to (NegativeShift o x y n) r p h f = absurd h
 branch_found all at c a b to (Jump d t) r p h f = absurd h
 
 -- targets

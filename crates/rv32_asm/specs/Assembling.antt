@@ -4,7 +4,7 @@ use Rattle.std.specs.Int.{bytes_low_first}
 use Rattle.rv32_decode.specs.declared.Instr.TheVariants.{Fence, Illegal}
 use Rattle.rv32_text.specs.Listing.{word_digits, text_of_word}
 use Rattle.elf32_read.specs.Elf.{Elf, Segment as Piece}
-use Rattle.rv32_lines.specs.Texts.{Target, Address, Name, Written, Plain, Jump, Conditional, plain_text, written_text}
+use Rattle.rv32_lines.specs.Texts.{Target, Address, Name, Written, Plain, NegativeShift, Jump, Conditional, plain_text, written_text}
 use Rattle.rv32_lines.specs.Statements.{Statement, Segment, Bytes, Word, Space, Zero, Entry, Instruction, IsReading}
 use Rattle.rv32_asm.specs.Places.{place_behind, here, IsNamed}
 use Rattle.rv32_asm.specs.Rules.{AreSound, IsEmpty}
@@ -16,11 +16,13 @@ IsResolved all (Name name) to =
     (address : ℕ) × IsNamed all name address × (to ≡ Address (word_digits address))
 
 -- the word at an address has the text of the instruction, with a name replaced; FENCE and the
--- illegal word, whose texts don't tell their words, have one each
+-- illegal word, whose texts don't tell their words, have one each, and a shift by a number below zero
+-- has none
 abbrev pub HasText : List Statement → ℕ → Written → ℕ → Type 0
 HasText all address (Plain (Fence rd rs1 bits)) word = word ≡ 0x0ff0000f
 HasText all address (Plain (Illegal w)) word = word ≡ 0
 HasText all address (Plain i) word = text_of_word address word ≡ plain_text i
+HasText all address (NegativeShift o rd rs1 below) word = ⊥
 HasText all address (Jump rd to) word =
     (given : Target) × IsResolved all to given
     × (text_of_word address word ≡ written_text (Jump rd given))

@@ -5,7 +5,7 @@ use Rattle.rv32_decode.specs.Words.{IsInRange}
 use Rattle.rv32_decode.specs.declared.Instr.TheVariants.{Jal, Branch}
 use Rattle.rv32_asm.specs.declared.refused.AsmRule.{AsmRule}
 use Rattle.rv32_asm.specs.declared.refused.AsmRule.TheVariants as rule
-use Rattle.rv32_lines.specs.Texts.{Target, Address, Name, Written, Plain, Jump, Conditional}
+use Rattle.rv32_lines.specs.Texts.{Target, Address, Name, Written, Plain, NegativeShift, Jump, Conditional}
 use Rattle.rv32_lines.specs.Statements.{Statement, Label, Word, Zero, Entry, Instruction, Unread, IsReading}
 use Rattle.rv32_asm.specs.Places.{Open, Place, appends, behind, place_behind, end_of, here, IsNamed}
 
@@ -46,6 +46,7 @@ IsFar all at reach to =
 -- a part of an instruction doesn't fit it, or its target is out of range
 abbrev pub IsOutOfRange : List Statement → Option ℕ → Written → Type 0
 IsOutOfRange all at (Plain i) = IsInRange i → ⊥
+IsOutOfRange all at (NegativeShift o rd rs1 below) = Unit {0}
 IsOutOfRange all at (Jump rd to) = (IsInRange (Jal rd (pos 0)) → ⊥) ⊎ IsFar all at (2 ^ 20) to
 IsOutOfRange all at (Conditional c rs1 rs2 to) =
     (IsInRange (Branch c rs1 rs2 (pos 0)) → ⊥) ⊎ IsFar all at (2 ^ 12) to
@@ -57,6 +58,7 @@ target_name (Name name) = Some name
 
 abbrev pub name_in : Written → Option (List ℕ)
 name_in (Plain i) = None
+name_in (NegativeShift o rd rs1 below) = None
 name_in (Jump rd to) = target_name to
 name_in (Conditional c rs1 rs2 to) = target_name to
 

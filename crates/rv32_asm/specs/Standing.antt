@@ -8,7 +8,7 @@ use Rattle.std.specs.BTreeMap.{BTreeMap, get_by}
 use Rattle.std.specs.Cmp.Lexicographic.{slice_cmp}
 use Rattle.rv32_decode.specs.Fields.{unsigned}
 use Rattle.rv32_lines.specs.declared.statements.Statement.{Statement as ReadStatement}
-use Rattle.rv32_lines.specs.Texts.{Target, Written, Plain, Jump, Conditional}
+use Rattle.rv32_lines.specs.Texts.{Target, Written, Plain, NegativeShift, Jump, Conditional}
 use Rattle.rv32_lines.specs.Statements.{Statement, Segment, Entry}
 use Rattle.rv32_lines.specs.Reading.{IsReadStatement, AreReadStatements}
 use Rattle.rv32_asm.specs.declared.assembled.Piece.{Piece as Part}
@@ -123,6 +123,7 @@ IsFoundOffset all at reach to (Err r) = ⊥
 -- the address of an instruction's target
 abbrev pub IsTargetOf : List Statement → Written → ℕ → Type 0
 IsTargetOf all (Plain i) address = Unit {0}
+IsTargetOf all (NegativeShift o rd rs1 below) address = Unit {0}
 IsTargetOf all (Jump rd to) address = IsAddress all to address
 IsTargetOf all (Conditional c rs1 rs2 to) address = IsAddress all to address
 

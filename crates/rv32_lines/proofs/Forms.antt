@@ -1,6 +1,6 @@
 -- Operands by their mnemonics.
 use mathlib.Core.List.{append-nil}
-use Rattle.std.proofs.Common.{append_assoc, ◌≡◌, ℕ, ℤ, true, false, List, [], ◌∷◌, ◌++◌, Option, Some, None, zero, suc, ◌≤◌, length, get_or, drop, arith, refl, sym, ap, ◌∙◌, subst, inl, inr, ◌⊎◌}
+use Rattle.std.proofs.Common.{append_assoc, ◌≡◌, ℕ, ℤ, pos, negsuc, true, false, List, [], ◌∷◌, ◌++◌, Option, Some, None, zero, suc, ◌≤◌, length, get_or, drop, arith, refl, sym, ap, ◌∙◌, subst, inl, inr, ◌⊎◌}
 use Rattle.std.specs.Prelude.{MatchOption, IfSome, codes}
 use Rattle.std.specs.List.{list_all}
 use Rattle.std.proofs.lemmas.Bool.{and_parts, false≢true}
@@ -10,6 +10,7 @@ use Rattle.rv32_decode.specs.declared.LoadKind.TheVariants as load_kind
 use Rattle.rv32_decode.specs.declared.Width.TheVariants as width
 use Rattle.rv32_decode.specs.declared.Op.TheVariants as op
 use Rattle.rv32_decode.specs.declared.ImmOp.TheVariants as imm_op
+use Rattle.rv32_decode.specs.declared.ShiftOp.{ShiftOp}
 use Rattle.rv32_decode.specs.declared.ShiftOp.TheVariants as shift_op
 use Rattle.rv32_decode.specs.declared.AmoOp.TheVariants as amo_op
 use Rattle.rv32_decode.specs.declared.Instr.TheVariants.{Lui, Auipc, Jal, Jalr, Branch, Load, Store, OpImm, ShiftImm, Op, Fence, Ecall, Ebreak, Lr, Sc, Amo, Illegal}
@@ -17,7 +18,7 @@ use Rattle.rv32_text.specs.Listing.{branch_name, load_name, store_name, imm_name
 use Rattle.rv32_lines.specs.declared.mnemonics.Mnemonic.{Mnemonic}
 use Rattle.rv32_lines.specs.declared.mnemonics.Mnemonic.TheVariants as mnemonic
 use Rattle.rv32_lines.specs.declared.commands.Command.{Command}
-use Rattle.rv32_lines.specs.Texts.{Target, Written, Plain, Jump, Conditional, numeral, register, base, signed_numeral, indexed, upper_digits, target_text, written_text}
+use Rattle.rv32_lines.specs.Texts.{Target, Written, Plain, NegativeShift, Jump, Conditional, shift_by, numeral, register, base, signed_numeral, indexed, upper_digits, target_text, written_text}
 use Rattle.rv32_lines.specs.Statements.{IsTarget, IsWritten, SaysInstruction}
 use Rattle.rv32_lines.specs.Reading.{mnemonic_text, mnemonic_in, operands_in, HasOperands, IsReadCommand, IsCommandWith, IsCommandWithout, is_mark, BeginsWithSpace}
 
@@ -43,8 +44,8 @@ Gives text found (mnemonic.OpImm k) =
     rd ++ (codes ", " ++ register r ++ (codes ", " ++ signed_numeral z))) × IsReadCommand c
     (Plain (OpImm k rd r z)))
 Gives text found (mnemonic.ShiftImm k) =
-    IfSome found (λ c. (rd r n : ℕ) × (text ≡ register
-    rd ++ (codes ", " ++ register r ++ (codes ", " ++ numeral 10 n))) × IsReadCommand c (Plain (ShiftImm k rd r n)))
+    IfSome found (λ c. (rd r : ℕ) × (z : ℤ) × (text ≡ register
+    rd ++ (codes ", " ++ register r ++ (codes ", " ++ signed_numeral z))) × IsReadCommand c (shift_by k rd r z))
 Gives text found (mnemonic.Op k) =
     IfSome found (λ c. (rd r n : ℕ) × (text ≡ register
     rd ++ (codes ", " ++ register r ++ (codes ", " ++ register n))) × IsReadCommand c (Plain (Op k rd r n)))
@@ -87,8 +88,8 @@ Finds text found (mnemonic.OpImm k) =
     (rd r : ℕ) (z : ℤ) → text ≡ register rd ++ (codes ", " ++ register r ++ (codes ", " ++ signed_numeral z))
     → MatchOption found ⊥ (λ c. IsReadCommand c (Plain (OpImm k rd r z)))
 Finds text found (mnemonic.ShiftImm k) =
-    (rd r n : ℕ) → text ≡ register rd ++ (codes ", " ++ register r ++ (codes ", " ++ numeral 10 n))
-    → MatchOption found ⊥ (λ c. IsReadCommand c (Plain (ShiftImm k rd r n)))
+    (rd r : ℕ) (z : ℤ) → text ≡ register rd ++ (codes ", " ++ register r ++ (codes ", " ++ signed_numeral z))
+    → MatchOption found ⊥ (λ c. IsReadCommand c (shift_by k rd r z))
 Finds text found (mnemonic.Op k) =
     (rd r n : ℕ) → text ≡ register rd ++ (codes ", " ++ register r ++ (codes ", " ++ register n))
     → MatchOption found ⊥ (λ c. IsReadCommand c (Plain (Op k rd r n)))
@@ -119,7 +120,8 @@ finds_all text found m h (Plain (Jalr rd r z)) i o e t = (subst (Finds text foun
 finds_all text found m h (Plain (Load k rd r z)) i o e t = (subst (Finds text found) (sym e) h) rd r z t
 finds_all text found m h (Plain (Store k r rd z)) i o e t = (subst (Finds text found) (sym e) h) rd r z t
 finds_all text found m h (Plain (OpImm k rd r z)) i o e t = (subst (Finds text found) (sym e) h) rd r z t
-finds_all text found m h (Plain (ShiftImm k rd r n)) i o e t = (subst (Finds text found) (sym e) h) rd r n t
+finds_all text found m h (Plain (ShiftImm k rd r n)) i o e t = (subst (Finds text found) (sym e) h) rd r (pos n) t
+finds_all text found m h (NegativeShift k rd r n) i o e t = (subst (Finds text found) (sym e) h) rd r (negsuc n) t
 finds_all text found m h (Plain (Op k rd r n)) i o e t = (subst (Finds text found) (sym e) h) rd r n t
 finds_all text found m h (Plain (Lr rd r aq rl)) i o e t = (subst (Finds text found) (sym e) h) rd r t
 finds_all text found m h (Plain (Sc rd r n aq rl)) i o e t = (subst (Finds text found) (sym e) h) rd r n t
@@ -132,6 +134,15 @@ finds_all text found m h (Plain (Fence rd r bits)) i o e t = absurd o
 finds_all text found m h (Plain Ecall) i o e t = absurd o
 finds_all text found m h (Plain Ebreak) i o e t = absurd o
 finds_all text found m h (Plain (Illegal word)) i o e t = absurd o
+
+-- an instruction that is found is a shift, by a number of either sign
+gives_shift : (text : List ℕ) (c : Command) (k : ShiftOp) (rd r : ℕ) (z : ℤ)
+    → text ≡ register rd ++ (codes ", " ++ register r ++ (codes ", " ++ signed_numeral z))
+    → IsReadCommand c (shift_by k rd r z) → (w : Written) × IsCommandWith (mnemonic.ShiftImm k) text c w
+gives_shift text c k rd r (pos n) t h =
+    (Plain (ShiftImm k rd r n), record { written = tt; some = tt; mnemonic_is = refl; text_is = t; read = h })
+gives_shift text c k rd r (negsuc n) t h =
+    (NegativeShift k rd r n, record { written = tt; some = tt; mnemonic_is = refl; text_is = t; read = h })
 
 pub gives_all : (text : List ℕ) (found : Option Command) (m : Mnemonic) → Gives text found m
     → IfSome found (λ c. (w : Written) × IsCommandWith m text c w)
@@ -148,8 +159,7 @@ gives_all text (Some c) (mnemonic.Store k) h =
     (Plain (Store k h.1 h.0 h.2), record { written = tt; some = tt; mnemonic_is = refl; text_is = h.3; read = h.4 })
 gives_all text (Some c) (mnemonic.OpImm k) h =
     (Plain (OpImm k h.0 h.1 h.2), record { written = tt; some = tt; mnemonic_is = refl; text_is = h.3; read = h.4 })
-gives_all text (Some c) (mnemonic.ShiftImm k) h =
-    (Plain (ShiftImm k h.0 h.1 h.2), record { written = tt; some = tt; mnemonic_is = refl; text_is = h.3; read = h.4 })
+gives_all text (Some c) (mnemonic.ShiftImm k) h = gives_shift text c k h.0 h.1 h.2 h.3 h.4
 gives_all text (Some c) (mnemonic.Op k) h =
     (Plain (Op k h.0 h.1 h.2), record { written = tt; some = tt; mnemonic_is = refl; text_is = h.3; read = h.4 })
 gives_all text (Some c) (mnemonic.Lr aq rl) h =
@@ -191,6 +201,8 @@ text_with (Plain (Load k rd r z)) i o = two_parts (load_name k) (register rd) (i
 text_with (Plain (Store k r rd z)) i o = two_parts (store_name k) (register rd) (indexed z r)
 text_with (Plain (OpImm k rd r z)) i o = three_parts (imm_name k) (register rd) (register r) (signed_numeral z)
 text_with (Plain (ShiftImm k rd r n)) i o = three_parts (shift_name k) (register rd) (register r) (numeral 10 n)
+text_with (NegativeShift k rd r n) i o =
+    three_parts (shift_name k) (register rd) (register r) (signed_numeral (negsuc n))
 text_with (Plain (Op k rd r n)) i o = three_parts (op_name k) (register rd) (register r) (register n)
 text_with (Plain (Lr rd r aq rl)) i o = two_parts (codes "lr.w" ++ order_suffix aq rl) (register rd) (base r)
 text_with (Plain (Sc rd r n aq rl)) i o =
@@ -218,6 +230,7 @@ text_without (Plain (Load k rd r z)) o = absurd (o tt)
 text_without (Plain (Store k r rd z)) o = absurd (o tt)
 text_without (Plain (OpImm k rd r z)) o = absurd (o tt)
 text_without (Plain (ShiftImm k rd r n)) o = absurd (o tt)
+text_without (NegativeShift k rd r n) o = absurd (o tt)
 text_without (Plain (Op k rd r n)) o = absurd (o tt)
 text_without (Plain (Lr rd r aq rl)) o = absurd (o tt)
 text_without (Plain (Sc rd r n aq rl)) o = absurd (o tt)

@@ -9,7 +9,7 @@ use Rattle.rv32_decode.specs.declared.IllegalWord.TheVariants.{Zeros, Ones, Cycl
 use Rattle.rv32_lines.specs.declared.numerals.Base.{Base}
 use Rattle.rv32_lines.specs.declared.numerals.Base.TheVariants.{Decimal, Hexadecimal}
 use Rattle.rv32_lines.specs.declared.mnemonics.Mnemonic.{Mnemonic}
-use Rattle.rv32_lines.specs.Texts.{Target, Address, Name, Written, Plain, Jump, Conditional, numeral, register, base, signed_numeral, indexed, upper_digits, target_text, written_text}
+use Rattle.rv32_lines.specs.Texts.{Target, Address, Name, Written, Plain, NegativeShift, Jump, Conditional, numeral, register, base, signed_numeral, indexed, upper_digits, target_text, written_text}
 use Rattle.rv32_lines.specs.Statements.{Statement, Nothing, Segment, Label, Bytes, Word, Space, Zero, Entry, Instruction, Unread, IsNumber, IsKind, is_hexadecimal_digit, is_letter, is_name, IsTarget, IsWritten, Says, SaysNothing, SaysWithin, SaysInstruction, IsRead, AreRead, IsReading, lines_of}
 use Rattle.rv32_lines.specs.Reading.{radix, EndsDigits, mnemonic_text, mnemonic_in, operands_in, HasOperands, IsDirective}
 use Rattle.rv32_lines.proofs.Spelling.{digits_of_numeral, value_of_numeral}
@@ -88,6 +88,16 @@ last_target (Address d) (Name n) p q e = absurd (no_name d n q e)
 last_target (Name n) (Address d) p q e = absurd (no_name d n p (sym e))
 last_target (Name n) (Name m) p q e = ap Name e
 
+same_shift : (a b r s : ℕ) (y z : ℤ)
+    → register a ++ (codes ", " ++ register r ++ (codes ", " ++ signed_numeral y)) ≡ register b ++ (codes ", " ++ register s
+    ++ (codes ", " ++ signed_numeral z))
+    → (a ≡ b) × (r ≡ s) × (y ≡ z)
+same_shift a b r s y z e =
+    let l = listed_once a b (register r ++ (codes ", " ++ signed_numeral y))
+    (register s ++ (codes ", " ++ signed_numeral z)) e in
+    let m = listed_once r s (signed_numeral y) (signed_numeral z) l.1 in
+    (l.0, m.0, last_signed y z m.1)
+
 -- instructions
 same_operands : (w v : Written) → IsWritten w → IsWritten v → mnemonic_in w ≡ mnemonic_in v
     → (HasOperands w → operands_in w ≡ operands_in v) → w ≡ v
@@ -126,11 +136,17 @@ same_operands (Plain (OpImm i a r y)) (Plain (OpImm j b s z)) p q k e =
     let u = last_signed y z m.1 in
     cc (k, l.0, m.0, u)
 same_operands (Plain (ShiftImm i a r y)) (Plain (ShiftImm j b s z)) p q k e =
-    let l = listed_once a b (register r ++ (codes ", " ++ numeral 10 y)) (register s ++ (codes ", " ++ numeral 10 z))
-    (e tt) in
-    let m = listed_once r s (numeral 10 y) (numeral 10 z) l.1 in
-    let u = last_amount Decimal y z m.1 in
-    cc (k, l.0, m.0, u)
+    let l = same_shift a b r s (pos y) (pos z) (e tt) in
+    cc (k, l.0, l.1, l.2)
+same_operands (Plain (ShiftImm i a r y)) (NegativeShift j b s z) p q k e =
+    let l = same_shift a b r s (pos y) (negsuc z) (e tt) in
+    absurd (cc (l.2))
+same_operands (NegativeShift i a r y) (Plain (ShiftImm j b s z)) p q k e =
+    let l = same_shift a b r s (negsuc y) (pos z) (e tt) in
+    absurd (cc (l.2))
+same_operands (NegativeShift i a r y) (NegativeShift j b s z) p q k e =
+    let l = same_shift a b r s (negsuc y) (negsuc z) (e tt) in
+    cc (k, l.0, l.1, l.2)
 same_operands (Plain (Op i a r y)) (Plain (Op j b s z)) p q k e =
     let l = listed_once a b (register r ++ (codes ", " ++ register y)) (register s ++ (codes ", " ++ register z))
     (e tt) in

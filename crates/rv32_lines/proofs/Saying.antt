@@ -11,7 +11,7 @@ use Rattle.rv32_text.specs.Listing.{word_digits}
 use Rattle.rv32_lines.specs.declared.statements.Statement.{Statement as ReadStatement}
 use Rattle.rv32_lines.specs.declared.statements.Statement.TheVariants as said
 use Rattle.rv32_lines.specs.declared.mnemonics.Mnemonic.{Mnemonic}
-use Rattle.rv32_lines.specs.Texts.{Written, Plain, Jump, Conditional}
+use Rattle.rv32_lines.specs.Texts.{Written, Plain, NegativeShift, Jump, Conditional}
 use Rattle.rv32_lines.specs.Statements.{Statement, Nothing, Segment, Label, Bytes, Word, Space, Zero, Entry, Instruction, Unread, IsNumber, IsKind, is_decimal_digit, is_hexadecimal_digit, is_letter, is_name_byte, is_name, IsBare, Says, SaysName, SaysWithin, SaysInstruction, IsRead, SaysNothing}
 use Rattle.rv32_lines.specs.Reading.{mnemonic_text, mnemonic_in, operands_in, HasOperands, IsReadStatement, SaysDigits, IsDirective, is_mark}
 use Rattle.rv32_lines.proofs.Bare.{bare_once}
@@ -170,6 +170,7 @@ no_colon (Plain (instr.Load k rd r z)) o e = absurd (o tt)
 no_colon (Plain (instr.Store k r rd z)) o e = absurd (o tt)
 no_colon (Plain (instr.OpImm k rd r z)) o e = absurd (o tt)
 no_colon (Plain (instr.ShiftImm k rd r n)) o e = absurd (o tt)
+no_colon (NegativeShift k rd r n) o e = absurd (o tt)
 no_colon (Plain (instr.Op k rd r n)) o e = absurd (o tt)
 no_colon (Plain (instr.Lr rd r aq rl)) o e = absurd (o tt)
 no_colon (Plain (instr.Sc rd r n aq rl)) o e = absurd (o tt)

@@ -1,5 +1,5 @@
 -- Numbers with a sign, and where a text ends.
-use Rattle.std.proofs.Common.{◌≡◌, ◌≢◌, ℕ, zero, suc, ℤ, pos, negsuc, Bool, true, false, eqb, List, [], ◌∷◌, ◌++◌, length, Option, Some, None, refl, sym, ap, ◌∙◌, arith}
+use Rattle.std.proofs.Common.{◌≡◌, ◌≢◌, ℕ, zero, suc, ◌<◌, ℤ, pos, negsuc, ◌≤ℤ◌, Bool, true, false, eqb, List, [], ◌∷◌, ◌++◌, length, Option, Some, None, refl, sym, ap, ◌∙◌, subst, arith}
 use denote.Ref.{Bor}
 use Rattle.std.specs.Prelude.{MatchOption, IfSome, codes, ◌-ℤ◌}
 use Rattle.std.specs.List.{list_all}
@@ -7,8 +7,11 @@ use Rattle.std.proofs.lemmas.Bool.{and_parts, false≢true}
 use Rattle.std.proofs.lemmas.Int.{ints}
 use Rattle.rv32_lines.specs.declared.numerals.Base.{Base}
 use Rattle.rv32_lines.specs.declared.numerals.Base.TheVariants.{Decimal}
-use Rattle.rv32_lines.specs.Texts.{numeral}
-use Rattle.rv32_lines.specs.Reading.{radix, is_digit, has_no_zero, capped, clipped, IsNumeralThen, IsSignedThen}
+use Rattle.rv32_lines.specs.Texts.{numeral, shift_by}
+use Rattle.rv32_lines.specs.Reading.{radix, is_digit, has_no_zero, capped, clipped, IsNumeralThen, IsSignedThen, IsReadCommand}
+use Rattle.rv32_lines.specs.declared.commands.Command.TheVariants as command
+use Rattle.rv32_decode.specs.declared.Instr.TheVariants.{ShiftImm}
+use Rattle.rv32_decode.specs.declared.ShiftOp.{ShiftOp}
 use Rattle.rv32_lines.proofs.Spelling.{digits_of_numeral, no_zero_of_numeral}
 
 begins_by : (b : Base) (ds rest us : List ℕ) (c : ℕ) → list_all (is_digit b) ds ≡ true → has_no_zero ds ≡ true
@@ -45,6 +48,16 @@ negative_only text digits r e h (pos n) rest s = absurd (begins Decimal n rest d
 negative_only text digits r e h (negsuc n) rest s =
     let same : digits ≡ numeral 10 (suc n) ++ rest = cc (sym e ∙ s.text_is) in
     h n rest (record { text_is = same; ends = s.ends })
+
+-- a shift by a number of either sign: one of its numbers doesn't fit, or it is an instruction
+pub shift_far : (o : ShiftOp) (rd r : ℕ) (z : ℤ) → (rd < 32 → r < 32 → pos 0 ≤ℤ z → z ≤ℤ pos 31 → ⊥)
+    → IsReadCommand command.OutOfRange (shift_by o rd r z)
+shift_far o rd r (pos n) h = λ range. h range.0 range.1 (omega (arith, ints)) (omega (arith, ints, range.2))
+shift_far o rd r (negsuc n) h = tt
+
+pub shift_is : (o : ShiftOp) (rd r a : ℕ) (z : ℤ) → pos a ≡ z
+    → IsReadCommand (command.Plain (ShiftImm o rd r a)) (shift_by o rd r z)
+shift_is o rd r a z e = subst (λ (z : ℤ). IsReadCommand (command.Plain (ShiftImm o rd r a)) (shift_by o rd r z)) e refl
 
 -- nothing stands behind
 pub not_empty : (xs : List ℕ) (b : Bool) → b ≡ eqb (length xs) 0 → b ≡ false → xs ≡ [] → ⊥

@@ -15,7 +15,7 @@ use Rattle.rv32_lines.specs.declared.statements.Statement.{Statement as ReadStat
 use Rattle.rv32_lines.specs.declared.statements.Statement.TheVariants as said
 use Rattle.rv32_lines.specs.declared.operands.Target.{Target as ReadTarget}
 use Rattle.rv32_lines.specs.declared.operands.Target.TheVariants as read
-use Rattle.rv32_lines.specs.Texts.{numeral, register, base, signed_numeral, indexed, upper_digits, Target, Address, Name, target_text, Written, Plain, Jump, Conditional}
+use Rattle.rv32_lines.specs.Texts.{numeral, register, base, signed_numeral, indexed, upper_digits, Target, Address, Name, target_text, Written, Plain, NegativeShift, Jump, Conditional}
 use Rattle.rv32_lines.specs.Statements.{IsTarget, IsWritten, byte_digits, Statement, Nothing, Segment, Label, Bytes, Word, Space, Zero, Entry, Instruction, Unread, is_decimal_digit, is_hexadecimal_digit}
 
 abbrev pub radix : Base → ℕ
@@ -130,6 +130,7 @@ pub record IsTargetText (text : List ℕ) (to : Target) : Type 0 where
 -- a number of an instruction doesn't fit it, whatever its target
 abbrev pub IsTooLarge : Written → Type 0
 IsTooLarge (Plain i) = IsInRange i → ⊥
+IsTooLarge (NegativeShift o rd rs1 below) = Unit {0}
 IsTooLarge (Jump rd to) = IsInRange (Jal rd (pos 0)) → ⊥
 IsTooLarge (Conditional c rs1 rs2 to) = IsInRange (Branch c rs1 rs2 (pos 0)) → ⊥
 
@@ -155,6 +156,7 @@ mnemonic_in (Plain (Op k rd r n)) = mnemonic.Op k
 mnemonic_in (Plain (Lr rd r aq rl)) = mnemonic.Lr aq rl
 mnemonic_in (Plain (Sc rd r n aq rl)) = mnemonic.Sc aq rl
 mnemonic_in (Plain (Amo k rd r n aq rl)) = mnemonic.Amo k aq rl
+mnemonic_in (NegativeShift k rd r below) = mnemonic.ShiftImm k
 mnemonic_in (Jump rd to) = mnemonic.Jal
 mnemonic_in (Conditional k r n to) = mnemonic.Branch k
 mnemonic_in (Plain (Jal rd z)) = mnemonic.Jal
@@ -182,6 +184,8 @@ operands_in (Plain (Sc rd r n aq rl)) =
     register rd ++ (codes ", " ++ register n ++ (codes ", " ++ base r))
 operands_in (Plain (Amo k rd r n aq rl)) =
     register rd ++ (codes ", " ++ register n ++ (codes ", " ++ base r))
+operands_in (NegativeShift k rd r below) =
+    register rd ++ (codes ", " ++ register r ++ (codes ", " ++ signed_numeral (negsuc below)))
 operands_in (Jump rd to) = register rd ++ (codes ", " ++ target_text to)
 operands_in (Conditional k r n to) =
     register r ++ (codes ", " ++ register n ++ (codes ", " ++ target_text to))

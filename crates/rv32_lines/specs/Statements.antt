@@ -4,7 +4,7 @@ use Rattle.std.specs.Fmt.{digit_glyph}
 use Rattle.std.specs.List.{list_all, flat_map}
 use Rattle.std.specs.Str.Parse.{digits_value}
 use Rattle.rv32_text.specs.Listing.{word_digits}
-use Rattle.rv32_lines.specs.Texts.{Target, Address, Name, Written, Plain, Jump, Conditional, IsPlain, written_text}
+use Rattle.rv32_lines.specs.Texts.{Target, Address, Name, Written, Plain, NegativeShift, Jump, Conditional, IsPlain, written_text}
 
 -- what a line says, if it is one of the text's lines
 pub data Statement : Type 0 where
@@ -90,6 +90,7 @@ IsTarget (Name name) = is_name name ≡ true
 
 abbrev pub IsWritten : Written → Type 0
 IsWritten (Plain i) = IsPlain i
+IsWritten (NegativeShift o rd rs1 below) = Unit {0}
 IsWritten (Jump rd to) = IsTarget to
 IsWritten (Conditional c rs1 rs2 to) = IsTarget to
 

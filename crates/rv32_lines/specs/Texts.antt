@@ -3,6 +3,7 @@
 use Rattle.std.specs.Prelude.{◌≡◌, ℕ, suc, false, ℤ, pos, negsuc, List, [], ◌++◌, codes}
 use Rattle.std.specs.Fmt.{digits_onto}
 use Rattle.rv32_decode.specs.declared.Cond.{Cond}
+use Rattle.rv32_decode.specs.declared.ShiftOp.{ShiftOp}
 use Rattle.rv32_decode.specs.declared.Instr.{Instr}
 use Rattle.rv32_decode.specs.declared.Instr.TheVariants.{Lui, Auipc, Jal, Jalr, Branch, Load, Store, OpImm, ShiftImm, Op, Fence, Ecall, Ebreak, Lr, Sc, Amo, Illegal}
 use Rattle.rv32_decode.specs.declared.IllegalWord.TheVariants.{Zeros, Ones, CycleWrite}
@@ -42,11 +43,18 @@ target_text (Address digits) = codes "0x" ++ digits
 target_text (Name name) = name
 
 -- an instruction as it is written: with the numbers of its text, whatever their size, or with the
--- target of a jump or a branch
+-- target of a jump or a branch; a shift by a number below zero, which no instruction has, stands
+-- apart, by how far the number is below -1
 pub data Written : Type 0 where
   Plain : (i : Instr) → Written
+  NegativeShift : (o : ShiftOp) (rd rs1 below : ℕ) → Written
   Jump : (rd : ℕ) (to : Target) → Written
   Conditional : (c : Cond) (rs1 rs2 : ℕ) (to : Target) → Written
+
+-- a shift by a number of either sign
+abbrev pub shift_by : ShiftOp → (rd rs1 : ℕ) → ℤ → Written
+shift_by o rd rs1 (pos n) = Plain (ShiftImm o rd rs1 n)
+shift_by o rd rs1 (negsuc n) = NegativeShift o rd rs1 n
 
 -- an instruction whose text has no target, and that one of those with its text whose word is
 -- written: FENCE for all accesses (fm 0, predecessors and successors IORW), and the word of zeros
@@ -87,6 +95,8 @@ plain_text (Illegal word) = codes "illegal"
 -- the text of an instruction as it is written
 abbrev pub written_text : Written → List ℕ
 written_text (Plain i) = plain_text i
+written_text (NegativeShift o rd rs1 below) =
+    with_three (shift_name o) (register rd) (register rs1) (signed_numeral (negsuc below))
 written_text (Jump rd to) = with_two (codes "jal") (register rd) (target_text to)
 written_text (Conditional c rs1 rs2 to) =
     with_three (branch_name c) (register rs1) (register rs2) (target_text to)

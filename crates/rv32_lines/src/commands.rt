@@ -9,14 +9,14 @@ ghost use Rattle.rv32_lines.specs.Reading.{IsCommandWith, IsCommandWithout};
 ghost use Rattle.std.specs.List.{list_all};
 ghost use Rattle.rv32_lines.specs.Statements.{IsTarget, IsWritten, SaysInstruction};
 ghost use Rattle.rv32_lines.specs.Texts.{Target as Targets, Written, Plain, Jump, Conditional};
-ghost use Rattle.rv32_lines.specs.Texts.{numeral, register, base, signed_numeral, indexed};
+ghost use Rattle.rv32_lines.specs.Texts.{register, base, signed_numeral, indexed, shift_by};
 ghost use Rattle.rv32_lines.specs.Texts.{upper_digits, target_text};
 
 use crate::heads::behind;
 use crate::mnemonics::{Mnemonic, mnemonic_of};
 use crate::operands::{
-    Target, register_base, register_indexed, register_target, register_upper, registers_amount,
-    registers_base, registers_immediate, registers_target, three_registers,
+    Target, register_base, register_indexed, register_target, register_upper, registers_base,
+    registers_immediate, registers_target, three_registers,
 };
 use rv32_decode::{
     AmoOp, Amount, Cond, FenceBits, IllegalWord, Imm12, ImmOp, Instr, LoadKind, Op, Reg, ShiftOp,
@@ -81,11 +81,11 @@ fn upper20(value: u32) -> Option<Upper>
 }
 
 /// The amount of a shift.
-fn amount5(value: u32) -> Option<Amount>
-    ensures { (n : ℕ) → value ≡ capped n
-        → MatchOption result (n < 32 → ⊥) (λ a. a ≡ n) }
+fn amount5(value: i64) -> Option<Amount>
+    ensures { (z : ℤ) → value ≡ clipped z
+        → MatchOption result (pos 0 ≤ℤ z → z ≤ℤ pos 31 → ⊥) (λ a. pos a ≡ z) }
 {
-    if value < 32 {
+    if value >= 0 && value < 32 {
         Some(Amount::new(value as u8))
     } else {
         None
@@ -206,15 +206,16 @@ fn op_imm(op: ImmOp, text: &[u8]) -> Option<Command<'_>>
 }
 
 /// A shift by an immediate, by its operands.
+#[tactic(auto, using(crate::proofs::Signs::shift_far, crate::proofs::Signs::shift_is))]
 fn shift_imm(op: ShiftOp, text: &[u8]) -> Option<Command<'_>>
-    ensures some { IfSome result (λ c. (rd r n : ℕ)
-        × (text.now ≡ register rd ++ (codes ", " ++ register r ++ (codes ", " ++ numeral 10 n)))
-        × IsReadCommand c (Plain (model.ShiftImm op rd r n))) }
-    ensures only { (rd r n : ℕ)
-        → text.now ≡ register rd ++ (codes ", " ++ register r ++ (codes ", " ++ numeral 10 n))
-        → MatchOption result ⊥ (λ c. IsReadCommand c (Plain (model.ShiftImm op rd r n))) }
+    ensures some { IfSome result (λ c. (rd r : ℕ) × (z : ℤ)
+        × (text.now ≡ register rd ++ (codes ", " ++ register r ++ (codes ", " ++ signed_numeral z)))
+        × IsReadCommand c (shift_by op rd r z)) }
+    ensures only { (rd r : ℕ) (z : ℤ)
+        → text.now ≡ register rd ++ (codes ", " ++ register r ++ (codes ", " ++ signed_numeral z))
+        → MatchOption result ⊥ (λ c. IsReadCommand c (shift_by op rd r z)) }
 {
-    let (rd, rs1, amount) = registers_amount(text)?;
+    let (rd, rs1, amount) = registers_immediate(text)?;
     let (Some(rd), Some(rs1), Some(amount)) = (reg(rd), reg(rs1), amount5(amount)) else {
         return Some(Command::OutOfRange);
     };

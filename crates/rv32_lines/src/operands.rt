@@ -253,20 +253,6 @@ pub(crate) fn registers_immediate(text: &[u8]) -> Option<(u32, u32, i64)>
     Some((first, second, signed(last)?))
 }
 
-/// `xD, xA, N`
-pub(crate) fn registers_amount(text: &[u8]) -> Option<(u32, u32, u32)>
-    ensures some { IfSome result (λ p. (rd r n : ℕ) × (p.0 ≡ capped rd) × (p.1 ≡ capped r)
-        × (p.2 ≡ capped n)
-        × (text.now ≡ register rd ++ (codes ", " ++ register r ++ (codes ", " ++ numeral 10 n)))) }
-    ensures only { (rd r n : ℕ)
-        → text.now ≡ register rd ++ (codes ", " ++ register r ++ (codes ", " ++ numeral 10 n))
-        → MatchOption result ⊥ (λ p. (p.0 ≡ capped rd) × (p.1 ≡ capped r) × (p.2 ≡ capped n)) }
-{
-    let (first, rest) = register_comma(text)?;
-    let (second, last) = register_comma(rest)?;
-    Some((first, second, numeral(last, Base::Decimal)?))
-}
-
 /// `xD, xA, xB`
 pub(crate) fn three_registers(text: &[u8]) -> Option<(u32, u32, u32)>
     ensures some { IfSome result (λ p. (rd r n : ℕ) × (p.0 ≡ capped rd) × (p.1 ≡ capped r)
