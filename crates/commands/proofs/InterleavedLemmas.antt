@@ -1,17 +1,19 @@
 -- A whole run of nodes is an interleaved run of the original.
-use Rattle.std.proofs.Common.{◌≡◌, ℕ, zero, suc, ◌+◌, ◌*◌, ◌<◌, ◌≤◌, ◌&&◌, not, Bool, true, false, List, [], ◌∷◌, ◌++◌, length, map, get_or, Option, Some, None, refl, sym, ap, ◌∙◌, subst, inl, inr, arith}
+use Rattle.std.proofs.Common.{◌≡◌, ◌≢◌, ℕ, zero, suc, ◌+◌, ◌*◌, ◌<◌, ◌≤◌, ◌&&◌, not, cond, eqb, Bool, true, false, List, [], ◌∷◌, ◌++◌, length, map, get_or, Option, Some, None, refl, sym, ap, ◌∙◌, subst, inl, inr, arith}
 use Rattle.std.specs.Prelude.{is_some, nat_lt}
 use Rattle.std.specs.List.{filter, range_with_len}
 use Rattle.std.proofs.Math.Nat.{mod-lt}
-use Rattle.std.proofs.lemmas.Bool.{cases_Bool}
+use Rattle.std.proofs.lemmas.Bool.{cases_Bool, ltb-false}
+use Rattle.std.proofs.lemmas.Bool.Decides.{eqb_tells}
+use Rattle.std.proofs.lemmas.List.Sums.{sum_by-cons}
 use Rattle.elf32_read.specs.Elf.{Elf}
-use Rattle.exec_map.specs.Contents.{program_of, AreSharedRanges}
+use Rattle.exec_map.specs.Contents.{program_of}
 use Rattle.block_layout.specs.Layout.{Shape}
 use Rattle.rv32_program.specs.Program.{Program}
 use Rattle.rv32_program.specs.declared.Exit.{Exit}
 use Rattle.rv32_program.specs.declared.End.{End}
 use Rattle.rv32_program.specs.declared.End.TheVariants.{Exited, Stopped}
-use Rattle.rv32_step.specs.OneMemory.{Original, State, Step, opening, step, IsRun}
+use Rattle.rv32_step.specs.OneMemory.{Original, State, Pick, Step, opening, step, IsRun, run}
 use Rattle.workload.specs.Orders.{following, choice}
 use Rattle.one_memory.specs.ByOrder.{FollowsOrder, end_by, goes_on, live, one_more}
 use Rattle.templates.specs.declared.plans.PlanEntry.{PlanEntry}
@@ -19,6 +21,7 @@ use Rattle.node_model.specs.Node.{Work, Phase, Running, Resumed, Waiting, Ended,
 use Rattle.node_model.specs.Core.{Event, opening_core, after}
 use Rattle.node_model.specs.Outcome.{Outcome}
 use Rattle.judged_files.specs.run_order.OwnRun.{Stamped, run_of}
+use Rattle.judged_files.specs.rewriting_law.Bounds.{is_step_of, steps_of}
 use Rattle.judged_files.specs.rewriting_law.CoreRun.{picks_of}
 use Rattle.judged_files.specs.rewriting_law.Interleaving.{EndsAs, original_by_node, original_after}
 use Rattle.smp_sim.specs.lane_model.Nodes.{LaneWork, processors}
@@ -32,7 +35,7 @@ use Rattle.judged_files.specs.WholeRuns.{IsRunOf}
 use Rattle.judged_files.specs.Code.{Choice, choice_of}
 use Rattle.judged_files.specs.Inputs.{Inputs}
 use Rattle.commands.specs.Inputs.{inputs_of}
-use Rattle.commands.specs.Interleaved.{IsInterleaved, IsLayoutGiven, IsSomeLayout, IsTextOfOriginal, PrintsOriginal, TellsOfOriginal}
+use Rattle.commands.specs.Interleaved.{IsInterleaved, IsLayoutGiven, IsLayoutKept, IsTextOfOriginal, PrintsOriginal, TellsOfOriginal, least_steps}
 use Rattle.judged_files.specs.WholeRuns.{IsRunOfCode, IsWholeRun}
 use Rattle.commands.specs.LaneRuns.{IsLaneRunOf, IsWholeLaneRun}
 use Rattle.commands.specs.Outcomes.{told}
@@ -72,12 +75,39 @@ ends_from budget exit phase a (suc n) (e ∷ es) h is =
     ap (λ x. x ∷ es) first
     ∙ ap (λ xs. end_by budget (exit a) ∷ xs) rest
 
+-- each of them has an end
+has_end : (phase : ℕ → Phase) (a n : ℕ) (es : List End)
+    → map (λ i. end_of (phase i)) (range_with_len a n) ≡ map (λ e. Some e) es
+    → (p : ℕ) → a ≤ p → p < a + n → end_of (phase p) ≢ None
+has_end phase a zero es is p low high = absurd (omega (arith, low, high))
+has_end phase a (suc n) [] is p low high = absurd (cc)
+has_end phase a (suc n) (e ∷ es) is p low high =
+    let parts = heads {A = Option End} (end_of (phase a)) (Some e)
+    (map (λ i. end_of (phase i)) (range_with_len (a + 1) n)) (map (λ x. Some x) es) is in
+    elim (eqb_tells p a) [
+      | inl h ↦ λ none. (let here : end_of (phase a) ≡ None = sym (ap (λ i. end_of (phase i)) h.1) ∙ none in
+          let first = parts.0 in cc)
+      | inr h ↦
+          let other = h.1 in
+          has_end phase (a + 1) n es parts.1 p (omega (arith, low, other)) (omega (arith, high))
+    ]
+
+-- and one without an exit was stopped
+stopped_by : (budget : ℕ) (exit : Option Exit) (phase : Phase) → EndsAs budget exit phase
+    → end_of phase ≢ None → exit ≡ None → phase ≡ Ended (Stopped budget)
+stopped_by budget exit Running h has none = absurd (has refl)
+stopped_by budget exit Resumed h has none = absurd (has refl)
+stopped_by budget exit (Waiting resume) h has none = absurd (has refl)
+stopped_by budget exit (Ended (Exited x)) h has none =
+    let same : Some x ≡ None = sym h ∙ none in absurd (cc)
+stopped_by budget exit (Ended (Stopped b)) h has none = ap (λ n. Ended (Stopped n)) h.1
+
 -- ---- runs
 
 -- a whole run of nodes is, by its picks, an interleaved run
 of_whole : (work : Work) (plan : List PlanEntry) (events : List Event) (o : Outcome)
     → IsWholeRun work plan events o
-    → IsInterleaved (original_by_node work) work.budget o.output o.ends
+    → IsInterleaved (original_by_node work) work.budget (least_steps None work.budget) o.output o.ends
 of_whole work plan events o whole = record {
   picks = picks_of work plan (opening_core work) events;
   allowed = whole.original.allowed;
@@ -86,18 +116,25 @@ of_whole work plan events o whole = record {
       (λ p. ((original_after work plan events).processors p).exit)
       (λ p. ((after work (opening_core work) events).nodes p).phase) 0 work.layout.nodes o.ends
       (λ p low high. whole.original.ends p (omega (arith, high))) whole.ends;
+  worked = λ p low none.
+      let phase : ℕ → Phase = λ i. ((after work (opening_core work) events).nodes i).phase in
+      whole.steps p work.budget low
+      (stopped_by work.budget ((original_after work plan events).processors p).exit (phase p)
+      (whole.original.ends p low)
+      (has_end phase 0 work.layout.nodes o.ends whole.ends p (omega arith) (omega (arith, low))) none);
 }
 
-original_as : (program : Program) (layout : Shape) (nodes budget : ℕ) (program' : Program)
-    (nodes' budget' : ℕ) (output : List ℕ) (ends : List End) → program ≡ program'
-    → nodes ≡ nodes' → budget ≡ budget'
-    → IsInterleaved (record { program = program; layout = layout; nodes = nodes }) budget output ends
-    → IsInterleaved (record { program = program'; layout = layout; nodes = nodes' }) budget' output
-    ends
-original_as program layout nodes budget program' nodes' budget' output ends p n b h =
-    subst (λ x. IsInterleaved (record { program = program'; layout = layout; nodes = nodes' }) x output ends) b
-    (subst (λ x. IsInterleaved (record { program = program'; layout = layout; nodes = x }) budget output ends) n
-    (subst (λ x. IsInterleaved (record { program = x; layout = layout; nodes = nodes }) budget output ends) p h))
+original_as : (program : Program) (layout : Shape) (nodes budget : ℕ) (least : ℕ → ℕ)
+    (program' : Program) (nodes' budget' : ℕ) (output : List ℕ) (ends : List End)
+    → program ≡ program' → nodes ≡ nodes' → budget ≡ budget'
+    → IsInterleaved (record { program = program; layout = layout; nodes = nodes }) budget
+    (least budget) output ends
+    → IsInterleaved (record { program = program'; layout = layout; nodes = nodes' }) budget'
+    (least budget') output ends
+original_as program layout nodes budget least program' nodes' budget' output ends p n b h =
+    subst (λ x. IsInterleaved (record { program = program'; layout = layout; nodes = nodes' }) x (least x) output ends) b
+    (subst (λ x. IsInterleaved (record { program = program'; layout = layout; nodes = x }) budget (least budget) output ends) n
+    (subst (λ x. IsInterleaved (record { program = x; layout = layout; nodes = nodes }) budget (least budget) output ends) p h))
 
 -- ---- texts
 
@@ -111,7 +148,8 @@ of_code : (choice : Choice) (file : List ℕ) (elf : Elf) (plan : List PlanEntry
     (own : List Stamped) (o : Outcome) (IsLaidOut : Elf → Shape → Type 0) (nodes budget : ℕ)
     (brief : Bool) (text : List ℕ) → IsRunOfCode choice file elf plan work own o
     → IsLaidOut elf work.layout → work.layout.nodes ≡ nodes → work.budget ≡ budget
-    → text ≡ text_of (told brief o) → TellsOfOriginal file IsLaidOut nodes budget text
+    → text ≡ text_of (told brief o)
+    → TellsOfOriginal file IsLaidOut nodes budget (least_steps None budget) text
 of_code choice file elf plan work own o IsLaidOut nodes budget brief text code laid n b is = record {
   elf = elf;
   executable = code.rewritten.executable;
@@ -120,15 +158,16 @@ of_code choice file elf plan work own o IsLaidOut nodes budget brief text code l
   output = o.output;
   ends = o.ends;
   counts = (told brief o).counts;
-  interleaved = original_as work.program work.layout work.layout.nodes work.budget (program_of elf)
-      nodes budget o.output o.ends code.program n b (of_whole work plan (run_of own) o code.whole);
+  interleaved = original_as work.program work.layout work.layout.nodes work.budget
+      (least_steps None) (program_of elf) nodes budget o.output o.ends code.program n b (of_whole work plan (run_of own) o code.whole);
   text_is = is ∙ text_as brief o;
 }
 
 of_run : (inputs : Inputs) (nodes budget : ℕ) (work : Work) (own : List Stamped) (o : Outcome)
     (brief : Bool) (text : List ℕ) → IsRunOf inputs nodes budget work own o
     → text ≡ text_of (told brief o)
-    → TellsOfOriginal inputs.executable (IsLayoutGiven inputs nodes) nodes budget text
+    → TellsOfOriginal inputs.executable (IsLayoutGiven inputs nodes) nodes budget
+    (least_steps None budget) text
 of_run inputs nodes budget work own o brief text h is =
     of_code (choice_of inputs.batches inputs.verified) inputs.executable h.elf h.plan work own o
     (IsLayoutGiven inputs nodes) nodes budget brief text h.of_code h.laid_out h.count h.limit is
@@ -137,7 +176,8 @@ of_run inputs nodes budget work own o brief text h is =
 
 -- a whole run of them is, by its picks, an interleaved run
 of_whole_lanes : (w : LaneWork) (plan : List PlanEntry) (events : List LaneEvent) (o : Outcome)
-    → IsWholeLaneRun w plan events o → IsInterleaved (original_by_lane w) w.work.budget o.output o.ends
+    → IsWholeLaneRun w plan events o
+    → IsInterleaved (original_by_lane w) w.work.budget 0 o.output o.ends
 of_whole_lanes w plan events o whole = record {
   picks = picks_of_lanes w plan (opening_lanes w) events;
   allowed = whole.original.allowed;
@@ -145,12 +185,14 @@ of_whole_lanes w plan events o whole = record {
   ends_are = ends_from w.work.budget (λ p. ((lanes_after w plan events).processors p).exit)
       (λ p. phase_of w (after_lanes w (opening_lanes w) events) p) 0 (processors w) o.ends
       (λ p low high. whole.original.ends p (omega (arith, high))) whole.ends;
+  worked = λ p low none. omega arith;
 }
 
 of_lane_run : (inputs : Inputs) (nodes lanes budget : ℕ) (w : LaneWork) (events : List LaneEvent)
     (o : Outcome) (brief : Bool) (text : List ℕ)
     → IsLaneRunOf inputs nodes lanes budget w events o → text ≡ text_of (told brief o)
-    → TellsOfOriginal inputs.executable (IsLayoutGiven inputs nodes) (nodes * lanes) budget text
+    → TellsOfOriginal inputs.executable (IsLayoutGiven inputs nodes) (nodes * lanes) budget
+    (least_steps (Some lanes) budget) text
 of_lane_run inputs nodes lanes budget w events o brief text h is =
     let many : processors w ≡ nodes * lanes =
     ap (λ n. n * w.lanes) h.asked.count ∙ ap (λ m. nodes * m) h.lanes_are in
@@ -163,7 +205,7 @@ of_lane_run inputs nodes lanes budget w events o brief text h is =
       ends = o.ends;
       counts = (told brief o).counts;
       interleaved = original_as w.work.program w.work.layout (processors w) w.work.budget
-          (program_of h.elf) (nodes * lanes) budget o.output o.ends h.asked.program many
+          (λ b. 0) (program_of h.elf) (nodes * lanes) budget o.output o.ends h.asked.program many
           h.asked.limit (of_whole_lanes w h.plan events o h.whole);
       text_is = is ∙ text_as brief o;
     }
@@ -218,9 +260,72 @@ order_runs o budget number steps s (p ∷ ps) h =
       order_runs o budget (following number) (one_more steps p) (step o s p).state ps h.2,
     )
 
+-- a test that picks none of a range fails in it
+none_passes : (test : ℕ → Bool) (a n : ℕ) → filter test (range_with_len a n) ≡ [] → (p : ℕ)
+    → a ≤ p → p < a + n → test p ≡ false
+none_passes test a zero none p low high = absurd (omega (arith, low, high))
+none_passes test a (suc n) none p low high = elim (cases_Bool (test a)) [
+  | inl e ↦
+      let some : a ∷ filter test (range_with_len (a + 1) n) ≡ [] = rw e at none in absurd (cc)
+  | inr e ↦
+      let rest : filter test (range_with_len (a + 1) n) ≡ [] = rw e at none in
+      elim (eqb_tells p a) [
+        | inl h ↦ ap test h.1 ∙ e
+        | inr h ↦
+            let other = h.1 in
+            none_passes test (a + 1) n rest p (omega (arith, low, other)) (omega (arith, high))
+      ]
+]
+
+-- one that doesn't go on, and has no exit, has made the whole budget of steps
+made_all : (budget : ℕ) (steps : ℕ → ℕ) (s : State) (p : ℕ) → goes_on budget steps s p ≡ false
+    → (s.processors p).exit ≡ None → budget ≤ steps p
+made_all budget steps s p stays none =
+    ltb-false (steps p) budget
+    (sym (ap (λ (x : Option Exit). not (is_some x) && nat_lt (steps p) budget) none) ∙ stays)
+
+-- a step is counted
+counted : (steps : ℕ → ℕ) (q p : ℕ) (ks : List Pick)
+    → one_more steps q p + steps_of p ks ≡ steps p + steps_of p (Step q ∷ ks)
+counted steps q p ks =
+    let more : steps_of p (Step q ∷ ks) ≡ cond (eqb q p) 1 0 + steps_of p ks =
+    sum_by-cons (λ x. cond (is_step_of p x) 1 0) (Step q) ks in
+    elim (eqb_tells p q) [
+      | inl h ↦ elim (eqb_tells q p) [
+        | inl k ↦
+            let made : one_more steps q p ≡ steps p + 1 = rw h.0 refl in
+            let now : steps_of p (Step q ∷ ks) ≡ 1 + steps_of p ks =
+            more ∙ ap (λ b. cond b 1 0 + steps_of p ks) k.0 in
+            omega (arith, made, now)
+        | inr k ↦ absurd (k.1 (sym h.1))
+      ]
+      | inr h ↦ elim (eqb_tells q p) [
+        | inl k ↦ absurd (h.1 (sym k.1))
+        | inr k ↦
+            let made : one_more steps q p ≡ steps p = rw h.0 refl in
+            let now : steps_of p (Step q ∷ ks) ≡ 0 + steps_of p ks =
+            more ∙ ap (λ b. cond b 1 0 + steps_of p ks) k.0 in
+            omega (arith, made, now)
+      ]
+    ]
+
+-- where none goes on any more, each without an exit has made its budget of steps
+order_worked : (o : Original) (budget number : ℕ) (steps : ℕ → ℕ) (s : State) (ps : List ℕ)
+    → FollowsOrder o budget number steps s ps → (p : ℕ) → p < o.nodes
+    → ((run o s (map (λ q. Step q) ps)).processors p).exit ≡ None
+    → budget ≤ steps p + steps_of p (map (λ q. Step q) ps)
+order_worked o budget number steps s [] h p low none =
+    let all = made_all budget steps s p
+    (none_passes (goes_on budget steps s) 0 o.nodes h p (omega arith) (omega (arith, low))) none in
+    let more : budget ≤ steps p + 0 = omega (arith, all) in more
+order_worked o budget number steps s (q ∷ qs) h p low none =
+    let rest = order_worked o budget (following number) (one_more steps q) (step o s q).state qs h.2
+    p low none in
+    subst (λ n. budget ≤ n) (counted steps q p (map (λ r. Step r) qs)) rest
+
 by_order : (inputs : Inputs) (nodes order budget : ℕ) (o : Outcome) (text : List ℕ)
     → IsOutcomeByOrder inputs nodes order budget o → text ≡ text_of (told false o)
-    → TellsOfOriginal inputs.executable (IsLayoutGiven inputs nodes) nodes budget text
+    → TellsOfOriginal inputs.executable (IsLayoutGiven inputs nodes) nodes budget budget text
 by_order inputs nodes order budget o text h is =
     let original : Original = record { program = program_of h.elf; layout = h.layout; nodes = nodes } in
     record {
@@ -236,6 +341,11 @@ by_order inputs nodes order budget o text h is =
         allowed = order_runs original budget order (λ p. 0) (opening original) h.ordered.picks h.ordered.ordered;
         output_is = h.ordered.output_is;
         ends_are = h.ordered.ends_are;
+        worked = λ p low none.
+            let made : budget ≤ 0 + steps_of p (map (λ q. Step q) h.ordered.picks) =
+            order_worked original budget order (λ q. 0) (opening original) h.ordered.picks
+            h.ordered.ordered p low none in
+            omega (arith, made);
       };
       text_is = is;
     }
@@ -258,18 +368,16 @@ tells (Sim file nodes order budget code verified layout brief no_batch loss (Som
     of_lane_run inputs nodes lanes budget h.is.work h.is.events h.outcome brief text h.is.is_run h.text_is
 tells (Listing file) files inputs text status h = tt
 tells (Replay file verified record_file brief) files inputs text status h =
-    let work = h.is.work in
-    let laid = h.is.asked.laid_out in
-    let same = laid.layout_is in
-    let shared : work.layout.shared ≡ laid.shared = ap (λ (s : Shape). s.shared) same in (
-      work.layout.nodes,
-      work.budget,
-      of_code (choice_of h.is.kept.batch inputs.verified) inputs.executable h.is.elf h.is.plan work _
-          h.outcome IsSomeLayout
-          work.layout.nodes work.budget brief text h.is.of_code
-          (subst (AreSharedRanges h.is.elf) (sym shared) laid.lines, h.is.asked.valid)
-          refl refl h.text_is,
-    )
+    let kept = h.is.kept in
+    let asked = h.is.asked in
+    record {
+      kept = kept;
+      record_is = asked.text;
+      tells = of_code (choice_of kept.batch inputs.verified) inputs.executable h.is.elf h.is.plan
+          h.is.work _ h.outcome (IsLayoutKept kept) kept.nodes kept.budget brief text h.is.of_code
+          (asked.laid_out, asked.valid) (ap (λ (s : Shape). s.nodes) asked.laid_out.layout_is)
+          asked.limit h.text_is;
+    }
 tells (Generate number output) files inputs text status h = tt
 tells (Assemble assembly output) files inputs text status h = tt
 

@@ -1,11 +1,11 @@
 -- A run by an order, on such a machine, is of the inputs.
-use Rattle.std.proofs.Common.{◌≡◌, ℕ, ◌<◌, ◌≤◌, List, refl, sym, ap, subst, ◌∙◌}
+use Rattle.std.proofs.Common.{◌≡◌, ℕ, ◌<◌, ◌≤◌, List, [], ◌∷◌, ◌++◌, refl, sym, ap, subst, ◌∙◌}
 use Rattle.elf32_read.specs.Elf.{Elf}
 use Rattle.templates.specs.declared.plans.PlanEntry.{PlanEntry}
 use Rattle.jump_map.specs.Image.{IsRewriting}
 use Rattle.judged_files.specs.rewriting_law.Bounds.{RunsRewritten}
 use Rattle.smp_sim.specs.lane_model.Nodes.{LaneWork, processors}
-use Rattle.smp_sim.specs.lane_model.Core.{LaneEvent, IsLaneRun, opening_core as opening_lanes, after as after_lanes}
+use Rattle.smp_sim.specs.lane_model.Core.{LaneCore, LaneEvent, IsLaneRun, event_step, opening_core as opening_lanes, after as after_lanes}
 use Rattle.smp_sim.specs.lane_law.Law.{RunsOnLanes, Interleaves, AllLicensed, IsCoherent, SameReservations, StopsAtBudget, AreEmpty, original_after, AreAllOver as AreLanesOver}
 use Rattle.smp_sim.specs.smp_core.CoreParts.{work_with}
 use Rattle.smp_sim.specs.ByOrder.{IsLaneOutcomeByOrder}
@@ -83,6 +83,13 @@ pub record HaveLaneLaws : Type 0 where
       (after_lanes w (opening_lanes w) events)
       → AreEmpty w (after_lanes w (opening_lanes w) events))
 
+-- the front of a run is a run
+lane_run_front : (w : LaneWork) (before behind : List LaneEvent) (c : LaneCore)
+    → IsLaneRun w c (before ++ behind) → IsLaneRun w c before
+lane_run_front w [] behind c may = tt
+lane_run_front w (e ∷ es) behind c may =
+    (may.0, lane_run_front w es behind (event_step w c e) may.1)
+
 runs_on_lanes : (w : LaneWork) (plan : List PlanEntry) → RunsRewritten w.work → 0 < w.lanes
     → w.lanes ≤ 4 → processors w ≤ 16 → IsRewriting w.work.program plan w.work.image
     → RunsOnLanes w plan
@@ -102,6 +109,10 @@ whole_on_lanes : (w : LaneWork) (plan : List PlanEntry) (order : ℕ) (o : Outco
 whole_on_lanes w plan order o laws runs ran =
     let events = ran.events in
     let is_run = ran.run.is_run in
+    let front : (before behind : List LaneEvent) → before ++ behind ≡ events
+    → IsLaneRun w (opening_lanes w) before =
+    λ before behind is. lane_run_front w before behind (opening_lanes w)
+    (subst (IsLaneRun w (opening_lanes w)) (sym is) is_run) in
     let same : Interleaves w plan events = laws.law w plan events runs is_run in
     record {
       run = is_run;
@@ -111,8 +122,9 @@ whole_on_lanes w plan order o laws runs ran =
       original = same;
       output = ran.outcome.output ∙ sym same.output;
       licensed = laws.licensed w plan events runs is_run;
-      coherent = laws.coherent w plan events runs is_run;
-      reservations = laws.reservations w plan events runs is_run;
+      coherent = λ before behind is. laws.coherent w plan before runs (front before behind is);
+      reservations = λ before behind is.
+          laws.reservations w plan before runs (front before behind is);
       stopped = laws.stopped w plan events runs is_run;
       empty = laws.empty w plan events runs is_run ran.run.over;
     }

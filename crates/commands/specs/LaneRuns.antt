@@ -1,5 +1,5 @@
 -- When events are a whole run of an executable's rewritten code on nodes of several processors.
-use Rattle.std.specs.Prelude.{◌≡◌, ℕ, List, Some, map}
+use Rattle.std.specs.Prelude.{◌≡◌, ℕ, List, ◌++◌, Some, map}
 use Rattle.elf32_read.specs.Elf.{Elf}
 use Rattle.templates.specs.declared.plans.PlanEntry.{PlanEntry}
 use Rattle.node_model.specs.Outcome.{Outcome}
@@ -21,13 +21,13 @@ pub record IsWholeLaneRun (w : LaneWork) (plan : List PlanEntry) (events : List 
   -- same values read, the same bytes printed, and the same exits
   pub original : Interleaves w plan events
   pub output : o.output ≡ (original_after w plan events).output
-  -- each word that commits makes a licensed access, the nodes' copies are coherent with that memory,
-  -- and the processors have the same addresses reserved there
+  -- each word that commits makes a licensed access, and at every moment the nodes' copies are
+  -- coherent with that memory, and the processors have the same addresses reserved there
   pub licensed : AllLicensed w plan (opening_core w) events
-  pub coherent : IsCoherent w (after w (opening_core w) events)
-      (original_after w plan events).shared
-  pub reservations : SameReservations w (after w (opening_core w) events)
-      (original_after w plan events)
+  pub coherent : (before behind : List LaneEvent) → before ++ behind ≡ events
+      → IsCoherent w (after w (opening_core w) before) (original_after w plan before).shared
+  pub reservations : (before behind : List LaneEvent) → before ++ behind ≡ events
+      → SameReservations w (after w (opening_core w) before) (original_after w plan before)
   -- a processor is stopped only where it has executed the whole budget
   pub stopped : StopsAtBudget w (after w (opening_core w) events)
   -- at the end no list holds a message

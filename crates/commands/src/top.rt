@@ -69,7 +69,10 @@ pub fn shasta<R: Threads + Wait + Sync, F: Files, O: Sink, E: Sink, G: Gate + Sy
         → Prints c contents (F.state files.new) (O.state out.old) (O.state out.new) result }
     ensures quiet { result ≤ 1 → (E.state err.new).taken ≡ (E.state err.old).taken }
     // So the text of `one`, `sim`, `run` and `replay` tells of the original alone: of a run of its
-    // processors on one memory, interleaved instruction by instruction.
+    // processors on one memory, interleaved instruction by instruction. A processor without an exit
+    // has made steps there: of `one` as many as the budget, of the others at least one for each 40
+    // words of the budget; for nodes of several processors no number is promised. The run of
+    // `replay` has the processors, the budget and the blocks of the record.
     ensures interleaved { (c : Asked) (contents : List ℕ → List ℕ) → Asks words.now c
         → AreTold c (F.state files.old) contents → result ≤ 1
         → PrintsOriginal c contents (O.state out.old) (O.state out.new) }

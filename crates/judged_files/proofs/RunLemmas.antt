@@ -219,8 +219,10 @@ module _ (choice : Choice) (file : List ℕ) (budget : ℕ) (elf : Elf) (plan : 
           output = outcome.output ∙ sym same.output;
           licensed = laws.licensed work plan events r.accepted r.valid r.over rewriting
               stands.is_run;
-          coherent = laws.coherent work plan events r.accepted r.valid r.over rewriting
-              stands.is_run;
+          coherent = λ before behind is.
+              laws.coherent work plan before r.accepted r.valid r.over rewriting
+              (run_front work before behind (opening_core work)
+              (subst (IsCoreRun work (opening_core work)) (sym is) stands.is_run));
           stopped = λ i b low phase. laws.stopped work events i b stands.is_run phase;
           steps = λ i b low phase. laws.steps work plan events i b r.accepted r.valid r.over rewriting
               stands.is_run low phase;

@@ -32,11 +32,12 @@ pub record IsWholeRun (work : Work) (plan : List PlanEntry) (events : List Event
   -- values read, the same bytes printed, and the same exits
   pub original : Interleaves work plan events
   pub output : o.output ≡ (original_after work plan events).output
-  -- each word that commits makes a licensed access, and the nodes' copies are coherent with that
-  -- memory
+  -- each word that commits makes a licensed access, and at every moment the nodes' copies are
+  -- coherent with that memory
   pub licensed : AllLicensed work plan (opening_core work) events
-  pub coherent : IsCoherent work (after work (opening_core work) events)
-      (original_after work plan events).shared
+  pub coherent : (before behind : List Event) → before ++ behind ≡ events
+      → IsCoherent work (after work (opening_core work) before)
+      (original_after work plan before).shared
   -- a processor is stopped only where it has executed the whole budget
   pub stopped : (i b : ℕ) → i < work.layout.nodes
       → ((after work (opening_core work) events).nodes i).phase ≡ Ended (Stopped b)
