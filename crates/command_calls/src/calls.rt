@@ -179,7 +179,25 @@ pub struct Answer<'a> {
     pub err: &'a str,
 }
 
+/// Fails the test where bytes are another text than this.
+pub fn expect_text(bytes: &[u8], wanted: &str) -> Result<(), Fail> {
+    let text = from_utf8(bytes)?;
+    if text == wanted {
+        return Ok(());
+    }
+    Err(Fail::new(format_args!("{text}")))
+}
+
 impl Called {
+    /// Fails the test where the call of these words didn't do its work, or put other bytes.
+    pub fn expect_bytes(&self, words: &str, out: &[u8]) -> Result<(), Fail> {
+        if self.status == 0 && self.out.as_slice() == out && self.err.is_empty() {
+            return Ok(());
+        }
+        let status = self.status;
+        Err(Fail::new(format_args!("{words}: {status}")))
+    }
+
     /// Fails the test where the call of these words answered otherwise.
     pub fn expect(&self, alloc: Global, words: &str, answer: &Answer<'_>) -> Result<(), Fail> {
         let out = from_utf8(&self.out)?;

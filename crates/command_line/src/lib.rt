@@ -21,8 +21,6 @@ use table::{CommandWord, Kind, Role, Setting};
 mod number;
 mod parsing;
 mod table;
-#[cfg(test)]
-mod tests;
 mod view;
 
 pub use view::{View, view_of};

@@ -34,9 +34,7 @@ fn counts_on_one_node(rt: HostRuntime) -> Result<(), Fail> {
         "sim IN --per-node 2 --order 4294967295 --no-batch",
     ] {
         let called = call(&rt, sure(&[("IN", &file)]), line, "", &Watch::new(false))?;
-        assert_eq!(rt; called.status, 0, "at {line}");
-        assert_eq!(rt; called.out.as_slice(), wanted.as_slice(), "at {line}");
-        assert_eq!(rt; called.err.len(), 0, "at {line}");
+        called.expect_bytes(line, &wanted)?;
     }
     Ok(())
 }

@@ -20,6 +20,8 @@ mod lanes;
 #[cfg(test)]
 mod layouts;
 #[cfg(test)]
+mod lines;
+#[cfg(test)]
 mod losses;
 #[cfg(test)]
 mod multiply;

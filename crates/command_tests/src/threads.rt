@@ -88,8 +88,10 @@ fn makes_events_in_threads(rt: HostRuntime) -> Result<(), Fail> {
             runs_through = runs_through.saturating_add(1);
         }
     }
-    assert!(rt; runs_through > 0);
-    Ok(())
+    if runs_through > 0 {
+        return Ok(());
+    }
+    Err(Fail::from("no run in which node 1 made its events"))
 }
 
 /// Calls the program with these words on two processors that count, and fails the test where it
@@ -100,12 +102,16 @@ pub fn try_counting(
     words: &str,
     gate: &Watch,
 ) -> Result<(), Fail> {
-    let called = call(rt, sure(&[("IN", file)]), words, "", gate)?;
-    if called.status == 0 && called.out.as_slice() == COUNTED && called.err.is_empty() {
+    call(rt, sure(&[("IN", file)]), words, "", gate)?.expect_bytes(words, COUNTED)
+}
+
+/// Fails the test where one of two nodes came by the gate less than ten times.
+fn try_passed(gate: &Watch) -> Result<(), Fail> {
+    let [home, other] = gate.calls();
+    if home >= 10 && other >= 10 {
         return Ok(());
     }
-    let status = called.status;
-    Err(Fail::new(format_args!("{words}: {status}")))
+    Err(Fail::new(format_args!("{home} {other}")))
 }
 
 /// The words that run two nodes in threads.
@@ -119,13 +125,13 @@ fn passes_the_gate_before_each_event(rt: HostRuntime) -> Result<(), Fail> {
     for words in ["one IN --nodes 2", "sim IN --nodes 2 --brief"] {
         let gate = Watch::new(false);
         try_counting(&rt, &file, words, &gate)?;
-        assert!(rt; gate.calls() == [0, 0], "{words}");
+        if gate.calls() != [0, 0] {
+            return Err(Fail::new(format_args!("{words}")));
+        }
     }
     let gate = Watch::new(false);
     try_counting(&rt, &file, RUN, &gate)?;
-    let [home, other] = gate.calls();
-    assert!(rt; home >= 10 && other >= 10, "{home} {other}");
-    Ok(())
+    try_passed(&gate)
 }
 
 /// Two nodes count where node 0 is held back until node 1 has made an event.
@@ -134,10 +140,10 @@ fn counts_behind_a_gate_that_holds(rt: HostRuntime) -> Result<(), Fail> {
     let file = executable(rt.alloc(), COUNTS, b"", 128)?;
     let gate = Watch::new(true);
     try_counting(&rt, &file, RUN, &gate)?;
-    assert!(rt; !gate.is_late(), "node 1 made no event");
-    let [home, other] = gate.calls();
-    assert!(rt; home >= 10 && other >= 10, "{home} {other}");
-    Ok(())
+    if gate.is_late() {
+        return Err(Fail::from("node 1 made no event"));
+    }
+    try_passed(&gate)
 }
 
 /// The text of `sim`, words that lack the record of two nodes, a node that takes messages at its
@@ -210,9 +216,11 @@ fn writes_bytes_that_another_stores(rt: HostRuntime) -> Result<(), Fail> {
     let held = [("IN", file.as_slice()), ("BLOCKS", BLOCKS.as_bytes())];
     let line = "run IN --nodes 2 --record R --layout BLOCKS --brief";
     let called = call(&rt, sure(&held), line, "R", &Watch::new(false))?;
-    let out = from_utf8(&called.out)?;
-    assert!(rt; called.status == 0 && is_mixed(out), "{out}");
-    let text = from_utf8(&called.written)?;
-    assert!(rt; text.contains(RECORDED), "{text}");
-    Ok(())
+    if called.status == 0
+        && is_mixed(from_utf8(&called.out)?)
+        && from_utf8(&called.written)?.contains(RECORDED)
+    {
+        return Ok(());
+    }
+    Err(Fail::from("other bytes, or another record"))
 }

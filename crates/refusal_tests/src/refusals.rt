@@ -365,7 +365,8 @@ fn tells_the_lowest_refusal(rt: HostRuntime) -> Result<(), Fail> {
     Ok(())
 }
 
-/// What a program is refused for is told before its rewritten words are counted.
+/// What a program is refused for is told before its rewritten words are counted; and they aren't
+/// counted where a file is to be verified, which here says no plan.
 #[test]
 fn counts_the_words_last(rt: HostRuntime) -> Result<(), Fail> {
     let many = file_of(rt.alloc(), MANY)?;
@@ -374,5 +375,11 @@ fn counts_the_words_last(rt: HostRuntime) -> Result<(), Fail> {
         break_by(&mut file, rule);
         try_refused(&rt, &file, "run IN", rule.line)?;
     }
-    try_refused(&rt, &many, "run IN", "20 CodeTooLarge 4230005 words")
+    try_refused(&rt, &many, "run IN", "20 CodeTooLarge 4230005 words")?;
+    let answer = Answer {
+        status: 4,
+        out: &[],
+        err: "shasta: code refused 50 NoPlan\n",
+    };
+    try_held(&rt, &[("IN", &many)], &["run IN --verify IN"], &answer)
 }
