@@ -1,0 +1,268 @@
+"""The specification as a book: definitions in an order in which nothing is used before it stands,
+in chapters. For .ci/reached."""
+import re, textwrap
+
+from definitions import NAME, ghost
+
+# Of each chapter its title, what it is about, and the crates, or single modules, that stand in it.
+# What is named here comes later where it uses something of a later chapter; and what isn't named
+# comes in the first chapter in which all that it uses stands.
+CHAPTERS = (
+    ("Words and instructions",
+     "A word of 32 bits is an instruction where a row of a table fits it. Operations are what "
+     "instructions compute.",
+     ("rv32_decode", "rv32_ops")),
+    ("A program and its file",
+     "A program is the class of each line of 64 bytes, the instruction at each code word, the "
+     "first content of each byte, and an entry. An ELF file is read as an executable, and an "
+     "executable as a program; each may be refused by a rule. A layout forms blocks of the shared "
+     "lines.",
+     ("rv32_program", "elf32_read", "byte_range", "block_layout.Layout", "exec_map")),
+    ("One memory and its steps",
+     "The processors of a program share one memory. A step is one instruction of one processor, or "
+     "one byte of a write call. Between steps a reservation may break, as the manual lets it.",
+     ("rv32_decode.Registers", "llsc", "rv32_step", "one_memory")),
+    ("What is printed",
+     "A text has the bytes that the processors printed, and a line for each processor.",
+     ("rv32_text", "node_model", "dsm_io", "judged_files.Text", "commands.Processors",
+      "commands.Text")),
+    ("What words ask for",
+     "The words of a command line ask for a command, and a command reads files.",
+     ("command_line", "judged_files", "commands", "block_layout.Text")),
+    ("The clause",
+     "What the text of a command says of the original program.",
+     ("judged_files.Executables", "judged_files.Layouts", "commands.Interleaved")),
+)
+CLAUSE_SAYS = (
+    "From the contract of `shasta`, in [src/top.rt](../crates/commands/src/top.rt). `words` are "
+    "the words of the command line, `files` and `out` what the call reads from and prints to, "
+    "before it (`.old`) and behind it (`.new`); `F.state` and `O.state` are what contracts see of "
+    "these two, and `result` is the status. `Asked` is `Command` of command_line.")
+WIDTH = 100
+
+
+def wrapped(text):
+    return textwrap.wrap(text, WIDTH, break_long_words=False, break_on_hyphens=False)
+
+
+def entries_of(lines):
+    """What stands between the braces of a type of the code: each field or variant on one line,
+    with the lines of its comment before it."""
+    found, comment, text = [], [], ""
+    for line in lines:
+        code, _, note = line.strip().partition("//")
+        if not code and note:
+            comment.append(f"//{note}")
+            continue
+        text = f"{text} {code.strip().removeprefix('pub ')}".strip()
+        if text.endswith(",") and text.count("{") == text.count("}"):
+            found.append((comment, re.sub(r", \}", " }", text)))
+            comment, text = [], ""
+    return found
+
+
+def laid_out(lines):
+    """A type of the code, with as many of its fields or variants on a line as it has room for."""
+    head = re.sub(r"^pub(\(crate\))? ", "", lines[0])
+    if len(lines) == 1:
+        return [head]
+    entries = entries_of(lines[1:-1])
+    if any(comment for comment, _ in entries):
+        inner = [f"    {line}" for comment, text in entries for line in [*comment, text]]
+        return [head, *inner, "}"]
+    text = " ".join(text for _, text in entries)
+    whole = f"{head} {text.removesuffix(',')} }}"
+    if len(whole) <= WIDTH:
+        return [whole]
+    inner = textwrap.wrap(text.replace("{ ", "{~").replace(" }", "~}"), WIDTH - 4)
+    return [head, *("    " + line.replace("~", " ") for line in inner), "}"]
+
+
+def listed(names):
+    return " and ".join(filter(None, [", ".join(names[:-1]), names[-1]]))
+
+
+class Book:
+    """These definitions, by place, in chapters and in order."""
+
+    def __init__(self, sources, crates, places):
+        self.sources, self.crates, self.places = sources, crates, places
+        self.uses = {place: list(sources.uses(found)) for place, found in places.items()}
+        self.named = {}
+        for found in places.values():
+            for name in {found.name, *self.constructors(found)}:
+                self.named.setdefault(name, set()).add(found.place)
+        self.chapters, self.files, self.order = {}, {}, []
+        for place in sorted(places, key=self.rank):
+            self.add(place)
+
+    def constructors(self, found):
+        """The names of a type's cases."""
+        if found.is_of_code:
+            variants = re.findall(r"^    ([A-Z]\w*)", "\n".join(found.text()), flags=re.M)
+            return variants if found.kind == "enum" else []
+        file = self.sources.specs[found.crate, found.module]
+        return [name for name, owner in file.owner.items() if owner is found]
+
+    def needed(self, place):
+        return [found.place for _, found in self.uses[place]
+                if found != "std" and found.place != place]
+
+    def chapter(self, place):
+        """The chapter of what stands at a place, as a number."""
+        if place not in self.chapters:
+            self.chapters[place] = 0
+            found = self.places[place]
+            names = (f"{found.crate}.{found.module}", found.crate)
+            own = [i for name in names for i, (_, _, inside) in enumerate(CHAPTERS)
+                   if name in inside]
+            later = [self.chapter(other) for other in self.needed(place)]
+            self.chapters[place] = max([*own[:1], *later], default=0)
+        return self.chapters[place]
+
+    def rank(self, place):
+        """By chapter, then by crate and by file as these depend on one another, then as in the
+        file. Types of the code come where they are first used."""
+        found = self.places[place]
+        if found.is_of_code:
+            return len(CHAPTERS), 0, 0, 0, place
+        file = self.sources.specs[found.crate, found.module]
+        if found.crate not in self.files:
+            self.files[found.crate] = self.files_of(found.crate)
+        return (self.chapter(place), self.crates.index(found.crate),
+                self.files[found.crate].index(found.module),
+                list(file.definitions).index(found.name), place)
+
+    def files_of(self, crate):
+        """A crate's files as specs/Lib.antt lists them, each behind those that it uses."""
+        library = self.sources.specs[crate, "Lib"]
+        order = []
+
+        def visit(module):
+            file = self.sources.specs.get((crate, module))
+            if file is None or module in order or module in visiting:
+                return
+            visiting.add(module)
+            for path in file.imports.values():
+                if path[0] == crate:
+                    visit(".".join(path[1:-1]))
+            order.append(module)
+
+        visiting = set()
+        inner = [module for owner, module in self.sources.specs if owner == crate]
+        for module in [*library.modules, *inner]:
+            visit(module)
+        return order
+
+    def add(self, place):
+        """Puts what stands at a place behind all that it uses."""
+        if place in self.order:
+            return
+        for other in self.needed(place):
+            self.add(other)
+        if place not in self.order:
+            self.order.append(place)
+
+    def sections(self):
+        """The places by chapter and file: a type of the code goes with what stands behind it."""
+        found, waiting = [], []
+        for place in self.order:
+            waiting.append(place)
+            if self.places[place].is_of_code and place != self.order[-1]:
+                continue
+            key = (self.chapter(place), *place[:2])
+            if found and found[-1][0] == key:
+                found[-1][1].extend(waiting)
+            else:
+                found.append((key, waiting))
+            waiting = []
+        return found
+
+    def words_of_std(self):
+        """The words of std that are used."""
+        return {token.split(".")[0] for uses in self.uses.values() for token, found in uses
+                if found == "std" and re.fullmatch(NAME, token.split(".")[0])}
+
+    def lines(self, clause):
+        """The text of the book, ended by the clause."""
+        lines, chapter = [], None
+        for (number, crate, file), places in self.sections():
+            if number != chapter:
+                title, says, _ = CHAPTERS[number]
+                lines += [f"## {number + 1}. {title}", "", *wrapped(says), ""]
+                chapter = number
+            lines += self.section(crate, file, places)
+        return [*lines, "### The clause as it stands", "", *wrapped(CLAUSE_SAYS), "",
+                "```", *clause, "```"]
+
+    def length(self):
+        """How many lines the book has without comments."""
+        return sum(len([line for line in self.shown(found) if not re.match(r" *(--|//)", line)])
+                   for found in self.places.values())
+
+    def section(self, crate, file, places):
+        module = self.places[places[-1]].module
+        title = re.sub(r"(?<=[a-z])(?=[A-Z])", " ", module) or "types"
+        says = self.sources.specs[crate, module].says if file.startswith("specs/") else []
+        link = f"[{crate}/{file}](../crates/{crate}/{file})"
+        lines = [f"### {crate}: {title}", "", *wrapped(" ".join([*says, link])), ""]
+        notes = self.notes(crate, module, places)
+        if notes:
+            lines += [*wrapped(f"Names here: {'; '.join(notes)}."), ""]
+        return [*lines, *self.code(places)]
+
+    def code(self, places):
+        """The texts in blocks: those of specs/, and those of the code."""
+        lines, within = [], ""
+        for before, place in zip([None, *places], places):
+            found = self.places[place]
+            if before is None or self.places[before].is_of_code != found.is_of_code:
+                lines += ["```", ""] if before else []
+                lines.append("```rust" if found.is_of_code else "```")
+            else:
+                lines.append("")
+            if found.within and found.within != within:
+                lines += [found.within, ""]
+            within = found.within
+            indent = "  " if within else ""
+            lines += [indent + line for line in [*found.comment, *self.shown(found)]]
+        return [*lines, "```", ""]
+
+    def shown(self, found):
+        """A definition's lines; of a type with a model what contracts see of it."""
+        if not found.is_of_code:
+            return found.lines
+        model = self.sources.code[found.crate, found.module].model_of(found.name)
+        if not model:
+            return laid_out(found.lines)
+        head = re.sub(r"^pub(\(crate\))? ", "", found.lines[0]).removesuffix(" {")
+        return [f"{head}  // seen as {ghost(model, 'Value')}"]
+
+    def notes(self, crate, module, places):
+        """What names stand for that are other ones where they are defined, or that several things
+        in the book have."""
+        file = self.sources.specs.get((crate, module))
+        if not file:
+            return []
+        notes, of_owner = {}, {}
+        uses = [use for place in places if not self.places[place].is_of_code
+                for use in self.uses[place]]
+        for token, found in uses:
+            first = token.split(".")[0]
+            if found == "std" or first in file.owner or first not in file.imports:
+                continue
+            own = file.imports[first][-1]
+            if own == "TheVariants":
+                notes[first] = f"`{first}.X` is `X` of `{found.name}`"
+            elif own != first:
+                notes[first] = f"`{first}` is `{own}` of {self.owner(own, found)}"
+            elif len(self.named.get(first, ())) > 1 and own != found.name:
+                of_owner.setdefault(f"`{found.name}`", {})[f"`{first}`"] = None
+            elif len(self.named.get(first, ())) > 1:
+                of_owner.setdefault(self.owner(own, found), {})[f"`{first}`"] = None
+        return [*(f"{listed([*names])} {'is' if len(names) == 1 else 'are'} of {owner}"
+                  for owner, names in of_owner.items()), *notes.values()]
+
+    def owner(self, name, found):
+        """The type of which a name is a case; or the crate where it stands."""
+        return f"`{found.name}`" if name != found.name else found.crate
