@@ -15,7 +15,7 @@ here = pathlib.Path(__file__).resolve().parent
 program = sys.argv[1]
 ROUNDS = int(sys.argv[2]) if len(sys.argv) > 2 else 5
 BUDGET = str(2**32 - 1)
-NAMES = ("sort", "matrix", "sieve", "strings", "crc", "structs")
+NAMES = ("sort", "matrix", "pack", "strings", "crc", "structs")
 
 def called(words):
     """The processor time of a call, and what it said."""
