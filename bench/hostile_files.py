@@ -19,7 +19,7 @@ sys.path.insert(0, str(here / "hostile"))
 import judge
 
 EXAMPLES = here.parent / "examples"
-NAMES = ("hi", "counter", "exits", "greeting", "lock", "queue", "sieve", "sort", "sum", "tally")
+NAMES = ("hi", "counter", "exits", "greeting", "lock", "queue", "divisors", "sort", "sum", "tally")
 STEPS = 2000
 # A processor that is stopped has made a step for each 40 words.
 WORDS = 40 * STEPS + 1000

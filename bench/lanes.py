@@ -12,7 +12,7 @@ processors of a node save by sharing its copy."""
 import pathlib, re, subprocess, sys
 
 bench = pathlib.Path(__file__).resolve().parent
-NAMES = ("sum", "sort", "lock", "tally", "queue", "matrix", "sieve", "checksum")
+NAMES = ("sum", "sort", "lock", "tally", "queue", "matrix", "divisors", "checksum")
 SHAPES = [(nodes, lanes) for lanes in (1, 2, 3, 4) for nodes in range(1, 16 // lanes + 1)]
 
 

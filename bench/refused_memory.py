@@ -1,7 +1,7 @@
 #!/usr/bin/env python3
 """Refuses the built program each of its allocations in turn, and judges each answer.
 
-    bench/refused_memory.py PROGRAM
+    bench/refused_memory.py PROGRAM [VIEWER]
 
 Each command is called once for each number, where the allocation of that number is refused
 (refuse.c, which stands in for malloc and realloc), until none is refused any more. An answer is
@@ -10,24 +10,35 @@ and the file that the command writes is whole; or else the status is 5 with its 
 printed is the beginning of the text, and that file holds what it held or is whole. Every other file
 is as before. A record is whole where a replay of it prints the text. Each command has a line of
 counts; an answer that doesn't fit is told, and makes the status 1. Then each command must answer
-the same where no thread can be started. It needs cc."""
+the same where no thread can be started. VIEWER is the built shasta_view, whose `page` is tried
+likewise. It needs cc."""
 import collections, os, pathlib, struct, subprocess, sys, tempfile
 
 here = pathlib.Path(__file__).resolve().parent
 OLD = b"what was there before"
 LINE = b"shasta: out of memory\n"
-SECONDS = 20
+SECONDS = 60
 
 # Processor 1 reads a word that processor 0 has; and a program that writes its three bytes of data.
 READS = "000202b7 00050463 0002a303 00000513 05d00893 00000073"
 HI = "000205b7 00100513 00300613 04000893 00000073 00000513 05d00893 00000073"
 
-# A command, and the file that it writes.
+TEXT = b""".segment rx 0x10000
+addi x10, x0, 0
+addi x17, x0, 93
+last:
+ecall
+jal x0, last
+"""
+
+# A command, and the file that it writes; `page` is the viewer's.
 COMMANDS = (("run READS --nodes 2 --record OUT", "OUT"), ("rewrite HI OUT", "OUT"),
             ("run READS --nodes 5 --record OUT", "OUT"), ("run HI --code CODE", None),
             ("run HI --record OUT", "OUT"),
             ("sim READS --nodes 2 --layout LAYOUT", None), ("replay READS RECORD", None),
-            ("one READS --nodes 2", None), ("list HI", None), ("gen 0 OUT", "OUT"))
+            ("one READS --nodes 2", None), ("list HI", None), ("gen 0 OUT", "OUT"),
+            ("run READS --nodes 4 --record OUT", "OUT"), ("asm TEXT OUT", "OUT"),
+            ("page READS RECORD OUT", "OUT"))
 
 
 def executable(words, data, size):
@@ -42,16 +53,17 @@ def executable(words, data, size):
 
 
 class Tries:
-    """The program, in a folder of its own."""
+    """The program and the viewer, in a folder of their own."""
 
-    def __init__(self, program, folder):
-        self.program, self.folder, self.library = program, folder / "files", folder / "refuse.so"
+    def __init__(self, program, viewer, folder):
+        self.program, self.viewer = program, viewer
+        self.folder, self.library = folder / "files", folder / "refuse.so"
         self.told = folder / "told"
         self.folder.mkdir()
         subprocess.run(["cc", "-shared", "-fPIC", "-o", self.library, here / "refuse.c", "-ldl"],
                        check=True)
         self.files = {"READS": executable(READS, b"\7\0\0\0", 64), "HI": executable(HI, b"hi\n", 3),
-                      "LAYOUT": b"0x20000 0x40 64 0\n", "OUT": OLD}
+                      "LAYOUT": b"0x20000 0x40 64 0\n", "TEXT": TEXT, "OUT": OLD}
         self.files["CODE"] = self.call("rewrite HI OUT", 0)[1]["OUT"]
         self.files["RECORD"] = self.call("run READS --nodes 2 --record OUT", 0)[1]["OUT"]
 
@@ -64,7 +76,8 @@ class Tries:
         self.told.unlink(missing_ok=True)
         environment = {**os.environ, "REFUSE": str(number), "REFUSED": str(self.told),
                        "LD_PRELOAD": str(self.library), **more}
-        made = subprocess.run([self.program, *words.split()], cwd=self.folder, env=environment,
+        program = self.viewer if words.startswith("page") else self.program
+        made = subprocess.run([program, *words.split()], cwd=self.folder, env=environment,
                               capture_output=True, timeout=SECONDS)
         held = {path.name: path.read_bytes() for path in self.folder.iterdir()}
         return (made.returncode, made.stdout, made.stderr), held
@@ -101,10 +114,13 @@ class Tries:
 
 
 def main():
-    program, wrong = pathlib.Path(sys.argv[1]).resolve(), 0
+    program, viewer, *_ = [pathlib.Path(name).resolve() for name in sys.argv[1:]] + [None]
+    wrong = 0
     with tempfile.TemporaryDirectory() as folder:
-        tries = Tries(program, pathlib.Path(folder))
+        tries = Tries(program, viewer, pathlib.Path(folder))
         for words, name in COMMANDS:
+            if words.startswith("page") and viewer is None:
+                continue
             whole, held = tries.call(words, 0)
             if whole[0] not in (0, 1) or whole[2]:
                 sys.exit(f"{words}: {whole}")
@@ -126,4 +142,5 @@ def main():
     return 1 if wrong else 0
 
 
-sys.exit(main())
+if __name__ == "__main__":
+    sys.exit(main())

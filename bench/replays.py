@@ -11,7 +11,7 @@ there were."""
 import concurrent.futures, pathlib, subprocess, sys, tempfile
 
 bench = pathlib.Path(__file__).resolve().parent
-NAMES = ("counter", "lock", "queue", "tally", "sum", "sieve", "matrix", "checksum", "exits")
+NAMES = ("counter", "lock", "queue", "tally", "sum", "divisors", "matrix", "checksum", "exits")
 PROGRAMS = [(bench.parent / f"examples/{name}.elf", []) for name in NAMES]
 PROGRAMS += [(file, ["--budget", "3000000"]) for file in sorted((bench / "threads").glob("*.elf"))]
 

@@ -1,0 +1,75 @@
+#!/usr/bin/env python3
+"""Builds the kernels of programs/ and runs each in every way there is.
+
+    bench/kernels.py PROGRAM [ORDERS [NAME..]]
+
+PROGRAM is the shasta that was built; NAME is a kernel (all), ORDERS how many orders of `sim` are tried
+(10). Each kernel runs by `one`; by `sim` under the orders; by `sim` with losses on 4 nodes; by `sim` on
+nodes of two processors; and by `run`, each time with a replay of its record, on 1, 2, 4, 8 and 16
+nodes. Each run must print what `one` prints on one processor, and end with 0 everywhere; a replay what
+its run printed. The script tells what differs, then how many messages `sim` on 4 nodes takes by order
+0, with lines of 64 bytes and with the layout of programs/NAME.layout where there is one."""
+import pathlib, re, subprocess, sys, tempfile
+
+root = pathlib.Path(__file__).resolve().parent.parent
+BUILD = ["riscv64-unknown-elf-gcc", f"--specs={root}/runtime/shasta.specs", "-DINTEGER_PRINTF", "-O2",
+         "-Wl,--defsym=__heap_size=0x10000"]
+NODES = ("1", "2", "4", "8", "16")
+LOSSES = ("0", "5", "77")
+BUDGET = ["--budget", "4294967295"]
+
+
+def said(program, *words):
+    """The output of a call, without the ends; None where some processor didn't end with 0."""
+    call = subprocess.run([program, *words, *BUDGET], capture_output=True)
+    if call.returncode != 0:
+        return None
+    head, _, rest = call.stdout.partition(b"\n")
+    return rest[: int(head.split()[1])]
+
+
+def differing(program, file, orders):
+    """The ways in which a kernel prints otherwise than alone, and how many runs there were."""
+    alone = said(program, "one", file)
+    ways = [["one", file, "--nodes", n] for n in NODES]
+    ways += [["sim", file, "--nodes", n, "--order", str(k)] for n in NODES for k in range(orders)]
+    ways += [["sim", file, "--nodes", "4", "--loss", loss] for loss in LOSSES]
+    ways += [["sim", file, "--nodes", n, "--per-node", "2"] for n in NODES[:4]]
+    differ = [way for way in ways if said(program, *way) != alone or alone is None]
+    for n in NODES:
+        way = ["run", file, "--nodes", n, "--record", f"{file}.run", "--brief", *BUDGET]
+        run = subprocess.run([program, *way], capture_output=True)
+        again = subprocess.run([program, "replay", file, f"{file}.run", "--brief"], capture_output=True)
+        if run.returncode != 0 or alone not in run.stdout or again.stdout != run.stdout:
+            differ.append(way)
+    return differ, len(ways) + 2 * len(NODES)
+
+
+def messages(program, file, *layout):
+    """How many messages four nodes send."""
+    call = subprocess.run([program, "sim", file, "--nodes", "4", *layout, *BUDGET],
+                          capture_output=True, text=True)
+    return sum(map(int, re.findall(r"messages (\d+)$", call.stdout, re.M)))
+
+
+def main():
+    program = str(pathlib.Path(sys.argv[1]).resolve())
+    orders = int(sys.argv[2]) if len(sys.argv) > 2 else 10
+    names = sys.argv[3:] or sorted(path.stem for path in (root / "programs").glob("*.c"))
+    failed = 0
+    for name in names:
+        with tempfile.TemporaryDirectory() as folder:
+            file = f"{folder}/{name}.elf"
+            subprocess.run([*BUILD, root / f"programs/{name}.c", "-o", file], check=True)
+            differ, runs = differing(program, file, orders)
+            failed += len(differ)
+            for way in differ:
+                print(f"{name}: {' '.join(way)} prints otherwise")
+            layout = root / f"programs/{name}.layout"
+            with_layout = messages(program, file, "--layout", layout) if layout.is_file() else ""
+            print(f"{name}: {runs} runs, {len(differ)} differ; messages {messages(program, file)}, "
+                  f"with its layout {with_layout}", flush=True)
+    return 1 if failed else 0
+
+
+sys.exit(main())
