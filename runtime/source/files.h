@@ -1,0 +1,14 @@
+/* A file that is linked in, in read-only memory. */
+#ifndef FILES_H
+#define FILES_H
+
+struct linked_file {
+    const char *name;
+    const unsigned char *bytes;
+    unsigned length;
+};
+
+/* The program's, ended by one without a name. */
+extern const struct linked_file linked_files[];
+
+#endif
