@@ -8,15 +8,15 @@ use Rattle.templates.specs.Code.{Ascends, code_of}
 use Rattle.templates.specs.declared.reaches.Reach.{Reach}
 use Rattle.templates.specs.Runs.{code_from, reach_at, has_access, IsRun}
 use Rattle.templates.specs.WholePlan.{IsLongestRun}
-use Rattle.batch_plan.specs.declared.runs.Run.{Run}
-use Rattle.batch_plan.specs.declared.stretches.Stretch.{Stretch}
+use Rattle.batch_plan.specs.declared.runs.BatchRun.{BatchRun}
+use Rattle.batch_plan.specs.declared.stretches.RunPrefix.{RunPrefix}
 use Rattle.batch_plan.specs.Batches.{IsRunBy}
-use Rattle.batch_plan.specs.Stretches.{IsStretch, IsStretchOf}
+use Rattle.batch_plan.specs.Stretches.{IsRunPrefix, IsStretchOf}
 use Rattle.batch_plan.proofs.ReachLemmas.{le_of, of_le}
 use Rattle.batch_plan.proofs.StretchLemmas.{one_coded, stretch_front, stretch_low}
 
 -- a run is a stretch
-run_stretch : (code : ℕ → Option Instr) (a n : ℕ) → IsRun code a n → IsStretch code a n
+run_stretch : (code : ℕ → Option Instr) (a n : ℕ) → IsRun code a n → IsRunPrefix code a n
 run_stretch code a n h =
     let r = reach_at code a n in
     record {
@@ -33,7 +33,7 @@ run_stretch code a n h =
     }
 
 -- a stretch that ends with an access is a run
-stretch_run : (code : ℕ → Option Instr) (a n : ℕ) → IsStretch code a n → 2 ≤ n → n ≤ 16
+stretch_run : (code : ℕ → Option Instr) (a n : ℕ) → IsRunPrefix code a n → 2 ≤ n → n ≤ 16
     → has_access (code_from code a n) (n - 1) ≡ true → IsRun code a n
 stretch_run code a n h two few ends =
     let r = reach_at code a n in
@@ -51,12 +51,12 @@ stretch_run code a n h two few ends =
     }
 
 -- the longest run of at most so many words
-pub record IsLongest (code : ℕ → Option Instr) (a n : ℕ) (r : Run) : Type 0 where
+pub record IsLongest (code : ℕ → Option Instr) (a n : ℕ) (r : BatchRun) : Type 0 where
   pub run : r.words ≢ 0 → IsRun code a r.words
   pub longest : (m : ℕ) → m ≤ n → IsRun code a m → m ≤ r.words
   pub base : r.words ≢ 0 → r.base ≡ (reach_at code a r.words).base
 
-pub no_longest : (code : ℕ → Option Instr) (a : ℕ) (r : Run) → r.words ≡ 0 → IsLongest code a 1 r
+pub no_longest : (code : ℕ → Option Instr) (a : ℕ) (r : BatchRun) → r.words ≡ 0 → IsLongest code a 1 r
 no_longest code a r none = record {
   run = λ some. absurd (some none);
   longest = λ m le h. absurd (let two = h.some in omega (arith, two, le));
@@ -64,7 +64,7 @@ no_longest code a r none = record {
 }
 
 -- the longest where the stretch is one word longer
-pub longest_ends : (code : ℕ → Option Instr) (a n : ℕ) (s : Stretch) (r : Run) → n ≢ 0 → n < 16
+pub longest_ends : (code : ℕ → Option Instr) (a n : ℕ) (s : RunPrefix) (r : BatchRun) → n ≢ 0 → n < 16
     → IsStretchOf code a (n + 1) s → s.ends ≡ true → r.words ≡ n + 1 → r.base ≡ s.reach.base
     → IsLongest code a (n + 1) r
 longest_ends code a n s r some few h ends words base = record {
@@ -79,7 +79,7 @@ longest_ends code a n s r some few h ends words base = record {
     run = stretch_run code a (n + 1) h.stretch (omega (arith, some)) (omega (arith, few))
         (sym h.ends ∙ ends)
 
-pub longest_goes_on : (code : ℕ → Option Instr) (a n : ℕ) (s : Stretch) (r : Run)
+pub longest_goes_on : (code : ℕ → Option Instr) (a n : ℕ) (s : RunPrefix) (r : BatchRun)
     → IsStretchOf code a (n + 1) s → s.ends ≡ false → IsLongest code a n r
     → IsLongest code a (n + 1) r
 longest_goes_on code a n s r h ends old = record {
@@ -95,7 +95,7 @@ longest_goes_on code a n s r h ends old = record {
 }
 
 -- no longer stretch, no longer run
-pub longest_ended : (code : ℕ → Option Instr) (a n : ℕ) (r : Run) → (IsStretch code a (n + 1) → ⊥)
+pub longest_ended : (code : ℕ → Option Instr) (a n : ℕ) (r : BatchRun) → (IsRunPrefix code a (n + 1) → ⊥)
     → IsLongest code a n r → IsLongestRun code a r.words
 longest_ended code a n r ended h = record {
   run = h.run;
@@ -107,14 +107,14 @@ longest_ended code a n r ended h = record {
   ];
 }
 
-pub longest_of_all : (code : ℕ → Option Instr) (a n : ℕ) (r : Run) → 16 ≤ n → IsLongest code a n r
+pub longest_of_all : (code : ℕ → Option Instr) (a n : ℕ) (r : BatchRun) → 16 ≤ n → IsLongest code a n r
     → IsLongestRun code a r.words
 longest_of_all code a n r many h = record {
   run = h.run;
   longest = λ m g. h.longest m (let few = g.few in omega (arith, many, few)) g;
 }
 
-pub none_at_all : (code : ℕ → Option Instr) (a : ℕ) (r : Run) → (IsStretch code a 1 → ⊥)
+pub none_at_all : (code : ℕ → Option Instr) (a : ℕ) (r : BatchRun) → (IsRunPrefix code a 1 → ⊥)
     → r.words ≡ 0 → IsLongestRun code a r.words
 none_at_all code a r ended none = record {
   run = λ some. absurd (some none);
@@ -144,19 +144,19 @@ run_word code a n h = go (code a) refl
 -- ---- whether so many words are a run
 
 -- where the front is no stretch there is no run
-pub no_run : (code : ℕ → Option Instr) (a m n : ℕ) → m ≢ 0 → m ≤ n → (IsStretch code a m → ⊥)
+pub no_run : (code : ℕ → Option Instr) (a m n : ℕ) → m ≢ 0 → m ≤ n → (IsRunPrefix code a m → ⊥)
     → IsRun code a n → ⊥
 no_run code a m n some le none h =
     none (stretch_front code a m n some le (run_stretch code a n h))
 
 -- a stretch is a run where it ends with an access, and only there
-pub run_by : (code : ℕ → Option Instr) (a n base : ℕ) (s : Stretch) → 2 ≤ n → n ≤ 16
+pub run_by : (code : ℕ → Option Instr) (a n base : ℕ) (s : RunPrefix) → 2 ≤ n → n ≤ 16
     → IsStretchOf code a n s → s.ends ≡ true → base ≡ s.reach.base → IsRunBy code a n base
 run_by code a n base s two few h ends is = record {
   run = stretch_run code a n h.stretch two few (sym h.ends ∙ ends);
   by = is ∙ ap (λ (x : Reach). x.base) h.reach;
 }
 
-pub open_end : (code : ℕ → Option Instr) (a n : ℕ) (s : Stretch) → IsStretchOf code a n s
+pub open_end : (code : ℕ → Option Instr) (a n : ℕ) (s : RunPrefix) → IsStretchOf code a n s
     → s.ends ≡ false → IsRun code a n → ⊥
 open_end code a n s h ends g = false≢true (sym ends ∙ h.ends ∙ g.ends)

@@ -8,15 +8,15 @@ use Rattle.rv32_decode.specs.declared.Instr.{Instr}
 use Rattle.templates.specs.declared.reaches.Reach.{Reach}
 use Rattle.templates.specs.Runs.{Span, span_of, is_access, is_store, reach_by, reach_of, reach_at, code_from, may_stand, has_access}
 use Rattle.templates.specs.Reaches.{access_reach, Extends, is_near}
-use Rattle.batch_plan.specs.declared.stretches.Stretch.{Stretch}
-use Rattle.batch_plan.specs.Stretches.{IsStretch, IsStretchOf}
+use Rattle.batch_plan.specs.declared.stretches.RunPrefix.{RunPrefix}
+use Rattle.batch_plan.specs.Stretches.{IsRunPrefix, IsStretchOf}
 use Rattle.batch_plan.proofs.ReachLemmas.{last_access}
 use Rattle.batch_plan.proofs.StretchLemmas.{one_word, one_is, one_front, stretch_more, words_more, shorter}
 
 -- ---- the first word
 
 pub no_access : (code : ℕ → Option Instr) (a : ℕ) (i : Instr) → code a ≡ Some i
-    → access_reach i ≡ None → IsStretch code a 1 → ⊥
+    → access_reach i ≡ None → IsRunPrefix code a 1 → ⊥
 no_access code a i is none h = go (span_of i) none (one_front code a i is h).begins
   where
     go : (o : Option Span) → option_map (λ x. reach_by (x ∷ []) (is_store i)) o ≡ None
@@ -48,7 +48,7 @@ one_reach i r e = go (span_of i) refl e
               ∙ ap (λ b. reach_by (s ∷ []) b) (or_false (is_store i)) ∙ same);
         }
 
-pub begins : (code : ℕ → Option Instr) (a : ℕ) (i : Instr) (r : Reach) (s : Stretch)
+pub begins : (code : ℕ → Option Instr) (a : ℕ) (i : Instr) (r : Reach) (s : RunPrefix)
     → code a ≡ Some i → access_reach i ≡ Some r → r.base ≢ 0 → may_stand r.base i ≡ true
     → is_near r ≡ true → s.reach ≡ r → s.ends ≡ true → IsStretchOf code a 1 s
 begins code a i r s is reaches nonzero stands near reach ends =
@@ -71,7 +71,7 @@ begins code a i r s is reaches nonzero stands near reach ends =
 
 pub begins_not : (code : ℕ → Option Instr) (a : ℕ) (i : Instr) (r : Reach) → code a ≡ Some i
     → access_reach i ≡ Some r
-    → (r.base ≢ 0 → may_stand r.base i ≡ true → is_near r ≡ true → ⊥) → IsStretch code a 1 → ⊥
+    → (r.base ≢ 0 → may_stand r.base i ≡ true → is_near r ≡ true → ⊥) → IsRunPrefix code a 1 → ⊥
 begins_not code a i r is reaches never h =
     let one = one_reach i r reaches in
     let front = one_front code a i is h in
@@ -83,7 +83,7 @@ begins_not code a i r is reaches never h =
 
 -- ---- a word more
 
-pub goes_on : (code : ℕ → Option Instr) (a n : ℕ) (i : Instr) (r : Reach) (old new : Stretch)
+pub goes_on : (code : ℕ → Option Instr) (a n : ℕ) (i : Instr) (r : Reach) (old new : RunPrefix)
     → IsStretchOf code a n old → code (a + 4 * n) ≡ Some i → Extends old.reach i r
     → may_stand old.reach.base i ≡ true → is_near r ≡ true → new.reach ≡ r
     → new.ends ≡ is_access i → IsStretchOf code a (n + 1) new
@@ -103,18 +103,18 @@ goes_on code a n i r old new h is extends stands near reach ends =
           ∙ last_access (code_from code a n) i n h.stretch.coded);
     }
 
-one_more : (code : ℕ → Option Instr) (a n : ℕ) → IsStretch code a (n + 1) → IsStretch code a (suc n)
-one_more code a n h = let e : n + 1 ≡ suc n = omega arith in subst (IsStretch code a) e h
+one_more : (code : ℕ → Option Instr) (a n : ℕ) → IsRunPrefix code a (n + 1) → IsRunPrefix code a (suc n)
+one_more code a n h = let e : n + 1 ≡ suc n = omega arith in subst (IsRunPrefix code a) e h
 
-pub ends_before : (code : ℕ → Option Instr) (a n : ℕ) (s : Stretch) → IsStretchOf code a n s
-    → code (a + 4 * n) ≡ None → IsStretch code a (n + 1) → ⊥
+pub ends_before : (code : ℕ → Option Instr) (a n : ℕ) (s : RunPrefix) → IsStretchOf code a n s
+    → code (a + 4 * n) ≡ None → IsRunPrefix code a (n + 1) → ⊥
 ends_before code a n s h is more =
     let short = shorter code a n h.stretch.some (one_more code a n more) in
     let there = short.there in cc
 
-pub ends_here : (code : ℕ → Option Instr) (a n : ℕ) (i : Instr) (r : Reach) (s : Stretch)
+pub ends_here : (code : ℕ → Option Instr) (a n : ℕ) (i : Instr) (r : Reach) (s : RunPrefix)
     → IsStretchOf code a n s → code (a + 4 * n) ≡ Some i → Extends s.reach i r
-    → (may_stand s.reach.base i ≡ true → is_near r ≡ true → ⊥) → IsStretch code a (n + 1) → ⊥
+    → (may_stand s.reach.base i ≡ true → is_near r ≡ true → ⊥) → IsRunPrefix code a (n + 1) → ⊥
 ends_here code a n i r s h is extends never more =
     let short = shorter code a n h.stretch.some (one_more code a n more) in
     let there = short.there in

@@ -8,7 +8,7 @@ use Rattle.templates.specs.declared.code.CodeWord.{CodeWord}
 use Rattle.templates.specs.Code.{Ascends, code_of}
 use Rattle.templates.specs.Runs.{code_from, reach_of, reach_at, may_stand}
 use Rattle.templates.specs.Reaches.{is_near}
-use Rattle.batch_plan.specs.Stretches.{IsFront, IsStretch}
+use Rattle.batch_plan.specs.Stretches.{IsFront, IsRunPrefix}
 use Rattle.batch_plan.proofs.ReachLemmas.{front_more, front_less}
 
 -- the words of a stretch with the one behind them
@@ -79,7 +79,7 @@ pub one_word : (code : ℕ → Option Instr) (a : ℕ) (i : Instr) → code a �
 one_word code a i is = ap (λ o. option_to_list o ++ []) is
 
 pub one_is : (code : ℕ → Option Instr) (a : ℕ) (i : Instr) → code a ≡ Some i → IsFront (i ∷ [])
-    → IsStretch code a 1
+    → IsRunPrefix code a 1
 one_is code a i is h = record {
   some = λ z. omega (arith, z);
   coded = ap (λ xs. length xs) (one_word code a i is);
@@ -87,20 +87,20 @@ one_is code a i is h = record {
 }
 
 pub one_front : (code : ℕ → Option Instr) (a : ℕ) (i : Instr) → code a ≡ Some i
-    → IsStretch code a 1 → IsFront (i ∷ [])
+    → IsRunPrefix code a 1 → IsFront (i ∷ [])
 one_front code a i is h = subst IsFront (one_word code a i is) h.front
 
-pub one_coded : (code : ℕ → Option Instr) (a : ℕ) → code a ≡ None → IsStretch code a 1 → ⊥
+pub one_coded : (code : ℕ → Option Instr) (a : ℕ) → code a ≡ None → IsRunPrefix code a 1 → ⊥
 one_coded code a is h =
     let none : length (code_from code a 1) ≡ 0 = ap (λ o. length (option_to_list o ++ [])) is in
     let one = h.coded in
     omega (arith, none, one)
 
 -- a stretch with one word more
-pub stretch_more : (code : ℕ → Option Instr) (a n : ℕ) (i : Instr) → IsStretch code a n
+pub stretch_more : (code : ℕ → Option Instr) (a n : ℕ) (i : Instr) → IsRunPrefix code a n
     → code (a + 4 * n) ≡ Some i → may_stand (reach_at code a n).base i ≡ true
-    → is_near (reach_of (code_from code a n ++ i ∷ [])) ≡ true → IsStretch code a (n + 1)
-stretch_more code a n i h is stands near = subst (IsStretch code a) one_more (record {
+    → is_near (reach_of (code_from code a n ++ i ∷ [])) ≡ true → IsRunPrefix code a (n + 1)
+stretch_more code a n i h is stands near = subst (IsRunPrefix code a) one_more (record {
   some = λ z. omega (arith, z);
   coded =
       let coded = h.coded in
@@ -125,11 +125,11 @@ words_more code a n i is =
 pub record IsShorter (code : ℕ → Option Instr) (a n : ℕ) : Type 0 where
   pub instruction : Instr
   pub there : code (a + 4 * n) ≡ Some instruction
-  pub stretch : IsStretch code a n
+  pub stretch : IsRunPrefix code a n
   pub stands : may_stand (reach_at code a n).base instruction ≡ true
   pub near : is_near (reach_of (code_from code a n ++ instruction ∷ [])) ≡ true
 
-pub shorter : (code : ℕ → Option Instr) (a n : ℕ) → n ≢ 0 → IsStretch code a (suc n)
+pub shorter : (code : ℕ → Option Instr) (a n : ℕ) → n ≢ 0 → IsRunPrefix code a (suc n)
     → IsShorter code a n
 shorter code a n some h =
     let b = is_behind code a n h.coded in
@@ -145,11 +145,11 @@ shorter code a n some h =
     }
 
 -- the front of a stretch is one
-pub stretch_front : (code : ℕ → Option Instr) (a m n : ℕ) → m ≢ 0 → m ≤ n → IsStretch code a n
-    → IsStretch code a m
+pub stretch_front : (code : ℕ → Option Instr) (a m n : ℕ) → m ≢ 0 → m ≤ n → IsRunPrefix code a n
+    → IsRunPrefix code a m
 stretch_front code a m zero some le h = absurd (h.some refl)
 stretch_front code a m (suc n) some le h = elim (near_or m n le) [
-  | inl same ↦ subst (IsStretch code a) (sym same) h
+  | inl same ↦ subst (IsRunPrefix code a) (sym same) h
   | inr less ↦
       let low : n ≢ 0 = λ z. some (omega (arith, less, z)) in
       stretch_front code a m n some less (shorter code a n low h).stretch
@@ -173,7 +173,7 @@ low_word low (w ∷ ws) a i up is =
     go more true e is = let same = eqb-true w.address a e in let lt = up.2 in omega (arith, same, lt)
     go more false e is = more is
 
-pub stretch_low : (ws : List CodeWord) (a n : ℕ) → Ascends 0 ws → IsStretch (code_of ws) a n
+pub stretch_low : (ws : List CodeWord) (a n : ℕ) → Ascends 0 ws → IsRunPrefix (code_of ws) a n
     → a + 4 * n < 2 ^ 32
 stretch_low ws a zero up h = absurd (h.some refl)
 stretch_low ws a (suc n) up h =

@@ -6,13 +6,13 @@ ghost use Rattle.templates.specs.Code.{Ascends, code_of};
 ghost use Rattle.templates.specs.Runs.{IsRun, reach_at};
 ghost use Rattle.templates.specs.WholePlan.{IsLongestRun};
 
-use crate::stretches::Stretch;
+use crate::stretches::RunPrefix;
 use rv32_decode::Reg;
 use templates::Code;
 
 /// A run, or none.
 #[derive(Clone, Copy, Debug, PartialEq, Eq)]
-pub(crate) struct Run {
+pub(crate) struct BatchRun {
     /// 0 where there is none.
     pub words: u8,
     /// The base register of its accesses.
@@ -20,18 +20,18 @@ pub(crate) struct Run {
 }
 
 /// The longest run from an address on.
-pub(crate) fn longest_run(code: &Code, address: u32) -> Run
+pub(crate) fn longest_run(code: &Code, address: u32) -> BatchRun
     requires ascends { Ascends 0 code.now }
     ensures longest { IsLongestRun (code_of code.now) address result.words }
     ensures base { result.words ≢ 0
         → result.base ≡ (reach_at (code_of code.now) address result.words).base }
     ensures low { address + 4 * result.words < 2 ^ 32 }
 {
-    let mut longest = Run {
+    let mut longest = BatchRun {
         words: 0,
         base: Reg::ZERO,
     };
-    let mut stretch = match Stretch::begin(code, address) {
+    let mut stretch = match RunPrefix::begin(code, address) {
         Some(stretch) => stretch,
         None => return longest,
     };
@@ -41,7 +41,7 @@ pub(crate) fn longest_run(code: &Code, address: u32) -> Run
             None => return longest,
         };
         if stretch.ends {
-            longest = Run {
+            longest = BatchRun {
                 words: words + 1,
                 base: stretch.base(),
             };
@@ -61,7 +61,7 @@ pub fn run_base(code: &Code, address: u32, words: u8) -> Option<Reg>
     if !(2..=16).contains(&words) {
         return None;
     }
-    let mut stretch = Stretch::begin(code, address)?;
+    let mut stretch = RunPrefix::begin(code, address)?;
     for count in 1..words {
         stretch = stretch.longer(code, address, count)?;
     }

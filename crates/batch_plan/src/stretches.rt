@@ -3,29 +3,29 @@
 ghost use Rattle.std.specs.Prelude.{◌≡◌, ◌+◌, ◌^◌, ◌<◌, MatchOption};
 ghost use Rattle.templates.specs.Code.{Ascends, code_of};
 ghost use Rattle.templates.specs.Runs.{is_access, may_stand};
-ghost use Rattle.batch_plan.specs.Stretches.{IsStretch, IsStretchOf};
+ghost use Rattle.batch_plan.specs.Stretches.{IsRunPrefix, IsStretchOf};
 
 use rv32_decode::{Instr, Reg};
 use templates::{Code, Reach};
 
 /// What words reach that may be the beginning of a run.
 #[derive(Clone, Copy, Debug, PartialEq, Eq)]
-pub(crate) struct Stretch {
+pub(crate) struct RunPrefix {
     pub reach: Reach,
     /// Whether the last word is an access.
     pub ends: bool,
 }
 
-impl Stretch {
+impl RunPrefix {
     /// The word at an address; None exactly where no run begins with it.
-    pub fn begin(code: &Code, address: u32) -> Option<Stretch>
-        ensures value { MatchOption result (IsStretch (code_of code.now) address 1 → ⊥)
+    pub fn begin(code: &Code, address: u32) -> Option<RunPrefix>
+        ensures value { MatchOption result (IsRunPrefix (code_of code.now) address 1 → ⊥)
             (IsStretchOf (code_of code.now) address 1) }
     {
         let i = code.at(address)?;
         let reach = Reach::of(&i)?;
         if reach.base != Reg::ZERO && may_stand(reach.base, &i) && reach.is_near() {
-            Some(Stretch { reach, ends: true })
+            Some(RunPrefix { reach, ends: true })
         } else {
             None
         }
@@ -40,17 +40,17 @@ impl Stretch {
 
     /// So many words from an address on with the one behind them; None exactly where no run begins
     /// with them all.
-    pub fn longer(&self, code: &Code, address: u32, words: u8) -> Option<Stretch>
+    pub fn longer(&self, code: &Code, address: u32, words: u8) -> Option<RunPrefix>
         requires ascends { Ascends 0 code.now }
         requires stretch { IsStretchOf (code_of code.now) address words self.now }
         requires few { words < 16 }
-        ensures value { MatchOption result (IsStretch (code_of code.now) address (words + 1) → ⊥)
+        ensures value { MatchOption result (IsRunPrefix (code_of code.now) address (words + 1) → ⊥)
             (IsStretchOf (code_of code.now) address (words + 1)) }
     {
         let i = code.at(address + 4 * u32::from(words))?;
         let reach = self.reach.with(&i);
         if may_stand(self.reach.base, &i) && reach.is_near() {
-            Some(Stretch {
+            Some(RunPrefix {
                 reach,
                 ends: is_access(&i),
             })

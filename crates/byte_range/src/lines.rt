@@ -22,7 +22,7 @@ pub struct LineRange {
 
 /// A range of lines, and how many lines the ranges before it have.
 #[derive(Clone, Copy, Debug)]
-struct Piece {
+struct PlacedRange {
     lines: LineRange,
     start: u32,
 }
@@ -31,7 +31,7 @@ struct Piece {
 /// and the list of the bytes.
 #[derive(Debug, Drop)]
 pub struct LineMemory {
-    pieces: Vec<Piece>,
+    pieces: Vec<PlacedRange>,
     /// The first address of the first range.
     base: u32,
     /// How many bytes the first range has.
@@ -66,7 +66,7 @@ impl LineMemory {
         let mut pieces = Vec::with_capacity(alloc, ranges.len())?;
         let mut start = 0;
         for lines in ranges {
-            pieces.push(Piece {
+            pieces.push(PlacedRange {
                 lines: *lines,
                 start,
             })?;
@@ -125,7 +125,7 @@ impl LineMemory {
     }
 
     /// The last range that starts at a line or before it: no other one has the line.
-    fn last_piece(&self, line: u32) -> Option<Piece>
+    fn last_piece(&self, line: u32) -> Option<PlacedRange>
         ensures { MatchOption result (place_of self.now.ranges line ≡ None)
             (IsPieceOf self.now.ranges line) }
     {

@@ -16,7 +16,7 @@ use Rattle.templates.specs.declared.plans.Scratch.{Scratch}
 use Rattle.templates.specs.declared.plans.Scratches.{Scratches}
 use Rattle.templates.specs.declared.plans.PlanEntry.{PlanEntry}
 use Rattle.templates.specs.declared.plans.Template.TheVariants as template
-use Rattle.templates.specs.Plans.{may_poll, closes_loop, closes_loop_at, IsScratch, HasSoMany, HasScratchesAt, StartsNoRun, StartsRun, Serves, template_of, template_at, looks_at_value, scratch_count, no_scratch}
+use Rattle.templates.specs.Plans.{may_poll, closes_loop, closes_loop_at, IsScratch, HasSoMany, HasScratchesAt, StartsNoRun, StartsRun, Serves, template_of, template_at, is_flag_checked, scratch_count, no_scratch}
 use Rattle.templates.specs.WholePlan.{is_own, candidates, in_order, scratches_of, IsChoice, IsSingle, IsEntry}
 use Rattle.check_plan.proofs.ListLemmas.{passed, was_there, range_within, once, either, nothing, among_few, any_of}
 use Rattle.check_plan.proofs.OrderLemmas.{IsGood, order_length, each_good, order_apart, rises_filter, rises_range}
@@ -113,7 +113,7 @@ takes (Branch c rs1 rs2 offset) a = go (is_some (aligned_target (Branch c rs1 rs
     go : (b : Bool) → (scratch_count (cond b template.Branch template.BranchBad) ≤ 2) × (0 < scratch_count (cond b template.Branch template.BranchBad) → uses_all (Branch c rs1 rs2 offset) ≡ false) × (2 ≤ 2)
     go true = (omega arith, λ h. refl, omega arith)
     go false = (omega arith, λ h. refl, omega arith)
-takes (Load k rd rs1 imm) a = go (looks_at_value k rd rs1)
+takes (Load k rd rs1 imm) a = go (is_flag_checked k rd rs1)
   where
     go : (b : Bool) → (scratch_count (cond b template.FlagLoad template.StateLoad) ≤ 2) × (0 < scratch_count (cond b template.FlagLoad template.StateLoad) → uses_all (Load k rd rs1 imm) ≡ false) × (1 ≤ 2)
     go true = (omega arith, λ h. refl, omega arith)

@@ -1,5 +1,5 @@
 -- The lists of segments and sections, one header after another.
-use Rattle.std.proofs.Common.{◌≡◌, ℕ, ◌+◌, ◌-◌, ◌<◌, ◌≤◌, ◌^◌, Bool, true, false, not, inl, inr, Option, Some, None, ◌==◌, ◌||◌, cond, List, [], ◌∷◌, ◌++◌, length, length-take, length-drop, map, drop, refl, sym, ap, ◌∙◌, arith}
+use Rattle.std.proofs.Common.{◌≡◌, ℕ, ◌+◌, ◌-◌, ◌<◌, ◌≤◌, ◌^◌, Bool, true, false, not, inl, inr, ◌==◌, ◌||◌, cond, List, [], ◌∷◌, ◌++◌, length, length-take, length-drop, map, drop, refl, sym, ap, ◌∙◌, arith}
 use Rattle.std.specs.List.{range_with_len, filter}
 use Rattle.std.specs.Prelude.{nat_lt, slice_range}
 use Rattle.std.proofs.lemmas.Bool.{cond-true, cond-false, and_from, and_cases, or_parts, eq-eqb, ne_eqb, not-false, leb-true, ltb-false, le-leb}
@@ -13,7 +13,6 @@ use Rattle.elf32_read.specs.Fields.{file_header, program_header, section_header}
 use Rattle.elf32_read.specs.Reading.{is_load, segment_in, section_in, has_range}
 use Rattle.elf32_read.specs.Refusals.{IsReadable, is_outside, has_wrong_sizes}
 use Rattle.elf32_read.specs.declared.headers.ProgramHeader.{ProgramHeader}
-use Rattle.elf32_read.specs.declared.refused.FileRule.TheVariants.{SegmentOutside, SegmentSizes}
 use Rattle.elf32_read.proofs.HeaderSearch.{none_in_table}
 
 -- the segments of the first headers
@@ -73,15 +72,11 @@ sections_more file n k s is other made =
     ∙ map-append f (filter p (range_with_len 1 n)) (k ∷ [])
     ∙ ap (λ t. map f (filter p (range_with_len 1 n)) ++ t ∷ []) (sym made))
 
-none_from : (o : Option ℕ) → ((k : ℕ) → o ≡ Some k → ⊥) → o ≡ None
-none_from None never = refl
-none_from (Some k) never = absurd (never k refl)
-
 -- the file has the bytes of each loadable segment
 pub inside : (file : List ℕ) (k : ℕ) (h : ProgramHeader) → IsReadable file → k < (file_header file).e_phnum
     → h ≡ program_header file k → is_load h ≡ true → h.p_offset + h.p_filesz ≤ length file
 inside file k h r low is load =
-    let none = none_in_table file (is_outside file) (none_from _ (λ j f. r.no_rule (SegmentOutside j) f)) k low in
+    let none = none_in_table file (is_outside file) r.inside k low in
     let here : is_outside file h ≡ false = ap (is_outside file) is ∙ none in
     elim (and_cases (is_load h) (not (has_range file h.p_offset h.p_filesz)) here) [
       | inl other ↦ absurd (cc)
@@ -95,7 +90,7 @@ range_length file o n within = omega (arith, length-take ((o + n) - o) (drop o f
 pub placed : (file : List ℕ) (k : ℕ) (h : ProgramHeader) → IsReadable file → k < (file_header file).e_phnum
     → h ≡ program_header file k → is_load h ≡ true → is_placed (segment_in file h) ≡ true
 placed file k h r low is load =
-    let none = none_in_table file has_wrong_sizes (none_from _ (λ j f. r.no_rule (SegmentSizes j) f)) k low in
+    let none = none_in_table file has_wrong_sizes r.sizes k low in
     let here : has_wrong_sizes h ≡ false = ap has_wrong_sizes is ∙ none in
     let within = inside file k h r low is load in
     let long = range_length file h.p_offset h.p_filesz within in

@@ -1,7 +1,7 @@
 -- The rules one after another. A rule that fits is determined by its number.
 use Rattle.std.proofs.Common.{◌≡◌, ℕ, ◌+◌, ◌≤◌, Bool, true, false, cond, inl, inr, Option, Some, None, unwrap_or, List, length, subst, refl, sym, ap, ◌∙◌, arith}
 use Rattle.std.specs.Prelude.{position, ◌==◌}
-use Rattle.std.proofs.lemmas.Bool.{cases_lt, cases_eq, and_parts, or_cases, eqb-true, leb-true}
+use Rattle.std.proofs.lemmas.Bool.{cases_lt, cases_eq, and_parts, or_cases, eqb-true, leb-true, false≢true}
 use Rattle.elf32_read.specs.declared.headers.FileHeader.{FileHeader}
 use Rattle.elf32_read.specs.declared.refused.FileRule.{FileRule}
 use Rattle.elf32_read.specs.declared.refused.FileRule.TheVariants.{Short, NotElf, NotElf32, NotExec, NotRiscv, Flags, ProgramTable, SectionTable, Dynamic, SegmentOutside, SegmentSizes}
@@ -144,13 +144,56 @@ few (Dynamic header) = omega arith
 few (SegmentOutside header) = omega arith
 few (SegmentSizes header) = omega arith
 
+-- a test that isn't false
+pub holds : (b : Bool) → (b ≡ false → ⊥) → b ≡ true
+holds true never = refl
+holds false never = absurd (never refl)
+
+none_from : (o : Option ℕ) → ((k : ℕ) → o ≡ Some k → ⊥) → o ≡ None
+none_from None never = refl
+none_from (Some k) never = absurd (never k refl)
+
+equal_by : (a b : ℕ) → ((a ≡ b → ⊥) → ⊥) → a ≡ b
+equal_by a b never = elim (cases_eq a b) [ inl is ↦ is | inr ne ↦ absurd (never ne) ]
+
+-- where no rule fits the file is readable
+pub readable_by : (file : List ℕ) → ((r : FileRule) → Fits file r → ⊥) → IsReadable file
+readable_by file never =
+    let h : FileHeader = file_header file in
+    record {
+      whole = elim (cases_lt (length file) 52) [ inl short ↦ absurd (never Short short) | inr long ↦ long ];
+      elf = holds _ (never NotElf);
+      elf32 = holds _ (never NotElf32);
+      executable = equal_by h.e_type 2 (λ ne. never (NotExec h.e_type) (refl, ne));
+      riscv = equal_by h.e_machine 243 (λ ne. never (NotRiscv h.e_machine) (refl, ne));
+      flags = holds _ (λ f. never (Flags h.e_flags) (refl, f));
+      program_table = holds _ (never ProgramTable);
+      section_table = holds _ (never SectionTable);
+      static = none_from _ (λ k f. never (Dynamic k) f);
+      inside = none_from _ (λ k f. never (SegmentOutside k) f);
+      sizes = none_from _ (λ k f. never (SegmentSizes k) f);
+    }
+
+-- and no rule fits a readable file
+pub no_rule : (file : List ℕ) → IsReadable file → (r : FileRule) → Fits file r → ⊥
+no_rule file h Short f = let long = h.whole in omega (arith, long, f)
+no_rule file h NotElf f = false≢true (sym f ∙ h.elf)
+no_rule file h NotElf32 f = false≢true (sym f ∙ h.elf32)
+no_rule file h (NotExec kind) f = f.1 (f.0 ∙ h.executable)
+no_rule file h (NotRiscv machine) f = f.1 (f.0 ∙ h.riscv)
+no_rule file h (Flags value) f = false≢true (sym f.1 ∙ ap are_known_flags f.0 ∙ h.flags)
+no_rule file h ProgramTable f = false≢true (sym f ∙ h.program_table)
+no_rule file h SectionTable f = false≢true (sym f ∙ h.section_table)
+no_rule file h (Dynamic header) f = nothing _ header h.static f
+no_rule file h (SegmentOutside header) f = nothing _ header h.inside f
+no_rule file h (SegmentSizes header) f = nothing _ header h.sizes f
+
 pub readable : (file : List ℕ) → NoRuleBelow file 11 → position has_wrong_sizes (program_headers file) ≡ None → IsReadable file
-readable file below none = record {
-  no_rule = λ r f.
-      let high = below_12 file below none r f in
-      let low = few r in
-      absurd (omega arith);
-}
+readable file below none =
+    readable_by file (λ r f.
+    let high = below_12 file below none r f in
+    let low = few r in
+    omega arith)
 
 -- both tables are in a file that has them
 pub tables : (file : List ℕ) (h : FileHeader) → h ≡ file_header file → has_program_table file ≡ true
@@ -167,25 +210,14 @@ tables file h is programs sections =
     } in
     subst (HasTables file) (sym is) whole
 
--- a test that isn't false
-pub holds : (b : Bool) → (b ≡ false → ⊥) → b ≡ true
-holds true never = refl
-holds false never = absurd (never refl)
-
 pub readable_long : (file : List ℕ) → IsReadable file → 52 ≤ length file
-readable_long file r =
-    elim (cases_lt (length file) 52) [ inl short ↦ absurd (r.no_rule Short short) | inr long ↦ long ]
+readable_long file r = r.whole
 
 pub readable_tables : (file : List ℕ) → IsReadable file → HasTables file (file_header file)
 readable_tables file r =
-    tables file (file_header file) refl (holds _ (r.no_rule ProgramTable)) (holds _ (r.no_rule SectionTable))
+    tables file (file_header file) refl r.program_table r.section_table
 
 -- a readable file has known flags
 pub readable_flags : (file : List ℕ) → IsReadable file
     → are_known_flags (file_header file).e_flags ≡ true
-readable_flags file r = go (are_known_flags (file_header file).e_flags) refl
-  where
-    go : (b : Bool) → are_known_flags (file_header file).e_flags ≡ b
-        → are_known_flags (file_header file).e_flags ≡ true
-    go true e = e
-    go false e = absurd (r.no_rule (Flags (file_header file).e_flags) (refl, e))
+readable_flags file r = r.flags

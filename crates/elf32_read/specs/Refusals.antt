@@ -1,7 +1,7 @@
--- Why a file is refused: each rule with what it names, and the order of the rules.
--- A file is readable where no rule fits it
--- (System V ABI, "Object Files": ELF Header; RISC-V ELF psABI: e_flags).
-use Rattle.std.specs.Prelude.{◌≡◌, ◌≢◌, ℕ, ◌+◌, ◌*◌, ◌^◌, ◌<◌, ◌≤◌, Bool, false, not, ◌&&◌, ◌||◌, ◌==◌, nat_eq, nat_lt, List, [], ◌∷◌, Some, length, slice_index, position}
+-- What a readable file has, which is that no rule fits it; and why a file is refused: each rule
+-- with what it names, and the order of the rules (System V ABI, "Object Files": ELF Header; RISC-V
+-- ELF psABI: e_flags).
+use Rattle.std.specs.Prelude.{◌≡◌, ◌≢◌, ℕ, ◌+◌, ◌*◌, ◌^◌, ◌<◌, ◌≤◌, Bool, true, false, not, ◌&&◌, ◌||◌, ◌==◌, nat_eq, nat_lt, List, [], ◌∷◌, Some, None, length, slice_index, position}
 use Rattle.std.specs.List.{starts_with}
 use Rattle.elf32_read.specs.declared.headers.ProgramHeader.{ProgramHeader}
 use Rattle.elf32_read.specs.declared.refused.FileRule.{FileRule}
@@ -76,6 +76,17 @@ pub record IsRefusedBy (file : List ℕ) (r : FileRule) : Type 0 where
   pub fits : Fits file r
   pub first : (q : FileRule) → Fits file q → number_of r ≤ number_of q
 
--- no rule fits the file
+-- An executable of 32 bits for RISC-V, with known flags: the file has both tables and the bytes of
+-- each loadable segment, and no program header asks for a dynamic linker.
 pub record IsReadable (file : List ℕ) : Type 0 where
-  pub no_rule : (r : FileRule) → Fits file r → ⊥
+  pub whole : 52 ≤ length file
+  pub elf : is_elf file ≡ true
+  pub elf32 : is_elf32 file ≡ true
+  pub executable : (file_header file).e_type ≡ 2
+  pub riscv : (file_header file).e_machine ≡ 243
+  pub flags : are_known_flags (file_header file).e_flags ≡ true
+  pub program_table : has_program_table file ≡ true
+  pub section_table : has_section_table file ≡ true
+  pub static : position is_dynamic (program_headers file) ≡ None
+  pub inside : position (is_outside file) (program_headers file) ≡ None
+  pub sizes : position has_wrong_sizes (program_headers file) ≡ None

@@ -5,7 +5,7 @@ ghost use Rattle.std.specs.Prelude.{◌≡◌, ℕ, List, true, map, is_some, If
 ghost use Rattle.elf32_read.specs.Elf.{are_placed, is_in_limits, are_known_flags};
 ghost use Rattle.elf32_read.specs.Segments.{segment_of, section_of, elf_with};
 ghost use Rattle.elf32_read.specs.Reading.{elf_of};
-ghost use Rattle.elf32_read.specs.Refusals.{IsReadable, IsRefusedBy};
+ghost use Rattle.elf32_read.specs.Refusals.{Fits, IsReadable, IsRefusedBy};
 
 mod contents;
 mod fields;
@@ -162,10 +162,13 @@ pub fn read_elf(alloc: Global, file: &[u8]) -> Result<Elf<'_>, ElfRefused>
     })
 }
 
-/// At most one rule refuses a file first, and a file that one refuses is not readable.
+/// At most one rule refuses a file first, and a file that one refuses is not readable. A file is
+/// readable just where no rule fits it.
 pub fn refusal_law()
     ensures one_rule { (file : List ℕ) (r q : FileRule)
         → IsRefusedBy file r → IsRefusedBy file q → r ≡ q }
     ensures unreadable { (file : List ℕ) (r : FileRule)
         → IsRefusedBy file r → IsReadable file → ⊥ }
+    ensures no_rule { (file : List ℕ) (r : FileRule) → IsReadable file → Fits file r → ⊥ }
+    ensures readable { (file : List ℕ) → ((r : FileRule) → Fits file r → ⊥) → IsReadable file }
 {}

@@ -11,6 +11,7 @@ use Rattle.elf32_read.specs.Fields as fields
 use Rattle.elf32_read.specs.Fields.{program_header_at, program_headers}
 use Rattle.elf32_read.specs.Reading.{elf_of, has_range, is_load, segment_in}
 use Rattle.elf32_read.specs.Refusals.{Fits, IsReadable, is_elf, is_elf32, has_program_table, has_section_table, is_dynamic, is_outside, has_wrong_sizes}
+use Rattle.elf32_read.proofs.Judging.{readable_by}
 use Rattle.elf32_read.specs.declared.headers.ProgramHeader.{ProgramHeader}
 use Rattle.elf32_write.specs.declared.table.Table.{Table}
 use Rattle.elf32_write.specs.Layout.{identification, headers_end, segments_end, sections_end, names, names_offset, table_of, file_header, program_table, segment_bytes, section_part, file_of}
@@ -165,13 +166,10 @@ readable e l w =
     let S = segment_bytes base e.segments in
     let R = section_part end e.sections in
     let made = written e l w in
-    record {
-      no_rule =
-          no_rule e (file_of e) H P S R base end t l made
-          (ap is_elf made.whole ∙ begins e.entry e.flags (length e.segments) t (P ++ (S ++ R)))
-          (ap is_elf32 made.whole ∙ is_of_32 e.entry e.flags (length e.segments) t (P ++ (S ++ R)))
-          refl refl refl refl;
-    }
+    readable_by (file_of e) (no_rule e (file_of e) H P S R base end t l made
+    (ap is_elf made.whole ∙ begins e.entry e.flags (length e.segments) t (P ++ (S ++ R)))
+    (ap is_elf32 made.whole ∙ is_of_32 e.entry e.flags (length e.segments) t (P ++ (S ++ R))) refl
+    refl refl refl)
 
 pub reads_back : (e : Elf) → Limits e → HasWords e → elf_of (file_of e) ≡ e
 unfolding header_made

@@ -15,7 +15,7 @@ use Rattle.exec_map.specs.declared.refused.ProgramRule.TheVariants.{EntryNotCode
 use Rattle.exec_map.specs.Refusals.{IsAcceptable, has_memory, is_too_high}
 use Rattle.exec_map.proofs.Words.{high_end, not_high, no_word}
 use Rattle.rv32_program.specs.Program.{IsAccepted}
-use Rattle.exec_map.specs.declared.stretches.Stretch.{Stretch}
+use Rattle.exec_map.specs.declared.stretches.NumberRange.{NumberRange}
 use Rattle.exec_map.specs.Index.{AreCode, NoRuleBelow, have}
 use Rattle.exec_map.specs.Contents.{is_executable, is_private, segment_class, class_of_line, touches, holds_word, is_code_word, word_of, is_supported_word, program_of, AllSupported}
 
@@ -57,7 +57,7 @@ below_next e a below word supported = λ b lt_next here.
     ]
 
 -- the same, by the stretches of the code
-pub go_on : (e : Elf) (code : List Stretch) → AreCode e code → (from : ℕ) (r : Option ℕ) → SupportedBelow e from → IfSome r (λ a. ((a % 4 == 0) && have code a) ≡ true) → IfSome r (λ a. (b : ℕ) → from ≤ b → b < a → ((b % 4 == 0) && have code b) ≡ false) → IfSome r (λ a. a + 4 ≤ 2 ^ 31) → IfNone r ((b : ℕ) → from ≤ b → ((b % 4 == 0) && have code b) ≡ false) → SupportedUpTo e r
+pub go_on : (e : Elf) (code : List NumberRange) → AreCode e code → (from : ℕ) (r : Option ℕ) → SupportedBelow e from → IfSome r (λ a. ((a % 4 == 0) && have code a) ≡ true) → IfSome r (λ a. (b : ℕ) → from ≤ b → b < a → ((b % 4 == 0) && have code b) ≡ false) → IfSome r (λ a. a + 4 ≤ 2 ^ 31) → IfNone r ((b : ℕ) → from ≤ b → ((b % 4 == 0) && have code b) ≡ false) → SupportedUpTo e r
 go_on e code h from None below some least low none = up_to_next e from None below tt tt tt (λ b le. h.words b ∙ none b le)
 go_on e code h from (Some a) below some least low none = up_to_next e from (Some a) below (h.words a ∙ some) (λ b le lt. h.words b ∙ least b le lt) low tt
 
@@ -128,6 +128,6 @@ accepted e placed h all =
       starts = ap (λ b. cond b (instruction_of (word_of e e.entry)) None) starts ∙ first.1;
     }
 
-pub next_low : (e : Elf) (code : List Stretch) → are_placed e.segments ≡ true → IsAcceptable e → AreCode e code → (r : Option ℕ) → IfSome r (λ a. ((a % 4 == 0) && have code a) ≡ true) → IfSome r (λ a. a + 4 ≤ 0x7fff0000)
+pub next_low : (e : Elf) (code : List NumberRange) → are_placed e.segments ≡ true → IsAcceptable e → AreCode e code → (r : Option ℕ) → IfSome r (λ a. ((a % 4 == 0) && have code a) ≡ true) → IfSome r (λ a. a + 4 ≤ 0x7fff0000)
 next_low e code placed ok h None some = tt
 next_low e code placed ok h (Some a) some = word_low e placed (none_below e ok) a (h.words a ∙ some)

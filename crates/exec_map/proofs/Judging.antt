@@ -9,7 +9,7 @@ use Rattle.std.proofs.lemmas.Bool.Decides.{nat_tests}
 use Rattle.std.proofs.lemmas.List.Sorted.{list_any-IsPermutation}
 use Rattle.elf32_read.specs.Elf.{Elf, Segment, Section, are_placed, is_placed}
 use Rattle.rv32_program.specs.declared.Class.{Class}
-use Rattle.exec_map.specs.declared.stretches.Stretch.{Stretch}
+use Rattle.exec_map.specs.declared.stretches.NumberRange.{NumberRange}
 use Rattle.exec_map.specs.declared.refused.ProgramRule.{ProgramRule}
 use Rattle.exec_map.specs.declared.refused.ProgramRule.TheVariants.{TooHigh, Overlap, WritableCode, NoCode, TooMuch, EntryNotCode, Unsupported, CodeAlign, TooManySegments}
 use Rattle.exec_map.specs.Contents.{is_executable, is_code_section, is_code_word, is_supported_word, AllSupported}
@@ -123,7 +123,7 @@ below_14 e below none = step e 13 below (only_13 e (λ i j f. none i j f.overlap
 pub below_15 : (e : Elf) → NoRuleBelow e 14 → None ≡ position is_writable_code e.segments → NoRuleBelow e 15
 below_15 e below none = step e 14 below (only_14 e (λ k f. some_none k (none ∙ f)))
 
-pub below_16 : (e : Elf) (code : List Stretch) → NoRuleBelow e 15 → AreCode e code → (length code ≡ 0 → ⊥) → NoRuleBelow e 16
+pub below_16 : (e : Elf) (code : List NumberRange) → NoRuleBelow e 15 → AreCode e code → (length code ≡ 0 → ⊥) → NoRuleBelow e 16
 below_16 e [] below h some = absurd (some refl)
 below_16 e (r ∷ rs) below h some = step e 15 below (only_15 e (λ no_word.
     let lt : r.first < r.end = h.stretches.some 0 r (omega arith) in
@@ -131,7 +131,7 @@ below_16 e (r ∷ rs) below h some = step e 15 below (only_15 e (λ no_word.
     let aligned : (r.first % 4 == 0) ≡ true = eq-eqb _ _ (h.whole 0 r (omega arith)).0 in
     false≢true (sym (no_word r.first) ∙ h.words r.first ∙ and_from _ _ aligned here)))
 
-pub no_code : (e : Elf) (code : List Stretch) → AreCode e code → length code ≡ 0 → Fits e NoCode
+pub no_code : (e : Elf) (code : List NumberRange) → AreCode e code → length code ≡ 0 → Fits e NoCode
 no_code e [] h none a = h.words a ∙ and_right (a % 4 == 0) false refl
 no_code e (r ∷ rs) h none a = absurd (omega arith)
 

@@ -12,3 +12,4 @@ mod LineCounts
 mod Overlaps
 mod Filtering
 mod Meeting
+mod LineLemmas

@@ -12,21 +12,21 @@ use Rattle.std.proofs.lemmas.List.Elements.{All-nil, All-push}
 use Rattle.std.proofs.lemmas.List.Quantifiers.{all_pairs_push}
 use Rattle.std.proofs.lemmas.List.Folds.{list_any-append}
 use Rattle.std.proofs.lemmas.List.Recursion.{or_from_places}
-use Rattle.exec_map.specs.declared.stretches.Stretch.{Stretch}
-use Rattle.exec_map.specs.Index.{AreStretches, IsSome, IsOfWords, has, have}
+use Rattle.exec_map.specs.declared.stretches.NumberRange.{NumberRange}
+use Rattle.exec_map.specs.Index.{AreNumberRanges, IsSome, IsOfWords, has, have}
 use Rattle.exec_map.proofs.Halving.{outside_above}
 
 -- the first i stretches of the left and the first j of the right are passed
-pub record IsMeeting (left right common : List Stretch) (i j : ℕ) : Type 0 where
+pub record IsMeeting (left right common : List NumberRange) (i j : ℕ) : Type 0 where
   pub within_left : i ≤ length left
   pub within_right : j ≤ length right
   pub some : All IsSome common
   pub ascending : AllPairs (λ r q. r.end ≤ q.first) common
-  pub before : (k m : ℕ) (d : Stretch) → i ≤ k → k < length left → j ≤ m → m < length right → All (λ r. r.end ≤ max (get_or left k d).first (get_or right m d).first) common
+  pub before : (k m : ℕ) (d : NumberRange) → i ≤ k → k < length left → j ≤ m → m < length right → All (λ r. r.end ≤ max (get_or left k d).first (get_or right m d).first) common
   pub whole : All IsOfWords left → All IsOfWords right → All IsOfWords common
   pub numbers : (n : ℕ) → (have left n && have right n) ≡ (have common n || (have (drop i left) n && have (drop j right) n))
 
-pub meeting_start : (left right : List Stretch) → IsMeeting left right [] 0 0
+pub meeting_start : (left right : List NumberRange) → IsMeeting left right [] 0 0
 meeting_start left right = record {
   within_left = omega arith;
   within_right = omega arith;
@@ -38,18 +38,18 @@ meeting_start left right = record {
 }
 
 -- the stretch that two have in common
-abbrev pub meet : Stretch → Stretch → Stretch
+abbrev pub meet : NumberRange → NumberRange → NumberRange
 meet r q = record { first = max r.first q.first; end = min r.end q.end }
 
 -- it is there where it isn't empty
-abbrev pub with_meet : List Stretch → Stretch → Stretch → List Stretch
+abbrev pub with_meet : List NumberRange → NumberRange → NumberRange → List NumberRange
 with_meet common r q = cond (nat_lt (max r.first q.first) (min r.end q.end)) (common ++ meet r q ∷ []) common
 
 or_false : (b : Bool) → (b || false) ≡ b
 or_false true = refl
 or_false false = refl
 
-pub have_with_meet : (common : List Stretch) (r q : Stretch) (n : ℕ) → have (with_meet common r q) n ≡ (have common n || (has n r && has n q))
+pub have_with_meet : (common : List NumberRange) (r q : NumberRange) (n : ℕ) → have (with_meet common r q) n ≡ (have common n || (has n r && has n q))
 have_with_meet common r q n =
     elim (cases_lt (max r.first q.first) (min r.end q.end)) [
       | inl lt ↦
@@ -90,7 +90,7 @@ pass_right a b l r c none =
     ∙ ap (λ x. (c || (a && b)) || x) (and_comm r (a || l))
 
 -- what follows a stretch has no number below its end
-none_later : (xs : List Stretch) (j n : ℕ) (d : Stretch) → AreStretches xs → j < length xs → n < (get_or xs j d).end → have (drop (suc j) xs) n ≡ false
+none_later : (xs : List NumberRange) (j n : ℕ) (d : NumberRange) → AreNumberRanges xs → j < length xs → n < (get_or xs j d).end → have (drop (suc j) xs) n ≡ false
 none_later xs j n d h lt below =
     or_from_places (list_any (has n)) (has n) refl (λ _ _. refl) (drop (suc j) xs) d (λ k in_k.
     let in_all : suc j + k < length xs = omega (arith, length-drop (suc j) xs) in
@@ -98,7 +98,7 @@ none_later xs j n d h lt below =
     let out : has n (get_or xs (suc j + k) d) ≡ false = outside_above _ n (omega arith) in
     ap (has n) (get_or-drop (suc j) xs k d) ∙ out)
 
-have_drop : (xs : List Stretch) (j n : ℕ) (d : Stretch) → j < length xs → have (drop j xs) n ≡ (has n (get_or xs j d) || have (drop (j + 1) xs) n)
+have_drop : (xs : List NumberRange) (j n : ℕ) (d : NumberRange) → j < length xs → have (drop j xs) n ≡ (has n (get_or xs j d) || have (drop (j + 1) xs) n)
 have_drop xs j n d lt = ap (λ ys. have ys n) (drop-cons xs j d lt ∙ ap (λ k. get_or xs j d ∷ drop k xs) (let e : suc j ≡ j + 1 = omega arith in e))
 
 min_whole : (a b : ℕ) → a % 4 ≡ 0 → b % 4 ≡ 0 → min a b % 4 ≡ 0
@@ -109,8 +109,8 @@ min_whole a b p q =
     ]
 
 -- a step past one of the two
-step : (left right common : List Stretch) (i j : ℕ) (d : Stretch) (i' j' : ℕ) → IsMeeting left right common i j → i < length left → j < length right → i ≤ i' → j ≤ j' → i' ≤ length left → j' ≤ length right
-    → ((k m : ℕ) (e : Stretch) → i' ≤ k → k < length left → j' ≤ m → m < length right → min (get_or left i d).end (get_or right j d).end ≤ max (get_or left k e).first (get_or right m e).first)
+step : (left right common : List NumberRange) (i j : ℕ) (d : NumberRange) (i' j' : ℕ) → IsMeeting left right common i j → i < length left → j < length right → i ≤ i' → j ≤ j' → i' ≤ length left → j' ≤ length right
+    → ((k m : ℕ) (e : NumberRange) → i' ≤ k → k < length left → j' ≤ m → m < length right → min (get_or left i d).end (get_or right j d).end ≤ max (get_or left k e).first (get_or right m e).first)
     → ((n : ℕ) → (have common n || (have (drop i left) n && have (drop j right) n)) ≡ ((have common n || (has n (get_or left i d) && has n (get_or right j d))) || (have (drop i' left) n && have (drop j' right) n)))
     → IsMeeting left right (with_meet common (get_or left i d) (get_or right j d)) i' j'
 step left right common i j d i' j' h in_i in_j up_i up_j low_i low_j far pass =
@@ -126,9 +126,9 @@ step left right common i j d i' j' h in_i in_j up_i up_j low_i low_j far pass =
             within_left = low_i;
             within_right = low_j;
             some = subst (All IsSome) (sym with) (All-push IsSome common (meet r q) h.some lt);
-            ascending = let P : List Stretch → Type 0 = AllPairs (λ s t. s.end ≤ t.first) in subst P (sym with) (all_pairs_push (λ s t. s.end ≤ t.first) common (meet r q) h.ascending (h.before i j d (omega arith) in_i (omega arith) in_j));
+            ascending = let P : List NumberRange → Type 0 = AllPairs (λ s t. s.end ≤ t.first) in subst P (sym with) (all_pairs_push (λ s t. s.end ≤ t.first) common (meet r q) h.ascending (h.before i j d (omega arith) in_i (omega arith) in_j));
             before = λ k m e a b f g.
-                let P : Stretch → Type 0 = λ s. s.end ≤ max (get_or left k e).first (get_or right m e).first in
+                let P : NumberRange → Type 0 = λ s. s.end ≤ max (get_or left k e).first (get_or right m e).first in
                 subst (All P) (sym with) (All-push P common (meet r q) (h.before k m e (omega arith) b (omega arith) g) (far k m e a b f g));
             whole = λ u v.
                 let ru = u i d in_i in
@@ -143,16 +143,16 @@ step left right common i j d i' j' h in_i in_j up_i up_j low_i low_j far pass =
             within_left = low_i;
             within_right = low_j;
             some = subst (All IsSome) (sym with) h.some;
-            ascending = let P : List Stretch → Type 0 = AllPairs (λ s t. s.end ≤ t.first) in subst P (sym with) h.ascending;
+            ascending = let P : List NumberRange → Type 0 = AllPairs (λ s t. s.end ≤ t.first) in subst P (sym with) h.ascending;
             before = λ k m e a b f g.
-                let P : Stretch → Type 0 = λ s. s.end ≤ max (get_or left k e).first (get_or right m e).first in
+                let P : NumberRange → Type 0 = λ s. s.end ≤ max (get_or left k e).first (get_or right m e).first in
                 subst (All P) (sym with) (h.before k m e (omega arith) b (omega arith) g);
             whole = λ u v. subst (All IsOfWords) (sym with) (h.whole u v);
             numbers = numbers;
           }
     ]
 
-pub step_left : (left right common : List Stretch) (i j : ℕ) (d : Stretch) → AreStretches left → AreStretches right → IsMeeting left right common i j → i < length left → j < length right → (get_or left i d).end ≤ (get_or right j d).end
+pub step_left : (left right common : List NumberRange) (i j : ℕ) (d : NumberRange) → AreNumberRanges left → AreNumberRanges right → IsMeeting left right common i j → i < length left → j < length right → (get_or left i d).end ≤ (get_or right j d).end
     → IsMeeting left right (with_meet common (get_or left i d) (get_or right j d)) (i + 1) j
 step_left left right common i j d l r h in_i in_j first =
     step left right common i j d (i + 1) j h in_i in_j (omega arith) (omega arith) (omega arith) h.within_right
@@ -166,7 +166,7 @@ step_left left right common i j d l r h in_i in_j first =
     let below : n < (get_or left i d).end = grind (arith, nat_tests) in
     ap (λ k. have (drop k right) n) (let e : j + 1 ≡ suc j = omega arith in e) ∙ none_later right j n d r in_j (omega arith))))
 
-pub step_right : (left right common : List Stretch) (i j : ℕ) (d : Stretch) → AreStretches left → AreStretches right → IsMeeting left right common i j → i < length left → j < length right → (get_or right j d).end < (get_or left i d).end
+pub step_right : (left right common : List NumberRange) (i j : ℕ) (d : NumberRange) → AreNumberRanges left → AreNumberRanges right → IsMeeting left right common i j → i < length left → j < length right → (get_or right j d).end < (get_or left i d).end
     → IsMeeting left right (with_meet common (get_or left i d) (get_or right j d)) i (j + 1)
 step_right left right common i j d l r h in_i in_j first =
     step left right common i j d i (j + 1) h in_i in_j (omega arith) (omega arith) h.within_left (omega arith)
@@ -181,19 +181,19 @@ step_right left right common i j d l r h in_i in_j first =
     ap (λ k. have (drop k left) n) (let e : i + 1 ≡ suc i = omega arith in e) ∙ none_later left i n d l in_i (omega arith))))
 
 -- what is met at the end
-pub record IsMet (left right common : List Stretch) : Type 0 where
-  pub stretches : AreStretches common
+pub record IsMet (left right common : List NumberRange) : Type 0 where
+  pub stretches : AreNumberRanges common
   pub whole : All IsOfWords left → All IsOfWords right → All IsOfWords common
   pub numbers : (n : ℕ) → have common n ≡ (have left n && have right n)
 
-pub meeting_end_left : (left right common : List Stretch) (i j : ℕ) → IsMeeting left right common i j → length left ≤ i → IsMet left right common
+pub meeting_end_left : (left right common : List NumberRange) (i j : ℕ) → IsMeeting left right common i j → length left ≤ i → IsMet left right common
 meeting_end_left left right common i j h end = record {
   stretches = record { some = h.some; ascending = h.ascending };
   whole = h.whole;
   numbers = λ n. sym (h.numbers n ∙ ap (λ xs. have common n || (have xs n && have (drop j right) n)) (drop_all i left end) ∙ or_false (have common n));
 }
 
-pub meeting_end_right : (left right common : List Stretch) (i j : ℕ) → IsMeeting left right common i j → length right ≤ j → IsMet left right common
+pub meeting_end_right : (left right common : List NumberRange) (i j : ℕ) → IsMeeting left right common i j → length right ≤ j → IsMet left right common
 meeting_end_right left right common i j h end = record {
   stretches = record { some = h.some; ascending = h.ascending };
   whole = h.whole;
@@ -201,12 +201,12 @@ meeting_end_right left right common i j h end = record {
 }
 
 -- the code's test of the two
-pub meets : (common : List Stretch) (r q : Stretch) (first end : ℕ) → first ≡ max r.first q.first → end ≡ min r.end q.end → first < end → common ++ record { first = first; end = end } ∷ [] ≡ with_meet common r q
+pub meets : (common : List NumberRange) (r q : NumberRange) (first end : ℕ) → first ≡ max r.first q.first → end ≡ min r.end q.end → first < end → common ++ record { first = first; end = end } ∷ [] ≡ with_meet common r q
 meets common r q first end f e lt =
     let yes : nat_lt (max r.first q.first) (min r.end q.end) ≡ true = grind (arith, nat_tests) in
     rw (f, e, yes) refl
 
-pub misses : (common : List Stretch) (r q : Stretch) (first end : ℕ) → first ≡ max r.first q.first → end ≡ min r.end q.end → end ≤ first → common ≡ with_meet common r q
+pub misses : (common : List NumberRange) (r q : NumberRange) (first end : ℕ) → first ≡ max r.first q.first → end ≡ min r.end q.end → end ≤ first → common ≡ with_meet common r q
 misses common r q first end f e le =
     let no : nat_lt (max r.first q.first) (min r.end q.end) ≡ false = grind (arith, nat_tests) in
     rw no refl

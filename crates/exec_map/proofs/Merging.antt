@@ -8,24 +8,24 @@ use Rattle.std.proofs.lemmas.List.{take_more, take_all, get_or_default}
 use Rattle.std.proofs.lemmas.List.Elements.{All-nil, All-head, All-push, All-weaker}
 use Rattle.std.proofs.lemmas.List.Quantifiers.{all_pairs_push}
 use Rattle.std.proofs.lemmas.List.Folds.{list_any-append}
-use Rattle.exec_map.specs.declared.stretches.Stretch.{Stretch}
-use Rattle.exec_map.specs.Index.{AreStretches, IsSome, IsOfWords, has, have}
+use Rattle.exec_map.specs.declared.stretches.NumberRange.{NumberRange}
+use Rattle.exec_map.specs.Index.{AreNumberRanges, IsSome, IsOfWords, has, have}
 
 -- the first i of the rest are merged with the first: the last one is still open
-pub record IsMerging (first : Stretch) (rest merged : List Stretch) (last : Stretch) (i : ℕ) : Type 0 where
+pub record IsMerging (first : NumberRange) (rest merged : List NumberRange) (last : NumberRange) (i : ℕ) : Type 0 where
   pub some : All IsSome merged
   pub last_some : IsSome last
   pub apart : AllPairs (λ r q. r.end < q.first) merged
   pub before : All (λ r. r.end < last.first) merged
   pub whole : All IsOfWords (first ∷ rest) → All IsOfWords merged
   pub last_whole : All IsOfWords (first ∷ rest) → IsOfWords last
-  pub later : (k : ℕ) (d : Stretch) → i ≤ k → k < length rest → last.first ≤ (get_or rest k d).first
+  pub later : (k : ℕ) (d : NumberRange) → i ≤ k → k < length rest → last.first ≤ (get_or rest k d).first
   pub numbers : (n : ℕ) → (have merged n || has n last) ≡ (has n first || have (take i rest) n)
 
-abbrev pub Ascend : List Stretch → Type 0
+abbrev pub Ascend : List NumberRange → Type 0
 Ascend xs = IsNonDecreasingBy (λ r. r.first) xs
 
-pub merging_start : (first : Stretch) (rest : List Stretch) → All IsSome (first ∷ rest) → Ascend (first ∷ rest) → IsMerging first rest [] first 0
+pub merging_start : (first : NumberRange) (rest : List NumberRange) → All IsSome (first ∷ rest) → Ascend (first ∷ rest) → IsMerging first rest [] first 0
 merging_start first rest some ascend = record {
   some = All-nil _;
   last_some = All-head IsSome first rest some;
@@ -42,13 +42,13 @@ or_assoc true b c = refl
 or_assoc false b c = refl
 
 -- one more of the rest
-more : (rest : List Stretch) (i n : ℕ) (d : Stretch) → i < length rest → have (take (i + 1) rest) n ≡ (have (take i rest) n || has n (get_or rest i d))
+more : (rest : List NumberRange) (i n : ℕ) (d : NumberRange) → i < length rest → have (take (i + 1) rest) n ≡ (have (take i rest) n || has n (get_or rest i d))
 more rest i n d lt =
     ap (λ xs. have xs n) (take_more rest i d lt) ∙ list_any-append (has n) (take i rest) (get_or rest i d ∷ [])
     ∙ ap (λ b. have (take i rest) n || b) (elim (has n (get_or rest i d)) as (λ b. (b || false) ≡ b) [ true ↦ refl | false ↦ refl ])
 
 -- a stretch that begins in another or at its end makes one with it
-span : (n : ℕ) (last r : Stretch) → last.first ≤ r.first → r.first ≤ last.end → IsSome last → IsSome r → has n (record { first = last.first; end = max last.end r.end }) ≡ (has n last || has n r)
+span : (n : ℕ) (last r : NumberRange) → last.first ≤ r.first → r.first ≤ last.end → IsSome last → IsSome r → has n (record { first = last.first; end = max last.end r.end }) ≡ (has n last || has n r)
 span n last r from touch some r_some =
     elim (cases_lt last.end r.end) [
       | inl lt ↦ let e : max last.end r.end ≡ r.end = omega arith in grind (arith, nat_tests)
@@ -62,7 +62,7 @@ max_whole a b p q =
       | inr le ↦ let e : max a b ≡ a = omega arith in ap (λ n. n % 4) e ∙ p
     ]
 
-pub merging_joins : (first : Stretch) (rest merged : List Stretch) (last : Stretch) (i : ℕ) (d : Stretch) → All IsSome (first ∷ rest) → Ascend (first ∷ rest) → IsMerging first rest merged last i → i < length rest → (get_or rest i d).first ≤ last.end
+pub merging_joins : (first : NumberRange) (rest merged : List NumberRange) (last : NumberRange) (i : ℕ) (d : NumberRange) → All IsSome (first ∷ rest) → Ascend (first ∷ rest) → IsMerging first rest merged last i → i < length rest → (get_or rest i d).first ≤ last.end
     → IsMerging first rest merged (record { first = last.first; end = max last.end (get_or rest i d).end }) (i + 1)
 merging_joins first rest merged last i d some ascend h lt touch =
     let r = get_or rest i d in
@@ -84,18 +84,18 @@ merging_joins first rest merged last i d some ascend h lt touch =
           ∙ ap (λ b. has n first || b) (sym (more rest i n d lt));
     }
 
-pushed : (merged : List Stretch) (last : Stretch) (n : ℕ) → have (merged ++ last ∷ []) n ≡ (have merged n || has n last)
+pushed : (merged : List NumberRange) (last : NumberRange) (n : ℕ) → have (merged ++ last ∷ []) n ≡ (have merged n || has n last)
 pushed merged last n =
     list_any-append (has n) merged (last ∷ [])
     ∙ ap (λ b. have merged n || b) (elim (has n last) as (λ b. (b || false) ≡ b) [ true ↦ refl | false ↦ refl ])
 
-later_one : (first : Stretch) (rest : List Stretch) (i : ℕ) (d : Stretch) (k : ℕ) (e : Stretch) → Ascend (first ∷ rest) → i < length rest → i + 1 ≤ k → k < length rest → (get_or rest i d).first ≤ (get_or rest k e).first
+later_one : (first : NumberRange) (rest : List NumberRange) (i : ℕ) (d : NumberRange) (k : ℕ) (e : NumberRange) → Ascend (first ∷ rest) → i < length rest → i + 1 ≤ k → k < length rest → (get_or rest i d).first ≤ (get_or rest k e).first
 later_one first rest i d k e ascend lt low high =
     let up : (get_or rest i e).first ≤ (get_or rest k e).first = ascend (suc i) (suc k) e (omega arith) (omega arith) in
-    let P : Stretch → Type 0 = λ s. s.first ≤ (get_or rest k e).first in
+    let P : NumberRange → Type 0 = λ s. s.first ≤ (get_or rest k e).first in
     subst P (get_or_default rest i e d lt) up
 
-pub merging_pushes : (first : Stretch) (rest merged : List Stretch) (last : Stretch) (i : ℕ) (d : Stretch) → All IsSome (first ∷ rest) → Ascend (first ∷ rest) → IsMerging first rest merged last i → i < length rest → last.end < (get_or rest i d).first
+pub merging_pushes : (first : NumberRange) (rest merged : List NumberRange) (last : NumberRange) (i : ℕ) (d : NumberRange) → All IsSome (first ∷ rest) → Ascend (first ∷ rest) → IsMerging first rest merged last i → i < length rest → last.end < (get_or rest i d).first
     → IsMerging first rest (merged ++ last ∷ []) (get_or rest i d) (i + 1)
 merging_pushes first rest merged last i d some ascend h lt above =
     let r = get_or rest i d in
@@ -115,13 +115,13 @@ merging_pushes first rest merged last i d some ascend h lt above =
     }
 
 -- what is merged at the end
-pub record IsMerged (all merged : List Stretch) : Type 0 where
-  pub stretches : AreStretches merged
+pub record IsMerged (all merged : List NumberRange) : Type 0 where
+  pub stretches : AreNumberRanges merged
   pub apart : AllPairs (λ r q. r.end < q.first) merged
   pub whole : All IsOfWords all → All IsOfWords merged
   pub numbers : (n : ℕ) → have merged n ≡ have all n
 
-pub merging_end : (first : Stretch) (rest merged : List Stretch) (last : Stretch) (i : ℕ) → IsMerging first rest merged last i → length rest ≤ i → IsMerged (first ∷ rest) (merged ++ last ∷ [])
+pub merging_end : (first : NumberRange) (rest merged : List NumberRange) (last : NumberRange) (i : ℕ) → IsMerging first rest merged last i → length rest ≤ i → IsMerged (first ∷ rest) (merged ++ last ∷ [])
 merging_end first rest merged last i h end =
     let apart = all_pairs_push (λ q s. q.end < s.first) merged last h.apart h.before in
     record {
@@ -131,7 +131,7 @@ merging_end first rest merged last i h end =
       numbers = λ n. pushed merged last n ∙ h.numbers n ∙ ap (λ xs. has n first || have xs n) (take_all i rest end);
     }
 
-pub merged_none : (all : List Stretch) → length all ≡ 0 → IsMerged all []
+pub merged_none : (all : List NumberRange) → length all ≡ 0 → IsMerged all []
 merged_none [] e = record {
   stretches = record { some = All-nil _; ascending = λ i j d low high. absurd (omega arith) };
   apart = λ i j d low high. absurd (omega arith);

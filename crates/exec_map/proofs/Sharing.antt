@@ -20,24 +20,24 @@ use Rattle.exec_map.proofs.Looking.{any_only, one_touches, find_some, touches_sa
 use Rattle.exec_map.proofs.Words.{high_end, not_high}
 use Rattle.exec_map.proofs.Accepting.{none_below}
 use Rattle.elf32_read.specs.Elf.{Elf, Segment, are_placed}
-use Rattle.exec_map.specs.declared.stretches.Stretch.{Stretch}
-use Rattle.exec_map.specs.Index.{AreStretches, AreSearchable, IsSome, has, have, is_of_kind, has_line, lines_of_kind, lines_of_stretch}
+use Rattle.exec_map.specs.declared.stretches.NumberRange.{NumberRange}
+use Rattle.exec_map.specs.Index.{AreNumberRanges, AreSearchable, IsSome, has, have, is_of_kind, has_line, lines_of_kind, lines_of_stretch}
 use Rattle.exec_map.proofs.Halving.{stays_low}
 use Rattle.exec_map.proofs.Filtering.{lines_low}
 
-among : (line : ℕ) (r : Stretch) → IsSome r → is_among line (lines_of_stretch r) ≡ has line r
+among : (line : ℕ) (r : NumberRange) → IsSome r → is_among line (lines_of_stretch r) ≡ has line r
 among line r some =
     let e : r.first + (r.end - r.first) ≡ r.end = omega arith in
     ap (λ n. nat_le r.first line && nat_lt line n) e
 
-pub in_lines : (line : ℕ) (ms : List Stretch) → All IsSome ms → is_in (map lines_of_stretch ms) line ≡ have ms line
+pub in_lines : (line : ℕ) (ms : List NumberRange) → All IsSome ms → is_in (map lines_of_stretch ms) line ≡ have ms line
 in_lines line [] some = refl
 in_lines line (r ∷ rs) some =
     ap (λ b. b || is_in (map lines_of_stretch rs) line) (among line r (All-head IsSome r rs some)) ∙ ap (λ b. has line r || b) (in_lines line rs (All-tail IsSome r rs some))
 
-pub apart_lines : (ms : List Stretch) → All IsSome ms → AllPairs (λ r q. r.end < q.first) ms → AllPairs (λ r q. r.first + r.lines < q.first) (map lines_of_stretch ms)
+pub apart_lines : (ms : List NumberRange) → All IsSome ms → AllPairs (λ r q. r.end < q.first) ms → AllPairs (λ r q. r.first + r.lines < q.first) (map lines_of_stretch ms)
 apart_lines ms some apart i j d lt in_j =
-    let z : Stretch = record { first = 0; end = 0 } in
+    let z : NumberRange = record { first = 0; end = 0 } in
     let j_in : j < length ms = omega (arith, length-map ms lines_of_stretch) in
     let one = get_or-map lines_of_stretch ms i z d (omega arith) in
     let other = get_or-map lines_of_stretch ms j z d j_in in
@@ -48,9 +48,9 @@ apart_lines ms some apart i j d lt in_j =
     let pos : (get_or ms i z).first < (get_or ms i z).end = some i z (omega arith) in
     omega arith
 
-pub ranges_lines : (kind : Bool) (xs : List Segment) (ms : List Stretch) → AreSearchable xs → AreStretches ms → ((n : ℕ) → have ms n ≡ have (filter_map (lines_of_kind kind) xs) n) → AreRanges (map lines_of_stretch ms)
+pub ranges_lines : (kind : Bool) (xs : List Segment) (ms : List NumberRange) → AreSearchable xs → AreNumberRanges ms → ((n : ℕ) → have ms n ≡ have (filter_map (lines_of_kind kind) xs) n) → AreRanges (map lines_of_stretch ms)
 ranges_lines kind xs ms s h same =
-    let z : Stretch = record { first = 0; end = 0 } in
+    let z : NumberRange = record { first = 0; end = 0 } in
     let low = stays_low (2 ^ 26) (filter_map (lines_of_kind kind) xs) ms (lines_low kind xs s) h same in
     record {
       some = λ k d in_k.

@@ -12,36 +12,36 @@ use Rattle.std.proofs.lemmas.List.Recursion.{or_from_places}
 use Rattle.elf32_read.specs.Elf.{Elf, Segment, Section, are_placed, is_placed}
 use Rattle.elf32_read.specs.Segments.{section_of}
 use Rattle.elf32_read.specs.declared.Section as declared_section
-use Rattle.exec_map.specs.declared.stretches.Stretch.{Stretch}
+use Rattle.exec_map.specs.declared.stretches.NumberRange.{NumberRange}
 use Rattle.exec_map.specs.Contents.{is_executable, is_code_section, is_in_code_range, segment_has, section_has, holds_word}
 use Rattle.exec_map.specs.Refusals.{has_memory, is_too_high}
 use Rattle.exec_map.specs.declared.refused.ProgramRule.TheVariants.{TooHigh}
-use Rattle.exec_map.specs.Index.{AreStretches, AreSearchable, AreCode, NoRuleBelow, IsSome, IsOfWords, has, have, end_line, words_within, words_of_segment, words_of_section}
+use Rattle.exec_map.specs.Index.{AreNumberRanges, AreSearchable, AreCode, NoRuleBelow, IsSome, IsOfWords, has, have, end_line, words_within, words_of_segment, words_of_section}
 use Rattle.exec_map.proofs.Halving.{have_here, none_high}
 use Rattle.exec_map.proofs.Filtering.{have_filter_map, All_filter_map, pairs_filter_map, filter_map-map}
 
 -- what a stretch of words is
-pub record IsWithin (first end : ℕ) (r : Stretch) : Type 0 where
+pub record IsWithin (first end : ℕ) (r : NumberRange) : Type 0 where
   pub some : IsSome r
   pub whole : IsOfWords r
   pub from : first ≤ r.first
   pub to : r.end ≤ end
   pub low : r.end ≤ 2 ^ 31
 
-some_first : {r q : Stretch} → Some r ≡ Some q → r.first ≡ q.first
+some_first : {r q : NumberRange} → Some r ≡ Some q → r.first ≡ q.first
 some_first h = cc
 
-some_end : {r q : Stretch} → Some r ≡ Some q → r.end ≡ q.end
+some_end : {r q : NumberRange} → Some r ≡ Some q → r.end ≡ q.end
 some_end h = cc
 
-none_some : {r : Stretch} → None ≡ Some r → ⊥
+none_some : {r : NumberRange} → None ≡ Some r → ⊥
 none_some h = cc
 
 and_false : (b c : Bool) → c ≡ false → (b && c) ≡ false
 and_false true c e = e
 and_false false c e = refl
 
-within : (first end : ℕ) (r : Stretch) → words_within first end ≡ Some r → IsWithin first end r
+within : (first end : ℕ) (r : NumberRange) → words_within first end ≡ Some r → IsWithin first end r
 within first end r h =
     elim (cases_lt ((first + 3) / 4 * 4) (min end (2 ^ 31) / 4 * 4)) [
       | inl lt ↦
@@ -99,7 +99,7 @@ words_high first end a high =
     ]
 
 -- of a segment and of a section
-segment_within : (s : Segment) (r : Stretch) → words_of_segment s ≡ Some r → IsWithin s.vaddr (s.vaddr + length s.bytes) r
+segment_within : (s : Segment) (r : NumberRange) → words_of_segment s ≡ Some r → IsWithin s.vaddr (s.vaddr + length s.bytes) r
 segment_within s r h =
     elim (cases_Bool (is_executable s)) [
       | inl here ↦ within _ _ r (sym (cond-true _ _ _ here) ∙ h)
@@ -120,7 +120,7 @@ segment_high s a high =
       | inr out ↦ ap (λ o. option_map_or (has a) o false) (cond-false _ _ _ out)
     ]
 
-section_within : (s : Section) (r : Stretch) → words_of_section s ≡ Some r → IsWithin s.addr (s.addr + s.size) r
+section_within : (s : Section) (r : NumberRange) → words_of_section s ≡ Some r → IsWithin s.addr (s.addr + s.size) r
 section_within s r h =
     elim (cases_Bool (is_code_section s)) [
       | inl here ↦ within _ _ r (sym (cond-true _ _ _ here) ∙ h)
@@ -155,7 +155,7 @@ sections_words ss a aligned low =
     ∙ have_filter_map words_of_section a (map section_of ss)
     ∙ any_agree (λ s. option_map_or (has a) (words_of_section s) false) (section_has a) (λ s. section_words s a aligned low) (map section_of ss)
 
-in_order : (s t : Segment) (r q : Stretch) → is_placed s ≡ true → end_line s ≤ t.vaddr / 64 → IsWithin s.vaddr (s.vaddr + length s.bytes) r → IsWithin t.vaddr (t.vaddr + length t.bytes) q → r.end ≤ q.first
+in_order : (s t : Segment) (r q : NumberRange) → is_placed s ≡ true → end_line s ≤ t.vaddr / 64 → IsWithin s.vaddr (s.vaddr + length s.bytes) r → IsWithin t.vaddr (t.vaddr + length t.bytes) q → r.end ≤ q.first
 in_order s t r q placed far one other =
     let fits : length s.bytes ≤ s.memsz = grind (arith, nat_tests) in
     let to : r.end ≤ s.vaddr + length s.bytes = one.to in
@@ -163,7 +163,7 @@ in_order s t r q placed far one other =
     omega arith
 
 -- the words of the segments
-pub segments_stretches : (xs : List Segment) → AreSearchable xs → AreStretches (filter_map words_of_segment xs)
+pub segments_stretches : (xs : List Segment) → AreSearchable xs → AreNumberRanges (filter_map words_of_segment xs)
 segments_stretches xs h = record {
   some = All_filter_map IsSome (λ _. Unit {0}) words_of_segment (λ s r _ is. (segment_within s r is).some) xs (λ _ _ _. tt);
   ascending = pairs_filter_map (λ r q. r.end ≤ q.first) (λ s t. (is_placed s ≡ true) × (end_line s ≤ t.vaddr / 64)) words_of_segment (λ s t r q both r_is q_is. in_order s t r q both.0 both.1 (segment_within s r r_is) (segment_within t q q_is)) xs
@@ -176,7 +176,7 @@ segments_whole xs = All_filter_map IsOfWords (λ _. Unit {0}) words_of_segment (
 pub segments_low : (xs : List Segment) → All (λ r. r.end ≤ 2 ^ 31) (filter_map words_of_segment xs)
 segments_low xs = All_filter_map (λ r. r.end ≤ 2 ^ 31) (λ _. Unit {0}) words_of_segment (λ s r _ is. (segment_within s r is).low) xs (λ _ _ _. tt)
 
-both_low : (end : ℕ) (ls rs ms : List Stretch) → All (λ r. r.end ≤ end) rs → AreStretches ms → ((n : ℕ) → have ms n ≡ (have ls n && have rs n)) → All (λ r. r.end ≤ end) ms
+both_low : (end : ℕ) (ls rs ms : List NumberRange) → All (λ r. r.end ≤ end) rs → AreNumberRanges ms → ((n : ℕ) → have ms n ≡ (have ls n && have rs n)) → All (λ r. r.end ≤ end) ms
 both_low end ls rs ms low h both k d in_k =
     elim (cases_lt end (get_or ms k d).end) [
       | inl lt ↦
@@ -313,9 +313,9 @@ in_sections : (ss : List Section) (segments : List Segment) (a : ℕ) → 0 < le
 in_sections [] segments a some = absurd (omega arith)
 in_sections (s ∷ ss) segments a some = refl
 
-pub code_of_sections : (e : Elf) (xs : List Segment) (named common : List Stretch) → 0 < length e.sections → IsPermutation (filter has_memory e.segments) xs → are_placed e.segments ≡ true → NoRuleBelow e 15
+pub code_of_sections : (e : Elf) (xs : List Segment) (named common : List NumberRange) → 0 < length e.sections → IsPermutation (filter has_memory e.segments) xs → are_placed e.segments ≡ true → NoRuleBelow e 15
     → All IsOfWords named → ((a : ℕ) → a % 4 ≡ 0 → a < 2 ^ 31 → have named a ≡ list_any (section_has a) e.sections)
-    → AreStretches common → (All IsOfWords named → All IsOfWords (filter_map words_of_segment xs) → All IsOfWords common) → ((a : ℕ) → have common a ≡ (have named a && have (filter_map words_of_segment xs) a)) → AreCode e common
+    → AreNumberRanges common → (All IsOfWords named → All IsOfWords (filter_map words_of_segment xs) → All IsOfWords common) → ((a : ℕ) → have common a ≡ (have named a && have (filter_map words_of_segment xs) a)) → AreCode e common
 code_of_sections e xs named common some same placed none named_whole named_words stretches whole numbers = record {
   stretches = stretches;
   whole = whole named_whole (segments_whole xs);

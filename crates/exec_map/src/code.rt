@@ -7,17 +7,15 @@ ghost use Rattle.std.specs.List.Sorted.{IsPermutation};
 ghost use Rattle.elf32_read.specs.Elf.{are_placed};
 ghost use Rattle.elf32_read.specs.Segments.{segment_of, section_of};
 ghost use Rattle.exec_map.specs.Index as index;
-ghost use Rattle.exec_map.specs.Index.{AreSearchable, AreStretches, AreCode, IsOfWords};
+ghost use Rattle.exec_map.specs.Index.{AreSearchable, AreNumberRanges, AreCode, IsOfWords};
 ghost use Rattle.exec_map.specs.Index.{NoRuleBelow, have, words_of_segment, words_of_section};
 ghost use Rattle.exec_map.specs.Refusals.{has_memory};
 
 use crate::segment;
-use crate::stretches::{self, Stretch};
+use crate::stretches::{self, NumberRange};
 use elf32_read::{Elf, Section, Segment};
+use rv32_program::addresses::MEMORY_END;
 use std::alloc::{AllocError, Global};
-
-/// Code stands below this address.
-const END: u64 = 0x8000_0000;
 
 /// The address of the last whole word.
 const LAST_WORD: u32 = 0xffff_fffc;
@@ -28,7 +26,7 @@ pub fn ranges<'a>(
     alloc: Global,
     e: &Elf<'a>,
     segments: &[Segment<'a>],
-) -> Result<Vec<Stretch>, AllocError>
+) -> Result<Vec<NumberRange>, AllocError>
     requires permutation { IsPermutation (filter has_memory e.now.segments)
         (map segment_of segments.now) }
     requires searchable { AreSearchable (map segment_of segments.now) }
@@ -46,7 +44,7 @@ pub fn ranges<'a>(
 }
 
 /// The words that the file has for the executable segments.
-fn of_segments(alloc: Global, segments: &[Segment<'_>]) -> Result<Vec<Stretch>, AllocError>
+fn of_segments(alloc: Global, segments: &[Segment<'_>]) -> Result<Vec<NumberRange>, AllocError>
     ensures { IfOk result (λ v.
         v.items ≡ filter_map (λ s. words_of_segment (segment_of s)) segments.now) }
 {
@@ -54,7 +52,7 @@ fn of_segments(alloc: Global, segments: &[Segment<'_>]) -> Result<Vec<Stretch>, 
 }
 
 /// The words that the file has for a segment, where it is executable.
-fn of_segment(s: &Segment<'_>) -> Option<Stretch>
+fn of_segment(s: &Segment<'_>) -> Option<NumberRange>
     ensures { result ≡ words_of_segment (segment_of s.now) }
 {
     if segment::is_executable(s) {
@@ -65,8 +63,8 @@ fn of_segment(s: &Segment<'_>) -> Option<Stretch>
 }
 
 /// The words of the sections of code.
-fn of_sections(alloc: Global, sections: &[Section<'_>]) -> Result<Vec<Stretch>, AllocError>
-    ensures stretches { IfOk result (λ v. AreStretches v.items) }
+fn of_sections(alloc: Global, sections: &[Section<'_>]) -> Result<Vec<NumberRange>, AllocError>
+    ensures stretches { IfOk result (λ v. AreNumberRanges v.items) }
     ensures whole { IfOk result (λ v. All IsOfWords v.items) }
     ensures words { (a : ℕ) → IfOk result (λ v. have v.items a ≡
         have (filter_map (λ s. words_of_section (section_of s)) sections.now) a) }
@@ -78,7 +76,7 @@ fn of_sections(alloc: Global, sections: &[Section<'_>]) -> Result<Vec<Stretch>, 
 }
 
 /// The words of each section of code, in the order of the sections.
-fn section_words(alloc: Global, sections: &[Section<'_>]) -> Result<Vec<Stretch>, AllocError>
+fn section_words(alloc: Global, sections: &[Section<'_>]) -> Result<Vec<NumberRange>, AllocError>
     ensures { IfOk result (λ v.
         v.items ≡ filter_map (λ s. words_of_section (section_of s)) sections.now) }
 {
@@ -86,7 +84,7 @@ fn section_words(alloc: Global, sections: &[Section<'_>]) -> Result<Vec<Stretch>
 }
 
 /// The words of a section, where it is one of code.
-fn of_section(s: &Section<'_>) -> Option<Stretch>
+fn of_section(s: &Section<'_>) -> Option<NumberRange>
     ensures { result ≡ words_of_section (section_of s.now) }
 {
     if segment::is_code_section(s) {
@@ -97,14 +95,14 @@ fn of_section(s: &Section<'_>) -> Option<Stretch>
 }
 
 /// The whole words at multiples of four from an address to before an end, as far as they are low.
-fn words_within(first: u64, end: u64) -> Option<Stretch>
+fn words_within(first: u64, end: u64) -> Option<NumberRange>
     requires { first < 2 ^ 32 }
     ensures { result ≡ index.words_within first end }
 {
     let first = (first + 3) / 4 * 4;
-    let end = end.min(END) / 4 * 4;
+    let end = end.min(u64::from(MEMORY_END)) / 4 * 4;
     if first < end {
-        Some(Stretch {
+        Some(NumberRange {
             first: first as u32,
             end: end as u32,
         })
@@ -114,16 +112,16 @@ fn words_within(first: u64, end: u64) -> Option<Stretch>
 }
 
 /// Whether a code word stands at the address.
-pub fn has_word(code: &[Stretch], address: u32) -> bool
-    requires { AreStretches code.now }
+pub fn has_word(code: &[NumberRange], address: u32) -> bool
+    requires { AreNumberRanges code.now }
     ensures { result ≡ (address % 4 == 0) && have code.now address }
 {
     address % 4 == 0 && stretches::has(code, address)
 }
 
 /// The address of the lowest code word at or above another address.
-pub fn next_word(code: &[Stretch], from: u32) -> Option<u32>
-    requires stretches { AreStretches code.now }
+pub fn next_word(code: &[NumberRange], from: u32) -> Option<u32>
+    requires stretches { AreNumberRanges code.now }
     requires whole { All IsOfWords code.now }
     requires low { All (λ r. r.end ≤ 2 ^ 31) code.now }
     ensures from { IfSome result (λ a. from ≤ a) }

@@ -12,6 +12,7 @@ ghost use Rattle.exec_map.specs.Contents as model;
 ghost use Rattle.exec_map.specs.Refusals.{IsRefusedBy, IsAcceptable};
 
 mod code;
+mod first_memory;
 mod refused;
 mod rules;
 mod segment;
@@ -21,12 +22,13 @@ mod stretches;
 pub use block_layout::{Lines, Ranges};
 pub use byte_range;
 use elf32_read::{Elf, Segment};
+pub use first_memory::{read_only_memory, shared_memory};
 pub use refused::{ProgramRefused, ProgramRule};
 use rv32_decode::{Instr, Width, decode};
 pub use rv32_program::{CallKind, Class, End, Exit, call_of};
 use std::alloc::{AllocError, Global};
 use std::marker::Model;
-use stretches::Stretch;
+use stretches::NumberRange;
 
 /// The first line of the window of which each processor has its own.
 const PRIVATE_FIRST: u32 = 0x1ff_fc00;
@@ -41,7 +43,7 @@ pub struct Program<'a> {
     /// The segments that have memory, ascending.
     segments: Vec<Segment<'a>>,
     /// Where the code words stand, ascending.
-    code: Vec<Stretch>,
+    code: Vec<NumberRange>,
 }
 
 impl<'a> Model for Program<'a> {

@@ -9,7 +9,7 @@ ghost use Rattle.exec_map.specs.Refusals as model;
 ghost use Rattle.exec_map.specs.Index.{AreSorted, AreSearchable, AreCode, IsIndex, NoRuleBelow};
 ghost use Rattle.exec_map.specs.Index.{common_line, is_of_kind};
 
-use crate::stretches::Stretch;
+use crate::stretches::NumberRange;
 use crate::{Class, ProgramRule, code, segment, segments};
 use elf32_read::{Elf, Section, Segment};
 use rv32_decode::{Width, decode};
@@ -91,7 +91,11 @@ fn have_common_line(one: &Segment<'_>, other: &Segment<'_>) -> bool
 }
 
 /// The first of the rules from that on code on that fits.
-pub fn broken_by_code(e: &Elf<'_>, sorted: &[Segment<'_>], code: &[Stretch]) -> Option<ProgramRule>
+pub fn broken_by_code(
+    e: &Elf<'_>,
+    sorted: &[Segment<'_>],
+    code: &[NumberRange],
+) -> Option<ProgramRule>
     requires index { IsIndex e.now (map segment_of sorted.now) code.now }
     requires before { NoRuleBelow e.now 15 }
     ensures some { IfSome result (model.IsRefusedBy e.now) }
@@ -154,7 +158,11 @@ fn is_too_much(all: &[Segment<'_>], writable: bool) -> bool
 }
 
 /// The lowest code word that is no instruction, with its address.
-fn first_unsupported(e: &Elf<'_>, sorted: &[Segment<'_>], code: &[Stretch]) -> Option<(u32, u32)>
+fn first_unsupported(
+    e: &Elf<'_>,
+    sorted: &[Segment<'_>],
+    code: &[NumberRange],
+) -> Option<(u32, u32)>
     requires index { IsIndex e.now (map segment_of sorted.now) code.now }
     requires before { NoRuleBelow e.now 15 }
     ensures some { IfSome result (λ p. model.IsFirstUnsupported e.now p.0 p.1) }

@@ -15,7 +15,7 @@ ghost use Rattle.exec_map.specs.Index.{AreSorted, AreApart, AreSearchable, IsSom
 ghost use Rattle.exec_map.specs.Index.{has_line};
 ghost use Rattle.exec_map.specs.Refusals.{has_memory};
 
-use crate::stretches::{self, Stretch};
+use crate::stretches::{self, NumberRange};
 use crate::{Lines, segment};
 use elf32_read::Segment;
 use rv32_decode::Width;
@@ -154,7 +154,7 @@ pub fn ranges_of(
 }
 
 /// Stretches of lines by their lengths.
-fn lengths(alloc: Global, stretches: &[Stretch]) -> Result<Vec<Lines>, AllocError>
+fn lengths(alloc: Global, stretches: &[NumberRange]) -> Result<Vec<Lines>, AllocError>
     requires { All IsSome stretches.now }
     ensures { IfOk result (λ v. v.items ≡ map index.lines_of_stretch stretches.now) }
 {
@@ -173,7 +173,7 @@ fn lines_of_kind(
     alloc: Global,
     sorted: &[Segment<'_>],
     writable: bool,
-) -> Result<Vec<Stretch>, AllocError>
+) -> Result<Vec<NumberRange>, AllocError>
     ensures { IfOk result (λ v. v.items
         ≡ filter_map (λ s. index.lines_of_kind writable (segment_of s)) sorted.now) }
 {
@@ -184,11 +184,11 @@ fn lines_of_kind(
 }
 
 /// The lines in which a segment has a byte, where it is of this kind.
-fn lines_of(s: &Segment<'_>, writable: bool) -> Option<Stretch>
+fn lines_of(s: &Segment<'_>, writable: bool) -> Option<NumberRange>
     ensures { result ≡ index.lines_of_kind writable (segment_of s.now) }
 {
     if segment::is_writable(s) == writable {
-        Some(Stretch {
+        Some(NumberRange {
             first: s.vaddr / 64,
             end: segment::end_line(s) as u32,
         })

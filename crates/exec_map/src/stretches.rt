@@ -4,20 +4,20 @@ ghost use Rattle.std.specs.Prelude.{◌≡◌, ◌+◌, ◌%◌, ◌<◌, ◌≤
 ghost use Rattle.std.specs.Prelude.{AllPairs, IfOk, IfNone, IfSome};
 ghost use Rattle.std.specs.List.{AllWithin};
 ghost use Rattle.std.specs.List.Sorted.{IsNonDecreasingBy};
-ghost use Rattle.exec_map.specs.Index.{AreStretches, IsSome, IsOfWords, have};
+ghost use Rattle.exec_map.specs.Index.{AreNumberRanges, IsSome, IsOfWords, have};
 
 use std::alloc::{AllocError, Global};
 
 /// The numbers from a first one to before an end.
 #[derive(Clone, Copy, Debug)]
-pub struct Stretch {
+pub struct NumberRange {
     pub first: u32,
     pub end: u32,
 }
 
 /// How many of the stretches end at or below a number.
-fn ended(stretches: &[Stretch], number: u32) -> usize
-    requires { AreStretches stretches.now }
+fn ended(stretches: &[NumberRange], number: u32) -> usize
+    requires { AreNumberRanges stretches.now }
     ensures ended { AllWithin (λ r. r.end ≤ number) stretches.now 0 result }
     ensures ahead { AllWithin (λ r. number < r.end) stretches.now result (length stretches.now) }
 {
@@ -25,8 +25,8 @@ fn ended(stretches: &[Stretch], number: u32) -> usize
 }
 
 /// Whether a number is in one of the stretches.
-pub fn has(stretches: &[Stretch], number: u32) -> bool
-    requires { AreStretches stretches.now }
+pub fn has(stretches: &[NumberRange], number: u32) -> bool
+    requires { AreNumberRanges stretches.now }
     ensures { result ≡ have stretches.now number }
 {
     let place = ended(stretches, number);
@@ -37,8 +37,8 @@ pub fn has(stretches: &[Stretch], number: u32) -> bool
 }
 
 /// The least number of the stretches at or above another.
-pub fn next(stretches: &[Stretch], from: u32) -> Option<u32>
-    requires { AreStretches stretches.now }
+pub fn next(stretches: &[NumberRange], from: u32) -> Option<u32>
+    requires { AreNumberRanges stretches.now }
     ensures from { IfSome result (λ n. from ≤ n) }
     ensures some { IfSome result (λ n. have stretches.now n ≡ true) }
     ensures least { IfSome result (λ n. (m : ℕ) → from ≤ m → m < n → have stretches.now m ≡ false) }
@@ -52,10 +52,10 @@ pub fn next(stretches: &[Stretch], from: u32) -> Option<u32>
 }
 
 /// The same numbers in the least number of stretches.
-pub fn merged(alloc: Global, stretches: &[Stretch]) -> Result<Vec<Stretch>, AllocError>
+pub fn merged(alloc: Global, stretches: &[NumberRange]) -> Result<Vec<NumberRange>, AllocError>
     requires some { All IsSome stretches.now }
     requires sorted { IsNonDecreasingBy (λ r. r.first) stretches.now }
-    ensures stretches { IfOk result (λ v. AreStretches v.items) }
+    ensures stretches { IfOk result (λ v. AreNumberRanges v.items) }
     ensures apart { IfOk result (λ v. AllPairs (λ r q. r.end < q.first) v.items) }
     ensures whole { All IsOfWords stretches.now → IfOk result (λ v. All IsOfWords v.items) }
     ensures numbers { (n : ℕ) → IfOk result (λ v. have v.items n ≡ have stretches.now n) }
@@ -67,7 +67,7 @@ pub fn merged(alloc: Global, stretches: &[Stretch]) -> Result<Vec<Stretch>, Allo
     let mut last = *first;
     for r in rest {
         if r.first <= last.end {
-            last = Stretch {
+            last = NumberRange {
                 first: last.first,
                 end: last.end.max(r.end),
             };
@@ -83,12 +83,12 @@ pub fn merged(alloc: Global, stretches: &[Stretch]) -> Result<Vec<Stretch>, Allo
 /// The numbers that two lists of stretches have in common.
 pub fn common(
     alloc: Global,
-    left: &[Stretch],
-    right: &[Stretch],
-) -> Result<Vec<Stretch>, AllocError>
-    requires left { AreStretches left.now }
-    requires right { AreStretches right.now }
-    ensures stretches { IfOk result (λ v. AreStretches v.items) }
+    left: &[NumberRange],
+    right: &[NumberRange],
+) -> Result<Vec<NumberRange>, AllocError>
+    requires left { AreNumberRanges left.now }
+    requires right { AreNumberRanges right.now }
+    ensures stretches { IfOk result (λ v. AreNumberRanges v.items) }
     ensures whole { All IsOfWords left.now → All IsOfWords right.now
         → IfOk result (λ v. All IsOfWords v.items) }
     ensures numbers { (n : ℕ) → IfOk result (λ v.
@@ -101,7 +101,7 @@ pub fn common(
         let first = left[i].first.max(right[j].first);
         let end = left[i].end.min(right[j].end);
         if first < end {
-            common.push(Stretch { first, end })?;
+            common.push(NumberRange { first, end })?;
         }
         if left[i].end <= right[j].end {
             i += 1;

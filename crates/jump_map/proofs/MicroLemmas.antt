@@ -10,7 +10,7 @@ use Rattle.micro_op.specs.rv32_step.declared.Demand.TheVariants.{Continues, Jump
 use Rattle.runtime_words.specs.declared.RtWord.{RtWord}
 use Rattle.runtime_words.specs.declared.RtWord.TheVariants.{Native, Poll, Xjalr, Far}
 use Rattle.micro_op.specs.declared.MicroKind.{MicroKind}
-use Rattle.micro_op.specs.declared.MicroKind.TheVariants.{Rare, AddImm, Or}
+use Rattle.micro_op.specs.declared.MicroKind.TheVariants.{Slow, AddImm, Or}
 use Rattle.micro_op.specs.Micro.{Meaning, Meets, EntersAt, by_immediate, by_registers, meaning_by, meaning_of}
 use Rattle.micro_op.specs.declared.micro_op.MicroOp.{MicroOp}
 use Rattle.jump_map.specs.declared.image.ImageWord.{ImageWord}
@@ -49,7 +49,7 @@ micros_more image old new m k is long h own look = record {
 }
 
 -- a micro-op that means the same is one of the same words
-kind_kept : (a : ℕ) (w : Option RtWord) (m n : MicroOp) → m.kind ≢ Rare
+kind_kept : (a : ℕ) (w : Option RtWord) (m n : MicroOp) → m.kind ≢ Slow
     → ((r : ℕ → ℕ) → meaning_of image_base m r ≡ meaning_of image_base n r) → IsMicroWord a w m → IsMicroWord a w n
 kind_kept a None m n served same is = absurd (served is)
 kind_kept a (Some (Native i)) m n served same is = record {
@@ -68,14 +68,14 @@ kind_kept a (Some w) m n served same is = absurd (served is)
 pub look_kept : (a : ℕ) (w : Option RtWord) (m n : MicroOp) → m.kind ≡ AddImm
     → ((r : ℕ → ℕ) → meaning_of image_base n r ≡ by_immediate op.Add m r) → IsMicroWord a w m → IsMicroWord a w n
 look_kept a w m n adds does is =
-    kind_kept a w m n (λ rare. absurd (cc))
+    kind_kept a w m n (λ slow. absurd (cc))
     (λ r. ap (λ (q : MicroKind). meaning_by q image_base m r) adds ∙ sym (does r)) is
 
 -- one that ors two registers, and one of two looks
 pub both_kept : (a : ℕ) (w : Option RtWord) (m n : MicroOp) → m.kind ≡ Or
     → ((r : ℕ → ℕ) → meaning_of image_base n r ≡ by_registers op.Or m r) → IsMicroWord a w m → IsMicroWord a w n
 both_kept a w m n ors does is =
-    kind_kept a w m n (λ rare. absurd (cc))
+    kind_kept a w m n (λ slow. absurd (cc))
     (λ r. ap (λ (q : MicroKind). meaning_by q image_base m r) ors ∙ sym (does r)) is
 
 -- a word that was read is there

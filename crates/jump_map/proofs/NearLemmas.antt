@@ -18,7 +18,7 @@ use Rattle.templates.specs.declared.places.Part.TheVariants.{Single, Head, Fast,
 use Rattle.templates.specs.declared.plans.PlanEntry.{PlanEntry}
 use Rattle.templates.specs.declared.plans.Scratches.{Scratches}
 use Rattle.templates.specs.declared.reaches.Reach.{Reach}
-use Rattle.templates.specs.Plans.{looks_at_value}
+use Rattle.templates.specs.Plans.{is_flag_checked}
 use Rattle.templates.specs.Runs.{reach_of, code_from}
 use Rattle.templates.specs.Sequences.{ItemWord, Runs, GoesTo, SequenceItem, items_of, items_in, place_items, instruction_items, poll_first, load_sequence, flag_load_sequence, read_sequence, write_sequence, spill_by, reload_by, spills, reloads, state_look, jump_sequence, branch_sequence, is_multiple_of_four, to_head, reloads_of_run, spills_of_run, mask_readable, head_items, run_items, fast_items, batch_items}
 use Rattle.jump_map.specs.Image.{Cell, ImageWord, PlacedItem, read_cell, placed_items, address_in, part_of_entry, entry_items, plan_items, words_at, words_before, head_of, image_words, address_of_word, item_word, is_near, jump_word, IsRewriting, HasNoFar}
@@ -85,7 +85,7 @@ kept_instruction a x (Auipc rd upper) = (tt, (tt, tt))
 kept_instruction a x (Jal rd offset) = kept_jump (is_multiple_of_four (offset_address a offset)) rd _ _
 kept_instruction a x (Jalr rd rs1 imm) = (tt, tt)
 kept_instruction a x (Branch c rs1 rs2 offset) = kept_branch (is_multiple_of_four (offset_address a offset)) c rs1 rs2 _
-kept_instruction a x (Load k rd rs1 imm) = kept_load (looks_at_value k rd rs1) x k rd rs1 imm
+kept_instruction a x (Load k rd rs1 imm) = kept_load (is_flag_checked k rd rs1) x k rd rs1 imm
 kept_instruction a x (Store w rs1 rs2 imm) = kept_write x w rs1 imm _
 kept_instruction a x (OpImm o rd rs1 imm) = (tt, tt)
 kept_instruction a x (ShiftImm o rd rs1 amount) = (tt, tt)

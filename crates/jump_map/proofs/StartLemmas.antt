@@ -14,7 +14,7 @@ use Rattle.templates.specs.declared.places.Part.{Part}
 use Rattle.templates.specs.declared.places.Part.TheVariants.{Single, Head, Fast, Fallback}
 use Rattle.templates.specs.declared.plans.PlanEntry.{PlanEntry}
 use Rattle.templates.specs.declared.plans.Scratches.{Scratches}
-use Rattle.templates.specs.Plans.{looks_at_value}
+use Rattle.templates.specs.Plans.{is_flag_checked}
 use Rattle.templates.specs.Sequences.{SequenceItem, items_of, items_in, batch_sequence, place_items, poll_first, load_sequence, spill_by, jump_sequence, branch_sequence, is_multiple_of_four}
 use Rattle.jump_map.specs.Image.{Cell, ImageWord, PlacedItem, read_cell, placed_items, address_in, part_of_entry, entry_items, plan_items, words_at, image_words, head_of, address_of_word}
 use Rattle.jump_map.specs.Maps.{is_single, is_first_of, begins_at}
@@ -55,7 +55,7 @@ place_first a x (Some (Auipc rd upper)) = more_first _ _
 place_first a x (Some (Jal rd offset)) = jump_first (is_multiple_of_four (offset_address a offset)) _ _ _
 place_first a x (Some (Jalr rd rs1 imm)) = more_first _ _
 place_first a x (Some (Branch c rs1 rs2 offset)) = branch_first (is_multiple_of_four (offset_address a offset)) _ _ _ _
-place_first a x (Some (Load k rd rs1 imm)) = load_first (looks_at_value k rd rs1) x k rd rs1 imm
+place_first a x (Some (Load k rd rs1 imm)) = load_first (is_flag_checked k rd rs1) x k rd rs1 imm
 place_first a x (Some (Store w rs1 rs2 imm)) =
     spill_first x.s.spilled 0 x.s.register _ (spill_first x.t.spilled 1 x.t.register _ (more_first _ _))
 place_first a x (Some (OpImm o rd rs1 imm)) = more_first _ _

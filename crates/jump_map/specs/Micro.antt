@@ -6,13 +6,13 @@ use Rattle.runtime_words.specs.declared.RtWord.{RtWord}
 use Rattle.runtime_words.specs.declared.RtWord.TheVariants.{Native, Poll, Xjalr, Far}
 use Rattle.micro_op.specs.declared.micro_op.MicroOp.{MicroOp}
 use Rattle.micro_op.specs.declared.MicroKind.{MicroKind}
-use Rattle.micro_op.specs.declared.MicroKind.TheVariants.{Rare, Constant, SrlImm, Add, AddImm, AndImm, LoadByteU, LoadWord, BranchEq, BranchNe, BranchLt, Look, LookToRead, LookToWrite, LookAtValue, LookAgain, BothToRead, BothToWrite}
+use Rattle.micro_op.specs.declared.MicroKind.TheVariants.{Slow, Constant, SrlImm, Add, AddImm, AndImm, LoadByteU, LoadWord, BranchEq, BranchNe, BranchLt, Look, LookToRead, LookToWrite, LookAtValue, LookAgain, BothToRead, BothToWrite}
 use Rattle.micro_op.specs.rv32_step.declared.Demand.TheVariants.{Continues, Jumps}
 use Rattle.micro_op.specs.Micro.{IsMicroOf, IsEntryOf, Meets, meaning_of}
 use Rattle.jump_map.specs.Image.{Cell, image_base, address_of_word, read_cell}
 
 -- the micro-op is that of a word at an address: of a native instruction, of a poll, which does
--- nothing, of an indirect jump, or of a far jump, which keeps no link; every other word is rare
+-- nothing, of an indirect jump, or of a far jump, which keeps no link; every other word is slow
 abbrev pub IsMicroWord : ℕ → Option RtWord → MicroOp → Type 0
 IsMicroWord address (Some (Native i)) m = IsMicroOf image_base address i m
 IsMicroWord address (Some Poll) m =
@@ -22,7 +22,7 @@ IsMicroWord address (Some (Xjalr rd rs1 imm)) m =
 IsMicroWord address (Some (Far k)) m =
     (registers : ℕ → ℕ) →
     Meets (meaning_of image_base m registers) (Jumps 0 (address_of_word k))
-IsMicroWord address word m = m.kind ≡ Rare
+IsMicroWord address word m = m.kind ≡ Slow
 
 -- the micro-op is that of the image's word of this number
 pub record IsMicroAt (image : List Cell) (k : ℕ) (m : MicroOp) : Type 0 where

@@ -12,13 +12,12 @@ use crate::cells::Cells;
 use crate::image::IMAGE_BASE;
 use crate::micros::{micro_of, single_at};
 use micro_op::{MicroKind, MicroOp};
+use runtime_words::FLAG_WORD;
 use rv32_decode::Reg;
+use rv32_program::addresses::STATE_TABLE;
 
 /// The most words that stand behind the first of those that belong together.
 const MOST_BEHIND: usize = 6;
-
-/// The flag word, which a node's copy holds wherever it may not be read.
-const FLAG_WORD: u32 = 0xffff_ff03;
 
 /// The micro-op of the word of a number that adds an immediate: of a kind that says what stands
 /// behind it, where that reads the state of a line, or compares a word with the flag word.
@@ -149,7 +148,7 @@ fn reads_state(cells: &Cells, k: usize, s: Reg, t: Reg) -> bool
         && is_at(
             cells,
             k + 1,
-            &op_by(MicroKind::Constant, t, Reg::ZERO, Reg::ZERO, 0x8000_0000),
+            &op_by(MicroKind::Constant, t, Reg::ZERO, Reg::ZERO, STATE_TABLE),
         )
         && is_at(cells, k + 2, &op_by(MicroKind::SrlImm, s, s, Reg::ZERO, 6))
         && is_at(cells, k + 3, &op_by(MicroKind::Add, s, s, t, 0))

@@ -68,7 +68,7 @@ fn micro_at(cells: &Cells, k: usize) -> MicroOp
         | MicroKind::LookAtValue
         | MicroKind::LookAgain
         | MicroKind::BothToRead
-        | MicroKind::BothToWrite => MicroOp::RARE,
+        | MicroKind::BothToWrite => MicroOp::SLOW,
         _ => op,
     }
 }
@@ -81,7 +81,7 @@ pub(crate) fn single_at(cells: &Cells, k: usize) -> MicroOp
 {
     match cells.read(k) {
         Some(word) => micro_of(word.what, IMAGE_BASE + 4 * k as u32),
-        None => MicroOp::RARE,
+        None => MicroOp::SLOW,
     }
 }
 
@@ -91,7 +91,7 @@ pub(crate) fn micro_of(what: Option<RtWord>, address: u32) -> MicroOp
 {
     match what {
         Some(word) => micro_of_word(&word, address),
-        None => MicroOp::RARE,
+        None => MicroOp::SLOW,
     }
 }
 
@@ -104,6 +104,6 @@ fn micro_of_word(word: &RtWord, address: u32) -> MicroOp
         RtWord::Poll => NOTHING,
         RtWord::Xjalr { rd, rs1, imm } => MicroOp::entry(*rd, *rs1, *imm),
         RtWord::Far(number) => far(*number),
-        _ => MicroOp::RARE,
+        _ => MicroOp::SLOW,
     }
 }

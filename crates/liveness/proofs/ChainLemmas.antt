@@ -1,7 +1,7 @@
 -- Chains of edges.
 use Rattle.std.specs.Prelude.{Some, slice_get}
 use Rattle.std.proofs.Math.ListN.{set}
-use Rattle.liveness.specs.declared.node.Node.{Node}
+use Rattle.liveness.specs.declared.node.FlowNode.{FlowNode}
 use Rattle.liveness.specs.Leads.{Leads}
 use Rattle.liveness.specs.Nodes.{Next}
 use Rattle.std.proofs.Common.{◌≡◌, ℕ, ◌+◌, ◌*◌, ◌<◌, ◌⊎◌, inl, inr, List, [], ◌∷◌, ◌++◌, length, get_or, sym, ap, ◌∙◌, subst, arith}
@@ -54,7 +54,7 @@ pub pass_kept : (heads links new : List ℕ) (e q : ℕ) → new ≡ links ++ 0 
 pass_kept heads links new e q en c = let N : List ℕ → Type 0 = λ ls. InChain ls e (get_or heads q 0) in subst N (sym en) (chain_more links 0 e _ c)
 
 -- the edges of one more node
-pub leads_more : (nodes : List Node) (i : ℕ) (node : Node) (h0 l0 h1 l1 h2 l2 : List ℕ) → Leads nodes i h0 l0 → slice_get nodes i ≡ Some node →
+pub leads_more : (nodes : List FlowNode) (i : ℕ) (node : FlowNode) (h0 l0 h1 l1 h2 l2 : List ℕ) → Leads nodes i h0 l0 → slice_get nodes i ≡ Some node →
     length l0 ≡ 2 * i → length l1 ≡ 2 * i + 1 → length h2 ≡ length h0 → length h1 ≡ length h0 →
     ((e b : ℕ) → IsInto h0 l0 e b → IsInto h1 l1 e b) → ((e b : ℕ) → IsInto h1 l1 e b → IsInto h2 l2 e b) →
     ((b : ℕ) → node.first ≡ Some b → b < length h0 → IsInto h1 l1 (length l0) b) →
@@ -65,7 +65,7 @@ leads_more nodes i node h0 l0 h1 l1 h2 l2 leads at len0 len1 hs hs1 kept1 kept2 
       let one : Some other ≡ Some node = sym is ∙ ap (slice_get nodes) same.1 ∙ at in
       let it : other ≡ node = cc in
       let e = same.1 in
-      let P : Node → Type 0 = λ n. Next n b in
+      let P : FlowNode → Type 0 = λ n. Next n b in
       elim (subst P it next) [
         | inl f ↦ (length l0, omega (arith, len0, e), kept2 _ b (first b f (omega (arith, within, hs))))
         | inr s ↦ (length l1, omega (arith, len1, e), second b s (omega (arith, within, hs, hs1)))

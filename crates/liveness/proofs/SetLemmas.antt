@@ -14,7 +14,7 @@ use Rattle.rv32_decode.specs.declared.Instr.{Instr}
 use Rattle.rv32_decode.proofs.Members.{union_member, difference_member}
 use Rattle.rv32_program.specs.Liveness.{leaves_code}
 use Rattle.templates.specs.declared.code.CodeWord.{CodeWord}
-use Rattle.liveness.specs.declared.node.Node.{Node}
+use Rattle.liveness.specs.declared.node.FlowNode.{FlowNode}
 use Rattle.liveness.specs.Nodes.{Next, Live, Needs, set_of, IsNode, IsUnneeded}
 use Rattle.liveness.specs.Nodes.Live.{uses, passes}
 
@@ -38,10 +38,10 @@ transfer_member used defs after r small l =
     )
 
 -- what the successors of a node need
-abbrev pub NeedsAfter : Node → List ℕ → ℕ → Type 0
+abbrev pub NeedsAfter : FlowNode → List ℕ → ℕ → Type 0
 NeedsAfter node sets r = (b : ℕ) × Next node b × IsMember (get_or sets b 0) r
 
-pub both_member : (node : Node) (sets : List ℕ) (a b r : ℕ) → a ≡ set_of sets node.first → b ≡ set_of sets node.second
+pub both_member : (node : FlowNode) (sets : List ℕ) (a b r : ℕ) → a ≡ set_of sets node.first → b ≡ set_of sets node.second
     → (IsMember (bit_or a b) r ↔ NeedsAfter node sets r)
 both_member node sets a b r ea eb =
     let both = union_member a b r in
@@ -58,7 +58,7 @@ both_member node sets a b r ea eb =
       ]),
     )
 
-pub needed_member : (node : Node) (sets : List ℕ) (after r result : ℕ) → (IsMember after r ↔ NeedsAfter node sets r)
+pub needed_member : (node : FlowNode) (sets : List ℕ) (after r result : ℕ) → (IsMember after r ↔ NeedsAfter node sets r)
     → (IsMember result r ↔ (IsMember node.uses r ⊎ (IsMember after r × ¬ IsMember node.defs r))) → (IsMember result r ↔ Needs node sets r)
 needed_member node sets after r result both whole = (
   λ m. elim (whole.0 m) [
@@ -72,7 +72,7 @@ needed_member node sets after r result both whole = (
 )
 
 -- what no successor needs
-pub unneeded_all : (i : Instr) (node : Node) (sets : List ℕ) (after : ℕ) → after < 2 ^ 32 → leaves_code i ≡ false
+pub unneeded_all : (i : Instr) (node : FlowNode) (sets : List ℕ) (after : ℕ) → after < 2 ^ 32 → leaves_code i ≡ false
     → ((r : ℕ) → IsMember after r ↔ NeedsAfter node sets r) → IsUnneeded i node sets (2 ^ 32 - 1 - after)
 unneeded_all i node sets after small stays both r l =
     let n = bit_at_not w32 after r small l in
@@ -85,7 +85,7 @@ unneeded_all i node sets after small stays both r l =
           let clear : bit_at after r ≢ 1 = λ m. let found = (both r).0 m in h.1 found.0 found.1 found.2 in omega (arith, n, lt, clear),
     )
 
-pub unneeded_none : (i : Instr) (node : Node) (sets : List ℕ) → leaves_code i ≡ true → IsUnneeded i node sets 0
+pub unneeded_none : (i : Instr) (node : FlowNode) (sets : List ℕ) → leaves_code i ≡ true → IsUnneeded i node sets 0
 unneeded_none i node sets leaves r l = (λ m. absurd (zero_member r m), λ h. absurd (h.0 leaves))
 
 zero_at : (n i : ℕ) → ◌≡◌ {A = ℕ} (get_or (replicate n 0) i 0) 0
@@ -95,21 +95,21 @@ zero_at n i = elim (leb_tells n i) [
 ]
 
 -- each member is live
-abbrev pub IsSound : List Node → List ℕ → Type 0
+abbrev pub IsSound : List FlowNode → List ℕ → Type 0
 IsSound nodes sets = (i r : ℕ) → r < 32 → IsMember (get_or sets i 0) r → Live nodes r i
 
 -- a node that doesn't wait has what it needs
-abbrev pub IsClosed : List Node → List Bool → List ℕ → Type 0
-IsClosed nodes flags sets = (i r : ℕ) (node : Node) → r < 32 → slice_get nodes i ≡ Some node → get_or flags i false ≡ false → Needs node sets r → IsMember (get_or sets i 0) r
+abbrev pub IsClosed : List FlowNode → List Bool → List ℕ → Type 0
+IsClosed nodes flags sets = (i r : ℕ) (node : FlowNode) → r < 32 → slice_get nodes i ≡ Some node → get_or flags i false ≡ false → Needs node sets r → IsMember (get_or sets i 0) r
 
-pub sound_needs : (nodes : List Node) (sets : List ℕ) (i r : ℕ) (node : Node) → IsSound nodes sets → r < 32 → slice_get nodes i ≡ Some node → Needs node sets r → Live nodes r i
+pub sound_needs : (nodes : List FlowNode) (sets : List ℕ) (i r : ℕ) (node : FlowNode) → IsSound nodes sets → r < 32 → slice_get nodes i ≡ Some node → Needs node sets r → Live nodes r i
 sound_needs nodes sets i r node s l e n = elim n [
   | inl u ↦ uses node e u
   | inr h ↦ passes node h.1 e h.0 h.2 (s h.1 r l h.3)
 ]
 
 -- the set at a node may become what it was and what the node needs
-pub sound_set : (nodes : List Node) (sets : List ℕ) (i : ℕ) (node : Node) (more : ℕ) → IsSound nodes sets → i < length sets → slice_get nodes i ≡ Some node →
+pub sound_set : (nodes : List FlowNode) (sets : List ℕ) (i : ℕ) (node : FlowNode) (more : ℕ) → IsSound nodes sets → i < length sets → slice_get nodes i ≡ Some node →
     ((r : ℕ) → r < 32 → (IsMember more r ↔ Needs node sets r)) → IsSound nodes (set sets i (bit_or (get_or sets i 0) more))
 sound_set nodes sets i node more s l e h q r k m = elim (eqb_tells q i) [
   | inl same ↦
@@ -123,8 +123,8 @@ sound_set nodes sets i node more s l e h q r k m = elim (eqb_tells q i) [
 ]
 
 -- at a node that has what it needs
-pub closed_same : (nodes : List Node) (flags : List Bool) (sets : List ℕ) (i : ℕ) → IsClosed nodes flags sets →
-    ((r : ℕ) (node : Node) → r < 32 → slice_get nodes i ≡ Some node → Needs node sets r → IsMember (get_or sets i 0) r) → IsClosed nodes (set flags i false) sets
+pub closed_same : (nodes : List FlowNode) (flags : List Bool) (sets : List ℕ) (i : ℕ) → IsClosed nodes flags sets →
+    ((r : ℕ) (node : FlowNode) → r < 32 → slice_get nodes i ≡ Some node → Needs node sets r → IsMember (get_or sets i 0) r) → IsClosed nodes (set flags i false) sets
 closed_same nodes flags sets i c h q r node l e f n = elim (eqb_tells q i) [
   | inl same ↦
       let P : ℕ → Type 0 = λ x. IsMember (get_or sets x 0) r in
@@ -133,10 +133,10 @@ closed_same nodes flags sets i c h q r node l e f n = elim (eqb_tells q i) [
 ]
 
 -- at a node whose set changes, where each predecessor waits
-pub closed_set : (nodes : List Node) (flags later : List Bool) (sets : List ℕ) (i new : ℕ) → IsClosed nodes flags sets → i < length sets →
-    ((r : ℕ) (node : Node) → r < 32 → slice_get nodes i ≡ Some node → Needs node sets r → IsMember new r) →
+pub closed_set : (nodes : List FlowNode) (flags later : List Bool) (sets : List ℕ) (i new : ℕ) → IsClosed nodes flags sets → i < length sets →
+    ((r : ℕ) (node : FlowNode) → r < 32 → slice_get nodes i ≡ Some node → Needs node sets r → IsMember new r) →
     ((x : ℕ) → get_or (set flags i false) x false ≡ true → get_or later x false ≡ true) →
-    ((p : ℕ) (node : Node) → slice_get nodes p ≡ Some node → Next node i → get_or later p false ≡ true) →
+    ((p : ℕ) (node : FlowNode) → slice_get nodes p ≡ Some node → Next node i → get_or later p false ≡ true) →
     IsClosed nodes later (set sets i new)
 closed_set nodes flags later sets i new c l h kept back q r node k e f n =
     let not_both : get_or later q false ≡ true → ⊥ = λ t. let w = f in let v = t in cc in
@@ -157,34 +157,34 @@ closed_set nodes flags later sets i new c l h kept back q r node k e f n =
     ]
 
 -- where no node waits, each register that is live is a member
-pub complete : (nodes : List Node) (flags : List Bool) (sets : List ℕ) → IsClosed nodes flags sets → ((k : ℕ) → get_or flags k false ≡ false) →
+pub complete : (nodes : List FlowNode) (flags : List Bool) (sets : List ℕ) → IsClosed nodes flags sets → ((k : ℕ) → get_or flags k false ≡ false) →
     (r : ℕ) → r < 32 → (i : ℕ) → Live nodes r i → IsMember (get_or sets i 0) r
 complete nodes flags sets c f r l i (uses node e u) = c i r node l e (f i) (inl u)
 complete nodes flags sets c f r l i (passes node b e d n m) = c i r node l e (f i) (inr (d, b, n, complete nodes flags sets c f r l b m))
 
-pub sound_zero : (nodes : List Node) (sets : List ℕ) (n : ℕ) → sets ≡ replicate n 0 → IsSound nodes sets
+pub sound_zero : (nodes : List FlowNode) (sets : List ℕ) (n : ℕ) → sets ≡ replicate n 0 → IsSound nodes sets
 sound_zero nodes sets n e i r l m =
     let at : get_or sets i 0 ≡ 0 = ap (λ s. get_or s i 0) e ∙ zero_at n i in
     let P : ℕ → Type 0 = λ x. IsMember x r in absurd (zero_member r (subst P at m))
 
-pub closed_full : (nodes : List Node) (flags : List Bool) (sets : List ℕ) → ((k : ℕ) → k < length nodes → get_or flags k false ≡ true) → IsClosed nodes flags sets
+pub closed_full : (nodes : List FlowNode) (flags : List Bool) (sets : List ℕ) → ((k : ℕ) → k < length nodes → get_or flags k false ≡ true) → IsClosed nodes flags sets
 closed_full nodes flags sets h i r node l e f n = absurd (let t = h i (slice_get_within nodes i node e) in let w = f in cc)
 
 -- what a node without leads has
-abbrev pub blank : Node
+abbrev pub blank : FlowNode
 blank = record { uses = 0; defs = 0; first = None; second = None }
 
-pub new_needs : (nodes : List Node) (sets : List ℕ) (i old more : ℕ) → ((r : ℕ) → r < 32 → (IsMember more r ↔ Needs (get_or nodes i blank) sets r)) →
-    (r : ℕ) (node : Node) → r < 32 → slice_get nodes i ≡ Some node → Needs node sets r → IsMember (bit_or old more) r
+pub new_needs : (nodes : List FlowNode) (sets : List ℕ) (i old more : ℕ) → ((r : ℕ) → r < 32 → (IsMember more r ↔ Needs (get_or nodes i blank) sets r)) →
+    (r : ℕ) (node : FlowNode) → r < 32 → slice_get nodes i ≡ Some node → Needs node sets r → IsMember (bit_or old more) r
 new_needs nodes sets i old more h r node l e n =
-    let P : Node → Type 0 = λ x. Needs x sets r in
+    let P : FlowNode → Type 0 = λ x. Needs x sets r in
     (union_member old more r).1 (inr ((h r l).1 (subst P (sym (get_or_from_slice_get nodes i node blank e)) n)))
 
 -- what is true of each element of a list and of one more is true of the longer list
-pub dead_more : (words : List CodeWord) (nodes : List Node) (sets old new : List ℕ) (k y : ℕ) → length old ≡ k → new ≡ old ++ y ∷ []
-    → ((i : ℕ) (w : CodeWord) (node : Node) → i < k → slice_get words i ≡ Some w → slice_get nodes i ≡ Some node → IsUnneeded w.instruction node sets (get_or old i 0))
-    → ((w : CodeWord) (node : Node) → slice_get words k ≡ Some w → slice_get nodes k ≡ Some node → IsUnneeded w.instruction node sets y)
-    → (i : ℕ) (w : CodeWord) (node : Node) → i < k + 1 → slice_get words i ≡ Some w → slice_get nodes i ≡ Some node → IsUnneeded w.instruction node sets (get_or new i 0)
+pub dead_more : (words : List CodeWord) (nodes : List FlowNode) (sets old new : List ℕ) (k y : ℕ) → length old ≡ k → new ≡ old ++ y ∷ []
+    → ((i : ℕ) (w : CodeWord) (node : FlowNode) → i < k → slice_get words i ≡ Some w → slice_get nodes i ≡ Some node → IsUnneeded w.instruction node sets (get_or old i 0))
+    → ((w : CodeWord) (node : FlowNode) → slice_get words k ≡ Some w → slice_get nodes k ≡ Some node → IsUnneeded w.instruction node sets y)
+    → (i : ℕ) (w : CodeWord) (node : FlowNode) → i < k + 1 → slice_get words i ≡ Some w → slice_get nodes i ≡ Some node → IsUnneeded w.instruction node sets (get_or new i 0)
 dead_more words nodes sets old new k y len is each last i w node lt at found =
     let P : ℕ → Type 0 = λ s. IsUnneeded w.instruction node sets s in
     subst (λ xs. IsUnneeded w.instruction node sets (get_or xs i 0)) (sym is) (elim (eqb_tells i k) [
@@ -197,10 +197,10 @@ dead_more words nodes sets old new k y len is each last i w node lt at found =
           subst P (sym (get_or_append_left old (y ∷ []) 0 i (omega (arith, before, len)))) (each i w node before at found)
     ])
 
-pub nodes_more : (words : List CodeWord) (old new : List Node) (k : ℕ) (y : Node) → length old ≡ k → new ≡ old ++ y ∷ []
-    → ((i : ℕ) (w : CodeWord) (node : Node) → i < k → slice_get words i ≡ Some w → slice_get old i ≡ Some node → IsNode words w node)
+pub nodes_more : (words : List CodeWord) (old new : List FlowNode) (k : ℕ) (y : FlowNode) → length old ≡ k → new ≡ old ++ y ∷ []
+    → ((i : ℕ) (w : CodeWord) (node : FlowNode) → i < k → slice_get words i ≡ Some w → slice_get old i ≡ Some node → IsNode words w node)
     → ((w : CodeWord) → slice_get words k ≡ Some w → IsNode words w y)
-    → (i : ℕ) (w : CodeWord) (node : Node) → i < k + 1 → slice_get words i ≡ Some w → slice_get new i ≡ Some node → IsNode words w node
+    → (i : ℕ) (w : CodeWord) (node : FlowNode) → i < k + 1 → slice_get words i ≡ Some w → slice_get new i ≡ Some node → IsNode words w node
 nodes_more words old new k y len is each last i w node lt at found =
     let found_here : slice_get (old ++ y ∷ []) i ≡ Some node = ap (λ ns. slice_get ns i) (sym is) ∙ found in
     let read = get_or_from_slice_get (old ++ y ∷ []) i node node found_here in

@@ -17,7 +17,7 @@ use Rattle.templates.specs.Code.{Ascends, code_of}
 use Rattle.templates.proofs.CodeLemmas.{code_there}
 use Rattle.flow_graph.specs.Edges.{next_of, number_at}
 use Rattle.flow_graph.proofs.WordLemmas.{number_there, blank as blank_word}
-use Rattle.liveness.specs.declared.node.Node.{Node}
+use Rattle.liveness.specs.declared.node.FlowNode.{FlowNode}
 use Rattle.liveness.specs.Nodes.{Next, Live, IsNode, AreNodes, IsUnneeded, AreExact}
 use Rattle.liveness.specs.Nodes.Live.{uses as node_uses, passes as node_passes}
 use Rattle.liveness.proofs.SetLemmas.{blank}
@@ -109,14 +109,14 @@ then_some f None b h = cc
 then_some f (Some t) b h = (t, refl, h)
 
 -- an edge of a node leads to the number of a successor
-edge_to : (words : List CodeWord) (w : CodeWord) (node : Node) (b : ℕ) → IsNode words w node → Next node b
+edge_to : (words : List CodeWord) (w : CodeWord) (node : FlowNode) (b : ℕ) → IsNode words w node → Next node b
     → (t : ℕ) × IsNext w.instruction w.address t × (number_at words t ≡ Some b)
 edge_to words w node b is n = elim n [
   | inl e ↦ let t = then_some (number_at words) (next_of w.instruction w.address).first b (sym is.first ∙ e) in (t.0, direct_from w.instruction w.address t.0 (inl t.1), t.2)
   | inr e ↦ let t = then_some (number_at words) (next_of w.instruction w.address).second b (sym is.second ∙ e) in (t.0, direct_from w.instruction w.address t.0 (inr t.1), t.2)
 ]
 
-edge_from : (words : List CodeWord) (w : CodeWord) (node : Node) (t b : ℕ) → IsNode words w node → IsNext w.instruction w.address t
+edge_from : (words : List CodeWord) (w : CodeWord) (node : FlowNode) (t b : ℕ) → IsNode words w node → IsNext w.instruction w.address t
     → number_at words t ≡ Some b → Next node b
 edge_from words w node t b is n at = elim (direct_to w.instruction w.address t n) [
   | inl e ↦ inl (is.first ∙ ap (option_and_then (number_at words)) e ∙ at)
@@ -124,15 +124,15 @@ edge_from words w node t b is n at = elim (direct_to w.instruction w.address t n
 ]
 
 -- the node of a word
-node_at : (words : List CodeWord) (nodes : List Node) (k : ℕ) (w : CodeWord) → AreNodes words nodes → slice_get words k ≡ Some w
-    → (node : Node) × (slice_get nodes k ≡ Some node) × IsNode words w node
+node_at : (words : List CodeWord) (nodes : List FlowNode) (k : ℕ) (w : CodeWord) → AreNodes words nodes → slice_get words k ≡ Some w
+    → (node : FlowNode) × (slice_get nodes k ≡ Some node) × IsNode words w node
 node_at words nodes k w are at =
     let within = slice_get_within words k w at in
     let count = are.count in
     let found = slice_get-get_or nodes k blank (omega (arith, within, count)) in
     (get_or nodes k blank, found, are.each k w (get_or nodes k blank) at found)
 
-pub node_to_code : (words : List CodeWord) (nodes : List Node) (r : ℕ) → Ascends 0 words → AreNodes words nodes → r ≢ 0 → r < 32
+pub node_to_code : (words : List CodeWord) (nodes : List FlowNode) (r : ℕ) → Ascends 0 words → AreNodes words nodes → r ≢ 0 → r < 32
     → (k : ℕ) (w : CodeWord) → slice_get words k ≡ Some w → Live nodes r k → IsLive (code_of words) r w.address
 node_to_code words nodes r up are nz lt k w at (node_uses node e m) =
     code_uses w.instruction (there words k w up at) (((are.each k w node at e).uses r nz lt).0 m)
@@ -143,7 +143,7 @@ node_to_code words nodes r up are nz lt k w at (node_passes node b e d n l) =
     code_passes w.instruction t.0 (there words k w up at) (λ h. d ((is.defs r nz lt).1 h)) t.1
     (subst (IsLive (code_of words) r) v.2 (node_to_code words nodes r up are nz lt b v.0 v.1 l))
 
-pub code_to_node : (words : List CodeWord) (nodes : List Node) (r : ℕ) → Ascends 0 words → AreNodes words nodes → r ≢ 0 → r < 32
+pub code_to_node : (words : List CodeWord) (nodes : List FlowNode) (r : ℕ) → Ascends 0 words → AreNodes words nodes → r ≢ 0 → r < 32
     → (a : ℕ) → IsLive (code_of words) r a → (k : ℕ) (w : CodeWord) → slice_get words k ≡ Some w → w.address ≡ a → Live nodes r k
 code_to_node words nodes r up are nz lt a (code_uses i e u) k w at address =
     let found = node_at words nodes k w are at in
@@ -162,9 +162,9 @@ code_to_node words nodes r up are nz lt a (code_passes i b e d n l) k w at addre
     (code_to_node words nodes r up are nz lt b l next.k next.w next.at next.address)
 
 -- what no successor needs is dead
-pub dead_exact : (words : List CodeWord) (nodes : List Node) (sets : List ℕ) (set r k : ℕ) (w : CodeWord) → Ascends 0 words → AreNodes words nodes
+pub dead_exact : (words : List CodeWord) (nodes : List FlowNode) (sets : List ℕ) (set r k : ℕ) (w : CodeWord) → Ascends 0 words → AreNodes words nodes
     → ((i r : ℕ) → r < 32 → (IsMember (get_or sets i 0) r ↔ Live nodes r i)) → r ≢ 0 → r < 32 → slice_get words k ≡ Some w
-    → ((node : Node) → slice_get nodes k ≡ Some node → IsUnneeded w.instruction node sets set)
+    → ((node : FlowNode) → slice_get nodes k ≡ Some node → IsUnneeded w.instruction node sets set)
     → (IsMember set r ↔ IsDeadAfter (code_of words) r w.address w.instruction)
 dead_exact words nodes sets set r k w up are exact nz lt at each =
     let found = node_at words nodes k w are at in
@@ -187,10 +187,10 @@ dead_exact words nodes sets set r k w up are exact nz lt at each =
     )
 
 -- the sets are those of the definition
-pub exact_of : (words : List CodeWord) (nodes : List Node) (sets dead : List ℕ) → Ascends 0 words → AreNodes words nodes
+pub exact_of : (words : List CodeWord) (nodes : List FlowNode) (sets dead : List ℕ) → Ascends 0 words → AreNodes words nodes
     → length sets ≡ length nodes → length dead ≡ length words
     → ((i r : ℕ) → r < 32 → (IsMember (get_or sets i 0) r ↔ Live nodes r i))
-    → ((k : ℕ) (w : CodeWord) (node : Node) → slice_get words k ≡ Some w → slice_get nodes k ≡ Some node → IsUnneeded w.instruction node sets (get_or dead k 0))
+    → ((k : ℕ) (w : CodeWord) (node : FlowNode) → slice_get words k ≡ Some w → slice_get nodes k ≡ Some node → IsUnneeded w.instruction node sets (get_or dead k 0))
     → AreExact words sets dead
 exact_of words nodes sets dead up are count dead_count exact each = record {
   at_count = count ∙ are.count;

@@ -6,21 +6,21 @@ use Rattle.rv32_program.specs.Liveness.{Uses, leaves_code, IsDeadAfter, Live as 
 use Rattle.templates.specs.declared.code.CodeWord.{CodeWord}
 use Rattle.templates.specs.Code.{code_of}
 use Rattle.flow_graph.specs.Edges.{edges_of}
-use Rattle.liveness.specs.declared.node.Node.{Node}
+use Rattle.liveness.specs.declared.node.FlowNode.{FlowNode}
 
 -- b is a successor of the node
-abbrev pub Next : Node → ℕ → Type 0
+abbrev pub Next : FlowNode → ℕ → Type 0
 Next node b = (node.first ≡ Some b) ⊎ (node.second ≡ Some b)
 
 -- register r is live at a node
-pub data Live (nodes : List Node) (r : ℕ) : ℕ → Type 0 where
-  uses : {i : ℕ} (node : Node) → slice_get nodes i ≡ Some node → IsMember node.uses r
+pub data Live (nodes : List FlowNode) (r : ℕ) : ℕ → Type 0 where
+  uses : {i : ℕ} (node : FlowNode) → slice_get nodes i ≡ Some node → IsMember node.uses r
       → Live nodes r i
-  passes : {i : ℕ} (node : Node) (b : ℕ) → slice_get nodes i ≡ Some node
+  passes : {i : ℕ} (node : FlowNode) (b : ℕ) → slice_get nodes i ≡ Some node
       → ¬ IsMember node.defs r → Next node b → Live nodes r b → Live nodes r i
 
 -- the node needs the register where its successors need these sets
-abbrev pub Needs : Node → List ℕ → ℕ → Type 0
+abbrev pub Needs : FlowNode → List ℕ → ℕ → Type 0
 Needs node sets r =
     IsMember node.uses r
     ⊎ ((¬ IsMember node.defs r) × (b : ℕ) × Next node b × IsMember (get_or sets b 0) r)
@@ -31,7 +31,7 @@ set_of sets None = 0
 set_of sets (Some b) = get_or sets b 0
 
 -- the node stands for a code word
-pub record IsNode (words : List CodeWord) (w : CodeWord) (node : Node) : Type 0 where
+pub record IsNode (words : List CodeWord) (w : CodeWord) (node : FlowNode) : Type 0 where
   pub uses : (r : ℕ) → r ≢ 0 → r < 32 → (IsMember node.uses r ↔ Uses w.instruction r)
   pub defs : (r : ℕ) → r ≢ 0 → r < 32
       → (IsMember node.defs r ↔ (destination w.instruction ≡ Some r))
@@ -39,13 +39,13 @@ pub record IsNode (words : List CodeWord) (w : CodeWord) (node : Node) : Type 0 
   pub second : node.second ≡ (edges_of words w).second
 
 -- the nodes stand for the code words
-pub record AreNodes (words : List CodeWord) (nodes : List Node) : Type 0 where
+pub record AreNodes (words : List CodeWord) (nodes : List FlowNode) : Type 0 where
   pub count : length nodes ≡ length words
-  pub each : (k : ℕ) (w : CodeWord) (node : Node) → slice_get words k ≡ Some w
+  pub each : (k : ℕ) (w : CodeWord) (node : FlowNode) → slice_get words k ≡ Some w
       → slice_get nodes k ≡ Some node → IsNode words w node
 
 -- the registers that no successor needs, where the instruction doesn't leave the code
-abbrev pub IsUnneeded : Instr → Node → List ℕ → ℕ → Type 0
+abbrev pub IsUnneeded : Instr → FlowNode → List ℕ → ℕ → Type 0
 IsUnneeded i node sets set =
     (r : ℕ) → r < 32 → (IsMember set r
     ↔ ((IsTrue (leaves_code i) → ⊥) × ((b : ℕ) → Next node b → IsMember (get_or sets b 0) r → ⊥)))

@@ -5,7 +5,7 @@ ghost use Rattle.std.specs.Prelude.{get_or, OnOk, IfOk, Some, slice_get};
 ghost use Rattle.liveness.specs.Chains.{Falls, Within, IsInto, StayInto};
 ghost use Rattle.liveness.specs.Leads.{Leads};
 
-use crate::node::Node;
+use crate::node::FlowNode;
 use crate::work::Worklist;
 use std::alloc::{AllocError, Global};
 
@@ -79,7 +79,7 @@ impl Predecessors {
     }
 
     /// The edges of these nodes.
-    pub fn of(alloc: Global, nodes: &[Node]) -> Result<Predecessors, AllocError>
+    pub fn of(alloc: Global, nodes: &[FlowNode]) -> Result<Predecessors, AllocError>
         requires few { length nodes.now < 2 ^ 31 }
         ensures heads { IfOk result (λ back. length back.heads.items ≡ length nodes.now) }
         ensures links { IfOk result (λ back. length back.links.items ≡ 2 * length nodes.now) }

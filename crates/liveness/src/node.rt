@@ -14,7 +14,7 @@ use std::alloc::{AllocError, Global};
 /// One code word: the registers that it uses and defines, as sets of bits, and the numbers of the
 /// code words where it leads.
 #[derive(Clone, Copy, Debug)]
-pub struct Node {
+pub struct FlowNode {
     pub uses: u32,
     pub defs: u32,
     pub first: Option<u32>,
@@ -22,7 +22,7 @@ pub struct Node {
 }
 
 /// The nodes of the code words.
-pub fn nodes_of(alloc: Global, graph: &Graph) -> Result<Vec<Node>, AllocError>
+pub fn nodes_of(alloc: Global, graph: &Graph) -> Result<Vec<FlowNode>, AllocError>
     ensures value { IfOk result (λ nodes. AreNodes graph.now nodes.items) }
 {
     let words = graph.code().words();
@@ -34,11 +34,11 @@ pub fn nodes_of(alloc: Global, graph: &Graph) -> Result<Vec<Node>, AllocError>
 }
 
 /// The node of a code word with these edges.
-fn node_of(i: &Instr, edges: Edges) -> Node
+fn node_of(i: &Instr, edges: Edges) -> FlowNode
     ensures value { (words : List TheWord) (w : TheWord) → w.instruction ≡ i.now
         → edges ≡ edges_of words w → IsNode words w result }
 {
-    Node {
+    FlowNode {
         uses: used_registers(i).bits(),
         defs: defs(*i).bits(),
         first: edges.first,

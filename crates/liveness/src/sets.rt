@@ -5,18 +5,18 @@ ghost use Rattle.std.specs.Prelude.{slice_get, Some};
 ghost use Rattle.rv32_decode.specs.Registers.{IsMember};
 ghost use Rattle.rv32_program.specs.Liveness.{leaves_code};
 ghost use Rattle.templates.specs.declared.code.CodeWord.{CodeWord as TheWord};
-ghost use Rattle.liveness.specs.declared.node.Node.{Node as TheNode};
+ghost use Rattle.liveness.specs.declared.node.FlowNode.{FlowNode as TheNode};
 ghost use Rattle.liveness.specs.Nodes.{Needs, Next, set_of, IsUnneeded, Live as IsLive};
 
 use crate::back::Predecessors;
-use crate::node::Node;
+use crate::node::FlowNode;
 use crate::work::Worklist;
 use rv32_decode::Instr;
 use std::alloc::{AllocError, Global};
 use templates::CodeWord;
 
 /// The registers that are live at each node.
-pub fn live_sets(alloc: Global, nodes: &[Node]) -> Result<Vec<u32>, AllocError>
+pub fn live_sets(alloc: Global, nodes: &[FlowNode]) -> Result<Vec<u32>, AllocError>
     requires few { length nodes.now < 2 ^ 31 }
     ensures count { IfOk result (λ sets. length sets.items ≡ length nodes.now) }
     ensures each { IfOk result (λ sets. (i r : ℕ) → r < 32
@@ -41,7 +41,7 @@ pub fn live_sets(alloc: Global, nodes: &[Node]) -> Result<Vec<u32>, AllocError>
 pub fn dead_sets(
     alloc: Global,
     words: &[CodeWord],
-    nodes: &[Node],
+    nodes: &[FlowNode],
     sets: &[u32],
 ) -> Result<Vec<u32>, AllocError>
     requires count { length nodes.now ≡ length words.now }
@@ -58,7 +58,7 @@ pub fn dead_sets(
 }
 
 /// The registers that no successor needs, where the instruction doesn't leave the code.
-fn unneeded(i: &Instr, node: &Node, sets: &[u32]) -> u32
+fn unneeded(i: &Instr, node: &FlowNode, sets: &[u32]) -> u32
     ensures value { IsUnneeded i.now node.now sets.now result }
 {
     if leaves_code(i) {
@@ -79,7 +79,7 @@ fn leaves_code(i: &Instr) -> bool
 }
 
 /// What the successors of a node need.
-fn set_after(node: &Node, sets: &[u32]) -> u32
+fn set_after(node: &FlowNode, sets: &[u32]) -> u32
     ensures value { (r : ℕ) → IsMember result r
         ↔ ((b : ℕ) × Next node.now b × IsMember (get_or sets.now b 0) r) }
 {
@@ -98,7 +98,7 @@ fn set_of(sets: &[u32], node: Option<u32>) -> u32
 }
 
 /// What a node needs: what it uses, and what its successors need that it doesn't define.
-fn needed(node: &Node, sets: &[u32]) -> u32
+fn needed(node: &FlowNode, sets: &[u32]) -> u32
     ensures value { (r : ℕ) → r < 32 → (IsMember result r ↔ Needs node.now sets.now r) }
 {
     transfer(node.uses, node.defs, set_after(node, sets))

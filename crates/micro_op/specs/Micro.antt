@@ -20,7 +20,7 @@ use Rattle.rv32_step.specs.declared.Demand.{Demand}
 use Rattle.rv32_step.specs.declared.Demand.TheVariants.{Sets, Continues, Jumps, Loads, Stores}
 use Rattle.micro_op.specs.declared.micro_op.MicroOp.{MicroOp}
 use Rattle.micro_op.specs.declared.MicroKind.{MicroKind}
-use Rattle.micro_op.specs.declared.MicroKind.TheVariants.{Rare, Nothing, Constant, Jump, JumpBy, EnterBy, BranchEq, BranchNe, BranchLt, BranchGe, BranchLtu, BranchGeu, LoadByte, LoadHalf, LoadWord, LoadByteU, LoadHalfU, StoreByte, StoreHalf, StoreWord, AddImm, Look, LookToRead, LookToWrite, LookAtValue, LookAgain, BothToRead, BothToWrite, SltImm, SltuImm, XorImm, OrImm, AndImm, SllImm, SrlImm, SraImm, Add, Sub, Sll, Slt, Sltu, Xor, Srl, Sra, Or, And, Mul, Mulh, Mulhsu, Mulhu, Div, Divu, Rem, Remu}
+use Rattle.micro_op.specs.declared.MicroKind.TheVariants.{Slow, Nothing, Constant, Jump, JumpBy, EnterBy, BranchEq, BranchNe, BranchLt, BranchGe, BranchLtu, BranchGeu, LoadByte, LoadHalf, LoadWord, LoadByteU, LoadHalfU, StoreByte, StoreHalf, StoreWord, AddImm, Look, LookToRead, LookToWrite, LookAtValue, LookAgain, BothToRead, BothToWrite, SltImm, SltuImm, XorImm, OrImm, AndImm, SllImm, SrlImm, SraImm, Add, Sub, Sll, Slt, Sltu, Xor, Srl, Sra, Or, And, Mul, Mulh, Mulhsu, Mulhu, Div, Divu, Rem, Remu}
 
 -- what a micro-op does: it is left to the path that serves every word; or it demands what an
 -- instruction may demand; or it enters the sequence of an original address
@@ -59,7 +59,7 @@ stores w m registers = Demands (Stores w (sum_address m registers) (reg register
 
 -- what a micro-op of this kind does, where indices are from this base on
 abbrev pub meaning_by : MicroKind → ℕ → MicroOp → (ℕ → ℕ) → Meaning
-meaning_by Rare base m registers = Unserved
+meaning_by Slow base m registers = Unserved
 meaning_by Nothing base m registers = Demands Continues
 meaning_by Constant base m registers = Demands (Sets m.rd m.imm)
 meaning_by Jump base m registers = Demands (Jumps m.rd (index_address base m.imm))
@@ -142,13 +142,13 @@ pub record IsEntryOf (base rd rs1 imm : ℕ) (m : MicroOp) : Type 0 where
 
 -- the instruction at an address is left to the path that serves every word: a call, a trap, an
 -- instruction of the A extension, or a direct jump or branch whose target isn't a multiple of four
-abbrev pub is_rare : Instr → ℕ → Bool
-is_rare (instr.Jal rd offset) address = not (offset_address address offset % 4 == 0)
-is_rare (instr.Branch c rs1 rs2 offset) address = not (offset_address address offset % 4 == 0)
-is_rare instr.Ecall address = true
-is_rare instr.Ebreak address = true
-is_rare (instr.Lr rd rs1 aq rl) address = true
-is_rare (instr.Sc rd rs1 rs2 aq rl) address = true
-is_rare (instr.Amo o rd rs1 rs2 aq rl) address = true
-is_rare (instr.Illegal word) address = true
-is_rare i address = false
+abbrev pub is_slow : Instr → ℕ → Bool
+is_slow (instr.Jal rd offset) address = not (offset_address address offset % 4 == 0)
+is_slow (instr.Branch c rs1 rs2 offset) address = not (offset_address address offset % 4 == 0)
+is_slow instr.Ecall address = true
+is_slow instr.Ebreak address = true
+is_slow (instr.Lr rd rs1 aq rl) address = true
+is_slow (instr.Sc rd rs1 rs2 aq rl) address = true
+is_slow (instr.Amo o rd rs1 rs2 aq rl) address = true
+is_slow (instr.Illegal word) address = true
+is_slow i address = false

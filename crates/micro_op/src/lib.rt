@@ -31,7 +31,7 @@ pub enum MicroKind {
     /// The same, whether both may be written.
     BothToWrite,
     /// The path that serves every word serves this one.
-    Rare,
+    Slow,
     /// FENCE.
     Nothing,
     /// rd gets the immediate: LUI and AUIPC.

@@ -4,7 +4,7 @@ ghost use Rattle.std.specs.Prelude.{◌≡◌, ◌+◌, ◌*◌, ◌%◌, ◌^�
 ghost use Rattle.std.specs.Prelude.{MatchOption};
 ghost use Rattle.rv32_decode.specs.Fields.{unsigned};
 ghost use Rattle.micro_op.specs.Micro.{IsMicroOf, IsEntryOf, Meets, meaning_of, index_address};
-ghost use Rattle.micro_op.specs.Micro.{is_rare};
+ghost use Rattle.micro_op.specs.Micro.{is_slow};
 ghost use Rattle.rv32_step.specs.rv32_ops.Operations.{taken};
 ghost use Rattle.rv32_step.specs.Registers.{reg};
 ghost use Rattle.rv32_step.specs.Demands.{branch_demand};
@@ -29,8 +29,8 @@ pub struct MicroOp {
 
 impl MicroOp {
     /// The path that serves every word serves this one.
-    pub const RARE: MicroOp = MicroOp {
-        kind: MicroKind::Rare,
+    pub const SLOW: MicroOp = MicroOp {
+        kind: MicroKind::Slow,
         rd: Reg::ZERO,
         rs1: Reg::ZERO,
         rs2: Reg::ZERO,
@@ -41,7 +41,7 @@ impl MicroOp {
     pub fn of(i: Instr, address: u32, base: u32) -> MicroOp
         requires { base % 4 ≡ 0 }
         ensures meaning { IsMicroOf base address i result }
-        ensures rare { (result.kind ≡ MicroKind.Rare) ↔ IsTrue (is_rare i address) }
+        ensures slow { (result.kind ≡ MicroKind.Slow) ↔ IsTrue (is_slow i address) }
     {
         match i {
             Instr::Lui { rd, upper } => MicroOp::constant(rd, upper.value() << 12),
@@ -89,20 +89,20 @@ impl MicroOp {
             | Instr::Illegal { .. }
             | Instr::Lr { .. }
             | Instr::Sc { .. }
-            | Instr::Amo { .. } => MicroOp::RARE,
+            | Instr::Amo { .. } => MicroOp::SLOW,
         }
     }
 
-    /// The micro-op of an indirect jump of rewritten code. One that keeps a link is rare, since the
+    /// The micro-op of an indirect jump of rewritten code. One that keeps a link is slow, since the
     /// link is the place's.
     pub fn entry(rd: Reg, rs1: Reg, imm: Imm12) -> MicroOp
         ensures meaning { (base : ℕ) → IsEntryOf base rd rs1 (unsigned 32 imm) result }
-        ensures rare { (result.kind ≡ MicroKind.Rare) ↔ (rd ≡ 0 → ⊥) }
+        ensures slow { (result.kind ≡ MicroKind.Slow) ↔ (rd ≡ 0 → ⊥) }
     {
         if rd.number() == 0 {
             MicroOp::with_immediate(MicroKind::EnterBy, rd, rs1, imm.word())
         } else {
-            MicroOp::RARE
+            MicroOp::SLOW
         }
     }
 
@@ -111,11 +111,11 @@ impl MicroOp {
         requires { base % 4 ≡ 0 }
         ensures meaning { (registers : ℕ → ℕ) →
             Meets (meaning_of base result registers) (Jumps rd target) }
-        ensures rare { (result.kind ≡ MicroKind.Rare) ↔ IsTrue (not (target % 4 == 0)) }
+        ensures slow { (result.kind ≡ MicroKind.Slow) ↔ IsTrue (not (target % 4 == 0)) }
     {
         match index_of(target, base) {
             Some(index) => MicroOp::with_immediate(MicroKind::Jump, rd, Reg::ZERO, index),
-            None => MicroOp::RARE,
+            None => MicroOp::SLOW,
         }
     }
 
@@ -124,11 +124,11 @@ impl MicroOp {
         requires { base % 4 ≡ 0 }
         ensures meaning { (registers : ℕ → ℕ) → Meets (meaning_of base result registers)
             (branch_demand (taken cond (reg registers rs1) (reg registers rs2)) target) }
-        ensures rare { (result.kind ≡ MicroKind.Rare) ↔ IsTrue (not (target % 4 == 0)) }
+        ensures slow { (result.kind ≡ MicroKind.Slow) ↔ IsTrue (not (target % 4 == 0)) }
     {
         match index_of(target, base) {
             Some(index) => MicroOp::with_rs2(branch_kind(cond), Reg::ZERO, rs1, rs2, index),
-            None => MicroOp::RARE,
+            None => MicroOp::SLOW,
         }
     }
 

@@ -12,8 +12,8 @@ use Rattle.exec_map.specs.Contents.{program_of}
 use Rattle.jump_map.specs.Image.{Cell, image_base, IsRewriting}
 use Rattle.jump_map.specs.Maps.{new_of}
 use Rattle.templates.specs.WholePlan.{IsPlanOf}
-use Rattle.rewriter.specs.declared.file.Part.{Part}
-use Rattle.rewriter.specs.declared.file.Part.TheVariants.{Plan, Map, Code}
+use Rattle.rewriter.specs.declared.file.FilePart.{FilePart}
+use Rattle.rewriter.specs.declared.file.FilePart.TheVariants.{Plan, Map, Code}
 
 -- a word, little-endian
 abbrev pub word_bytes : ℕ → List ℕ
@@ -98,7 +98,7 @@ rewritten_elf original image plan =
 
 -- the first part in which an executable differs from the one that is wanted: the first section, the
 -- second one, and all else
-abbrev pub IsFirstDifference : Elf → Elf → Part → Type 0
+abbrev pub IsFirstDifference : Elf → Elf → FilePart → Type 0
 IsFirstDifference wanted e Plan = slice_get e.sections 0 ≢ slice_get wanted.sections 0
 IsFirstDifference wanted e Map =
     (slice_get e.sections 0 ≡ slice_get wanted.sections 0)
@@ -109,7 +109,7 @@ IsFirstDifference wanted e Code =
 
 -- an executable isn't that of the rewriting of an original, with batches or without, and this is
 -- the first part that differs
-pub record IsOtherCode (batches : Bool) (original e : Elf) (part : Part) : Type 0 where
+pub record IsOtherCode (batches : Bool) (original e : Elf) (part : FilePart) : Type 0 where
   pub plan : List PlanEntry
   pub image : List Cell
   pub the_plan : IsPlanOf batches (program_of original).code plan

@@ -26,7 +26,7 @@ use thiserror::Error;
 
 /// A part of a rewritten program's file.
 #[derive(Clone, Copy, Debug, PartialEq, Eq)]
-pub enum Part {
+pub enum FilePart {
     /// The section of the plan, which is the first one.
     Plan,
     /// The section of the map of addresses, which is the second one.
@@ -43,7 +43,7 @@ pub enum CodeRefused {
     CodeTooLarge(u64),
     /// The executable differs from that of the rewriting, first in this part.
     #[error("PlanRefused")]
-    PlanRefused(Part),
+    PlanRefused(FilePart),
     #[error("out of memory")]
     OutOfMemory,
 }
@@ -161,7 +161,7 @@ impl Rewritten {
         alloc: Global,
         original: &Elf<'_>,
         elf: &Elf<'_>,
-    ) -> Result<Option<Part>, AllocError>
+    ) -> Result<Option<FilePart>, AllocError>
         ensures value { IfOk result (λ r. MatchOption r
             (elf.now ≡ rewritten_elf original.now self.now.image self.now.plan)
             (IsFirstDifference (rewritten_elf original.now self.now.image self.now.plan) elf.now)) }
@@ -170,12 +170,12 @@ impl Rewritten {
         let plan = plan_bytes(alloc, self.plan())?;
         let wanted = plan_section(&plan);
         if !has_section(sections, 0, &wanted) {
-            return Ok(Some(Part::Plan));
+            return Ok(Some(FilePart::Plan));
         }
         let map = map_bytes(alloc, self.image(), self.plan())?;
         let wanted = map_section(&map);
         if !has_section(sections, 1, &wanted) {
-            return Ok(Some(Part::Map));
+            return Ok(Some(FilePart::Map));
         }
         let code = code_bytes(alloc, self.image())?;
         let segments = rewritten_segments(alloc, original, &code)?;
@@ -186,7 +186,7 @@ impl Rewritten {
         {
             Ok(None)
         } else {
-            Ok(Some(Part::Code))
+            Ok(Some(FilePart::Code))
         }
     }
 
@@ -228,7 +228,7 @@ impl Rewritten {
             (λ r. IsPlanOf options.batch (program_of program.now).code r.plan) }
         ensures rewriting { IfOk result (λ r. IsRewriting (program_of program.now) r.plan r.image) }
         ensures same { IfOk result (λ r. elf.now ≡ rewritten_elf original.now r.image r.plan) }
-        ensures differs { (part : Part) → IsErrOf result (CodeRefused.PlanRefused part)
+        ensures differs { (part : FilePart) → IsErrOf result (CodeRefused.PlanRefused part)
             → IsOtherCode options.batch original.now elf.now part }
         ensures too_large { (w : ℕ) → IsErrOf result (CodeRefused.CodeTooLarge w)
             → IsTooLarge options.batch (program_of program.now) w }

@@ -10,7 +10,7 @@ mod rewriting;
 
 pub use batch_plan;
 pub use batch_plan::{check_plan, liveness};
-pub use file::{CodeRefused, Part, map_section, plan_section};
+pub use file::{CodeRefused, FilePart, map_section, plan_section};
 pub use file_bytes::{MARK, code_bytes, map_bytes};
 pub use jump_map;
 pub use poll_plan;

@@ -13,6 +13,9 @@ pub use number::WordNumber;
 pub use reading::{imm_of_bits, read_word};
 use rv32_decode::{Imm12, Instr, Reg, Width};
 
+/// The flag word: what each word of a node's copy holds where the node may not read it.
+pub const FLAG_WORD: u32 = 0xffff_ff03;
+
 /// A word of rewritten code.
 #[derive(Clone, Copy, Debug, PartialEq, Eq)]
 pub enum RtWord {

@@ -9,7 +9,7 @@ use denote.Ref.{Bor}
 use Rattle.rv32_lines.specs.Texts.{Target, Address, Name, Written, Plain, NegativeShift, Jump, Conditional}
 use Rattle.rv32_lines.specs.Statements.{Statement, Label, Bytes, Word, Space, Instruction, IsWritten, is_hexadecimal_digit, byte_digits}
 use Rattle.rv32_lines.specs.Reading.{IsReadStatement, IsReadCommand}
-use Rattle.rv32_lines.specs.declared.commands.Command.{Command}
+use Rattle.rv32_lines.specs.declared.commands.WrittenInstruction.{WrittenInstruction}
 use Rattle.rv32_lines.specs.declared.statements.Statement.TheVariants as said
 use Rattle.rv32_lines.proofs.Pairs.{bytes_all}
 use Rattle.std.specs.Str.Parse.{digits_value}
@@ -62,7 +62,7 @@ stands_by : (all before rest : List Statement) (s : Statement) (last : Option Op
     → AreSound all → NeedsSegment s
     → (place_behind before).last ≡ last → (a : ℕ) × (here (place_behind before) ≡ Some a)
 stands_by all before rest s (Some o) e sound needs is = (end_of o, ap (λ (l : Option Open). option_map end_of l) is)
-stands_by all before rest s None e sound needs is = absurd (sound before s rest rule.Place e (inl (needs, is)))
+stands_by all before rest s None e sound needs is = absurd (sound before s rest rule.SegmentsSoFar e (inl (needs, is)))
 
 -- a line that needs a segment has an address
 pub stands : (all before rest : List Statement) (s : Statement) → all ≡ before ++ s ∷ rest → AreSound all
@@ -97,7 +97,7 @@ even_at : (all before rest : List Statement) (w : Written) (a : ℕ) → all ≡
     → here (place_behind before) ≡ Some a
     → a % 4 ≢ 0 → ⊥
 even_at all before rest w a e sound at odd =
-    sound before (Instruction w) rest rule.Place e
+    sound before (Instruction w) rest rule.SegmentsSoFar e
     (inr (inl (tt, subst (λ (o : Option ℕ). IsSomeAnd o (λ a. a % 4 ≢ 0)) (sym at) odd)))
 
 none_left : (all before rest : List Statement) (labels : Labels) (w : Written) → all ≡ before ++ Instruction w ∷ rest
@@ -108,7 +108,7 @@ none_left all before rest labels w e sound l f =
     let to = targeted all labels w sound l f.1 in
     even_at all before rest w at.0 e sound at.1 (λ even. f.2 at.0 to.0 at.1 (omega (arith, even)) to.1)
 
-pub word_none : (labels : Labels) (command : Command) (at : Option ℕ) (all before : List Statement) (s : Statement)
+pub word_none : (labels : Labels) (command : WrittenInstruction) (at : Option ℕ) (all before : List Statement) (s : Statement)
     (l : IsSoundLine labels (said.Instruction command) at all before s)
     → ((w : Written) → IsWritten w → IsReadCommand command w → IsFoundWord all at w (Ok None)) → ⊥
 word_none labels command at all before (Instruction w) l f =
@@ -122,11 +122,11 @@ err_left : (all before rest : List Statement) (w : Written) (r : AsmRule) → al
 err_left all before rest w rule.Range e sound h = sound before (Instruction w) rest rule.Range e h
 err_left all before rest w rule.Name e sound h = sound before (Instruction w) rest rule.Name e h.1
 err_left all before rest w rule.Syntax e sound h = h
-err_left all before rest w rule.Place e sound h = h
+err_left all before rest w rule.SegmentsSoFar e sound h = h
 err_left all before rest w rule.Size e sound h = h
 err_left all before rest w rule.Empty e sound h = h
 
-pub word_err : (labels : Labels) (command : Command) (at : Option ℕ) (all before : List Statement) (s : Statement)
+pub word_err : (labels : Labels) (command : WrittenInstruction) (at : Option ℕ) (all before : List Statement) (s : Statement)
     (r : AsmRule)
     (l : IsSoundLine labels (said.Instruction command) at all before s)
     → ((w : Written) → IsWritten w → IsReadCommand command w → IsFoundWord all at w (Err r)) → ⊥
@@ -135,7 +135,7 @@ word_err labels command at all before (Instruction w) r l f =
     (subst (λ (a : Option ℕ). IsFoundWord all a w (Err r)) l.at_is (f w l.read_so.0 l.read_so.1))
 word_err labels command at all before s r l f = absurd l.read_so
 
-pub word_added : {T E : Type 0} (r : Result T E) (labels : Labels) (command : Command) (at : Option ℕ)
+pub word_added : {T E : Type 0} (r : Result T E) (labels : Labels) (command : WrittenInstruction) (at : Option ℕ)
     (all before : List Statement) (s : Statement) (word : ℕ) (old new : List ℕ)
     (l : IsSoundLine labels (said.Instruction command) at all before s) → word < 2 ^ 32
     → ((w : Written) → IsWritten w → IsReadCommand command w → IsFoundWord all at w (Ok (Some word)))

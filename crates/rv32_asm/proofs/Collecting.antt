@@ -6,7 +6,7 @@ use Rattle.std.proofs.lemmas.List.Folds.{concat-append}
 use Rattle.rv32_lines.specs.Statements.{Statement}
 use Rattle.rv32_lines.specs.Reading.{IsReadStatement}
 use Rattle.rv32_lines.specs.declared.statements.Statement.{Statement as ReadStatement}
-use Rattle.rv32_asm.specs.declared.places.Place.{Place as ReadPlace}
+use Rattle.rv32_asm.specs.declared.places.SegmentsSoFar.{SegmentsSoFar as ReadPlace}
 use Rattle.rv32_asm.specs.declared.labels.Labels.{Labels}
 use Rattle.rv32_asm.specs.Places.{behind, here, first_place, place_behind}
 use Rattle.rv32_asm.specs.Assembling.{AreBytesOf, AreBytesBehind}

@@ -7,31 +7,31 @@ use Rattle.std.proofs.Math.Seq.{take-add, take-append_seam, drop-append_seam}
 use Rattle.std.proofs.lemmas.List.{take_all, append-nil, drop-drop, append_cancel_left, map-append}
 use Rattle.std.proofs.lemmas.List.Folds.{concat-append}
 use Rattle.std.proofs.lemmas.List.Elements.{All-nil, All-cons, All-append}
-use Rattle.elf32_read.specs.Elf.{Segment as Piece}
+use Rattle.elf32_read.specs.Elf.{Segment as AssembledSegment}
 use Rattle.rv32_lines.specs.Statements.{Statement, Nothing, Segment, Label, Bytes, Word, Space, Zero, Entry, Instruction, Unread}
 use Rattle.rv32_lines.specs.Reading.{IsReadStatement, AreReadStatements}
 use Rattle.rv32_lines.specs.declared.statements.Statement.{Statement as ReadStatement}
 use Rattle.rv32_lines.specs.declared.statements.Statement.TheVariants as said
-use Rattle.rv32_asm.specs.declared.places.Place.{Place as ReadPlace}
-use Rattle.rv32_asm.specs.declared.assembled.Piece.{Piece as Part}
-use Rattle.rv32_asm.specs.Places.{Open, Place, appends, with_bytes, with_zeros, behind, first_place, place_behind}
+use Rattle.rv32_asm.specs.declared.places.SegmentsSoFar.{SegmentsSoFar as ReadPlace}
+use Rattle.rv32_asm.specs.declared.assembled.AssembledSegment.{AssembledSegment as Part}
+use Rattle.rv32_asm.specs.Places.{Open, SegmentsSoFar, appends, with_bytes, with_zeros, behind, first_place, place_behind}
 use Rattle.rv32_asm.specs.Assembling.{Pieces, with_line, pieces_of}
 use Rattle.rv32_asm.specs.Pieces.{IsWithin, segment_of}
 use Rattle.rv32_asm.specs.Standing.{place_of, AreFitting, ArePieces, closed, closed_by}
 use Rattle.rv32_asm.proofs.Going.{Cut, place_next, place_more, lengths}
 use Rattle.rv32_asm.proofs.Limits.{HasBytes, has_bytes}
 
-abbrev segment_at : (flags start size : ℕ) → List ℕ → Piece
+abbrev segment_at : (flags start size : ℕ) → List ℕ → AssembledSegment
 segment_at flags start size bytes = record { flags = flags; vaddr = start; memsz = size; bytes = bytes }
 
 same_segment : (flags start a b : ℕ) (x y : List ℕ) → a ≡ b → x ≡ y
-    → ◌≡◌ {A = Piece} (record { flags = flags; vaddr = start; memsz = a; bytes = x })
+    → ◌≡◌ {A = AssembledSegment} (record { flags = flags; vaddr = start; memsz = a; bytes = x })
     (record { flags = flags; vaddr = start; memsz = b; bytes = y })
 same_segment flags start a b x y e f = cc (e, f)
 
 -- the segments from a place on, by what the lines behind it make: the open segment takes the bytes
 -- and the zeros before the next one
-abbrev from_by : List ℕ → ℕ → Option Open → Pieces → List Piece
+abbrev from_by : List ℕ → ℕ → Option Open → Pieces → List AssembledSegment
 from_by all n None tail = tail.segments
 from_by all n (Some o) tail =
     record {
@@ -42,7 +42,7 @@ from_by all n (Some o) tail =
     }
     ∷ tail.segments
 
-abbrev from_place : List ℕ → Place → Pieces → List Piece
+abbrev from_place : List ℕ → SegmentsSoFar → Pieces → List AssembledSegment
 from_place all p tail = from_by all p.appended p.last tail
 
 appended_step : (all bytes : List ℕ) (n count : ℕ) (last : Option Open) (tail : Pieces) → HasBytes n last
@@ -58,7 +58,7 @@ appended_step all bytes n count (Some o) tail has e is =
     take-add o.bytes count (drop m all)
     ∙ ap (λ t. take o.bytes (drop m all) ++ t)
     (ap (take count) (drop-drop o.bytes m all ∙ ap (λ k. drop k all) to) ∙ is) in
-    ap (λ (t : Piece). t ∷ tail.segments)
+    ap (λ (t : AssembledSegment). t ∷ tail.segments)
     (same_segment o.flags o.start _ _ _ _ (omega (arith, length-append bytes tail.bytes, e))
     (sym (append_assoc (take o.bytes (drop m all)) bytes tail.bytes)
     ∙ ap (λ t. t ++ tail.bytes) (sym parts ∙ ap (λ k. take (o.bytes + count) (drop k all)) (sym from))))
@@ -68,7 +68,7 @@ zeros_step : (all bytes : List ℕ) (n count : ℕ) (last : Option Open) (tail :
     ≡ from_by all n (option_map (with_zeros count) last) tail
 zeros_step all bytes n count None tail = refl
 zeros_step all bytes n count (Some o) tail =
-    ap (λ (t : Piece). t ∷ tail.segments) (same_segment o.flags o.start _ _ _ _ (omega arith) refl)
+    ap (λ (t : AssembledSegment). t ∷ tail.segments) (same_segment o.flags o.start _ _ _ _ (omega arith) refl)
 
 none_step : (all bytes : List ℕ) (n : ℕ) (last : Option Open) (tail : Pieces) → length bytes ≡ 0
     → from_by all n last (record
@@ -81,24 +81,24 @@ segment_step : (all bytes : List ℕ) (n flags start : ℕ) (last : Option Open)
     ≡ map (segment_of all) (closed_by n last)
     ++ from_by all n (Some (record { flags = flags; start = start; bytes = 0; zeros = 0; is_closed = false })) tail
 segment_step all bytes n flags start None tail has =
-    ap (λ (t : Piece). t ∷ tail.segments) (same_segment flags start _ _ _ _ (omega arith) refl)
+    ap (λ (t : AssembledSegment). t ∷ tail.segments) (same_segment flags start _ _ _ _ (omega arith) refl)
 segment_step all bytes n flags start (Some o) tail has =
     let m = n - o.bytes in
     let count : n - m ≡ o.bytes = omega (arith, has) in
-    let next : Piece = segment_at flags start (length tail.bytes + tail.zeros) tail.bytes in
-    ap (λ (t : Piece). t ∷ next ∷ tail.segments)
+    let next : AssembledSegment = segment_at flags start (length tail.bytes + tail.zeros) tail.bytes in
+    ap (λ (t : AssembledSegment). t ∷ next ∷ tail.segments)
     (same_segment o.flags o.start _ _ _ _ (omega arith)
     (append-nil (take o.bytes (drop m all)) ∙ ap (λ k. take k (drop m all)) (sym count)))
-    ∙ ap (λ (t : Piece). segment_of all
+    ∙ ap (λ (t : AssembledSegment). segment_of all
     (record { flags = o.flags; start = o.start; size = o.bytes + o.zeros; first = m; end = n }) ∷ t ∷ tail.segments)
     (same_segment flags start _ _ _ _ (omega arith) refl)
 
 -- what a statement closes
-abbrev pub closed_before : Place → Statement → List Part
+abbrev pub closed_before : SegmentsSoFar → Statement → List Part
 closed_before p (Segment flags start) = closed p
 closed_before p s = []
 
-line_step : (all bytes : List ℕ) (p : Place) (s : Statement) (tail : Pieces) → HasBytes p.appended p.last
+line_step : (all bytes : List ℕ) (p : SegmentsSoFar) (s : Statement) (tail : Pieces) → HasBytes p.appended p.last
     → length bytes ≡ unwrap_or (appends s) 0
     → take (length bytes) (drop p.appended all) ≡ bytes
     → from_place all p (with_line s bytes tail) ≡ map (segment_of all) (closed_before p s) ++ from_place all
@@ -121,7 +121,7 @@ line_step all bytes p (Entry name) tail has e is = none_step all bytes p.appende
 line_step all bytes p Unread tail has e is = none_step all bytes p.appended p.last tail e
 
 -- the bytes that are appended so far
-appended_more : (p : Place) (s : Statement) → (behind p s).appended ≡ p.appended + unwrap_or (appends s) 0
+appended_more : (p : SegmentsSoFar) (s : Statement) → (behind p s).appended ≡ p.appended + unwrap_or (appends s) 0
 appended_more p Nothing = omega arith
 appended_more p (Segment flags start) = omega arith
 appended_more p (Label name) = omega arith
@@ -180,7 +180,7 @@ within_by all n (Some o) has end =
     (record { flags = o.flags; start = o.start; size = o.bytes + o.zeros; first = n - o.bytes; end = n }) []
     (low, end) (All-nil (IsWithin all))
 
-within_before : (all : List ℕ) (p : Place) (s : Statement) → HasBytes p.appended p.last → p.appended ≤ length all
+within_before : (all : List ℕ) (p : SegmentsSoFar) (s : Statement) → HasBytes p.appended p.last → p.appended ≤ length all
     → All (IsWithin all) (closed_before p s)
 within_before all p (Segment flags start) has end = within_by all p.appended p.last has end
 within_before all p Nothing has end = All-nil (IsWithin all)
@@ -229,7 +229,7 @@ pieces_next items all appended line x p q pieces next c h place is =
     let step = line_step whole bytes here c.statement (pieces_of c.rest left) has m.3
     (bytes_at h.past left bytes here.appended appended cut h.count) in
     let now : next ≡ pieces ++ closed_before here c.statement =
-    is ∙ ap (λ (y : Place). pieces ++ closed_before y c.statement) h.place_is in
+    is ∙ ap (λ (y : SegmentsSoFar). pieces ++ closed_before y c.statement) h.place_is in
     let there : place_behind (take (line + 1) all) ≡ behind here c.statement =
     ap place_behind c.more ∙ place_more before c.statement in
     let joined : concat (h.past ++ bytes ∷ []) ≡ concat h.past ++ bytes =
@@ -246,7 +246,7 @@ pieces_next items all appended line x p q pieces next c h place is =
       appended_are = cut ∙ sym (append_assoc h.past (bytes ∷ []) left);
       count = omega (
         arith,
-        ap (λ (y : Place). y.appended) there,
+        ap (λ (y : SegmentsSoFar). y.appended) there,
         appended_more here c.statement,
         h.count,
         m.3,
@@ -263,7 +263,7 @@ pieces_next items all appended line x p q pieces next c h place is =
           ∙ sym (append_assoc (map (segment_of whole) pieces) (map (segment_of whole) (closed_before here c.statement))
           (from_place whole (behind here c.statement) (pieces_of c.rest left)))
           ∙ ap (λ t. t ++ from_place whole (behind here c.statement) (pieces_of c.rest left)) (sym mapped)
-          ∙ ap (λ (y : Place). map (segment_of whole) next ++ from_place whole y (pieces_of c.rest left)) (sym there);
+          ∙ ap (λ (y : SegmentsSoFar). map (segment_of whole) next ++ from_place whole y (pieces_of c.rest left)) (sym there);
       within = subst (All (IsWithin whole)) (sym now)
           (All-append (IsWithin whole) pieces (closed_before here c.statement) h.within
           (within_before whole here c.statement has
@@ -276,7 +276,7 @@ end_step all n None has = refl
 end_step all n (Some o) has =
     let m = n - o.bytes in
     let count : n - m ≡ o.bytes = omega (arith, has) in
-    ap (λ (t : Piece). t ∷ [])
+    ap (λ (t : AssembledSegment). t ∷ [])
     (same_segment o.flags o.start _ _ _ _ (omega arith)
     (append-nil (take o.bytes (drop m all)) ∙ ap (λ k. take k (drop m all)) (sym count)))
 
@@ -293,7 +293,7 @@ pieces_all items all appended line p pieces next r end h is =
     let whole = concat appended in
     let full : front ≡ all = take_all line all (omega (arith, lengths items all r, end)) in
     let none : h.rest ≡ [] = nothing_left front h.rest (full ∙ h.all_are) in
-    let now : next ≡ pieces ++ closed here = is ∙ ap (λ (y : Place). pieces ++ closed y) h.place_is in
+    let now : next ≡ pieces ++ closed here = is ∙ ap (λ (y : SegmentsSoFar). pieces ++ closed y) h.place_is in
     let has : HasBytes here.appended here.last = has_bytes front in
     record {
       segments_are = ap (map (segment_of whole)) now
@@ -309,7 +309,7 @@ pieces_all items all appended line p pieces next r end h is =
     }
 
 -- whether a line closes a segment
-pub closed_none : (p : Place) (x : ReadStatement) (s : Statement) → IsReadStatement x s
+pub closed_none : (p : SegmentsSoFar) (x : ReadStatement) (s : Statement) → IsReadStatement x s
     → ((flags start : ℕ) → x ≡ said.Segment flags start → ⊥) → closed_before p s ≡ []
 closed_none p (said.Segment a b) s r other = absurd (other a b refl)
 closed_none p x Nothing r other = refl
@@ -331,7 +331,7 @@ closed_none p (said.Entry n) (Segment a b) r other = absurd r
 closed_none p (said.Instruction n) (Segment a b) r other = absurd r
 closed_none p said.Unread (Segment a b) r other = absurd r
 
-pub closed_some : (p : Place) (flags start : ℕ) (s : Statement) → IsReadStatement (said.Segment flags start) s
+pub closed_some : (p : SegmentsSoFar) (flags start : ℕ) (s : Statement) → IsReadStatement (said.Segment flags start) s
     → closed p ≡ closed_before p s
 closed_some p flags start (Segment a b) r = refl
 closed_some p flags start s r = absurd r

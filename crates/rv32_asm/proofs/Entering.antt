@@ -11,7 +11,7 @@ use Rattle.rv32_lines.specs.declared.statements.Statement.TheVariants as said
 use Rattle.rv32_asm.specs.declared.labels.Label.{Label as Labelled}
 use Rattle.rv32_asm.specs.declared.labels.Labels.{Labels}
 use Rattle.rv32_asm.specs.declared.refused.AsmRule.TheVariants as rule
-use Rattle.rv32_asm.specs.Places.{Place, behind, behind_all, first_place, here, place_behind, IsLabelled, IsNamed}
+use Rattle.rv32_asm.specs.Places.{SegmentsSoFar, behind, behind_all, first_place, here, place_behind, IsLabelled, IsNamed}
 use Rattle.rv32_asm.specs.Rules.{IsUnknown}
 use Rattle.rv32_asm.specs.Assembling.{entry_name}
 use Rattle.rv32_asm.specs.Standing.{AreLabels, IsFound, found, IsSoundReading, first_start, IsFoundEntry}
@@ -168,7 +168,7 @@ entry_found labels items all line x name first result r c h e f =
     (subst (λ (y : ReadStatement). IsReadStatement y c.statement) e c.read_so) f
 
 -- a text that has a segment has a first one
-some_first : (p : Place) (ss : List Statement) → first_start ss ≡ None → (behind_all p ss).segments ≡ p.segments
+some_first : (p : SegmentsSoFar) (ss : List Statement) → first_start ss ≡ None → (behind_all p ss).segments ≡ p.segments
 some_first p [] e = refl
 some_first p (Nothing ∷ ss) e = some_first p ss e
 some_first p (Segment a b ∷ ss) e = absurd (cc)

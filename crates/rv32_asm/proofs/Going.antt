@@ -9,9 +9,9 @@ use Rattle.rv32_lines.specs.Reading.{IsReadStatement, AreReadStatements}
 use Rattle.rv32_lines.specs.declared.statements.Statement.{Statement as ReadStatement}
 use Rattle.rv32_lines.specs.declared.statements.Statement.TheVariants as said
 use Rattle.rv32_asm.specs.declared.refused.AsmRule.{AsmRule}
-use Rattle.rv32_asm.specs.declared.places.Place.{Place as ReadPlace}
+use Rattle.rv32_asm.specs.declared.places.SegmentsSoFar.{SegmentsSoFar as ReadPlace}
 use Rattle.rv32_asm.specs.declared.labels.Labels.{Labels}
-use Rattle.rv32_asm.specs.Places.{Place, behind, behind_all, first_place, place_behind}
+use Rattle.rv32_asm.specs.Places.{SegmentsSoFar, behind, behind_all, first_place, place_behind}
 use Rattle.rv32_asm.specs.Rules.{Breaks, AreSoundUpTo, AreSound}
 use Rattle.rv32_asm.specs.Standing.{place_of, IsLine, IsLowest, TellsEntry, AreLabels, IsFoundFault}
 
@@ -56,7 +56,7 @@ lengths [] all h = ap length (sym h)
 lengths (i ∷ items) [] h = absurd h
 lengths (i ∷ items) (s ∷ all) h = ap suc (lengths items all h.1)
 
-all_behind : (p : Place) (ss : List Statement) (s : Statement)
+all_behind : (p : SegmentsSoFar) (ss : List Statement) (s : Statement)
     → behind_all p (ss ++ s ∷ []) ≡ behind (behind_all p ss) s
 all_behind p [] s = refl
 all_behind p (x ∷ ss) s = all_behind (behind p x) ss s

@@ -6,7 +6,7 @@ use Rattle.elf32_read.specs.Elf.{is_in_limits}
 use Rattle.rv32_lines.specs.Statements.{Statement, IsReading}
 use Rattle.rv32_lines.specs.Reading.{AreReadStatements}
 use Rattle.rv32_lines.specs.declared.statements.Statement.{Statement as ReadStatement}
-use Rattle.rv32_asm.specs.declared.assembled.Piece.{Piece as Part}
+use Rattle.rv32_asm.specs.declared.assembled.AssembledSegment.{AssembledSegment as Part}
 use Rattle.rv32_asm.specs.declared.labels.Labels.{Labels}
 use Rattle.rv32_asm.specs.Rules.{AreSound, IsEmpty}
 use Rattle.rv32_asm.specs.Assembling.{AreBytesBehind, IsAssembled, entry_name, pieces_of}

@@ -5,7 +5,7 @@ use denote.Ref.{Bor}
 use Rattle.rv32_lines.specs.Texts.{Written}
 use Rattle.rv32_lines.specs.Statements.{Statement, Label, Entry, Instruction, Unread, IsWritten}
 use Rattle.rv32_lines.specs.Reading.{IsReadStatement, IsReadCommand}
-use Rattle.rv32_lines.specs.declared.commands.Command.{Command}
+use Rattle.rv32_lines.specs.declared.commands.WrittenInstruction.{WrittenInstruction}
 use Rattle.rv32_lines.specs.declared.statements.Statement.TheVariants as said
 use Rattle.rv32_asm.specs.declared.refused.AsmRule.{AsmRule}
 use Rattle.rv32_asm.specs.declared.refused.AsmRule.TheVariants as rule
@@ -19,7 +19,7 @@ kept_by : (all before : List Statement) (w : Written) (word : Option ℕ)
 kept_by all before w None h = (h.0, h.1)
 kept_by all before w (Some word) h = (h.0, h.1)
 
-pub instruction_kept : (all before : List Statement) (s : Statement) (command : Command) (at word : Option ℕ)
+pub instruction_kept : (all before : List Statement) (s : Statement) (command : WrittenInstruction) (at word : Option ℕ)
     → IsReadStatement (said.Instruction command) s
     → at ≡ here (place_behind before)
     → ((w : Written) → IsWritten w → IsReadCommand command w → IsFoundWord all at w (Ok word))
@@ -34,11 +34,11 @@ refused_by : (all before : List Statement) (w : Written) (r : AsmRule)
 refused_by all before w rule.Range h = h
 refused_by all before w rule.Name h = h
 refused_by all before w rule.Syntax h = h
-refused_by all before w rule.Place h = h
+refused_by all before w rule.SegmentsSoFar h = h
 refused_by all before w rule.Size h = h
 refused_by all before w rule.Empty h = h
 
-pub instruction_refused : (all before : List Statement) (s : Statement) (command : Command) (at : Option ℕ)
+pub instruction_refused : (all before : List Statement) (s : Statement) (command : WrittenInstruction) (at : Option ℕ)
     (r : AsmRule) → IsReadStatement (said.Instruction command) s
     → at ≡ here (place_behind before)
     → ((w : Written) → IsWritten w → IsReadCommand command w → IsFoundWord all at w (Err r))
@@ -67,7 +67,7 @@ below_range : (all before : List Statement) (s : Statement) → (s ≡ Unread �
 below_range all before s read rule.Syntax less b = read b
 below_range all before s read rule.Range less b = omega (arith, less)
 below_range all before s read rule.Name less b = omega (arith, less)
-below_range all before s read rule.Place less b = omega (arith, less)
+below_range all before s read rule.SegmentsSoFar less b = omega (arith, less)
 below_range all before s read rule.Size less b = omega (arith, less)
 below_range all before s read rule.Empty less b = omega (arith, less)
 
@@ -77,7 +77,7 @@ below_name : (all before : List Statement) (s : Statement) → (s ≡ Unread →
 below_name all before s read range rule.Syntax less b = read b
 below_name all before s read range rule.Range less b = range b
 below_name all before s read range rule.Name less b = omega (arith, less)
-below_name all before s read range rule.Place less b = omega (arith, less)
+below_name all before s read range rule.SegmentsSoFar less b = omega (arith, less)
 below_name all before s read range rule.Size less b = omega (arith, less)
 below_name all before s read range rule.Empty less b = omega (arith, less)
 
@@ -87,6 +87,6 @@ pub names_lowest : (all before : List Statement) (s : Statement) (r : AsmRule) �
 names_lowest all before s rule.Range read h = (h, λ other less b. below_range all before s read other less b)
 names_lowest all before s rule.Name read h = (h.1, λ other less b. below_name all before s read h.0 other less b)
 names_lowest all before s rule.Syntax read h = absurd h
-names_lowest all before s rule.Place read h = absurd h
+names_lowest all before s rule.SegmentsSoFar read h = absurd h
 names_lowest all before s rule.Size read h = absurd h
 names_lowest all before s rule.Empty read h = absurd h

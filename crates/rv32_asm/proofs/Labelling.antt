@@ -18,7 +18,7 @@ use Rattle.rv32_lines.specs.Statements.{Statement, Label}
 use Rattle.rv32_lines.specs.Reading.{IsReadStatement, AreReadStatements}
 use Rattle.rv32_lines.specs.declared.statements.Statement.{Statement as ReadStatement}
 use Rattle.rv32_asm.specs.declared.labels.Label.{Label as Labelled}
-use Rattle.rv32_asm.specs.declared.places.Place.{Place as ReadPlace}
+use Rattle.rv32_asm.specs.declared.places.SegmentsSoFar.{SegmentsSoFar as ReadPlace}
 use Rattle.rv32_asm.specs.Places.{behind, here, place_behind, IsLabelled}
 use Rattle.rv32_asm.specs.Rules.{IsUnknown}
 use Rattle.rv32_asm.specs.Standing.{place_of, found_in, IsFound}

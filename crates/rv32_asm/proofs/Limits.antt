@@ -5,7 +5,7 @@ use Rattle.std.specs.Option.{option_map}
 use Rattle.std.proofs.lemmas.List.{append-nil}
 use Rattle.rv32_lines.specs.Statements.{Statement, Nothing, Segment, Label, Bytes, Word, Space, Zero, Entry, Instruction, Unread}
 use Rattle.rv32_asm.specs.declared.refused.AsmRule.TheVariants as rule
-use Rattle.rv32_asm.specs.Places.{Open, Place, with_bytes, with_zeros, behind, behind_all, first_place, place_behind}
+use Rattle.rv32_asm.specs.Places.{Open, SegmentsSoFar, with_bytes, with_zeros, behind, behind_all, first_place, place_behind}
 use Rattle.rv32_asm.specs.Rules.{AreSound, IsPastLimits, IsTooLong}
 use Rattle.rv32_asm.specs.Standing.{IsClosable}
 use Rattle.rv32_asm.proofs.Going.{place_more}
@@ -43,7 +43,7 @@ zeros_more : (n count : ℕ) (last : Option Open) → HasBytes n last → HasByt
 zeros_more n count None h = tt
 zeros_more n count (Some o) h = h
 
-pub has_more : (p : Place) (s : Statement) → HasBytes p.appended p.last
+pub has_more : (p : SegmentsSoFar) (s : Statement) → HasBytes p.appended p.last
     → HasBytes (behind p s).appended (behind p s).last
 has_more p Nothing h = h
 has_more p (Segment flags start) h = omega arith
@@ -56,7 +56,7 @@ has_more p (Entry name) h = h
 has_more p (Instruction w) h = bytes_more p.appended 4 p.last h
 has_more p Unread h = h
 
-has_all : (p : Place) (ss : List Statement) → HasBytes p.appended p.last
+has_all : (p : SegmentsSoFar) (ss : List Statement) → HasBytes p.appended p.last
     → HasBytes (behind_all p ss).appended (behind_all p ss).last
 has_all p [] h = h
 has_all p (s ∷ ss) h = has_all (behind p s) ss (has_more p s h)

@@ -6,9 +6,9 @@ use Rattle.std.specs.List.{concat}
 use Rattle.std.proofs.lemmas.Bool.{and_from, le-leb, lt-ltb}
 use Rattle.std.proofs.lemmas.List.{append-nil, length-replicate}
 use Rattle.std.proofs.lemmas.List.Sums.{sum_by-cons}
-use Rattle.elf32_read.specs.Elf.{Segment as Piece, is_placed, are_placed, segments_size, is_in_limits}
+use Rattle.elf32_read.specs.Elf.{Segment as AssembledSegment, is_placed, are_placed, segments_size, is_in_limits}
 use Rattle.rv32_lines.specs.Statements.{Statement, Nothing, Segment, Label, Bytes, Word, Space, Zero, Entry, Instruction, Unread}
-use Rattle.rv32_asm.specs.Places.{Open, Place, appends, with_bytes, with_zeros, behind, behind_all, first_place, place_behind}
+use Rattle.rv32_asm.specs.Places.{Open, SegmentsSoFar, appends, with_bytes, with_zeros, behind, behind_all, first_place, place_behind}
 use Rattle.rv32_asm.specs.Rules.{AreSound, IsEmpty, IsPastLimits, IsTooLong}
 use Rattle.rv32_asm.specs.Assembling.{AreBytesOf, AreBytesBehind, with_line, pieces_of, entry_name, IsEntry}
 use Rattle.rv32_asm.specs.Standing.{first_start, IsFoundEntry, AreFitting}
@@ -42,8 +42,8 @@ sized_line : (s : Statement) (bytes : List ℕ) (ss : List Statement) (more : Li
     (with_line s bytes (pieces_of ss more)).bytes ≤ length bytes + length (concat more)
 sized_line (Segment a b) bytes ss more h =
     let p = pieces_of ss more in
-    let first : Piece = record { flags = a; vaddr = b; memsz = length p.bytes + p.zeros; bytes = p.bytes } in
-    let sum = sum_by-cons (λ (s : Piece). length s.bytes) first p.segments in
+    let first : AssembledSegment = record { flags = a; vaddr = b; memsz = length p.bytes + p.zeros; bytes = p.bytes } in
+    let sum = sum_by-cons (λ (s : AssembledSegment). length s.bytes) first p.segments in
     omega (arith, h, sum)
 sized_line (Zero a) bytes ss more h = omega (arith, h)
 sized_line Nothing bytes ss more h = omega (arith, h, length-append bytes (pieces_of ss more).bytes)
@@ -63,7 +63,7 @@ sized (s ∷ ss) (bytes ∷ more) h =
     omega (arith, sized_line s bytes ss more (sized ss more h.1), length-append bytes (concat more))
 
 -- lines append so many bytes
-appended_line : (p : Place) (s : Statement) → (behind p s).appended ≡ p.appended + unwrap_or (appends s) 0
+appended_line : (p : SegmentsSoFar) (s : Statement) → (behind p s).appended ≡ p.appended + unwrap_or (appends s) 0
 appended_line p Nothing = omega arith
 appended_line p (Segment flags start) = omega arith
 appended_line p (Label name) = omega arith
@@ -75,7 +75,7 @@ appended_line p (Entry name) = omega arith
 appended_line p (Instruction w) = refl
 appended_line p Unread = omega arith
 
-appended_all : (p : Place) (ss : List Statement) (appended : List (List ℕ)) → AreFitting ss appended
+appended_all : (p : SegmentsSoFar) (ss : List Statement) (appended : List (List ℕ)) → AreFitting ss appended
     → (behind_all p ss).appended ≡ p.appended + length (concat appended)
 appended_all p [] appended h = omega (arith, ap (λ (x : List (List ℕ)). length (concat x)) h)
 appended_all p (s ∷ ss) [] h = absurd h
@@ -83,7 +83,7 @@ appended_all p (s ∷ ss) (bytes ∷ more) h =
     omega (arith, appended_all (behind p s) ss more h.1, appended_line p s, h.0, length-append bytes (concat more))
 
 -- as many segments as segment lines
-numbered : (p : Place) (ss : List Statement) (appended : List (List ℕ)) → AreFitting ss appended
+numbered : (p : SegmentsSoFar) (ss : List Statement) (appended : List (List ℕ)) → AreFitting ss appended
     → (behind_all p ss).segments ≡ p.segments + length (pieces_of ss appended).segments
 numbered p [] appended h = omega arith
 numbered p (s ∷ ss) [] h = absurd h
@@ -120,12 +120,12 @@ ends_here None f = tt
 ends_here (Some o) f = let low : 2 ^ 32 < o.start + o.bytes + o.zeros → ⊥ = λ q. f (inl q) in omega (arith, low)
 
 -- each segment from a place on is placed, and so is the open one
-abbrev ArePlaced : Place → List Statement → List (List ℕ) → Type 0
+abbrev ArePlaced : SegmentsSoFar → List Statement → List (List ℕ) → Type 0
 ArePlaced p ss appended =
     (are_placed (pieces_of ss appended).segments ≡ true) × Ends p.last (length (pieces_of ss appended).bytes)
     (pieces_of ss appended).zeros
 
-placed_line : (p : Place) (s : Statement) (ss : List Statement) (bytes : List ℕ) (more : List (List ℕ))
+placed_line : (p : SegmentsSoFar) (s : Statement) (ss : List Statement) (bytes : List ℕ) (more : List (List ℕ))
     → (IsPastLimits p → ⊥) → length bytes ≡ unwrap_or (appends s) 0
     → ArePlaced (behind p s) ss more → ArePlaced p (s ∷ ss) (bytes ∷ more)
 placed_line p (Segment a b) ss bytes more f e h =
@@ -186,7 +186,7 @@ placed_line p Unread ss bytes more f e h =
           (omega (arith, length-append bytes t.bytes, e)) h.1,
     )
 
-placed : (p : Place) (ss : List Statement) (appended : List (List ℕ)) → AreFitting ss appended
+placed : (p : SegmentsSoFar) (ss : List Statement) (appended : List (List ℕ)) → AreFitting ss appended
     → ((front rest : List Statement) → ss ≡ front ++ rest → IsPastLimits (behind_all p front) → ⊥)
     → ArePlaced p ss appended
 placed p [] appended h f = (refl, ends_here p.last (λ q. f [] [] refl (inl q)))
@@ -196,7 +196,7 @@ placed p (s ∷ ss) (bytes ∷ more) h f =
     (placed (behind p s) ss more h.1 (λ front rest e past. f (s ∷ front) rest (ap (λ t. s ∷ t) e) past))
 
 -- the executable of a sound text is within the limits of a file
-pub in_limits : (all : List Statement) (appended : List (List ℕ)) (entry : ℕ) (segments : List Piece) → AreSound all
+pub in_limits : (all : List Statement) (appended : List (List ℕ)) (entry : ℕ) (segments : List AssembledSegment) → AreSound all
     → (IsEmpty all → ⊥) → AreFitting all appended
     → segments ≡ (pieces_of all appended).segments
     → is_in_limits (record { entry = entry; flags = 0; segments = segments; sections = [] }) ≡ true
@@ -235,16 +235,16 @@ first_of (Entry a ∷ ss) (bytes ∷ more) start h e = first_of ss more start h.
 first_of (Instruction a ∷ ss) (bytes ∷ more) start h e = first_of ss more start h.1 e
 first_of (Unread ∷ ss) (bytes ∷ more) start h e = first_of ss more start h.1 e
 
-entry_by : (all : List Statement) (segments : List Piece) (name : Option (List ℕ)) (entry : ℕ)
+entry_by : (all : List Statement) (segments : List AssembledSegment) (name : Option (List ℕ)) (entry : ℕ)
     → ((start : ℕ) → first_start all ≡ Some start → IsEntry [] segments None start)
     → IsFoundEntry all name entry → IsEntry all segments name entry
 entry_by all segments (Some name) entry f h = h
 entry_by all [] None entry f h = f entry h
 entry_by all (first ∷ segments) None entry f h = f entry h
 
-pub entry_is : (all : List Statement) (appended : List (List ℕ)) (segments : List Piece) (entry : ℕ)
+pub entry_is : (all : List Statement) (appended : List (List ℕ)) (segments : List AssembledSegment) (entry : ℕ)
     → AreFitting all appended → segments ≡ (pieces_of all appended).segments
     → IsFoundEntry all (entry_name all) entry → IsEntry all segments (entry_name all) entry
 entry_is all appended segments entry fit is h =
     entry_by all segments (entry_name all) entry
-    (λ start e. subst (λ (x : List Piece). IsEntry [] x None start) (sym is) (first_of all appended start fit e)) h
+    (λ start e. subst (λ (x : List AssembledSegment). IsEntry [] x None start) (sym is) (first_of all appended start fit e)) h

@@ -8,7 +8,7 @@ use Rattle.rv32_decode.specs.declared.Instr.TheVariants.{Fence, Illegal}
 use Rattle.rv32_decode.specs.declared.IllegalWord.TheVariants.{Zeros}
 use Rattle.rv32_text.specs.Listing.{text_of_word, text_of_decoded, word_digits}
 use Rattle.rv32_text.specs.Telling.{ShowsAll}
-use Rattle.elf32_read.specs.Elf.{Elf, Section, Segment as Piece}
+use Rattle.elf32_read.specs.Elf.{Elf, Section, Segment as AssembledSegment}
 use Rattle.rv32_lines.specs.Texts.{Target, Address, Name, Written, Plain, NegativeShift, Jump, Conditional, written_text}
 use Rattle.rv32_lines.specs.Statements.{Statement, Instruction, IsTarget, IsWritten, IsRead, AreRead, IsReading, lines_of}
 use Rattle.rv32_lines.proofs.EightDigits.{digits_of_word, eight_of_word}
@@ -112,13 +112,13 @@ all_bytes_once tell all before (s ∷ left) (x ∷ a) (y ∷ b) p h g =
     let tail = all_bytes_once tell all (before ++ s ∷ []) left a b p.1 h.1 g.1 in
     cc (head, tail)
 
-entry_once : (all : List Statement) (segments : List Piece) (name : Option (List ℕ)) (a b : ℕ)
+entry_once : (all : List Statement) (segments : List AssembledSegment) (name : Option (List ℕ)) (a b : ℕ)
     → IsEntry all segments name a → IsEntry all segments name b → a ≡ b
 entry_once all segments (Some name) a b p q = named_once all name a b p q
 entry_once all [] None a b p q = absurd p
 entry_once all (first ∷ segments) None a b p q = p ∙ sym q
 
-abbrev made_elf : ℕ → ℕ → List Piece → List Section → Elf
+abbrev made_elf : ℕ → ℕ → List AssembledSegment → List Section → Elf
 made_elf entry flags segments sections =
     record { entry = entry; flags = flags; segments = segments; sections = sections }
 
@@ -144,7 +144,7 @@ assembled_once tell read text e f p q =
     ∙ ap (λ (ss : List Statement). (pieces_of ss q.appended).segments) (sym same)
     ∙ sym q.segments_are in
     let other : IsEntry all e.segments (entry_name all) f.entry =
-    subst (λ (x : List Piece). IsEntry all x (entry_name all) f.entry) (sym segments)
+    subst (λ (x : List AssembledSegment). IsEntry all x (entry_name all) f.entry) (sym segments)
     (subst (λ (ss : List Statement). IsEntry ss f.segments (entry_name ss) f.entry) same q.entry_is) in
     same_elf e f (entry_once all e.segments (entry_name all) e.entry f.entry p.entry_is other)
     (p.flags_are ∙ sym q.flags_are) segments (p.no_sections ∙ sym q.no_sections)

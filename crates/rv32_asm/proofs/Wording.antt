@@ -15,7 +15,7 @@ use Rattle.rv32_text.specs.Listing as listing
 use Rattle.rv32_lines.specs.Texts.{Target, Address, Name, Written, Plain, NegativeShift, Jump, Conditional, register, base, signed_numeral, indexed, upper_digits, target_text, IsPlain, plain_text}
 use Rattle.rv32_lines.specs.Statements.{Statement, IsTarget, IsWritten}
 use Rattle.rv32_lines.specs.Reading.{IsReadTarget, IsReadCommand}
-use Rattle.rv32_lines.specs.declared.commands.Command.TheVariants as command
+use Rattle.rv32_lines.specs.declared.commands.WrittenInstruction.TheVariants as command
 use Rattle.rv32_lines.specs.declared.operands.Target.{Target as ReadTarget}
 use Rattle.rv32_lines.proofs.Spelling.{decimal_same, hexadecimal_same}
 use Rattle.rv32_lines.proofs.EightDigits.{word_of_digits}
@@ -254,7 +254,7 @@ jump_err all at rd t rule.Range low f = inr f
 jump_err all at rd t rule.Name low f =
     ((λ out. elim out [ inl out ↦ out (low, omega (arith, ints), omega (arith, ints), refl) | inr far ↦ f.0 far ]), f.1)
 jump_err all at rd t rule.Syntax low f = absurd f
-jump_err all at rd t rule.Place low f = absurd f
+jump_err all at rd t rule.SegmentsSoFar low f = absurd f
 jump_err all at rd t rule.Size low f = absurd f
 jump_err all at rd t rule.Empty low f = absurd f
 
@@ -270,6 +270,6 @@ branch_err all at c a b t rule.Name low below f = (
   f.1,
 )
 branch_err all at c a b t rule.Syntax low below f = absurd f
-branch_err all at c a b t rule.Place low below f = absurd f
+branch_err all at c a b t rule.SegmentsSoFar low below f = absurd f
 branch_err all at c a b t rule.Size low below f = absurd f
 branch_err all at c a b t rule.Empty low below f = absurd f

@@ -3,7 +3,7 @@ use Rattle.std.specs.Prelude.{◌≡◌, ℕ, ◌+◌, ◌^◌, ◌<◌, List, [
 use Rattle.std.specs.Int.{bytes_low_first}
 use Rattle.rv32_decode.specs.declared.Instr.TheVariants.{Fence, Illegal}
 use Rattle.rv32_text.specs.Listing.{word_digits, text_of_word}
-use Rattle.elf32_read.specs.Elf.{Elf, Segment as Piece}
+use Rattle.elf32_read.specs.Elf.{Elf, Segment as AssembledSegment}
 use Rattle.rv32_lines.specs.Texts.{Target, Address, Name, Written, Plain, NegativeShift, Jump, Conditional, plain_text, written_text}
 use Rattle.rv32_lines.specs.Statements.{Statement, Segment, Bytes, Word, Space, Zero, Entry, Instruction, IsReading}
 use Rattle.rv32_asm.specs.Places.{place_behind, here, IsNamed}
@@ -16,8 +16,8 @@ IsResolved all (Name name) to =
     (address : ℕ) × IsNamed all name address × (to ≡ Address (word_digits address))
 
 -- the word at an address has the text of the instruction, with a name replaced; FENCE and the
--- illegal word, whose texts don't tell their words, have one each, and a shift by a number below zero
--- has none
+-- illegal word, whose texts don't tell their words, have one each, and a shift by a number below
+-- zero has none
 abbrev pub HasText : List Statement → ℕ → Written → ℕ → Type 0
 HasText all address (Plain (Fence rd rs1 bits)) word = word ≡ 0x0ff0000f
 HasText all address (Plain (Illegal w)) word = word ≡ 0
@@ -57,7 +57,7 @@ AreBytesBehind all before (s ∷ left) (bytes ∷ more) =
 pub record Pieces : Type 0 where
   pub bytes : List ℕ
   pub zeros : ℕ
-  pub segments : List Piece
+  pub segments : List AssembledSegment
 
 -- lines with a line more before them
 abbrev pub with_line : Statement → List ℕ → Pieces → Pieces
@@ -84,7 +84,7 @@ entry_name (Entry name ∷ ss) = Some name
 entry_name (s ∷ ss) = entry_name ss
 
 -- the address of the name, or that of the first segment where there is no name
-abbrev pub IsEntry : List Statement → List Piece → Option (List ℕ) → ℕ → Type 0
+abbrev pub IsEntry : List Statement → List AssembledSegment → Option (List ℕ) → ℕ → Type 0
 IsEntry all segments (Some name) entry = IsNamed all name entry
 IsEntry all [] None entry = ⊥
 IsEntry all (first ∷ segments) None entry = entry ≡ first.vaddr

@@ -13,12 +13,12 @@ pub record Open : Type 0 where
   pub is_closed : Bool
 
 -- how many segments and appended bytes there are so far, and the last segment
-pub record Place : Type 0 where
+pub record SegmentsSoFar : Type 0 where
   pub segments : ℕ
   pub appended : ℕ
   pub last : Option Open
 
-abbrev pub first_place : Place
+abbrev pub first_place : SegmentsSoFar
 first_place = record { segments = 0; appended = 0; last = None }
 
 -- how many bytes a statement appends, if it is one that appends
@@ -53,7 +53,7 @@ with_zeros count o = record {
 }
 
 -- the place behind so many bytes more
-abbrev pub appended_to : Place → Option ℕ → Place
+abbrev pub appended_to : SegmentsSoFar → Option ℕ → SegmentsSoFar
 appended_to p None = p
 appended_to p (Some count) = record {
   segments = p.segments;
@@ -62,7 +62,7 @@ appended_to p (Some count) = record {
 }
 
 -- the place behind a statement
-abbrev pub behind : Place → Statement → Place
+abbrev pub behind : SegmentsSoFar → Statement → SegmentsSoFar
 behind p (Segment flags start) = record {
   segments = p.segments + 1;
   appended = p.appended;
@@ -75,12 +75,12 @@ behind p (Zero count) = record {
 }
 behind p s = appended_to p (appends s)
 
-abbrev pub behind_all : Place → List Statement → Place
+abbrev pub behind_all : SegmentsSoFar → List Statement → SegmentsSoFar
 behind_all p [] = p
 behind_all p (s ∷ ss) = behind_all (behind p s) ss
 
 -- the place behind the first statements of a text
-abbrev pub place_behind : List Statement → Place
+abbrev pub place_behind : List Statement → SegmentsSoFar
 place_behind statements = behind_all first_place statements
 
 -- the address of the first byte past the last segment so far
@@ -88,7 +88,7 @@ abbrev pub end_of : Open → ℕ
 end_of o = o.start + o.bytes + o.zeros
 
 -- the address of the next byte
-abbrev pub here : Place → Option ℕ
+abbrev pub here : SegmentsSoFar → Option ℕ
 here p = option_map end_of p.last
 
 -- the name's first line stands behind so many statements

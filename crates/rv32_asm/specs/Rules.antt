@@ -7,14 +7,14 @@ use Rattle.rv32_asm.specs.declared.refused.AsmRule.{AsmRule}
 use Rattle.rv32_asm.specs.declared.refused.AsmRule.TheVariants as rule
 use Rattle.rv32_lines.specs.Texts.{Target, Address, Name, Written, Plain, NegativeShift, Jump, Conditional}
 use Rattle.rv32_lines.specs.Statements.{Statement, Label, Word, Zero, Entry, Instruction, Unread, IsReading}
-use Rattle.rv32_asm.specs.Places.{Open, Place, appends, behind, place_behind, end_of, here, IsNamed}
+use Rattle.rv32_asm.specs.Places.{Open, SegmentsSoFar, appends, behind, place_behind, end_of, here, IsNamed}
 
 -- the numbers of the rules
 abbrev pub number_of : AsmRule → ℕ
 number_of rule.Syntax = 60
 number_of rule.Range = 61
 number_of rule.Name = 62
-number_of rule.Place = 63
+number_of rule.SegmentsSoFar = 63
 number_of rule.Size = 64
 number_of rule.Empty = 65
 
@@ -79,7 +79,7 @@ NeedsAlignment (Instruction w) = Unit {0}
 NeedsAlignment s = ⊥
 
 -- a line is out of place at a place
-abbrev pub IsMisplaced : Place → Statement → Type 0
+abbrev pub IsMisplaced : SegmentsSoFar → Statement → Type 0
 IsMisplaced p s =
     (NeedsSegment s × (p.last ≡ None))
     ⊎ ((NeedsAlignment s × IsSomeAnd (here p) (λ a. a % 4 ≢ 0))
@@ -91,7 +91,7 @@ IsTooLong o = (2 ^ 32 < end_of o) ⊎ (2 ^ 32 ≤ o.bytes + o.zeros)
 
 -- a place is past the limits: the last segment is too long, or there are more than 999 segments, or
 -- more than 2^24 bytes are appended
-abbrev pub IsPastLimits : Place → Type 0
+abbrev pub IsPastLimits : SegmentsSoFar → Type 0
 IsPastLimits p =
     IsSomeAnd p.last IsTooLong ⊎ ((999 < p.segments) ⊎ (2 ^ 24 < p.appended))
 
@@ -112,7 +112,7 @@ abbrev pub Breaks : (all before : List Statement) → Statement → AsmRule → 
 Breaks all before s rule.Syntax = s ≡ Unread
 Breaks all before s rule.Range = BreaksRange all before s
 Breaks all before s rule.Name = BreaksName all before s
-Breaks all before s rule.Place = IsMisplaced (place_behind before) s
+Breaks all before s rule.SegmentsSoFar = IsMisplaced (place_behind before) s
 Breaks all before s rule.Size = IsPastLimits (behind (place_behind before) s)
 Breaks all before s rule.Empty = ⊥
 

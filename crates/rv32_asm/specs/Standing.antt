@@ -11,14 +11,14 @@ use Rattle.rv32_lines.specs.declared.statements.Statement.{Statement as ReadStat
 use Rattle.rv32_lines.specs.Texts.{Target, Written, Plain, NegativeShift, Jump, Conditional}
 use Rattle.rv32_lines.specs.Statements.{Statement, Segment, Entry}
 use Rattle.rv32_lines.specs.Reading.{IsReadStatement, AreReadStatements}
-use Rattle.rv32_asm.specs.declared.assembled.Piece.{Piece as Part}
+use Rattle.rv32_asm.specs.declared.assembled.AssembledSegment.{AssembledSegment as Part}
 use Rattle.rv32_asm.specs.declared.places.Open.{Open as OpenSegment}
-use Rattle.rv32_asm.specs.declared.places.Place.{Place as ReadPlace}
+use Rattle.rv32_asm.specs.declared.places.SegmentsSoFar.{SegmentsSoFar as ReadPlace}
 use Rattle.rv32_asm.specs.declared.labels.Label.{Label}
 use Rattle.rv32_asm.specs.declared.labels.Labels.{Labels}
 use Rattle.rv32_asm.specs.declared.refused.AsmRule.{AsmRule}
 use Rattle.rv32_asm.specs.declared.refused.AsmRule.TheVariants as rule
-use Rattle.rv32_asm.specs.Places.{Open, Place, appends, place_behind, here, IsLabelled, IsNamed}
+use Rattle.rv32_asm.specs.Places.{Open, SegmentsSoFar, appends, place_behind, here, IsLabelled, IsNamed}
 use Rattle.rv32_asm.specs.Rules.{IsAddress, IsLong, IsFar, IsBadTarget, IsUnknown, IsOutOfRange, target_name, name_in, number_of, Breaks, BreaksRange, BreaksName, AreSound, IsEmpty, IsFirstBroken, HasNoSegment}
 use Rattle.rv32_asm.specs.Assembling.{HasText}
 use Rattle.rv32_asm.specs.Assembling as text
@@ -34,7 +34,7 @@ open_of o = record {
   is_closed = o.is_closed;
 }
 
-abbrev pub place_of : ReadPlace → Place
+abbrev pub place_of : ReadPlace → SegmentsSoFar
 place_of p =
     record { segments = p.segments; appended = p.appended; last = option_map open_of p.last }
 
@@ -232,11 +232,11 @@ closed_by appended (Some o) =
     }
     ∷ []
 
-abbrev pub closed : Place → List Part
+abbrev pub closed : SegmentsSoFar → List Part
 closed p = closed_by p.appended p.last
 
 -- a segment that ends at a place fits the numbers of a piece
-abbrev pub IsClosable : Place → Type 0
+abbrev pub IsClosable : SegmentsSoFar → Type 0
 IsClosable p =
     (p.appended ≤ 2 ^ 24)
     × IfSome p.last (λ o. (o.bytes ≤ p.appended) × (o.bytes + o.zeros < 2 ^ 32))

@@ -16,7 +16,7 @@ ghost use Rattle.rv32_asm.specs.declared.refused.AsmRule.{AsmRule as Rules};
 ghost use Rattle.rv32_asm.specs.declared.refused.AsmRefused.TheVariants as refused;
 
 use crate::labels::Labels;
-use crate::places::Place;
+use crate::places::SegmentsSoFar;
 use crate::refused::AsmRefused;
 use crate::rules::first_fault;
 use crate::words::word_at;
@@ -27,7 +27,7 @@ use std::marker::Model;
 
 /// A segment, and where its bytes stand among those that the lines append.
 #[derive(Clone, Copy, Debug)]
-struct Piece {
+struct AssembledSegment {
     flags: u32,
     start: u32,
     size: u32,
@@ -41,7 +41,7 @@ pub struct Assembled {
     entry: u32,
     /// The bytes that the lines append.
     bytes: Vec<u8>,
-    pieces: Vec<Piece>,
+    pieces: Vec<AssembledSegment>,
 }
 
 impl Model for Assembled {
@@ -145,14 +145,17 @@ fn address_of<'a>(labels: &Labels<'a>, name: &'a [u8]) -> u32
 }
 
 /// The segments of statements.
-fn pieces_of(alloc: Global, statements: &[Statement<'_>]) -> Result<Vec<Piece>, AllocError>
+fn pieces_of(
+    alloc: Global,
+    statements: &[Statement<'_>],
+) -> Result<Vec<AssembledSegment>, AllocError>
     requires { (all : List Statements) × AreReadStatements statements.now all × AreSound all }
     ensures { IfOk result (λ pieces. (all : List Statements) (appended : List (List ℕ))
         → AreReadStatements statements.now all → AreSound all → AreFitting all appended
         → ArePieces all appended pieces.items) }
 {
     let mut pieces = Vec::new(alloc);
-    let mut place = Place::first();
+    let mut place = SegmentsSoFar::first();
     for statement in statements {
         if let Statement::Segment { .. } = statement {
             close(&mut pieces, place)?;
@@ -164,12 +167,12 @@ fn pieces_of(alloc: Global, statements: &[Statement<'_>]) -> Result<Vec<Piece>, 
 }
 
 /// Adds the segment that ends at a place, if there is one.
-fn close(pieces: &mut Vec<Piece>, place: Place) -> Result<(), AllocError>
+fn close(pieces: &mut Vec<AssembledSegment>, place: SegmentsSoFar) -> Result<(), AllocError>
     requires { IsClosable (place_of place) }
     ensures { OnOk result (pieces.new.items ≡ pieces.old.items ++ closed (place_of place)) }
 {
     if let Some(open) = place.last {
-        pieces.push(Piece {
+        pieces.push(AssembledSegment {
             flags: open.flags,
             start: open.start,
             size: (open.bytes + open.zeros) as u32,
@@ -191,7 +194,7 @@ fn append_lines<'a>(
         → OnOk result ((appended : List (List ℕ)) × AreBytesBehind all [] all appended
         × (bytes.new.items ≡ bytes.old.items ++ concat appended)) }
 {
-    let mut place = Place::first();
+    let mut place = SegmentsSoFar::first();
     for statement in statements {
         append_line(bytes, labels, place.here(), statement)?;
         place = place.behind(statement);

@@ -2,7 +2,7 @@
 
 ghost use Rattle.std.specs.Prelude.{◌≡◌};
 
-use crate::places::Place;
+use crate::places::SegmentsSoFar;
 use rv32_lines::Statement;
 use std::alloc::{AllocError, Global};
 use std::collections::BTreeMap;
@@ -34,7 +34,7 @@ impl<'a> Labels<'a> {
             → AreReadStatements statements.now all → AreLabels all labels) }
     {
         let mut first = BTreeMap::new(alloc);
-        let mut place = Place::first();
+        let mut place = SegmentsSoFar::first();
         for (line, statement) in statements.iter().enumerate() {
             if let Statement::Label { name } = statement {
                 if !first.contains_key(name) {

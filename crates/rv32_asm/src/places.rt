@@ -23,7 +23,7 @@ pub(crate) struct Open {
 
 /// The segments and the bytes so far.
 #[derive(Clone, Copy)]
-pub(crate) struct Place {
+pub(crate) struct SegmentsSoFar {
     pub segments: u128,
     pub appended: u128,
     pub last: Option<Open>,
@@ -85,7 +85,7 @@ impl Open {
     }
 }
 
-impl Place {
+impl SegmentsSoFar {
     ghost use Rattle.std.specs.Prelude.{◌≡◌, ◌+◌, ◌^◌, ◌<◌, ◌≤◌, Some, IfSome};
     ghost use Rattle.rv32_lines.specs.Reading.{IsReadStatement};
     ghost use Rattle.rv32_lines.specs.Statements.{Statement as Statements, Segment, Zero};
@@ -93,11 +93,11 @@ impl Place {
     ghost use Rattle.rv32_asm.specs.Standing.{place_of, counted, HasRoom};
 
     /// The place of the first line.
-    pub(crate) fn first() -> Place
+    pub(crate) fn first() -> SegmentsSoFar
         ensures value { place_of result ≡ first_place }
         ensures none { counted result ≡ 0 }
     {
-        Place {
+        SegmentsSoFar {
             segments: 0,
             appended: 0,
             last: None,
@@ -117,7 +117,7 @@ impl Place {
     }
 
     /// The place behind a statement.
-    pub(crate) fn behind(self, statement: &Statement<'_>) -> Place
+    pub(crate) fn behind(self, statement: &Statement<'_>) -> SegmentsSoFar
         requires { counted self < 2 ^ 127 }
         ensures value { (s : Statements) → IsReadStatement statement.now s
             → place_of result ≡ behind (place_of self) s }
@@ -134,12 +134,12 @@ impl Place {
     }
 
     /// The place at the start of a segment.
-    fn with_segment(self, flags: u32, start: u32) -> Place
+    fn with_segment(self, flags: u32, start: u32) -> SegmentsSoFar
         requires { counted self < 2 ^ 127 }
         ensures value { place_of result ≡ behind (place_of self) (Segment flags start) }
         ensures grows { counted result ≤ counted self + 1 }
     {
-        Place {
+        SegmentsSoFar {
             segments: self.segments + 1,
             appended: self.appended,
             last: Some(Open {
@@ -153,7 +153,7 @@ impl Place {
     }
 
     /// The place behind zeros.
-    fn with_zeros(self, count: u128) -> Place
+    fn with_zeros(self, count: u128) -> SegmentsSoFar
         requires room { counted self < 2 ^ 127 }
         requires low { count ≤ 2 ^ 62 }
         ensures value { place_of result ≡ behind (place_of self) (Zero count) }
@@ -163,7 +163,7 @@ impl Place {
             Some(open) => Some(open.with_zeros(count)),
             None => None,
         };
-        Place {
+        SegmentsSoFar {
             segments: self.segments,
             appended: self.appended,
             last,
@@ -171,7 +171,7 @@ impl Place {
     }
 
     /// The place behind bytes.
-    fn with_bytes(self, count: u128) -> Place
+    fn with_bytes(self, count: u128) -> SegmentsSoFar
         requires room { counted self < 2 ^ 127 }
         requires low { count ≤ 2 ^ 62 }
         ensures value { place_of result ≡ appended_to (place_of self) (Some count) }
@@ -181,7 +181,7 @@ impl Place {
             Some(open) => Some(open.with_bytes(count)),
             None => None,
         };
-        Place {
+        SegmentsSoFar {
             segments: self.segments,
             appended: self.appended + count,
             last,

@@ -9,7 +9,7 @@ ghost use Rattle.rv32_asm.specs.Standing.{place_of, counted, AreLabels, IsLine, 
 ghost use Rattle.rv32_asm.specs.Standing.{IsLowestOfNames, IsFoundFault, TellsEntry};
 
 use crate::labels::Labels;
-use crate::places::{Place, appends};
+use crate::places::{SegmentsSoFar, appends};
 use crate::refused::AsmRule;
 use crate::words::{ADDRESS_END, word_at};
 use rv32_lines::Statement;
@@ -28,7 +28,7 @@ pub(crate) fn first_fault<'a>(
     ensures { (all : List Statements) → AreReadStatements statements.now all
         → AreLabels all labels.now → IsFoundFault all result }
 {
-    let mut place = Place::first();
+    let mut place = SegmentsSoFar::first();
     let mut has_entry = false;
     for (line, statement) in statements.iter().enumerate() {
         if let Some(rule) = broken_rule(labels, statement, line, place, has_entry) {
@@ -64,7 +64,7 @@ fn broken_rule<'a>(
     labels: &Labels<'a>,
     statement: &Statement<'a>,
     line: usize,
-    place: Place,
+    place: SegmentsSoFar,
     has_entry: bool,
 ) -> Option<AsmRule>
     requires { counted place < 2 ^ 127 }
@@ -79,7 +79,7 @@ fn broken_rule<'a>(
         return Some(rule);
     }
     if is_misplaced(place, statement) {
-        return Some(AsmRule::Place);
+        return Some(AsmRule::SegmentsSoFar);
     }
     if is_past_limits(place.behind(statement)) {
         return Some(AsmRule::Size);
@@ -92,7 +92,7 @@ fn broken_name<'a>(
     labels: &Labels<'a>,
     statement: &Statement<'a>,
     line: usize,
-    place: Place,
+    place: SegmentsSoFar,
     has_entry: bool,
 ) -> Option<AsmRule>
     requires { counted place < 2 ^ 127 }
@@ -157,7 +157,7 @@ fn is_high(address: Option<u128>) -> bool
 }
 
 /// Whether a line is out of place.
-fn is_misplaced(place: Place, statement: &Statement<'_>) -> bool
+fn is_misplaced(place: SegmentsSoFar, statement: &Statement<'_>) -> bool
     requires { counted place < 2 ^ 127 }
     ensures { (s : Statements) → IsReadStatement statement.now s
         → MatchBool result (IsMisplaced (place_of place) s) (IsMisplaced (place_of place) s → ⊥) }
@@ -192,7 +192,7 @@ fn needs_alignment(statement: &Statement<'_>) -> bool
 }
 
 /// Whether a place is past the limits.
-fn is_past_limits(place: Place) -> bool
+fn is_past_limits(place: SegmentsSoFar) -> bool
     requires { counted place < 2 ^ 127 + 2 ^ 64 }
     ensures { MatchBool result (IsPastLimits (place_of place)) (IsPastLimits (place_of place) → ⊥) }
 {

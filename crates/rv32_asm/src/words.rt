@@ -11,7 +11,7 @@ ghost use Rattle.rv32_asm.specs.Standing.{IsFoundTarget, IsFoundOffset, IsFoundW
 use crate::labels::Labels;
 use crate::refused::AsmRule;
 use rv32_decode::{BranchOffset, Cond, Instr, JumpOffset, Reg, encode, ranges_law};
-use rv32_lines::{Command, Target};
+use rv32_lines::{Target, WrittenInstruction};
 
 /// No address is as high.
 pub(crate) const ADDRESS_END: u128 = 1 << 32;
@@ -152,7 +152,7 @@ fn branch_word<'a>(
 pub(crate) fn word_at<'a>(
     labels: &Labels<'a>,
     at: Option<u128>,
-    command: &Command<'a>,
+    command: &WrittenInstruction<'a>,
 ) -> Result<Option<u32>, AsmRule>
     requires { HasRoom at }
     ensures { (all : List Statements) (w : Written) → AreLabels all labels.now
@@ -160,10 +160,10 @@ pub(crate) fn word_at<'a>(
 {
     ranges_law();
     match command {
-        Command::Plain { instruction } => Ok(Some(encode(*instruction))),
-        Command::OutOfRange => Err(AsmRule::Range),
-        Command::Jump { rd, to } => jump_word(labels, at, *rd, to),
-        Command::Conditional { cond, rs1, rs2, to } => {
+        WrittenInstruction::Plain { instruction } => Ok(Some(encode(*instruction))),
+        WrittenInstruction::OutOfRange => Err(AsmRule::Range),
+        WrittenInstruction::Jump { rd, to } => jump_word(labels, at, *rd, to),
+        WrittenInstruction::Conditional { cond, rs1, rs2, to } => {
             branch_word(labels, at, *cond, *rs1, *rs2, to)
         }
     }

@@ -17,13 +17,13 @@ use Rattle.rv32_decode.specs.declared.Instr.TheVariants.{Lui, Auipc, Jal, Jalr, 
 use Rattle.rv32_text.specs.Listing.{branch_name, load_name, store_name, imm_name, shift_name, op_name, amo_name, order_suffix, with_two, with_three}
 use Rattle.rv32_lines.specs.declared.mnemonics.Mnemonic.{Mnemonic}
 use Rattle.rv32_lines.specs.declared.mnemonics.Mnemonic.TheVariants as mnemonic
-use Rattle.rv32_lines.specs.declared.commands.Command.{Command}
+use Rattle.rv32_lines.specs.declared.commands.WrittenInstruction.{WrittenInstruction}
 use Rattle.rv32_lines.specs.Texts.{Target, Written, Plain, NegativeShift, Jump, Conditional, shift_by, numeral, register, base, signed_numeral, indexed, upper_digits, target_text, written_text}
 use Rattle.rv32_lines.specs.Statements.{IsTarget, IsWritten, SaysInstruction}
 use Rattle.rv32_lines.specs.Reading.{mnemonic_text, mnemonic_in, operands_in, HasOperands, IsReadCommand, IsCommandWith, IsCommandWithout, is_mark, BeginsWithSpace}
 
 -- what is found is an instruction of the mnemonic
-abbrev pub Gives : List ℕ → Option Command → Mnemonic → Type 0
+abbrev pub Gives : List ℕ → Option WrittenInstruction → Mnemonic → Type 0
 Gives text found mnemonic.Lui =
     IfSome found (λ c. (rd n : ℕ) × (text ≡ register rd ++ (codes ", " ++ upper_digits n)) × IsReadCommand c
     (Plain (Lui rd n)))
@@ -68,7 +68,7 @@ Gives text found (mnemonic.Branch k) =
 Gives text found m = IfSome found (λ c. ⊥)
 
 -- each instruction of the mnemonic is found
-abbrev pub Finds : List ℕ → Option Command → Mnemonic → Type 0
+abbrev pub Finds : List ℕ → Option WrittenInstruction → Mnemonic → Type 0
 Finds text found mnemonic.Lui =
     (rd n : ℕ) → text ≡ register rd ++ (codes ", " ++ upper_digits n)
     → MatchOption found ⊥ (λ c. IsReadCommand c (Plain (Lui rd n)))
@@ -111,7 +111,7 @@ Finds text found (mnemonic.Branch k) =
     → MatchOption found ⊥ (λ c. IsReadCommand c (Conditional k r n to))
 Finds text found m = Unit {0}
 
-pub finds_all : (text : List ℕ) (found : Option Command) (m : Mnemonic) → Finds text found m
+pub finds_all : (text : List ℕ) (found : Option WrittenInstruction) (m : Mnemonic) → Finds text found m
     → (w : Written) → IsWritten w → HasOperands w → mnemonic_in w ≡ m → text ≡ operands_in w
     → MatchOption found ⊥ (λ c. IsReadCommand c w)
 finds_all text found m h (Plain (Lui rd n)) i o e t = (subst (Finds text found) (sym e) h) rd n t
@@ -136,7 +136,7 @@ finds_all text found m h (Plain Ebreak) i o e t = absurd o
 finds_all text found m h (Plain (Illegal word)) i o e t = absurd o
 
 -- an instruction that is found is a shift, by a number of either sign
-gives_shift : (text : List ℕ) (c : Command) (k : ShiftOp) (rd r : ℕ) (z : ℤ)
+gives_shift : (text : List ℕ) (c : WrittenInstruction) (k : ShiftOp) (rd r : ℕ) (z : ℤ)
     → text ≡ register rd ++ (codes ", " ++ register r ++ (codes ", " ++ signed_numeral z))
     → IsReadCommand c (shift_by k rd r z) → (w : Written) × IsCommandWith (mnemonic.ShiftImm k) text c w
 gives_shift text c k rd r (pos n) t h =
@@ -144,7 +144,7 @@ gives_shift text c k rd r (pos n) t h =
 gives_shift text c k rd r (negsuc n) t h =
     (NegativeShift k rd r n, record { written = tt; some = tt; mnemonic_is = refl; text_is = t; read = h })
 
-pub gives_all : (text : List ℕ) (found : Option Command) (m : Mnemonic) → Gives text found m
+pub gives_all : (text : List ℕ) (found : Option WrittenInstruction) (m : Mnemonic) → Gives text found m
     → IfSome found (λ c. (w : Written) × IsCommandWith m text c w)
 gives_all text None m h = tt
 gives_all text (Some c) mnemonic.Lui h =
@@ -398,7 +398,7 @@ name_is line name rest w e marks ends s = elim (either_form w) [
   | inr o ↦ (split_without line name rest w e marks ends s o).0
 ]
 
-pub says_with : (line name rest operands : List ℕ) (m : Mnemonic) (found : Option Command) → line ≡ name ++ rest
+pub says_with : (line name rest operands : List ℕ) (m : Mnemonic) (found : Option WrittenInstruction) → line ≡ name ++ rest
     → rest ≡ codes " " ++ operands
     → name ≡ mnemonic_text m → IfSome found (λ c. (w : Written) × IsCommandWith m operands c w)
     → IfSome found (λ c. (w : Written) × SaysInstruction line w × IsReadCommand c w)
@@ -416,7 +416,7 @@ says_with line name rest operands m (Some c) e f g h =
       h.1.read,
     )
 
-pub says_without : (line name rest : List ℕ) (m : Mnemonic) (found : Option Command) → line ≡ name ++ rest → rest ≡ []
+pub says_without : (line name rest : List ℕ) (m : Mnemonic) (found : Option WrittenInstruction) → line ≡ name ++ rest → rest ≡ []
     → name ≡ mnemonic_text m → IfSome found (λ c. (w : Written) × IsCommandWithout m c w)
     → IfSome found (λ c. (w : Written) × SaysInstruction line w × IsReadCommand c w)
 says_without line name rest m None e f g h = tt

@@ -9,7 +9,7 @@ use Rattle.rv32_lines.specs.declared.numerals.Base.{Base}
 use Rattle.rv32_lines.specs.declared.numerals.Base.TheVariants.{Decimal}
 use Rattle.rv32_lines.specs.Texts.{numeral, shift_by}
 use Rattle.rv32_lines.specs.Reading.{radix, is_digit, has_no_zero, capped, clipped, IsNumeralThen, IsSignedThen, IsReadCommand}
-use Rattle.rv32_lines.specs.declared.commands.Command.TheVariants as command
+use Rattle.rv32_lines.specs.declared.commands.WrittenInstruction.TheVariants as command
 use Rattle.rv32_decode.specs.declared.Instr.TheVariants.{ShiftImm}
 use Rattle.rv32_decode.specs.declared.ShiftOp.{ShiftOp}
 use Rattle.rv32_lines.proofs.Spelling.{digits_of_numeral, no_zero_of_numeral}

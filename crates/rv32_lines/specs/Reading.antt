@@ -9,8 +9,8 @@ use Rattle.rv32_lines.specs.declared.mnemonics.Mnemonic.TheVariants as mnemonic
 use Rattle.rv32_text.specs.Listing.{branch_name, load_name, store_name, imm_name, shift_name, op_name, amo_name, order_suffix}
 use Rattle.rv32_decode.specs.Words.{IsInRange}
 use Rattle.rv32_decode.specs.declared.Instr.TheVariants.{Lui, Auipc, Jal, Jalr, Branch, Load, Store, OpImm, ShiftImm, Op, Fence, Ecall, Ebreak, Lr, Sc, Amo, Illegal}
-use Rattle.rv32_lines.specs.declared.commands.Command.{Command}
-use Rattle.rv32_lines.specs.declared.commands.Command.TheVariants as command
+use Rattle.rv32_lines.specs.declared.commands.WrittenInstruction.{WrittenInstruction}
+use Rattle.rv32_lines.specs.declared.commands.WrittenInstruction.TheVariants as command
 use Rattle.rv32_lines.specs.declared.statements.Statement.{Statement as ReadStatement}
 use Rattle.rv32_lines.specs.declared.statements.Statement.TheVariants as said
 use Rattle.rv32_lines.specs.declared.operands.Target.{Target as ReadTarget}
@@ -135,7 +135,7 @@ IsTooLarge (Jump rd to) = IsInRange (Jal rd (pos 0)) → ⊥
 IsTooLarge (Conditional c rs1 rs2 to) = IsInRange (Branch c rs1 rs2 (pos 0)) → ⊥
 
 -- an instruction, read
-abbrev pub IsReadCommand : Command → Written → Type 0
+abbrev pub IsReadCommand : WrittenInstruction → Written → Type 0
 IsReadCommand (command.Plain i) (Plain j) = i ≡ j
 IsReadCommand (command.Jump rd to) (Jump r other) = (rd ≡ r) × IsReadTarget to other × (r < 32)
 IsReadCommand (command.Conditional c rs1 rs2 to) (Conditional d r q other) =
@@ -200,14 +200,15 @@ HasOperands (Plain (Illegal word)) = ⊥
 HasOperands w = Unit {0}
 
 -- an instruction of a mnemonic, with operands or without, read
-pub record IsCommandWith (m : Mnemonic) (text : List ℕ) (c : Command) (w : Written) : Type 0 where
+pub record IsCommandWith (m : Mnemonic) (text : List ℕ) (c : WrittenInstruction) (w : Written) :
+    Type 0 where
   pub written : IsWritten w
   pub some : HasOperands w
   pub mnemonic_is : mnemonic_in w ≡ m
   pub text_is : text ≡ operands_in w
   pub read : IsReadCommand c w
 
-pub record IsCommandWithout (m : Mnemonic) (c : Command) (w : Written) : Type 0 where
+pub record IsCommandWithout (m : Mnemonic) (c : WrittenInstruction) (w : Written) : Type 0 where
   pub written : IsWritten w
   pub none : HasOperands w → ⊥
   pub mnemonic_is : mnemonic_in w ≡ m

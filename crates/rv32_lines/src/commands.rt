@@ -25,7 +25,7 @@ use rv32_decode::{
 
 /// An instruction as it is written.
 #[derive(Clone, Copy)]
-pub enum Command<'a> {
+pub enum WrittenInstruction<'a> {
     Plain {
         instruction: Instr,
     },
@@ -93,7 +93,7 @@ fn amount5(value: i64) -> Option<Amount>
 }
 
 /// LUI, by its operands.
-fn lui(text: &[u8]) -> Option<Command<'_>>
+fn lui(text: &[u8]) -> Option<WrittenInstruction<'_>>
     ensures some { IfSome result (λ c. (rd n : ℕ)
         × (text.now ≡ register rd ++ (codes ", " ++ upper_digits n))
         × IsReadCommand c (Plain (model.Lui rd n))) }
@@ -103,15 +103,15 @@ fn lui(text: &[u8]) -> Option<Command<'_>>
 {
     let (rd, upper) = register_upper(text)?;
     let (Some(rd), Some(upper)) = (reg(rd), upper20(upper)) else {
-        return Some(Command::OutOfRange);
+        return Some(WrittenInstruction::OutOfRange);
     };
-    Some(Command::Plain {
+    Some(WrittenInstruction::Plain {
         instruction: Instr::Lui { rd, upper },
     })
 }
 
 /// AUIPC, by its operands.
-fn auipc(text: &[u8]) -> Option<Command<'_>>
+fn auipc(text: &[u8]) -> Option<WrittenInstruction<'_>>
     ensures some { IfSome result (λ c. (rd n : ℕ)
         × (text.now ≡ register rd ++ (codes ", " ++ upper_digits n))
         × IsReadCommand c (Plain (model.Auipc rd n))) }
@@ -121,15 +121,15 @@ fn auipc(text: &[u8]) -> Option<Command<'_>>
 {
     let (rd, upper) = register_upper(text)?;
     let (Some(rd), Some(upper)) = (reg(rd), upper20(upper)) else {
-        return Some(Command::OutOfRange);
+        return Some(WrittenInstruction::OutOfRange);
     };
-    Some(Command::Plain {
+    Some(WrittenInstruction::Plain {
         instruction: Instr::Auipc { rd, upper },
     })
 }
 
 /// JALR, by its operands.
-fn jalr(text: &[u8]) -> Option<Command<'_>>
+fn jalr(text: &[u8]) -> Option<WrittenInstruction<'_>>
     ensures some { IfSome result (λ c. (rd r : ℕ) × (z : ℤ)
         × (text.now ≡ register rd ++ (codes ", " ++ indexed z r))
         × IsReadCommand c (Plain (model.Jalr rd r z))) }
@@ -139,15 +139,15 @@ fn jalr(text: &[u8]) -> Option<Command<'_>>
 {
     let (rd, address) = register_indexed(text)?;
     let (Some(rd), Some(rs1), Some(imm)) = (reg(rd), reg(address.base), imm12(address.imm)) else {
-        return Some(Command::OutOfRange);
+        return Some(WrittenInstruction::OutOfRange);
     };
-    Some(Command::Plain {
+    Some(WrittenInstruction::Plain {
         instruction: Instr::Jalr { rd, rs1, imm },
     })
 }
 
 /// A load, by its operands.
-fn load(kind: LoadKind, text: &[u8]) -> Option<Command<'_>>
+fn load(kind: LoadKind, text: &[u8]) -> Option<WrittenInstruction<'_>>
     ensures some { IfSome result (λ c. (rd r : ℕ) × (z : ℤ)
         × (text.now ≡ register rd ++ (codes ", " ++ indexed z r))
         × IsReadCommand c (Plain (model.Load kind rd r z))) }
@@ -157,15 +157,15 @@ fn load(kind: LoadKind, text: &[u8]) -> Option<Command<'_>>
 {
     let (rd, address) = register_indexed(text)?;
     let (Some(rd), Some(rs1), Some(imm)) = (reg(rd), reg(address.base), imm12(address.imm)) else {
-        return Some(Command::OutOfRange);
+        return Some(WrittenInstruction::OutOfRange);
     };
-    Some(Command::Plain {
+    Some(WrittenInstruction::Plain {
         instruction: Instr::Load { kind, rd, rs1, imm },
     })
 }
 
 /// A store, by its operands.
-fn store(width: Width, text: &[u8]) -> Option<Command<'_>>
+fn store(width: Width, text: &[u8]) -> Option<WrittenInstruction<'_>>
     ensures some { IfSome result (λ c. (rd r : ℕ) × (z : ℤ)
         × (text.now ≡ register rd ++ (codes ", " ++ indexed z r))
         × IsReadCommand c (Plain (model.Store width r rd z))) }
@@ -175,9 +175,9 @@ fn store(width: Width, text: &[u8]) -> Option<Command<'_>>
 {
     let (rs2, address) = register_indexed(text)?;
     let (Some(rs2), Some(rs1), Some(imm)) = (reg(rs2), reg(address.base), imm12(address.imm)) else {
-        return Some(Command::OutOfRange);
+        return Some(WrittenInstruction::OutOfRange);
     };
-    Some(Command::Plain {
+    Some(WrittenInstruction::Plain {
         instruction: Instr::Store {
             width,
             rs1,
@@ -188,7 +188,7 @@ fn store(width: Width, text: &[u8]) -> Option<Command<'_>>
 }
 
 /// An operation on a register and an immediate, by its operands.
-fn op_imm(op: ImmOp, text: &[u8]) -> Option<Command<'_>>
+fn op_imm(op: ImmOp, text: &[u8]) -> Option<WrittenInstruction<'_>>
     ensures some { IfSome result (λ c. (rd r : ℕ) × (z : ℤ)
         × (text.now ≡ register rd ++ (codes ", " ++ register r ++ (codes ", " ++ signed_numeral z)))
         × IsReadCommand c (Plain (model.OpImm op rd r z))) }
@@ -198,16 +198,16 @@ fn op_imm(op: ImmOp, text: &[u8]) -> Option<Command<'_>>
 {
     let (rd, rs1, imm) = registers_immediate(text)?;
     let (Some(rd), Some(rs1), Some(imm)) = (reg(rd), reg(rs1), imm12(imm)) else {
-        return Some(Command::OutOfRange);
+        return Some(WrittenInstruction::OutOfRange);
     };
-    Some(Command::Plain {
+    Some(WrittenInstruction::Plain {
         instruction: Instr::OpImm { op, rd, rs1, imm },
     })
 }
 
 /// A shift by an immediate, by its operands.
 #[tactic(auto, using(crate::proofs::Signs::shift_far, crate::proofs::Signs::shift_is))]
-fn shift_imm(op: ShiftOp, text: &[u8]) -> Option<Command<'_>>
+fn shift_imm(op: ShiftOp, text: &[u8]) -> Option<WrittenInstruction<'_>>
     ensures some { IfSome result (λ c. (rd r : ℕ) × (z : ℤ)
         × (text.now ≡ register rd ++ (codes ", " ++ register r ++ (codes ", " ++ signed_numeral z)))
         × IsReadCommand c (shift_by op rd r z)) }
@@ -217,9 +217,9 @@ fn shift_imm(op: ShiftOp, text: &[u8]) -> Option<Command<'_>>
 {
     let (rd, rs1, amount) = registers_immediate(text)?;
     let (Some(rd), Some(rs1), Some(amount)) = (reg(rd), reg(rs1), amount5(amount)) else {
-        return Some(Command::OutOfRange);
+        return Some(WrittenInstruction::OutOfRange);
     };
-    Some(Command::Plain {
+    Some(WrittenInstruction::Plain {
         instruction: Instr::ShiftImm {
             op,
             rd,
@@ -230,7 +230,7 @@ fn shift_imm(op: ShiftOp, text: &[u8]) -> Option<Command<'_>>
 }
 
 /// An operation on two registers, by its operands.
-fn op_registers(op: Op, text: &[u8]) -> Option<Command<'_>>
+fn op_registers(op: Op, text: &[u8]) -> Option<WrittenInstruction<'_>>
     ensures some { IfSome result (λ c. (rd r n : ℕ)
         × (text.now ≡ register rd ++ (codes ", " ++ register r ++ (codes ", " ++ register n)))
         × IsReadCommand c (Plain (model.Op op rd r n))) }
@@ -240,15 +240,15 @@ fn op_registers(op: Op, text: &[u8]) -> Option<Command<'_>>
 {
     let (rd, rs1, rs2) = three_registers(text)?;
     let (Some(rd), Some(rs1), Some(rs2)) = (reg(rd), reg(rs1), reg(rs2)) else {
-        return Some(Command::OutOfRange);
+        return Some(WrittenInstruction::OutOfRange);
     };
-    Some(Command::Plain {
+    Some(WrittenInstruction::Plain {
         instruction: Instr::Op { op, rd, rs1, rs2 },
     })
 }
 
 /// LR, by its operands.
-fn load_reserved(aq: bool, rl: bool, text: &[u8]) -> Option<Command<'_>>
+fn load_reserved(aq: bool, rl: bool, text: &[u8]) -> Option<WrittenInstruction<'_>>
     ensures some { IfSome result (λ c. (rd r : ℕ)
         × (text.now ≡ register rd ++ (codes ", " ++ base r))
         × IsReadCommand c (Plain (model.Lr rd r aq rl))) }
@@ -258,15 +258,15 @@ fn load_reserved(aq: bool, rl: bool, text: &[u8]) -> Option<Command<'_>>
 {
     let (rd, rs1) = register_base(text)?;
     let (Some(rd), Some(rs1)) = (reg(rd), reg(rs1)) else {
-        return Some(Command::OutOfRange);
+        return Some(WrittenInstruction::OutOfRange);
     };
-    Some(Command::Plain {
+    Some(WrittenInstruction::Plain {
         instruction: Instr::Lr { rd, rs1, aq, rl },
     })
 }
 
 /// SC, by its operands.
-fn store_conditional(aq: bool, rl: bool, text: &[u8]) -> Option<Command<'_>>
+fn store_conditional(aq: bool, rl: bool, text: &[u8]) -> Option<WrittenInstruction<'_>>
     ensures some { IfSome result (λ c. (rd r n : ℕ)
         × (text.now ≡ register rd ++ (codes ", " ++ register n ++ (codes ", " ++ base r)))
         × IsReadCommand c (Plain (model.Sc rd r n aq rl))) }
@@ -276,9 +276,9 @@ fn store_conditional(aq: bool, rl: bool, text: &[u8]) -> Option<Command<'_>>
 {
     let (rd, rs2, rs1) = registers_base(text)?;
     let (Some(rd), Some(rs1), Some(rs2)) = (reg(rd), reg(rs1), reg(rs2)) else {
-        return Some(Command::OutOfRange);
+        return Some(WrittenInstruction::OutOfRange);
     };
-    Some(Command::Plain {
+    Some(WrittenInstruction::Plain {
         instruction: Instr::Sc {
             rd,
             rs1,
@@ -290,7 +290,7 @@ fn store_conditional(aq: bool, rl: bool, text: &[u8]) -> Option<Command<'_>>
 }
 
 /// A read-modify-write, by its operands.
-fn read_modify_write(op: AmoOp, aq: bool, rl: bool, text: &[u8]) -> Option<Command<'_>>
+fn read_modify_write(op: AmoOp, aq: bool, rl: bool, text: &[u8]) -> Option<WrittenInstruction<'_>>
     ensures some { IfSome result (λ c. (rd r n : ℕ)
         × (text.now ≡ register rd ++ (codes ", " ++ register n ++ (codes ", " ++ base r)))
         × IsReadCommand c (Plain (model.Amo op rd r n aq rl))) }
@@ -300,9 +300,9 @@ fn read_modify_write(op: AmoOp, aq: bool, rl: bool, text: &[u8]) -> Option<Comma
 {
     let (rd, rs2, rs1) = registers_base(text)?;
     let (Some(rd), Some(rs1), Some(rs2)) = (reg(rd), reg(rs1), reg(rs2)) else {
-        return Some(Command::OutOfRange);
+        return Some(WrittenInstruction::OutOfRange);
     };
-    Some(Command::Plain {
+    Some(WrittenInstruction::Plain {
         instruction: Instr::Amo {
             op,
             rd,
@@ -315,7 +315,7 @@ fn read_modify_write(op: AmoOp, aq: bool, rl: bool, text: &[u8]) -> Option<Comma
 }
 
 /// JAL, by its operands.
-fn jump(text: &[u8]) -> Option<Command<'_>>
+fn jump(text: &[u8]) -> Option<WrittenInstruction<'_>>
     ensures some { IfSome result (λ c. (rd : ℕ) × (to : Targets) × IsTarget to
         × (text.now ≡ register rd ++ (codes ", " ++ target_text to))
         × IsReadCommand c (Jump rd to)) }
@@ -325,13 +325,13 @@ fn jump(text: &[u8]) -> Option<Command<'_>>
 {
     let (rd, to) = register_target(text)?;
     let Some(rd) = reg(rd) else {
-        return Some(Command::OutOfRange);
+        return Some(WrittenInstruction::OutOfRange);
     };
-    Some(Command::Jump { rd, to })
+    Some(WrittenInstruction::Jump { rd, to })
 }
 
 /// A branch, by its operands.
-fn conditional(cond: Cond, text: &[u8]) -> Option<Command<'_>>
+fn conditional(cond: Cond, text: &[u8]) -> Option<WrittenInstruction<'_>>
     ensures some { IfSome result (λ c. (r n : ℕ) × (to : Targets) × IsTarget to
         × (text.now ≡ register r ++ (codes ", " ++ register n ++ (codes ", " ++ target_text to)))
         × IsReadCommand c (Conditional cond r n to)) }
@@ -341,9 +341,9 @@ fn conditional(cond: Cond, text: &[u8]) -> Option<Command<'_>>
 {
     let (rs1, rs2, to) = registers_target(text)?;
     let (Some(rs1), Some(rs2)) = (reg(rs1), reg(rs2)) else {
-        return Some(Command::OutOfRange);
+        return Some(WrittenInstruction::OutOfRange);
     };
-    Some(Command::Conditional { cond, rs1, rs2, to })
+    Some(WrittenInstruction::Conditional { cond, rs1, rs2, to })
 }
 
 /// What stands before the first space, and what stands from it on.
@@ -361,7 +361,7 @@ fn split_word(text: &[u8]) -> (&[u8], &[u8])
 }
 
 /// An instruction.
-pub(crate) fn command_of(line: &[u8]) -> Option<Command<'_>>
+pub(crate) fn command_of(line: &[u8]) -> Option<WrittenInstruction<'_>>
     ensures some { IfSome result (λ c. (w : Written) × SaysInstruction line.now w
         × IsReadCommand c w) }
     ensures only { (w : Written) → SaysInstruction line.now w
@@ -376,26 +376,26 @@ pub(crate) fn command_of(line: &[u8]) -> Option<Command<'_>>
 }
 
 /// An instruction without operands.
-fn without_operands(mnemonic: Mnemonic) -> Option<Command<'static>>
+fn without_operands(mnemonic: Mnemonic) -> Option<WrittenInstruction<'static>>
     ensures some { IfSome result (λ c. (w : Written) × IsCommandWithout mnemonic c w) }
     ensures only { (w : Written) → IsWritten w → (HasOperands w → ⊥) → mnemonic_in w ≡ mnemonic
         → MatchOption result ⊥ (λ c. IsReadCommand c w) }
 {
     match mnemonic {
-        Mnemonic::Fence => Some(Command::Plain {
+        Mnemonic::Fence => Some(WrittenInstruction::Plain {
             instruction: Instr::Fence {
                 rd: Reg::ZERO,
                 rs1: Reg::ZERO,
                 bits: FenceBits::new(0xff),
             },
         }),
-        Mnemonic::Ecall => Some(Command::Plain {
+        Mnemonic::Ecall => Some(WrittenInstruction::Plain {
             instruction: Instr::Ecall,
         }),
-        Mnemonic::Ebreak => Some(Command::Plain {
+        Mnemonic::Ebreak => Some(WrittenInstruction::Plain {
             instruction: Instr::Ebreak,
         }),
-        Mnemonic::Illegal => Some(Command::Plain {
+        Mnemonic::Illegal => Some(WrittenInstruction::Plain {
             instruction: Instr::Illegal {
                 word: IllegalWord::Zeros,
             },
@@ -406,7 +406,7 @@ fn without_operands(mnemonic: Mnemonic) -> Option<Command<'static>>
 
 /// An instruction of a mnemonic and operands.
 #[tactic(auto, using(crate::proofs::Forms::finds_all, crate::proofs::Forms::gives_all))]
-fn with_operands(mnemonic: Mnemonic, text: &[u8]) -> Option<Command<'_>>
+fn with_operands(mnemonic: Mnemonic, text: &[u8]) -> Option<WrittenInstruction<'_>>
     ensures some { IfSome result (λ c. (w : Written) × IsCommandWith mnemonic text.now c w) }
     ensures only { (w : Written) → IsWritten w → HasOperands w → mnemonic_in w ≡ mnemonic
         → text.now ≡ operands_in w → MatchOption result ⊥ (λ c. IsReadCommand c w) }

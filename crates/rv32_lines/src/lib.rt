@@ -13,7 +13,7 @@ mod operands;
 mod statements;
 
 pub use bytes::append_bytes;
-pub use commands::Command;
+pub use commands::WrittenInstruction;
 pub use law::reading_law;
 pub use lines::statements_of;
 pub use operands::Target;

@@ -10,7 +10,7 @@ ghost use Rattle.rv32_lines.specs.Statements.{IsRead, Says};
 ghost use Rattle.rv32_lines.specs.Statements as model;
 ghost use Rattle.rv32_lines.specs.Texts.{Written};
 
-use crate::commands::{Command, command_of};
+use crate::commands::{WrittenInstruction, command_of};
 use crate::heads::{before, behind};
 use crate::names::is_name;
 use crate::numerals::{Base, are_digits, number_of, value_of};
@@ -38,7 +38,7 @@ pub enum Statement<'a> {
     Zero { count: u32 },
     /// The name of the entry.
     Entry { name: &'a [u8] },
-    Instruction { command: Command<'a> },
+    Instruction { command: WrittenInstruction<'a> },
     /// The line isn't in the grammar.
     Unread,
 }

@@ -6,6 +6,8 @@ ghost use Rattle.std.specs.Prelude.{◌≡◌, ◌==◌, ℕ};
 ghost use Rattle.rv32_program.specs.Program as model;
 ghost use Rattle.rv32_program.specs.Targets.{aligned, aligned_target};
 
+pub mod addresses;
+
 use rv32_decode::Instr;
 
 /// The class of a line of 64 bytes.

@@ -17,7 +17,7 @@ use Rattle.templates.specs.Committing.{kind_at, CommitsAt, CommitsTwice}
 use Rattle.templates.proofs.BatchLemmas.{reloads_length}
 
 -- no word commits
-record Quiet (items : List SequenceItem) : Type 0 where
+record Silent (items : List SequenceItem) : Type 0 where
   each : (k : ℕ) → kind_at items k ≡ Never
 
 at_zero : (k : ℕ) (kind : CommitKind) → Never ≡ (if suc k == 0 then kind else Never)
@@ -30,13 +30,13 @@ shift : (k n m : ℕ) (kind : CommitKind) → m ≡ n + 1
     → (if k == n then kind else Never) ≡ (if suc k == m then kind else Never)
 shift k n m kind e = grind (arith, nat_tests)
 
-first : {w : ItemWord} {kind : CommitKind} {rest : List SequenceItem} → Quiet rest
+first : {w : ItemWord} {kind : CommitKind} {rest : List SequenceItem} → Silent rest
     → CommitsAt (record { what = w; commit = kind } ∷ rest) 0 kind
-first {w} {kind} {rest} quiet = record { each = go }
+first {w} {kind} {rest} silent = record { each = go }
   where
     go : (k : ℕ) → kind_at (record { what = w; commit = kind } ∷ rest) k ≡ (if k == 0 then kind else Never)
     go zero = refl
-    go (suc k) = quiet.each k ∙ at_zero k kind
+    go (suc k) = silent.each k ∙ at_zero k kind
 
 behind : {w : ItemWord} {rest : List SequenceItem} {n : ℕ} {kind : CommitKind} → CommitsAt rest n kind
     → CommitsAt (record { what = w; commit = Never } ∷ rest) (n + 1) kind
@@ -46,22 +46,22 @@ behind {w} {rest} {n} {kind} h = record { each = go }
     go zero = past_zero n (n + 1) kind refl
     go (suc k) = h.each k ∙ shift k n (n + 1) kind refl
 
-quiet_none : Quiet []
-quiet_none = record { each = λ k. refl }
+silent_none : Silent []
+silent_none = record { each = λ k. refl }
 
-quiet_more : {w : ItemWord} {rest : List SequenceItem} → Quiet rest → Quiet (record { what = w; commit = Never } ∷ rest)
-quiet_more {w} {rest} h = record { each = go }
+silent_more : {w : ItemWord} {rest : List SequenceItem} → Silent rest → Silent (record { what = w; commit = Never } ∷ rest)
+silent_more {w} {rest} h = record { each = go }
   where
     go : (k : ℕ) → kind_at (record { what = w; commit = Never } ∷ rest) k ≡ Never
     go zero = refl
     go (suc k) = h.each k
 
-quiet_reload : (b : Bool) (n r : ℕ) (rest : List SequenceItem) → Quiet rest → Quiet (reload_by b n r rest)
-quiet_reload true n r rest h = quiet_more h
-quiet_reload false n r rest h = h
+silent_reload : (b : Bool) (n r : ℕ) (rest : List SequenceItem) → Silent rest → Silent (reload_by b n r rest)
+silent_reload true n r rest h = silent_more h
+silent_reload false n r rest h = h
 
-quiet_reloads : (x : Scratches) → Quiet (reloads x)
-quiet_reloads x = quiet_reload x.s.spilled 0 x.s.register _ (quiet_reload x.t.spilled 1 x.t.register [] quiet_none)
+silent_reloads : (x : Scratches) → Silent (reloads x)
+silent_reloads x = silent_reload x.s.spilled 0 x.s.register _ (silent_reload x.t.spilled 1 x.t.register [] silent_none)
 
 spill_before : (b : Bool) (i r : ℕ) (rest : List SequenceItem) (n : ℕ) (kind : CommitKind)
     → CommitsAt rest n kind → CommitsAt (spill_by b i r rest) (n + cond b 1 0) kind
@@ -79,22 +79,22 @@ spills_before x rest n h =
 pub read_commits : (x : Scratches) (w : Width) (rs1 : ℕ) (imm : ℤ) (i : Instr)
     → CommitsAt (read_sequence x w rs1 imm i) (8 + spilled_count x) Always
 read_commits x w rs1 imm i =
-    spills_before x _ 8 (behind (behind (behind (behind (behind (behind (behind (behind (first (quiet_reloads x))))))))))
+    spills_before x _ 8 (behind (behind (behind (behind (behind (behind (behind (behind (first (silent_reloads x))))))))))
 
 pub write_commits : (x : Scratches) (w : Width) (rs1 : ℕ) (imm : ℤ) (i : Instr)
     → CommitsAt (write_sequence x w rs1 imm i) (7 + spilled_count x) Always
 write_commits x w rs1 imm i =
-    spills_before x _ 7 (behind (behind (behind (behind (behind (behind (behind (first (quiet_reloads x)))))))))
+    spills_before x _ 7 (behind (behind (behind (behind (behind (behind (behind (first (silent_reloads x)))))))))
 
 pub load_commits : (x : Scratches) (kind : LoadKind) (rd rs1 : ℕ) (imm : ℤ)
     → CommitsAt (state_load_sequence x kind rd rs1 imm) (8 + spilled_count x) Always
 load_commits x kind rd rs1 imm =
-    spills_before x _ 8 (behind (behind (behind (behind (behind (behind (behind (behind (first (quiet_reloads x))))))))))
+    spills_before x _ 8 (behind (behind (behind (behind (behind (behind (behind (behind (first (silent_reloads x))))))))))
 
 pub store_commits : (x : Scratches) (w : Width) (rs1 rs2 : ℕ) (imm : ℤ)
     → CommitsAt (store_sequence x w rs1 rs2 imm) (7 + spilled_count x) Always
 store_commits x w rs1 rs2 imm =
-    spills_before x _ 7 (behind (behind (behind (behind (behind (behind (behind (first (quiet_reloads x)))))))))
+    spills_before x _ 7 (behind (behind (behind (behind (behind (behind (behind (first (silent_reloads x)))))))))
 
 -- two words that commit, the first where its value isn't the flag
 later : (k n : ℕ) → (if k == n then Always else Never)
@@ -136,51 +136,51 @@ pub flag_load_commits : (x : Scratches) (rd rs1 : ℕ) (imm : ℤ)
     → CommitsTwice (flag_load_sequence x rd rs1 imm) (2 + cond x.s.spilled 1 0) (6 + cond x.s.spilled 1 0)
 flag_load_commits x rd rs1 imm =
     spill_before_two x.s.spilled 0 x.s.register _ 2 6
-    (behind_two (behind_two (first_of_two (behind (behind (behind (first (quiet_reload x.s.spilled 0 x.s.register [] quiet_none))))))))
+    (behind_two (behind_two (first_of_two (behind (behind (behind (first (silent_reload x.s.spilled 0 x.s.register [] silent_none))))))))
 
 pub one_commits : (w : ItemWord) (kind : CommitKind) → CommitsAt (record { what = w; commit = kind } ∷ []) 0 kind
-one_commits w kind = first quiet_none
+one_commits w kind = first silent_none
 
 pub second_commits : (w v : ItemWord)
     → CommitsAt (record { what = w; commit = Never } ∷ record { what = v; commit = Always } ∷ []) 1 Always
-second_commits w v = behind (first quiet_none)
+second_commits w v = behind (first silent_none)
 
 pub jump_commits : (b : Bool) (rd next target : ℕ) → CommitsAt (jump_sequence b rd next target) (cond b 1 0) Always
-jump_commits true rd next target = behind (first (quiet_more quiet_none))
+jump_commits true rd next target = behind (first (silent_more silent_none))
 jump_commits false rd next target = one_commits _ Always
 
 pub branch_commits : (b : Bool) (c : Cond) (rs1 rs2 target : ℕ) → CommitsAt (branch_sequence b c rs1 rs2 target) 0 Always
-branch_commits true c rs1 rs2 target = first (quiet_more quiet_none)
+branch_commits true c rs1 rs2 target = first (silent_more silent_none)
 branch_commits false c rs1 rs2 target = one_commits _ Always
 
 pub ruleset all_commits = (load_commits, store_commits, read_commits, write_commits, one_commits, second_commits, jump_commits, branch_commits)
 
 -- the words of a batch
-quiet_spill : (b : Bool) (n r : ℕ) (rest : List SequenceItem) → Quiet rest → Quiet (spill_by b n r rest)
-quiet_spill true n r rest h = quiet_more h
-quiet_spill false n r rest h = h
+silent_spill : (b : Bool) (n r : ℕ) (rest : List SequenceItem) → Silent rest → Silent (spill_by b n r rest)
+silent_spill true n r rest h = silent_more h
+silent_spill false n r rest h = h
 
-quiet_mask : (b : Bool) (s : ℕ) (rest : List SequenceItem) → Quiet rest → Quiet (mask_readable b s rest)
-quiet_mask true s rest h = h
-quiet_mask false s rest h = quiet_more h
+silent_mask : (b : Bool) (s : ℕ) (rest : List SequenceItem) → Silent rest → Silent (mask_readable b s rest)
+silent_mask true s rest h = h
+silent_mask false s rest h = silent_more h
 
-quiet_head : (x : Scratches) (reach : Reach) (fast : ℕ) → Quiet (head_items x reach fast)
-quiet_head x reach fast =
-    quiet_spill x.s.spilled 0 x.s.register _ (quiet_spill x.t.spilled 1 x.t.register _ (quiet_spill x.u.spilled 2 x.u.register _
-    (quiet_more (quiet_more (quiet_more (quiet_more (quiet_more (quiet_more (quiet_more (quiet_more (quiet_more (quiet_more
-    (quiet_mask reach.stores x.s.register _ (quiet_more (quiet_more (quiet_more (quiet_more (quiet_more quiet_none))))))))))))))))))
+silent_head : (x : Scratches) (reach : Reach) (fast : ℕ) → Silent (head_items x reach fast)
+silent_head x reach fast =
+    silent_spill x.s.spilled 0 x.s.register _ (silent_spill x.t.spilled 1 x.t.register _ (silent_spill x.u.spilled 2 x.u.register _
+    (silent_more (silent_more (silent_more (silent_more (silent_more (silent_more (silent_more (silent_more (silent_more (silent_more
+    (silent_mask reach.stores x.s.register _ (silent_more (silent_more (silent_more (silent_more (silent_more silent_none))))))))))))))))))
 
-quiet_fallback : (x : Scratches) → Quiet (fallback_items x)
-quiet_fallback x =
-    quiet_reload x.s.spilled 0 x.s.register _ (quiet_reload x.t.spilled 1 x.t.register _ (quiet_reload x.u.spilled 2 x.u.register [] quiet_none))
+silent_fallback : (x : Scratches) → Silent (fallback_items x)
+silent_fallback x =
+    silent_reload x.s.spilled 0 x.s.register _ (silent_reload x.t.spilled 1 x.t.register _ (silent_reload x.u.spilled 2 x.u.register [] silent_none))
 
 pub head_never : (a : ℕ) (x : Scratches) (is : List Instr) (k : ℕ) → Never ≡ kind_at (batch_items a x is Head) k
 head_never a x [] k = refl
-head_never a x (i ∷ is) k = sym ((quiet_head x (reach_of (i ∷ is)) (length (fast_items x (i ∷ is) (a + 4 * length (i ∷ is))))).each k)
+head_never a x (i ∷ is) k = sym ((silent_head x (reach_of (i ∷ is)) (length (fast_items x (i ∷ is) (a + 4 * length (i ∷ is))))).each k)
 
 pub fallback_never : (a : ℕ) (x : Scratches) (is : List Instr) (k : ℕ) → Never ≡ kind_at (batch_items a x is Fallback) k
 fallback_never a x [] k = refl
-fallback_never a x (i ∷ is) k = sym ((quiet_fallback x).each k)
+fallback_never a x (i ∷ is) k = sym ((silent_fallback x).each k)
 
 -- so many words from a number on commit, and no other
 pub record CommitsFrom (items : List SequenceItem) (n m : ℕ) : Type 0 where

@@ -5,7 +5,7 @@ use Rattle.templates.specs.declared.commits.CommitKind.{CommitKind}
 use Rattle.templates.specs.declared.commits.CommitKind.TheVariants.{Never, Always, IfNotFlag}
 use Rattle.templates.specs.declared.plans.Scratches.{Scratches}
 use Rattle.rv32_decode.specs.declared.LoadKind.{LoadKind}
-use Rattle.templates.specs.Plans.{looks_at_value}
+use Rattle.templates.specs.Plans.{is_flag_checked}
 use Rattle.templates.specs.Sequences.{SequenceItem, load_sequence, flag_load_sequence}
 
 -- the kind of commit of the word of a number
@@ -25,7 +25,7 @@ pub record CommitsTwice (items : List SequenceItem) (n m : ℕ) : Type 0 where
 -- the kind of commit of a word of a load's sequence
 abbrev pub IsLoadCommit : Scratches → LoadKind → ℕ → ℕ → ℕ → CommitKind → Type 0
 IsLoadCommit x k rd rs1 word kind =
-    (imm : ℤ) → kind ≡ kind_at (load_sequence (looks_at_value k rd rs1) x k rd rs1 imm) word
+    (imm : ℤ) → kind ≡ kind_at (load_sequence (is_flag_checked k rd rs1) x k rd rs1 imm) word
 
 abbrev pub IsFlagLoadCommit : Scratches → ℕ → CommitKind → Type 0
 IsFlagLoadCommit x word kind =

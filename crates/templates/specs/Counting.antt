@@ -3,7 +3,7 @@ use Rattle.std.specs.Prelude.{◌≡◌, ℕ, ℤ, ◌+◌, if◌then◌else◌,
 use Rattle.rv32_decode.specs.declared.Cond.{Cond}
 use Rattle.rv32_decode.specs.declared.LoadKind.{LoadKind}
 use Rattle.templates.specs.declared.plans.Scratches.{Scratches}
-use Rattle.templates.specs.Plans.{looks_at_value}
+use Rattle.templates.specs.Plans.{is_flag_checked}
 use Rattle.templates.specs.Sequences.{load_sequence}
 use Rattle.templates.specs.Writing.{jump_items, branch_items}
 
@@ -14,7 +14,7 @@ spilled_count x = (if x.s.spilled then 1 else 0) + (if x.t.spilled then 1 else 0
 -- a load has so many words
 abbrev pub IsLoadLength : Scratches → LoadKind → ℕ → ℕ → ℕ → Type 0
 IsLoadLength x k rd rs1 n =
-    (imm : ℤ) → n ≡ length (load_sequence (looks_at_value k rd rs1) x k rd rs1 imm)
+    (imm : ℤ) → n ≡ length (load_sequence (is_flag_checked k rd rs1) x k rd rs1 imm)
 
 -- a jump to the target has so many words
 abbrev pub IsJumpLength : ℕ → ℕ → Type 0

@@ -23,9 +23,9 @@ abbrev pub by_target : Instr → ℕ → Template → Template → Template
 by_target i a good bad = if is_some (aligned_target i a) then good else bad
 
 -- a load looks at its value where that is a word in a register of its own: neither x0 nor the base
-abbrev pub looks_at_value : LoadKind → ℕ → ℕ → Bool
-looks_at_value Word rd rs1 = not ((rd == 0) || (rd == rs1))
-looks_at_value k rd rs1 = false
+abbrev pub is_flag_checked : LoadKind → ℕ → ℕ → Bool
+is_flag_checked Word rd rs1 = not ((rd == 0) || (rd == rs1))
+is_flag_checked k rd rs1 = false
 
 -- the template of an instruction at a
 abbrev pub template_of : Instr → ℕ → Template
@@ -35,7 +35,7 @@ template_of (Jal rd offset) a = by_target (Jal rd offset) a Jump JumpBad
 template_of (Jalr rd rs1 imm) a = Indirect
 template_of (BranchTo c rs1 rs2 offset) a =
     by_target (BranchTo c rs1 rs2 offset) a Branch BranchBad
-template_of (Load k rd rs1 imm) a = if looks_at_value k rd rs1 then FlagLoad else StateLoad
+template_of (Load k rd rs1 imm) a = if is_flag_checked k rd rs1 then FlagLoad else StateLoad
 template_of (StoreTo w rs1 rs2 imm) a = Store
 template_of (OpImm o rd rs1 imm) a = Plain
 template_of (ShiftImm o rd rs1 amount) a = Plain

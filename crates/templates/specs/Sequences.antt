@@ -23,7 +23,7 @@ use Rattle.templates.specs.declared.plans.Scratches.{Scratches}
 use Rattle.templates.specs.declared.plans.PlanEntry.{PlanEntry}
 use Rattle.templates.specs.declared.places.Part.{Part}
 use Rattle.templates.specs.declared.places.Part.TheVariants.{Single, Head, Fast, Fallback}
-use Rattle.templates.specs.Plans.{looks_at_value}
+use Rattle.templates.specs.Plans.{is_flag_checked}
 use Rattle.templates.specs.Runs.{Reach, reach_of, code_from}
 
 -- a word of a sequence: a word that is executed, or a jump to a place, there to the head of its
@@ -189,7 +189,7 @@ instruction_items a x (Branch c rs1 rs2 offset) =
     branch_sequence (is_multiple_of_four (offset_address a offset)) c rs1 rs2
     (offset_address a offset)
 instruction_items a x (Load k rd rs1 imm) =
-    load_sequence (looks_at_value k rd rs1) x k rd rs1 imm
+    load_sequence (is_flag_checked k rd rs1) x k rd rs1 imm
 instruction_items a x (Store w rs1 rs2 imm) = store_sequence x w rs1 rs2 imm
 instruction_items a x (Lr rd rs1 aq rl) = read_sequence x Word rs1 (pos 0) (Lr rd rs1 aq rl)
 instruction_items a x (Sc rd rs1 rs2 aq rl) = conditional_sequence rs1 (Sc rd rs1 rs2 aq rl)

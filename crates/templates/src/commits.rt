@@ -11,7 +11,7 @@ ghost use Rattle.templates.specs.Committing.{CommitsAt, IsLoadCommit, IsFlagLoad
 use crate::code::Code;
 use crate::counting::{reload_count, spilled_count};
 use crate::places::{Part, Place};
-use crate::plans::{Plan, PlanEntry, Scratches, looks_at_value};
+use crate::plans::{Plan, PlanEntry, Scratches, is_flag_checked};
 use rv32_decode::{Instr, LoadKind, Reg};
 
 /// When a word commits.
@@ -142,7 +142,7 @@ fn commit_of_instruction(address: u32, scratches: &Scratches, i: &Instr, word: u
 fn commit_of_load(scratches: &Scratches, kind: LoadKind, rd: Reg, rs1: Reg, word: u8) -> CommitKind
     ensures value { IsLoadCommit scratches.now kind rd rs1 word result }
 {
-    if looks_at_value(kind, rd, rs1) {
+    if is_flag_checked(kind, rd, rs1) {
         commit_of_flag_load(scratches, word)
     } else {
         commit_of_one(8 + spilled_count(scratches), CommitKind::Always, word)

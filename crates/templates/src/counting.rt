@@ -6,7 +6,7 @@ ghost use Rattle.templates.specs.Counting.{IsBranchLength};
 ghost use Rattle.templates.specs.Sequences.{items_of, place_items, instruction_items};
 ghost use Rattle.templates.specs.Sequences.{reloads_of_run};
 
-use crate::plans::{PlanEntry, Scratches, looks_at_value};
+use crate::plans::{PlanEntry, Scratches, is_flag_checked};
 use rv32_decode::{Instr, LoadKind, Reg};
 
 /// The number of words of a place's single sequence.
@@ -51,7 +51,7 @@ fn load_length(scratches: &Scratches, kind: LoadKind, rd: Reg, rs1: Reg) -> u8
     ensures value { IsLoadLength scratches.now kind rd rs1 result }
     ensures small { result ≤ 13 }
 {
-    if looks_at_value(kind, rd, rs1) {
+    if is_flag_checked(kind, rd, rs1) {
         7 + 2 * u8::from(scratches.s.spilled)
     } else {
         9 + 2 * spilled_count(scratches)

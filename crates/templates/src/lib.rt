@@ -19,7 +19,7 @@ pub use code::{Code, CodeWord};
 pub use commits::{CommitKind, commit_at};
 pub use counting::{reload_count, sequence_length};
 pub use places::{Part, Place, list_places};
-pub use plans::{Plan, PlanEntry, Scratch, Scratches, Template, looks_at_value, template_of};
+pub use plans::{Plan, PlanEntry, Scratch, Scratches, Template, is_flag_checked, template_of};
 pub use reaches::Reach;
 pub use sequences::expand;
 pub use words::{Item, Words};

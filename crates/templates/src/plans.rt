@@ -1,6 +1,6 @@
 //! Plans: which template serves each place, and with which scratch registers.
 
-ghost use Rattle.templates.specs.Plans.{template_of, by_target, looks_at_value};
+ghost use Rattle.templates.specs.Plans.{template_of, by_target, is_flag_checked};
 ghost use Rattle.std.specs.Prelude.{◌≡◌, ◌-◌, ◌^◌, ◌<◌, ◌≤◌, ◌++◌, ◌∷◌, [], length, set, slice_get};
 ghost use Rattle.std.specs.Prelude.{Some, OnOk, OnErr, if◌then◌else◌};
 
@@ -167,8 +167,8 @@ pub fn template_of(i: &Instr, address: u32) -> Template
 
 /// Whether a load looks at its value before the state byte: it loads a word, into a register that
 /// is neither x0 nor its base.
-pub fn looks_at_value(kind: LoadKind, rd: Reg, rs1: Reg) -> bool
-    ensures value { result ≡ looks_at_value kind rd rs1 }
+pub fn is_flag_checked(kind: LoadKind, rd: Reg, rs1: Reg) -> bool
+    ensures value { result ≡ is_flag_checked kind rd rs1 }
 {
     match kind {
         LoadKind::Word => rd != Reg::ZERO && rd != rs1,
@@ -179,9 +179,9 @@ pub fn looks_at_value(kind: LoadKind, rd: Reg, rs1: Reg) -> bool
 /// The template of a load.
 fn load_template(kind: LoadKind, rd: Reg, rs1: Reg) -> Template
     ensures value { result ≡
-        (if looks_at_value kind rd rs1 then Template.FlagLoad else Template.StateLoad) }
+        (if is_flag_checked kind rd rs1 then Template.FlagLoad else Template.StateLoad) }
 {
-    if looks_at_value(kind, rd, rs1) {
+    if is_flag_checked(kind, rd, rs1) {
         Template::FlagLoad
     } else {
         Template::StateLoad

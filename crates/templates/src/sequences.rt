@@ -10,22 +10,20 @@ ghost use Rattle.templates.specs.Sequences.{load_sequence, store_sequence, branc
 ghost use Rattle.templates.specs.Sequences.{jump_sequence, is_multiple_of_four, checking, own};
 ghost use Rattle.templates.specs.Sequences.{inverse, spill_offset, items_of, place_items};
 ghost use Rattle.templates.specs.Sequences.{poll_first, instruction_items};
-ghost use Rattle.templates.specs.Plans.{looks_at_value};
+ghost use Rattle.templates.specs.Plans.{is_flag_checked};
 ghost use Rattle.templates.specs.Expansion.{Appends};
 ghost use Rattle.templates.specs.Writing.{IsWritten, IsLonger, jump_items, branch_items};
 
-use crate::plans::{PlanEntry, Scratch, Scratches, looks_at_value};
+use crate::plans::{PlanEntry, Scratch, Scratches, is_flag_checked};
 use crate::words::{Item, Words};
 use arrayvec::ArrayVec;
-use runtime_words::{RtWord, encode_word, imm_of_bits};
+use runtime_words::{FLAG_WORD, RtWord, encode_word, imm_of_bits};
 use rv32_decode::{
     Amount, BranchOffset, Cond, Imm12, ImmOp, Instr, JumpOffset, LoadKind, Op, Reg, ShiftOp, Upper,
     Width,
 };
+use rv32_program::addresses::STATE_TABLE;
 use std::alloc::AllocError;
-
-/// The flag word, which a node's copy holds wherever it may not be read.
-const FLAG_WORD: u32 = 0xffff_ff03;
 
 /// The single sequence of a place while it is put together: no template has more words.
 type Sequence = ArrayVec<Item, 14>;
@@ -140,11 +138,11 @@ fn push_load(
     imm: Imm12,
 )
     requires room { array_vec_len sequence.old ≤ 1 }
-    ensures words { let by_value = looks_at_value kind rd rs1 in
+    ensures words { let by_value = is_flag_checked kind rd rs1 in
         let items = load_sequence by_value scratches.now kind rd rs1 imm in
         IsLonger sequence.old.items sequence.new.items items }
 {
-    if looks_at_value(kind, rd, rs1) {
+    if is_flag_checked(kind, rd, rs1) {
         push_flag_load(sequence, scratches, rd, rs1, imm);
     } else {
         let load = Instr::Load { kind, rd, rs1, imm };
@@ -341,7 +339,7 @@ pub(crate) fn push_state_look<const N: usize>(
         sequence,
         Instr::Lui {
             rd: t,
-            upper: Upper::new(0x8_0000),
+            upper: Upper::new(STATE_TABLE / 0x1000),
         },
     );
     push_native(

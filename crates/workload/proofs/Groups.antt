@@ -2,7 +2,7 @@
 use Rattle.std.proofs.Common.{◌≡◌, ℕ, zero, suc, ◌+◌, ◌-◌, ◌*◌, ◌/◌, ◌^◌, ◌<◌, ◌≤◌, List, [], ◌++◌, length, length-append, sym, ap, ◌∙◌, append_assoc, arith}
 use Rattle.std.proofs.lemmas.List.{append-nil}
 use Rattle.rv32_decode.specs.declared.Instr.{Instr}
-use Rattle.workload.specs.Orders.{following}
+use Rattle.random_order.specs.Orders.{following}
 use Rattle.workload.specs.Generated.{group_by, group_of, groups, base_of, offset_of, addend_of}
 
 -- a group has at most three instructions

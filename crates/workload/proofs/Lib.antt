@@ -1,5 +1,2 @@
 pub mod CodeBytes
 pub mod Groups
-pub mod Often
-pub mod Reciprocal
-pub mod Turns

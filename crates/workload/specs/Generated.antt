@@ -8,7 +8,7 @@ use Rattle.rv32_decode.specs.declared.Instr.{Instr}
 use Rattle.rv32_decode.specs.declared.Instr.TheVariants.{Ecall}
 use Rattle.elf32_read.specs.Elf.{Elf}
 use Rattle.workload.specs.Assembler.{minus, lui, addi, add, slli, srli, lw, sw, sb, amoadd, beq, bne, blt, jump}
-use Rattle.workload.specs.Orders.{following}
+use Rattle.random_order.specs.Orders.{following}
 
 -- what a number says of a group: the register that holds the address of a page; a word of the page;
 -- the word beside it, of a pair; and what is added

@@ -1,3 +1,2 @@
 pub mod Assembler
 pub mod Generated
-pub mod Orders

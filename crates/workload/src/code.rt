@@ -3,8 +3,8 @@
 ghost use Rattle.std.specs.Prelude.{◌≡◌, ◌*◌, ◌/◌, ◌%◌, ◌^◌, ◌<◌, ◌≤◌, ◌++◌, IfOk, OnOk, length};
 ghost use Rattle.workload.specs.Generated as model;
 
-use crate::after;
 use crate::assembler::{add, addi, amoadd, beq, blt, bne, jump, lui, lw, sb, slli, srli, sw};
+use random_order::after;
 use rv32_decode::Instr;
 use std::alloc::{AllocError, Global};
 

@@ -1,12 +1,12 @@
 use Rattle.std.proofs.Common.{◌^◌, ◌<◌, refl, arith}
 use Rattle.templates.specs.Code.{code_of}
-use Rattle.batch_plan.specs.declared.runs.Run.{Run}
+use Rattle.batch_plan.specs.declared.runs.BatchRun.{BatchRun}
 use Rattle.batch_plan.proofs.RunLemmas.{longest_ended, none_at_all, run_low}
 use Rattle.batch_plan.proofs.runs.longest_run.Goals as goal
 
 pub returns-in-None-clause-longest : goal.returns-in-None-clause-longest
 returns-in-None-clause-longest c =
-    let none : Run = record { words = 0; base = 0 } in
+    let none : BatchRun = record { words = 0; base = 0 } in
     none_at_all (code_of c.args.code.now) c.args.address none c.in-None.ensures.value refl
 
 pub returns-in-None-longer-clause-longest : goal.returns-in-None-longer-clause-longest

@@ -4,7 +4,7 @@ use Rattle.std.specs.List.{list_any}
 use Rattle.std.proofs.lemmas.Bool.{eqb-true, eqb-false}
 use Rattle.elf32_read.specs.Segments.{segment_of, section_of}
 use Rattle.exec_map.specs.Contents.{section_has}
-use Rattle.exec_map.specs.Index.{AreStretches, AreCode, IsOfWords, have, words_of_segment}
+use Rattle.exec_map.specs.Index.{AreNumberRanges, AreCode, IsOfWords, have, words_of_segment}
 use Rattle.exec_map.proofs.Filtering.{filter_map-map}
 use Rattle.exec_map.proofs.Words.{code_of_segments, code_of_sections, segments_stretches, sections_words, none_left, some_left}
 use Rattle.exec_map.proofs.code.ranges.Goals as goal
@@ -18,7 +18,7 @@ returns-then-is_empty c =
 
 pub common-requires-clause-right : goal.common-requires-clause-right
 common-requires-clause-right c =
-    subst AreStretches (sym (c.deref-2.ensures.value ∙ c.in_ok-held.ensures ∙ filter_map-map words_of_segment segment_of c.args.segments.now))
+    subst AreNumberRanges (sym (c.deref-2.ensures.value ∙ c.in_ok-held.ensures ∙ filter_map-map words_of_segment segment_of c.args.segments.now))
     (segments_stretches (map segment_of c.args.segments.now) c.requires.searchable)
 
 pub returns : goal.returns

@@ -3,7 +3,7 @@ use Rattle.std.specs.Prelude.{AllPairs}
 use Rattle.elf32_read.specs.Segments.{segment_of}
 use Rattle.block_layout.specs.Layout.{AreRanges, is_in}
 use Rattle.block_layout.specs.declared.ranges.Lines.{Lines}
-use Rattle.exec_map.specs.Index.{AreStretches, have, lines_of_kind, lines_of_stretch}
+use Rattle.exec_map.specs.Index.{AreNumberRanges, have, lines_of_kind, lines_of_stretch}
 use Rattle.exec_map.proofs.Filtering.{lines_stretches, lines_have, firsts_ascend, filter_map-map}
 use Rattle.exec_map.proofs.Sharing.{in_lines, apart_lines, ranges_lines}
 use Rattle.exec_map.proofs.segments.ranges_of.Goals as goal
@@ -11,13 +11,13 @@ use Rattle.exec_map.proofs.segments.ranges_of.Goals as goal
 pub merged-requires-clause-some : goal.merged-requires-clause-some
 merged-requires-clause-some c =
     let is = c.deref.ensures.value ∙ c.in_ok-of_kind.ensures ∙ filter_map-map (lines_of_kind c.args.writable) segment_of c.args.sorted.now in
-    let h = subst AreStretches (sym is) (lines_stretches c.args.writable (map segment_of c.args.sorted.now) c.requires) in
+    let h = subst AreNumberRanges (sym is) (lines_stretches c.args.writable (map segment_of c.args.sorted.now) c.requires) in
     h.some
 
 pub merged-requires-clause-sorted : goal.merged-requires-clause-sorted
 merged-requires-clause-sorted c =
     let is = c.deref.ensures.value ∙ c.in_ok-of_kind.ensures ∙ filter_map-map (lines_of_kind c.args.writable) segment_of c.args.sorted.now in
-    let h = subst AreStretches (sym is) (lines_stretches c.args.writable (map segment_of c.args.sorted.now) c.requires) in
+    let h = subst AreNumberRanges (sym is) (lines_stretches c.args.writable (map segment_of c.args.sorted.now) c.requires) in
     firsts_ascend _ h
 
 pub returns-clause-ranges : goal.returns-clause-ranges

@@ -1,4 +1,4 @@
-use Rattle.exec_map.specs.declared.stretches.Stretch.{Stretch}
+use Rattle.exec_map.specs.declared.stretches.NumberRange.{NumberRange}
 use Rattle.exec_map.proofs.Meeting.{meeting_start, step_left, step_right, meets, misses}
 use Rattle.exec_map.proofs.stretches.common.Goals as goal
 use Rattle.exec_map.proofs.stretches.common.Goals.{then-first-end+in_ok-push, else-first-end}
@@ -8,7 +8,7 @@ loop-i-init c = rw c.new-common.ensures.items (meeting_start c.args.left.now c.a
 
 pub loop-i-preserved-then-left-i : goal.loop-i-preserved-then-left-i
 loop-i-preserved-then-left-i c =
-    let d : Stretch = record { first = 0; end = 0 } in
+    let d : NumberRange = record { first = 0; end = 0 } in
     let next = step_left _ _ _ c.loop-i.i c.loop-i.j d c.requires.left c.requires.right c.loop-i.invariant c.loop-i-test.true c.if-j-right.true c.if-left-i.true in
     elim c.if-first-end.branch [
       | then-first-end+in_ok-push w ↦
@@ -19,7 +19,7 @@ loop-i-preserved-then-left-i c =
 
 pub loop-i-preserved : goal.loop-i-preserved
 loop-i-preserved c =
-    let d : Stretch = record { first = 0; end = 0 } in
+    let d : NumberRange = record { first = 0; end = 0 } in
     let next = step_right _ _ _ c.loop-i.i c.loop-i.j d c.requires.left c.requires.right c.loop-i.invariant c.loop-i-test.true c.if-j-right.true c.if-left-i.false in
     elim c.if-first-end.branch [
       | then-first-end+in_ok-push w ↦

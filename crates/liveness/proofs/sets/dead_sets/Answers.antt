@@ -1,7 +1,7 @@
 use Rattle.std.proofs.Common.{get_or, ap, subst, arith}
 use Rattle.std.proofs.lemmas.Option.{get_or_from_slice_get, slice_get_within}
 use Rattle.rv32_decode.specs.declared.Instr.{Instr}
-use Rattle.liveness.specs.declared.node.Node.{Node}
+use Rattle.liveness.specs.declared.node.FlowNode.{FlowNode}
 use Rattle.liveness.specs.Nodes.{IsUnneeded}
 use Rattle.liveness.proofs.SetLemmas.{blank, dead_more}
 use Rattle.liveness.proofs.sets.dead_sets.Goals as goal
@@ -22,7 +22,7 @@ loop-k-preserved c =
           (λ w node at found.
           let is = get_or_from_slice_get c.args.words.now k w word at in
           let I : Instr → Type 0 = λ i. IsUnneeded i node sets set in
-          let N : Node → Type 0 = λ n. IsUnneeded (get_or c.args.words.now k word).instruction n sets set in
+          let N : FlowNode → Type 0 = λ n. IsUnneeded (get_or c.args.words.now k word).instruction n sets set in
           subst I (ap (λ v. v.instruction) is) (subst N (get_or_from_slice_get c.args.nodes.now k node blank found) c.unneeded.ensures.value));
     }
 

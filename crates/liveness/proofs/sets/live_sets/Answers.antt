@@ -4,7 +4,7 @@ use Rattle.std.proofs.lemmas.Grind.{common_steps}
 use Rattle.std.proofs.lemmas.List.{length-set}
 use Rattle.std.proofs.lemmas.Option.{slice_get-get_or, slice_get_within}
 use Rattle.rv32_decode.specs.Registers.{IsMember}
-use Rattle.liveness.specs.declared.node.Node.{Node}
+use Rattle.liveness.specs.declared.node.FlowNode.{FlowNode}
 use Rattle.liveness.specs.Nodes.{Needs}
 use Rattle.liveness.proofs.MarksLemmas.{flag_within, waiting-le, lacking-set, measure_less, waiting}
 use Rattle.liveness.proofs.SetLemmas.{IsSound, IsClosed, sound_zero, closed_full, sound_set, closed_same, closed_set, complete, new_needs, blank}
@@ -32,7 +32,7 @@ loop-i-smaller-in-Continue-branch-4 c =
 pub loop-i-preserved-in-Continue-branch-4 : goal.loop-i-preserved-in-Continue-branch-4
 loop-i-preserved-in-Continue-branch-4 c =
     let inv = c.loop-i.invariant in
-    let nodes : List Node = c.args.nodes.now in
+    let nodes : List FlowNode = c.args.nodes.now in
     let sets : List ℕ = c.loop-i.sets.items in
     let flags : List Bool = c.loop-i.work.queued.items in
     let i : ℕ = c.in-Some.i in
@@ -62,7 +62,7 @@ loop-i-preserved-in-Continue-branch-4 c =
 pub loop-i-preserved : goal.loop-i-preserved
 loop-i-preserved c =
     let inv = c.loop-i.invariant in
-    let nodes : List Node = c.args.nodes.now in
+    let nodes : List FlowNode = c.args.nodes.now in
     let sets : List ℕ = c.loop-i.sets.items in
     let flags : List Bool = c.loop-i.work.queued.items in
     let i : ℕ = c.in-Some.i in

@@ -3,7 +3,7 @@ use Rattle.std.proofs.lemmas.List.{take_more}
 use Rattle.byte_range.specs.Range.{Range}
 use Rattle.byte_range.specs.Lines.{line_count}
 use Rattle.byte_range.specs.declared.lines.LineRange.{LineRange}
-use Rattle.byte_range.specs.declared.lines.Piece.{Piece}
+use Rattle.byte_range.specs.declared.lines.PlacedRange.{PlacedRange}
 use Rattle.byte_range.proofs.LineLemmas.{count_fits}
 use Rattle.byte_range.proofs.PieceLemmas.{map_pieces, pieces_push, count_push, count_within, first_some, first_none, first_fits, take_whole}
 use Rattle.byte_range.proofs.lines.LineMemory.of.Goals as goal
@@ -27,7 +27,7 @@ loop-lines-preserved c =
     let r = get_or rs i no_lines in
     let at : c.loop-lines.start ≡ 0 + line_count (take i rs) = omega (arith, c.loop-lines.invariant.start) in
     record {
-      items = rw (more, pieces_push 0 (take i rs) r, ← at) (c.in_ok-push.ensures.items ∙ ap (λ (ps : List Piece). ps ++ record { lines = r; start = c.loop-lines.start } ∷ []) c.loop-lines.invariant.items);
+      items = rw (more, pieces_push 0 (take i rs) r, ← at) (c.in_ok-push.ensures.items ∙ ap (λ (ps : List PlacedRange). ps ++ record { lines = r; start = c.loop-lines.start } ∷ []) c.loop-lines.invariant.items);
       start = rw (more, count_push (take i rs) r) (omega (arith, c.loop-lines.invariant.start));
     }
 

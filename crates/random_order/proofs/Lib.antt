@@ -1,0 +1,3 @@
+pub mod Often
+pub mod Reciprocal
+pub mod Turns
