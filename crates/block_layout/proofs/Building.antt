@@ -5,7 +5,7 @@ use Rattle.std.proofs.lemmas.Bool.{cases_lt, false≢true, false_from_ne_true, a
 use Rattle.std.proofs.lemmas.List.{get_or_append_left, get_or_default, get_or_push, length_push}
 use Rattle.std.proofs.lemmas.List.Elements.{All-push}
 use Rattle.std.proofs.lemmas.Nat.{div-add-mod'}
-use Rattle.block_layout.specs.declared.index.Piece.{Piece}
+use Rattle.block_layout.specs.declared.index.BlockRun.{BlockRun}
 use Rattle.block_layout.specs.declared.index.Index.{Index}
 use Rattle.block_layout.specs.declared.ranges.Lines.{Lines}
 use Rattle.block_layout.specs.declared.layout.BlockRange.{BlockRange}
@@ -59,8 +59,8 @@ few_lines s line x h = omega (arith, h.lines, shared_is s line, count_le (is_sha
 -- a line that begins no block
 pub line_goes_on : (s : Shape) (line : ℕ) (x y : Index) → IsIndexBelow s line x → is_shared s line ≡ true → begins_block s line ≡ false → y.pieces.items ≡ x.pieces.items → y.blocks ≡ x.blocks → y.lines ≡ x.lines + 1 → IsIndexBelow s (line + 1) y
 line_goes_on s line x y h shared goes_on pieces blocks lines =
-    let P : List Piece → Type 0 = λ ps. All (IsPiece s) ps in
-    let Q : List Piece → Type 0 = λ ps. AreChained 0 ps x.blocks in
+    let P : List BlockRun → Type 0 = λ ps. All (IsPiece s) ps in
+    let Q : List BlockRun → Type 0 = λ ps. AreChained 0 ps x.blocks in
     let R : ℕ → Type 0 = λ n. AreChained 0 y.pieces.items n in
     record {
       pieces = subst P (sym pieces) h.pieces;
@@ -70,14 +70,14 @@ line_goes_on s line x y h shared goes_on pieces blocks lines =
     }
 
 -- the last block of a piece
-record IsLastBlock (s : Shape) (p : Piece) (k : ℕ) : Type 0 where
+record IsLastBlock (s : Shape) (p : BlockRun) (k : ℕ) : Type 0 where
   pub count_is : p.count ≡ k + 1
   pub block : IsBlockAt s (p.block + k) (p.first + k * p.size) p.size p.home (p.start + k * p.size)
   pub cut : IsCut s (p.first + k * p.size)
   pub first : first_at s (p.first + k * p.size) ≡ p.first + k * p.size
   pub end : p.first + p.count * p.size ≡ p.first + k * p.size + p.size
 
-last_block : (s : Shape) (p : Piece) → IsValid s → IsPiece s p → IsLastBlock s p (p.count - 1)
+last_block : (s : Shape) (p : BlockRun) → IsValid s → IsPiece s p → IsLastBlock s p (p.count - 1)
 last_block s p v h =
     let k = p.count - 1 in
     let e : p.count ≡ k + 1 = omega (arith, h.some) in
@@ -86,7 +86,7 @@ last_block s p v h =
     let product : p.count * p.size ≡ (k + 1) * p.size = ap (λ n. n * p.size) e in
     record { count_is = e; block = t; cut = is_cut s (p.first + k * p.size) v parts.0; first = parts.1; end = omega arith }
 
-piece_ends : (s : Shape) (line : ℕ) (p : Piece) → IsValid s → begins_block s line ≡ true → IsPiece s p → p.block + p.count ≤ blocks_before s line → p.first + p.count * p.size ≤ line
+piece_ends : (s : Shape) (line : ℕ) (p : BlockRun) → IsValid s → begins_block s line ≡ true → IsPiece s p → p.block + p.count ≤ blocks_before s line → p.first + p.count * p.size ≤ line
 piece_ends s line p v begins h within =
     let k = p.count - 1 in
     let f = p.first + k * p.size in
@@ -109,24 +109,24 @@ pieces_end s line x v begins h = λ k d less. piece_ends s line (get_or x.pieces
 pub pieces_count : (s : Shape) (line : ℕ) (x : Index) → line ≤ 2 ^ 26 → IsIndexBelow s line x → All (λ p. p.count ≤ 2 ^ 26) x.pieces.items
 pieces_count s line x low h = λ k d less. omega (arith, chained_within 0 x.blocks x.pieces.items k d h.chained less, few_blocks s line x h)
 
-chained_push : (b n : ℕ) (ps : List Piece) (q : Piece) → AreChained b ps n → q.block ≡ n → AreChained b (ps ++ q ∷ []) (n + q.count)
+chained_push : (b n : ℕ) (ps : List BlockRun) (q : BlockRun) → AreChained b ps n → q.block ≡ n → AreChained b (ps ++ q ∷ []) (n + q.count)
 chained_push b n [] q c e = (omega arith, omega arith)
 chained_push b n (p ∷ ps) q c e = (c.0, chained_push (p.block + p.count) n ps q c.1 e)
 
-chained_extend : (b n : ℕ) (front : List Piece) (p : Piece) → AreChained b (front ++ p ∷ []) n → AreChained b (front ++ record p { count = p.count + 1 } ∷ []) (n + 1)
+chained_extend : (b n : ℕ) (front : List BlockRun) (p : BlockRun) → AreChained b (front ++ p ∷ []) n → AreChained b (front ++ record p { count = p.count + 1 } ∷ []) (n + 1)
 chained_extend b n [] p c = (c.0, omega (arith, c.1))
 chained_extend b n (q ∷ front) p c = (c.0, chained_extend (q.block + q.count) n front p c.1)
 
-chained_end : (b n : ℕ) (front : List Piece) (p : Piece) → AreChained b (front ++ p ∷ []) n → n ≡ p.block + p.count
+chained_end : (b n : ℕ) (front : List BlockRun) (p : BlockRun) → AreChained b (front ++ p ∷ []) n → n ≡ p.block + p.count
 chained_end b n [] p c = sym c.1
 chained_end b n (q ∷ front) p c = chained_end (q.block + q.count) n front p c.1
 
-all_front : (P : Piece → Type 0) (front : List Piece) (p : Piece) → All P (front ++ p ∷ []) → All P front
+all_front : (P : BlockRun → Type 0) (front : List BlockRun) (p : BlockRun) → All P (front ++ p ∷ []) → All P front
 all_front P front p all = λ k d less.
     let e : get_or (front ++ p ∷ []) k d ≡ get_or front k d = get_or_append_left front (p ∷ []) d k less in
     subst P e (all k d (omega (arith, length_push front p)))
 
-all_last : (P : Piece → Type 0) (front : List Piece) (p : Piece) → All P (front ++ p ∷ []) → P p
+all_last : (P : BlockRun → Type 0) (front : List BlockRun) (p : BlockRun) → All P (front ++ p ∷ []) → P p
 all_last P front p all = subst P (get_or_push front p p (length front) refl) (all (length front) p (omega (arith, length_push front p)))
 
 -- a block that begins with the line
@@ -141,7 +141,7 @@ moved s b c f g size home i j p q r h =
     subst R (sym r) (subst Q (sym q) (subst P (sym p) h))
 
 -- a piece of the block that begins with the line
-piece_alone : (s : Shape) (line : ℕ) (x : Index) (next : Piece) → next.first ≡ line → next.size ≡ size_at s line → next.count ≡ 1 → next.block ≡ x.blocks → next.start ≡ x.lines → IsBlockAt s x.blocks line (size_at s line) next.home x.lines → IsPiece s next
+piece_alone : (s : Shape) (line : ℕ) (x : Index) (next : BlockRun) → next.first ≡ line → next.size ≡ size_at s line → next.count ≡ 1 → next.block ≡ x.blocks → next.start ≡ x.lines → IsBlockAt s x.blocks line (size_at s line) next.home x.lines → IsPiece s next
 piece_alone s line x next first size one block start t = record {
   some = omega arith;
   each = λ k less.
@@ -152,7 +152,7 @@ piece_alone s line x next first size one block start t = record {
 }
 
 -- the last piece with one block more
-piece_extended : (s : Shape) (line : ℕ) (x : Index) (p next : Piece) → IsValid s → IsPiece s p → IsIndexBelow s line x → x.blocks ≡ p.block + p.count → next.first ≡ line → next.size ≡ size_at s line → IsFollowedBy p next → IsBlockAt s x.blocks line (size_at s line) next.home x.lines → IsPiece s (record p { count = p.count + 1 })
+piece_extended : (s : Shape) (line : ℕ) (x : Index) (p next : BlockRun) → IsValid s → IsPiece s p → IsIndexBelow s line x → x.blocks ≡ p.block + p.count → next.first ≡ line → next.size ≡ size_at s line → IsFollowedBy p next → IsBlockAt s x.blocks line (size_at s line) next.home x.lines → IsPiece s (record p { count = p.count + 1 })
 piece_extended s line x p next v h below number first size follows t = record {
   some = omega arith;
   each = λ k less. elim (cases_lt k p.count) [
@@ -177,10 +177,10 @@ piece_extended s line x p next v h below number first size follows t = record {
 }
 
 -- a line that begins a block
-pub line_begins : (s : Shape) (line : ℕ) (x y : Index) (next : Piece) → IsValid s → IsIndexBelow s line x → is_shared s line ≡ true → begins_block s line ≡ true → next.first ≡ line → next.size ≡ size_at s line → next.count ≡ 1 → next.home ≡ named_home (range_of s line) → next.block ≡ x.blocks → next.start ≡ x.lines → AddsPiece x.pieces.items next y.pieces.items → y.blocks ≡ x.blocks + 1 → y.lines ≡ x.lines + 1 → IsIndexBelow s (line + 1) y
+pub line_begins : (s : Shape) (line : ℕ) (x y : Index) (next : BlockRun) → IsValid s → IsIndexBelow s line x → is_shared s line ≡ true → begins_block s line ≡ true → next.first ≡ line → next.size ≡ size_at s line → next.count ≡ 1 → next.home ≡ named_home (range_of s line) → next.block ≡ x.blocks → next.start ≡ x.lines → AddsPiece x.pieces.items next y.pieces.items → y.blocks ≡ x.blocks + 1 → y.lines ≡ x.lines + 1 → IsIndexBelow s (line + 1) y
 line_begins s line x y next v h shared begins first size one home block start (inr fresh) blocks lines =
-    let P : List Piece → Type 0 = λ ps. All (IsPiece s) ps in
-    let Q : List Piece → Type 0 = λ ps. AreChained 0 ps (x.blocks + next.count) in
+    let P : List BlockRun → Type 0 = λ ps. All (IsPiece s) ps in
+    let Q : List BlockRun → Type 0 = λ ps. AreChained 0 ps (x.blocks + next.count) in
     let R : ℕ → Type 0 = λ n. AreChained 0 y.pieces.items n in
     let count_is : x.blocks + next.count ≡ y.blocks = omega arith in
     record {
@@ -190,9 +190,9 @@ line_begins s line x y next v h shared begins first size one home block start (i
       lines = omega (arith, h.lines, shared_more s line shared);
     }
 line_begins s line x y next v h shared begins first size one home block start (inl e) blocks lines =
-    let P : List Piece → Type 0 = λ ps. All (IsPiece s) ps in
-    let Q : List Piece → Type 0 = λ ps. AreChained 0 ps x.blocks in
-    let R : List Piece → Type 0 = λ ps. AreChained 0 ps (x.blocks + 1) in
+    let P : List BlockRun → Type 0 = λ ps. All (IsPiece s) ps in
+    let Q : List BlockRun → Type 0 = λ ps. AreChained 0 ps x.blocks in
+    let R : List BlockRun → Type 0 = λ ps. AreChained 0 ps (x.blocks + 1) in
     let S : ℕ → Type 0 = λ n. AreChained 0 y.pieces.items n in
     let old : All (IsPiece s) (e.front ++ e.last ∷ []) = subst P e.old_is h.pieces in
     let chain : AreChained 0 (e.front ++ e.last ∷ []) x.blocks = subst Q e.old_is h.chained in
@@ -213,8 +213,8 @@ end_of rs (suc i) = (get_or rs i (record { first = 0; lines = 0 })).first + (get
 -- the index of no line
 pub index_none : (s : Shape) (x : Index) → x.pieces.items ≡ [] → x.blocks ≡ 0 → x.lines ≡ 0 → IsIndexBelow s 0 x
 index_none s x pieces blocks lines =
-    let P : List Piece → Type 0 = λ ps. All (IsPiece s) ps in
-    let Q : List Piece → Type 0 = λ ps. AreChained 0 ps x.blocks in
+    let P : List BlockRun → Type 0 = λ ps. All (IsPiece s) ps in
+    let Q : List BlockRun → Type 0 = λ ps. AreChained 0 ps x.blocks in
     record {
       pieces = subst P (sym pieces) (λ k d less. absurd (omega arith));
       chained = subst Q (sym pieces) (sym blocks);

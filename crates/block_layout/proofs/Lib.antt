@@ -4,7 +4,7 @@ mod Blocks
 mod Numbers
 mod Pieces
 mod Among
-mod Words
+mod LineFields
 mod Fields
 mod Spans
 mod TextLines

@@ -5,12 +5,12 @@ use Rattle.std.proofs.lemmas.Bool.{cases_lt, false≢true}
 use Rattle.std.proofs.lemmas.List.{length-append, get_or_append_left, get_or_at}
 use Rattle.block_layout.specs.declared.ranges.Lines.{Lines}
 use Rattle.block_layout.specs.declared.layout.BlockRange.{BlockRange}
-use Rattle.block_layout.specs.declared.refused.Rule.{Rule}
-use Rattle.block_layout.specs.declared.refused.Rule.TheVariants.{Syntax, BlockSize, Unaligned, NotShared, Overlap, Home}
+use Rattle.block_layout.specs.declared.refused.LayoutRule.{LayoutRule}
+use Rattle.block_layout.specs.declared.refused.LayoutRule.TheVariants.{Syntax, BlockSize, Unaligned, NotShared, Overlap, Home}
 use Rattle.block_layout.specs.Layout.{Shape, IsValid, IsRange, AreApart, names}
 use Rattle.block_layout.specs.Text.{text_lines, says_nothing, spaces, is_decimal_digit, number_behind, IsHexadecimal, IsDecimal, IsHomeWord, HasFields, Name, IsLayoutOf, Violates, Breaks, number_of, IsFirstFault, IsFirstBroken}
 use Rattle.block_layout.specs.Parts.{is_mark, SplitsAtGap, AreWords}
-use Rattle.block_layout.proofs.Words.{IsGap, is_gap}
+use Rattle.block_layout.proofs.LineFields.{IsGap, is_gap}
 use Rattle.block_layout.proofs.Fields.{words_of_fields}
 use Rattle.block_layout.proofs.Blocks.{IsFound, find_found}
 
@@ -120,7 +120,7 @@ name_parts (l ∷ ls) more rs (inr (r, tail, is, fields, h)) =
     record { front = r ∷ t.front; rest = t.rest; all = is ∙ ap (λ z. r ∷ z) t.all; first = inr (r, t.front, refl, fields, t.first); second = t.second }
 
 -- a range of a valid layout violates nothing
-violates_none : (shared : List Lines) (n : ℕ) (front tail : List BlockRange) (r : BlockRange) (rule : Rule) → IsValid (record { shared = shared; named = front ++ r ∷ tail; nodes = n }) → Violates shared n front r rule → ⊥
+violates_none : (shared : List Lines) (n : ℕ) (front tail : List BlockRange) (r : BlockRange) (rule : LayoutRule) → IsValid (record { shared = shared; named = front ++ r ∷ tail; nodes = n }) → Violates shared n front r rule → ⊥
 violates_none shared n front tail r rule v h = go rule h
   where
     less : length front < length (front ++ r ∷ tail)
@@ -132,7 +132,7 @@ violates_none shared n front tail r rule v h = go rule h
     range : IsRange shared n r
     range = let P : BlockRange → Type 0 = λ z. IsRange shared n z in subst P (at r) (v.named (length front) r less)
 
-    go : (q : Rule) → Violates shared n front r q → ⊥
+    go : (q : LayoutRule) → Violates shared n front r q → ⊥
     go Syntax h = h
     go BlockSize h = false≢true (sym h ∙ range.size)
     go Unaligned h = false≢true (sym h ∙ range.whole)
@@ -150,13 +150,13 @@ violates_none shared n front tail r rule v h = go rule h
             let Q : BlockRange → Type 0 = λ z. AreApart q z in
             false≢true (sym (subst Q (at q) (subst P first apart) x f.passes) ∙ has)
 
-range_breaks_none : (shared : List Lines) (n : ℕ) (line : List ℕ) (earlier rest tail : List BlockRange) (r p : BlockRange) (rule : Rule) → rest ≡ r ∷ tail → HasFields line r → HasFields line p → IsValid (record { shared = shared; named = earlier ++ rest; nodes = n }) → Violates shared n earlier p rule → ⊥
+range_breaks_none : (shared : List Lines) (n : ℕ) (line : List ℕ) (earlier rest tail : List BlockRange) (r p : BlockRange) (rule : LayoutRule) → rest ≡ r ∷ tail → HasFields line r → HasFields line p → IsValid (record { shared = shared; named = earlier ++ rest; nodes = n }) → Violates shared n earlier p rule → ⊥
 range_breaks_none shared n line earlier rest tail r p rule is fields same v violates =
     let W : List BlockRange → Type 0 = λ z. IsValid (record { shared = shared; named = earlier ++ z; nodes = n }) in
     let P : BlockRange → Type 0 = λ z. Violates shared n earlier z rule in
     violates_none shared n earlier tail r rule (subst W is v) (subst P (fields_once line p r same fields) violates)
 
-line_breaks_none : (shared : List Lines) (n : ℕ) (line : List ℕ) (more : List (List ℕ)) (earlier rest : List BlockRange) → Name (line ∷ more) rest → IsValid (record { shared = shared; named = earlier ++ rest; nodes = n }) → (rule : Rule) → Breaks shared n earlier line rule → ⊥
+line_breaks_none : (shared : List Lines) (n : ℕ) (line : List ℕ) (more : List (List ℕ)) (earlier rest : List BlockRange) → Name (line ∷ more) rest → IsValid (record { shared = shared; named = earlier ++ rest; nodes = n }) → (rule : LayoutRule) → Breaks shared n earlier line rule → ⊥
 line_breaks_none shared n line more earlier rest (inl (silent, k)) v Syntax b = false≢true (sym b.0 ∙ silent)
 line_breaks_none shared n line more earlier rest (inl (silent, k)) v BlockSize b = silent_has_none line b.0 silent b.1
 line_breaks_none shared n line more earlier rest (inl (silent, k)) v Unaligned b = silent_has_none line b.0 silent b.1
@@ -171,7 +171,7 @@ line_breaks_none shared n line more earlier rest (inr (r, tail, is, fields, k)) 
 line_breaks_none shared n line more earlier rest (inr (r, tail, is, fields, k)) v Home b = range_breaks_none shared n line earlier rest tail r b.0 Home is fields b.1 v b.2
 
 -- a line among those of a valid layout breaks nothing
-breaks_none : (shared : List Lines) (n : ℕ) (before more : List (List ℕ)) (line : List ℕ) (earlier named : List BlockRange) (rule : Rule) → Name before earlier → Name (before ++ line ∷ more) named → IsValid (record { shared = shared; named = named; nodes = n }) → Breaks shared n earlier line rule → ⊥
+breaks_none : (shared : List Lines) (n : ℕ) (before more : List (List ℕ)) (line : List ℕ) (earlier named : List BlockRange) (rule : LayoutRule) → Name before earlier → Name (before ++ line ∷ more) named → IsValid (record { shared = shared; named = named; nodes = n }) → Breaks shared n earlier line rule → ⊥
 breaks_none shared n before more line earlier named rule h all v breaks =
     let parts = name_parts before (line ∷ more) named all in
     let same : parts.front ≡ earlier = name_once before parts.front earlier parts.first h in
@@ -179,7 +179,7 @@ breaks_none shared n before more line earlier named rule h all v breaks =
     let V : List BlockRange → Type 0 = λ z. IsValid (record { shared = shared; named = z; nodes = n }) in
     line_breaks_none shared n line more earlier parts.rest parts.second (subst V named_is v) rule breaks
 
-pub layout_or_fault : (text : List ℕ) (shared : List Lines) (n : ℕ) (s : Shape) (rule : Rule) (line : ℕ) → IsLayoutOf text shared n s → IsFirstFault text shared n rule line → ⊥
+pub layout_or_fault : (text : List ℕ) (shared : List Lines) (n : ℕ) (s : Shape) (rule : LayoutRule) (line : ℕ) → IsLayoutOf text shared n s → IsFirstFault text shared n rule line → ⊥
 layout_or_fault text shared n s rule number h f =
     let P : List (List ℕ) → Type 0 = λ ls. Name ls s.named in
     let same : s ≡ record { shared = shared; named = s.named; nodes = n } = λ i. record { shared = h.shared_is i; named = s.named; nodes = h.nodes_is i } in
@@ -207,16 +207,16 @@ cut_same (x ∷ xs) (y ∷ ys) us vs a b e h =
     (ap (λ z. z ∷ xs) s ∙ ap (λ z. y ∷ z) t.0, t.1)
 
 -- a fault isn't among the lines before another
-fault_before : (text : List ℕ) (shared : List Lines) (n : ℕ) (rule other : Rule) (i j : ℕ) (f : IsFirstFault text shared n rule i) (g : IsFirstFault text shared n other j) → length f.before < length g.before → ⊥
+fault_before : (text : List ℕ) (shared : List Lines) (n : ℕ) (rule other : LayoutRule) (i j : ℕ) (f : IsFirstFault text shared n rule i) (g : IsFirstFault text shared n other j) → length f.before < length g.before → ⊥
 fault_before text shared n rule other i j f g less =
     let t = cut_longer f.before g.before f.behind g.behind f.line g.line (sym f.text_is ∙ g.text_is) less in
     let P : List (List ℕ) → Type 0 = λ ls. Name ls g.earlier in
     breaks_none shared n f.before t.0 f.line f.earlier g.earlier rule f.named (subst P t.1 g.named) g.valid f.breaks
 
-numbered : ℕ → Rule
+numbered : ℕ → LayoutRule
 numbered n = if n == 30 then Syntax else if n == 31 then BlockSize else if n == 32 then Unaligned else if n == 33 then NotShared else if n == 34 then Overlap else Home
 
-rule_numbered : (rule : Rule) → numbered (number_of rule) ≡ rule
+rule_numbered : (rule : LayoutRule) → numbered (number_of rule) ≡ rule
 unfolding numbered
 rule_numbered Syntax = refl
 rule_numbered BlockSize = refl
@@ -225,18 +225,18 @@ rule_numbered NotShared = refl
 rule_numbered Overlap = refl
 rule_numbered Home = refl
 
-same_rule : (rule other : Rule) → number_of rule ≡ number_of other → rule ≡ other
+same_rule : (rule other : LayoutRule) → number_of rule ≡ number_of other → rule ≡ other
 same_rule rule other e = sym (rule_numbered rule) ∙ ap numbered e ∙ rule_numbered other
 
 -- the rule that the first faulty line breaks
-rule_once : (text : List ℕ) (shared : List Lines) (n : ℕ) (rule other : Rule) (i j : ℕ) (f : IsFirstFault text shared n rule i) (g : IsFirstFault text shared n other j) → f.before ≡ g.before → f.line ≡ g.line → number_of rule < number_of other → ⊥
+rule_once : (text : List ℕ) (shared : List Lines) (n : ℕ) (rule other : LayoutRule) (i j : ℕ) (f : IsFirstFault text shared n rule i) (g : IsFirstFault text shared n other j) → f.before ≡ g.before → f.line ≡ g.line → number_of rule < number_of other → ⊥
 rule_once text shared n rule other i j f g before line less =
     let earlier : f.earlier ≡ g.earlier = name_once g.before f.earlier g.earlier (let P : List (List ℕ) → Type 0 = λ ls. Name ls f.earlier in subst P before f.named) g.named in
     let B : List BlockRange → Type 0 = λ z. Breaks shared n z f.line rule in
     let L : List ℕ → Type 0 = λ z. Breaks shared n g.earlier z rule in
     g.lowest rule less (subst L line (subst B earlier f.breaks))
 
-pub fault_once : (text : List ℕ) (shared : List Lines) (n : ℕ) (rule other : Rule) (i j : ℕ) → IsFirstFault text shared n rule i → IsFirstFault text shared n other j → (rule ≡ other) × (i ≡ j)
+pub fault_once : (text : List ℕ) (shared : List Lines) (n : ℕ) (rule other : LayoutRule) (i j : ℕ) → IsFirstFault text shared n rule i → IsFirstFault text shared n other j → (rule ≡ other) × (i ≡ j)
 fault_once text shared n rule other i j f g = elim (cases_lt (length f.before) (length g.before)) [
   | inl less ↦ absurd (fault_before text shared n rule other i j f g less)
   | inr more ↦ elim (cases_lt (length g.before) (length f.before)) [
@@ -258,7 +258,7 @@ fault_once text shared n rule other i j f g = elim (cases_lt (length f.before) (
 pub empty_names_none : (shared : List Lines) (n : ℕ) (s : Shape) → IsLayoutOf [] shared n s → s.named ≡ []
 empty_names_none shared n s h = name_once ([] ∷ []) s.named [] h.named (inl (refl, refl))
 
-pub empty_has_no_fault : (shared : List Lines) (n : ℕ) (rule : Rule) (line : ℕ) → IsFirstFault [] shared n rule line → ⊥
+pub empty_has_no_fault : (shared : List Lines) (n : ℕ) (rule : LayoutRule) (line : ℕ) → IsFirstFault [] shared n rule line → ⊥
 empty_has_no_fault shared n rule line f =
     let valid : IsValid (record { shared = shared; named = []; nodes = n }) = record {
       some_node = f.valid.some_node;
@@ -271,26 +271,26 @@ empty_has_no_fault shared n rule line f =
 
 -- ---- a list of ranges
 
-pub ranges_or_broken : (ranges : List BlockRange) (shared : List Lines) (n : ℕ) (rule : Rule) (number : ℕ) → IsFirstBroken ranges shared n rule number → IsValid (record { shared = shared; named = ranges; nodes = n }) → ⊥
+pub ranges_or_broken : (ranges : List BlockRange) (shared : List Lines) (n : ℕ) (rule : LayoutRule) (number : ℕ) → IsFirstBroken ranges shared n rule number → IsValid (record { shared = shared; named = ranges; nodes = n }) → ⊥
 ranges_or_broken ranges shared n rule number f v =
     let V : List BlockRange → Type 0 = λ z. IsValid (record { shared = shared; named = z; nodes = n }) in
     violates_none shared n f.before f.behind f.range rule (subst V f.ranges_are v) f.violates
 
 -- a range that breaks a rule isn't among those before another
-broken_before : (ranges : List BlockRange) (shared : List Lines) (n : ℕ) (rule other : Rule) (i j : ℕ) (f : IsFirstBroken ranges shared n rule i) (g : IsFirstBroken ranges shared n other j) → length f.before < length g.before → ⊥
+broken_before : (ranges : List BlockRange) (shared : List Lines) (n : ℕ) (rule other : LayoutRule) (i j : ℕ) (f : IsFirstBroken ranges shared n rule i) (g : IsFirstBroken ranges shared n other j) → length f.before < length g.before → ⊥
 broken_before ranges shared n rule other i j f g less =
     let t = cut_longer f.before g.before f.behind g.behind f.range g.range (sym f.ranges_are ∙ g.ranges_are) less in
     let V : List BlockRange → Type 0 = λ z. IsValid (record { shared = shared; named = z; nodes = n }) in
     violates_none shared n f.before t.0 f.range rule (subst V t.1 g.valid) f.violates
 
 -- the rule that the first of the ranges breaks
-broken_rule_once : (ranges : List BlockRange) (shared : List Lines) (n : ℕ) (rule other : Rule) (i j : ℕ) (f : IsFirstBroken ranges shared n rule i) (g : IsFirstBroken ranges shared n other j) → f.before ≡ g.before → f.range ≡ g.range → number_of rule < number_of other → ⊥
+broken_rule_once : (ranges : List BlockRange) (shared : List Lines) (n : ℕ) (rule other : LayoutRule) (i j : ℕ) (f : IsFirstBroken ranges shared n rule i) (g : IsFirstBroken ranges shared n other j) → f.before ≡ g.before → f.range ≡ g.range → number_of rule < number_of other → ⊥
 broken_rule_once ranges shared n rule other i j f g before range less =
     let B : List BlockRange → Type 0 = λ z. Violates shared n z f.range rule in
     let R : BlockRange → Type 0 = λ z. Violates shared n g.before z rule in
     g.lowest rule less (subst R range (subst B before f.violates))
 
-pub broken_once : (ranges : List BlockRange) (shared : List Lines) (n : ℕ) (rule other : Rule) (i j : ℕ) → IsFirstBroken ranges shared n rule i → IsFirstBroken ranges shared n other j → (rule ≡ other) × (i ≡ j)
+pub broken_once : (ranges : List BlockRange) (shared : List Lines) (n : ℕ) (rule other : LayoutRule) (i j : ℕ) → IsFirstBroken ranges shared n rule i → IsFirstBroken ranges shared n other j → (rule ≡ other) × (i ≡ j)
 broken_once ranges shared n rule other i j f g = elim (cases_lt (length f.before) (length g.before)) [
   | inl less ↦ absurd (broken_before ranges shared n rule other i j f g less)
   | inr more ↦ elim (cases_lt (length g.before) (length f.before)) [

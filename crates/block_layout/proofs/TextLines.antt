@@ -10,8 +10,8 @@ use Rattle.std.proofs.lemmas.List.Elements.{All-push}
 use Rattle.std.proofs.lemmas.List.Quantifiers.{position-Some, all_pairs_push}
 use Rattle.block_layout.specs.declared.ranges.Lines.{Lines}
 use Rattle.block_layout.specs.declared.layout.BlockRange.{BlockRange}
-use Rattle.block_layout.specs.declared.refused.Rule.{Rule}
-use Rattle.block_layout.specs.declared.refused.Rule.TheVariants.{Syntax, BlockSize, Unaligned, NotShared, Overlap, Home}
+use Rattle.block_layout.specs.declared.refused.LayoutRule.{LayoutRule}
+use Rattle.block_layout.specs.declared.refused.LayoutRule.TheVariants.{Syntax, BlockSize, Unaligned, NotShared, Overlap, Home}
 use Rattle.block_layout.specs.Layout.{IsValid, IsRange, AreApart, names}
 use Rattle.block_layout.specs.Text.{text_lines, says_nothing, HasFields, Name, Violates, Breaks, number_of, IsLayoutOf, IsFirstFault, IsFirstBroken}
 use Rattle.block_layout.specs.Reading.{IsSound, IsBroken, IsAdded, IsFault, IsTaken, IsReadUpTo, bytes_left}
@@ -96,7 +96,7 @@ added_one shared nodes earlier named r is sound v =
     } in
     record { named_is = is; valid = subst P (sym is) valid }
 
-number_low : (rule : Rule) → 30 ≤ number_of rule
+number_low : (rule : LayoutRule) → 30 ≤ number_of rule
 number_low Syntax = omega arith
 number_low BlockSize = omega arith
 number_low Unaligned = omega arith
@@ -110,7 +110,7 @@ fault_syntax shared nodes earlier line h none = record {
   lowest = λ other less b. let t : 30 ≤ number_of other = number_low other in absurd (omega arith);
 }
 
-range_breaks : (shared : List Lines) (nodes : ℕ) (earlier : List BlockRange) (line : List ℕ) (r : BlockRange) (rule : Rule) → HasFields line r → Violates shared nodes earlier r rule → Breaks shared nodes earlier line rule
+range_breaks : (shared : List Lines) (nodes : ℕ) (earlier : List BlockRange) (line : List ℕ) (r : BlockRange) (rule : LayoutRule) → HasFields line r → Violates shared nodes earlier r rule → Breaks shared nodes earlier line rule
 range_breaks shared nodes earlier line r Syntax h v = absurd v
 range_breaks shared nodes earlier line r BlockSize h v = (r, h, v)
 range_breaks shared nodes earlier line r Unaligned h v = (r, h, v)
@@ -119,7 +119,7 @@ range_breaks shared nodes earlier line r Overlap h v = (r, h, v)
 range_breaks shared nodes earlier line r Home h v = (r, h, v)
 
 -- what a line with fields breaks, its range violates
-breaks_range : (shared : List Lines) (nodes : ℕ) (earlier : List BlockRange) (line : List ℕ) (r : BlockRange) (rule : Rule) → HasFields line r → ((q : BlockRange) → HasFields line q → Some r ≡ Some q) → Breaks shared nodes earlier line rule → Violates shared nodes earlier r rule
+breaks_range : (shared : List Lines) (nodes : ℕ) (earlier : List BlockRange) (line : List ℕ) (r : BlockRange) (rule : LayoutRule) → HasFields line r → ((q : BlockRange) → HasFields line q → Some r ≡ Some q) → Breaks shared nodes earlier line rule → Violates shared nodes earlier r rule
 breaks_range shared nodes earlier line r Syntax h only b = b.1 r h
 breaks_range shared nodes earlier line r BlockSize h only b = let e : Some r ≡ Some b.0 = only b.0 b.1 in let P : BlockRange → Type 0 = λ q. Violates shared nodes earlier q BlockSize in let s : b.0 ≡ r = cc in subst P s b.2
 breaks_range shared nodes earlier line r Unaligned h only b = let e : Some r ≡ Some b.0 = only b.0 b.1 in let P : BlockRange → Type 0 = λ q. Violates shared nodes earlier q Unaligned in let s : b.0 ≡ r = cc in subst P s b.2
@@ -127,7 +127,7 @@ breaks_range shared nodes earlier line r NotShared h only b = let e : Some r ≡
 breaks_range shared nodes earlier line r Overlap h only b = let e : Some r ≡ Some b.0 = only b.0 b.1 in let P : BlockRange → Type 0 = λ q. Violates shared nodes earlier q Overlap in let s : b.0 ≡ r = cc in subst P s b.2
 breaks_range shared nodes earlier line r Home h only b = let e : Some r ≡ Some b.0 = only b.0 b.1 in let P : BlockRange → Type 0 = λ q. Violates shared nodes earlier q Home in let s : b.0 ≡ r = cc in subst P s b.2
 
-pub fault_range : (shared : List Lines) (nodes : ℕ) (earlier : List BlockRange) (line : List ℕ) (r : BlockRange) (rule : Rule) → HasFields line r → ((q : BlockRange) → HasFields line q → Some r ≡ Some q) → IsBroken shared nodes earlier r rule → IsFault shared nodes earlier line rule
+pub fault_range : (shared : List Lines) (nodes : ℕ) (earlier : List BlockRange) (line : List ℕ) (r : BlockRange) (rule : LayoutRule) → HasFields line r → ((q : BlockRange) → HasFields line q → Some r ≡ Some q) → IsBroken shared nodes earlier r rule → IsFault shared nodes earlier line rule
 fault_range shared nodes earlier line r rule h only broken = record {
   breaks = range_breaks shared nodes earlier line r rule h broken.violates;
   lowest = λ other less b. broken.lowest other less (breaks_range shared nodes earlier line r other h only b);
@@ -152,7 +152,7 @@ read_more text shared nodes named new left behind line number left_is h t =
       valid = t.valid;
     }
 
-pub read_fault : (text : List ℕ) (shared : List Lines) (nodes : ℕ) (named : List BlockRange) (left behind : List (List ℕ)) (line : List ℕ) (number : ℕ) (rule : Rule) → left ≡ line ∷ behind → IsReadUpTo text shared nodes named left number → IsFault shared nodes named line rule → IsFirstFault text shared nodes rule (number + 1)
+pub read_fault : (text : List ℕ) (shared : List Lines) (nodes : ℕ) (named : List BlockRange) (left behind : List (List ℕ)) (line : List ℕ) (number : ℕ) (rule : LayoutRule) → left ≡ line ∷ behind → IsReadUpTo text shared nodes named left number → IsFault shared nodes named line rule → IsFirstFault text shared nodes rule (number + 1)
 read_fault text shared nodes named left behind line number rule left_is h t = record {
   before = h.done;
   line = line;
@@ -183,7 +183,7 @@ pub record AreTaken (ranges : List BlockRange) (shared : List Lines) (nodes : �
   pub named_is : named ≡ take place ranges
   pub valid : IsValid (record { shared = shared; named = named; nodes = nodes })
 
-pub ranges_broken : (ranges : List BlockRange) (shared : List Lines) (nodes : ℕ) (named : List BlockRange) (place : ℕ) (r d : BlockRange) (rule : Rule) → place < length ranges → r ≡ get_or ranges place d → AreTaken ranges shared nodes named place → IsBroken shared nodes named r rule → IsFirstBroken ranges shared nodes rule (place + 1)
+pub ranges_broken : (ranges : List BlockRange) (shared : List Lines) (nodes : ℕ) (named : List BlockRange) (place : ℕ) (r d : BlockRange) (rule : LayoutRule) → place < length ranges → r ≡ get_or ranges place d → AreTaken ranges shared nodes named place → IsBroken shared nodes named r rule → IsFirstBroken ranges shared nodes rule (place + 1)
 ranges_broken ranges shared nodes named place r d rule less is taken broken = record {
   before = named;
   range = r;

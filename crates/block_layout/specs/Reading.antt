@@ -5,7 +5,7 @@ use Rattle.std.specs.BTreeMap.{BTreeMap, get}
 use Rattle.std.specs.Ordering.{nat_cmp}
 use Rattle.block_layout.specs.declared.ranges.Lines.{Lines}
 use Rattle.block_layout.specs.declared.layout.BlockRange.{BlockRange}
-use Rattle.block_layout.specs.declared.refused.Rule.{Rule}
+use Rattle.block_layout.specs.declared.refused.LayoutRule.{LayoutRule}
 use Rattle.block_layout.specs.Layout.{IsValid, IsRange, is_block_size, is_whole, is_in, names}
 use Rattle.block_layout.specs.Text.{text_lines, Name, Violates, Breaks, number_of}
 
@@ -41,9 +41,9 @@ pub record IsSound (shared : List Lines) (nodes : ℕ) (earlier : List BlockRang
 
 -- the rule is the lowest that the range breaks
 pub record IsBroken (shared : List Lines) (nodes : ℕ) (earlier : List BlockRange) (r : BlockRange)
-    (rule : Rule) : Type 0 where
+    (rule : LayoutRule) : Type 0 where
   pub violates : Violates shared nodes earlier r rule
-  pub lowest : (other : Rule) → number_of other < number_of rule →
+  pub lowest : (other : LayoutRule) → number_of other < number_of rule →
       Violates shared nodes earlier r other → ⊥
 
 -- the range breaks no rule, and is added behind the earlier ones
@@ -54,9 +54,9 @@ pub record IsAdded (shared : List Lines) (nodes : ℕ) (earlier : List BlockRang
 
 -- the rule is the lowest that the line breaks
 pub record IsFault (shared : List Lines) (nodes : ℕ) (earlier : List BlockRange) (line : List ℕ)
-    (rule : Rule) : Type 0 where
+    (rule : LayoutRule) : Type 0 where
   pub breaks : Breaks shared nodes earlier line rule
-  pub lowest : (other : Rule) → number_of other < number_of rule →
+  pub lowest : (other : LayoutRule) → number_of other < number_of rule →
       Breaks shared nodes earlier line other → ⊥
 
 -- the line breaks no rule, and adds what it names

@@ -3,8 +3,8 @@ use Rattle.std.specs.Prelude.{◌≡◌, ℕ, ◌+◌, ◌-◌, ◌*◌, ◌<◌
 use Rattle.std.specs.List.{list_all, slice_split}
 use Rattle.block_layout.specs.declared.ranges.Lines.{Lines}
 use Rattle.block_layout.specs.declared.layout.BlockRange.{BlockRange}
-use Rattle.block_layout.specs.declared.refused.Rule.{Rule}
-use Rattle.block_layout.specs.declared.refused.Rule.TheVariants.{Syntax, BlockSize, Unaligned, NotShared, Overlap, Home}
+use Rattle.block_layout.specs.declared.refused.LayoutRule.{LayoutRule}
+use Rattle.block_layout.specs.declared.refused.LayoutRule.TheVariants.{Syntax, BlockSize, Unaligned, NotShared, Overlap, Home}
 use Rattle.block_layout.specs.Layout.{Shape, IsValid, names, is_in, is_block_size, is_whole, is_home}
 
 -- lines end with a line feed; the last may lack it (behind a last line feed there is an empty line)
@@ -89,7 +89,7 @@ pub record IsLayoutOf (text : List ℕ) (shared : List Lines) (nodes : ℕ) (s :
   pub valid : IsValid s
 
 -- the numbers of the rules
-abbrev pub number_of : Rule → ℕ
+abbrev pub number_of : LayoutRule → ℕ
 number_of Syntax = 30
 number_of BlockSize = 31
 number_of Unaligned = 32
@@ -98,7 +98,7 @@ number_of Overlap = 34
 number_of Home = 35
 
 -- a range breaks a rule, behind the ranges of earlier lines
-abbrev pub Violates : List Lines → ℕ → List BlockRange → BlockRange → Rule → Type 0
+abbrev pub Violates : List Lines → ℕ → List BlockRange → BlockRange → LayoutRule → Type 0
 Violates shared nodes earlier r Syntax = ⊥
 Violates shared nodes earlier r BlockSize = is_block_size r.block ≡ false
 Violates shared nodes earlier r Unaligned = is_whole r ≡ false
@@ -109,14 +109,14 @@ Violates shared nodes earlier r Overlap =
 Violates shared nodes earlier r Home = is_home nodes r.home ≡ false
 
 -- a line breaks a rule: it isn't in the grammar, or the range that it names breaks the rule
-abbrev pub Breaks : List Lines → ℕ → List BlockRange → List ℕ → Rule → Type 0
+abbrev pub Breaks : List Lines → ℕ → List BlockRange → List ℕ → LayoutRule → Type 0
 Breaks shared nodes earlier line Syntax =
     (says_nothing line ≡ false) × ((r : BlockRange) → HasFields line r → ⊥)
 Breaks shared nodes earlier line rule =
     (r : BlockRange) × HasFields line r × Violates shared nodes earlier r rule
 
 -- the first line that breaks a rule, counted from 1, and the lowest rule that it breaks
-pub record IsFirstFault (text : List ℕ) (shared : List Lines) (nodes : ℕ) (rule : Rule)
+pub record IsFirstFault (text : List ℕ) (shared : List Lines) (nodes : ℕ) (rule : LayoutRule)
     (number : ℕ) : Type 0 where
   pub before : List (List ℕ)
   pub line : List ℕ
@@ -127,11 +127,12 @@ pub record IsFirstFault (text : List ℕ) (shared : List Lines) (nodes : ℕ) (r
   pub named : Name before earlier
   pub valid : IsValid (record { shared = shared; named = earlier; nodes = nodes })
   pub breaks : Breaks shared nodes earlier line rule
-  pub lowest : (other : Rule) → number_of other < number_of rule →
+  pub lowest : (other : LayoutRule) → number_of other < number_of rule →
       Breaks shared nodes earlier line other → ⊥
 
 -- the first of the ranges that breaks a rule, counted from 1, and the lowest rule that it breaks.
-pub record IsFirstBroken (ranges : List BlockRange) (shared : List Lines) (nodes : ℕ) (rule : Rule)
+pub record IsFirstBroken (ranges : List BlockRange) (shared : List Lines) (nodes : ℕ)
+    (rule : LayoutRule)
     (number : ℕ) : Type 0 where
   pub before : List BlockRange
   pub range : BlockRange
@@ -140,5 +141,5 @@ pub record IsFirstBroken (ranges : List BlockRange) (shared : List Lines) (nodes
   pub number_is : number ≡ length before + 1
   pub valid : IsValid (record { shared = shared; named = before; nodes = nodes })
   pub violates : Violates shared nodes before range rule
-  pub lowest : (other : Rule) → number_of other < number_of rule
+  pub lowest : (other : LayoutRule) → number_of other < number_of rule
       → Violates shared nodes before range other → ⊥

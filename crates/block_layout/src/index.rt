@@ -13,7 +13,7 @@ use std::alloc::{AllocError, Global};
 
 /// Blocks of one size and home, one after another.
 #[derive(Clone, Copy, Debug)]
-pub(crate) struct Piece {
+pub(crate) struct BlockRun {
     /// The first line.
     pub(crate) first: u32,
     /// How many lines each block has.
@@ -32,16 +32,16 @@ pub(crate) struct Piece {
 #[derive(Debug, Drop)]
 pub(crate) struct Index {
     /// The blocks, ascending.
-    pub(crate) pieces: Vec<Piece>,
+    pub(crate) pieces: Vec<BlockRun>,
     /// How many blocks there are.
     pub(crate) blocks: u32,
     /// How many shared lines there are.
     pub(crate) lines: u32,
 }
 
-impl Piece {
+impl BlockRun {
     /// Whether a piece goes on with the blocks of this one.
-    fn is_followed_by(&self, next: &Piece) -> bool
+    fn is_followed_by(&self, next: &BlockRun) -> bool
         requires { self.now.first + self.now.count * self.now.size ≤ next.now.first }
         ensures { IsTrue result ↔ IsFollowedBy self.now next.now }
     {
@@ -52,7 +52,7 @@ impl Piece {
 }
 
 /// Adds a block to the pieces, as one of the last piece's where it goes on with them.
-fn add_piece(pieces: &mut Vec<Piece>, next: Piece) -> Result<(), AllocError>
+fn add_piece(pieces: &mut Vec<BlockRun>, next: BlockRun) -> Result<(), AllocError>
     requires ends { All (λ p. p.first + p.count * p.size ≤ next.first) pieces.old.items }
     requires counts { All (λ p. p.count ≤ 2 ^ 26) pieces.old.items }
     ensures { OnOk result (AddsPiece pieces.old.items next pieces.new.items) }
@@ -62,7 +62,7 @@ fn add_piece(pieces: &mut Vec<Piece>, next: Piece) -> Result<(), AllocError>
         return Ok(());
     };
     if last.is_followed_by(&next) {
-        pieces.push(Piece {
+        pieces.push(BlockRun {
             count: last.count + 1,
             ..last
         })?;
@@ -98,7 +98,7 @@ fn add_line(index: &mut Index, named: &NamedRanges, line: u32) -> Result<(), All
         index.lines += 1;
         return Ok(());
     }
-    let next = Piece {
+    let next = BlockRun {
         first: line,
         size,
         count: 1,

@@ -7,7 +7,7 @@ ghost use Rattle.block_layout.specs.Layout as model;
 ghost use Rattle.block_layout.specs.Text.{IsLayoutOf, IsFirstFault, IsFirstBroken};
 ghost use Rattle.block_layout.specs.declared.layout.BlockRange.{BlockRange};
 ghost use Rattle.block_layout.specs.declared.ranges.Lines.{Lines};
-ghost use Rattle.block_layout.specs.declared.refused.Rule.{Rule};
+ghost use Rattle.block_layout.specs.declared.refused.LayoutRule.{LayoutRule};
 
 /// What holds of the blocks of each layout. A caller uses the clauses; the call does nothing.
 pub fn layout_law()
@@ -44,25 +44,26 @@ pub fn layout_law()
 pub fn text_law()
     ensures one { (text : List ℕ) (shared : List Lines) (n : ℕ) (s t : Shape)
         → IsLayoutOf text shared n s → IsLayoutOf text shared n t → s ≡ t }
-    ensures either { (text : List ℕ) (shared : List Lines) (n : ℕ) (s : Shape) (rule : Rule)
+    ensures either { (text : List ℕ) (shared : List Lines) (n : ℕ) (s : Shape) (rule : LayoutRule)
         (line : ℕ) → IsLayoutOf text shared n s → IsFirstFault text shared n rule line → ⊥ }
-    ensures first { (text : List ℕ) (shared : List Lines) (n : ℕ) (rule other : Rule)
+    ensures first { (text : List ℕ) (shared : List Lines) (n : ℕ) (rule other : LayoutRule)
         (line number : ℕ) → IsFirstFault text shared n rule line
         → IsFirstFault text shared n other number
         → (rule ≡ other) × (line ≡ number) }
     ensures empty { (shared : List Lines) (n : ℕ) (s : Shape) → IsLayoutOf [] shared n s
         → s.named ≡ [] }
-    ensures default { (shared : List Lines) (n : ℕ) (rule : Rule) (line : ℕ)
+    ensures default { (shared : List Lines) (n : ℕ) (rule : LayoutRule) (line : ℕ)
         → IsFirstFault [] shared n rule line → ⊥ }
 {}
 
 /// Ranges are a layout's or have one that breaks a rule first, over the same shared lines and
 /// nodes. A caller uses the clauses; the call does nothing.
 pub fn range_list_law()
-    ensures either { (ranges : List BlockRange) (shared : List Lines) (n : ℕ) (rule : Rule)
+    ensures either { (ranges : List BlockRange) (shared : List Lines) (n : ℕ) (rule : LayoutRule)
         (number : ℕ) → IsFirstBroken ranges shared n rule number
         → IsValid (record { shared = shared; named = ranges; nodes = n }) → ⊥ }
-    ensures first { (ranges : List BlockRange) (shared : List Lines) (n : ℕ) (rule other : Rule)
+    ensures first { (ranges : List BlockRange) (shared : List Lines) (n : ℕ)
+        (rule other : LayoutRule)
         (number place : ℕ) → IsFirstBroken ranges shared n rule number
         → IsFirstBroken ranges shared n other place → (rule ≡ other) × (number ≡ place) }
 {}

@@ -5,7 +5,7 @@ ghost use Rattle.block_layout.specs.Layout as model;
 ghost use Rattle.block_layout.specs.Layout.{IsValid, has_line};
 ghost use Rattle.block_layout.specs.Index.{IsLastBegun, IsPieceOf};
 
-use crate::index::{Index, Piece};
+use crate::index::{BlockRun, Index};
 use crate::ranges::{Lines, Ranges};
 use std::alloc::{AllocError, Global};
 use std::marker::Model;
@@ -150,7 +150,7 @@ impl Layout {
     }
 
     /// The last piece that begins at a line or below.
-    fn piece_before(&self, line: u32) -> Option<Piece>
+    fn piece_before(&self, line: u32) -> Option<BlockRun>
         ensures { IsLastBegun self.now line result }
     {
         let pieces = &self.index.pieces;
@@ -163,7 +163,7 @@ impl Layout {
     }
 
     /// The piece that has a block.
-    fn piece_of(&self, block: Block) -> Piece
+    fn piece_of(&self, block: Block) -> BlockRun
         requires { block < model.blocks self.now }
         ensures { IsPieceOf self.now block result }
     {

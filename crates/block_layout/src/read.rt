@@ -10,13 +10,13 @@ ghost use Rattle.block_layout.specs.Index.{IsIndexBelow};
 ghost use Rattle.block_layout.specs.Reading.{IsCutRange, IsNew, IsAllShared, LacksShared, Overlaps};
 ghost use Rattle.block_layout.specs.Reading.{IsSound, IsBroken, IsAdded, IsFault, IsTaken};
 ghost use Rattle.block_layout.specs.Reading.{lines_left};
-ghost use Rattle.block_layout.specs.declared.refused.Rule.{Rule as Rules};
+ghost use Rattle.block_layout.specs.declared.refused.LayoutRule.{LayoutRule as Rules};
 
 use crate::index::Index;
 use crate::layout::{BlockRange, LINE_BYTES, Layout};
 use crate::named::NamedRanges;
 use crate::ranges::Ranges;
-use crate::refused::{LayoutRefused, Rule};
+use crate::refused::{LayoutRefused, LayoutRule};
 use crate::text::{fields_of, says_nothing};
 use std::alloc::{AllocError, Global};
 
@@ -66,24 +66,29 @@ fn is_new(named: &NamedRanges, range: &BlockRange) -> bool
 }
 
 /// The first rule that a range breaks, behind the ranges named.
-fn rule_broken(shared: &Ranges, nodes: u8, named: &NamedRanges, range: &BlockRange) -> Option<Rule>
+fn rule_broken(
+    shared: &Ranges,
+    nodes: u8,
+    named: &NamedRanges,
+    range: &BlockRange,
+) -> Option<LayoutRule>
     ensures { MatchOption result (IsSound shared.now nodes named.now range.now)
         (IsBroken shared.now nodes named.now range.now) }
 {
     if !is_block_size(range.block) {
-        return Some(Rule::BlockSize);
+        return Some(LayoutRule::BlockSize);
     }
     if !is_whole(range) {
-        return Some(Rule::Unaligned);
+        return Some(LayoutRule::Unaligned);
     }
     if !is_shared(shared, range) {
-        return Some(Rule::NotShared);
+        return Some(LayoutRule::NotShared);
     }
     if !is_new(named, range) {
-        return Some(Rule::Overlap);
+        return Some(LayoutRule::Overlap);
     }
     if range.home.is_some_and(|home| home >= nodes) {
-        return Some(Rule::Home);
+        return Some(LayoutRule::Home);
     }
     None
 }
@@ -125,7 +130,7 @@ fn with_line(
     }
     let Some(range) = fields_of(line) else {
         return Err(LayoutRefused::Broken {
-            rule: Rule::Syntax,
+            rule: LayoutRule::Syntax,
             line: number,
         });
     };

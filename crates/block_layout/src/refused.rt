@@ -8,7 +8,7 @@ use thiserror::Error;
 
 /// The rules of a layout's text, in the order in which a line is judged.
 #[derive(Clone, Copy, Debug, PartialEq, Eq)]
-pub enum Rule {
+pub enum LayoutRule {
     /// The line is in the grammar.
     Syntax,
     /// The block has 64, 128, 256, 512, 1024, 2048 or 4096 bytes.
@@ -23,7 +23,7 @@ pub enum Rule {
     Home,
 }
 
-impl Rule {
+impl LayoutRule {
     ghost use Rattle.block_layout.specs.Text.{number_of};
 
     /// The number of the refusal: 30 to 35.
@@ -31,12 +31,12 @@ impl Rule {
         ensures { result ≡ number_of self }
     {
         match self {
-            Rule::Syntax => 30,
-            Rule::BlockSize => 31,
-            Rule::Unaligned => 32,
-            Rule::NotShared => 33,
-            Rule::Overlap => 34,
-            Rule::Home => 35,
+            LayoutRule::Syntax => 30,
+            LayoutRule::BlockSize => 31,
+            LayoutRule::Unaligned => 32,
+            LayoutRule::NotShared => 33,
+            LayoutRule::Overlap => 34,
+            LayoutRule::Home => 35,
         }
     }
 }
@@ -46,7 +46,7 @@ impl Rule {
 pub enum LayoutRefused {
     /// A line of the text, or a range of a list, counted from 1, breaks a rule.
     #[error("{rule:?} at line {line}")]
-    Broken { rule: Rule, line: usize },
+    Broken { rule: LayoutRule, line: usize },
     /// There was no memory for the layout.
     #[error("out of memory")]
     OutOfMemory,

@@ -122,7 +122,7 @@ fn split_word(text: &[u8]) -> Option<(&[u8], &[u8])>
 
 /// The words of a line.
 #[derive(Clone, Copy)]
-struct Words<'a> {
+struct LineFields<'a> {
     start: &'a [u8],
     length: &'a [u8],
     block: &'a [u8],
@@ -130,7 +130,7 @@ struct Words<'a> {
 }
 
 /// The four words of a line.
-fn words_of(line: &[u8]) -> Option<Words<'_>>
+fn words_of(line: &[u8]) -> Option<LineFields<'_>>
     ensures some { IfSome result
         (λ w. AreWords line.now w.start.now w.length.now w.block.now w.home.now) }
     ensures only { (a b c d : List ℕ) → AreWords line.now a b c d → MatchOption result ⊥
@@ -139,7 +139,7 @@ fn words_of(line: &[u8]) -> Option<Words<'_>>
     let (start, behind) = split_word(line)?;
     let (length, behind) = split_word(behind)?;
     let (block, home) = split_word(behind)?;
-    Some(Words {
+    Some(LineFields {
         start,
         length,
         block,

@@ -18,7 +18,7 @@ use Rattle.coherence.proofs.Store.{store_view, store_pictured}
 use Rattle.coherence.proofs.Room.{has_room, at_most, queue_counted}
 
 -- no message of the block is in flight, and no request waits
-pub record Quiet {C : Type 0} (v : View C) : Type 0 where
+pub record Silent {C : Type 0} (v : View C) : Type 0 where
   pub queue : v.queue ≡ []
   pub to_home : (j i : ℕ) → v.to_home j i ≡ []
   pub forwards : (j i : ℕ) → v.forwards j i ≡ []
@@ -75,10 +75,10 @@ module _ {C : Type 0} (s : Setting C) where
     pub pictures : (b : ℕ) → pictured (seen k b) b
     pub counted : (i : ℕ) → k.occupancy i ≡ waiting_at s.home k.waiting s.blocks i
     pub few_waits : (i : ℕ) → waits s k i ≤ s.most
-    pub beyond : (b : ℕ) → s.blocks ≤ b → Quiet (seen k b)
+    pub beyond : (b : ℕ) → s.blocks ≤ b → Silent (seen k b)
 
-  quiet_like : (u v : View C) → Like u v → Quiet v → Quiet u
-  quiet_like u v l q = record {
+  silent_like : (u v : View C) → Like u v → Silent v → Silent u
+  silent_like u v l q = record {
     queue = l.queue ∙ q.queue;
     to_home = λ j i. l.to_home j i ∙ q.to_home j i;
     forwards = λ j i. l.forwards j i ∙ q.forwards j i;
@@ -88,7 +88,7 @@ module _ {C : Type 0} (s : Setting C) where
   module _ (k : Core C) (holds : Holds k) where
     -- a message is about a block
     block_by : (w : Wire C) (j i : ℕ) (rest : List (Wire C)) → k.list j i ≡ w ∷ rest
-        → Quiet (seen k w.block) → ⊥
+        → Silent (seen k w.block) → ⊥
     block_by w j i rest e q = by_class w.body refl
       where
         by_class : (m : Message C) → w.body ≡ m → ⊥
@@ -372,11 +372,11 @@ module _ {C : Type 0} (s : Setting C) (proper : Proper s) (k : Core C) (holds : 
         (λ d. not (is_none (k.wait x d))) s.blocks (no_more_waits x) in
         let t = holds.few_waits x in omega arith
 
-    take_beyond : (d : ℕ) → s.blocks ≤ d → Quiet (seen s next d)
+    take_beyond : (d : ℕ) → s.blocks ≤ d → Silent (seen s next d)
     take_beyond d far =
         let l = below s k holds w j i rest front in
         let other : d ≢ w.block = (λ e. omega arith) in
-        quiet_like s _ _ (view_other k j i w rest takes.0 front d other)
+        silent_like s _ _ (view_other k j i w rest takes.0 front d other)
         (holds.beyond d far)
 
     pub take_holds : Holds s (apply k j i w.block rest
@@ -569,7 +569,7 @@ module _ {C : Type 0} (s : Setting C) (proper : Proper s) where
       ];
       counted = holds.counted;
       few_waits = want_few;
-      beyond = λ d far. quiet_like s _ _ (want_other k i b need d
+      beyond = λ d far. silent_like s _ _ (want_other k i b need d
           (λ e. let l = block in omega arith)) (holds.beyond d far);
     }
 

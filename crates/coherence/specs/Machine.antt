@@ -1,7 +1,7 @@
 -- n nodes, their blocks, and the n × n lists of messages between them; and what happens there.
 use Rattle.std.specs.Prelude.{ℕ, ◌+◌, ◌-◌, ◌*◌, ◌<◌, ◌≤◌, Bool, true, false, not, cond, eqb, ltb, Option, Some, None, List, [], ◌∷◌, ◌++◌, ◌&&◌, length}
 use Rattle.coherence.specs.Messages.{Need, State, Exclusive, Invalid, Message, ToHome, Forward, Response, Ask, Unanswered, Wait, can_write, is_none, meets, while_asked, allowance_for}
-use Rattle.coherence.specs.Table.{Local, Queueing, Stays, Joins, FirstLeaves, Effect, effect_or, update, count, sum_below, row}
+use Rattle.coherence.specs.Table.{BlockAtNode, Queueing, Stays, Joins, FirstLeaves, Effect, effect_or, update, count, sum_below, row}
 
 -- a message about a block
 pub record Wire (C : Type 0) : Type 0 where
@@ -105,7 +105,7 @@ cost_after (p ∷ ps) c = cond (is_forward p.1) (2 + length ps) (c + (1 + length
 
 module _ {C : Type 0} where
   -- what node i keeps of block b
-  abbrev pub local : Core C → (i b : ℕ) → Local C
+  abbrev pub local : Core C → (i b : ℕ) → BlockAtNode C
   local k i b = record {
     owner = k.owner b;
     sharers = k.sharers b;

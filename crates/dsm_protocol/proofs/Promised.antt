@@ -99,8 +99,8 @@ module _ (l : Shape) (laid : IsLaid l) (first : ℕ → Contents) (es : List (k.
       ∙ contents_get (flags (size l b)) n (omega arith))
 
   pub rows_come : NoByes l w → claims.HaveRows (setting_of l first) c → RowsCome l w
-  rows_come quiet law i j message rest bi bj front =
-      let plain : HasNoBye (message ∷ rest) = subst HasNoBye front (quiet j i bj bi) in
+  rows_come silent law i j message rest bi bj front =
+      let plain : HasNoBye (message ∷ rest) = subst HasNoBye front (silent j i bj bi) in
       let got = take_leads l laid first es w i j message rest law st sound bi bj front plain.0 in
       (got.0, got.1)
 

@@ -4,16 +4,16 @@ use Rattle.std.proofs.lemmas.Bool.Decides.{nat_tests}
 use Rattle.block_layout.specs.Layout.{Shape, blocks, home}
 use Rattle.buf_pool.specs.Pool.{Buffer}
 use Rattle.state_table.specs.StateByte.{can_read, can_write}
-use Rattle.home_directory.specs.declared.messages.Need.{Need}
-use Rattle.home_directory.specs.declared.messages.Need.TheVariants as want
-use Rattle.home_directory.specs.declared.messages.Message.{Message}
-use Rattle.home_directory.specs.declared.messages.Message.TheVariants.{Read, Write, FwdRead, FwdWrite, Inval, Data, Grant, Ack, Done, Bye}
-use Rattle.home_directory.specs.declared.messages.Post.{Post}
+use Rattle.home_directory.specs.dsm_messages.declared.messages.Need.{Need}
+use Rattle.home_directory.specs.dsm_messages.declared.messages.Need.TheVariants as want
+use Rattle.home_directory.specs.dsm_messages.declared.messages.Message.{Message}
+use Rattle.home_directory.specs.dsm_messages.declared.messages.Message.TheVariants.{Read, Write, FwdRead, FwdWrite, Inval, Data, Grant, Ack, Done, Bye}
+use Rattle.home_directory.specs.dsm_messages.declared.messages.Post.{Post}
 use Rattle.home_directory.specs.declared.wait.Wait.{Wait}
 use Rattle.home_directory.specs.declared.wait.Answer.TheVariants.{ByData, ByGrant}
 use Rattle.home_directory.specs.declared.directory.Busy.{Busy}
 use Rattle.home_directory.specs.declared.directory.Request.{Request}
-use Rattle.home_directory.specs.Home.{Entry, Home, others, done_with, post, invals}
+use Rattle.home_directory.specs.Home.{DirectoryEntry, Home, others, done_with, post, invals}
 use Rattle.home_directory.specs.Table.{BlockFacts, LocalBlock, NodeRow, HomeRow, Start, meets, state_for, bytes_by, is_complete, completion, with_answer, one_ack_more, data_row, grant_row, ack_row, node_row, read_start, grant_start, write_start, start_row, start_at, ask_when, ask_row, start_or, next_or, done_when, done_row}
 use Rattle.node_model.specs.miss_handlers.Effects.{block_facts as facts}
 use Rattle.node_model.specs.miss_handlers.Rows.{Row, AtHome, AtNode, home_of, if_home, at_home, at_node, node_row_of, taker_in, takes_away}
@@ -159,7 +159,7 @@ CalmStart s = Calm s.sends
 abbrev CalmHome : HomeRow → Type 0
 CalmHome row = Calm row.sends
 
-calm_start : (n : ℕ) (e : Entry) (b r : ℕ) (need : Need) (buf : Buffer)
+calm_start : (n : ℕ) (e : DirectoryEntry) (b r : ℕ) (need : Need) (buf : Buffer)
     → IfSome CalmStart (start_row n e b r need buf)
 calm_start n e b r want.Read buf =
     (elim (e.sharers r) as (λ t. IfSome CalmStart (cond t None (Some (read_start e b r buf))))
@@ -184,7 +184,7 @@ calm_ask : (n : ℕ) (h : Home) (b r : ℕ) (need : Need) (buf : Buffer)
     → IfSome CalmHome (ask_row n h b r need buf)
 calm_ask n h b r need buf = if_when CalmHome _ _ (calm_when n h b r need buf h.entry.busy)
 
-calm_next : (n : ℕ) (e : Entry) (b : ℕ) (qs : List Request) → Calm (next_or n e b qs).sends
+calm_next : (n : ℕ) (e : DirectoryEntry) (b : ℕ) (qs : List Request) → Calm (next_or n e b qs).sends
 calm_next n e b [] = tt
 calm_next n e b (q ∷ qs) = go _ (if_when CalmStart (ltb q.from n) _
     (calm_start n e b q.from q.need q.buf))

@@ -9,9 +9,9 @@ use Rattle.state_table.specs.StateByte.{can_write}
 use Rattle.buf_pool.specs.Pool.{Buffer}
 use Rattle.rv32_decode.specs.declared.Width.{Width}
 use Rattle.rv32_decode.specs.Widths.{size_of}
-use Rattle.home_directory.specs.declared.messages.Need.{Need}
-use Rattle.home_directory.specs.declared.messages.Need.TheVariants as want
-use Rattle.home_directory.specs.declared.messages.Message.{Message}
+use Rattle.home_directory.specs.dsm_messages.declared.messages.Need.{Need}
+use Rattle.home_directory.specs.dsm_messages.declared.messages.Need.TheVariants as want
+use Rattle.home_directory.specs.dsm_messages.declared.messages.Message.{Message}
 use Rattle.home_directory.specs.declared.wait.Wait.{Wait}
 use Rattle.home_directory.specs.Home.{count_of, post}
 use Rattle.home_directory.specs.Table.{meets, state_in_wait, request, first_wait, Miss, want_row}
@@ -174,11 +174,11 @@ module _ (l : Shape) (laid : IsLaid l) (first : ℕ → Contents) (es : List (k.
       }
 
       want_no_byes : NoByes l w → NoByes l (after_miss w i b (miss_of bs need buf))
-      want_no_byes quiet x y bx by = elim (eqb_tells x i) [
-        | inl p ↦ rw p.0 (no_bye_append l (w.list x y) _ (quiet x y bx by)
+      want_no_byes silent x y bx by = elim (eqb_tells x i) [
+        | inl p ↦ rw p.0 (no_bye_append l (w.list x y) _ (silent x y bx by)
             (elim (eqb (home l b) y) as (λ t. HasNoBye (cond t (request need b buf ∷ []) []))
             [ true ↦ request_no_bye need b buf | false ↦ tt ]))
-        | inr p ↦ rw p.0 (quiet x y bx by)
+        | inr p ↦ rw p.0 (silent x y bx by)
       ]
 
       want_by : Leads l first (es ++ k.Want i b (need_of need) ∷ [])

@@ -6,8 +6,8 @@ use Rattle.block_layout.specs.Layout.{Shape, blocks}
 use Rattle.buf_pool.specs.Pool.{empty_buffer}
 use Rattle.state_table.specs.States.{state_of}
 use Rattle.home_directory.specs.flag_memory.Copy.{bytes_of}
-use Rattle.home_directory.specs.declared.messages.Need.{Need}
-use Rattle.home_directory.specs.declared.messages.Post.{Post}
+use Rattle.home_directory.specs.dsm_messages.declared.messages.Need.{Need}
+use Rattle.home_directory.specs.dsm_messages.declared.messages.Post.{Post}
 use Rattle.home_directory.specs.Effects.{Directory, entry_at, entries_of}
 use Rattle.home_directory.specs.Table.{meets, Miss, want_row}
 use Rattle.node_model.specs.miss_handlers.Waits.{wait_of}
@@ -202,7 +202,7 @@ module _ (l : Shape) (ns : List BareNode) (q0 q1 q2 : List Queue) (i b : ℕ) (n
 
 -- what a want requires of its node
 module _ (p : Nodes) (reached : AreReached p) (i : ℕ) (bi : i < p.layout.nodes) (b : ℕ)
-    (bb : b < blocks p.layout) (quiet : (world_of p).wait i b ≡ None)
+    (bb : b < blocks p.layout) (silent : (world_of p).wait i b ≡ None)
     (seen : BareNode) (seen_is : seen ≡ get_or p.nodes i seen) (fewer : length seen.waits.waits < 2)
     (old : BareNode) (is : old ≡ get_or p.nodes i old) where
   pub record MayWant : Type 0 where
@@ -223,7 +223,7 @@ module _ (p : Nodes) (reached : AreReached p) (i : ℕ) (bi : i < p.layout.nodes
       ap (λ (x : BareNode). length x.waits.waits) (sat ∙ sym at) in
       record {
         block = subst (λ z. b < blocks z) (sym n.waits) bb;
-        idle = ap (λ (x : BareNode). wait_of x.waits b) at ∙ quiet;
+        idle = ap (λ (x : BareNode). wait_of x.waits b) at ∙ silent;
         few = omega arith;
         buffer = let e = n.buffers in omega arith;
         states = n.states ∙ sym n.waits;

@@ -4,19 +4,19 @@ use Rattle.block_layout.specs.Layout.{Shape, blocks, home}
 use Rattle.home_directory.specs.flag_memory.Flag.{flags}
 use Rattle.state_table.specs.declared.State.{State}
 use Rattle.state_table.specs.declared.State.TheVariants.{Exclusive, Shared, Invalid, Pending}
-use Rattle.home_directory.specs.declared.messages.Need as need
-use Rattle.home_directory.specs.declared.messages.Need.TheVariants as want
-use Rattle.home_directory.specs.declared.messages.Message.{Message}
-use Rattle.home_directory.specs.declared.messages.Message.TheVariants.{Read, Write, FwdRead, FwdWrite, Inval, Data, Grant, Ack, Done, Bye}
+use Rattle.home_directory.specs.dsm_messages.declared.messages.Need as need
+use Rattle.home_directory.specs.dsm_messages.declared.messages.Need.TheVariants as want
+use Rattle.home_directory.specs.dsm_messages.declared.messages.Message.{Message}
+use Rattle.home_directory.specs.dsm_messages.declared.messages.Message.TheVariants.{Read, Write, FwdRead, FwdWrite, Inval, Data, Grant, Ack, Done, Bye}
 use Rattle.home_directory.specs.declared.wait.Wait as wait
 use Rattle.home_directory.specs.declared.wait.Answer.{Answer}
 use Rattle.home_directory.specs.declared.wait.Answer.TheVariants.{ByData, ByGrant}
 use Rattle.home_directory.specs.declared.directory.Busy.{Busy}
 use Rattle.home_directory.specs.declared.directory.Request.{Request}
-use Rattle.home_directory.specs.Home.{Entry}
+use Rattle.home_directory.specs.Home.{DirectoryEntry}
 use Rattle.home_directory.specs.Table.{LocalBlock}
 use Rattle.coherence.specs.Messages as m
-use Rattle.coherence.specs.Table.{Local}
+use Rattle.coherence.specs.Table.{BlockAtNode}
 use Rattle.coherence.specs.Machine.{Wire, Core, Setting}
 use Rattle.dsm_protocol.specs.World.{World}
 
@@ -81,7 +81,7 @@ wires_of [] = []
 wires_of (x ∷ xs) = wire_of x ++ wires_of xs
 
 -- what a node keeps of a block, with the entry of its home
-abbrev pub local_of : Entry → LocalBlock → Local Contents
+abbrev pub local_of : DirectoryEntry → LocalBlock → BlockAtNode Contents
 local_of e l = record {
   owner = e.owner;
   sharers = e.sharers;

@@ -4,7 +4,7 @@ use Rattle.std.proofs.lemmas.Bool.Decides.{eqb_tells, leb_tells, nat_tests}
 use Rattle.std.proofs.lemmas.List.{get_or-set_same, get_or-set_other, get_or_past, length-set}
 use Rattle.std.proofs.lemmas.List.Elements.{filter-append}
 use Rattle.home_directory.specs.declared.directory.Request.{Request}
-use Rattle.home_directory.specs.declared.request_lists.Place.{Place}
+use Rattle.home_directory.specs.declared.request_lists.Slot.{Slot}
 use Rattle.home_directory.specs.declared.request_lists.BlockList.{BlockList}
 use Rattle.home_directory.specs.Effects.{requests_for}
 use Rattle.home_directory.specs.Lists.{place_at, request_at, list_at, walk, requests_in, all_of, Runs, Each, IsOf, Stands, IsKept, AreEmpty}
@@ -21,14 +21,14 @@ none_for b c (q ∷ qs) other all =
     (let e : eqb q.block c ≡ false = grind (arith, nat_tests, all.0) in rw e (none_for b c qs other all.1))
 
 -- the lists of the blocks from k on
-abbrev OwnFrom : List Place → ℕ → List BlockList → Type 0
+abbrev OwnFrom : List Slot → ℕ → List BlockList → Type 0
 OwnFrom ps k ls = (i : ℕ) → i < length ls → Each (λ q. q.block ≡ k + i) (requests_in ps (list_at ls i))
 
-own_rest : (ps : List Place) (k : ℕ) (l : BlockList) (ls : List BlockList) → OwnFrom ps k (l ∷ ls) → OwnFrom ps (suc k) ls
+own_rest : (ps : List Slot) (k : ℕ) (l : BlockList) (ls : List BlockList) → OwnFrom ps k (l ∷ ls) → OwnFrom ps (suc k) ls
 own_rest ps k l ls own = λ i below. subst (λ z. Each (λ q. q.block ≡ z) (requests_in ps (list_at ls i)))
     (omega arith) (own (suc i) (omega (arith, below)))
 
-none_before : (ps : List Place) (c k : ℕ) (ls : List BlockList) → c < k → OwnFrom ps k ls
+none_before : (ps : List Slot) (c k : ℕ) (ls : List BlockList) → c < k → OwnFrom ps k ls
     → requests_for c (all_of ps ls) ≡ []
 none_before ps c k [] before own = refl
 none_before ps c k (l ∷ ls) before own =
@@ -38,7 +38,7 @@ none_before ps c k (l ∷ ls) before own =
       none_before ps c (suc k) ls (omega (arith, before)) (own_rest ps k l ls own),
     ) refl)
 
-list_of : (ps : List Place) (k b : ℕ) (ls : List BlockList) → OwnFrom ps k ls
+list_of : (ps : List Slot) (k b : ℕ) (ls : List BlockList) → OwnFrom ps k ls
     → requests_for (k + b) (all_of ps ls) ≡ requests_in ps (list_at ls b)
 list_of ps k b [] own = refl
 list_of ps k zero (l ∷ ls) own =
@@ -56,23 +56,23 @@ list_of ps k (suc b) (l ∷ ls) own =
     ∙ (rw (none_for (k + 0) (k + suc b) (requests_in ps l) (omega arith) (own 0 (omega arith)))
     (ap (λ z. requests_for z (all_of ps ls)) (omega arith) ∙ list_of ps (suc k) b ls (own_rest ps k l ls own)))
 
-own_of : (ps : List Place) (ls : List BlockList) (empty : Option ℕ) (len : ℕ) → IsKept ps ls empty len → OwnFrom ps 0 ls
+own_of : (ps : List Slot) (ls : List BlockList) (empty : Option ℕ) (len : ℕ) → IsKept ps ls empty len → OwnFrom ps 0 ls
 own_of ps ls empty len kept = λ i below. subst (λ z. Each (λ q. q.block ≡ z) (requests_in ps (list_at ls i)))
     (omega arith) (each_block i (requests_in ps (list_at ls i)) (kept.lists i below).own)
 
 -- the requests for a block are those of its list
-pub requests_are : (ps : List Place) (ls : List BlockList) (empty : Option ℕ) (len b : ℕ) → IsKept ps ls empty len
+pub requests_are : (ps : List Slot) (ls : List BlockList) (empty : Option ℕ) (len b : ℕ) → IsKept ps ls empty len
     → requests_for b (all_of ps ls) ≡ requests_in ps (list_at ls b)
 requests_are ps ls empty len b kept =
     ap (λ z. requests_for z (all_of ps ls)) (omega arith) ∙ list_of ps 0 b ls (own_of ps ls empty len kept)
 
-pub one_few : (ps : List Place) (ls : List BlockList) (b : ℕ)
+pub one_few : (ps : List Slot) (ls : List BlockList) (b : ℕ)
     → length (requests_in ps (list_at ls b)) ≤ length (all_of ps ls)
 one_few ps [] b = omega arith
 one_few ps (l ∷ ls) zero = omega (arith, length-append (requests_in ps l) (all_of ps ls))
 one_few ps (l ∷ ls) (suc b) = omega (arith, length-append (requests_in ps l) (all_of ps ls), one_few ps ls b)
 
-all_same : (ps : List Place) (old new : List BlockList) (now : List Place) → length new ≡ length old
+all_same : (ps : List Slot) (old new : List BlockList) (now : List Slot) → length new ≡ length old
     → ((i : ℕ) → requests_in now (list_at new i) ≡ requests_in ps (list_at old i))
     → all_of now new ≡ all_of ps old
 all_same ps [] [] now len same = refl
@@ -84,7 +84,7 @@ all_same ps (l ∷ ls) (m ∷ ms) now len same =
     λ t. head t ++ rest t
 
 -- how many there are in all, where the list of b alone has changed
-all_but : (ps : List Place) (old new : List BlockList) (now : List Place) (b : ℕ) → b < length old
+all_but : (ps : List Slot) (old new : List BlockList) (now : List Slot) (b : ℕ) → b < length old
     → length new ≡ length old
     → ((i : ℕ) → i ≢ b → requests_in now (list_at new i) ≡ requests_in ps (list_at old i))
     → length (all_of now new) + length (requests_in ps (list_at old b))
@@ -114,7 +114,7 @@ all_but ps (l ∷ ls) (m ∷ ms) now (suc b) below len same =
     )
 
 -- the arrays once the list of block b has changed
-pub record IsChanged (ps now : List Place) (ls : List BlockList) (new_empty : Option ℕ) (new_len b : ℕ)
+pub record IsChanged (ps now : List Slot) (ls : List BlockList) (new_empty : Option ℕ) (new_len b : ℕ)
     (list : BlockList) (qs : List Request) : Type 0 where
   pub kept : IsKept now (set ls b list) new_empty new_len
   pub own : requests_for b (all_of now (set ls b list)) ≡ qs
@@ -122,7 +122,7 @@ pub record IsChanged (ps now : List Place) (ls : List BlockList) (new_empty : Op
       → requests_for d (all_of now (set ls b list)) ≡ requests_for d (all_of ps ls)
 
 -- the list of block b has changed, and the places of other blocks' requests are as before
-module _ (ps now : List Place) (ls : List BlockList) (empty new_empty : Option ℕ) (len new_len b : ℕ)
+module _ (ps now : List Slot) (ls : List BlockList) (empty new_empty : Option ℕ) (len new_len b : ℕ)
     (list : BlockList) (qs : List Request) (kept : IsKept ps ls empty len) (within : b < length ls)
     (places : length now ≡ 32) (stands : Stands now b list qs)
     (count : length qs + len ≡ new_len + length (requests_in ps (list_at ls b))) (few : new_len ≤ 32)

@@ -3,8 +3,8 @@ use Rattle.std.proofs.Common.{◌≡◌, ◌≢◌, ℕ, zero, suc, ◌+◌, ◌
 use Rattle.std.proofs.lemmas.Bool.Decides.{eqb_tells, nat_tests}
 use Rattle.std.proofs.lemmas.List.{get_or_default, get_or-set_same, get_or-set_other, length-set}
 use Rattle.home_directory.specs.declared.directory.Request.{Request}
-use Rattle.home_directory.specs.declared.request_lists.Place.{Place}
-use Rattle.home_directory.specs.declared.request_lists.Ends.{Ends}
+use Rattle.home_directory.specs.declared.request_lists.Slot.{Slot}
+use Rattle.home_directory.specs.declared.request_lists.ListEnds.{ListEnds}
 use Rattle.home_directory.specs.declared.request_lists.BlockList.{BlockList}
 use Rattle.home_directory.specs.Home.{waits}
 use Rattle.home_directory.specs.Effects.{requests_for, members}
@@ -16,16 +16,16 @@ use Rattle.home_directory.proofs.AllLists.{requests_are, one_few, IsChanged, aft
 pub list_found : (ls : List BlockList) (b : ℕ) (l : BlockList) → b < length ls → l ≡ get_or ls b l → l ≡ list_at ls b
 list_found ls b l within is = is ∙ get_or_default ls b l (record { ends = None; asked = [] }) within
 
-pub place_found : (ps : List Place) (i : ℕ) (p : Place) → i < length ps → p ≡ get_or ps i p → p ≡ place_at ps i
+pub place_found : (ps : List Slot) (i : ℕ) (p : Slot) → i < length ps → p ≡ get_or ps i p → p ≡ place_at ps i
 place_found ps i p within is = is ∙ get_or_default ps i p no_place within
 
 -- the arrays once a request q for block b has joined
-pub record IsJoined (ps : List Place) (ls : List BlockList) (n b : ℕ) (q : Request) (now : List Place)
+pub record IsJoined (ps : List Slot) (ls : List BlockList) (n b : ℕ) (q : Request) (now : List Slot)
     (list_now : BlockList) (free_now : Option ℕ) : Type 0 where
   pub kept : IsKept now (set ls b list_now) free_now (n + 1)
   pub joined : HasJoined (all_of ps ls) (all_of now (set ls b list_now)) q
 
-module _ (ps : List Place) (ls : List BlockList) (free : Option ℕ) (n b : ℕ) (kept : IsKept ps ls free n)
+module _ (ps : List Slot) (ls : List BlockList) (free : Option ℕ) (n b : ℕ) (kept : IsKept ps ls free n)
     (within : b < length ls) where
   abbrev pub list : BlockList
   list = list_at ls b
@@ -69,10 +69,10 @@ module _ (ps : List Place) (ls : List BlockList) (free : Option ℕ) (n b : ℕ)
       none : waits old q.from ≡ false
       none = ap (λ z. waits z q.from) (sym (requests_are ps ls free n b kept)) ∙ once
 
-      abbrev pub filled : Place
+      abbrev pub filled : Slot
       filled = record { request = Some q; next = None }
 
-      abbrev pub ps1 : List Place
+      abbrev pub ps1 : List Slot
       ps1 = set ps k filled
 
       at_k : place_at ps1 k ≡ filled
@@ -85,7 +85,7 @@ module _ (ps : List Place) (ls : List BlockList) (free : Option ℕ) (n b : ℕ)
       holds_other x r holds = λ e.
           (let bad : None ≡ Some r = sym place_none ∙ ap (request_at ps) (sym e) ∙ holds in absurd cc)
 
-      finish : (now : List Place) (ends : Option Ends) → length now ≡ length ps
+      finish : (now : List Slot) (ends : Option ListEnds) → length now ≡ length ps
           → Runs now ends joined
           → ((x : ℕ) → x ≢ k → ((r : Request) → request_at ps x ≡ Some r → r.block ≢ b)
           → place_at now x ≡ place_at ps x)
@@ -147,15 +147,15 @@ module _ (ps : List Place) (ls : List BlockList) (free : Option ℕ) (n b : ℕ)
             record { first = k; last = k },
             refl,
             (
-              ap (λ (z : Place). z.request) at_k,
+              ap (λ (z : Slot). z.request) at_k,
               refl,
-              ap (λ (z : Place). z.next) at_k,
+              ap (λ (z : Slot). z.next) at_k,
             ),
           ))
           (λ x other no. at_other x other)
 
       -- behind the others
-      module _ (e : Ends) (ends : list.ends ≡ Some e) where
+      module _ (e : ListEnds) (ends : list.ends ≡ Some e) where
         first : HasFirst ps e old
         first = has_first ps list.ends e old stands.runs ends
 
@@ -171,10 +171,10 @@ module _ (ps : List Place) (ls : List BlockList) (free : Option ℕ) (n b : ℕ)
         last_other : e.last ≢ k
         last_other = holds_other e.last last.0 last.1
 
-        abbrev pub linked : Place
+        abbrev pub linked : Slot
         linked = record { request = (place_at ps1 e.last).request; next = Some k }
 
-        abbrev pub ps2 : List Place
+        abbrev pub ps2 : List Slot
         ps2 = set ps1 e.last linked
 
         at_last : place_at ps2 e.last ≡ linked
@@ -199,15 +199,15 @@ module _ (ps : List Place) (ls : List BlockList) (free : Option ℕ) (n b : ℕ)
               refl,
               path_more (IsOf b) ps ps2 k e.last q
                   (λ y r holds p other. at_rest y other ∙ at_other y (holds_other y r holds))
-                  (ap (λ (z : Place). z.request) at_last ∙ ap (λ (z : Place). z.request) (at_other e.last last_other))
-                  (ap (λ (z : Place). z.next) at_last)
-                  (ap (λ (z : Place). z.request) at_place) (ap (λ (z : Place). z.next) at_place)
+                  (ap (λ (z : Slot). z.request) at_last ∙ ap (λ (z : Slot). z.request) (at_other e.last last_other))
+                  (ap (λ (z : Slot). z.next) at_last)
+                  (ap (λ (z : Slot). z.request) at_place) (ap (λ (z : Slot). z.next) at_place)
                   e.first first.first first.rest each_of.0 each_of.1 first.path,
             ))
             (λ x other no. at_rest x (λ z. no last.0 (ap (request_at ps) z ∙ last.1) last.2.0) ∙ at_other x other)
 
   -- the first leaves
-  module _ (e : Ends) (ends : list.ends ≡ Some e) where
+  module _ (e : ListEnds) (ends : list.ends ≡ Some e) where
     abbrev pub head : HasFirst ps e old
     head = has_first ps list.ends e old stands.runs ends
 
@@ -229,13 +229,13 @@ module _ (ps : List Place) (ls : List BlockList) (free : Option ℕ) (n b : ℕ)
     pub some_wait : 1 ≤ n
     some_wait = (let f = one_few ps ls b in omega (arith, f, kept.all, ap length head.is))
 
-    abbrev pub emptied : Place
+    abbrev pub emptied : Slot
     emptied = record { request = None; next = free }
 
-    abbrev pub now : List Place
+    abbrev pub now : List Slot
     now = set ps e.first emptied
 
-    abbrev pub ends_then : Option ℕ → Option Ends
+    abbrev pub ends_then : Option ℕ → Option ListEnds
     ends_then None = None
     ends_then (Some j) = Some (record { first = j; last = e.last })
 
@@ -292,8 +292,8 @@ module _ (ps : List Place) (ls : List BlockList) (free : Option ℕ) (n b : ℕ)
           e.first,
           refl,
           omega (arith, head_within, length-set ps e.first emptied),
-          ap (λ (z : Place). z.request) at_first,
-          subst (λ z. AreEmpty now z (32 - n)) (sym (ap (λ (z : Place). z.next) at_first))
+          ap (λ (z : Slot). z.request) at_first,
+          subst (λ z. AreEmpty now z (32 - n)) (sym (ap (λ (z : Slot). z.next) at_first))
               (empty_same ps now (32 - n) (length-set ps e.first emptied)
               (λ x i few d. at_rest_of x (λ z. let bad : None ≡ Some head.first = sym (empty_holds ps x i d)
               ∙ ap (request_at ps) z ∙ head_holds in absurd cc))

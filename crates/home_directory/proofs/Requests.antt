@@ -2,9 +2,9 @@
 use Rattle.std.proofs.Common.{◌≡◌, ◌≢◌, ℕ, zero, suc, ◌-◌, ◌<◌, ◌≤◌, Bool, true, false, not, eqb, ltb, ◌&&◌, List, [], ◌∷◌, ◌++◌, length, get_or, take, refl, sym, ap, ◌∙◌, subst, inl, inr, Option, Some, None, arith, length-append}
 use Rattle.std.proofs.lemmas.Bool.Decides.{eqb_tells, nat_tests}
 use Rattle.buf_pool.specs.Pool.{Buffer}
-use Rattle.home_directory.specs.declared.messages.Need.{Need}
+use Rattle.dsm_messages.specs.declared.messages.Need.{Need}
 use Rattle.home_directory.specs.declared.directory.Busy.{Busy}
-use Rattle.home_directory.specs.declared.directory.Entry as stored
+use Rattle.home_directory.specs.declared.directory.DirectoryEntry as stored
 use Rattle.home_directory.specs.declared.directory.Request.{Request}
 use Rattle.home_directory.specs.Home.{Home, waits}
 use Rattle.home_directory.specs.Table.{Start, HomeRow, start_row, start_at, first_leaves}
@@ -42,7 +42,7 @@ module _ (b r : ℕ) (qs : List Request) where
       never false u = refl
 
 -- a request at a block that isn't busy doesn't wait, nor does one that meets no row
-module _ (b : ℕ) (e : stored.Entry) (qs : List Request) (n r : ℕ) (need : Need) (buf : Buffer)
+module _ (b : ℕ) (e : stored.DirectoryEntry) (qs : List Request) (n r : ℕ) (need : Need) (buf : Buffer)
     (node : r < n) where
   abbrev row : HomeRow
   row = after_ask n (home_of e qs b) b r need buf
@@ -87,7 +87,7 @@ module _ (b : ℕ) (e : stored.Entry) (qs : List Request) (n r : ℕ) (need : Ne
       })
 
 -- the first request for a block, q, is taken out
-module _ (b : ℕ) (e : stored.Entry) (old new : List Request) (q : Request)
+module _ (b : ℕ) (e : stored.DirectoryEntry) (old new : List Request) (q : Request)
     (taken : IsFirstTaken b old new (Some q)) where
   pub leave_after : AreAfter b old new (first_leaves (home_of e old b))
   leave_after =
@@ -111,7 +111,7 @@ module _ (b : ℕ) (e : stored.Entry) (old new : List Request) (q : Request)
       let there : requests_for b old ≡ q ∷ requests_for b new = taken.0 in rw (there, t) refl
 
 -- none waits for the block
-module _ (b : ℕ) (e : stored.Entry) (old new : List Request)
+module _ (b : ℕ) (e : stored.DirectoryEntry) (old new : List Request)
     (taken : IsFirstTaken b old new None) where
   pub none_after : AreAfter b old new (first_leaves (home_of e old b))
   none_after =

@@ -3,11 +3,11 @@ use Rattle.std.specs.Prelude.{ℕ, Bool, false, if◌then◌else◌, ◌==◌, �
 use Rattle.block_layout.specs.Layout.{Shape, blocks, home}
 use Rattle.block_layout.specs.Update.{changed}
 use Rattle.buf_pool.specs.Pool.{Buffer}
-use Rattle.home_directory.specs.declared.messages.Need.{Need}
-use Rattle.home_directory.specs.declared.messages.Post.{Post}
-use Rattle.home_directory.specs.declared.directory.Entry as stored
+use Rattle.dsm_messages.specs.declared.messages.Need.{Need}
+use Rattle.dsm_messages.specs.declared.messages.Post.{Post}
+use Rattle.home_directory.specs.declared.directory.DirectoryEntry as stored
 use Rattle.home_directory.specs.declared.directory.Request.{Request}
-use Rattle.home_directory.specs.Home.{Entry, Home}
+use Rattle.home_directory.specs.Home.{DirectoryEntry, Home}
 use Rattle.home_directory.specs.Table.{HomeRow, ask_row, done_row}
 
 -- a directory: the layout that it was made with, its node, the entries by block, and the requests
@@ -15,20 +15,20 @@ use Rattle.home_directory.specs.Table.{HomeRow, ask_row, done_row}
 pub record Directory : Type 0 where
   pub layout : Shape
   pub me : ℕ
-  pub entries : List stored.Entry
+  pub entries : List stored.DirectoryEntry
   pub waiting : List Request
 
-abbrev pub no_entry : stored.Entry
+abbrev pub no_entry : stored.DirectoryEntry
 no_entry = record { owner = 0; sharers = []; busy = None }
 
 -- the set of the nodes at which a list says true
 abbrev pub members : List Bool → ℕ → Bool
 members flags i = slice_index_or flags i false
 
-abbrev pub entry_of : stored.Entry → Entry
+abbrev pub entry_of : stored.DirectoryEntry → DirectoryEntry
 entry_of e = record { owner = e.owner; sharers = members e.sharers; busy = e.busy }
 
-abbrev pub entry_at : List stored.Entry → ℕ → Entry
+abbrev pub entry_at : List stored.DirectoryEntry → ℕ → DirectoryEntry
 entry_at entries b = entry_of (slice_index_or entries b no_entry)
 
 -- the requests for block b, in their order
@@ -37,7 +37,7 @@ requests_for b qs = filter (λ q. q.block == b) qs
 
 -- the entries and the requests that wait, by block, and how many requests wait in all
 pub record Entries : Type 0 where
-  pub entry : ℕ → Entry
+  pub entry : ℕ → DirectoryEntry
   pub waiting : ℕ → List Request
   pub occupancy : ℕ
 

@@ -1,17 +1,17 @@
 -- What a home keeps of a block (Shasta, section 2: the directory of a block's home).
 use Rattle.std.specs.Prelude.{ℕ, ◌+◌, ◌-◌, zero, suc, Bool, true, false, not, if◌then◌else◌, ◌==◌, ◌&&◌, ◌||◌, List, [], ◌∷◌, ◌++◌, Option, Some, None}
 use Rattle.block_layout.specs.Update.{changed}
-use Rattle.home_directory.specs.declared.messages.Need.{Need}
-use Rattle.home_directory.specs.declared.messages.Need.TheVariants.{Read as reading, Write as writing}
-use Rattle.home_directory.specs.declared.messages.Message.{Message}
-use Rattle.home_directory.specs.declared.messages.Message.TheVariants.{Inval}
-use Rattle.home_directory.specs.declared.messages.Post.{Post}
+use Rattle.dsm_messages.specs.declared.messages.Need.{Need}
+use Rattle.dsm_messages.specs.declared.messages.Need.TheVariants.{Read as reading, Write as writing}
+use Rattle.dsm_messages.specs.declared.messages.Message.{Message}
+use Rattle.dsm_messages.specs.declared.messages.Message.TheVariants.{Inval}
+use Rattle.dsm_messages.specs.declared.messages.Post.{Post}
 use Rattle.home_directory.specs.declared.directory.Busy.{Busy}
 use Rattle.home_directory.specs.declared.directory.Request.{Request}
 
 -- a block's entry: the owner, the nodes that share the block, the owner among them, and the request
 -- that the home is busy with
-pub record Entry : Type 0 where
+pub record DirectoryEntry : Type 0 where
   pub owner : ℕ
   pub sharers : ℕ → Bool
   pub busy : Option Busy
@@ -19,7 +19,7 @@ pub record Entry : Type 0 where
 -- what the rows of a block see at its home: the entry, the requests for the block that wait there,
 -- in order of arrival, and how many requests wait there in all
 pub record Home : Type 0 where
-  pub entry : Entry
+  pub entry : DirectoryEntry
   pub waiting : List Request
   pub occupancy : ℕ
 
@@ -37,11 +37,11 @@ count_of set zero = 0
 count_of set (suc n) = if set n then count_of set n + 1 else count_of set n
 
 -- the entry at the start: the home is the owner
-abbrev pub first_entry : ℕ → Entry
+abbrev pub first_entry : ℕ → DirectoryEntry
 first_entry me = record { owner = me; sharers = alone me; busy = None }
 
 -- the entry once the home is busy with a request of r
-abbrev pub busy_with : Entry → Need → ℕ → Entry
+abbrev pub busy_with : DirectoryEntry → Need → ℕ → DirectoryEntry
 busy_with e need r = record {
   owner = e.owner;
   sharers = e.sharers;
@@ -49,7 +49,7 @@ busy_with e need r = record {
 }
 
 -- the entry once a request of r is done
-abbrev pub done_with : Entry → Need → ℕ → Entry
+abbrev pub done_with : DirectoryEntry → Need → ℕ → DirectoryEntry
 done_with e reading r = record { owner = e.owner; sharers = changed e.sharers r true; busy = None }
 done_with e writing r = record { owner = r; sharers = alone r; busy = None }
 

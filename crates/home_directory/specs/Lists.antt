@@ -1,8 +1,8 @@
 -- Helps the code alone: the requests that wait, in lists through one array of places.
 use Rattle.std.specs.Prelude.{◌≡◌, ◌≢◌, ℕ, zero, suc, ◌+◌, ◌-◌, ◌<◌, ◌≤◌, ⊤, Bool, true, false, List, [], ◌∷◌, ◌++◌, length, slice_index_or, Option, None, Some}
 use Rattle.home_directory.specs.declared.directory.Request.{Request}
-use Rattle.home_directory.specs.declared.request_lists.Place.{Place}
-use Rattle.home_directory.specs.declared.request_lists.Ends.{Ends}
+use Rattle.home_directory.specs.declared.request_lists.Slot.{Slot}
+use Rattle.home_directory.specs.declared.request_lists.ListEnds.{ListEnds}
 use Rattle.home_directory.specs.declared.request_lists.BlockList.{BlockList}
 use Rattle.home_directory.specs.Home.{waits}
 use Rattle.home_directory.specs.Effects.{requests_for, members}
@@ -13,19 +13,19 @@ pub record Requests : Type 0 where
   pub blocks : ℕ
   pub requests : List Request
 
-abbrev pub place_at : List Place → ℕ → Place
+abbrev pub place_at : List Slot → ℕ → Slot
 place_at ps i = slice_index_or ps i (record { request = None; next = None })
 
-abbrev pub request_at : List Place → ℕ → Option Request
+abbrev pub request_at : List Slot → ℕ → Option Request
 request_at ps i = (place_at ps i).request
 
-abbrev pub next_at : List Place → ℕ → Option ℕ
+abbrev pub next_at : List Slot → ℕ → Option ℕ
 next_at ps i = (place_at ps i).next
 
 abbrev pub list_at : List BlockList → ℕ → BlockList
 list_at ls b = slice_index_or ls b (record { ends = None; asked = [] })
 
-abbrev pub first_of : Option Ends → Option ℕ
+abbrev pub first_of : Option ListEnds → Option ℕ
 first_of None = None
 first_of (Some e) = Some e.first
 
@@ -34,31 +34,31 @@ with_first None qs = []
 with_first (Some q) qs = q ∷ qs
 
 -- the requests of the list that begins at a place, at most n
-abbrev pub walk : List Place → ℕ → Option ℕ → List Request
+abbrev pub walk : List Slot → ℕ → Option ℕ → List Request
 walk ps zero at = []
 walk ps (suc n) None = []
 walk ps (suc n) (Some i) = with_first (request_at ps i) (walk ps n (next_at ps i))
 
-abbrev pub requests_in : List Place → BlockList → List Request
+abbrev pub requests_in : List Slot → BlockList → List Request
 requests_in ps l = walk ps 32 (first_of l.ends)
 
 -- all requests that wait, list by list
-abbrev pub all_of : List Place → List BlockList → List Request
+abbrev pub all_of : List Slot → List BlockList → List Request
 all_of ps [] = []
 all_of ps (l ∷ ls) = requests_in ps l ++ all_of ps ls
 
 -- the list from place i to place l has the requests q, qs
-abbrev pub Path : List Place → (i l : ℕ) → Request → List Request → Type 0
+abbrev pub Path : List Slot → (i l : ℕ) → Request → List Request → Type 0
 Path ps i l q [] = (request_at ps i ≡ Some q) × (i ≡ l) × (next_at ps i ≡ None)
 Path ps i l q (r ∷ qs) =
     (request_at ps i ≡ Some q) × (j : ℕ) × (next_at ps i ≡ Some j) × Path ps j l r qs
 
-abbrev pub Runs : List Place → Option Ends → List Request → Type 0
+abbrev pub Runs : List Slot → Option ListEnds → List Request → Type 0
 Runs ps ends [] = ends ≡ None
-Runs ps ends (q ∷ qs) = (e : Ends) × (ends ≡ Some e) × Path ps e.first e.last q qs
+Runs ps ends (q ∷ qs) = (e : ListEnds) × (ends ≡ Some e) × Path ps e.first e.last q qs
 
 -- the list of empty places that begins there has n of them
-abbrev pub AreEmpty : List Place → Option ℕ → ℕ → Type 0
+abbrev pub AreEmpty : List Slot → Option ℕ → ℕ → Type 0
 AreEmpty ps at zero = at ≡ None
 AreEmpty ps at (suc n) = (i : ℕ) × (at ≡ Some i) × (i < length ps) × (request_at ps i ≡ None)
     × AreEmpty ps (next_at ps i) n
@@ -76,7 +76,7 @@ abbrev pub IsOf : ℕ → Request → Type 0
 IsOf b q = (q.block ≡ b) × (q.from < 16)
 
 -- the list of block b has these requests
-pub record Stands (ps : List Place) (b : ℕ) (l : BlockList) (qs : List Request) : Type 0 where
+pub record Stands (ps : List Slot) (b : ℕ) (l : BlockList) (qs : List Request) : Type 0 where
   pub runs : Runs ps l.ends qs
   pub own : Each (IsOf b) qs
   pub once : AreOnce qs
@@ -84,7 +84,7 @@ pub record Stands (ps : List Place) (b : ℕ) (l : BlockList) (qs : List Request
   pub asked : (r : ℕ) → members l.asked r ≡ waits qs r
 
 -- each block's list has its requests, and the others of the 32 places are empty; n requests wait
-pub record IsKept (ps : List Place) (ls : List BlockList) (free : Option ℕ) (n : ℕ) : Type 0 where
+pub record IsKept (ps : List Slot) (ls : List BlockList) (free : Option ℕ) (n : ℕ) : Type 0 where
   pub places : length ps ≡ 32
   pub lists : (b : ℕ) → b < length ls → Stands ps b (list_at ls b) (requests_in ps (list_at ls b))
   pub empty : AreEmpty ps free (32 - n)

@@ -1,15 +1,15 @@
 -- Helps the code alone: the entry, the requests that wait and the posts after a row or none.
 use Rattle.std.specs.Prelude.{◌≡◌, ◌≢◌, ℕ, Bool, List, [], length, Option, None, Some}
 use Rattle.buf_pool.specs.Pool.{Buffer}
-use Rattle.home_directory.specs.declared.messages.Need.{Need}
-use Rattle.home_directory.specs.declared.directory.Entry as stored
+use Rattle.dsm_messages.specs.declared.messages.Need.{Need}
+use Rattle.home_directory.specs.declared.directory.DirectoryEntry as stored
 use Rattle.home_directory.specs.declared.directory.Request.{Request}
 use Rattle.home_directory.specs.Home.{Home, others}
 use Rattle.home_directory.specs.Table.{HomeRow, Start, start_row, start_or, next_or, ask_row, done_row}
 use Rattle.home_directory.specs.Effects.{entry_of, requests_for}
 
 -- what the rows of block b see of its stored entry and of the stored requests
-abbrev pub home_of : stored.Entry → List Request → ℕ → Home
+abbrev pub home_of : stored.DirectoryEntry → List Request → ℕ → Home
 home_of e stored b = record {
   entry = entry_of e;
   waiting = requests_for b stored;
@@ -28,15 +28,15 @@ row_or h None = record { home = h; sends = [] }
 row_or h (Some row) = row
 
 -- the sharers of an entry but one
-abbrev pub sharers_but : stored.Entry → ℕ → ℕ → Bool
+abbrev pub sharers_but : stored.DirectoryEntry → ℕ → ℕ → Bool
 sharers_but e but = others (entry_of e).sharers but
 
 -- the start of the first request that waits for block b
-abbrev pub next_of : ℕ → stored.Entry → ℕ → List Request → Start
+abbrev pub next_of : ℕ → stored.DirectoryEntry → ℕ → List Request → Start
 next_of n e b stored = next_or n (entry_of e) b (requests_for b stored)
 
 -- the start of a request, or none
-abbrev pub start_of : ℕ → stored.Entry → (b r : ℕ) → Need → Buffer → Start
+abbrev pub start_of : ℕ → stored.DirectoryEntry → (b r : ℕ) → Need → Buffer → Start
 start_of n e b r need buf = start_or (entry_of e) (start_row n (entry_of e) b r need buf)
 
 abbrev pub after_ask : ℕ → Home → (b r : ℕ) → Need → Buffer → HomeRow

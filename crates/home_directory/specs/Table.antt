@@ -8,34 +8,34 @@ use Rattle.state_table.specs.declared.State.{State}
 use Rattle.state_table.specs.declared.State.TheVariants.{Exclusive, Shared, Invalid, Pending}
 use Rattle.state_table.specs.StateByte.{can_read, can_write}
 use Rattle.flag_memory.specs.Flag.{flags}
-use Rattle.home_directory.specs.declared.messages.Need.{Need}
-use Rattle.home_directory.specs.declared.messages.Need.TheVariants.{Read as reading, Write as writing}
-use Rattle.home_directory.specs.declared.messages.Message.{Message}
-use Rattle.home_directory.specs.declared.messages.Message.TheVariants.{Read, Write, FwdRead, FwdWrite, Inval, Data, Grant, Ack, Done, Bye}
-use Rattle.home_directory.specs.declared.messages.Post.{Post}
+use Rattle.dsm_messages.specs.declared.messages.Need.{Need}
+use Rattle.dsm_messages.specs.declared.messages.Need.TheVariants.{Read as reading, Write as writing}
+use Rattle.dsm_messages.specs.declared.messages.Message.{Message}
+use Rattle.dsm_messages.specs.declared.messages.Message.TheVariants.{Read, Write, FwdRead, FwdWrite, Inval, Data, Grant, Ack, Done, Bye}
+use Rattle.dsm_messages.specs.declared.messages.Post.{Post}
 use Rattle.home_directory.specs.declared.directory.Busy.{Busy}
 use Rattle.home_directory.specs.declared.directory.Request.{Request}
 use Rattle.home_directory.specs.declared.wait.Wait.{Wait}
 use Rattle.home_directory.specs.declared.wait.Answer.{Answer}
 use Rattle.home_directory.specs.declared.wait.Answer.TheVariants.{ByData, ByGrant}
-use Rattle.home_directory.specs.Home.{Entry, Home, others, count_of, busy_with, done_with, post, invals, waits, without_first, occupancy_then}
+use Rattle.home_directory.specs.Home.{DirectoryEntry, Home, others, count_of, busy_with, done_with, post, invals, waits, without_first, occupancy_then}
 
 -- 1. At the home of the block
 
 -- what the home begins for a request: the entry after it, and what is sent
 pub record Start : Type 0 where
-  pub entry : Entry
+  pub entry : DirectoryEntry
   pub sends : List Post
 
 -- Read of no sharer: FwdRead to the owner
-abbrev pub read_start : Entry → (b r : ℕ) → Buffer → Start
+abbrev pub read_start : DirectoryEntry → (b r : ℕ) → Buffer → Start
 read_start e b r buf = record {
   entry = busy_with e reading r;
   sends = post e.owner (FwdRead b r buf) ∷ [];
 }
 
 -- Write of a sharer: Inval to each other sharer, and Grant to r with their number
-abbrev pub grant_start : ℕ → Entry → (b r : ℕ) → Buffer → Start
+abbrev pub grant_start : ℕ → DirectoryEntry → (b r : ℕ) → Buffer → Start
 grant_start n e b r buf = record {
   entry = busy_with e writing r;
   sends = invals (others e.sharers r) b r n
@@ -44,7 +44,7 @@ grant_start n e b r buf = record {
 
 -- Write of no sharer: Inval to each sharer but the owner, and FwdWrite to the owner with their
 -- number
-abbrev pub write_start : ℕ → Entry → (b r : ℕ) → Buffer → Start
+abbrev pub write_start : ℕ → DirectoryEntry → (b r : ℕ) → Buffer → Start
 write_start n e b r buf = record {
   entry = busy_with e writing r;
   sends = invals (others e.sharers e.owner) b r n
@@ -52,7 +52,7 @@ write_start n e b r buf = record {
 }
 
 -- a request of r at a block that isn't busy
-abbrev pub start_row : ℕ → Entry → (b r : ℕ) → Need → Buffer → Option Start
+abbrev pub start_row : ℕ → DirectoryEntry → (b r : ℕ) → Need → Buffer → Option Start
 start_row n e b r reading buf = if e.sharers r then None else Some (read_start e b r buf)
 start_row n e b r writing buf =
     Some (if e.sharers r then grant_start n e b r buf else write_start n e b r buf)
@@ -97,17 +97,17 @@ abbrev pub ask_row : ℕ → Home → (b r : ℕ) → Need → Buffer → Option
 ask_row n h b r need buf =
     if nat_lt r n then ask_when n h b r need buf h.entry.busy else None
 
--- the first request that waits for the block is treated next
-abbrev pub next_start : ℕ → Entry → ℕ → List Request → Option Start
+-- the first request that waits for the block is handled next
+abbrev pub next_start : ℕ → DirectoryEntry → ℕ → List Request → Option Start
 next_start n e b [] = None
 next_start n e b (q ∷ qs) = if nat_lt q.from n then start_row n e b q.from q.need q.buf else None
 
 -- where it meets no row it is dropped
-abbrev pub start_or : Entry → Option Start → Start
+abbrev pub start_or : DirectoryEntry → Option Start → Start
 start_or e None = record { entry = e; sends = [] }
 start_or e (Some s) = s
 
-abbrev pub next_or : ℕ → Entry → ℕ → List Request → Start
+abbrev pub next_or : ℕ → DirectoryEntry → ℕ → List Request → Start
 next_or n e b waiting = start_or e (next_start n e b waiting)
 
 -- the home once the first request that waits for the block has left

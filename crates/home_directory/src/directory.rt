@@ -9,10 +9,10 @@ ghost use Rattle.home_directory.specs.Effects.{done_effect};
 ghost use Rattle.home_directory.specs.Rows.{home_of, AreAfter, start_of, next_of, sharers_but};
 ghost use Rattle.home_directory.specs.Rows.{after_ask, after_done};
 
-use crate::messages::{Message, Need, Post, Sends};
 use crate::request_lists::RequestLists;
 use block_layout::{Block, Layout};
 use buf_pool::Buf;
+use dsm_messages::{Message, Need, Post, Sends};
 use std::alloc::{AllocError, Global};
 use std::marker::Model;
 
@@ -27,7 +27,7 @@ pub struct Busy {
 
 /// The entry of a block, as it is stored.
 #[derive(Clone, Copy)]
-pub struct Entry {
+pub struct DirectoryEntry {
     owner: u8,
     sharers: [bool; 16],
     busy: Option<Busy>,
@@ -48,7 +48,7 @@ pub struct Request {
 pub struct Directory {
     layout: Layout,
     me: u8,
-    entries: Vec<Entry>,
+    entries: Vec<DirectoryEntry>,
     waiting: RequestLists,
 }
 
@@ -88,7 +88,7 @@ impl Directory {
         let _nodes = layout.nodes();
         let mut sharers = [false; 16];
         sharers[me as usize] = true;
-        let first = Entry {
+        let first = DirectoryEntry {
             owner: me,
             sharers,
             busy: None,
@@ -158,7 +158,7 @@ impl Directory {
 
 /// Read or Write from a node, at the entry of the block.
 fn ask_at(
-    entry: &mut Entry,
+    entry: &mut DirectoryEntry,
     waiting: &mut RequestLists,
     nodes: u8,
     block: Block,
@@ -198,7 +198,7 @@ fn ask_at(
 
 /// Done from a node, at the entry of the block.
 fn done_at(
-    entry: &mut Entry,
+    entry: &mut DirectoryEntry,
     waiting: &mut RequestLists,
     nodes: u8,
     block: Block,
@@ -228,7 +228,14 @@ fn done_at(
 }
 
 /// Begins a request at a block that isn't busy, where it meets a row.
-fn start(entry: &mut Entry, nodes: u8, block: Block, from: u8, need: Need, buf: Buf) -> Sends
+fn start(
+    entry: &mut DirectoryEntry,
+    nodes: u8,
+    block: Block,
+    from: u8,
+    need: Need,
+    buf: Buf,
+) -> Sends
     requires few { nodes ≤ 16 }
     requires node { from < nodes }
     ensures entry { entry_of entry.new ≡ (start_of nodes entry.old block from need buf).entry }
@@ -278,7 +285,7 @@ fn start(entry: &mut Entry, nodes: u8, block: Block, from: u8, need: Need, buf: 
 /// Sends an Inval to each sharer but one, ascending, and gives their number.
 fn invalidate(
     sends: &mut Sends,
-    entry: Entry,
+    entry: DirectoryEntry,
     but: u8,
     nodes: u8,
     block: Block,
@@ -304,7 +311,12 @@ fn invalidate(
 }
 
 /// Begins the first request that waits for a block.
-fn start_next(entry: &mut Entry, waiting: &mut RequestLists, nodes: u8, block: Block) -> Sends
+fn start_next(
+    entry: &mut DirectoryEntry,
+    waiting: &mut RequestLists,
+    nodes: u8,
+    block: Block,
+) -> Sends
     requires few { nodes ≤ 16 }
     requires block { block < waiting.old.blocks }
     ensures entry { let next = next_of nodes entry.old block waiting.old.requests in
@@ -327,7 +339,7 @@ fn start_next(entry: &mut Entry, waiting: &mut RequestLists, nodes: u8, block: B
 
 /// The entry once a request is done.
 #[tactic(auto, using(crate::proofs::Members::members_set, crate::proofs::Members::members_alone))]
-fn end_request(entry: &mut Entry, need: Need, node: u8)
+fn end_request(entry: &mut DirectoryEntry, need: Need, node: u8)
     requires { node < 16 }
     ensures { entry_of entry.new ≡ done_with (entry_of entry.old) need node }
 {

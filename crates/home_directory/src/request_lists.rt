@@ -16,14 +16,14 @@ use std::marker::Model;
 
 /// A place for a request: it holds one, or is empty. It has the number of the next in its list.
 #[derive(Drop)]
-pub struct Place {
+pub struct Slot {
     request: Option<Request>,
     next: Option<u8>,
 }
 
 /// The first and the last place of a list.
 #[derive(Clone, Copy)]
-pub struct Ends {
+pub struct ListEnds {
     first: u8,
     last: u8,
 }
@@ -31,7 +31,7 @@ pub struct Ends {
 /// The list of a block's requests, and which nodes have one in it.
 #[derive(Clone, Copy)]
 pub struct BlockList {
-    ends: Option<Ends>,
+    ends: Option<ListEnds>,
     asked: [bool; 16],
 }
 
@@ -39,7 +39,7 @@ pub struct BlockList {
 /// requests, where those for one block stand in order of arrival.
 #[derive(Drop)]
 pub struct RequestLists {
-    places: Vec<Place>,
+    places: Vec<Slot>,
     lists: Vec<BlockList>,
     empty: Option<u8>,
     len: u8,
@@ -67,7 +67,7 @@ impl RequestLists {
         let mut places = Vec::with_capacity(alloc, 32)?;
         let mut empty = None;
         for place in 0u8..32 {
-            places.push_reserved(Place {
+            places.push_reserved(Slot {
                 request: None,
                 next: empty,
             });
@@ -127,7 +127,7 @@ impl RequestLists {
         };
         let place = &mut self.places[number as usize];
         self.empty = place.next;
-        *place = Place {
+        *place = Slot {
             request: Some(request),
             next: None,
         };
@@ -140,7 +140,7 @@ impl RequestLists {
                 ends.first
             }
         };
-        list.ends = Some(Ends {
+        list.ends = Some(ListEnds {
             first,
             last: number,
         });
@@ -168,7 +168,7 @@ impl RequestLists {
         self.empty = Some(ends.first);
         list.asked[request.from as usize] = false;
         list.ends = match next {
-            Some(first) => Some(Ends {
+            Some(first) => Some(ListEnds {
                 first,
                 last: ends.last,
             }),

@@ -1,7 +1,7 @@
 //! What a node keeps of a block that it waits for.
 
-use crate::messages::Need;
 use buf_pool::Buf;
+use dsm_messages::Need;
 
 /// The message that answers a wait.
 #[derive(Drop)]

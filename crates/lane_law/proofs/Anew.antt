@@ -23,17 +23,17 @@ use Rattle.runtime_words.specs.declared.RtWord.TheVariants.{Native, MissR, MissW
 use Rattle.templates.specs.Sequences.{ItemWord, Runs, GoesTo}
 use Rattle.node_model.specs.jump_map.Image.{item_word, is_near, number_of_word, distance}
 use Rattle.node_model.specs.Node as node
-use Rattle.home_directory.specs.declared.messages.Need.{Need}
-use Rattle.node_model.specs.Node.{Work, Lane, Local, Want, Outcome, Region, Memory, StateOf, Elsewhere, region_of, load, store, store_if, make_call, native, is_mapped_state, is_readable_state, is_fixed_state, is_writable_state, one_refuses, unmet, batch_by, batch, need_of_run, execute}
+use Rattle.home_directory.specs.dsm_messages.declared.messages.Need.{Need}
+use Rattle.node_model.specs.Node.{Work, ProcessorState, NodeMemory, Want, WordOutcome, Region, Memory, StateOf, Elsewhere, region_of, load, store, store_if, make_call, native, is_mapped_state, is_readable_state, is_fixed_state, is_writable_state, one_refuses, unmet, batch_by, batch, need_of_run, execute}
 use Rattle.rewriting_law.specs.CoreRun.{is_wait}
 use Rattle.rewriting_law.proofs.templates.Does.{looks_anew}
 
-either_goes : (b : Bool) (x y : Outcome) → is_wait x.move ≡ false → is_wait y.move ≡ false
+either_goes : (b : Bool) (x y : WordOutcome) → is_wait x.move ≡ false → is_wait y.move ≡ false
     → is_wait (cond b x y).move ≡ false
 either_goes true x y h g = h
 either_goes false x y h g = g
 
-module _ (work : Work) (l : Lane) (n : Local) where
+module _ (work : Work) (l : ProcessorState) (n : NodeMemory) where
   load_goes : (k : LoadKind) (r a : ℕ) (w : Region)
       → is_wait (load work.program l n k r a w).move ≡ false
   load_goes k r a Memory = refl
@@ -109,14 +109,14 @@ module _ (work : Work) (l : Lane) (n : Local) where
         let bad : false ≡ true = sym goes ∙ h in cc
 
   -- a word that waits leaves its processor as it was
-  abbrev Same : Outcome → Type 0
+  abbrev Same : WordOutcome → Type 0
   Same r = is_wait r.move ≡ true → r.lane ≡ l
 
-  either_same : (b : Bool) (x y : Outcome) → Same x → Same y → Same (cond b x y)
+  either_same : (b : Bool) (x y : WordOutcome) → Same x → Same y → Same (cond b x y)
   either_same true x y h g = h
   either_same false x y h g = g
 
-  never : (r : Outcome) → is_wait r.move ≡ false → Same r
+  never : (r : WordOutcome) → is_wait r.move ≡ false → Same r
   never r h e = let bad : false ≡ true = sym h ∙ e in cc
 
   call_same : (c : CallStep) → Same (make_call work.program l n c)

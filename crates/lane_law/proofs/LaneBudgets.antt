@@ -1,13 +1,13 @@
 -- No lane executes more words than its budget.
 use Rattle.std.proofs.Common.{◌≡◌, ℕ, ◌+◌, ◌<◌, ◌≤◌, cond, eqb, Bool, true, false, List, [], ◌∷◌, None, refl, sym, ap, ◌∙◌, subst, arith}
 use Rattle.std.specs.Prelude.{◌&&◌, not}
-use Rattle.home_directory.specs.declared.messages.Wire.{Wire}
+use Rattle.home_directory.specs.dsm_messages.declared.messages.Wire.{Wire}
 use Rattle.node_model.specs.Node.{Node, Phase, Running, Resumed, Waiting, Ended, can_execute, word_outcome}
 use Rattle.node_model.specs.Turns.{after_word}
 use Rattle.node_model.specs.Core.{may_execute}
 use Rattle.rewriting_law.proofs.progress.Budgets.{stop_less, move_less}
 use Rattle.lane_model.specs.Nodes.{LaneWork, LanePart, LaneNode, as_node, node_of, lane_of}
-use Rattle.lane_model.specs.Turns.{LaneTurn, go_on, resumed, still, part_after, wants_at, have_ended, word_before, word_turn, treated_for, after_message, take_turn}
+use Rattle.lane_model.specs.Turns.{LaneTurn, resume_part, resumed, still, part_after, wants_at, have_ended, word_before, word_turn, handled_for, after_message, take_turn}
 use Rattle.lane_model.specs.Core.{LaneCore, LaneEvent, Exec, Take, IsLaneRun, standing_in, take_first, event_step, after}
 use Rattle.lane_law.proofs.LaneWords.{asks_same}
 use Rattle.lane_law.proofs.LaneClosing.{ending_node}
@@ -33,18 +33,18 @@ module _ (w : LaneWork) where
   -- after a message
   pub take_lane : (x : LaneNode) (j : ℕ) (wire : Wire) (k : ℕ)
       → (take_turn w x j wire).node.lanes k
-      ≡ resumed w.work (treated_for w x j wire 0).node (x.lanes k)
+      ≡ resumed w.work (handled_for w x j wire 0).node (x.lanes k)
   take_lane x j wire k =
       let took : LaneTurn = record {
         node = after_message w x j wire;
-        sends = (treated_for w x j wire 0).sends;
+        sends = (handled_for w x j wire 0).sends;
         printed = None;
       } in
       ap (λ (n : LaneNode). n.lanes k)
       (ending_node w.work.layout.nodes took (have_ended w took.node && not (have_ended w x)))
 
   going_executed : (n : Node) (y : LanePart) (p : Phase) (bs : List ℕ)
-      → (go_on w.work n.local y p bs).executed ≡ y.executed
+      → (resume_part w.work n.local y p bs).executed ≡ y.executed
   going_executed n y Running bs = refl
   going_executed n y Resumed bs = refl
   going_executed n y (Ended end) bs = refl
@@ -79,7 +79,7 @@ module _ (w : LaneWork) where
       }
 
   going_within : (n : Node) (y : LanePart) (p : Phase) (bs : List ℕ) → y.phase ≡ p → Within y
-      → Within (go_on w.work n.local y p bs)
+      → Within (resume_part w.work n.local y p bs)
   going_within n y Running bs is h = record { most = h.most; less = h.less }
   going_within n y Resumed bs is h = record { most = h.most; less = h.less }
   going_within n y (Ended end) bs is h = record { most = h.most; less = h.less }
@@ -116,8 +116,8 @@ module _ (w : LaneWork) where
       let x = c.nodes i in
       changed_within c i (take_turn w x j wire).node h (λ k.
       subst Within (sym (take_lane x j wire k))
-      (going_within (treated_for w x j wire 0).node (x.lanes k) (x.lanes k).phase
-      (still (treated_for w x j wire 0).node.wait (x.lanes k).awaits) refl (h i k)))
+      (going_within (handled_for w x j wire 0).node (x.lanes k) (x.lanes k).phase
+      (still (handled_for w x j wire 0).node.wait (x.lanes k).awaits) refl (h i k)))
 
   pub within : (es : List LaneEvent) (c : LaneCore) → AllWithin c → IsLaneRun w c es
       → AllWithin (after w c es)

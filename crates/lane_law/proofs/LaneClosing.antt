@@ -5,8 +5,8 @@ use Rattle.std.proofs.Common.{◌≡◌, ℕ, ◌<◌, ◌⊎◌, cond, eqb, Boo
 use Rattle.std.specs.Prelude.{◌||◌, ◌&&◌, not, is_some}
 use Rattle.block_layout.specs.Layout.{Shape, block_of}
 use Rattle.block_layout.specs.Update.{changed}
-use Rattle.home_directory.specs.declared.messages.Need.{Need}
-use Rattle.home_directory.specs.declared.messages.Wire.{Wire}
+use Rattle.home_directory.specs.dsm_messages.declared.messages.Need.{Need}
+use Rattle.home_directory.specs.dsm_messages.declared.messages.Wire.{Wire}
 use Rattle.node_model.specs.miss_handlers.Rows.{Row, is_bye, row_of, block_in}
 use Rattle.rv32_program.specs.declared.End.TheVariants.{Stopped}
 use Rattle.rv32_program.specs.Program.{line_of}
@@ -26,10 +26,10 @@ use Rattle.rewriting_law.proofs.protocol_side.DirectorySide.{Layout, not_waiting
 use Rattle.rewriting_law.proofs.runs.Alone.{bye_noted}
 use Rattle.rewriting_law.proofs.runs.TurnTies.{rest_at}
 use Rattle.rewriting_law.proofs.progress.Calm.{is_calm, Neither, IsCalm, sent_neither, sends_calm, plainly_calm, calm_popped, calm_then}
-use Rattle.rewriting_law.proofs.progress.Closing.{wants_plain, wants_byes, row_byes, row_sends, treated_by_row}
+use Rattle.rewriting_law.proofs.progress.Closing.{wants_plain, wants_byes, row_byes, row_sends, handled_by_row}
 use Rattle.rewriting_law.proofs.progress.Farewells.{has_bye, left_or_right, from_left, from_right, no_bye_sent, bye_after, bye_to, Parts, Farewells, farewells_then}
 use Rattle.lane_model.specs.Nodes.{LaneWork, LanePart, LaneNode, as_node, processors, node_of, lane_of}
-use Rattle.lane_model.specs.Turns.{Asked, LaneTurn, ask, ask_all, wants_at, has_ended, have_ended, with_byes, ending, word_before, word_turn, journaled, treated_for, after_message, take_turn, go_on, resumed, still}
+use Rattle.lane_model.specs.Turns.{Asked, LaneTurn, ask, ask_all, wants_at, has_ended, have_ended, with_byes, ending, word_before, word_turn, journaled, handled_for, after_message, take_turn, resume_part, resumed, still}
 use Rattle.lane_model.specs.Core.{LaneCore, LaneEvent, Exec, Take, May, opening_core, with_turn, with_list, take_first, event_step}
 use Rattle.lane_law.proofs.LaneCode.{LaneCode}
 use Rattle.lane_law.proofs.LaneNumbers.{lane_low}
@@ -232,7 +232,7 @@ module _ (w : LaneWork) where
   lane_stays n y (Waiting resume) is e = let bad : false ≡ true = e in cc
   lane_stays n y (Ended end) is e =
       ap (λ (z : LanePart). is_ended z.phase)
-      (ap (λ p. go_on w.work n.local y p (still n.wait y.awaits)) is) ∙ ap is_ended is
+      (ap (λ p. resume_part w.work n.local y p (still n.wait y.awaits)) is) ∙ ap is_ended is
 
   module _ (plan : List PlanEntry) (lay : Layout w.work) (some : 0 < w.lanes)
       (code : LaneCode w.work.layout w.work (processors w) plan) (c : LaneCore) (s : State)
@@ -359,7 +359,7 @@ module _ (w : LaneWork) where
       n1 = journaled w x 0 j wire
 
       abbrev t1 : Turn
-      t1 = treated_for w x j wire 0
+      t1 = handled_for w x j wire 0
 
       abbrev t0 : LaneTurn
       t0 = record { node = after_message w x j wire; sends = t1.sends; printed = None }
@@ -424,7 +424,7 @@ module _ (w : LaneWork) where
           }
       notes false e =
           let row = row_there e in
-          let is = treated_by_row w.work.layout n1 j wire.message e in
+          let is = handled_by_row w.work.layout n1 j wire.message e in
           let byes : t1.node.byes ≡ x.shared.byes = ap (λ (y : Turn). y.node.byes) is
           ∙ row_byes w.work.layout n1 row_now in
           record {
@@ -546,9 +546,9 @@ module _ (w : LaneWork) where
 
       late_sends : have_ended w x ≡ true → (y : ℕ) → Neither (wires_to t.node.shared.stamp y t.sends)
       late_sends e y =
-          let quiet : t ≡ t0 = ap (with_byes nodes t0)
+          let silent : t ≡ t0 = ap (with_byes nodes t0)
           (ap (λ z. have_ended w t0.node && not z) e ∙ never (have_ended w t0.node)) in
-          subst (λ (z : LaneTurn). Neither (wires_to z.node.shared.stamp y z.sends)) (sym quiet)
+          subst (λ (z : LaneTurn). Neither (wires_to z.node.shared.stamp y z.sends)) (sym silent)
           (sent_neither t0.node.shared.stamp y t1.sends note.plain (note.homes e))
 
       pub message_closing : Closing (take_first w c i j (wire ∷ ws))

@@ -12,7 +12,7 @@ use Rattle.templates.specs.declared.plans.PlanEntry.{PlanEntry}
 use Rattle.templates.specs.Commits.{commit_at}
 use Rattle.node_model.specs.jump_map.Image.{IsRewriting, head_of}
 use Rattle.node_model.specs.jump_map.Maps.{old_of, fetch}
-use Rattle.node_model.specs.Node.{Work, Lane, Local, Move, Next, Again, To, Enters, Waits, Leaves, Outcome, exit_by, execute, execute_at, next_outcome, lane_after, first_lane, takes_messages}
+use Rattle.node_model.specs.Node.{Work, ProcessorState, NodeMemory, Move, Next, Again, To, Enters, Waits, Leaves, WordOutcome, exit_by, execute, execute_at, next_outcome, lane_after, first_lane, takes_messages}
 use Rattle.rewriting_law.specs.CoreRun.{is_wait, commits_by}
 use Rattle.rewriting_law.proofs.templates.States.{Suits, Later}
 use Rattle.rewriting_law.proofs.templates.Does.{does_later}
@@ -34,39 +34,39 @@ module _ (layout : Shape) (work : Work) (processors : ℕ) (plan : List PlanEntr
   original = record { program = work.program; layout = layout; nodes = processors }
 
   -- a processor's lane at the start
-  abbrev pub lane_first : ℕ → Lane
+  abbrev pub lane_first : ℕ → ProcessorState
   lane_first p =
       record (first_lane work p) { registers = registers_of (first_values p processors) }
 
   pub record LaneCode : Type 1 where
     -- the node stands, by its lane and by what its words see, where its processor does
-    pub Stands : Processor → Lane → Local → Type 0
+    pub Stands : Processor → ProcessorState → NodeMemory → Type 0
     -- the next word
-    pub word_follows : (q : Processor) (l : Lane) (n : Local) → Suits work.program n
+    pub word_follows : (q : Processor) (l : ProcessorState) (n : NodeMemory) → Suits work.program n
         → q.exit ≡ None → Stands q l n
         → Follows layout work plan Stands q n (next_outcome work.program work.image l n)
         (commit_at work.program plan (old_of work.image l.at))
         (next_outcome work.program work.image l n).move
     -- whatever the other processors of the node, and messages that take nothing away, make of what
     -- it sees, it stands there still
-    pub stays : (q : Processor) (l : Lane) (n m : Local) → Stands q l n → Later n m → Stands q l m
+    pub stays : (q : Processor) (l : ProcessorState) (n m : NodeMemory) → Stands q l n → Later n m → Stands q l m
     -- where the next word waits, it stands there whatever becomes of the node
-    pub anew : (q : Processor) (l : Lane) (n m : Local) → Stands q l n
+    pub anew : (q : Processor) (l : ProcessorState) (n m : NodeMemory) → Stands q l n
         → is_wait (next_outcome work.program work.image l n).move ≡ true
         → Stands q (next_outcome work.program work.image l n).lane m
     -- where the next word is one before which messages are taken, it stands there whatever they
     -- bring
-    pub messages_keep : (q : Processor) (l : Lane) (n : Local) → Stands q l n
+    pub messages_keep : (q : Processor) (l : ProcessorState) (n : NodeMemory) → Stands q l n
         → takes_messages (option_and_then (λ w. w.what) (fetch work.image l.at)) ≡ true
-        → (m : Local) → Suits work.program m → Stands q l m
+        → (m : NodeMemory) → Suits work.program m → Stands q l m
     -- and so it does at the start
-    pub starts : (p : ℕ) (n : Local) → Suits work.program n
+    pub starts : (p : ℕ) (n : NodeMemory) → Suits work.program n
         → Stands (first_processor original p) (lane_first p) n
 
   -- what follows where a processor stands in one way follows where it stands in a weaker one
-  module _ (work_accepted : IsAccepted work.program) (Stands Weaker : Processor → Lane → Local → Type 0)
-      (weaken : (q : Processor) (l : Lane) (n : Local) → Stands q l n → Weaker q l n) where
-    goes_weaker : (q : Processor) (n : Local) (r : Outcome) (b : Bool)
+  module _ (work_accepted : IsAccepted work.program) (Stands Weaker : Processor → ProcessorState → NodeMemory → Type 0)
+      (weaken : (q : Processor) (l : ProcessorState) (n : NodeMemory) → Stands q l n → Weaker q l n) where
+    goes_weaker : (q : Processor) (n : NodeMemory) (r : WordOutcome) (b : Bool)
         → GoesOn layout work plan Stands q n r b → GoesOn layout work plan Weaker q n r b
     goes_weaker q n r true h = (
       h.0,
@@ -76,7 +76,7 @@ module _ (layout : Shape) (work : Work) (processors : ℕ) (plan : List PlanEntr
     goes_weaker q n r false h =
         (h.0, h.1, weaken q (lane_after work.image r.lane r.move) n h.2, h.3)
 
-    pub follows_weaker : (q : Processor) (n : Local) (r : Outcome) (kind : CommitKind) (move : Move)
+    pub follows_weaker : (q : Processor) (n : NodeMemory) (r : WordOutcome) (kind : CommitKind) (move : Move)
         → Follows layout work plan Stands q n r kind move
         → Follows layout work plan Weaker q n r kind move
     follows_weaker q n r kind (Leaves e) h = h
@@ -86,7 +86,7 @@ module _ (layout : Shape) (work : Work) (processors : ℕ) (plan : List PlanEntr
           record {
             printed = w.printed;
             local = w.local;
-            quiet = w.quiet;
+            silent = w.silent;
             wanted = w.wanted;
             few = w.few;
             resumed = λ m suited x among granted.
@@ -101,21 +101,21 @@ module _ (layout : Shape) (work : Work) (processors : ℕ) (plan : List PlanEntr
 module _ (layout : Shape) (work : Work) (processors : ℕ) (plan : List PlanEntry)
     (accepted : IsAccepted work.program) (rewriting : IsRewriting work.program plan work.image)
     (laid : AreLaidOut layout work) where
-  abbrev PacedAt : Pace → Processor → Lane → Local → Type 0
+  abbrev PacedAt : Pace → Processor → ProcessorState → NodeMemory → Type 0
   PacedAt p q l n = Paced work.program plan work.image accepted rewriting p q l n
 
-  abbrev StandsThere : Processor → Lane → Local → Type 0
+  abbrev StandsThere : Processor → ProcessorState → NodeMemory → Type 0
   StandsThere q l n = Stands work.program plan work.image accepted rewriting q l n
 
   -- at a word of a sequence, or at word 0
-  abbrev StandsOrOff : Processor → Lane → Local → Type 0
+  abbrev StandsOrOff : Processor → ProcessorState → NodeMemory → Type 0
   StandsOrOff q l n = StandsThere q l n ⊎ Off work.program plan work.image accepted rewriting q l
 
   -- a pace by which nothing is owed
   abbrev at_ease : Pace
   at_ease = record { words = 0; commits = 1; waited = false; since = 0; last = 0; here = 0 }
 
-  paced_at_ease : (q : Processor) (l : Lane) (n : Local) → StandsOrOff q l n
+  paced_at_ease : (q : Processor) (l : ProcessorState) (n : NodeMemory) → StandsOrOff q l n
       → PacedAt at_ease q l n
   paced_at_ease q l n (inl st) = inl (record {
     stands = st;
@@ -129,12 +129,12 @@ module _ (layout : Shape) (work : Work) (processors : ℕ) (plan : List PlanEntr
     few = omega arith;
   })
 
-  without_pace : (p : Pace) (q : Processor) (l : Lane) (n : Local) → PacedAt p q l n
+  without_pace : (p : Pace) (q : Processor) (l : ProcessorState) (n : NodeMemory) → PacedAt p q l n
       → StandsOrOff q l n
   without_pace p q l n (inl inn) = inl inn.stands
   without_pace p q l n (inr out) = inr out.off
 
-  word_follows : (q : Processor) (l : Lane) (n : Local) → Suits work.program n
+  word_follows : (q : Processor) (l : ProcessorState) (n : NodeMemory) → Suits work.program n
       → StandsOrOff q l n
       → Follows layout work plan StandsOrOff q n (next_outcome work.program work.image l n)
       (commit_at work.program plan (old_of work.image l.at))
@@ -147,8 +147,8 @@ module _ (layout : Shape) (work : Work) (processors : ℕ) (plan : List PlanEntr
       (paced.word_follows layout work plan accepted rewriting laid q l n suits at_ease
       (paced_at_ease q l n st))
 
-  module _ (q : Processor) (l : Lane) (n : Local) where
-    stays : StandsOrOff q l n → (m : Local) → Later n m → StandsOrOff q l m
+  module _ (q : Processor) (l : ProcessorState) (n : NodeMemory) where
+    stays : StandsOrOff q l n → (m : NodeMemory) → Later n m → StandsOrOff q l m
     stays (inl st) m later = inl (record {
       place = st.place;
       entry = st.entry;
@@ -168,14 +168,14 @@ module _ (layout : Shape) (work : Work) (processors : ℕ) (plan : List PlanEntr
 
     messages_keep : StandsOrOff q l n
         → takes_messages (option_and_then (λ w. w.what) (fetch work.image l.at)) ≡ true
-        → (m : Local) → Suits work.program m → StandsOrOff q l m
+        → (m : NodeMemory) → Suits work.program m → StandsOrOff q l m
     messages_keep st takes m suited =
         without_pace at_ease q l m
         (paced_keep work plan accepted rewriting q l n at_ease (paced_at_ease q l n st)
         takes refl m suited)
 
     anew : StandsOrOff q l n
-        → is_wait (next_outcome work.program work.image l n).move ≡ true → (m : Local)
+        → is_wait (next_outcome work.program work.image l n).move ≡ true → (m : NodeMemory)
         → StandsOrOff q (next_outcome work.program work.image l n).lane m
     anew (inl st) waits m =
         let does = executes_at work plan accepted rewriting q l n st n in
@@ -183,11 +183,11 @@ module _ (layout : Shape) (work : Work) (processors : ℕ) (plan : List PlanEntr
         let here = place_at work plan accepted rewriting q l n st in
         let at = address work plan accepted rewriting q l n st in
         let waits_there : is_wait (execute work.program here at word l n).move ≡ true =
-        ap (λ (r : Outcome). is_wait r.move) does ∙ waits in
+        ap (λ (r : WordOutcome). is_wait r.move) does ∙ waits in
         let looks = item_anew work l n here at (head_of work.program plan) st.item.what
         waits_there in
         subst (λ k. StandsOrOff q k m)
-        (sym (ap (λ (r : Outcome). r.lane) (sym does)
+        (sym (ap (λ (r : WordOutcome). r.lane) (sym does)
         ∙ waits_same work l n here at word waits_there))
         (inl (record {
           place = st.place;
@@ -207,10 +207,10 @@ module _ (layout : Shape) (work : Work) (processors : ℕ) (plan : List PlanEntr
         ∙ ap (λ o. execute_at work.program o l n)
         (fetch_off work.program plan work.image rewriting) in
         let bad : false ≡ true =
-        sym (ap (λ (r : Outcome). is_wait r.move) does) ∙ waits in cc
+        sym (ap (λ (r : WordOutcome). is_wait r.move) does) ∙ waits in cc
 
   -- at the start, with whatever states and copy the node has
-  starts : (p : ℕ) (n : Local)
+  starts : (p : ℕ) (n : NodeMemory)
       → StandsOrOff (first_processor (original layout work processors plan) p)
       (lane_first layout work processors plan p) n
   starts p n =

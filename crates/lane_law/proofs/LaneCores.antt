@@ -3,7 +3,7 @@
 use Rattle.std.proofs.Common.{◌≡◌, ℕ, ◌<◌, ◌⊎◌, cond, eqb, Bool, true, false, List, ◌∷◌, ◌++◌, Option, refl, sym, ap, ◌∙◌, subst, Some}
 use Rattle.block_layout.specs.Layout.{Shape}
 use Rattle.block_layout.specs.Update.{changed}
-use Rattle.home_directory.specs.declared.messages.Need.{Need}
+use Rattle.home_directory.specs.dsm_messages.declared.messages.Need.{Need}
 use Rattle.home_directory.specs.declared.wait.Wait.{Wait}
 use Rattle.rv32_program.specs.declared.End.{End}
 use Rattle.rv32_program.specs.declared.End.TheVariants.{Exited, Stopped}
@@ -11,12 +11,12 @@ use Rattle.rv32_step.specs.OneMemory.{Original, State}
 use Rattle.templates.specs.declared.plans.PlanEntry.{PlanEntry}
 use Rattle.dsm_protocol.specs.Holds.{wanted}
 use Rattle.node_model.specs.declared.NodeCounts.{NodeCounts}
-use Rattle.node_model.specs.Node.{Work, Lane, Local, Running, Resumed, Waiting, Ended}
+use Rattle.node_model.specs.Node.{Work, ProcessorState, NodeMemory, Running, Resumed, Waiting, Ended}
 use Rattle.node_model.specs.Turns.{Turn, byes_to}
 use Rattle.rewriting_law.proofs.templates.RegisterLemmas.{equal, apart}
 use Rattle.rewriting_law.proofs.one_memory.Sharing.{IsReadable, with_local, is_same}
 use Rattle.rewriting_law.proofs.one_memory.Messages.{AreLaidOut}
-use Rattle.rewriting_law.proofs.protocol_side.ProtocolSide.{Treated, Protocol, ProtocolSide}
+use Rattle.rewriting_law.proofs.protocol_side.ProtocolSide.{Handled, Protocol, ProtocolSide}
 use Rattle.rewriting_law.proofs.protocol_side.Spending.{Counts}
 use Rattle.rewriting_law.proofs.protocol_side.Directory.{Rest, directory}
 use Rattle.rewriting_law.proofs.protocol_side.DirectorySide.{Layout, Held, laid_out, directory_side}
@@ -37,7 +37,7 @@ module _ (w : LaneWork) (nodes : ℕ → LaneNode) where
   abbrev pub part_in : (p : ℕ) → LanePart
   part_in p = (nodes (node_of w p)).lanes (lane_of w p)
 
-  abbrev pub lanes_in : (p : ℕ) → Lane
+  abbrev pub lanes_in : (p : ℕ) → ProcessorState
   lanes_in p = (part_in p).lane
 
   abbrev pub reserved_in : (p : ℕ) → Option ℕ
@@ -47,7 +47,7 @@ module _ (w : LaneWork) (nodes : ℕ → LaneNode) where
   holder_in i b = processor_of w i ((nodes i).shared.holder b)
 
 -- a node's part, with whatever reservation
-abbrev pub locals_in : (ℕ → LaneNode) → ℕ → Local
+abbrev pub locals_in : (ℕ → LaneNode) → ℕ → NodeMemory
 locals_in nodes i = local_of (nodes i).shared 0
 
 module _ (w : LaneWork) (plan : List PlanEntry) (lay : Layout w.work) (some : 0 < w.lanes)
@@ -86,7 +86,7 @@ module _ (w : LaneWork) (plan : List PlanEntry) (lay : Layout w.work) (some : 0 
       × (x.again ≡ again)
   IsPart (HasEnded end) x = (x.phase ≡ Ended end) × HasSpent end x.executed
 
-  abbrev pub MatchesHere : (ℕ → Lane) → (ℕ → Doing) → (ℕ → Local) → (ℕ → Option ℕ) → Rest
+  abbrev pub MatchesHere : (ℕ → ProcessorState) → (ℕ → Doing) → (ℕ → NodeMemory) → (ℕ → Option ℕ) → Rest
       → (ℕ → ℕ → ℕ) → State → Type 0
   MatchesHere lanes doing locals reserved rest holder s =
       Matches layout work (processors w) (node_of w) at_node plan code protocol side laid lanes doing
@@ -102,7 +102,7 @@ module _ (w : LaneWork) (plan : List PlanEntry) (lay : Layout w.work) (some : 0 
         (rest_at counts (view c 0)) (holder_in w c.nodes) s
 
   -- the same, stored otherwise
-  module _ (lanes lanes' : ℕ → Lane) (doing : ℕ → Doing) (locals locals' : ℕ → Local)
+  module _ (lanes lanes' : ℕ → ProcessorState) (doing : ℕ → Doing) (locals locals' : ℕ → NodeMemory)
       (reserved reserved' : ℕ → Option ℕ) (old new : Rest) (holder holder' : ℕ → ℕ → ℕ) (s : State)
       (m : MatchesHere lanes doing locals reserved old holder s)
       (same_lanes : (p : ℕ) → p < processors w → lanes' p ≡ lanes p)
@@ -113,7 +113,7 @@ module _ (w : LaneWork) (plan : List PlanEntry) (lay : Layout w.work) (some : 0 
       (waits : (x b : ℕ) → wanted (new.wait x b) ≡ wanted (old.wait x b))
       (holders : (x b : ℕ) (need : Need) → x < layout.nodes → wanted (old.wait x b) ≡ Some need
       → holder' x b ≡ holder x b) where
-    abbrev sees : (ℕ → Local) → (ℕ → Option ℕ) → ℕ → Local
+    abbrev sees : (ℕ → NodeMemory) → (ℕ → Option ℕ) → ℕ → NodeMemory
     sees ls rs p = seen layout work (processors w) (node_of w) at_node ls rs p
 
     same_seen : (p : ℕ) → p < processors w → sees locals' reserved' p ≡ sees locals reserved p
@@ -160,11 +160,11 @@ module _ (w : LaneWork) (plan : List PlanEntry) (lay : Layout w.work) (some : 0 
     turn_then = lane_turn c i k t lanes reserved holder counts printed
 
   -- what holds of nodes after a turn, whatever was sent in it
-  pub record LeavesNodes (nodes : ℕ → LaneNode) (u : Treated Rest) (before : ℕ → LaneNode) (i : ℕ)
+  pub record LeavesNodes (nodes : ℕ → LaneNode) (u : Handled Rest) (before : ℕ → LaneNode) (i : ℕ)
       (s : State) : Type 0 where
     pub doing : ℕ → Doing
-    pub lanes : ℕ → Lane
-    pub locals : ℕ → Local
+    pub lanes : ℕ → ProcessorState
+    pub locals : ℕ → NodeMemory
     pub reserved : ℕ → Option ℕ
     pub holder : ℕ → ℕ → ℕ
     pub matches : MatchesHere lanes doing locals reserved u.rest holder s
@@ -176,10 +176,10 @@ module _ (w : LaneWork) (plan : List PlanEntry) (lay : Layout w.work) (some : 0 
         → wanted (u.rest.wait x b) ≡ Some need → holder_in w nodes x b ≡ holder x b
     pub here : (x : ℕ) → locals x ≡ with_local (locals_in before) i u.local x
 
-  module _ (c : LaneCore) (i k : ℕ) (u : Treated Rest) (s : State) where
+  module _ (c : LaneCore) (i k : ℕ) (u : Handled Rest) (s : State) where
     -- the nodes' parts
     parts_after : (t : Turn) (lanes : ℕ → LanePart) (reserved : ℕ → Option ℕ) (holder : ℕ → ℕ)
-        (counts : NodeCounts) (printed : Option ℕ) (v : Treated Rest) → IsTurn (view c k) i t v
+        (counts : NodeCounts) (printed : Option ℕ) (v : Handled Rest) → IsTurn (view c k) i t v
         → v.local ≡ u.local → (x : ℕ)
         → (((locals_in (nodes_then c i k t lanes reserved holder counts printed) x).copy
         ≡ (with_local (locals_in c.nodes) i u.local x).copy)
@@ -193,18 +193,18 @@ module _ (w : LaneWork) (plan : List PlanEntry) (lay : Layout w.work) (some : 0 
         × ((local_of (cond z n (c.nodes x)).shared 0).state
         ≡ (cond z u.local (locals_in c.nodes x)).state)) [
           | true ↦ (
-            ap (λ (y : Local). y.copy) (h.local ∙ same),
-            ap (λ (y : Local). y.state) (h.local ∙ same),
+            ap (λ (y : NodeMemory). y.copy) (h.local ∙ same),
+            ap (λ (y : NodeMemory). y.state) (h.local ∙ same),
           )
           | false ↦ (refl, refl)
         ])
 
     -- with what it sent in all
     core_plain : (t : Turn) (lanes : ℕ → LanePart) (reserved : ℕ → Option ℕ) (holder : ℕ → ℕ)
-        (counts : NodeCounts) (printed : Option ℕ) (v : Treated Rest) → IsTurn (view c k) i t v
+        (counts : NodeCounts) (printed : Option ℕ) (v : Handled Rest) → IsTurn (view c k) i t v
         → v.local ≡ u.local → ((x b : ℕ) → v.rest.wait x b ≡ u.rest.wait x b)
         → v.rest.counts ≡ u.rest.counts
-        → ((locals : ℕ → Local) (memory : ℕ → ℕ) → Held work lay locals u.rest memory
+        → ((locals : ℕ → NodeMemory) (memory : ℕ → ℕ) → Held work lay locals u.rest memory
         → Held work lay locals v.rest memory)
         → LeavesNodes (nodes_then c i k t lanes reserved holder counts printed) u c.nodes i s
         → MatchesCore (with_turn c i (turn_then c i k t lanes reserved holder counts printed)) s
@@ -215,9 +215,9 @@ module _ (w : LaneWork) (plan : List PlanEntry) (lay : Layout w.work) (some : 0 
         let turned = rest_then c i k t v lanes reserved holder counts printed h in
         let parts = parts_after t lanes reserved holder counts printed v h same in
         let copies : (x : ℕ) → (ls x).copy ≡ (l.locals x).copy =
-        λ x. (parts x).0 ∙ ap (λ (y : Local). y.copy) (sym (l.here x)) in
+        λ x. (parts x).0 ∙ ap (λ (y : NodeMemory). y.copy) (sym (l.here x)) in
         let states : (x : ℕ) → (ls x).state ≡ (l.locals x).state =
-        λ x. (parts x).1 ∙ ap (λ (y : Local). y.state) (sym (l.here x)) in
+        λ x. (parts x).1 ∙ ap (λ (y : NodeMemory). y.state) (sym (l.here x)) in
         record {
           doing = l.doing;
           parts = l.parts;

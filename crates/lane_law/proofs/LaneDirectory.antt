@@ -40,5 +40,5 @@ module _ (work : Work) (lay : Layout work) (processors : ℕ) (node_of : ℕ →
       )
 
   pub calm_messages : Calm layout work processors node_of placed plan code protocol side laid lowers
-  calm_messages locals rest memory h i j low lj has quiet =
-      calm work lay locals rest memory h i low j lj quiet
+  calm_messages locals rest memory h i j low lj has silent =
+      calm work lay locals rest memory h i low j lj silent

@@ -5,7 +5,7 @@ use Rattle.rv32_program.specs.declared.End.TheVariants.{Exited, Stopped}
 use Rattle.rv32_program.specs.Program.{line_of}
 use Rattle.rv32_step.specs.OneMemory.{Processor, opening}
 use Rattle.templates.specs.declared.plans.PlanEntry.{PlanEntry}
-use Rattle.node_model.specs.Node.{Lane, Local, Phase, Running, Resumed, Waiting, Ended, is_readable_state, is_writable_state}
+use Rattle.node_model.specs.Node.{ProcessorState, NodeMemory, Phase, Running, Resumed, Waiting, Ended, is_readable_state, is_writable_state}
 use Rattle.rewriting_law.proofs.protocol_side.DirectorySide.{Layout, laid_out, coherent as nodes_coherent, alone, flagged}
 use Rattle.rewriting_law.proofs.runs.TurnTies.{rest_at}
 use Rattle.lane_model.specs.Nodes.{LaneWork, LanePart, processors, node_of}
@@ -79,7 +79,7 @@ module _ (w : LaneWork) (plan : List PlanEntry) (good : RunsOnLanes w plan) (lay
           → part.phase ≡ Ended (Stopped budget) → phase ≡ Ended (Stopped budget)
       ended_there part phase is e = sym is ∙ e
 
-      by : (a : Doing) (part : LanePart) (q : Processor) (l : Lane) (n : Local)
+      by : (a : Doing) (part : LanePart) (q : Processor) (l : ProcessorState) (n : NodeMemory)
           → IsPart w plan lay good.some code a part
           → StandsIn w.work.layout w.work (processors w) (node_of w)
           (at_node w plan lay good.some code) plan code (protocol w plan lay good.some code)

@@ -14,8 +14,8 @@ use Rattle.templates.specs.declared.plans.PlanEntry.{PlanEntry}
 use Rattle.templates.specs.Commits.{commit_at}
 use Rattle.node_model.specs.jump_map.Maps.{old_of}
 use Rattle.home_directory.specs.Home.{count_of}
-use Rattle.home_directory.specs.declared.messages.Need.{Need}
-use Rattle.node_model.specs.Node.{Work, Lane, Local, Want, Move, Next, Again, To, Enters, Waits, Leaves, Resume, Outcome, lane_after, next_outcome, is_readable_state, is_writable_state}
+use Rattle.home_directory.specs.dsm_messages.declared.messages.Need.{Need}
+use Rattle.node_model.specs.Node.{Work, ProcessorState, NodeMemory, Want, Move, Next, Again, To, Enters, Waits, Leaves, Resume, WordOutcome, lane_after, next_outcome, is_readable_state, is_writable_state}
 use Rattle.node_model.specs.Turns.{wants_of, each_block_once}
 use Rattle.rewriting_law.specs.CoreRun.{is_exit, is_wait, commits_by}
 use Rattle.rewriting_law.specs.Licence.{Licensed}
@@ -56,19 +56,19 @@ module _ (layout : Shape) (work : Work) (processors : ℕ) (node_of : ℕ → �
   abbrev sharing_at : protocol.Rest → Sharing layout work
   sharing_at rest = sharing_by layout work protocol side laid rest
 
-  abbrev sees : (ℕ → Local) → (ℕ → Option ℕ) → ℕ → Local
+  abbrev sees : (ℕ → NodeMemory) → (ℕ → Option ℕ) → ℕ → NodeMemory
   sees = seen layout work processors node_of placed
 
-  abbrev SharesAt : protocol.Rest → (ℕ → Local) → (ℕ → Option ℕ) → State → Type 0
+  abbrev SharesAt : protocol.Rest → (ℕ → NodeMemory) → (ℕ → Option ℕ) → State → Type 0
   SharesAt rest locals reserved s =
       Shares layout work processors node_of placed (sharing_at rest) locals reserved s
 
   -- how a processor fits what it does. Only where it runs does this speak of the node as it is
-  abbrev pub StandsIn : Doing → Processor → Lane → Local → Type 0
+  abbrev pub StandsIn : Doing → Processor → ProcessorState → NodeMemory → Type 0
   StandsIn Runs q l n = (q.exit ≡ None) × code.Stands q l n
   StandsIn (Awaits resume want more again) q l n =
       StandsWaiting layout work plan laid code.Stands q l resume (want ∷ more)
-      × ((m : Local) → code.Stands q l m) × (length (want ∷ more) ≤ 2)
+      × ((m : NodeMemory) → code.Stands q l m) × (length (want ∷ more) ≤ 2)
   StandsIn (HasEnded (Exited e)) q l n = q.exit ≡ Some e
   StandsIn (HasEnded (Stopped b)) q l n = (q.exit ≡ None) × (b ≡ work.budget)
 
@@ -87,7 +87,7 @@ module _ (layout : Shape) (work : Work) (processors : ℕ) (node_of : ℕ → �
   IsHeld doing i b need h =
       (h < processors) × (node_of h ≡ i) × (wait_in (doing h) b ≡ Some need)
 
-  pub record Matches (lanes : ℕ → Lane) (doing : ℕ → Doing) (locals : ℕ → Local)
+  pub record Matches (lanes : ℕ → ProcessorState) (doing : ℕ → Doing) (locals : ℕ → NodeMemory)
       (reserved : ℕ → Option ℕ) (rest : protocol.Rest) (holder : ℕ → ℕ → ℕ) (s : State)
       : Type 0 where
     pub shares : SharesAt rest locals reserved s
@@ -106,7 +106,7 @@ module _ (layout : Shape) (work : Work) (processors : ℕ) (node_of : ℕ → �
   goes_or_stops executed =
       if executed == work.budget then HasEnded (Stopped work.budget) else Runs
 
-  pub stands_or_stops : (executed : ℕ) (q : Processor) (l : Lane) (n : Local) → q.exit ≡ None
+  pub stands_or_stops : (executed : ℕ) (q : Processor) (l : ProcessorState) (n : NodeMemory) → q.exit ≡ None
       → code.Stands q l n → StandsIn (goes_or_stops executed) q l n
   stands_or_stops executed q l n e st = go (eqb executed work.budget)
     where
@@ -142,7 +142,7 @@ module _ (layout : Shape) (work : Work) (processors : ℕ) (node_of : ℕ → �
 
   module _ (most : ℕ)
       (more : WantsMore layout work processors node_of placed plan protocol side laid most)
-      (lanes : ℕ → Lane) (doing : ℕ → Doing) (locals : ℕ → Local) (reserved : ℕ → Option ℕ)
+      (lanes : ℕ → ProcessorState) (doing : ℕ → Doing) (locals : ℕ → NodeMemory) (reserved : ℕ → Option ℕ)
       (rest : protocol.Rest) (holder : ℕ → ℕ → ℕ) (s : State)
       (m : Matches lanes doing locals reserved rest holder s) (p : ℕ) (below : p < processors)
       (runs : doing p ≡ Runs) (executed : ℕ) (qs : List Want)
@@ -154,10 +154,10 @@ module _ (layout : Shape) (work : Work) (processors : ℕ) (node_of : ℕ → �
     there : ours < work.layout.nodes
     there = placed p below
 
-    abbrev l : Lane
+    abbrev l : ProcessorState
     l = lanes p
 
-    abbrev n : Local
+    abbrev n : NodeMemory
     n = sees locals reserved p
 
     abbrev q : Processor
@@ -168,7 +168,7 @@ module _ (layout : Shape) (work : Work) (processors : ℕ) (node_of : ℕ → �
         let h = side.suits locals rest s.shared m.shares.held ours there in
         record { states = h.states; flagged = h.flagged }
 
-    abbrev pub r : Outcome
+    abbrev pub r : WordOutcome
     r = next_outcome work.program work.image l n
 
     abbrev pub kind : CommitKind
@@ -241,7 +241,7 @@ module _ (layout : Shape) (work : Work) (processors : ℕ) (node_of : ℕ → �
     abbrev pub behind_word : State
     behind_word = run orig s (picked commits)
 
-    abbrev locals1 : ℕ → Local
+    abbrev locals1 : ℕ → NodeMemory
     locals1 = with_local locals ours r.local
 
     abbrev reserved1 : ℕ → Option ℕ
@@ -251,8 +251,8 @@ module _ (layout : Shape) (work : Work) (processors : ℕ) (node_of : ℕ → �
     asked = want_all layout work processors node_of placed plan protocol locals1 rest ours
         (each_block_once layout (wants_of r.move))
 
-    abbrev pub locals2 : ℕ → Local
-    locals2 = with_local locals1 ours asked.treated.local
+    abbrev pub locals2 : ℕ → NodeMemory
+    locals2 = with_local locals1 ours asked.handled.local
 
     abbrev AskedBy : Processor → List Want → Type 0
     AskedBy x ws =
@@ -270,12 +270,12 @@ module _ (layout : Shape) (work : Work) (processors : ℕ) (node_of : ℕ → �
         → AskedBy x (each_block_once layout (wants_of mv))
     sought x (Waits resume want ws) h =
         let same : (line : ℕ) → n.state line ≡ (locals1 ours).state line =
-        λ line. ap (λ (y : Local). y.state line) (sym h.1.local
+        λ line. ap (λ (y : NodeMemory). y.state line) (sym h.1.local
         ∙ sym (local_here locals ours r.local)) in
         all_asked layout work processors node_of placed plan protocol side laid most more locals1 rest
         reserved1 behind_word ours there x qs are room word.behind.shared
         (each_block_once layout (want ∷ ws))
-        (subst (λ (y : Local). AllWanted layout work plan x y (each_block_once layout (want ∷ ws)))
+        (subst (λ (y : NodeMemory). AllWanted layout work plan x y (each_block_once layout (want ∷ ws)))
         (sym h.1.local ∙ sym (local_here locals ours r.local)) h.1.wanted)
         h.1.few
     sought x (Leaves e) h = nothing_sought x
@@ -288,9 +288,9 @@ module _ (layout : Shape) (work : Work) (processors : ℕ) (node_of : ℕ → �
     d = doing_after executed asked.again r.move
 
     -- what the processor sees once nothing was asked for
-    abbrev sees_after : List Want → Local
+    abbrev sees_after : List Want → NodeMemory
     sees_after ws = record (with_local locals1 ours (want_all layout work processors node_of placed
-        plan protocol locals1 rest ours ws).treated.local ours) { reservation = r.local.reservation }
+        plan protocol locals1 rest ours ws).handled.local ours) { reservation = r.local.reservation }
 
     goes_there : (x : Processor) (mv : Move) → r.move ≡ mv
         → (x.exit ≡ None) × code.Stands x (lane_after work.image r.lane r.move) r.local
@@ -299,12 +299,12 @@ module _ (layout : Shape) (work : Work) (processors : ℕ) (node_of : ℕ → �
         stands_or_stops executed x (lane_after work.image r.lane mv) (sees_after []) h.0
         (subst (λ mv. code.Stands x (lane_after work.image r.lane mv) (sees_after [])) is
         (subst (code.Stands x (lane_after work.image r.lane r.move))
-        (ap (λ (y : Local). record y { reservation = r.local.reservation })
+        (ap (λ (y : NodeMemory). record y { reservation = r.local.reservation })
         (sym (local_here locals ours r.local)
         ∙ sym (local_here locals1 ours (locals1 ours)))) h.1))
 
     stands_after : (x : Processor) (again : Bool) (mv : Move) → r.move ≡ mv → OnwardBy x mv
-        → (is_wait mv ≡ true → (k : Local) → code.Stands x r.lane k)
+        → (is_wait mv ≡ true → (k : NodeMemory) → code.Stands x r.lane k)
         → StandsIn (doing_after executed again mv) x (lane_after work.image r.lane mv)
         (sees_after (each_block_once layout (wants_of mv)))
     stands_after x again (Leaves e) is h anew = h
@@ -330,7 +330,7 @@ module _ (layout : Shape) (work : Work) (processors : ℕ) (node_of : ℕ → �
     uncommitted (To target) is waits h = let bad : false ≡ true = waits in cc
     uncommitted (Enters target) is waits h = let bad : false ≡ true = waits in cc
 
-    stands_anew : is_wait r.move ≡ true → (k : Local)
+    stands_anew : is_wait r.move ≡ true → (k : NodeMemory)
         → code.Stands (behind_word.processors p) r.lane k
     stands_anew waits k =
         let still : behind_word ≡ s =
@@ -366,25 +366,25 @@ module _ (layout : Shape) (work : Work) (processors : ℕ) (node_of : ℕ → �
     a = sought (behind_word.processors p) r.move word.behind.onward
 
     abbrev pub rest2 : protocol.Rest
-    rest2 = asked.treated.rest
+    rest2 = asked.handled.rest
 
     -- what another processor of the node sees is later than before
     later : (j : ℕ) → eqb j p ≡ false → eqb (node_of j) ours ≡ true
         → Later (sees locals reserved j) (sees locals2 reserved1 j)
     later j other same = record {
-      reads = λ line h. ap (λ (k : Local). is_readable_state (k.state line)) to
+      reads = λ line h. ap (λ (k : NodeMemory). is_readable_state (k.state line)) to
           ∙ a.reads line (ap (λ (u : ℕ → ℕ). is_readable_state (u line)) from ∙ h);
-      writes = λ line h. ap (λ (k : Local). is_writable_state (k.state line)) to
+      writes = λ line h. ap (λ (k : NodeMemory). is_writable_state (k.state line)) to
           ∙ a.writes line (ap (λ (u : ℕ → ℕ). is_writable_state (u line)) from ∙ h);
       reserved = λ x h. left_held (reserved j) (reserved1 j) (λ y e.
           lost_left layout r.access (reserved j) y (sym now ∙ e)) x h;
     }
       where
-        to : with_local locals1 ours asked.treated.local (node_of j) ≡ asked.treated.local
-        to = ap (λ t. cond t asked.treated.local (locals1 (node_of j))) same
+        to : with_local locals1 ours asked.handled.local (node_of j) ≡ asked.handled.local
+        to = ap (λ t. cond t asked.handled.local (locals1 (node_of j))) same
 
         from : (locals1 ours).state ≡ (locals (node_of j)).state
-        from = ap (λ (k : Local). k.state) (local_here locals ours r.local) ∙ word.behind.states
+        from = ap (λ (k : NodeMemory). k.state) (local_here locals ours r.local) ∙ word.behind.states
             ∙ ap (λ k. (locals k).state) (sym (is_same (node_of j) ours same))
 
         now : reserved1 j ≡ lost layout r.access (reserved j)
@@ -404,7 +404,7 @@ module _ (layout : Shape) (work : Work) (processors : ℕ) (node_of : ℕ → �
             (sees locals2 reserved1 j) h.1 (later j other e)
         by false e =
             subst (code.Stands (s.processors j) (lanes j))
-            (sym (ap (λ t. record (cond t asked.treated.local (cond t r.local (locals (node_of j)))) {
+            (sym (ap (λ t. record (cond t asked.handled.local (cond t r.local (locals (node_of j)))) {
               reservation = cond (eqb j p) r.local.reservation
                   (cond t (lost layout r.access (reserved j)) (reserved j));
             }) e
@@ -557,8 +557,8 @@ module _ (layout : Shape) (work : Work) (processors : ℕ) (node_of : ℕ → �
 
   -- so many processors at most are at a node, and a node may wait for two blocks for each
   module _ (most lanes : ℕ) (room : 2 * lanes ≤ most)
-      (crowd : (i : ℕ) → count_of (λ j. node_of j == i) processors ≤ lanes) (at : ℕ → Lane)
-      (doing : ℕ → Doing) (locals : ℕ → Local) (reserved : ℕ → Option ℕ) (rest : protocol.Rest)
+      (crowd : (i : ℕ) → count_of (λ j. node_of j == i) processors ≤ lanes) (at : ℕ → ProcessorState)
+      (doing : ℕ → Doing) (locals : ℕ → NodeMemory) (reserved : ℕ → Option ℕ) (rest : protocol.Rest)
       (holder : ℕ → ℕ → ℕ) (s : State) (m : Matches at doing locals reserved rest holder s) (p : ℕ)
       (below : p < processors) (runs : doing p ≡ Runs) where
     abbrev wanted_of : ℕ → List Want

@@ -10,7 +10,7 @@ use Rattle.rv32_program.specs.Program.{line_of}
 use Rattle.rv32_step.specs.Breaks.{stands_at_store, RunsToStore}
 use Rattle.rv32_step.specs.Reservations.{with_reservation}
 use Rattle.rv32_step.specs.OneMemory.{Processor, State, Pick, Break, run}
-use Rattle.node_model.specs.Node.{Work, Local, is_readable_state}
+use Rattle.node_model.specs.Node.{Work, NodeMemory, is_readable_state}
 use Rattle.rewriting_law.specs.CoreRun.{Order, break_by}
 use Rattle.rewriting_law.proofs.templates.RegisterLemmas.{equal, apart}
 use Rattle.rewriting_law.proofs.one_memory.Advances.{Advanced, run_append, join_advanced}
@@ -57,8 +57,8 @@ module _ (layout : Shape) (work : Work) (processors : ℕ) (node_of : ℕ → �
   -- what taking a message leaves, with who holds the requester's wait in the order: a line that was
   -- readable stays so, but in the block that the message orders; and who asks for that block stands
   -- at a store into it
-  pub record Took (sharing' : Sharing layout work) (locals : ℕ → Local) (s : State) (i : ℕ)
-      (n : Local) (order : Option Order) : Type 0 where
+  pub record Took (sharing' : Sharing layout work) (locals : ℕ → NodeMemory) (s : State) (i : ℕ)
+      (n : NodeMemory) (order : Option Order) : Type 0 where
     pub held : sharing'.Holds (with_local locals i n) s.shared
     pub reads : (line : ℕ) → work.program.class line ≡ Shared
         → is_readable_state ((locals i).state line) ≡ true
@@ -75,8 +75,8 @@ module _ (layout : Shape) (work : Work) (processors : ℕ) (node_of : ℕ → �
         ⊎ RunsToStore work.program layout x.block (s.processors x.requester).registers
         (s.processors x.requester).pc
 
-  module _ (sharing sharing' : Sharing layout work) (locals : ℕ → Local) (reserved : ℕ → Option ℕ)
-      (s : State) (i : ℕ) (n : Local)
+  module _ (sharing sharing' : Sharing layout work) (locals : ℕ → NodeMemory) (reserved : ℕ → Option ℕ)
+      (s : State) (i : ℕ) (n : NodeMemory)
       (shares : Shares layout work processors node_of placed sharing locals reserved s)
       (order : Option Order) (took : Took sharing' locals s i n order) where
     -- the state once the first processors' reservations are broken

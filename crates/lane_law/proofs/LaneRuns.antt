@@ -2,14 +2,14 @@
 use Rattle.std.proofs.Common.{◌≡◌, ℕ, zero, suc, ◌<◌, ◌≤◌, cond, Bool, true, false, List, [], ◌∷◌, Option, Some, None, refl, sym, ap, ◌∙◌, subst, inl, inr, append-nil, arith}
 use Rattle.std.specs.Prelude.{not, ◌&&◌, ◌||◌, option_and_then}
 use Rattle.std.proofs.lemmas.Bool.Decides.{eqb_tells, nat_tests}
-use Rattle.home_directory.specs.declared.messages.Wire.{Wire}
+use Rattle.home_directory.specs.dsm_messages.declared.messages.Wire.{Wire}
 use Rattle.rv32_program.specs.declared.Exit.{Exit}
 use Rattle.rv32_program.specs.declared.End.TheVariants.{Exited, Stopped}
 use Rattle.rv32_step.specs.OneMemory.{Processor, State, opening, run}
 use Rattle.templates.specs.declared.plans.PlanEntry.{PlanEntry}
 use Rattle.node_model.specs.jump_map.Maps.{fetch}
 use Rattle.node_model.specs.declared.Standing.TheVariants as standing
-use Rattle.node_model.specs.Node.{Lane, Local, takes_messages}
+use Rattle.node_model.specs.Node.{ProcessorState, NodeMemory, takes_messages}
 use Rattle.node_model.specs.Core.{may_execute, may_take}
 use Rattle.rewriting_law.specs.ProtocolLists.{messages_of}
 use Rattle.rewriting_law.specs.Interleaving.{EndsAs}
@@ -149,7 +149,7 @@ module _ (w : LaneWork) (plan : List PlanEntry) (lay : Layout w.work) (some : 0 
     abbrev pub EndsBy : LaneCore → List LaneEvent → ℕ → Option Exit → Type 0
     EndsBy c es p exit = EndsAs w.work.budget exit (phase_of w (after w c es) p)
 
-    ends_as : (a : Doing) (y : LanePart) (q : Processor) (l : Lane) (n : Local) → IsPartHere a y
+    ends_as : (a : Doing) (y : LanePart) (q : Processor) (l : ProcessorState) (n : NodeMemory) → IsPartHere a y
         → StandsIn w.work.layout w.work (processors w) (node_of w) there plan code
         (protocol w plan lay some code) (side w plan lay some code) (laid w plan lay some code) a q l n
         → EndsAs w.work.budget q.exit y.phase

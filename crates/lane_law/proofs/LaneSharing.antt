@@ -20,7 +20,7 @@ use Rattle.rv32_step.specs.Reservations.{with_reservation, after_other, after_st
 use Rattle.rv32_step.specs.OneMemory.{Original, Access, Nothing, Writes, Processor, State, Reads, WritesIf, Exchanges, Request, Becomes, Prints, LoadsFrom, StoresTo, ReservesAt, StoresWhere, UpdatesAt, request, with_exit, after_print, after_store, after_exchange, after_conditional, with_conditional, set_register, byte_at, StepResult, answer, step}
 use Rattle.templates.specs.declared.commits.CommitKind.{CommitKind}
 use Rattle.templates.specs.declared.plans.PlanEntry.{PlanEntry}
-use Rattle.node_model.specs.Node.{Work, Lane, Local, Move, Next, Again, To, Enters, Waits, Leaves, Outcome, is_readable_state, is_writable_state, local_stored, lane_after}
+use Rattle.node_model.specs.Node.{Work, ProcessorState, NodeMemory, Move, Next, Again, To, Enters, Waits, Leaves, WordOutcome, is_readable_state, is_writable_state, local_stored, lane_after}
 use Rattle.node_model.specs.Turns.{each_block_once}
 use Rattle.rewriting_law.specs.CoreRun.{is_exit, commits_by}
 use Rattle.rewriting_law.specs.Licence.{Licensed}
@@ -79,26 +79,26 @@ module _ (layout : Shape) (work : Work) (processors : ℕ) (node_of : ℕ → �
   original = record { program = work.program; layout = layout; nodes = processors }
 
   -- what the words of a processor see: its node's copy and states, and its own reservation
-  abbrev pub seen : (ℕ → Local) → (ℕ → Option ℕ) → ℕ → Local
+  abbrev pub seen : (ℕ → NodeMemory) → (ℕ → Option ℕ) → ℕ → NodeMemory
   seen locals reserved p = record (locals (node_of p)) { reservation = reserved p }
 
   -- the nodes and the reservations beside the one memory, but for where the processors stand
-  pub record Shares (sharing : Sharing layout work) (locals : ℕ → Local) (reserved : ℕ → Option ℕ)
+  pub record Shares (sharing : Sharing layout work) (locals : ℕ → NodeMemory) (reserved : ℕ → Option ℕ)
       (s : State) : Type 0 where
     pub held : sharing.Holds locals s.shared
     pub reservations : (j : ℕ) → j < processors → reserved j ≡ s.reservations j
     pub readable : (j : ℕ) → j < processors → IsReadable layout work (seen locals reserved j)
 
   -- the reservations after a word of processor i
-  abbrev pub reserved_after : (ℕ → Option ℕ) → ℕ → Outcome → ℕ → Option ℕ
+  abbrev pub reserved_after : (ℕ → Option ℕ) → ℕ → WordOutcome → ℕ → Option ℕ
   reserved_after reserved i r j =
       if j == i then r.local.reservation
       else (if node_of j == node_of i then lost layout r.access (reserved j) else reserved j)
 
-  module _ (plan : List PlanEntry) (Stands : Processor → Lane → Local → Type 0)
-      (sharing : Sharing layout work) (locals : ℕ → Local) (reserved : ℕ → Option ℕ) (s : State)
+  module _ (plan : List PlanEntry) (Stands : Processor → ProcessorState → NodeMemory → Type 0)
+      (sharing : Sharing layout work) (locals : ℕ → NodeMemory) (reserved : ℕ → Option ℕ) (s : State)
       (shares : Shares sharing locals reserved s) (i : ℕ) (below : i < processors) (running : (s.processors i).exit ≡ None)
-      (r : Outcome) where
+      (r : WordOutcome) where
     abbrev q : Processor
     q = s.processors i
 
@@ -106,7 +106,7 @@ module _ (layout : Shape) (work : Work) (processors : ℕ) (node_of : ℕ → �
     abbrev ours : ℕ
     ours = node_of i
 
-    abbrev n : Local
+    abbrev n : NodeMemory
     n = seen locals reserved i
 
     there : ours < work.layout.nodes
@@ -161,7 +161,7 @@ module _ (layout : Shape) (work : Work) (processors : ℕ) (node_of : ℕ → �
         (λ y e. same_as_seen y (ap (λ z. is_readable_state (n.state z)) e ∙ h))
 
     -- the protocol's fact for another part with the same copy and states
-    held_like : (memory : ℕ → ℕ) (x y : Local) → x.copy ≡ y.copy → x.state ≡ y.state
+    held_like : (memory : ℕ → ℕ) (x y : NodeMemory) → x.copy ≡ y.copy → x.state ≡ y.state
         → sharing.Holds (with_local locals ours x) memory
         → sharing.Holds (with_local locals ours y) memory
     held_like memory x y e f h =
@@ -177,7 +177,7 @@ module _ (layout : Shape) (work : Work) (processors : ℕ) (node_of : ℕ → �
           | false ↦ refl
         ])) h
 
-    held_still : (y : Local) → y.copy ≡ n.copy → y.state ≡ n.state
+    held_still : (y : NodeMemory) → y.copy ≡ n.copy → y.state ≡ n.state
         → sharing.Holds (with_local locals ours y) s.shared
     held_still y e f =
         sharing.like locals (with_local locals ours y) s.shared
@@ -216,11 +216,11 @@ module _ (layout : Shape) (work : Work) (processors : ℕ) (node_of : ℕ → �
     left j = cond (eqb (node_of j) ours) (lost layout r.access (reserved j)) (reserved j)
 
     -- a word that doesn't store ends no other
-    others_quiet : is_store r.access ≡ false → (j : ℕ) → j < processors → left j ≡ s.reservations j
-    others_quiet quiet j low = go (eqb (node_of j) ours) ∙ shares.reservations j low
+    others_silent : is_store r.access ≡ false → (j : ℕ) → j < processors → left j ≡ s.reservations j
+    others_silent silent j low = go (eqb (node_of j) ours) ∙ shares.reservations j low
       where
         go : (u : Bool) → cond u (lost layout r.access (reserved j)) (reserved j) ≡ reserved j
-        go true = lost_not layout r.access (reserved j) quiet
+        go true = lost_not layout r.access (reserved j) silent
         go false = refl
 
     -- a store ends those of its node in its block, and no others: no other node may read the line
@@ -323,30 +323,30 @@ module _ (layout : Shape) (work : Work) (processors : ℕ) (node_of : ℕ → �
           output = output;
         }
 
-    readable_like : (y : Local) → r.local ≡ y → y.reservation ≡ n.reservation
+    readable_like : (y : NodeMemory) → r.local ≡ y → y.reservation ≡ n.reservation
         → y.state ≡ n.state → IsReadable layout work r.local
     readable_like y e f g a h c =
-        ap (λ (z : Local). is_readable_state (z.state (line_of a))) e
+        ap (λ (z : NodeMemory). is_readable_state (z.state (line_of a))) e
         ∙ ap (λ (u : ℕ → ℕ). is_readable_state (u (line_of a))) g
         ∙ shares.readable i below a
-        (sym f ∙ ap (λ (z : Local). z.reservation) (sym e) ∙ h) c
+        (sym f ∙ ap (λ (z : NodeMemory). z.reservation) (sym e) ∙ h) c
 
-    readable_none : (y : Local) → r.local ≡ y → y.reservation ≡ None → IsReadable layout work r.local
+    readable_none : (y : NodeMemory) → r.local ≡ y → y.reservation ≡ None → IsReadable layout work r.local
     readable_none y e f a h c =
-        let bad : None ≡ Some a = sym f ∙ ap (λ (z : Local). z.reservation) (sym e) ∙ h in cc
+        let bad : None ≡ Some a = sym f ∙ ap (λ (z : NodeMemory). z.reservation) (sym e) ∙ h in cc
 
     -- nothing of the nodes has changed
     shares_still : (t : State) → r.local ≡ n → is_store r.access ≡ false → t.shared ≡ s.shared
         → t.reservations ≡ s.reservations
         → Shares sharing (with_local locals ours r.local) (reserved_after reserved i r) t
-    shares_still t e quiet shared reservations =
+    shares_still t e silent shared reservations =
         shares_after t
         (subst (sharing.Holds (with_local locals ours r.local)) (sym shared)
-        (held_still r.local (ap (λ (z : Local). z.copy) e) (ap (λ (z : Local). z.state) e)))
-        (ap (λ (z : Local). z.reservation) e ∙ shares.reservations i below
+        (held_still r.local (ap (λ (z : NodeMemory). z.copy) e) (ap (λ (z : NodeMemory). z.state) e)))
+        (ap (λ (z : NodeMemory). z.reservation) e ∙ shares.reservations i below
         ∙ sym (ap (λ (f : ℕ → Option ℕ). f i) reservations))
-        (readable_like n e refl refl) (ap (λ (z : Local). z.state) e)
-        (λ j low f. others_quiet quiet j low
+        (readable_like n e refl refl) (ap (λ (z : NodeMemory). z.state) e)
+        (λ j low f. others_silent silent j low
         ∙ sym (ap (λ (g : ℕ → Option ℕ). g j) reservations))
 
     -- the node and the memory have made the same store
@@ -364,10 +364,10 @@ module _ (layout : Shape) (work : Work) (processors : ℕ) (node_of : ℕ → �
         (subst (λ z. sharing.Holds (with_local locals ours z)
         (shared_after (class_at work.program x) s.shared (stored w s.shared x value))) (sym e)
         (stored_held w x value al h (class_at work.program x) refl)))
-        (ap (λ (z : Local). z.reservation) e ∙ shares.reservations i below ∙ sym (own_stays x)
+        (ap (λ (z : NodeMemory). z.reservation) e ∙ shares.reservations i below ∙ sym (own_stays x)
         ∙ sym (ap (λ (f : ℕ → Option ℕ). f i) reservations))
         (readable_like (local_stored work.program n w x value) e refl refl)
-        (ap (λ (z : Local). z.state) e)
+        (ap (λ (z : NodeMemory). z.state) e)
         (λ j low f. others_stay x is h j low f
         ∙ sym (ap (λ (g : ℕ → Option ℕ). g j) reservations))
 
@@ -377,20 +377,20 @@ module _ (layout : Shape) (work : Work) (processors : ℕ) (node_of : ℕ → �
         → r.local ≡ record n { reservation = Some x } → t.shared ≡ s.shared
         → t.reservations ≡ with_reservation s.reservations i (Some x)
         → Shares sharing (with_local locals ours r.local) (reserved_after reserved i r) t
-    shares_reserved t x h quiet e shared reservations =
+    shares_reserved t x h silent e shared reservations =
         shares_after t
         (subst (sharing.Holds (with_local locals ours r.local)) (sym shared)
-        (held_still r.local (ap (λ (z : Local). z.copy) e) (ap (λ (z : Local). z.state) e)))
-        (ap (λ (z : Local). z.reservation) e
+        (held_still r.local (ap (λ (z : NodeMemory). z.copy) e) (ap (λ (z : NodeMemory). z.state) e)))
+        (ap (λ (z : NodeMemory). z.reservation) e
         ∙ sym (ap (λ u. cond u (Some x) (s.reservations i)) (equal i i refl))
         ∙ sym (ap (λ (f : ℕ → Option ℕ). f i) reservations))
         (λ a f c.
-        let both : Some x ≡ Some a = ap (λ (z : Local). z.reservation) (sym e) ∙ f in
+        let both : Some x ≡ Some a = ap (λ (z : NodeMemory). z.reservation) (sym e) ∙ f in
         let same : x ≡ a = cc in
-        ap (λ (z : Local). is_readable_state (z.state (line_of a))) e
+        ap (λ (z : NodeMemory). is_readable_state (z.state (line_of a))) e
         ∙ ap (λ z. is_readable_state (n.state (line_of z))) (sym same) ∙ h)
-        (ap (λ (z : Local). z.state) e)
-        (λ j low f. others_quiet quiet j low
+        (ap (λ (z : NodeMemory). z.state) e)
+        (λ j low f. others_silent silent j low
         ∙ sym (ap (λ (g : ℕ → Option ℕ). g j) reservations
         ∙ ap (λ u. cond u (Some x) (s.reservations j)) f))
 
@@ -413,9 +413,9 @@ module _ (layout : Shape) (work : Work) (processors : ℕ) (node_of : ℕ → �
         (subst (λ z. sharing.Holds (with_local locals ours z) memory) (sym e)
         (held_like memory (local_stored work.program n Word x value) y refl refl
         (stored_held Word x value al (h refl) (class_at work.program x) refl)))
-        (ap (λ (z : Local). z.reservation) e
+        (ap (λ (z : NodeMemory). z.reservation) e
         ∙ sym (ap (λ u. cond u None (after_store_by layout i x s.reservations i)) (equal i i refl)))
-        (readable_none y e refl) (ap (λ (z : Local). z.state) e)
+        (readable_none y e refl) (ap (λ (z : NodeMemory). z.state) e)
         (λ j low f. others_stay x (λ o. ap (λ z. lost layout z o) access) (h refl) j low f
         ∙ sym (ap (λ u. cond u None (after_store_by layout i x s.reservations j)) f))
     shares_conditional d x value false al h access e =
@@ -423,10 +423,10 @@ module _ (layout : Shape) (work : Work) (processors : ℕ) (node_of : ℕ → �
         shares_after (conditional_state d x value false)
         (subst (λ z. sharing.Holds (with_local locals ours z) s.shared) (sym e)
         (held_still y refl refl))
-        (ap (λ (z : Local). z.reservation) e
+        (ap (λ (z : NodeMemory). z.reservation) e
         ∙ sym (ap (λ u. cond u None (s.reservations i)) (equal i i refl)))
-        (readable_none y e refl) (ap (λ (z : Local). z.state) e)
-        (λ j low f. others_quiet (ap is_store access) j low
+        (readable_none y e refl) (ap (λ (z : NodeMemory). z.state) e)
+        (λ j low f. others_silent (ap is_store access) j low
         ∙ sym (ap (λ u. cond u None (s.reservations j)) f))
 
     no_output : (o : Option ℕ) → o ≡ None → s.output ≡ s.output ++ option_to_list o
@@ -448,7 +448,7 @@ module _ (layout : Shape) (work : Work) (processors : ℕ) (node_of : ℕ → �
           record {
             worded = made t p on (moved_twice t p refl)
                 (shares_conditional d x value true al (subst (Licensed n) h.0 licence) h.0 h.2)
-                (ap (λ (z : Local). z.state) h.2) running
+                (ap (λ (z : NodeMemory). z.state) h.2) running
                 h.3 (no_output r.printed h.1);
             access = h.0;
           }
@@ -458,7 +458,7 @@ module _ (layout : Shape) (work : Work) (processors : ℕ) (node_of : ℕ → �
           record {
             worded = made t p on (moved t p refl)
                 (shares_conditional d x value false al (subst (Licensed n) h.0 licence) h.0 h.2)
-                (ap (λ (z : Local). z.state) h.2) running
+                (ap (λ (z : NodeMemory). z.state) h.2) running
                 h.3 (no_output r.printed h.1);
             access = h.0;
           }
@@ -467,7 +467,7 @@ module _ (layout : Shape) (work : Work) (processors : ℕ) (node_of : ℕ → �
           → Commits work.program K q n r a → Steps (result a)
       commit_steps (Becomes p) may licence h = record {
         worded = made (result (Becomes p)).state p on (moved (result (Becomes p)).state p refl)
-            (shares_still (result (Becomes p)).state h.3 (ap is_store h.1) refl refl) (ap (λ (z : Local). z.state) h.3) h.0
+            (shares_still (result (Becomes p)).state h.3 (ap is_store h.1) refl refl) (ap (λ (z : NodeMemory). z.state) h.3) h.0
             h.4
             (no_output r.printed h.2);
         access = h.1;
@@ -477,7 +477,7 @@ module _ (layout : Shape) (work : Work) (processors : ℕ) (node_of : ℕ → �
           let t = (result (Prints x)).state in
           record {
             worded = made t (after_print q) on (moved t (after_print q) refl) (shares_still t h.2
-                (ap is_store h.0) refl refl) (ap (λ (z : Local). z.state) h.2) running h.3
+                (ap is_store h.0) refl refl) (ap (λ (z : NodeMemory). z.state) h.2) running h.3
                 (ap (λ o. s.output ++ option_to_list o) (sym (h.1 ∙ ap (λ b. Some b) byte)));
             access = h.0 ∙ ap (Reads ByteU x) byte;
           }
@@ -487,7 +487,7 @@ module _ (layout : Shape) (work : Work) (processors : ℕ) (node_of : ℕ → �
           let p = set_register q d (load_value k (byte_at work.program s q) x) in
           record {
             worded = made t p on (moved t p refl) (shares_still t h.2 (ap is_store h.0) refl refl)
-                (ap (λ (z : Local). z.state) h.2) running
+                (ap (λ (z : NodeMemory). z.state) h.2) running
                 (subst (λ v. K (set_register q d v)) value h.3) (no_output r.printed h.1);
             access = h.0 ∙ ap (Reads k x) value;
           }
@@ -499,7 +499,7 @@ module _ (layout : Shape) (work : Work) (processors : ℕ) (node_of : ℕ → �
           let p = set_register q d (load_value WordLoad (byte_at work.program s q) x) in
           record {
             worded = made t p on (moved t p refl) (shares_reserved t x readable (ap is_store h.0) h.2 refl refl)
-                (ap (λ (z : Local). z.state) h.2) running
+                (ap (λ (z : NodeMemory). z.state) h.2) running
                 (subst (λ v. K (set_register q d v)) value h.3) (no_output r.printed h.1);
             access = h.0 ∙ ap (Reads WordLoad x) value;
           }
@@ -510,7 +510,7 @@ module _ (layout : Shape) (work : Work) (processors : ℕ) (node_of : ℕ → �
             worded = made t p on (moved t p refl)
                 (shares_stored t w x value may.0 (subst (Licensed n) h.0 licence)
                 (λ o. ap (λ z. lost layout z o) h.0) h.2 refl refl)
-                (ap (λ (z : Local). z.state) h.2) running h.3 (no_output r.printed h.1);
+                (ap (λ (z : NodeMemory). z.state) h.2) running h.3 (no_output r.printed h.1);
             access = h.0;
           }
       commit_steps (StoresWhere d x value) may licence h =
@@ -535,7 +535,7 @@ module _ (layout : Shape) (work : Work) (processors : ℕ) (node_of : ℕ → �
             worded = made t p on (moved t p refl)
                 (shares_stored t Word x (amo o word value) may.0 writable
                 (λ p. ap (λ z. lost layout z p) h.0) local refl refl)
-                (ap (λ (z : Local). z.state) local) running
+                (ap (λ (z : NodeMemory). z.state) local) running
                 (subst (λ v. K (after_exchange work.program q x (amo o v value) d v)) old h.3)
                 (no_output r.printed h.1);
             access = h.0 ∙ ap (λ v. Exchanges x v (amo o v value)) old;
@@ -544,10 +544,10 @@ module _ (layout : Shape) (work : Work) (processors : ℕ) (node_of : ℕ → �
     -- the word did nothing that the original sees
     still : (on : Onward q r.move) → r.local ≡ n → is_store r.access ≡ false → r.printed ≡ None
         → Worded s
-    still on local quiet printed = record {
-      shared = shares_still s local quiet refl refl;
+    still on local silent printed = record {
+      shared = shares_still s local silent refl refl;
       others = λ j e. refl;
-      states = ap (λ (z : Local). z.state) local;
+      states = ap (λ (z : NodeMemory). z.state) local;
       onward = on;
       output = no_output r.printed printed;
     }
@@ -578,7 +578,7 @@ module _ (layout : Shape) (work : Work) (processors : ℕ) (node_of : ℕ → �
           worded = record {
             shared = shares_still t h.local (ap is_store h.access) refl refl;
             others = λ j f. ap (λ u. cond u (with_exit q e) (s.processors j)) f;
-            states = ap (λ (z : Local). z.state) h.local;
+            states = ap (λ (z : NodeMemory). z.state) h.local;
             onward = on;
             output = no_output r.printed h.printed;
           };
@@ -587,7 +587,7 @@ module _ (layout : Shape) (work : Work) (processors : ℕ) (node_of : ℕ → �
         (subst (λ a. Steps (result a)) (sym h.asks) steps, subst (Licensed n) (sym h.access) tt)
     move_advances kind (Waits resume want more) is h =
         let on : Onward q r.move = subst (Onward q) (sym is) (running, h.1) in
-        subst Advances (sym h.0) (still on h.1.local h.1.quiet h.1.printed, h.1.printed)
+        subst Advances (sym h.0) (still on h.1.local h.1.silent h.1.printed, h.1.printed)
     move_advances kind Next is h =
         goes (λ p e st. subst (Onward p) (sym is) (e, st)) (commits_by kind r) h
     move_advances kind Again is h =

@@ -3,7 +3,7 @@
 use Rattle.std.proofs.Common.{◌≡◌, ◌≢◌, ℕ, zero, suc, ◌+◌, ◌*◌, ◌<◌, ◌≤◌, cond, eqb, Bool, true, false, List, [], ◌∷◌, length, None, refl, sym, ap, ◌∙◌, subst, inl, inr, arith}
 use Rattle.std.specs.Prelude.{not, ◌&&◌}
 use Rattle.block_layout.specs.Update.{changed}
-use Rattle.home_directory.specs.declared.messages.Wire.{Wire}
+use Rattle.home_directory.specs.dsm_messages.declared.messages.Wire.{Wire}
 use Rattle.home_directory.specs.Home.{count_of}
 use Rattle.node_model.specs.miss_handlers.Rows.{is_bye, row_of}
 use Rattle.rv32_step.specs.OneMemory.{State, opening, run}
@@ -17,12 +17,12 @@ use Rattle.rewriting_law.proofs.one_memory.Sharing.{is_same}
 use Rattle.rewriting_law.proofs.protocol_side.Spending.{Counts, no_counts, total, total_one, few_taken}
 use Rattle.rewriting_law.proofs.protocol_side.DirectorySide.{Layout}
 use Rattle.rewriting_law.proofs.runs.Alone.{bye_noted}
-use Rattle.rewriting_law.proofs.progress.Closing.{row_byes, treated_by_row}
+use Rattle.rewriting_law.proofs.progress.Closing.{row_byes, handled_by_row}
 use Rattle.rewriting_law.proofs.progress.Short.{scaled, bye_ahead}
 use Rattle.rewriting_law.proofs.progress.Calm.{is_calm}
 use Rattle.rewriting_law.proofs.progress.Stuck.{count_most}
 use Rattle.lane_model.specs.Nodes.{LaneWork, LanePart, LaneNode, as_node, processors, node_of, lane_of}
-use Rattle.lane_model.specs.Turns.{LaneTurn, part_after, wants_at, have_ended, word_before, word_turn, journaled, treated_for, after_message, take_turn}
+use Rattle.lane_model.specs.Turns.{LaneTurn, part_after, wants_at, have_ended, word_before, word_turn, journaled, handled_for, after_message, take_turn}
 use Rattle.lane_model.specs.Core.{LaneCore, LaneEvent, Exec, Take, May, IsLaneRun, opening_core, take_first, event_step, after}
 use Rattle.lane_law.specs.Picks.{picks_at}
 use Rattle.lane_law.specs.Law.{most_lane_events}
@@ -166,7 +166,7 @@ module _ (w : LaneWork) (plan : List PlanEntry) (lay : Layout w.work) (some : 0 
     n1 = journaled w x 0 j wire
 
     abbrev n : Node
-    n = (treated_for w x j wire 0).node
+    n = (handled_for w x j wire 0).node
 
     abbrev turn : LaneTurn
     turn = take_turn w x j wire
@@ -190,7 +190,7 @@ module _ (w : LaneWork) (plan : List PlanEntry) (lay : Layout w.work) (some : 0 
     byes_then =
         let took : LaneTurn = record {
           node = after_message w x j wire;
-          sends = (treated_for w x j wire 0).sends;
+          sends = (handled_for w x j wire 0).sends;
           printed = None;
         } in
         ap (λ (y : LaneNode). y.shared.byes)
@@ -210,7 +210,7 @@ module _ (w : LaneWork) (plan : List PlanEntry) (lay : Layout w.work) (some : 0 
         (λ y other. ap (λ z. cond z true (x.shared.byes y)) (unlike y j other))
     bye_or_not false plain =
         let byes : turn.node.shared.byes ≡ x.shared.byes = byes_then
-        ∙ ap (λ (y : Turn). y.node.byes) (treated_by_row w.work.layout n1 j wire.message plain)
+        ∙ ap (λ (y : Turn). y.node.byes) (handled_by_row w.work.layout n1 j wire.message plain)
         ∙ row_byes w.work.layout n1
         (row_of w.work.layout n1.me (holding w.work.layout n1) j wire.message) in
         let count = ap (λ g. count_of g nodes) byes in omega (arith, count)

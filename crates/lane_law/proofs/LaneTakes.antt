@@ -3,8 +3,8 @@
 use Rattle.std.proofs.Common.{◌≡◌, ℕ, zero, suc, ◌<◌, cond, eqb, Bool, true, false, List, [], ◌∷◌, ◌++◌, Option, Some, None, refl, sym, ap, ◌∙◌, subst, inl, inr, ◌+◌, ◌≤◌, arith}
 use Rattle.std.specs.Prelude.{is_some, not, ◌&&◌, if◌then◌else◌}
 use Rattle.std.specs.Option.{option_to_list}
-use Rattle.home_directory.specs.declared.messages.Need.{Need}
-use Rattle.home_directory.specs.declared.messages.Wire.{Wire}
+use Rattle.home_directory.specs.dsm_messages.declared.messages.Need.{Need}
+use Rattle.home_directory.specs.dsm_messages.declared.messages.Wire.{Wire}
 use Rattle.home_directory.specs.declared.wait.Wait.{Wait}
 use Rattle.node_model.specs.miss_handlers.Rows.{Row, row_of, taker_in, is_bye}
 use Rattle.rv32_program.specs.declared.End.TheVariants.{Stopped}
@@ -14,22 +14,22 @@ use Rattle.templates.specs.declared.plans.PlanEntry.{PlanEntry}
 use Rattle.dsm_protocol.specs.Events.{row_of as row_at}
 use Rattle.dsm_protocol.specs.Holds.{wanted}
 use Rattle.dsm_protocol.proofs.ProtocolSide as world
-use Rattle.node_model.specs.Node.{Node, Lane, Local, Want, Resume, Resumed, Waiting, Ended, lane_resumed, stop_or}
+use Rattle.node_model.specs.Node.{Node, ProcessorState, NodeMemory, Want, Resume, Resumed, Waiting, Ended, lane_resumed, stop_or}
 use Rattle.node_model.specs.Turns.{Turn, holding}
 use Rattle.rewriting_law.specs.CoreRun.{Order, order_by, order_of, break_by}
 use Rattle.rewriting_law.specs.ProtocolLists.{messages_of}
 use Rattle.rewriting_law.proofs.one_memory.Messages.{cleared_by}
 use Rattle.rewriting_law.proofs.one_memory.Sharing.{with_local, is_same}
 use Rattle.rewriting_law.proofs.one_memory.Pending.{AllSought, is_pending, pending}
-use Rattle.rewriting_law.proofs.protocol_side.ProtocolSide.{Treated}
+use Rattle.rewriting_law.proofs.protocol_side.ProtocolSide.{Handled}
 use Rattle.rewriting_law.proofs.protocol_side.Spending.{Counts}
 use Rattle.rewriting_law.proofs.progress.Short.{took_counts, took_one}
 use Rattle.rewriting_law.proofs.protocol_side.Directory.{Rest, world_of, took, take_from, order_from, is_some_list}
 use Rattle.rewriting_law.proofs.protocol_side.DirectorySide.{Layout, Held, is_waiting}
-use Rattle.rewriting_law.proofs.runs.Turns.{treated_same}
+use Rattle.rewriting_law.proofs.runs.Turns.{handled_same}
 use Rattle.rewriting_law.proofs.runs.TurnTies.{rest_at, IsTurn, own_wait, AllFound, message_turned}
 use Rattle.lane_model.specs.Nodes.{LaneWork, LanePart, LaneNode, local_of, as_node, processors, node_of, lane_of, processor_of}
-use Rattle.lane_model.specs.Turns.{blocks_of, still, go_on, resumed, counted, held_by, journaled, treated_for, have_ended, after_message}
+use Rattle.lane_model.specs.Turns.{blocks_of, still, resume_part, resumed, counted, held_by, journaled, handled_for, have_ended, after_message}
 use Rattle.lane_model.specs.Core.{LaneCore, with_list, take_first}
 use Rattle.lane_law.specs.Picks as picks
 use Rattle.lane_law.specs.Picks.{held_order, picks_of_take}
@@ -57,7 +57,7 @@ module _ (w : LaneWork) (plan : List PlanEntry) (lay : Layout w.work) (some : 0 
   abbrev there : (q : ℕ) → q < processors w → node_of w q < w.work.layout.nodes
   there = at_node w plan lay some code
 
-  abbrev pub MayTake : Doing → Lane → Type 0
+  abbrev pub MayTake : Doing → ProcessorState → Type 0
   MayTake = taking.MayTake w.work.layout w.work (processors w) (node_of w) there plan code
       (protocol w plan lay some code) (side w plan lay some code) (laid w plan lay some code)
 
@@ -77,10 +77,10 @@ module _ (w : LaneWork) (plan : List PlanEntry) (lay : Layout w.work) (some : 0 
     abbrev rest : Rest
     rest = rest_at m.counts (view c 0)
 
-    abbrev lanes : ℕ → Lane
+    abbrev lanes : ℕ → ProcessorState
     lanes = lanes_in w c.nodes
 
-    abbrev locals : ℕ → Local
+    abbrev locals : ℕ → NodeMemory
     locals = locals_in c.nodes
 
     abbrev reserved : ℕ → Option ℕ
@@ -98,12 +98,12 @@ module _ (w : LaneWork) (plan : List PlanEntry) (lay : Layout w.work) (some : 0 
     n1 k = journaled w x k j wire
 
     abbrev t : (k : ℕ) → Turn
-    t k = treated_for w x j wire k
+    t k = handled_for w x j wire k
 
-    abbrev locals_for : (k : ℕ) → ℕ → Local
+    abbrev locals_for : (k : ℕ) → ℕ → NodeMemory
     locals_for k y = local_of (c.nodes y).shared k
 
-    abbrev taken_for : (k : ℕ) → Treated Rest
+    abbrev taken_for : (k : ℕ) → Handled Rest
     taken_for k = (protocol w plan lay some code).take (locals_for k) rest i j
 
     row_taken : (k : ℕ) → took w.work.layout (local_of x.shared k) rest i j (messages_of wires)
@@ -129,7 +129,7 @@ module _ (w : LaneWork) (plan : List PlanEntry) (lay : Layout w.work) (some : 0 
     abbrev n : Node
     n = (t 0).node
 
-    abbrev taken : Treated Rest
+    abbrev taken : Handled Rest
     taken = taken_for 0
 
     abbrev wait_then : ℕ → Option Need
@@ -162,7 +162,7 @@ module _ (w : LaneWork) (plan : List PlanEntry) (lay : Layout w.work) (some : 0 
     reserved_for k =
         let left = (side w plan lay some code).takes (locals_for k) rest s.shared (held_for k) i j
         below low has in
-        ap (λ (y : Local). y.reservation) (turned k).local ∙ left.reservation
+        ap (λ (y : NodeMemory). y.reservation) (turned k).local ∙ left.reservation
         ∙ same_block order (x.shared.reservation k)
 
     -- 3. Lanes
@@ -176,7 +176,7 @@ module _ (w : LaneWork) (plan : List PlanEntry) (lay : Layout w.work) (some : 0 
         (protocol w plan lay some code) (side w plan lay some code) (laid w plan lay some code) words
         wait_then a
 
-    abbrev lane_taken : Lane → Doing → Lane
+    abbrev lane_taken : ProcessorState → Doing → ProcessorState
     lane_taken l a =
         taking.lane_taken w.work.layout w.work (processors w) (node_of w) there plan code
         (protocol w plan lay some code) (side w plan lay some code) (laid w plan lay some code) l
@@ -226,43 +226,43 @@ module _ (w : LaneWork) (plan : List PlanEntry) (lay : Layout w.work) (some : 0 
     -- where these blocks of its are waited for still
     waits_on : (y : LanePart) (resume : Resume) (again : Bool) (ws : List Want) → Found ws
         → y.phase ≡ Waiting resume → y.again ≡ again
-        → ((go_on w.work n.local y (Waiting resume) (blocks_of w.work.layout ws)).lane
+        → ((resume_part w.work n.local y (Waiting resume) (blocks_of w.work.layout ws)).lane
         ≡ taking.lane_still w.work.layout w.work (processors w) (node_of w) there plan code
         (protocol w plan lay some code) (side w plan lay some code) (laid w plan lay some code) y.lane
         taken.local resume ws again)
         × IsPartHere (matching.doing_still w.work.layout w.work (processors w) (node_of w) there plan
         code (protocol w plan lay some code) (side w plan lay some code)
         (laid w plan lay some code) y.executed resume ws again)
-        (go_on w.work n.local y (Waiting resume) (blocks_of w.work.layout ws))
+        (resume_part w.work n.local y (Waiting resume) (blocks_of w.work.layout ws))
     waits_on y resume again [] found phase same = (
       ap (λ z. cond z y.lane (lane_resumed y.lane n.local resume)) same
           ∙ ap (λ l. cond again y.lane (lane_resumed y.lane l resume)) (turned 0).local,
-      stop_part y.executed (go_on w.work n.local y (Waiting resume) []) refl refl,
+      stop_part y.executed (resume_part w.work n.local y (Waiting resume) []) refl refl,
     )
     waits_on y resume again (v ∷ vs) found phase same =
-        subst (λ bs. ((go_on w.work n.local y (Waiting resume) bs).lane ≡ y.lane)
-        × (((go_on w.work n.local y (Waiting resume) bs).phase ≡ Waiting resume)
-        × ((go_on w.work n.local y (Waiting resume) bs).awaits
+        subst (λ bs. ((resume_part w.work n.local y (Waiting resume) bs).lane ≡ y.lane)
+        × (((resume_part w.work n.local y (Waiting resume) bs).phase ≡ Waiting resume)
+        × ((resume_part w.work n.local y (Waiting resume) bs).awaits
         ≡ blocks_of w.work.layout (v ∷ vs))
-        × ((go_on w.work n.local y (Waiting resume) bs).again ≡ again)))
+        × ((resume_part w.work n.local y (Waiting resume) bs).again ≡ again)))
         (sym blocks) (refl, (phase, sym blocks, same))
       where
         blocks : blocks_of w.work.layout (v ∷ vs) ≡ found.0.0 ∷ blocks_of w.work.layout vs
         blocks = ap (λ o. option_to_list o ++ blocks_of w.work.layout vs) found.0.1
 
-    part_taken : (a : Doing) (y : LanePart) (q : Processor) (l : Local) → IsPartHere a y
+    part_taken : (a : Doing) (y : LanePart) (q : Processor) (l : NodeMemory) → IsPartHere a y
         → StandsIn w.work.layout w.work (processors w) (node_of w) there plan code
         (protocol w plan lay some code) (side w plan lay some code) (laid w plan lay some code) a q
         y.lane l → IsTaken a y (resumed w.work n y)
     part_taken Runs y q l (inl h) stands =
         subst (IsTaken Runs y)
-        (ap (λ phase. go_on w.work n.local y phase (still n.wait y.awaits)) (sym h)) (refl, inl h)
+        (ap (λ phase. resume_part w.work n.local y phase (still n.wait y.awaits)) (sym h)) (refl, inl h)
     part_taken Runs y q l (inr h) stands =
         subst (IsTaken Runs y)
-        (ap (λ phase. go_on w.work n.local y phase (still n.wait y.awaits)) (sym h)) (refl, inr h)
+        (ap (λ phase. resume_part w.work n.local y phase (still n.wait y.awaits)) (sym h)) (refl, inr h)
     part_taken (HasEnded end) y q l h stands =
         subst (IsTaken (HasEnded end) y)
-        (ap (λ phase. go_on w.work n.local y phase (still n.wait y.awaits)) (sym h.0)) (refl, h)
+        (ap (λ phase. resume_part w.work n.local y phase (still n.wait y.awaits)) (sym h.0)) (refl, h)
     part_taken (Awaits resume want more again) y q l h stands =
         let found = sought_found q (want ∷ more) stands.0.sought in
         let left = pending w.work.layout wait_then (want ∷ more) in
@@ -271,8 +271,8 @@ module _ (w : LaneWork) (plan : List PlanEntry) (lay : Layout w.work) (some : 0 
         ∙ still_pending w.work.layout w.work (processors w) (node_of w) there plan (view c 0) i n.wait
         wait_then waited (want ∷ more) found in
         subst (IsTaken (Awaits resume want more again) y)
-        (sym (ap (λ phase. go_on w.work n.local y phase (still n.wait y.awaits)) h.0
-        ∙ ap (go_on w.work n.local y (Waiting resume)) awaits))
+        (sym (ap (λ phase. resume_part w.work n.local y phase (still n.wait y.awaits)) h.0
+        ∙ ap (resume_part w.work n.local y (Waiting resume)) awaits))
         (waits_on y resume again left (pending_found (want ∷ more) found) h.0 h.2)
 
     -- 4. The event
@@ -327,7 +327,7 @@ module _ (w : LaneWork) (plan : List PlanEntry) (lay : Layout w.work) (some : 0 
         by_node (λ y k. y.shared.reservation k)
         (cleared_by w.work.layout (held_order holder order)) reserved_for p
 
-    abbrev lanes_then : ℕ → Lane
+    abbrev lanes_then : ℕ → ProcessorState
     lanes_then p =
         if eqb (node_of w p) i then lane_taken (lanes p) (m.doing p) else lanes p
 
@@ -381,7 +381,7 @@ module _ (w : LaneWork) (plan : List PlanEntry) (lay : Layout w.work) (some : 0 
       parts = λ p lp. (taken_here p lp).1;
       numbers = λ y ly. (elim (eqb y i)
           as (λ z. eqb y i ≡ z → (cond z node_now (c.nodes y)).shared.me ≡ y) [
-            | true ↦ (λ e. (treated_same w.work.layout (n1 0) j wire.message).me
+            | true ↦ (λ e. (handled_same w.work.layout (n1 0) j wire.message).me
                 ∙ m.numbers i below ∙ sym (is_same y i e))
             | false ↦ (λ e. m.numbers y ly)
           ]) refl;

@@ -12,9 +12,9 @@ use Rattle.rv32_step.specs.Breaks.{is_in_block, stands_at_store, RunsToStore}
 use Rattle.rv32_step.specs.OneMemory.{Original, Processor, State, Pick, run}
 use Rattle.templates.specs.declared.plans.PlanEntry.{PlanEntry}
 use Rattle.node_model.specs.jump_map.Maps.{fetch}
-use Rattle.home_directory.specs.declared.messages.Need.{Need}
-use Rattle.home_directory.specs.declared.messages.Need.TheVariants.{Write}
-use Rattle.node_model.specs.Node.{Work, Lane, Local, Want, Resume, lane_resumed, takes_messages, is_readable_state, is_writable_state}
+use Rattle.home_directory.specs.dsm_messages.declared.messages.Need.{Need}
+use Rattle.home_directory.specs.dsm_messages.declared.messages.Need.TheVariants.{Write}
+use Rattle.node_model.specs.Node.{Work, ProcessorState, NodeMemory, Want, Resume, lane_resumed, takes_messages, is_readable_state, is_writable_state}
 use Rattle.rewriting_law.specs.CoreRun.{Order}
 use Rattle.rewriting_law.proofs.templates.RegisterLemmas.{equal}
 use Rattle.rewriting_law.proofs.templates.States.{StateFits, Suits, Later, grants}
@@ -22,7 +22,7 @@ use Rattle.rewriting_law.proofs.one_memory.Advances.{Advanced}
 use Rattle.rewriting_law.proofs.one_memory.Sharing.{Sharing, with_local, is_same, local_here}
 use Rattle.rewriting_law.proofs.one_memory.Messages.{AreLaidOut, cleared_by}
 use Rattle.rewriting_law.proofs.one_memory.Pending.{wanted_in, is_pending, pending, StandsWaiting, waiting_stores, waits_on, pending_wanted, not_pending}
-use Rattle.rewriting_law.proofs.protocol_side.ProtocolSide.{Treated, Protocol, ProtocolSide, TakeLeaves, sharing_by}
+use Rattle.rewriting_law.proofs.protocol_side.ProtocolSide.{Handled, Protocol, ProtocolSide, TakeLeaves, sharing_by}
 use Rattle.lane_law.specs.Picks.{held_order}
 use Rattle.lane_law.proofs.LaneCode.{LaneCode}
 use Rattle.lane_law.proofs.LaneSharing.{original, seen}
@@ -38,10 +38,10 @@ module _ (layout : Shape) (work : Work) (processors : ℕ) (node_of : ℕ → �
   abbrev sharing_at : protocol.Rest → Sharing layout work
   sharing_at rest = sharing_by layout work protocol side laid rest
 
-  abbrev sees : (ℕ → Local) → (ℕ → Option ℕ) → ℕ → Local
+  abbrev sees : (ℕ → NodeMemory) → (ℕ → Option ℕ) → ℕ → NodeMemory
   sees = seen layout work processors node_of placed
 
-  abbrev StandsIn : Doing → Processor → Lane → Local → Type 0
+  abbrev StandsIn : Doing → Processor → ProcessorState → NodeMemory → Type 0
   StandsIn =
       matching.StandsIn layout work processors node_of placed plan code protocol side laid
 
@@ -54,7 +54,7 @@ module _ (layout : Shape) (work : Work) (processors : ℕ) (node_of : ℕ → �
   abbrev IsHeld : (ℕ → Doing) → (i b : ℕ) → Need → ℕ → Type 0
   IsHeld = matching.IsHeld layout work processors node_of placed plan code protocol side laid
 
-  abbrev Matches : (ℕ → Lane) → (ℕ → Doing) → (ℕ → Local) → (ℕ → Option ℕ) → protocol.Rest
+  abbrev Matches : (ℕ → ProcessorState) → (ℕ → Doing) → (ℕ → NodeMemory) → (ℕ → Option ℕ) → protocol.Rest
       → (ℕ → ℕ → ℕ) → State → Type 0
   Matches = matching.Matches layout work processors node_of placed plan code protocol side laid
 
@@ -69,7 +69,7 @@ module _ (layout : Shape) (work : Work) (processors : ℕ) (node_of : ℕ → �
   no_wait : (executed b : ℕ) → wait_in (goes_or_stops executed) b ≡ None
   no_wait = matching.no_wait layout work processors node_of placed plan code protocol side laid
 
-  stands_or_stops : (executed : ℕ) (q : Processor) (l : Lane) (n : Local) → q.exit ≡ None
+  stands_or_stops : (executed : ℕ) (q : Processor) (l : ProcessorState) (n : NodeMemory) → q.exit ≡ None
       → code.Stands q l n → StandsIn (goes_or_stops executed) q l n
   stands_or_stops =
       matching.stands_or_stops layout work processors node_of placed plan code protocol side laid
@@ -86,7 +86,7 @@ module _ (layout : Shape) (work : Work) (processors : ℕ) (node_of : ℕ → �
         sym (ap (λ (z : Order). z.requester) same),
       )
 
-  abbrev pub lane_still : Lane → Local → Resume → List Want → Bool → Lane
+  abbrev pub lane_still : ProcessorState → NodeMemory → Resume → List Want → Bool → ProcessorState
   lane_still l n resume [] again = if again then l else lane_resumed l n resume
   lane_still l n resume (w ∷ ws) again = l
 
@@ -95,7 +95,7 @@ module _ (layout : Shape) (work : Work) (processors : ℕ) (node_of : ℕ → �
       doing_still executed resume (pending layout wait (want ∷ more)) again
   doing_taken executed wait a = a
 
-  abbrev pub lane_taken : Lane → Local → (ℕ → Option Need) → Doing → Lane
+  abbrev pub lane_taken : ProcessorState → NodeMemory → (ℕ → Option Need) → Doing → ProcessorState
   lane_taken l n wait (Awaits resume want more again) =
       lane_still l n resume (pending layout wait (want ∷ more)) again
   lane_taken l n wait a = l
@@ -113,7 +113,7 @@ module _ (layout : Shape) (work : Work) (processors : ℕ) (node_of : ℕ → �
       go false g = omega (arith, g, h)
 
   -- a processor that runs may see its node lose a block before a poll or a call
-  abbrev pub MayTake : Doing → Lane → Type 0
+  abbrev pub MayTake : Doing → ProcessorState → Type 0
   MayTake Runs l =
       takes_messages (option_and_then (λ w. w.what) (fetch work.image l.at)) ≡ true
   MayTake a l = Unit {0}
@@ -156,14 +156,14 @@ module _ (layout : Shape) (work : Work) (processors : ℕ) (node_of : ℕ → �
     -- a message that takes nothing away: it orders nothing, and what may be written may still be
     abbrev pub Calm : Type 0
     Calm =
-        (locals : ℕ → Local) (rest : protocol.Rest) (memory : ℕ → ℕ)
+        (locals : ℕ → NodeMemory) (rest : protocol.Rest) (memory : ℕ → ℕ)
         → side.Holds locals rest memory → (i j : ℕ) → i < work.layout.nodes
         → j < work.layout.nodes → protocol.has_message rest i j ≡ true → lowers rest i j ≡ false
         → (protocol.order locals rest i j ≡ None)
         × ((line : ℕ) → is_writable_state ((locals i).state line) ≡ true
         → is_writable_state ((protocol.take locals rest i j).local.state line) ≡ true)
 
-    module _ (calm : Calm) (lanes : ℕ → Lane) (doing : ℕ → Doing) (locals : ℕ → Local)
+    module _ (calm : Calm) (lanes : ℕ → ProcessorState) (doing : ℕ → Doing) (locals : ℕ → NodeMemory)
         (reserved : ℕ → Option ℕ) (rest : protocol.Rest) (holder : ℕ → ℕ → ℕ) (s : State)
         (m : Matches lanes doing locals reserved rest holder s) (executed : ℕ → ℕ) (i j : ℕ)
         (below : i < work.layout.nodes) (low : j < work.layout.nodes)
@@ -173,7 +173,7 @@ module _ (layout : Shape) (work : Work) (processors : ℕ) (node_of : ℕ → �
       abbrev one : Original
       one = original layout work processors node_of placed
 
-      abbrev pub taken : Treated protocol.Rest
+      abbrev pub taken : Handled protocol.Rest
       taken = protocol.take locals rest i j
 
       abbrev pub order : Option Order
@@ -255,7 +255,7 @@ module _ (layout : Shape) (work : Work) (processors : ℕ) (node_of : ℕ → �
       abbrev state_then : State
       state_then = run one s picks
 
-      abbrev locals_then : ℕ → Local
+      abbrev locals_then : ℕ → NodeMemory
       locals_then = with_local locals i taken.local
 
       abbrev reserved_now : ℕ → Option ℕ
@@ -277,7 +277,7 @@ module _ (layout : Shape) (work : Work) (processors : ℕ) (node_of : ℕ → �
       doing_then p =
           if node_of p == i then doing_taken (executed p) wait_then (doing p) else doing p
 
-      abbrev lanes_then : ℕ → Lane
+      abbrev lanes_then : ℕ → ProcessorState
       lanes_then p =
           if node_of p == i then lane_taken (lanes p) taken.local wait_then (doing p) else lanes p
 
@@ -289,11 +289,11 @@ module _ (layout : Shape) (work : Work) (processors : ℕ) (node_of : ℕ → �
         abbrev processor : Processor
         processor = s.processors p
 
-        abbrev lane : Lane
+        abbrev lane : ProcessorState
         lane = lanes p
 
         -- what it sees then
-        abbrev view : Local
+        abbrev view : NodeMemory
         view = record taken.local { reservation = cleared_by layout order (reserved p) }
 
         suits_view : Suits work.program view

@@ -4,21 +4,21 @@ use Rattle.std.proofs.Common.{◌≡◌, ℕ, ◌<◌, cond, eqb, Bool, true, fa
 use Rattle.std.specs.Prelude.{is_some, unwrap_or, ◌||◌}
 use Rattle.std.specs.Option.{option_map_or, option_to_list}
 use Rattle.block_layout.specs.Layout.{Shape, block_of}
-use Rattle.home_directory.specs.declared.messages.Need.{Need}
-use Rattle.home_directory.specs.declared.messages.Need.TheVariants.{Read, Write}
+use Rattle.home_directory.specs.dsm_messages.declared.messages.Need.{Need}
+use Rattle.home_directory.specs.dsm_messages.declared.messages.Need.TheVariants.{Read, Write}
 use Rattle.home_directory.specs.declared.wait.Wait.{Wait}
 use Rattle.rv32_program.specs.Program.{line_of}
 use Rattle.rv32_step.specs.Breaks.{is_in_block}
 use Rattle.templates.specs.declared.plans.PlanEntry.{PlanEntry}
 use Rattle.dsm_protocol.specs.Holds.{wanted}
 use Rattle.node_model.specs.declared.NodeCounts.{NodeCounts}
-use Rattle.node_model.specs.Node.{Work, Local, Want}
+use Rattle.node_model.specs.Node.{Work, NodeMemory, Want}
 use Rattle.node_model.specs.Turns.{Turn, want_in}
 use Rattle.node_model.specs.Core.{Core}
 use Rattle.rewriting_law.proofs.templates.RegisterLemmas.{equal}
 use Rattle.rewriting_law.proofs.one_memory.Sharing.{with_local}
 use Rattle.rewriting_law.proofs.one_memory.Pending.{wanted_in, is_pending, pending}
-use Rattle.rewriting_law.proofs.protocol_side.ProtocolSide.{Treated}
+use Rattle.rewriting_law.proofs.protocol_side.ProtocolSide.{Handled}
 use Rattle.rewriting_law.proofs.protocol_side.Directory.{Rest, directory}
 use Rattle.rewriting_law.proofs.protocol_side.DirectorySide.{is_waiting}
 use Rattle.rewriting_law.proofs.runs.TurnTies.{rest_of, SameRest, IsTurn, own_wait, AllFound, want_turned}
@@ -49,7 +49,7 @@ module _ (c : LaneCore) (i k : ℕ) where
   }
 
   -- what nodes keep of blocks, and the lists, after the turn
-  pub rest_then : (t : Turn) (u : Treated Rest) (lanes : ℕ → LanePart) (reserved : ℕ → Option ℕ)
+  pub rest_then : (t : Turn) (u : Handled Rest) (lanes : ℕ → LanePart) (reserved : ℕ → Option ℕ)
       (holder : ℕ → ℕ) (counts : NodeCounts) (printed : Option ℕ) → IsTurn (view c k) i t u
       → SameRest u.rest
       (rest_of (view (with_turn c i (lane_turn t lanes reserved holder counts printed)) 0))
@@ -103,24 +103,24 @@ module _ (layout : Shape) (work : Work) (processors : ℕ) (node_of : ℕ → �
 
   -- what a node has asked for, and what it changes
   pub record IsAsked (t : Asked) (u : LaneAsked) : Type 0 where
-    pub turned : IsTurn c i t.turn u.treated
+    pub turned : IsTurn c i t.turn u.handled
     pub again : t.again ≡ u.again
 
   abbrev block_wanted : Want → ℕ
   block_wanted w =
       wants.block_wanted layout work processors node_of placed plan (directory layout) w
 
-  abbrev ask_lane : (ℕ → Local) → LaneAsked → Want → LaneAsked
+  abbrev ask_lane : (ℕ → NodeMemory) → LaneAsked → Want → LaneAsked
   ask_lane locals u w =
       wants.ask layout work processors node_of placed plan (directory layout) locals i u w
 
-  ask_turned : (locals : ℕ → Local) (t : Asked) (u : LaneAsked) (w : Want)
+  ask_turned : (locals : ℕ → NodeMemory) (t : Asked) (u : LaneAsked) (w : Want)
       → block_of layout (line_of w.at) ≡ Some (block_wanted w) → IsAsked t u
       → IsAsked (ask layout w.need (block_of layout (line_of w.at)) t) (ask_lane locals u w)
   ask_turned locals t u w is h =
       subst (λ o. IsAsked (ask layout w.need o t) (ask_lane locals u w)) (sym is) (record {
         turned = subst (λ s. IsTurn c i (cond s t.turn (want_in layout t.turn w.need (Some b)))
-            (ask_lane locals u w).treated) (sym some) (by (is_some waits));
+            (ask_lane locals u w).handled) (sym some) (by (is_some waits));
         again = ap (λ x. x || exceeds (t.turn.node.wait b) w.need) h.again
             ∙ ap (λ x. u.again || x)
             (exceeds_same (t.turn.node.wait b) w.need
@@ -131,22 +131,22 @@ module _ (layout : Shape) (work : Work) (processors : ℕ) (node_of : ℕ → �
       b = block_wanted w
 
       waits : Option Need
-      waits = wanted (u.treated.rest.wait i b)
+      waits = wanted (u.handled.rest.wait i b)
 
-      same : t.turn.node.wait b ≡ u.treated.rest.wait i b
-      same = ap (λ (f : ℕ → Option Wait). f b) (own_wait c i t.turn u.treated h.turned)
+      same : t.turn.node.wait b ≡ u.handled.rest.wait i b
+      same = ap (λ (f : ℕ → Option Wait). f b) (own_wait c i t.turn u.handled h.turned)
 
       some : is_some (t.turn.node.wait b) ≡ is_some waits
       some = is_waiting (t.turn.node.wait b) ∙ ap (λ o. is_some (wanted o)) same
 
       by : (s : Bool)
           → IsTurn c i (cond s t.turn (want_in layout t.turn w.need (Some b)))
-          (cond s u.treated ((directory layout).want (with_local locals i u.treated.local)
-          u.treated.rest i b w.need))
+          (cond s u.handled ((directory layout).want (with_local locals i u.handled.local)
+          u.handled.rest i b w.need))
       by true = h.turned
-      by false = want_turned c i layout locals t.turn u.treated b w.need h.turned
+      by false = want_turned c i layout locals t.turn u.handled b w.need h.turned
 
-  pub asks_turned : (locals : ℕ → Local) (ws : List Want) (t : Asked) (u : LaneAsked)
+  pub asks_turned : (locals : ℕ → NodeMemory) (ws : List Want) (t : Asked) (u : LaneAsked)
       → AllFound c i layout ws → IsAsked t u
       → IsAsked (ask_all layout ws t)
       (wants.ask_all layout work processors node_of placed plan (directory layout) locals i u ws)

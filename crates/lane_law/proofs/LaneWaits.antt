@@ -7,7 +7,7 @@ use Rattle.std.proofs.lemmas.Bool.Decides.{eqb_tells, nat_tests}
 use Rattle.block_layout.specs.Layout.{Shape, block_of}
 use Rattle.rv32_program.specs.Program.{line_of}
 use Rattle.rv32_step.specs.Breaks.{is_in_block}
-use Rattle.home_directory.specs.declared.messages.Need.{Need}
+use Rattle.home_directory.specs.dsm_messages.declared.messages.Need.{Need}
 use Rattle.home_directory.specs.Home.{count_of}
 use Rattle.node_model.specs.Node.{Want}
 use Rattle.rewriting_law.proofs.templates.RegisterLemmas.{equal, apart}

@@ -7,9 +7,9 @@ use Rattle.rv32_program.specs.Program.{line_of}
 use Rattle.rv32_step.specs.Breaks.{is_in_block}
 use Rattle.rv32_step.specs.OneMemory.{Processor, State}
 use Rattle.templates.specs.declared.plans.PlanEntry.{PlanEntry}
-use Rattle.home_directory.specs.declared.messages.Need.{Need}
-use Rattle.home_directory.specs.declared.messages.Need.TheVariants.{Read, Write}
-use Rattle.node_model.specs.Node.{Work, Local, Want, is_readable_state, is_writable_state}
+use Rattle.home_directory.specs.dsm_messages.declared.messages.Need.{Need}
+use Rattle.home_directory.specs.dsm_messages.declared.messages.Need.TheVariants.{Read, Write}
+use Rattle.node_model.specs.Node.{Work, NodeMemory, Want, is_readable_state, is_writable_state}
 use Rattle.rewriting_law.proofs.templates.RegisterLemmas.{equal}
 use Rattle.rewriting_law.proofs.templates.States.{grants}
 use Rattle.rewriting_law.proofs.templates.Does.{IsWanted}
@@ -17,7 +17,7 @@ use Rattle.rewriting_law.proofs.words.CodeSide.{AllWanted, IsAlone}
 use Rattle.rewriting_law.proofs.one_memory.Sharing.{with_local, local_here, is_same, readable_if_writable}
 use Rattle.rewriting_law.proofs.one_memory.Messages.{AreLaidOut}
 use Rattle.rewriting_law.proofs.one_memory.Pending.{wanted_in}
-use Rattle.rewriting_law.proofs.protocol_side.ProtocolSide.{Treated, Protocol, ProtocolSide, WantLeaves, sharing_by}
+use Rattle.rewriting_law.proofs.protocol_side.ProtocolSide.{Handled, Protocol, ProtocolSide, WantLeaves, sharing_by}
 use Rattle.lane_law.proofs.LaneSharing.{Shares}
 use Rattle.lane_law.proofs.LaneMessages.{want_shares}
 
@@ -77,31 +77,31 @@ module _ (layout : Shape) (work : Work) (processors : ℕ) (node_of : ℕ → �
     (protocol : Protocol) where
   -- what a node is and what it has asked for, and whether its processor executes its word again
   pub record Asked : Type 0 where
-    pub treated : Treated protocol.Rest
+    pub handled : Handled protocol.Rest
     pub again : Bool
 
   abbrev pub block_wanted : Want → ℕ
   block_wanted w = unwrap_or (block_of layout (line_of w.at)) 0
 
-  abbrev pub waited : Treated protocol.Rest → (i : ℕ) → Want → Option Need
+  abbrev pub waited : Handled protocol.Rest → (i : ℕ) → Want → Option Need
   waited t i w = protocol.wait t.rest i (block_wanted w)
 
   -- one block more is asked for, where no processor of the node waits for it
-  abbrev pub ask : (ℕ → Local) → ℕ → Asked → Want → Asked
+  abbrev pub ask : (ℕ → NodeMemory) → ℕ → Asked → Want → Asked
   ask locals i t w = record {
-    treated = if is_some (waited t.treated i w) then t.treated
-        else protocol.want (with_local locals i t.treated.local) t.treated.rest i (block_wanted w)
+    handled = if is_some (waited t.handled i w) then t.handled
+        else protocol.want (with_local locals i t.handled.local) t.handled.rest i (block_wanted w)
         w.need;
-    again = t.again || exceeds (waited t.treated i w) w.need;
+    again = t.again || exceeds (waited t.handled i w) w.need;
   }
 
-  abbrev pub ask_all : (ℕ → Local) → ℕ → Asked → List Want → Asked
+  abbrev pub ask_all : (ℕ → NodeMemory) → ℕ → Asked → List Want → Asked
   ask_all locals i t [] = t
   ask_all locals i t (w ∷ ws) = ask_all locals i (ask locals i t w) ws
 
-  abbrev pub want_all : (ℕ → Local) → protocol.Rest → ℕ → List Want → Asked
+  abbrev pub want_all : (ℕ → NodeMemory) → protocol.Rest → ℕ → List Want → Asked
   want_all locals rest i ws =
-      ask_all locals i (record { treated = record { local = locals i; rest = rest }; again = false })
+      ask_all locals i (record { handled = record { local = locals i; rest = rest }; again = false })
       ws
 
   module _ (side : ProtocolSide layout work protocol) (laid : AreLaidOut layout work) (most : ℕ)
@@ -114,7 +114,7 @@ module _ (layout : Shape) (work : Work) (processors : ℕ) (node_of : ℕ → �
       -- node waits for fewer than it may. What may be written may still be written
       abbrev pub WantsMore : Type 0
       WantsMore =
-          (locals : ℕ → Local) (rest : protocol.Rest) (memory : ℕ → ℕ)
+          (locals : ℕ → NodeMemory) (rest : protocol.Rest) (memory : ℕ → ℕ)
           → side.Holds locals rest memory → (i : ℕ) → i < work.layout.nodes → (a b : ℕ) (need : Need)
           → block_of layout (line_of a) ≡ Some b → (qs : List Want) → length qs < most
           → AreWaits rest i qs → protocol.wait rest i b ≡ None
@@ -124,41 +124,41 @@ module _ (layout : Shape) (work : Work) (processors : ℕ) (node_of : ℕ → �
           × ((line : ℕ) → is_writable_state ((locals i).state line) ≡ true
           → is_writable_state ((protocol.want locals rest i b need).local.state line) ≡ true)
 
-      module _ (more : WantsMore) (locals : ℕ → Local) (rest : protocol.Rest)
+      module _ (more : WantsMore) (locals : ℕ → NodeMemory) (rest : protocol.Rest)
           (reserved : ℕ → Option ℕ) (s : State) (i : ℕ) (below : i < work.layout.nodes)
           (q : Processor) (qs : List Want) (are : AreWaits rest i qs) (room : length qs + 2 ≤ most)
         where
-          abbrev SharesHere : protocol.Rest → (ℕ → Local) → Type 0
+          abbrev SharesHere : protocol.Rest → (ℕ → NodeMemory) → Type 0
           SharesHere r ls =
               Shares layout work processors node_of placed
               (sharing_by layout work protocol side laid r) ls reserved s
 
           pub record AllAsked (ws : List Want) (t : Asked) : Type 0 where
-            pub shares : SharesHere t.treated.rest (with_local locals i t.treated.local)
+            pub shares : SharesHere t.handled.rest (with_local locals i t.handled.local)
             pub listed : List Want
             pub few : length listed ≤ length qs + length ws
-            pub waits : AreWaits t.treated.rest i listed
+            pub waits : AreWaits t.handled.rest i listed
             -- each want has its wait, which serves, or the word is executed again
             pub covered : (c : ℕ) (need : Need) → wanted_in layout c ws ≡ Some need
-                → IsCovered (protocol.wait t.treated.rest i c) need t.again
+                → IsCovered (protocol.wait t.handled.rest i c) need t.again
             -- what was waited for is, for what it was
             pub kept : (c : ℕ) (have : Need) → protocol.wait rest i c ≡ Some have
-                → protocol.wait t.treated.rest i c ≡ Some have
+                → protocol.wait t.handled.rest i c ≡ Some have
             -- and what is was, or is wanted here
-            pub fresh : (c : ℕ) (have : Need) → protocol.wait t.treated.rest i c ≡ Some have
+            pub fresh : (c : ℕ) (have : Need) → protocol.wait t.handled.rest i c ≡ Some have
                 → (protocol.wait rest i c ≡ Some have)
                 ⊎ ((protocol.wait rest i c ≡ None) × (wanted_in layout c ws ≡ Some have))
             pub others : (x c : ℕ) → eqb x i ≡ false
-                → protocol.wait t.treated.rest x c ≡ protocol.wait rest x c
+                → protocol.wait t.handled.rest x c ≡ protocol.wait rest x c
             pub states : (line c : ℕ) → block_of layout line ≡ Some c → wanted_in layout c ws ≡ None
-                → t.treated.local.state line ≡ (locals i).state line
+                → t.handled.local.state line ≡ (locals i).state line
             pub reads : (line : ℕ) → is_readable_state ((locals i).state line) ≡ true
-                → is_readable_state (t.treated.local.state line) ≡ true
+                → is_readable_state (t.handled.local.state line) ≡ true
             pub writes : (line : ℕ) → is_writable_state ((locals i).state line) ≡ true
-                → is_writable_state (t.treated.local.state line) ≡ true
+                → is_writable_state (t.handled.local.state line) ≡ true
 
           none_asked : SharesHere rest locals
-              → AllAsked [] (record { treated = record { local = locals i; rest = rest }; again = false })
+              → AllAsked [] (record { handled = record { local = locals i; rest = rest }; again = false })
           none_asked shares = record {
             shares = record {
               held = side.like locals (with_local locals i (locals i)) rest s.shared
@@ -257,10 +257,10 @@ module _ (layout : Shape) (work : Work) (processors : ℕ) (node_of : ℕ → �
                 wanted_more b ∙ ap (λ u. cond u (Some w.need) (wanted_in layout b ws)) (equal b b refl)
 
             -- another processor of the node waits for it
-            joins : (have : Need) → protocol.wait t1.treated.rest i b ≡ Some have
+            joins : (have : Need) → protocol.wait t1.handled.rest i b ≡ Some have
                 → AllAsked (w ∷ ws) (record {
-                  treated = t1.treated;
-                  again = t1.again || exceeds (protocol.wait t1.treated.rest i b) w.need;
+                  handled = t1.handled;
+                  again = t1.again || exceeds (protocol.wait t1.handled.rest i b) w.need;
                 })
             joins have is = record {
               shares = a.shares;
@@ -268,13 +268,13 @@ module _ (layout : Shape) (work : Work) (processors : ℕ) (node_of : ℕ → �
               few = let f = a.few in omega (arith, f);
               waits = a.waits;
               covered = λ c need e. elim (by_block c need e) [
-                | inl f ↦ subst (λ z. IsCovered (protocol.wait t1.treated.rest i z) need
-                    (t1.again || exceeds (protocol.wait t1.treated.rest i b) w.need)) f.0
-                    (subst (λ z. IsCovered (protocol.wait t1.treated.rest i b) z
-                    (t1.again || exceeds (protocol.wait t1.treated.rest i b) w.need)) f.1
-                    (covered_by (protocol.wait t1.treated.rest i b) have w.need t1.again is))
-                | inr f ↦ covered_more (protocol.wait t1.treated.rest i c) need t1.again
-                    (exceeds (protocol.wait t1.treated.rest i b) w.need) (a.covered c need f.1)
+                | inl f ↦ subst (λ z. IsCovered (protocol.wait t1.handled.rest i z) need
+                    (t1.again || exceeds (protocol.wait t1.handled.rest i b) w.need)) f.0
+                    (subst (λ z. IsCovered (protocol.wait t1.handled.rest i b) z
+                    (t1.again || exceeds (protocol.wait t1.handled.rest i b) w.need)) f.1
+                    (covered_by (protocol.wait t1.handled.rest i b) have w.need t1.again is))
+                | inr f ↦ covered_more (protocol.wait t1.handled.rest i c) need t1.again
+                    (exceeds (protocol.wait t1.handled.rest i b) w.need) (a.covered c need f.1)
               ];
               kept = a.kept;
               fresh = λ c d e. elim (a.fresh c d e) [
@@ -289,29 +289,29 @@ module _ (layout : Shape) (work : Work) (processors : ℕ) (node_of : ℕ → �
             }
 
             -- no other does
-            asks : length ws < 2 → protocol.wait t1.treated.rest i b ≡ None
+            asks : length ws < 2 → protocol.wait t1.handled.rest i b ≡ None
                 → grants w.need ((locals i).state (line_of w.at)) ≡ false
                 → AllAsked (w ∷ ws) (record {
-                  treated = protocol.want (with_local locals i t1.treated.local) t1.treated.rest i b
+                  handled = protocol.want (with_local locals i t1.handled.local) t1.handled.rest i b
                       w.need;
-                  again = t1.again || exceeds (protocol.wait t1.treated.rest i b) w.need;
+                  again = t1.again || exceeds (protocol.wait t1.handled.rest i b) w.need;
                 })
             asks low is unmet =
-                let locals1 = with_local locals i t1.treated.local in
-                let here : locals1 i ≡ t1.treated.local = local_here locals i t1.treated.local in
+                let locals1 = with_local locals i t1.handled.local in
+                let here : locals1 i ≡ t1.handled.local = local_here locals i t1.handled.local in
                 let unmet1 : grants w.need ((locals1 i).state (line_of w.at)) ≡ false =
-                ap (λ (n : Local). grants w.need (n.state (line_of w.at))) here
+                ap (λ (n : NodeMemory). grants w.need (n.state (line_of w.at))) here
                 ∙ ap (grants w.need) (a.states (line_of w.at) b lies free) ∙ unmet in
-                let t = protocol.want locals1 t1.treated.rest i b w.need in
+                let t = protocol.want locals1 t1.handled.rest i b w.need in
                 let f = a.few in
-                let both = more locals1 t1.treated.rest s.shared a.shares.held i below w.at b w.need lies
+                let both = more locals1 t1.handled.rest s.shared a.shares.held i below w.at b w.need lies
                 a.listed (omega (arith, f, low, room)) a.waits is unmet1 in
                 let left = both.0 in
                 let other : (c : ℕ) → eqb b c ≡ false
-                → protocol.wait t.rest i c ≡ protocol.wait t1.treated.rest i c =
+                → protocol.wait t.rest i c ≡ protocol.wait t1.handled.rest i c =
                 λ c f. left.others i c (ap (λ u. u && eqb c b) (equal i i refl) ∙ flip c b f) in
                 let shares1 = want_shares layout work processors node_of placed
-                (sharing_by layout work protocol side laid t1.treated.rest)
+                (sharing_by layout work protocol side laid t1.handled.rest)
                 (sharing_by layout work protocol side laid t.rest) locals1 reserved s i t.local a.shares
                 None (record {
                   held = left.held;
@@ -325,19 +325,19 @@ module _ (layout : Shape) (work : Work) (processors : ℕ) (node_of : ℕ → �
                   shares = record {
                     held = side.like (with_local locals1 i t.local) (with_local locals i t.local) t.rest
                         s.shared
-                        (λ j. (elim (eqb j i) as (λ u. (cond u t.local (cond u t1.treated.local
+                        (λ j. (elim (eqb j i) as (λ u. (cond u t.local (cond u t1.handled.local
                         (locals j))).copy ≡ (cond u t.local (locals j)).copy) [
                           | true ↦ refl
                           | false ↦ refl
                         ]))
-                        (λ j. (elim (eqb j i) as (λ u. (cond u t.local (cond u t1.treated.local
+                        (λ j. (elim (eqb j i) as (λ u. (cond u t.local (cond u t1.handled.local
                         (locals j))).state ≡ (cond u t.local (locals j)).state) [
                           | true ↦ refl
                           | false ↦ refl
                         ])) shares1.held;
                     reservations = shares1.reservations;
                     readable = λ j low x f c. (elim (eqb (node_of j) i) as (λ u.
-                        is_readable_state ((cond u t.local (cond u t1.treated.local
+                        is_readable_state ((cond u t.local (cond u t1.handled.local
                         (locals (node_of j)))).state (line_of x)) ≡ true
                         → is_readable_state ((cond u t.local (locals (node_of j))).state (line_of x))
                         ≡ true) [
@@ -352,15 +352,15 @@ module _ (layout : Shape) (work : Work) (processors : ℕ) (node_of : ℕ → �
                   };
                   covered = λ c need e. elim (by_block c need e) [
                     | inl f ↦ subst (λ z. IsCovered (protocol.wait t.rest i z) need
-                        (t1.again || exceeds (protocol.wait t1.treated.rest i b) w.need)) f.0
+                        (t1.again || exceeds (protocol.wait t1.handled.rest i b) w.need)) f.0
                         (subst (λ z. IsCovered z need
-                        (t1.again || exceeds (protocol.wait t1.treated.rest i b) w.need)) (sym left.own)
+                        (t1.again || exceeds (protocol.wait t1.handled.rest i b) w.need)) (sym left.own)
                         (inr (subst (Covers w.need) f.1 (covers_self w.need))))
                     | inr f ↦ subst (λ z. IsCovered z need
-                        (t1.again || exceeds (protocol.wait t1.treated.rest i b) w.need))
+                        (t1.again || exceeds (protocol.wait t1.handled.rest i b) w.need))
                         (sym (other c f.0))
-                        (covered_more (protocol.wait t1.treated.rest i c) need t1.again
-                        (exceeds (protocol.wait t1.treated.rest i b) w.need) (a.covered c need f.1))
+                        (covered_more (protocol.wait t1.handled.rest i c) need t1.again
+                        (exceeds (protocol.wait t1.handled.rest i b) w.need) (a.covered c need f.1))
                   ];
                   kept = λ c have e. other c (apart_from c have (a.kept c have e)) ∙ a.kept c have e;
                   fresh = λ c have e. by_own (protocol.wait t.rest i) c have left.own (other c) e;
@@ -369,11 +369,11 @@ module _ (layout : Shape) (work : Work) (processors : ℕ) (node_of : ℕ → �
                   states = λ line c e f.
                       let g = not_first c w ws (is_in_block layout c w.at) refl f in
                       left.elsewhere line c e (flip c b (sym (within c) ∙ g.0))
-                      ∙ ap (λ (n : Local). n.state line) here ∙ a.states line c e g.1;
+                      ∙ ap (λ (n : NodeMemory). n.state line) here ∙ a.states line c e g.1;
                   reads = λ line e. left.reads line
-                      (ap (λ (n : Local). is_readable_state (n.state line)) here ∙ a.reads line e);
+                      (ap (λ (n : NodeMemory). is_readable_state (n.state line)) here ∙ a.reads line e);
                   writes = λ line e. both.1 line
-                      (ap (λ (n : Local). is_writable_state (n.state line)) here ∙ a.writes line e);
+                      (ap (λ (n : NodeMemory). is_writable_state (n.state line)) here ∙ a.writes line e);
                 }
               where
                 flip : (c b : ℕ) → eqb b c ≡ false → eqb c b ≡ false
@@ -385,8 +385,8 @@ module _ (layout : Shape) (work : Work) (processors : ℕ) (node_of : ℕ → �
                         let bad : false ≡ true = sym e ∙ equal b c (sym (is_same c b f)) in cc
 
                 by_list : (after : ℕ → Option Need) (c : ℕ) → after b ≡ Some w.need
-                    → (eqb b c ≡ false → after c ≡ protocol.wait t1.treated.rest i c)
-                    → protocol.wait t1.treated.rest i c ≡ wanted_in layout c a.listed
+                    → (eqb b c ≡ false → after c ≡ protocol.wait t1.handled.rest i c)
+                    → protocol.wait t1.handled.rest i c ≡ wanted_in layout c a.listed
                     → after c ≡ wanted_in layout c (w ∷ a.listed)
                 by_list after c own other before =
                     go (eqb b c) refl
@@ -399,7 +399,7 @@ module _ (layout : Shape) (work : Work) (processors : ℕ) (node_of : ℕ → �
                     go false f = other f ∙ before
                         ∙ sym (ap (λ u. cond u (Some w.need) (wanted_in layout c a.listed)) f)
 
-                apart_from : (c : ℕ) (have : Need) → protocol.wait t1.treated.rest i c ≡ Some have
+                apart_from : (c : ℕ) (have : Need) → protocol.wait t1.handled.rest i c ≡ Some have
                     → eqb b c ≡ false
                 apart_from c have e = go (eqb b c) refl
                   where
@@ -407,10 +407,10 @@ module _ (layout : Shape) (work : Work) (processors : ℕ) (node_of : ℕ → �
                     go false f = f
                     go true f =
                         let bad : None ≡ Some have =
-                        sym is ∙ ap (protocol.wait t1.treated.rest i) (is_same b c f) ∙ e in cc
+                        sym is ∙ ap (protocol.wait t1.handled.rest i) (is_same b c f) ∙ e in cc
 
                 by_own : (after : ℕ → Option Need) (c : ℕ) (have : Need) → after b ≡ Some w.need
-                    → (eqb b c ≡ false → after c ≡ protocol.wait t1.treated.rest i c)
+                    → (eqb b c ≡ false → after c ≡ protocol.wait t1.handled.rest i c)
                     → after c ≡ Some have
                     → (protocol.wait rest i c ≡ Some have)
                     ⊎ ((protocol.wait rest i c ≡ None) × (wanted_in layout c (w ∷ ws) ≡ Some have))
@@ -443,7 +443,7 @@ module _ (layout : Shape) (work : Work) (processors : ℕ) (node_of : ℕ → �
               → IsWanted work.program q (locals i) w → IsAlone layout w ws → length ws < 2
               → AllAsked (w ∷ ws) (ask locals i t1 w)
           more_asked ws t1 a w wanted alone low =
-              go (protocol.wait t1.treated.rest i (block_wanted w)) refl
+              go (protocol.wait t1.handled.rest i (block_wanted w)) refl
             where
               found : (b : ℕ) × (block_of layout (line_of w.at) ≡ Some b)
               found = laid.found (line_of w.at) wanted.shared
@@ -456,12 +456,12 @@ module _ (layout : Shape) (work : Work) (processors : ℕ) (node_of : ℕ → �
 
               by : Bool → Asked
               by u = record {
-                treated = cond u t1.treated (protocol.want (with_local locals i t1.treated.local)
-                    t1.treated.rest i (block_wanted w) w.need);
-                again = t1.again || exceeds (waited t1.treated i w) w.need;
+                handled = cond u t1.handled (protocol.want (with_local locals i t1.handled.local)
+                    t1.handled.rest i (block_wanted w) w.need);
+                again = t1.again || exceeds (waited t1.handled i w) w.need;
               }
 
-              go : (o : Option Need) → protocol.wait t1.treated.rest i (block_wanted w) ≡ o
+              go : (o : Option Need) → protocol.wait t1.handled.rest i (block_wanted w) ≡ o
                   → AllAsked (w ∷ ws) (ask locals i t1 w)
               go None e =
                   subst (λ u. AllAsked (w ∷ ws) (by u)) (sym (ap is_some e))
@@ -513,12 +513,12 @@ module _ (layout : Shape) (work : Work) (processors : ℕ) (node_of : ℕ → �
           all_asked shares [] wanted few = none_asked shares
           all_asked shares (w ∷ []) wanted few =
               more_asked [] (record {
-                treated = record { local = locals i; rest = rest };
+                handled = record { local = locals i; rest = rest };
                 again = false;
               }) (none_asked shares) w wanted.0 tt (omega arith)
           all_asked shares (w ∷ v ∷ []) wanted few =
               let t0 : Asked = record {
-                treated = record { local = locals i; rest = rest };
+                handled = record { local = locals i; rest = rest };
                 again = false;
               } in
               let other = wanted.1.0 in

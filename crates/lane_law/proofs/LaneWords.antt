@@ -4,7 +4,7 @@ use Rattle.std.proofs.Common.{◌≡◌, ℕ, ◌+◌, ◌<◌, ◌≤◌, cond,
 use Rattle.std.specs.Prelude.{is_some, not, ◌&&◌}
 use Rattle.block_layout.specs.Layout.{Shape, block_of}
 use Rattle.block_layout.specs.Update.{changed}
-use Rattle.home_directory.specs.declared.messages.Need.{Need}
+use Rattle.home_directory.specs.dsm_messages.declared.messages.Need.{Need}
 use Rattle.home_directory.specs.declared.wait.Wait.{Wait}
 use Rattle.rv32_program.specs.declared.End.TheVariants.{Stopped}
 use Rattle.rv32_program.specs.Program.{line_of}
@@ -16,7 +16,7 @@ use Rattle.node_model.specs.jump_map.Maps.{old_of}
 use Rattle.dsm_protocol.specs.Abstraction.{most_waits}
 use Rattle.dsm_protocol.specs.Holds.{wanted}
 use Rattle.node_model.specs.Core.{Core}
-use Rattle.node_model.specs.Node.{Work, Node, Lane, Local, Want, Move, Next, Again, To, Enters, Waits, Leaves, Outcome, Running, Ended, lane_after, phase_after, stop_or, word_outcome}
+use Rattle.node_model.specs.Node.{Work, Node, ProcessorState, NodeMemory, Want, Move, Next, Again, To, Enters, Waits, Leaves, WordOutcome, Running, Ended, lane_after, phase_after, stop_or, word_outcome}
 use Rattle.node_model.specs.Turns.{Turn, want_in, each_block_once, wants_of, after_word}
 use Rattle.rewriting_law.specs.CoreRun.{is_wait}
 use Rattle.rewriting_law.proofs.templates.RegisterLemmas.{equal}
@@ -26,7 +26,7 @@ use Rattle.rewriting_law.proofs.one_memory.Advances.{Advanced}
 use Rattle.rewriting_law.proofs.one_memory.Sharing.{with_local, is_same, local_here}
 use Rattle.rewriting_law.proofs.one_memory.Pending.{wanted_in}
 use Rattle.home_directory.specs.Table.{Miss}
-use Rattle.rewriting_law.proofs.protocol_side.ProtocolSide.{Treated}
+use Rattle.rewriting_law.proofs.protocol_side.ProtocolSide.{Handled}
 use Rattle.rewriting_law.proofs.protocol_side.Spending.{Counts}
 use Rattle.rewriting_law.proofs.protocol_side.Directory.{Rest, directory, missed}
 use Rattle.rewriting_law.proofs.protocol_side.DirectorySide.{Layout, is_waiting}
@@ -88,7 +88,7 @@ module _ (layout : Shape) where
 abbrev pub WordCounts : (old new : Counts) → Type 0
 WordCounts old new = (new.asked ≤ old.asked + 2) × (new.taken ≡ old.taken)
 
-missed_counts : (layout : Shape) (n : Local) (rest : Rest) (i b : ℕ) (o : Option Miss)
+missed_counts : (layout : Shape) (n : NodeMemory) (rest : Rest) (i b : ℕ) (o : Option Miss)
     → ((missed layout n rest i b o).rest.counts.asked ≤ rest.counts.asked + 1)
     × ((missed layout n rest i b o).rest.counts.taken ≡ rest.counts.taken)
 missed_counts layout n rest i b None = (omega arith, refl)
@@ -96,7 +96,7 @@ missed_counts layout n rest i b (Some miss) = (omega arith, refl)
 
 module _ (layout : Shape) (work : Work) (processors : ℕ) (node_of : ℕ → ℕ)
     (placed : (p : ℕ) → p < processors → node_of p < work.layout.nodes) (plan : List PlanEntry)
-    (c : Core) (i : ℕ) (locals : ℕ → Local) where
+    (c : Core) (i : ℕ) (locals : ℕ → NodeMemory) where
   abbrev Lane_asked : Type 0
   Lane_asked = LaneAsked layout work processors node_of placed plan c i
 
@@ -105,25 +105,25 @@ module _ (layout : Shape) (work : Work) (processors : ℕ) (node_of : ℕ → �
 
   abbrev AreCounts : ℕ → Lane_asked → Lane_asked → Type 0
   AreCounts d t u =
-      (u.treated.rest.counts.asked ≤ t.treated.rest.counts.asked + d)
-      × (u.treated.rest.counts.taken ≡ t.treated.rest.counts.taken)
+      (u.handled.rest.counts.asked ≤ t.handled.rest.counts.asked + d)
+      × (u.handled.rest.counts.taken ≡ t.handled.rest.counts.taken)
 
   ask_counts : (t : Lane_asked) (v : Want) → AreCounts 1 t (ask_one t v)
   ask_counts t v =
       either (is_some (wants.waited layout work processors node_of placed plan (directory layout)
-      t.treated i v)) (missed_counts layout _ t.treated.rest i _ _)
+      t.handled i v)) (missed_counts layout _ t.handled.rest i _ _)
     where
       b : ℕ
       b = wants.block_wanted layout work processors node_of placed plan (directory layout) v
 
-      new : Treated Rest
-      new = (directory layout).want (with_local locals i t.treated.local) t.treated.rest i b v.need
+      new : Handled Rest
+      new = (directory layout).want (with_local locals i t.handled.local) t.handled.rest i b v.need
 
       either : (z : Bool)
-          → (new.rest.counts.asked ≤ t.treated.rest.counts.asked + 1)
-          × (new.rest.counts.taken ≡ t.treated.rest.counts.taken)
-          → ((cond z t.treated new).rest.counts.asked ≤ t.treated.rest.counts.asked + 1)
-          × ((cond z t.treated new).rest.counts.taken ≡ t.treated.rest.counts.taken)
+          → (new.rest.counts.asked ≤ t.handled.rest.counts.asked + 1)
+          × (new.rest.counts.taken ≡ t.handled.rest.counts.taken)
+          → ((cond z t.handled new).rest.counts.asked ≤ t.handled.rest.counts.asked + 1)
+          × ((cond z t.handled new).rest.counts.taken ≡ t.handled.rest.counts.taken)
       either true h = (omega arith, refl)
       either false h = h
 
@@ -169,7 +169,7 @@ module _ (w : LaneWork) (plan : List PlanEntry) (lay : Layout w.work) (some : 0 
   abbrev q : Processor
   q = s.processors p
 
-  abbrev r : Outcome
+  abbrev r : WordOutcome
   r = word_outcome w.work n
 
   abbrev kind : CommitKind
@@ -178,10 +178,10 @@ module _ (w : LaneWork) (plan : List PlanEntry) (lay : Layout w.work) (some : 0 
   abbrev rest : Rest
   rest = rest_at m.counts (view c 0)
 
-  abbrev lanes : ℕ → Lane
+  abbrev lanes : ℕ → ProcessorState
   lanes = lanes_in w c.nodes
 
-  abbrev locals : ℕ → Local
+  abbrev locals : ℕ → NodeMemory
   locals = locals_in c.nodes
 
   abbrev reserved : ℕ → Option ℕ
@@ -190,7 +190,7 @@ module _ (w : LaneWork) (plan : List PlanEntry) (lay : Layout w.work) (some : 0 
   abbrev holder : ℕ → ℕ → ℕ
   holder = holder_in w c.nodes
 
-  abbrev StandsBy : Doing → Processor → Lane → Local → Type 0
+  abbrev StandsBy : Doing → Processor → ProcessorState → NodeMemory → Type 0
   StandsBy = StandsIn w.work.layout w.work (processors w) (node_of w) there plan code
       (protocol w plan lay some code) (side w plan lay some code) (laid w plan lay some code)
 
@@ -226,7 +226,7 @@ module _ (w : LaneWork) (plan : List PlanEntry) (lay : Layout w.work) (some : 0 
 
   -- 2. What it asks for
 
-  abbrev locals1 : ℕ → Local
+  abbrev locals1 : ℕ → NodeMemory
   locals1 = with_local locals i r.local
 
   abbrev asked : LaneAsked w.work.layout w.work (processors w) (node_of w) there plan (view c k) i
@@ -240,7 +240,7 @@ module _ (w : LaneWork) (plan : List PlanEntry) (lay : Layout w.work) (some : 0 
   is_asked =
       asks_turned w.work.layout w.work (processors w) (node_of w) there plan (view c k) i locals1
       (wants_at w x k) (record { turn = after_word w.work n; again = false })
-      (record { treated = record { local = locals1 i; rest = rest }; again = false }) found
+      (record { handled = record { local = locals1 i; rest = rest }; again = false }) found
       (record {
         turned = subst (λ y. IsTurn (view c k) i (after_word w.work n)
             (record { local = y; rest = rest })) (sym (local_here locals i r.local))
@@ -340,8 +340,8 @@ module _ (w : LaneWork) (plan : List PlanEntry) (lay : Layout w.work) (some : 0 
   wants_wait (Waits resume want more) is waits b need h =
       is_waiting (t.turn.node.wait b)
       ∙ ap (λ (f : ℕ → Option Wait). is_some (wanted (f b)))
-      (own_wait (view c k) i t.turn asked.treated is_asked.turned)
-      ∙ some_if (wanted (asked.treated.rest.wait i b)) covered
+      (own_wait (view c k) i t.turn asked.handled is_asked.turned)
+      ∙ some_if (wanted (asked.handled.rest.wait i b)) covered
     where
       some_if : (o : Option Need) → IsCovered o need asked.again → is_some o ≡ true
       some_if None g = absurd g
@@ -352,9 +352,9 @@ module _ (w : LaneWork) (plan : List PlanEntry) (lay : Layout w.work) (some : 0 
       doing_now = ap (λ z. cond z (doing_then asked.again r.move) (m.doing p)) (equal p p refl)
           ∙ ap (doing_then asked.again) is
 
-      covered : IsCovered (wanted (asked.treated.rest.wait i b)) need asked.again
+      covered : IsCovered (wanted (asked.handled.rest.wait i b)) need asked.again
       covered =
-          subst (λ a. IsCovered (wanted (asked.treated.rest.wait i b)) need
+          subst (λ a. IsCovered (wanted (asked.handled.rest.wait i b)) need
           (matching.again_in w.work.layout w.work (processors w) (node_of w) there plan code
           (protocol w plan lay some code) (side w plan lay some code) (laid w plan lay some code) a))
           doing_now
@@ -429,17 +429,17 @@ module _ (w : LaneWork) (plan : List PlanEntry) (lay : Layout w.work) (some : 0 
   holds_now None h = numbered w some p
   holds_now (Some have) h = refl
 
-  holders_now : (y b : ℕ) (need : Need) → wanted (asked.treated.rest.wait y b) ≡ Some need
+  holders_now : (y b : ℕ) (need : Need) → wanted (asked.handled.rest.wait y b) ≡ Some need
       → holder_in w nodes_now y b
       ≡ matching.holder_after w.work.layout w.work (processors w) (node_of w) there plan code
       (protocol w plan lay some code) (side w plan lay some code) (laid w plan lay some code) rest
       holder p i y b
   holders_now y b need h = go (eqb y i) refl
     where
-      waits : wanted (asked.treated.rest.wait i b) ≡ Some need → is_some (t.turn.node.wait b) ≡ true
+      waits : wanted (asked.handled.rest.wait i b) ≡ Some need → is_some (t.turn.node.wait b) ≡ true
       waits g = is_waiting (t.turn.node.wait b)
           ∙ ap (λ (f : ℕ → Option Wait). is_some (wanted (f b)))
-          (own_wait (view c k) i t.turn asked.treated is_asked.turned)
+          (own_wait (view c k) i t.turn asked.handled is_asked.turned)
           ∙ ap is_some g
 
       go : (z : Bool) → eqb y i ≡ z
@@ -448,19 +448,19 @@ module _ (w : LaneWork) (plan : List PlanEntry) (lay : Layout w.work) (some : 0 
       go false e = refl
       go true e =
           let same = is_same y i e in
-          let is_wait_now = waits (ap (λ j. wanted (asked.treated.rest.wait j b)) (sym same) ∙ h) in
+          let is_wait_now = waits (ap (λ j. wanted (asked.handled.rest.wait j b)) (sym same) ∙ h) in
           subst (λ j. processor_of w j (node_now.shared.holder b)
           ≡ cond (not (is_some (wanted ((c.nodes j).shared.wait b)))) p (holder j b))
           (sym same)
           (ap (λ z. processor_of w i (cond z (holder_after x k b) 0)) is_wait_now
           ∙ holds_now (x.shared.wait b) (x.shared.holder b))
 
-  leaves : LeavesNodes w plan lay some code nodes_now asked.treated c.nodes i
+  leaves : LeavesNodes w plan lay some code nodes_now asked.handled c.nodes i
       (run (one w plan lay some code) s (picks_at w plan c (Exec p)))
   leaves = record {
     doing = with_at m.doing p (doing_then asked.again r.move);
     lanes = with_at lanes p (lane_after w.work.image r.lane r.move);
-    locals = with_local locals1 i asked.treated.local;
+    locals = with_local locals1 i asked.handled.local;
     reserved = sharing.reserved_after w.work.layout w.work (processors w) (node_of w) there reserved
         p r;
     holder = matching.holder_after w.work.layout w.work (processors w) (node_of w) there plan code
@@ -483,8 +483,8 @@ module _ (w : LaneWork) (plan : List PlanEntry) (lay : Layout w.work) (some : 0 
     same_reserved = λ j low. reserved_now j;
     holders = λ y b need low h. holders_now y b need h;
     here = λ y. (elim (eqb y i)
-        as (λ z. cond z asked.treated.local (cond z r.local (locals y))
-        ≡ cond z asked.treated.local (locals y)) [
+        as (λ z. cond z asked.handled.local (cond z r.local (locals y))
+        ≡ cond z asked.handled.local (locals y)) [
           | true ↦ refl
           | false ↦ refl
         ]);
@@ -502,11 +502,11 @@ module _ (w : LaneWork) (plan : List PlanEntry) (lay : Layout w.work) (some : 0 
   abbrev ends : Bool
   ends = have_ended w node_now && not (have_ended w x)
 
-  counted_here : WordCounts m.counts asked.treated.rest.counts
+  counted_here : WordCounts m.counts asked.handled.rest.counts
   counted_here =
       let all = asks_counts w.work.layout w.work (processors w) (node_of w) there plan (view c k) i
       locals1 (wants_at w x k)
-      (record { treated = record { local = locals1 i; rest = rest }; again = false }) in
+      (record { handled = record { local = locals1 i; rest = rest }; again = false }) in
       let most = all.0 in
       let few = few_wanted r.move (code.word_follows q n.lane n.local suits here.0 here.1) in
       (omega (arith, most, few), all.1)
@@ -518,12 +518,12 @@ module _ (w : LaneWork) (plan : List PlanEntry) (lay : Layout w.work) (some : 0 
   word_leads = (
     record {
       advanced = event.advanced;
-      behind = core_then w plan lay some code c i k asked.treated
+      behind = core_then w plan lay some code c i k asked.handled
           (run (one w plan lay some code) s (picks_at w plan c (Exec p))) t.turn
           (changed x.lanes k part) (reserved_after w x k) held_now t.turn.node.counts
           t.turn.printed ends is_asked.turned leaves;
       counted = subst (WordCounts m.counts)
-          (sym (core_counts w plan lay some code c i k asked.treated
+          (sym (core_counts w plan lay some code c i k asked.handled
           (run (one w plan lay some code) s (picks_at w plan c (Exec p))) t.turn
           (changed x.lanes k part) (reserved_after w x k) held_now t.turn.node.counts
           t.turn.printed ends is_asked.turned leaves)) counted_here;

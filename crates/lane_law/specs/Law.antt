@@ -9,7 +9,7 @@ use Rattle.rv32_step.specs.OneMemory.{Original, State, opening, IsRun, run, valu
 use Rattle.templates.specs.declared.plans.PlanEntry.{PlanEntry}
 use Rattle.node_model.specs.jump_map.Image.{IsRewriting}
 use Rattle.node_model.specs.Node.{Phase, Ended, IsLaidOver, is_readable_state, is_writable_state, word_outcome}
-use Rattle.home_directory.specs.declared.messages.Wire.{Wire}
+use Rattle.home_directory.specs.dsm_messages.declared.messages.Wire.{Wire}
 use Rattle.node_model.specs.miss_handlers.Rows.{Row, row_of, is_bye}
 use Rattle.node_model.specs.Turns.{holding}
 use Rattle.rewriting_law.specs.CoreRun.{commits}

@@ -2,7 +2,7 @@
 use Rattle.std.specs.Prelude.{ℕ, zero, suc, if◌then◌else◌, ◌==◌, List, [], ◌∷◌, ◌++◌, Option, Some, None}
 use Rattle.rv32_step.specs.OneMemory.{Pick, Step}
 use Rattle.templates.specs.declared.plans.PlanEntry.{PlanEntry}
-use Rattle.home_directory.specs.declared.messages.Wire.{Wire}
+use Rattle.home_directory.specs.dsm_messages.declared.messages.Wire.{Wire}
 use Rattle.rewriting_law.specs.CoreRun.{Order, order_of, break_by, commits, value_at}
 use Rattle.node_model.specs.Node.{Node}
 use Rattle.lane_model.specs.Nodes.{LaneWork, processors, node_of, lane_of, processor_of, as_node}

@@ -2,12 +2,12 @@
 use Rattle.std.specs.Prelude.{ℕ, zero, suc, ◌+◌, ◌*◌, ◌/◌, ◌%◌, Bool, true, false, ◌&&◌, ◌||◌, List, [], Option, None}
 use Rattle.node_model.specs.home_directory.declared.wait.Wait.{Wait}
 use Rattle.node_model.specs.home_directory.declared.directory.Request.{Request}
-use Rattle.node_model.specs.home_directory.Home.{Entry, first_entry}
+use Rattle.node_model.specs.home_directory.Home.{DirectoryEntry, first_entry}
 use Rattle.node_model.specs.rv32_step.Registers.{registers_of, first_values}
 use Rattle.node_model.specs.declared.NodeCounts.{NodeCounts}
 use Rattle.node_model.specs.declared.Entry.{Entry as JournalEntry}
 use Rattle.node_model.specs.declared.OutByte.{OutByte}
-use Rattle.node_model.specs.Node.{Work, Lane, Local, Node, Phase, Running, first_lane, first_local, no_counts}
+use Rattle.node_model.specs.Node.{Work, ProcessorState, NodeMemory, Node, Phase, Running, first_lane, first_local, no_counts}
 
 -- what the nodes run, and how many lanes each of them has
 pub record LaneWork : Type 0 where
@@ -31,7 +31,7 @@ processor_of w i k = i * w.lanes + k
 -- what is a lane's own: its processor's part, how many words it has executed, and whether it goes
 -- on; the blocks that it waits for, and whether it executes its word again once it waits for none
 pub record LanePart : Type 0 where
-  pub lane : Lane
+  pub lane : ProcessorState
   pub executed : ℕ
   pub phase : Phase
   pub awaits : List ℕ
@@ -44,7 +44,7 @@ pub record Shared : Type 0 where
   pub copy : ℕ → ℕ
   pub state : ℕ → ℕ
   pub reservation : (k : ℕ) → Option ℕ
-  pub entry : ℕ → Entry
+  pub entry : ℕ → DirectoryEntry
   pub waiting : ℕ → List Request
   pub occupancy : ℕ
   pub wait : ℕ → Option Wait
@@ -60,12 +60,12 @@ pub record LaneNode : Type 0 where
   pub shared : Shared
 
 -- what a lane's words see of the node
-abbrev pub local_of : Shared → (k : ℕ) → Local
+abbrev pub local_of : Shared → (k : ℕ) → NodeMemory
 local_of s k =
     record { copy = s.copy; state = s.state; reservation = s.reservation k }
 
--- The node as lane k sees it. So a lane's words, and messages, do to its node what they do to a node
--- of one processor.
+-- The node as lane k sees it. So a lane's words, and messages, do to its node what they do to a
+-- node of one processor.
 abbrev pub as_node : LaneNode → (k : ℕ) → Node
 as_node x k = record {
   me = x.shared.me;

@@ -4,17 +4,17 @@ use Rattle.std.specs.Option.{option_to_list}
 use Rattle.std.specs.Prelude.{ℕ, zero, suc, ◌+◌, ◌-◌, Bool, true, false, not, if◌then◌else◌, ◌==◌, ◌&&◌, ◌||◌, List, [], ◌∷◌, ◌++◌, Option, Some, None, is_some}
 use Rattle.block_layout.specs.Layout.{Shape, block_of}
 use Rattle.block_layout.specs.Update.{changed}
-use Rattle.node_model.specs.home_directory.declared.messages.Need.{Need}
-use Rattle.node_model.specs.home_directory.declared.messages.Need.TheVariants.{Read, Write}
-use Rattle.node_model.specs.home_directory.declared.messages.Post.{Post}
-use Rattle.node_model.specs.home_directory.declared.messages.Wire.{Wire}
+use Rattle.node_model.specs.dsm_messages.declared.messages.Need.{Need}
+use Rattle.node_model.specs.dsm_messages.declared.messages.Need.TheVariants.{Read, Write}
+use Rattle.node_model.specs.dsm_messages.declared.messages.Post.{Post}
+use Rattle.node_model.specs.dsm_messages.declared.messages.Wire.{Wire}
 use Rattle.node_model.specs.home_directory.declared.wait.Wait.{Wait}
 use Rattle.rv32_program.specs.Program.{line_of}
 use Rattle.node_model.specs.rv32_step.Reservations.{after_other}
 use Rattle.node_model.specs.rv32_step.OneMemory.{Access, Nothing, Reads, Writes, WritesIf, Exchanges}
 use Rattle.node_model.specs.declared.NodeCounts.{NodeCounts}
-use Rattle.node_model.specs.Node.{Work, Node, Local, Want, Tally, Nothing_counted, Phase, Waiting, Resumed, word_outcome, lane_resumed, tally_resumed, counts_after, stop_or}
-use Rattle.node_model.specs.Turns.{Turn, want_in, wants_of, each_block_once, after_word, treated, later, words_before, is_ended, byes_to}
+use Rattle.node_model.specs.Node.{Work, Node, NodeMemory, Want, Tally, Nothing_counted, Phase, Waiting, Resumed, word_outcome, lane_resumed, tally_resumed, counts_after, stop_or}
+use Rattle.node_model.specs.Turns.{Turn, want_in, wants_of, each_block_once, after_word, handled, later, words_before, is_ended, byes_to}
 use Rattle.lane_model.specs.Nodes.{LaneWork, LanePart, LaneNode, as_node, shared_by, all_lanes}
 
 -- what a node did in an event: the node after it, what it sent, in order, and the byte that a lane
@@ -160,20 +160,20 @@ word_turn w x k = ending w x (word_before w x k)
 
 -- a lane that waits for no block any more goes on behind its word, or at the word again; or it is
 -- stopped by its budget
-abbrev pub go_on : Work → Local → LanePart → Phase → List ℕ → LanePart
-go_on work n p (Waiting resume) [] = record p {
+abbrev pub resume_part : Work → NodeMemory → LanePart → Phase → List ℕ → LanePart
+resume_part work n p (Waiting resume) [] = record p {
   lane = if p.again then p.lane else lane_resumed p.lane n resume;
   phase = stop_or work.budget p.executed Resumed;
   awaits = [];
   again = false;
 }
-go_on work n p phase bs = record p { awaits = bs }
+resume_part work n p phase bs = record p { awaits = bs }
 
 abbrev pub resumed : Work → Node → LanePart → LanePart
-resumed work n p = go_on work n.local p p.phase (still n.wait p.awaits)
+resumed work n p = resume_part work n.local p p.phase (still n.wait p.awaits)
 
 -- what is counted of a lane that goes on behind its word
-abbrev pub tally_on : Local → LanePart → Phase → List ℕ → Tally
+abbrev pub tally_on : NodeMemory → LanePart → Phase → List ℕ → Tally
 tally_on n p (Waiting resume) [] = if p.again then Nothing_counted else tally_resumed n resume
 tally_on n p phase bs = Nothing_counted
 
@@ -201,19 +201,19 @@ journaled w x k j wire =
       }) ∷ [];
     }
 
--- the node as lane k sees it, once the message from node j is treated as at a node of one processor
-abbrev pub treated_for : LaneWork → LaneNode → (j : ℕ) → Wire → (k : ℕ) → Turn
-treated_for w x j wire k = treated w.work.layout (journaled w x k j wire) j wire.message
+-- the node as lane k sees it, once the message from node j is handled as at a node of one processor
+abbrev pub handled_for : LaneWork → LaneNode → (j : ℕ) → Wire → (k : ℕ) → Turn
+handled_for w x j wire k = handled w.work.layout (journaled w x k j wire) j wire.message
 
 -- the node after that: what a lane has reserved is as it sees it, and all else is as any lane sees
 -- it
 abbrev pub after_message : LaneWork → LaneNode → (j : ℕ) → Wire → LaneNode
 after_message w x j wire =
-    let n = (treated_for w x j wire 0).node in
+    let n = (handled_for w x j wire 0).node in
     record {
       lanes = λ k. resumed w.work n (x.lanes k);
       shared = shared_by (record n { counts = counted n x.lanes w.lanes })
-          (λ k. (treated_for w x j wire k).node.local.reservation)
+          (λ k. (handled_for w x j wire k).node.local.reservation)
           (held_by n.wait x.shared.holder);
     }
 
@@ -222,6 +222,6 @@ abbrev pub take_turn : LaneWork → LaneNode → (j : ℕ) → Wire → LaneTurn
 take_turn w x j wire =
     ending w x (record {
       node = after_message w x j wire;
-      sends = (treated_for w x j wire 0).sends;
+      sends = (handled_for w x j wire 0).sends;
       printed = None;
     })

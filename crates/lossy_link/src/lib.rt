@@ -20,8 +20,6 @@ ghost use Rattle.lossy_link.specs.declared.packet.Packet.{Packet};
 mod packet;
 mod receiver;
 mod sender;
-#[cfg(test)]
-mod tests;
 
 pub use packet::{Packet, Piece};
 pub use receiver::Receiver;

@@ -6,8 +6,8 @@ use Rattle.block_layout.specs.Update.{changed}
 use Rattle.llsc.specs.Reservation.{cleared}
 use Rattle.home_directory.specs.state_table.States.{States, state_of}
 use Rattle.home_directory.specs.flag_memory.Copy.{Copy}
-use Rattle.home_directory.specs.declared.messages.Message.TheVariants.{Ack}
-use Rattle.home_directory.specs.declared.messages.Post.{Post}
+use Rattle.home_directory.specs.dsm_messages.declared.messages.Message.TheVariants.{Ack}
+use Rattle.home_directory.specs.dsm_messages.declared.messages.Post.{Post}
 use Rattle.home_directory.specs.declared.wait.Wait.{Wait}
 use Rattle.home_directory.specs.declared.wait.Answer.{Answer}
 use Rattle.home_directory.specs.declared.wait.Answer.TheVariants.{ByData, ByGrant}

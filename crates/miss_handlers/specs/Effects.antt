@@ -7,10 +7,10 @@ use Rattle.llsc.specs.Reservation.{cleared}
 use Rattle.home_directory.specs.state_table.declared.State.{State}
 use Rattle.home_directory.specs.state_table.States.{States, state_of}
 use Rattle.home_directory.specs.flag_memory.Copy.{Copy, bytes_of}
-use Rattle.home_directory.specs.declared.messages.Message.{Message}
-use Rattle.home_directory.specs.declared.messages.Message.TheVariants.{Read, Write, FwdRead, FwdWrite, Inval, Data, Grant, Ack, Done, Bye}
-use Rattle.home_directory.specs.declared.messages.Need.{Need}
-use Rattle.home_directory.specs.declared.messages.Post.{Post}
+use Rattle.home_directory.specs.dsm_messages.declared.messages.Message.{Message}
+use Rattle.home_directory.specs.dsm_messages.declared.messages.Message.TheVariants.{Read, Write, FwdRead, FwdWrite, Inval, Data, Grant, Ack, Done, Bye}
+use Rattle.home_directory.specs.dsm_messages.declared.messages.Need.{Need}
+use Rattle.home_directory.specs.dsm_messages.declared.messages.Post.{Post}
 use Rattle.home_directory.specs.declared.wait.Wait.{Wait}
 use Rattle.home_directory.specs.Table.{BlockFacts, LocalBlock, NodeRow, Miss, node_row, want_row}
 use Rattle.miss_handlers.specs.Waits.{NodeWaits, wait_of}

@@ -3,18 +3,18 @@ use Rattle.std.specs.Prelude.{ℕ, Bool, true, false, nat_lt, ◌==◌, ◌&&◌
 use Rattle.block_layout.specs.Layout.{Shape, blocks, home}
 use Rattle.home_directory.specs.declared.directory.Request.{Request}
 use Rattle.buf_pool.specs.Pool.{Buffer}
-use Rattle.home_directory.specs.declared.messages.Need.{Need}
-use Rattle.home_directory.specs.declared.messages.Need.TheVariants.{Read as reading, Write as writing}
-use Rattle.home_directory.specs.declared.messages.Message.{Message}
-use Rattle.home_directory.specs.declared.messages.Message.TheVariants.{Read, Write, FwdRead, FwdWrite, Inval, Data, Grant, Ack, Done, Bye}
-use Rattle.home_directory.specs.Home.{Entry, Home}
+use Rattle.home_directory.specs.dsm_messages.declared.messages.Need.{Need}
+use Rattle.home_directory.specs.dsm_messages.declared.messages.Need.TheVariants.{Read as reading, Write as writing}
+use Rattle.home_directory.specs.dsm_messages.declared.messages.Message.{Message}
+use Rattle.home_directory.specs.dsm_messages.declared.messages.Message.TheVariants.{Read, Write, FwdRead, FwdWrite, Inval, Data, Grant, Ack, Done, Bye}
+use Rattle.home_directory.specs.Home.{DirectoryEntry, Home}
 use Rattle.home_directory.specs.Table.{LocalBlock, HomeRow, NodeRow, ask_row, done_row, node_row}
 use Rattle.miss_handlers.specs.Effects.{block_facts}
 
 -- what a node has of all blocks: the entries of those whose home it is, the requests for them that
 -- wait there, how many these are in all, and each block as it is at the node
 pub record Holding : Type 0 where
-  pub entry : ℕ → Entry
+  pub entry : ℕ → DirectoryEntry
   pub waiting : ℕ → List Request
   pub occupancy : ℕ
   pub block : ℕ → LocalBlock

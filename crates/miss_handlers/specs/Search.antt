@@ -2,8 +2,8 @@
 use Rattle.std.specs.Prelude.{◌≡◌, ◌==◌, ℕ, ◌*◌, ◌<◌, Bool, false, ◌&&◌, nat_lt, nat_le, List, length, slice_index_or, Option, Some, None, is_none}
 use Rattle.block_layout.specs.Layout.{blocks, home, lines}
 use Rattle.home_directory.specs.state_table.declared.State.{State}
-use Rattle.home_directory.specs.declared.messages.Message.{Message}
-use Rattle.home_directory.specs.declared.messages.Message.TheVariants.{Data, Grant}
+use Rattle.home_directory.specs.dsm_messages.declared.messages.Message.{Message}
+use Rattle.home_directory.specs.dsm_messages.declared.messages.Message.TheVariants.{Data, Grant}
 use Rattle.home_directory.specs.declared.wait.Wait.{Wait}
 use Rattle.home_directory.specs.declared.wait.Answer.{Answer}
 use Rattle.home_directory.specs.declared.wait.Answer.TheVariants.{ByData, ByGrant}

@@ -21,9 +21,10 @@ use crate::search::{find, is_waited_for, takes_ack, takes_data, takes_grant};
 use crate::{Waiting, Waits, one};
 use block_layout::Block;
 use buf_pool::{Buf, Pool};
+use home_directory::dsm_messages::{Message, Need, Sends};
 use home_directory::flag_memory::Copy32;
 use home_directory::state_table::{State, States};
-use home_directory::{Answer, Message, Need, Sends, Wait};
+use home_directory::{Answer, Wait};
 use llsc::Reservation;
 
 impl Waits {
@@ -253,7 +254,7 @@ impl Waits {
                     answer: Some(answer),
                     counted: wait.counted,
                 };
-                self.go_on(block, wait, states, copy, pool)
+                self.complete_or_keep(block, wait, states, copy, pool)
             }
         }
     }
@@ -323,14 +324,14 @@ impl Waits {
                     answer: wait.answer,
                     counted: wait.counted + 1,
                 };
-                self.go_on(block, wait, states, copy, pool)
+                self.complete_or_keep(block, wait, states, copy, pool)
             }
         }
     }
 
     /// Goes on with a wait that is out of the list, or completes it.
     #[tactic(auto, using(crate::proofs::Lists::changed_same, crate::proofs::Lists::changed_twice, crate::proofs::Lists::changed_back))]
-    fn go_on(
+    fn complete_or_keep(
         &mut self,
         block: Block,
         wait: Wait,

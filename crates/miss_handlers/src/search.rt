@@ -6,7 +6,7 @@ ghost use Rattle.miss_handlers.specs.Search.{takes_data, takes_ack, takes_grant,
 
 use crate::Waiting;
 use block_layout::Block;
-use home_directory::Need;
+use home_directory::dsm_messages::Need;
 
 /// Whether there is a wait for a block.
 pub fn is_waited_for(waits: &[Waiting], block: Block) -> bool

@@ -2,8 +2,8 @@
 use Rattle.std.specs.Prelude.{◌≡◌, ◌≢◌, ℕ, ◌<◌, Bool, true, false, ◌==◌, ◌&&◌, if◌then◌else◌, List, [], ◌∷◌, ◌++◌}
 use Rattle.std.specs.Option.{option_to_list}
 use Rattle.block_layout.specs.Update.{changed}
-use Rattle.miss_handlers.specs.home_directory.declared.messages.Post.{Post}
-use Rattle.miss_handlers.specs.home_directory.declared.messages.Wire.{Wire}
+use Rattle.miss_handlers.specs.dsm_messages.declared.messages.Post.{Post}
+use Rattle.miss_handlers.specs.dsm_messages.declared.messages.Wire.{Wire}
 use Rattle.node_model.specs.declared.Standing.{Standing}
 use Rattle.node_model.specs.declared.Standing.TheVariants as standing
 use Rattle.node_model.specs.Node.{Work, Node, opening_node, standing_of, word_outcome}

@@ -12,4 +12,5 @@ pub use Rattle.miss_handlers.specs.llsc as llsc
 pub use Rattle.miss_handlers.specs.state_table as state_table
 pub use Rattle.miss_handlers.specs.flag_memory as flag_memory
 pub use Rattle.miss_handlers.specs.home_directory as home_directory
+pub use Rattle.miss_handlers.specs.dsm_messages as dsm_messages
 pub use Rattle.miss_handlers.specs as miss_handlers

@@ -13,11 +13,11 @@ use Rattle.block_layout.specs.Layout.{Shape, is_shared, home, block_of}
 use Rattle.miss_handlers.specs.llsc.Reservation.{holds}
 use Rattle.miss_handlers.specs.state_table.declared.TheConstants.{EXCLUSIVE, INVALID, READ_ONLY, UNMAPPED}
 use Rattle.miss_handlers.specs.flag_memory.Flag.{flag_byte}
-use Rattle.miss_handlers.specs.home_directory.declared.messages.Need.{Need}
-use Rattle.miss_handlers.specs.home_directory.declared.messages.Need.TheVariants.{Read, Write}
+use Rattle.miss_handlers.specs.dsm_messages.declared.messages.Need.{Need}
+use Rattle.miss_handlers.specs.dsm_messages.declared.messages.Need.TheVariants.{Read, Write}
 use Rattle.miss_handlers.specs.home_directory.declared.wait.Wait.{Wait}
 use Rattle.miss_handlers.specs.home_directory.declared.directory.Request.{Request}
-use Rattle.miss_handlers.specs.home_directory.Home.{Entry, first_entry, count_of}
+use Rattle.miss_handlers.specs.home_directory.Home.{DirectoryEntry, first_entry, count_of}
 use Rattle.jump_map.specs.byte_range.Memory.{stored}
 use Rattle.jump_map.specs.rv32_program.declared.Class.{Class}
 use Rattle.jump_map.specs.rv32_program.declared.Class.TheVariants.{Shared, ReadOnly, Private, Unmapped}
@@ -48,7 +48,7 @@ use Rattle.node_model.specs.declared.Standing.{Standing}
 use Rattle.node_model.specs.declared.Standing.TheVariants as standing
 
 -- what is a processor's own
-pub record Lane : Type 0 where
+pub record ProcessorState : Type 0 where
   pub registers : ℕ → ℕ
   -- the address of its next rewritten word
   pub at : ℕ
@@ -63,7 +63,7 @@ pub record Lane : Type 0 where
 
 -- what words see of their node: its copy of the shared bytes, the state byte of each line, and the
 -- address that the processor has reserved
-pub record Local : Type 0 where
+pub record NodeMemory : Type 0 where
   pub copy : ℕ → ℕ
   pub state : ℕ → ℕ
   pub reservation : Option ℕ
@@ -121,17 +121,17 @@ pub data Tally : Type 0 where
   FallsBack : Tally
 
 -- what a word leaves, what it accesses, prints and counts, and where the processor goes
-pub record Outcome : Type 0 where
-  pub lane : Lane
-  pub local : Local
+pub record WordOutcome : Type 0 where
+  pub lane : ProcessorState
+  pub local : NodeMemory
   pub access : Access
   pub printed : Option ℕ
   pub tally : Tally
   pub move : Move
 
 -- the processor goes on so, and nothing else happens
-abbrev pub go_on : Lane → Local → Move → Outcome
-go_on l n m = record {
+abbrev pub only_moves : ProcessorState → NodeMemory → Move → WordOutcome
+only_moves l n m = record {
   lane = l;
   local = n;
   access = Nothing;
@@ -140,10 +140,10 @@ go_on l n m = record {
   move = m;
 }
 
-abbrev pub exit_by : Lane → Local → Exit → Outcome
-exit_by l n e = go_on l n (Leaves e)
+abbrev pub exit_by : ProcessorState → NodeMemory → Exit → WordOutcome
+exit_by l n e = only_moves l n (Leaves e)
 
-abbrev pub set_register : Lane → ℕ → ℕ → Lane
+abbrev pub set_register : ProcessorState → ℕ → ℕ → ProcessorState
 set_register l r value = record l { registers = put l.registers r value }
 
 -- where an address of the node lies: below the state table, in it, in a spill word, or elsewhere
@@ -162,12 +162,12 @@ region_of a =
     else (if a == 2 ^ 32 - 12 then Spill 2 else Elsewhere))))
 
 -- the byte that a load of an address below the state table gives
-abbrev pub byte_at : Program → Lane → Local → ℕ → ℕ
+abbrev pub byte_at : Program → ProcessorState → NodeMemory → ℕ → ℕ
 byte_at program l n a =
     byte_by (class_at program a) (n.copy a) (program.first a) (l.private a) (flag_byte a)
 
 -- a load: from memory, or the state byte, or the spill word, or zero
-abbrev pub load : Program → Lane → Local → LoadKind → ℕ → ℕ → Region → Outcome
+abbrev pub load : Program → ProcessorState → NodeMemory → LoadKind → ℕ → ℕ → Region → WordOutcome
 load program l n k r a Memory = record {
   lane = set_register l r (load_value k (byte_at program l n) a);
   local = n;
@@ -176,23 +176,23 @@ load program l n k r a Memory = record {
   tally = Nothing_counted;
   move = Next;
 }
-load program l n k r a (StateOf line) = go_on (set_register l r (n.state line)) n Next
-load program l n k r a (Spill j) = go_on (set_register l r (l.spills j)) n Next
-load program l n k r a Elsewhere = go_on (set_register l r 0) n Next
+load program l n k r a (StateOf line) = only_moves (set_register l r (n.state line)) n Next
+load program l n k r a (Spill j) = only_moves (set_register l r (l.spills j)) n Next
+load program l n k r a Elsewhere = only_moves (set_register l r 0) n Next
 
 -- the private bytes, and the copy, after a store
-abbrev pub lane_stored : Program → Lane → Width → ℕ → ℕ → Lane
+abbrev pub lane_stored : Program → ProcessorState → Width → ℕ → ℕ → ProcessorState
 lane_stored program l w a value = record l {
   private = private_after (class_at program a) l.private (stored w l.private a value);
 }
 
-abbrev pub local_stored : Program → Local → Width → ℕ → ℕ → Local
+abbrev pub local_stored : Program → NodeMemory → Width → ℕ → ℕ → NodeMemory
 local_stored program n w a value = record n {
   copy = shared_after (class_at program a) n.copy (stored w n.copy a value);
 }
 
 -- a store: into the copy, the private bytes or a spill word, and nowhere else
-abbrev pub store : Program → Lane → Local → Width → ℕ → ℕ → Region → Outcome
+abbrev pub store : Program → ProcessorState → NodeMemory → Width → ℕ → ℕ → Region → WordOutcome
 store program l n w a value Memory = record {
   lane = lane_stored program l w a value;
   local = local_stored program n w a value;
@@ -202,16 +202,16 @@ store program l n w a value Memory = record {
   move = Next;
 }
 store program l n w a value (Spill j) =
-    go_on (record l { spills = λ i. if i == j then value else l.spills i }) n Next
-store program l n w a value (StateOf line) = go_on l n Next
-store program l n w a value Elsewhere = go_on l n Next
+    only_moves (record l { spills = λ i. if i == j then value else l.spills i }) n Next
+store program l n w a value (StateOf line) = only_moves l n Next
+store program l n w a value Elsewhere = only_moves l n Next
 
 -- a0 gets the result of a call
-abbrev pub lane_after_call : Lane → ℕ → Lane
+abbrev pub lane_after_call : ProcessorState → ℕ → ProcessorState
 lane_after_call l value = record l { registers = put l.registers 10 value; written = 0 }
 
 -- the byte is printed, and the word is executed again
-abbrev pub print_byte : Lane → Local → ℕ → ℕ → Outcome
+abbrev pub print_byte : ProcessorState → NodeMemory → ℕ → ℕ → WordOutcome
 print_byte l n address byte = record {
   lane = record l { written = l.written + 1 };
   local = n;
@@ -222,37 +222,37 @@ print_byte l n address byte = record {
 }
 
 -- the byte of a write call, by the state of its line: printed, waited for, or not there
-abbrev pub put_byte : Program → Lane → Local → ℕ → ℕ → Outcome
+abbrev pub put_byte : Program → ProcessorState → NodeMemory → ℕ → ℕ → WordOutcome
 put_byte program l n a state =
     if is_mapped_state state then
     (if is_readable_state state then print_byte l n a (byte_at program l n a)
-    else go_on l n (Waits SameWord (record { at = a; need = Read }) []))
-    else go_on (lane_after_call l (cut_short l.written)) n Next
+    else only_moves l n (Waits SameWord (record { at = a; need = Read }) []))
+    else only_moves (lane_after_call l (cut_short l.written)) n Next
 
 -- one step of a call
-abbrev pub make_call : Program → Lane → Local → CallStep → Outcome
+abbrev pub make_call : Program → ProcessorState → NodeMemory → CallStep → WordOutcome
 make_call program l n (Ends code) = exit_by l n (Code code)
-make_call program l n (Returns value) = go_on (lane_after_call l value) n Next
+make_call program l n (Returns value) = only_moves (lane_after_call l value) n Next
 make_call program l n (Puts a) = put_byte program l n a (n.state (line_of a))
 
 -- what reads an address, and reserves it
-abbrev pub reserving : ℕ → Outcome → Outcome
+abbrev pub reserving : ℕ → WordOutcome → WordOutcome
 reserving a r = record r { local = record r.local { reservation = Some a } }
 
 -- a conditional store, of an address that is reserved or isn't: no reservation is left
-abbrev pub store_if : Program → Lane → Local → ℕ → ℕ → ℕ → Bool → Outcome
+abbrev pub store_if : Program → ProcessorState → NodeMemory → ℕ → ℕ → ℕ → Bool → WordOutcome
 store_if program l n r a value true = record (store program l n Word a value (region_of a)) {
   lane = set_register (store program l n Word a value (region_of a)).lane r 0;
   local = record (store program l n Word a value (region_of a)).local { reservation = None };
   access = WritesIf a value true;
 }
-store_if program l n r a value false = record (go_on (set_register l r 1) n Next) {
+store_if program l n r a value false = record (only_moves (set_register l r 1) n Next) {
   local = record n { reservation = None };
   access = WritesIf a value false;
 }
 
 -- the register gets the old word, and the address what the operation makes of it
-abbrev pub update : Program → Lane → Local → AmoOp → ℕ → ℕ → ℕ → ℕ → Outcome
+abbrev pub update : Program → ProcessorState → NodeMemory → AmoOp → ℕ → ℕ → ℕ → ℕ → WordOutcome
 update program l n o r a value old =
     record (store program l n Word a (amo o old value) (region_of a)) {
       lane = set_register (store program l n Word a (amo o old value) (region_of a)).lane r old;
@@ -260,14 +260,14 @@ update program l n o r a value old =
     }
 
 -- a native instruction at an address of a place's sequence. No sequence has one that calls or traps
-abbrev pub native : Program → ℕ → ℕ → Lane → Local → Demand → Outcome
-native program place at l n (Sets r value) = go_on (set_register l r value) n Next
-native program place at l n Continues = go_on l n Next
+abbrev pub native : Program → ℕ → ℕ → ProcessorState → NodeMemory → Demand → WordOutcome
+native program place at l n (Sets r value) = only_moves (set_register l r value) n Next
+native program place at l n Continues = only_moves l n Next
 native program place at l n (Jumps r target) =
-    if target % 4 == 0 then go_on (set_register l r (next_pc at)) n (To target)
+    if target % 4 == 0 then only_moves (set_register l r (next_pc at)) n (To target)
     else exit_by l n (Misaligned place)
 native program place at l n (Branches target) =
-    if target % 4 == 0 then go_on l n (To target) else exit_by l n (Misaligned place)
+    if target % 4 == 0 then only_moves l n (To target) else exit_by l n (Misaligned place)
 native program place at l n (Loads k r a) =
     if is_aligned (width_of k) a then load program l n k r a (region_of a)
     else exit_by l n (Misaligned place)
@@ -289,40 +289,40 @@ native program place at l n (Updates o r a value) =
 
 -- a miss check for reading, by the line's state: not mapped, readable after all, or to be waited
 -- for
-abbrev pub miss_r_by : ℕ → ℕ → Lane → Local → ℕ → Outcome
+abbrev pub miss_r_by : ℕ → ℕ → ProcessorState → NodeMemory → ℕ → WordOutcome
 miss_r_by state place l n a =
     if is_mapped_state state then
-    (if is_readable_state state then record (go_on l n Next) { tally = FalseMiss }
-    else go_on l n (Waits PastWord (record { at = a; need = Read }) []))
+    (if is_readable_state state then record (only_moves l n Next) { tally = FalseMiss }
+    else only_moves l n (Waits PastWord (record { at = a; need = Read }) []))
     else exit_by l n (NoAccess place)
 
-abbrev pub miss_r : ℕ → Lane → Local → Width → ℕ → Outcome
+abbrev pub miss_r : ℕ → ProcessorState → NodeMemory → Width → ℕ → WordOutcome
 miss_r place l n w a =
     if is_aligned w a then miss_r_by (n.state (line_of a)) place l n a
     else exit_by l n (Misaligned place)
 
 -- a miss check for writing: not to be written by anyone, writable, or to be waited for
-abbrev pub miss_w_by : ℕ → ℕ → Lane → Local → ℕ → Outcome
+abbrev pub miss_w_by : ℕ → ℕ → ProcessorState → NodeMemory → ℕ → WordOutcome
 miss_w_by state place l n a =
     if is_fixed_state state then exit_by l n (NoAccess place)
-    else (if is_writable_state state then go_on l n Next
-    else go_on l n (Waits PastWord (record { at = a; need = Write }) []))
+    else (if is_writable_state state then only_moves l n Next
+    else only_moves l n (Waits PastWord (record { at = a; need = Write }) []))
 
-abbrev pub miss_w : ℕ → Lane → Local → Width → ℕ → Outcome
+abbrev pub miss_w : ℕ → ProcessorState → NodeMemory → Width → ℕ → WordOutcome
 miss_w place l n w a =
     if is_aligned w a then miss_w_by (n.state (line_of a)) place l n a
     else exit_by l n (Misaligned place)
 
 -- what comes before a conditional store, by the line's state: not to be written by anyone; or to be
 -- waited for, where the address is reserved and the line isn't writable
-abbrev pub prepare_by : ℕ → ℕ → Lane → Local → ℕ → Outcome
+abbrev pub prepare_by : ℕ → ℕ → ProcessorState → NodeMemory → ℕ → WordOutcome
 prepare_by state place l n a =
     if is_fixed_state state then exit_by l n (NoAccess place)
     else (if holds n.reservation a && not (is_writable_state state)
-    then go_on l n (Waits PastWord (record { at = a; need = Write }) [])
-    else go_on l n Next)
+    then only_moves l n (Waits PastWord (record { at = a; need = Write }) [])
+    else only_moves l n Next)
 
-abbrev pub prepare : ℕ → Lane → Local → ℕ → Outcome
+abbrev pub prepare : ℕ → ProcessorState → NodeMemory → ℕ → WordOutcome
 prepare place l n a =
     if is_aligned Word a then prepare_by (n.state (line_of a)) place l n a
     else exit_by l n (Misaligned place)
@@ -338,16 +338,16 @@ refuses_need Read state = not (is_mapped_state state)
 refuses_need Write state = is_fixed_state state
 
 -- the lines of two addresses meet a need, or one of them refuses it
-abbrev pub both_meet : Local → Need → ℕ → ℕ → Bool
+abbrev pub both_meet : NodeMemory → Need → ℕ → ℕ → Bool
 both_meet n need low high =
     meets_need need (n.state (line_of low)) && meets_need need (n.state (line_of high))
 
-abbrev pub one_refuses : Local → Need → ℕ → ℕ → Bool
+abbrev pub one_refuses : NodeMemory → Need → ℕ → ℕ → Bool
 one_refuses n need low high =
     refuses_need need (n.state (line_of low)) || refuses_need need (n.state (line_of high))
 
 -- what a batch wants of the line of an address
-abbrev pub unmet : Local → Need → ℕ → List Want
+abbrev pub unmet : NodeMemory → Need → ℕ → List Want
 unmet n need a =
     if meets_need need (n.state (line_of a)) then [] else record { at = a; need = need } ∷ []
 
@@ -356,16 +356,16 @@ unmet n need a =
 abbrev pub past_next : ℕ → ℕ
 past_next at = next_pc (next_pc at)
 
-abbrev pub fall_back : Lane → Local → Outcome
-fall_back l n = record (go_on l n Next) { tally = FallsBack }
+abbrev pub fall_back : ProcessorState → NodeMemory → WordOutcome
+fall_back l n = record (only_moves l n Next) { tally = FallsBack }
 
-abbrev pub batch_by : Lane → Local → Need → ℕ → ℕ → List Want → Outcome
-batch_by l n need low high [] = go_on l n (To (past_next l.at))
-batch_by l n need low high (want ∷ more) = go_on l n (Waits (ByLines need low high) want more)
+abbrev pub batch_by : ProcessorState → NodeMemory → Need → ℕ → ℕ → List Want → WordOutcome
+batch_by l n need low high [] = only_moves l n (To (past_next l.at))
+batch_by l n need low high (want ∷ more) = only_moves l n (Waits (ByLines need low high) want more)
 
 -- the check of a run that reaches from one address to another: where a line refuses the need the
 -- run falls back; else each line that doesn't meet it is wanted
-abbrev pub batch : Lane → Local → Need → ℕ → ℕ → Outcome
+abbrev pub batch : ProcessorState → NodeMemory → Need → ℕ → ℕ → WordOutcome
 batch l n need low high =
     if one_refuses n need low high then fall_back l n
     else batch_by l n need low high (unmet n need low ++ unmet n need high)
@@ -374,23 +374,23 @@ abbrev pub need_of_run : Bool → Need
 need_of_run stores = if stores then Write else Read
 
 -- an indirect jump at a place: the register gets the next original address
-abbrev pub indirect : ℕ → Lane → Local → ℕ → ℕ → Outcome
+abbrev pub indirect : ℕ → ProcessorState → NodeMemory → ℕ → ℕ → WordOutcome
 indirect place l n rd target =
-    if target % 4 == 0 then go_on (set_register l rd (next_pc place)) n (Enters target)
+    if target % 4 == 0 then only_moves (set_register l rd (next_pc place)) n (Enters target)
     else exit_by l n (Misaligned place)
 
 abbrev pub place_address : Option Place → ℕ
 place_address place = option_map_or (λ p. p.address) place 0
 
 -- what executing a word of a place, which stands at this address, does
-abbrev pub execute : Program → ℕ → ℕ → RtWord → Lane → Local → Outcome
+abbrev pub execute : Program → ℕ → ℕ → RtWord → ProcessorState → NodeMemory → WordOutcome
 execute program place at (Native i) l n =
     native program place at l n (demand_of i l.registers at)
 execute program place at (MissR w rs1 imm) l n =
     miss_r place l n w (offset_address (reg l.registers rs1) imm)
 execute program place at (MissW w rs1 imm) l n =
     miss_w place l n w (offset_address (reg l.registers rs1) imm)
-execute program place at Poll l n = go_on l n Next
+execute program place at Poll l n = only_moves l n Next
 execute program place at Call l n = make_call program l n (call_step l.registers l.written)
 execute program place at (Xjalr rd rs1 imm) l n =
     indirect place l n rd (offset_address (reg l.registers rs1) imm / 2 * 2)
@@ -398,46 +398,47 @@ execute program place at (Batch stores low high) l n =
     batch l n (need_of_run stores) (reg l.registers low) (reg l.registers high)
 execute program place at (Prepare rs1) l n =
     prepare place l n (offset_address (reg l.registers rs1) (pos 0))
-execute program place at (Far k) l n = go_on l n (To (address_of_word k))
+execute program place at (Far k) l n = only_moves l n (To (address_of_word k))
 execute program place at TrapFetch l n = exit_by l n (Fetch place)
 execute program place at TrapOff l n = exit_by l n (Fetch l.off)
 execute program place at TrapIllegal l n = exit_by l n (Illegal place)
 execute program place at TrapEbreak l n = exit_by l n (Ebreak place)
 
 -- a word that isn't there, or isn't one of rewritten code, ends the processor
-abbrev pub execute_read : Program → Option Place → Option RtWord → Lane → Local → Outcome
+abbrev pub execute_read : Program → Option Place → Option RtWord → ProcessorState → NodeMemory
+    → WordOutcome
 execute_read program place None l n = exit_by l n (Fetch l.at)
 execute_read program place (Some w) l n = execute program (place_address place) l.at w l n
 
-abbrev pub execute_at : Program → Option ImageWord → Lane → Local → Outcome
+abbrev pub execute_at : Program → Option ImageWord → ProcessorState → NodeMemory → WordOutcome
 execute_at program None l n = exit_by l n (Fetch l.at)
 execute_at program (Some w) l n = execute_read program w.place w.what l n
 
 -- what the next word does
-abbrev pub next_outcome : Program → List Cell → Lane → Local → Outcome
+abbrev pub next_outcome : Program → List Cell → ProcessorState → NodeMemory → WordOutcome
 next_outcome program image l n = execute_at program (fetch image l.at) l n
 
 -- an original address is entered at its sequence; where it is no place it is kept, and word 0
 -- follows
-abbrev pub enter : Lane → ℕ → Option ℕ → Lane
+abbrev pub enter : ProcessorState → ℕ → Option ℕ → ProcessorState
 enter l original (Some new) = record l { at = new }
 enter l original None = record l { at = image_base; off = original }
 
 -- the processor at the word that follows a wait, by its node's lines then
-abbrev pub lane_resumed : Lane → Local → Resume → Lane
+abbrev pub lane_resumed : ProcessorState → NodeMemory → Resume → ProcessorState
 lane_resumed l n PastWord = record l { at = next_pc l.at }
 lane_resumed l n SameWord = l
 lane_resumed l n (ByLines need low high) =
     record l { at = if both_meet n need low high then past_next l.at else next_pc l.at }
 
 -- what is counted where a wait is over
-abbrev pub tally_resumed : Local → Resume → Tally
+abbrev pub tally_resumed : NodeMemory → Resume → Tally
 tally_resumed n (ByLines need low high) =
     if both_meet n need low high then Nothing_counted else FallsBack
 tally_resumed n resume = Nothing_counted
 
 -- the processor after its word; one that waits stays at it until it has what it wants
-abbrev pub lane_after : List Cell → Lane → Move → Lane
+abbrev pub lane_after : List Cell → ProcessorState → Move → ProcessorState
 lane_after image l Next = record l { at = next_pc l.at }
 lane_after image l Again = l
 lane_after image l (To address) = record l { at = address }
@@ -498,11 +499,11 @@ counts_after FallsBack c = record c { fallbacks = c.fallbacks + 1 }
 -- its events: the takes, the bytes printed, and the counts
 pub record Node : Type 0 where
   pub me : ℕ
-  pub lane : Lane
-  pub local : Local
+  pub lane : ProcessorState
+  pub local : NodeMemory
   pub executed : ℕ
   pub phase : Phase
-  pub entry : ℕ → Entry
+  pub entry : ℕ → DirectoryEntry
   pub waiting : ℕ → List Request
   pub occupancy : ℕ
   pub wait : ℕ → Option Wait
@@ -520,7 +521,7 @@ pub record Work : Type 0 where
   pub layout : Shape
   pub budget : ℕ
 
-abbrev pub first_lane : Work → ℕ → Lane
+abbrev pub first_lane : Work → ℕ → ProcessorState
 first_lane work me = record {
   registers = registers_of (first_values me work.layout.nodes);
   at = unwrap_or (new_of work.image work.program.entry) 0;
@@ -540,7 +541,7 @@ abbrev pub is_at_home : Shape → (me line : ℕ) → Bool
 is_at_home layout me line = option_map_or (λ b. home layout b == me) (block_of layout line) false
 
 -- the copy has the first contents of the blocks at home, and flag words in the others
-abbrev pub first_local : Work → ℕ → Local
+abbrev pub first_local : Work → ℕ → NodeMemory
 first_local work me = record {
   copy = λ a. if is_at_home work.layout me (line_of a) then work.program.first a else flag_byte a;
   state = λ line. first_state (work.program.class line) (is_at_home work.layout me line);
@@ -567,7 +568,7 @@ opening_node work me = record {
 }
 
 -- what a node's next word does
-abbrev pub word_outcome : Work → Node → Outcome
+abbrev pub word_outcome : Work → Node → WordOutcome
 word_outcome work n = next_outcome work.program work.image n.lane n.local
 
 -- a word at which a node may take messages: a poll, or a call

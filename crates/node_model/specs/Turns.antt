@@ -9,12 +9,12 @@ use Rattle.miss_handlers.specs.llsc.Reservation.{cleared}
 use Rattle.miss_handlers.specs.state_table.declared.State.{State}
 use Rattle.miss_handlers.specs.state_table.StateByte.{byte_of, state_with, can_read}
 use Rattle.miss_handlers.specs.flag_memory.Copy.{bytes_from}
-use Rattle.miss_handlers.specs.home_directory.declared.messages.Need.{Need}
-use Rattle.miss_handlers.specs.home_directory.declared.messages.Need.TheVariants as need
-use Rattle.miss_handlers.specs.home_directory.declared.messages.Message.{Message}
-use Rattle.miss_handlers.specs.home_directory.declared.messages.Message.TheVariants.{Bye}
-use Rattle.miss_handlers.specs.home_directory.declared.messages.Post.{Post}
-use Rattle.miss_handlers.specs.home_directory.declared.messages.Wire.{Wire}
+use Rattle.miss_handlers.specs.dsm_messages.declared.messages.Need.{Need}
+use Rattle.miss_handlers.specs.dsm_messages.declared.messages.Need.TheVariants as need
+use Rattle.miss_handlers.specs.dsm_messages.declared.messages.Message.{Message}
+use Rattle.miss_handlers.specs.dsm_messages.declared.messages.Message.TheVariants.{Bye}
+use Rattle.miss_handlers.specs.dsm_messages.declared.messages.Post.{Post}
+use Rattle.miss_handlers.specs.dsm_messages.declared.messages.Wire.{Wire}
 use Rattle.miss_handlers.specs.home_directory.Home.{count_of, post}
 use Rattle.miss_handlers.specs.home_directory.Table.{LocalBlock, Miss, want_row}
 use Rattle.miss_handlers.specs.Effects.{block_facts}
@@ -31,8 +31,8 @@ pub record Turn : Type 0 where
   pub sends : List Post
   pub printed : Option ℕ
 
-abbrev pub quiet : Node → Turn
-quiet n = record { node = n; sends = []; printed = None }
+abbrev pub silent : Node → Turn
+silent n = record { node = n; sends = []; printed = None }
 
 -- 1. A block at a node
 
@@ -183,13 +183,13 @@ by_row layout n (AtNode b row) = record {
 
 -- without a row nothing changes and nothing is sent
 abbrev pub by_row_or : Shape → Node → Option Row → Turn
-by_row_or layout n None = quiet n
+by_row_or layout n None = silent n
 by_row_or layout n (Some row) = by_row layout n row
 
 -- a message from node j: a Bye is noted, another has its row
-abbrev pub treated : Shape → Node → ℕ → Message → Turn
-treated layout n j Bye = quiet (record n { byes = changed n.byes j true })
-treated layout n j message = by_row_or layout n (row_of layout n.me (holding layout n) j message)
+abbrev pub handled : Shape → Node → ℕ → Message → Turn
+handled layout n j Bye = silent (record n { byes = changed n.byes j true })
+handled layout n j message = by_row_or layout n (row_of layout n.me (holding layout n) j message)
 
 -- the node waits for no block
 abbrev pub has_no_wait : Shape → Node → Bool
@@ -229,7 +229,7 @@ journaled n j wire = record n {
 
 abbrev pub after_message : Work → Node → ℕ → Wire → Turn
 after_message work n j wire =
-    let t = treated work.layout (journaled n j wire) j wire.message in
+    let t = handled work.layout (journaled n j wire) j wire.message in
     record t { node = resumed work t.node t.node.phase }
 
 -- the node takes a message from node j

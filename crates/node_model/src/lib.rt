@@ -1,11 +1,14 @@
 #![tactic(auto)]
 //! What a node that runs rewritten code is, what it does in an event, and what a core of such nodes
-//! is. There is no code here but the types of what is seen of a node.
+//! is. There is no code here but what is seen of a node: types, and what a standing allows.
+
+ghost use Rattle.std.specs.Prelude.{◌≡◌};
+ghost use Rattle.node_model.specs.Core as model;
 
 pub use jump_map;
 pub use jump_map::{micro_op, runtime_words, rv32_step, templates};
 pub use miss_handlers;
-pub use miss_handlers::{flag_memory, home_directory, llsc, state_table};
+pub use miss_handlers::{dsm_messages, flag_memory, home_directory, llsc, state_table};
 
 /// What a node may do next.
 #[derive(Clone, Copy, Debug, PartialEq, Eq)]
@@ -20,6 +23,28 @@ pub enum Standing {
     Ended,
     /// It has ended, and all nodes have told it that they have.
     Over,
+}
+
+impl Standing {
+    /// Whether the node may execute a word.
+    pub fn may_execute(self) -> bool
+        ensures { result ≡ model.may_execute self }
+    {
+        match self {
+            Standing::Running | Standing::AtPoll => true,
+            Standing::Waiting | Standing::Ended | Standing::Over => false,
+        }
+    }
+
+    /// Whether the node may take a message.
+    pub fn may_take(self) -> bool
+        ensures { result ≡ model.may_take self }
+    {
+        match self {
+            Standing::AtPoll | Standing::Waiting | Standing::Ended => true,
+            Standing::Running | Standing::Over => false,
+        }
+    }
 }
 
 /// A message that a node took, in its journal.

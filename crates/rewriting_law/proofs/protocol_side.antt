@@ -8,3 +8,4 @@ pub mod Worlds
 pub mod CountedBlocks
 pub mod DirectorySide
 pub mod Start
+pub mod MissCosts

@@ -4,13 +4,13 @@ use Rattle.std.specs.Prelude.{◌≡◌, ℕ, ◌+◌, ◌<◌, ◌≤◌, false
 use Rattle.std.specs.Option.{option_map_or}
 use Rattle.templates.specs.declared.plans.PlanEntry.{PlanEntry}
 use Rattle.dsm_protocol.specs.jump_map.Maps.{old_of}
-use Rattle.dsm_protocol.specs.node_model.Node.{Work, Lane, standing_of}
+use Rattle.dsm_protocol.specs.node_model.Node.{Work, ProcessorState, standing_of}
 use Rattle.dsm_protocol.specs.node_model.Core.{Core, Event, Exec, Take, may_take, opening_core, event_step, after}
 use Rattle.rewriting_law.specs.CoreRun.{commits}
 
 -- the original address of a processor's next word: that of the word's place, or, at the word that
 -- belongs to none, where the processor went
-abbrev pub pc_at : Work → Lane → ℕ
+abbrev pub pc_at : Work → ProcessorState → ℕ
 pc_at work l = option_map_or (λ p. p.address) (old_of work.image l.at) l.off
 
 abbrev pub committed_at : Work → List PlanEntry → (i : ℕ) → Core → Event → List ℕ

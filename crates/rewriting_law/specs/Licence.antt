@@ -3,12 +3,12 @@ use Rattle.std.specs.Prelude.{◌≡◌, true, List, [], ◌∷◌}
 use Rattle.rv32_program.specs.Program.{line_of}
 use Rattle.rv32_step.specs.OneMemory.{Access, Nothing, Reads, Writes, WritesIf, Exchanges}
 use Rattle.templates.specs.declared.plans.PlanEntry.{PlanEntry}
-use Rattle.dsm_protocol.specs.node_model.Node.{Work, Local, is_readable_state, is_writable_state, word_outcome}
+use Rattle.dsm_protocol.specs.node_model.Node.{Work, NodeMemory, is_readable_state, is_writable_state, word_outcome}
 use Rattle.dsm_protocol.specs.node_model.Core.{Core, Event, Exec, Take, event_step}
 use Rattle.rewriting_law.specs.CoreRun.{commits}
 
 -- the access is licensed: its line is readable, or, where a store is done, writable
-abbrev pub Licensed : Local → Access → Type 0
+abbrev pub Licensed : NodeMemory → Access → Type 0
 Licensed n Nothing = Unit {0}
 Licensed n (Reads kind a value) = is_readable_state (n.state (line_of a)) ≡ true
 Licensed n (Writes width a value) = is_writable_state (n.state (line_of a)) ≡ true

@@ -20,13 +20,14 @@ ghost use Rattle.rewriting_law.specs.Bounds.{most_events, steps_of};
 ghost use Rattle.rewriting_law.specs.CoreRun.{commits, picks_of};
 ghost use Rattle.rewriting_law.specs.Ascents.{AscendsBetweenPolls, pc_at};
 ghost use Rattle.rewriting_law.specs.Conditionals.{IsConditional, IsLostBy};
-ghost use Rattle.rewriting_law.specs.ProtocolLists.{HasProtocolList};
+ghost use Rattle.rewriting_law.specs.ProtocolLists.{HasProtocolList, EndsMisses};
 ghost use Rattle.rewriting_law.specs.Interleaving.{Interleaves, IsCoherent, GoesAlone};
 ghost use Rattle.rewriting_law.specs.Interleaving.{SameReservations, HaveRows, original_after};
 
 use block_layout::layout_law;
 pub use dsm_protocol;
 pub use home_directory;
+pub use home_directory::dsm_messages;
 pub use runtime_words;
 
 /// The law of rewriting, which the callers use by its clauses; the call does nothing.
@@ -59,8 +60,9 @@ pub fn interleaving_law()
         → IsRewriting work.program plan work.image → IsCoreRun work (opening_core work) events
         → IsCoherent work (after work (opening_core work) events)
         (original_after work plan events).shared }
-    // And the nodes, and the lists between them, are those to which some protocol list leads, of
-    // licensed stores, wants and takes, with the memory of the interleaved run.
+    // And the nodes, and the lists between them, are those to which some protocol list leads from
+    // the program's first bytes, of licensed stores, wants and takes, with the memory of the
+    // interleaved run.
     ensures lists { (work : Work) (plan : List PlanEntry) (events : List Event)
         → IsAccepted work.program → IsValid work.layout → IsLaidOver work.program work.layout
         → IsRewriting work.program plan work.image → IsCoreRun work (opening_core work) events
@@ -143,6 +145,10 @@ pub fn bounds_law()
         → IsAccepted work.program → IsValid work.layout → IsLaidOver work.program work.layout
         → IsRewriting work.program plan work.image → IsCoreRun work (opening_core work) events
         → AreFrugal work.layout.nodes (counts_after work events) }
+    // Whatever protocol list leads to nodes and lists: where a miss ends it has sent exactly four
+    // messages for it, if the miss is to read, and at most 2n + 1, if it is to write.
+    ensures costs { (work : Work) (c : Core) (memory : ℕ → ℕ)
+        (list : HasProtocolList work c memory) → IsValid work.layout → EndsMisses list }
     // A processor that was stopped has made a step for each 40 words of its budget.
     ensures work { (work : Work) (plan : List PlanEntry) (events : List Event) (i budget : ℕ)
         → IsAccepted work.program → IsValid work.layout → IsLaidOver work.program work.layout

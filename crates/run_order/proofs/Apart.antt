@@ -6,19 +6,19 @@ use Rattle.node_model.specs.Turns.{word_turn, take_turn}
 use Rattle.node_model.specs.Core.{Core, AreAlike, opening_core, after, wires_to}
 use Rattle.run_order.specs.OwnRun.{Stamped, StandsForOwnRun, OnlyAdds, events_of, run_of}
 use Rattle.run_order.specs.Apart.{Executes, Takes, LeadsBy, taken_from, sent_to, HaveDone}
-use Rattle.run_order.specs.Apart.{Deed as Doing}
-use Rattle.run_order.proofs.Deeds.{Deed, stamped, taken, sent, of, Local, Fits}
+use Rattle.run_order.specs.Apart.{LocalEvent as Doing}
+use Rattle.run_order.proofs.History.{LocalEvent, stamped, taken, sent, of, Local, Fits}
 use Rattle.run_order.proofs.Merging.{run_fits}
 use Rattle.run_order.proofs.Ordered.{order, taken_of, sent_of, ordered}
 use Rattle.run_order.proofs.Moving.{Moves, grows, run_made}
 use Rattle.run_order.proofs.Told.{AreOf, node_tells}
-use Rattle.run_order.proofs.Theorem.{run_tells, own_deeds, own_run}
+use Rattle.run_order.proofs.Theorem.{run_tells, own_history, own_run}
 use Rattle.run_order.proofs.Gathered.{fits_append, all_of, of_above, of_below}
 
 -- 1. What one node did
 
--- what each deed of node i did, from this node on
-abbrev did_by : Work → ℕ → Node → List Doing → List Deed
+-- what each local_event of node i did, from this node on
+abbrev did_by : Work → ℕ → Node → List Doing → List LocalEvent
 did_by work i s [] = []
 did_by work i s (Executes ∷ ds) = record {
   node = i;
@@ -94,11 +94,11 @@ none_from work j s t (Takes k w ∷ ds) le l =
 
 -- 2. What all did fits
 
-module _ (work : Work) (c d u : Core) (deeds : ℕ → List Doing) where
-  abbrev h : ℕ → List Deed
-  h i = did_by work i (c.nodes i) (deeds i)
+module _ (work : Work) (c d u : Core) (history : ℕ → List Doing) where
+  abbrev h : ℕ → List LocalEvent
+  h i = did_by work i (c.nodes i) (history i)
 
-  abbrev pub new : List Deed
+  abbrev pub new : List LocalEvent
   new = all_of work.layout.nodes h
 
   -- the nodes and lists after, and those that no node has to do with
@@ -110,18 +110,18 @@ module _ (work : Work) (c d u : Core) (deeds : ℕ → List Doing) where
   }
 
   own : (i : ℕ) → AreOf i (h i)
-  own i = did_own work i (c.nodes i) (deeds i)
+  own i = did_own work i (c.nodes i) (history i)
 
-  takes_below : (j k : ℕ) → k < work.layout.nodes → taken j k new ≡ taken_from j (deeds k)
+  takes_below : (j k : ℕ) → k < work.layout.nodes → taken j k new ≡ taken_from j (history k)
   takes_below j k b = sym (taken_of j k new)
       ∙ ap (λ l. taken j k l) (of_below work.layout.nodes h own k b)
-      ∙ did_take work k j (c.nodes k) (deeds k)
+      ∙ did_take work k j (c.nodes k) (history k)
 
   sends_below : (j k : ℕ) → j < work.layout.nodes
-      → sent j k new ≡ sent_to work k (c.nodes j) (deeds j)
+      → sent j k new ≡ sent_to work k (c.nodes j) (history j)
   sends_below j k b = sym (sent_of j k new)
       ∙ ap (λ l. sent j k l) (of_below work.layout.nodes h own j b)
-      ∙ did_send work j k (c.nodes j) (deeds j)
+      ∙ did_send work j k (c.nodes j) (history j)
 
   takes_above : (j k : ℕ) → work.layout.nodes ≤ k → taken j k new ≡ []
   takes_above j k le = sym (taken_of j k new)
@@ -134,7 +134,7 @@ module _ (work : Work) (c d u : Core) (deeds : ℕ → List Doing) where
         rw (lt-ltb j work.layout.nodes bj) (rw (lt-ltb k work.layout.nodes bk) refl);
   }
 
-  nodes_fit : AreAlike work.layout.nodes c u → HaveDone work c d deeds → (i : ℕ)
+  nodes_fit : AreAlike work.layout.nodes c u → HaveDone work c d history → (i : ℕ)
       → Local (Moves work) (u.nodes i) (of i new) (other_core.nodes i)
   nodes_fit alike did i = ⊎_elim
       (λ (b : i < work.layout.nodes).
@@ -142,14 +142,14 @@ module _ (work : Work) (c d u : Core) (deeds : ℕ → List Doing) where
       (sym (of_below work.layout.nodes h own i b))
       (subst (λ (x : Node). Local (Moves work) x (h i) (other_core.nodes i)) (alike.nodes i b)
       (subst (λ (x : Node). Local (Moves work) (c.nodes i) (h i) x) (same_below.nodes i b)
-      (did_local work i (c.nodes i) (d.nodes i) (deeds i) b (did.nodes i b)))))
+      (did_local work i (c.nodes i) (d.nodes i) (history i) b (did.nodes i b)))))
       (λ (le : work.layout.nodes ≤ i).
       subst (λ l. Local (Moves work) (u.nodes i) l (other_core.nodes i))
       (sym (of_above work.layout.nodes h own i le))
       (rw (le-ltb i work.layout.nodes le) refl))
       (cases_lt i work.layout.nodes)
 
-  lists_below : AreAlike work.layout.nodes c u → HaveDone work c d deeds → (j k : ℕ)
+  lists_below : AreAlike work.layout.nodes c u → HaveDone work c d history → (j k : ℕ)
       → j < work.layout.nodes → k < work.layout.nodes
       → taken j k new ++ other_core.list j k ≡ u.list j k ++ sent j k new
   lists_below alike did j k bj bk =
@@ -157,12 +157,12 @@ module _ (work : Work) (c d u : Core) (deeds : ℕ → List Doing) where
       ∙ did.lists j k bj bk
       ∙ ap₂ (λ l m. l ++ m) (alike.lists j k bj bk) (sym (sends_below j k bj))
 
-  takes_outside : HaveDone work c d deeds → (j k : ℕ)
+  takes_outside : HaveDone work c d history → (j k : ℕ)
       → work.layout.nodes ≤ j → k < work.layout.nodes → taken j k new ≡ []
   takes_outside did j k le b = takes_below j k b
-      ∙ none_from work j (c.nodes k) (d.nodes k) (deeds k) le (did.nodes k b)
+      ∙ none_from work j (c.nodes k) (d.nodes k) (history k) le (did.nodes k b)
 
-  lists_fit : AreAlike work.layout.nodes c u → HaveDone work c d deeds → (j k : ℕ)
+  lists_fit : AreAlike work.layout.nodes c u → HaveDone work c d history → (j k : ℕ)
       → taken j k new ++ other_core.list j k ≡ u.list j k ++ sent j k new
   lists_fit alike did j k = ⊎_elim
       (λ (bj : j < work.layout.nodes). ⊎_elim
@@ -178,7 +178,7 @@ module _ (work : Work) (c d u : Core) (deeds : ℕ → List Doing) where
       (cases_lt k work.layout.nodes))))
       (cases_lt j work.layout.nodes)
 
-  pub new_fits : AreAlike work.layout.nodes c u → HaveDone work c d deeds
+  pub new_fits : AreAlike work.layout.nodes c u → HaveDone work c d history
       → Fits (Moves work) u new other_core
   new_fits alike did = (nodes_fit alike did, lists_fit alike did)
 
@@ -201,7 +201,7 @@ same_run work t d events alike stands = record {
   };
 }
 
-fits_run : (work : Work) (ds : List Deed) (t : Core) → Fits (Moves work) (opening_core work) ds t
+fits_run : (work : Work) (ds : List LocalEvent) (t : Core) → Fits (Moves work) (opening_core work) ds t
     → (events : List Stamped) × StandsForOwnRun work t events
 fits_run work ds t fit =
     let run = ordered (Moves work) (grows work) (opening_core work) t ds fit in
@@ -209,16 +209,16 @@ fits_run work ds t fit =
     subst (λ (x : Core). (events : List Stamped) × StandsForOwnRun work x events) made.leads
     (own_run work (run_of (map stamped (order ds))) made.run)
 
-pub apart : (work : Work) (c d : Core) (events : List Stamped) (deeds : ℕ → List Doing)
-    → StandsForOwnRun work c events → HaveDone work c d deeds
+pub apart : (work : Work) (c d : Core) (events : List Stamped) (history : ℕ → List Doing)
+    → StandsForOwnRun work c events → HaveDone work c d history
     → (own : List Stamped) × StandsForOwnRun work d own × OnlyAdds work.layout.nodes c d
-apart work c d events deeds stands did =
+apart work c d events history stands did =
     let u = after work (opening_core work) (run_of events) in
-    let before = own_deeds work c events stands in
-    let more = new work c d u deeds in
-    let t = other_core work c d u deeds in
-    let fit = new_fits work c d u deeds stands.ends did in
-    let alike = same_below work c d u deeds in
+    let before = own_history work c events stands in
+    let more = new work c d u history in
+    let t = other_core work c d u history in
+    let fit = new_fits work c d u history stands.ends did in
+    let alike = same_below work c d u history in
     let all = fits_append (Moves work) (opening_core work) u t before.0 more
     (run_fits (Moves work) before.0 (opening_core work) u before.2) fit in
     let run = fits_run work (before.0 ++ more) t all in (

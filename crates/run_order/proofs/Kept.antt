@@ -1,17 +1,17 @@
 -- What a turn does to a node's stamp, count of words, journal and printed bytes.
 use Rattle.std.proofs.Common.{◌≡◌, ℕ, Bool, true, false, cond, List, [], ◌∷◌, Option, Some, None, refl, ◌∙◌}
 use Rattle.block_layout.specs.Layout.{Shape, block_of}
-use Rattle.node_model.specs.home_directory.declared.messages.Need.{Need}
-use Rattle.node_model.specs.home_directory.declared.messages.Message.{Message}
-use Rattle.node_model.specs.home_directory.declared.messages.Message.TheVariants.{Read, Write, FwdRead, FwdWrite, Inval, Data, Grant, Ack, Done, Bye}
-use Rattle.node_model.specs.home_directory.declared.messages.Wire.{Wire}
+use Rattle.node_model.specs.dsm_messages.declared.messages.Need.{Need}
+use Rattle.node_model.specs.dsm_messages.declared.messages.Message.{Message}
+use Rattle.node_model.specs.dsm_messages.declared.messages.Message.TheVariants.{Read, Write, FwdRead, FwdWrite, Inval, Data, Grant, Ack, Done, Bye}
+use Rattle.node_model.specs.dsm_messages.declared.messages.Wire.{Wire}
 use Rattle.node_model.specs.home_directory.Table.{Miss}
 use Rattle.node_model.specs.miss_handlers.Rows.{Row, AtHome, AtNode}
 use Rattle.node_model.specs.rv32_program.Program.{line_of}
 use Rattle.node_model.specs.declared.Entry.{Entry as JournalEntry}
 use Rattle.node_model.specs.declared.OutByte.{OutByte}
 use Rattle.node_model.specs.Node.{Work, Node, Phase, Running, Resumed, Waiting, Ended, Want, word_outcome, word_step, counts_after, lane_resumed, tally_resumed, stop_or}
-use Rattle.node_model.specs.Turns.{Turn, with_miss, want_in, want_all, each_block_once, with_byes, word_turn, by_row_or, treated, has_no_wait, resumed, take_turn, after_word, after_wants, wants_of, after_message, journaled}
+use Rattle.node_model.specs.Turns.{Turn, with_miss, want_in, want_all, each_block_once, with_byes, word_turn, by_row_or, handled, has_no_wait, resumed, take_turn, after_word, after_wants, wants_of, after_message, journaled}
 
 pub record Kept : Type 0 where
   pub stamp : ℕ
@@ -55,18 +55,18 @@ row_kept l n None = refl
 row_kept l n (Some (AtHome b row)) = refl
 row_kept l n (Some (AtNode b row)) = refl
 
-treated_kept : (l : Shape) (n : Node) (j : ℕ) (m : Message)
-    → kept (treated l n j m).node ≡ kept n
-treated_kept l n j (Read b buf) = row_kept l n _
-treated_kept l n j (Write b buf) = row_kept l n _
-treated_kept l n j (FwdRead b r buf) = row_kept l n _
-treated_kept l n j (FwdWrite b r k buf) = row_kept l n _
-treated_kept l n j (Inval b r) = row_kept l n _
-treated_kept l n j (Data b k buf) = row_kept l n _
-treated_kept l n j (Grant b k buf) = row_kept l n _
-treated_kept l n j (Ack b) = row_kept l n _
-treated_kept l n j (Done b) = row_kept l n _
-treated_kept l n j Bye = refl
+handled_kept : (l : Shape) (n : Node) (j : ℕ) (m : Message)
+    → kept (handled l n j m).node ≡ kept n
+handled_kept l n j (Read b buf) = row_kept l n _
+handled_kept l n j (Write b buf) = row_kept l n _
+handled_kept l n j (FwdRead b r buf) = row_kept l n _
+handled_kept l n j (FwdWrite b r k buf) = row_kept l n _
+handled_kept l n j (Inval b r) = row_kept l n _
+handled_kept l n j (Data b k buf) = row_kept l n _
+handled_kept l n j (Grant b k buf) = row_kept l n _
+handled_kept l n j (Ack b) = row_kept l n _
+handled_kept l n j (Done b) = row_kept l n _
+handled_kept l n j Bye = refl
 
 resumed_kept : (work : Work) (n : Node) (p : Phase) → kept (resumed work n p) ≡ kept n
 resumed_kept work n Running = refl
@@ -85,4 +85,4 @@ resumed_kept work n (Waiting r) = either (has_no_wait work.layout n) (record n {
 pub take_kept : (work : Work) (n : Node) (j : ℕ) (w : Wire)
     → kept (take_turn work n j w).node ≡ kept (journaled n j w)
 take_kept work n j w = byes_kept work.layout.nodes (after_message work n j w) _
-    ∙ resumed_kept work _ _ ∙ treated_kept work.layout (journaled n j w) j w.message
+    ∙ resumed_kept work _ _ ∙ handled_kept work.layout (journaled n j w) j w.message

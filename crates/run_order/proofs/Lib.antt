@@ -1,4 +1,4 @@
-pub mod Deeds
+pub mod History
 pub mod Merging
 pub mod Ordered
 pub mod Unique

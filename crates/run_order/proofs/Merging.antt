@@ -1,10 +1,10 @@
 -- Events in the order of their stamps are a run.
 use Rattle.std.proofs.Common.{◌≡◌, ◌≢◌, ℕ, ◌<◌, ◌≤◌, Bool, true, false, cond, eqb, Option, Some, None, List, [], ◌∷◌, ◌++◌, sym, refl, ap, ◌∙◌, subst, true≢false, append_assoc, append-nil, arith, eq-eqb, ne_eqb, eqb-true}
-use Rattle.node_model.specs.home_directory.declared.messages.Post.{Post}
-use Rattle.node_model.specs.home_directory.declared.messages.Wire.{Wire}
+use Rattle.node_model.specs.dsm_messages.declared.messages.Post.{Post}
+use Rattle.node_model.specs.dsm_messages.declared.messages.Wire.{Wire}
 use Rattle.node_model.specs.Node.{Node}
 use Rattle.node_model.specs.Core.{Core, wires_to}
-use Rattle.run_order.proofs.Deeds.{Deed, if_from, takes, sends, taken, sent, of, From, Ascends, IsLater, AreLater, Local, Run, Fits}
+use Rattle.run_order.proofs.History.{LocalEvent, if_from, takes, sends, taken, sent, of, From, Ascends, IsLater, AreLater, Local, Run, Fits}
 
 -- 1. What is sent later has later stamps
 
@@ -26,12 +26,12 @@ late_posts m k at (p ∷ ps) h =
       | false ↦ late_posts m k at ps h
     ]
 
-late_sends : (m j k : ℕ) (e : Deed) → m ≤ e.stamp → Late m (sends j k e)
+late_sends : (m j k : ℕ) (e : LocalEvent) → m ≤ e.stamp → Late m (sends j k e)
 late_sends m j k e h =
     elim (eqb j e.node) as (λ b. Late m (cond b (wires_to e.stamp k e.posts) []))
     [ true ↦ late_posts m k e.stamp e.posts h | false ↦ tt ]
 
-late_sent : (m j k : ℕ) (es : List Deed) → From m es → Late m (sent j k es)
+late_sent : (m j k : ℕ) (es : List LocalEvent) → From m es → Late m (sent j k es)
 late_sent m j k [] f = tt
 late_sent m j k (e ∷ es) f =
     late_append m (sends j k e) (sent j k es) (late_sends m j k e f.0) (late_sent m j k es f.1)
@@ -82,18 +82,18 @@ prev_list now rest taking tl there sending later e is =
 
 -- 3. Runs and what fits
 
-module _ (Moves : Node → Deed → Node → Type 0) where
-  local_next : (i : ℕ) (e : Deed) (es : List Deed) (x new z : Node) (b : Bool)
+module _ (Moves : Node → LocalEvent → Node → Type 0) where
+  local_next : (i : ℕ) (e : LocalEvent) (es : List LocalEvent) (x new z : Node) (b : Bool)
       → (b ≡ true → Local Moves new (of i es) z)
       → Local Moves x (cond b (e ∷ of i es) (of i es)) z → Local Moves (cond b new x) (of i es) z
   local_next i e es x new z true f h = f refl
   local_next i e es x new z false f h = h
 
-  of_self : (e : Deed) (es : List Deed) → of e.node (e ∷ es) ≡ e ∷ of e.node es
+  of_self : (e : LocalEvent) (es : List LocalEvent) → of e.node (e ∷ es) ≡ e ∷ of e.node es
   of_self e es = rw (eq-eqb e.node e.node refl) refl
 
   -- Nodes and lists that fit a list of events in the order of its stamps are reached by it.
-  pub merge : (es : List Deed) (s t : Core) → Ascends es → AreLater es → Fits Moves s es t
+  pub merge : (es : List LocalEvent) (s t : Core) → Ascends es → AreLater es → Fits Moves s es t
       → Run Moves s es t
   merge [] s t up later fit = λ r. record {
     nodes = λ i. fit.0 i r;
@@ -125,7 +125,7 @@ module _ (Moves : Node → Deed → Node → Type 0) where
         ),
       )
 
-  local_prev : (i : ℕ) (e : Deed) (es : List Deed) (s u : Core) (z : Node) (b : Bool)
+  local_prev : (i : ℕ) (e : LocalEvent) (es : List LocalEvent) (s u : Core) (z : Node) (b : Bool)
       → eqb e.node i ≡ b → Moves (s.nodes e.node) e (u.nodes e.node)
       → ((k : ℕ) → k ≢ e.node → u.nodes k ≡ s.nodes k) → Local Moves (u.nodes i) (of i es) z
       → Local Moves (s.nodes i) (cond b (e ∷ of i es) (of i es)) z
@@ -139,7 +139,7 @@ module _ (Moves : Node → Deed → Node → Type 0) where
       (others i (λ same. true≢false (sym (eq-eqb e.node i (sym same)) ∙ is))) h
 
   -- Whatever order the events of a run came in, its nodes and lists fit.
-  pub run_fits : (es : List Deed) (s t : Core) → Run Moves s es t → Fits Moves s es t
+  pub run_fits : (es : List LocalEvent) (s t : Core) → Run Moves s es t → Fits Moves s es t
   run_fits [] s t e = (
     (λ i. ap (λ (x : Core). x.nodes i) e),
     λ j k. sym (append-nil (s.list j k) ∙ ap (λ (x : Core). x.list j k) e),

@@ -1,18 +1,18 @@
 -- A core run and what its events did.
 use Rattle.std.proofs.Common.{◌≡◌, ◌≢◌, ℕ, ◌+◌, ◌<◌, Bool, true, false, cond, eqb, ltb, ◌&&◌, List, [], ◌∷◌, ◌++◌, map, Option, Some, None, option_to_list, refl, sym, ap, ◌∙◌, subst, append-nil, arith, eq-eqb, ne_eqb, eqb-true, ltb-false, ltb-true, ⊎_elim}
 use Rattle.std.proofs.lemmas.Bool.{cases_eq}
-use Rattle.node_model.specs.home_directory.declared.messages.Wire.{Wire}
+use Rattle.node_model.specs.dsm_messages.declared.messages.Wire.{Wire}
 use Rattle.node_model.specs.Node.{Work, Node, standing_of, word_outcome}
 use Rattle.node_model.specs.Turns.{Turn, later, word_turn, take_turn}
 use Rattle.node_model.specs.Core.{Core, Event, Exec, Take, May, may_execute, may_take, wires_to, with_turn, with_list, take_first, event_step, IsCoreRun, after, printed_at, printed_by}
 use Rattle.run_order.specs.OwnRun.{run_of}
 use Rattle.run_order.specs.Merge.{Printed, byte_in}
-use Rattle.run_order.proofs.Deeds.{Deed, event_by, stamped, byte_by, prints, if_from, sends, IsLater, Steps, Run}
+use Rattle.run_order.proofs.History.{LocalEvent, event_by, stamped, byte_by, prints, if_from, sends, IsLater, Steps, Run}
 use Rattle.run_order.proofs.Kept.{Kept, word_kept, take_kept}
 
 -- 1. What an event does to its node
 
-pub record Executes (work : Work) (s : Node) (d : Deed) (t : Node) : Type 0 where
+pub record Executes (work : Work) (s : Node) (d : LocalEvent) (t : Node) : Type 0 where
   pub below : d.node < work.layout.nodes
   pub may : may_execute (standing_of work s) ≡ true
   pub node : t ≡ (word_turn work s).node
@@ -20,7 +20,7 @@ pub record Executes (work : Work) (s : Node) (d : Deed) (t : Node) : Type 0 wher
   pub posts : d.posts ≡ (word_turn work s).sends
   pub byte : d.byte ≡ (word_outcome work s).printed
 
-pub record Receives (work : Work) (s : Node) (d : Deed) (p : ℕ × Wire) (t : Node) : Type 0 where
+pub record Receives (work : Work) (s : Node) (d : LocalEvent) (p : ℕ × Wire) (t : Node) : Type 0 where
   pub below : d.node < work.layout.nodes
   pub from : p.0 < work.layout.nodes
   pub may : may_take (standing_of work s) ≡ true
@@ -29,11 +29,11 @@ pub record Receives (work : Work) (s : Node) (d : Deed) (p : ℕ × Wire) (t : N
   pub posts : d.posts ≡ (take_turn work s p.0 p.1).sends
   pub byte : d.byte ≡ None
 
-abbrev pub MovesBy : Work → Node → Deed → Node → Option (ℕ × Wire) → Type 0
+abbrev pub MovesBy : Work → Node → LocalEvent → Node → Option (ℕ × Wire) → Type 0
 MovesBy work s d t None = Executes work s d t
 MovesBy work s d t (Some p) = Receives work s d p t
 
-abbrev pub Moves : Work → Node → Deed → Node → Type 0
+abbrev pub Moves : Work → Node → LocalEvent → Node → Type 0
 Moves work s d t = MovesBy work s d t d.took
 
 pub word_stamp : (work : Work) (n : Node) → (word_turn work n).node.stamp ≡ n.stamp + 1
@@ -53,7 +53,7 @@ later_both s t =
     ltb_less : (s t : ℕ) → ltb s t ≡ true → s < t + 1
     ltb_less s t e = let h = ltb-true s t e in omega arith
 
-grows_by : (work : Work) (s : Node) (d : Deed) (t : Node) (o : Option (ℕ × Wire))
+grows_by : (work : Work) (s : Node) (d : LocalEvent) (t : Node) (o : Option (ℕ × Wire))
     → MovesBy work s d t o → (s.stamp < d.stamp) × (t.stamp ≡ d.stamp) × IsLater d.stamp o
 grows_by work s d t None m =
     let e : d.stamp ≡ s.stamp + 1 =
@@ -65,18 +65,18 @@ grows_by work s d t (Some p) m =
     let h = later_both s.stamp p.1.stamp in
     (rw e h.0, sym m.stamp, rw e h.1)
 
-pub grows : (work : Work) (s : Node) (d : Deed) (t : Node) → Moves work s d t
+pub grows : (work : Work) (s : Node) (d : LocalEvent) (t : Node) → Moves work s d t
     → (s.stamp < d.stamp) × (t.stamp ≡ d.stamp) × IsLater d.stamp d.took
 grows work s d t m = grows_by work s d t d.took m
 
 -- 2. What an event of a core did
 
--- the deed of an event, which leads to the core after it
+-- the local_event of an event, which leads to the core after it
 abbrev pub DeedOf : Work → Core → Event → Core → Type 0
-DeedOf work c e u = (d : Deed) × (event_by d.node d.took ≡ e) × Steps (Moves work) c d u
+DeedOf work c e u = (d : LocalEvent) × (event_by d.node d.took ≡ e) × Steps (Moves work) c d u
 
-abbrev word_deed : Work → Core → ℕ → Deed
-word_deed work c i = record {
+abbrev word_local_event : Work → Core → ℕ → LocalEvent
+word_local_event work c i = record {
   node = i;
   stamp = (word_turn work (c.nodes i)).node.stamp;
   took = None;
@@ -84,8 +84,8 @@ word_deed work c i = record {
   byte = (word_outcome work (c.nodes i)).printed;
 }
 
-abbrev take_deed : Work → Core → (i j : ℕ) → Wire → Deed
-take_deed work c i j w = record {
+abbrev take_local_event : Work → Core → (i j : ℕ) → Wire → LocalEvent
+take_local_event work c i j w = record {
   node = i;
   stamp = (take_turn work (c.nodes i) j w).node.stamp;
   took = Some (j, w);
@@ -114,7 +114,7 @@ first_taken false false w ws rest f = (ws, refl, refl)
 word_did : (work : Work) (c : Core) (i : ℕ) → May work c (Exec i)
     → DeedOf work c (Exec i) (event_step work c (Exec i))
 word_did work c i may = let t = word_turn work (c.nodes i) in (
-  word_deed work c i,
+  word_local_event work c i,
   refl,
   (
     record {
@@ -138,7 +138,7 @@ take_did : (work : Work) (c : Core) (i j : ℕ) (ws : List Wire) → c.list j i 
     → May work c (Take i j) → DeedOf work c (Take i j) (take_first work c i j ws)
 take_did work c i j [] is may = absurd (may.3 is)
 take_did work c i j (w ∷ rest) is may = let t = take_turn work (c.nodes i) j w in (
-  take_deed work c i j w,
+  take_local_event work c i j w,
   refl,
   (
     record {
@@ -168,7 +168,7 @@ did work c (Take i j) may = take_did work c i j (c.list j i) refl may
 
 -- what the events of a core run did
 pub run_did : (work : Work) (es : List Event) (c : Core) → IsCoreRun work c es
-    → (ds : List Deed) × (run_of (map stamped ds) ≡ es)
+    → (ds : List LocalEvent) × (run_of (map stamped ds) ≡ es)
     × Run (Moves work) c ds (after work c es)
 run_did work [] c run = ([], refl, refl)
 run_did work (e ∷ es) c run =
@@ -176,15 +176,15 @@ run_did work (e ∷ es) c run =
     let more = run_did work es (event_step work c e) run.1 in
     (one.0 ∷ more.0, cc (one.1, more.1), (event_step work c e, one.2, more.2))
 
--- 3. Deeds are a core run
+-- 3. History are a core run
 
--- the event is allowed, leads to the core, and prints the byte of the deed
+-- the event is allowed, leads to the core, and prints the byte of the local_event
 pub record IsMade (work : Work) (c : Core) (e : Event) (u : Core) (bytes : List ℕ) : Type 0 where
   pub may : May work c e
   pub leads : event_step work c e ≡ u
   pub prints : printed_at work c e ≡ bytes
 
-same_core : (work : Work) (c u : Core) (d : Deed) (x : Core) (t : Turn)
+same_core : (work : Work) (c u : Core) (d : LocalEvent) (x : Core) (t : Turn)
     → ((k : ℕ) → x.nodes k ≡ c.nodes k)
     → u.nodes d.node ≡ t.node → ((i : ℕ) → i ≢ d.node → u.nodes i ≡ c.nodes i)
     → d.stamp ≡ t.node.stamp → d.posts ≡ t.sends
@@ -207,7 +207,7 @@ byte_prints : (i stamp : ℕ) (o : Option ℕ) → option_to_list o ≡ map byte
 byte_prints i stamp None = refl
 byte_prints i stamp (Some b) = refl
 
-word_made : (work : Work) (c : Core) (d : Deed) (u : Core) → d.took ≡ None
+word_made : (work : Work) (c : Core) (d : LocalEvent) (u : Core) → d.took ≡ None
     → Steps (Moves work) c d u → Executes work (c.nodes d.node) d (u.nodes d.node)
     → IsMade work c (Exec d.node) u (map byte_in (byte_by d.node d.stamp d.byte))
 word_made work c d u is st m = record {
@@ -232,7 +232,7 @@ left_taken true false w ws rest mine e f = e
 left_taken false true w ws rest mine e f = e
 left_taken false false w ws rest mine e f = e
 
-take_made : (work : Work) (c : Core) (d : Deed) (u : Core) (p : ℕ × Wire) → d.took ≡ Some p
+take_made : (work : Work) (c : Core) (d : LocalEvent) (u : Core) (p : ℕ × Wire) → d.took ≡ Some p
     → Steps (Moves work) c d u → Receives work (c.nodes d.node) d p (u.nodes d.node)
     → IsMade work c (Take d.node p.0) u (map byte_in (byte_by d.node d.stamp d.byte))
 take_made work c d u p is st m =
@@ -266,13 +266,13 @@ take_made work c d u p is st m =
       prints = sym (ap (λ o. map byte_in (byte_by i d.stamp o)) m.byte);
     }
 
-made_by_deed : (work : Work) (c : Core) (d : Deed) (u : Core) (o : Option (ℕ × Wire)) → d.took ≡ o
+made_by_local_event : (work : Work) (c : Core) (d : LocalEvent) (u : Core) (o : Option (ℕ × Wire)) → d.took ≡ o
     → Steps (Moves work) c d u → MovesBy work (c.nodes d.node) d (u.nodes d.node) o
     → IsMade work c (event_by d.node o) u (map byte_in (byte_by d.node d.stamp d.byte))
-made_by_deed work c d u None is st m = word_made work c d u is st m
-made_by_deed work c d u (Some p) is st m = take_made work c d u p is st m
+made_by_local_event work c d u None is st m = word_made work c d u is st m
+made_by_local_event work c d u (Some p) is st m = take_made work c d u p is st m
 
--- the events of deeds are a core run to the same core, and print the bytes of the deeds
+-- the events of history are a core run to the same core, and print the bytes of the history
 pub record AreMade (work : Work) (c : Core) (es : List Event) (t : Core) (bytes : List ℕ)
     : Type 0 where
   pub run : IsCoreRun work c es
@@ -283,12 +283,12 @@ map_append : (xs ys : List Printed) → map byte_in (xs ++ ys) ≡ map byte_in x
 map_append [] ys = refl
 map_append (x ∷ xs) ys = ap (λ l. x.byte ∷ l) (map_append xs ys)
 
-pub run_made : (work : Work) (ds : List Deed) (c t : Core) → Run (Moves work) c ds t
+pub run_made : (work : Work) (ds : List LocalEvent) (c t : Core) → Run (Moves work) c ds t
     → AreMade work c (run_of (map stamped ds)) t (map byte_in (prints ds))
 run_made work [] c t r = record { run = tt; leads = r; prints = refl }
 run_made work (d ∷ ds) c t r =
     let e = event_by d.node d.took in
-    let one = made_by_deed work c d r.0 d.took refl r.1 r.1.0 in
+    let one = made_by_local_event work c d r.0 d.took refl r.1 r.1.0 in
     let more = subst (λ x. AreMade work x (run_of (map stamped ds)) t (map byte_in (prints ds)))
     (sym one.leads) (run_made work ds r.0 t r.2) in
     record {

@@ -1,8 +1,8 @@
 -- Stamps are at most the number of events.
 use Rattle.std.proofs.Common.{ℕ, ◌+◌, ◌<◌, ◌≤◌, Bool, true, false, cond, eqb, ltb, ◌&&◌, List, [], ◌∷◌, ◌++◌, length, All, sym, subst, arith}
 use Rattle.std.proofs.lemmas.List.Elements.{All-nil, All-cons}
-use Rattle.node_model.specs.home_directory.declared.messages.Post.{Post}
-use Rattle.node_model.specs.home_directory.declared.messages.Wire.{Wire}
+use Rattle.node_model.specs.dsm_messages.declared.messages.Post.{Post}
+use Rattle.node_model.specs.dsm_messages.declared.messages.Wire.{Wire}
 use Rattle.node_model.specs.Node.{Work}
 use Rattle.node_model.specs.Turns.{Turn, word_turn, later, take_turn}
 use Rattle.node_model.specs.Core.{Core, Event, Exec, Take, May, opening_core, wires_to, with_turn, with_list, take_first, event_step, IsCoreRun, after}

@@ -1,13 +1,13 @@
 -- The journal of a node is of takes one behind another.
 use Rattle.std.proofs.Common.{◌≡◌, ℕ, ◌+◌, ◌-◌, ◌<◌, ◌≤◌, List, [], ◌∷◌, ◌++◌, length, Option, Some, None, refl, sym, ap, ◌∙◌, subst, arith}
-use Rattle.node_model.specs.home_directory.declared.messages.Wire.{Wire}
+use Rattle.node_model.specs.dsm_messages.declared.messages.Wire.{Wire}
 use Rattle.node_model.specs.declared.Entry.{Entry as JournalEntry}
 use Rattle.node_model.specs.Node.{Work, Node, opening_node, word_step}
 use Rattle.node_model.specs.Turns.{words_before, journaled}
 use Rattle.node_model.specs.Core.{Core, Event, opening_core, IsCoreRun, after}
 use Rattle.run_order.specs.OwnRun.{last_take}
 use Rattle.run_order.specs.Takes.{IsTakeWithin, AreTakesWithin}
-use Rattle.run_order.proofs.Deeds.{Deed, of, Local}
+use Rattle.run_order.proofs.History.{LocalEvent, of, Local}
 use Rattle.run_order.proofs.Journals.{IsTold, word_told, take_told}
 use Rattle.run_order.proofs.Kept.{Kept, kept, word_kept, take_kept}
 use Rattle.run_order.proofs.Merging.{run_fits}
@@ -38,7 +38,7 @@ abbrev pub Keeps : Work → Kept → Type 0
 Keeps work k = IsTold k.journal k.executed k.stamp
     × AreTakesWithin work.layout.nodes 0 k.stamp k.journal
 
-move_keeps : (work : Work) (s : Node) (d : Deed) (t : Node) (o : Option (ℕ × Wire))
+move_keeps : (work : Work) (s : Node) (d : LocalEvent) (t : Node) (o : Option (ℕ × Wire))
     → MovesBy work s d t o → Keeps work (kept s) → Keeps work (kept t)
 move_keeps work s d t None m h =
     let same : kept t ≡ kept (word_step work s) =
@@ -70,7 +70,7 @@ move_keeps work s d t (Some p) m h =
     ) in
     subst (λ k. Keeps work k) (sym same) more
 
-local_keeps : (work : Work) (ds : List Deed) (s t : Node) → Local (Moves work) s ds t
+local_keeps : (work : Work) (ds : List LocalEvent) (s t : Node) → Local (Moves work) s ds t
     → Keeps work (kept s) → Keeps work (kept t)
 local_keeps work [] s t l h = subst (λ (n : Node). Keeps work (kept n)) l h
 local_keeps work (d ∷ ds) s t l h =

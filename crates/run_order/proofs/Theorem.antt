@@ -5,7 +5,7 @@ use Rattle.node_model.specs.Core.{Core, Event, opening_core, event_step, IsCoreR
 use Rattle.run_order.specs.Sorted.{AreMadeBelow, AreSorted}
 use Rattle.run_order.specs.OwnRun.{Stamped, AreEventsOf, StandsForOwnRun, OnlyAdds, events_of, stamp_in, maker, run_of}
 use Rattle.run_order.specs.Merge.{Printed, AreMerged, printed_of, stamp_of, printer, byte_in}
-use Rattle.run_order.proofs.Deeds.{Deed, stamped, prints, of, Run}
+use Rattle.run_order.proofs.History.{LocalEvent, stamped, prints, of, Run}
 use Rattle.run_order.proofs.Merging.{run_fits}
 use Rattle.run_order.proofs.Ordered.{order, of_order, sorted_order, run_climbs, reordered}
 use Rattle.run_order.proofs.Unique.{one_sorted}
@@ -15,16 +15,16 @@ use Rattle.run_order.proofs.Told.{TellsMore, node_tells, opening_tells}
 use Rattle.run_order.proofs.Lists.{events_by, stamped_sorted, run_below, same_events, bytes_by, bytes_below, bytes_sorted}
 
 -- the nodes of a run from the start tell of its events
-pub run_tells : (work : Work) (ds : List Deed) (c : Core)
+pub run_tells : (work : Work) (ds : List LocalEvent) (c : Core)
     → Run (Moves work) (opening_core work) ds c
     → (i : ℕ) → TellsMore i (kept (opening_node work i)) (kept (c.nodes i)) (map stamped (of i ds))
     (prints (of i ds))
 run_tells work ds c r i = node_tells work i ds (opening_node work i) (c.nodes i)
     ((run_fits (Moves work) ds (opening_core work) c r).0 i) (opening_tells work i)
 
-sorted_deeds : (work : Work) (ds : List Deed) (c : Core) → Run (Moves work) (opening_core work) ds c
+sorted_history : (work : Work) (ds : List LocalEvent) (c : Core) → Run (Moves work) (opening_core work) ds c
     → AreEventsOf work.layout.nodes c.nodes (map stamped (order ds))
-sorted_deeds work ds c r =
+sorted_history work ds c r =
     let up = run_climbs (Moves work) (grows work) (opening_core work) c ds r in record {
       sorted = stamped_sorted (order ds) (sorted_order ds up);
       below = run_below work (order ds) (opening_core work) c
@@ -43,7 +43,7 @@ own_run work run may =
     (reordered (Moves work) (grows work) (opening_core work) c did.0 did.2) in (
       map stamped (order did.0),
       record {
-        are_events = sorted_deeds work did.0 c did.2;
+        are_events = sorted_history work did.0 c did.2;
         is_run = made.run;
         ends = record {
           nodes = λ i b. ap (λ (x : Core). x.nodes i) (sym made.leads);
@@ -85,10 +85,10 @@ adds work run more may i b =
 
 -- 3. The bytes merged
 
-pub own_deeds : (work : Work) (c : Core) (events : List Stamped) → StandsForOwnRun work c events
-    → (ds : List Deed) × (events ≡ map stamped ds)
+pub own_history : (work : Work) (c : Core) (events : List Stamped) → StandsForOwnRun work c events
+    → (ds : List LocalEvent) × (events ≡ map stamped ds)
     × Run (Moves work) (opening_core work) ds (after work (opening_core work) (run_of events))
-own_deeds work c events stands =
+own_history work c events stands =
     let end = after work (opening_core work) (run_of events) in
     let did = run_did work (run_of events) (opening_core work) stands.is_run in (
       did.0,
@@ -99,7 +99,7 @@ own_deeds work c events stands =
       did.2,
     )
 
-prints_merged : (work : Work) (c : Core) (events : List Stamped) (ds : List Deed)
+prints_merged : (work : Work) (c : Core) (events : List Stamped) (ds : List LocalEvent)
     → StandsForOwnRun work c events → events ≡ map stamped ds
     → Run (Moves work) (opening_core work) ds (after work (opening_core work) (run_of events))
     → AreMerged work.layout.nodes c.nodes (prints ds)
@@ -119,7 +119,7 @@ prints_merged work c events ds stands told run =
 pub bytes : (work : Work) (c : Core) (events : List Stamped) → StandsForOwnRun work c events
     → (bytes : List Printed) × AreMerged work.layout.nodes c.nodes bytes
 bytes work c events stands =
-    let own = own_deeds work c events stands in
+    let own = own_history work c events stands in
     (prints own.0, prints_merged work c events own.0 stands own.1 own.2)
 
 pub merged : (work : Work) (c : Core) (events : List Stamped) (merge : List Printed)
@@ -127,7 +127,7 @@ pub merged : (work : Work) (c : Core) (events : List Stamped) (merge : List Prin
     → map byte_in merge ≡ printed_by work (opening_core work) (run_of events)
 merged work c events merge stands are =
     let end = after work (opening_core work) (run_of events) in
-    let own = own_deeds work c events stands in
+    let own = own_history work c events stands in
     let ds = own.0 in
     let one : merge ≡ prints ds = one_sorted stamp_of printer work.layout.nodes
     (λ i. map (printed_of i) (c.nodes i).output) merge (prints ds) are

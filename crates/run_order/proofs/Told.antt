@@ -1,13 +1,13 @@
 -- What a node's journal and printed bytes tell of its events.
 use Rattle.std.proofs.Common.{◌≡◌, ℕ, ◌+◌, ◌-◌, cond, eqb, List, [], ◌∷◌, ◌++◌, map, Option, Some, None, sym, refl, ap, ap₂, ◌∙◌, subst, append_assoc, append-nil, true, false, eqb-true, arith}
-use Rattle.node_model.specs.home_directory.declared.messages.Wire.{Wire}
+use Rattle.node_model.specs.dsm_messages.declared.messages.Wire.{Wire}
 use Rattle.node_model.specs.declared.Entry.{Entry as JournalEntry}
 use Rattle.node_model.specs.declared.OutByte.{OutByte}
 use Rattle.node_model.specs.Node.{Work, Node, opening_node, printed_also, word_outcome, word_step}
 use Rattle.node_model.specs.Turns.{words_before, journaled}
 use Rattle.run_order.specs.OwnRun.{Stamped, events_of}
 use Rattle.run_order.specs.Merge.{Printed, printed_of}
-use Rattle.run_order.proofs.Deeds.{Deed, stamped, event_by, byte_by, prints, of, Local}
+use Rattle.run_order.proofs.History.{LocalEvent, stamped, event_by, byte_by, prints, of, Local}
 use Rattle.run_order.proofs.Kept.{Kept, kept, word_kept, take_kept}
 use Rattle.run_order.proofs.Moving.{MovesBy, Moves}
 use Rattle.run_order.proofs.Journals.{IsTold, read_off, word_told, word_adds, take_told, take_adds}
@@ -40,15 +40,15 @@ byte_more i stamp output None = sym (append-nil (map (printed_of i) output))
 byte_more i stamp output (Some b) =
     out_append i output (record { stamp = stamp; byte = b } ∷ [])
 
--- the event of a deed that took this
-abbrev told_by : Deed → Option (ℕ × Wire) → Stamped
+-- the event of a local_event that took this
+abbrev told_by : LocalEvent → Option (ℕ × Wire) → Stamped
 told_by d o = record { stamp = d.stamp; event = event_by d.node o }
 
-abbrev MoveTells : Node → Deed → Option (ℕ × Wire) → Kept → Type 0
+abbrev MoveTells : Node → LocalEvent → Option (ℕ × Wire) → Kept → Type 0
 MoveTells s d o k =
     TellsMore d.node (kept s) k (told_by d o ∷ []) (byte_by d.node d.stamp d.byte)
 
-move_tells : (work : Work) (s : Node) (d : Deed) (t : Node) (o : Option (ℕ × Wire))
+move_tells : (work : Work) (s : Node) (d : LocalEvent) (t : Node) (o : Option (ℕ × Wire))
     → MovesBy work s d t o → Tells (kept s) → MoveTells s d o (kept t)
 move_tells work s d t None m h =
     let same : kept t ≡ kept (word_step work s) =
@@ -83,11 +83,11 @@ move_tells work s d t (Some p) m h =
     } in
     subst (λ k. MoveTells s d (Some p) k) (sym same) more
 
-abbrev pub AreOf : ℕ → List Deed → Type 0
+abbrev pub AreOf : ℕ → List LocalEvent → Type 0
 AreOf i [] = Unit {0}
 AreOf i (d ∷ ds) = (d.node ≡ i) × AreOf i ds
 
-are_of : (i : ℕ) (ds : List Deed) → AreOf i (of i ds)
+are_of : (i : ℕ) (ds : List LocalEvent) → AreOf i (of i ds)
 are_of i [] = tt
 are_of i (d ∷ ds) =
     (elim (eqb d.node i) as (λ b. eqb d.node i ≡ b → AreOf i (cond b (d ∷ of i ds) (of i ds))) [
@@ -95,7 +95,7 @@ are_of i (d ∷ ds) =
       | false ↦ (λ e. are_of i ds)
     ]) refl
 
-local_tells : (work : Work) (i : ℕ) (ds : List Deed) (s t : Node) → AreOf i ds
+local_tells : (work : Work) (i : ℕ) (ds : List LocalEvent) (s t : Node) → AreOf i ds
     → Local (Moves work) s ds t → Tells (kept s)
     → TellsMore i (kept s) (kept t) (map stamped ds) (prints ds)
 local_tells work i [] s t own l h =
@@ -118,7 +118,7 @@ local_tells work i (d ∷ ds) s t own l h =
     }
 
 -- the events of node i, which it made alone, are what it tells of after
-pub node_tells : (work : Work) (i : ℕ) (ds : List Deed) (s t : Node)
+pub node_tells : (work : Work) (i : ℕ) (ds : List LocalEvent) (s t : Node)
     → Local (Moves work) s (of i ds) t → Tells (kept s)
     → TellsMore i (kept s) (kept t) (map stamped (of i ds)) (prints (of i ds))
 node_tells work i ds s t l h = local_tells work i (of i ds) s t (are_of i ds) l h

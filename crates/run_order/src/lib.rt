@@ -5,7 +5,7 @@ ghost use Rattle.std.specs.Prelude.{◌≡◌, ◌<◌, ◌≤◌, ◌++◌, ℕ
 ghost use Rattle.node_model.specs.Node.{Work};
 ghost use Rattle.node_model.specs.Core.{Core, Event, IsCoreRun, opening_core, after, printed_by};
 ghost use Rattle.run_order.specs.OwnRun.{Stamped, StandsForOwnRun, OnlyAdds, run_of};
-ghost use Rattle.run_order.specs.Apart.{Deed, HaveDone};
+ghost use Rattle.run_order.specs.Apart.{LocalEvent, HaveDone};
 ghost use Rattle.run_order.specs.Merge.{Printed, AreMerged, byte_in};
 ghost use Rattle.run_order.specs.Takes.{AreTakesWithin};
 
@@ -29,8 +29,9 @@ pub fn stamp_law()
         (after work (opening_core work) (run ++ more)) }
     // Nodes that made events apart, with what is left of each list, stand for their own run where
     // the core that they come from does; and they only add to its events.
-    ensures apart { (work : Work) (c d : Core) (events : List Stamped) (deeds : ℕ → List Deed)
-        → StandsForOwnRun work c events → HaveDone work c d deeds
+    ensures apart { (work : Work) (c d : Core) (events : List Stamped)
+        (history : ℕ → List LocalEvent)
+        → StandsForOwnRun work c events → HaveDone work c d history
         → (own : List Stamped) × StandsForOwnRun work d own × OnlyAdds work.layout.nodes c d }
     // No stamp is above the number of events.
     ensures few { (work : Work) (run : List Event) (i : ℕ)

@@ -29,8 +29,8 @@ use Rattle.templates.specs.declared.reaches.Reach.{Reach}
 use Rattle.templates.specs.Runs.{reach_of, code_from, IsRunScratch, HasRunScratches}
 use Rattle.templates.specs.Sequences.{SequenceItem, own, checking, committing, to_head, spill_by, spill, reload_by, reload, state_look, spills_of_run, reloads_of_run, mask_readable, head_items, run_items, fast_items, fallback_items, batch_items, batch_sequence}
 use Rattle.dsm_protocol.specs.jump_map.Image.{reload_count, address_in}
-use Rattle.home_directory.specs.declared.messages.Need.{Need}
-use Rattle.dsm_protocol.specs.node_model.Node.{Lane, Local, Outcome, Want, To, Waits, ByLines, go_on, native, batch, fall_back, past_next, meets_need, refuses_need, need_of_run, execute}
+use Rattle.home_directory.specs.dsm_messages.declared.messages.Need.{Need}
+use Rattle.dsm_protocol.specs.node_model.Node.{ProcessorState, NodeMemory, WordOutcome, Want, To, Waits, ByLines, only_moves, native, batch, fall_back, past_next, meets_need, refuses_need, need_of_run, execute}
 use Rattle.rewriting_law.proofs.templates.RegisterLemmas.{apart, equal, reg_zero, put_here, put_other, put_zero}
 use Rattle.rewriting_law.proofs.templates.States.{Suits, Later}
 use Rattle.rewriting_law.proofs.templates.Does.{SequenceKind, OfRun, place_of, place_in_batch, AtHead, Rest, Seeks, IsWanted, AreWanted, lane_at, skip_to, Leads, Does, does_later}
@@ -145,7 +145,7 @@ reloads_length x =
     let g = reload_length x.u.spilled 2 x.u.register [] in
     omega (arith, e, f, g)
 
-holds_zero : (x : Hide) (r v : ℕ) (q : Processor) (l : Lane) → Holds x r q l
+holds_zero : (x : Hide) (r v : ℕ) (q : Processor) (l : ProcessorState) → Holds x r q l
     → Holds x r q (with_reg l 0 v)
 holds_zero Shown r v q l h = put_zero l.registers v r ∙ h
 holds_zero Dead r v q l h = h
@@ -205,13 +205,13 @@ module _ (program : Program) (accepted : IsAccepted program) (place : ℕ → �
   abbrev kind : SequenceKind
   kind = OfRun place
 
-  skip_all : (xs ys : List SequenceItem) (k at : ℕ) (q : Processor) (l : Lane) (n : Local)
+  skip_all : (xs ys : List SequenceItem) (k at : ℕ) (q : Processor) (l : ProcessorState) (n : NodeMemory)
       → ((j to : ℕ) → Does program kind a j to ys 0 q l n)
       → Does program kind a k at (xs ++ ys) (length xs) q l n
   skip_all [] ys k at q l n go = go k at
   skip_all (x ∷ xs) ys k at q l n go = skip_all xs ys (k + 1) (next_pc at) q l n go
 
-  jump_over : (s k at : ℕ) (rest : List SequenceItem) (q : Processor) (l : Lane) (n : Local)
+  jump_over : (s k at : ℕ) (rest : List SequenceItem) (q : Processor) (l : ProcessorState) (n : NodeMemory)
       → at % 4 ≡ 0
       → ((x y : ℕ) → Does program kind a (k + 1) (next_pc at) rest s q
       (lane_at x y (with_reg l 0 (next_pc at))) n)
@@ -220,8 +220,8 @@ module _ (program : Program) (accepted : IsAccepted program) (place : ℕ → �
       let to = offset_address at (pos (4 * (s + 1))) in
       let four : to % 4 ≡ 0 = omega (arith, al) in
       let acts : execute program (place_of kind a k) at (Native (Jal 0 (pos (4 * (s + 1))))) l n'
-      ≡ go_on (with_reg l 0 (next_pc at)) n' (To to) = rw (equal (to % 4) 0 four) refl in
-      subst (λ (r : Outcome). Leads program kind a k at
+      ≡ only_moves (with_reg l 0 (next_pc at)) n' (To to) = rw (equal (to % 4) 0 four) refl in
+      subst (λ (r : WordOutcome). Leads program kind a k at
       (λ z. Does program kind a (k + 1) (next_pc at) rest z) q n' r Never r.move) (sym acts) (
         s,
         sym (skips_to s at),
@@ -280,9 +280,9 @@ module _ (program : Program) (accepted : IsAccepted program) (place : ℕ → �
     ) (hide_hidden x.u.spilled 2)
 
     -- the three registers spilled, or dead
-    with_three : (k at : ℕ) (q : Processor) (l : Lane) (n : Local) (rest : List SequenceItem)
+    with_three : (k at : ℕ) (q : Processor) (l : ProcessorState) (n : NodeMemory) (rest : List SequenceItem)
         → AtHead program a q l → at % 4 ≡ 0
-        → ((j to : ℕ) (l' : Lane) → j ≡ k + kept x → to % 4 ≡ 0 → Mid program hides a q l'
+        → ((j to : ℕ) (l' : ProcessorState) → j ≡ k + kept x → to % 4 ≡ 0 → Mid program hides a q l'
         → Does program kind a j to rest 0 q l' n)
         → Does program kind a k at (spills_of_run x rest) 0 q l n
     with_three k at q l n rest head al next =
@@ -326,9 +326,9 @@ module _ (program : Program) (accepted : IsAccepted program) (place : ℕ → �
         ]
 
     -- and shown again
-    three_back : (k at b : ℕ) (q : Processor) (l : Lane) (n : Local) (rest : List SequenceItem)
+    three_back : (k at b : ℕ) (q : Processor) (l : ProcessorState) (n : NodeMemory) (rest : List SequenceItem)
         → Mid program hides b q l
-        → ((j to : ℕ) (l' : Lane) → j ≡ k + kept x → Mid program shown b q l'
+        → ((j to : ℕ) (l' : ProcessorState) → j ≡ k + kept x → Mid program shown b q l'
         → Does program kind a j to rest 0 q l' n)
         → Does program kind a k at (reloads_of_run x rest) 0 q l n
     three_back k at b q l n rest m next =
@@ -344,7 +344,7 @@ module _ (program : Program) (accepted : IsAccepted program) (place : ℕ → �
         scratch.u.nonzero refl m2
         (λ j3 to3 l3 e3 m3. next j3 to3 l3 (omega (arith, e1, e2, e3)) m3)))
 
-    at_head : (b : ℕ) (q : Processor) (l : Lane) → Mid program shown b q l → AtHead program b q l
+    at_head : (b : ℕ) (q : Processor) (l : ProcessorState) → Mid program shown b q l → AtHead program b q l
     at_head b q l m = record {
       place = m.place;
       running = m.running;
@@ -353,7 +353,7 @@ module _ (program : Program) (accepted : IsAccepted program) (place : ℕ → �
       written = m.written;
     }
 
-    zero_kept : (q : Processor) (l : Lane) (v : ℕ) → Mid program hides a q l
+    zero_kept : (q : Processor) (l : ProcessorState) (v : ℕ) → Mid program hides a q l
         → Mid program hides a q (with_reg l 0 v)
     zero_kept q l v m = record {
       place = m.place;
@@ -402,18 +402,18 @@ module _ (program : Program) (accepted : IsAccepted program) (place : ℕ → �
       abbrev need : Need
       need = need_of_run reach.stores
 
-      abbrev Serve : Local → Type 0
+      abbrev Serve : NodeMemory → Type 0
       Serve n = BothServe program reach (reg q.registers reach.base) n.state
 
       -- the fallback
-      back_does : (n : Local) (l : Lane) → Mid program keeps a q l → (j to : ℕ)
+      back_does : (n : NodeMemory) (l : ProcessorState) → Mid program keeps a q l → (j to : ℕ)
           → Does program kind a j to back 0 q l n
       back_does n l m j to =
           three_back x reach.base scratch j to a q l n [] m
           (λ i to2 l2 e mid. at_head x reach.base scratch a q l2 mid)
 
       -- the fast part
-      fast_does : (n : Local) (l : Lane) → Serve n → Mid program keeps a q l → (j to : ℕ)
+      fast_does : (n : NodeMemory) (l : ProcessorState) → Serve n → Mid program keeps a q l → (j to : ℕ)
           → j ≡ head_words → Does program kind a j to rest 0 q l n
       fast_does n l serve m j to first =
           subst (λ xs. Does program kind a j to xs 0 q l n) (sym fast_more)
@@ -428,7 +428,7 @@ module _ (program : Program) (accepted : IsAccepted program) (place : ℕ → �
           (refl, behind, at_head x reach.base scratch (a + 4 * length is) p l3 mid3))))
 
       -- the jump past it
-      jump_does : (k at : ℕ) (l : Lane) (n : Local) → at % 4 ≡ 0 → Mid program keeps a q l
+      jump_does : (k at : ℕ) (l : ProcessorState) (n : NodeMemory) → at % 4 ≡ 0 → Mid program keeps a q l
           → Does program kind a k at (own (Jal 0 (pos (4 * (length fast + 1)))) rest) 0 q l n
       jump_does k at l n al m =
           jump_over (length fast) k at rest q l n al (λ y z.
@@ -451,7 +451,7 @@ module _ (program : Program) (accepted : IsAccepted program) (place : ℕ → �
       abbrev want : ℕ → Want
       want address = record { at = address; need = need }
 
-      wanted : (n : Local) → Suits program n → (address : ℕ) → Seeks program q need address
+      wanted : (n : NodeMemory) → Suits program n → (address : ℕ) → Seeks program q need address
           → refuses_need need (n.state (line_of address)) ≡ false
           → meets_need need (n.state (line_of address)) ≡ false
           → IsWanted program q n (want address)
@@ -462,7 +462,7 @@ module _ (program : Program) (accepted : IsAccepted program) (place : ℕ → �
         seeks = seeks;
       }
 
-      both_serve : (n : Local) → Suits program n
+      both_serve : (n : NodeMemory) → Suits program n
           → meets_need need (n.state (line_of low_at)) ≡ true
           → meets_need need (n.state (line_of high_at)) ≡ true → Serve n
       both_serve n suits low high = record {
@@ -473,7 +473,7 @@ module _ (program : Program) (accepted : IsAccepted program) (place : ℕ → �
       }
 
       -- also where the lower line's state was seen before the other's
-      serve_by_turns : (n m : Local) → Suits program n → Suits program m → Later n m
+      serve_by_turns : (n m : NodeMemory) → Suits program n → Suits program m → Later n m
           → meets_need need (n.state (line_of low_at)) ≡ true
           → meets_need need (m.state (line_of high_at)) ≡ true → Serve m
       serve_by_turns n m suits suited later low high = record {
@@ -485,25 +485,25 @@ module _ (program : Program) (accepted : IsAccepted program) (place : ℕ → �
       }
 
       -- the check of a run
-      module _ (k at : ℕ) (l : Lane) (n : Local) (suits : Suits program n) (there : l.at ≡ at)
+      module _ (k at : ℕ) (l : ProcessorState) (n : NodeMemory) (suits : Suits program n) (there : l.at ≡ at)
           (al : at % 4 ≡ 0) (count : k + 2 ≡ head_words) (m : Mid program keeps a q l) where
         abbrev K : Rest
         K = λ z. Does program kind a (k + 1) (next_pc at)
             (own (Jal 0 (pos (4 * (length fast + 1)))) rest) z
 
-        abbrev outcome : Outcome
+        abbrev outcome : WordOutcome
         outcome = batch l n need low_at high_at
 
-        by_outcome : (r : Outcome) → outcome ≡ r → Leads program kind a k at K q n r Never r.move
+        by_outcome : (r : WordOutcome) → outcome ≡ r → Leads program kind a k at K q n r Never r.move
             → Leads program kind a k at K q n outcome Never outcome.move
         by_outcome r e h =
-            subst (λ (z : Outcome). Leads program kind a k at K q n z Never z.move) (sym e) h
+            subst (λ (z : WordOutcome). Leads program kind a k at K q n z Never z.move) (sym e) h
 
-        jumps : (n' : Local) (y z : ℕ) → K 0 q (lane_at y z l) n'
+        jumps : (n' : NodeMemory) (y z : ℕ) → K 0 q (lane_at y z l) n'
         jumps n' y z = jump_does (k + 1) (next_pc at) (lane_at y z l) n' (next_aligned at al)
             (mid_at program a keeps q l y z m)
 
-        runs : (n' : Local) → Serve n' → (y z : ℕ) → K 1 q (lane_at y z l) n'
+        runs : (n' : NodeMemory) → Serve n' → (y z : ℕ) → K 1 q (lane_at y z l) n'
         runs n' serve y z = fast_does n' (lane_at y z l) serve (mid_at program a keeps q l y z m)
             (k + 1 + 1) (next_pc (next_pc at)) (omega (arith, count))
 
@@ -511,7 +511,7 @@ module _ (program : Program) (accepted : IsAccepted program) (place : ℕ → �
             → Leads program kind a k at K q n outcome Never outcome.move
         falls e = by_outcome (fall_back l n) e (refl, refl, jumps n, refl)
 
-        resumes : (n' : Local) → Suits program n' → (y z : ℕ) → (b c : Bool)
+        resumes : (n' : NodeMemory) → Suits program n' → (y z : ℕ) → (b c : Bool)
             → meets_need need (n'.state (line_of low_at)) ≡ b
             → meets_need need (n'.state (line_of high_at)) ≡ c
             → K (cond (b && c) 1 0) q (lane_at y z l) n'
@@ -521,10 +521,10 @@ module _ (program : Program) (accepted : IsAccepted program) (place : ℕ → �
 
         waits : (w : Want) (more : List Want) → length more ≤ 1
             → AreWanted program q n (w ∷ more)
-            → outcome ≡ go_on l n (Waits (ByLines need low_at high_at) w more)
+            → outcome ≡ only_moves l n (Waits (ByLines need low_at high_at) w more)
             → Leads program kind a k at K q n outcome Never outcome.move
         waits w more few wants e =
-            by_outcome (go_on l n (Waits (ByLines need low_at high_at) w more)) e (
+            by_outcome (only_moves l n (Waits (ByLines need low_at high_at) w more)) e (
               refl,
               refl,
               refl,
@@ -543,7 +543,7 @@ module _ (program : Program) (accepted : IsAccepted program) (place : ℕ → �
             → Leads program kind a k at K q n outcome Never outcome.move
         meets f g true true d e =
             let to : past_next l.at ≡ skip_to 1 (next_pc at) = ap past_next there in
-            by_outcome (go_on l n (To (past_next l.at))) (rw (f, g, d, e) refl)
+            by_outcome (only_moves l n (To (past_next l.at))) (rw (f, g, d, e) refl)
             (1, to, (refl, refl, runs n (both_serve n suits d e), refl))
         meets f g true false d e =
             waits (want high_at) [] (omega arith)
@@ -575,12 +575,12 @@ module _ (program : Program) (accepted : IsAccepted program) (place : ℕ → �
             (Batch reach.stores x.s.register x.u.register) l n ≡ outcome =
             ap (λ z. batch l n need z (reg l.registers x.u.register)) e
             ∙ ap (λ z. batch l n need low_at z) f in
-            subst (λ (z : Outcome). Leads program kind a k at K q n z Never z.move) (sym acts)
+            subst (λ (z : WordOutcome). Leads program kind a k at K q n z Never z.move) (sym acts)
             (refuses (refuses_need need (n.state (line_of low_at)))
             (refuses_need need (n.state (line_of high_at))) refl refl)
 
       -- the two addresses, and the check
-      wants_do : (k at : ℕ) (l : Lane) (n : Local) → at % 4 ≡ 0
+      wants_do : (k at : ℕ) (l : ProcessorState) (n : NodeMemory) → at % 4 ≡ 0
           → k + 4 ≡ head_words → Mid program keeps a q l
           → Does program kind a k at (wants_then x reach (length fast) rest) 0 q l n
       wants_do k at l n al count m =
@@ -616,7 +616,7 @@ module _ (program : Program) (accepted : IsAccepted program) (place : ℕ → �
           (mid_at program a keeps q (with_reg l1 u high_at) y2 z2 m2) s2 u2))
 
       -- the branch to the fast part, where the register is 0
-      test_does : (k at : ℕ) (l : Lane) (n : Local) → at % 4 ≡ 0
+      test_does : (k at : ℕ) (l : ProcessorState) (n : NodeMemory) → at % 4 ≡ 0
           → k + 5 ≡ head_words → (v : ℕ) → reg l.registers x.s.register ≡ v
           → (eqb v 0 ≡ true → Serve n) → Mid program keeps a q l
           → Does program kind a k at (test_then x reach (length fast) rest) 0 q l n
@@ -646,13 +646,13 @@ module _ (program : Program) (accepted : IsAccepted program) (place : ℕ → �
           go false e =
               own_next program kind a k at (Branch Eq x.s.register 0 (pos 20))
               (wants_then x reach (length fast) rest) q l l n
-              (λ (n' : Local). ap (λ b. native program (place k) at l n' (branch_demand b to))
+              (λ (n' : NodeMemory). ap (λ b. native program (place k) at l n' (branch_demand b to))
               (tests false e))
               (λ y z. wants_do (k + 1) (next_pc at) (lane_at y z l) n (next_aligned at al)
               (omega (arith, count)) (mid_at program a keeps q l y z m))
 
       -- of a run that only loads, the second bit alone
-      mask_does : (stores : Bool) (k at : ℕ) (l : Lane) (n : Local) → at % 4 ≡ 0
+      mask_does : (stores : Bool) (k at : ℕ) (l : ProcessorState) (n : NodeMemory) → at % 4 ≡ 0
           → k + (5 + words_if (not stores)) ≡ head_words → (v : ℕ)
           → reg l.registers x.s.register ≡ v → (eqb (masked stores v) 0 ≡ true → Serve n)
           → Mid program keeps a q l
@@ -673,7 +673,7 @@ module _ (program : Program) (accepted : IsAccepted program) (place : ℕ → �
           (own_set program a keeps q l s w (hidden_s x reach.base scratch) m)))
 
       -- the states of the two lines, in one register
-      looks_do : (k at : ℕ) (l : Lane) (n : Local) → at % 4 ≡ 0
+      looks_do : (k at : ℕ) (l : ProcessorState) (n : NodeMemory) → at % 4 ≡ 0
           → k + (15 + words_if (not reach.stores)) ≡ head_words → Mid program keeps a q l
           → Does program kind a k at (looks_then x reach (mask_readable reach.stores x.s.register
           (test_then x reach (length fast) rest))) 0 q l n
@@ -687,11 +687,11 @@ module _ (program : Program) (accepted : IsAccepted program) (place : ℕ → �
           look_does program kind a x reach.base reach.low k at keeps q l n rest1 scratch.s.nonzero
           scratch.t.nonzero scratch.s_t (hidden_s x reach.base scratch)
           (hidden_t x reach.base scratch) shows live_base m al
-          (λ (n1 : Local) suits1 j1 to1 l1 e1 al1 m1 low table.
+          (λ (n1 : NodeMemory) suits1 j1 to1 l1 e1 al1 m1 low table.
           look_again_does program kind a x reach.base reach.high j1 to1 keeps q l1 n1 rest2
           scratch.u.nonzero scratch.t_u scratch.s_u (hidden_u x reach.base scratch) shows live_base
           table m1 al1
-          (λ (n2 : Local) suits2 later j2 to2 l2 e2 al2 m2 same high.
+          (λ (n2 : NodeMemory) suits2 later j2 to2 l2 e2 al2 m2 same high.
           let v = n1.state (line_of low_at) in
           let w = n2.state (line_of high_at) in
           own_sets program kind a j2 to2 (Op op.Or s s u) rest3 q l2 n2 s (bit_or v w)
@@ -706,7 +706,7 @@ module _ (program : Program) (accepted : IsAccepted program) (place : ℕ → �
           (mid_at program a keeps q (with_reg l2 s (bit_or v w)) y z
           (own_set program a keeps q l2 s (bit_or v w) (hidden_s x reach.base scratch) m2)))))
 
-      head_does : (at : ℕ) (l : Lane) (n : Local) → at % 4 ≡ 0
+      head_does : (at : ℕ) (l : ProcessorState) (n : NodeMemory) → at % 4 ≡ 0
           → AtHead program a q l
           → Does program kind a 0 at (head_then x reach (length fast) rest) 0 q l n
       head_does at l n al head =
@@ -716,7 +716,7 @@ module _ (program : Program) (accepted : IsAccepted program) (place : ℕ → �
           (λ j to l1 e al1 m.
           looks_do j to l1 n al1 (omega (arith, e, count)) m)
 
-      pub batch_does : (at : ℕ) (l : Lane) (n : Local) → at % 4 ≡ 0
+      pub batch_does : (at : ℕ) (l : ProcessorState) (n : NodeMemory) → at % 4 ≡ 0
           → AtHead program a q l
           → Does program kind a 0 at (head_items x reach (length fast) ++ rest) 0 q l n
       batch_does at l n al head =
@@ -734,7 +734,7 @@ word_place e k below =
     rw (from, to) back
 
 module _ (program : Program) (accepted : IsAccepted program) (e : PlanEntry)
-    (starts : StartsRun program.code e) (q : Processor) (l : Lane) (n : Local) (at : ℕ) where
+    (starts : StartsRun program.code e) (q : Processor) (l : ProcessorState) (n : NodeMemory) (at : ℕ) where
   abbrev run_code : List Instr
   run_code = code_from program.code e.address e.run
 

@@ -13,7 +13,7 @@ use Rattle.rv32_program.specs.declared.Class.TheVariants.{Shared}
 use Rattle.rv32_program.specs.Program.{Program, is_mapped, is_writable, line_of}
 use Rattle.rv32_program.specs.Targets.{offset_address}
 use Rattle.templates.specs.declared.reaches.Reach.{Reach}
-use Rattle.dsm_protocol.specs.node_model.Node.{Local, is_readable_state, is_writable_state, meets_need, refuses_need, need_of_run}
+use Rattle.dsm_protocol.specs.node_model.Node.{NodeMemory, is_readable_state, is_writable_state, meets_need, refuses_need, need_of_run}
 use Rattle.rewriting_law.proofs.templates.States.{StateFits, Later, grants, ReadLook, Gone, Readable, Unreadable, read_look, WriteLook, Fixed, Writable, Unwritable, write_look}
 use Rattle.rewriting_law.proofs.templates.RegisterLemmas.{equal}
 use Rattle.rewriting_law.proofs.batches.RunStretches.{Within}
@@ -81,7 +81,7 @@ pub record BothServe (program : Program) (reach : Reach) (value : ℕ) (state : 
 
 -- they serve it still, whatever the other processors of the node, and messages that take nothing
 -- away, make of them
-pub serves_later : (program : Program) (stores : Bool) (n m : Local) (line : ℕ) → Later n m
+pub serves_later : (program : Program) (stores : Bool) (n m : NodeMemory) (line : ℕ) → Later n m
     → Serves program stores n.state line → Serves program stores m.state line
 serves_later program stores n m line later serves = record {
   mapped = serves.mapped;
@@ -90,7 +90,7 @@ serves_later program stores n m line later serves = record {
   granted = λ h. later.writes line (serves.granted h);
 }
 
-pub both_later : (program : Program) (reach : Reach) (value : ℕ) (n m : Local) → Later n m
+pub both_later : (program : Program) (reach : Reach) (value : ℕ) (n m : NodeMemory) → Later n m
     → BothServe program reach value n.state → BothServe program reach value m.state
 both_later program reach value n m later both = record {
   low = serves_later program reach.stores n m (line_of (offset_address value reach.low)) later

@@ -17,7 +17,7 @@ use Rattle.runtime_words.specs.declared.RtWord.TheVariants.{Native}
 use Rattle.templates.specs.declared.commits.CommitKind.TheVariants.{Always}
 use Rattle.templates.specs.declared.reaches.Reach.{Reach}
 use Rattle.templates.specs.Sequences.{SequenceItem, committing, run_items}
-use Rattle.dsm_protocol.specs.node_model.Node.{Lane, Local, Outcome, Next, go_on, lane_stored, local_stored, native, execute}
+use Rattle.dsm_protocol.specs.node_model.Node.{ProcessorState, NodeMemory, WordOutcome, Next, only_moves, lane_stored, local_stored, native, execute}
 use Rattle.rewriting_law.proofs.templates.RegisterLemmas.{put_other}
 use Rattle.rewriting_law.proofs.templates.Does.{SequenceKind, OfRun, place_of, lane_at, may_turn, is_where, Commits, Leads, Does, does_later}
 use Rattle.rewriting_law.proofs.templates.Mids.{Mid, shown, with_reg, mid_at}
@@ -27,7 +27,7 @@ use Rattle.rewriting_law.proofs.batches.RunLines.{Serves, BothServe, both_later,
 
 module _ (program : Program) (accepted : IsAccepted program) where
   -- an instruction that sets a register is the processor's step
-  computes_commits : (kind : SequenceKind) (s j at a : ℕ) (q : Processor) (l : Lane) (n : Local)
+  computes_commits : (kind : SequenceKind) (s j at a : ℕ) (q : Processor) (l : ProcessorState) (n : NodeMemory)
       (i : Instr) (rd : ℕ) (rest : List SequenceItem) → program.code a ≡ Some i
       → place_of kind s j ≡ a → (computes : Computes i rd) → Mid program shown a q l
       → ((x y : ℕ) → let v = computes.value q.registers in
@@ -40,7 +40,7 @@ module _ (program : Program) (accepted : IsAccepted program) where
       let lane = with_reg l rd v in
       let same : computes.value l.registers ≡ v = computes.same l.registers q.registers
       (λ r reads. m.agree r (uses i c (inr reads))) in
-      let is : execute program (place_of kind s j) at (Native i) l n' ≡ go_on lane n' Next =
+      let is : execute program (place_of kind s j) at (Native i) l n' ≡ only_moves lane n' Next =
       ap (native program (place_of kind s j) at l n')
       (computes.demands l.registers at ∙ ap (Sets rd) same) in
       let ask : request program q ≡ Becomes (set_register q rd v) = asks program a q i m.place c
@@ -48,13 +48,13 @@ module _ (program : Program) (accepted : IsAccepted program) where
       let mid = sets_both program accepted shown a q l i rd v c
       (λ r other defines. other (sym (same_Some rd r (sym computes.defines ∙ defines))))
       (computes.next a) refl m in
-      subst (λ (r : Outcome). Leads program kind s j at
+      subst (λ (r : WordOutcome). Leads program kind s j at
       (λ z. Does program kind s (j + 1) (next_pc at) rest z) q n' r Always r.move) (sym is) (
         is_where program kind s j a q here m.place
             (ap (λ o. option_map_or (λ x. may_turn x a) o false) c ∙ computes.leads_on a),
         tt,
         subst (Commits program (λ p. (x y : ℕ) → Does program kind s (j + 1) (next_pc at) rest 0 p
-            (lane_at x y lane) n') q n' (go_on lane n' Next)) (sym ask) (
+            (lane_at x y lane) n') q n' (only_moves lane n' Next)) (sym ask) (
               m.running,
               refl,
               refl,
@@ -67,10 +67,10 @@ module _ (program : Program) (accepted : IsAccepted program) where
 
   module _ (reach : Reach) (near : reach.high ≤ℤ (reach.low +ℤ pos 63)) (value s : ℕ)
       (place : ℕ → ℕ) where
-    abbrev Serve : Local → Type 0
+    abbrev Serve : NodeMemory → Type 0
     Serve n = BothServe program reach value n.state
 
-    serves : (n : Local) → Serve n → (q : Processor) → reg q.registers reach.base ≡ value
+    serves : (n : NodeMemory) → Serve n → (q : Processor) → reg q.registers reach.base ≡ value
         → (imm : ℤ) (w : Width) → Within reach imm w
         → Serves program reach.stores n.state (line_of (offset_address (reg q.registers reach.base)
         imm))
@@ -82,10 +82,10 @@ module _ (program : Program) (accepted : IsAccepted program) where
         serve)
 
     -- a word of the run, and the words behind it
-    word_does : (i : Instr) (j at a : ℕ) (q : Processor) (l : Lane) (n : Local)
+    word_does : (i : Instr) (j at a : ℕ) (q : Processor) (l : ProcessorState) (n : NodeMemory)
         (rest : List SequenceItem) → RunWord reach i → program.code a ≡ Some i → place j ≡ a
         → reg q.registers reach.base ≡ value → Serve n → Mid program shown a q l
-        → ((p : Processor) (l' : Lane) (m : Local) → reg p.registers reach.base ≡ value → Serve m
+        → ((p : Processor) (l' : ProcessorState) (m : NodeMemory) → reg p.registers reach.base ≡ value → Serve m
         → Mid program shown (a + 4) p l'
         → Does program (OfRun place) s (j + 1) (next_pc at) rest 0 p l' m)
         → Does program (OfRun place) s j at (committing (Native i) rest) 0 q l n
@@ -103,7 +103,7 @@ module _ (program : Program) (accepted : IsAccepted program) where
         line : Serves program reach.stores n.state (line_of x)
         line = serves n serve q based imm (width_of k) within
 
-        v : Local → ℕ
+        v : NodeMemory → ℕ
         v = seen_value program accepted a q shown k rd reach.base imm c refl
 
         by : (b : Bool) → is_aligned (width_of k) x ≡ b → Does program (OfRun place) s j at
@@ -127,11 +127,11 @@ module _ (program : Program) (accepted : IsAccepted program) where
         (both_later program reach value n n' later serve) mid)
 
     -- the words of the run, and what is behind them
-    pub words_do : (is : List Instr) (j at a : ℕ) (q : Processor) (l : Lane) (n : Local)
+    pub words_do : (is : List Instr) (j at a : ℕ) (q : Processor) (l : ProcessorState) (n : NodeMemory)
         (rest : List SequenceItem) → StandAt program.code a is → Each (RunWord reach) is
         → ((k : ℕ) → k < length is → place (j + k) ≡ a + 4 * k)
         → reg q.registers reach.base ≡ value → Serve n → Mid program shown a q l
-        → ((i to : ℕ) (p : Processor) (l' : Lane) (m : Local)
+        → ((i to : ℕ) (p : Processor) (l' : ProcessorState) (m : NodeMemory)
         → Mid program shown (a + 4 * length is) p l'
         → Does program (OfRun place) s i to rest 0 p l' m)
         → Does program (OfRun place) s j at (run_items is rest) 0 q l n

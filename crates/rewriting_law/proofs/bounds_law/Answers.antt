@@ -1,4 +1,6 @@
 use Rattle.dsm_protocol.proofs.Openings.{LineLaws}
+use Rattle.dsm_protocol.proofs.Promises.{laid_of}
+use Rattle.rewriting_law.proofs.protocol_side.MissCosts.{ends_misses}
 use Rattle.rewriting_law.proofs.runs.Follows.{layout_of, frugal, steps_made, ascends}
 use Rattle.rewriting_law.proofs.bounds_law.Goals as goal
 
@@ -37,3 +39,8 @@ returns-clause-polls c = λ work plan events i accepted valid over rewriting may
     } in
     ascends work plan accepted (layout_of lines law.some law.few law.home work valid over)
     rewriting events may i low
+
+pub returns-clause-costs : goal.returns-clause-costs
+returns-clause-costs c = λ work core memory list valid.
+    let law = c.layout_law.ensures in
+    ends_misses work (laid_of work.layout valid law.home law.few) core memory list

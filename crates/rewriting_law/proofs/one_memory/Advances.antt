@@ -5,7 +5,7 @@ use Rattle.block_layout.specs.Layout.{Shape}
 use Rattle.rv32_program.specs.declared.Exit.{Exit}
 use Rattle.rv32_step.specs.OneMemory.{Original, Processor, State, Pick, Step, step, value_read, pick_step, value_of_pick, IsRun, run, values_read}
 use Rattle.templates.specs.declared.plans.PlanEntry.{PlanEntry}
-use Rattle.dsm_protocol.specs.node_model.Node.{Work, Lane, Local, Outcome}
+use Rattle.dsm_protocol.specs.node_model.Node.{Work, ProcessorState, NodeMemory, WordOutcome}
 use Rattle.rewriting_law.specs.Licence.{Licensed}
 use Rattle.rewriting_law.proofs.one_memory.Originals.{original_with}
 use Rattle.rewriting_law.proofs.one_memory.Sharing.{Sharing, Shares, Worded, Advances}
@@ -85,9 +85,9 @@ module _ (original : Original) where
 
 -- a word of node i that commits is a step, and another is none
 module _ (layout : Shape) (work : Work) (plan : List PlanEntry)
-    (Stands : Processor → Lane → Local → Type 0) (sharing : Sharing layout work)
-    (locals : ℕ → Local) (s : State) (shares : Shares layout work sharing locals s) (i : ℕ)
-    (below : i < work.layout.nodes) (running : (s.processors i).exit ≡ None) (r : Outcome) where
+    (Stands : Processor → ProcessorState → NodeMemory → Type 0) (sharing : Sharing layout work)
+    (locals : ℕ → NodeMemory) (s : State) (shares : Shares layout work sharing locals s) (i : ℕ)
+    (below : i < work.layout.nodes) (running : (s.processors i).exit ≡ None) (r : WordOutcome) where
   abbrev pub picked : Bool → List Pick
   picked b = cond b (Step i ∷ []) []
 

@@ -13,9 +13,9 @@ use Rattle.templates.specs.declared.commits.CommitKind.{CommitKind}
 use Rattle.templates.specs.declared.plans.PlanEntry.{PlanEntry}
 use Rattle.templates.specs.Commits.{commit_at}
 use Rattle.dsm_protocol.specs.jump_map.Maps.{old_of, fetch}
-use Rattle.home_directory.specs.declared.messages.Need.{Need}
-use Rattle.home_directory.specs.declared.messages.Need.TheVariants.{Write}
-use Rattle.dsm_protocol.specs.node_model.Node.{Work, Lane, Local, Want, Move, Next, Again, To, Enters, Waits, Leaves, Resume, Outcome, lane_after, lane_resumed, next_outcome, first_lane, takes_messages}
+use Rattle.home_directory.specs.dsm_messages.declared.messages.Need.{Need}
+use Rattle.home_directory.specs.dsm_messages.declared.messages.Need.TheVariants.{Write}
+use Rattle.dsm_protocol.specs.node_model.Node.{Work, ProcessorState, NodeMemory, Want, Move, Next, Again, To, Enters, Waits, Leaves, Resume, WordOutcome, lane_after, lane_resumed, next_outcome, first_lane, takes_messages}
 use Rattle.dsm_protocol.specs.node_model.Turns.{wants_of, each_block_once}
 use Rattle.rewriting_law.specs.CoreRun.{Order, break_by, is_exit, commits_by}
 use Rattle.rewriting_law.specs.Licence.{Licensed}
@@ -26,7 +26,7 @@ use Rattle.rewriting_law.proofs.one_memory.Sharing.{Sharing, Shares, Onward, wit
 use Rattle.rewriting_law.proofs.one_memory.Advances.{Advanced, WordAdvanced, picked, values_of_word, word_advanced}
 use Rattle.rewriting_law.proofs.one_memory.Messages.{AreLaidOut, Taken, message_shares}
 use Rattle.rewriting_law.proofs.one_memory.Pending.{wanted_in, pending, StandsWaiting, waits_standing, waiting_stores, waits_on, goes_on, pending_waits}
-use Rattle.rewriting_law.proofs.protocol_side.ProtocolSide.{Treated, Protocol, ProtocolSide, TakeLeaves, sharing_by, took_by}
+use Rattle.rewriting_law.proofs.protocol_side.ProtocolSide.{Handled, Protocol, ProtocolSide, TakeLeaves, sharing_by, took_by}
 use Rattle.rewriting_law.proofs.one_memory.Wants.{want_all, AllAsked, all_asked}
 
 -- what a processor does: it runs, it waits with its lane at the word that wants, or it has ended
@@ -46,7 +46,7 @@ module _ (layout : Shape) (work : Work) (plan : List PlanEntry) (code : CodeSide
 
   -- how a processor fits what its node does. Only where it runs does this speak of the node as it
   -- is
-  abbrev pub StandsIn : Pace → Activity → Processor → Lane → Local → Type 0
+  abbrev pub StandsIn : Pace → Activity → Processor → ProcessorState → NodeMemory → Type 0
   StandsIn p Runs q l n = (q.exit ≡ None) × code.Stands p q l n
   StandsIn p (Awaits resume want more) q l n =
       StandsWaiting layout work plan laid (code.Stands p) q l resume (want ∷ more)
@@ -60,7 +60,7 @@ module _ (layout : Shape) (work : Work) (plan : List PlanEntry) (code : CodeSide
   wait_in (Awaits resume want more) b = wanted_in layout b (want ∷ more)
   wait_in (HasEnded e) b = None
 
-  pub record Matches (paces : ℕ → Pace) (lanes : ℕ → Lane) (doing : ℕ → Activity) (locals : ℕ → Local)
+  pub record Matches (paces : ℕ → Pace) (lanes : ℕ → ProcessorState) (doing : ℕ → Activity) (locals : ℕ → NodeMemory)
       (rest : protocol.Rest) (s : State) : Type 0 where
     pub shares : Shares layout work (sharing_at rest) locals s
     pub stands : (i : ℕ) → i < work.layout.nodes
@@ -69,9 +69,9 @@ module _ (layout : Shape) (work : Work) (plan : List PlanEntry) (code : CodeSide
     pub waits : (i b : ℕ) → i < work.layout.nodes → protocol.wait rest i b ≡ wait_in (doing i) b
 
   -- one node has changed, and the protocol
-  matches_with : (paces : ℕ → Pace) (lanes : ℕ → Lane) (doing : ℕ → Activity) (locals : ℕ → Local)
+  matches_with : (paces : ℕ → Pace) (lanes : ℕ → ProcessorState) (doing : ℕ → Activity) (locals : ℕ → NodeMemory)
       (rest rest' : protocol.Rest) (s t : State) → Matches paces lanes doing locals rest s
-      → (i : ℕ) (p : Pace) (l : Lane) (a : Activity) (n : Local)
+      → (i : ℕ) (p : Pace) (l : ProcessorState) (a : Activity) (n : NodeMemory)
       → Shares layout work (sharing_at rest') (with_local locals i n) t
       → StandsIn p a (t.processors i) l n
       → ((j : ℕ) → eqb j i ≡ false → t.processors j ≡ s.processors j)
@@ -100,7 +100,7 @@ module _ (layout : Shape) (work : Work) (plan : List PlanEntry) (code : CodeSide
   goes_or_stops executed =
       if executed == work.budget then HasEnded (Stopped work.budget) else Runs
 
-  stands_or_stops : (p : Pace) (executed : ℕ) (q : Processor) (l : Lane) (n : Local)
+  stands_or_stops : (p : Pace) (executed : ℕ) (q : Processor) (l : ProcessorState) (n : NodeMemory)
       → q.exit ≡ None → code.Stands p q l n → StandsIn p (goes_or_stops executed) q l n
   stands_or_stops p executed q l n e st = go (eqb executed work.budget)
     where
@@ -120,7 +120,7 @@ module _ (layout : Shape) (work : Work) (plan : List PlanEntry) (code : CodeSide
   doing_still executed resume [] = goes_or_stops executed
   doing_still executed resume (w ∷ ws) = Awaits resume w ws
 
-  abbrev pub lane_still : Lane → Local → Resume → List Want → Lane
+  abbrev pub lane_still : ProcessorState → NodeMemory → Resume → List Want → ProcessorState
   lane_still l n resume [] = lane_resumed l n resume
   lane_still l n resume (w ∷ ws) = l
 
@@ -136,13 +136,13 @@ module _ (layout : Shape) (work : Work) (plan : List PlanEntry) (code : CodeSide
       doing_still executed resume (pending layout wait (want ∷ more))
   doing_taken executed wait a = a
 
-  abbrev pub lane_taken : Lane → Local → (ℕ → Option Need) → Activity → Lane
+  abbrev pub lane_taken : ProcessorState → NodeMemory → (ℕ → Option Need) → Activity → ProcessorState
   lane_taken l n wait (Awaits resume want more) =
       lane_still l n resume (pending layout wait (want ∷ more))
   lane_taken l n wait a = l
 
   -- a node that runs may take a message before a poll or a call
-  abbrev pub MayTake : Pace → Activity → Lane → Type 0
+  abbrev pub MayTake : Pace → Activity → ProcessorState → Type 0
   MayTake p Runs l =
       (takes_messages (option_and_then (λ w. w.what) (fetch work.image l.at)) ≡ true)
       × (p.waited ≡ false)
@@ -155,7 +155,7 @@ module _ (layout : Shape) (work : Work) (plan : List PlanEntry) (code : CodeSide
   EndsIn (HasEnded (Exited e)) exit = exit ≡ Some e
   EndsIn (HasEnded (Stopped b)) exit = (exit ≡ None) × (b ≡ work.budget)
 
-  pub ends_in : (p : Pace) (a : Activity) (q : Processor) (l : Lane) (n : Local)
+  pub ends_in : (p : Pace) (a : Activity) (q : Processor) (l : ProcessorState) (n : NodeMemory)
       → StandsIn p a q l n → EndsIn a q.exit
   ends_in p Runs q l n h = h.0
   ends_in p (Awaits resume want more) q l n h = h.runs
@@ -163,7 +163,7 @@ module _ (layout : Shape) (work : Work) (plan : List PlanEntry) (code : CodeSide
   ends_in p (HasEnded (Stopped b)) q l n h = (h.0, h.1)
 
   -- at the start, with whatever states and copies the protocol begins
-  pub opening_matches : (locals : ℕ → Local) (rest : protocol.Rest)
+  pub opening_matches : (locals : ℕ → NodeMemory) (rest : protocol.Rest)
       → side.Holds locals rest work.program.first → ((i : ℕ) → (locals i).reservation ≡ None)
       → ((i b : ℕ) → i < work.layout.nodes → protocol.wait rest i b ≡ None)
       → Matches (λ i. first_pace) (first_lane work) (λ i. Runs) locals rest (opening (original_with layout work))
@@ -180,13 +180,13 @@ module _ (layout : Shape) (work : Work) (plan : List PlanEntry) (code : CodeSide
     waits = no_wants;
   }
 
-  module _ (paces : ℕ → Pace) (lanes : ℕ → Lane) (doing : ℕ → Activity) (locals : ℕ → Local)
+  module _ (paces : ℕ → Pace) (lanes : ℕ → ProcessorState) (doing : ℕ → Activity) (locals : ℕ → NodeMemory)
       (rest : protocol.Rest) (s : State) (m : Matches paces lanes doing locals rest s) (i : ℕ)
       (below : i < work.layout.nodes) where
-    abbrev l : Lane
+    abbrev l : ProcessorState
     l = lanes i
 
-    abbrev n : Local
+    abbrev n : NodeMemory
     n = locals i
 
     abbrev q : Processor
@@ -197,7 +197,7 @@ module _ (layout : Shape) (work : Work) (plan : List PlanEntry) (code : CodeSide
 
     -- a node that runs executes a word, and asks for what the word wants
     module _ (runs : doing i ≡ Runs) (executed : ℕ) where
-      abbrev pub r : Outcome
+      abbrev pub r : WordOutcome
       r = next_outcome work.program work.image l n
 
       abbrev pub kind : CommitKind
@@ -212,14 +212,14 @@ module _ (layout : Shape) (work : Work) (plan : List PlanEntry) (code : CodeSide
       abbrev pub pace : Pace
       pace = pace_after (pace_at work l (paces i)) kind r
 
-      abbrev Then : Processor → Lane → Local → Type 0
+      abbrev Then : Processor → ProcessorState → NodeMemory → Type 0
       Then = code.Stands pace
 
       abbrev behind_word : State
       behind_word = run (original_with layout work) s (picked layout work plan Then
           (sharing_at rest) locals s m.shares i below here.0 r commits)
 
-      abbrev asked : Treated protocol.Rest
+      abbrev asked : Handled protocol.Rest
       asked = want_all layout work plan protocol (with_local locals i r.local) rest i
           (each_block_once layout (wants_of r.move))
 
@@ -269,7 +269,7 @@ module _ (layout : Shape) (work : Work) (plan : List PlanEntry) (code : CodeSide
           sym h.1.local ∙ sym (local_here locals i r.local) in
           all_asked layout work plan protocol side laid (with_local locals i r.local) rest
           behind_word i below p word.behind.shared none (each_block_once layout (want ∷ more))
-          (subst (λ (x : Local). AllWanted layout work plan p x
+          (subst (λ (x : NodeMemory). AllWanted layout work plan p x
           (each_block_once layout (want ∷ more))) same h.1.wanted)
           h.1.few
       sought p (Leaves e) h = nothing_sought p
@@ -338,7 +338,7 @@ module _ (layout : Shape) (work : Work) (plan : List PlanEntry) (code : CodeSide
     -- a node takes a message
     module _ (executed j : ℕ) (low : j < work.layout.nodes) (may : MayTake (paces i) (doing i) l)
         (has : protocol.has_message rest i j ≡ true) where
-      abbrev pub taken : Treated protocol.Rest
+      abbrev pub taken : Handled protocol.Rest
       taken = protocol.take locals rest i j
 
       abbrev pub order : Option Order

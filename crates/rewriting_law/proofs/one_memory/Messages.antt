@@ -9,7 +9,7 @@ use Rattle.rv32_program.specs.Program.{class_at, line_of}
 use Rattle.rv32_step.specs.Breaks.{stands_at_store, RunsToStore}
 use Rattle.rv32_step.specs.Reservations.{with_reservation, after_other}
 use Rattle.rv32_step.specs.OneMemory.{State, Pick, Break, run}
-use Rattle.dsm_protocol.specs.node_model.Node.{Work, Local, is_readable_state, is_writable_state}
+use Rattle.dsm_protocol.specs.node_model.Node.{Work, NodeMemory, is_readable_state, is_writable_state}
 use Rattle.rewriting_law.specs.CoreRun.{Order, break_by}
 use Rattle.rewriting_law.proofs.one_memory.Originals.{original_with}
 use Rattle.rewriting_law.proofs.templates.RegisterLemmas.{equal}
@@ -32,7 +32,7 @@ pub record AreLaidOut (layout : Shape) (work : Work) : Type 0 where
 
 module _ (layout : Shape) (work : Work) where
   -- where a node may write a block and another may read it, they are one
-  abbrev pub IsAlone : (ℕ → Local) → Type 0
+  abbrev pub IsAlone : (ℕ → NodeMemory) → Type 0
   IsAlone locals =
       (i j : ℕ) → i < work.layout.nodes → j < work.layout.nodes → (x y b : ℕ)
       → block_of layout (line_of x) ≡ Some b → block_of layout (line_of y) ≡ Some b
@@ -40,7 +40,7 @@ module _ (layout : Shape) (work : Work) where
       → is_readable_state ((locals j).state (line_of y)) ≡ true → j ≡ i
 
   -- so a store ends no reservation of a line that another may read
-  pub stays_apart : AreLaidOut layout work → (locals : ℕ → Local) → IsAlone locals → (i j : ℕ)
+  pub stays_apart : AreLaidOut layout work → (locals : ℕ → NodeMemory) → IsAlone locals → (i j : ℕ)
       → i < work.layout.nodes → j < work.layout.nodes → eqb j i ≡ false → (x y : ℕ)
       → is_writable_state ((locals i).state (line_of x)) ≡ true
       → (class_at work.program y ≡ Shared
@@ -64,8 +64,8 @@ module _ (layout : Shape) (work : Work) where
       go (Some b) e = within b e (has_line layout b (line_of y)) refl
 
   -- the node's part before and after, and the protocol
-  module _ (sharing sharing' : Sharing layout work) (locals : ℕ → Local) (s : State) (i : ℕ)
-      (n : Local) where
+  module _ (sharing sharing' : Sharing layout work) (locals : ℕ → NodeMemory) (s : State) (i : ℕ)
+      (n : NodeMemory) where
     -- what asking for a block leaves
     pub record Wanted : Type 0 where
       pub held : sharing'.Holds (with_local locals i n) s.shared

@@ -8,9 +8,9 @@ use Rattle.rv32_program.specs.Program.{class_at, line_of}
 use Rattle.rv32_step.specs.Breaks.{is_in_block, stands_at_store, RunsToStore}
 use Rattle.rv32_step.specs.OneMemory.{Processor}
 use Rattle.templates.specs.declared.plans.PlanEntry.{PlanEntry}
-use Rattle.home_directory.specs.declared.messages.Need.{Need}
-use Rattle.home_directory.specs.declared.messages.Need.TheVariants.{Read, Write}
-use Rattle.dsm_protocol.specs.node_model.Node.{Work, Lane, Local, Want, Resume, Outcome, lane_resumed}
+use Rattle.home_directory.specs.dsm_messages.declared.messages.Need.{Need}
+use Rattle.home_directory.specs.dsm_messages.declared.messages.Need.TheVariants.{Read, Write}
+use Rattle.dsm_protocol.specs.node_model.Node.{Work, ProcessorState, NodeMemory, Want, Resume, WordOutcome, lane_resumed}
 use Rattle.rewriting_law.proofs.templates.RegisterLemmas.{equal}
 use Rattle.rewriting_law.proofs.templates.States.{Suits, grants}
 use Rattle.rewriting_law.proofs.templates.Does.{Seeks}
@@ -36,7 +36,7 @@ pending layout wait (w ∷ ws) =
     if is_pending layout wait w then w ∷ pending layout wait ws else pending layout wait ws
 
 module _ (layout : Shape) (work : Work) (plan : List PlanEntry) (laid : AreLaidOut layout work)
-    (Stands : Processor → Lane → Local → Type 0) where
+    (Stands : Processor → ProcessorState → NodeMemory → Type 0) where
   -- the wants are of shared lines, and what the processor is about to do
   abbrev pub AllSought : Processor → List Want → Type 0
   AllSought q [] = Unit {0}
@@ -44,20 +44,20 @@ module _ (layout : Shape) (work : Work) (plan : List PlanEntry) (laid : AreLaidO
       (class_at work.program w.at ≡ Shared) × Seeks work.program q w.need w.at × AllSought q ws
 
   -- where a processor waits
-  pub record StandsWaiting (q : Processor) (l : Lane) (resume : Resume) (wants : List Want)
+  pub record StandsWaiting (q : Processor) (l : ProcessorState) (resume : Resume) (wants : List Want)
       : Type 0 where
     pub runs : q.exit ≡ None
     pub sought : AllSought q wants
-    pub resumed : (m : Local) → Suits work.program m → (x : Want) → IsAmong x wants
+    pub resumed : (m : NodeMemory) → Suits work.program m → (x : Want) → IsAmong x wants
         → grants x.need (m.state (line_of x.at)) ≡ true → Stands q (lane_resumed l m resume) m
 
-  all_sought : (q : Processor) (n : Local) (ws : List Want) → AllWanted layout work plan q n ws
+  all_sought : (q : Processor) (n : NodeMemory) (ws : List Want) → AllWanted layout work plan q n ws
       → AllSought q ws
   all_sought q n [] h = tt
   all_sought q n (w ∷ ws) h = (h.0.shared, h.0.seeks, all_sought q n ws h.2)
 
   -- so it does after a word that waits
-  pub waits_standing : (q : Processor) (n : Local) (r : Outcome) (resume : Resume)
+  pub waits_standing : (q : Processor) (n : NodeMemory) (r : WordOutcome) (resume : Resume)
       (wants : List Want) → q.exit ≡ None → WaitsFor layout work plan Stands q n r resume wants
       → StandsWaiting q r.lane resume wants
   waits_standing q n r resume wants runs w = record {
@@ -118,7 +118,7 @@ module _ (layout : Shape) (work : Work) (plan : List PlanEntry) (laid : AreLaidO
       go false later = later
 
   -- where something is pending the processor waits on
-  pub waits_on : (wait : ℕ → Option Need) (q : Processor) (l : Lane) (resume : Resume)
+  pub waits_on : (wait : ℕ → Option Need) (q : Processor) (l : ProcessorState) (resume : Resume)
       (ws : List Want) → StandsWaiting q l resume ws
       → StandsWaiting q l resume (pending layout wait ws)
   waits_on wait q l resume ws h = record {
@@ -144,8 +144,8 @@ module _ (layout : Shape) (work : Work) (plan : List PlanEntry) (laid : AreLaidO
           ∙ none in cc
 
   -- where nothing is pending any more the processor goes on: its first want is granted
-  pub goes_on : (before wait : ℕ → Option Need) (q : Processor) (l : Lane) (resume : Resume)
-      (w : Want) (ws : List Want) (m : Local) → StandsWaiting q l resume (w ∷ ws)
+  pub goes_on : (before wait : ℕ → Option Need) (q : Processor) (l : ProcessorState) (resume : Resume)
+      (w : Want) (ws : List Want) (m : NodeMemory) → StandsWaiting q l resume (w ∷ ws)
       → Suits work.program m → ((b : ℕ) → before b ≡ wanted_in layout b (w ∷ ws))
       → ((x : Want) (b : ℕ) → block_of layout (line_of x.at) ≡ Some b → before b ≡ Some x.need
       → wait b ≡ None → grants x.need (m.state (line_of x.at)) ≡ true)

@@ -21,7 +21,7 @@ use Rattle.rv32_step.specs.Reservations.{with_reservation, after_other, after_st
 use Rattle.rv32_step.specs.OneMemory.{Processor, State, Reads, WritesIf, Exchanges, Request, Becomes, Prints, LoadsFrom, StoresTo, ReservesAt, StoresWhere, UpdatesAt, request, with_exit, after_print, after_store, after_exchange, after_conditional, with_conditional, set_register, byte_at, StepResult, answer, step}
 use Rattle.templates.specs.declared.commits.CommitKind.{CommitKind}
 use Rattle.templates.specs.declared.plans.PlanEntry.{PlanEntry}
-use Rattle.dsm_protocol.specs.node_model.Node.{Work, Lane, Local, Move, Next, Again, To, Enters, Waits, Leaves, Outcome, is_readable_state, is_writable_state, local_stored, lane_after}
+use Rattle.dsm_protocol.specs.node_model.Node.{Work, ProcessorState, NodeMemory, Move, Next, Again, To, Enters, Waits, Leaves, WordOutcome, is_readable_state, is_writable_state, local_stored, lane_after}
 use Rattle.dsm_protocol.specs.node_model.Turns.{each_block_once}
 use Rattle.rewriting_law.specs.CoreRun.{is_exit, commits_by}
 use Rattle.rewriting_law.specs.Licence.{Licensed}
@@ -34,11 +34,11 @@ use Rattle.rewriting_law.proofs.words.Requests.{MayBeAsked, may_be_asked}
 use Rattle.rewriting_law.proofs.words.CodeSide.{WaitsFor, GoesOn, Follows}
 
 -- the nodes' parts that words see, where one of them is another
-abbrev pub with_local : (ℕ → Local) → ℕ → Local → ℕ → Local
+abbrev pub with_local : (ℕ → NodeMemory) → ℕ → NodeMemory → ℕ → NodeMemory
 with_local locals i n j = if j == i then n else locals j
 
 -- it is that one at its place
-pub local_here : (locals : ℕ → Local) (i : ℕ) (n : Local) → with_local locals i n i ≡ n
+pub local_here : (locals : ℕ → NodeMemory) (i : ℕ) (n : NodeMemory) → with_local locals i n i ≡ n
 local_here locals i n = ap (λ t. cond t n (locals i)) (equal i i refl)
 
 pub is_same : (x y : ℕ) → eqb x y ≡ true → x ≡ y
@@ -63,28 +63,28 @@ none_stays layout (Some b) = refl
 module _ (layout : Shape) (work : Work) where
   -- what the protocol keeps of the nodes beside the one memory, as far as words use it
   pub record Sharing : Type 1 where
-    pub Holds : (ℕ → Local) → (ℕ → ℕ) → Type 0
-    pub suits : (locals : ℕ → Local) (memory : ℕ → ℕ) → Holds locals memory → (i : ℕ)
+    pub Holds : (ℕ → NodeMemory) → (ℕ → ℕ) → Type 0
+    pub suits : (locals : ℕ → NodeMemory) (memory : ℕ → ℕ) → Holds locals memory → (i : ℕ)
         → i < work.layout.nodes → Suits work.program (locals i)
     -- a shared line that a node may read is there as in the memory
-    pub coherent : (locals : ℕ → Local) (memory : ℕ → ℕ) → Holds locals memory → (i : ℕ)
+    pub coherent : (locals : ℕ → NodeMemory) (memory : ℕ → ℕ) → Holds locals memory → (i : ℕ)
         → i < work.layout.nodes → (a : ℕ) → class_at work.program a ≡ Shared
         → is_readable_state ((locals i).state (line_of a)) ≡ true
         → (locals i).copy a ≡ memory a
     -- it speaks of copies and states alone
-    pub like : (locals others : ℕ → Local) (memory : ℕ → ℕ)
+    pub like : (locals others : ℕ → NodeMemory) (memory : ℕ → ℕ)
         → ((i : ℕ) → (locals i).copy ≡ (others i).copy)
         → ((i : ℕ) → (locals i).state ≡ (others i).state) → Holds locals memory
         → Holds others memory
     -- a store to a shared line that the node may write
-    pub stores : (locals : ℕ → Local) (memory : ℕ → ℕ) → Holds locals memory → (i : ℕ)
+    pub stores : (locals : ℕ → NodeMemory) (memory : ℕ → ℕ) → Holds locals memory → (i : ℕ)
         → i < work.layout.nodes → (w : Width) (a value : ℕ) → is_aligned w a ≡ true
         → class_at work.program a ≡ Shared
         → is_writable_state ((locals i).state (line_of a)) ≡ true
         → Holds (with_local locals i
         (record (locals i) { copy = stored w (locals i).copy a value })) (stored w memory a value)
     -- a store to a line that a node may write ends no reservation of a line that another may read
-    pub apart : (locals : ℕ → Local) (memory : ℕ → ℕ) → Holds locals memory → (i j : ℕ)
+    pub apart : (locals : ℕ → NodeMemory) (memory : ℕ → ℕ) → Holds locals memory → (i j : ℕ)
         → i < work.layout.nodes → j < work.layout.nodes → eqb j i ≡ false → (x y : ℕ)
         → is_writable_state ((locals i).state (line_of x)) ≡ true
         → (class_at work.program y ≡ Shared
@@ -92,30 +92,30 @@ module _ (layout : Shape) (work : Work) where
         → after_other layout x (Some y) ≡ Some y
 
   -- a reservation on a shared line implies that the node may read it
-  abbrev pub IsReadable : Local → Type 0
+  abbrev pub IsReadable : NodeMemory → Type 0
   IsReadable n =
       (a : ℕ) → n.reservation ≡ Some a → class_at work.program a ≡ Shared
       → is_readable_state (n.state (line_of a)) ≡ true
 
   -- the nodes beside the one memory, but for where their processors stand
-  pub record Shares (sharing : Sharing) (locals : ℕ → Local) (s : State) : Type 0 where
+  pub record Shares (sharing : Sharing) (locals : ℕ → NodeMemory) (s : State) : Type 0 where
     pub held : sharing.Holds locals s.shared
     pub reservations : (j : ℕ) → j < work.layout.nodes → (locals j).reservation ≡ s.reservations j
     pub readable : (j : ℕ) → j < work.layout.nodes → IsReadable (locals j)
 
   -- the same nodes
-  pub shares_like : (sharing : Sharing) (locals others : ℕ → Local) (s : State)
+  pub shares_like : (sharing : Sharing) (locals others : ℕ → NodeMemory) (s : State)
       → ((i : ℕ) → locals i ≡ others i) → Shares sharing locals s → Shares sharing others s
   shares_like sharing locals others s same h = record {
-    held = sharing.like locals others s.shared (λ i. ap (λ (n : Local). n.copy) (same i))
-        (λ i. ap (λ (n : Local). n.state) (same i)) h.held;
-    reservations = λ j low. ap (λ (n : Local). n.reservation) (sym (same j)) ∙ h.reservations j low;
+    held = sharing.like locals others s.shared (λ i. ap (λ (n : NodeMemory). n.copy) (same i))
+        (λ i. ap (λ (n : NodeMemory). n.state) (same i)) h.held;
+    reservations = λ j low. ap (λ (n : NodeMemory). n.reservation) (sym (same j)) ∙ h.reservations j low;
     readable = λ j low. subst IsReadable (same j) (h.readable j low);
   }
 
   -- one node has changed, and maybe the protocol
-  pub shares_with : (sharing sharing' : Sharing) (locals : ℕ → Local) (s t : State)
-      → Shares sharing locals s → (i : ℕ) (n : Local)
+  pub shares_with : (sharing sharing' : Sharing) (locals : ℕ → NodeMemory) (s t : State)
+      → Shares sharing locals s → (i : ℕ) (n : NodeMemory)
       → sharing'.Holds (with_local locals i n) t.shared → n.reservation ≡ t.reservations i
       → IsReadable n
       → ((j : ℕ) → j < work.layout.nodes → eqb j i ≡ false → t.reservations j ≡ s.reservations j)
@@ -133,14 +133,14 @@ module _ (layout : Shape) (work : Work) where
     ]);
   }
 
-  module _ (plan : List PlanEntry) (Stands : Processor → Lane → Local → Type 0)
-      (sharing : Sharing) (locals : ℕ → Local) (s : State) (shares : Shares sharing locals s)
+  module _ (plan : List PlanEntry) (Stands : Processor → ProcessorState → NodeMemory → Type 0)
+      (sharing : Sharing) (locals : ℕ → NodeMemory) (s : State) (shares : Shares sharing locals s)
       (i : ℕ) (below : i < work.layout.nodes) (running : (s.processors i).exit ≡ None)
-      (r : Outcome) where
+      (r : WordOutcome) where
     abbrev q : Processor
     q = s.processors i
 
-    abbrev n : Local
+    abbrev n : NodeMemory
     n = locals i
 
     abbrev K : Processor → Type 0
@@ -191,7 +191,7 @@ module _ (layout : Shape) (work : Work) where
         (λ y e. seen y (ap (λ z. is_readable_state (n.state z)) e ∙ h))
 
     -- the protocol's fact for another part with the same copy and states
-    held_like : (memory : ℕ → ℕ) (x y : Local) → x.copy ≡ y.copy → x.state ≡ y.state
+    held_like : (memory : ℕ → ℕ) (x y : NodeMemory) → x.copy ≡ y.copy → x.state ≡ y.state
         → sharing.Holds (with_local locals i x) memory
         → sharing.Holds (with_local locals i y) memory
     held_like memory x y e f h =
@@ -207,7 +207,7 @@ module _ (layout : Shape) (work : Work) where
           | false ↦ refl
         ])) h
 
-    held_still : (y : Local) → y.copy ≡ n.copy → y.state ≡ n.state
+    held_still : (y : NodeMemory) → y.copy ≡ n.copy → y.state ≡ n.state
         → sharing.Holds (with_local locals i y) s.shared
     held_still y e f =
         sharing.like locals (with_local locals i y) s.shared
@@ -300,17 +300,17 @@ module _ (layout : Shape) (work : Work) where
           output = output;
         }
 
-    readable_like : (y : Local) → r.local ≡ y → y.reservation ≡ n.reservation
+    readable_like : (y : NodeMemory) → r.local ≡ y → y.reservation ≡ n.reservation
         → y.state ≡ n.state → IsReadable r.local
     readable_like y e f g a h c =
-        ap (λ (z : Local). is_readable_state (z.state (line_of a))) e
+        ap (λ (z : NodeMemory). is_readable_state (z.state (line_of a))) e
         ∙ ap (λ (u : ℕ → ℕ). is_readable_state (u (line_of a))) g
         ∙ shares.readable i below a
-        (sym f ∙ ap (λ (z : Local). z.reservation) (sym e) ∙ h) c
+        (sym f ∙ ap (λ (z : NodeMemory). z.reservation) (sym e) ∙ h) c
 
-    readable_none : (y : Local) → r.local ≡ y → y.reservation ≡ None → IsReadable r.local
+    readable_none : (y : NodeMemory) → r.local ≡ y → y.reservation ≡ None → IsReadable r.local
     readable_none y e f a h c =
-        let bad : None ≡ Some a = sym f ∙ ap (λ (z : Local). z.reservation) (sym e) ∙ h in cc
+        let bad : None ≡ Some a = sym f ∙ ap (λ (z : NodeMemory). z.reservation) (sym e) ∙ h in cc
 
     -- nothing of the nodes has changed
     shares_still : (t : State) → r.local ≡ n → t.shared ≡ s.shared
@@ -318,8 +318,8 @@ module _ (layout : Shape) (work : Work) where
     shares_still t e shared reservations =
         shares_after t
         (subst (sharing.Holds (with_local locals i r.local)) (sym shared)
-        (held_still r.local (ap (λ (z : Local). z.copy) e) (ap (λ (z : Local). z.state) e)))
-        (ap (λ (z : Local). z.reservation) e ∙ shares.reservations i below
+        (held_still r.local (ap (λ (z : NodeMemory). z.copy) e) (ap (λ (z : NodeMemory). z.state) e)))
+        (ap (λ (z : NodeMemory). z.reservation) e ∙ shares.reservations i below
         ∙ sym (ap (λ (f : ℕ → Option ℕ). f i) reservations))
         (readable_like n e refl refl) (λ j low f. ap (λ (g : ℕ → Option ℕ). g j) reservations)
 
@@ -337,7 +337,7 @@ module _ (layout : Shape) (work : Work) where
         (subst (λ z. sharing.Holds (with_local locals i z)
         (shared_after (class_at work.program x) s.shared (stored w s.shared x value))) (sym e)
         (stored_held w x value al h (class_at work.program x) refl)))
-        (ap (λ (z : Local). z.reservation) e ∙ shares.reservations i below ∙ sym (own_stays x)
+        (ap (λ (z : NodeMemory). z.reservation) e ∙ shares.reservations i below ∙ sym (own_stays x)
         ∙ sym (ap (λ (f : ℕ → Option ℕ). f i) reservations))
         (readable_like (local_stored work.program n w x value) e refl refl)
         (λ j low f. ap (λ (g : ℕ → Option ℕ). g j) reservations ∙ others_stay x h j low f)
@@ -350,14 +350,14 @@ module _ (layout : Shape) (work : Work) where
     shares_reserved t x h e shared reservations =
         shares_after t
         (subst (sharing.Holds (with_local locals i r.local)) (sym shared)
-        (held_still r.local (ap (λ (z : Local). z.copy) e) (ap (λ (z : Local). z.state) e)))
-        (ap (λ (z : Local). z.reservation) e
+        (held_still r.local (ap (λ (z : NodeMemory). z.copy) e) (ap (λ (z : NodeMemory). z.state) e)))
+        (ap (λ (z : NodeMemory). z.reservation) e
         ∙ sym (ap (λ u. cond u (Some x) (s.reservations i)) (equal i i refl))
         ∙ sym (ap (λ (f : ℕ → Option ℕ). f i) reservations))
         (λ a f c.
-        let both : Some x ≡ Some a = ap (λ (z : Local). z.reservation) (sym e) ∙ f in
+        let both : Some x ≡ Some a = ap (λ (z : NodeMemory). z.reservation) (sym e) ∙ f in
         let same : x ≡ a = cc in
-        ap (λ (z : Local). is_readable_state (z.state (line_of a))) e
+        ap (λ (z : NodeMemory). is_readable_state (z.state (line_of a))) e
         ∙ ap (λ z. is_readable_state (n.state (line_of z))) (sym same) ∙ h)
         (λ j low f. ap (λ (g : ℕ → Option ℕ). g j) reservations
         ∙ ap (λ u. cond u (Some x) (s.reservations j)) f)
@@ -380,7 +380,7 @@ module _ (layout : Shape) (work : Work) where
         (subst (λ z. sharing.Holds (with_local locals i z) memory) (sym e)
         (held_like memory (local_stored work.program n Word x value) y refl refl
         (stored_held Word x value al (h refl) (class_at work.program x) refl)))
-        (ap (λ (z : Local). z.reservation) e
+        (ap (λ (z : NodeMemory). z.reservation) e
         ∙ sym (ap (λ u. cond u None (after_store_by layout i x s.reservations i)) (equal i i refl)))
         (readable_none y e refl)
         (λ j low f. ap (λ u. cond u None (after_store_by layout i x s.reservations j)) f
@@ -390,7 +390,7 @@ module _ (layout : Shape) (work : Work) where
         shares_after (conditional_state d x value false)
         (subst (λ z. sharing.Holds (with_local locals i z) s.shared) (sym e)
         (held_still y refl refl))
-        (ap (λ (z : Local). z.reservation) e
+        (ap (λ (z : NodeMemory). z.reservation) e
         ∙ sym (ap (λ u. cond u None (s.reservations i)) (equal i i refl)))
         (readable_none y e refl)
         (λ j low f. ap (λ u. cond u None (s.reservations j)) f)

@@ -7,8 +7,8 @@ use Rattle.rv32_program.specs.Program.{line_of}
 use Rattle.rv32_step.specs.Breaks.{is_in_block}
 use Rattle.rv32_step.specs.OneMemory.{Processor, State}
 use Rattle.templates.specs.declared.plans.PlanEntry.{PlanEntry}
-use Rattle.home_directory.specs.declared.messages.Need.{Need}
-use Rattle.dsm_protocol.specs.node_model.Node.{Work, Local, Want}
+use Rattle.home_directory.specs.dsm_messages.declared.messages.Need.{Need}
+use Rattle.dsm_protocol.specs.node_model.Node.{Work, NodeMemory, Want}
 use Rattle.rewriting_law.proofs.templates.RegisterLemmas.{apart, equal}
 use Rattle.rewriting_law.proofs.templates.States.{grants}
 use Rattle.rewriting_law.proofs.templates.Does.{IsWanted}
@@ -16,7 +16,7 @@ use Rattle.rewriting_law.proofs.words.CodeSide.{IsAlone, AllWanted}
 use Rattle.rewriting_law.proofs.one_memory.Sharing.{Shares, with_local, is_same, local_here, shares_like}
 use Rattle.rewriting_law.proofs.one_memory.Messages.{AreLaidOut, want_shares}
 use Rattle.rewriting_law.proofs.one_memory.Pending.{wanted_in}
-use Rattle.rewriting_law.proofs.protocol_side.ProtocolSide.{Treated, Protocol, ProtocolSide, sharing_by, wanted_by}
+use Rattle.rewriting_law.proofs.protocol_side.ProtocolSide.{Handled, Protocol, ProtocolSide, sharing_by, wanted_by}
 
 other_way : (c b : ℕ) → eqb c b ≡ false → eqb b c ≡ false
 other_way c b e = apart b c (λ same. let bad : false ≡ true = sym e ∙ equal c b (sym same) in cc)
@@ -27,22 +27,22 @@ module _ (layout : Shape) (work : Work) (plan : List PlanEntry) (protocol : Prot
   block_wanted w = unwrap_or (block_of layout (line_of w.at)) 0
 
   -- node i asks for one block more
-  abbrev pub ask : (ℕ → Local) → ℕ → Treated protocol.Rest → Want → Treated protocol.Rest
+  abbrev pub ask : (ℕ → NodeMemory) → ℕ → Handled protocol.Rest → Want → Handled protocol.Rest
   ask locals i t w = protocol.want (with_local locals i t.local) t.rest i (block_wanted w) w.need
 
-  abbrev pub ask_all : (ℕ → Local) → ℕ → Treated protocol.Rest → List Want → Treated protocol.Rest
+  abbrev pub ask_all : (ℕ → NodeMemory) → ℕ → Handled protocol.Rest → List Want → Handled protocol.Rest
   ask_all locals i t [] = t
   ask_all locals i t (w ∷ ws) = ask_all locals i (ask locals i t w) ws
 
   -- node i asks for what is wanted, one after the other
-  abbrev pub want_all : (ℕ → Local) → protocol.Rest → ℕ → List Want → Treated protocol.Rest
+  abbrev pub want_all : (ℕ → NodeMemory) → protocol.Rest → ℕ → List Want → Handled protocol.Rest
   want_all locals rest i ws = ask_all locals i (record { local = locals i; rest = rest }) ws
 
   module _ (side : ProtocolSide layout work protocol) (laid : AreLaidOut layout work)
-      (locals : ℕ → Local) (rest : protocol.Rest) (s : State) (i : ℕ)
+      (locals : ℕ → NodeMemory) (rest : protocol.Rest) (s : State) (i : ℕ)
       (below : i < work.layout.nodes)
       (q : Processor) where
-    pub record AllAsked (ws : List Want) (t : Treated protocol.Rest) : Type 0 where
+    pub record AllAsked (ws : List Want) (t : Handled protocol.Rest) : Type 0 where
       pub shares : Shares layout work (sharing_by layout work protocol side laid t.rest)
           (with_local locals i t.local) s
       pub own : (c : ℕ) → protocol.wait t.rest i c ≡ wanted_in layout c ws
@@ -79,7 +79,7 @@ module _ (layout : Shape) (work : Work) (plan : List PlanEntry) (protocol : Prot
     not_first c w ws false e h = (e, h)
 
     -- one more is asked for
-    more_asked : (ws : List Want) (t1 : Treated protocol.Rest) → AllAsked ws t1 → (w : Want)
+    more_asked : (ws : List Want) (t1 : Handled protocol.Rest) → AllAsked ws t1 → (w : Want)
         → IsWanted work.program q (locals i) w → IsAlone layout w ws → length ws < 2
         → AllAsked (w ∷ ws) (ask locals i t1 w)
     more_asked ws t1 a w wanted alone few2 =
@@ -91,7 +91,7 @@ module _ (layout : Shape) (work : Work) (plan : List PlanEntry) (protocol : Prot
         found.1 ∙ ap (λ o. Some (unwrap_or o 0)) (sym found.1) in
         let free : wanted_in layout b ws ≡ None = alone_wanted w b lies ws alone in
         let unmet : grants w.need ((locals1 i).state (line_of w.at)) ≡ false =
-        ap (λ (n : Local). grants w.need (n.state (line_of w.at))) here
+        ap (λ (n : NodeMemory). grants w.need (n.state (line_of w.at))) here
         ∙ ap (grants w.need) (a.states (line_of w.at) b lies free) ∙ wanted.unmet in
         let t = protocol.want locals1 t1.rest i b w.need in
         let left = side.wants locals1 t1.rest s.shared a.shares.held i below w.at b w.need lies ws
@@ -114,7 +114,7 @@ module _ (layout : Shape) (work : Work) (plan : List PlanEntry) (protocol : Prot
               let g = not_first c w ws (is_in_block layout c w.at) refl f in
               let other : eqb c b ≡ false = elsewhere c b lies g.0 in
               left.elsewhere line c e other
-              ∙ ap (λ (n : Local). n.state line) here ∙ a.states line c e g.1;
+              ∙ ap (λ (n : NodeMemory). n.state line) here ∙ a.states line c e g.1;
         }
       where
         elsewhere : (c b : ℕ) → block_of layout (line_of w.at) ≡ Some b
@@ -182,7 +182,7 @@ module _ (layout : Shape) (work : Work) (plan : List PlanEntry) (protocol : Prot
         go false false e f = refl
 
     two_asked : (w v : Want) → block_of layout (line_of w.at) ≢ block_of layout (line_of v.at)
-        → (t : Treated protocol.Rest) → AllAsked (v ∷ w ∷ []) t → AllAsked (w ∷ v ∷ []) t
+        → (t : Handled protocol.Rest) → AllAsked (v ∷ w ∷ []) t → AllAsked (w ∷ v ∷ []) t
     two_asked w v other t a = record {
       shares = a.shares;
       own = λ c. a.own c ∙ swapped w v other c;
@@ -200,7 +200,7 @@ module _ (layout : Shape) (work : Work) (plan : List PlanEntry) (protocol : Prot
         more_asked [] (record { local = locals i; rest = rest }) (none_asked shares none) w
         wanted.0 tt (omega arith)
     all_asked shares none (w ∷ v ∷ []) wanted few =
-        let t0 : Treated protocol.Rest = record { local = locals i; rest = rest } in
+        let t0 : Handled protocol.Rest = record { local = locals i; rest = rest } in
         let other = wanted.1.0 in
         two_asked w v other (ask locals i (ask locals i t0 w) v)
         (more_asked (w ∷ []) (ask locals i t0 w)

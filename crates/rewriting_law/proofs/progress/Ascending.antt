@@ -6,7 +6,7 @@ use Rattle.std.proofs.lemmas.Bool.Decides.{eqb_tells}
 use Rattle.rv32_program.specs.declared.End.TheVariants.{Stopped}
 use Rattle.rv32_program.specs.Program.{Program}
 use Rattle.rv32_step.specs.OneMemory.{State, run}
-use Rattle.home_directory.specs.declared.messages.Wire.{Wire}
+use Rattle.home_directory.specs.dsm_messages.declared.messages.Wire.{Wire}
 use Rattle.templates.specs.declared.plans.PlanEntry.{PlanEntry}
 use Rattle.templates.specs.Places.{IsPlace}
 use Rattle.templates.specs.Plans.{AscendsFrom, addresses}
@@ -159,23 +159,23 @@ module _ (work : Work) (plan : List PlanEntry) (lay : Layout work)
   IsPlaceHere a = IsPlace work.program.code a
 
   -- a node that may take no message, and hasn't just got what it waited for
-  abbrev IsQuiet : Core → ℕ → Type 0
-  IsQuiet c i =
+  abbrev IsSilent : Core → ℕ → Type 0
+  IsSilent c i =
       (may_take (standing_of work (c.nodes i)) ≡ false) × ((c.nodes i).phase ≢ Resumed)
 
   -- an event by which node i commits nothing
   record Keeps (c : Core) (i : ℕ) (p p' : Pace) (e : Event) : Type 0 where
     none : committed_at work plan i c e ≡ []
-    since : IsQuiet c i → p'.since ≡ p.since
-    last : IsQuiet c i → p'.last ≡ p.last
-    still : IsQuiet c i → ((event_step work c e).nodes i).phase ≢ Resumed
+    since : IsSilent c i → p'.since ≡ p.since
+    last : IsSilent c i → p'.last ≡ p.last
+    still : IsSilent c i → ((event_step work c e).nodes i).phase ≢ Resumed
 
   -- and one by which it commits a step
   record Commits (c : Core) (i : ℕ) (p p' : Pace) (e : Event) : Type 0 where
     there : ℕ
     one : committed_at work plan i c e ≡ there ∷ []
     some : 1 ≤ p'.since
-    more : IsQuiet c i → p'.since ≡ p.since + 1
+    more : IsSilent c i → p'.since ≡ p.since + 1
     last : p'.last ≡ there
     up : (p.since ≤ 1) ⊎ ((p.last < there) × IsPlaceHere p.last × IsPlaceHere there)
     still : ((event_step work c e).nodes i).phase ≢ Resumed
@@ -214,9 +214,9 @@ module _ (work : Work) (plan : List PlanEntry) (lay : Layout work)
         ((directory_side work lay).suits (locals_of c) (rest_at m.counts c) s.shared
         m.matches.shares.held i low) (stands_there may) e
 
-    -- a word before which a quiet node stands takes no messages
-    no_poll : m.doing i ≡ Runs → IsQuiet c i → takes ≡ false
-    no_poll doing quiet =
+    -- a word before which a silent node stands takes no messages
+    no_poll : m.doing i ≡ Runs → IsSilent c i → takes ≡ false
+    no_poll doing silent =
         go (subst (λ a. IsPhase work plan lay code a n.phase) doing (m.phases i low))
       where
         by : (t : Bool) → may_take (cond t standing.AtPoll standing.Running) ≡ false → t ≡ false
@@ -225,8 +225,8 @@ module _ (work : Work) (plan : List PlanEntry) (lay : Layout work)
 
         go : IsPhase work plan lay code Runs n.phase → takes ≡ false
         go (inl running) =
-            by takes (sym (ap (λ p. may_take (standing_in work n p)) running) ∙ quiet.0)
-        go (inr resumed) = absurd (quiet.1 resumed)
+            by takes (sym (ap (λ p. may_take (standing_in work n p)) running) ∙ silent.0)
+        go (inr resumed) = absurd (silent.1 resumed)
 
     -- its own word
     own_word : May work c (Exec i) → Either c i m.paces (Exec i)
@@ -257,8 +257,8 @@ module _ (work : Work) (plan : List PlanEntry) (lay : Layout work)
             ap (λ z. cond (z && commits work plan n) (pc_at work n.lane ∷ []) []) (equal i i refl)
             ∙ ap (λ z. cond z (pc_at work n.lane ∷ []) []) e
 
-        since_quiet : IsQuiet c i → cond takes 0 pace.since ≡ pace.since
-        since_quiet quiet = ap (λ t. cond t 0 pace.since) (no_poll (runs may) quiet)
+        since_silent : IsSilent c i → cond takes 0 pace.since ≡ pace.since
+        since_silent silent = ap (λ t. cond t 0 pace.since) (no_poll (runs may) silent)
 
         unresumed : ((event_step work c (Exec i)).nodes i).phase ≢ Resumed
         unresumed h =
@@ -281,19 +281,19 @@ module _ (work : Work) (plan : List PlanEntry) (lay : Layout work)
         go : (b : Bool) → commits work plan n ≡ b → Either c i m.paces (Exec i)
         go false e = inl (record {
           none = committed_is false e;
-          since = λ quiet.
+          since = λ silent.
               let now_is = since_is false e in
-              let same = since_quiet quiet in omega (arith, now_is, same);
-          last = λ quiet. last_is false e;
-          still = λ quiet. unresumed;
+              let same = since_silent silent in omega (arith, now_is, same);
+          last = λ silent. last_is false e;
+          still = λ silent. unresumed;
         })
         go true e = inr (record {
           there = pc_at work n.lane;
           one = committed_is true e;
           some = (let now_is = since_is true e in omega (arith, now_is));
-          more = λ quiet.
+          more = λ silent.
               let now_is = since_is true e in
-              let same = since_quiet quiet in omega (arith, now_is, same);
+              let same = since_silent silent in omega (arith, now_is, same);
           last = last_is true e;
           up = up e;
           still = unresumed;
@@ -307,9 +307,9 @@ module _ (work : Work) (plan : List PlanEntry) (lay : Layout work)
         inl (record {
           none = ap (λ z. cond (z && commits work plan (c.nodes k))
               (pc_at work (c.nodes k).lane ∷ []) []) back;
-          since = λ quiet. ap (λ (p : Pace). p.since) same;
-          last = λ quiet. ap (λ (p : Pace). p.last) same;
-          still = λ quiet h. quiet.1
+          since = λ silent. ap (λ (p : Pace). p.since) same;
+          last = λ silent. ap (λ (p : Pace). p.last) same;
+          still = λ silent h. silent.1
               (sym (ap (λ z. (cond z (word_turn work (c.nodes k)).node n).phase) apart) ∙ h);
         })
 
@@ -317,9 +317,9 @@ module _ (work : Work) (plan : List PlanEntry) (lay : Layout work)
     message : (k j : ℕ) → May work c (Take k j) → Either c i m.paces (Take k j)
     message k j may = inl (record {
       none = refl;
-      since = λ quiet. ap (λ (p : Pace). p.since) same;
-      last = λ quiet. ap (λ (p : Pace). p.last) same;
-      still = λ quiet h. quiet.1 (sym (kept quiet (c.list j k)) ∙ h);
+      since = λ silent. ap (λ (p : Pace). p.since) same;
+      last = λ silent. ap (λ (p : Pace). p.last) same;
+      still = λ silent h. silent.1 (sym (kept silent (c.list j k)) ∙ h);
     })
       where
         same : paces_by work plan lay code c m.paces (Take k j) i ≡ pace
@@ -328,14 +328,14 @@ module _ (work : Work) (plan : List PlanEntry) (lay : Layout work)
           | inr t ↦ ap (λ z. cond z (m.paces k) pace) t.0
         ]
 
-        kept : IsQuiet c i → (ws : List Wire) → ((take_first work c k j ws).nodes i).phase ≡ n.phase
-        kept quiet [] = refl
-        kept quiet (wire ∷ ws) = elim (eqb_tells i k) [
+        kept : IsSilent c i → (ws : List Wire) → ((take_first work c k j ws).nodes i).phase ≡ n.phase
+        kept silent [] = refl
+        kept silent (wire ∷ ws) = elim (eqb_tells i k) [
           | inl t ↦ (
               let can = may.2 in
               let taking : may_take (standing_of work n) ≡ true =
               ap (λ z. may_take (standing_of work (c.nodes z))) t.1 ∙ can in
-              let bad : false ≡ true = sym quiet.0 ∙ taking in cc)
+              let bad : false ≡ true = sym silent.0 ∙ taking in cc)
           | inr t ↦ ap (λ z. (cond z (take_turn work (c.nodes k) j wire).node n).phase) t.0
         ]
 
@@ -378,17 +378,17 @@ module _ (work : Work) (plan : List PlanEntry) (lay : Layout work)
       let t = run (original_by_node work) s (picks_at work plan c e) in
       let leads = (event_leads work plan lay code c s m e may.0).0 in
       let paced = leads.paced in
-      let quiet : IsQuiet c i = (stays.0, still) in
+      let silent : IsSilent c i = (stays.0, still) in
       let on = stays_on i c e es stays.1 in
       elim (either c s m i low e may.0) [
         | inl k ↦ (
-            let now = ap (λ (f : ℕ → Pace). (f i).since) paced ∙ k.since quiet in
+            let now = ap (λ (f : ℕ → Pace). (f i).since) paced ∙ k.since silent in
             subst (λ xs. Climb work.program (y ∷ xs ++ committed work plan i d es)) (sym k.none)
-            (behind_second es d t leads.behind i y low may.1 on (k.still quiet)
+            (behind_second es d t leads.behind i y low may.1 on (k.still silent)
             (omega (arith, now, since))
-            (ap (λ (f : ℕ → Pace). (f i).last) paced ∙ k.last quiet ∙ last)))
+            (ap (λ (f : ℕ → Pace). (f i).last) paced ∙ k.last silent ∙ last)))
         | inr k ↦ (
-            let now = ap (λ (f : ℕ → Pace). (f i).since) paced ∙ k.more quiet in
+            let now = ap (λ (f : ℕ → Pace). (f i).since) paced ∙ k.more silent in
             let rest = behind_second es d t leads.behind i k.there low may.1 on k.still
             (omega (arith, now, since)) (ap (λ (f : ℕ → Pace). (f i).last) paced ∙ k.last) in
             subst (λ xs. Climb work.program (y ∷ xs ++ committed work plan i d es)) (sym k.one)
@@ -414,16 +414,16 @@ module _ (work : Work) (plan : List PlanEntry) (lay : Layout work)
       let t = run (original_by_node work) s (picks_at work plan c e) in
       let leads = (event_leads work plan lay code c s m e may.0).0 in
       let paced = leads.paced in
-      let quiet : IsQuiet c i = (stays.0, still) in
+      let silent : IsSilent c i = (stays.0, still) in
       let on = stays_on i c e es stays.1 in
       elim (either c s m i low e may.0) [
         | inl k ↦ (
-            let now = ap (λ (f : ℕ → Pace). (f i).since) paced ∙ k.since quiet in
+            let now = ap (λ (f : ℕ → Pace). (f i).since) paced ∙ k.since silent in
             subst (λ xs. Climb work.program (xs ++ committed work plan i d es)) (sym k.none)
-            (behind_one es d t leads.behind i low may.1 on (k.still quiet)
+            (behind_one es d t leads.behind i low may.1 on (k.still silent)
             (omega (arith, now, since))))
         | inr k ↦ (
-            let now = ap (λ (f : ℕ → Pace). (f i).since) paced ∙ k.more quiet in
+            let now = ap (λ (f : ℕ → Pace). (f i).since) paced ∙ k.more silent in
             subst (λ xs. Climb work.program (xs ++ committed work plan i d es)) (sym k.one)
             (behind_second es d t leads.behind i k.there low may.1 on k.still
             (omega (arith, now, since)) (ap (λ (f : ℕ → Pace). (f i).last) paced ∙ k.last)))

@@ -3,12 +3,12 @@ use Rattle.std.proofs.Common.{◌≡◌, ℕ, ◌+◌, ◌<◌, ◌≤◌, cond,
 use Rattle.std.specs.Prelude.{◌&&◌, not}
 use Rattle.std.proofs.lemmas.Bool.Decides.{eqb_tells, nat_tests}
 use Rattle.rv32_program.specs.declared.End.TheVariants.{Stopped}
-use Rattle.home_directory.specs.declared.messages.Wire.{Wire}
+use Rattle.home_directory.specs.dsm_messages.declared.messages.Wire.{Wire}
 use Rattle.dsm_protocol.specs.node_model.declared.Standing.TheVariants as standing
 use Rattle.dsm_protocol.specs.node_model.Node.{Work, Node, Move, Next, Again, To, Enters, Waits, Leaves, Phase, Running, Resumed, Waiting, Ended, can_execute, phase_after, stop_or, has_all_byes, standing_in, word_outcome}
-use Rattle.dsm_protocol.specs.node_model.Turns.{is_ended, wants_of, after_word, after_wants, word_turn, treated, has_no_wait, resumed, journaled, after_message, take_turn, each_block_once}
+use Rattle.dsm_protocol.specs.node_model.Turns.{is_ended, wants_of, after_word, after_wants, word_turn, handled, has_no_wait, resumed, journaled, after_message, take_turn, each_block_once}
 use Rattle.dsm_protocol.specs.node_model.Core.{Core, Event, Exec, Take, IsCoreRun, may_execute, take_first, event_step, after}
-use Rattle.rewriting_law.proofs.runs.Turns.{byes_node, wants_same, treated_same, goes_on_from}
+use Rattle.rewriting_law.proofs.runs.Turns.{byes_node, wants_same, handled_same, goes_on_from}
 
 module _ (work : Work) where
   -- a node that may execute a word has one left
@@ -66,8 +66,8 @@ module _ (work : Work) where
       → Within (take_turn work n j wire).node
   message_within n j wire h =
       let m = journaled n j wire in
-      let t = treated work.layout m j wire.message in
-      let same = treated_same work.layout m j wire.message in
+      let t = handled work.layout m j wire.message in
+      let same = handled_same work.layout m j wire.message in
       let ends = is_ended (after_message work n j wire).node.phase && not (is_ended n.phase) in
       let whole : Within t.node = record {
         most = subst (λ k. k ≤ work.budget) (sym same.executed) h.most;

@@ -3,10 +3,10 @@
 use Rattle.std.proofs.Common.{◌≡◌, ℕ, zero, suc, ◌<◌, ◌≤◌, cond, eqb, Bool, true, false, List, [], ◌∷◌, ◌++◌, refl, sym, ap, ◌∙◌, subst, inl, inr, arith, append-nil}
 use Rattle.std.specs.Prelude.{◌||◌, ◌&&◌, not}
 use Rattle.std.proofs.lemmas.Bool.Decides.{eqb_tells}
-use Rattle.home_directory.specs.declared.messages.Message.{Message}
-use Rattle.home_directory.specs.declared.messages.Message.TheVariants.{Read, Write, FwdRead, FwdWrite, Inval, Data, Grant, Ack, Done, Bye}
-use Rattle.home_directory.specs.declared.messages.Post.{Post}
-use Rattle.home_directory.specs.declared.messages.Wire.{Wire}
+use Rattle.home_directory.specs.dsm_messages.declared.messages.Message.{Message}
+use Rattle.home_directory.specs.dsm_messages.declared.messages.Message.TheVariants.{Read, Write, FwdRead, FwdWrite, Inval, Data, Grant, Ack, Done, Bye}
+use Rattle.home_directory.specs.dsm_messages.declared.messages.Post.{Post}
+use Rattle.home_directory.specs.dsm_messages.declared.messages.Wire.{Wire}
 use Rattle.home_directory.specs.Home.{post}
 use Rattle.dsm_protocol.specs.miss_handlers.Rows.{is_bye}
 use Rattle.dsm_protocol.specs.Holds.{NoneIs, is_for_home, is_done, AreSettled}

@@ -4,12 +4,12 @@ use Rattle.std.specs.Prelude.{◌||◌, ◌&&◌, not}
 use Rattle.block_layout.specs.Layout.{Shape, block_of}
 use Rattle.block_layout.specs.Update.{changed}
 use Rattle.buf_pool.specs.Pool.{Buffer, empty_buffer}
-use Rattle.home_directory.specs.declared.messages.Need.{Need}
-use Rattle.home_directory.specs.declared.messages.Need.TheVariants as need
-use Rattle.home_directory.specs.declared.messages.Message.{Message}
-use Rattle.home_directory.specs.declared.messages.Message.TheVariants.{Read, Write, FwdRead, FwdWrite, Inval, Data, Grant, Ack, Done, Bye}
-use Rattle.home_directory.specs.declared.messages.Post.{Post}
-use Rattle.home_directory.specs.declared.messages.Wire.{Wire}
+use Rattle.home_directory.specs.dsm_messages.declared.messages.Need.{Need}
+use Rattle.home_directory.specs.dsm_messages.declared.messages.Need.TheVariants as need
+use Rattle.home_directory.specs.dsm_messages.declared.messages.Message.{Message}
+use Rattle.home_directory.specs.dsm_messages.declared.messages.Message.TheVariants.{Read, Write, FwdRead, FwdWrite, Inval, Data, Grant, Ack, Done, Bye}
+use Rattle.home_directory.specs.dsm_messages.declared.messages.Post.{Post}
+use Rattle.home_directory.specs.dsm_messages.declared.messages.Wire.{Wire}
 use Rattle.home_directory.specs.Home.{post}
 use Rattle.home_directory.specs.Table.{LocalBlock, BlockFacts, Miss, request, first_wait, state_in_wait, want_row, meets}
 use Rattle.dsm_protocol.specs.miss_handlers.Effects.{block_facts}
@@ -21,7 +21,7 @@ use Rattle.dsm_protocol.specs.Events.{sends_in}
 use Rattle.dsm_protocol.specs.Holds.{NoneIs, is_for_home}
 use Rattle.dsm_protocol.proofs.ProtocolSide as world
 use Rattle.dsm_protocol.specs.node_model.Node.{Work, Node, Want, Phase, Running, Waiting, Ended, word_outcome, Resumed}
-use Rattle.dsm_protocol.specs.node_model.Turns.{Turn, byes_to, with_byes, is_ended, block_at, wants_of, with_miss, want_in, want_all, after_word, after_wants, by_row_or, treated, holding, has_no_wait, resumed, journaled, after_message, each_block_once}
+use Rattle.dsm_protocol.specs.node_model.Turns.{Turn, byes_to, with_byes, is_ended, block_at, wants_of, with_miss, want_in, want_all, after_word, after_wants, by_row_or, handled, holding, has_no_wait, resumed, journaled, after_message, each_block_once}
 use Rattle.dsm_protocol.specs.node_model.Core.{Core, Event, Exec, Take, May, opening_core, wires_to, with_turn, with_list, take_first, event_step}
 use Rattle.rewriting_law.specs.ProtocolLists.{messages_of}
 use Rattle.rewriting_law.proofs.words.CodeSide.{CodeSide}
@@ -30,7 +30,7 @@ use Rattle.rewriting_law.proofs.templates.RegisterLemmas.{equal}
 use Rattle.rewriting_law.proofs.one_memory.Matching.{Activity, Runs, Awaits, HasEnded, wait_in}
 use Rattle.rewriting_law.proofs.protocol_side.Directory.{world_of, directory}
 use Rattle.rewriting_law.proofs.protocol_side.DirectorySide.{Layout, not_waiting, laid_out, directory_side}
-use Rattle.rewriting_law.proofs.runs.Turns.{byes_node, treated_same, goes_on_from}
+use Rattle.rewriting_law.proofs.runs.Turns.{byes_node, handled_same, goes_on_from}
 use Rattle.rewriting_law.proofs.runs.TurnTies.{rest_of, locals_of}
 use Rattle.rewriting_law.proofs.runs.Composed.{IsPhase, MatchesCore, may_run}
 use Rattle.rewriting_law.proofs.runs.Alone.{bye_noted}
@@ -117,18 +117,18 @@ module _ (layout : Shape) where
   row_sends n (AtNode b row) = refl
 
   -- a message that isn't a Bye has its row
-  pub treated_by_row : (n : Node) (j : ℕ) (m : Message) → is_bye m ≡ false
-      → treated layout n j m ≡ by_row_or layout n (row_of layout n.me (holding layout n) j m)
-  treated_by_row n j Bye e = absurd cc
-  treated_by_row n j (Read b buf) e = refl
-  treated_by_row n j (Write b buf) e = refl
-  treated_by_row n j (FwdRead b r buf) e = refl
-  treated_by_row n j (FwdWrite b r k buf) e = refl
-  treated_by_row n j (Inval b r) e = refl
-  treated_by_row n j (Data b k buf) e = refl
-  treated_by_row n j (Grant b k buf) e = refl
-  treated_by_row n j (Ack b) e = refl
-  treated_by_row n j (Done b) e = refl
+  pub handled_by_row : (n : Node) (j : ℕ) (m : Message) → is_bye m ≡ false
+      → handled layout n j m ≡ by_row_or layout n (row_of layout n.me (holding layout n) j m)
+  handled_by_row n j Bye e = absurd cc
+  handled_by_row n j (Read b buf) e = refl
+  handled_by_row n j (Write b buf) e = refl
+  handled_by_row n j (FwdRead b r buf) e = refl
+  handled_by_row n j (FwdWrite b r k buf) e = refl
+  handled_by_row n j (Inval b r) e = refl
+  handled_by_row n j (Data b k buf) e = refl
+  handled_by_row n j (Grant b k buf) e = refl
+  handled_by_row n j (Ack b) e = refl
+  handled_by_row n j (Done b) e = refl
 
 pub resumed_byes : (work : Work) (n : Node) (phase : Phase) → (resumed work n phase).byes ≡ n.byes
 resumed_byes work n Running = refl
@@ -266,7 +266,7 @@ module _ (work : Work) (plan : List PlanEntry) (lay : Layout work)
       n1 = journaled n j wire
 
       abbrev t1 : Turn
-      t1 = treated layout n1 j wire.message
+      t1 = handled layout n1 j wire.message
 
       abbrev list : ℕ → ℕ → List Wire
       list = (with_list c j i ws).list
@@ -342,7 +342,7 @@ module _ (work : Work) (plan : List PlanEntry) (lay : Layout work)
           }
       notes false e =
           let row = row_there e in
-          let is = treated_by_row layout n1 j wire.message e in
+          let is = handled_by_row layout n1 j wire.message e in
           let byes : t1.node.byes ≡ n.byes = ap (λ (x : Turn). x.node.byes) is
           ∙ row_byes layout n1 (row_of layout n1.me (holding layout n1) j wire.message) in
           record {
@@ -403,7 +403,7 @@ module _ (work : Work) (plan : List PlanEntry) (lay : Layout work)
           ]) refl
 
       same_phase : t1.node.phase ≡ n.phase
-      same_phase = (treated_same layout n1 j wire.message).phase
+      same_phase = (handled_same layout n1 j wire.message).phase
 
       message_parts : Parts layout.nodes c i list u
       message_parts =
@@ -476,9 +476,9 @@ module _ (work : Work) (plan : List PlanEntry) (lay : Layout work)
                 ∙ popped_calm k x y lx ly (eqb y i) refl;
             fresh = λ e y low. turn_calm layout.nodes tm ends_then y note.plain;
             late = λ e y low.
-                let quiet : u ≡ tm = ap (with_byes layout.nodes tm)
+                let silent : u ≡ tm = ap (with_byes layout.nodes tm)
                 (ap (λ z. is_ended tm.node.phase && not z) e ∙ never (is_ended tm.node.phase)) in
-                subst (λ (z : Turn). Neither (wires_to z.node.stamp y z.sends)) (sym quiet)
+                subst (λ (z : Turn). Neither (wires_to z.node.stamp y z.sends)) (sym silent)
                 (sent_neither tm.node.stamp y t1.sends note.plain (note.homes e));
           })
 

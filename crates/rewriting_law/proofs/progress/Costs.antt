@@ -10,11 +10,11 @@ use Rattle.rv32_program.specs.Program.{line_of}
 use Rattle.rv32_step.specs.OneMemory.{State, opening, run}
 use Rattle.state_table.specs.declared.State.{State as BlockState}
 use Rattle.state_table.specs.StateByte.{can_read}
-use Rattle.home_directory.specs.declared.messages.Need.{Need}
-use Rattle.home_directory.specs.declared.messages.Need.TheVariants as need
-use Rattle.home_directory.specs.declared.messages.Message.{Message}
-use Rattle.home_directory.specs.declared.messages.Message.TheVariants.{Read, Write, FwdRead, FwdWrite, Inval, Data, Grant, Ack, Done, Bye}
-use Rattle.home_directory.specs.declared.messages.Wire.{Wire}
+use Rattle.home_directory.specs.dsm_messages.declared.messages.Need.{Need}
+use Rattle.home_directory.specs.dsm_messages.declared.messages.Need.TheVariants as need
+use Rattle.home_directory.specs.dsm_messages.declared.messages.Message.{Message}
+use Rattle.home_directory.specs.dsm_messages.declared.messages.Message.TheVariants.{Read, Write, FwdRead, FwdWrite, Inval, Data, Grant, Ack, Done, Bye}
+use Rattle.home_directory.specs.dsm_messages.declared.messages.Wire.{Wire}
 use Rattle.home_directory.specs.Home.{post}
 use Rattle.home_directory.specs.Table.{BlockFacts, LocalBlock, Miss, meets, state_in_wait, first_wait, request, want_row}
 use Rattle.dsm_protocol.specs.miss_handlers.Effects.{block_facts}
@@ -24,8 +24,8 @@ use Rattle.dsm_protocol.specs.Holds.{wanted}
 use Rattle.dsm_protocol.specs.World.{local_block}
 use Rattle.dsm_protocol.proofs.Promised.{proper}
 use Rattle.dsm_protocol.specs.node_model.declared.NodeCounts.{NodeCounts}
-use Rattle.dsm_protocol.specs.node_model.Node.{Work, Node, Local, Want, Phase, Running, Resumed, Waiting, Ended, Tally, Nothing_counted, FalseMiss, FallsBack, counts_after as tallied, tally_resumed, word_outcome}
-use Rattle.dsm_protocol.specs.node_model.Turns.{Turn, block_at, count_want, holding, is_ended, wants_of, with_miss, want_in, want_all, after_word, after_wants, word_turn, by_row_or, treated, has_no_wait, resumed, journaled, after_message, take_turn, each_block_once}
+use Rattle.dsm_protocol.specs.node_model.Node.{Work, Node, NodeMemory, Want, Phase, Running, Resumed, Waiting, Ended, Tally, Nothing_counted, FalseMiss, FallsBack, counts_after as tallied, tally_resumed, word_outcome}
+use Rattle.dsm_protocol.specs.node_model.Turns.{Turn, block_at, count_want, holding, is_ended, wants_of, with_miss, want_in, want_all, after_word, after_wants, word_turn, by_row_or, handled, has_no_wait, resumed, journaled, after_message, take_turn, each_block_once}
 use Rattle.dsm_protocol.specs.node_model.Core.{Core, Event, Exec, Take, May, IsCoreRun, opening_core, take_first, event_step, after}
 use Rattle.dsm_protocol.specs.node_model.Outcome.{write_misses, AreFrugal, counts_after}
 use Rattle.rewriting_law.specs.ProtocolLists.{messages_of}
@@ -35,7 +35,7 @@ use Rattle.rewriting_law.proofs.words.CodeSide.{CodeSide}
 use Rattle.rewriting_law.proofs.one_memory.Matching.{Runs}
 use Rattle.rewriting_law.proofs.one_memory.Sharing.{with_local, local_here}
 use Rattle.rewriting_law.proofs.one_memory.Wants.{block_wanted, ask, ask_all}
-use Rattle.rewriting_law.proofs.protocol_side.ProtocolSide.{Treated}
+use Rattle.rewriting_law.proofs.protocol_side.ProtocolSide.{Handled}
 use Rattle.rewriting_law.proofs.protocol_side.Spending.{Counts, no_counts, total, asks_more, few_sent}
 use Rattle.rewriting_law.proofs.protocol_side.Directory.{Rest, world_of, missed, miss_in, took, take_from, directory}
 use Rattle.rewriting_law.proofs.protocol_side.DirectorySide.{Layout}
@@ -189,7 +189,7 @@ want_spends_one need.Write state c k = go (can_read state)
       sends_too = omega arith;
     }
 
-miss_spends : (layout : Shape) (b : ℕ) (for : Need) (t : Turn) (n : Local) (rest : Rest) (i : ℕ)
+miss_spends : (layout : Shape) (b : ℕ) (for : Need) (t : Turn) (n : NodeMemory) (rest : Rest) (i : ℕ)
     (o : Option Miss) → ((x : Miss) → o ≡ Some x → wanted x.block.wait ≡ Some for)
     → Spends t.node.counts (with_miss layout b for t o).node.counts rest.counts
     (missed layout n rest i b o).rest.counts
@@ -201,7 +201,7 @@ miss_spends layout b for t n rest i (Some miss) h =
     (want_spends_one for state t.node.counts rest.counts)
 
 module _ (c : Core) (i : ℕ) (layout : Shape) where
-  want_spends : (locals : ℕ → Local) (t : Turn) (u : Treated Rest) (b : ℕ) (for : Need)
+  want_spends : (locals : ℕ → NodeMemory) (t : Turn) (u : Handled Rest) (b : ℕ) (for : Need)
       → IsTurn c i t u
       → Spends t.node.counts (want_in layout t for (Some b)).node.counts u.rest.counts
       ((directory layout).want (with_local locals i u.local) u.rest i b for).rest.counts
@@ -220,8 +220,8 @@ module _ (c : Core) (i : ℕ) (layout : Shape) where
       (want_row (block_facts layout b) (block_at layout t.node b) b for (empty_buffer 4096))
       (λ x e. request_for (block_facts layout b) (block_at layout t.node b) b for x e))
 
-  wants_spend : (work : Work) (plan : List PlanEntry) (locals : ℕ → Local) (ws : List Want)
-      (t : Turn) (u : Treated Rest) → AllFound c i layout ws → IsTurn c i t u
+  wants_spend : (work : Work) (plan : List PlanEntry) (locals : ℕ → NodeMemory) (ws : List Want)
+      (t : Turn) (u : Handled Rest) → AllFound c i layout ws → IsTurn c i t u
       → Spends t.node.counts (want_all layout t ws).node.counts u.rest.counts
       (ask_all layout work plan (directory layout) locals i u ws).rest.counts
   wants_spend work plan locals [] t u found h = spends_none t.node.counts u.rest.counts
@@ -243,7 +243,7 @@ module _ (c : Core) (i : ℕ) (layout : Shape) where
       (wants_spend work plan locals ws asked next found.1 turned)
 
 -- what a row sends is counted
-module _ (layout : Shape) (n : Node) (x : Local) (rest : Rest) (i j : ℕ) (ms : List Message) where
+module _ (layout : Shape) (n : Node) (x : NodeMemory) (rest : Rest) (i j : ℕ) (ms : List Message) where
   row_spends : (o : Option Row)
       → Spends n.counts (by_row_or layout n o).node.counts rest.counts
       (took layout x rest i j ms o).rest.counts
@@ -272,7 +272,7 @@ module _ (layout : Shape) (n : Node) (x : Local) (rest : Rest) (i j : ℕ) (ms :
   }
 
   message_spends : (m : Message)
-      → Spends n.counts (treated layout n j m).node.counts rest.counts
+      → Spends n.counts (handled layout n j m).node.counts rest.counts
       (took layout x rest i j ms (row_of layout n.me (holding layout n) j m)).rest.counts
   message_spends Bye = spends_none n.counts rest.counts
   message_spends (Read b buf) = row_spends (row_of layout n.me (holding layout n) j (Read b buf))
@@ -360,7 +360,7 @@ module _ (work : Work) (plan : List PlanEntry) (lay : Layout work)
         let r = word_outcome work n in
         let ws = each_block_once layout (wants_of r.move) in
         let locals = with_local (locals_of c) i r.local in
-        let first : Treated Rest = record { local = locals i; rest = rest_at m.counts c } in
+        let first : Handled Rest = record { local = locals i; rest = rest_at m.counts c } in
         let t = after_wants work n in
         let turned : IsTurn c i (after_word work n) first =
         subst (λ x. IsTurn c i (after_word work n)
@@ -379,7 +379,7 @@ module _ (work : Work) (plan : List PlanEntry) (lay : Layout work)
         (counts_of_take work plan lay code m.counts c i j)
     take_spends j wire ws front =
         let n1 = journaled n j wire in
-        let t1 = treated layout n1 j wire.message in
+        let t1 = handled layout n1 j wire.message in
         let on = after_message work n j wire in
         let rest = rest_at m.counts c in
         let row : took layout n.local rest i j (messages_of ws)
@@ -390,7 +390,7 @@ module _ (work : Work) (plan : List PlanEntry) (lay : Layout work)
         ∙ ap (λ xs. take_from layout (locals_of c) rest i j (messages_of xs)) (sym front) in
         let counts = counts_of_take work plan lay code m.counts c i j in
         let one : Spends n.counts t1.node.counts m.counts counts =
-        subst (λ (u : Treated Rest). Spends n.counts t1.node.counts m.counts u.rest.counts) row
+        subst (λ (u : Handled Rest). Spends n.counts t1.node.counts m.counts u.rest.counts) row
         (message_spends layout n1 n.local rest i j (messages_of ws) wire.message) in
         subst (λ (x : Node). Spends n.counts x.counts m.counts counts)
         (sym (byes_node layout.nodes on (is_ended on.node.phase && not (is_ended n.phase))))

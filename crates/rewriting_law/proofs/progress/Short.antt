@@ -4,8 +4,8 @@ use Rattle.std.proofs.Common.{◌≡◌, ◌≢◌, ℕ, zero, suc, ◌+◌, ◌
 use Rattle.std.specs.Prelude.{not, ◌&&◌}
 use Rattle.block_layout.specs.Layout.{Shape}
 use Rattle.block_layout.specs.Update.{changed}
-use Rattle.home_directory.specs.declared.messages.Message.{Message}
-use Rattle.home_directory.specs.declared.messages.Wire.{Wire}
+use Rattle.home_directory.specs.dsm_messages.declared.messages.Message.{Message}
+use Rattle.home_directory.specs.dsm_messages.declared.messages.Wire.{Wire}
 use Rattle.home_directory.specs.Home.{count_of}
 use Rattle.home_directory.specs.Table.{Miss}
 use Rattle.dsm_protocol.specs.miss_handlers.Rows.{Row, AtHome, AtNode, row_of, is_bye}
@@ -19,8 +19,8 @@ use Rattle.dsm_protocol.specs.Holds.{is_for_home}
 use Rattle.dsm_protocol.proofs.Counting.{count_one}
 use Rattle.dsm_protocol.proofs.Promised.{proper}
 use Rattle.dsm_protocol.proofs.ProtocolSide as world
-use Rattle.dsm_protocol.specs.node_model.Node.{Work, Node, Local, Want, Move, Next, Again, To, Enters, Waits, Leaves, Outcome, Phase, Running, Resumed, Waiting, Ended, word_outcome}
-use Rattle.dsm_protocol.specs.node_model.Turns.{Turn, holding, wants_of, after_word, after_wants, word_turn, is_ended, treated, has_no_wait, resumed, journaled, after_message, take_turn, each_block_once}
+use Rattle.dsm_protocol.specs.node_model.Node.{Work, Node, NodeMemory, Want, Move, Next, Again, To, Enters, Waits, Leaves, WordOutcome, Phase, Running, Resumed, Waiting, Ended, word_outcome}
+use Rattle.dsm_protocol.specs.node_model.Turns.{Turn, holding, wants_of, after_word, after_wants, word_turn, is_ended, handled, has_no_wait, resumed, journaled, after_message, take_turn, each_block_once}
 use Rattle.dsm_protocol.specs.node_model.Core.{Core, Event, Exec, Take, May, IsCoreRun, opening_core, take_first, event_step, after}
 use Rattle.rewriting_law.specs.ProtocolLists.{messages_of}
 use Rattle.rewriting_law.specs.Bounds.{most_events}
@@ -30,17 +30,17 @@ use Rattle.rewriting_law.proofs.templates.RegisterLemmas.{equal, apart as unlike
 use Rattle.rewriting_law.proofs.words.CodeSide.{CodeSide, Follows}
 use Rattle.rewriting_law.proofs.one_memory.Matching.{Runs}
 use Rattle.rewriting_law.proofs.one_memory.Sharing.{with_local}
-use Rattle.rewriting_law.proofs.protocol_side.ProtocolSide.{Treated}
+use Rattle.rewriting_law.proofs.protocol_side.ProtocolSide.{Handled}
 use Rattle.rewriting_law.proofs.protocol_side.Spending.{Counts, no_counts, total, total_one, few_taken}
 use Rattle.rewriting_law.proofs.protocol_side.Directory.{Rest, world_of, missed, took, take_from, directory}
 use Rattle.rewriting_law.proofs.protocol_side.DirectorySide.{Layout}
 use Rattle.rewriting_law.proofs.one_memory.Wants.{ask, ask_all}
-use Rattle.rewriting_law.proofs.runs.Turns.{byes_node, wants_same, treated_same, goes_on_from}
+use Rattle.rewriting_law.proofs.runs.Turns.{byes_node, wants_same, handled_same, goes_on_from}
 use Rattle.rewriting_law.proofs.runs.TurnTies.{rest_at, locals_of}
 use Rattle.rewriting_law.proofs.runs.Composed.{MatchesCore, counts_of_word, counts_of_take, counts_by, pace_of_word, may_run, next_word, event_leads, start_matches, start_counts}
 use Rattle.rewriting_law.proofs.runs.Alone.{bye_noted}
 use Rattle.rewriting_law.proofs.progress.Calm.{is_calm, IsCalm}
-use Rattle.rewriting_law.proofs.progress.Closing.{wants_byes, row_byes, treated_by_row, resumed_byes, Closing, event_closing, start_closing}
+use Rattle.rewriting_law.proofs.progress.Closing.{wants_byes, row_byes, handled_by_row, resumed_byes, Closing, event_closing, start_closing}
 use Rattle.rewriting_law.proofs.progress.Stuck.{count_most}
 use Rattle.rewriting_law.proofs.progress.Budgets.{within}
 
@@ -67,13 +67,13 @@ record Asked (d : ℕ) (old new : Counts) : Type 0 where
   most : new.asked ≤ old.asked + d
   same : new.taken ≡ old.taken
 
-missed_counts : (layout : Shape) (n : Local) (rest : Rest) (i b : ℕ) (o : Option Miss)
+missed_counts : (layout : Shape) (n : NodeMemory) (rest : Rest) (i b : ℕ) (o : Option Miss)
     → Asked 1 rest.counts (missed layout n rest i b o).rest.counts
 missed_counts layout n rest i b None = record { most = omega arith; same = refl }
 missed_counts layout n rest i b (Some miss) = record { most = omega arith; same = refl }
 
-asked_counts : (layout : Shape) (work : Work) (plan : List PlanEntry) (locals : ℕ → Local) (i : ℕ)
-    (ws : List Want) (t : Treated Rest)
+asked_counts : (layout : Shape) (work : Work) (plan : List PlanEntry) (locals : ℕ → NodeMemory) (i : ℕ)
+    (ws : List Want) (t : Handled Rest)
     → Asked (length ws) t.rest.counts
     (ask_all layout work plan (directory layout) locals i t ws).rest.counts
 asked_counts layout work plan locals i [] t = record { most = omega arith; same = refl }
@@ -86,7 +86,7 @@ asked_counts layout work plan locals i (w ∷ ws) t =
     record { most = omega (arith, one, more); same = rest.same ∙ first.same }
 
 -- a message was taken, by its row or without one
-pub took_counts : (layout : Shape) (n : Local) (rest : Rest) (i j : ℕ) (ms : List Message)
+pub took_counts : (layout : Shape) (n : NodeMemory) (rest : Rest) (i j : ℕ) (ms : List Message)
     (o : Option Row)
     → ((took layout n rest i j ms o).rest.counts.asked ≡ rest.counts.asked)
     × (rest.counts.taken ≤ (took layout n rest i j ms o).rest.counts.taken)
@@ -94,7 +94,7 @@ took_counts layout n rest i j ms None = (refl, omega arith)
 took_counts layout n rest i j ms (Some (AtHome b row)) = (refl, omega arith)
 took_counts layout n rest i j ms (Some (AtNode b row)) = (refl, omega arith)
 
-pub took_one : (layout : Shape) (n : Local) (rest : Rest) (i j : ℕ) (ms : List Message) (row : Row)
+pub took_one : (layout : Shape) (n : NodeMemory) (rest : Rest) (i j : ℕ) (ms : List Message) (row : Row)
     → (took layout n rest i j ms (Some row)).rest.counts.taken ≡ rest.counts.taken + 1
 took_one layout n rest i j ms (AtHome b row) = refl
 took_one layout n rest i j ms (AtNode b row) = refl
@@ -145,7 +145,7 @@ module _ (work : Work) (plan : List PlanEntry) (lay : Layout work)
     abbrev n : Node
     n = c.nodes i
 
-    few_wanted : (q : Processor) (r : Outcome) (kind : CommitKind) (mv : Move)
+    few_wanted : (q : Processor) (r : WordOutcome) (kind : CommitKind) (mv : Move)
         → Follows layout work plan (code.Stands (pace_of_word work plan lay code c m.paces i)) q n.local r kind mv
         → length (each_block_once layout (wants_of mv)) ≤ 2
     few_wanted q r kind (Leaves e) f = omega arith
@@ -176,7 +176,7 @@ module _ (work : Work) (plan : List PlanEntry) (lay : Layout work)
         let few = few_wanted (s.processors i) r
         (commit_at work.program plan (old_of work.image n.lane.at)) r.move
         (next_word work plan lay code c s m i below runs) in
-        let locals : ℕ → Local = with_local (locals_of c) i r.local in
+        let locals : ℕ → NodeMemory = with_local (locals_of c) i r.local in
         let counts : Asked (length (each_block_once layout (wants_of r.move))) m.counts
         (counts_of_word work plan lay code m.counts c i) =
         asked_counts layout work plan locals i (each_block_once layout (wants_of r.move))
@@ -198,7 +198,7 @@ module _ (work : Work) (plan : List PlanEntry) (lay : Layout work)
       n1 = journaled n j wire
 
       abbrev t1 : Turn
-      t1 = treated layout n1 j wire.message
+      t1 = handled layout n1 j wire.message
 
       abbrev u : Turn
       u = take_turn work n j wire
@@ -210,7 +210,7 @@ module _ (work : Work) (plan : List PlanEntry) (lay : Layout work)
       executed_same : u.node.executed ≡ n.executed
       executed_same = ap (λ (x : Node). x.executed) node_is
           ∙ resumed_executed work t1.node t1.node.phase
-          ∙ (treated_same layout n1 j wire.message).executed
+          ∙ (handled_same layout n1 j wire.message).executed
 
       byes_same : u.node.byes ≡ t1.node.byes
       byes_same = ap (λ (x : Node). x.byes) node_is ∙ resumed_byes work t1.node t1.node.phase
@@ -248,7 +248,7 @@ module _ (work : Work) (plan : List PlanEntry) (lay : Layout work)
           m.matches.shares.held.holds i j wire.message (messages_of ws) below lj
           (ap messages_of front) plain in
           let byes : u.node.byes ≡ n.byes = byes_same
-          ∙ ap (λ (x : Turn). x.node.byes) (treated_by_row layout n1 j wire.message plain)
+          ∙ ap (λ (x : Turn). x.node.byes) (handled_by_row layout n1 j wire.message plain)
           ∙ row_byes layout n1 (row_of layout n1.me (holding layout n1) j wire.message) in
           let count = ap (λ f. count_of f layout.nodes) byes in
           let one : (counts_then (wire ∷ ws)).taken ≡ m.counts.taken + 1 =

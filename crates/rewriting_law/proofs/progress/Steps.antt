@@ -7,10 +7,10 @@ use Rattle.block_layout.specs.Layout.{Shape, has_line}
 use Rattle.rv32_program.specs.declared.End.TheVariants.{Exited, Stopped}
 use Rattle.rv32_program.specs.Program.{line_of}
 use Rattle.rv32_step.specs.OneMemory.{Step, Break, State, opening, run}
-use Rattle.home_directory.specs.declared.messages.Wire.{Wire}
+use Rattle.home_directory.specs.dsm_messages.declared.messages.Wire.{Wire}
 use Rattle.templates.specs.declared.plans.PlanEntry.{PlanEntry}
 use Rattle.dsm_protocol.specs.node_model.Node.{Work, Node, Running, Resumed, Waiting, Ended, word_outcome}
-use Rattle.dsm_protocol.specs.node_model.Turns.{is_ended, wants_of, after_word, after_wants, word_turn, treated, journaled, after_message, take_turn, each_block_once}
+use Rattle.dsm_protocol.specs.node_model.Turns.{is_ended, wants_of, after_word, after_wants, word_turn, handled, journaled, after_message, take_turn, each_block_once}
 use Rattle.dsm_protocol.specs.node_model.Core.{Core, Event, Exec, Take, IsCoreRun, opening_core, take_first, event_step, after}
 use Rattle.rewriting_law.specs.Bounds.{is_step_of, steps_of}
 use Rattle.rewriting_law.specs.CoreRun.{Order, break_by, order_of, commits, picks_of_take, picks_at, picks_of}
@@ -20,7 +20,7 @@ use Rattle.rewriting_law.proofs.words.CodeSide.{Pace, one_if, CodeSide}
 use Rattle.rewriting_law.proofs.one_memory.Matching.{Activity, Runs, Awaits, HasEnded, StandsIn, with_at}
 use Rattle.rewriting_law.proofs.protocol_side.Directory.{directory}
 use Rattle.rewriting_law.proofs.protocol_side.DirectorySide.{Layout, laid_out, directory_side}
-use Rattle.rewriting_law.proofs.runs.Turns.{byes_node, wants_same, treated_same}
+use Rattle.rewriting_law.proofs.runs.Turns.{byes_node, wants_same, handled_same}
 use Rattle.rewriting_law.proofs.runs.Composed.{MatchesCore, IsPhase, pace_of_word, paces_by, event_leads, start_matches, start_paces}
 use Rattle.rewriting_law.proofs.progress.Short.{resumed_executed}
 use Rattle.rewriting_law.proofs.progress.Stops.{stopped}
@@ -62,11 +62,11 @@ take_executed : (work : Work) (n : Node) (j : ℕ) (wire : Wire)
     → (take_turn work n j wire).node.executed ≡ n.executed
 take_executed work n j wire =
     let n1 = journaled n j wire in
-    let t1 = treated work.layout n1 j wire.message in
+    let t1 = handled work.layout n1 j wire.message in
     ap (λ (x : Node). x.executed) (byes_node work.layout.nodes (after_message work n j wire)
     (is_ended (after_message work n j wire).node.phase && not (is_ended n.phase)))
     ∙ resumed_executed work t1.node t1.node.phase
-    ∙ (treated_same work.layout n1 j wire.message).executed
+    ∙ (handled_same work.layout n1 j wire.message).executed
 
 module _ (work : Work) (plan : List PlanEntry) (lay : Layout work)
     (code : CodeSide work.layout work plan) where

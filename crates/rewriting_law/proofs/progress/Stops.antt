@@ -2,11 +2,11 @@
 use Rattle.std.proofs.Common.{◌≡◌, ℕ, ◌+◌, cond, eqb, Bool, true, false, List, [], ◌∷◌, sym, ap, ◌∙◌, refl, subst, inl, inr}
 use Rattle.std.proofs.lemmas.Bool.Decides.{eqb_tells}
 use Rattle.rv32_program.specs.declared.End.TheVariants.{Stopped}
-use Rattle.home_directory.specs.declared.messages.Wire.{Wire}
+use Rattle.home_directory.specs.dsm_messages.declared.messages.Wire.{Wire}
 use Rattle.dsm_protocol.specs.node_model.Node.{Work, Node, Move, Next, Again, To, Enters, Waits, Leaves, Phase, Running, Resumed, Waiting, Ended, phase_after, stop_or, word_outcome}
-use Rattle.dsm_protocol.specs.node_model.Turns.{is_ended, after_word, after_wants, wants_of, treated, has_no_wait, resumed, journaled, word_turn, after_message, take_turn, each_block_once}
+use Rattle.dsm_protocol.specs.node_model.Turns.{is_ended, after_word, after_wants, wants_of, handled, has_no_wait, resumed, journaled, word_turn, after_message, take_turn, each_block_once}
 use Rattle.dsm_protocol.specs.node_model.Core.{Core, Event, Exec, Take, take_first, event_step, after}
-use Rattle.rewriting_law.proofs.runs.Turns.{byes_node, wants_same, treated_same, goes_on_from}
+use Rattle.rewriting_law.proofs.runs.Turns.{byes_node, wants_same, handled_same, goes_on_from}
 
 -- a node that is stopped has executed its whole budget
 abbrev pub IsWhole : ℕ → ℕ → Phase → Type 0
@@ -80,8 +80,8 @@ module _ (work : Work) where
       → IsWholeNode (take_turn work n j wire).node
   message_whole n j wire h =
       let m = journaled n j wire in
-      let t = treated work.layout m j wire.message in
-      let same = treated_same work.layout m j wire.message in
+      let t = handled work.layout m j wire.message in
+      let same = handled_same work.layout m j wire.message in
       let whole : IsWholeNode t.node =
       subst (λ e. IsWhole work.budget e t.node.phase) (sym same.executed)
       (subst (λ p. IsWhole work.budget n.executed p) (sym same.phase) h) in

@@ -6,8 +6,8 @@ use Rattle.block_layout.specs.Update.{changed}
 use Rattle.state_table.specs.declared.State.{State}
 use Rattle.state_table.specs.declared.State.TheVariants.{Exclusive, Shared, Invalid, Pending}
 use Rattle.state_table.specs.StateByte.{byte_of, state_with, can_read, can_write}
-use Rattle.home_directory.specs.declared.messages.Need.{Need}
-use Rattle.home_directory.specs.declared.messages.Need.TheVariants as want
+use Rattle.home_directory.specs.dsm_messages.declared.messages.Need.{Need}
+use Rattle.home_directory.specs.dsm_messages.declared.messages.Need.TheVariants as want
 use Rattle.home_directory.specs.Table.{meets}
 use Rattle.rv32_program.specs.Program.{Program}
 use Rattle.dsm_protocol.proofs.Openings.{LineLaws}

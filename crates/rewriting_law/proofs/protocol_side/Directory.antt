@@ -6,11 +6,11 @@ use Rattle.block_layout.specs.Update.{changed}
 use Rattle.buf_pool.specs.Pool.{empty_buffer}
 use Rattle.llsc.specs.Reservation.{cleared}
 use Rattle.state_table.specs.StateByte.{state_with}
-use Rattle.home_directory.specs.declared.messages.Need.{Need}
-use Rattle.home_directory.specs.declared.messages.Message.{Message}
+use Rattle.home_directory.specs.dsm_messages.declared.messages.Need.{Need}
+use Rattle.home_directory.specs.dsm_messages.declared.messages.Message.{Message}
 use Rattle.home_directory.specs.declared.wait.Wait.{Wait}
 use Rattle.home_directory.specs.declared.directory.Request.{Request}
-use Rattle.home_directory.specs.Home.{Entry}
+use Rattle.home_directory.specs.Home.{DirectoryEntry}
 use Rattle.home_directory.specs.Table.{Miss, want_row}
 use Rattle.dsm_protocol.specs.miss_handlers.Effects.{block_facts}
 use Rattle.dsm_protocol.specs.miss_handlers.Rows.{Row, AtHome, AtNode, taker_in}
@@ -18,15 +18,15 @@ use Rattle.dsm_protocol.specs.World.{World, local_block, with_list, with_sends}
 use Rattle.dsm_protocol.specs.Events.{row_of}
 use Rattle.dsm_protocol.specs.Holds.{wanted}
 use Rattle.dsm_protocol.proofs.ByAddress.{bytes_in}
-use Rattle.dsm_protocol.specs.node_model.Node.{Local}
+use Rattle.dsm_protocol.specs.node_model.Node.{NodeMemory}
 use Rattle.dsm_protocol.specs.node_model.Turns.{with_state, with_bytes}
 use Rattle.rewriting_law.specs.CoreRun.{Order, order_by}
-use Rattle.rewriting_law.proofs.protocol_side.ProtocolSide.{Treated, Protocol}
+use Rattle.rewriting_law.proofs.protocol_side.ProtocolSide.{Handled, Protocol}
 use Rattle.rewriting_law.proofs.protocol_side.Spending.{Counts, asks_more, takes_more}
 
 -- what the nodes keep of blocks beside their bytes and states, by node, and the lists of messages
 pub record Rest : Type 0 where
-  pub entry : ℕ → ℕ → Entry
+  pub entry : ℕ → ℕ → DirectoryEntry
   pub waiting : ℕ → ℕ → List Request
   pub occupancy : ℕ → ℕ
   pub wait : ℕ → ℕ → Option Wait
@@ -36,7 +36,7 @@ pub record Rest : Type 0 where
 
 module _ (layout : Shape) where
   -- the nodes and lists, by block
-  abbrev pub world_of : (ℕ → Local) → Rest → World
+  abbrev pub world_of : (ℕ → NodeMemory) → Rest → World
   world_of locals rest = record {
     entry = rest.entry;
     waiting = rest.waiting;
@@ -48,7 +48,7 @@ module _ (layout : Shape) where
   }
 
   -- node i has begun a wait, or the block met the need
-  abbrev pub missed : Local → Rest → (i b : ℕ) → Option Miss → Treated Rest
+  abbrev pub missed : NodeMemory → Rest → (i b : ℕ) → Option Miss → Handled Rest
   missed n rest i b None = record { local = n; rest = rest }
   missed n rest i b (Some miss) = record {
     local = record n { state = with_state layout b miss.block.state n.state };
@@ -67,7 +67,7 @@ module _ (layout : Shape) where
       want_row (block_facts layout b) (local_block w i b) b need (empty_buffer 4096)
 
   -- node i has taken the first message of the list from j, and `ms` are left of the list
-  abbrev pub took : Local → Rest → (i j : ℕ) → List Message → Option Row → Treated Rest
+  abbrev pub took : NodeMemory → Rest → (i j : ℕ) → List Message → Option Row → Handled Rest
   took n rest i j ms None = record {
     local = n;
     rest = record {
@@ -106,12 +106,12 @@ module _ (layout : Shape) where
     };
   }
 
-  abbrev pub take_from : (ℕ → Local) → Rest → (i j : ℕ) → List Message → Treated Rest
+  abbrev pub take_from : (ℕ → NodeMemory) → Rest → (i j : ℕ) → List Message → Handled Rest
   take_from locals rest i j [] = record { local = locals i; rest = rest }
   take_from locals rest i j (m ∷ ms) =
       took (locals i) rest i j ms (row_of layout (world_of locals rest) i j m)
 
-  abbrev pub order_from : (ℕ → Local) → Rest → (i j : ℕ) → List Message → Option Order
+  abbrev pub order_from : (ℕ → NodeMemory) → Rest → (i j : ℕ) → List Message → Option Order
   order_from locals rest i j [] = None
   order_from locals rest i j (m ∷ ms) =
       order_by (taker_in m) (row_of layout (world_of locals rest) i j m)

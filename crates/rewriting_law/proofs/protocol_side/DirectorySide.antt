@@ -13,10 +13,10 @@ use Rattle.state_table.specs.declared.State.{State}
 use Rattle.state_table.specs.declared.State.TheVariants as state
 use Rattle.state_table.specs.StateByte.{byte_of, state_with, can_read, can_write}
 use Rattle.home_directory.specs.flag_memory.Flag.{flag_byte}
-use Rattle.home_directory.specs.declared.messages.Need.{Need}
-use Rattle.home_directory.specs.declared.messages.Message.TheVariants as message
-use Rattle.home_directory.specs.declared.messages.Message.{Message}
-use Rattle.home_directory.specs.declared.messages.Message.TheVariants.{Read, Write, FwdRead, FwdWrite, Inval, Data, Grant, Ack, Done, Bye}
+use Rattle.home_directory.specs.dsm_messages.declared.messages.Need.{Need}
+use Rattle.home_directory.specs.dsm_messages.declared.messages.Message.TheVariants as message
+use Rattle.home_directory.specs.dsm_messages.declared.messages.Message.{Message}
+use Rattle.home_directory.specs.dsm_messages.declared.messages.Message.TheVariants.{Read, Write, FwdRead, FwdWrite, Inval, Data, Grant, Ack, Done, Bye}
 use Rattle.home_directory.specs.declared.wait.Wait.{Wait}
 use Rattle.home_directory.specs.Home.{count_of}
 use Rattle.home_directory.specs.Table.{Miss, meets}
@@ -38,15 +38,16 @@ use Rattle.dsm_protocol.proofs.Promised.{two_of_most}
 use Rattle.dsm_protocol.proofs.ProtocolSide as world
 use Rattle.dsm_protocol.proofs.ByAddress.{byte_of_block, flag_at}
 use Rattle.dsm_protocol.specs.node_model.Turns.{with_state}
-use Rattle.dsm_protocol.specs.node_model.Node.{Work, Local, Want, is_readable_state, is_writable_state, IsLaidOver}
+use Rattle.dsm_protocol.specs.node_model.Node.{Work, NodeMemory, Want, is_readable_state, is_writable_state, IsLaidOver}
 use Rattle.rewriting_law.specs.CoreRun.{Order, order_by}
+use Rattle.rewriting_law.specs.ProtocolLists.{AreContentsOf}
 use Rattle.rewriting_law.proofs.templates.States.{Suits, StateFits, first_fits, grants}
 use Rattle.rewriting_law.proofs.templates.Flagged.{extend_word, flag_bytes}
 use Rattle.rewriting_law.proofs.one_memory.Sharing.{with_local, is_same, local_here, load_same}
 use Rattle.rewriting_law.proofs.one_memory.Messages.{cleared_by, AreLaidOut, IsAlone}
 use Rattle.rewriting_law.proofs.one_memory.Pending.{wanted_in}
 use Rattle.rewriting_law.proofs.protocol_side.CountedBlocks.{wanted_few}
-use Rattle.rewriting_law.proofs.protocol_side.ProtocolSide.{Treated, ProtocolSide, WantLeaves, TakeLeaves}
+use Rattle.rewriting_law.proofs.protocol_side.ProtocolSide.{Handled, ProtocolSide, WantLeaves, TakeLeaves}
 use Rattle.rewriting_law.proofs.protocol_side.Spending.{AreCounted, asks_more, takes_more, store_counted, want_counted, take_counted}
 use Rattle.rewriting_law.proofs.protocol_side.Directory.{Rest, world_of, missed, miss_in, took, take_from, order_from, is_some_list, directory}
 use Rattle.rewriting_law.proofs.protocol_side.Blocks.{readable_byte, place_own, block_below, line_in, line_of_other, Fits, fits_put, readable_line, writable_line, grants_line, writable_byte}
@@ -128,18 +129,22 @@ module _ (work : Work) (lay : Layout work) where
   abbrev layout : Shape
   layout = work.layout
 
-  abbrev NodesHold : (ℕ → Local) → Rest → (ℕ → ℕ) → Type 0
+  abbrev NodesHold : (ℕ → NodeMemory) → Rest → (ℕ → ℕ) → Type 0
   NodesHold locals rest memory = Holds layout (world_of layout locals rest) memory
 
-  abbrev pub FitsHere : Local → Type 0
+  abbrev pub FitsHere : NodeMemory → Type 0
   FitsHere n = Fits lay.laws layout lay.valid lay.some work.program n.state
 
-  -- the world keeps to the protocol, each line's state byte is its block's, and what was wanted and
-  -- taken is counted
-  pub record Held (locals : ℕ → Local) (rest : Rest) (memory : ℕ → ℕ) : Type 0 where
+  abbrev Starts : (ℕ → Contents) → Type 0
+  Starts first = AreContentsOf layout work.program.first first
+
+  -- the world keeps to the protocol, by a list that starts with the program's bytes; each line's
+  -- state byte is its block's, and what was wanted and taken is counted
+  pub record Held (locals : ℕ → NodeMemory) (rest : Rest) (memory : ℕ → ℕ) : Type 0 where
     pub holds : NodesHold locals rest memory
     pub fits : (i : ℕ) → i < layout.nodes → FitsHere (locals i)
     pub counted : AreCounted layout holds.first holds.events rest.counts
+    pub starts : Starts holds.first
 
   -- 1. Classes and blocks
 
@@ -169,7 +174,7 @@ module _ (work : Work) (lay : Layout work) where
 
   -- 2. What holds
 
-  module _ (locals : ℕ → Local) (rest : Rest) (memory : ℕ → ℕ) (h : Held locals rest memory) where
+  module _ (locals : ℕ → NodeMemory) (rest : Rest) (memory : ℕ → ℕ) (h : Held locals rest memory) where
     abbrev w : World
     w = world_of layout locals rest
 
@@ -261,7 +266,7 @@ module _ (work : Work) (lay : Layout work) where
       stores x a v aligned shared writable =
           let found = block_found (line_of a) shared in
           let b = found.0 in
-          let new : Local = record (locals i) { copy = stored x (locals i).copy a v } in
+          let new : NodeMemory = record (locals i) { copy = stored x (locals i).copy a v } in
           let can : can_write (w.state i b) ≡ true =
           sym (writable_line lay.laws layout lay.valid lay.some work.program (locals i).state
           (h.fits i low) (line_of a) b found.1) ∙ writable in
@@ -278,6 +283,7 @@ module _ (work : Work) (lay : Layout work) where
                 ]) refl;
             counted = store_counted layout h.holds.first h.holds.events rest.counts i b
                 (store_in layout x a v b) h.counted;
+            starts = h.starts;
           }
 
       -- 4. A want
@@ -294,13 +300,13 @@ module _ (work : Work) (lay : Layout work) where
           omega (arith, h, same, few)
 
       want_leaves : (b : ℕ) (need : Need) (miss : Miss) → b < blocks layout
-          → (holds : Holds layout (after_miss w i b miss) memory)
+          → (holds : Holds layout (after_miss w i b miss) memory) → Starts holds.first
           → AreCounted layout holds.first holds.events
           (asks_more (wanted miss.block.wait) rest.counts)
           → AfterWant i b need w (after_miss w i b miss)
           → WantLeaves layout work (directory layout) Held locals rest memory i b need
           (missed layout (locals i) rest i b (Some miss))
-      want_leaves b need miss below holds counted left =
+      want_leaves b need miss below holds starts counted left =
           let t = missed layout (locals i) rest i b (Some miss) in
           let s = miss.block.state in
           let fits = fits_put lay.laws layout lay.valid lay.some work.program b s (locals i).state
@@ -315,6 +321,7 @@ module _ (work : Work) (lay : Layout work) where
                 | false ↦ h.fits j lj
               ]);
               counted = counted;
+              starts = starts;
             };
             own = left.own;
             others = λ x c e. ap wanted (left.waits x c (λ p q.
@@ -353,7 +360,7 @@ module _ (work : Work) (lay : Layout work) where
           (h.fits i low) (line_of a) b need at) ∙ unmet) (omega arith) in
           subst (λ o. WantLeaves layout work (directory layout) Held locals rest memory i b need
           (missed layout (locals i) rest i b o)) (sym got.1)
-          (want_leaves b need got.0 below (by_list got.2)
+          (want_leaves b need got.0 below (by_list got.2) h.starts
           (subst (λ o. AreCounted layout h.holds.first
           (h.holds.events ++ WantsBlock i b (need_of need) ∷ []) (asks_more o rest.counts))
           (sym (ap wanted (sym (place_own w.wait i b got.0.block.wait)) ∙ got.3.own))
@@ -400,7 +407,7 @@ module _ (work : Work) (lay : Layout work) where
 
       module _ (j : ℕ) (lj : j < layout.nodes) (m : Message) (ms : List Message)
           (front : rest.list j i ≡ m ∷ ms) where
-        abbrev Leaves : Option Order → Treated Rest → Type 0
+        abbrev Leaves : Option Order → Handled Rest → Type 0
         Leaves order t =
             TakeLeaves layout work (directory layout) Held locals rest memory i order t
 
@@ -421,6 +428,7 @@ module _ (work : Work) (lay : Layout work) where
                   | false ↦ h.fits x lx
                 ]);
                 counted = h.counted;
+                starts = h.starts;
               };
               own = λ c. inl refl;
               granted = λ a b need at was gone.
@@ -434,11 +442,12 @@ module _ (work : Work) (lay : Layout work) where
 
         -- another message, by its row
         module _ (row : Row) (holds : Holds layout (after_row w j i ms row) memory)
+            (starts : Starts holds.first)
             (counted : AreCounted layout holds.first holds.events
             (takes_more (length (sends_in row)) rest.counts))
             (left : AfterTake layout i m row w (after_row w j i ms row))
           where
-            abbrev t : Treated Rest
+            abbrev t : Handled Rest
             t = took layout (locals i) rest i j ms (Some row)
 
             abbrev order : Option Order
@@ -474,7 +483,7 @@ module _ (work : Work) (lay : Layout work) where
             state_then : (d : ℕ) → d < blocks layout
                 → state_with (t.local.state (first_line layout d)) ≡ new.state i d
             state_then d ld =
-                ap (λ (n : Local). state_with (n.state (first_line layout d)))
+                ap (λ (n : NodeMemory). state_with (n.state (first_line layout d)))
                 (sym (local_here locals i t.local)) ∙ alike.state i d low ld
 
             readable_then : (line d : ℕ) → block_of layout line ≡ Some d
@@ -568,6 +577,7 @@ module _ (work : Work) (lay : Layout work) where
                   | false ↦ h.fits x lx
                 ]);
                 counted = then_counted row refl;
+                starts = starts;
               };
               own = λ c. elim (left.own c) [
                 | inl e ↦ inl (ap wanted (wait_then row refl i c) ∙ e)
@@ -625,7 +635,7 @@ module _ (work : Work) (lay : Layout work) where
             let got = world.takes lay.laws layout lay.valid lay.laid w memory h.holds i j m ms low
             lj front plain in
             subst (λ o. Leaves (order_by (taker_in m) o) (took layout (locals i) rest i j ms o))
-            (sym got.1) (row_leaves got.0 (by_list got.2)
+            (sym got.1) (row_leaves got.0 (by_list got.2) h.starts
             (take_counted layout h.holds.first h.holds.events rest.counts i j ms
             (sends_in got.0) got.4 h.counted) got.3)
         message_leaves true bye =
@@ -639,19 +649,19 @@ module _ (work : Work) (lay : Layout work) where
           × ((line : ℕ) → is_writable_state ((locals i).state line) ≡ true
           → is_writable_state ((take_from layout locals rest i j (rest.list j i)).local.state line)
           ≡ true)
-      calm j lj quiet = go (rest.list j i) refl quiet
+      calm j lj silent = go (rest.list j i) refl silent
         where
-          quiet_taker : (m : Message) → takes_away m ≡ false → taker_in m ≡ None
-          quiet_taker (message.Read b buf) e = refl
-          quiet_taker (message.Write b buf) e = refl
-          quiet_taker (message.FwdRead b r buf) e = let bad : true ≡ false = e in cc
-          quiet_taker (message.FwdWrite b r k buf) e = let bad : true ≡ false = e in cc
-          quiet_taker (message.Inval b r) e = let bad : true ≡ false = e in cc
-          quiet_taker (message.Data b k buf) e = refl
-          quiet_taker (message.Grant b k buf) e = refl
-          quiet_taker (message.Ack b) e = refl
-          quiet_taker (message.Done b) e = refl
-          quiet_taker message.Bye e = refl
+          silent_taker : (m : Message) → takes_away m ≡ false → taker_in m ≡ None
+          silent_taker (message.Read b buf) e = refl
+          silent_taker (message.Write b buf) e = refl
+          silent_taker (message.FwdRead b r buf) e = let bad : true ≡ false = e in cc
+          silent_taker (message.FwdWrite b r k buf) e = let bad : true ≡ false = e in cc
+          silent_taker (message.Inval b r) e = let bad : true ≡ false = e in cc
+          silent_taker (message.Data b k buf) e = refl
+          silent_taker (message.Grant b k buf) e = refl
+          silent_taker (message.Ack b) e = refl
+          silent_taker (message.Done b) e = refl
+          silent_taker message.Bye e = refl
 
           by_row : (m : Message) (ms : List Message) (row : Row)
               → AfterTake layout i m row w (after_row w j i ms row) → takes_away m ≡ false
@@ -685,10 +695,10 @@ module _ (work : Work) (lay : Layout work) where
               → (order_from layout locals rest i j xs ≡ None)
               × ((line : ℕ) → is_writable_state ((locals i).state line) ≡ true
               → is_writable_state ((take_from layout locals rest i j xs).local.state line) ≡ true)
-          go [] e quiet = (refl, λ line writable. writable)
-          go (m ∷ ms) e quiet = (
-            ap (λ o. order_by o (row_of layout w i j m)) (quiet_taker m quiet),
-            by_bye m ms e quiet (is_bye m) refl,
+          go [] e silent = (refl, λ line writable. writable)
+          go (m ∷ ms) e silent = (
+            ap (λ o. order_by o (row_of layout w i j m)) (silent_taker m silent),
+            by_bye m ms e silent (is_bye m) refl,
           )
 
       pub takes : (j : ℕ) → j < layout.nodes → is_some_list layout (rest.list j i) ≡ true
@@ -705,7 +715,7 @@ module _ (work : Work) (lay : Layout work) where
 
   -- 6. The side
 
-  pub like : (locals others : ℕ → Local) (rest : Rest) (memory : ℕ → ℕ)
+  pub like : (locals others : ℕ → NodeMemory) (rest : Rest) (memory : ℕ → ℕ)
       → ((i : ℕ) → (locals i).copy ≡ (others i).copy)
       → ((i : ℕ) → (locals i).state ≡ (others i).state) → Held locals rest memory
       → Held others rest memory
@@ -716,6 +726,7 @@ module _ (work : Work) (lay : Layout work) where
     fits = λ i low. subst (λ f. Fits lay.laws layout lay.valid lay.some work.program f) (states i)
         (h.fits i low);
     counted = h.counted;
+    starts = h.starts;
   }
 
   abbrev pub directory_side : ProtocolSide layout work (directory layout)

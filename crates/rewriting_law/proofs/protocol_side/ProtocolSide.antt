@@ -10,9 +10,9 @@ use Rattle.rv32_program.specs.declared.Class.TheVariants.{Shared}
 use Rattle.rv32_program.specs.Program.{class_at, line_of}
 use Rattle.rv32_step.specs.Breaks.{stands_at_store, RunsToStore}
 use Rattle.rv32_step.specs.OneMemory.{State}
-use Rattle.home_directory.specs.declared.messages.Need.{Need}
-use Rattle.home_directory.specs.declared.messages.Need.TheVariants.{Write}
-use Rattle.dsm_protocol.specs.node_model.Node.{Work, Local, Want, is_readable_state, is_writable_state}
+use Rattle.home_directory.specs.dsm_messages.declared.messages.Need.{Need}
+use Rattle.home_directory.specs.dsm_messages.declared.messages.Need.TheVariants.{Write}
+use Rattle.dsm_protocol.specs.node_model.Node.{Work, NodeMemory, Want, is_readable_state, is_writable_state}
 use Rattle.rewriting_law.proofs.templates.States.{Suits, grants}
 use Rattle.rewriting_law.proofs.one_memory.Sharing.{Sharing, with_local}
 use Rattle.rewriting_law.specs.CoreRun.{Order}
@@ -21,8 +21,8 @@ use Rattle.rewriting_law.proofs.one_memory.Pending.{wanted_in}
 
 -- a node's part and the rest of the protocol, once the node has asked for a block or taken a
 -- message
-pub record Treated (Rest : Type 0) : Type 0 where
-  pub local : Local
+pub record Handled (Rest : Type 0) : Type 0 where
+  pub local : NodeMemory
   pub rest : Rest
 
 -- what a protocol does, beside what words see of the nodes: waits by node and block, a node's want
@@ -30,18 +30,18 @@ pub record Treated (Rest : Type 0) : Type 0 where
 pub record Protocol : Type 1 where
   pub Rest : Type 0
   pub wait : Rest → ℕ → ℕ → Option Need
-  pub want : (ℕ → Local) → Rest → ℕ → ℕ → Need → Treated Rest
+  pub want : (ℕ → NodeMemory) → Rest → ℕ → ℕ → Need → Handled Rest
   pub has_message : Rest → ℕ → ℕ → Bool
-  pub take : (ℕ → Local) → Rest → ℕ → ℕ → Treated Rest
-  pub order : (ℕ → Local) → Rest → ℕ → ℕ → Option Order
+  pub take : (ℕ → NodeMemory) → Rest → ℕ → ℕ → Handled Rest
+  pub order : (ℕ → NodeMemory) → Rest → ℕ → ℕ → Option Order
 
 module _ (layout : Shape) (work : Work) (protocol : Protocol) where
   abbrev Invariant : Type 1
-  Invariant = (ℕ → Local) → protocol.Rest → (ℕ → ℕ) → Type 0
+  Invariant = (ℕ → NodeMemory) → protocol.Rest → (ℕ → ℕ) → Type 0
 
   -- what node i's want of a block leaves
-  pub record WantLeaves (Holds : Invariant) (locals : ℕ → Local) (rest : protocol.Rest)
-      (memory : ℕ → ℕ) (i b : ℕ) (need : Need) (t : Treated protocol.Rest) : Type 0 where
+  pub record WantLeaves (Holds : Invariant) (locals : ℕ → NodeMemory) (rest : protocol.Rest)
+      (memory : ℕ → ℕ) (i b : ℕ) (need : Need) (t : Handled protocol.Rest) : Type 0 where
     pub held : Holds (with_local locals i t.local) t.rest memory
     pub own : protocol.wait t.rest i b ≡ Some need
     pub others : (x c : ℕ) → (eqb x i && eqb c b) ≡ false
@@ -53,8 +53,8 @@ module _ (layout : Shape) (work : Work) (protocol : Protocol) where
         → t.local.state line ≡ (locals i).state line
 
   -- what node i's taking of a message with this order leaves
-  pub record TakeLeaves (Holds : Invariant) (locals : ℕ → Local) (rest : protocol.Rest)
-      (memory : ℕ → ℕ) (i : ℕ) (order : Option Order) (t : Treated protocol.Rest) : Type 0 where
+  pub record TakeLeaves (Holds : Invariant) (locals : ℕ → NodeMemory) (rest : protocol.Rest)
+      (memory : ℕ → ℕ) (i : ℕ) (order : Option Order) (t : Handled protocol.Rest) : Type 0 where
     pub held : Holds (with_local locals i t.local) t.rest memory
     -- only node i's waits may end, each with what it was for
     pub others : (x c : ℕ) → eqb x i ≡ false → protocol.wait t.rest x c ≡ protocol.wait rest x c
@@ -79,22 +79,22 @@ module _ (layout : Shape) (work : Work) (protocol : Protocol) where
   -- the coherence of the nodes' copies with one memory, kept by stores, wants and messages
   pub record ProtocolSide : Type 1 where
     pub Holds : Invariant
-    pub suits : (locals : ℕ → Local) (rest : protocol.Rest) (memory : ℕ → ℕ)
+    pub suits : (locals : ℕ → NodeMemory) (rest : protocol.Rest) (memory : ℕ → ℕ)
         → Holds locals rest memory → (i : ℕ) → i < work.layout.nodes → Suits work.program (locals i)
-    pub coherent : (locals : ℕ → Local) (rest : protocol.Rest) (memory : ℕ → ℕ)
+    pub coherent : (locals : ℕ → NodeMemory) (rest : protocol.Rest) (memory : ℕ → ℕ)
         → Holds locals rest memory → (i : ℕ) → i < work.layout.nodes → (a : ℕ)
         → class_at work.program a ≡ Shared
         → is_readable_state ((locals i).state (line_of a)) ≡ true
         → (locals i).copy a ≡ memory a
     -- one node may write a block, or some may read it
-    pub alone : (locals : ℕ → Local) (rest : protocol.Rest) (memory : ℕ → ℕ)
+    pub alone : (locals : ℕ → NodeMemory) (rest : protocol.Rest) (memory : ℕ → ℕ)
         → Holds locals rest memory → IsAlone layout work locals
     -- it speaks of copies and states alone
-    pub like : (locals others : ℕ → Local) (rest : protocol.Rest) (memory : ℕ → ℕ)
+    pub like : (locals others : ℕ → NodeMemory) (rest : protocol.Rest) (memory : ℕ → ℕ)
         → ((i : ℕ) → (locals i).copy ≡ (others i).copy)
         → ((i : ℕ) → (locals i).state ≡ (others i).state) → Holds locals rest memory
         → Holds others rest memory
-    pub stores : (locals : ℕ → Local) (rest : protocol.Rest) (memory : ℕ → ℕ)
+    pub stores : (locals : ℕ → NodeMemory) (rest : protocol.Rest) (memory : ℕ → ℕ)
         → Holds locals rest memory → (i : ℕ) → i < work.layout.nodes → (w : Width) (a value : ℕ)
         → is_aligned w a ≡ true → class_at work.program a ≡ Shared
         → is_writable_state ((locals i).state (line_of a)) ≡ true
@@ -102,13 +102,13 @@ module _ (layout : Shape) (work : Work) (protocol : Protocol) where
         (record (locals i) { copy = stored w (locals i).copy a value })) rest
         (stored w memory a value)
     -- a want of a block that isn't waited for, where at most one other is, and that isn't granted
-    pub wants : (locals : ℕ → Local) (rest : protocol.Rest) (memory : ℕ → ℕ)
+    pub wants : (locals : ℕ → NodeMemory) (rest : protocol.Rest) (memory : ℕ → ℕ)
         → Holds locals rest memory → (i : ℕ) → i < work.layout.nodes → (a b : ℕ) (need : Need)
         → block_of layout (line_of a) ≡ Some b → (ws : List Want) → length ws < 2
         → ((c : ℕ) → protocol.wait rest i c ≡ wanted_in layout c ws)
         → wanted_in layout b ws ≡ None → grants need ((locals i).state (line_of a)) ≡ false
         → WantLeaves Holds locals rest memory i b need (protocol.want locals rest i b need)
-    pub takes : (locals : ℕ → Local) (rest : protocol.Rest) (memory : ℕ → ℕ)
+    pub takes : (locals : ℕ → NodeMemory) (rest : protocol.Rest) (memory : ℕ → ℕ)
         → Holds locals rest memory → (i j : ℕ) → i < work.layout.nodes → j < work.layout.nodes
         → protocol.has_message rest i j ≡ true
         → TakeLeaves Holds locals rest memory i (protocol.order locals rest i j)
@@ -131,9 +131,9 @@ module _ (layout : Shape) (work : Work) (protocol : Protocol) where
           other x y writable readable;
     }
 
-    module _ (locals : ℕ → Local) (rest : protocol.Rest) (s : State) (i : ℕ) where
+    module _ (locals : ℕ → NodeMemory) (rest : protocol.Rest) (s : State) (i : ℕ) where
       -- a want, as words see it
-      pub wanted_by : (b : ℕ) (need : Need) (t : Treated protocol.Rest)
+      pub wanted_by : (b : ℕ) (need : Need) (t : Handled protocol.Rest)
           → WantLeaves side.Holds locals rest s.shared i b need t
           → Wanted layout work (sharing_by rest) (sharing_by t.rest) locals s i t.local
       wanted_by b need t w = record {
@@ -144,7 +144,7 @@ module _ (layout : Shape) (work : Work) (protocol : Protocol) where
 
       -- a message, as words see it, where each processor that waits to write a block stands at a
       -- store into it
-      pub took_by : (order : Option Order) (t : Treated protocol.Rest)
+      pub took_by : (order : Option Order) (t : Handled protocol.Rest)
           → ((j b : ℕ) → j < work.layout.nodes → protocol.wait rest j b ≡ Some Write
           → ((s.processors j).exit ≡ None)
           × ((stands_at_store work.program layout b (s.processors j).registers

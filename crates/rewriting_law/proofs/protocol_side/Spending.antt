@@ -6,10 +6,10 @@ use Rattle.coherence.specs.Messages as m
 use Rattle.coherence.specs.Table.{Effect, effect_or, row, update}
 use Rattle.coherence.specs.Machine.{Wire, Tally, Core, Setting, Proper, Event, Store, Want, Take, local, row_of, tally_after, store_in, take_in, want_in, may_want, apply, step, opening, after}
 use Rattle.coherence.proofs.Theorem.{all_frugal}
-use Rattle.home_directory.specs.declared.messages.Need.{Need}
-use Rattle.home_directory.specs.declared.messages.Need.TheVariants as need
-use Rattle.home_directory.specs.declared.messages.Message.{Message}
-use Rattle.home_directory.specs.declared.messages.Post.{Post}
+use Rattle.home_directory.specs.dsm_messages.declared.messages.Need.{Need}
+use Rattle.home_directory.specs.dsm_messages.declared.messages.Need.TheVariants as need
+use Rattle.home_directory.specs.dsm_messages.declared.messages.Message.{Message}
+use Rattle.home_directory.specs.dsm_messages.declared.messages.Post.{Post}
 use Rattle.dsm_protocol.specs.Abstraction.{Contents, need_of, wires_of, setting_of}
 use Rattle.dsm_protocol.proofs.Taking.{IsRowOf, steps_more}
 

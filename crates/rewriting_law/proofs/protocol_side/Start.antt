@@ -128,4 +128,5 @@ module _ (work : Work) (lay : Layout work) where
         }));
     fits = λ i low. fits_first i;
     counted = start_counted layout (contents_in layout work.program.first);
+    starts = λ b low. refl;
   }

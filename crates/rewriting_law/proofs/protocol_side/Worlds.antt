@@ -8,7 +8,7 @@ use Rattle.block_layout.specs.Update.{changed}
 use Rattle.byte_range.specs.Memory.{stored}
 use Rattle.state_table.specs.declared.State.{State}
 use Rattle.state_table.specs.StateByte.{state_with}
-use Rattle.home_directory.specs.declared.messages.Message.{Message}
+use Rattle.home_directory.specs.dsm_messages.declared.messages.Message.{Message}
 use Rattle.home_directory.specs.Table.{Miss}
 use Rattle.dsm_protocol.specs.miss_handlers.Rows.{Row, AtHome, AtNode}
 use Rattle.rv32_program.specs.Program.{line_of}
@@ -20,7 +20,7 @@ use Rattle.dsm_protocol.specs.Holds.{after_store}
 use Rattle.dsm_protocol.proofs.Openings.{LineLaws}
 use Rattle.dsm_protocol.proofs.Alike.{Alike}
 use Rattle.dsm_protocol.proofs.ByAddress.{bytes_in, stored_bytes, stored_elsewhere, put_own, put_other}
-use Rattle.dsm_protocol.specs.node_model.Node.{Local}
+use Rattle.dsm_protocol.specs.node_model.Node.{NodeMemory}
 use Rattle.dsm_protocol.specs.node_model.Turns.{with_state, with_bytes}
 use Rattle.rewriting_law.proofs.one_memory.Sharing.{with_local, is_same}
 use Rattle.rewriting_law.proofs.protocol_side.Directory.{Rest, world_of, missed, took}
@@ -29,7 +29,7 @@ use Rattle.rewriting_law.proofs.protocol_side.Blocks.{state_put}
 module _ (laws : LineLaws) (layout : Shape) (valid : IsValid layout)
     (some : (b : ℕ) → b < blocks layout → 0 < lines layout b) where
   -- the same copies and states
-  pub same_alike : (locals others : ℕ → Local) (rest : Rest)
+  pub same_alike : (locals others : ℕ → NodeMemory) (rest : Rest)
       → ((i : ℕ) → (locals i).copy ≡ (others i).copy)
       → ((i : ℕ) → (locals i).state ≡ (others i).state)
       → Alike layout (world_of layout locals rest) (world_of layout others rest)
@@ -43,13 +43,13 @@ module _ (laws : LineLaws) (layout : Shape) (valid : IsValid layout)
     list = λ j i bj bi. refl;
   }
 
-  module _ (locals : ℕ → Local) (rest : Rest) where
+  module _ (locals : ℕ → NodeMemory) (rest : Rest) where
     abbrev w : World
     w = world_of layout locals rest
 
     module _ (i : ℕ) where
       -- a state of a block is put
-      states_put : (b : ℕ) (s : State) (n : Local) → b < blocks layout
+      states_put : (b : ℕ) (s : State) (n : NodeMemory) → b < blocks layout
           → n.state ≡ with_state layout b s (locals i).state → (x d : ℕ) → d < blocks layout
           → state_with ((with_local locals i n x).state (first_line layout d))
           ≡ changed w.state i (changed (w.state i) b s) x d
@@ -74,7 +74,7 @@ module _ (laws : LineLaws) (layout : Shape) (valid : IsValid layout)
             ∙ sym (ap (λ t. cond t bytes (bytes_in layout copy d)) q.0)
       ]
 
-      bytes_put : (b : ℕ) (bytes : List ℕ) (n : Local) → b < blocks layout
+      bytes_put : (b : ℕ) (bytes : List ℕ) (n : NodeMemory) → b < blocks layout
           → length bytes ≡ size layout b → n.copy ≡ with_bytes layout b bytes (locals i).copy
           → (x d : ℕ) → d < blocks layout
           → bytes_in layout (with_local locals i n x).copy d
@@ -88,7 +88,7 @@ module _ (laws : LineLaws) (layout : Shape) (valid : IsValid layout)
           ])
 
       -- a part with another copy or other states only
-      states_still : (n : Local) → n.state ≡ (locals i).state → (x d : ℕ)
+      states_still : (n : NodeMemory) → n.state ≡ (locals i).state → (x d : ℕ)
           → state_with ((with_local locals i n x).state (first_line layout d)) ≡ w.state x d
       states_still n is x d = (elim (eqb x i)
           as (λ t. eqb x i ≡ t → state_with ((cond t n (locals x)).state (first_line layout d))
@@ -98,7 +98,7 @@ module _ (laws : LineLaws) (layout : Shape) (valid : IsValid layout)
             | false ↦ (λ e. refl)
           ]) refl
 
-      bytes_still : (n : Local) → n.copy ≡ (locals i).copy → (x d : ℕ)
+      bytes_still : (n : NodeMemory) → n.copy ≡ (locals i).copy → (x d : ℕ)
           → bytes_in layout (with_local locals i n x).copy d ≡ w.bytes x d
       bytes_still n is x d = (elim (eqb x i)
           as (λ t. eqb x i ≡ t → bytes_in layout (cond t n (locals x)).copy d ≡ w.bytes x d) [
@@ -174,7 +174,7 @@ module _ (laws : LineLaws) (layout : Shape) (valid : IsValid layout)
       -- a store
       module _ (b : ℕ) (x : Width) (a v : ℕ) (aligned : is_aligned x a ≡ true)
           (at : block_of layout (line_of a) ≡ Some b) where
-        abbrev stored_local : Local
+        abbrev stored_local : NodeMemory
         stored_local = record (locals i) { copy = stored x (locals i).copy a v }
 
         abbrev new : List ℕ

@@ -5,12 +5,12 @@ use Rattle.std.specs.Option.{option_map_or}
 use Rattle.block_layout.specs.Layout.{Shape, home}
 use Rattle.block_layout.specs.Update.{changed}
 use Rattle.llsc.specs.Reservation.{holds}
-use Rattle.home_directory.specs.declared.messages.Need.{Need}
-use Rattle.home_directory.specs.declared.messages.Need.TheVariants as need
-use Rattle.home_directory.specs.declared.messages.Message.{Message}
-use Rattle.home_directory.specs.declared.messages.Message.TheVariants.{Read, Write, FwdRead, FwdWrite, Inval, Data, Grant, Ack, Done, Bye}
-use Rattle.home_directory.specs.declared.messages.Post.{Post}
-use Rattle.home_directory.specs.declared.messages.Wire.{Wire}
+use Rattle.home_directory.specs.dsm_messages.declared.messages.Need.{Need}
+use Rattle.home_directory.specs.dsm_messages.declared.messages.Need.TheVariants as need
+use Rattle.home_directory.specs.dsm_messages.declared.messages.Message.{Message}
+use Rattle.home_directory.specs.dsm_messages.declared.messages.Message.TheVariants.{Read, Write, FwdRead, FwdWrite, Inval, Data, Grant, Ack, Done, Bye}
+use Rattle.home_directory.specs.dsm_messages.declared.messages.Post.{Post}
+use Rattle.home_directory.specs.dsm_messages.declared.messages.Wire.{Wire}
 use Rattle.dsm_protocol.specs.miss_handlers.Rows.{is_bye}
 use Rattle.rv32_program.specs.declared.Class.TheVariants.{Shared}
 use Rattle.rv32_program.specs.Program.{line_of}
@@ -20,8 +20,8 @@ use Rattle.templates.specs.declared.plans.PlanEntry.{PlanEntry}
 use Rattle.templates.specs.Commits.{commit_at}
 use Rattle.dsm_protocol.specs.jump_map.Maps.{old_of}
 use Rattle.dsm_protocol.specs.Holds.{AreByes}
-use Rattle.dsm_protocol.specs.node_model.Node.{Work, Node, Local, Move, Next, Again, To, Enters, Waits, Leaves, Outcome, first_state, is_at_home, is_writable_state, can_execute, Phase, word_outcome}
-use Rattle.dsm_protocol.specs.node_model.Turns.{Turn, quiet, byes_to, with_byes, is_ended, wants_of, want_all, after_word, after_wants, word_turn, treated, journaled, after_message, take_turn, each_block_once}
+use Rattle.dsm_protocol.specs.node_model.Node.{Work, Node, NodeMemory, Move, Next, Again, To, Enters, Waits, Leaves, WordOutcome, first_state, is_at_home, is_writable_state, can_execute, Phase, word_outcome}
+use Rattle.dsm_protocol.specs.node_model.Turns.{Turn, silent, byes_to, with_byes, is_ended, wants_of, want_all, after_word, after_wants, word_turn, handled, journaled, after_message, take_turn, each_block_once}
 use Rattle.dsm_protocol.specs.node_model.Core.{Core, Event, Exec, Take, May, IsCoreRun, opening_core, wires_to, with_list, take_first, event_step, after}
 use Rattle.rewriting_law.specs.CoreRun.{is_wait, commits_by, picks_at}
 use Rattle.rewriting_law.specs.Interleaving.{original_by_node, GoesAlone}
@@ -62,7 +62,7 @@ all_byes nodes t false e = subst AreByes (sym e) tt
 
 -- a Bye is noted
 pub bye_noted : (layout : Shape) (n : Node) (j : ℕ) (m : Message) → is_bye m ≡ true
-    → treated layout n j m ≡ quiet (record n { byes = changed n.byes j true })
+    → handled layout n j m ≡ silent (record n { byes = changed n.byes j true })
 bye_noted layout n j Bye e = refl
 bye_noted layout n j (Read b buf) e = absurd cc
 bye_noted layout n j (Write b buf) e = absurd cc
@@ -92,7 +92,7 @@ module _ (work : Work) (plan : List PlanEntry) (lay : Layout work)
   layout = work.layout
 
   -- the node may write all shared lines
-  abbrev HasAll : Local → Type 0
+  abbrev HasAll : NodeMemory → Type 0
   HasAll n = (line : ℕ) → work.program.class line ≡ Shared → is_writable_state (n.state line) ≡ true
 
   record AllAlone (c : Core) : Type 0 where
@@ -100,7 +100,7 @@ module _ (work : Work) (plan : List PlanEntry) (lay : Layout work)
     byes : (j i : ℕ) → OnlyByes (c.list j i)
 
   -- words change no state
-  module _ (q : Processor) (n : Local) (r : Outcome) where
+  module _ (q : Processor) (n : NodeMemory) (r : WordOutcome) where
     conditional_state : (x value : ℕ) (b : Bool)
         → (local_conditional work.program n x value b).state ≡ n.state
     conditional_state x value true = refl
@@ -108,24 +108,24 @@ module _ (work : Work) (plan : List PlanEntry) (lay : Layout work)
 
     commits_state : (K : Processor → Type 0) (a : Request) → Commits work.program K q n r a
         → r.local.state ≡ n.state
-    commits_state K (Becomes p) h = ap (λ (x : Local). x.state) h.3
-    commits_state K (Prints x) h = ap (λ (x : Local). x.state) h.2
-    commits_state K (LoadsFrom k d x) h = ap (λ (x : Local). x.state) h.2
-    commits_state K (StoresTo w x value) h = ap (λ (x : Local). x.state) h.2
-    commits_state K (ReservesAt d x) h = ap (λ (x : Local). x.state) h.2
+    commits_state K (Becomes p) h = ap (λ (x : NodeMemory). x.state) h.3
+    commits_state K (Prints x) h = ap (λ (x : NodeMemory). x.state) h.2
+    commits_state K (LoadsFrom k d x) h = ap (λ (x : NodeMemory). x.state) h.2
+    commits_state K (StoresTo w x value) h = ap (λ (x : NodeMemory). x.state) h.2
+    commits_state K (ReservesAt d x) h = ap (λ (x : NodeMemory). x.state) h.2
     commits_state K (StoresWhere d x value) h =
-        ap (λ (x : Local). x.state) h.2 ∙ conditional_state x value (holds n.reservation x)
-    commits_state K (UpdatesAt o d x value) h = ap (λ (x : Local). x.state) h.2
+        ap (λ (x : NodeMemory). x.state) h.2 ∙ conditional_state x value (holds n.reservation x)
+    commits_state K (UpdatesAt o d x value) h = ap (λ (x : NodeMemory). x.state) h.2
 
     goes_state : (x : Pace) (b : Bool) → GoesOn layout work plan (code.Stands x) q n r b
         → r.local.state ≡ n.state
     goes_state x true h = commits_state _ (request work.program q) h.1
-    goes_state x false h = ap (λ (x : Local). x.state) h.1
+    goes_state x false h = ap (λ (x : NodeMemory). x.state) h.1
 
     follows_state : (x : Pace) (kind : CommitKind) (mv : Move)
         → Follows layout work plan (code.Stands x) q n r kind mv → r.local.state ≡ n.state
-    follows_state x kind (Leaves e) h = ap (λ (x : Local). x.state) h.local
-    follows_state x kind (Waits resume want more) h = ap (λ (x : Local). x.state) h.1.local
+    follows_state x kind (Leaves e) h = ap (λ (x : NodeMemory). x.state) h.local
+    follows_state x kind (Waits resume want more) h = ap (λ (x : NodeMemory). x.state) h.1.local
     follows_state x kind Next h = goes_state x (commits_by kind r) h
     follows_state x kind Again h = goes_state x (commits_by kind r) h
     follows_state x kind (To target) h = goes_state x (commits_by kind r) h
@@ -150,7 +150,7 @@ module _ (work : Work) (plan : List PlanEntry) (lay : Layout work)
     n = c.nodes i
 
     module _ (runs : m.doing i ≡ Runs) where
-      abbrev r : Outcome
+      abbrev r : WordOutcome
       r = word_outcome work n
 
       abbrev kind : CommitKind
@@ -206,7 +206,7 @@ module _ (work : Work) (plan : List PlanEntry) (lay : Layout work)
         let front : OnlyByes (wire ∷ ws) = subst OnlyByes e (a.byes j i) in
         let n1 = journaled n j wire in
         let noted = bye_noted layout n1 j wire.message front.0 in
-        let t1 = treated layout n1 j wire.message in
+        let t1 = handled layout n1 j wire.message in
         let t = take_turn work n j wire in
         let ends = is_ended (after_message work n j wire).node.phase && not (is_ended n.phase) in
         let local : t.node.local ≡ n.local =

@@ -3,17 +3,17 @@
 use Rattle.std.proofs.Common.{◌≡◌, ℕ, zero, suc, Bool, true, false, List, [], ◌∷◌, ◌++◌, refl, sym, ap, subst}
 use Rattle.block_layout.specs.Layout.{Shape, first_line}
 use Rattle.state_table.specs.StateByte.{state_with}
-use Rattle.home_directory.specs.declared.messages.Post.{Post}
-use Rattle.home_directory.specs.declared.messages.Message.TheVariants.{Bye}
+use Rattle.home_directory.specs.dsm_messages.declared.messages.Post.{Post}
+use Rattle.home_directory.specs.dsm_messages.declared.messages.Message.TheVariants.{Bye}
 use Rattle.home_directory.specs.Home.{post}
 use Rattle.dsm_protocol.specs.World.{with_sends}
 use Rattle.dsm_protocol.specs.Holds.{AreByes}
 use Rattle.dsm_protocol.proofs.ProtocolSide as world
 use Rattle.dsm_protocol.proofs.ByAddress.{bytes_in}
-use Rattle.dsm_protocol.specs.node_model.Node.{Work, Local}
+use Rattle.dsm_protocol.specs.node_model.Node.{Work, NodeMemory}
 use Rattle.dsm_protocol.specs.node_model.Turns.{Turn, byes_to, with_byes}
 use Rattle.dsm_protocol.specs.node_model.Core.{Core}
-use Rattle.rewriting_law.proofs.protocol_side.ProtocolSide.{Treated}
+use Rattle.rewriting_law.proofs.protocol_side.ProtocolSide.{Handled}
 use Rattle.rewriting_law.proofs.protocol_side.Spending.{Counts, AreCounted}
 use Rattle.rewriting_law.proofs.protocol_side.Directory.{Rest, world_of}
 use Rattle.rewriting_law.proofs.protocol_side.Blocks.{Fits}
@@ -34,7 +34,7 @@ module _ (work : Work) (lay : Layout work) where
   layout = work.layout
 
   -- the same parts, stored otherwise
-  pub held_like : (locals others : ℕ → Local) (old new : Rest) (memory : ℕ → ℕ)
+  pub held_like : (locals others : ℕ → NodeMemory) (old new : Rest) (memory : ℕ → ℕ)
       → ((x : ℕ) → others x ≡ locals x) → SameRest old new → new.counts ≡ old.counts
       → Held work lay locals old memory → Held work lay others new memory
   held_like locals others old new memory same rest counts h = record {
@@ -44,14 +44,15 @@ module _ (work : Work) (lay : Layout work) where
           waiting = λ i b bi. ap (λ f. f b) (rest.waiting i);
           occupancy = λ i bi. rest.occupancy i;
           state = λ i b bi bb.
-              ap (λ (n : Local). state_with (n.state (first_line layout b))) (same i);
-          bytes = λ i b bi bb. ap (λ (n : Local). bytes_in layout n.copy b) (same i);
+              ap (λ (n : NodeMemory). state_with (n.state (first_line layout b))) (same i);
+          bytes = λ i b bi bb. ap (λ (n : NodeMemory). bytes_in layout n.copy b) (same i);
           wait = λ i b bi bb. ap (λ f. f b) (rest.wait i);
           list = λ j i bj bi. rest.list j i;
         }) h.holds);
-    fits = λ i low. subst (λ (n : Local). Fits lay.laws layout lay.valid lay.some work.program
+    fits = λ i low. subst (λ (n : NodeMemory). Fits lay.laws layout lay.valid lay.some work.program
         n.state) (sym (same i)) (h.fits i low);
     counted = subst (AreCounted layout h.holds.first h.holds.events) (sym counts) h.counted;
+    starts = h.starts;
   }
 
   -- whatever was counted
@@ -67,16 +68,16 @@ module _ (work : Work) (lay : Layout work) where
 
   -- Byes behind a turn
 
-  pub record WithByes (c : Core) (i : ℕ) (t : Turn) (u : Treated Rest) (ends : Bool) : Type 0 where
-    pub left : Treated Rest
+  pub record WithByes (c : Core) (i : ℕ) (t : Turn) (u : Handled Rest) (ends : Bool) : Type 0 where
+    pub left : Handled Rest
     pub turned : IsTurn c i (with_byes layout.nodes t ends) left
     pub local : left.local ≡ u.local
     pub waits : (x b : ℕ) → left.rest.wait x b ≡ u.rest.wait x b
     pub counts : left.rest.counts ≡ u.rest.counts
-    pub held : (locals : ℕ → Local) (memory : ℕ → ℕ) → Held work lay locals u.rest memory
+    pub held : (locals : ℕ → NodeMemory) (memory : ℕ → ℕ) → Held work lay locals u.rest memory
         → Held work lay locals left.rest memory
 
-  pub byes_behind : (c : Core) (i : ℕ) (t : Turn) (u : Treated Rest) (ends : Bool) → IsTurn c i t u
+  pub byes_behind : (c : Core) (i : ℕ) (t : Turn) (u : Handled Rest) (ends : Bool) → IsTurn c i t u
       → WithByes c i t u ends
   byes_behind c i t u false h = record {
     left = u;
@@ -87,7 +88,7 @@ module _ (work : Work) (lay : Layout work) where
     held = λ locals memory g. g;
   }
   byes_behind c i t u true h =
-      let left : Treated Rest = record u {
+      let left : Handled Rest = record u {
         rest = record u.rest { list = with_sends u.rest.list i (byes_to layout.nodes) };
       } in
       record {
@@ -102,5 +103,6 @@ module _ (work : Work) (lay : Layout work) where
               (byes_are layout.nodes));
           fits = g.fits;
           counted = g.counted;
+          starts = g.starts;
         };
       }

@@ -3,8 +3,8 @@ use Rattle.std.proofs.Common.{◌≡◌, ℕ, ◌+◌, ◌<◌, ◌⊎◌, cond,
 use Rattle.std.specs.Prelude.{is_some, option_and_then, not, ◌&&◌}
 use Rattle.std.specs.Option.{option_map_or}
 use Rattle.block_layout.specs.Layout.{Shape, blocks}
-use Rattle.home_directory.specs.declared.messages.Wire.{Wire}
-use Rattle.home_directory.specs.declared.messages.Need.{Need}
+use Rattle.home_directory.specs.dsm_messages.declared.messages.Wire.{Wire}
+use Rattle.home_directory.specs.dsm_messages.declared.messages.Need.{Need}
 use Rattle.home_directory.specs.declared.wait.Wait.{Wait}
 use Rattle.home_directory.specs.Home.{count_of}
 use Rattle.dsm_protocol.specs.miss_handlers.Rows.{row_of, taker_in}
@@ -19,8 +19,8 @@ use Rattle.templates.specs.Commits.{commit_at}
 use Rattle.dsm_protocol.specs.jump_map.Maps.{old_of, fetch}
 use Rattle.dsm_protocol.specs.Holds.{wanted}
 use Rattle.dsm_protocol.specs.node_model.declared.Standing.TheVariants as standing
-use Rattle.dsm_protocol.specs.node_model.Node.{Work, Node, Lane, Local, Want, Move, Next, Again, To, Enters, Waits, Leaves, Resume, Outcome, Phase, Running, Resumed, Waiting, Ended, lane_after, lane_resumed, phase_after, stop_or, takes_messages, standing_in, has_all_byes, word_outcome}
-use Rattle.dsm_protocol.specs.node_model.Turns.{Turn, holding, with_byes, is_ended, wants_of, after_word, after_wants, treated, has_no_wait, resumed, journaled, after_message, take_turn, each_block_once}
+use Rattle.dsm_protocol.specs.node_model.Node.{Work, Node, ProcessorState, NodeMemory, Want, Move, Next, Again, To, Enters, Waits, Leaves, Resume, WordOutcome, Phase, Running, Resumed, Waiting, Ended, lane_after, lane_resumed, phase_after, stop_or, takes_messages, standing_in, has_all_byes, word_outcome}
+use Rattle.dsm_protocol.specs.node_model.Turns.{Turn, holding, with_byes, is_ended, wants_of, after_word, after_wants, handled, has_no_wait, resumed, journaled, after_message, take_turn, each_block_once}
 use Rattle.dsm_protocol.specs.node_model.Core.{Core, Event, Exec, Take, May, IsCoreRun, may_execute, may_take, opening_core, with_turn, with_list, take_first, event_step, after, printed_at, printed_by}
 use Rattle.rewriting_law.specs.ProtocolLists.{messages_of}
 use Rattle.rewriting_law.specs.CoreRun.{Order, is_wait, order_by, break_by, picks_of_take, picks_at, picks_of, values_at, values_of}
@@ -32,14 +32,14 @@ use Rattle.rewriting_law.proofs.one_memory.Sharing.{IsReadable, with_local, is_s
 use Rattle.rewriting_law.proofs.one_memory.Advances.{Advanced, FollowsTo, run_append, join}
 use Rattle.rewriting_law.proofs.one_memory.Messages.{AreLaidOut}
 use Rattle.rewriting_law.proofs.one_memory.Pending.{wanted_in, pending}
-use Rattle.rewriting_law.proofs.protocol_side.ProtocolSide.{Treated, Protocol, ProtocolSide}
+use Rattle.rewriting_law.proofs.protocol_side.ProtocolSide.{Handled, Protocol, ProtocolSide}
 use Rattle.rewriting_law.proofs.protocol_side.Spending.{Counts, no_counts}
 use Rattle.rewriting_law.proofs.one_memory.Wants.{ask_all}
 use Rattle.rewriting_law.proofs.one_memory.Matching.{Activity, Runs, Awaits, HasEnded, StandsIn, wait_in, goes_or_stops, no_wait, doing_after, doing_still, lane_still, doing_taken, lane_taken, MayTake, EndsIn, ends_in, with_at, Matches, opening_matches, here, word_event, message_event}
 use Rattle.rewriting_law.proofs.protocol_side.Directory.{Rest, took, take_from, order_from, is_some_list, directory}
 use Rattle.rewriting_law.proofs.protocol_side.CountedBlocks.{none_counted, some_counted}
 use Rattle.rewriting_law.proofs.protocol_side.DirectorySide.{Layout, Held, is_waiting, laid_out, directory_side}
-use Rattle.rewriting_law.proofs.runs.Turns.{SameProcessor, byes_node, wants_same, treated_same, goes_on_from}
+use Rattle.rewriting_law.proofs.runs.Turns.{SameProcessor, byes_node, wants_same, handled_same, goes_on_from}
 use Rattle.rewriting_law.proofs.runs.Behind.{held_like, counting, byes_behind}
 use Rattle.rewriting_law.proofs.runs.TurnTies.{rest_at, rest_of, locals_of, IsTurn, local_after, own_wait, other_node, word_turned, AllFound, wants_turned, message_turned, resumed_blocks}
 use Rattle.rewriting_law.proofs.protocol_side.Start.{opens}
@@ -84,10 +84,10 @@ module _ (work : Work) (plan : List PlanEntry) (lay : Layout work)
   abbrev IsCalm : Pace → Phase → Type 0
   IsCalm p phase = phase ≡ Running → p.waited ≡ false
 
-  abbrev lanes_of : Core → ℕ → Lane
+  abbrev lanes_of : Core → ℕ → ProcessorState
   lanes_of c i = (c.nodes i).lane
 
-  abbrev MatchesHere : (ℕ → Pace) → (ℕ → Lane) → (ℕ → Activity) → (ℕ → Local) → Rest → State
+  abbrev MatchesHere : (ℕ → Pace) → (ℕ → ProcessorState) → (ℕ → Activity) → (ℕ → NodeMemory) → Rest → State
       → Type 0
   MatchesHere paces lanes doing locals rest s =
       Matches layout work plan code protocol side laid paces lanes doing locals rest s
@@ -102,7 +102,7 @@ module _ (work : Work) (plan : List PlanEntry) (lay : Layout work)
     pub counts : Counts
     pub matches : MatchesHere paces (lanes_of c) doing (locals_of c) (rest_at counts c) s
 
-  matches_like : (paces : ℕ → Pace) (lanes lanes' : ℕ → Lane) (doing : ℕ → Activity) (locals others : ℕ → Local)
+  matches_like : (paces : ℕ → Pace) (lanes lanes' : ℕ → ProcessorState) (doing : ℕ → Activity) (locals others : ℕ → NodeMemory)
       (old new : Rest) (s : State) → MatchesHere paces lanes doing locals old s
       → ((x : ℕ) → lanes' x ≡ lanes x) → ((x : ℕ) → others x ≡ locals x)
       → Held work lay others new s.shared
@@ -111,7 +111,7 @@ module _ (work : Work) (plan : List PlanEntry) (lay : Layout work)
   matches_like paces lanes lanes' doing locals others old new s m same_lanes same held waits = record {
     shares = record {
       held = held;
-      reservations = λ j low. ap (λ (n : Local). n.reservation) (same j)
+      reservations = λ j low. ap (λ (n : NodeMemory). n.reservation) (same j)
           ∙ m.shares.reservations j low;
       readable = λ j low. subst (IsReadable layout work) (sym (same j)) (m.shares.readable j low);
     };
@@ -125,8 +125,8 @@ module _ (work : Work) (plan : List PlanEntry) (lay : Layout work)
   -- 2. A turn, with the Byes behind it
 
   -- a node's turn, with what it leaves
-  module _ (c : Core) (i : ℕ) (t : Turn) (u : Treated Rest) (h : IsTurn c i t u) (ends : Bool)
-      (paces : ℕ → Pace) (doing : ℕ → Activity) (p : Pace) (l : Lane) (a : Activity) (s : State)
+  module _ (c : Core) (i : ℕ) (t : Turn) (u : Handled Rest) (h : IsTurn c i t u) (ends : Bool)
+      (paces : ℕ → Pace) (doing : ℕ → Activity) (p : Pace) (l : ProcessorState) (a : Activity) (s : State)
       (m : MatchesHere (with_at paces i p) (with_at (lanes_of c) i l) (with_at doing i a)
       (with_local (locals_of c) i u.local) u.rest s) where
     abbrev t' : Turn
@@ -329,7 +329,7 @@ module _ (work : Work) (plan : List PlanEntry) (lay : Layout work)
     all_found [] h = tt
     all_found (w ∷ ws) h = (laid.found (line_of w.at) h.0.shared, all_found ws h.2)
 
-    follows_found : (r : Outcome) (kind : CommitKind) (mv : Move)
+    follows_found : (r : WordOutcome) (kind : CommitKind) (mv : Move)
         → Follows layout work plan (code.Stands (pace_of_word c m.paces i)) q n.local r kind mv
         → AllFound c i layout (each_block_once layout (wants_of mv))
     follows_found r kind (Leaves e) h = tt
@@ -342,16 +342,16 @@ module _ (work : Work) (plan : List PlanEntry) (lay : Layout work)
 
     -- a word
     module _ (runs : m.doing i ≡ Runs) where
-      abbrev r : Outcome
+      abbrev r : WordOutcome
       r = word_outcome work n
 
-      abbrev locals1 : ℕ → Local
+      abbrev locals1 : ℕ → NodeMemory
       locals1 = with_local (locals_of c) i r.local
 
-      abbrev first : Treated Rest
+      abbrev first : Handled Rest
       first = record { local = locals1 i; rest = rest_at m.counts c }
 
-      abbrev asked : Treated Rest
+      abbrev asked : Handled Rest
       asked = ask_all layout work plan protocol locals1 i first
           (each_block_once layout (wants_of r.move))
 
@@ -419,9 +419,9 @@ module _ (work : Work) (plan : List PlanEntry) (lay : Layout work)
       n1 = journaled n j wire
 
       abbrev t1 : Turn
-      t1 = treated layout n1 j wire.message
+      t1 = handled layout n1 j wire.message
 
-      abbrev taken : Treated Rest
+      abbrev taken : Handled Rest
       taken = protocol.take (locals_of c) (rest_at m.counts c) i j
 
       abbrev wait_then : ℕ → Option Need
@@ -430,7 +430,7 @@ module _ (work : Work) (plan : List PlanEntry) (lay : Layout work)
       abbrev a_then : Activity
       a_then = doing_taken layout work plan code protocol side laid n.executed wait_then (m.doing i)
 
-      abbrev l_then : Lane
+      abbrev l_then : ProcessorState
       l_then = lane_taken layout work plan code protocol side laid n.lane taken.local wait_then
           (m.doing i)
 
@@ -442,8 +442,8 @@ module _ (work : Work) (plan : List PlanEntry) (lay : Layout work)
           ∙ ap (λ xs. take_from layout (locals_of c) (rest_at m.counts c) i j (messages_of xs))
           (sym front)
 
-      treated_turned : IsTurn c1 i t1 taken
-      treated_turned =
+      handled_turned : IsTurn c1 i t1 taken
+      handled_turned =
           subst (IsTurn c1 i t1) row_taken
           (message_turned c1 i layout m.counts c.list j ws (λ x y. refl) n1
           (record {
@@ -459,13 +459,13 @@ module _ (work : Work) (plan : List PlanEntry) (lay : Layout work)
 
       turned_on : IsTurn c1 i (after_message work n j wire) taken
       turned_on = other_node c1 i t1 n2 taken (resumed_blocks c1 i work t1.node t1.node.phase)
-          treated_turned
+          handled_turned
 
       has : is_some_list layout (messages_of (c.list j i)) ≡ true
       has = ap (λ xs. is_some_list layout (messages_of xs)) front
 
       same1 : SameProcessor n1 t1.node
-      same1 = treated_same layout n1 j wire.message
+      same1 = handled_same layout n1 j wire.message
 
       abbrev phase_there : (a : Activity) → Type 0
       phase_there a =
@@ -478,7 +478,7 @@ module _ (work : Work) (plan : List PlanEntry) (lay : Layout work)
       waited : (b : ℕ) → is_some (t1.node.wait b) ≡ is_some (wait_then b)
       waited b = is_waiting (t1.node.wait b)
           ∙ ap (λ (f : ℕ → Option Wait). is_some (wanted (f b)))
-          (own_wait c1 i t1 taken treated_turned)
+          (own_wait c1 i t1 taken handled_turned)
 
       none_waits : ((b : ℕ) → wait_then b ≡ None) → has_no_wait layout t1.node ≡ true
       none_waits none =
@@ -502,7 +502,7 @@ module _ (work : Work) (plan : List PlanEntry) (lay : Layout work)
       on resume = goes_on_from work t1.node resume
 
       -- once its last wait has ended the processor goes on
-      goes_there : (p : Processor) (l : Lane) (x : Local) (resume : Resume) (ws : List Want)
+      goes_there : (p : Processor) (l : ProcessorState) (x : NodeMemory) (resume : Resume) (ws : List Want)
           → n2 ≡ cond (has_no_wait layout t1.node) (on resume) t1.node
           → t1.node.phase ≡ Waiting resume
           → StandsIn layout work plan code protocol side laid (m.paces i)
@@ -518,7 +518,7 @@ module _ (work : Work) (plan : List PlanEntry) (lay : Layout work)
           let to : n2 ≡ on resume = is ∙ ap (λ z. cond z (on resume) t1.node) none in (
             ap (λ (y : Node). y.lane) to
                 ∙ ap (λ z. lane_resumed z t1.node.local resume) same1.lane
-                ∙ ap (λ x. lane_resumed n.lane x resume) treated_turned.local,
+                ∙ ap (λ x. lane_resumed n.lane x resume) handled_turned.local,
             subst (IsPhase (goes_or_stops layout work plan code protocol side laid n.executed))
                 (sym (ap (λ (y : Node). y.phase) to
                 ∙ ap (λ k. stop_or work.budget k Resumed) same1.executed))
@@ -534,7 +534,7 @@ module _ (work : Work) (plan : List PlanEntry) (lay : Layout work)
           let to : n2 ≡ t1.node = is ∙ ap (λ z. cond z (on resume) t1.node) some in
           (ap (λ (y : Node). y.lane) to ∙ same1.lane, ap (λ (y : Node). y.phase) to ∙ phase)
 
-      phases_after : (a : Activity) → IsPhase a n.phase → (p : Processor) (l : Lane) (x : Local)
+      phases_after : (a : Activity) → IsPhase a n.phase → (p : Processor) (l : ProcessorState) (x : NodeMemory)
           → StandsIn layout work plan code protocol side laid (m.paces i)
           (doing_taken layout work plan code protocol side laid n.executed wait_then a) p l x
           → WaitsAs (doing_taken layout work plan code protocol side laid n.executed wait_then a)

@@ -111,6 +111,7 @@ module _ (work : Work) (plan : List PlanEntry) (accepted : IsAccepted work.progr
       let held = composed.matches.matches.shares.held in
       record {
         holds = held.holds;
+        starts = held.starts;
         states = λ i line b low at. (held.fits i low).block line b at;
       }
 

@@ -11,8 +11,8 @@ use Rattle.rv32_program.specs.Program.{Program, line_of}
 use Rattle.rv32_program.specs.Targets.{offset_address}
 use Rattle.block_layout.specs.Layout.{Shape, block_of, has_line}
 use Rattle.llsc.specs.Reservation.{holds, cleared}
-use Rattle.home_directory.specs.declared.messages.Need.{Need}
-use Rattle.home_directory.specs.declared.messages.Wire.{Wire}
+use Rattle.home_directory.specs.dsm_messages.declared.messages.Need.{Need}
+use Rattle.home_directory.specs.dsm_messages.declared.messages.Wire.{Wire}
 use Rattle.home_directory.specs.Table.{Miss, NodeRow}
 use Rattle.dsm_protocol.specs.miss_handlers.Rows.{Row, AtHome, AtNode, row_of, taker_in, is_bye}
 use Rattle.rv32_step.specs.declared.Demand.{Demand}
@@ -31,8 +31,8 @@ use Rattle.dsm_protocol.specs.jump_map.declared.image.ImageWord.{ImageWord}
 use Rattle.dsm_protocol.specs.jump_map.Maps.{fetch}
 use Rattle.dsm_protocol.specs.World.{World}
 use Rattle.dsm_protocol.proofs.RowFacts.{row_facts}
-use Rattle.dsm_protocol.specs.node_model.Node.{Work, Node, Lane, Local, Want, Outcome, Region, Memory, StateOf, Spill, Elsewhere, region_of, load, store, reserving, store_if, byte_at, native, miss_r_by, miss_w_by, prepare_by, make_call, place_address, execute, execute_read, execute_at, is_mapped_state, is_readable_state, is_fixed_state, is_writable_state, word_outcome, batch, batch_by, one_refuses, unmet, need_of_run}
-use Rattle.dsm_protocol.specs.node_model.Turns.{Turn, block_at, holding, with_miss, want_in, want_all, wants_of, after_word, after_wants, word_turn, is_ended, by_row_or, treated, journaled, after_message, take_turn, each_block_once}
+use Rattle.dsm_protocol.specs.node_model.Node.{Work, Node, ProcessorState, NodeMemory, Want, WordOutcome, Region, Memory, StateOf, Spill, Elsewhere, region_of, load, store, reserving, store_if, byte_at, native, miss_r_by, miss_w_by, prepare_by, make_call, place_address, execute, execute_read, execute_at, is_mapped_state, is_readable_state, is_fixed_state, is_writable_state, word_outcome, batch, batch_by, one_refuses, unmet, need_of_run}
+use Rattle.dsm_protocol.specs.node_model.Turns.{Turn, block_at, holding, with_miss, want_in, want_all, wants_of, after_word, after_wants, word_turn, is_ended, by_row_or, handled, journaled, after_message, take_turn, each_block_once}
 use Rattle.dsm_protocol.specs.node_model.Core.{Core, Event, Exec, Take, take_first, event_step}
 use Rattle.rewriting_law.specs.CoreRun.{order_by, break_by, picks_of_take}
 use Rattle.rewriting_law.specs.Conditionals.{IsConditional, IsLostBy}
@@ -40,7 +40,7 @@ use Rattle.rewriting_law.proofs.templates.RegisterLemmas.{equal}
 use Rattle.rewriting_law.proofs.runs.Turns.{byes_node}
 use Rattle.rewriting_law.proofs.runs.TurnTies.{resumed_blocks}
 use Rattle.rewriting_law.proofs.runs.Alone.{bye_noted}
-use Rattle.rewriting_law.proofs.progress.Closing.{treated_by_row}
+use Rattle.rewriting_law.proofs.progress.Closing.{handled_by_row}
 
 -- 1. Words
 
@@ -58,7 +58,7 @@ stored_in access = false
 
 -- what a word does with the reservation of its node: it keeps it, or it reserves an address, or it
 -- is a conditional store
-record Treats (n : Local) (r : Outcome) : Type 0 where
+record Handles (n : NodeMemory) (r : WordOutcome) : Type 0 where
   conditional : (a value : ℕ) (stores : Bool) → r.access ≡ WritesIf a value stores
       → (stores ≡ holds n.reservation a) × (r.local.reservation ≡ None)
   leaves : (r.local.reservation ≡ n.reservation) ⊎ ((a : ℕ) × (r.local.reservation ≡ Some a))
@@ -69,27 +69,27 @@ other_access : (access : Access) (a value : ℕ) (stores : Bool) → is_conditio
 other_access access a value stores plain e =
     let bad : false ≡ true = sym plain ∙ ap is_conditional e in cc
 
-module _ (program : Program) (n : Local) where
-  keeps : (r : Outcome) → is_conditional r.access ≡ false → r.local.reservation ≡ n.reservation
-      → Treats n r
+module _ (program : Program) (n : NodeMemory) where
+  keeps : (r : WordOutcome) → is_conditional r.access ≡ false → r.local.reservation ≡ n.reservation
+      → Handles n r
   keeps r plain same = record {
     conditional = λ a value stores e. absurd (other_access r.access a value stores plain e);
     leaves = inl same;
   }
 
-  either : (b : Bool) (x y : Outcome) → Treats n x → Treats n y → Treats n (cond b x y)
+  either : (b : Bool) (x y : WordOutcome) → Handles n x → Handles n y → Handles n (cond b x y)
   either true x y f g = f
   either false x y f g = g
 
-  loads : (l : Lane) (k : LoadKind) (r a : ℕ) (region : Region)
-      → Treats n (load program l n k r a region)
+  loads : (l : ProcessorState) (k : LoadKind) (r a : ℕ) (region : Region)
+      → Handles n (load program l n k r a region)
   loads l k r a Memory = keeps _ refl refl
   loads l k r a (StateOf line) = keeps _ refl refl
   loads l k r a (Spill j) = keeps _ refl refl
   loads l k r a Elsewhere = keeps _ refl refl
 
-  reserves : (l : Lane) (r a : ℕ) (region : Region)
-      → Treats n (reserving a (load program l n WordLoad r a region))
+  reserves : (l : ProcessorState) (r a : ℕ) (region : Region)
+      → Handles n (reserving a (load program l n WordLoad r a region))
   reserves l r a region = record {
     conditional = λ x value stores e. absurd (plain region x value stores e);
     leaves = inr (inl (a, refl));
@@ -103,7 +103,7 @@ module _ (program : Program) (n : Local) where
       plain (Spill j) x value stores e = other_access _ x value stores refl e
       plain Elsewhere x value stores e = other_access _ x value stores refl e
 
-  store_keeps : (l : Lane) (w : Width) (a value : ℕ) (region : Region)
+  store_keeps : (l : ProcessorState) (w : Width) (a value : ℕ) (region : Region)
       → (is_conditional (store program l n w a value region).access ≡ false)
       × ((store program l n w a value region).local.reservation ≡ n.reservation)
   store_keeps l w a value Memory = (refl, refl)
@@ -111,8 +111,8 @@ module _ (program : Program) (n : Local) where
   store_keeps l w a value (Spill j) = (refl, refl)
   store_keeps l w a value Elsewhere = (refl, refl)
 
-  stores_if : (l : Lane) (r a value : ℕ) (b : Bool) → holds n.reservation a ≡ b
-      → Treats n (store_if program l n r a value b)
+  stores_if : (l : ProcessorState) (r a value : ℕ) (b : Bool) → holds n.reservation a ≡ b
+      → Handles n (store_if program l n r a value b)
   stores_if l r a value true is = record {
     conditional = λ x v b e. (
       sym (ap stored_in e) ∙ sym is ∙ ap (holds n.reservation) (ap address_in e),
@@ -129,7 +129,7 @@ module _ (program : Program) (n : Local) where
   }
 
   -- a native instruction
-  natives : (place at : ℕ) (l : Lane) (d : Demand) → Treats n (native program place at l n d)
+  natives : (place at : ℕ) (l : ProcessorState) (d : Demand) → Handles n (native program place at l n d)
   natives place at l (Sets r value) = keeps _ refl refl
   natives place at l Continues = keeps _ refl refl
   natives place at l (Jumps r target) =
@@ -154,24 +154,24 @@ module _ (program : Program) (n : Local) where
       (keeps _ refl (store_keeps l Word a (amo o old value) (region_of a)).1) (keeps _ refl refl)
 
   -- the words of the runtime
-  reads_missing : (state place : ℕ) (l : Lane) (a : ℕ) → Treats n (miss_r_by state place l n a)
+  reads_missing : (state place : ℕ) (l : ProcessorState) (a : ℕ) → Handles n (miss_r_by state place l n a)
   reads_missing state place l a =
       either (is_mapped_state state) _ _
       (either (is_readable_state state) _ _ (keeps _ refl refl) (keeps _ refl refl))
       (keeps _ refl refl)
 
-  writes_missing : (state place : ℕ) (l : Lane) (a : ℕ) → Treats n (miss_w_by state place l n a)
+  writes_missing : (state place : ℕ) (l : ProcessorState) (a : ℕ) → Handles n (miss_w_by state place l n a)
   writes_missing state place l a =
       either (is_fixed_state state) _ _ (keeps _ refl refl)
       (either (is_writable_state state) _ _ (keeps _ refl refl) (keeps _ refl refl))
 
-  prepares : (state place : ℕ) (l : Lane) (a : ℕ) → Treats n (prepare_by state place l n a)
+  prepares : (state place : ℕ) (l : ProcessorState) (a : ℕ) → Handles n (prepare_by state place l n a)
   prepares state place l a =
       either (is_fixed_state state) _ _ (keeps _ refl refl)
       (either (holds n.reservation a && not (is_writable_state state)) _ _ (keeps _ refl refl)
       (keeps _ refl refl))
 
-  calls : (l : Lane) (step : CallStep) → Treats n (make_call program l n step)
+  calls : (l : ProcessorState) (step : CallStep) → Handles n (make_call program l n step)
   calls l (Ends code) = keeps _ refl refl
   calls l (Returns value) = keeps _ refl refl
   calls l (Puts a) =
@@ -180,17 +180,17 @@ module _ (program : Program) (n : Local) where
       (either (is_readable_state state) _ _ (keeps _ refl refl) (keeps _ refl refl))
       (keeps _ refl refl)
 
-  batches : (l : Lane) (need : Need) (low high : ℕ) → Treats n (batch l n need low high)
+  batches : (l : ProcessorState) (need : Need) (low high : ℕ) → Handles n (batch l n need low high)
   batches l need low high =
       either (one_refuses n need low high) _ _ (keeps _ refl refl)
       (wants (unmet n need low ++ unmet n need high))
     where
-      wants : (ws : List Want) → Treats n (batch_by l n need low high ws)
+      wants : (ws : List Want) → Handles n (batch_by l n need low high ws)
       wants [] = keeps _ refl refl
       wants (w ∷ ws) = keeps _ refl refl
 
-  executes : (place at : ℕ) (l : Lane) (word : RtWord)
-      → Treats n (execute program place at word l n)
+  executes : (place at : ℕ) (l : ProcessorState) (word : RtWord)
+      → Handles n (execute program place at word l n)
   executes place at l (Native i) = natives place at l (demand_of i l.registers at)
   executes place at l (MissR w rs1 imm) =
       let a = offset_address (reg l.registers rs1) imm in
@@ -217,21 +217,21 @@ module _ (program : Program) (n : Local) where
   executes place at l TrapIllegal = keeps _ refl refl
   executes place at l TrapEbreak = keeps _ refl refl
 
-  at_word : (l : Lane) (o : Option ImageWord) → Treats n (execute_at program o l n)
+  at_word : (l : ProcessorState) (o : Option ImageWord) → Handles n (execute_at program o l n)
   at_word l None = keeps _ refl refl
   at_word l (Some w) = go w.what
     where
-      go : (o : Option RtWord) → Treats n (execute_read program w.place o l n)
+      go : (o : Option RtWord) → Handles n (execute_read program w.place o l n)
       go None = keeps _ refl refl
       go (Some word) = executes (place_address w.place) l.at l word
 
-treats : (work : Work) (n : Node) → Treats n.local (word_outcome work n)
-treats work n = at_word work.program n.local n.lane (fetch work.image n.lane.at)
+handles : (work : Work) (n : Node) → Handles n.local (word_outcome work n)
+handles work n = at_word work.program n.local n.lane (fetch work.image n.lane.at)
 
 pub stores : (work : Work) (n : Node) (a value : ℕ) (stores : Bool)
     → (word_outcome work n).access ≡ WritesIf a value stores → IsConditional work n a value stores
 stores work n a value stored e =
-    let does = (treats work n).conditional a value stored e in
+    let does = (handles work n).conditional a value stored e in
     record { access = e; reserved = does.0; ended = does.1 }
 
 -- 2. A word's turn
@@ -272,7 +272,7 @@ module _ (work : Work) (plan : List PlanEntry) (c : Core) (i a : ℕ)
       → IsLostBy work plan c i (Exec i)
   by_word gone = (
     refl,
-    elim (treats work (c.nodes i)).leaves [
+    elim (handles work (c.nodes i)).leaves [
       | inl same ↦ absurd (gone (word_leaves ∙ same ∙ had))
       | inr (inl r) ↦ inr r
       | inr (inr s) ↦ inl (s.0, s.1, s.2, stores work (c.nodes i) s.0 s.1 s.2 s.3)
@@ -289,7 +289,7 @@ module _ (work : Work) (plan : List PlanEntry) (c : Core) (i a : ℕ)
     n1 = journaled n j wire
 
     abbrev t1 : Turn
-    t1 = treated layout n1 j wire.message
+    t1 = handled layout n1 j wire.message
 
     abbrev u : Turn
     u = take_turn work n j wire
@@ -299,7 +299,7 @@ module _ (work : Work) (plan : List PlanEntry) (c : Core) (i a : ℕ)
         ap (λ (x : Node). x.local.reservation)
         (byes_node layout.nodes (after_message work n j wire)
         (is_ended (after_message work n j wire).node.phase && not (is_ended n.phase)))
-        ∙ ap (λ (x : Local). x.reservation)
+        ∙ ap (λ (x : NodeMemory). x.reservation)
         (resumed_blocks c i work t1.node t1.node.phase).local
 
     -- the node's parts, as those of each node
@@ -373,7 +373,7 @@ module _ (work : Work) (plan : List PlanEntry) (c : Core) (i a : ℕ)
         by_row (row_of layout n.me (holding layout n) j wire.message) refl (λ e. gone
         (message_leaves
         ∙ ap (λ (x : Turn). x.node.local.reservation)
-        (treated_by_row layout n1 j wire.message plain) ∙ e))
+        (handled_by_row layout n1 j wire.message plain) ∙ e))
 
   by_take : (j : ℕ) → ((event_step work c (Take i j)).nodes i).local.reservation ≢ Some a
       → IsLostBy work plan c i (Take i j)

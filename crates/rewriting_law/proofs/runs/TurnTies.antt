@@ -5,11 +5,11 @@ use Rattle.block_layout.specs.Layout.{Shape, block_of, first_line}
 use Rattle.block_layout.specs.Update.{changed}
 use Rattle.buf_pool.specs.Pool.{empty_buffer}
 use Rattle.state_table.specs.StateByte.{state_with}
-use Rattle.home_directory.specs.declared.messages.Need.{Need}
-use Rattle.home_directory.specs.declared.messages.Message.{Message}
-use Rattle.home_directory.specs.declared.messages.Message.TheVariants.{Read, Write, FwdRead, FwdWrite, Inval, Data, Grant, Ack, Done, Bye}
-use Rattle.home_directory.specs.declared.messages.Post.{Post}
-use Rattle.home_directory.specs.declared.messages.Wire.{Wire}
+use Rattle.home_directory.specs.dsm_messages.declared.messages.Need.{Need}
+use Rattle.home_directory.specs.dsm_messages.declared.messages.Message.{Message}
+use Rattle.home_directory.specs.dsm_messages.declared.messages.Message.TheVariants.{Read, Write, FwdRead, FwdWrite, Inval, Data, Grant, Ack, Done, Bye}
+use Rattle.home_directory.specs.dsm_messages.declared.messages.Post.{Post}
+use Rattle.home_directory.specs.dsm_messages.declared.messages.Wire.{Wire}
 use Rattle.home_directory.specs.declared.wait.Wait.{Wait}
 use Rattle.home_directory.specs.Table.{LocalBlock, Miss, want_row}
 use Rattle.dsm_protocol.specs.miss_handlers.Effects.{block_facts}
@@ -18,12 +18,12 @@ use Rattle.rv32_program.specs.Program.{line_of}
 use Rattle.templates.specs.declared.plans.PlanEntry.{PlanEntry}
 use Rattle.dsm_protocol.specs.World.{local_block, messages_to, with_list as without_first, with_sends}
 use Rattle.dsm_protocol.proofs.ByAddress.{bytes_in}
-use Rattle.dsm_protocol.specs.node_model.Node.{Work, Node, Local, Want, Phase, Running, Resumed, Waiting, Ended, word_outcome, word_step}
-use Rattle.dsm_protocol.specs.node_model.Turns.{Turn, quiet, block_at, holding, with_state, with_miss, want_in, want_all, after_word, by_row_or, treated, has_no_wait, resumed}
+use Rattle.dsm_protocol.specs.node_model.Node.{Work, Node, NodeMemory, Want, Phase, Running, Resumed, Waiting, Ended, word_outcome, word_step}
+use Rattle.dsm_protocol.specs.node_model.Turns.{Turn, silent, block_at, holding, with_state, with_miss, want_in, want_all, after_word, by_row_or, handled, has_no_wait, resumed}
 use Rattle.dsm_protocol.specs.node_model.Core.{Core, wires_to, with_turn}
 use Rattle.rewriting_law.specs.ProtocolLists.{messages_of}
 use Rattle.rewriting_law.proofs.one_memory.Sharing.{with_local, is_same, local_here}
-use Rattle.rewriting_law.proofs.protocol_side.ProtocolSide.{Treated}
+use Rattle.rewriting_law.proofs.protocol_side.ProtocolSide.{Handled}
 use Rattle.rewriting_law.proofs.runs.Turns.{goes_on_from}
 use Rattle.rewriting_law.proofs.protocol_side.Spending.{Counts, no_counts}
 use Rattle.rewriting_law.proofs.protocol_side.Directory.{Rest, world_of, missed, miss_in, took, directory}
@@ -81,7 +81,7 @@ rest_at counts c = record {
 abbrev pub rest_of : Core → Rest
 rest_of c = rest_at no_counts c
 
-abbrev pub locals_of : Core → ℕ → Local
+abbrev pub locals_of : Core → ℕ → NodeMemory
 locals_of c i = (c.nodes i).local
 
 -- the same at each node, whatever was counted
@@ -93,17 +93,17 @@ pub record SameRest (old new : Rest) : Type 0 where
   pub list : (j i : ℕ) → new.list j i ≡ old.list j i
 
 -- node i's turn leaves this of its part, and of the rest
-pub record IsTurn (c : Core) (i : ℕ) (t : Turn) (u : Treated Rest) : Type 0 where
+pub record IsTurn (c : Core) (i : ℕ) (t : Turn) (u : Handled Rest) : Type 0 where
   pub local : t.node.local ≡ u.local
   pub rest : SameRest u.rest (rest_of (with_turn c i t))
 
 module _ (c : Core) (i : ℕ) where
   -- the node's own
-  pub own_wait : (t : Turn) (u : Treated Rest) → IsTurn c i t u → t.node.wait ≡ u.rest.wait i
+  pub own_wait : (t : Turn) (u : Handled Rest) → IsTurn c i t u → t.node.wait ≡ u.rest.wait i
   own_wait t u h = ap (λ (n : Node). n.wait) (sym (row_own c.nodes i t.node)) ∙ h.rest.wait i
 
   -- the nodes' parts after the turn
-  pub local_after : (t : Turn) (u : Treated Rest) → IsTurn c i t u → (x : ℕ)
+  pub local_after : (t : Turn) (u : Handled Rest) → IsTurn c i t u → (x : ℕ)
       → locals_of (with_turn c i t) x ≡ with_local (locals_of c) i u.local x
   local_after t u h x = (elim (eqb x i)
       as (λ z. (cond z t.node (c.nodes x)).local ≡ cond z u.local (c.nodes x).local) [
@@ -128,7 +128,7 @@ module _ (c : Core) (i : ℕ) where
     pub wait : new.wait ≡ old.wait
     pub stamp : new.stamp ≡ old.stamp
 
-  pub other_node : (t : Turn) (n : Node) (u : Treated Rest) → SameBlocks t.node n → IsTurn c i t u
+  pub other_node : (t : Turn) (n : Node) (u : Handled Rest) → SameBlocks t.node n → IsTurn c i t u
       → IsTurn c i (record t { node = n }) u
   other_node t n u same h = record {
     local = same.local ∙ h.local;
@@ -176,7 +176,7 @@ module _ (c : Core) (i : ℕ) where
         | false ↦ (λ e. e)
       ]) (h j k)
 
-  pub sends_more : (t : Turn) (u : Treated Rest) (more : List Post) → IsTurn c i t u
+  pub sends_more : (t : Turn) (u : Handled Rest) (more : List Post) → IsTurn c i t u
       → IsTurn c i (record t { sends = t.sends ++ more }) (record u {
         rest = record u.rest { list = with_sends u.rest.list i more };
       })
@@ -247,14 +247,14 @@ module _ (c : Core) (i : ℕ) where
       }
 
   module _ (layout : Shape) where
-    abbrev pub block_by : ℕ → Local → (ℕ → Option Wait) → LocalBlock
+    abbrev pub block_by : ℕ → NodeMemory → (ℕ → Option Wait) → LocalBlock
     block_by b n wait = record {
       state = state_with (n.state (first_line layout b));
       bytes = bytes_in layout n.copy b;
       wait = wait b;
     }
 
-    miss_turned : (t : Turn) (u : Treated Rest) (b : ℕ) (need : Need) (miss : Option Miss)
+    miss_turned : (t : Turn) (u : Handled Rest) (b : ℕ) (need : Need) (miss : Option Miss)
         → IsTurn c i t u
         → IsTurn c i (with_miss layout b need t miss) (missed layout u.local u.rest i b miss)
     miss_turned t u b need None h = h
@@ -262,7 +262,7 @@ module _ (c : Core) (i : ℕ) where
         let s = miss.block.state in
         let n = (with_miss layout b need t (Some miss)).node in
         record {
-          local = ap (λ (x : Local). record x { state = with_state layout b s x.state }) h.local;
+          local = ap (λ (x : NodeMemory). record x { state = with_state layout b s x.state }) h.local;
           rest = record {
             entry = λ x. (elim (eqb x i)
                 as (λ z. (cond z n (c.nodes x)).entry ≡ (cond z t.node (c.nodes x)).entry) [
@@ -291,7 +291,7 @@ module _ (c : Core) (i : ℕ) where
           };
         }
 
-    pub want_turned : (locals : ℕ → Local) (t : Turn) (u : Treated Rest) (b : ℕ) (need : Need)
+    pub want_turned : (locals : ℕ → NodeMemory) (t : Turn) (u : Handled Rest) (b : ℕ) (need : Need)
         → IsTurn c i t u
         → IsTurn c i (want_in layout t need (Some b))
         ((directory layout).want (with_local locals i u.local) u.rest i b need)
@@ -318,8 +318,8 @@ module _ (c : Core) (i : ℕ) where
     AllFound [] = Unit {0}
     AllFound (w ∷ ws) = ((b : ℕ) × (block_of layout (line_of w.at) ≡ Some b)) × AllFound ws
 
-    pub wants_turned : (work : Work) (plan : List PlanEntry) (locals : ℕ → Local)
-        (ws : List Want) (t : Turn) (u : Treated Rest) → AllFound ws → IsTurn c i t u
+    pub wants_turned : (work : Work) (plan : List PlanEntry) (locals : ℕ → NodeMemory)
+        (ws : List Want) (t : Turn) (u : Handled Rest) → AllFound ws → IsTurn c i t u
         → IsTurn c i (want_all layout t ws)
         (ask_all layout work plan (directory layout) locals i u ws)
     wants_turned work plan locals [] t u found h = h
@@ -375,10 +375,10 @@ module _ (c : Core) (i : ℕ) where
 
     module _ (n : Node) (same : SameParts (c.nodes i) n) where
       -- without a row
-      quiet_turned : (m : Node) → SameParts n m
-          → IsTurn c i (quiet m)
+      silent_turned : (m : Node) → SameParts n m
+          → IsTurn c i (silent m)
           (took layout (c.nodes i).local rest_before i j (messages_of wires) None)
-      quiet_turned m still = record {
+      silent_turned m still = record {
         local = still.local ∙ same.local;
         rest = record {
           entry = field_still (λ (x : Node). x.entry) m (still.entry ∙ same.entry);
@@ -394,7 +394,7 @@ module _ (c : Core) (i : ℕ) where
           → IsTurn c i (by_row_or layout n row)
           (took layout (c.nodes i).local rest_before i j (messages_of wires) row)
       row_turned None =
-          quiet_turned n (record {
+          silent_turned n (record {
             local = refl;
             entry = refl;
             waiting = refl;
@@ -420,7 +420,7 @@ module _ (c : Core) (i : ℕ) where
       row_turned (Some (AtNode b row)) =
           let m = (by_row_or layout n (Some (AtNode b row))).node in
           record {
-            local = ap (λ (x : Local). (by_row_or layout (record n { local = x })
+            local = ap (λ (x : NodeMemory). (by_row_or layout (record n { local = x })
                 (Some (AtNode b row))).node.local) same.local;
             rest = record {
               entry = field_still (λ (x : Node). x.entry) m same.entry;
@@ -434,10 +434,10 @@ module _ (c : Core) (i : ℕ) where
           }
 
       pub message_turned : (message : Message)
-          → IsTurn c i (treated layout n j message)
+          → IsTurn c i (handled layout n j message)
           (took layout (c.nodes i).local rest_before i j (messages_of wires)
           (row_of layout n.me (holding layout n) j message))
-      message_turned Bye = quiet_turned (record n { byes = changed n.byes j true })
+      message_turned Bye = silent_turned (record n { byes = changed n.byes j true })
           (record {
             local = refl;
             entry = refl;

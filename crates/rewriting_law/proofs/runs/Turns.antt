@@ -2,13 +2,13 @@
 use Rattle.std.proofs.Common.{◌≡◌, ℕ, Bool, true, false, List, [], ◌∷◌, Option, Some, None, refl, ◌∙◌}
 use Rattle.block_layout.specs.Layout.{Shape, block_of}
 use Rattle.rv32_program.specs.Program.{line_of}
-use Rattle.home_directory.specs.declared.messages.Need.{Need}
-use Rattle.home_directory.specs.declared.messages.Message.{Message}
-use Rattle.home_directory.specs.declared.messages.Message.TheVariants.{Read, Write, FwdRead, FwdWrite, Inval, Data, Grant, Ack, Done, Bye}
+use Rattle.home_directory.specs.dsm_messages.declared.messages.Need.{Need}
+use Rattle.home_directory.specs.dsm_messages.declared.messages.Message.{Message}
+use Rattle.home_directory.specs.dsm_messages.declared.messages.Message.TheVariants.{Read, Write, FwdRead, FwdWrite, Inval, Data, Grant, Ack, Done, Bye}
 use Rattle.home_directory.specs.Table.{Miss}
 use Rattle.dsm_protocol.specs.miss_handlers.Rows.{Row, AtHome, AtNode, row_of}
 use Rattle.dsm_protocol.specs.node_model.Node.{Work, Node, Want, Resume, Resumed, lane_resumed, tally_resumed, counts_after, stop_or}
-use Rattle.dsm_protocol.specs.node_model.Turns.{Turn, with_miss, want_in, want_all, with_byes, by_row_or, holding, treated}
+use Rattle.dsm_protocol.specs.node_model.Turns.{Turn, with_miss, want_in, want_all, with_byes, by_row_or, holding, handled}
 
 -- a node's number, and where its processor is, are as before
 pub record SameProcessor (old new : Node) : Type 0 where
@@ -68,22 +68,22 @@ module _ (layout : Shape) where
       record { me = refl; lane = refl; executed = refl; phase = refl }
 
   -- and a message
-  pub treated_same : (n : Node) (j : ℕ) (message : Message)
-      → SameProcessor n (treated layout n j message).node
-  treated_same n j Bye = record { me = refl; lane = refl; executed = refl; phase = refl }
-  treated_same n j (Read b buf) =
+  pub handled_same : (n : Node) (j : ℕ) (message : Message)
+      → SameProcessor n (handled layout n j message).node
+  handled_same n j Bye = record { me = refl; lane = refl; executed = refl; phase = refl }
+  handled_same n j (Read b buf) =
       row_same n (row_of layout n.me (holding layout n) j (Read b buf))
-  treated_same n j (Write b buf) =
+  handled_same n j (Write b buf) =
       row_same n (row_of layout n.me (holding layout n) j (Write b buf))
-  treated_same n j (FwdRead b r buf) =
+  handled_same n j (FwdRead b r buf) =
       row_same n (row_of layout n.me (holding layout n) j (FwdRead b r buf))
-  treated_same n j (FwdWrite b r k buf) =
+  handled_same n j (FwdWrite b r k buf) =
       row_same n (row_of layout n.me (holding layout n) j (FwdWrite b r k buf))
-  treated_same n j (Inval b r) =
+  handled_same n j (Inval b r) =
       row_same n (row_of layout n.me (holding layout n) j (Inval b r))
-  treated_same n j (Data b k buf) =
+  handled_same n j (Data b k buf) =
       row_same n (row_of layout n.me (holding layout n) j (Data b k buf))
-  treated_same n j (Grant b k buf) =
+  handled_same n j (Grant b k buf) =
       row_same n (row_of layout n.me (holding layout n) j (Grant b k buf))
-  treated_same n j (Ack b) = row_same n (row_of layout n.me (holding layout n) j (Ack b))
-  treated_same n j (Done b) = row_same n (row_of layout n.me (holding layout n) j (Done b))
+  handled_same n j (Ack b) = row_same n (row_of layout n.me (holding layout n) j (Ack b))
+  handled_same n j (Done b) = row_same n (row_of layout n.me (holding layout n) j (Done b))

@@ -22,14 +22,14 @@ use Rattle.templates.specs.declared.commits.CommitKind.TheVariants.{Always}
 use Rattle.templates.specs.declared.plans.Scratches.{Scratches}
 use Rattle.templates.specs.Plans.{HasTwoScratches}
 use Rattle.templates.specs.Sequences.{committing, reloads, read_sequence, write_sequence}
-use Rattle.dsm_protocol.specs.node_model.Node.{Lane, Local, Outcome, Region, Memory, is_readable_state, is_writable_state, byte_at, region_of, load, store, reserving, update, lane_stored, native, execute}
+use Rattle.dsm_protocol.specs.node_model.Node.{ProcessorState, NodeMemory, WordOutcome, Region, Memory, is_readable_state, is_writable_state, byte_at, region_of, load, store, reserving, update, lane_stored, native, execute}
 use Rattle.rewriting_law.proofs.templates.Does.{OfPlace, AtHead, Rest, lane_at, word_seen, Commits, Leads, FirstLeads, Does}
 use Rattle.rewriting_law.proofs.templates.Mids.{Hide, Shown, Mid, with_reg, mid_at, read_shown}
 use Rattle.rewriting_law.proofs.templates.Checked.{asks, memory_at, hides_of, load_outcome, refused, source_shown, destination_shown, low_if_mapped, value_same_as, sets_both, holds_store, scratch_back, leaves}
 use Rattle.rewriting_law.proofs.templates.StateChecks.{read_does, write_does}
 
 -- an AMO in a region
-abbrev updated_in : Program → Lane → Local → AmoOp → ℕ → ℕ → ℕ → ℕ → Region → Outcome
+abbrev updated_in : Program → ProcessorState → NodeMemory → AmoOp → ℕ → ℕ → ℕ → ℕ → Region → WordOutcome
 updated_in program l n o r a value old region =
     record (store program l n Word a (amo o old value) region) {
       lane = with_reg (store program l n Word a (amo o old value) region).lane r old;
@@ -52,8 +52,8 @@ module _ (program : Program) (accepted : IsAccepted program) (a : ℕ) (q : Proc
     lr_base : hides rs1 ≡ Shown
     lr_base = source_shown program accepted a rs1 lr regs two (inr (0, lit< tt, refl))
 
-    lr_word : (n' : Local) → is_readable_state (n'.state (line_of reserved)) ≡ true
-        → is_mapped (class_at program reserved) ≡ true → (j at : ℕ) (l : Lane)
+    lr_word : (n' : NodeMemory) → is_readable_state (n'.state (line_of reserved)) ≡ true
+        → is_mapped (class_at program reserved) ≡ true → (j at : ℕ) (l : ProcessorState)
         → Mid program hides a q l
         → Does program OfPlace a j at (committing (Native lr) (reloads regs)) 0 q l n'
     lr_word before may_then mapped j at l m = λ n' since.
@@ -62,12 +62,12 @@ module _ (program : Program) (accepted : IsAccepted program) (a : ℕ) (q : Proc
         K : Rest
         K = λ z. Does program OfPlace a (j + 1) (next_pc at) (reloads regs) z
 
-        acts : (n' : Local) → execute program a at (Native lr) l n'
+        acts : (n' : NodeMemory) → execute program a at (Native lr) l n'
             ≡ native program a at l n' (Reserves rd reserved)
         acts n' = ap (λ z. native program a at l n' (Reserves rd (offset_address z (pos 0))))
             (read_shown program a hides q l rs1 m lr_base (uses lr c (inr (0, lit< tt, refl))))
 
-        go : (n' : Local) → is_readable_state (n'.state (line_of reserved)) ≡ true → (b : Bool)
+        go : (n' : NodeMemory) → is_readable_state (n'.state (line_of reserved)) ≡ true → (b : Bool)
             → is_aligned Word reserved ≡ b
             → FirstLeads program OfPlace a j at
             (Does program OfPlace a (j + 1) (next_pc at) (reloads regs))
@@ -97,7 +97,7 @@ module _ (program : Program) (accepted : IsAccepted program) (a : ℕ) (q : Proc
             (value_same_as program accepted WordLoad q l n' reserved f mapped m.private) in
             let mid = sets_both program accepted hides a q l lr rd v c (λ r ne d. ne (cc)) refl
             (destination_shown program accepted a rd lr regs two refl) m in
-            subst (λ (r : Outcome). Leads program OfPlace a j at K q n' r Always r.move) (sym is) (
+            subst (λ (r : WordOutcome). Leads program OfPlace a j at K q n' r Always r.move) (sym is) (
               m.place,
               readable,
               subst (Commits program (λ s. (x y : ℕ) → K 0 s (lane_at x y done.lane) done.local) q
@@ -111,7 +111,7 @@ module _ (program : Program) (accepted : IsAccepted program) (a : ℕ) (q : Proc
                   ),
             )
 
-    pub reserved_does : (n : Local) (at : ℕ) (l : Lane) → AtHead program a q l → at % 4 ≡ 0
+    pub reserved_does : (n : NodeMemory) (at : ℕ) (l : ProcessorState) → AtHead program a q l → at % 4 ≡ 0
         → Does program OfPlace a 0 at (read_sequence regs Word rs1 (pos 0) lr) 0 q l n
     reserved_does n at l head al =
         read_does program accepted a q regs Word rs1 (pos 0) lr c
@@ -136,9 +136,9 @@ module _ (program : Program) (accepted : IsAccepted program) (a : ℕ) (q : Proc
     amo_value : hides rs2 ≡ Shown
     amo_value = source_shown program accepted a rs2 update_word regs two (inr (1, lit< tt, refl))
 
-    amo_word : (n' : Local) → is_writable_state (n'.state (line_of address)) ≡ true
+    amo_word : (n' : NodeMemory) → is_writable_state (n'.state (line_of address)) ≡ true
         → is_writable (class_at program address) ≡ true
-        → is_mapped (class_at program address) ≡ true → (j at : ℕ) (l : Lane)
+        → is_mapped (class_at program address) ≡ true → (j at : ℕ) (l : ProcessorState)
         → Mid program hides a q l
         → Does program OfPlace a j at (committing (Native update_word) (reloads regs)) 0 q l n'
     amo_word before may_then writable mapped j at l m = λ n' since.
@@ -147,7 +147,7 @@ module _ (program : Program) (accepted : IsAccepted program) (a : ℕ) (q : Proc
         K : Rest
         K = λ z. Does program OfPlace a (j + 1) (next_pc at) (reloads regs) z
 
-        acts : (n' : Local) → execute program a at (Native update_word) l n'
+        acts : (n' : NodeMemory) → execute program a at (Native update_word) l n'
             ≡ native program a at l n' (Updates o rd address value)
         acts n' = ap (λ z. native program a at l n' (Updates o rd (offset_address z (pos 0))
             (reg l.registers rs2))) (read_shown program a hides q l rs1 m amo_base
@@ -156,7 +156,7 @@ module _ (program : Program) (accepted : IsAccepted program) (a : ℕ) (q : Proc
             (read_shown program a hides q l rs2 m amo_value
             (uses update_word c (inr (1, lit< tt, refl))))
 
-        go : (n' : Local) → is_writable_state (n'.state (line_of address)) ≡ true → (b : Bool)
+        go : (n' : NodeMemory) → is_writable_state (n'.state (line_of address)) ≡ true → (b : Bool)
             → is_aligned Word address ≡ b
             → FirstLeads program OfPlace a j at
             (Does program OfPlace a (j + 1) (next_pc at) (reloads regs))
@@ -198,7 +198,7 @@ module _ (program : Program) (accepted : IsAccepted program) (a : ℕ) (q : Proc
                   (stored Word z address new)) m.private;
               written = m.written;
             } in
-            subst (λ (r : Outcome). Leads program OfPlace a j at K q n' r Always r.move) (sym is) (
+            subst (λ (r : WordOutcome). Leads program OfPlace a j at K q n' r Always r.move) (sym is) (
               m.place,
               licence,
               subst (Commits program (λ s. (x y : ℕ) → K 0 s (lane_at x y done.lane) done.local) q
@@ -212,7 +212,7 @@ module _ (program : Program) (accepted : IsAccepted program) (a : ℕ) (q : Proc
                   ),
             )
 
-    pub update_does : (n : Local) (at : ℕ) (l : Lane) → AtHead program a q l → at % 4 ≡ 0
+    pub update_does : (n : NodeMemory) (at : ℕ) (l : ProcessorState) → AtHead program a q l → at % 4 ≡ 0
         → Does program OfPlace a 0 at (write_sequence regs Word rs1 (pos 0) update_word) 0 q l n
     update_does n at l head al =
         write_does program accepted a q regs Word rs1 (pos 0) update_word c

@@ -33,9 +33,9 @@ use Rattle.templates.specs.declared.plans.Scratch.{Scratch}
 use Rattle.templates.specs.declared.plans.Scratches.{Scratches}
 use Rattle.templates.specs.Plans.{IsScratch, HasTwoScratches}
 use Rattle.templates.specs.Sequences.{SequenceItem, committing, checking, spills, reloads, spill, reload, with_word}
-use Rattle.home_directory.specs.declared.messages.Need.TheVariants.{Read, Write}
+use Rattle.home_directory.specs.dsm_messages.declared.messages.Need.TheVariants.{Read, Write}
 use Rattle.home_directory.specs.flag_memory.Flag.{flag_byte}
-use Rattle.dsm_protocol.specs.node_model.Node.{Lane, Local, Outcome, Next, Waits, PastWord, Nothing_counted, FalseMiss, go_on, exit_by, Memory, region_of, byte_at, is_readable_state, is_writable_state, local_stored, lane_stored, native, miss_r, miss_w, execute}
+use Rattle.dsm_protocol.specs.node_model.Node.{ProcessorState, NodeMemory, WordOutcome, Next, Waits, PastWord, Nothing_counted, FalseMiss, only_moves, exit_by, Memory, region_of, byte_at, is_readable_state, is_writable_state, local_stored, lane_stored, native, miss_r, miss_w, execute}
 use Rattle.rewriting_law.proofs.templates.RegisterLemmas.{apart, equal, put_other, put_both}
 use Rattle.rewriting_law.specs.CoreRun.{commits_by}
 use Rattle.rewriting_law.proofs.templates.States.{Suits, Later, ReadLook, Gone, Readable, Unreadable, read_look, WriteLook, Fixed, Writable, Unwritable, write_look}
@@ -91,7 +91,7 @@ not_live program a i x h s free (passes j b e d w v) =
     let same : j ≡ i = (let both : Some j ≡ Some i = sym e ∙ h in cc) in
     (s.dead free).dead b (subst (λ y. Follows y a b) same w) v
 
-holds_both : (x : Hide) (r rd v : ℕ) (p q : Processor) (l : Lane)
+holds_both : (x : Hide) (r rd v : ℕ) (p q : Processor) (l : ProcessorState)
     → p.registers ≡ put q.registers rd v → r ≢ rd → Holds x r q l → Holds x r p (with_reg l rd v)
 holds_both Shown r rd v p q l e n h = put_other l.registers rd r v n ∙ h
     ∙ sym (ap (λ f. reg f r) e ∙ put_other q.registers rd r v n)
@@ -99,14 +99,14 @@ holds_both Dead r rd v p q l e n h = h
 holds_both (In k) r rd v p q l e n h = h ∙ sym
     (ap (λ f. reg f r) e ∙ put_other q.registers rd r v n)
 
-pub holds_store : (x : Hide) (r : ℕ) (p q : Processor) (l l' : Lane) → p.registers ≡ q.registers
+pub holds_store : (x : Hide) (r : ℕ) (p q : Processor) (l l' : ProcessorState) → p.registers ≡ q.registers
     → l'.registers ≡ l.registers → l'.spills ≡ l.spills → Holds x r q l → Holds x r p l'
 holds_store Shown r p q l l' e f g h = ap (λ z. reg z r) f ∙ h ∙ sym (ap (λ z. reg z r) e)
 holds_store Dead r p q l l' e f g h = h
 holds_store (In k) r p q l l' e f g h = ap (λ z. z k) g ∙ h ∙ sym (ap (λ z. reg z r) e)
 
 -- what a load from memory does that gives this value
-abbrev pub load_outcome : Lane → Local → LoadKind → ℕ → ℕ → ℕ → Outcome
+abbrev pub load_outcome : ProcessorState → NodeMemory → LoadKind → ℕ → ℕ → ℕ → WordOutcome
 load_outcome l n k rd a v = record {
   lane = with_reg l rd v;
   local = n;
@@ -134,7 +134,7 @@ module _ (program : Program) (accepted : IsAccepted program) where
     | inr e ↦ e.1
   ]
 
-  pub value_same_as : (k : LoadKind) (q : Processor) (l : Lane) (n : Local) (x : ℕ)
+  pub value_same_as : (k : LoadKind) (q : Processor) (l : ProcessorState) (n : NodeMemory) (x : ℕ)
       → is_aligned (width_of k) x ≡ true → is_mapped (class_at program x) ≡ true
       → l.private ≡ q.private
       → load_value k (byte_at program l n) x ≡ load_value k (byte_seen program q n) x
@@ -150,7 +150,7 @@ module _ (program : Program) (accepted : IsAccepted program) where
   next_is a q i place h = let low = accepted.low a i h in omega (arith, place)
 
   -- the processor has set the register of its instruction, and the node too
-  pub sets_both : (h : ℕ → Hide) (a : ℕ) (q : Processor) (l : Lane) (i : Instr) (rd v : ℕ)
+  pub sets_both : (h : ℕ → Hide) (a : ℕ) (q : Processor) (l : ProcessorState) (i : Instr) (rd v : ℕ)
       → program.code a ≡ Some i → ((r : ℕ) → r ≢ rd → destination i ≡ Some r → ⊥)
       → Follows i a (a + 4) → h rd ≡ Shown
       → Mid program h a q l → Mid program h (a + 4) (set_register q rd v) (with_reg l rd v)
@@ -169,10 +169,10 @@ module _ (program : Program) (accepted : IsAccepted program) where
   }
 
   -- the scratch registers of a check, spilled or dead, and shown again
-  pub with_scratch : (a k at : ℕ) (q : Processor) (l : Lane) (n : Local) (i : Instr)
+  pub with_scratch : (a k at : ℕ) (q : Processor) (l : ProcessorState) (n : NodeMemory) (i : Instr)
       (regs : Scratches) (rest : List SequenceItem) → program.code a ≡ Some i
       → HasTwoScratches program.code a i regs → AtHead program a q l → at % 4 ≡ 0
-      → ((j to : ℕ) (l' : Lane) → to % 4 ≡ 0 → Mid program (hides_of regs) a q l'
+      → ((j to : ℕ) (l' : ProcessorState) → to % 4 ≡ 0 → Mid program (hides_of regs) a q l'
       → Does program OfPlace a j to rest 0 q l' n) → Does program OfPlace a k at (spills regs rest)
       0 q l n
   with_scratch a k at q l n i regs rest c two head al next =
@@ -207,7 +207,7 @@ module _ (program : Program) (accepted : IsAccepted program) where
         | inr f ↦ rw f.0 refl
       ]
 
-  pub scratch_back : (a k at : ℕ) (i : Instr) (q : Processor) (l : Lane) (n : Local)
+  pub scratch_back : (a k at : ℕ) (i : Instr) (q : Processor) (l : ProcessorState) (n : NodeMemory)
       (regs : Scratches) → program.code a ≡ Some i → HasTwoScratches program.code a i regs
       → Mid program (hides_of regs) (a + 4) q l → Does program OfPlace a k at (reloads regs) 0 q l n
   scratch_back a k at i q l n regs c two m =
@@ -255,12 +255,12 @@ module _ (program : Program) (accepted : IsAccepted program) where
       rw (apart t regs.s.register (λ z. st (sym z)), equal t t refl) (hide_hidden regs.t.spilled 1)
 
   -- the word of an exit
-  pub leaves : (kind : SequenceKind) (a k at : ℕ) (K : Rest) (q : Processor) (l : Lane)
-      (n : Local) (r : Outcome) (m : CommitKind) (e : Exit) → r ≡ exit_by l n e
+  pub leaves : (kind : SequenceKind) (a k at : ℕ) (K : Rest) (q : Processor) (l : ProcessorState)
+      (n : NodeMemory) (r : WordOutcome) (m : CommitKind) (e : Exit) → r ≡ exit_by l n e
       → IsWhere program kind a k q → request program q ≡ Becomes (with_exit q e)
       → Leads program kind a k at K q n r m r.move
   leaves kind a k at K q l n r m e is there h =
-      subst (λ (x : Outcome). Leads program kind a k at K q n x m x.move) (sym is)
+      subst (λ (x : WordOutcome). Leads program kind a k at K q n x m x.move) (sym is)
       (there, h, refl, refl, refl)
 
   -- a demand that may not be met ends the processor
@@ -283,15 +283,15 @@ module _ (program : Program) (accepted : IsAccepted program) where
   -- the look at a line's state before an access at a place, by a word behind which the rest stands
   module _ (a : ℕ) (q : Processor) (place : q.pc ≡ a) (w : Width) (rs1 : ℕ) (imm : ℤ) (x : ℕ)
       (rest : List SequenceItem) where
-    abbrev Behind : ℕ → ℕ → Lane → Local → Type 0
+    abbrev Behind : ℕ → ℕ → ProcessorState → NodeMemory → Type 0
     Behind j at l n = (y z : ℕ) → Does program OfPlace a (j + 1) (next_pc at) rest 0 q
         (lane_at y z l) n
 
     -- before a read: the line isn't mapped, or it may be read, at once or after a wait
-    read_missed_now : (j at : ℕ) (l : Lane) (n : Local) → Suits program n
+    read_missed_now : (j at : ℕ) (l : ProcessorState) (n : NodeMemory) → Suits program n
         → offset_address (reg l.registers rs1) imm ≡ x
         → Refuses program q w x (is_mapped (class_at program x))
-        → ((n' : Local) → is_readable_state (n'.state (line_of x)) ≡ true
+        → ((n' : NodeMemory) → is_readable_state (n'.state (line_of x)) ≡ true
         → is_mapped (class_at program x) ≡ true → Behind j at l n')
         → FirstLeads program OfPlace a j at (Does program OfPlace a (j + 1) (next_pc at) rest)
         (checking (MissR w rs1 imm) rest) q l n
@@ -319,16 +319,16 @@ module _ (program : Program) (accepted : IsAccepted program) where
             leave (NoAccess a) (rw (f, gone) refl)
             (rw (f, not_mapped) (ap (λ z. Some (NoAccess z)) place))
         look f (Readable mapped known readable) =
-            let passed : Outcome = record (go_on l n Next) { tally = FalseMiss } in
+            let passed : WordOutcome = record (only_moves l n Next) { tally = FalseMiss } in
             let does : execute program a at (MissR w rs1 imm) l n ≡ passed =
             acts ∙ rw (f, known, readable) refl in
-            subst (λ (r : Outcome). Leads program OfPlace a j at K q n r Never r.move) (sym does)
+            subst (λ (r : WordOutcome). Leads program OfPlace a j at K q n r Never r.move) (sym does)
             (refl, refl, next n readable mapped, refl)
         look f (Unreadable shared known unreadable) =
-            let waits : Outcome = go_on l n (Waits PastWord (record { at = x; need = Read }) []) in
+            let waits : WordOutcome = only_moves l n (Waits PastWord (record { at = x; need = Read }) []) in
             let does : execute program a at (MissR w rs1 imm) l n ≡ waits =
             acts ∙ rw (f, known, unreadable) refl in
-            subst (λ (r : Outcome). Leads program OfPlace a j at K q n r Never r.move) (sym does) (
+            subst (λ (r : WordOutcome). Leads program OfPlace a j at K q n r Never r.move) (sym does) (
               refl,
               refl,
               refl,
@@ -345,19 +345,19 @@ module _ (program : Program) (accepted : IsAccepted program) where
         go true f = look f (read_look (class_at program x) (n.state (line_of x))
             (suits.states (line_of x)))
 
-    pub read_missed : (j at : ℕ) (l : Lane) (n : Local)
+    pub read_missed : (j at : ℕ) (l : ProcessorState) (n : NodeMemory)
         → offset_address (reg l.registers rs1) imm ≡ x
         → Refuses program q w x (is_mapped (class_at program x))
-        → ((n' : Local) → is_readable_state (n'.state (line_of x)) ≡ true
+        → ((n' : NodeMemory) → is_readable_state (n'.state (line_of x)) ≡ true
         → is_mapped (class_at program x) ≡ true → Behind j at l n')
         → Does program OfPlace a j at (checking (MissR w rs1 imm) rest) 0 q l n
     read_missed j at l n is ends next = λ m since. read_missed_now j at l m since.0 is ends next
 
     -- before a write: nobody may write the line, or the node may, at once or after a wait
-    write_missed_now : (j at : ℕ) (l : Lane) (n : Local) → Suits program n
+    write_missed_now : (j at : ℕ) (l : ProcessorState) (n : NodeMemory) → Suits program n
         → offset_address (reg l.registers rs1) imm ≡ x → StandsToStore program q x
         → Refuses program q w x (is_writable (class_at program x))
-        → ((n' : Local) → is_writable_state (n'.state (line_of x)) ≡ true
+        → ((n' : NodeMemory) → is_writable_state (n'.state (line_of x)) ≡ true
         → is_writable (class_at program x) ≡ true → is_mapped (class_at program x) ≡ true
         → Behind j at l n')
         → FirstLeads program OfPlace a j at (Does program OfPlace a (j + 1) (next_pc at) rest)
@@ -384,15 +384,15 @@ module _ (program : Program) (accepted : IsAccepted program) where
         look f (Fixed no_store fixed unwritable) = leave (NoAccess a) (rw (f, fixed) refl)
             (rw (f, no_store) (ap (λ z. Some (NoAccess z)) place))
         look f (Writable writable mapped free may) =
-            let does : execute program a at (MissW w rs1 imm) l n ≡ go_on l n Next =
+            let does : execute program a at (MissW w rs1 imm) l n ≡ only_moves l n Next =
             acts ∙ rw (f, free, may) refl in
-            subst (λ (r : Outcome). Leads program OfPlace a j at K q n r Never r.move) (sym does)
+            subst (λ (r : WordOutcome). Leads program OfPlace a j at K q n r Never r.move) (sym does)
             (refl, refl, next n may writable mapped, refl)
         look f (Unwritable shared free unwritable) =
-            let waits : Outcome = go_on l n (Waits PastWord (record { at = x; need = Write }) []) in
+            let waits : WordOutcome = only_moves l n (Waits PastWord (record { at = x; need = Write }) []) in
             let does : execute program a at (MissW w rs1 imm) l n ≡ waits =
             acts ∙ rw (f, free, unwritable) refl in
-            subst (λ (r : Outcome). Leads program OfPlace a j at K q n r Never r.move) (sym does) (
+            subst (λ (r : WordOutcome). Leads program OfPlace a j at K q n r Never r.move) (sym does) (
               refl,
               refl,
               refl,
@@ -410,10 +410,10 @@ module _ (program : Program) (accepted : IsAccepted program) where
         go true f = look f (write_look (class_at program x) (n.state (line_of x))
             (suits.states (line_of x)))
 
-    pub write_missed : (j at : ℕ) (l : Lane) (n : Local)
+    pub write_missed : (j at : ℕ) (l : ProcessorState) (n : NodeMemory)
         → offset_address (reg l.registers rs1) imm ≡ x → StandsToStore program q x
         → Refuses program q w x (is_writable (class_at program x))
-        → ((n' : Local) → is_writable_state (n'.state (line_of x)) ≡ true
+        → ((n' : NodeMemory) → is_writable_state (n'.state (line_of x)) ≡ true
         → is_writable (class_at program x) ≡ true → is_mapped (class_at program x) ≡ true
         → Behind j at l n')
         → Does program OfPlace a j at (checking (MissW w rs1 imm) rest) 0 q l n
@@ -426,16 +426,16 @@ module _ (program : Program) (accepted : IsAccepted program) where
     abbrev pub load_address : ℕ
     load_address = offset_address (reg q.registers rs1) imm
 
-    abbrev pub seen_value : Local → ℕ
+    abbrev pub seen_value : NodeMemory → ℕ
     seen_value n = load_value k (byte_seen program q n) load_address
 
     live_base : Live program.code rs1 a
     live_base = uses (Load k rd rs1 imm) c (inr (0, lit< tt, refl))
 
-    pub same_base : (l : Lane) → Mid program h a q l → reg l.registers rs1 ≡ reg q.registers rs1
+    pub same_base : (l : ProcessorState) → Mid program h a q l → reg l.registers rs1 ≡ reg q.registers rs1
     same_base l m = read_shown program a h q l rs1 m base live_base
 
-    load_acts : (n : Local) (p at : ℕ) (l : Lane) → Mid program h a q l
+    load_acts : (n : NodeMemory) (p at : ℕ) (l : ProcessorState) → Mid program h a q l
         → execute program p at (Native (Load k rd rs1 imm)) l n
         ≡ native program p at l n (Loads k rd load_address)
     load_acts n p at l m = ap (λ z. native program p at l n (Loads k rd (offset_address z imm)))
@@ -447,7 +447,7 @@ module _ (program : Program) (accepted : IsAccepted program) where
         is_where program kind s j a q place pc (ap (λ o. option_map_or (λ i. may_turn i a) o false) c)
 
     -- one whose address isn't aligned ends the processor
-    pub load_misaligned_now : (n : Local) (kind : SequenceKind) (s j at : ℕ) (l : Lane)
+    pub load_misaligned_now : (n : NodeMemory) (kind : SequenceKind) (s j at : ℕ) (l : ProcessorState)
         (commit : CommitKind) (rest : List SequenceItem) → place_of kind s j ≡ a
         → is_aligned (width_of k) load_address ≡ false → Mid program h a q l
         → FirstLeads program kind s j at (Does program kind s (j + 1) (next_pc at) rest)
@@ -462,7 +462,7 @@ module _ (program : Program) (accepted : IsAccepted program) where
         (load_where kind s j place m.place) (refused a q (Load k rd rs1 imm) (Misaligned a) m.place c
         (rw f (ap (λ z. Some (Misaligned z)) m.place)))
 
-    pub load_misaligned : (n : Local) (kind : SequenceKind) (s j at : ℕ) (l : Lane)
+    pub load_misaligned : (n : NodeMemory) (kind : SequenceKind) (s j at : ℕ) (l : ProcessorState)
         (commit : CommitKind) (rest : List SequenceItem) → place_of kind s j ≡ a
         → is_aligned (width_of k) load_address ≡ false → Mid program h a q l
         → Does program kind s j at (with_word commit (Native (Load k rd rs1 imm)) rest) 0 q l n
@@ -470,7 +470,7 @@ module _ (program : Program) (accepted : IsAccepted program) where
         load_misaligned_now n' kind s j at l commit rest place f m
 
     -- one from below the state table gives what the node has there
-    pub load_gives : (n : Local) (p at : ℕ) (l : Lane)
+    pub load_gives : (n : NodeMemory) (p at : ℕ) (l : ProcessorState)
         → is_aligned (width_of k) load_address ≡ true
         → load_address < 2 ^ 31 → Mid program h a q l
         → execute program p at (Native (Load k rd rs1 imm)) l n
@@ -478,7 +478,7 @@ module _ (program : Program) (accepted : IsAccepted program) where
     load_gives n p at l f low m = load_acts n p at l m ∙ rw (f, memory_at load_address low) refl
 
     -- where its line is mapped that is what the processor would see
-    pub load_sees : (n : Local) (p at : ℕ) (l : Lane)
+    pub load_sees : (n : NodeMemory) (p at : ℕ) (l : ProcessorState)
         → is_aligned (width_of k) load_address ≡ true
         → is_mapped (class_at program load_address) ≡ true → Mid program h a q l
         → execute program p at (Native (Load k rd rs1 imm)) l n
@@ -489,7 +489,7 @@ module _ (program : Program) (accepted : IsAccepted program) where
         (value_same_as k q l n load_address f mapped m.private)
 
     -- and where the word commits, that is the processor's step
-    pub load_commits_now : (n : Local) (kind : SequenceKind) (s j at : ℕ) (l : Lane)
+    pub load_commits_now : (n : NodeMemory) (kind : SequenceKind) (s j at : ℕ) (l : ProcessorState)
         (commit : CommitKind) (rest : List SequenceItem) → place_of kind s j ≡ a → h rd ≡ Shown
         → is_aligned (width_of k) load_address ≡ true
         → is_mapped (class_at program load_address) ≡ true
@@ -512,7 +512,7 @@ module _ (program : Program) (accepted : IsAccepted program) where
         ∙ ap (request_unless program q (Loads k rd load_address)) may in
         let mid = sets_both h a q l (Load k rd rs1 imm) rd (seen_value n) c (λ r ne d. ne (cc)) refl
         shows m in
-        subst (λ (r : Outcome). Leads program kind s j at K q n r commit r.move)
+        subst (λ (r : WordOutcome). Leads program kind s j at K q n r commit r.move)
         (sym (load_sees n (place_of kind s j) at l f mapped m))
         (subst (Continues program (IsWhere program kind s j q)
         (λ p. (x y : ℕ) → K 0 p (lane_at x y done.lane) n) q n done)
@@ -530,13 +530,13 @@ module _ (program : Program) (accepted : IsAccepted program) where
         ))
 
     -- the original load, which commits by whatever it gives
-    pub load_commits : (n : Local) (kind : SequenceKind) (s j at : ℕ) (l : Lane)
+    pub load_commits : (n : NodeMemory) (kind : SequenceKind) (s j at : ℕ) (l : ProcessorState)
         (rest : List SequenceItem) → place_of kind s j ≡ a → h rd ≡ Shown
         → is_aligned (width_of k) load_address ≡ true
         → is_mapped (class_at program load_address) ≡ true
         → is_readable_state (n.state (line_of load_address)) ≡ true
         → Mid program h a q l
-        → ((m : Local) → Later n m → (x y : ℕ)
+        → ((m : NodeMemory) → Later n m → (x y : ℕ)
         → Mid program h (a + 4) (set_register q rd (seen_value m))
         (lane_at x y (with_reg l rd (seen_value m)))
         → Does program kind s (j + 1) (next_pc at) rest 0 (set_register q rd (seen_value m))
@@ -559,7 +559,7 @@ module _ (program : Program) (accepted : IsAccepted program) where
     abbrev pub store_after : Processor
     store_after = after_store program q w store_address stored_value
 
-    store_acts : (n : Local) (p at : ℕ) (l : Lane) → Mid program h a q l
+    store_acts : (n : NodeMemory) (p at : ℕ) (l : ProcessorState) → Mid program h a q l
         → execute program p at (Native (Store w rs1 rs2 imm)) l n
         ≡ native program p at l n (Stores w store_address stored_value)
     store_acts n p at l m = ap (λ z. native program p at l n (Stores w (offset_address z imm)
@@ -570,12 +570,12 @@ module _ (program : Program) (accepted : IsAccepted program) where
         (uses (Store w rs1 rs2 imm) c (inr (1, lit< tt, refl))))
 
     -- one whose line is writable is the processor's step, or its exit where it isn't aligned
-    pub store_commits : (n : Local) (kind : SequenceKind) (s j at : ℕ) (l : Lane)
+    pub store_commits : (n : NodeMemory) (kind : SequenceKind) (s j at : ℕ) (l : ProcessorState)
         (rest : List SequenceItem) → place_of kind s j ≡ a
         → is_writable_state (n.state (line_of store_address)) ≡ true
         → is_writable (class_at program store_address) ≡ true
         → is_mapped (class_at program store_address) ≡ true → Mid program h a q l
-        → ((m : Local) → Later n m → (x y : ℕ) → Mid program h (a + 4) store_after
+        → ((m : NodeMemory) → Later n m → (x y : ℕ) → Mid program h (a + 4) store_after
         (lane_at x y (lane_stored program l w store_address stored_value))
         → Does program kind s (j + 1) (next_pc at) rest 0 store_after
         (lane_at x y (lane_stored program l w store_address stored_value))
@@ -591,7 +591,7 @@ module _ (program : Program) (accepted : IsAccepted program) where
         p : ℕ
         p = place_of kind s j
 
-        lane : Lane
+        lane : ProcessorState
         lane = lane_stored program l w store_address stored_value
 
         there : IsWhere program kind s j q
@@ -609,7 +609,7 @@ module _ (program : Program) (accepted : IsAccepted program) where
           written = m.written;
         }
 
-        by : (n' : Local) → is_writable_state (n'.state (line_of store_address)) ≡ true
+        by : (n' : NodeMemory) → is_writable_state (n'.state (line_of store_address)) ≡ true
             → Later n n' → (b : Bool) → is_aligned w store_address ≡ b
             → FirstLeads program kind s j at (Does program kind s (j + 1) (next_pc at) rest)
             (committing (Native (Store w rs1 rs2 imm)) rest) q l n'
@@ -622,7 +622,7 @@ module _ (program : Program) (accepted : IsAccepted program) where
             there (refused a q (Store w rs1 rs2 imm) (Misaligned a) m.place c
             (rw f (ap (λ z. Some (Misaligned z)) m.place)))
         by n' licence later true f =
-            let done : Outcome = record {
+            let done : WordOutcome = record {
               lane = lane;
               local =
                   local_stored program n' w store_address stored_value;
@@ -640,7 +640,7 @@ module _ (program : Program) (accepted : IsAccepted program) where
             let ask : request program q ≡ StoresTo w store_address stored_value =
             asks program a q (Store w rs1 rs2 imm) m.place c
             ∙ ap (request_unless program q (Stores w store_address stored_value)) may in
-            subst (λ (r : Outcome). Leads program kind s j at K q n' r Always r.move) (sym is) (
+            subst (λ (r : WordOutcome). Leads program kind s j at K q n' r Always r.move) (sym is) (
               there,
               licence,
               subst (Commits program (λ p. (x y : ℕ) → K 0 p (lane_at x y lane) done.local) q n'

@@ -19,8 +19,8 @@ use Rattle.rv32_step.specs.OneMemory.{Processor, StoresWhere, WritesIf, exit_of_
 use Rattle.runtime_words.specs.declared.RtWord.TheVariants.{Native, Prepare}
 use Rattle.templates.specs.declared.commits.CommitKind.TheVariants.{Never, Always}
 use Rattle.templates.specs.Sequences.{committing, conditional_sequence}
-use Rattle.home_directory.specs.declared.messages.Need.TheVariants.{Write}
-use Rattle.dsm_protocol.specs.node_model.Node.{Lane, Local, Outcome, Next, Waits, PastWord, Region, Memory, go_on, is_fixed_state, is_writable_state, region_of, set_register, store, store_if, prepare, native, execute}
+use Rattle.home_directory.specs.dsm_messages.declared.messages.Need.TheVariants.{Write}
+use Rattle.dsm_protocol.specs.node_model.Node.{ProcessorState, NodeMemory, WordOutcome, Next, Waits, PastWord, Region, Memory, only_moves, is_fixed_state, is_writable_state, region_of, set_register, store, store_if, prepare, native, execute}
 use Rattle.rewriting_law.proofs.templates.RegisterLemmas.{put_both}
 use Rattle.rewriting_law.proofs.templates.States.{Suits, WriteLook, Fixed, Writable, Unwritable, write_look}
 use Rattle.rewriting_law.proofs.templates.Does.{OfPlace, AtHead, Rest, lane_at, StandsToStore, Commits, CommitsConditional, Leads, FirstLeads, Does}
@@ -28,7 +28,7 @@ use Rattle.rewriting_law.proofs.templates.Mids.{the_only}
 use Rattle.rewriting_law.proofs.templates.Checked.{asks, memory_at, low_if_mapped, next_is, leaves, refused, stands_to_store}
 
 -- a conditional store in a region
-abbrev store_in : Program → Lane → Local → ℕ → ℕ → ℕ → Region → Bool → Outcome
+abbrev store_in : Program → ProcessorState → NodeMemory → ℕ → ℕ → ℕ → Region → Bool → WordOutcome
 store_in program l n r a value region true = record (store program l n Word a value region) {
   lane = set_register (store program l n Word a value region).lane r 0;
   local = record (store program l n Word a value region).local { reservation = None };
@@ -36,7 +36,7 @@ store_in program l n r a value region true = record (store program l n Word a va
 }
 store_in program l n r a value region false = store_if program l n r a value false
 
-in_region : (program : Program) (l : Lane) (n : Local) (r a value : ℕ) (b : Bool)
+in_region : (program : Program) (l : ProcessorState) (n : NodeMemory) (r a value : ℕ) (b : Bool)
     → store_if program l n r a value b ≡ store_in program l n r a value (region_of a) b
 in_region program l n r a value true = refl
 in_region program l n r a value false = refl
@@ -52,15 +52,15 @@ module _ (program : Program) (accepted : IsAccepted program) (a : ℕ) (q : Proc
   abbrev value : ℕ
   value = reg q.registers rs2
 
-  same_address : (l : Lane) → AtHead program a q l → reg l.registers rs1 ≡ reg q.registers rs1
+  same_address : (l : ProcessorState) → AtHead program a q l → reg l.registers rs1 ≡ reg q.registers rs1
   same_address l head = head.agree rs1 (uses sc c (inr (0, lit< tt, refl)))
 
-  same_value : (l : Lane) → AtHead program a q l → reg l.registers rs2 ≡ value
+  same_value : (l : ProcessorState) → AtHead program a q l → reg l.registers rs2 ≡ value
   same_value l head = head.agree rs2 (uses sc c (inr (1, lit< tt, refl)))
 
-  module _ (n : Local) where
+  module _ (n : NodeMemory) where
     -- the node stands behind the conditional store
-    behind : (at : ℕ) (l : Lane) (b : Bool) → AtHead program a q l → (j x y : ℕ)
+    behind : (at : ℕ) (l : ProcessorState) (b : Bool) → AtHead program a q l → (j x y : ℕ)
         → Does program OfPlace a j at [] 0 (after_conditional program q rd address value b)
         (lane_at x y (store_in program l n rd address value Memory b).lane)
         (store_in program l n rd address value Memory b).local
@@ -88,7 +88,7 @@ module _ (program : Program) (accepted : IsAccepted program) (a : ℕ) (q : Proc
       },
     )
 
-    leads : (j at : ℕ) (l : Lane) (b : Bool)
+    leads : (j at : ℕ) (l : ProcessorState) (b : Bool)
         → (b ≡ true → is_writable_state (n.state (line_of address)) ≡ true) → AtHead program a q l
         → request program q ≡ StoresWhere rd address value → holds n.reservation address ≡ b
         → Leads program OfPlace a j at (λ z. Does program OfPlace a (j + 1) (next_pc at) [] z) q n
@@ -123,7 +123,7 @@ module _ (program : Program) (accepted : IsAccepted program) (a : ℕ) (q : Proc
               (refl, refl, refl, λ x y. behind (next_pc at) l false head (j + 1) x y)),
         )
 
-    sc_word : (j at : ℕ) (l : Lane)
+    sc_word : (j at : ℕ) (l : ProcessorState)
         → (holds n.reservation address ≡ true
         → is_writable_state (n.state (line_of address)) ≡ true)
         → is_writable (class_at program address) ≡ true
@@ -163,11 +163,11 @@ module _ (program : Program) (accepted : IsAccepted program) (a : ℕ) (q : Proc
             acts ∙ aligned ∙ in_region program l n rd address value b
             ∙ ap (λ z. store_in program l n rd address value z b) (memory_at address (low_if_mapped
             program accepted address mapped)) in
-            subst (λ (r : Outcome). Leads program OfPlace a j at K q n r Always r.move) (sym is)
+            subst (λ (r : WordOutcome). Leads program OfPlace a j at K q n r Always r.move) (sym is)
             (leads j
             at l b licence head ask refl)
 
-  abbrev Prepares : ℕ → Lane → Local → Type 0
+  abbrev Prepares : ℕ → ProcessorState → NodeMemory → Type 0
   Prepares at l n =
       FirstLeads program OfPlace a 0 at
       (Does program OfPlace a 1 (next_pc at) (committing (Native sc) []))
@@ -177,18 +177,18 @@ module _ (program : Program) (accepted : IsAccepted program) (a : ℕ) (q : Proc
   stores place = stands_to_store program accepted a q sc address place c (λ layout b. refl)
 
   -- from the head of the place to the next head
-  pub conditional_does : (n : Local) (at : ℕ) (l : Lane) → AtHead program a q l
+  pub conditional_does : (n : NodeMemory) (at : ℕ) (l : ProcessorState) → AtHead program a q l
       → Does program OfPlace a 0 at (conditional_sequence rs1 sc) 0 q l n
   conditional_does before at l head = λ n since. go n since.0 (is_aligned Word address) refl
     where
       K : Rest
       K = λ z. Does program OfPlace a 1 (next_pc at) (committing (Native sc) []) z
 
-      acts : (n : Local) → execute program a at (Prepare rs1) l n ≡ prepare a l n address
+      acts : (n : NodeMemory) → execute program a at (Prepare rs1) l n ≡ prepare a l n address
       acts n = ap (λ z. prepare a l n (offset_address z (pos 0))) (same_address l head)
 
       -- at the store, by the node as it is then
-      word : (n' : Local)
+      word : (n' : NodeMemory)
           → (holds n'.reservation address ≡ true
           → is_writable_state (n'.state (line_of address)) ≡ true)
           → is_writable (class_at program address) ≡ true
@@ -204,13 +204,13 @@ module _ (program : Program) (accepted : IsAccepted program) (a : ℕ) (q : Proc
             written = head.written;
           })
 
-      passes : (n : Local) → execute program a at (Prepare rs1) l n ≡ go_on l n Next
+      passes : (n : NodeMemory) → execute program a at (Prepare rs1) l n ≡ only_moves l n Next
           → (holds n.reservation address ≡ true
           → is_writable_state (n.state (line_of address)) ≡ true)
           → is_writable (class_at program address) ≡ true
           → is_mapped (class_at program address) ≡ true → Prepares at l n
       passes n is licence writable mapped =
-          subst (λ (r : Outcome). Leads program OfPlace a 0 at K q n r Never r.move) (sym is)
+          subst (λ (r : WordOutcome). Leads program OfPlace a 0 at K q n r Never r.move) (sym is)
           (refl, refl, word n licence writable mapped, refl)
 
       and_not : (b : Bool) → (b && not true) ≡ false
@@ -218,7 +218,7 @@ module _ (program : Program) (accepted : IsAccepted program) (a : ℕ) (q : Proc
       and_not false = refl
 
       -- the address is reserved, or not, and its line isn't writable
-      lacks : (n : Local) → is_aligned Word address ≡ true → class_at program address ≡ Shared
+      lacks : (n : NodeMemory) → is_aligned Word address ≡ true → class_at program address ≡ Shared
           → is_fixed_state (n.state (line_of address)) ≡ false
           → is_writable_state (n.state (line_of address)) ≡ false → (b : Bool)
           → holds n.reservation address ≡ b → Prepares at l n
@@ -227,11 +227,11 @@ module _ (program : Program) (accepted : IsAccepted program) (a : ℕ) (q : Proc
           (λ h. let bad : false ≡ true = sym held ∙ h in cc) (ap is_writable shared)
           (ap is_mapped shared)
       lacks n f shared free unwritable true held =
-          let waits : Outcome =
-          go_on l n (Waits PastWord (record { at = address; need = Write }) []) in
+          let waits : WordOutcome =
+          only_moves l n (Waits PastWord (record { at = address; need = Write }) []) in
           let is : execute program a at (Prepare rs1) l n ≡ waits =
           acts n ∙ rw (f, free, held, unwritable) refl in
-          subst (λ (r : Outcome). Leads program OfPlace a 0 at K q n r Never r.move) (sym is) (
+          subst (λ (r : WordOutcome). Leads program OfPlace a 0 at K q n r Never r.move) (sym is) (
             refl,
             refl,
             refl,
@@ -242,7 +242,7 @@ module _ (program : Program) (accepted : IsAccepted program) (a : ℕ) (q : Proc
             refl,
           )
 
-      look : (n : Local) → is_aligned Word address ≡ true
+      look : (n : NodeMemory) → is_aligned Word address ≡ true
           → WriteLook (class_at program address) (n.state (line_of address)) → Prepares at l n
       look n f (Fixed no_store fixed unwritable) = leaves program accepted OfPlace a 0 at K q l n
           (execute program a at (Prepare rs1) l n) Never (NoAccess a) (acts n ∙ rw (f, fixed) refl)
@@ -254,7 +254,7 @@ module _ (program : Program) (accepted : IsAccepted program) (a : ℕ) (q : Proc
       look n f (Unwritable shared free unwritable) =
           lacks n f shared free unwritable (holds n.reservation address) refl
 
-      go : (n : Local) → Suits program n → (b : Bool) → is_aligned Word address ≡ b
+      go : (n : NodeMemory) → Suits program n → (b : Bool) → is_aligned Word address ≡ b
           → Prepares at l n
       go n suits false f = leaves program accepted OfPlace a 0 at K q l n
           (execute program a at (Prepare rs1) l n)

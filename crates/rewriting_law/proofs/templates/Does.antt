@@ -25,16 +25,16 @@ use Rattle.templates.specs.Places.{IsPlace}
 use Rattle.templates.specs.Plans.{closes_loop}
 use Rattle.templates.specs.Sequences.{SequenceItem, ItemWord, Runs, GoesTo, items_in}
 use Rattle.dsm_protocol.specs.jump_map.Image.{address_in}
-use Rattle.home_directory.specs.declared.messages.Need.{Need}
-use Rattle.home_directory.specs.declared.messages.Need.TheVariants.{Read, Write}
-use Rattle.dsm_protocol.specs.node_model.Node.{Lane, Local, Want, Resume, PastWord, SameWord, ByLines, Move, Next, Again, To, Enters, Waits, Leaves, Outcome, local_stored, both_meet, execute}
+use Rattle.home_directory.specs.dsm_messages.declared.messages.Need.{Need}
+use Rattle.home_directory.specs.dsm_messages.declared.messages.Need.TheVariants.{Read, Write}
+use Rattle.dsm_protocol.specs.node_model.Node.{ProcessorState, NodeMemory, Want, Resume, PastWord, SameWord, ByLines, Move, Next, Again, To, Enters, Waits, Leaves, WordOutcome, local_stored, both_meet, execute}
 use Rattle.rewriting_law.specs.CoreRun.{commits_by}
 use Rattle.rewriting_law.specs.Licence.{Licensed}
 use Rattle.rewriting_law.proofs.templates.States.{Suits, Later, later_still, grants}
 
 -- the node stands at the head of a place, where its registers agree wherever they are live. This is
 -- the only fact that two sequences share
-pub record AtHead (program : Program) (a : ℕ) (q : Processor) (l : Lane) : Type 0 where
+pub record AtHead (program : Program) (a : ℕ) (q : Processor) (l : ProcessorState) : Type 0 where
   pub place : q.pc ≡ a
   pub running : q.exit ≡ None
   pub agree : (r : ℕ) → Live program.code r a → reg l.registers r ≡ reg q.registers r
@@ -42,12 +42,12 @@ pub record AtHead (program : Program) (a : ℕ) (q : Processor) (l : Lane) : Typ
   pub written : l.written ≡ q.written
 
 -- the byte of an address, as the processor would see it in the node's copy
-abbrev pub byte_seen : Program → Processor → Local → ℕ → ℕ
+abbrev pub byte_seen : Program → Processor → NodeMemory → ℕ → ℕ
 byte_seen program q n a =
     byte_by (class_at program a) (n.copy a) (program.first a) (q.private a) 0
 
 -- the lane at another word
-abbrev pub lane_at : ℕ → ℕ → Lane → Lane
+abbrev pub lane_at : ℕ → ℕ → ProcessorState → ProcessorState
 lane_at at off l = record l { at = at; off = off }
 
 -- the address of the word behind so many words
@@ -69,21 +69,21 @@ Seeks program q Read x = Unit {0}
 Seeks program q Write x = StandsToStore program q x
 
 -- what a word waits for: a shared line that doesn't grant it, and that the processor seeks
-pub record IsWanted (program : Program) (q : Processor) (n : Local) (want : Want) : Type 0 where
+pub record IsWanted (program : Program) (q : Processor) (n : NodeMemory) (want : Want) : Type 0 where
   pub shared : class_at program want.at ≡ Shared
   pub unmet : grants want.need (n.state (line_of want.at)) ≡ false
   pub seeks : Seeks program q want.need want.at
 
-abbrev pub word_seen : Program → Processor → Local → ℕ → ℕ
+abbrev pub word_seen : Program → Processor → NodeMemory → ℕ → ℕ
 word_seen program q n x = load_value WordLoad (byte_seen program q n) x
 
 -- the copy after a conditional store, where the address was reserved or wasn't
-abbrev pub local_conditional : Program → Local → ℕ → ℕ → Bool → Local
+abbrev pub local_conditional : Program → NodeMemory → ℕ → ℕ → Bool → NodeMemory
 local_conditional program n x value true =
     record (local_stored program n Word x value) { reservation = None }
 local_conditional program n x value false = record n { reservation = None }
 
-abbrev pub CommitsConditional : Program → (Processor → Type 0) → Processor → Local → Outcome → ℕ → ℕ
+abbrev pub CommitsConditional : Program → (Processor → Type 0) → Processor → NodeMemory → WordOutcome → ℕ → ℕ
     → ℕ → Bool → Type 0
 CommitsConditional program K q n r d x value reserved =
     (r.access ≡ WritesIf x value reserved) × (r.printed ≡ None)
@@ -91,7 +91,7 @@ CommitsConditional program K q n r d x value reserved =
     × K (after_conditional program q d x value reserved)
 
 -- the word does what the processor asks for, and goes on well with the processor after its step
-abbrev pub Commits : Program → (Processor → Type 0) → Processor → Local → Outcome → Request → Type 0
+abbrev pub Commits : Program → (Processor → Type 0) → Processor → NodeMemory → WordOutcome → Request → Type 0
 Commits program K q n r (Becomes q') =
     (q'.exit ≡ None) × (r.access ≡ Nothing) × (r.printed ≡ None) × (r.local ≡ n) × K q'
 Commits program K q n r (Prints x) =
@@ -126,7 +126,7 @@ is_store (Exchanges a old new) = true
 
 -- the word commits where the processor is, by a licensed access, or it does nothing that the
 -- original sees, and stores nothing
-abbrev pub Continues : Program → Type 0 → (Processor → Type 0) → Processor → Local → Outcome → Bool
+abbrev pub Continues : Program → Type 0 → (Processor → Type 0) → Processor → NodeMemory → WordOutcome → Bool
     → Type 0
 Continues program IsThere K q n r true =
     IsThere × Licensed n r.access × Commits program K q n r (request program q)
@@ -177,32 +177,32 @@ place_in_batch program e k = address_in e Fast (k - length (items_in program.cod
 
 -- what holds behind the last word of a sequence of a place: that of a place with a code word falls
 -- through to the next place, and a batch to the place's own sequence
-abbrev pub Falls : Program → SequenceKind → ℕ → Processor → Lane → Type 0
+abbrev pub Falls : Program → SequenceKind → ℕ → Processor → ProcessorState → Type 0
 Falls program OfPlace a q l =
     ((i : Instr) × (program.code a ≡ Some i)) × AtHead program (a + 4) q l
 Falls program (OfRun place) a q l = AtHead program a q l
 
 -- the word is the first of a place's own sequence, where the node stands at the head
-abbrev pub IsHead : Program → SequenceKind → ℕ → ℕ → Processor → Lane → Type 0
+abbrev pub IsHead : Program → SequenceKind → ℕ → ℕ → Processor → ProcessorState → Type 0
 IsHead program kind a k q l = (kind ≡ OfPlace) × (k ≡ 0) × AtHead program a q l
 
 -- all of these are what a word may wait for, and one of them is granted
-abbrev pub AreWanted : Program → Processor → Local → List Want → Type 0
+abbrev pub AreWanted : Program → Processor → NodeMemory → List Want → Type 0
 AreWanted program q n [] = Unit {0}
 AreWanted program q n (w ∷ ws) = IsWanted program q n w × AreWanted program q n ws
 
-abbrev pub SomeGranted : Local → List Want → Type 0
+abbrev pub SomeGranted : NodeMemory → List Want → Type 0
 SomeGranted n [] = ⊥
 SomeGranted n (w ∷ ws) =
     (grants w.need (n.state (line_of w.at)) ≡ true) ⊎ SomeGranted n ws
 
 -- what holds of the words behind one, once so many more are skipped
 abbrev pub Rest : Type 1
-Rest = ℕ → Processor → Lane → Local → Type 0
+Rest = ℕ → Processor → ProcessorState → NodeMemory → Type 0
 
 -- what holds once a wait is over, with the node's bytes and states then: of the words behind, or
 -- that the node stands at its place's head
-abbrev pub Resumes : Program → SequenceKind → ℕ → ℕ → Rest → Processor → Lane → Resume → Local
+abbrev pub Resumes : Program → SequenceKind → ℕ → ℕ → Rest → Processor → ProcessorState → Resume → NodeMemory
     → Type 0
 Resumes program kind a k K q l PastWord n = (x y : ℕ) → K 0 q (lane_at x y l) n
 Resumes program kind a k K q l SameWord n = IsHead program kind a k q l
@@ -211,7 +211,7 @@ Resumes program kind a k K q l (ByLines need low high) n =
 
 -- what a word of a place leads to: an exit, which is the processor's; a word behind it; its
 -- sequence's head again; the head of another place; or a wait
-abbrev pub Leads : Program → SequenceKind → ℕ → ℕ → ℕ → Rest → Processor → Local → Outcome
+abbrev pub Leads : Program → SequenceKind → ℕ → ℕ → ℕ → Rest → Processor → NodeMemory → WordOutcome
     → CommitKind → Move → Type 0
 Leads program kind a k at K q n r m (Leaves e) =
     IsWhere program kind a k q × (request program q ≡ Becomes (with_exit q e))
@@ -233,14 +233,14 @@ Leads program kind a k at K q n r m (Enters target) =
 Leads program kind a k at K q n r m (Waits resume want more) =
     (commits_by m r ≡ false) × (r.printed ≡ None) × (r.local ≡ n) × (length more ≤ 1)
     × AreWanted program q n (want ∷ more)
-    × ((n' : Local) → Suits program n' → SomeGranted n' (want ∷ more)
+    × ((n' : NodeMemory) → Suits program n' → SomeGranted n' (want ∷ more)
     → Resumes program kind a k K q r.lane resume n')
     × (is_store r.access ≡ false)
 
 -- a word before which messages are taken is the first of its place's own sequence, where the node
 -- stands at the head whatever the messages bring. The check of a run goes by its own address
-abbrev pub ItemLeads : Program → SequenceKind → ℕ → ℕ → ℕ → Rest → CommitKind → Processor → Lane
-    → Local → ItemWord → Type 0
+abbrev pub ItemLeads : Program → SequenceKind → ℕ → ℕ → ℕ → Rest → CommitKind → Processor → ProcessorState
+    → NodeMemory → ItemWord → Type 0
 ItemLeads program kind a k at K m q l n (GoesTo place to_head) =
     (m ≡ Never) × IsPlace program.code place × AtHead program place q l
 ItemLeads program kind a k at K m q l n (Runs Poll) =
@@ -273,13 +273,13 @@ looks_anew w = false
 
 -- what may have become of the node before the word is executed: anything, before a word that looks
 -- anew; else what the other processors of the node, and messages that take nothing away, make of it
-abbrev pub Since : Program → ItemWord → Local → Local → Type 0
+abbrev pub Since : Program → ItemWord → NodeMemory → NodeMemory → Type 0
 Since program w n m = Suits program m × (looks_anew w ≡ false → Later n m)
 
 -- the first of these words leads on, by the node as it is when it is executed, where this holds
 -- behind it
 abbrev pub FirstLeads : Program → SequenceKind → ℕ → ℕ → ℕ → Rest → List SequenceItem → Processor
-    → Lane → Local → Type 0
+    → ProcessorState → NodeMemory → Type 0
 FirstLeads program kind a k at K [] q l n = ⊥
 FirstLeads program kind a k at K (i ∷ is) q l n =
     ItemLeads program kind a k at K i.commit q l n i.what
@@ -293,13 +293,13 @@ Does program kind a k at [] (suc s) q l n = ⊥
 Does program kind a k at (i ∷ is) (suc s) q l n =
     Does program kind a (k + 1) (next_pc at) is s q l n
 Does program kind a k at (i ∷ is) zero q l n =
-    (m : Local) → Since program i.what n m
+    (m : NodeMemory) → Since program i.what n m
     → ItemLeads program kind a k at (Does program kind a (k + 1) (next_pc at) is) i.commit q l m
     i.what
 
 -- so they do once the node has changed
 pub does_later : (program : Program) (kind : SequenceKind) (a k at : ℕ) (is : List SequenceItem)
-    (s : ℕ) (q : Processor) (l : Lane) (n m : Local) → Later n m
+    (s : ℕ) (q : Processor) (l : ProcessorState) (n m : NodeMemory) → Later n m
     → Does program kind a k at is s q l n → Does program kind a k at is s q l m
 does_later program kind a k at [] zero q l n m later h = h
 does_later program kind a k at [] (suc s) q l n m later h = h

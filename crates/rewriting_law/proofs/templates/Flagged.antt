@@ -26,10 +26,10 @@ use Rattle.rv32_step.specs.OneMemory.{Processor, set_register, next_pc}
 use Rattle.runtime_words.specs.declared.RtWord.TheVariants.{Native, MissR}
 use Rattle.templates.specs.declared.commits.CommitKind.TheVariants.{Always, IfNotFlag}
 use Rattle.templates.specs.declared.plans.Scratches.{Scratches}
-use Rattle.templates.specs.Plans.{looks_at_value, HasOneScratch}
+use Rattle.templates.specs.Plans.{is_flag_checked, HasOneScratch}
 use Rattle.templates.specs.Sequences.{SequenceItem, with_word, committing, checking, own, reload, lower_part, flag_word, flag_load_sequence}
 use Rattle.home_directory.specs.flag_memory.Flag.{flag_byte}
-use Rattle.dsm_protocol.specs.node_model.Node.{Lane, Local, Outcome, byte_at, is_readable_state, native, execute}
+use Rattle.dsm_protocol.specs.node_model.Node.{ProcessorState, NodeMemory, WordOutcome, byte_at, is_readable_state, native, execute}
 use Rattle.rewriting_law.specs.CoreRun.{commits_by}
 use Rattle.rewriting_law.proofs.templates.RegisterLemmas.{apart, equal, reg_zero, put_here, put_other}
 use Rattle.rewriting_law.proofs.templates.States.{Suits, ReadLook, Gone, Readable, Unreadable, read_look}
@@ -64,7 +64,7 @@ flag_bytes a m =
     rw (e0, e1, e2, e3) refl
 
 -- such a load's register is neither x0 nor its base
-own_register : (rd rs1 : ℕ) → looks_at_value load_kind.Word rd rs1 ≡ true
+own_register : (rd rs1 : ℕ) → is_flag_checked load_kind.Word rd rs1 ≡ true
     → (rd ≢ 0) × (rd ≢ rs1)
 own_register rd rs1 h = elim (eqb_tells rd 0) [
   | inl e ↦ (let bad : false ≡ true = (rw e.0 at h) in cc)
@@ -81,7 +81,7 @@ only_source rs1 rd (suc k) lt is = absurd (omega arith)
 module _ (program : Program) (accepted : IsAccepted program) where
   module _ (a : ℕ) (q : Processor) (x : Scratches)
       (rd rs1 : ℕ) (imm : ℤ) (c : program.code a ≡ Some (Load load_kind.Word rd rs1 imm))
-      (by_value : looks_at_value load_kind.Word rd rs1 ≡ true)
+      (by_value : is_flag_checked load_kind.Word rd rs1 ≡ true)
       (one : HasOneScratch program.code a (Load load_kind.Word rd rs1 imm) x) where
     abbrev word : Instr
     word = Load load_kind.Word rd rs1 imm
@@ -145,7 +145,7 @@ module _ (program : Program) (accepted : IsAccepted program) where
     abbrev test : List SequenceItem
     test = own (Branch Lt s 0 (pos 16)) first
 
-    ends : (n' : Local) (j at : ℕ) (p : Processor) (l : Lane) → Mid program hides (a + 4) p l
+    ends : (n' : NodeMemory) (j at : ℕ) (p : Processor) (l : ProcessorState) → Mid program hides (a + 4) p l
         → Does program OfPlace a j at last 0 p l n'
     ends n' j at p l m =
         reload_does program OfPlace a x.s.spilled 0 s j at (a + 4) shown p l n' [] spill_0
@@ -162,8 +162,8 @@ module _ (program : Program) (accepted : IsAccepted program) where
         ))
 
     -- the second load, where the line is readable
-    loads_again : (n' : Local) → is_readable_state (n'.state (line_of address)) ≡ true
-        → is_mapped (class_at program address) ≡ true → (j at : ℕ) (l : Lane)
+    loads_again : (n' : NodeMemory) → is_readable_state (n'.state (line_of address)) ≡ true
+        → is_mapped (class_at program address) ≡ true → (j at : ℕ) (l : ProcessorState)
         → Mid program hides a q l → Does program OfPlace a j at again 0 q l n'
     loads_again n' readable mapped j at l m = go (is_aligned Word address) refl
       where
@@ -176,7 +176,7 @@ module _ (program : Program) (accepted : IsAccepted program) where
             (λ n2 later x1 y1 mid. ends n2 (j + 1) (next_pc at) _ _ mid)
 
     -- the look at the line's state: it isn't mapped, or the word is loaded again, once it may be
-    looks : (n : Local) (j at : ℕ) (l : Lane) → Mid program hides a q l
+    looks : (n : NodeMemory) (j at : ℕ) (l : ProcessorState) → Mid program hides a q l
         → Does program OfPlace a j at look 0 q l n
     looks n j at l m =
         read_missed program accepted a q m.place Word rs1 imm address again j at l n
@@ -187,9 +187,9 @@ module _ (program : Program) (accepted : IsAccepted program) where
         (lane_at x1 y1 l) (mid_at program a hides q l x1 y1 m))
 
     -- the branch past the look and the second load, where the register holds another value
-    compares : (n : Local) (j at b : ℕ) (p : Processor) (l : Lane) (v : ℕ) → at % 4 ≡ 0
+    compares : (n : NodeMemory) (j at b : ℕ) (p : Processor) (l : ProcessorState) (v : ℕ) → at % 4 ≡ 0
         → reg l.registers rd ≡ v → Mid program hides b p l → (t : Bool) → eqb v flag_word ≡ t
-        → ((k to : ℕ) (l' : Lane) → Mid program hides b p l'
+        → ((k to : ℕ) (l' : ProcessorState) → Mid program hides b p l'
         → Does program OfPlace a k to look (cond t 0 2) p l' n)
         → Does program OfPlace a j at flag 0 p l n
     compares n j at b p l v al is m t tells next =
@@ -213,13 +213,13 @@ module _ (program : Program) (accepted : IsAccepted program) where
         ∙ ap not (tells ∙ e) in
         go (j + 1) (next_pc at) l1 (next_aligned at al) m1 t refl takes)
       where
-        go : (k to : ℕ) (l1 : Lane) → to % 4 ≡ 0 → Mid program hides b p l1 → (u : Bool) → t ≡ u
+        go : (k to : ℕ) (l1 : ProcessorState) → to % 4 ≡ 0 → Mid program hides b p l1 → (u : Bool) → t ≡ u
             → ((u : Bool) → t ≡ u
             → taken Ne (reg l1.registers rd) (reg l1.registers s) ≡ not u)
             → Does program OfPlace a k to compare 0 p l1 n
         go k to l1 al1 m1 true e takes =
             own_next program OfPlace a k to (Branch Ne rd s (pos 12)) look p l1 l1 n
-            (λ (n' : Local). ap (λ z. native program a to l1 n'
+            (λ (n' : NodeMemory). ap (λ z. native program a to l1 n'
             (branch_demand z (offset_address to (pos 12)))) (takes true e))
             (λ x y. subst (λ z. Does program OfPlace a (k + 1) (next_pc to) look (cond z 0 2) p
             (lane_at x y l1) n) e
@@ -234,24 +234,24 @@ module _ (program : Program) (accepted : IsAccepted program) where
             (next (k + 1) (next_pc to) (lane_at x y l1) (mid_at program b hides p l1 x y m1)))
 
     -- the first load leads on, by the node as it is then
-    abbrev FirstLoads : ℕ → ℕ → Lane → Local → Type 0
+    abbrev FirstLoads : ℕ → ℕ → ProcessorState → NodeMemory → Type 0
     FirstLoads j at l n =
         FirstLeads program OfPlace a j at (Does program OfPlace a (j + 1) (next_pc at) flag) first q
         l n
 
     -- the first load gives the flag word, and doesn't commit
-    gives_flag : (n : Local) (j at : ℕ) (l : Lane) (v : ℕ) → at % 4 ≡ 0 → Mid program hides a q l
+    gives_flag : (n : NodeMemory) (j at : ℕ) (l : ProcessorState) (v : ℕ) → at % 4 ≡ 0 → Mid program hides a q l
         → execute program a at (Native word) l n ≡ load_outcome l n load_kind.Word rd address v
         → eqb v flag_word ≡ true
         → FirstLoads j at l n
     gives_flag n j at l v al m is tells =
         let K : Rest = λ z. Does program OfPlace a (j + 1) (next_pc at) flag z in
         let done = load_outcome l n load_kind.Word rd address v in
-        let quiet : commits_by IfNotFlag done ≡ false = ap not tells in
-        subst (λ (r : Outcome). Leads program OfPlace a j at K q n r IfNotFlag r.move) (sym is)
+        let silent : commits_by IfNotFlag done ≡ false = ap not tells in
+        subst (λ (r : WordOutcome). Leads program OfPlace a j at K q n r IfNotFlag r.move) (sym is)
         (subst (Continues program (IsWhere program OfPlace a j q)
         (λ p. (x y : ℕ) → K 0 p (lane_at x y done.lane) n) q n done)
-        (sym quiet) (
+        (sym silent) (
           refl,
           refl,
           λ x1 y1. compares n (j + 1) (next_pc at) a q (lane_at x1 y1 (with_reg l rd v)) v
@@ -263,7 +263,7 @@ module _ (program : Program) (accepted : IsAccepted program) where
         ))
 
     -- the first load, by the node as it is then
-    loads_now : (n : Local) → Suits program n → (j at : ℕ) (l : Lane) → at % 4 ≡ 0
+    loads_now : (n : NodeMemory) → Suits program n → (j at : ℕ) (l : ProcessorState) → at % 4 ≡ 0
         → address < 2 ^ 31 → Mid program hides a q l
         → FirstLoads j at l n
     loads_now n suits j at l al low m = go (is_aligned Word address) refl
@@ -331,12 +331,12 @@ module _ (program : Program) (accepted : IsAccepted program) where
             base_shown n OfPlace a j at l IfNotFlag flag refl f m
         go true f = by_class f (class_at program address) refl
 
-    loads_first : (n : Local) (j at : ℕ) (l : Lane) → at % 4 ≡ 0 → address < 2 ^ 31
+    loads_first : (n : NodeMemory) (j at : ℕ) (l : ProcessorState) → at % 4 ≡ 0 → address < 2 ^ 31
         → Mid program hides a q l → Does program OfPlace a j at first 0 q l n
     loads_first n j at l al low m = λ n' since. loads_now n' since.0 j at l al low m
 
     -- the address in s, and the branch to the look where it is of the upper half
-    begins : (n : Local) (j at : ℕ) (l : Lane) → at % 4 ≡ 0 → Mid program hides a q l
+    begins : (n : NodeMemory) (j at : ℕ) (l : ProcessorState) → at % 4 ≡ 0 → Mid program hides a q l
         → Does program OfPlace a j at (own (OpImm imm_op.Add s rs1 imm) test) 0 q l n
     begins n j at l al m =
         own_sets program OfPlace a j at (OpImm imm_op.Add s rs1 imm) test q l n s address
@@ -349,7 +349,7 @@ module _ (program : Program) (accepted : IsAccepted program) where
         (mid_at program a hides q (with_reg l s address) x1 y1
         (own_set program a hides q l s address hidden_s m)) (ltb address (2 ^ 31)) refl)
       where
-        tests : (k to : ℕ) (l1 : Lane) → to % 4 ≡ 0 → reg l1.registers s ≡ address
+        tests : (k to : ℕ) (l1 : ProcessorState) → to % 4 ≡ 0 → reg l1.registers s ≡ address
             → Mid program hides a q l1 → (t : Bool) → ltb address (2 ^ 31) ≡ t
             → Does program OfPlace a k to test 0 q l1 n
         tests k to l1 al1 is m1 t tells = go t tells
@@ -363,7 +363,7 @@ module _ (program : Program) (accepted : IsAccepted program) where
             go true e =
                 let low : address < 2 ^ 31 = grind (arith, nat_tests) in
                 own_next program OfPlace a k to (Branch Lt s 0 (pos 16)) first q l1 l1 n
-                (λ (n' : Local). ap (λ z. native program a to l1 n'
+                (λ (n' : NodeMemory). ap (λ z. native program a to l1 n'
                 (branch_demand z (offset_address to (pos 16)))) (takes true e))
                 (λ x y. loads_first n (k + 1) (next_pc to) (lane_at x y l1) (next_aligned to al1)
                 low
@@ -377,7 +377,7 @@ module _ (program : Program) (accepted : IsAccepted program) where
                 (lane_at x y l1) (mid_at program a hides q l1 x y m1))
 
     -- from the head of the place to the next head
-    pub flag_load_does : (n : Local) (at : ℕ) (l : Lane) → AtHead program a q l → at % 4 ≡ 0
+    pub flag_load_does : (n : NodeMemory) (at : ℕ) (l : ProcessorState) → AtHead program a q l → at % 4 ≡ 0
         → Does program OfPlace a 0 at (flag_load_sequence x rd rs1 imm) 0 q l n
     flag_load_does n at l head al =
         spill_does program OfPlace a x.s.spilled 0 s 0 at shown q l n

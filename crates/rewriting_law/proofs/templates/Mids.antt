@@ -25,7 +25,7 @@ use Rattle.runtime_words.specs.declared.RtWord.TheVariants.{Native}
 use Rattle.templates.specs.declared.commits.CommitKind.TheVariants.{Never}
 use Rattle.templates.specs.declared.plans.Scratches.{Scratches}
 use Rattle.templates.specs.Sequences.{SequenceItem, own, spill_offset, spill_by, reload_by, state_look}
-use Rattle.dsm_protocol.specs.node_model.Node.{Lane, Local, Outcome, Next, To, go_on, set_register, native, load, StateOf, Spill, region_of, execute}
+use Rattle.dsm_protocol.specs.node_model.Node.{ProcessorState, NodeMemory, WordOutcome, Next, To, only_moves, set_register, native, load, StateOf, Spill, region_of, execute}
 use Rattle.rewriting_law.proofs.templates.RegisterLemmas.{apart, equal, reg_zero, put_here, put_other}
 use Rattle.rewriting_law.proofs.templates.States.{Suits, Later}
 use Rattle.rewriting_law.proofs.templates.Does.{SequenceKind, place_of, lane_at, skip_to, Leads, Does, does_later}
@@ -36,7 +36,7 @@ pub data Hide : Type 0 where
   In : (k : ℕ) → Hide
 
 -- where the value of a live register is
-abbrev pub Holds : Hide → ℕ → Processor → Lane → Type 0
+abbrev pub Holds : Hide → ℕ → Processor → ProcessorState → Type 0
 Holds Shown r q l = reg l.registers r ≡ reg q.registers r
 Holds Dead r q l = ⊥
 Holds (In k) r q l = l.spills k ≡ reg q.registers r
@@ -59,38 +59,38 @@ abbrev pub Free : ℕ → Hide → Type 0
 Free k (In j) = j ≢ k
 Free k h = Unit {0}
 
-pub record Mid (program : Program) (h : ℕ → Hide) (a : ℕ) (q : Processor) (l : Lane) : Type 0 where
+pub record Mid (program : Program) (h : ℕ → Hide) (a : ℕ) (q : Processor) (l : ProcessorState) : Type 0 where
   pub place : q.pc ≡ a
   pub running : q.exit ≡ None
   pub agree : (r : ℕ) → Live program.code r a → Holds (h r) r q l
   pub private : l.private ≡ q.private
   pub written : l.written ≡ q.written
 
-abbrev pub with_reg : Lane → ℕ → ℕ → Lane
+abbrev pub with_reg : ProcessorState → ℕ → ℕ → ProcessorState
 with_reg l r v = set_register l r v
 
-abbrev pub with_spill : Lane → ℕ → ℕ → Lane
+abbrev pub with_spill : ProcessorState → ℕ → ℕ → ProcessorState
 with_spill l k v = record l { spills = λ i. cond (eqb i k) v (l.spills i) }
 
-holds_put : (x : Hide) (r s v : ℕ) (q : Processor) (l : Lane) → r ≢ s → Holds x r q l
+holds_put : (x : Hide) (r s v : ℕ) (q : Processor) (l : ProcessorState) → r ≢ s → Holds x r q l
     → Holds x r q (with_reg l s v)
 holds_put Shown r s v q l e h = put_other l.registers s r v e ∙ h
 holds_put Dead r s v q l e h = h
 holds_put (In k) r s v q l e h = h
 
-holds_hidden : (x : Hide) (r s v : ℕ) (q : Processor) (l : Lane) → IsHidden x → Holds x r q l
+holds_hidden : (x : Hide) (r s v : ℕ) (q : Processor) (l : ProcessorState) → IsHidden x → Holds x r q l
     → Holds x r q (with_reg l s v)
 holds_hidden Shown r s v q l e h = absurd e
 holds_hidden Dead r s v q l e h = h
 holds_hidden (In k) r s v q l e h = h
 
-holds_spill : (x : Hide) (r k v : ℕ) (q : Processor) (l : Lane) → Free k x → Holds x r q l
+holds_spill : (x : Hide) (r k v : ℕ) (q : Processor) (l : ProcessorState) → Free k x → Holds x r q l
     → Holds x r q (with_spill l k v)
 holds_spill Shown r k v q l e h = h
 holds_spill Dead r k v q l e h = h
 holds_spill (In j) r k v q l e h = rw (apart j k e) h
 
-holds_at : (x : Hide) (r i j : ℕ) (q : Processor) (l : Lane) → Holds x r q l
+holds_at : (x : Hide) (r i j : ℕ) (q : Processor) (l : ProcessorState) → Holds x r q l
     → Holds x r q (lane_at i j l)
 holds_at Shown r i j q l h = h
 holds_at Dead r i j q l h = h
@@ -171,7 +171,7 @@ pub next_aligned : (at : ℕ) → at % 4 ≡ 0 → next_pc at % 4 ≡ 0
 next_aligned at h = omega arith
 
 module _ (program : Program) (a : ℕ) where
-  pub mid_at : (h : ℕ → Hide) (q : Processor) (l : Lane) (x y : ℕ) → Mid program h a q l
+  pub mid_at : (h : ℕ → Hide) (q : Processor) (l : ProcessorState) (x y : ℕ) → Mid program h a q l
       → Mid program h a q (lane_at x y l)
   mid_at h q l x y m = record {
     place = m.place;
@@ -184,7 +184,7 @@ module _ (program : Program) (a : ℕ) where
   }
 
   -- a register that isn't live, or is hidden, may be set
-  pub own_set : (h : ℕ → Hide) (q : Processor) (l : Lane) (s v : ℕ) → IsHidden (h s)
+  pub own_set : (h : ℕ → Hide) (q : Processor) (l : ProcessorState) (s v : ℕ) → IsHidden (h s)
       → Mid program h a q l → Mid program h a q (with_reg l s v)
   own_set h q l s v hidden m = record {
     place = m.place;
@@ -199,7 +199,7 @@ module _ (program : Program) (a : ℕ) where
   }
 
   -- a register that isn't live may be set
-  pub own_set_unused : (h : ℕ → Hide) (q : Processor) (l : Lane) (s v : ℕ)
+  pub own_set_unused : (h : ℕ → Hide) (q : Processor) (l : ProcessorState) (s v : ℕ)
       → (Live program.code s a → ⊥) → Mid program h a q l → Mid program h a q (with_reg l s v)
   own_set_unused h q l s v dead m = record {
     place = m.place;
@@ -212,12 +212,12 @@ module _ (program : Program) (a : ℕ) where
     written = m.written;
   }
 
-  pub read_shown : (h : ℕ → Hide) (q : Processor) (l : Lane) (r : ℕ) → Mid program h a q l
+  pub read_shown : (h : ℕ → Hide) (q : Processor) (l : ProcessorState) (r : ℕ) → Mid program h a q l
       → h r ≡ Shown → Live program.code r a → reg l.registers r ≡ reg q.registers r
   read_shown h q l r m e live = subst (λ x. Holds x r q l) e (m.agree r live)
 
   -- one more register hidden: spilled, or dead
-  hide_in : (h : ℕ → Hide) (k s : ℕ) (q : Processor) (l : Lane) → h s ≡ Shown
+  hide_in : (h : ℕ → Hide) (k s : ℕ) (q : Processor) (l : ProcessorState) → h s ≡ Shown
       → ((r : ℕ) → Free k (h r)) → Mid program h a q l
       → Mid program (hiding true k s h) a q (with_spill l k (reg l.registers s))
   hide_in h k s q l sh free m = record {
@@ -232,7 +232,7 @@ module _ (program : Program) (a : ℕ) where
     written = m.written;
   }
 
-  hide_dead : (h : ℕ → Hide) (k s : ℕ) (q : Processor) (l : Lane) → (Live program.code s a → ⊥)
+  hide_dead : (h : ℕ → Hide) (k s : ℕ) (q : Processor) (l : ProcessorState) → (Live program.code s a → ⊥)
       → Mid program h a q l → Mid program (hiding false k s h) a q l
   hide_dead h k s q l dead m = record {
     place = m.place;
@@ -247,7 +247,7 @@ module _ (program : Program) (a : ℕ) where
 
 -- and shown again, at another place
 module _ (program : Program) (b : ℕ) where
-  show_again : (h : ℕ → Hide) (k s : ℕ) (q : Processor) (l : Lane) → s ≢ 0 → h s ≡ Shown
+  show_again : (h : ℕ → Hide) (k s : ℕ) (q : Processor) (l : ProcessorState) → s ≢ 0 → h s ≡ Shown
       → Mid program (hiding true k s h) b q l → Mid program h b q (with_reg l s (l.spills k))
   show_again h k s q l s0 sh m = record {
     place = m.place;
@@ -262,7 +262,7 @@ module _ (program : Program) (b : ℕ) where
     written = m.written;
   }
 
-  show_dead : (h : ℕ → Hide) (k s : ℕ) (q : Processor) (l : Lane)
+  show_dead : (h : ℕ → Hide) (k s : ℕ) (q : Processor) (l : ProcessorState)
       → Mid program (hiding false k s h) b q l → Mid program h b q l
   show_dead h k s q l m = record {
     place = m.place;
@@ -276,22 +276,22 @@ module _ (program : Program) (b : ℕ) where
   }
 
 module _ (program : Program) (kind : SequenceKind) (a : ℕ) where
-  -- a word that isn't seen, and go_on to the next; it may see how the node is then
-  pub own_then : (k at : ℕ) (i : Instr) (rest : List SequenceItem) (q : Processor) (l : Lane)
-      (n : Local) (l' : Local → Lane)
-      → ((m : Local) → execute program (place_of kind a k) at (Native i) l m ≡ go_on (l' m) m Next)
-      → ((m : Local) → Suits program m → Later n m → (x y : ℕ)
+  -- a word that isn't seen, and only_moves to the next; it may see how the node is then
+  pub own_then : (k at : ℕ) (i : Instr) (rest : List SequenceItem) (q : Processor) (l : ProcessorState)
+      (n : NodeMemory) (l' : NodeMemory → ProcessorState)
+      → ((m : NodeMemory) → execute program (place_of kind a k) at (Native i) l m ≡ only_moves (l' m) m Next)
+      → ((m : NodeMemory) → Suits program m → Later n m → (x y : ℕ)
       → Does program kind a (k + 1) (next_pc at) rest 0 q (lane_at x y (l' m)) m)
       → Does program kind a k at (own i rest) 0 q l n
   own_then k at i rest q l n l' e go = λ m since.
-      subst (λ (r : Outcome). Leads program kind a k at (λ s. Does program kind a (k + 1)
+      subst (λ (r : WordOutcome). Leads program kind a k at (λ s. Does program kind a (k + 1)
       (next_pc at) rest s)
       q m r Never r.move) (sym (e m)) (refl, refl, go m since.0 (since.1 refl), refl)
 
   -- or not
-  pub own_next : (k at : ℕ) (i : Instr) (rest : List SequenceItem) (q : Processor) (l l' : Lane)
-      (n : Local)
-      → ((m : Local) → execute program (place_of kind a k) at (Native i) l m ≡ go_on l' m Next)
+  pub own_next : (k at : ℕ) (i : Instr) (rest : List SequenceItem) (q : Processor) (l l' : ProcessorState)
+      (n : NodeMemory)
+      → ((m : NodeMemory) → execute program (place_of kind a k) at (Native i) l m ≡ only_moves l' m Next)
       → ((x y : ℕ) → Does program kind a (k + 1) (next_pc at) rest 0 q (lane_at x y l') n)
       → Does program kind a k at (own i rest) 0 q l n
   own_next k at i rest q l l' n e go =
@@ -299,8 +299,8 @@ module _ (program : Program) (kind : SequenceKind) (a : ℕ) where
       does_later program kind a (k + 1) (next_pc at) rest 0 q (lane_at x y l') n m later (go x y))
 
   -- one that sets a register
-  pub own_sets : (k at : ℕ) (i : Instr) (rest : List SequenceItem) (q : Processor) (l : Lane)
-      (n : Local) (r v : ℕ) → demand_of i l.registers at ≡ Sets r v
+  pub own_sets : (k at : ℕ) (i : Instr) (rest : List SequenceItem) (q : Processor) (l : ProcessorState)
+      (n : NodeMemory) (r v : ℕ) → demand_of i l.registers at ≡ Sets r v
       → ((x y : ℕ) → Does program kind a (k + 1) (next_pc at) rest 0 q
       (lane_at x y (with_reg l r v)) n)
       → Does program kind a k at (own i rest) 0 q l n
@@ -308,15 +308,15 @@ module _ (program : Program) (kind : SequenceKind) (a : ℕ) where
       (λ m. ap (native program (place_of kind a k) at l m) e) go
 
   -- a branch past so many words
-  pub own_jumps : (s k at to : ℕ) (i : Instr) (rest : List SequenceItem) (q : Processor) (l : Lane)
-      (n : Local) → to % 4 ≡ 0 → to ≡ skip_to s (next_pc at)
+  pub own_jumps : (s k at to : ℕ) (i : Instr) (rest : List SequenceItem) (q : Processor) (l : ProcessorState)
+      (n : NodeMemory) → to % 4 ≡ 0 → to ≡ skip_to s (next_pc at)
       → demand_of i l.registers at ≡ Branches to
       → ((x y : ℕ) → Does program kind a (k + 1) (next_pc at) rest s q (lane_at x y l) n)
       → Does program kind a k at (own i rest) 0 q l n
   own_jumps s k at to i rest q l n four there e go = λ m since.
-      let acts : execute program (place_of kind a k) at (Native i) l m ≡ go_on l m (To to) =
+      let acts : execute program (place_of kind a k) at (Native i) l m ≡ only_moves l m (To to) =
       ap (native program (place_of kind a k) at l m) e ∙ rw (equal (to % 4) 0 four) refl in
-      subst (λ (r : Outcome). Leads program kind a k at (λ s. Does program kind a (k + 1)
+      subst (λ (r : WordOutcome). Leads program kind a k at (λ s. Does program kind a (k + 1)
       (next_pc at) rest s)
       q m r Never r.move) (sym acts) (
         s,
@@ -332,26 +332,26 @@ module _ (program : Program) (kind : SequenceKind) (a : ℕ) where
       )
 
   -- a branch past the next word
-  pub own_skips : (k at : ℕ) (i : Instr) (rest : List SequenceItem) (q : Processor) (l : Lane)
-      (n : Local) → at % 4 ≡ 0 → demand_of i l.registers at ≡ Branches (offset_address at (pos 8))
+  pub own_skips : (k at : ℕ) (i : Instr) (rest : List SequenceItem) (q : Processor) (l : ProcessorState)
+      (n : NodeMemory) → at % 4 ≡ 0 → demand_of i l.registers at ≡ Branches (offset_address at (pos 8))
       → ((x y : ℕ) → Does program kind a (k + 1) (next_pc at) rest 1 q (lane_at x y l) n)
       → Does program kind a k at (own i rest) 0 q l n
   own_skips k at i rest q l n m e go =
       own_jumps 1 k at (offset_address at (pos 8)) i rest q l n (omega arith) (omega arith) e go
 
   -- the spill of a scratch register, or nothing
-  pub spill_does : (spilled : Bool) (j s k at : ℕ) (h : ℕ → Hide) (q : Processor) (l : Lane)
-      (n : Local) (rest : List SequenceItem) → IsSpill j → h s ≡ Shown → ((r : ℕ) → Free j (h r))
+  pub spill_does : (spilled : Bool) (j s k at : ℕ) (h : ℕ → Hide) (q : Processor) (l : ProcessorState)
+      (n : NodeMemory) (rest : List SequenceItem) → IsSpill j → h s ≡ Shown → ((r : ℕ) → Free j (h r))
       → (spilled ≡ false → Live program.code s a → ⊥) → Mid program h a q l → at % 4 ≡ 0
-      → ((i to : ℕ) (l' : Lane) → i ≡ k + words_if spilled → to % 4 ≡ 0
+      → ((i to : ℕ) (l' : ProcessorState) → i ≡ k + words_if spilled → to % 4 ≡ 0
       → Mid program (hiding spilled j s h) a q l' → Does program kind a i to rest 0 q l' n)
       → Does program kind a k at (spill_by spilled j s rest) 0 q l n
   spill_does true j s k at h q l n rest i sh free dead m al go =
       let where_is : (reg l.registers 0 + unsigned 32 (spill_offset j)) % 2 ^ 32 ≡ i.address =
       ap (λ z. (z + unsigned 32 (spill_offset j)) % 2 ^ 32) (reg_zero l.registers) ∙ i.offset in
-      let acts : (m : Local) → execute program (place_of kind a k) at
+      let acts : (m : NodeMemory) → execute program (place_of kind a k) at
       (Native (Store Word 0 s (spill_offset j))) l m
-      ≡ go_on (with_spill l j (reg l.registers s)) m Next =
+      ≡ only_moves (with_spill l j (reg l.registers s)) m Next =
       λ m. ap (λ z. native program (place_of kind a k) at l m (Stores Word z (reg l.registers s)))
       where_is
       ∙ rw (i.aligns, i.is) refl in
@@ -363,18 +363,18 @@ module _ (program : Program) (kind : SequenceKind) (a : ℕ) where
       go k at l (omega arith) al (hide_dead program a h j s q l (dead refl) m)
 
   -- the reload of one, or nothing, when the processor is at place b
-  pub reload_does : (spilled : Bool) (j s k at b : ℕ) (h : ℕ → Hide) (q : Processor) (l : Lane)
-      (n : Local) (rest : List SequenceItem) → IsSpill j → s ≢ 0 → h s ≡ Shown
+  pub reload_does : (spilled : Bool) (j s k at b : ℕ) (h : ℕ → Hide) (q : Processor) (l : ProcessorState)
+      (n : NodeMemory) (rest : List SequenceItem) → IsSpill j → s ≢ 0 → h s ≡ Shown
       → Mid program (hiding spilled j s h) b q l
-      → ((i to : ℕ) (l' : Lane) → i ≡ k + words_if spilled → Mid program h b q l'
+      → ((i to : ℕ) (l' : ProcessorState) → i ≡ k + words_if spilled → Mid program h b q l'
       → Does program kind a i to rest 0 q l' n)
       → Does program kind a k at (reload_by spilled j s rest) 0 q l n
   reload_does true j s k at b h q l n rest i s0 sh m go =
       let where_is : (reg l.registers 0 + unsigned 32 (spill_offset j)) % 2 ^ 32 ≡ i.address =
       ap (λ z. (z + unsigned 32 (spill_offset j)) % 2 ^ 32) (reg_zero l.registers) ∙ i.offset in
-      let acts : (m : Local) → execute program (place_of kind a k) at (Native
+      let acts : (m : NodeMemory) → execute program (place_of kind a k) at (Native
       (Load load_kind.Word s 0 (spill_offset j))) l m
-      ≡ go_on (with_reg l s (l.spills j)) m Next =
+      ≡ only_moves (with_reg l s (l.spills j)) m Next =
       λ m. ap (λ z. native program (place_of kind a k) at l m (Loads load_kind.Word s z)) where_is
       ∙ rw (i.aligns, i.is) refl in
       own_next k at (Load load_kind.Word s 0 (spill_offset j)) rest q l (with_reg l s (l.spills j))
@@ -385,10 +385,10 @@ module _ (program : Program) (kind : SequenceKind) (a : ℕ) where
       go k at l (omega arith) (show_dead program b h j s q l m)
 
   -- a load of the state byte of a line, by a register that has where that is
-  state_byte : (k at s target : ℕ) (l : Lane) (n : Local) → target < 2 ^ 32
+  state_byte : (k at s target : ℕ) (l : ProcessorState) (n : NodeMemory) → target < 2 ^ 32
       → reg l.registers s ≡ (target / 64 + 2 ^ 31) % 2 ^ 32
       → execute program (place_of kind a k) at (Native (Load load_kind.ByteU s s (pos 0))) l n
-      ≡ go_on (with_reg l s (n.state (target / 64))) n Next
+      ≡ only_moves (with_reg l s (n.state (target / 64))) n Next
   state_byte k at s target l n low is =
       let there = ((target / 64 + 2 ^ 31) % 2 ^ 32 + 0) % 2 ^ 32 in
       ap (λ z. native program (place_of kind a k) at l n
@@ -398,11 +398,11 @@ module _ (program : Program) (kind : SequenceKind) (a : ℕ) where
 
   -- the state byte of the line of an address, in s, as the node is then
   pub look_does : (regs : Scratches) (rs1 : ℕ) (imm : ℤ) (k at : ℕ) (h : ℕ → Hide) (q : Processor)
-      (l : Lane) (n : Local) (rest : List SequenceItem) → regs.s.register ≢ 0 → regs.t.register ≢ 0
+      (l : ProcessorState) (n : NodeMemory) (rest : List SequenceItem) → regs.s.register ≢ 0 → regs.t.register ≢ 0
       → regs.s.register ≢ regs.t.register → IsHidden (h regs.s.register)
       → IsHidden (h regs.t.register) → h rs1 ≡ Shown → Live program.code rs1 a → Mid program h a q l
       → at % 4 ≡ 0
-      → ((m : Local) → Suits program m → (i to : ℕ) (l' : Lane) → i ≡ k + 5 → to % 4 ≡ 0
+      → ((m : NodeMemory) → Suits program m → (i to : ℕ) (l' : ProcessorState) → i ≡ k + 5 → to % 4 ≡ 0
       → Mid program h a q l'
       → reg l'.registers regs.s.register ≡ m.state (offset_address (reg q.registers rs1) imm / 64)
       → reg l'.registers regs.t.register ≡ 0x80000000
@@ -449,7 +449,7 @@ module _ (program : Program) (kind : SequenceKind) (a : ℕ) where
       let s4 : reg l4.registers s ≡ v4 = put_here l3.registers s v4 s0 in
       let there = next_pc (next_pc (next_pc (next_pc at))) in
       own_then (k + 1 + 1 + 1 + 1) there (Load load_kind.ByteU s s (pos 0)) rest q l4 n
-      (λ (n' : Local). with_reg l4 s (n'.state (target / 64)))
+      (λ (n' : NodeMemory). with_reg l4 s (n'.state (target / 64)))
       (λ n'. state_byte (k + 1 + 1 + 1 + 1) there s target l4 n' (omega arith) s4)
       (λ n' suits later x5 y5.
       let v5 = n'.state (target / 64) in
@@ -465,11 +465,11 @@ module _ (program : Program) (kind : SequenceKind) (a : ℕ) where
   -- the state byte of the line of a second address, in u, as the node is then, where t has
   -- where the state table is
   pub look_again_does : (regs : Scratches) (rs1 : ℕ) (imm : ℤ) (k at : ℕ) (h : ℕ → Hide)
-      (q : Processor) (l : Lane) (n : Local) (rest : List SequenceItem) → regs.u.register ≢ 0
+      (q : Processor) (l : ProcessorState) (n : NodeMemory) (rest : List SequenceItem) → regs.u.register ≢ 0
       → regs.t.register ≢ regs.u.register → regs.s.register ≢ regs.u.register
       → IsHidden (h regs.u.register) → h rs1 ≡ Shown → Live program.code rs1 a
       → reg l.registers regs.t.register ≡ 0x80000000 → Mid program h a q l → at % 4 ≡ 0
-      → ((m : Local) → Suits program m → Later n m → (i to : ℕ) (l' : Lane) → i ≡ k + 4
+      → ((m : NodeMemory) → Suits program m → Later n m → (i to : ℕ) (l' : ProcessorState) → i ≡ k + 4
       → to % 4 ≡ 0 → Mid program h a q l'
       → reg l'.registers regs.s.register ≡ reg l.registers regs.s.register
       → reg l'.registers regs.u.register ≡ m.state (offset_address (reg q.registers rs1) imm / 64)
@@ -512,7 +512,7 @@ module _ (program : Program) (kind : SequenceKind) (a : ℕ) where
       let u3 : reg l3.registers u ≡ v3 = put_here l2.registers u v3 u0 in
       let there = next_pc (next_pc (next_pc at)) in
       own_then (k + 1 + 1 + 1) there (Load load_kind.ByteU u u (pos 0)) rest q l3 n
-      (λ (n' : Local). with_reg l3 u (n'.state (target / 64)))
+      (λ (n' : NodeMemory). with_reg l3 u (n'.state (target / 64)))
       (λ n'. state_byte (k + 1 + 1 + 1) there u target l3 n' (omega arith) u3)
       (λ n' suits later x4 y4.
       let v4 = n'.state (target / 64) in

@@ -24,7 +24,7 @@ use Rattle.templates.specs.declared.commits.CommitKind.TheVariants.{Always}
 use Rattle.templates.specs.declared.plans.Scratches.{Scratches}
 use Rattle.templates.specs.Plans.{HasTwoScratches}
 use Rattle.templates.specs.Sequences.{SequenceItem, committing, own, checking, state_look, reloads, read_sequence, state_load_sequence, write_sequence, store_sequence}
-use Rattle.dsm_protocol.specs.node_model.Node.{Lane, Local, is_readable_state, is_writable_state, local_stored, lane_stored, native}
+use Rattle.dsm_protocol.specs.node_model.Node.{ProcessorState, NodeMemory, is_readable_state, is_writable_state, local_stored, lane_stored, native}
 use Rattle.rewriting_law.proofs.templates.RegisterLemmas.{reg_zero, put_here}
 use Rattle.rewriting_law.proofs.templates.States.{Suits, ReadLook, Gone, Readable, Unreadable, read_look, WriteLook, Fixed, Writable, Unwritable, write_look}
 use Rattle.rewriting_law.proofs.templates.Does.{OfPlace, AtHead, lane_at, StandsToStore, Does}
@@ -45,7 +45,7 @@ module _ (program : Program) (accepted : IsAccepted program) where
       tested_shown : hides rs1 ≡ Shown
       tested_shown = source_shown program accepted a rs1 i regs two base
 
-      same_tested : (l : Lane) → Mid program hides a q l
+      same_tested : (l : ProcessorState) → Mid program hides a q l
           → offset_address (reg l.registers rs1) imm ≡ tested
       same_tested l m = ap (λ z. offset_address z imm)
           (read_shown program a hides q l rs1 m tested_shown (uses i c base))
@@ -57,20 +57,20 @@ module _ (program : Program) (accepted : IsAccepted program) where
       -- which holds wherever the node may read the line then, or write it
       abbrev AfterRead : Type 0
       AfterRead =
-          (n' : Local) → is_readable_state (n'.state (line_of tested)) ≡ true
-          → is_mapped (class_at program tested) ≡ true → (j at : ℕ) (l : Lane)
+          (n' : NodeMemory) → is_readable_state (n'.state (line_of tested)) ≡ true
+          → is_mapped (class_at program tested) ≡ true → (j at : ℕ) (l : ProcessorState)
           → Mid program hides a q l → Does program OfPlace a j at word_behind 0 q l n'
 
       abbrev AfterWrite : Type 0
       AfterWrite =
-          (n' : Local) → is_writable_state (n'.state (line_of tested)) ≡ true
+          (n' : NodeMemory) → is_writable_state (n'.state (line_of tested)) ≡ true
           → is_writable (class_at program tested) ≡ true
-          → is_mapped (class_at program tested) ≡ true → (j at : ℕ) (l : Lane)
+          → is_mapped (class_at program tested) ≡ true → (j at : ℕ) (l : ProcessorState)
           → Mid program hides a q l → Does program OfPlace a j at word_behind 0 q l n'
 
       -- the branch past the look before a read
       read_branch : AfterRead → Refuses program q w tested (is_mapped (class_at program tested))
-          → (n : Local) → Suits program n → (j at : ℕ) (l : Lane) → at % 4 ≡ 0
+          → (n : NodeMemory) → Suits program n → (j at : ℕ) (l : ProcessorState) → at % 4 ≡ 0
           → reg l.registers regs.s.register ≡ bit_and (n.state (line_of tested)) 2
           → Mid program hides a q l → Does program OfPlace a j at
           (own (Branch Eq regs.s.register 0 (pos 8)) (checking (MissR w rs1 imm) word_behind)) 0 q l
@@ -94,7 +94,7 @@ module _ (program : Program) (accepted : IsAccepted program) where
               → Does program OfPlace a j at (own (Branch Eq regs.s.register 0 (pos 8)) rest) 0 q l n
           misses z =
               own_next program OfPlace a j at (Branch Eq regs.s.register 0 (pos 8)) rest q l l n
-              (λ (n' : Local). ap (λ b. native program a at l n'
+              (λ (n' : NodeMemory). ap (λ b. native program a at l n'
               (branch_demand b (offset_address at (pos 8)))) (tests false z))
               (λ x y. read_missed program accepted a q m.place w rs1 imm tested word_behind (j + 1)
               (next_pc at)
@@ -114,7 +114,7 @@ module _ (program : Program) (accepted : IsAccepted program) where
               (mid_at program a hides q l x y m))
 
       pub read_does : AfterRead → Refuses program q w tested (is_mapped (class_at program tested))
-          → (n : Local) (at : ℕ) (l : Lane) → AtHead program a q l → at % 4 ≡ 0
+          → (n : NodeMemory) (at : ℕ) (l : ProcessorState) → AtHead program a q l → at % 4 ≡ 0
           → Does program OfPlace a 0 at (read_sequence regs w rs1 imm i) 0 q l n
       read_does word ends n at l head al =
           let rest2 = own (Branch Eq regs.s.register 0 (pos 8))
@@ -127,7 +127,7 @@ module _ (program : Program) (accepted : IsAccepted program) where
           two.t.nonzero
           two.apart (hidden_s program accepted regs) (hidden_t program accepted regs two.apart)
           tested_shown (uses i c base) m1 al1
-          (λ (n' : Local) suits j2 to2 l2 e2 al2 m2 state table.
+          (λ (n' : NodeMemory) suits j2 to2 l2 e2 al2 m2 state table.
           let v = bit_and (n'.state (line_of tested)) 2 in
           let now : alu op.And (reg l2.registers regs.s.register) 2 ≡ v =
           alu_and (reg l2.registers regs.s.register) 2 ∙ ap (λ z. bit_and z 2) state in
@@ -143,7 +143,7 @@ module _ (program : Program) (accepted : IsAccepted program) where
       -- the branch past the look before a write
       write_branch : AfterWrite → StandsToStore program q tested
           → Refuses program q w tested (is_writable (class_at program tested))
-          → (n : Local) → Suits program n → (j at : ℕ) (l : Lane) → at % 4 ≡ 0
+          → (n : NodeMemory) → Suits program n → (j at : ℕ) (l : ProcessorState) → at % 4 ≡ 0
           → reg l.registers regs.s.register ≡ n.state (line_of tested)
           → Mid program hides a q l → Does program OfPlace a j at
           (own (Branch Eq regs.s.register 0 (pos 8)) (checking (MissW w rs1 imm) word_behind)) 0 q l
@@ -167,7 +167,7 @@ module _ (program : Program) (accepted : IsAccepted program) where
               → Does program OfPlace a j at (own (Branch Eq regs.s.register 0 (pos 8)) rest) 0 q l n
           misses z =
               own_next program OfPlace a j at (Branch Eq regs.s.register 0 (pos 8)) rest q l l n
-              (λ (n' : Local). ap (λ b. native program a at l n'
+              (λ (n' : NodeMemory). ap (λ b. native program a at l n'
               (branch_demand b (offset_address at (pos 8)))) (tests false z))
               (λ x y. write_missed program accepted a q m.place w rs1 imm tested word_behind (j + 1)
               (next_pc at)
@@ -191,7 +191,7 @@ module _ (program : Program) (accepted : IsAccepted program) where
           → ((layout : Shape) (b : ℕ)
           → stores_in layout b (demand_of i q.registers q.pc) ≡ is_in_block layout b tested)
           → Refuses program q w tested (is_writable (class_at program tested))
-          → (n : Local) (at : ℕ) (l : Lane) → AtHead program a q l → at % 4 ≡ 0
+          → (n : NodeMemory) (at : ℕ) (l : ProcessorState) → AtHead program a q l → at % 4 ≡ 0
           → Does program OfPlace a 0 at (write_sequence regs w rs1 imm i) 0 q l n
       write_does word same ends n at l head al =
           let rest1 = own (Branch Eq regs.s.register 0 (pos 8))
@@ -203,7 +203,7 @@ module _ (program : Program) (accepted : IsAccepted program) where
           two.t.nonzero
           two.apart (hidden_s program accepted regs) (hidden_t program accepted regs two.apart)
           tested_shown (uses i c base) m1 al1
-          (λ (n' : Local) suits j2 to2 l2 e2 al2 m2 state table.
+          (λ (n' : NodeMemory) suits j2 to2 l2 e2 al2 m2 state table.
           write_branch word (stands_to_store program accepted a q i tested head.place c same) ends
           n' suits j2 to2 l2 al2
           state m2))
@@ -218,8 +218,8 @@ module _ (program : Program) (accepted : IsAccepted program) where
       access = load_address program accepted a q hides k rd rs1 imm c base_shown
 
       -- the original load, where its line is readable
-      load_word : (n' : Local) → is_readable_state (n'.state (line_of access)) ≡ true
-          → is_mapped (class_at program access) ≡ true → (j at : ℕ) (l : Lane)
+      load_word : (n' : NodeMemory) → is_readable_state (n'.state (line_of access)) ≡ true
+          → is_mapped (class_at program access) ≡ true → (j at : ℕ) (l : ProcessorState)
           → Mid program hides a q l → Does program OfPlace a j at
           (committing (Native (Load k rd rs1 imm)) (reloads regs)) 0 q l n'
       load_word n' readable mapped j at l m = go (is_aligned (width_of k) access) refl
@@ -242,7 +242,7 @@ module _ (program : Program) (accepted : IsAccepted program) where
               (set_register q rd v)
               (lane_at x y (with_reg l rd v)) n2 regs c two mid)
 
-      pub state_load_does : (n : Local) (at : ℕ) (l : Lane) → AtHead program a q l → at % 4 ≡ 0
+      pub state_load_does : (n : NodeMemory) (at : ℕ) (l : ProcessorState) → AtHead program a q l → at % 4 ≡ 0
           → Does program OfPlace a 0 at (state_load_sequence regs k rd rs1 imm) 0 q l n
       state_load_does n at l head al =
           read_does (width_of k) rs1 imm (Load k rd rs1 imm) c (inr (0, lit< tt, refl)) two
@@ -263,9 +263,9 @@ module _ (program : Program) (accepted : IsAccepted program) where
           (inr (1, lit< tt, refl))
 
       -- the original store, where its line is writable
-      store_word : (n' : Local) → is_writable_state (n'.state (line_of tested_address)) ≡ true
+      store_word : (n' : NodeMemory) → is_writable_state (n'.state (line_of tested_address)) ≡ true
           → is_writable (class_at program tested_address) ≡ true
-          → is_mapped (class_at program tested_address) ≡ true → (j at : ℕ) (l : Lane)
+          → is_mapped (class_at program tested_address) ≡ true → (j at : ℕ) (l : ProcessorState)
           → Mid program hides a q l
           → Does program OfPlace a j at (committing (Native (Store w rs1 rs2 imm)) (reloads regs)) 0
           q l n'
@@ -279,7 +279,7 @@ module _ (program : Program) (accepted : IsAccepted program) where
           (lane_at x y (lane_stored program l w tested_address v))
           (local_stored program n2 w tested_address v) regs c two mid)
 
-      pub store_does : (n : Local) (at : ℕ) (l : Lane) → AtHead program a q l → at % 4 ≡ 0
+      pub store_does : (n : NodeMemory) (at : ℕ) (l : ProcessorState) → AtHead program a q l → at % 4 ≡ 0
           → Does program OfPlace a 0 at (store_sequence regs w rs1 rs2 imm) 0 q l n
       store_does n at l head al =
           write_does w rs1 imm (Store w rs1 rs2 imm) c (inr (0, lit< tt, refl)) two store_word

@@ -34,12 +34,12 @@ use Rattle.templates.specs.declared.plans.PlanEntry.{PlanEntry}
 use Rattle.templates.specs.declared.plans.Scratches.{Scratches}
 use Rattle.templates.specs.declared.plans.Template.TheVariants as template
 use Rattle.templates.specs.Places.{IsPlace}
-use Rattle.templates.specs.Plans.{looks_at_value, may_poll, HasScratches, HasScratchesAt, template_at}
+use Rattle.templates.specs.Plans.{is_flag_checked, may_poll, HasScratches, HasScratchesAt, template_at}
 use Rattle.templates.specs.Sequences.{SequenceItem, committing, with_word, to_head, constant, upper_part, lower_part, inverse, load_sequence, branch_sequence, jump_sequence, is_multiple_of_four, instruction_items, place_items, poll_first, items_of}
-use Rattle.home_directory.specs.declared.messages.Need.TheVariants.{Read}
+use Rattle.home_directory.specs.dsm_messages.declared.messages.Need.TheVariants.{Read}
 use Rattle.home_directory.specs.flag_memory.Flag.{flag_byte}
 use Rattle.dsm_protocol.specs.node_model.Node as node
-use Rattle.dsm_protocol.specs.node_model.Node.{Lane, Local, Outcome, Next, To, Enters, Waits, SameWord, go_on, exit_by, is_readable_state, byte_at, native, make_call, print_byte, lane_after_call, indirect, execute}
+use Rattle.dsm_protocol.specs.node_model.Node.{ProcessorState, NodeMemory, WordOutcome, Next, To, Enters, Waits, SameWord, only_moves, exit_by, is_readable_state, byte_at, native, make_call, print_byte, lane_after_call, indirect, execute}
 use Rattle.rewriting_law.proofs.templates.RegisterLemmas.{apart, equal, put_here, put_both, put_twice, put_zero}
 use Rattle.rewriting_law.proofs.templates.States.{Suits, ReadLook, Gone, Readable, Unreadable, read_look}
 use Rattle.rewriting_law.proofs.templates.Does.{OfPlace, AtHead, byte_seen, lane_at, skip_to, Commits, Leads, Does, does_later}
@@ -50,7 +50,7 @@ use Rattle.rewriting_law.proofs.templates.Checked.{asks, next_is, byte_mapped, l
 use Rattle.rewriting_law.proofs.templates.StateChecks.{state_load_does, store_does}
 use Rattle.rewriting_law.proofs.templates.Flagged.{flag_load_does}
 
--- where a code word go_on, a place is
+-- where a code word only_moves, a place is
 pub aligned_place : (program : Program) (a b : ℕ) (i : Instr) → program.code a ≡ Some i
     → target_of i a ≡ Some b → b % 4 ≡ 0 → IsPlace program.code b
 aligned_place program a b i h t m = go (program.code b) refl
@@ -67,7 +67,7 @@ aligned_place program a b i h t m = go (program.code b) refl
       leads = inr t;
     })
 
-head_at : (program : Program) (b : ℕ) (q : Processor) (l : Lane) (x y : ℕ) → AtHead program b q l
+head_at : (program : Program) (b : ℕ) (q : Processor) (l : ProcessorState) (x y : ℕ) → AtHead program b q l
     → AtHead program b q (lane_at x y l)
 head_at program b q l x y h = record {
   place = h.place;
@@ -112,21 +112,21 @@ number_in rd c f small r = elim (eqb_tells rd 0) [
 ]
 
 module _ (program : Program) (accepted : IsAccepted program) where
-  module _ (a : ℕ) (q : Processor) (l : Lane) (n : Local) (head : AtHead program a q l) where
+  module _ (a : ℕ) (q : Processor) (l : ProcessorState) (n : NodeMemory) (head : AtHead program a q l) where
     -- a word that commits by itself, where the processor asks for nothing of the memory
-    becomes : (k at : ℕ) (i : Instr) (rest : List SequenceItem) (q' : Processor) (l' : Lane)
-        → ((m : Local) → execute program a at (Native i) l m ≡ go_on l' m Next)
+    becomes : (k at : ℕ) (i : Instr) (rest : List SequenceItem) (q' : Processor) (l' : ProcessorState)
+        → ((m : NodeMemory) → execute program a at (Native i) l m ≡ only_moves l' m Next)
         → request program q ≡ Becomes q' → q'.exit ≡ None
         → ((x y : ℕ) → Does program OfPlace a (k + 1) (next_pc at) rest 0 q' (lane_at x y l') n)
         → Does program OfPlace a k at (committing (Native i) rest) 0 q l n
     becomes k at i rest q' l' is ask run go = λ m since.
-        subst (λ (r : Outcome). Leads program OfPlace a k at
+        subst (λ (r : WordOutcome). Leads program OfPlace a k at
         (λ s. Does program OfPlace a (k + 1) (next_pc at) rest s) q m r Always r.move)
         (sym (is m)) (
           head.place,
           tt,
           subst (Commits program (λ p. (x y : ℕ) → Does program OfPlace a (k + 1) (next_pc at) rest
-              0 p (lane_at x y l') m) q m (go_on l' m Next)) (sym ask) (
+              0 p (lane_at x y l') m) q m (only_moves l' m Next)) (sym ask) (
                 run,
                 refl,
                 refl,
@@ -137,7 +137,7 @@ module _ (program : Program) (accepted : IsAccepted program) where
         )
 
     -- one that ends the processor
-    ends_here : (n' : Local) (k at : ℕ) (w : RtWord) (m : CommitKind) (rest : List SequenceItem)
+    ends_here : (n' : NodeMemory) (k at : ℕ) (w : RtWord) (m : CommitKind) (rest : List SequenceItem)
         (e : Ending)
         → execute program a at w l n' ≡ exit_by l n' e → request program q ≡ Becomes (with_exit q e)
         → Leads program OfPlace a k at (λ s. Does program OfPlace a (k + 1) (next_pc at) rest s) q
@@ -155,7 +155,7 @@ module _ (program : Program) (accepted : IsAccepted program) where
         let ask : request program q ≡ Becomes (set_register q rd v) =
         asks program a q i head.place h ∙ ap (request_for program q) there in
         becomes 0 at i [] (set_register q rd v) (node.set_register l rd v)
-        (λ (m : Local). ap (native program a at l m) here) ask head.running
+        (λ (m : NodeMemory). ap (native program a at l m) here) ask head.running
         (λ x y. (
           (i, h),
           record {
@@ -188,7 +188,7 @@ module _ (program : Program) (accepted : IsAccepted program) where
     -- a number in a register by two words, of which the second commits
     constant_does : (k at rd c : ℕ) (rest : List SequenceItem) (q' : Processor) → c < 2 ^ 32
         → request program q ≡ Becomes q' → q'.exit ≡ None
-        → ((x y : ℕ) (l' : Lane) → ((r : ℕ) → reg l'.registers r ≡ reg (put l.registers rd c) r)
+        → ((x y : ℕ) (l' : ProcessorState) → ((r : ℕ) → reg l'.registers r ≡ reg (put l.registers rd c) r)
         → l'.private ≡ l.private → l'.written ≡ l.written
         → Does program OfPlace a (k + 1 + 1) (next_pc (next_pc at)) rest 0 q' (lane_at x y l') n)
         → Does program OfPlace a k at (constant rd c rest) 0 q l n
@@ -199,18 +199,18 @@ module _ (program : Program) (accepted : IsAccepted program) where
         let l1 = lane_at x y (node.set_register l rd (upper_part c * 2 ^ 12)) in
         let v = (reg l1.registers rd + unsigned 32 (lower_part c)) % 2 ^ 32 in
         let l2 = node.set_register l1 rd v in
-        λ (n' : Local) since.
+        λ (n' : NodeMemory) since.
         let is : execute program a (next_pc at) (Native (OpImm imm_op.Add rd rd (lower_part c))) l1
-        n' ≡ go_on l2 n' Next =
+        n' ≡ only_moves l2 n' Next =
         ap (λ z. native program a (next_pc at) l1 n' (Sets rd z))
         (alu_add (reg l1.registers rd) (unsigned 32 (lower_part c))) in
-        subst (λ (r : Outcome). Leads program OfPlace a (k + 1) (next_pc at)
+        subst (λ (r : WordOutcome). Leads program OfPlace a (k + 1) (next_pc at)
         (λ s. Does program OfPlace a (k + 1 + 1) (next_pc (next_pc at)) rest s) q n' r Always
         r.move) (sym is) (
           head.place,
           tt,
           subst (Commits program (λ p. (x y : ℕ) → Does program OfPlace a (k + 1 + 1)
-              (next_pc (next_pc at)) rest 0 p (lane_at x y l2) n') q n' (go_on l2 n' Next))
+              (next_pc (next_pc at)) rest 0 p (lane_at x y l2) n') q n' (only_moves l2 n' Next))
               (sym ask) (
                 run,
                 refl,
@@ -336,10 +336,10 @@ module _ (program : Program) (accepted : IsAccepted program) where
           rest : List SequenceItem
           rest = to_head t
 
-          K : ℕ → Processor → Lane → Local → Type 0
+          K : ℕ → Processor → ProcessorState → NodeMemory → Type 0
           K = λ s. Does program OfPlace a (j + 1) (next_pc at) rest s
 
-          acts : (n' : Local) (b : Bool) → is_taken ≡ b → execute program a at
+          acts : (n' : NodeMemory) (b : Bool) → is_taken ≡ b → execute program a at
               (Native (Branch (inverse c) rs1 rs2 (pos 8))) l n'
               ≡ native program a at l n' (branch_demand (not b) (offset_address at (pos 8)))
           acts n' b e = ap (λ z. native program a at l n'
@@ -370,14 +370,14 @@ module _ (program : Program) (accepted : IsAccepted program) where
                   written = head.written;
                 },
               ))
-          go false e = λ (n' : Local) since.
+          go false e = λ (n' : NodeMemory) since.
               let ask : request program q ≡ Becomes (to_next q) = asks_branch false e in
               let eight : offset_address at (pos 8) % 4 ≡ 0 = omega arith in
               let is : execute program a at (Native (Branch (inverse c) rs1 rs2 (pos 8))) l n'
-              ≡ go_on l n' (To (offset_address at (pos 8))) = acts n' false e
+              ≡ only_moves l n' (To (offset_address at (pos 8))) = acts n' false e
               ∙ rw (equal (offset_address at (pos 8) % 4) 0 eight) refl in
               let there : offset_address at (pos 8) ≡ skip_to 1 (next_pc at) = omega arith in
-              subst (λ (r : Outcome). Leads program OfPlace a j at K q n' r Always r.move)
+              subst (λ (r : WordOutcome). Leads program OfPlace a j at K q n' r Always r.move)
               (sym is) (
                 1,
                 there,
@@ -385,7 +385,7 @@ module _ (program : Program) (accepted : IsAccepted program) where
                   head.place,
                   tt,
                   subst (Commits program (λ p. (x y : ℕ) → K 1 p (lane_at x y l) n') q n'
-                      (go_on l n' (To (offset_address at (pos 8))))) (sym ask) (
+                      (only_moves l n' (To (offset_address at (pos 8))))) (sym ask) (
                         head.running,
                         refl,
                         refl,
@@ -403,7 +403,7 @@ module _ (program : Program) (accepted : IsAccepted program) where
           t : ℕ
           t = offset_address a offset
 
-          acts : (n' : Local) (b : Bool) → is_taken ≡ b → execute program a at
+          acts : (n' : NodeMemory) (b : Bool) → is_taken ≡ b → execute program a at
               (Native (Branch c rs1 rs2 (pos 2))) l n'
               ≡ native program a at l n' (branch_demand b (offset_address at (pos 2)))
           acts n' b e = ap (λ z. native program a at l n'
@@ -443,10 +443,10 @@ module _ (program : Program) (accepted : IsAccepted program) where
         same : (r : ℕ) → reg l.registers r ≡ reg q.registers r
         same r = head.agree r (uses (Jalr rd rs1 imm) h (inl refl))
 
-        K : ℕ → Processor → Lane → Local → Type 0
+        K : ℕ → Processor → ProcessorState → NodeMemory → Type 0
         K = λ s. Does program OfPlace a (j + 1) (next_pc at) [] s
 
-        acts : (n' : Local) → execute program a at (Xjalr rd rs1 imm) l n' ≡ indirect a l n' rd t
+        acts : (n' : NodeMemory) → execute program a at (Xjalr rd rs1 imm) l n' ≡ indirect a l n' rd t
         acts n' = ap (λ z. indirect a l n' rd (offset_address z imm / 2 * 2)) (same rs1)
 
         go : (b : Bool) → eqb (t % 4) 0 ≡ b → Does program OfPlace a j at
@@ -458,13 +458,13 @@ module _ (program : Program) (accepted : IsAccepted program) where
             ∙ ap (λ b. request_unless program q (Jumps rd t) (cond b None (Some (Misaligned q.pc))))
             e in
             let l' = node.set_register l rd (next_pc a) in
-            λ (n' : Local) since.
-            let is : execute program a at (Xjalr rd rs1 imm) l n' ≡ go_on l' n' (Enters t) = acts n'
+            λ (n' : NodeMemory) since.
+            let is : execute program a at (Xjalr rd rs1 imm) l n' ≡ only_moves l' n' (Enters t) = acts n'
             ∙ rw e refl in
-            subst (λ (r : Outcome). Leads program OfPlace a j at K q n' r Always r.move) (sym is) (
+            subst (λ (r : WordOutcome). Leads program OfPlace a j at K q n' r Always r.move) (sym is) (
               head.place,
               tt,
-              subst (Commits program (λ p. AtHead program t p l') q n' (go_on l' n' (Enters t)))
+              subst (Commits program (λ p. AtHead program t p l') q n' (only_moves l' n' (Enters t)))
                   (sym ask) (
                     head.running,
                     refl,
@@ -513,17 +513,17 @@ module _ (program : Program) (accepted : IsAccepted program) where
       same_all : (r : ℕ) → reg l.registers r ≡ reg q.registers r
       same_all r = head.agree r (uses Ecall h (inl refl))
 
-      abbrev Good : Local → Outcome → Type 0
+      abbrev Good : NodeMemory → WordOutcome → Type 0
       Good n r = Leads program OfPlace a 0 at
           (λ s. Does program OfPlace a (0 + 1) (next_pc at) [] s) q n r IfNoWait r.move
 
-      returns_does : (n : Local) (v : ℕ) → request program q ≡ Becomes (after_call q v)
-          → Good n (go_on (lane_after_call l v) n Next)
+      returns_does : (n : NodeMemory) (v : ℕ) → request program q ≡ Becomes (after_call q v)
+          → Good n (only_moves (lane_after_call l v) n Next)
       returns_does n v ask = (
         head.place,
         tt,
         subst (Commits program (λ p. (x y : ℕ) → Does program OfPlace a (0 + 1) (next_pc at) [] 0 p
-            (lane_at x y (lane_after_call l v)) n) q n (go_on (lane_after_call l v) n Next))
+            (lane_at x y (lane_after_call l v)) n) q n (only_moves (lane_after_call l v) n Next))
             (sym ask) (
               head.running,
               refl,
@@ -542,7 +542,7 @@ module _ (program : Program) (accepted : IsAccepted program) where
             ),
       )
 
-      prints_does : (n : Local) (x : ℕ) → is_mapped (class_at program x) ≡ true
+      prints_does : (n : NodeMemory) (x : ℕ) → is_mapped (class_at program x) ≡ true
           → is_readable_state (n.state (line_of x)) ≡ true → request program q ≡ Prints x
           → Good n (print_byte l n x (byte_at program l n x))
       prints_does n x mapped readable ask =
@@ -572,7 +572,7 @@ module _ (program : Program) (accepted : IsAccepted program) where
             ),
           )
 
-      call_step_does : (n : Local) → Suits program n → (c : CallStep)
+      call_step_does : (n : NodeMemory) → Suits program n → (c : CallStep)
           → request program q ≡ request_of_call program q c → Good n (make_call program l n c)
       call_step_does n suits (Ends code) ask = (head.place, ask, refl, refl, refl)
       call_step_does n suits (Returns v) ask = returns_does n v ask
@@ -582,8 +582,8 @@ module _ (program : Program) (accepted : IsAccepted program) where
           by : Bool → Request
           by b = cond b (Prints x) (Becomes (after_call q (cut_short q.written)))
 
-          waits : Outcome
-          waits = go_on l n (Waits SameWord (record { at = x; need = Read }) [])
+          waits : WordOutcome
+          waits = only_moves l n (Waits SameWord (record { at = x; need = Read }) [])
 
           go : ReadLook (class_at program x) (n.state (line_of x))
               → Good n (make_call program l n (Puts x))
@@ -591,7 +591,7 @@ module _ (program : Program) (accepted : IsAccepted program) where
               let cut = ask ∙ ap by (ap is_mapped unmapped)
               ∙ ap (λ w. Becomes (after_call q (cut_short w))) (sym head.written) in
               let does : make_call program l n (Puts x)
-              ≡ go_on (lane_after_call l (cut_short l.written)) n Next = rw gone refl in
+              ≡ only_moves (lane_after_call l (cut_short l.written)) n Next = rw gone refl in
               subst (Good n) (sym does) (returns_does n (cut_short l.written) cut)
           go (Readable mapped known readable) =
               let does : make_call program l n (Puts x)
@@ -626,10 +626,10 @@ module _ (program : Program) (accepted : IsAccepted program) where
           )
 
   -- a load, by its value or its line's state
-  load_does : (a : ℕ) (regs : Scratches) (q : Processor) (l : Lane) (n : Local) (at : ℕ)
+  load_does : (a : ℕ) (regs : Scratches) (q : Processor) (l : ProcessorState) (n : NodeMemory) (at : ℕ)
       (k : LoadKind) (rd rs1 : ℕ) (imm : ℤ) → program.code a ≡ Some (Load k rd rs1 imm)
       → AtHead program a q l → at % 4 ≡ 0 → (by_value : Bool)
-      → looks_at_value k rd rs1 ≡ by_value
+      → is_flag_checked k rd rs1 ≡ by_value
       → HasScratches (cond by_value template.FlagLoad template.StateLoad) program.code a
       (Load k rd rs1 imm) regs
       → Does program OfPlace a 0 at (load_sequence by_value regs k rd rs1 imm) 0 q l n
@@ -647,7 +647,7 @@ module _ (program : Program) (accepted : IsAccepted program) where
       let bad : false ≡ true = is in cc
 
   -- from the head of the place of an instruction, with any admissible scratch registers
-  place_does : (a : ℕ) (regs : Scratches) (q : Processor) (l : Lane) (n : Local) (at : ℕ)
+  place_does : (a : ℕ) (regs : Scratches) (q : Processor) (l : ProcessorState) (n : NodeMemory) (at : ℕ)
       (i : Instr) → program.code a ≡ Some i
       → HasScratchesAt (template_at a (Some i)) program.code a (Some i) regs
       → AtHead program a q l → at % 4 ≡ 0
@@ -684,7 +684,7 @@ module _ (program : Program) (accepted : IsAccepted program) where
       branch_does a q l n head 0 c rs1 rs2 offset h at m
       (is_multiple_of_four (offset_address a offset)) refl
   place_does a regs q l n at (Load k rd rs1 imm) h scratches head m =
-      load_does a regs q l n at k rd rs1 imm h head m (looks_at_value k rd rs1) refl scratches
+      load_does a regs q l n at k rd rs1 imm h head m (is_flag_checked k rd rs1) refl scratches
   place_does a regs q l n at (Store w rs1 rs2 imm) h two head m =
       store_does program accepted a q regs w rs1 rs2 imm h two n at l head m
   place_does a regs q l n at Ebreak h two head m = break_does a q l n head at h
@@ -697,7 +697,7 @@ module _ (program : Program) (accepted : IsAccepted program) where
       update_does program accepted a q regs o rd rs1 rs2 aq rl h two n at l head m
 
   -- behind a poll, which only a branch or a jump has
-  behind_poll : (a : ℕ) (regs : Scratches) (q : Processor) (l : Lane) (n : Local) (at : ℕ)
+  behind_poll : (a : ℕ) (regs : Scratches) (q : Processor) (l : ProcessorState) (n : NodeMemory) (at : ℕ)
       (o : Option Instr) → program.code a ≡ o → IsTrue (may_poll (template_at a o))
       → AtHead program a q l → at % 4 ≡ 0 → Does program OfPlace a 1 at (place_items a regs o) 0 q l
       n
@@ -709,7 +709,7 @@ module _ (program : Program) (accepted : IsAccepted program) where
       branch_does a q l n head 1 c rs1 rs2 offset h at m
       (is_multiple_of_four (offset_address a offset)) refl
   behind_poll a regs q l n at (Some (Load k rd rs1 imm)) h may head m =
-      absurd (no_poll (looks_at_value k rd rs1) may)
+      absurd (no_poll (is_flag_checked k rd rs1) may)
     where
       no_poll : (b : Bool) → may_poll (cond b template.FlagLoad template.StateLoad) ≡ true → ⊥
       no_poll true e = let bad : false ≡ true = e in cc
@@ -741,7 +741,7 @@ module _ (program : Program) (accepted : IsAccepted program) where
       let bad : false ≡ true = may in cc
 
   -- from the head of any place
-  pub entry_does : (e : PlanEntry) (q : Processor) (l : Lane) (n : Local) (at : ℕ)
+  pub entry_does : (e : PlanEntry) (q : Processor) (l : ProcessorState) (n : NodeMemory) (at : ℕ)
       (o : Option Instr) → program.code e.address ≡ o
       → HasScratchesAt (template_at e.address o) program.code e.address o e.single
       → (IsTrue e.polls → IsTrue (may_poll (template_at e.address o)))

@@ -5,7 +5,7 @@ use Rattle.block_layout.specs.Layout.{Shape, block_of, has_line}
 use Rattle.rv32_program.specs.Program.{line_of}
 use Rattle.rv32_step.specs.OneMemory.{Processor}
 use Rattle.templates.specs.declared.plans.PlanEntry.{PlanEntry}
-use Rattle.dsm_protocol.specs.node_model.Node.{Work, Local, Want}
+use Rattle.dsm_protocol.specs.node_model.Node.{Work, NodeMemory, Want}
 use Rattle.dsm_protocol.specs.node_model.Turns.{is_same_want, each_block_once}
 use Rattle.rewriting_law.proofs.templates.States.{grants}
 use Rattle.rewriting_law.proofs.templates.Does.{AreWanted, SomeGranted}
@@ -46,7 +46,7 @@ module _ (layout : Shape) (work : Work) (plan : List PlanEntry)
         later,
       )
 
-  others_wanted : (q : Processor) (n : Local) (w : Want) (ws : List Want)
+  others_wanted : (q : Processor) (n : NodeMemory) (w : Want) (ws : List Want)
       → AllWanted layout work plan q n ws → AllWanted layout work plan q n (others w ws)
   others_wanted q n w [] h = h
   others_wanted q n w (v ∷ vs) h =
@@ -58,7 +58,7 @@ module _ (layout : Shape) (work : Work) (plan : List PlanEntry)
       go false later = (h.0, alone_among v w vs h.1, later)
 
   -- what a word may wait for is wanted, each block once
-  pub all_wanted : (q : Processor) (n : Local) (ws : List Want) → AreWanted work.program q n ws
+  pub all_wanted : (q : Processor) (n : NodeMemory) (ws : List Want) → AreWanted work.program q n ws
       → AllWanted layout work plan q n (each_block_once layout ws)
   all_wanted q n [] h = tt
   all_wanted q n (w ∷ ws) h =
@@ -106,7 +106,7 @@ module _ (layout : Shape) (work : Work) (plan : List PlanEntry)
   ]
 
 -- one of these is granted
-pub some_granted : (m : Local) (x : Want) (ws : List Want) → IsAmong x ws
+pub some_granted : (m : NodeMemory) (x : Want) (ws : List Want) → IsAmong x ws
     → grants x.need (m.state (line_of x.at)) ≡ true → SomeGranted m ws
 some_granted m x [] h granted = h
 some_granted m x (w ∷ ws) h granted = elim h [

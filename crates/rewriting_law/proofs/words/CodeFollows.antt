@@ -21,13 +21,13 @@ use Rattle.rv32_program.specs.Program.{IsAccepted, line_of}
 use Rattle.rv32_step.specs.declared.CallStep.{CallStep}
 use Rattle.rv32_step.specs.declared.CallStep.TheVariants.{Ends, Returns, Puts}
 use Rattle.rv32_step.specs.Demands.{demand_of, call_step, cut_short}
-use Rattle.home_directory.specs.declared.messages.Need.TheVariants.{Read}
+use Rattle.home_directory.specs.dsm_messages.declared.messages.Need.TheVariants.{Read}
 use Rattle.templates.specs.Places.{IsPlace}
 use Rattle.templates.specs.Sequences.{SequenceItem, ItemWord, Runs, GoesTo}
 use Rattle.templates.specs.Commits.{commit_at}
 use Rattle.dsm_protocol.specs.jump_map.Image.{IsRewriting, head_of, item_word, is_near, number_of_word, address_of_word, distance}
 use Rattle.dsm_protocol.specs.jump_map.Maps.{old_of, new_of, fetch}
-use Rattle.dsm_protocol.specs.node_model.Node.{Work, Lane, Local, Want, Move, Next, Again, To, Enters, Waits, Leaves, Resume, PastWord, SameWord, Tally, Outcome, go_on, exit_by, native, execute, execute_at, next_outcome, lane_after, lane_resumed, first_lane, ByLines, both_meet, past_next, enter, make_call, print_byte, byte_at, lane_after_call, is_mapped_state, is_readable_state, need_of_run}
+use Rattle.dsm_protocol.specs.node_model.Node.{Work, ProcessorState, NodeMemory, Want, Move, Next, Again, To, Enters, Waits, Leaves, Resume, PastWord, SameWord, Tally, WordOutcome, only_moves, exit_by, native, execute, execute_at, next_outcome, lane_after, lane_resumed, first_lane, ByLines, both_meet, past_next, enter, make_call, print_byte, byte_at, lane_after_call, is_mapped_state, is_readable_state, need_of_run}
 use Rattle.rewriting_law.specs.CoreRun.{is_exit, is_wait, commits_by}
 use Rattle.rewriting_law.specs.Ascents.{pc_at}
 use Rattle.rewriting_law.proofs.one_memory.Originals.{original_with}
@@ -51,10 +51,10 @@ use Rattle.rewriting_law.proofs.words.Standing.{reaches, Stands, some_items, hea
 
 module _ (layout : Shape) (work : Work) (plan : List PlanEntry) (accepted : IsAccepted work.program)
     (rewriting : IsRewriting work.program plan work.image) (laid : AreLaidOut layout work) where
-  abbrev PacedHere : Pace → Processor → Lane → Local → Type 0
+  abbrev PacedHere : Pace → Processor → ProcessorState → NodeMemory → Type 0
   PacedHere p q l n = Paced work.program plan work.image accepted rewriting p q l n
 
-  module _ (q : Processor) (l : Lane) (n : Local) where
+  module _ (q : Processor) (l : ProcessorState) (n : NodeMemory) where
     abbrev StandsHere : Type 0
     StandsHere = Stands work.program plan work.image accepted rewriting q l n
 
@@ -93,7 +93,7 @@ module _ (layout : Shape) (work : Work) (plan : List PlanEntry) (accepted : IsAc
       kind_here : commit_at work.program plan (old_of work.image l.at) ≡ st.item.commit
       kind_here = kind_is work plan accepted rewriting q l n st
 
-      abbrev outcome : Lane → Local → Access → Option ℕ → Tally → Move → Outcome
+      abbrev outcome : ProcessorState → NodeMemory → Access → Option ℕ → Tally → Move → WordOutcome
       outcome lane local access printed tally move = record {
         lane = lane;
         local = local;
@@ -107,19 +107,19 @@ module _ (layout : Shape) (work : Work) (plan : List PlanEntry) (accepted : IsAc
       Ready = IsReady work.program plan work.image accepted rewriting p q l n st
 
       -- what has to hold of a word's move
-      abbrev IsSane : CommitKind → Outcome → Move → Type 0
+      abbrev IsSane : CommitKind → WordOutcome → Move → Type 0
       IsSane kind r Again = commits_by kind r ≡ true
       IsSane kind r (Enters target) = commits_by kind r ≡ true
       IsSane kind r (To target) =
           (commits_by kind r ≡ true) ⊎ ((st.in_batch ≡ true) ⊎ (has_jump st.after ≡ false))
       IsSane kind r (Waits SameWord want more) = (kind ≡ IfNoWait)
-          × ((m : Local) → Suits work.program m → SomeGranted m (want ∷ more)
+          × ((m : NodeMemory) → Suits work.program m → SomeGranted m (want ∷ more)
           → is_wait (next_outcome work.program work.image r.lane m).move ≡ false)
       IsSane kind r (Waits (ByLines need low high) want more) =
           (st.in_batch ≡ true) ⊎ (has_jump st.after ≡ false)
       IsSane kind r move = Unit {0}
 
-      abbrev FollowsPaced : Pace → Outcome → CommitKind → Move → Type 0
+      abbrev FollowsPaced : Pace → WordOutcome → CommitKind → Move → Type 0
       FollowsPaced r x kind move = Follows layout work plan (PacedHere r) q n x kind move
 
       -- once the word has committed, or hasn't
@@ -136,7 +136,7 @@ module _ (layout : Shape) (work : Work) (plan : List PlanEntry) (accepted : IsAc
         | inr up ↦ inr up
       ]
 
-      module _ (r : Outcome) (kind : CommitKind) (is : st.item.commit ≡ kind)
+      module _ (r : WordOutcome) (kind : CommitKind) (is : st.item.commit ≡ kind)
           (ready : Ready → commits_by kind r ≡ true) (same : r.lane.at ≡ l.at)
           (runs : is_jump st.item.what ≡ false) where
         -- where code may lead back, nothing was committed since the poll or the call
@@ -206,7 +206,7 @@ module _ (layout : Shape) (work : Work) (plan : List PlanEntry) (accepted : IsAc
         kept : p.words ≤ 40 * p.commits + 39
         kept = pace_kept work.program plan work.image accepted rewriting p q l n (inl inn)
 
-        further : (x : Pace) (y : Processor) (lane : Lane) (m : Local) (s : ℕ)
+        further : (x : Pace) (y : Processor) (lane : ProcessorState) (m : NodeMemory) (s : ℕ)
             → lane.at ≡ skip_to s (next_pc (address st)) → left st s y lane m
             → (s ≡ 0) ⊎ MaySkip st.in_batch (st.before ++ st.item ∷ []) st.after x
             → Owes st.in_batch st.place (st.before ++ st.item ∷ []) st.after x y
@@ -216,7 +216,7 @@ module _ (layout : Shape) (work : Work) (plan : List PlanEntry) (accepted : IsAc
             further_paced work.program plan work.image accepted rewriting x q y l lane n m st s at k
             may owes rises opens
 
-        goes : (move : Move) (b : Bool) (K : Processor → Type 0) (lane : Lane) → commits_by kind r ≡ b
+        goes : (move : Move) (b : Bool) (K : Processor → Type 0) (lane : ProcessorState) → commits_by kind r ≡ b
             → lane ≡ lane_after work.image r.lane r.move
             → (b ≡ true → (y : Processor) → Rises work.program (Then true move) y → K y
             → PacedHere (Then true move) y lane r.local)
@@ -237,7 +237,7 @@ module _ (layout : Shape) (work : Work) (plan : List PlanEntry) (accepted : IsAc
           h.3,
         )
 
-        resumes : (lane : Lane) (resume : Resume) (want : Want) (more : List Want) (m : Local)
+        resumes : (lane : ProcessorState) (resume : Resume) (want : Want) (more : List Want) (m : NodeMemory)
             → lane.at ≡ l.at → lane ≡ r.lane → Suits work.program m → SomeGranted m (want ∷ more)
             → commits_by kind r ≡ false → IsSane kind r (Waits resume want more)
             → Resumes work.program (kind_at st) st.place (length st.before) (left st) q lane resume m
@@ -321,7 +321,7 @@ module _ (layout : Shape) (work : Work) (plan : List PlanEntry) (accepted : IsAc
                 (opens_still (Waits (ByLines need low high) want more))
 
       -- a word of a sequence that is executed
-      lead_follows : (lane : Lane) (local : Local) (access : Access) (printed : Option ℕ)
+      lead_follows : (lane : ProcessorState) (local : NodeMemory) (access : Access) (printed : Option ℕ)
           (tally : Tally) (move : Move) → lane.at ≡ l.at → is_jump st.item.what ≡ false
           → (kind : CommitKind) → st.item.commit ≡ kind
           → (Ready → commits_by kind (outcome lane local access printed tally move) ≡ true)
@@ -369,7 +369,7 @@ module _ (layout : Shape) (work : Work) (plan : List PlanEntry) (accepted : IsAc
           (owed r kind is ready same runs (To target) e) (rises_still (To target))
           (opens_still r kind is ready same runs (To target))) h.2
         where
-          may_skip : (x : Pace) (r : Outcome) → commits_by kind r ≡ false
+          may_skip : (x : Pace) (r : WordOutcome) → commits_by kind r ≡ false
               → (commits_by kind r ≡ true) ⊎ ((st.in_batch ≡ true) ⊎ (has_jump st.after ≡ false))
               → MaySkip st.in_batch (st.before ++ st.item ∷ []) st.after x
           may_skip x r e (inl commits) = let bad : false ≡ true = sym e ∙ commits in cc
@@ -393,7 +393,7 @@ module _ (layout : Shape) (work : Work) (plan : List PlanEntry) (accepted : IsAc
             record {
               printed = h.1;
               local = h.2;
-              quiet = h.6;
+              silent = h.6;
               wanted = all_wanted layout work plan laid q n (want ∷ more) h.4;
               few = omega (arith, few, most);
               resumed = λ m suited x among granted.
@@ -418,8 +418,8 @@ module _ (layout : Shape) (work : Work) (plan : List PlanEntry) (accepted : IsAc
         target_is : target ≡ word_address work.program cut 0
         target_is = head_is work.program plan b rewriting.admissible cut
 
-        abbrev jump : Outcome
-        jump = go_on l n (To target)
+        abbrev jump : WordOutcome
+        jump = only_moves l n (To target)
 
         -- by a JAL, which keeps no link, or by a far jump
         near_is : execute work.program place at (Native (Jal 0 (signed 32 (distance at target)))) l n
@@ -433,13 +433,13 @@ module _ (layout : Shape) (work : Work) (plan : List PlanEntry) (accepted : IsAc
             (let e : target % 4 ≡ 0 = omega (arith, there) in rw e refl) in
             let unlinked = put_none l.registers (next_pc at) in
             ap (λ z. native work.program place at l n (demand.Jumps 0 z)) reached
-            ∙ rw aligned (λ t. go_on (record l { registers = unlinked t }) n (To target))
+            ∙ rw aligned (λ t. only_moves (record l { registers = unlinked t }) n (To target))
 
         far_is : execute work.program place at (Far (number_of_word target)) l n ≡ jump
         far_is =
             let there = target_is in
             let same : address_of_word (number_of_word target) ≡ target = omega (arith, there) in
-            ap (λ z. go_on l n (To z)) same
+            ap (λ z. only_moves l n (To z)) same
 
         jump_is : execute work.program place at
             (item_word (head_of work.program plan) at (GoesTo b to_head)) l n ≡ jump
@@ -514,10 +514,10 @@ module _ (layout : Shape) (work : Work) (plan : List PlanEntry) (accepted : IsAc
         | inr h ↦ inr (h.0, subst (λ what. IsOwnWord what st.item.commit st.after) e h.1)
       ]
 
-      abbrev does : (w : RtWord) → Outcome
+      abbrev does : (w : RtWord) → WordOutcome
       does w = execute work.program (place_at st) (address st) w l n
 
-      native_sane : (i : Instr) (kind : CommitKind) → Kind (Native i) kind → (r : Outcome)
+      native_sane : (i : Instr) (kind : CommitKind) → Kind (Native i) kind → (r : WordOutcome)
           → IsSane kind r (does (Native i)).move
       native_sane i kind (inl batch) r =
           native_moves work l n (IsSane kind r) tt (λ e. tt) (place_at st) (address st)
@@ -553,33 +553,33 @@ module _ (layout : Shape) (work : Work) (plan : List PlanEntry) (accepted : IsAc
       call_sane : st.item.what ≡ Runs Call → IsSane IfNoWait (does Call) (does Call).move
       call_sane what = go (call_step l.registers l.written) refl (does Call) refl
         where
-          calm : (a : ℕ) → call_step l.registers l.written ≡ Puts a → (m : Local)
+          calm : (a : ℕ) → call_step l.registers l.written ≡ Puts a → (m : NodeMemory)
               → SomeGranted m (record { at = a; need = Read } ∷ [])
               → is_wait (next_outcome work.program work.image l m).move ≡ false
           calm a e m (inl granted) =
-              ap (λ (x : Outcome). is_wait x.move) (sym (executes_at work plan accepted rewriting q l n st m))
+              ap (λ (x : WordOutcome). is_wait x.move) (sym (executes_at work plan accepted rewriting q l n st m))
               ∙ ap (λ w. is_wait (execute work.program (place_at st) (address st)
               (item_word (head_of work.program plan) (address st) w) l m).move) what
               ∙ calm_call work plan accepted rewriting q l n m a e granted
           calm a e m (inr none) = absurd none
 
-          puts : (a : ℕ) → call_step l.registers l.written ≡ Puts a → (t u : Bool) (r : Outcome)
+          puts : (a : ℕ) → call_step l.registers l.written ≡ Puts a → (t u : Bool) (r : WordOutcome)
               → r ≡ cond t (cond u (print_byte l n a (byte_at work.program l n a))
-              (go_on l n (Waits SameWord (record { at = a; need = Read }) [])))
-              (go_on (lane_after_call l (cut_short l.written)) n Next)
+              (only_moves l n (Waits SameWord (record { at = a; need = Read }) [])))
+              (only_moves (lane_after_call l (cut_short l.written)) n Next)
               → IsSane IfNoWait r (cond t (cond u (print_byte l n a (byte_at work.program l n a))
-              (go_on l n (Waits SameWord (record { at = a; need = Read }) [])))
-              (go_on (lane_after_call l (cut_short l.written)) n Next)).move
-          puts a e true true r is = ap (λ (x : Outcome). not (is_wait x.move)) is
+              (only_moves l n (Waits SameWord (record { at = a; need = Read }) [])))
+              (only_moves (lane_after_call l (cut_short l.written)) n Next)).move
+          puts a e true true r is = ap (λ (x : WordOutcome). not (is_wait x.move)) is
           puts a e true false r is = (
             refl,
             λ m suited some.
                 subst (λ z. is_wait (next_outcome work.program work.image z m).move ≡ false)
-                (ap (λ (x : Outcome). x.lane) (sym is)) (calm a e m some),
+                (ap (λ (x : WordOutcome). x.lane) (sym is)) (calm a e m some),
           )
           puts a e false u r is = tt
 
-          go : (c : CallStep) → call_step l.registers l.written ≡ c → (r : Outcome)
+          go : (c : CallStep) → call_step l.registers l.written ≡ c → (r : WordOutcome)
               → r ≡ make_call work.program l n c
               → IsSane IfNoWait r (make_call work.program l n c).move
           go (Ends code) e r is = tt
@@ -639,7 +639,7 @@ module _ (layout : Shape) (work : Work) (plan : List PlanEntry) (accepted : IsAc
           pc
 
       item_follows : (what : ItemWord) → st.item.what ≡ what → LeadsHere st st.item.commit what
-          → address st < 2 ^ 32 → (r : Outcome)
+          → address st < 2 ^ 32 → (r : WordOutcome)
           → execute work.program (place_at st) (address st)
           (item_word (head_of work.program plan) (address st) what) l n ≡ r
           → r ≡ next_outcome work.program work.image l n
@@ -648,22 +648,22 @@ module _ (layout : Shape) (work : Work) (plan : List PlanEntry) (accepted : IsAc
           let x = execute work.program (place_at st) (address st) w l n in
           let ready : Ready → commits_by st.item.commit x ≡ true = (λ g.
           ap (λ k. commits_by k x) g.kind
-          ∙ ap not (ap (λ (y : Outcome). is_wait y.move) (is ∙ next_is) ∙ g.calm)) in
-          subst (λ (y : Outcome). FollowsPaced (pace_after p st.item.commit y) y st.item.commit y.move)
+          ∙ ap not (ap (λ (y : WordOutcome). is_wait y.move) (is ∙ next_is) ∙ g.calm)) in
+          subst (λ (y : WordOutcome). FollowsPaced (pace_after p st.item.commit y) y st.item.commit y.move)
           is
           (lead_follows x.lane x.local x.access x.printed x.tally x.move
           (word_at work l n (place_at st) (address st) w) (ap is_jump what) st.item.commit refl ready
           (word_sane w what (kind_of_word w what)) (leads_of st.item.commit w h))
       item_follows (GoesTo b to_head) what h low r is next_is =
           let y = jump (address st) (place_at st) b to_head low h.1 h.2 in
-          subst (λ (y : Outcome). FollowsPaced (pace_after p st.item.commit y) y st.item.commit y.move)
+          subst (λ (y : WordOutcome). FollowsPaced (pace_after p st.item.commit y) y st.item.commit y.move)
           (sym (jump_is (address st) (place_at st) b to_head low h.1 h.2) ∙ is)
           (subst (λ k. FollowsPaced (pace_after p k y) y k y.move) (sym h.0)
           (jump_goes (address st) (place_at st) b to_head low h.1 h.2
           (leaves_paid b to_head what h.0 h.2.place)))
 
       item_where : (what : ItemWord) → LeadsHere st st.item.commit what → address st < 2 ^ 32
-          → (r : Outcome)
+          → (r : WordOutcome)
           → execute work.program (place_at st) (address st)
           (item_word (head_of work.program plan) (address st) what) l n ≡ r
           → (is_exit r.move || commits_by st.item.commit r) ≡ true → q.pc ≡ place_at st
@@ -671,13 +671,13 @@ module _ (layout : Shape) (work : Work) (plan : List PlanEntry) (accepted : IsAc
           let x = execute work.program (place_at st) (address st) w l n in
           leads_where work plan accepted rewriting q l n (kind_at st) st.place (length st.before)
           (address st) (left st) x st.item.commit x.move (leads_of st.item.commit w h)
-          (subst (λ (y : Outcome). (is_exit y.move || commits_by st.item.commit y) ≡ true) (sym is)
+          (subst (λ (y : WordOutcome). (is_exit y.move || commits_by st.item.commit y) ≡ true) (sym is)
           commits)
       item_where (GoesTo b to_head) h low r is commits =
           let y = jump (address st) (place_at st) b to_head low h.1 h.2 in
           let made : r ≡ y = sym is ∙ jump_is (address st) (place_at st) b to_head low h.1 h.2 in
           let never : false ≡ true = sym (ap (λ k. commits_by k y) h.0)
-          ∙ subst (λ (x : Outcome). (is_exit x.move || commits_by st.item.commit x) ≡ true) made
+          ∙ subst (λ (x : WordOutcome). (is_exit x.move || commits_by st.item.commit x) ≡ true) made
           commits in cc
 
       -- where the next word commits, or ends the processor, it is of the place where that is
@@ -726,7 +726,7 @@ module _ (layout : Shape) (work : Work) (plan : List PlanEntry) (accepted : IsAc
         ap (request_at work.program q) off.no_code
         ∙ ap (λ x. Becomes (with_exit q (Fetch x))) (sym off.off) in
         let kind = commit_at work.program plan (old_of work.image l.at) in
-        subst (λ (r : Outcome). Follows layout work plan
+        subst (λ (r : WordOutcome). Follows layout work plan
         (PacedHere (pace_after (pace_at work l p) kind r)) q n r kind r.move) (sym does)
         (record { asks = asks; access = refl; printed = refl; local = refl })
 
@@ -749,7 +749,7 @@ module _ (layout : Shape) (work : Work) (plan : List PlanEntry) (accepted : IsAc
     rises p (inr out) = inl out.rises
 
   -- at the start, with whatever states and copy the node has
-  pub starts : (me : ℕ) (n : Local) → Suits work.program n
+  pub starts : (me : ℕ) (n : NodeMemory) → Suits work.program n
       → PacedHere first_pace (first_processor (original_with layout work) me) (first_lane work me) n
   starts me n suits =
       let program = work.program in

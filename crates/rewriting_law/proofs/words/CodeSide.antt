@@ -14,7 +14,7 @@ use Rattle.templates.specs.declared.plans.PlanEntry.{PlanEntry}
 use Rattle.templates.specs.Places.{IsPlace}
 use Rattle.templates.specs.Commits.{commit_at}
 use Rattle.dsm_protocol.specs.jump_map.Maps.{old_of, fetch}
-use Rattle.dsm_protocol.specs.node_model.Node.{Work, Lane, Local, Want, Move, Waits, Leaves, Resume, Outcome, next_outcome, lane_after, lane_resumed, first_lane, takes_messages}
+use Rattle.dsm_protocol.specs.node_model.Node.{Work, ProcessorState, NodeMemory, Want, Move, Waits, Leaves, Resume, WordOutcome, next_outcome, lane_after, lane_resumed, first_lane, takes_messages}
 use Rattle.dsm_protocol.specs.node_model.Turns.{each_block_once}
 use Rattle.rewriting_law.specs.CoreRun.{is_exit, is_wait, commits_by}
 use Rattle.rewriting_law.specs.Licence.{Licensed}
@@ -73,7 +73,7 @@ pace_then p commits move = record {
 }
 
 -- at a processor's next word, which may be a poll or a call
-abbrev pub pace_at : Work → Lane → Pace → Pace
+abbrev pub pace_at : Work → ProcessorState → Pace → Pace
 pace_at work l p = record p {
   since = if takes_messages (option_and_then (λ w. w.what) (fetch work.image l.at)) then 0
       else p.since;
@@ -87,40 +87,40 @@ Rises program p q = (p.since ≤ 1)
     ⊎ ((p.last < q.pc) × IsPlace program.code p.last × IsPlace program.code q.pc)
 
 -- after a word of this kind of commit
-abbrev pub pace_after : Pace → CommitKind → Outcome → Pace
+abbrev pub pace_after : Pace → CommitKind → WordOutcome → Pace
 pace_after p kind r = pace_then p (is_exit r.move || commits_by kind r) r.move
 
 module _ (layout : Shape) (work : Work) (plan : List PlanEntry) where
   -- what a word waits for is wanted, and each want is of a block of its own
-  abbrev pub AllWanted : Processor → Local → List Want → Type 0
+  abbrev pub AllWanted : Processor → NodeMemory → List Want → Type 0
   AllWanted q n [] = Unit {0}
   AllWanted q n (w ∷ ws) =
       IsWanted work.program q n w × IsAlone layout w ws × AllWanted q n ws
 
   -- the word is the exit that the processor asks for
-  pub record Exits (q : Processor) (n : Local) (r : Outcome) (e : Exit) : Type 0 where
+  pub record Exits (q : Processor) (n : NodeMemory) (r : WordOutcome) (e : Exit) : Type 0 where
     pub asks : request work.program q ≡ Becomes (with_exit q e)
     pub access : r.access ≡ Nothing
     pub printed : r.printed ≡ None
     pub local : r.local ≡ n
 
-  module _ (Stands : Processor → Lane → Local → Type 0) where
+  module _ (Stands : Processor → ProcessorState → NodeMemory → Type 0) where
     -- the word waits, and does nothing else. Once any of its wants is granted, by whatever node,
     -- the node stands there where its lane is resumed
-    pub record WaitsFor (q : Processor) (n : Local) (r : Outcome) (resume : Resume)
+    pub record WaitsFor (q : Processor) (n : NodeMemory) (r : WordOutcome) (resume : Resume)
         (wants : List Want) : Type 0 where
       pub printed : r.printed ≡ None
       pub local : r.local ≡ n
-      pub quiet : is_store r.access ≡ false
+      pub silent : is_store r.access ≡ false
       pub wanted : AllWanted q n wants
       pub few : length wants ≤ 2
-      pub resumed : (m : Local) → Suits work.program m → (x : Want) → IsAmong x wants
+      pub resumed : (m : NodeMemory) → Suits work.program m → (x : Want) → IsAmong x wants
           → grants x.need (m.state (line_of x.at)) ≡ true
           → Stands q (lane_resumed r.lane m resume) m
 
     -- the word makes the processor's next step by a licensed access, or it does nothing that the
     -- original sees; and the node stands where it goes
-    abbrev pub GoesOn : Processor → Local → Outcome → Bool → Type 0
+    abbrev pub GoesOn : Processor → NodeMemory → WordOutcome → Bool → Type 0
     GoesOn q n r true =
         Licensed n r.access
         × Commits work.program (λ p. Suits work.program r.local
@@ -130,7 +130,7 @@ module _ (layout : Shape) (work : Work) (plan : List PlanEntry) where
         × (is_store r.access ≡ false)
 
     -- what a word of this kind of commit does, by its move
-    abbrev pub Follows : Processor → Local → Outcome → CommitKind → Move → Type 0
+    abbrev pub Follows : Processor → NodeMemory → WordOutcome → CommitKind → Move → Type 0
     Follows q n r kind (Leaves e) = Exits q n r e
     Follows q n r kind (Waits resume want more) =
         (commits_by kind r ≡ false)
@@ -139,9 +139,9 @@ module _ (layout : Shape) (work : Work) (plan : List PlanEntry) where
 
   pub record CodeSide : Type 1 where
     -- the node stands, by its lane and by what its words see, where its processor does, at its pace
-    pub Stands : Pace → Processor → Lane → Local → Type 0
+    pub Stands : Pace → Processor → ProcessorState → NodeMemory → Type 0
     -- the next word
-    pub word_follows : (p : Pace) (q : Processor) (l : Lane) (n : Local) → Suits work.program n
+    pub word_follows : (p : Pace) (q : Processor) (l : ProcessorState) (n : NodeMemory) → Suits work.program n
         → q.exit ≡ None → Stands p q l n
         → Follows (Stands (pace_after (pace_at work l p)
         (commit_at work.program plan (old_of work.image l.at))
@@ -151,15 +151,15 @@ module _ (layout : Shape) (work : Work) (plan : List PlanEntry) where
         (next_outcome work.program work.image l n).move
     -- where the next word is one before which messages are taken, and the last didn't wait, it
     -- stands there whatever they bring
-    pub messages_keep : (p : Pace) (q : Processor) (l : Lane) (n : Local) → Stands p q l n
+    pub messages_keep : (p : Pace) (q : Processor) (l : ProcessorState) (n : NodeMemory) → Stands p q l n
         → takes_messages (option_and_then (λ w. w.what) (fetch work.image l.at)) ≡ true
         → p.waited ≡ false
-        → (m : Local) → Suits work.program m → Stands p q l m
+        → (m : NodeMemory) → Suits work.program m → Stands p q l m
     -- and so it does at the start
-    pub starts : (me : ℕ) (n : Local) → Suits work.program n
+    pub starts : (me : ℕ) (n : NodeMemory) → Suits work.program n
         → Stands first_pace (first_processor (original_with layout work) me) (first_lane work me) n
     -- a word that commits is of the original address where its processor is
-    pub commits_there : (p : Pace) (q : Processor) (l : Lane) (n : Local) → Suits work.program n
+    pub commits_there : (p : Pace) (q : Processor) (l : ProcessorState) (n : NodeMemory) → Suits work.program n
         → Stands p q l n
         → (is_exit (next_outcome work.program work.image l n).move
         || commits_by (commit_at work.program plan (old_of work.image l.at))
@@ -167,8 +167,8 @@ module _ (layout : Shape) (work : Work) (plan : List PlanEntry) where
         → q.pc ≡ pc_at work l
     -- once two steps were made since the last poll or call, the processor is at a place of a greater
     -- address than the last
-    pub rises : (p : Pace) (q : Processor) (l : Lane) (n : Local) → Stands p q l n
+    pub rises : (p : Pace) (q : Processor) (l : ProcessorState) (n : NodeMemory) → Stands p q l n
         → Rises work.program p q
     -- of 40 words one commits
-    pub paced : (p : Pace) (q : Processor) (l : Lane) (n : Local) → Stands p q l n
+    pub paced : (p : Pace) (q : Processor) (l : ProcessorState) (n : NodeMemory) → Stands p q l n
         → p.words ≤ 40 * p.commits + 39

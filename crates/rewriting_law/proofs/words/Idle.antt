@@ -15,7 +15,7 @@ use Rattle.runtime_words.specs.declared.RtWord.TheVariants.{Native, MissR, MissW
 use Rattle.templates.specs.declared.places.Part.TheVariants.{Head, Fast, Fallback}
 use Rattle.templates.specs.declared.plans.Scratches.{Scratches}
 use Rattle.templates.specs.declared.plans.PlanEntry.{PlanEntry}
-use Rattle.templates.specs.Plans.{looks_at_value}
+use Rattle.templates.specs.Plans.{is_flag_checked}
 use Rattle.templates.specs.declared.reaches.Reach.{Reach}
 use Rattle.templates.specs.Runs.{reach_of, code_from}
 use Rattle.templates.specs.Sequences.{ItemWord, Runs, GoesTo, SequenceItem, own, checking, committing, with_word, spill_by, reload_by, spills, reloads, state_look, flag_load_sequence, read_sequence, write_sequence, load_sequence, branch_sequence, jump_sequence, is_multiple_of_four, instruction_items, place_items, poll_first, items_of, reloads_of_run, mask_readable, head_items, run_items, fast_items, batch_items, batch_sequence, to_head, spill_offset}
@@ -135,110 +135,110 @@ own_word_at [] after i h = h.0
 own_word_at (x ∷ xs) after i h = own_word_at xs after i h.1
 
 -- without a jump, and so many that may commit nothing
-record Quiet (n : ℕ) (is : List SequenceItem) : Type 0 where
+record Silent (n : ℕ) (is : List SequenceItem) : Type 0 where
   words : OwnWords is
   jumps : has_jump is ≡ false
   few : idle is ≤ n
 
-none_quiet : Quiet 0 []
-none_quiet = record { words = tt; jumps = refl; few = omega arith }
+none_silent : Silent 0 []
+none_silent = record { words = tt; jumps = refl; few = omega arith }
 
-quiet_own : (n : ℕ) (i : Instr) (rest : List SequenceItem) → Quiet n rest → Quiet (suc n) (own i rest)
-quiet_own n i rest h = record {
+silent_own : (n : ℕ) (i : Instr) (rest : List SequenceItem) → Silent n rest → Silent (suc n) (own i rest)
+silent_own n i rest h = record {
   words = (inr (inl h.jumps), h.words);
   jumps = h.jumps;
   few = (let few = h.few in omega (arith, few));
 }
 
-quiet_native : (n : ℕ) (i : Instr) (rest : List SequenceItem) → Quiet n rest
-    → Quiet n (committing (Native i) rest)
-quiet_native n i rest h = record {
+silent_native : (n : ℕ) (i : Instr) (rest : List SequenceItem) → Silent n rest
+    → Silent n (committing (Native i) rest)
+silent_native n i rest h = record {
   words = (inl refl, h.words);
   jumps = h.jumps;
   few = (let few = h.few in omega (arith, few));
 }
 
-quiet_flagged : (n : ℕ) (i : Instr) (rest : List SequenceItem) → Quiet n rest
-    → Quiet (suc n) (with_word IfNotFlag (Native i) rest)
-quiet_flagged n i rest h = record {
+silent_flagged : (n : ℕ) (i : Instr) (rest : List SequenceItem) → Silent n rest
+    → Silent (suc n) (with_word IfNotFlag (Native i) rest)
+silent_flagged n i rest h = record {
   words = (inr (inl h.jumps), h.words);
   jumps = h.jumps;
   few = (let few = h.few in omega (arith, few));
 }
 
-quiet_spill : (n : ℕ) (b : Bool) (k r : ℕ) (rest : List SequenceItem) → Quiet n rest
-    → Quiet (suc n) (spill_by b k r rest)
-quiet_spill n true k r rest h = quiet_own n (Store Word 0 r (spill_offset k)) rest h
-quiet_spill n false k r rest h = record {
+silent_spill : (n : ℕ) (b : Bool) (k r : ℕ) (rest : List SequenceItem) → Silent n rest
+    → Silent (suc n) (spill_by b k r rest)
+silent_spill n true k r rest h = silent_own n (Store Word 0 r (spill_offset k)) rest h
+silent_spill n false k r rest h = record {
   words = h.words;
   jumps = h.jumps;
   few = (let few = h.few in omega (arith, few));
 }
 
-quiet_reload : (n : ℕ) (b : Bool) (k r : ℕ) (rest : List SequenceItem) → Quiet n rest
-    → Quiet (suc n) (reload_by b k r rest)
-quiet_reload n true k r rest h = quiet_own n (Load load_kind.Word r 0 (spill_offset k)) rest h
-quiet_reload n false k r rest h = record {
+silent_reload : (n : ℕ) (b : Bool) (k r : ℕ) (rest : List SequenceItem) → Silent n rest
+    → Silent (suc n) (reload_by b k r rest)
+silent_reload n true k r rest h = silent_own n (Load load_kind.Word r 0 (spill_offset k)) rest h
+silent_reload n false k r rest h = record {
   words = h.words;
   jumps = h.jumps;
   few = (let few = h.few in omega (arith, few));
 }
 
-quiet_spills : (n : ℕ) (x : Scratches) (rest : List SequenceItem) → Quiet n rest
-    → Quiet (suc (suc n)) (spills x rest)
-quiet_spills n x rest h =
-    quiet_spill (suc n) x.s.spilled 0 x.s.register _
-    (quiet_spill n x.t.spilled 1 x.t.register rest h)
+silent_spills : (n : ℕ) (x : Scratches) (rest : List SequenceItem) → Silent n rest
+    → Silent (suc (suc n)) (spills x rest)
+silent_spills n x rest h =
+    silent_spill (suc n) x.s.spilled 0 x.s.register _
+    (silent_spill n x.t.spilled 1 x.t.register rest h)
 
-quiet_reloads : (x : Scratches) → Quiet 2 (reloads x)
-quiet_reloads x =
-    quiet_reload 1 x.s.spilled 0 x.s.register _
-    (quiet_reload 0 x.t.spilled 1 x.t.register [] none_quiet)
+silent_reloads : (x : Scratches) → Silent 2 (reloads x)
+silent_reloads x =
+    silent_reload 1 x.s.spilled 0 x.s.register _
+    (silent_reload 0 x.t.spilled 1 x.t.register [] none_silent)
 
-quiet_look : (n : ℕ) (x : Scratches) (rs1 : ℕ) (imm : ℤ) (rest : List SequenceItem) → Quiet n rest
-    → Quiet (suc (suc (suc (suc (suc n))))) (state_look x rs1 imm rest)
-quiet_look n x rs1 imm rest h =
-    quiet_own (suc (suc (suc (suc n)))) _ _ (quiet_own (suc (suc (suc n))) _ _
-    (quiet_own (suc (suc n)) _ _ (quiet_own (suc n) _ _ (quiet_own n _ _ h))))
+silent_look : (n : ℕ) (x : Scratches) (rs1 : ℕ) (imm : ℤ) (rest : List SequenceItem) → Silent n rest
+    → Silent (suc (suc (suc (suc (suc n))))) (state_look x rs1 imm rest)
+silent_look n x rs1 imm rest h =
+    silent_own (suc (suc (suc (suc n)))) _ _ (silent_own (suc (suc (suc n))) _ _
+    (silent_own (suc (suc n)) _ _ (silent_own (suc n) _ _ (silent_own n _ _ h))))
 
-quiet_read : (x : Scratches) (w : Width) (rs1 : ℕ) (imm : ℤ) (i : Instr)
-    → Quiet 12 (read_sequence x w rs1 imm i)
-quiet_read x w rs1 imm i =
-    let load = quiet_native 2 i (reloads x) (quiet_reloads x) in
+silent_read : (x : Scratches) (w : Width) (rs1 : ℕ) (imm : ℤ) (i : Instr)
+    → Silent 12 (read_sequence x w rs1 imm i)
+silent_read x w rs1 imm i =
+    let load = silent_native 2 i (reloads x) (silent_reloads x) in
     let few = load.few in
-    let miss : Quiet 3 (checking (MissR w rs1 imm) (committing (Native i) (reloads x))) = record {
+    let miss : Silent 3 (checking (MissR w rs1 imm) (committing (Native i) (reloads x))) = record {
       words = (tt, load.words);
       jumps = load.jumps;
       few = omega (arith, few);
     } in
-    quiet_spills 10 x _ (quiet_look 5 x rs1 imm _ (quiet_own 4 _ _ (quiet_own 3 _ _ miss)))
+    silent_spills 10 x _ (silent_look 5 x rs1 imm _ (silent_own 4 _ _ (silent_own 3 _ _ miss)))
 
-quiet_write : (x : Scratches) (w : Width) (rs1 : ℕ) (imm : ℤ) (i : Instr)
-    → Quiet 11 (write_sequence x w rs1 imm i)
-quiet_write x w rs1 imm i =
-    let store = quiet_native 2 i (reloads x) (quiet_reloads x) in
+silent_write : (x : Scratches) (w : Width) (rs1 : ℕ) (imm : ℤ) (i : Instr)
+    → Silent 11 (write_sequence x w rs1 imm i)
+silent_write x w rs1 imm i =
+    let store = silent_native 2 i (reloads x) (silent_reloads x) in
     let few = store.few in
-    let miss : Quiet 3 (checking (MissW w rs1 imm) (committing (Native i) (reloads x))) = record {
+    let miss : Silent 3 (checking (MissW w rs1 imm) (committing (Native i) (reloads x))) = record {
       words = (tt, store.words);
       jumps = store.jumps;
       few = omega (arith, few);
     } in
-    quiet_spills 9 x _ (quiet_look 4 x rs1 imm _ (quiet_own 3 _ _ miss))
+    silent_spills 9 x _ (silent_look 4 x rs1 imm _ (silent_own 3 _ _ miss))
 
-quiet_flag : (x : Scratches) (rd rs1 : ℕ) (imm : ℤ) → Quiet 8 (flag_load_sequence x rd rs1 imm)
-quiet_flag x rd rs1 imm =
-    let last = quiet_reload 0 x.s.spilled 0 x.s.register [] none_quiet in
-    let load = quiet_native 1 (Load load_kind.Word rd rs1 imm) _ last in
+silent_flag : (x : Scratches) (rd rs1 : ℕ) (imm : ℤ) → Silent 8 (flag_load_sequence x rd rs1 imm)
+silent_flag x rd rs1 imm =
+    let last = silent_reload 0 x.s.spilled 0 x.s.register [] none_silent in
+    let load = silent_native 1 (Load load_kind.Word rd rs1 imm) _ last in
     let few = load.few in
-    let miss : Quiet 2 (checking (MissR Word rs1 imm)
+    let miss : Silent 2 (checking (MissR Word rs1 imm)
     (committing (Native (Load load_kind.Word rd rs1 imm)) (reload_by x.s.spilled 0 x.s.register [])))
     = record {
       words = (tt, load.words);
       jumps = load.jumps;
       few = omega (arith, few);
     } in
-    quiet_spill 7 x.s.spilled 0 x.s.register _ (quiet_own 6 _ _ (quiet_own 5 _ _
-    (quiet_flagged 4 (Load load_kind.Word rd rs1 imm) _ (quiet_own 3 _ _ (quiet_own 2 _ _ miss)))))
+    silent_spill 7 x.s.spilled 0 x.s.register _ (silent_own 6 _ _ (silent_own 5 _ _
+    (silent_flagged 4 (Load load_kind.Word rd rs1 imm) _ (silent_own 3 _ _ (silent_own 2 _ _ miss)))))
 
 -- a place's own sequence
 pub record IsOwn (is : List SequenceItem) : Type 0 where
@@ -251,8 +251,8 @@ record IsOwnRest (is : List SequenceItem) : Type 0 where
   led : AllLed false is
   few : idle is ≤ 12
 
-of_quiet : (n : ℕ) (is : List SequenceItem) → n ≤ 12 → Quiet n is → IsOwnRest is
-of_quiet n is low h = record {
+of_silent : (n : ℕ) (is : List SequenceItem) → n ≤ 12 → Silent n is → IsOwnRest is
+of_silent n is low h = record {
   words = h.words;
   led = no_jump_led false is h.jumps;
   few = (let few = h.few in omega (arith, few, low));
@@ -260,8 +260,8 @@ of_quiet n is low h = record {
 
 of_load : (b : Bool) (x : Scratches) (k : LoadKind) (rd rs1 : ℕ) (imm : ℤ)
     → IsOwnRest (load_sequence b x k rd rs1 imm)
-of_load true x k rd rs1 imm = of_quiet 8 _ (omega arith) (quiet_flag x rd rs1 imm)
-of_load false x k rd rs1 imm = of_quiet 12 _ (omega arith) (quiet_read x _ rs1 imm _)
+of_load true x k rd rs1 imm = of_silent 8 _ (omega arith) (silent_flag x rd rs1 imm)
+of_load false x k rd rs1 imm = of_silent 12 _ (omega arith) (silent_read x _ rs1 imm _)
 
 of_branch : (b : Bool) (c : Cond) (rs1 rs2 target : ℕ)
     → IsOwnRest (branch_sequence b c rs1 rs2 target)
@@ -270,7 +270,7 @@ of_branch true c rs1 rs2 target = record {
   led = (λ e. (let bad : false ≡ true = e in cc), ((λ e. refl), tt));
   few = omega arith;
 }
-of_branch false c rs1 rs2 target = of_quiet 0 _ (omega arith) (quiet_native 0 _ [] none_quiet)
+of_branch false c rs1 rs2 target = of_silent 0 _ (omega arith) (silent_native 0 _ [] none_silent)
 
 of_jump : (b : Bool) (rd next target : ℕ) → IsOwnRest (jump_sequence b rd next target)
 of_jump true rd next target = record {
@@ -281,10 +281,10 @@ of_jump true rd next target = record {
   );
   few = omega arith;
 }
-of_jump false rd next target = of_quiet 0 _ (omega arith) (quiet_native 0 _ [] none_quiet)
+of_jump false rd next target = of_silent 0 _ (omega arith) (silent_native 0 _ [] none_silent)
 
 of_native : (i : Instr) → IsOwnRest (committing (Native i) [])
-of_native i = of_quiet 0 _ (omega arith) (quiet_native 0 i [] none_quiet)
+of_native i = of_silent 0 _ (omega arith) (silent_native 0 i [] none_silent)
 
 never_jump : (seen : Bool) → false ≡ true → seen ≡ true
 never_jump seen e = cc
@@ -305,8 +305,8 @@ of_instruction a x (Jalr rd rs1 imm) = record {
 }
 of_instruction a x (Branch c rs1 rs2 offset) =
     of_branch (is_multiple_of_four (offset_address a offset)) c rs1 rs2 (offset_address a offset)
-of_instruction a x (Load k rd rs1 imm) = of_load (looks_at_value k rd rs1) x k rd rs1 imm
-of_instruction a x (Store w rs1 rs2 imm) = of_quiet 11 _ (omega arith) (quiet_write x w rs1 imm _)
+of_instruction a x (Load k rd rs1 imm) = of_load (is_flag_checked k rd rs1) x k rd rs1 imm
+of_instruction a x (Store w rs1 rs2 imm) = of_silent 11 _ (omega arith) (silent_write x w rs1 imm _)
 of_instruction a x (OpImm o rd rs1 imm) = of_native (OpImm o rd rs1 imm)
 of_instruction a x (ShiftImm o rd rs1 amount) = of_native (ShiftImm o rd rs1 amount)
 of_instruction a x (Op o rd rs1 rs2) = of_native (Op o rd rs1 rs2)
@@ -321,14 +321,14 @@ of_instruction a x Ebreak = record {
   led = (never_jump false, tt);
   few = omega arith;
 }
-of_instruction a x (Lr rd rs1 aq rl) = of_quiet 12 _ (omega arith) (quiet_read x _ rs1 _ _)
+of_instruction a x (Lr rd rs1 aq rl) = of_silent 12 _ (omega arith) (silent_read x _ rs1 _ _)
 of_instruction a x (Sc rd rs1 rs2 aq rl) = record {
   words = (tt, (inl refl, tt));
   led = (never_jump false, (never_jump false, tt));
   few = omega arith;
 }
 of_instruction a x (Amo o rd rs1 rs2 aq rl) =
-    of_quiet 11 _ (omega arith) (quiet_write x _ rs1 _ _)
+    of_silent 11 _ (omega arith) (silent_write x _ rs1 _ _)
 of_instruction a x (Illegal word) = record {
   words = (tt, tt);
   led = (never_jump false, tt);

@@ -17,17 +17,17 @@ use Rattle.rv32_step.specs.Registers.{reg}
 use Rattle.rv32_step.specs.Demands.{demand_of, call_step}
 use Rattle.runtime_words.specs.declared.RtWord.{RtWord}
 use Rattle.runtime_words.specs.declared.RtWord.TheVariants.{Native, MissR, MissW, Poll, Call, Xjalr, Prepare, Far, TrapFetch, TrapOff, TrapIllegal, TrapEbreak, Batch}
-use Rattle.home_directory.specs.declared.messages.Need.{Need}
+use Rattle.home_directory.specs.dsm_messages.declared.messages.Need.{Need}
 use Rattle.dsm_protocol.specs.node_model.Node as node
-use Rattle.dsm_protocol.specs.node_model.Node.{Work, Lane, Local, Outcome, Region, Memory, StateOf, Elsewhere, region_of, load, store, store_if, make_call, native, is_mapped_state, is_readable_state, is_fixed_state, is_writable_state, execute, Want, batch, batch_by, one_refuses, unmet, need_of_run}
+use Rattle.dsm_protocol.specs.node_model.Node.{Work, ProcessorState, NodeMemory, WordOutcome, Region, Memory, StateOf, Elsewhere, region_of, load, store, store_if, make_call, native, is_mapped_state, is_readable_state, is_fixed_state, is_writable_state, execute, Want, batch, batch_by, one_refuses, unmet, need_of_run}
 
 -- a word leaves the processor's place to its move
-either_at : (b : Bool) (x y : Outcome) (at : ℕ) → x.lane.at ≡ at → y.lane.at ≡ at
+either_at : (b : Bool) (x y : WordOutcome) (at : ℕ) → x.lane.at ≡ at → y.lane.at ≡ at
     → (cond b x y).lane.at ≡ at
 either_at true x y at h g = h
 either_at false x y at h g = g
 
-module _ (work : Work) (l : Lane) (n : Local) where
+module _ (work : Work) (l : ProcessorState) (n : NodeMemory) where
   load_at : (k : LoadKind) (r a : ℕ) (w : Region) → (load work.program l n k r a w).lane.at ≡ l.at
   load_at k r a Memory = refl
   load_at k r a (StateOf line) = refl

@@ -11,16 +11,16 @@ use Rattle.llsc.specs.Reservation.{holds}
 use Rattle.rv32_program.specs.Program.{line_of}
 use Rattle.rv32_step.specs.declared.Demand.{Demand}
 use Rattle.rv32_step.specs.declared.Demand.TheVariants as demand
-use Rattle.home_directory.specs.declared.messages.Need.{Need}
+use Rattle.home_directory.specs.dsm_messages.declared.messages.Need.{Need}
 use Rattle.dsm_protocol.specs.node_model.Node as node
-use Rattle.dsm_protocol.specs.node_model.Node.{Work, Lane, Local, Move, Next, To, Waits, Leaves, PastWord, ByLines, Outcome, Region, Memory, StateOf, Elsewhere, region_of, load, store, store_if, native, is_mapped_state, is_readable_state, is_fixed_state, is_writable_state, Want, batch, batch_by, one_refuses, unmet}
+use Rattle.dsm_protocol.specs.node_model.Node.{Work, ProcessorState, NodeMemory, Move, Next, To, Waits, Leaves, PastWord, ByLines, WordOutcome, Region, Memory, StateOf, Elsewhere, region_of, load, store, store_if, native, is_mapped_state, is_readable_state, is_fixed_state, is_writable_state, Want, batch, batch_by, one_refuses, unmet}
 
-pub either_move : (P : Move → Type 0) (b : Bool) (x y : Outcome) → P x.move → P y.move
+pub either_move : (P : Move → Type 0) (b : Bool) (x y : WordOutcome) → P x.move → P y.move
     → P (cond b x y).move
 either_move P true x y h g = h
 either_move P false x y h g = g
 
-module _ (work : Work) (l : Lane) (n : Local) (P : Move → Type 0) (next : P Next)
+module _ (work : Work) (l : ProcessorState) (n : NodeMemory) (P : Move → Type 0) (next : P Next)
     (leaves : (e : Exit) → P (Leaves e)) where
   load_moves : (k : LoadKind) (r a : ℕ) (w : Region) → P (load work.program l n k r a w).move
   load_moves k r a Memory = next

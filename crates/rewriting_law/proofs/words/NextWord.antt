@@ -16,13 +16,13 @@ use Rattle.templates.specs.declared.plans.PlanEntry.{PlanEntry}
 use Rattle.rv32_program.specs.Program.{IsAccepted, line_of}
 use Rattle.rv32_step.specs.declared.CallStep.TheVariants.{Puts}
 use Rattle.rv32_step.specs.Demands.{call_step, cut_short}
-use Rattle.home_directory.specs.declared.messages.Need.TheVariants.{Read}
+use Rattle.home_directory.specs.dsm_messages.declared.messages.Need.TheVariants.{Read}
 use Rattle.templates.specs.Places.{IsPlace}
 use Rattle.templates.specs.Sequences.{SequenceItem, ItemWord, Runs, GoesTo}
 use Rattle.templates.specs.Commits.{commit_at}
 use Rattle.dsm_protocol.specs.jump_map.Image.{IsRewriting, head_of, item_word, is_near, number_of_word, distance}
 use Rattle.dsm_protocol.specs.jump_map.Maps.{old_of, fetch}
-use Rattle.dsm_protocol.specs.node_model.Node.{Work, Lane, Local, Move, Next, Again, To, Enters, Waits, Leaves, SameWord, Outcome, go_on, execute, execute_at, next_outcome, takes_messages, make_call, print_byte, byte_at, lane_after_call, is_mapped_state, is_readable_state}
+use Rattle.dsm_protocol.specs.node_model.Node.{Work, ProcessorState, NodeMemory, Move, Next, Again, To, Enters, Waits, Leaves, SameWord, WordOutcome, only_moves, execute, execute_at, next_outcome, takes_messages, make_call, print_byte, byte_at, lane_after_call, is_mapped_state, is_readable_state}
 use Rattle.rewriting_law.specs.CoreRun.{is_exit, is_wait, commits_by}
 use Rattle.rewriting_law.specs.Ascents.{pc_at}
 use Rattle.rewriting_law.proofs.words.Plans.{place_in}
@@ -37,14 +37,14 @@ use Rattle.rewriting_law.proofs.words.CodeSide.{Pace, pace_at, Rises}
 use Rattle.rewriting_law.proofs.words.Standing.{serves, Stands, item_there, spot_of}
 
 -- a word that doesn't commit, and one that does
-pub idle_if : (kind : CommitKind) (r : Outcome) → commits_by kind r ≡ false
+pub idle_if : (kind : CommitKind) (r : WordOutcome) → commits_by kind r ≡ false
     → is_idle kind ≡ true
 idle_if Never r e = refl
 idle_if Always r e = let bad : true ≡ false = e in cc
 idle_if IfNotFlag r e = refl
 idle_if IfNoWait r e = refl
 
-pub may_commit : (kind : CommitKind) (r : Outcome) → commits_by kind r ≡ true
+pub may_commit : (kind : CommitKind) (r : WordOutcome) → commits_by kind r ≡ true
     → is_never kind ≡ false
 may_commit Never r e = let bad : false ≡ true = e in cc
 may_commit Always r e = refl
@@ -58,7 +58,7 @@ never_takes true i k = refl
 never_takes false i k = refl
 
 module _ (work : Work) (plan : List PlanEntry) (accepted : IsAccepted work.program)
-    (rewriting : IsRewriting work.program plan work.image) (q : Processor) (l : Lane) (n : Local) where
+    (rewriting : IsRewriting work.program plan work.image) (q : Processor) (l : ProcessorState) (n : NodeMemory) where
   abbrev pub StandsHere : Type 0
   StandsHere = Stands work.program plan work.image accepted rewriting q l n
 
@@ -128,7 +128,7 @@ module _ (work : Work) (plan : List PlanEntry) (accepted : IsAccepted work.progr
   abbrev pub word_of_item : StandsHere → RtWord
   word_of_item st = item_word (head_of work.program plan) (address st) st.item.what
 
-  pub executes_at : (st : StandsHere) (m : Local)
+  pub executes_at : (st : StandsHere) (m : NodeMemory)
       → execute work.program (place_at st) (address st) (word_of_item st) l m
       ≡ next_outcome work.program work.image l m
   executes_at st m =
@@ -258,14 +258,14 @@ module _ (work : Work) (plan : List PlanEntry) (accepted : IsAccepted work.progr
         owes = owes_at p st inn.owes;
       }
 
-  continues_where : (kind : SequenceKind) (a k : ℕ) (K : Processor → Type 0) (r : Outcome)
+  continues_where : (kind : SequenceKind) (a k : ℕ) (K : Processor → Type 0) (r : WordOutcome)
       (b : Bool) → Continues work.program (IsWhere work.program kind a k q) K q n r b → b ≡ true
       → q.pc ≡ place_of kind a k
   continues_where kind a k K r true h commits = where_is work.program kind a k q h.0
   continues_where kind a k K r false h commits = let bad : false ≡ true = commits in cc
 
   -- where the word of a place commits, or ends the processor, the processor is
-  pub leads_where : (kind : SequenceKind) (a k at : ℕ) (K : Rest) (r : Outcome) (m : CommitKind)
+  pub leads_where : (kind : SequenceKind) (a k at : ℕ) (K : Rest) (r : WordOutcome) (m : CommitKind)
       (move : Move) → Leads work.program kind a k at K q n r m move
       → (is_exit move || commits_by m r) ≡ true → q.pc ≡ place_of kind a k
   leads_where kind a k at K r m (Leaves e) h commits = where_is work.program kind a k q h.0
@@ -285,7 +285,7 @@ module _ (work : Work) (plan : List PlanEntry) (accepted : IsAccepted work.progr
       let bad : false ≡ true = sym h.0 ∙ commits in cc
 
   -- before a word that looks anew it stands there whatever becomes of the node
-  abbrev anew_there : (st : StandsHere) → looks_anew st.item.what ≡ true → (m : Local)
+  abbrev anew_there : (st : StandsHere) → looks_anew st.item.what ≡ true → (m : NodeMemory)
       → Stands work.program plan work.image accepted rewriting q l m
   anew_there st looks m = record {
     place = st.place;
@@ -300,7 +300,7 @@ module _ (work : Work) (plan : List PlanEntry) (accepted : IsAccepted work.progr
         (since.0, λ e. let bad : true ≡ false = sym looks ∙ e in cc);
   }
 
-  abbrev pub PacedWith : Pace → Local → Type 0
+  abbrev pub PacedWith : Pace → NodeMemory → Type 0
   PacedWith p m = Paced work.program plan work.image accepted rewriting p q l m
 
   -- where the next word is one before which messages are taken, and the last didn't wait, the
@@ -308,7 +308,7 @@ module _ (work : Work) (plan : List PlanEntry) (accepted : IsAccepted work.progr
   pub messages_keep : (p : Pace) → PacedWith p n
       → takes_messages (option_and_then (λ w. w.what) (fetch work.image l.at)) ≡ true
       → p.waited ≡ false
-      → (m : Local) → Suits work.program m → PacedWith p m
+      → (m : NodeMemory) → Suits work.program m → PacedWith p m
   messages_keep p (inl inn) takes calm m suited =
       let st = inn.stands in
       let fetched = ap (fetch work.image) st.at ∙ fetches st in
@@ -330,21 +330,21 @@ module _ (work : Work) (plan : List PlanEntry) (accepted : IsAccepted work.progr
       ∙ takes in cc
 
   -- a call that finds its byte readable doesn't wait
-  pub calm_call : (m : Local) (a : ℕ) → call_step l.registers l.written ≡ Puts a
+  pub calm_call : (m : NodeMemory) (a : ℕ) → call_step l.registers l.written ≡ Puts a
       → is_readable_state (m.state (line_of a)) ≡ true
       → is_wait (make_call work.program l m (call_step l.registers l.written)).move ≡ false
   calm_call m a e readable =
       ap (λ c. is_wait (make_call work.program l m c).move) e
       ∙ go (is_mapped_state (m.state (line_of a)))
     where
-      prints : Outcome
+      prints : WordOutcome
       prints = print_byte l m a (byte_at work.program l m a)
 
-      waits : Outcome
-      waits = go_on l m (Waits SameWord (record { at = a; need = Read }) [])
+      waits : WordOutcome
+      waits = only_moves l m (Waits SameWord (record { at = a; need = Read }) [])
 
-      none : Outcome
-      none = go_on (lane_after_call l (cut_short l.written)) m Next
+      none : WordOutcome
+      none = only_moves (lane_after_call l (cut_short l.written)) m Next
 
       go : (t : Bool) → is_wait (cond t (cond (is_readable_state (m.state (line_of a))) prints
           waits) none).move ≡ false

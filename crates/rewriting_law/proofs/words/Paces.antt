@@ -11,7 +11,7 @@ use Rattle.templates.specs.Plans.{may_poll, HasScratchesAt, template_at}
 use Rattle.templates.specs.Sequences.{SequenceItem}
 use Rattle.dsm_protocol.specs.jump_map.Image.{Cell, IsRewriting}
 use Rattle.dsm_protocol.specs.jump_map.Maps.{new_of}
-use Rattle.dsm_protocol.specs.node_model.Node.{Lane, Local, enter, next_outcome}
+use Rattle.dsm_protocol.specs.node_model.Node.{ProcessorState, NodeMemory, enter, next_outcome}
 use Rattle.rewriting_law.specs.CoreRun.{is_wait}
 use Rattle.rewriting_law.proofs.words.CodeSide.{Pace, Rises}
 use Rattle.rewriting_law.proofs.words.Plans.{EntrySplit, follows}
@@ -83,14 +83,14 @@ skips b a before is i p q may (inl owed) =
 
 module _ (program : Program) (plan : List PlanEntry) (image : List Cell)
     (accepted : IsAccepted program) (rewriting : IsRewriting program plan image) where
-  abbrev StandsThere : Processor → Lane → Local → Type 0
+  abbrev StandsThere : Processor → ProcessorState → NodeMemory → Type 0
   StandsThere q l n = Stands program plan image accepted rewriting q l n
 
-  abbrev OffThere : Processor → Lane → Type 0
+  abbrev OffThere : Processor → ProcessorState → Type 0
   OffThere q l = Off program plan image accepted rewriting q l
 
   -- a call that has waited doesn't wait again
-  pub record IsReady (p : Pace) (q : Processor) (l : Lane) (n : Local) (st : StandsThere q l n)
+  pub record IsReady (p : Pace) (q : Processor) (l : ProcessorState) (n : NodeMemory) (st : StandsThere q l n)
       : Type 0 where
     pub waited : p.waited ≡ true
     pub kind : st.item.commit ≡ IfNoWait
@@ -99,7 +99,7 @@ module _ (program : Program) (plan : List PlanEntry) (image : List Cell)
     pub first : st.before ≡ []
     pub few : p.words ≤ 40 * p.commits + 27
 
-  pub record InPace (p : Pace) (q : Processor) (l : Lane) (n : Local) : Type 0 where
+  pub record InPace (p : Pace) (q : Processor) (l : ProcessorState) (n : NodeMemory) : Type 0 where
     pub stands : StandsThere q l n
     pub rises : Rises program p q
     pub opens : (stands.before ≡ [])
@@ -107,12 +107,12 @@ module _ (program : Program) (plan : List PlanEntry) (image : List Cell)
     pub owes : Owes stands.in_batch stands.place stands.before (stands.item ∷ stands.after) p q
         ⊎ IsReady p q l n stands
 
-  pub record OffPace (p : Pace) (q : Processor) (l : Lane) : Type 0 where
+  pub record OffPace (p : Pace) (q : Processor) (l : ProcessorState) : Type 0 where
     pub off : OffThere q l
     pub rises : p.since ≤ 1
     pub few : p.words ≤ 40 * p.commits
 
-  abbrev pub Paced : Pace → Processor → Lane → Local → Type 0
+  abbrev pub Paced : Pace → Processor → ProcessorState → NodeMemory → Type 0
   Paced p q l n = InPace p q l n ⊎ OffPace p q l
 
   abbrev at_word : {a : ℕ} → EntrySplit plan a → Bool → ℕ → ℕ
@@ -127,7 +127,7 @@ module _ (program : Program) (plan : List PlanEntry) (image : List Cell)
   few_batch a f xs e = subst (λ is. idle is ≤ 26) e (is_batch program.code f.entry).few
 
   -- at the head of a sequence
-  head_paced : (b : Bool) (a : ℕ) (p : Pace) (q : Processor) (l : Lane) (n : Local)
+  head_paced : (b : Bool) (a : ℕ) (p : Pace) (q : Processor) (l : ProcessorState) (n : NodeMemory)
       (f : EntrySplit plan a) (i : SequenceItem) (is : List SequenceItem)
       → sequence program b f.entry ≡ i ∷ is → l.at ≡ at_word f b 0
       → Does program (kind_of program b f.entry) a 0 (at_word f b 0) (i ∷ is) 0 q l n
@@ -149,7 +149,7 @@ module _ (program : Program) (plan : List PlanEntry) (image : List Cell)
     owes = inl (inl (pc, few, λ own jump. refl));
   })
 
-  pub single_paced : (a : ℕ) (p : Pace) (q : Processor) (l : Lane) (n : Local)
+  pub single_paced : (a : ℕ) (p : Pace) (q : Processor) (l : ProcessorState) (n : NodeMemory)
       (f : EntrySplit plan a) → l.at ≡ at_word f false 0 → AtHead program a q l
       → p.words ≤ 40 * p.commits + 26 → Rises program p q → Paced p q l n
   single_paced a p q l n f at head few rises =
@@ -174,7 +174,7 @@ module _ (program : Program) (plan : List PlanEntry) (image : List Cell)
       go (i ∷ is) e some does =
           head_paced false a p q l n f i is e at does head.place (omega (arith, few)) rises
 
-  pub entry_paced : (a : ℕ) (p : Pace) (q : Processor) (l : Lane) (n : Local)
+  pub entry_paced : (a : ℕ) (p : Pace) (q : Processor) (l : ProcessorState) (n : NodeMemory)
       (f : EntrySplit plan a) → l.at ≡ word_address program f 0 → AtHead program a q l
       → p.words ≤ 40 * p.commits → Rises program p q → Paced p q l n
   entry_paced a p q l n f at head few rises = elim (serves program plan image accepted rewriting f).run [
@@ -200,7 +200,7 @@ module _ (program : Program) (plan : List PlanEntry) (image : List Cell)
       go (i ∷ is) e does =
           head_paced true a p q l n f i is e at does head.place (omega (arith, few)) rises
 
-  pub enter_paced : (a : ℕ) (p : Pace) (q : Processor) (l : Lane) (n : Local)
+  pub enter_paced : (a : ℕ) (p : Pace) (q : Processor) (l : ProcessorState) (n : NodeMemory)
       → AtHead program a q l → p.words ≤ 40 * p.commits → Rises program p q
       → Paced p q (enter l a (new_of image a)) n
   enter_paced a p q l n head few rises = elim (member plan a) [
@@ -244,7 +244,7 @@ module _ (program : Program) (plan : List PlanEntry) (image : List Cell)
           absurd (absent plan a c.0 apart c.1 c.2)
 
   -- the call that waited, at its place's head
-  pub ready_paced : (a : ℕ) (p : Pace) (q : Processor) (l : Lane) (n : Local)
+  pub ready_paced : (a : ℕ) (p : Pace) (q : Processor) (l : ProcessorState) (n : NodeMemory)
       (f : EntrySplit plan a) (i : SequenceItem) (is : List SequenceItem)
       → sequence program false f.entry ≡ i ∷ is → l.at ≡ at_word f false 0
       → AtHead program a q l → p.waited ≡ true → i.commit ≡ IfNoWait
@@ -289,7 +289,7 @@ module _ (program : Program) (plan : List PlanEntry) (image : List Cell)
       })
 
   -- behind a sequence: only a visit that has committed something leaves its place
-  falls_paced : (b : Bool) (a : ℕ) (p : Pace) (q : Processor) (l : Lane) (n : Local)
+  falls_paced : (b : Bool) (a : ℕ) (p : Pace) (q : Processor) (l : ProcessorState) (n : NodeMemory)
       (f : EntrySplit plan a) (before : List SequenceItem) → sequence program b f.entry ≡ before
       → l.at ≡ at_word f b (length before) → Falls program (kind_of program b f.entry) a q l
       → Owes b a before [] p q → Rises program p q → Paced p q l n
@@ -317,7 +317,7 @@ module _ (program : Program) (plan : List PlanEntry) (image : List Cell)
       (ap (λ xs. number program false f.entry (length xs)) (sym e)
       ∙ sym (entry_length program f.entry)) ∙ sym next.starts) behind.1 few rises
 
-  lands_paced : (s a : ℕ) (p : Pace) (q : Processor) (l : Lane) (n : Local)
+  lands_paced : (s a : ℕ) (p : Pace) (q : Processor) (l : ProcessorState) (n : NodeMemory)
       (f : EntrySplit plan a) (b : Bool) (before after : List SequenceItem)
       → sequence program b f.entry ≡ before ++ after
       → l.at ≡ skip_to s (at_word f b (length before))
@@ -376,7 +376,7 @@ module _ (program : Program) (plan : List PlanEntry) (image : List Cell)
           let more = spent_more b before i in inr (inr (omega (arith, paid, more)))
 
   -- from a word on to a later one
-  pub further_paced : (p : Pace) (q q' : Processor) (l l' : Lane) (n n' : Local)
+  pub further_paced : (p : Pace) (q q' : Processor) (l l' : ProcessorState) (n n' : NodeMemory)
       (st : StandsThere q l n) (s : ℕ)
       → l'.at ≡ skip_to s (next_pc (at_word st.entry st.in_batch (length st.before)))
       → Does program (kind_of program st.in_batch st.entry.entry) st.place (length st.before + 1)
@@ -402,7 +402,7 @@ module _ (program : Program) (plan : List PlanEntry) (image : List Cell)
       may owes rises opens
 
   -- at the first word of the place's own sequence again
-  pub again_paced : (p : Pace) (q q' : Processor) (l l' : Lane) (n n' : Local)
+  pub again_paced : (p : Pace) (q q' : Processor) (l l' : ProcessorState) (n n' : NodeMemory)
       (st : StandsThere q l n) → l'.at ≡ l.at → kind_of program st.in_batch st.entry.entry ≡ OfPlace
       → length st.before ≡ 0 → AtHead program st.place q' l' → p.words ≤ 40 * p.commits + 26
       → Rises program p q' → Paced p q' l' n'
@@ -413,7 +413,7 @@ module _ (program : Program) (plan : List PlanEntry) (image : List Cell)
       ∙ ap (λ b. at_word st.entry b 0) single) head few rises
 
   -- a word that commits, or that doesn't
-  pub paid_then : (p r : Pace) (q : Processor) (l : Lane) (n : Local) (inn : InPace p q l n)
+  pub paid_then : (p r : Pace) (q : Processor) (l : ProcessorState) (n : NodeMemory) (inn : InPace p q l n)
       → r.words ≡ p.words + 1 → r.commits ≡ p.commits + 1
       → r.words + 39
       ≤ 40 * r.commits + spent inn.stands.in_batch (inn.stands.before ++ inn.stands.item ∷ [])
@@ -433,7 +433,7 @@ module _ (program : Program) (plan : List PlanEntry) (image : List Cell)
             omega (arith, few, more, one, here, words, commits))
       ]
 
-  pub owed_then : (p r : Pace) (q : Processor) (l : Lane) (n : Local) (inn : InPace p q l n)
+  pub owed_then : (p r : Pace) (q : Processor) (l : ProcessorState) (n : NodeMemory) (inn : InPace p q l n)
       → r.words ≡ p.words + 1 → r.commits ≡ p.commits → is_idle inn.stands.item.commit ≡ true
       → (IsReady p q l n inn.stands → ⊥)
       → Owes inn.stands.in_batch inn.stands.place (inn.stands.before ++ inn.stands.item ∷ [])
@@ -470,7 +470,7 @@ module _ (program : Program) (plan : List PlanEntry) (image : List Cell)
       let most = few_own a f (before ++ left) e in omega (arith, all, most)
 
   -- at no time are there 40 words more than 40 for each step
-  pub pace_kept : (p : Pace) (q : Processor) (l : Lane) (n : Local) → Paced p q l n
+  pub pace_kept : (p : Pace) (q : Processor) (l : ProcessorState) (n : NodeMemory) → Paced p q l n
       → p.words ≤ 40 * p.commits + 39
   pace_kept p q l n (inr off) = let few = off.few in omega (arith, few)
   pace_kept p q l n (inl inn) =
@@ -487,7 +487,7 @@ module _ (program : Program) (plan : List PlanEntry) (image : List Cell)
       ]
 
   -- a jump leaves the place only once something was committed
-  pub jump_paid : (p : Pace) (q : Processor) (l : Lane) (n : Local) (inn : InPace p q l n) (b : ℕ)
+  pub jump_paid : (p : Pace) (q : Processor) (l : ProcessorState) (n : NodeMemory) (inn : InPace p q l n) (b : ℕ)
       → is_jump inn.stands.item.what ≡ true → inn.stands.item.commit ≡ Never
       → (inn.stands.in_batch ≡ true → b ≢ inn.stands.place)
       → (inn.stands.in_batch ≡ false → all_idle inn.stands.before ≡ true → ⊥) → q.pc ≡ b

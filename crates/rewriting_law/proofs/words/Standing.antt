@@ -12,10 +12,10 @@ use Rattle.rv32_program.specs.Program.{Program, IsAccepted}
 use Rattle.rv32_step.specs.OneMemory.{Processor, next_pc}
 use Rattle.templates.specs.declared.plans.PlanEntry.{PlanEntry}
 use Rattle.templates.specs.declared.plans.Scratches.{Scratches}
-use Rattle.templates.specs.Plans.{looks_at_value, Serves}
+use Rattle.templates.specs.Plans.{is_flag_checked, Serves}
 use Rattle.templates.specs.Sequences.{SequenceItem, instruction_items, place_items, poll_first, items_of, spills, spill, spill_by, load_sequence, branch_sequence, jump_sequence, is_multiple_of_four}
 use Rattle.dsm_protocol.specs.jump_map.Image.{Cell, IsRewriting, image_base, distance}
-use Rattle.dsm_protocol.specs.node_model.Node.{Lane, Local}
+use Rattle.dsm_protocol.specs.node_model.Node.{ProcessorState, NodeMemory}
 use Rattle.rewriting_law.proofs.words.Plans.{EntrySplit, is_contained}
 use Rattle.rewriting_law.proofs.words.Fetching.{word_address, in_range, next_word}
 use Rattle.rewriting_law.proofs.words.Spots.{Spot, kind_of, sequence, number, next_number, spot}
@@ -63,7 +63,7 @@ some_instruction_items a regs (Jalr rd rs1 imm) = omega arith
 some_instruction_items a regs (Branch c rs1 rs2 offset) =
     some_branch (is_multiple_of_four (offset_address a offset)) c rs1 rs2 (offset_address a offset)
 some_instruction_items a regs (Load k rd rs1 imm) =
-    some_load (looks_at_value k rd rs1) regs k rd rs1 imm
+    some_load (is_flag_checked k rd rs1) regs k rd rs1 imm
 some_instruction_items a regs (Store w rs1 rs2 imm) = some_spills regs _ (omega arith)
 some_instruction_items a regs (OpImm o rd rs1 imm) = omega arith
 some_instruction_items a regs (ShiftImm o rd rs1 amount) = omega arith
@@ -101,7 +101,7 @@ module _ (program : Program) (plan : List PlanEntry) (image : List Cell)
     (accepted : IsAccepted program) (rewriting : IsRewriting program plan image) where
   -- the node stands at a word of one of a place's sequences, and the words from there on make the
   -- processor's next steps
-  pub record Stands (q : Processor) (l : Lane) (n : Local) : Type 0 where
+  pub record Stands (q : Processor) (l : ProcessorState) (n : NodeMemory) : Type 0 where
     pub place : ℕ
     pub entry : EntrySplit plan place
     -- the batch of the run that starts there, or the place's own sequence
@@ -116,7 +116,7 @@ module _ (program : Program) (plan : List PlanEntry) (image : List Cell)
         (item ∷ after) 0 q l n
 
   -- or at word 0, where its processor is at an address without a code word
-  pub record Off (q : Processor) (l : Lane) : Type 0 where
+  pub record Off (q : Processor) (l : ProcessorState) : Type 0 where
     pub at : l.at ≡ image_base
     pub off : l.off ≡ q.pc
     pub no_code : program.code q.pc ≡ None
@@ -135,7 +135,7 @@ module _ (program : Program) (plan : List PlanEntry) (image : List Cell)
       (number program b f.entry k) i
   spot_of f b k i there = spot program f.entry k i b (serves f).run there
 
-  pub item_there : {q : Processor} {l : Lane} {n : Local} (st : Stands q l n)
+  pub item_there : {q : Processor} {l : ProcessorState} {n : NodeMemory} (st : Stands q l n)
       → slice_get (sequence program st.in_batch st.entry.entry) (length st.before)
       ≡ Some st.item
   item_there st =

@@ -23,7 +23,7 @@ use Rattle.templates.specs.declared.plans.PlanEntry.{PlanEntry}
 use Rattle.templates.specs.Places.{IsPlace}
 use Rattle.templates.specs.Plans.{closes_loop_at}
 use Rattle.templates.specs.Sequences.{ItemWord, Runs, SequenceItem, branch_sequence, jump_sequence, is_multiple_of_four, place_items, poll_first, items_of}
-use Rattle.dsm_protocol.specs.node_model.Node.{Local, Outcome}
+use Rattle.dsm_protocol.specs.node_model.Node.{NodeMemory, WordOutcome}
 use Rattle.rewriting_law.proofs.words.Idle.{is_jump}
 use Rattle.rewriting_law.proofs.words.Plans.{next_place}
 use Rattle.rewriting_law.proofs.templates.Does.{Commits, may_turn, turns_at}
@@ -146,7 +146,7 @@ module _ (program : Program) (accepted : IsAccepted program) (q : Processor) whe
   GoesBy (Prints a) x = Unit {0}
   GoesBy request x = next_pc q.pc ≡ x
 
-  pub commits_by_request : {K K' : Processor → Type 0} (n : Local) (r : Outcome)
+  pub commits_by_request : {K K' : Processor → Type 0} (n : NodeMemory) (r : WordOutcome)
       → (a : Request) → ((p : Processor) → GoesBy a p.pc → K p → K' p)
       → Commits program K q n r a → Commits program K' q n r a
   commits_by_request n r (Becomes p) on h = (h.0, h.1, h.2, h.3, on p (h.0, refl) h.4)

@@ -18,8 +18,8 @@ pub returns-clause-adds : goal.returns-clause-adds
 returns-clause-adds c = λ work run more may. adds work run more may
 
 pub returns-clause-apart : goal.returns-clause-apart
-returns-clause-apart c = λ work core other events deeds stands did.
-    apart work core other events deeds stands did
+returns-clause-apart c = λ work core other events history stands did.
+    apart work core other events history stands did
 
 pub returns-clause-few : goal.returns-clause-few
 returns-clause-few c = λ work run i may b. (opening_up work run may).nodes i b

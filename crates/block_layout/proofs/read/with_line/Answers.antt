@@ -1,6 +1,6 @@
 use Rattle.std.proofs.Common.{◌≡◌, None, Some, sym, subst}
 use Rattle.block_layout.specs.declared.layout.BlockRange.{BlockRange}
-use Rattle.block_layout.specs.declared.refused.Rule.TheVariants.{Syntax}
+use Rattle.block_layout.specs.declared.refused.LayoutRule.TheVariants.{Syntax}
 use Rattle.block_layout.specs.Text.{HasFields}
 use Rattle.block_layout.specs.Reading.{IsFault}
 use Rattle.block_layout.proofs.TextLines.{fault_syntax, fault_range}

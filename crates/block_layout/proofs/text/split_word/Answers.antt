@@ -1,5 +1,5 @@
 use Rattle.std.proofs.Common.{refl, sym}
-use Rattle.block_layout.proofs.Words.{gap_found, no_end, no_mark, gap_same}
+use Rattle.block_layout.proofs.LineFields.{gap_found, no_end, no_mark, gap_same}
 use Rattle.block_layout.proofs.text.split_word.Goals as goal
 
 pub returns-in_err-end-clause-only : goal.returns-in_err-end-clause-only

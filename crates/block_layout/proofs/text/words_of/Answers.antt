@@ -1,4 +1,4 @@
-use Rattle.block_layout.proofs.Words.{split_moved}
+use Rattle.block_layout.proofs.LineFields.{split_moved}
 use Rattle.block_layout.proofs.text.words_of.Goals as goal
 
 pub returns-in_err-start-clause-only : goal.returns-in_err-start-clause-only

@@ -14,10 +14,10 @@ returns-clause-effect c =
     let answer = c.args.answer in
     let now = c.args.self.now in
     let m : NodeBlocks = node_blocks now c.args.states.now c.args.copy.now c.args.held.now in
-    let after : NodeBlocks = node_blocks c.go_on.new.self c.go_on.new.states c.go_on.new.copy c.args.held.now in
+    let after : NodeBlocks = node_blocks c.complete_or_keep.new.self c.complete_or_keep.new.states c.complete_or_keep.new.copy c.args.held.now in
     let old : Wait = c.in-Some.wait in
     let found : wait_of now block ≡ Some old = sym c.take_out.ensures.found ∙ c.in-Some.is in
     let taken : takes_answer now (state_of c.args.states.now) c.args.from block answer ≡ true = sym c.takes.ensures.value ∙ c.if-not-takes.false in
-    completion_done now.layout c.take_out.new.self.layout m after block (with_answer old answer) c.go_on.result.items (wait_of c.take_out.new.self) (message_effect now.layout m c.args.from (bringing block answer)) c.take_out.ensures.layout
+    completion_done now.layout c.take_out.new.self.layout m after block (with_answer old answer) c.complete_or_keep.result.items (wait_of c.take_out.new.self) (message_effect now.layout m c.args.from (bringing block answer)) c.take_out.ensures.layout
     (answer_taken now c.args.states.now c.args.copy.now c.args.held.now c.args.from block answer old found taken)
-    c.take_out.ensures.rest c.go_on.ensures.states c.go_on.ensures.bytes c.go_on.ensures.wait refl c.go_on.ensures.sends
+    c.take_out.ensures.rest c.complete_or_keep.ensures.states c.complete_or_keep.ensures.bytes c.complete_or_keep.ensures.wait refl c.complete_or_keep.ensures.sends

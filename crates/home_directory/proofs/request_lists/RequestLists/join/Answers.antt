@@ -1,9 +1,9 @@
 use Rattle.std.proofs.Common.{◌≡◌, ◌<◌, ap, ◌∙◌, sym, true, false, set, ℕ, [], Some, None, List, arith, length, refl, subst}
 use Rattle.std.proofs.lemmas.Grind.{common_steps}
 use Rattle.std.proofs.lemmas.List.{get_or_default, length-set}
-use Rattle.home_directory.specs.declared.request_lists.Ends.{Ends}
+use Rattle.home_directory.specs.declared.request_lists.ListEnds.{ListEnds}
 use Rattle.home_directory.specs.declared.request_lists.BlockList.{BlockList}
-use Rattle.home_directory.specs.declared.request_lists.Place.{Place}
+use Rattle.home_directory.specs.declared.request_lists.Slot.{Slot}
 use Rattle.home_directory.specs.Home.{waits}
 use Rattle.home_directory.specs.Effects.{requests_for, members}
 use Rattle.home_directory.specs.Lists.{Requests, place_at, list_at, HasJoined, all_of}
@@ -54,7 +54,7 @@ module _ (c : goal.After-self-4-1) where
       c.args.request.block
       c.self.invariant within c.in-Some.number c.in-Some.is room) c.index_mut-place.ensures.value
 
-  abbrev After : List Place → ℕ → BlockList → Place → Type 0
+  abbrev After : List Slot → ℕ → BlockList → Slot → Type 0
   After now first l p = IsJoined c.self.inside.places.items c.self.inside.lists.items c.self.inside.len
       c.args.request.block
       c.args.request now
@@ -63,7 +63,7 @@ module _ (c : goal.After-self-4-1) where
         asked = set l.asked c.args.request.from true;
       }) p.next
 
-  with : (now : List Place) (first : ℕ) → After now first (list_at c.self.inside.lists.items c.args.request.block)
+  with : (now : List Slot) (first : ℕ) → After now first (list_at c.self.inside.lists.items c.args.request.block)
       (place_at c.self.inside.places.items c.in-Some.number)
       → After now first c.index_mut-list.result.now c.index_mut-place.result.now
   with now first h = subst (λ l. After now first l c.index_mut-place.result.now) (sym list_is)
@@ -115,7 +115,7 @@ module _ (c : goal.After-self-4-1) where
             next = None;
           }),
         )) in
-        let linked : Place → List Place = λ p. set ps1 e.last (record {
+        let linked : Slot → List Slot = λ p. set ps1 e.last (record {
           request = p.request;
           next =
               Some c.in-Some.number;

@@ -2,14 +2,14 @@ use Rattle.std.proofs.Common.{◌≡◌, ◌+◌, List, [], ◌∷◌, length, r
 use Rattle.std.proofs.lemmas.Grind.{common_steps}
 use Rattle.std.proofs.lemmas.List.{length-replicate}
 use Rattle.home_directory.specs.declared.request_lists.BlockList.{BlockList}
-use Rattle.home_directory.specs.declared.request_lists.Place.{Place}
+use Rattle.home_directory.specs.declared.request_lists.Slot.{Slot}
 use Rattle.home_directory.specs.Lists.{AreEmpty, IsKept, all_of}
 use Rattle.home_directory.proofs.Lists.{empty_grows, kept_start, all_start}
 use Rattle.home_directory.proofs.request_lists.RequestLists.new.Goals as goal
 
 pub loop-place-preserved : goal.loop-place-preserved
 loop-place-preserved c =
-    let p : Place = record { request = None; next = c.loop-place.empty } in record {
+    let p : Slot = record { request = None; next = c.loop-place.empty } in record {
       len = omega (
         arith,
         c.loop-place.invariant.len,

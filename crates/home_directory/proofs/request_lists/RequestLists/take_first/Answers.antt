@@ -2,9 +2,9 @@ use Rattle.std.proofs.Common.{◌≡◌, ◌<◌, ◌≤◌, ◌-◌, ap, ◌∙
 use Rattle.std.proofs.lemmas.Grind.{common_steps}
 use Rattle.std.proofs.lemmas.List.{set-get_or}
 use Rattle.home_directory.specs.declared.directory.Request.{Request}
-use Rattle.home_directory.specs.declared.request_lists.Ends.{Ends}
+use Rattle.home_directory.specs.declared.request_lists.ListEnds.{ListEnds}
 use Rattle.home_directory.specs.declared.request_lists.BlockList.{BlockList}
-use Rattle.home_directory.specs.declared.request_lists.Place.{Place}
+use Rattle.home_directory.specs.declared.request_lists.Slot.{Slot}
 use Rattle.home_directory.specs.Effects.{requests_for}
 use Rattle.home_directory.specs.Lists.{Requests, place_at, list_at, request_at, IsKept, IsFirstTaken, all_of}
 use Rattle.home_directory.proofs.JoinLeave.{list_found, place_found, list, head, head_holds, head_within, head_node, some_wait, kept_taken, first_taken, none_there, ends_then}
@@ -14,7 +14,7 @@ use Rattle.home_directory.proofs.request_lists.RequestLists.take_first.Goals.{in
 no_list : BlockList
 no_list = record { ends = None; asked = [] }
 
-no_place : Place
+no_place : Slot
 no_place = record { request = None; next = None }
 
 pub returns-in-None-clause-first : goal.returns-in-None-clause-first
@@ -72,7 +72,7 @@ unreachable-requires c =
     first c.index_mut-place.ensures.value in
     let bad : None ≡ Some (head w.places.items w.lists.items w.empty w.len block c.self.invariant within
     c.in-Some.ends ends).first =
-    sym c.in-None-take.is ∙ c.take.ensures.value ∙ ap (λ (p : Place). p.request) there
+    sym c.in-None-take.is ∙ c.take.ensures.value ∙ ap (λ (p : Slot). p.request) there
     ∙ head_holds w.places.items w.lists.items w.empty w.len block c.self.invariant within c.in-Some.ends ends in
     cc
 
@@ -95,7 +95,7 @@ bounds-list-request c =
     first c.index_mut-place.ensures.value in
     let h = head w.places.items w.lists.items w.empty w.len block c.self.invariant within c.in-Some.ends ends in
     let both : Some c.in-Some-take.request ≡ Some h.first =
-    sym c.in-Some-take.is ∙ c.take.ensures.value ∙ ap (λ (p : Place). p.request) there
+    sym c.in-Some-take.is ∙ c.take.ensures.value ∙ ap (λ (p : Slot). p.request) there
     ∙ head_holds w.places.items w.lists.items w.empty w.len block c.self.invariant within c.in-Some.ends ends in
     let same : c.in-Some-take.request ≡ h.first = cc in
     let node = head_node w.places.items w.lists.items w.empty w.len block c.self.invariant within c.in-Some.ends ends
@@ -143,26 +143,26 @@ module _ (c : goal.After-self-5-1) where
       let both : Some h ≡ Some c.in-Some-take.request =
       sym (head_holds c.self.inside.places.items c.self.inside.lists.items c.self.inside.empty c.self.inside.len
       c.args.block c.self.invariant within c.in-Some.ends ends)
-      ∙ ap (λ (p : Place). p.request) (sym there) ∙ sym c.take.ensures.value ∙ c.in-Some-take.is in cc
+      ∙ ap (λ (p : Slot). p.request) (sym there) ∙ sym c.take.ensures.value ∙ c.in-Some-take.is in cc
 
-  abbrev then : Option ℕ → Option Ends
+  abbrev then : Option ℕ → Option ListEnds
   then next = ends_then c.self.inside.places.items c.self.inside.lists.items c.self.inside.empty c.self.inside.len
       c.args.block c.self.invariant within c.in-Some.ends ends next
 
   next_is : then (place_at c.self.inside.places.items c.in-Some.ends.first).next ≡ c.match-next.list
   next_is = elim c.match-next.branch [
-    | in-Some-next w ↦ ap then (ap (λ (p : Place). p.next) (sym there) ∙ w.in-Some-next.is) ∙ sym w.list-is
-    | in-None-next w ↦ ap then (ap (λ (p : Place). p.next) (sym there) ∙ w.in-None-next.is) ∙ sym w.list-is
+    | in-Some-next w ↦ ap then (ap (λ (p : Slot). p.next) (sym there) ∙ w.in-Some-next.is) ∙ sym w.list-is
+    | in-None-next w ↦ ap then (ap (λ (p : Slot). p.next) (sym there) ∙ w.in-None-next.is) ∙ sym w.list-is
   ]
 
-  abbrev places_with : Option Request → List Place
+  abbrev places_with : Option Request → List Slot
   places_with r = set c.self.inside.places.items c.in-Some.ends.first (record {
     request = r;
     next =
         c.self.inside.empty;
   })
 
-  abbrev lists_with : Option Ends → BlockList → Request → List BlockList
+  abbrev lists_with : Option ListEnds → BlockList → Request → List BlockList
   lists_with e l q = set c.self.inside.lists.items c.args.block (record {
     ends = e;
     asked =

@@ -1,6 +1,6 @@
 use Rattle.std.proofs.Common.{◌≡◌, sym, ◌∙◌, false}
 use Rattle.home_directory.specs.Table as table
-use Rattle.miss_handlers.proofs.Waits.go_on.Goals as goal
+use Rattle.miss_handlers.proofs.Waits.complete_or_keep.Goals as goal
 
 pub returns-then-not-is_complete-clause-wait : goal.returns-then-not-is_complete-clause-wait
 returns-then-not-is_complete-clause-wait c =

@@ -1,12 +1,12 @@
 -- Messages without their buffers.
 use Rattle.std.specs.Prelude.{ℕ, Option, Some, None}
-use Rattle.home_directory.specs.declared.messages.Message.{Message}
-use Rattle.home_directory.specs.declared.messages.Message.TheVariants.{Read, Write, FwdRead, FwdWrite, Inval, Data, Grant, Ack, Done, Bye}
-use Rattle.home_directory.specs.declared.messages.Post.{Post}
-use Rattle.home_directory.specs.declared.headers.MessageKind.{MessageKind}
-use Rattle.home_directory.specs.declared.headers.MessageKind.TheVariants as kind
-use Rattle.home_directory.specs.declared.headers.Header.{Header}
-use Rattle.home_directory.specs.declared.headers.Sent.{Sent}
+use Rattle.dsm_messages.specs.declared.messages.Message.{Message}
+use Rattle.dsm_messages.specs.declared.messages.Message.TheVariants.{Read, Write, FwdRead, FwdWrite, Inval, Data, Grant, Ack, Done, Bye}
+use Rattle.dsm_messages.specs.declared.messages.Post.{Post}
+use Rattle.dsm_messages.specs.declared.headers.MessageKind.{MessageKind}
+use Rattle.dsm_messages.specs.declared.headers.MessageKind.TheVariants as kind
+use Rattle.dsm_messages.specs.declared.headers.Header.{Header}
+use Rattle.dsm_messages.specs.declared.headers.Sent.{Sent}
 
 abbrev pub about : MessageKind → (block : ℕ) → Header
 about k b = record { kind = k; block = Some b; requester = None; acks = None }

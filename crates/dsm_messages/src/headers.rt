@@ -1,7 +1,7 @@
 //! Messages without their buffers.
 
 ghost use Rattle.std.specs.Prelude.{◌≡◌, map};
-ghost use Rattle.home_directory.specs.Headers as model;
+ghost use Rattle.dsm_messages.specs.Headers as model;
 
 use crate::messages::{Message, Post, Sends};
 use arrayvec::ArrayVec;

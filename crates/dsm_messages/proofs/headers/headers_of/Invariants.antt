@@ -1,7 +1,7 @@
 -- The headers that are to come, behind those that there are, make the whole.
 use Rattle.std.proofs.Common.{◌≡◌, ◌++◌, ◌≤◌, drop, map, length}
-use Rattle.home_directory.specs.Headers.{sent_by}
-use Rattle.home_directory.proofs.headers.headers_of.Given as goal
+use Rattle.dsm_messages.specs.Headers.{sent_by}
+use Rattle.dsm_messages.proofs.headers.headers_of.Given as goal
 
 abbrev pub invariant-loop-post : goal.invariant-loop-post
 invariant-loop-post l = record {
