@@ -5,7 +5,7 @@ use Rattle.block_layout.specs.Layout.{Shape, IsValid, blocks, home}
 use Rattle.rv32_program.specs.Program.{IsAccepted}
 use Rattle.rewriting_law.specs.templates.declared.plans.PlanEntry.{PlanEntry}
 use Rattle.node_machine.specs.jump_map.Image.{IsRewriting}
-use Rattle.rewriting_law.specs.home_directory.declared.messages.Wire.{Wire}
+use Rattle.rewriting_law.specs.dsm_messages.declared.messages.Wire.{Wire}
 use Rattle.run_order.specs.node_model.Node.{Work, Node, IsLaidOver}
 use Rattle.run_order.specs.node_model.Core.{Core, Event, IsCoreRun, opening_core, after, AreAlike}
 use Rattle.coherence.specs.Table.{sum_below}

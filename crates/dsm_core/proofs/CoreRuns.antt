@@ -4,13 +4,13 @@ use Rattle.std.specs.Prelude.{All}
 use Rattle.std.proofs.Math.Path.{fun_ext}
 use Rattle.std.proofs.lemmas.List.{get_or_default, length-map}
 use Rattle.std.proofs.lemmas.List.Elements.{All-head}
-use Rattle.rewriting_law.specs.home_directory.declared.messages.Wire.{Wire}
+use Rattle.rewriting_law.specs.dsm_messages.declared.messages.Wire.{Wire}
 use Rattle.run_order.specs.node_model.declared.Standing.TheVariants as standing
 use Rattle.run_order.specs.node_model.Node.{Work, Node, Phase, Running, Resumed, Waiting, Ended, opening_node, standing_in, standing_of, can_execute, has_all_byes}
 use Rattle.run_order.specs.node_model.Turns.{Turn, word_turn, take_turn}
 use Rattle.run_order.specs.node_model.Core.{Core, Event, Exec, Take, May, may_execute, may_take, opening_core, with_turn, with_list, take_first, event_step, IsCoreRun, after, wires_to, AreAlike}
-use Rattle.node_machine.specs.declared.frame.Frame.{Frame}
-use Rattle.node_machine.specs.Frame.{node_of}
+use Rattle.node_machine.specs.declared.node_state.NodeState.{NodeState}
+use Rattle.node_machine.specs.NodeState.{node_of}
 use Rattle.rewriting_law.specs.dsm_protocol.Queue.{Queue, wires_of, AreQueues}
 use Rattle.rewriting_law.specs.Bounds.{RunsRewritten}
 use Rattle.dsm_core.specs.CoreParts.{CoreParts, work_of, core_with, core_of, HaveWork, IsLedTo, IsCore, AreParts, GoesOnTo, HasStampsInRange}
@@ -163,14 +163,14 @@ for_fewer work j k c d le p = record { goes = p.goes; count = (let a = p.count i
 
 -- 3. Nodes and lists after events
 
-works_kept : (work : Work) (ns0 ns1 : List Frame) → SameWorks ns0 ns1 → HaveWork work ns0
+works_kept : (work : Work) (ns0 ns1 : List NodeState) → SameWorks ns0 ns1 → HaveWork work ns0
     → HaveWork work ns1
 works_kept work ns0 ns1 same have i = ap (λ z. get_or z i work) same ∙ have i
 
-abbrev pub parts_after : CoreParts → List Frame → List Queue → CoreParts
+abbrev pub parts_after : CoreParts → List NodeState → List Queue → CoreParts
 parts_after p ns qs = record p { nodes = ns; lists = qs }
 
-pub parts_kept : (p : CoreParts) (ns : List Frame) (qs : List Queue) → AreParts p
+pub parts_kept : (p : CoreParts) (ns : List NodeState) (qs : List Queue) → AreParts p
     → length ns ≡ p.layout.nodes → AreQueues qs p.layout.nodes → SameWorks p.nodes ns
     → AreParts (parts_after p ns qs)
 parts_kept p ns qs are len lists works = record {
@@ -225,7 +225,7 @@ pub can_execute_by : (work : Work) (c : Core) (i : ℕ) → May work c (Exec i)
 can_execute_by work c i may = can_by work (c.nodes i) (c.nodes i).phase may.1
 
 -- whatever stands for a node that isn't there
-pub any_node : (ns : List Frame) (i : ℕ) (d e : Node) → i < length ns
+pub any_node : (ns : List NodeState) (i : ℕ) (d e : Node) → i < length ns
     → node_or ns i d ≡ node_or ns i e
 any_node ns i d e below =
     get_or_default (map node_of ns) i d e (subst (λ z. i < z) (sym (length-map ns node_of)) below)
@@ -271,7 +271,7 @@ opened p len lists works rewritten first empty = record {
   };
 }
 
-pub opened_core : (work : Work) (ns : List Frame) (qs : List Queue) → AreFirst work ns
+pub opened_core : (work : Work) (ns : List NodeState) (qs : List Queue) → AreFirst work ns
     → ((j i : ℕ) → wires_of qs work.layout.nodes j i ≡ [])
     → core_with work ns qs ≡ opening_core work
 opened_core work ns qs first empty = λ t. record {

@@ -3,32 +3,32 @@ use Rattle.std.proofs.Common.{◌≡◌, ℕ, suc, ◌<◌, ◌^◌, true, false
 use Rattle.std.proofs.Math.Path.{fun_ext}
 use Rattle.std.proofs.lemmas.List.{get_or-map, get_or-set_same, get_or-set_other, get_or_past, get_or_push, get_or_append_left, map-set, map_push, set-get_or, length-map, length-append}
 use Rattle.std.proofs.lemmas.Bool.Decides.{eqb_tells, leb_tells, nat_tests}
-use Rattle.rewriting_law.specs.home_directory.declared.messages.Post.{Post}
-use Rattle.rewriting_law.specs.home_directory.declared.messages.Wire.{Wire}
+use Rattle.rewriting_law.specs.dsm_messages.declared.messages.Post.{Post}
+use Rattle.rewriting_law.specs.dsm_messages.declared.messages.Wire.{Wire}
 use Rattle.run_order.specs.node_model.Node.{Work, Node, opening_node, can_execute}
 use Rattle.run_order.specs.node_model.Turns.{Turn, word_turn, take_turn}
 use Rattle.run_order.specs.node_model.Core.{Core, Event, Exec, Take, wires_to, with_turn, with_list, take_first, event_step, AreAlike}
-use Rattle.node_machine.specs.declared.frame.Frame.{Frame}
-use Rattle.node_machine.specs.Frame.{node_of, work_of as work_at}
+use Rattle.node_machine.specs.declared.node_state.NodeState.{NodeState}
+use Rattle.node_machine.specs.NodeState.{node_of, work_of as work_at}
 use Rattle.rewriting_law.specs.dsm_protocol.Queue.{Queue, wires_of, SameWires, IsSent, IsTaken}
 use Rattle.dsm_core.specs.CoreParts.{core_with, HaveWork}
 use Rattle.dsm_core.specs.CoreSteps.{node_or, SameNodes, MayExecute, IsStamped, HaveMade, HaveKept, HavePassed}
 
 -- 1. A place of the nodes
 
-pub read_at : {Y : Type 0} (f : Frame → Y) (ns : List Frame) (i : ℕ) (x : Frame) (d : Y)
+pub read_at : {Y : Type 0} (f : NodeState → Y) (ns : List NodeState) (i : ℕ) (x : NodeState) (d : Y)
     → i < length ns → x ≡ get_or ns i x → get_or (map f ns) i d ≡ f x
 read_at f ns i x d below is = get_or-map f ns i x d below ∙ ap f (sym is)
 
 -- what stands for the same took its place
-pub set_same : {Y : Type 0} (f : Frame → Y) (ns : List Frame) (i : ℕ) (x y : Frame)
+pub set_same : {Y : Type 0} (f : NodeState → Y) (ns : List NodeState) (i : ℕ) (x y : NodeState)
     → i < length ns → x ≡ get_or ns i x → f y ≡ f x → map f (set ns i y) ≡ map f ns
 set_same f ns i x y below is e = map-set f ns i y
     ∙ ap (λ z. set (map f ns) i z) (e ∙ sym (read_at f ns i x (f y) below is))
     ∙ set-get_or (map f ns) i (f y)
 
 -- another node took its place
-pub set_node : (ns : List Frame) (i k : ℕ) (y : Frame) (d : Node) → i < length ns
+pub set_node : (ns : List NodeState) (i k : ℕ) (y : NodeState) (d : Node) → i < length ns
     → node_or (set ns i y) k d ≡ cond (eqb k i) (node_of y) (node_or ns k d)
 set_node ns i k y d below = ap (λ z. get_or z k d) (map-set node_of ns i y)
     ∙ (elim (eqb_tells k i) [
@@ -39,19 +39,19 @@ set_node ns i k y d below = ap (λ z. get_or z k d) (map-set node_of ns i y)
     ])
 
 -- the node that was read stands for the node of the core
-pub same_node : (ns0 ns1 : List Frame) (i : ℕ) (x : Frame) (d : Node) → i < length ns1
+pub same_node : (ns0 ns1 : List NodeState) (i : ℕ) (x : NodeState) (d : Node) → i < length ns1
     → SameNodes ns0 ns1 → x ≡ get_or ns1 i x → node_of x ≡ node_or ns0 i d
 same_node ns0 ns1 i x d below same is =
     sym (read_at node_of ns1 i x d below is) ∙ ap (λ z. get_or z i d) same.nodes
 
-pub same_work : (work : Work) (ns0 ns1 : List Frame) (i : ℕ) (x : Frame) → i < length ns1
+pub same_work : (work : Work) (ns0 ns1 : List NodeState) (i : ℕ) (x : NodeState) → i < length ns1
     → SameNodes ns0 ns1 → x ≡ get_or ns1 i x → HaveWork work ns0 → work_at x ≡ work
 same_work work ns0 ns1 i x below same is have =
     sym (read_at work_at ns1 i x work below is) ∙ ap (λ z. get_or z i work) same.works ∙ have i
 
 -- 2. A turn
 
-pub turned : (work : Work) (i : ℕ) (ns : List Frame) (y : Frame) (q1 q2 : List Queue) (stamp : ℕ)
+pub turned : (work : Work) (i : ℕ) (ns : List NodeState) (y : NodeState) (q1 q2 : List Queue) (stamp : ℕ)
     (posts : List Post) (base : Core) (t : Turn)
     → i < length ns → node_of y ≡ t.node → posts ≡ t.sends → stamp ≡ (node_of y).stamp
     → AreAlike work.layout.nodes (core_with work ns q1) base
@@ -69,7 +69,7 @@ turned work i ns y q1 q2 stamp posts base t below en ep es a sent = record {
 }
 
 -- a node has executed a word
-pub executed : (n i : ℕ) (ns0 ns1 : List Frame) (x y : Frame) (q0 q1 q2 : List Queue) (stamp : ℕ)
+pub executed : (n i : ℕ) (ns0 ns1 : List NodeState) (x y : NodeState) (q0 q1 q2 : List Queue) (stamp : ℕ)
     (posts : List Post) → length ns1 ≡ n → i < n → SameNodes ns0 ns1 → x ≡ get_or ns1 i x
     → SameWires q0 q1 n → IsSent q1 q2 n i stamp posts
     → node_of y ≡ (word_turn (work_at x) (node_of x)).node
@@ -92,7 +92,7 @@ executed n i ns0 ns1 x y q0 q1 q2 stamp posts len bi same is wires sent en ep es
     (subst (λ z. IsSent q1 q2 z i stamp posts) (sym e) sent))
 
 -- a node has taken a message
-pub taken : (n i j : ℕ) (ns0 ns1 : List Frame) (x y : Frame) (q0 q1 q2 q3 : List Queue)
+pub taken : (n i j : ℕ) (ns0 ns1 : List NodeState) (x y : NodeState) (q0 q1 q2 q3 : List Queue)
     (stamp : ℕ) (posts : List Post) (w : Wire) → length ns1 ≡ n → i < n → j < n
     → SameNodes ns0 ns1 → x ≡ get_or ns1 i x
     → SameWires q0 q1 n → IsTaken q1 q2 n j i w → IsSent q2 q3 n i stamp posts
@@ -140,7 +140,7 @@ same_list q0 q1 n same j i = elim (leb_tells (suc j) n) [
       rw t refl)
 ]
 
-pub kept : (n : ℕ) (ns0 ns1 : List Frame) (q0 q1 : List Queue) → SameNodes ns0 ns1
+pub kept : (n : ℕ) (ns0 ns1 : List NodeState) (q0 q1 : List Queue) → SameNodes ns0 ns1
     → SameWires q0 q1 n → HaveKept n ns0 ns1 q0 q1
 kept n ns0 ns1 q0 q1 same wires work e =
     let list : (j i : ℕ) → wires_of q1 work.layout.nodes j i ≡ wires_of q0 work.layout.nodes j i =
@@ -152,7 +152,7 @@ kept n ns0 ns1 q0 q1 same wires work e =
 
 -- 4. The start
 
-pub first_more : {Y : Type 0} (f : Frame → Y) (ns : List Frame) (x : Frame) (d : ℕ → Y) (me : ℕ)
+pub first_more : {Y : Type 0} (f : NodeState → Y) (ns : List NodeState) (x : NodeState) (d : ℕ → Y) (me : ℕ)
     → length ns ≡ me → ((i : ℕ) → get_or (map f ns) i (d i) ≡ d i) → f x ≡ d me
     → (i : ℕ) → get_or (map f (ns ++ x ∷ [])) i (d i) ≡ d i
 first_more f ns x d me len have e i =
@@ -170,38 +170,38 @@ first_more f ns x d me len have e i =
 
 -- 5. Nodes that stand for the same
 
-pub may_same : (ns0 ns1 : List Frame) (i : ℕ) → SameNodes ns0 ns1 → MayExecute ns0 i
+pub may_same : (ns0 ns1 : List NodeState) (i : ℕ) → SameNodes ns0 ns1 → MayExecute ns0 i
     → MayExecute ns1 i
 may_same ns0 ns1 i same may d =
     subst (λ (ms : List Node). can_execute (get_or ms i d).phase ≡ true) (sym same.nodes) (may d)
 
-pub stamp_same : (ns0 ns1 : List Frame) (i : ℕ) → SameNodes ns0 ns1 → IsStamped ns0 i
+pub stamp_same : (ns0 ns1 : List NodeState) (i : ℕ) → SameNodes ns0 ns1 → IsStamped ns0 i
     → IsStamped ns1 i
 stamp_same ns0 ns1 i same stamp d =
     subst (λ (ms : List Node). (get_or ms i d).stamp < 2 ^ 56) (sym same.nodes) (stamp d)
 
-have_same : (work : Work) (ns0 ns1 : List Frame) → SameNodes ns0 ns1 → HaveWork work ns0
+have_same : (work : Work) (ns0 ns1 : List NodeState) → SameNodes ns0 ns1 → HaveWork work ns0
     → HaveWork work ns1
 have_same work ns0 ns1 same have i = ap (λ z. get_or z i work) same.works ∙ have i
 
-pub core_same : (work : Work) (ns0 ns1 : List Frame) (qs : List Queue) → SameNodes ns0 ns1
+pub core_same : (work : Work) (ns0 ns1 : List NodeState) (qs : List Queue) → SameNodes ns0 ns1
     → core_with work ns1 qs ≡ core_with work ns0 qs
 core_same work ns0 ns1 qs same = ap (λ (ms : List Node). record {
   nodes = λ i. get_or ms i (opening_node work i);
   list = wires_of qs work.layout.nodes;
 }) same.nodes
 
-pub made_same : (n : ℕ) (ns0 ns1 ns2 : List Frame) (q0 q1 : List Queue) (e : Event)
+pub made_same : (n : ℕ) (ns0 ns1 ns2 : List NodeState) (q0 q1 : List Queue) (e : Event)
     → SameNodes ns0 ns1 → HaveMade n ns1 ns2 q0 q1 e → HaveMade n ns0 ns2 q0 q1 e
 made_same n ns0 ns1 ns2 q0 q1 e same made work is have =
     subst (λ (c : Core). AreAlike n (core_with work ns2 q1) (event_step work c e))
     (core_same work ns0 ns1 q0 same) (made work is (have_same work ns0 ns1 same have))
 
-pub kept_same : (n : ℕ) (ns0 ns1 ns2 : List Frame) (q0 q1 : List Queue) → SameNodes ns0 ns1
+pub kept_same : (n : ℕ) (ns0 ns1 ns2 : List NodeState) (q0 q1 : List Queue) → SameNodes ns0 ns1
     → HaveKept n ns1 ns2 q0 q1 → HaveKept n ns0 ns2 q0 q1
 kept_same n ns0 ns1 ns2 q0 q1 same kept work is = kept work is ∙ core_same work ns0 ns1 q0 same
 
-pub passed_made : (n i : ℕ) (ns0 ns1 : List Frame) (qs : List Queue) → HavePassed n i ns0 ns1
+pub passed_made : (n i : ℕ) (ns0 ns1 : List NodeState) (qs : List Queue) → HavePassed n i ns0 ns1
     → HaveMade n ns0 ns1 qs qs (Exec i)
 passed_made n i ns0 ns1 qs passed work is have =
     subst (λ z. AreAlike z (core_with work ns1 qs) (event_step work (core_with work ns0 qs) (Exec i)))

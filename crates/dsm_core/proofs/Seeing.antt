@@ -1,13 +1,13 @@
 -- What was seen of an event of nodes and lists, as they are stored.
 use Rattle.std.proofs.Common.{◌≡◌, ℕ, ◌<◌, List, [], ◌∷◌, map, length, get_or, None, sym, ap, ◌∙◌, subst}
-use Rattle.rewriting_law.specs.home_directory.declared.messages.Post.{Post}
-use Rattle.rewriting_law.specs.home_directory.declared.messages.Wire.{Wire}
-use Rattle.rewriting_law.specs.home_directory.Headers.{sent_by}
+use Rattle.rewriting_law.specs.dsm_messages.declared.messages.Post.{Post}
+use Rattle.rewriting_law.specs.dsm_messages.declared.messages.Wire.{Wire}
+use Rattle.rewriting_law.specs.dsm_messages.Headers.{sent_by}
 use Rattle.run_order.specs.node_model.Node.{Work, Node, opening_node}
 use Rattle.run_order.specs.node_model.Turns.{word_turn, take_turn}
 use Rattle.run_order.specs.node_model.Core.{Core, Exec, Take}
-use Rattle.node_machine.specs.declared.frame.Frame.{Frame}
-use Rattle.node_machine.specs.Frame.{node_of, work_of as work_at}
+use Rattle.node_machine.specs.declared.node_state.NodeState.{NodeState}
+use Rattle.node_machine.specs.NodeState.{node_of, work_of as work_at}
 use Rattle.node_machine.specs.Wanted.{wanted_in, wants_of_word}
 use Rattle.rewriting_law.specs.dsm_protocol.Queue.{Queue, wires_of, SameWires, IsTaken}
 use Rattle.dsm_core.specs.declared.seen.Seen.{Seen}
@@ -17,7 +17,7 @@ use Rattle.dsm_core.specs.Seen.{HaveSeen, sends_of_take}
 use Rattle.dsm_core.proofs.CoreSteps.{same_node, same_work}
 
 -- of a word
-pub word_seen : (n i : ℕ) (ns0 ns1 : List Frame) (x : Frame) (q0 : List Queue) (posts : List Post)
+pub word_seen : (n i : ℕ) (ns0 ns1 : List NodeState) (x : NodeState) (q0 : List Queue) (posts : List Post)
     (s : Seen) → length ns1 ≡ n → i < n → SameNodes ns0 ns1 → x ≡ get_or ns1 i x
     → posts ≡ (word_turn (work_at x) (node_of x)).sends
     → wanted_in s.wants ≡ wants_of_word (work_at x) (node_of x)
@@ -37,7 +37,7 @@ word_seen n i ns0 ns1 x q0 posts s len bi same is ep ew eb es work e have =
     }
 
 -- of a take
-pub take_seen : (n i j : ℕ) (ns0 ns1 : List Frame) (x : Frame) (q0 q1 q2 : List Queue)
+pub take_seen : (n i j : ℕ) (ns0 ns1 : List NodeState) (x : NodeState) (q0 q1 q2 : List Queue)
     (posts : List Post) (w : Wire) (s : Seen) → length ns1 ≡ n → i < n → j < n
     → SameNodes ns0 ns1 → x ≡ get_or ns1 i x → SameWires q0 q1 n → IsTaken q1 q2 n j i w
     → posts ≡ (take_turn (work_at x) (node_of x) j w).sends → wanted_in s.wants ≡ [] → s.printed ≡ None

@@ -3,16 +3,16 @@ use Rattle.std.proofs.Common.{◌≡◌, ◌≢◌, ℕ, zero, suc, ◌+◌, ◌
 use Rattle.std.proofs.lemmas.List.{append-nil}
 use Rattle.std.proofs.lemmas.Bool.Decides.{eqb_tells}
 use Rattle.block_layout.specs.Layout.{Shape, block_of}
-use Rattle.rewriting_law.specs.home_directory.declared.messages.Need.{Need}
-use Rattle.rewriting_law.specs.home_directory.declared.messages.Post.{Post}
+use Rattle.rewriting_law.specs.dsm_messages.declared.messages.Need.{Need}
+use Rattle.rewriting_law.specs.dsm_messages.declared.messages.Post.{Post}
 use Rattle.rewriting_law.specs.home_directory.Table.{Miss}
 use Rattle.rv32_program.specs.Program.{line_of}
 use Rattle.run_order.specs.node_model.declared.Standing.TheVariants as standing
 use Rattle.run_order.specs.node_model.Node.{Work, Node, Phase, Running, Resumed, Waiting, Ended, Want, opening_node, word_outcome, standing_in, is_at_poll, can_execute}
-use Rattle.run_order.specs.node_model.Turns.{Turn, quiet, with_miss, want_in, want_all, each_block_once, with_byes, word_turn, after_word, after_wants, wants_of}
+use Rattle.run_order.specs.node_model.Turns.{Turn, silent, with_miss, want_in, want_all, each_block_once, with_byes, word_turn, after_word, after_wants, wants_of}
 use Rattle.run_order.specs.node_model.Core.{Core, Exec, May, may_execute, wires_to, with_turn, event_step, AreAlike}
-use Rattle.node_machine.specs.declared.frame.Frame.{Frame}
-use Rattle.node_machine.specs.Frame.{node_of, work_of as work_at}
+use Rattle.node_machine.specs.declared.node_state.NodeState.{NodeState}
+use Rattle.node_machine.specs.NodeState.{node_of, work_of as work_at}
 use Rattle.node_machine.specs.Runs.{HasExecuted, GoesOnBy as HasGoneBy}
 use Rattle.rewriting_law.specs.dsm_protocol.Queue.{Queue, SameWires, IsSent}
 use Rattle.dsm_core.specs.CoreParts.{core_with, GoesOnTo}
@@ -73,7 +73,7 @@ no_more : {A : Type 0} (b : Bool) (xs : List A) → cond b (xs ++ []) xs ≡ xs
 no_more true xs = append-nil xs
 no_more false xs = refl
 
-turn_alone : (n i : ℕ) (m : Node) (c : Core) → IsNodeAlone n i m c (with_turn c i (quiet m))
+turn_alone : (n i : ℕ) (m : Node) (c : Core) → IsNodeAlone n i m c (with_turn c i (silent m))
 turn_alone n i m c = record {
   node = elim (eqb_tells i i) [
     | inl t ↦ rw t.0 refl
@@ -141,7 +141,7 @@ node_goes work i zero c n m bi is e = record {
 node_goes work i (suc k) c n m bi is goes =
     let next = event_step work c (Exec i) in
     let o : Node = (word_turn work n).node in
-    let still : word_turn work (c.nodes i) ≡ quiet o = ap (word_turn work) is ∙ goes.1 in
+    let still : word_turn work (c.nodes i) ≡ silent o = ap (word_turn work) is ∙ goes.1 in
     let one : IsNodeAlone work.layout.nodes i o c next =
     subst (λ (t : Turn). IsNodeAlone work.layout.nodes i o c (with_turn c i t)) (sym still)
     (turn_alone work.layout.nodes i o c) in
@@ -150,7 +150,7 @@ node_goes work i (suc k) c n m bi is goes =
       last = rest.last;
       goes = (
         may_word work c i n bi is goes.0,
-        still ∙ ap quiet (ap (λ (t : Turn). t.node) (sym still)),
+        still ∙ ap silent (ap (λ (t : Turn). t.node) (sym still)),
         rest.goes,
       );
       alone = alone_also work.layout.nodes i o m c next rest.last one rest.alone;
@@ -158,7 +158,7 @@ node_goes work i (suc k) c n m bi is goes =
 
 -- 4. What was stored
 
-pub executed_on : (n i words : ℕ) (ns0 ns1 : List Frame) (x y : Frame) (q0 q1 q2 : List Queue)
+pub executed_on : (n i words : ℕ) (ns0 ns1 : List NodeState) (x y : NodeState) (q0 q1 q2 : List Queue)
     (stamp : ℕ) (posts : List Post) (output : Option ℕ) → length ns1 ≡ n → i < n
     → SameNodes ns0 ns1 → x ≡ get_or ns1 i x → SameWires q0 q1 n → IsSent q1 q2 n i stamp posts
     → HasExecuted (work_at x) (node_of x) (node_of y) posts output → stamp ≡ (node_of y).stamp
@@ -200,8 +200,8 @@ executed_on n i words ns0 ns1 x y q0 q1 q2 stamp posts output len bi same is wir
           (with_turn goes.last i t) done (alone_turn k0 i r.last base goes.last t goes.alone));
     }
 
-pub passed : (n i : ℕ) (ns : List Frame) (x y : Frame) → length ns ≡ n → i < n
-    → x ≡ get_or ns i x → word_turn (work_at x) (node_of x) ≡ quiet (node_of y)
+pub passed : (n i : ℕ) (ns : List NodeState) (x y : NodeState) → length ns ≡ n → i < n
+    → x ≡ get_or ns i x → word_turn (work_at x) (node_of x) ≡ silent (node_of y)
     → can_execute (node_of y).phase ≡ true → HavePassed n i ns (set ns i y)
 passed n i ns x y len bi is turn can work lists e have =
     let below : i < length ns = subst (λ z. i < z) (sym len) bi in
@@ -209,13 +209,13 @@ passed n i ns x y len bi is turn can work lists e have =
     let d = opening_node work i in
     let same : SameNodes ns ns = record { nodes = refl; works = refl } in
     let base : Core = core_with work ns lists in
-    let t : word_turn work (base.nodes i) ≡ quiet (node_of y) =
+    let t : word_turn work (base.nodes i) ≡ silent (node_of y) =
     ap (word_turn work) (sym (same_node ns ns i x d below same is))
     ∙ ap (λ (z : Work). word_turn z (node_of x))
     (sym (same_work work ns ns i x below same is have)) ∙ turn in
     let after : Core = core_with work (set ns i y) lists in
     record {
-      quiet = t ∙ ap quiet (ap (λ (z : Turn). z.node) (sym t));
+      silent = t ∙ ap silent (ap (λ (z : Turn). z.node) (sym t));
       event = subst (λ (z : Turn). AreAlike k0 after (with_turn base i z)) (sym t) (record {
         nodes = λ k bk. set_node ns i k y (opening_node work k) below;
         lists = λ j k bj bk. sym (no_more (eqb j i) (base.list j k));

@@ -4,13 +4,13 @@ use Rattle.std.specs.Prelude.{◌≡◌, ℕ, ◌^◌, ◌<◌, List, map, lengt
 use Rattle.elf32_read.specs.Elf.{Elf}
 use Rattle.block_layout.specs.Layout.{Shape}
 use Rattle.node_machine.specs.exec_map.Contents.{program_of}
-use Rattle.rewriting_law.specs.home_directory.declared.messages.Wire.{Wire}
+use Rattle.rewriting_law.specs.dsm_messages.declared.messages.Wire.{Wire}
 use Rattle.node_machine.specs.jump_map.Image.{Cell}
 use Rattle.run_order.specs.node_model.Node.{Work, opening_node}
 use Rattle.run_order.specs.node_model.Core.{Core, Event, Exec, Take, AreAlike, opening_core, IsCoreRun, after}
 use Rattle.run_order.specs.node_model.Outcome.{Outcome}
-use Rattle.node_machine.specs.declared.frame.Frame.{Frame}
-use Rattle.node_machine.specs.Frame.{node_of, work_of as work_at}
+use Rattle.node_machine.specs.declared.node_state.NodeState.{NodeState}
+use Rattle.node_machine.specs.NodeState.{node_of, work_of as work_at}
 use Rattle.rewriting_law.specs.Bounds.{RunsRewritten}
 use Rattle.dsm_core.specs.declared.cores.Event as chosen
 use Rattle.dsm_core.specs.declared.cores.Event.TheVariants as choice
@@ -24,7 +24,7 @@ pub record CoreParts : Type 0 where
   pub image : List Cell
   pub layout : Shape
   pub budget : ℕ
-  pub nodes : List Frame
+  pub nodes : List NodeState
   pub lists : List Queue
 
 abbrev pub work_with : Elf → List Cell → Shape → ℕ → Work
@@ -38,7 +38,7 @@ abbrev pub work_of : CoreParts → Work
 work_of p = work_with p.program p.image p.layout p.budget
 
 -- the core of these nodes and lists; beyond the last node it is as at the start
-abbrev pub core_with : Work → List Frame → List Queue → Core
+abbrev pub core_with : Work → List NodeState → List Queue → Core
 core_with work nodes lists = record {
   nodes = λ i. slice_index_or (map node_of nodes) i (opening_node work i);
   list = wires_of lists work.layout.nodes;
@@ -52,7 +52,7 @@ event_of (choice.Exec i) = Exec i
 event_of (choice.Take i j) = Take i j
 
 -- every node runs this
-abbrev pub HaveWork : Work → List Frame → Type 0
+abbrev pub HaveWork : Work → List NodeState → Type 0
 HaveWork work nodes = (i : ℕ) → slice_index_or (map work_at nodes) i work ≡ work
 
 -- some core run leads to the core

@@ -2,7 +2,7 @@
 use Rattle.std.specs.Prelude.{◌≡◌, ℕ, zero, suc, ◌+◌, ◌<◌}
 use Rattle.run_order.specs.node_model.Node.{Work}
 use Rattle.node_machine.specs.Runs.{GoesOnBy as NodeGoesOnBy}
-use Rattle.run_order.specs.node_model.Turns.{quiet, word_turn}
+use Rattle.run_order.specs.node_model.Turns.{silent, word_turn}
 use Rattle.run_order.specs.node_model.Core.{Core, Exec, May, AreAlike, event_step}
 
 -- so many words of node i, each of which prints nothing and sends nothing, lead from one core to
@@ -10,7 +10,7 @@ use Rattle.run_order.specs.node_model.Core.{Core, Exec, May, AreAlike, event_ste
 abbrev pub GoesOnBy : Work → (i words : ℕ) → Core → Core → Type 0
 GoesOnBy work i zero c d = c ≡ d
 GoesOnBy work i (suc k) c d =
-    May work c (Exec i) × (word_turn work (c.nodes i) ≡ quiet (word_turn work (c.nodes i)).node)
+    May work c (Exec i) × (word_turn work (c.nodes i) ≡ silent (word_turn work (c.nodes i)).node)
     × GoesOnBy work i k (event_step work c (Exec i)) d
 
 -- node i has executed so many words, of which those before the last print nothing and send nothing
@@ -24,7 +24,7 @@ pub record HasExecutedOn (work : Work) (i words : ℕ) (c d : Core) : Type 0 whe
 
 -- node i has executed a word that printed nothing and sent nothing, and may execute another
 pub record HasPassed (work : Work) (i : ℕ) (c d : Core) : Type 0 where
-  pub quiet : word_turn work (c.nodes i) ≡ quiet (word_turn work (c.nodes i)).node
+  pub silent : word_turn work (c.nodes i) ≡ silent (word_turn work (c.nodes i)).node
   pub event : AreAlike work.layout.nodes d (event_step work c (Exec i))
   pub may : May work d (Exec i)
 

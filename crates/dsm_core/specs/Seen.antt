@@ -1,12 +1,12 @@
 -- What an event takes, sends and wants where a core stands.
 use Rattle.std.specs.Prelude.{◌≡◌, ℕ, List, [], ◌∷◌, map, Option, None}
-use Rattle.rewriting_law.specs.home_directory.declared.messages.Post.{Post}
-use Rattle.rewriting_law.specs.home_directory.declared.messages.Wire.{Wire}
-use Rattle.rewriting_law.specs.home_directory.Headers.{header_of, sent_by}
+use Rattle.rewriting_law.specs.dsm_messages.declared.messages.Post.{Post}
+use Rattle.rewriting_law.specs.dsm_messages.declared.messages.Wire.{Wire}
+use Rattle.rewriting_law.specs.dsm_messages.Headers.{header_of, sent_by}
 use Rattle.run_order.specs.node_model.Node.{Work, Node}
 use Rattle.run_order.specs.node_model.Turns.{word_turn, take_turn}
 use Rattle.run_order.specs.node_model.Core.{Core, Event, Exec, Take}
-use Rattle.node_machine.specs.declared.frame.Frame.{Frame}
+use Rattle.node_machine.specs.declared.node_state.NodeState.{NodeState}
 use Rattle.node_machine.specs.Wanted.{wanted_in, wants_of_word}
 use Rattle.node_machine.specs.declared.wanted.Wanted.{Wanted}
 use Rattle.rewriting_law.specs.dsm_protocol.Queue.{Queue}
@@ -50,6 +50,6 @@ pub record IsSeen (work : Work) (c : Core) (e : Event) (s : Seen) : Type 0 where
   pub printed : s.printed ≡ byte_at work c e
 
 -- the same of nodes and lists as they are stored, whatever they run
-abbrev pub HaveSeen : (n : ℕ) → List Frame → List Queue → Event → Seen → Type 0
+abbrev pub HaveSeen : (n : ℕ) → List NodeState → List Queue → Event → Seen → Type 0
 HaveSeen n nodes lists e s = (work : Work) → work.layout.nodes ≡ n → HaveWork work nodes
     → IsSeen work (core_with work nodes lists) e s

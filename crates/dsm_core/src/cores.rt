@@ -15,18 +15,18 @@ ghost use Rattle.dsm_core.specs.CoreParts.{HasStampsInRange};
 ghost use Rattle.dsm_core.specs.CoreWords.{HasPassed, HasExecutedOn, HaveEachPassed};
 ghost use Rattle.dsm_core.specs.CoreSteps.{GoesOnFor};
 ghost use Rattle.dsm_core.specs.Seen.{IsFirstIn, IsSeen};
-ghost use Rattle.node_machine.specs.Frame.{node_of, work_of as work_at};
+ghost use Rattle.node_machine.specs.NodeState.{node_of, work_of as work_at};
 
 use crate::parts::Parts;
 use crate::seen::{Incoming, Seen};
 use crate::steps::first_nodes;
-use crate::trails::{Stop, Trails};
+use crate::undo_logs::{Stop, UndoLogs};
 use crate::work::Work;
 use block_layout::{Layout, layout_law};
 use node_machine::Node;
+use rewriting_law::dsm_messages::Sends;
 use rewriting_law::dsm_protocol::buffer_law;
 use rewriting_law::dsm_protocol::lists::empty_lists;
-use rewriting_law::home_directory::Sends;
 use rewriting_law::{interleaving_law, progress_law};
 use run_order::stamp_law;
 use std::alloc::{AllocError, Global};
@@ -210,7 +210,7 @@ impl<'a> Core<'a> {
     /// Executes the next word of a node by its micro-op, where that serves it: such a word prints
     /// nothing and sends nothing, and the node may execute another. It says whether it did; where
     /// it didn't, nothing has changed.
-    pub fn pass(&mut self, node: u8) -> bool
+    pub fn exec_silent(&mut self, node: u8) -> bool
         requires enabled { May (work_of self.old) (core_of self.old) (model.Exec node) }
         ensures passed { result ≡ true
             → HasPassed (work_of self.old) node (core_of self.old) (core_of self.new) }
@@ -218,14 +218,18 @@ impl<'a> Core<'a> {
         ensures work { work_of self.new ≡ work_of self.old }
     {
         self.bounds();
-        self.parts.pass(node)
+        self.parts.exec_silent(node)
     }
 
     /// Each node executes so many words, by its number, where their micro-ops serve all of them:
     /// such words print nothing and send nothing, and a node that may execute a word still may.
     /// Otherwise nothing changes, and the answer tells a node that stopped early.
-    pub fn pass_each(&mut self, words: &[u32; 16], trails: &mut Trails) -> Result<(), Stop>
-        requires trails { trails.old ≡ self.old.layout.nodes }
+    pub fn run_each_undoable(
+        &mut self,
+        words: &[u32; 16],
+        undo_logs: &mut UndoLogs,
+    ) -> Result<(), Stop>
+        requires undo_logs { undo_logs.old ≡ self.old.layout.nodes }
         requires nodes { self.old.layout.nodes ≤ 16 }
         requires enabled { (i : ℕ) → i < self.old.layout.nodes
             → 1 ≤ slice_index_or words.now i 0
@@ -233,16 +237,16 @@ impl<'a> Core<'a> {
         ensures passed { IfOk result (λ u. HaveEachPassed (work_of self.old)
             (λ i. slice_index_or words.now i 0) (core_of self.old) (core_of self.new)) }
         ensures kept { OnErr result (core_of self.new ≡ core_of self.old) }
-        ensures trails { trails.new ≡ trails.old }
+        ensures undo_logs { undo_logs.new ≡ undo_logs.old }
         ensures work { work_of self.new ≡ work_of self.old }
     {
         self.bounds();
-        self.parts.pass_each(words, trails)
+        self.parts.run_each_undoable(words, undo_logs)
     }
 
     /// Executes words of a node, of which those before the last print nothing and send nothing, and
     /// gives how many. It takes its memory first.
-    pub fn execute_on(&mut self, node: u8) -> Result<u64, AllocError>
+    pub fn run_until_send(&mut self, node: u8) -> Result<u64, AllocError>
         requires enabled { May (work_of self.old) (core_of self.old) (model.Exec node) }
         ensures ran { IfOk result (λ words. HasExecutedOn (work_of self.old) node words
             (core_of self.old) (core_of self.new)) }
@@ -250,7 +254,7 @@ impl<'a> Core<'a> {
         ensures work { work_of self.new ≡ work_of self.old }
     {
         self.bounds();
-        self.parts.execute_on(node)
+        self.parts.run_until_send(node)
     }
 
     /// Whether a message is on its way to a node.

@@ -4,7 +4,7 @@ ghost use Rattle.std.specs.Prelude.{◌≡◌, ◌<◌, ℕ, true, false, IfOk, 
 ghost use Rattle.run_order.specs.node_model.Node.{standing_of};
 ghost use Rattle.run_order.specs.node_model.Core as model;
 ghost use Rattle.run_order.specs.node_model.Core.{May, IsOver, may_execute};
-ghost use Rattle.node_machine.specs.Frame.{node_of, work_of as work_at};
+ghost use Rattle.node_machine.specs.NodeState.{node_of, work_of as work_at};
 ghost use Rattle.run_order.specs.OwnRun.{OnlyAdds};
 ghost use Rattle.dsm_core.specs.CoreParts.{work_of, core_of, GoesOnTo};
 ghost use Rattle.dsm_core.specs.CoreSteps.{GoesOnFor, HasGone, TakesNone, IsStill, one_if};
@@ -118,7 +118,7 @@ impl<'a> Core<'a> {
             return Ok(false);
         }
         if self.layout().nodes() == 1 {
-            self.execute_on(node)?;
+            self.run_until_send(node)?;
         } else {
             self.execute_to_poll(node)?;
         }

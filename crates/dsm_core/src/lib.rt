@@ -7,7 +7,7 @@ mod outcome;
 mod parts;
 mod seen;
 mod steps;
-mod trails;
+mod undo_logs;
 mod work;
 
 pub use cores::{Core, Event};
@@ -15,8 +15,7 @@ pub use node_machine;
 pub use outcome::Outcome;
 pub use parts::Parts;
 pub use rewriting_law;
-pub use rewriting_law::dsm_protocol::Protocol;
 pub use run_order;
 pub use seen::{Incoming, Seen};
-pub use trails::{Stop, Trails};
+pub use undo_logs::{Stop, UndoLogs};
 pub use work::Work;

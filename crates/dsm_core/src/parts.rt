@@ -4,21 +4,21 @@ ghost use Rattle.std.specs.Prelude.{◌≡◌, ◌≢◌, ◌<◌, ◌≤◌, �
 ghost use Rattle.std.specs.Prelude.{slice_index_or, MatchOption};
 ghost use Rattle.run_order.specs.node_model.Core as model;
 ghost use Rattle.run_order.specs.node_model.Core.{May, IsOver, AreAlike, event_step};
-ghost use Rattle.node_machine.specs.Frame.{node_of, work_of as work_at};
+ghost use Rattle.node_machine.specs.NodeState.{node_of, work_of as work_at};
 ghost use Rattle.dsm_core.specs.CoreParts.{work_of, core_of, event_of, AreParts, HasStampsInRange};
 ghost use Rattle.dsm_core.specs.CoreWords.{HasPassed, HasExecutedOn, HaveEachPassed};
 ghost use Rattle.dsm_core.specs.Seen.{IsFirstIn, IsSeen};
 
 use crate::cores::Event;
 use crate::seen::{Incoming, Seen, first, make_seen};
-use crate::steps::{are_over, execute_on, has_mail, has_wire, is_enabled, make, pass};
-use crate::trails::{Stop, Trails, pass_each};
+use crate::steps::{are_over, exec_silent, has_mail, has_wire, is_enabled, make, run_until_send};
+use crate::undo_logs::{Stop, UndoLogs, run_each_undoable};
 use block_layout::Layout;
 use node_machine::Node;
 use node_machine::exec_map::Program;
 use node_machine::jump_map::Image;
+use rewriting_law::dsm_messages::Sends;
 use rewriting_law::dsm_protocol::Queue;
-use rewriting_law::home_directory::Sends;
 use run_limits::Budget;
 use std::alloc::AllocError;
 use std::marker::Model;
@@ -141,7 +141,7 @@ impl<'a> Parts<'a> {
     }
 
     /// A node executes its next word by its micro-op, where that serves it.
-    pub(crate) fn pass(&mut self, node: u8) -> bool
+    pub(crate) fn exec_silent(&mut self, node: u8) -> bool
         requires parts { AreParts self.old }
         requires range { HasStampsInRange self.old.layout.nodes (core_of self.old) }
         requires enabled { May (work_of self.old) (core_of self.old) (model.Exec node) }
@@ -152,15 +152,19 @@ impl<'a> Parts<'a> {
         ensures kept { result ≡ false → core_of self.new ≡ core_of self.old }
     {
         let count = self.layout.nodes();
-        pass(&mut self.nodes, count, node)
+        exec_silent(&mut self.nodes, count, node)
     }
 
     /// Each node executes so many words, by its number, where their micro-ops serve all of them;
     /// otherwise nothing changes.
-    pub(crate) fn pass_each(&mut self, words: &[u32; 16], trails: &mut Trails) -> Result<(), Stop>
+    pub(crate) fn run_each_undoable(
+        &mut self,
+        words: &[u32; 16],
+        undo_logs: &mut UndoLogs,
+    ) -> Result<(), Stop>
         requires parts { AreParts self.old }
         requires range { HasStampsInRange self.old.layout.nodes (core_of self.old) }
-        requires trails { trails.old ≡ self.old.layout.nodes }
+        requires undo_logs { undo_logs.old ≡ self.old.layout.nodes }
         requires nodes { self.old.layout.nodes ≤ 16 }
         requires enabled { (i : ℕ) → i < self.old.layout.nodes
             → 1 ≤ slice_index_or words.now i 0
@@ -170,14 +174,14 @@ impl<'a> Parts<'a> {
         ensures passed { IfOk result (λ u. HaveEachPassed (work_of self.old)
             (λ i. slice_index_or words.now i 0) (core_of self.old) (core_of self.new)) }
         ensures kept { OnErr result (core_of self.new ≡ core_of self.old) }
-        ensures trails { trails.new ≡ trails.old }
+        ensures undo_logs { undo_logs.new ≡ undo_logs.old }
     {
         let count = self.layout.nodes();
-        pass_each(&mut self.nodes, &mut trails.trails, count, words)
+        run_each_undoable(&mut self.nodes, &mut undo_logs.undo_logs, count, words)
     }
 
     /// A node executes words, of which those before the last print nothing and send nothing.
-    pub(crate) fn execute_on(&mut self, node: u8) -> Result<u64, AllocError>
+    pub(crate) fn run_until_send(&mut self, node: u8) -> Result<u64, AllocError>
         requires parts { AreParts self.old }
         requires range { HasStampsInRange self.old.layout.nodes (core_of self.old) }
         requires enabled { May (work_of self.old) (core_of self.old) (model.Exec node) }
@@ -188,7 +192,7 @@ impl<'a> Parts<'a> {
         ensures err { OnErr result (core_of self.new ≡ core_of self.old) }
     {
         let count = self.layout.nodes();
-        execute_on(
+        run_until_send(
             &mut self.nodes,
             &mut self.lists,
             &mut self.sends,

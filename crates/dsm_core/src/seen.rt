@@ -10,9 +10,9 @@ ghost use Rattle.dsm_core.specs.Seen.{IsFirstIn, HaveSeen};
 use crate::cores::Event;
 use crate::steps::make_room;
 use node_machine::{Node, WantedBlocks};
+use rewriting_law::dsm_messages::{Header, Headers, Sends, headers_of};
 use rewriting_law::dsm_protocol::Queue;
 use rewriting_law::dsm_protocol::lists::{first_wire, send, take_first};
-use rewriting_law::home_directory::{Header, Headers, Sends, headers_of};
 use std::alloc::AllocError;
 
 /// A message on its way, without its buffer.
@@ -98,7 +98,7 @@ fn execute_seen(
         lists.old.items lists.new.items) }
 {
     make_room(nodes, lists, count, node)?;
-    let word = nodes[node as usize].exec_seen(sends);
+    let word = nodes[node as usize].exec_with_wants(sends);
     let seen = Seen {
         sends: headers_of(sends),
         wants: word.wants,

@@ -14,9 +14,9 @@ ghost use Rattle.dsm_core.specs.CoreSteps.{HaveKept, HavePassed, HaveExecutedOn,
 use crate::cores::Event;
 use crate::work;
 use node_machine::{Node, Standing};
+use rewriting_law::dsm_messages::Sends;
 use rewriting_law::dsm_protocol::Queue;
 use rewriting_law::dsm_protocol::lists::{first_wire, reserve_from, send, take_first};
-use rewriting_law::home_directory::Sends;
 use std::alloc::{AllocError, Global};
 
 /// The nodes at the start.
@@ -39,26 +39,6 @@ pub(crate) fn first_nodes<'a>(
         nodes.push_reserved(node);
     }
     Ok(nodes)
-}
-
-/// Whether a node may execute a word.
-fn may_execute(standing: Standing) -> bool
-    ensures { result ≡ model.may_execute standing }
-{
-    match standing {
-        Standing::Running | Standing::AtPoll => true,
-        Standing::Waiting | Standing::Ended | Standing::Over => false,
-    }
-}
-
-/// Whether a node may take a message.
-fn may_take(standing: Standing) -> bool
-    ensures { result ≡ model.may_take standing }
-{
-    match standing {
-        Standing::AtPoll | Standing::Waiting | Standing::Ended => true,
-        Standing::Running | Standing::Over => false,
-    }
 }
 
 /// Whether there is a message from one node to another.
@@ -146,7 +126,7 @@ fn can_execute(nodes: &[Node<'_>], count: u8, node: u8) -> bool
     if node >= count {
         return false;
     }
-    may_execute(standing(nodes, node))
+    standing(nodes, node).may_execute()
 }
 
 /// Whether a node may take a message from another.
@@ -166,7 +146,7 @@ fn can_take(nodes: &[Node<'_>], lists: &[Queue], count: u8, node: u8, from: u8) 
     if !has_wire(lists, count, from, node) {
         return false;
     }
-    may_take(standing(nodes, node))
+    standing(nodes, node).may_take()
 }
 
 /// Makes room for an event of a node.
@@ -217,7 +197,7 @@ pub(crate) fn make(
 }
 
 /// A node executes its next word by its micro-op, where that serves it.
-pub(crate) fn pass(nodes: &mut Vec<Node<'_>>, count: u8, node: u8) -> bool
+pub(crate) fn exec_silent(nodes: &mut Vec<Node<'_>>, count: u8, node: u8) -> bool
     requires count { length nodes.old.items ≡ count }
     requires allowed { CanExecute count nodes.old.items node }
     ensures count { length nodes.new.items ≡ count }
@@ -225,7 +205,7 @@ pub(crate) fn pass(nodes: &mut Vec<Node<'_>>, count: u8, node: u8) -> bool
     ensures passed { result ≡ true → HavePassed count node nodes.old.items nodes.new.items }
     ensures same { result ≡ false → SameNodes nodes.old.items nodes.new.items }
 {
-    nodes[node as usize].pass()
+    nodes[node as usize].exec_silent()
 }
 
 /// A node executes a word. Where its micro-op serves it no room is needed.
@@ -247,7 +227,7 @@ fn execute(
     ensures err { OnErr result (HaveKept count nodes.old.items nodes.new.items
         lists.old.items lists.new.items) }
 {
-    if pass(nodes, count, node) {
+    if exec_silent(nodes, count, node) {
         return Ok(());
     }
     execute_with_room(nodes, lists, sends, count, node)
@@ -255,7 +235,7 @@ fn execute(
 
 /// A node executes words, of which those before the last print nothing and send nothing, and it is
 /// given how many.
-pub(crate) fn execute_on(
+pub(crate) fn run_until_send(
     nodes: &mut Vec<Node<'_>>,
     lists: &mut Vec<Queue>,
     sends: &mut Sends,
@@ -276,7 +256,7 @@ pub(crate) fn execute_on(
     make_room(nodes, lists, count, node)?;
     let stored = &mut nodes[node as usize];
     let stamp = stored.stamp();
-    let turn = stored.exec_on(sends);
+    let turn = stored.run_until_send(sends);
     let words = turn.stamp - stamp;
     send(lists, count, node, turn.stamp, sends);
     Ok(words)

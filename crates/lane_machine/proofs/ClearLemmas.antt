@@ -5,35 +5,35 @@ use Rattle.std.proofs.lemmas.List.{map-set, get_or-map, length-map, get_or-set_s
 use Rattle.std.proofs.lemmas.Bool.Decides.{eqb_tells, nat_tests}
 use Rattle.block_layout.specs.Layout.{Shape}
 use Rattle.llsc.specs.Reservation.{cleared}
-use Rattle.lane_desk.specs.declared.place.Place.{Place}
-use Rattle.lane_desk.specs.Waits.{waits_in}
+use Rattle.lane_machine.specs.declared.lane_protocol.LaneProtocol.{LaneProtocol}
+use Rattle.lane_machine.specs.Waits.{waits_in}
 use Rattle.lane_machine.specs.Places.{pools_in, reserved_in}
 
 -- 1. One place has another reservation
 
-abbrev pub with_reserved : Place → Option ℕ → Place
+abbrev pub with_reserved : LaneProtocol → Option ℕ → LaneProtocol
 with_reserved p r = record p { reservation = r }
 
-module _ (ps : List Place) (k : ℕ) (p : Place) (at : p ≡ get_or ps k p) (low : k < length ps) (r : Option ℕ) where
+module _ (ps : List LaneProtocol) (k : ℕ) (p : LaneProtocol) (at : p ≡ get_or ps k p) (low : k < length ps) (r : Option ℕ) where
   pub reserved_at : reserved_in ps k ≡ p.reservation
-  reserved_at = get_or-map (λ (x : Place). x.reservation) ps k p None low ∙ ap (λ (x : Place). x.reservation) (sym at)
+  reserved_at = get_or-map (λ (x : LaneProtocol). x.reservation) ps k p None low ∙ ap (λ (x : LaneProtocol). x.reservation) (sym at)
 
   pub reserved_here : reserved_in (set ps k (with_reserved p r)) k ≡ r
-  reserved_here = ap (λ z. get_or z k None) (map-set (λ (x : Place). x.reservation) ps k (with_reserved p r))
-      ∙ get_or-set_same (map (λ (x : Place). x.reservation) ps) k r None
-      (let e = length-map ps (λ (x : Place). x.reservation) in omega (arith, e, low))
+  reserved_here = ap (λ z. get_or z k None) (map-set (λ (x : LaneProtocol). x.reservation) ps k (with_reserved p r))
+      ∙ get_or-set_same (map (λ (x : LaneProtocol). x.reservation) ps) k r None
+      (let e = length-map ps (λ (x : LaneProtocol). x.reservation) in omega (arith, e, low))
 
   pub reserved_there : (j : ℕ) → (j ≡ k → ⊥) → reserved_in (set ps k (with_reserved p r)) j ≡ reserved_in ps j
-  reserved_there j apart = ap (λ z. get_or z j None) (map-set (λ (x : Place). x.reservation) ps k (with_reserved p r))
-      ∙ get_or-set_other (map (λ (x : Place). x.reservation) ps) k j r None apart
+  reserved_there j apart = ap (λ z. get_or z j None) (map-set (λ (x : LaneProtocol). x.reservation) ps k (with_reserved p r))
+      ∙ get_or-set_other (map (λ (x : LaneProtocol). x.reservation) ps) k j r None apart
 
   pub same_waits : waits_in (set ps k (with_reserved p r)) ≡ waits_in ps
-  same_waits = map-set_same (λ (x : Place). x.waits) ps k (with_reserved p r) p (ap (λ (x : Place). x.waits) at)
+  same_waits = map-set_same (λ (x : LaneProtocol). x.waits) ps k (with_reserved p r) p (ap (λ (x : LaneProtocol). x.waits) at)
 
   pub same_pools : pools_in (set ps k (with_reserved p r)) ≡ pools_in ps
-  same_pools = map-set_same (λ (x : Place). x.pool) ps k (with_reserved p r) p (ap (λ (x : Place). x.pool) at)
+  same_pools = map-set_same (λ (x : LaneProtocol). x.pool) ps k (with_reserved p r) p (ap (λ (x : LaneProtocol). x.pool) at)
 
-pub reserved_beyond : (ps : List Place) (j : ℕ) → length ps ≤ j → reserved_in ps j ≡ None
+pub reserved_beyond : (ps : List LaneProtocol) (j : ℕ) → length ps ≤ j → reserved_in ps j ≡ None
 reserved_beyond [] j l = refl
 reserved_beyond (p ∷ ps) zero l = absurd (omega (arith, l))
 reserved_beyond (p ∷ ps) (suc j) l = reserved_beyond ps j (omega (arith, l))

@@ -5,35 +5,35 @@ use Rattle.std.proofs.Math.Path.{fun_ext}
 use Rattle.std.proofs.lemmas.Bool.Decides.{eqb_tells, nat_tests}
 use Rattle.block_layout.specs.Layout.{Shape, block_of}
 use Rattle.block_layout.specs.Update.{changed}
-use Rattle.home_directory.specs.declared.messages.Need.{Need}
-use Rattle.home_directory.specs.declared.messages.Post.{Post}
+use Rattle.home_directory.specs.dsm_messages.declared.messages.Need.{Need}
+use Rattle.home_directory.specs.dsm_messages.declared.messages.Post.{Post}
 use Rattle.home_directory.specs.declared.wait.Wait.{Wait}
 use Rattle.home_directory.specs.Effects.{entry_at, entries_of, members}
 use Rattle.home_directory.specs.Home.{count_of}
 use Rattle.home_directory.specs.Table.{Miss, want_row}
-use Rattle.miss_handlers.specs.Effects.{block_facts}
+use Rattle.node_machine.specs.miss_handlers.Effects.{block_facts}
 use Rattle.buf_pool.specs.Pool.{empty_buffer}
 use Rattle.rv32_program.specs.Program.{line_of}
 use Rattle.rv32_step.specs.OneMemory.{Access, Nothing, Reads, Writes, WritesIf, Exchanges}
-use Rattle.node_machine.specs.node_words.declared.body.Body.{Body}
-use Rattle.node_machine.specs.node_words.declared.lane.Lane as kept
+use Rattle.node_machine.specs.node_words.declared.exec_state.ExecState.{ExecState}
+use Rattle.node_machine.specs.node_words.declared.lane.ProcessorState as kept
 use Rattle.node_machine.specs.node_words.declared.serve.Served.{Served}
 use Rattle.node_machine.specs.node_words.Address.{word_address}
 use Rattle.node_machine.specs.node_words.Kept.{lane_of, local_of, phase_by}
-use Rattle.node_model.specs.Node.{Node, Work, Want, Phase, Running, Resumed, Waiting, Ended, can_execute, word_outcome}
-use Rattle.node_model.specs.Turns.{Turn, after_word, block_at, byes_to, each_block_once, is_ended, wants_of, want_in, with_miss}
-use Rattle.node_machine.specs.declared.desk.Desk.{Desk}
-use Rattle.node_machine.specs.Frame.{layout_of, entries_in}
-use Rattle.lane_desk.specs.lane_model.Nodes.{LanePart, Shared, LaneNode, as_node, shared_by, all_lanes}
-use Rattle.lane_desk.specs.lane_model.Turns.{Asked, ask, ask_all, blocks_of, has_ended, have_ended, held_by, holder_after, lost, part_after, reserved_after, still, with_byes, word_asked, word_before, word_turn}
-use Rattle.lane_desk.specs.declared.place.Place.{Place}
-use Rattle.lane_machine.specs.declared.frame.LaneFrame.{LaneFrame}
-use Rattle.lane_machine.specs.declared.frame.SharedFrame.{SharedFrame}
-use Rattle.lane_desk.specs.Waits.{wait_among, place_among, waits_in, awaits_of}
+use Rattle.lane_model.specs.node_model.Node.{Node, Work, Want, Phase, Running, Resumed, Waiting, Ended, can_execute, word_outcome}
+use Rattle.lane_model.specs.node_model.Turns.{Turn, after_word, block_at, byes_to, each_block_once, is_ended, wants_of, want_in, with_miss}
+use Rattle.node_machine.specs.declared.protocol_state.ProtocolState.{ProtocolState}
+use Rattle.node_machine.specs.NodeState.{layout_of, entries_in}
+use Rattle.lane_model.specs.Nodes.{LanePart, Shared, LaneNode, as_node, shared_by, all_lanes}
+use Rattle.lane_model.specs.Turns.{Asked, ask, ask_all, blocks_of, has_ended, have_ended, held_by, holder_after, lost, part_after, reserved_after, still, with_byes, word_asked, word_before, word_turn}
+use Rattle.lane_machine.specs.declared.lane_protocol.LaneProtocol.{LaneProtocol}
+use Rattle.lane_machine.specs.declared.stored.StoredLane.{StoredLane}
+use Rattle.lane_machine.specs.declared.stored.StoredShared.{StoredShared}
+use Rattle.lane_machine.specs.Waits.{wait_among, place_among, waits_in, awaits_of}
 use Rattle.lane_machine.specs.Places.{reserved_in}
-use Rattle.lane_desk.specs.Words.{stored_by, reserved_after as reserved_then}
+use Rattle.lane_machine.specs.Words.{stored_by, reserved_after as reserved_then}
 use Rattle.lane_machine.specs.Stored.{ended_in, lane_turn, part_of, seen_at, served, shared_of, word_asks, work_in, work_of, HasLane}
-use Rattle.lane_desk.specs.Desks.{asked_by}
+use Rattle.lane_machine.specs.ProtocolStates.{asked_by}
 
 -- 1. Lanes that have ended
 
@@ -138,7 +138,7 @@ abbrev pub as_of : LanePart → Shared → (k : ℕ) → Node
 as_of p s k = as_node (record { lanes = λ j. p; shared = s }) k
 
 -- what isn't of blocks
-abbrev pub stored_node : LaneFrame → SharedFrame → Node
+abbrev pub stored_node : StoredLane → StoredShared → Node
 stored_node l f = as_of (part_of l) (shared_of f) l.number
 
 byes_with : (nodes : ℕ) (x : LaneNode) (posts : List Post) (p : Option ℕ) (t : Bool)
@@ -146,8 +146,8 @@ byes_with : (nodes : ℕ) (x : LaneNode) (posts : List Post) (p : Option ℕ) (t
 byes_with nodes x posts p true = refl
 byes_with nodes x posts p false = refl
 
-module _ (l l' : LaneFrame) (f f' : SharedFrame) (x : LaneNode) (h : HasLane l f x)
-    (lane' : kept.Lane) (b' : Body) (d' : Desk) (ps' : List Place) (done : Served) (again : Bool) (posts : List Post)
+module _ (l l' : StoredLane) (f f' : StoredShared) (x : LaneNode) (h : HasLane l f x)
+    (lane' : kept.ProcessorState) (b' : ExecState) (d' : ProtocolState) (ps' : List LaneProtocol) (done : Served) (again : Bool) (posts : List Post)
     (stored : Option ℕ) where
   abbrev pub work : Work
   work = work_in f.state.body.value l.state.image.now l.state.budget
@@ -156,7 +156,7 @@ module _ (l l' : LaneFrame) (f f' : SharedFrame) (x : LaneNode) (h : HasLane l f
   k = l.number
 
   abbrev pub before : Node
-  before = seen_at (stored_node l f) k l.lane l.state.at f.state.body.value f.state.desk f.places.items
+  before = seen_at (stored_node l f) k l.lane l.state.at f.state.body.value f.state.protocol f.places.items
 
   before_is : as_node x k ≡ before
   before_is = λ t. as_of (h.lane t) (h.shared t) k
@@ -181,10 +181,10 @@ module _ (l l' : LaneFrame) (f f' : SharedFrame) (x : LaneNode) (h : HasLane l f
         awaits = awaits_of l'.awaits;
         again = again;
       }
-      → f'.state.body.value ≡ b' → f'.state.desk ≡ d' → d'.directory.me ≡ f.state.desk.directory.me → f'.state.byes ≡ f.state.byes
+      → f'.state.body.value ≡ b' → f'.state.protocol ≡ d' → d'.directory.me ≡ f.state.protocol.directory.me → f'.state.byes ≡ f.state.byes
       → f'.state.stamp ≡ f.state.stamp + 1 → f'.state.journal.items ≡ f.state.journal.items → f'.state.output.items ≡ after.output
       → (word_before (work_of l f) x k) ≡ lane_turn (record { lanes = changed x.lanes k (part_of l'); shared = shared_of f' }) posts done.output
-  turn_is asks awaits stored_is holders others reserved waits part body desk me byes stamp journal output =
+  turn_is asks awaits stored_is holders others reserved waits part body protocol me byes stamp journal output =
       let r = word_outcome work (as_node x k) in
       let whole : word_asked (work_of l f) x k ≡ asked_by after posts done.output again =
       ap (word_asks work) before_is ∙ asks in
@@ -225,12 +225,12 @@ module _ (l l' : LaneFrame) (f f' : SharedFrame) (x : LaneNode) (h : HasLane l f
       }) ∙ sym part in
       let sh : shared_by after (reserved_after (work_of l f) x k) (held_by (wait_among (waits_in ps')) (holder_after x k)) ≡ shared_of f' =
       λ t. record (shared_by after (res t) (hold t)) {
-        me = (sym me ∙ ap (λ (z : Desk). z.directory.me) (sym desk)) t;
+        me = (sym me ∙ ap (λ (z : ProtocolState). z.directory.me) (sym protocol)) t;
         copy = (local_of (sym body t).local).copy;
         state = (local_of (sym body t).local).state;
-        entry = entries_in (sym desk t).directory.layout (sym desk t).directory.me (entry_at (sym desk t).directory.entries);
-        waiting = (entries_of (sym desk t).directory).waiting;
-        occupancy = (entries_of (sym desk t).directory).occupancy;
+        entry = entries_in (sym protocol t).directory.layout (sym protocol t).directory.me (entry_at (sym protocol t).directory.entries);
+        waiting = (entries_of (sym protocol t).directory).waiting;
+        occupancy = (entries_of (sym protocol t).directory).occupancy;
         wait = wait_among (sym waits t);
         byes = members (sym byes t);
         stamp = sym stamp t;

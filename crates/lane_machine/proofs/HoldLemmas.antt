@@ -4,13 +4,13 @@ use Rattle.std.specs.Prelude.{is_some}
 use Rattle.std.specs.Option.{option_to_list}
 use Rattle.block_layout.specs.Layout.{Shape}
 use Rattle.home_directory.specs.declared.wait.Wait.{Wait}
-use Rattle.node_machine.specs.declared.desk.Desk.{Desk}
-use Rattle.lane_desk.specs.lane_model.Turns.{still}
-use Rattle.lane_desk.specs.declared.place.Place.{Place}
-use Rattle.lane_desk.specs.Waits.{first_in, waits_for, wait_among, waits_in, AreApart}
+use Rattle.node_machine.specs.declared.protocol_state.ProtocolState.{ProtocolState}
+use Rattle.lane_model.specs.Turns.{still}
+use Rattle.lane_machine.specs.declared.lane_protocol.LaneProtocol.{LaneProtocol}
+use Rattle.lane_machine.specs.Waits.{first_in, waits_for, wait_among, waits_in, AreApart}
 use Rattle.lane_machine.specs.Places.{pools_in, wait_at}
 use Rattle.lane_machine.specs.Stored.{AreKept, IsAtRest}
-use Rattle.lane_machine.proofs.TreatLemmas.{wait_at_is}
+use Rattle.lane_machine.proofs.HandleLemmas.{wait_at_is}
 
 -- a wait of one lane is one of the node's
 at_some : (os : List (Option Wait)) (k : ℕ) → is_some (get_or os k None) ≡ true → is_some (first_in os) ≡ true
@@ -20,11 +20,11 @@ at_some (Some w ∷ os) zero e = refl
 at_some (None ∷ os) (suc k) e = at_some os k e
 at_some (Some w ∷ os) (suc k) e = refl
 
-pub wait_at_some : (ps : List Place) (k b : ℕ) → is_some (wait_at ps k b) ≡ true → is_some (wait_among (waits_in ps) b) ≡ true
+pub wait_at_some : (ps : List LaneProtocol) (k b : ℕ) → is_some (wait_at ps k b) ≡ true → is_some (wait_among (waits_in ps) b) ≡ true
 wait_at_some ps k b e = at_some (waits_for (waits_in ps) b) k (sym (ap is_some (wait_at_is ps k b)) ∙ e)
 
 -- places with the same waits
-pub wait_at_same : (ps qs : List Place) (k b : ℕ) → waits_in qs ≡ waits_in ps → wait_at qs k b ≡ wait_at ps k b
+pub wait_at_same : (ps qs : List LaneProtocol) (k b : ℕ) → waits_in qs ≡ waits_in ps → wait_at qs k b ≡ wait_at ps k b
 wait_at_same ps qs k b e = wait_at_is qs k b ∙ ap (λ z. get_or (waits_for z b) k None) e ∙ sym (wait_at_is ps k b)
 
 -- blocks that are waited for
@@ -51,10 +51,10 @@ pub awaited_held : (f : ℕ → Option Wait) (o p : Option ℕ) (bs : List ℕ) 
 awaited_held f o p bs e b one = two_held f o p b (subst (AreHeld f) (sym e) (still_held f bs)) one
 
 -- a node at rest, where the reservations are others
-pub rest_same : (l : Shape) (d : Desk) (ps qs : List Place) → waits_in qs ≡ waits_in ps → pools_in qs ≡ pools_in ps
+pub rest_same : (l : Shape) (d : ProtocolState) (ps qs : List LaneProtocol) → waits_in qs ≡ waits_in ps → pools_in qs ≡ pools_in ps
     → IsAtRest l d ps → IsAtRest l d qs
 rest_same l d ps qs w q r = record {
-  desk = r.desk;
+  protocol = r.protocol;
   empty = r.empty;
   kept = subst (λ z. AreKept l z (pools_in qs)) (sym w) (subst (λ z. AreKept l (waits_in ps) z) (sym q) r.kept);
   apart = subst AreApart (sym w) r.apart;

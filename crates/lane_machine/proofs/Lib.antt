@@ -1,7 +1,10 @@
+pub mod WaitLists
+pub mod AskLemmas
+pub mod StoreLemmas
 pub mod WaitPlaces
 pub mod RowFrames
 pub mod PlaceLemmas
-pub mod TreatLemmas
+pub mod HandleLemmas
 pub mod ReceiveLemmas
 pub mod WordLemmas
 pub mod ExecLemmas

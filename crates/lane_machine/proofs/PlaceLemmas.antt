@@ -5,8 +5,8 @@ use Rattle.std.proofs.lemmas.List.{map-set, get_or-map, length-map}
 use Rattle.buf_pool.specs.Pool.{Slots}
 use Rattle.block_layout.specs.Layout.{Shape}
 use Rattle.home_directory.specs.declared.wait.Wait.{Wait}
-use Rattle.miss_handlers.specs.Waits.{NodeWaits, wait_of}
-use Rattle.lane_desk.specs.Waits.{first_in, AtMostOne, waits_for, wait_among, place_among, held_in, AreApart}
+use Rattle.node_machine.specs.miss_handlers.Waits.{NodeWaits, wait_of}
+use Rattle.lane_machine.specs.Waits.{first_in, AtMostOne, waits_for, wait_among, place_among, held_in, AreApart}
 use Rattle.lane_machine.specs.Stored.{IsKept, AreKept}
 use Rattle.lane_machine.proofs.WaitPlaces.{first_of, first_cons}
 use Rattle.lane_machine.proofs.WaitPlaces.{get_none, first_out, one_out, first_put, one_put, place_has}

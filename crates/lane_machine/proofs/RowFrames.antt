@@ -5,16 +5,16 @@ use Rattle.std.proofs.lemmas.Bool.Decides.{eqb_tells, nat_tests}
 use Rattle.block_layout.specs.Layout.{Shape, blocks}
 use Rattle.block_layout.specs.Update.{changed}
 use Rattle.llsc.specs.Reservation.{cleared}
-use Rattle.home_directory.specs.declared.messages.Message.{Message}
-use Rattle.home_directory.specs.declared.messages.Message.TheVariants.{Read, Write, FwdRead, FwdWrite, Inval, Data, Grant, Ack, Done, Bye}
-use Rattle.home_directory.specs.declared.messages.Post.{Post}
+use Rattle.home_directory.specs.dsm_messages.declared.messages.Message.{Message}
+use Rattle.home_directory.specs.dsm_messages.declared.messages.Message.TheVariants.{Read, Write, FwdRead, FwdWrite, Inval, Data, Grant, Ack, Done, Bye}
+use Rattle.home_directory.specs.dsm_messages.declared.messages.Post.{Post}
 use Rattle.home_directory.specs.declared.wait.Wait.{Wait}
 use Rattle.home_directory.specs.Table.{HomeRow, NodeRow, node_row}
-use Rattle.miss_handlers.specs.Effects.{block_facts, named_block}
-use Rattle.miss_handlers.specs.Rows.{Row, AtHome, AtNode, at_home, at_node, node_row_of, row_of}
-use Rattle.node_model.specs.Node.{Node}
-use Rattle.node_model.specs.Turns.{Turn, quiet, block_at, holding, by_row, by_row_or, treated}
-use Rattle.node_machine.specs.Desk.{is_order, turn_by}
+use Rattle.node_machine.specs.miss_handlers.Effects.{block_facts, named_block}
+use Rattle.node_machine.specs.miss_handlers.Rows.{Row, AtHome, AtNode, at_home, at_node, node_row_of, row_of}
+use Rattle.lane_model.specs.node_model.Node.{Node}
+use Rattle.lane_model.specs.node_model.Turns.{Turn, silent, block_at, holding, by_row, by_row_or, handled}
+use Rattle.node_machine.specs.ProtocolState.{is_order, turn_by}
 use Rattle.lane_machine.specs.Words.{cleared_by}
 use Rattle.node_machine.proofs.RowLemmas.{RowFacts, row_facts}
 
@@ -127,7 +127,7 @@ module _ (l : Shape) (n : Node) (wait : ℕ → Option Wait) (reserved : Option 
       let waits : patched (named_block m) wait n.wait ≡ wait = go (named_block m) refl in
       let given : given_by m [] ≡ None = none_of (is_order m) in
       subst (λ (x : Option Row). by_row_or l (with_own n wait reserved) x ≡ carried m (by_row_or l n x)) (sym is)
-      (λ t. quiet (with_own n (sym waits t) (cleared_by l (sym given t) reserved)))
+      (λ t. silent (with_own n (sym waits t) (cleared_by l (sym given t) reserved)))
     where
       go : (o : Option ℕ) → named_block m ≡ o → patched o wait n.wait ≡ wait
       go None e = refl
@@ -164,23 +164,23 @@ module _ (l : Shape) (n : Node) (wait : ℕ → Option Wait) (reserved : Option 
       ∙ carried_by m (row_of l n.me (holding l n) j m) (row_case l n j m) h
 
   -- the same of a message: a Bye changes neither
-  pub treated_carried : (m : Message) → ((b : ℕ) → named_block m ≡ Some b → wait b ≡ n.wait b)
-      → treated l (with_own n wait reserved) j m ≡ carried m (treated l n j m)
-  treated_carried (Read b buf) h = row_carried (Read b buf) h
-  treated_carried (Write b buf) h = row_carried (Write b buf) h
-  treated_carried (Done b) h = row_carried (Done b) h
-  treated_carried (FwdRead b r buf) h = row_carried (FwdRead b r buf) h
-  treated_carried (FwdWrite b r k buf) h = row_carried (FwdWrite b r k buf) h
-  treated_carried (Inval b r) h = row_carried (Inval b r) h
-  treated_carried (Data b k buf) h = row_carried (Data b k buf) h
-  treated_carried (Grant b k buf) h = row_carried (Grant b k buf) h
-  treated_carried (Ack b) h = row_carried (Ack b) h
-  treated_carried Bye h = refl
+  pub handled_carried : (m : Message) → ((b : ℕ) → named_block m ≡ Some b → wait b ≡ n.wait b)
+      → handled l (with_own n wait reserved) j m ≡ carried m (handled l n j m)
+  handled_carried (Read b buf) h = row_carried (Read b buf) h
+  handled_carried (Write b buf) h = row_carried (Write b buf) h
+  handled_carried (Done b) h = row_carried (Done b) h
+  handled_carried (FwdRead b r buf) h = row_carried (FwdRead b r buf) h
+  handled_carried (FwdWrite b r k buf) h = row_carried (FwdWrite b r k buf) h
+  handled_carried (Inval b r) h = row_carried (Inval b r) h
+  handled_carried (Data b k buf) h = row_carried (Data b k buf) h
+  handled_carried (Grant b k buf) h = row_carried (Grant b k buf) h
+  handled_carried (Ack b) h = row_carried (Ack b) h
+  handled_carried Bye h = refl
 
 -- 3. What is true of the waits, and of what is sent
 
 -- no wait but that for the block changes; none begins; and the block that was given up is one
-pub record Treats (l : Shape) (n : Node) (m : Message) (t : Turn) : Type 0 where
+pub record Handles (l : Shape) (n : Node) (m : Message) (t : Turn) : Type 0 where
   pub others : (x : ℕ) → named_block m ≢ Some x → t.node.wait x ≡ n.wait x
   pub fewer : (x : ℕ) → n.wait x ≡ None → t.node.wait x ≡ None
   pub few : (length t.sends ≤ 1) ⊎ (t.node.wait ≡ n.wait)
@@ -193,14 +193,14 @@ none_given m b e = go (is_order m) e
     go true e = cc
     go false e = cc
 
-treats_by : (l : Shape) (n : Node) (m : Message) (o : Option Row) → RowCase l n m o → Treats l n m (by_row_or l n o)
-treats_by l n m o (NoRow is) = subst (λ (x : Option Row). Treats l n m (by_row_or l n x)) (sym is) (record {
+handles_by : (l : Shape) (n : Node) (m : Message) (o : Option Row) → RowCase l n m o → Handles l n m (by_row_or l n o)
+handles_by l n m o (NoRow is) = subst (λ (x : Option Row). Handles l n m (by_row_or l n x)) (sym is) (record {
   others = λ x apart. refl;
   fewer = λ x e. e;
   few = inr refl;
   given = λ b e. absurd (none_given m b e);
 })
-treats_by l n m o (HomeCase b row is named order) = subst (λ (x : Option Row). Treats l n m (by_row_or l n x)) (sym is) (record {
+handles_by l n m o (HomeCase b row is named order) = subst (λ (x : Option Row). Handles l n m (by_row_or l n x)) (sym is) (record {
   others = λ x apart. refl;
   fewer = λ x e. e;
   few = inr refl;
@@ -210,7 +210,7 @@ treats_by l n m o (HomeCase b row is named order) = subst (λ (x : Option Row). 
       let bad : None ≡ Some x = sym none ∙ e in
       absurd (cc);
 })
-treats_by l n m o (NodeCase b row is named low facts) = subst (λ (x : Option Row). Treats l n m (by_row_or l n x)) (sym is) (record {
+handles_by l n m o (NodeCase b row is named low facts) = subst (λ (x : Option Row). Handles l n m (by_row_or l n x)) (sym is) (record {
   others = λ x apart. elim (eqb_tells x b) [
     | inl q ↦ absurd (apart (named ∙ ap (λ z. Some z) (sym q.1)))
     | inr q ↦ rw q.0 refl
@@ -228,21 +228,21 @@ treats_by l n m o (NodeCase b row is named low facts) = subst (λ (x : Option Ro
     go x true e = subst (λ z. z < blocks l) (some_same b x (sym named ∙ e)) low
     go x false e = absurd (cc)
 
-pub row_treats : (l : Shape) (n : Node) (j : ℕ) (m : Message)
-    → Treats l n m (by_row_or l n (row_of l n.me (holding l n) j m))
-row_treats l n j m = treats_by l n m (row_of l n.me (holding l n) j m) (row_case l n j m)
+pub row_handles : (l : Shape) (n : Node) (j : ℕ) (m : Message)
+    → Handles l n m (by_row_or l n (row_of l n.me (holding l n) j m))
+row_handles l n j m = handles_by l n m (row_of l n.me (holding l n) j m) (row_case l n j m)
 
-pub treated_treats : (l : Shape) (n : Node) (j : ℕ) (m : Message) → Treats l n m (treated l n j m)
-treated_treats l n j (Read b buf) = row_treats l n j (Read b buf)
-treated_treats l n j (Write b buf) = row_treats l n j (Write b buf)
-treated_treats l n j (Done b) = row_treats l n j (Done b)
-treated_treats l n j (FwdRead b r buf) = row_treats l n j (FwdRead b r buf)
-treated_treats l n j (FwdWrite b r k buf) = row_treats l n j (FwdWrite b r k buf)
-treated_treats l n j (Inval b r) = row_treats l n j (Inval b r)
-treated_treats l n j (Data b k buf) = row_treats l n j (Data b k buf)
-treated_treats l n j (Grant b k buf) = row_treats l n j (Grant b k buf)
-treated_treats l n j (Ack b) = row_treats l n j (Ack b)
-treated_treats l n j Bye = record {
+pub handled_handles : (l : Shape) (n : Node) (j : ℕ) (m : Message) → Handles l n m (handled l n j m)
+handled_handles l n j (Read b buf) = row_handles l n j (Read b buf)
+handled_handles l n j (Write b buf) = row_handles l n j (Write b buf)
+handled_handles l n j (Done b) = row_handles l n j (Done b)
+handled_handles l n j (FwdRead b r buf) = row_handles l n j (FwdRead b r buf)
+handled_handles l n j (FwdWrite b r k buf) = row_handles l n j (FwdWrite b r k buf)
+handled_handles l n j (Inval b r) = row_handles l n j (Inval b r)
+handled_handles l n j (Data b k buf) = row_handles l n j (Data b k buf)
+handled_handles l n j (Grant b k buf) = row_handles l n j (Grant b k buf)
+handled_handles l n j (Ack b) = row_handles l n j (Ack b)
+handled_handles l n j Bye = record {
   others = λ x apart. refl;
   fewer = λ x e. e;
   few = inr refl;

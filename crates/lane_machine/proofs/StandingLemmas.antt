@@ -2,13 +2,13 @@
 use Rattle.std.proofs.Common.{◌≡◌, ℕ, ◌&&◌, Bool, true, false, cond, eqb, length, refl, sym, ◌∙◌}
 use Rattle.home_directory.specs.Effects.{members}
 use Rattle.home_directory.specs.Home.{count_of}
-use Rattle.node_model.specs.declared.Standing.TheVariants as standing
-use Rattle.node_model.specs.Node.{Phase, Running, Resumed, Waiting, Ended}
-use Rattle.lane_desk.specs.lane_model.Nodes.{LaneWork, LanePart, LaneNode}
-use Rattle.node_machine.specs.Frame.{layout_of}
-use Rattle.lane_desk.specs.lane_model.Core.{standing_in, standing_of, is_over as is_over_node}
-use Rattle.lane_desk.specs.lane_model.Turns.{has_ended, have_ended}
-use Rattle.lane_machine.specs.declared.frame.SharedFrame.{SharedFrame}
+use Rattle.lane_model.specs.node_model.declared.Standing.TheVariants as standing
+use Rattle.lane_model.specs.node_model.Node.{Phase, Running, Resumed, Waiting, Ended}
+use Rattle.lane_model.specs.Nodes.{LaneWork, LanePart, LaneNode}
+use Rattle.node_machine.specs.NodeState.{layout_of}
+use Rattle.lane_model.specs.Core.{standing_in, standing_of, is_over as is_over_node}
+use Rattle.lane_model.specs.Turns.{has_ended, have_ended}
+use Rattle.lane_machine.specs.declared.stored.StoredShared.{StoredShared}
 use Rattle.lane_machine.specs.Stored.{ended_in, shared_of}
 use Rattle.lane_machine.proofs.ExecLemmas.{all_count}
 use Rattle.lane_machine.specs.Words.{is_over}
@@ -30,7 +30,7 @@ over_by true = refl
 over_by false = refl
 
 -- by how many lanes have ended, and the Byes taken
-pub over_is : (w : LaneWork) (x : LaneNode) (f : SharedFrame) → w.work.layout ≡ layout_of f.state.body.value
+pub over_is : (w : LaneWork) (x : LaneNode) (f : StoredShared) → w.work.layout ≡ layout_of f.state.body.value
     → w.lanes ≡ length f.places.items → x.shared ≡ shared_of f → f.ended ≡ ended_in x w.lanes
     → is_over_node w x ≡ (eqb f.ended (length f.places.items)
     && eqb (count_of (members f.state.byes) (layout_of f.state.body.value).nodes) (layout_of f.state.body.value).nodes)

@@ -2,8 +2,8 @@
 use Rattle.std.proofs.Common.{◌≡◌, ℕ, zero, suc, ◌<◌, Bool, true, false, cond, List, [], ◌∷◌, length, set, get_or, Option, Some, None, refl, sym, ap, ◌∙◌, subst, arith}
 use Rattle.std.specs.Prelude.{is_some}
 use Rattle.home_directory.specs.declared.wait.Wait.{Wait}
-use Rattle.lane_desk.specs.Waits.{first_in, place_in, AtMostOne}
-use Rattle.lane_desk.proofs.WaitLists.{some_none, one_of_none}
+use Rattle.lane_machine.specs.Waits.{first_in, place_in, AtMostOne}
+use Rattle.lane_machine.proofs.WaitLists.{some_none, one_of_none}
 
 -- the first of two
 abbrev pub first_of : Option Wait → Option Wait → Option Wait

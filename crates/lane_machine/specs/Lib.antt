@@ -1,7 +1,8 @@
+pub mod Waits
+pub mod Words
+pub mod ProtocolStates
 pub mod Places
 pub mod Stored
-pub mod Words
-pub use Rattle.miss_handlers.specs as miss_handlers
+pub use Rattle.node_machine.specs.miss_handlers as miss_handlers
 pub use Rattle.node_machine.specs.node_words as node_words
 pub use Rattle.node_machine.specs as node_machine
-pub use Rattle.lane_desk.specs as lane_desk

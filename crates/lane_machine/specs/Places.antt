@@ -3,18 +3,18 @@ use Rattle.std.specs.Prelude.{ℕ, Bool, false, ◌==◌, List, map, slice_index
 use Rattle.std.specs.Option.{option_map_or}
 use Rattle.buf_pool.specs.Pool.{Slots}
 use Rattle.home_directory.specs.declared.wait.Wait.{Wait}
-use Rattle.miss_handlers.specs.Waits.{wait_of}
-use Rattle.lane_desk.specs.declared.place.Place.{Place}
+use Rattle.node_machine.specs.miss_handlers.Waits.{wait_of}
+use Rattle.lane_machine.specs.declared.lane_protocol.LaneProtocol.{LaneProtocol}
 
 -- the address that a lane has reserved
-abbrev pub reserved_in : List Place → (k : ℕ) → Option ℕ
+abbrev pub reserved_in : List LaneProtocol → (k : ℕ) → Option ℕ
 reserved_in places k = slice_index_or (map (λ p. p.reservation) places) k None
 
 -- the wait that the node has for lane k, by block
-abbrev pub wait_at : List Place → (k : ℕ) → ℕ → Option Wait
+abbrev pub wait_at : List LaneProtocol → (k : ℕ) → ℕ → Option Wait
 wait_at places k = slice_index_or (map (λ p. wait_of p.waits) places) k (λ b. None)
 
-abbrev pub pools_in : List Place → List Slots
+abbrev pub pools_in : List LaneProtocol → List Slots
 pools_in places = map (λ p. p.pool) places
 
 -- lane k is the one that is spared

@@ -3,27 +3,28 @@
 ghost use Rattle.std.specs.Prelude.{◌≡◌, ◌≢◌, ◌+◌, ◌^◌, ◌<◌, ◌≤◌, ℕ, None, true, IfOk};
 ghost use Rattle.std.specs.Prelude.{is_some, length};
 ghost use Rattle.exec_map.specs.Contents.{program_of};
-ghost use Rattle.node_model.specs.Node as model;
-ghost use Rattle.node_model.specs.Turns as turns;
+ghost use Rattle.lane_model.specs.node_model.Node as model;
+ghost use Rattle.lane_model.specs.node_model.Turns as turns;
 ghost use Rattle.node_machine.specs.node_words.Kept.{local_of};
-ghost use Rattle.node_machine.specs.Frame.{AreCountsBelow};
-ghost use Rattle.lane_desk.specs.lane_model.Nodes as lanes;
-ghost use Rattle.lane_desk.specs.lane_model.Turns as moves;
-ghost use Rattle.lane_desk.specs.lane_model.Core as core;
-ghost use Rattle.lane_desk.specs.Waits.{wait_among, waits_in};
+ghost use Rattle.node_machine.specs.NodeState.{AreCountsBelow};
+ghost use Rattle.lane_model.specs.Nodes as lanes;
+ghost use Rattle.lane_model.specs.Turns as moves;
+ghost use Rattle.lane_model.specs.Core as core;
+ghost use Rattle.lane_machine.specs.Waits.{wait_among, waits_in};
 ghost use Rattle.lane_machine.specs.Places.{wait_at};
 ghost use Rattle.lane_machine.specs.Stored.{HasLane, HasRoom, HasGoneOn, IsHeld};
 ghost use Rattle.lane_machine.specs.Stored.{WaitsFor, part_of, work_of, with_lane};
 
-use crate::frame::LaneFrame;
+use crate::asking::NO_BLOCK;
+use crate::lane_protocol::LaneProtocol;
 use crate::shared::Shared;
+use crate::stored::StoredLane;
 use byte_range::Window;
 use exec_map::{End, Program};
-use home_directory::Sends;
-use lane_desk::{NO_BLOCK, Place};
-use node_machine::node_words::{Body, index_of};
+use home_directory::dsm_messages::Sends;
+use node_machine::jump_map::Image;
+use node_machine::node_words::{ExecState, index_of};
 use node_machine::{LaneState, Phase, Standing, Turn, standing_at};
-use node_model::jump_map::Image;
 use run_limits::Budget;
 use rv32_step::Registers;
 use std::alloc::{AllocError, Global};
@@ -32,18 +33,18 @@ use std::marker::Model;
 /// A processor that runs rewritten code of a program, on a node which it shares with others.
 #[derive(Drop)]
 pub struct Lane<'a> {
-    pub(crate) frame: LaneFrame<'a>,
+    pub(crate) inner: StoredLane<'a>,
 }
 
 impl<'a> Model for Lane<'a> {
-    ghost use Rattle.lane_machine.specs.declared.frame.LaneFrame.{LaneFrame as Stored};
+    ghost use Rattle.lane_machine.specs.declared.stored.StoredLane.{StoredLane as Stored};
     ghost use Rattle.lane_machine.specs.Stored.{IsLane};
 
     ghost Value = { Stored };
 
-    ghost view = { λ l. l.frame };
+    ghost view = { λ l. l.inner };
 
-    ghost invariant = { λ l. IsLane l.frame };
+    ghost invariant = { λ l. IsLane l.inner };
 }
 
 impl<'a> Lane<'a> {
@@ -70,7 +71,7 @@ impl<'a> Lane<'a> {
         // brings: the budget is in its range
         let _ = budget.number();
         Ok(Lane {
-            frame: LaneFrame {
+            inner: StoredLane {
                 state: LaneState {
                     image,
                     budget,
@@ -79,7 +80,7 @@ impl<'a> Lane<'a> {
                     phase: Phase::Running,
                 },
                 number: lane,
-                lane: node_machine::node_words::Lane {
+                lane: node_machine::node_words::ProcessorState {
                     registers: Registers::first(p, processors),
                     private: Window::zeros(alloc)?,
                     written: 0,
@@ -98,8 +99,8 @@ impl<'a> Lane<'a> {
             → w.work.image ≡ self.now.state.image.now → x.lanes k ≡ part_of self.now
             → result ≡ core.standing_of w x k }
     {
-        match self.frame.state.phase {
-            Phase::Running => standing_at(self.frame.state.next_word()),
+        match self.inner.state.phase {
+            Phase::Running => standing_at(self.inner.state.next_word()),
             Phase::Resumed => Standing::Running,
             Phase::Waiting(_) => Standing::Waiting,
             Phase::Ended(_) => Standing::Ended,
@@ -110,7 +111,7 @@ impl<'a> Lane<'a> {
     pub fn end(&self) -> Option<End>
         ensures value { result ≡ model.end_of (part_of self.now).phase }
     {
-        self.frame.state.end()
+        self.inner.state.end()
     }
 
     /// How many words the lane has executed.
@@ -119,15 +120,15 @@ impl<'a> Lane<'a> {
         ensures few { result ≤ 2 ^ 32 }
     {
         // brings: the budget is in its range
-        let _ = self.frame.state.budget.number();
-        self.frame.state.executed
+        let _ = self.inner.state.budget.number();
+        self.inner.state.executed
     }
 
     /// Whether the lane has ended.
     pub(crate) fn has_ended(&self) -> bool
         ensures { result ≡ turns.is_ended (part_of self.now).phase }
     {
-        self.frame.state.has_ended()
+        self.inner.state.has_ended()
     }
 
     /// Executes one word, and leaves what the node sends, in order.
@@ -161,11 +162,11 @@ impl<'a> Lane<'a> {
         ensures number { self.new.number ≡ self.old.number }
         ensures work { work_of self.new shared.new ≡ work_of self.old shared.old }
     {
-        self.frame.exec(&mut shared.frame, sends)
+        self.inner.exec(&mut shared.inner, sends)
     }
 
     /// Goes on where it waits for no block any more, by what its word's lines allow now.
-    pub(crate) fn go_on(&mut self, body: &mut Body<'_>, places: &[Place])
+    pub(crate) fn resume_if_served(&mut self, body: &mut ExecState<'_>, places: &[LaneProtocol])
         requires counts { AreCountsBelow (2 ^ 63) body.old.counts }
         ensures gone { HasGoneOn (local_of body.old.local).state
             (wait_among (waits_in places.now)) self.old self.new }
@@ -177,6 +178,6 @@ impl<'a> Lane<'a> {
         ensures lane { body.new.lane ≡ body.old.lane }
         ensures local { body.new.local ≡ body.old.local }
     {
-        self.frame.go_on(body, places);
+        self.inner.resume_if_served(body, places);
     }
 }

@@ -1,12 +1,18 @@
 #![tactic(auto)]
 //! One node of several processors, its lanes. They share its copy, its states and its directory.
 //!
-//! A [`Lane`] is what is one processor's own, and [`Shared`] what the lanes of a node share. In an
-//! event what the node keeps for one lane is put in use.
+//! A [`Lane`] is what is one processor's own, and [`Shared`] what the lanes of a node share. The
+//! node keeps a place for each lane: its reservation, and what the node waits for on its behalf.
+//! While a lane executes a word, or a message comes for a block that it waits for, its place is put
+//! in use: so a word, or a message, does to it what it does to a node of one processor. A block
+//! that another lane waits for isn't asked for again.
 
-mod frame;
+mod asking;
 mod lane;
+mod lane_protocol;
 mod shared;
+mod stored;
+mod stores;
 mod taking;
 
 pub use lane::Lane;

@@ -2,39 +2,40 @@
 
 ghost use Rattle.std.specs.Prelude.{◌≡◌, ◌+◌, ◌^◌, ◌<◌, ◌≤◌, ℕ, [], None, IfOk, OnOk, length};
 ghost use Rattle.exec_map.specs.Contents.{program_of};
-ghost use Rattle.node_model.specs.Node as model;
-ghost use Rattle.node_model.specs.Turns as turns;
+ghost use Rattle.lane_model.specs.node_model.Node as model;
+ghost use Rattle.lane_model.specs.node_model.Turns as turns;
 ghost use Rattle.home_directory.specs.Home.{first_entry};
 ghost use Rattle.home_directory.specs.Effects.{entry_at};
 ghost use Rattle.node_machine.specs.node_words.Kept.{local_of};
-ghost use Rattle.node_machine.specs.Frame.{layout_of, entries_in, IsDesk};
-ghost use Rattle.lane_desk.specs.lane_model.Nodes.{LaneWork, LaneNode, first_shared};
-ghost use Rattle.lane_desk.specs.lane_model.Turns as moves;
-ghost use Rattle.lane_desk.specs.lane_model.Core as core;
-ghost use Rattle.lane_desk.specs.Waits.{wait_among, waits_in};
+ghost use Rattle.node_machine.specs.NodeState.{layout_of, entries_in, IsProtocolState};
+ghost use Rattle.lane_model.specs.Nodes.{LaneWork, LaneNode, first_shared};
+ghost use Rattle.lane_model.specs.Turns as moves;
+ghost use Rattle.lane_model.specs.Core as core;
+ghost use Rattle.lane_machine.specs.Waits.{wait_among, waits_in};
 ghost use Rattle.lane_machine.specs.Places.{wait_at, pools_in, reserved_in};
-ghost use Rattle.lane_desk.specs.Waits.{AreApart};
+ghost use Rattle.lane_machine.specs.Waits.{AreApart};
 ghost use Rattle.lane_machine.specs.Stored.{HasRoom, HaveLanes, AreLanes};
 ghost use Rattle.lane_machine.specs.Stored.{HaveParts, AllHeld, AllWaitFor, AreKept};
 ghost use Rattle.lane_machine.specs.Stored.{ended_in, shared_of};
 ghost use Rattle.lane_machine.specs.Words.{is_over};
 
-use crate::frame::SharedFrame;
 use crate::lane::Lane;
+use crate::lane_protocol::LaneProtocol;
+use crate::stored::StoredShared;
 use crate::taking::take;
 use block_layout::Layout;
 use buf_pool::Pool;
 use byte_range::Window;
 use exec_map::Program;
-use home_directory::{Directory, Sends, Wire};
-use lane_desk::Place;
+use home_directory::Directory;
+use home_directory::dsm_messages::{Sends, Wire};
 use llsc::Reservation;
-use miss_handlers::Waits;
-use node_machine::node_words::Body;
+use node_machine::miss_handlers::Waits;
+use node_machine::node_words::ExecState;
 use node_machine::{
-    Desk, NO_COUNTS, PAGE_BYTES, SharedState, Standing, Turn, WAITS, ended_standing, first_local,
+    NO_COUNTS, NodeCounts, PAGE_BYTES, ProtocolState, SharedState, Standing, Turn, WAITS,
+    ended_standing, first_local,
 };
-use node_model::NodeCounts;
 use rv32_step::Registers;
 use std::alloc::{AllocError, Global};
 use std::marker::Model;
@@ -42,18 +43,18 @@ use std::marker::Model;
 /// What the lanes of a node share.
 #[derive(Drop)]
 pub struct Shared<'a> {
-    pub(crate) frame: SharedFrame<'a>,
+    pub(crate) inner: StoredShared<'a>,
 }
 
 impl<'a> Model for Shared<'a> {
-    ghost use Rattle.lane_machine.specs.declared.frame.SharedFrame.{SharedFrame as Stored};
+    ghost use Rattle.lane_machine.specs.declared.stored.StoredShared.{StoredShared as Stored};
     ghost use Rattle.lane_machine.specs.Stored.{IsShared};
 
     ghost Value = { Stored };
 
-    ghost view = { λ s. s.frame };
+    ghost view = { λ s. s.inner };
 
-    ghost invariant = { λ s. IsShared s.frame };
+    ghost invariant = { λ s. IsShared s.inner };
 }
 
 impl<'a> Shared<'a> {
@@ -80,10 +81,10 @@ impl<'a> Shared<'a> {
         ensures ended { IfOk result (λ s. s.ended ≡ 0) }
     {
         Ok(Shared {
-            frame: SharedFrame {
+            inner: StoredShared {
                 state: SharedState {
                     body: first_body(alloc, program, layout, me)?,
-                    desk: first_desk(alloc, layout, me)?,
+                    protocol: first_protocol(alloc, layout, me)?,
                     byes: [false; 256],
                     stamp: 0,
                     journal: Vec::new(alloc),
@@ -105,14 +106,14 @@ impl<'a> Shared<'a> {
         ensures ended { self.new.ended ≡ self.old.ended }
         ensures room { OnOk result (HasRoom self.new) }
     {
-        self.frame.state.make_room()
+        self.inner.state.make_room()
     }
 
     /// What the node has counted over its lanes.
     pub fn counts(&self) -> NodeCounts
         ensures value { result ≡ (shared_of self.now).counts }
     {
-        self.frame.state.body.counts
+        self.inner.state.body.counts
     }
 
     /// Whether all lanes have ended, and all nodes have said so of theirs.
@@ -123,10 +124,10 @@ impl<'a> Shared<'a> {
             → self.now.ended ≡ ended_in x w.lanes
             → result ≡ core.is_over w x }
     {
-        if self.frame.ended as usize != self.frame.places.len() {
+        if self.inner.ended as usize != self.inner.places.len() {
             return false;
         }
-        is_over(ended_standing(&self.frame.state.byes, self.frame.layout.nodes()))
+        is_over(ended_standing(&self.inner.state.byes, self.inner.layout.nodes()))
     }
 
     /// Takes a message from a node, and leaves what the node sends, in order.
@@ -153,7 +154,7 @@ impl<'a> Shared<'a> {
         ensures stamp { result.stamp ≡ self.new.state.stamp }
         ensures stamps { self.new.state.stamp ≡ turns.later self.old.state.stamp wire.stamp + 1 }
     {
-        take(&mut self.frame, lanes, from, wire, sends)
+        take(&mut self.inner, lanes, from, wire, sends)
     }
 }
 
@@ -164,7 +165,7 @@ fn first_body<'a>(
     program: &'a Program<'a>,
     layout: &Layout,
     me: u8,
-) -> Result<Box<Body<'a>>, AllocError>
+) -> Result<Box<ExecState<'a>>, AllocError>
     requires layout { model.IsLaidOver (program_of program.now) layout.now }
     ensures program { IfOk result
         (λ b. program_of b.value.local.program ≡ program_of program.now) }
@@ -174,8 +175,8 @@ fn first_body<'a>(
         → local_of b.value.local ≡ model.first_local work me) }
     ensures counts { IfOk result (λ b. b.value.counts ≡ model.no_counts) }
 {
-    let body = Body {
-        lane: node_machine::node_words::Lane {
+    let body = ExecState {
+        lane: node_machine::node_words::ProcessorState {
             registers: Registers::first(me, me),
             private: Window::zeros(alloc)?,
             written: 0,
@@ -189,9 +190,9 @@ fn first_body<'a>(
 }
 
 /// What the directory of node `me` keeps at the start, and the place of no lane.
-fn first_desk(alloc: Global, layout: &Layout, me: u8) -> Result<Desk, AllocError>
+fn first_protocol(alloc: Global, layout: &Layout, me: u8) -> Result<ProtocolState, AllocError>
     requires node { me < layout.now.nodes }
-    ensures desk { IfOk result (IsDesk layout.now) }
+    ensures protocol { IfOk result (IsProtocolState layout.now) }
     ensures empty { IfOk result (λ d. d.waits.waits ≡ []) }
     ensures me { IfOk result (λ d. d.directory.me ≡ me) }
     ensures entries { IfOk result (λ d. entries_in d.directory.layout d.directory.me
@@ -201,7 +202,7 @@ fn first_desk(alloc: Global, layout: &Layout, me: u8) -> Result<Desk, AllocError
     let directory = Directory::new(alloc, layout, me, layout.nodes())?;
     let waits = Waits::new(alloc, layout)?;
     let pool = Pool::new(alloc, WAITS, PAGE_BYTES)?;
-    Ok(Desk {
+    Ok(ProtocolState {
         directory,
         waits,
         pool,
@@ -209,7 +210,7 @@ fn first_desk(alloc: Global, layout: &Layout, me: u8) -> Result<Desk, AllocError
 }
 
 /// What a node keeps for each of so many lanes at the start.
-fn first_places(alloc: Global, layout: &Layout, lanes: u8) -> Result<Vec<Place>, AllocError>
+fn first_places(alloc: Global, layout: &Layout, lanes: u8) -> Result<Vec<LaneProtocol>, AllocError>
     ensures count { IfOk result (λ v. length v.items ≡ lanes) }
     ensures kept { IfOk result (λ v. AreKept layout.now (waits_in v.items) (pools_in v.items)) }
     ensures reserved { IfOk result (λ v. (k : ℕ) → reserved_in v.items k ≡ None) }
@@ -219,7 +220,7 @@ fn first_places(alloc: Global, layout: &Layout, lanes: u8) -> Result<Vec<Place>,
 {
     let mut places = Vec::with_capacity(alloc, lanes as usize)?;
     for _lane in 0..lanes {
-        places.push_reserved(Place {
+        places.push_reserved(LaneProtocol {
             reservation: Reservation::new(),
             waits: Waits::new(alloc, layout)?,
             pool: Pool::new(alloc, WAITS, PAGE_BYTES)?,

@@ -4,34 +4,34 @@ ghost use Rattle.std.specs.Prelude.{◌≡◌, ◌+◌, ◌^◌, ◌<◌, ◌≤
 ghost use Rattle.std.specs.Prelude.{if◌then◌else◌, slice_index_or, Some, ◌==◌, ◌&&◌, not};
 ghost use Rattle.block_layout.specs.Layout.{blocks};
 ghost use Rattle.llsc.specs.Reservation.{cleared};
-ghost use Rattle.miss_handlers.specs.Effects.{named_block};
-ghost use Rattle.node_model.specs.Node as model;
-ghost use Rattle.node_model.specs.Turns as turns;
+ghost use Rattle.node_machine.specs.miss_handlers.Effects.{named_block};
+ghost use Rattle.lane_model.specs.node_model.Node as model;
+ghost use Rattle.lane_model.specs.node_model.Turns as turns;
 ghost use Rattle.node_machine.specs.node_words.Kept.{ground_of, local_of};
-ghost use Rattle.node_machine.specs.Frame.{layout_of, AreCountsBelow};
-ghost use Rattle.node_machine.specs.Desk.{turn_by, is_order};
-ghost use Rattle.lane_desk.specs.lane_model.Nodes.{LaneWork, LaneNode};
-ghost use Rattle.lane_desk.specs.lane_model.Turns as moves;
-ghost use Rattle.lane_desk.specs.Waits.{wait_among, place_among, waits_in, held_in};
+ghost use Rattle.node_machine.specs.NodeState.{layout_of, AreCountsBelow};
+ghost use Rattle.node_machine.specs.ProtocolState.{turn_by, is_order};
+ghost use Rattle.lane_model.specs.Nodes.{LaneWork, LaneNode};
+ghost use Rattle.lane_model.specs.Turns as moves;
+ghost use Rattle.lane_machine.specs.Waits.{wait_among, place_among, waits_in, held_in};
 ghost use Rattle.lane_machine.specs.Places.{reserved_in};
 ghost use Rattle.lane_machine.specs.Places.{wait_at, pools_in, is_spared};
 ghost use Rattle.lane_machine.specs.Words.{cleared_by};
 ghost use Rattle.lane_machine.specs.Stored.{IsAtRest, IsShared, HasGoneOn, HaveParts, HasRoom};
 ghost use Rattle.lane_machine.specs.Stored.{AreLanes, HaveLanes, AllHeld};
 ghost use Rattle.lane_machine.specs.Stored.{AllWaitFor, ended_in, seen_with};
-ghost use Rattle.lane_machine.specs.declared.frame.LaneFrame.{LaneFrame};
+ghost use Rattle.lane_machine.specs.declared.stored.StoredLane.{StoredLane};
 
-use crate::frame::SharedFrame;
 use crate::lane::Lane;
+use crate::lane_protocol::{LaneProtocol, holder_of, swap_waits};
+use crate::stored::StoredShared;
 use block_layout::{Block, Layout};
-use home_directory::{Message, Sends, Wire};
-use lane_desk::{Place, holder_of, swap_waits};
-use node_machine::node_words::Body;
-use node_machine::{Desk, Turn, add_byes, treat};
+use home_directory::dsm_messages::{Message, Sends, Wire};
+use node_machine::node_words::ExecState;
+use node_machine::{ProtocolState, Turn, add_byes, handle};
 
 /// Takes a message from a node, and leaves what the node sends, in order.
 pub fn take(
-    shared: &mut SharedFrame<'_>,
+    shared: &mut StoredShared<'_>,
     lanes: &mut [Lane<'_>],
     from: u8,
     wire: Wire,
@@ -67,7 +67,7 @@ pub fn take(
     let state = &mut shared.state;
     receive(
         &mut state.body,
-        &mut state.desk,
+        &mut state.protocol,
         &mut shared.places,
         &shared.layout,
         &mut state.byes,
@@ -75,7 +75,7 @@ pub fn take(
         wire.message,
         sends,
     );
-    shared.ended = go_on(lanes, &mut shared.state.body, &shared.places);
+    shared.ended = resume_lanes(lanes, &mut shared.state.body, &shared.places);
     let last = is_last_end(ended_before, shared.ended, lanes.len());
     add_byes(sends, shared.layout.nodes(), last);
     Turn {
@@ -106,10 +106,10 @@ fn words_of(lanes: &[Lane<'_>]) -> u64
 }
 
 /// Each lane that waits for no block any more goes on. It gives how many lanes have ended.
-fn go_on(lanes: &mut [Lane<'_>], body: &mut Body<'_>, places: &[Place]) -> u8
+fn resume_lanes(lanes: &mut [Lane<'_>], body: &mut ExecState<'_>, places: &[LaneProtocol]) -> u8
     requires few { length lanes.old ≤ 4 }
     requires counts { AreCountsBelow (2 ^ 62) body.old.counts }
-    ensures gone { (k : ℕ) (d : LaneFrame) → k < length lanes.old
+    ensures gone { (k : ℕ) (d : StoredLane) → k < length lanes.old
         → HasGoneOn (local_of body.old.local).state (wait_among (waits_in places.now))
         (slice_index_or lanes.old k d) (slice_index_or lanes.new k d) }
     ensures counts { (n : model.Node) (x : LaneNode) → n.wait ≡ wait_among (waits_in places.now)
@@ -127,7 +127,7 @@ fn go_on(lanes: &mut [Lane<'_>], body: &mut Body<'_>, places: &[Place]) -> u8
 {
     let mut ended = 0;
     for k in 0..lanes.len() {
-        lanes[k].go_on(body, places);
+        lanes[k].resume_if_served(body, places);
         if lanes[k].has_ended() {
             ended += 1;
         }
@@ -135,26 +135,27 @@ fn go_on(lanes: &mut [Lane<'_>], body: &mut Body<'_>, places: &[Place]) -> u8
     ended
 }
 
-/// A message from a node, treated on behalf of the lane that waits for its block.
+/// A message from a node, handled on behalf of the lane that waits for its block.
 pub fn receive(
-    body: &mut Body<'_>,
-    desk: &mut Desk,
-    places: &mut Vec<Place>,
+    body: &mut ExecState<'_>,
+    protocol: &mut ProtocolState,
+    places: &mut Vec<LaneProtocol>,
     layout: &Layout,
     byes: &mut [bool; 256],
     from: u8,
     message: Message,
     sends: &mut Sends,
 )
-    requires rest { IsAtRest (layout_of body.old) desk.old places.old.items }
+    requires rest { IsAtRest (layout_of body.old) protocol.old places.old.items }
     requires layout { layout.now ≡ layout_of body.old }
     requires few { length places.old.items ≤ 4 }
     requires some { 0 < length places.old.items }
     requires counts { AreCountsBelow (2 ^ 63) body.old.counts }
-    ensures turn { (n : model.Node) (k : ℕ) → n.me ≡ desk.old.directory.me →
-        turns.treated (layout_of body.old)
-        (seen_with n k body.old desk.old places.old.items byes.old) from message
-        ≡ turn_by (seen_with n k body.new desk.new places.new.items byes.new) sends.new.items None }
+    ensures turn { (n : model.Node) (k : ℕ) → n.me ≡ protocol.old.directory.me →
+        turns.handled (layout_of body.old)
+        (seen_with n k body.old protocol.old places.old.items byes.old) from message
+        ≡ turn_by (seen_with n k body.new protocol.new places.new.items byes.new) sends.new.items
+        None }
     ensures holders { (b : ℕ)
         → is_some (wait_among (waits_in places.new.items) b) ≡ true
         → place_among (waits_in places.new.items) b ≡ held_in (waits_in places.old.items) b }
@@ -163,9 +164,9 @@ pub fn receive(
     ensures few { (length sends.new.items ≤ 1) ⊎ ((b : ℕ)
         → is_some (wait_among (waits_in places.new.items) b)
         ≡ is_some (wait_among (waits_in places.old.items) b)) }
-    ensures rest { IsAtRest (layout_of body.old) desk.new places.new.items }
+    ensures rest { IsAtRest (layout_of body.old) protocol.new places.new.items }
     ensures places { length places.new.items ≡ length places.old.items }
-    ensures me { desk.new.directory.me ≡ desk.old.directory.me }
+    ensures me { protocol.new.directory.me ≡ protocol.old.directory.me }
     ensures lane { body.new.lane ≡ body.old.lane }
     ensures ground { ground_of body.new.local ≡ ground_of body.old.local }
     ensures counts { (most : ℕ) → AreCountsBelow most body.old.counts
@@ -173,14 +174,14 @@ pub fn receive(
 {
     let given_up = given_up(&message);
     let lane = holder_in(places, named_block(&message)) as usize;
-    swap_waits(desk, &mut places[lane]);
-    treat(desk, body, byes, from, message, sends);
-    swap_waits(desk, &mut places[lane]);
+    swap_waits(protocol, &mut places[lane]);
+    handle(protocol, body, byes, from, message, sends);
+    swap_waits(protocol, &mut places[lane]);
     clear_given(places, layout, given_up, !sends.is_empty());
 }
 
 /// The reservations in a block that was given up end, where a message was sent for it.
-fn clear_given(places: &mut Vec<Place>, layout: &Layout, given_up: Option<Block>, sent: bool)
+fn clear_given(places: &mut Vec<LaneProtocol>, layout: &Layout, given_up: Option<Block>, sent: bool)
     requires block { (b : ℕ) → sent ≡ true → given_up ≡ Some b → b < blocks layout.now }
     ensures reserved { (k : ℕ) → reserved_in places.new.items k
         ≡ cleared_by layout.now (if sent then given_up else None)
@@ -199,7 +200,7 @@ fn clear_given(places: &mut Vec<Place>, layout: &Layout, given_up: Option<Block>
 }
 
 /// The lane that holds the wait for a block: lane 0 where there is none.
-fn holder_in(places: &[Place], block: Option<Block>) -> u8
+fn holder_in(places: &[LaneProtocol], block: Option<Block>) -> u8
     requires few { length places.now ≤ 4 }
     requires some { 0 < length places.now }
     ensures lane { result < length places.now }
@@ -212,7 +213,7 @@ fn holder_in(places: &[Place], block: Option<Block>) -> u8
 }
 
 /// The reservations that lanes have in a block end, but for that of a lane that is spared.
-pub fn clear(places: &mut Vec<Place>, layout: &Layout, block: Block, spared: Option<u8>)
+pub fn clear(places: &mut Vec<LaneProtocol>, layout: &Layout, block: Block, spared: Option<u8>)
     requires { block < blocks layout.now }
     ensures reserved { (k : ℕ) → reserved_in places.new.items k
         ≡ (if is_spared spared k then reserved_in places.old.items k

@@ -1,9 +1,9 @@
 pub mod BlockLemmas
 pub mod WaitLemmas
 pub mod RowLemmas
-pub mod DeskLemmas
-pub mod FrameLemmas
-pub mod TrailLemmas
+pub mod ProtocolLemmas
+pub mod NodeStateLemmas
+pub mod UndoLogLemmas
 pub mod UnmetLemmas
 pub mod OpeningLemmas
 pub mod TakeLemmas

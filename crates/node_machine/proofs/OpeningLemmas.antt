@@ -25,7 +25,7 @@ use Rattle.node_words.specs.flag_memory.Copy.{Copy, bytes_of}
 use Rattle.node_words.specs.flag_memory.Flag.{flag_byte, flags}
 use Rattle.node_words.specs.home_directory.Home.{first_entry}
 use Rattle.node_words.specs.home_directory.Effects.{Directory, entry_at, members}
-use Rattle.node_machine.specs.Frame.{entries_in}
+use Rattle.node_machine.specs.NodeState.{entries_in}
 use Rattle.node_words.specs.node_model.Node.{IsLaidOver, first_state, is_at_home}
 use Rattle.node_words.specs.Kept.{copy_of, HasSharedLines}
 use Rattle.node_words.specs.Blocks.{CopyLaws}

@@ -17,7 +17,7 @@ use Rattle.node_words.specs.rv32_step.declared.Demand.{Demand}
 use Rattle.node_words.specs.rv32_step.declared.Demand.TheVariants.{Continues, Jumps, Loads, Stores}
 use Rattle.node_words.specs.micro_op.declared.micro_op.MicroOp.{MicroOp}
 use Rattle.node_words.specs.micro_op.declared.MicroKind.{MicroKind}
-use Rattle.node_words.specs.micro_op.declared.MicroKind.TheVariants.{Rare, Jump, JumpBy, EnterBy, BranchEq, BranchNe, BranchLt, BranchGe, BranchLtu, BranchGeu, LoadByte, LoadHalf, LoadWord, LoadByteU, LoadHalfU, StoreByte, StoreHalf, StoreWord}
+use Rattle.node_words.specs.micro_op.declared.MicroKind.TheVariants.{Slow, Jump, JumpBy, EnterBy, BranchEq, BranchNe, BranchLt, BranchGe, BranchLtu, BranchGeu, LoadByte, LoadHalf, LoadWord, LoadByteU, LoadHalfU, StoreByte, StoreHalf, StoreWord}
 use Rattle.node_words.specs.micro_op.Micro.{Meaning, Unserved, Demands, Enters, Meets, EntersAt, meaning_by, meaning_of, index_address, sum_address, loads, stores}
 use Rattle.node_words.specs.runtime_words.declared.RtWord.{RtWord}
 use Rattle.node_words.specs.runtime_words.declared.RtWord.TheVariants.{Native, Poll, Xjalr, Far}
@@ -27,29 +27,29 @@ use Rattle.node_words.specs.jump_map.declared.image.ImageWord.{ImageWord}
 use Rattle.node_words.specs.jump_map.Image.{Cell, image_base, most_words, address_of_word, read_cell}
 use Rattle.node_words.specs.jump_map.Maps.{fetch}
 use Rattle.node_words.specs.jump_map.Micro.{IsMicroWord, IsMicroAt}
-use Rattle.node_words.specs.node_model.Node.{Node, Work, Lane, Local, Outcome, Nothing_counted, region_of, native, indirect, execute_read, execute_at, place_address}
+use Rattle.node_words.specs.node_model.Node.{Node, Work, ProcessorState, NodeMemory, WordOutcome, Nothing_counted, region_of, native, indirect, execute_read, execute_at, place_address}
 use Rattle.node_words.specs.Address.{word_address}
 use Rattle.node_words.proofs.StepLemmas.{got_below, load_next, store_next}
-use Rattle.node_machine.specs.declared.frame.Frame.{Frame}
-use Rattle.node_machine.specs.Frame.{node_of, work_of, IsNode}
+use Rattle.node_machine.specs.declared.node_state.NodeState.{NodeState}
+use Rattle.node_machine.specs.NodeState.{node_of, work_of, IsNode}
 use Rattle.node_machine.specs.declared.touch.Touch.{Touch}
 use Rattle.node_machine.specs.declared.touch.Touch.TheVariants.{Nothing}
 use Rattle.node_machine.specs.Touch.{IsAccess, IsTouch}
 
-either : (P : Outcome → Type 0) (b : Bool) (x y : Outcome) → P x → P y → P (cond b x y)
+either : (P : WordOutcome → Type 0) (b : Bool) (x y : WordOutcome) → P x → P y → P (cond b x y)
 either P true x y p q = p
 either P false x y p q = q
 
 -- 1. Loads and stores
 
 -- a word that counts nothing
-abbrev IsUncounted : Outcome → Type 0
+abbrev IsUncounted : WordOutcome → Type 0
 IsUncounted o = o.tally ≡ Nothing_counted
 
 within : (a : ℕ) → a < 2 ^ 31 → ltb a (2 ^ 31) ≡ true
 within a h = grind (arith, nat_tests)
 
-module _ (p : Program) (place at : ℕ) (l : Lane) (n : Local) where
+module _ (p : Program) (place at : ℕ) (l : ProcessorState) (n : NodeMemory) where
   stores_here : (w : Width) (a v : ℕ) → is_aligned w a ≡ true → a < 2 ^ 31
       → (native p place at l n (Stores w a v)).access ≡ memory.Writes w a v
   stores_here w a v e h = rw e (rw (within a h) refl)
@@ -70,7 +70,7 @@ module _ (p : Program) (place at : ℕ) (l : Lane) (n : Local) where
 -- 2. Micro-ops by what they mean
 
 -- a word that leaves this outcome touches memory so, and counts nothing
-abbrev Touches : Work → Node → Touch → Outcome → Type 0
+abbrev Touches : Work → Node → Touch → WordOutcome → Type 0
 Touches work n t o = IsAccess work n t o.access × IsUncounted o
 
 -- a word whose micro-op means so touches memory so, wherever it stands
@@ -79,9 +79,9 @@ Means work n t Unserved = ⊥
 Means work n t (Demands d) = (place at : ℕ) → Touches work n t (native work.program place at n.lane n.local d)
 Means work n t (Enters original) = (place rd : ℕ) → Touches work n t (indirect place n.lane n.local rd original)
 
--- a kind that neither loads nor stores, and isn't rare
+-- a kind that neither loads nor stores, and isn't slow
 abbrev pub IsPlain : MicroKind → Type 0
-IsPlain Rare = ⊥
+IsPlain Slow = ⊥
 IsPlain LoadByte = ⊥
 IsPlain LoadHalf = ⊥
 IsPlain LoadWord = ⊥
@@ -92,18 +92,18 @@ IsPlain StoreHalf = ⊥
 IsPlain StoreWord = ⊥
 IsPlain k = Unit {0}
 
-pub is_plain : (k : MicroKind) → k ≢ Rare → k ≢ LoadByte → k ≢ LoadHalf → k ≢ LoadWord → k ≢ LoadByteU → k ≢ LoadHalfU
+pub is_plain : (k : MicroKind) → k ≢ Slow → k ≢ LoadByte → k ≢ LoadHalf → k ≢ LoadWord → k ≢ LoadByteU → k ≢ LoadHalfU
     → k ≢ StoreByte → k ≢ StoreHalf → k ≢ StoreWord → IsPlain k
-is_plain Rare rare lb lh lw lbu lhu sb sh sw = rare refl
-is_plain LoadByte rare lb lh lw lbu lhu sb sh sw = lb refl
-is_plain LoadHalf rare lb lh lw lbu lhu sb sh sw = lh refl
-is_plain LoadWord rare lb lh lw lbu lhu sb sh sw = lw refl
-is_plain LoadByteU rare lb lh lw lbu lhu sb sh sw = lbu refl
-is_plain LoadHalfU rare lb lh lw lbu lhu sb sh sw = lhu refl
-is_plain StoreByte rare lb lh lw lbu lhu sb sh sw = sb refl
-is_plain StoreHalf rare lb lh lw lbu lhu sb sh sw = sh refl
-is_plain StoreWord rare lb lh lw lbu lhu sb sh sw = sw refl
-is_plain k rare lb lh lw lbu lhu sb sh sw = tt
+is_plain Slow slow lb lh lw lbu lhu sb sh sw = slow refl
+is_plain LoadByte slow lb lh lw lbu lhu sb sh sw = lb refl
+is_plain LoadHalf slow lb lh lw lbu lhu sb sh sw = lh refl
+is_plain LoadWord slow lb lh lw lbu lhu sb sh sw = lw refl
+is_plain LoadByteU slow lb lh lw lbu lhu sb sh sw = lbu refl
+is_plain LoadHalfU slow lb lh lw lbu lhu sb sh sw = lhu refl
+is_plain StoreByte slow lb lh lw lbu lhu sb sh sw = sb refl
+is_plain StoreHalf slow lb lh lw lbu lhu sb sh sw = sh refl
+is_plain StoreWord slow lb lh lw lbu lhu sb sh sw = sw refl
+is_plain k slow lb lh lw lbu lhu sb sh sw = tt
 
 -- 3. The micro-op of a word
 
@@ -127,7 +127,7 @@ module _ (work : Work) (n : Node) where
   -- one that neither loads nor stores touches nothing
   pub plain : (k : MicroKind) (m : MicroOp) (registers : ℕ → ℕ) → IsPlain k
       → Means work n Nothing (meaning_by k image_base m registers)
-  plain Rare m registers h = absurd h
+  plain Slow m registers h = absurd h
   plain LoadByte m registers h = absurd h
   plain LoadHalf m registers h = absurd h
   plain LoadWord m registers h = absurd h
@@ -180,15 +180,15 @@ module _ (work : Work) (n : Node) where
   entry_touched t (Enters target) rd original enters means = λ place.
       subst (λ x. Touches work n t (indirect place n.lane n.local rd x)) enters.1 (means place rd)
 
-  rare_touched : (t : Touch) (m : MicroOp) (registers : ℕ → ℕ) → m.kind ≡ Rare
+  slow_touched : (t : Touch) (m : MicroOp) (registers : ℕ → ℕ) → m.kind ≡ Slow
       → Means work n t (meaning_of image_base m registers) → ⊥
-  rare_touched t m registers is means =
+  slow_touched t m registers is means =
       subst (λ (k : MicroKind). Means work n t (meaning_by k image_base m registers)) is means
 
   word_touched : (t : Touch) (m : MicroOp) (place : Option Place) (word : Option RtWord) → IsMicroWord n.lane.at word m
       → Means work n t (meaning_of image_base m n.lane.registers)
       → Touches work n t (execute_read work.program place word n.lane n.local)
-  word_touched t m place None is means = absurd (rare_touched t m n.lane.registers is means)
+  word_touched t m place None is means = absurd (slow_touched t m n.lane.registers is means)
   word_touched t m place (Some (Native i)) is means =
       native_touched t _ _ (is.meets n.lane.registers) means (place_address place) n.lane.at
   word_touched t m place (Some Poll) is means =
@@ -200,7 +200,7 @@ module _ (work : Work) (n : Node) where
       let jump = native_touched t _ (Jumps 0 (address_of_word k)) (is n.lane.registers) means
       (place_address place) n.lane.at in
       (subst (IsAccess work n t) (still_jump 0 (address_of_word k) (place_address place) n.lane.at).0 jump.0, refl)
-  word_touched t m place (Some w) is means = absurd (rare_touched t m n.lane.registers is means)
+  word_touched t m place (Some w) is means = absurd (slow_touched t m n.lane.registers is means)
 
 -- the word of an index is read
 fetch_word : (image : List Cell) (at : ℕ) (c : Cell) → length image ≤ most_words → slice_get image at ≡ Some c
@@ -227,8 +227,8 @@ touched work n at m t few here there means =
     (word_touched work n t m c.place (read_word c.word) word means) in
     record { access = touch.0; tally = touch.1 }
 
--- the node of a frame, by the kind of its micro-op
-pub touched_by : (f : Frame) (m : MicroOp) (t : Touch) (k : MicroKind) → IsNode f
+-- the node of a inner, by the kind of its micro-op
+pub touched_by : (f : NodeState) (m : MicroOp) (t : Touch) (k : MicroKind) → IsNode f
     → IsMicroAt f.lane.image.now f.lane.at m → m.kind ≡ k → Means (work_of f) (node_of f) t (meaning_by k image_base m (node_of f).lane.registers)
     → IsTouch (work_of f) (node_of f) t
 touched_by f m t k node there is means =

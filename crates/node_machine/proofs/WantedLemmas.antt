@@ -5,7 +5,7 @@ use Rattle.std.specs.Option.{option_map_or}
 use Rattle.block_layout.specs.Layout.{Shape}
 use Rattle.buf_pool.specs.Pool.{Buffer, empty_buffer}
 use Rattle.state_table.specs.declared.State.{State}
-use Rattle.node_words.specs.home_directory.declared.messages.Need.{Need}
+use Rattle.node_words.specs.dsm_messages.declared.messages.Need.{Need}
 use Rattle.node_words.specs.home_directory.Table.{BlockFacts, LocalBlock, Miss, meets, want_row}
 use Rattle.node_words.specs.miss_handlers.Effects.{block_facts}
 use Rattle.node_words.specs.node_model.Node.{Node, Want}

@@ -1,6 +1,6 @@
 -- Words of a node, one after another.
 use Rattle.std.specs.Prelude.{◌≡◌, ℕ, true, List, Option}
-use Rattle.node_words.specs.home_directory.declared.messages.Post.{Post}
+use Rattle.node_words.specs.dsm_messages.declared.messages.Post.{Post}
 use Rattle.node_words.specs.node_model.Node.{Node, Work, can_execute}
 use Rattle.node_words.specs.node_model.Turns.{word_turn}
 pub use Rattle.node_words.specs.Runs.{GoesOnBy}

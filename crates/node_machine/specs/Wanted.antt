@@ -5,7 +5,7 @@ use Rattle.block_layout.specs.Layout.{Shape, block_of}
 use Rattle.buf_pool.specs.Pool.{empty_buffer}
 use Rattle.rv32_program.specs.Program.{line_of}
 use Rattle.state_table.specs.declared.State.{State}
-use Rattle.node_words.specs.home_directory.declared.messages.Need.{Need}
+use Rattle.node_words.specs.dsm_messages.declared.messages.Need.{Need}
 use Rattle.node_words.specs.home_directory.Table.{want_row}
 use Rattle.node_words.specs.miss_handlers.Effects.{block_facts}
 use Rattle.node_words.specs.node_model.Node.{Work, Node, Want, word_outcome}

@@ -15,31 +15,32 @@ ghost use Rattle.node_words.specs.home_directory.Home.{count_of};
 ghost use Rattle.node_words.specs.node_model.Node as model;
 ghost use Rattle.node_words.specs.node_model.Turns as turns;
 ghost use Rattle.node_machine.specs.Wanted.{wanted_in, wants_of_word};
-ghost use Rattle.node_machine.specs.Frame.{node_of, work_of, HasRoom};
+ghost use Rattle.node_machine.specs.NodeState.{node_of, work_of, HasRoom};
 ghost use Rattle.node_machine.specs.Runs.{HasExecuted, GoesOnBy};
 ghost use Rattle.node_machine.specs.Touch.{IsTouch};
-ghost use Rattle.node_machine.specs.Trails.{TakesNodeBack};
-ghost use Rattle.node_machine.specs.declared.frame.Frame.{Frame as Stored};
+ghost use Rattle.node_machine.specs.UndoLogs.{TakesNodeBack};
+ghost use Rattle.node_machine.specs.declared.node_state.NodeState.{NodeState as Stored};
 
-use crate::desk::Desk;
-use crate::frame::{Frame, Turn, WordTurn};
-use crate::mark::Mark;
+use crate::node_state::{NodeState, Turn, WordTurn};
 use crate::opening::first_local;
 use crate::phase::Phase;
+use crate::protocol_state::ProtocolState;
+use crate::snapshot::Snapshot;
 use crate::states::{LaneState, SharedState};
 use crate::touch::Touch;
-use crate::trail::Trail;
+use crate::undo_log::NodeUndoLog;
 use block_layout::{Block, Layout, layout_law};
 use buf_pool::Pool;
 use node_words::byte_range::Window;
+use node_words::dsm_messages::{Sends, Wire};
 use node_words::exec_map::{End, Program};
-use node_words::home_directory::{Busy, Directory, Sends, Wait, Wire};
+use node_words::home_directory::{Busy, Directory, Wait};
 use node_words::jump_map::{Image, ImageWord};
 use node_words::miss_handlers::Waits;
 use node_words::node_model::{Entry, NodeCounts, OutByte, Standing};
 use node_words::runtime_words::RtWord;
 use node_words::rv32_step::Registers;
-use node_words::{Body, Lane, address_of, index_of};
+use node_words::{ExecState, ProcessorState, address_of, index_of};
 use run_limits::Budget;
 use rv32_decode::{LoadKind, Reg};
 use state_table::State;
@@ -49,18 +50,18 @@ use std::marker::Model;
 /// A node that runs rewritten code of a program.
 #[derive(Drop)]
 pub struct Node<'a> {
-    frame: Frame<'a>,
+    inner: NodeState<'a>,
 }
 
 impl<'a> Model for Node<'a> {
-    ghost use Rattle.node_machine.specs.declared.frame.Frame.{Frame as Stored};
-    ghost use Rattle.node_machine.specs.Frame.{IsNode};
+    ghost use Rattle.node_machine.specs.declared.node_state.NodeState.{NodeState as Stored};
+    ghost use Rattle.node_machine.specs.NodeState.{IsNode};
 
     ghost Value = { Stored };
 
-    ghost view = { λ n. n.frame };
+    ghost view = { λ n. n.inner };
 
-    ghost invariant = { λ n. IsNode n.frame };
+    ghost invariant = { λ n. IsNode n.inner };
 }
 
 /// How many blocks a node may wait for, each with a buffer.
@@ -94,8 +95,8 @@ impl<'a> Node<'a> {
         let _ = image.len();
         // brings: the budget is in its range
         let _ = budget.number();
-        let body = Body {
-            lane: Lane {
+        let body = ExecState {
+            lane: ProcessorState {
                 registers: Registers::first(me, layout.nodes()),
                 private: Window::zeros(alloc)?,
                 written: 0,
@@ -105,13 +106,13 @@ impl<'a> Node<'a> {
             local: first_local(alloc, program, layout, me)?,
             counts: NO_COUNTS,
         };
-        let desk = Desk {
+        let protocol = ProtocolState {
             directory: Directory::new(alloc, layout, me, layout.nodes())?,
             waits: Waits::new(alloc, layout)?,
             pool: Pool::new(alloc, WAITS, PAGE_BYTES)?,
         };
         Ok(Node {
-            frame: Frame {
+            inner: NodeState {
                 lane: LaneState {
                     image,
                     budget,
@@ -121,7 +122,7 @@ impl<'a> Node<'a> {
                 },
                 shared: SharedState {
                     body: Box::new(alloc, body)?,
-                    desk,
+                    protocol,
                     byes: [false; 256],
                     stamp: 0,
                     journal: Vec::new(alloc),
@@ -136,41 +137,41 @@ impl<'a> Node<'a> {
     pub fn end(&self) -> Option<End>
         ensures value { result ≡ model.end_of (node_of self.now).phase }
     {
-        self.frame.lane.end()
+        self.inner.lane.end()
     }
 
     /// What the node has counted.
     pub fn counts(&self) -> NodeCounts
         ensures value { result ≡ (node_of self.now).counts }
     {
-        self.frame.shared.body.counts
+        self.inner.shared.body.counts
     }
 
     /// How many buffers are in the node's pool: those of its two that it hasn't taken for a wait.
     pub fn free(&self) -> u8
-        ensures { result + length self.now.shared.desk.waits.waits ≡ 2 }
+        ensures { result + length self.now.shared.protocol.waits.waits ≡ 2 }
     {
-        self.frame.shared.desk.pool.free()
+        self.inner.shared.protocol.pool.free()
     }
 
     /// The stamp of the node's last event.
     pub fn stamp(&self) -> u64
         ensures value { result ≡ (node_of self.now).stamp }
     {
-        self.frame.shared.stamp
+        self.inner.shared.stamp
     }
 
     /// What the node may do next.
     pub fn standing(&self) -> Standing
         ensures value { result ≡ model.standing_of (work_of self.now) (node_of self.now) }
     {
-        match self.frame.lane.phase {
-            Phase::Running => standing_at(self.frame.lane.next_word()),
+        match self.inner.lane.phase {
+            Phase::Running => standing_at(self.inner.lane.next_word()),
             Phase::Resumed => Standing::Running,
             Phase::Waiting(_) => Standing::Waiting,
             Phase::Ended(_) => ended_standing(
-                &self.frame.shared.byes,
-                self.frame.shared.body.local.nodes(),
+                &self.inner.shared.byes,
+                self.inner.shared.body.local.nodes(),
             ),
         }
     }
@@ -179,7 +180,7 @@ impl<'a> Node<'a> {
     pub fn next_word(&self) -> Option<ImageWord>
         ensures value { result ≡ fetch (work_of self.now).image (node_of self.now).lane.at }
     {
-        self.frame.lane.next_word()
+        self.inner.lane.next_word()
     }
 
     /// What the next word does to memory, where its micro-op tells: that one counts nothing.
@@ -187,7 +188,7 @@ impl<'a> Node<'a> {
     pub fn touch(&self) -> Option<Touch>
         ensures { IfSome result (IsTouch (work_of self.now) (node_of self.now)) }
     {
-        self.frame.touch()
+        self.inner.touch()
     }
 
     /// What a register holds.
@@ -201,7 +202,7 @@ impl<'a> Node<'a> {
     pub fn registers(&self) -> &Registers
         ensures value { registers_of result.now ≡ (node_of self.now).lane.registers }
     {
-        &self.frame.shared.body.lane.registers
+        &self.inner.shared.body.lane.registers
     }
 
     /// What a load from an aligned address gives.
@@ -210,21 +211,21 @@ impl<'a> Node<'a> {
         ensures value { result ≡ load_value kind (model.byte_at (work_of self.now).program
             (node_of self.now).lane (node_of self.now).local) address }
     {
-        self.frame.shared.body.value(kind, address)
+        self.inner.shared.body.value(kind, address)
     }
 
     /// How many bytes a write in progress has written.
     pub fn written(&self) -> u32
         ensures value { result ≡ (node_of self.now).lane.written }
     {
-        self.frame.shared.body.lane.written
+        self.inner.shared.body.lane.written
     }
 
     /// The address that the processor has reserved.
     pub fn reserved(&self) -> Option<u32>
         ensures value { result ≡ (node_of self.now).local.reservation }
     {
-        self.frame.shared.body.local.reserved()
+        self.inner.shared.body.local.reserved()
     }
 
     /// The state of a block.
@@ -234,15 +235,15 @@ impl<'a> Node<'a> {
             ≡ (turns.block_at (work_of self.now).layout (node_of self.now) block).state }
     {
         layout_law();
-        self.frame.shared.body.local.laws();
-        self.frame.shared.body.local.block_state(block)
+        self.inner.shared.body.local.laws();
+        self.inner.shared.body.local.block_state(block)
     }
 
     /// Whether the node waits for a block.
     pub fn waits_for(&self, block: Block) -> bool
         ensures value { result ≡ is_some ((node_of self.now).wait block) }
     {
-        self.frame.shared.desk.waits.waits_for(block)
+        self.inner.shared.protocol.waits.waits_for(block)
     }
 
     /// The wait for a block.
@@ -250,7 +251,7 @@ impl<'a> Node<'a> {
         ensures value { MatchOption result ((node_of self.now).wait block ≡ None)
             (λ w. (node_of self.now).wait block ≡ Some w.now) }
     {
-        self.frame.shared.desk.waits.wait(block)
+        self.inner.shared.protocol.waits.wait(block)
     }
 
     /// The request that the home of a block is busy with, where this node is the home.
@@ -258,35 +259,35 @@ impl<'a> Node<'a> {
         requires block { block < blocks (work_of self.now).layout }
         ensures value { result ≡ ((node_of self.now).entry block).busy }
     {
-        self.frame.shared.desk.directory.busy(block)
+        self.inner.shared.protocol.directory.busy(block)
     }
 
     /// How many requests wait at this home.
     pub fn pending(&self) -> u8
         ensures value { result ≡ (node_of self.now).occupancy }
     {
-        self.frame.shared.desk.directory.pending()
+        self.inner.shared.protocol.directory.pending()
     }
 
     /// The address of the word at which the processor goes on.
     pub fn at(&self) -> u32
         ensures value { result ≡ (node_of self.now).lane.at }
     {
-        address_of(self.frame.lane.at)
+        address_of(self.inner.lane.at)
     }
 
     /// The takes of messages, in order.
     pub fn journal(&self) -> &[Entry]
         ensures value { result.now ≡ (node_of self.now).journal }
     {
-        &self.frame.shared.journal
+        &self.inner.shared.journal
     }
 
     /// The bytes that the node printed, in order.
     pub fn output(&self) -> &[OutByte]
         ensures value { result.now ≡ (node_of self.now).output }
     {
-        &self.frame.shared.output
+        &self.inner.shared.output
     }
 
     /// Makes room for one entry of the journal and one byte of output.
@@ -295,7 +296,7 @@ impl<'a> Node<'a> {
         ensures work { work_of self.new ≡ work_of self.old }
         ensures room { OnOk result (HasRoom self.new) }
     {
-        self.frame.shared.make_room()
+        self.inner.shared.make_room()
     }
 
     /// Executes one word, and leaves what it sends, in order.
@@ -312,11 +313,11 @@ impl<'a> Node<'a> {
         ensures stamp { result.stamp ≡ (node_of self.new).stamp }
         ensures work { work_of self.new ≡ work_of self.old }
     {
-        self.frame.exec(sends)
+        self.inner.exec(sends)
     }
 
     /// The same, and what the word wants, by the path that serves every word.
-    pub fn exec_seen(&mut self, sends: &mut Sends) -> WordTurn
+    pub fn exec_with_wants(&mut self, sends: &mut Sends) -> WordTurn
         requires may { model.can_execute (node_of self.old).phase ≡ true }
         requires room { HasRoom self.old }
         requires stamp { (node_of self.old).stamp < 2 ^ 56 }
@@ -331,54 +332,55 @@ impl<'a> Node<'a> {
         ensures stamp { result.turn.stamp ≡ (node_of self.new).stamp }
         ensures work { work_of self.new ≡ work_of self.old }
     {
-        self.frame.exec_seen(sends)
+        self.inner.exec_with_wants(sends)
     }
 
     /// Executes the next word by its micro-op, where that serves it and the budget has a further
     /// word for after it, and says whether it did. Otherwise nothing changes.
     #[inline]
-    pub fn pass(&mut self) -> bool
+    pub fn exec_silent(&mut self) -> bool
         requires may { model.can_execute (node_of self.old).phase ≡ true }
         requires stamp { (node_of self.old).stamp < 2 ^ 56 }
         ensures passed { result ≡ true →
-            (turns.word_turn (work_of self.old) (node_of self.old) ≡ turns.quiet (node_of self.new))
+            (turns.word_turn (work_of self.old) (node_of self.old)
+            ≡ turns.silent (node_of self.new))
             × (model.can_execute (node_of self.new).phase ≡ true) }
         ensures same { result ≡ false → node_of self.new ≡ node_of self.old }
         ensures work { work_of self.new ≡ work_of self.old }
     {
-        self.frame.pass()
+        self.inner.exec_silent()
     }
 
-    /// Executes words by their micro-ops, as long as those serve them and the trail has room, at
+    /// Executes words by their micro-ops, as long as those serve them and the undo_log has room, at
     /// most so many, and fewer than the budget has left; it gives how many. They print nothing and
-    /// send nothing, and the trail takes them back.
-    pub fn pass_on(&mut self, most: u32, trail: &mut Trail) -> u64
+    /// send nothing, and the undo_log takes them back.
+    pub fn run_undoable(&mut self, most: u32, undo_log: &mut NodeUndoLog) -> u64
         requires may { 1 ≤ most → model.can_execute (node_of self.old).phase ≡ true }
         requires stamp { (node_of self.old).stamp < 2 ^ 56 }
         ensures goes_on { GoesOnBy (work_of self.old) result (node_of self.old) (node_of self.new) }
         ensures may { model.can_execute (node_of self.old).phase ≡ true
             → model.can_execute (node_of self.new).phase ≡ true }
         ensures most { result ≤ most }
-        ensures back { TakesNodeBack trail.new self.new self.old }
+        ensures back { TakesNodeBack undo_log.new self.new self.old }
         ensures work { work_of self.new ≡ work_of self.old }
     {
-        self.frame.pass_on(most, trail)
+        self.inner.run_undoable(most, undo_log)
     }
 
-    /// Takes back the words of a trail.
-    pub fn take_back(&mut self, trail: &mut Trail)
-        requires back { (first : Stored) × TakesNodeBack trail.old self.old first }
-        ensures back { (first : Stored) → TakesNodeBack trail.old self.old first
+    /// Takes back the words of a undo_log.
+    pub fn take_back(&mut self, undo_log: &mut NodeUndoLog)
+        requires back { (first : Stored) × TakesNodeBack undo_log.old self.old first }
+        ensures back { (first : Stored) → TakesNodeBack undo_log.old self.old first
             → node_of self.new ≡ node_of first }
         ensures work { work_of self.new ≡ work_of self.old }
     {
-        self.frame.take_back(trail);
+        self.inner.take_back(undo_log);
     }
 
     /// Executes words, most of them by their micro-ops, as long as they print nothing and send
     /// nothing: at most so many, fewer than the budget has left, and fewer than there are stamps
     /// left. It gives how many.
-    pub fn go_on(&mut self, most: u64) -> u64
+    pub fn run_silent(&mut self, most: u64) -> u64
         requires may { model.can_execute (node_of self.old).phase ≡ true }
         requires stamp { (node_of self.old).stamp < 2 ^ 56 }
         ensures goes_on { GoesOnBy (work_of self.old) result (node_of self.old) (node_of self.new) }
@@ -387,12 +389,12 @@ impl<'a> Node<'a> {
         ensures stamp { (node_of self.new).stamp < 2 ^ 56 }
         ensures work { work_of self.new ≡ work_of self.old }
     {
-        self.frame.go_on(most)
+        self.inner.run_silent(most)
     }
 
     /// Executes words, of which those before the last print nothing and send nothing: as many as
-    /// `go_on` does, and one more. It leaves what that sends, in order.
-    pub fn exec_on(&mut self, sends: &mut Sends) -> Turn
+    /// `run_silent` does, and one more. It leaves what that sends, in order.
+    pub fn run_until_send(&mut self, sends: &mut Sends) -> Turn
         requires may { model.can_execute (node_of self.old).phase ≡ true }
         requires room { HasRoom self.old }
         requires stamp { (node_of self.old).stamp < 2 ^ 56 }
@@ -401,23 +403,23 @@ impl<'a> Node<'a> {
         ensures stamp { result.stamp ≡ (node_of self.new).stamp }
         ensures work { work_of self.new ≡ work_of self.old }
     {
-        self.frame.exec_on(sends)
+        self.inner.run_until_send(sends)
     }
 
     /// Where the node is.
-    pub fn mark(&self) -> Mark {
-        self.frame.mark()
+    pub fn snapshot(&self) -> Snapshot {
+        self.inner.snapshot()
     }
 
     /// Whether the node is where it was, with the same in its registers.
-    pub fn is_at(&self, mark: &Mark) -> bool {
-        self.frame.is_at(mark)
+    pub fn is_at(&self, snapshot: &Snapshot) -> bool {
+        self.inner.is_at(snapshot)
     }
 
-    /// Whether the next word may change more than what a [`Mark`] keeps. One that waits, or that
-    /// reserves an address, may change more too, and isn't counted.
+    /// Whether the next word may change more than what a [`Snapshot`] keeps. One that waits, or
+    /// that reserves an address, may change more too, and isn't counted.
     pub fn stirs(&self) -> bool {
-        self.frame.stirs()
+        self.inner.stirs()
     }
 
     /// Takes a message from a node, and leaves what it sends, in order.
@@ -434,7 +436,7 @@ impl<'a> Node<'a> {
         ensures stamp { result.stamp ≡ (node_of self.new).stamp }
         ensures work { work_of self.new ≡ work_of self.old }
     {
-        self.frame.take(from, wire, sends)
+        self.inner.take(from, wire, sends)
     }
 }
 

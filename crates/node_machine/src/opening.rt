@@ -12,9 +12,8 @@ ghost use Rattle.node_machine.specs.Opening.{AreFixedClasses, classes_of, openin
 ghost use Rattle.node_machine.specs.Opening.{opening_bytes};
 
 use block_layout::{Block, Layout, layout_law};
-use node_words::Local;
-use node_words::exec_map::{Lines, Program, first_bytes_law};
-use node_words::first_memory::read_only_memory;
+use node_words::NodeMemory;
+use node_words::exec_map::{Lines, Program, first_bytes_law, read_only_memory};
 use node_words::flag_memory::{Copy32, FirstBytes, copy_law};
 use state_table::{EXCLUSIVE, LineClass, LineClasses, READ_ONLY, State, States};
 use std::alloc::{AllocError, Global};
@@ -25,7 +24,7 @@ pub fn first_local<'a>(
     program: &'a Program<'a>,
     layout: &Layout,
     me: u8,
-) -> Result<Local<'a>, AllocError>
+) -> Result<NodeMemory<'a>, AllocError>
     requires layout { model.IsLaidOver (program_of program.now) layout.now }
     ensures program { IfOk result (λ l. l.program ≡ program.now) }
     ensures layout { IfOk result (λ l. l.copy.layout ≡ layout.now) }
@@ -44,7 +43,7 @@ pub fn first_local<'a>(
     open_blocks(alloc, program, layout, me, &mut states, &mut copy)?;
     copy_law(&copy);
     let fixed = read_only_memory(alloc, program)?;
-    Ok(Local::new(program, layout.copy(alloc)?, states, copy, fixed))
+    Ok(NodeMemory::new(program, layout.copy(alloc)?, states, copy, fixed))
 }
 
 /// The state bytes of the lines that aren't shared.

@@ -5,7 +5,7 @@ ghost use Rattle.node_words.specs.node_model.Node as model;
 ghost use Rattle.node_words.specs.node_model.Turns as turns;
 ghost use Rattle.node_words.specs.Kept.{phase_by};
 ghost use Rattle.node_words.specs.GoingOn.{phase_on};
-ghost use Rattle.node_machine.specs.Frame.{phase_of};
+ghost use Rattle.node_machine.specs.NodeState.{phase_of};
 
 use node_words::exec_map::End;
 use node_words::{Following, Resume};

@@ -8,16 +8,16 @@ ghost use Rattle.node_words.specs.node_model.Node as model;
 ghost use Rattle.node_words.specs.node_model.Turns as turns;
 ghost use Rattle.node_words.specs.Address.{word_address};
 ghost use Rattle.node_words.specs.Kept.{lane_of, local_of, phase_by};
-ghost use Rattle.node_machine.specs.Frame.{phase_of, phase_resumed, lane_after_wait};
-ghost use Rattle.node_machine.specs.Frame.{counts_after_wait, AreCountsBelow, IsLaneState};
+ghost use Rattle.node_machine.specs.NodeState.{phase_of, phase_resumed, lane_after_wait};
+ghost use Rattle.node_machine.specs.NodeState.{counts_after_wait, AreCountsBelow, IsLaneState};
 ghost use Rattle.node_machine.specs.States.{HasRoom};
 
-use crate::desk::Desk;
 use crate::phase::{Phase, is_ended, phase_by, stop_or};
+use crate::protocol_state::ProtocolState;
 use node_words::exec_map::End;
 use node_words::jump_map::{Image, ImageWord};
 use node_words::node_model::{Entry, OutByte};
-use node_words::{Body, Served, address_of};
+use node_words::{ExecState, Served, address_of};
 use run_limits::Budget;
 use std::alloc::AllocError;
 
@@ -40,8 +40,8 @@ pub struct LaneState<'a> {
 #[derive(Drop)]
 pub struct SharedState<'a> {
     /// What words see of the node, and its counts.
-    pub body: Box<Body<'a>>,
-    pub desk: Desk,
+    pub body: Box<ExecState<'a>>,
+    pub protocol: ProtocolState,
     /// The nodes whose Byes it has taken.
     pub byes: [bool; 256],
     /// The stamp of its last event.
@@ -96,7 +96,7 @@ impl<'a> LaneState<'a> {
     }
 
     /// It has what it waited for: it goes on at a word, or is stopped by its budget.
-    pub fn go_on_at(&mut self, at: u32)
+    pub fn resume_at(&mut self, at: u32)
         requires lane { IsLaneState self.old }
         ensures phase { phase_of self.new.phase
             ≡ model.stop_or self.old.budget self.old.executed model.Resumed }
@@ -109,7 +109,7 @@ impl<'a> LaneState<'a> {
 
     /// After a message, with so many waits left: where none is left it goes on by what its word's
     /// lines allow now, or is stopped by its budget.
-    pub fn resume(&mut self, body: &mut Body<'_>, pending: u8)
+    pub fn resume(&mut self, body: &mut ExecState<'_>, pending: u8)
         requires lane { IsLaneState self.old }
         requires counts { AreCountsBelow (2 ^ 63) body.old.counts }
         ensures phase { phase_of self.new.phase ≡ phase_resumed self.old.budget self.old.executed
@@ -129,7 +129,7 @@ impl<'a> LaneState<'a> {
             Phase::Waiting(resume) => {
                 if pending == 0 {
                     let at = body.resume(resume, self.at);
-                    self.go_on_at(at);
+                    self.resume_at(at);
                 }
             }
             Phase::Running | Phase::Resumed | Phase::Ended(_) => {}

@@ -4,12 +4,13 @@ ghost use Rattle.std.specs.Prelude.{ℕ, IfSome};
 ghost use Rattle.node_words.specs.micro_op.Micro.{sum_address};
 ghost use Rattle.node_words.specs.rv32_step.declared.Demand.TheVariants.{Loads, Stores};
 ghost use Rattle.node_words.specs.node_model.Node.{native};
-ghost use Rattle.node_machine.specs.Frame.{node_of, work_of, IsNode};
+ghost use Rattle.node_machine.specs.NodeState.{node_of, work_of, IsNode};
 ghost use Rattle.node_machine.specs.Touch.{IsAccess, IsTouch};
 
-use crate::frame::Frame;
+use crate::node_state::NodeState;
 use node_words::micro_op::{MicroKind, MicroOp};
 use rv32_decode::{LoadKind, Width};
+use rv32_program::addresses::MEMORY_END;
 
 /// What a word does to memory.
 #[derive(Clone, Copy, Debug, PartialEq, Eq)]
@@ -21,10 +22,7 @@ pub enum Touch {
     Writes(Width, u32),
 }
 
-/// The state table begins at this address; from there on lies no memory of a program.
-const STATE_TABLE: u32 = 0x8000_0000;
-
-impl<'a> Frame<'a> {
+impl<'a> NodeState<'a> {
     /// What the next word does to memory, where its micro-op tells.
     #[inline(always)]
     pub fn touch(&self) -> Option<Touch>
@@ -33,7 +31,7 @@ impl<'a> Frame<'a> {
     {
         let op = self.lane.image.micro(self.lane.at)?;
         match op.kind {
-            MicroKind::Rare | MicroKind::JumpBy => None,
+            MicroKind::Slow | MicroKind::JumpBy => None,
             MicroKind::LoadByte => Some(self.reads(LoadKind::Byte, op)),
             MicroKind::LoadHalf => Some(self.reads(LoadKind::Half, op)),
             MicroKind::LoadWord => Some(self.reads(LoadKind::Word, op)),
@@ -54,7 +52,7 @@ impl<'a> Frame<'a> {
             (Loads kind rd (sum_address op.now n.lane.registers))).access }
     {
         let address = self.address_by(op);
-        if address < STATE_TABLE && kind.width().is_aligned(address) {
+        if address < MEMORY_END && kind.width().is_aligned(address) {
             Touch::Reads(kind, address)
         } else {
             Touch::Nothing
@@ -69,7 +67,7 @@ impl<'a> Frame<'a> {
             n.local (Stores width (sum_address op.now n.lane.registers) value)).access }
     {
         let address = self.address_by(op);
-        if address < STATE_TABLE && width.is_aligned(address) {
+        if address < MEMORY_END && width.is_aligned(address) {
             Touch::Writes(width, address)
         } else {
             Touch::Nothing

@@ -8,8 +8,8 @@ ghost use Rattle.node_words.specs.Kept.{local_of, want_of};
 ghost use Rattle.node_machine.specs.Wanted as look;
 
 use block_layout::{Block, layout_law};
-use node_words::home_directory::Need;
-use node_words::{Local, Want};
+use node_words::dsm_messages::Need;
+use node_words::{NodeMemory, Want};
 use state_table::State;
 
 /// A block that a word wants.
@@ -33,7 +33,7 @@ pub struct WantedBlocks {
 }
 
 /// What is wanted, as the node is now.
-pub fn wanted_of(local: &Local<'_>, want: Want) -> Wanted
+pub fn wanted_of(local: &NodeMemory<'_>, want: Want) -> Wanted
     ensures { (n : model.Node) → n.local ≡ local_of local.now → result
         ≡ look.wanted local.now.copy.layout n (want_of want)
         (look.block_with local.now.copy.layout want.at) }

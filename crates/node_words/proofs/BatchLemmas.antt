@@ -12,13 +12,13 @@ use Rattle.node_model.specs.micro_op.declared.MicroKind.TheVariants as kind
 use Rattle.node_model.specs.micro_op.Micro.{Demands}
 use Rattle.node_model.specs.jump_map.Image.{Cell, most_words}
 use Rattle.node_model.specs.jump_map.Micro.{PassesAt, op_of}
-use Rattle.node_words.specs.declared.body.Body.{Body}
+use Rattle.node_words.specs.declared.exec_state.ExecState.{ExecState}
 use Rattle.node_words.specs.Address.{word_address}
 use Rattle.node_words.specs.GoingOn.{BeginsSecondLook, DoesNext, GoesFurther, OrsAt, PutsNext}
 use Rattle.node_words.proofs.LookLemmas.{Branched, branches, further, index_below, put_got, reg_zero, served}
 
 -- the four words of the second look
-pub look_again_goes : (image : List Cell) (at words : ℕ) (op : MicroOp) (b0 b1 b2 b3 b4 : Body) (a table place : ℕ)
+pub look_again_goes : (image : List Cell) (at words : ℕ) (op : MicroOp) (b0 b1 b2 b3 b4 : ExecState) (a table place : ℕ)
     → length image ≤ most_words → BeginsSecondLook image at op
     → a ≡ (reg (registers_of b0.lane.registers) op.rs1 + op.imm) % 2 ^ 32
     → table ≡ reg (registers_of b2.lane.registers) op.rs2 → place ≡ (a / 64 + table) % 2 ^ 32
@@ -57,7 +57,7 @@ look_again_goes image at words op b0 b1 b2 b3 b4 a table place few begins is got
     (p4 image (at + 3) (at + 4) (omega arith) (omega (arith, low))))
 
 -- the states of both lines, ored
-pub ors_goes : (image : List Cell) (at words : ℕ) (op : MicroOp) (b b' : Body) (x y : ℕ) → length image ≤ most_words
+pub ors_goes : (image : List Cell) (at words : ℕ) (op : MicroOp) (b b' : ExecState) (x y : ℕ) → length image ≤ most_words
     → OrsAt image at op → x ≡ reg (registers_of b.lane.registers) op.rs1
     → y ≡ reg (registers_of b.lane.registers) op.rs2
     → PutsNext b op.rd (bit_or x y) b' → GoesFurther image b at words b' (at + 1) (words + 1)
@@ -69,7 +69,7 @@ ors_goes image at words op b b' x y few begins first second puts =
     (puts.does image at (at + 1) refl (omega (arith, low)))
 
 -- past the rest of a batch's head, where a register is zero
-pub passes : (image : List Cell) (at here index result w v s : ℕ) (b : Body) → length image ≤ most_words
+pub passes : (image : List Cell) (at here index result w v s : ℕ) (b : ExecState) → length image ≤ most_words
     → PassesAt image at s → here ≡ at → index ≡ at + 5 → v ≡ reg (registers_of b.lane.registers) s
     → Branched image (eqb v 0) index here b result → GoesFurther image b at w b result (w + 1)
 unfolding taken

@@ -5,4 +5,4 @@ pub mod LookLemmas
 pub mod ValueLemmas
 pub mod BatchLemmas
 pub mod ShelfLemmas
-pub mod TrailLemmas
+pub mod UndoLogLemmas

@@ -11,8 +11,8 @@ use Rattle.rv32_decode.specs.Widths.{is_aligned, width_of}
 use Rattle.rv32_decode.specs.declared.Width.TheVariants.{Byte}
 use Rattle.rv32_decode.specs.declared.Cond.TheVariants.{Eq}
 use Rattle.rv32_ops.specs.Operations.{alu, taken}
-use Rattle.first_memory.specs.exec_map.Contents.{program_of}
-use Rattle.node_model.specs.Node.{Next, go_on, load, region_of, set_register}
+use Rattle.exec_map.specs.Contents.{program_of}
+use Rattle.node_model.specs.Node.{Next, only_moves, load, region_of, set_register}
 use Rattle.node_model.specs.micro_op.declared.micro_op.MicroOp.{MicroOp}
 use Rattle.node_model.specs.micro_op.declared.MicroKind.{MicroKind}
 use Rattle.node_model.specs.micro_op.declared.MicroKind.TheVariants as kind
@@ -20,7 +20,7 @@ use Rattle.rv32_decode.specs.declared.Op.TheVariants as op_kind
 use Rattle.node_model.specs.micro_op.Micro.{Meaning, Demands, by_immediate, meaning_by, meaning_of}
 use Rattle.node_model.specs.jump_map.Image.{Cell, image_base, most_words}
 use Rattle.node_model.specs.jump_map.Micro.{IsMicroAnswer, IsMicroAt, ReadsState, SkipsAt, op_of}
-use Rattle.node_words.specs.declared.body.Body.{Body}
+use Rattle.node_words.specs.declared.exec_state.ExecState.{ExecState}
 use Rattle.node_words.specs.declared.looks.Onward.{Onward}
 use Rattle.node_words.specs.Address.{word_address}
 use Rattle.node_words.specs.Kept.{LeavesBehind, StepsTo, ground_of, lane_of, local_of}
@@ -49,17 +49,17 @@ unfolding reg put
 put_other f r q v n = let t : eqb q r ≡ false = grind (arith, nat_tests) in rw t refl
 
 -- a register that a word put a value into has it
-pub put_got : (b b' : Body) (r v : ℕ) → PutsNext b r v b' → r ≢ 0 → reg (registers_of b'.lane.registers) r ≡ v
+pub put_got : (b b' : ExecState) (r v : ℕ) → PutsNext b r v b' → r ≢ 0 → reg (registers_of b'.lane.registers) r ≡ v
 put_got b b' r v puts n = ap (λ (f : ℕ → ℕ). reg f r) puts.registers ∙ put_here (registers_of b.lane.registers) r v n
 
 -- and others keep theirs
-pub put_keeps : (b b' : Body) (r q v : ℕ) → PutsNext b r v b' → q ≢ r
+pub put_keeps : (b b' : ExecState) (r q v : ℕ) → PutsNext b r v b' → q ≢ r
     → reg (registers_of b'.lane.registers) q ≡ reg (registers_of b.lane.registers) q
 put_keeps b b' r q v puts n =
     ap (λ (f : ℕ → ℕ). reg f q) puts.registers ∙ put_other (registers_of b.lane.registers) r q v n
 
 -- further by one word, whose micro-op did what it means
-pub served : (image : List Cell) (m : MicroOp) (at k words : ℕ) (b b' : Body) (e : Meaning) → length image ≤ most_words
+pub served : (image : List Cell) (m : MicroOp) (at k words : ℕ) (b b' : ExecState) (e : Meaning) → length image ≤ most_words
     → IsMicroAt image at m → meaning_of image_base m (registers_of b.lane.registers) ≡ e
     → StepsTo image e at b.lane b.local b'.lane b'.local (Some k) → GoesFurther image b at words b' k (words + 1)
 served image m at k words b b' e few here means steps =
@@ -73,7 +73,7 @@ pub index_below : (image : List Cell) (at : ℕ) (m : MicroOp) → length image 
 index_below image at m few here = let below = got_below image at here.cell here.there in omega (arith, below, few)
 
 -- further by some words and one more
-pub further : (image : List Cell) (at at1 at2 words n n' : ℕ) (b m b' : Body) → n' ≡ n + 1
+pub further : (image : List Cell) (at at1 at2 words n n' : ℕ) (b m b' : ExecState) → n' ≡ n + 1
     → GoesFurther image b at words m at1 (words + n)
     → ((w : ℕ) → GoesFurther image m at1 w b' at2 (w + 1)) → GoesFurther image b at words b' at2 (words + n')
 further image at at1 at2 words n n' b m b' is one two =
@@ -81,7 +81,7 @@ further image at at1 at2 words n n' b m b' is one two =
     subst (λ (w : ℕ). GoesFurther image b at words b' at2 w) same
     (goes_both image at words at1 (words + n) at2 (words + n + 1) b m b' one (two (words + n)))
 
-pub look_goes : (image : List Cell) (at words : ℕ) (op : MicroOp) (b0 b1 b2 b3 b4 b5 : Body) (a : ℕ)
+pub look_goes : (image : List Cell) (at words : ℕ) (op : MicroOp) (b0 b1 b2 b3 b4 b5 : ExecState) (a : ℕ)
     → length image ≤ most_words → BeginsLook image at op
     → a ≡ (reg (registers_of b0.lane.registers) op.rs1 + op.imm) % 2 ^ 32
     → PutsNext b0 op.rd a b1 → PutsNext b1 op.rs2 0x80000000 b2 → PutsNext b2 op.rd (a / 64) b3
@@ -127,11 +127,11 @@ look_goes image at words op b0 b1 b2 b3 b4 b5 a few begins is p1 p2 p3 p4 p5 =
     (p5 image (at + 4) (at + 5) (omega arith) (omega (arith, low))))
 
 -- a body that puts a value into a register does what a word demands
-pub puts_next : (b b' : Body) (r v : ℕ) → registers_of b'.lane.registers ≡ put (registers_of b.lane.registers) r v
+pub puts_next : (b b' : ExecState) (r v : ℕ) → registers_of b'.lane.registers ≡ put (registers_of b.lane.registers) r v
     → ((at : ℕ) → lane_of b'.lane at ≡ set_register (lane_of b.lane at) r v) → b'.local ≡ b.local → PutsNext b r v b'
 puts_next b b' r v registers lane local = record {
   does = λ image at k is low place.
-      next_follows image (go_on (set_register (lane_of b.lane (word_address at)) r v) (local_of b.local) Next)
+      next_follows image (only_moves (set_register (lane_of b.lane (word_address at)) r v) (local_of b.local) Next)
       (ground_of b.local) at k b'.lane b'.local (omega (arith, is, low)) refl refl refl (record {
         lane = lane (word_address at);
         local = ap local_of local;
@@ -141,7 +141,7 @@ puts_next b b' r v registers lane local = record {
 }
 
 -- and so does one that loads from an aligned address
-pub loads_next : (b b' : Body) (k : LoadKind) (r a : ℕ) → is_aligned (width_of k) a ≡ true
+pub loads_next : (b b' : ExecState) (k : LoadKind) (r a : ℕ) → is_aligned (width_of k) a ≡ true
     → ((at : ℕ) → LeavesBehind (load (program_of b.local.program) (lane_of b.lane at) (local_of b.local) k r a
     (region_of a)) (ground_of b.local) at b'.lane b'.local)
     → DoesNext b (Loads k r a) b'
@@ -158,12 +158,12 @@ pub byte_aligned : (a : ℕ) → is_aligned Byte a ≡ true
 byte_aligned a = let whole : a % 1 ≡ 0 = omega arith in grind (arith, nat_tests)
 
 -- a body that goes to one word where a branch is taken, and else to the next
-abbrev pub Branched : List Cell → (taken : Bool) (index here : ℕ) → Body → (result : ℕ) → Type 0
+abbrev pub Branched : List Cell → (taken : Bool) (index here : ℕ) → ExecState → (result : ℕ) → Type 0
 Branched image t index here b result =
     StepsTo image (Demands (branch_demand t (word_address index))) here b.lane b.local b.lane b.local (Some result)
 
 -- further by a branch
-pub branches : (image : List Cell) (m : MicroOp) (at here index result w : ℕ) (t : Bool) (b : Body)
+pub branches : (image : List Cell) (m : MicroOp) (at here index result w : ℕ) (t : Bool) (b : ExecState)
     → length image ≤ most_words → IsMicroAt image at m → here ≡ at
     → meaning_of image_base m (registers_of b.lane.registers) ≡ Demands (branch_demand t (word_address index))
     → Branched image t index here b result → GoesFurther image b at w b result (w + 1)
@@ -172,7 +172,7 @@ branches image m at here index result w t b few stands same means steps =
     (subst (λ (x : ℕ). Branched image t index x b result) same steps)
 
 -- past the next word, where a register is zero
-pub skips : (image : List Cell) (at here index result w v s : ℕ) (b : Body) → length image ≤ most_words
+pub skips : (image : List Cell) (at here index result w v s : ℕ) (b : ExecState) → length image ≤ most_words
     → SkipsAt image at s → here ≡ at → index ≡ at + 2 → v ≡ reg (registers_of b.lane.registers) s
     → Branched image (eqb v 0) index here b result → GoesFurther image b at w b result (w + 1)
 unfolding taken
@@ -198,14 +198,14 @@ unfolding alu
 masks s v registers is = ap (λ (x : ℕ). Demands (Sets s (bit_and x 2))) (sym is)
 
 -- where words lead, by how many they are and by the word that follows
-pub led : (image : List Cell) (at words n next : ℕ) (o : Onward) (b b' : Body) → leads_to at o ≡ next → words_of o ≡ n
+pub led : (image : List Cell) (at words n next : ℕ) (o : Onward) (b b' : ExecState) → leads_to at o ≡ next → words_of o ≡ n
     → GoesFurther image b at words b' next (words + n)
     → GoesFurther image b at words b' (leads_to at o) (words + words_of o)
 led image at words n next o b b' place count goes =
     subst (λ (k : ℕ). GoesFurther image b at words b' k (words + words_of o)) (sym place)
     (subst (λ (k : ℕ). GoesFurther image b at words b' next (words + k)) (sym count) goes)
 
-pub strides : (image : List Cell) (at n next room : ℕ) (o : Onward) (b b' : Body) → leads_to at o ≡ next
+pub strides : (image : List Cell) (at n next room : ℕ) (o : Onward) (b b' : ExecState) → leads_to at o ≡ next
     → words_of o ≡ n → 0 < n → n ≤ room → ((words : ℕ) → GoesFurther image b at words b' next (words + n))
     → StridesOr image at room b b' (Some o)
 strides image at n next room o b b' place count some few goes = (
@@ -215,7 +215,7 @@ strides image at n next room o b b' place count some few goes = (
 )
 
 -- a stride from a body that is the same
-pub strides_from : (image : List Cell) (at room : ℕ) (b m b' : Body) (r : Option Onward) → m.lane ≡ b.lane
+pub strides_from : (image : List Cell) (at room : ℕ) (b m b' : ExecState) (r : Option Onward) → m.lane ≡ b.lane
     → m.local ≡ b.local → StridesOr image at room m b' r → StridesOr image at room b b' r
 strides_from image at room b m b' None lane local goes = (goes.0 ∙ lane, goes.1 ∙ local)
 strides_from image at room b m b' (Some o) lane local goes = (

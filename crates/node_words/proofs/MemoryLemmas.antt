@@ -8,7 +8,7 @@ use Rattle.rv32_decode.specs.declared.Width.TheVariants.{Byte, Half, Word}
 use Rattle.rv32_decode.specs.Widths.{is_aligned}
 use Rattle.rv32_program.specs.declared.Class.{Class}
 use Rattle.rv32_program.specs.declared.Class.TheVariants.{Shared, ReadOnly, Private, Unmapped}
-use Rattle.first_memory.specs.exec_map.Contents.{class_of_line, first_byte, is_private, is_read_only, segment_class, is_writable, touches}
+use Rattle.exec_map.specs.Contents.{class_of_line, first_byte, is_private, is_read_only, segment_class, is_writable, touches}
 use Rattle.node_words.specs.Kept.{HasFixed}
 use Rattle.byte_range.specs.Memory.{raw}
 use Rattle.byte_range.specs.Window.{is_in_window}

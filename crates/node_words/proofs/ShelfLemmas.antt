@@ -12,7 +12,7 @@ use Rattle.std.specs.Prelude.{◌↔◌, IsSome, is_some}
 use Rattle.block_layout.specs.Layout.{Shape, IsValid, is_shared, blocks, lines, first_line, start, block_of, has_line, shared_before, shared_lines, place_of}
 use Rattle.byte_range.specs.Lines.{LineBytes, place_of as lines_place}
 use Rattle.node_model.specs.state_table.States.{States, line_byte, line_byte_in}
-use Rattle.first_memory.specs.exec_map.Contents.{class_of_line, is_shared as is_shared_class}
+use Rattle.exec_map.specs.Contents.{class_of_line, is_shared as is_shared_class}
 use Rattle.rv32_program.specs.declared.Class.{Class}
 use Rattle.rv32_program.specs.declared.Class.TheVariants as class
 use Rattle.node_model.specs.flag_memory.Copy.{Copy, memory}

@@ -16,16 +16,16 @@ use Rattle.node_model.specs.micro_op.declared.micro_op.MicroOp.{MicroOp}
 use Rattle.node_model.specs.micro_op.declared.MicroKind.{MicroKind}
 use Rattle.node_model.specs.micro_op.Micro.{Meaning, meaning_by, meaning_of}
 use Rattle.node_model.specs.jump_map.Image.{Cell, image_base}
-use Rattle.node_words.specs.declared.lane.Lane as kept
+use Rattle.node_words.specs.declared.lane.ProcessorState as kept
 use Rattle.node_words.specs.declared.lane.Move.TheVariants as kept_to
 use Rattle.node_words.specs.declared.lane.Tally.TheVariants as kept_count
-use Rattle.node_words.specs.declared.lane.Outcome as kept_outcome
-use Rattle.node_model.specs.Node.{Lane, Local, Outcome, Next, To, Waits, SameWord, go_on, lane_after_call, Nothing_counted, Region, Memory, StateOf, Spill, Elsewhere, native, store_if, put_byte, print_byte, byte_at, is_mapped_state, is_readable_state, execute_at, execute_read, next_outcome, place_address, indirect, load, store, phase_after, lane_after, region_of, set_register}
+use Rattle.node_words.specs.declared.lane.WordOutcome as kept_outcome
+use Rattle.node_model.specs.Node.{ProcessorState, NodeMemory, WordOutcome, Next, To, Waits, SameWord, only_moves, lane_after_call, Nothing_counted, Region, Memory, StateOf, Spill, Elsewhere, native, store_if, put_byte, print_byte, byte_at, is_mapped_state, is_readable_state, execute_at, execute_read, next_outcome, place_address, indirect, load, store, phase_after, lane_after, region_of, set_register}
 use Rattle.std.proofs.Common.{eqb, ◌&&◌}
 use Rattle.std.specs.Prelude.{position}
 use Rattle.std.specs.Option.{option_map}
 use Rattle.std.proofs.lemmas.Bool.Decides.{nat_tests}
-use Rattle.node_model.specs.home_directory.declared.messages.Need.TheVariants.{Read}
+use Rattle.node_model.specs.dsm_messages.declared.messages.Need.TheVariants.{Read}
 use Rattle.node_model.specs.rv32_step.Demands.{cut_short}
 use Rattle.node_model.specs.rv32_step.Registers.{put, registers_of}
 use Rattle.node_model.specs.jump_map.Image.{address_of_word}
@@ -37,13 +37,13 @@ use Rattle.rv32_decode.specs.Fields.{unsigned}
 use Rattle.node_model.specs.rv32_step.declared.Demand.{Demand}
 use Rattle.node_model.specs.rv32_step.declared.Demand.TheVariants.{Continues, Jumps, Reserves, Sets, StoresIf, Updates}
 use Rattle.node_model.specs.rv32_step.Registers.{reg}
-use Rattle.node_model.specs.micro_op.declared.MicroKind.TheVariants.{Rare}
+use Rattle.node_model.specs.micro_op.declared.MicroKind.TheVariants.{Slow}
 use Rattle.node_model.specs.micro_op.Micro.{Unserved, Demands, Enters as EntersBy, Meets, EntersAt, by_registers}
 use Rattle.node_model.specs.runtime_words.declared.RtWord.{RtWord}
 use Rattle.node_model.specs.runtime_words.declared.RtWord.TheVariants.{Native, Poll, Xjalr, Far}
 use Rattle.node_model.specs.templates.declared.places.Place.{Place}
 use Rattle.node_model.specs.runtime_words.Reading.{read_word}
-use Rattle.first_memory.specs.exec_map.Contents.{program_of}
+use Rattle.exec_map.specs.Contents.{program_of}
 use Rattle.node_model.specs.jump_map.declared.image.ImageWord.{ImageWord}
 use Rattle.node_model.specs.jump_map.Image.{read_cell, most_words}
 use Rattle.node_model.specs.jump_map.Maps.{fetch}
@@ -54,14 +54,14 @@ use Rattle.node_words.specs.Address.{word_address}
 use Rattle.node_model.specs.Turns.{wants_of}
 
 -- an update that stores this new word
-abbrev pub updated_to : Program → Lane → Local → ℕ → ℕ → ℕ → ℕ → Outcome
+abbrev pub updated_to : Program → ProcessorState → NodeMemory → ℕ → ℕ → ℕ → ℕ → WordOutcome
 updated_to program l n r a old new = record (store program l n Word a new (region_of a)) {
   lane = set_register (store program l n Word a new (region_of a)).lane r old;
   access = Exchanges a old new;
 }
 
 -- a micro-op of a kind does what that kind means
-pub stepped : (image : List Cell) (k : MicroKind) (op : MicroOp) (registers : ℕ → ℕ) (at : ℕ) (l : kept.Lane) (s : Shelf) (l' : kept.Lane) (s' : Shelf) (o : Option ℕ) (m : Meaning) → op.kind ≡ k → StepsTo image m at l s l' s' o → meaning_by k image_base op registers ≡ m → StepsTo image (meaning_of image_base op registers) at l s l' s' o
+pub stepped : (image : List Cell) (k : MicroKind) (op : MicroOp) (registers : ℕ → ℕ) (at : ℕ) (l : kept.ProcessorState) (s : Shelf) (l' : kept.ProcessorState) (s' : Shelf) (o : Option ℕ) (m : Meaning) → op.kind ≡ k → StepsTo image m at l s l' s' o → meaning_by k image_base op registers ≡ m → StepsTo image (meaning_of image_base op registers) at l s l' s' o
 stepped image k op registers at l s l' s' o m is does means =
     subst (λ (x : Meaning). StepsTo image x at l s l' s' o) (sym (ap (λ (q : MicroKind). meaning_by q image_base op registers) is ∙ means)) does
 
@@ -71,11 +71,11 @@ operates o op registers a b r result first second =
     ap (λ x. Demands (Sets op.rd x)) (sym (result ∙ ap (λ x. alu o x b) first ∙ ap (alu o (reg registers op.rs1)) second))
 
 -- the word that follows is the next one
-pub next_follows : (image : List Cell) (outcome : Outcome) (g : Ground) (at k : ℕ) (l : kept.Lane) (s : Shelf) → k ≡ (at + 1) % 4294967296 → outcome.move ≡ Next → outcome.printed ≡ None → outcome.tally ≡ Nothing_counted → LeavesBehind outcome g (word_address at) l s → Follows image outcome g (word_address k) l s
+pub next_follows : (image : List Cell) (outcome : WordOutcome) (g : Ground) (at k : ℕ) (l : kept.ProcessorState) (s : Shelf) → k ≡ (at + 1) % 4294967296 → outcome.move ≡ Next → outcome.printed ≡ None → outcome.tally ≡ Nothing_counted → LeavesBehind outcome g (word_address at) l s → Follows image outcome g (word_address k) l s
 next_follows image outcome g at k l s is move printed tally leaves =
     let next : word_address k ≡ next_pc (word_address at) = omega arith in
     record {
-      lane = ap (λ x. lane_of l x) next ∙ ap (λ (x : Lane). record x { at = next_pc x.at }) leaves.lane ∙ sym (ap (lane_after image outcome.lane) move);
+      lane = ap (λ x. lane_of l x) next ∙ ap (λ (x : ProcessorState). record x { at = next_pc x.at }) leaves.lane ∙ sym (ap (lane_after image outcome.lane) move);
       local = leaves.local;
       ground_same = leaves.ground_same;
       output = printed;
@@ -85,9 +85,9 @@ next_follows image outcome g at k l s is move printed tally leaves =
     }
 
 -- a word with an index follows
-pub to_follows : (image : List Cell) (outcome : Outcome) (g : Ground) (at k : ℕ) (l : kept.Lane) (s : Shelf) → outcome.move ≡ To (word_address k) → outcome.printed ≡ None → outcome.tally ≡ Nothing_counted → LeavesBehind outcome g (word_address at) l s → Follows image outcome g (word_address k) l s
+pub to_follows : (image : List Cell) (outcome : WordOutcome) (g : Ground) (at k : ℕ) (l : kept.ProcessorState) (s : Shelf) → outcome.move ≡ To (word_address k) → outcome.printed ≡ None → outcome.tally ≡ Nothing_counted → LeavesBehind outcome g (word_address at) l s → Follows image outcome g (word_address k) l s
 to_follows image outcome g at k l s move printed tally leaves = record {
-  lane = ap (λ (x : Lane). record x { at = word_address k }) leaves.lane ∙ sym (ap (lane_after image outcome.lane) move);
+  lane = ap (λ (x : ProcessorState). record x { at = word_address k }) leaves.lane ∙ sym (ap (lane_after image outcome.lane) move);
   local = leaves.local;
   ground_same = leaves.ground_same;
   output = printed;
@@ -96,50 +96,50 @@ to_follows image outcome g at k l s move printed tally leaves = record {
   wants = ap wants_of move;
 }
 
-pub load_next : (program : Program) (l : Lane) (n : Local) (k : LoadKind) (r a : ℕ) (region : Region) → ((load program l n k r a region).move ≡ Next) × ((load program l n k r a region).printed ≡ None) × ((load program l n k r a region).tally ≡ Nothing_counted)
+pub load_next : (program : Program) (l : ProcessorState) (n : NodeMemory) (k : LoadKind) (r a : ℕ) (region : Region) → ((load program l n k r a region).move ≡ Next) × ((load program l n k r a region).printed ≡ None) × ((load program l n k r a region).tally ≡ Nothing_counted)
 load_next program l n k r a Memory = (refl, refl, refl)
 load_next program l n k r a (StateOf line) = (refl, refl, refl)
 load_next program l n k r a (Spill j) = (refl, refl, refl)
 load_next program l n k r a Elsewhere = (refl, refl, refl)
 
-pub store_next : (program : Program) (l : Lane) (n : Local) (w : Width) (a v : ℕ) (region : Region) → ((store program l n w a v region).move ≡ Next) × ((store program l n w a v region).printed ≡ None) × ((store program l n w a v region).tally ≡ Nothing_counted)
+pub store_next : (program : Program) (l : ProcessorState) (n : NodeMemory) (w : Width) (a v : ℕ) (region : Region) → ((store program l n w a v region).move ≡ Next) × ((store program l n w a v region).printed ≡ None) × ((store program l n w a v region).tally ≡ Nothing_counted)
 store_next program l n w a v Memory = (refl, refl, refl)
 store_next program l n w a v (StateOf line) = (refl, refl, refl)
 store_next program l n w a v (Spill j) = (refl, refl, refl)
 store_next program l n w a v Elsewhere = (refl, refl, refl)
 
 -- a word after which the next one follows, and which prints and counts nothing
-abbrev pub GoesToNext : Outcome → Type 0
+abbrev pub GoesToNext : WordOutcome → Type 0
 GoesToNext o = (o.move ≡ Next) × (o.printed ≡ None) × (o.tally ≡ Nothing_counted)
 
 -- an access that is one step of an aligned word is such a word
-pub reserves_next : (program : Program) (place at : ℕ) (l : Lane) (n : Local) (r a : ℕ) → is_aligned Word a ≡ true → GoesToNext (native program place at l n (Reserves r a))
+pub reserves_next : (program : Program) (place at : ℕ) (l : ProcessorState) (n : NodeMemory) (r a : ℕ) → is_aligned Word a ≡ true → GoesToNext (native program place at l n (Reserves r a))
 reserves_next program place at l n r a aligned = rw aligned (load_next program l n WordLoad r a (region_of a))
 
-pub stores_if_next : (program : Program) (place at : ℕ) (l : Lane) (n : Local) (r a v : ℕ) → is_aligned Word a ≡ true → GoesToNext (native program place at l n (StoresIf r a v))
+pub stores_if_next : (program : Program) (place at : ℕ) (l : ProcessorState) (n : NodeMemory) (r a v : ℕ) → is_aligned Word a ≡ true → GoesToNext (native program place at l n (StoresIf r a v))
 stores_if_next program place at l n r a v aligned = rw aligned (by (holds n.reservation a))
   where
     by : (t : Bool) → GoesToNext (store_if program l n r a v t)
     by true = store_next program l n Word a v (region_of a)
     by false = (refl, refl, refl)
 
-pub updates_next : (program : Program) (place at : ℕ) (l : Lane) (n : Local) (o : AmoOp) (r a v : ℕ) → is_aligned Word a ≡ true → GoesToNext (native program place at l n (Updates o r a v))
+pub updates_next : (program : Program) (place at : ℕ) (l : ProcessorState) (n : NodeMemory) (o : AmoOp) (r a v : ℕ) → is_aligned Word a ≡ true → GoesToNext (native program place at l n (Updates o r a v))
 updates_next program place at l n o r a v aligned =
     rw aligned (store_next program l n Word a (amo o (load_value WordLoad (byte_at program l n) a) v) (region_of a))
 
 -- what a native word with such a demand does
-pub native_next : (image : List Cell) (place at : ℕ) (l : kept.Lane) (s : Shelf) (l' : kept.Lane) (s' : Shelf) (d e : Demand) (done : kept_outcome.Outcome) → GoesToNext (native (program_of s.program) place (word_address at) (lane_of l (word_address at)) (local_of s) d) → Does (native (program_of s.program) place (word_address at) (lane_of l (word_address at)) (local_of s) d) (ground_of s) (word_address at) l' s' done → d ≡ e → Follows image (native (program_of s.program) place (word_address at) (lane_of l (word_address at)) (local_of s) e) (ground_of s) (word_address ((at + 1) % 4294967296)) l' s'
+pub native_next : (image : List Cell) (place at : ℕ) (l : kept.ProcessorState) (s : Shelf) (l' : kept.ProcessorState) (s' : Shelf) (d e : Demand) (done : kept_outcome.WordOutcome) → GoesToNext (native (program_of s.program) place (word_address at) (lane_of l (word_address at)) (local_of s) d) → Does (native (program_of s.program) place (word_address at) (lane_of l (word_address at)) (local_of s) d) (ground_of s) (word_address at) l' s' done → d ≡ e → Follows image (native (program_of s.program) place (word_address at) (lane_of l (word_address at)) (local_of s) e) (ground_of s) (word_address ((at + 1) % 4294967296)) l' s'
 native_next image place at l s l' s' d e done next does is =
     let here = λ (x : Demand). native (program_of s.program) place (word_address at) (lane_of l (word_address at)) (local_of s) x in
     subst (λ (x : Demand). Follows image (here x) (ground_of s) (word_address ((at + 1) % 4294967296)) l' s') is
     (next_follows image (here d) (ground_of s) at _ l' s' refl next.0 next.1 next.2 does.leaves)
 
 -- a check that changed nothing, and after which the next word follows, or another one
-pub check_next : (image : List Cell) (whole : Outcome) (at : ℕ) (l : kept.Lane) (s : Shelf) (done : kept_outcome.Outcome) → Does whole (ground_of s) (word_address at) l s done → done.next ≡ kept_to.Next → done.output ≡ None → done.tally ≡ kept_count.Nothing → Follows image whole (ground_of s) (word_address ((at + 1) % 4294967296)) l s
+pub check_next : (image : List Cell) (whole : WordOutcome) (at : ℕ) (l : kept.ProcessorState) (s : Shelf) (done : kept_outcome.WordOutcome) → Does whole (ground_of s) (word_address at) l s done → done.next ≡ kept_to.Next → done.output ≡ None → done.tally ≡ kept_count.Nothing → Follows image whole (ground_of s) (word_address ((at + 1) % 4294967296)) l s
 check_next image whole at l s done does next output tally =
     next_follows image whole (ground_of s) at _ l s refl (sym does.move ∙ ap move_of next) (sym does.output ∙ output) (sym does.tally ∙ ap tally_of tally) does.leaves
 
-pub check_to : (image : List Cell) (whole : Outcome) (at k : ℕ) (l : kept.Lane) (s : Shelf) (done : kept_outcome.Outcome) → Does whole (ground_of s) (word_address at) l s done → done.next ≡ kept_to.To k → done.output ≡ None → done.tally ≡ kept_count.Nothing → Follows image whole (ground_of s) (word_address k) l s
+pub check_to : (image : List Cell) (whole : WordOutcome) (at k : ℕ) (l : kept.ProcessorState) (s : Shelf) (done : kept_outcome.WordOutcome) → Does whole (ground_of s) (word_address at) l s done → done.next ≡ kept_to.To k → done.output ≡ None → done.tally ≡ kept_count.Nothing → Follows image whole (ground_of s) (word_address k) l s
 check_to image whole at k l s done does next output tally =
     to_follows image whole (ground_of s) at k l s (sym does.move ∙ ap move_of next) (sym does.output ∙ output) (sym does.tally ∙ ap tally_of tally) does.leaves
 
@@ -161,7 +161,7 @@ pub new_address : (image : List Cell) (a new : ℕ) → new_of image a ≡ Some 
 new_address image a new is = address_some (position (begins_at a) image) new is
 
 -- the sequence of an original address follows
-pub enter_follows : (image : List Cell) (l : kept.Lane) (s : Shelf) (at place original new k : ℕ) → original % 4 ≡ 0 → new_of image original ≡ Some new → word_address k ≡ new → Follows image (indirect place (lane_of l (word_address at)) (local_of s) 0 original) (ground_of s) (word_address k) l s
+pub enter_follows : (image : List Cell) (l : kept.ProcessorState) (s : Shelf) (at place original new k : ℕ) → original % 4 ≡ 0 → new_of image original ≡ Some new → word_address k ≡ new → Follows image (indirect place (lane_of l (word_address at)) (local_of s) 0 original) (ground_of s) (word_address k) l s
 enter_follows image l s at place original new k aligned is same =
     let test : eqb (original % 4) 0 ≡ true = grind (arith, nat_tests) in
     let zero = put_zero (registers_of l.registers) (next_pc place) in
@@ -176,7 +176,7 @@ enter_follows image l s at place original new k aligned is same =
     })
 
 -- also where the link is kept
-pub call_follows : (image : List Cell) (l : kept.Lane) (s : Shelf) (registers : List ℕ) (at place rd original new k : ℕ) → original % 4 ≡ 0 → new_of image original ≡ Some new → word_address k ≡ new → registers_of registers ≡ put (registers_of l.registers) rd (next_pc place) → Follows image (indirect place (lane_of l (word_address at)) (local_of s) rd original) (ground_of s) (word_address k) (record l { registers = registers }) s
+pub call_follows : (image : List Cell) (l : kept.ProcessorState) (s : Shelf) (registers : List ℕ) (at place rd original new k : ℕ) → original % 4 ≡ 0 → new_of image original ≡ Some new → word_address k ≡ new → registers_of registers ≡ put (registers_of l.registers) rd (next_pc place) → Follows image (indirect place (lane_of l (word_address at)) (local_of s) rd original) (ground_of s) (word_address k) (record l { registers = registers }) s
 call_follows image l s registers at place rd original new k aligned is same link =
     let test : eqb (original % 4) 0 ≡ true = grind (arith, nat_tests) in
     rw test (record {
@@ -190,56 +190,56 @@ call_follows image l s registers at place rd original new k aligned is same link
     })
 
 -- a byte of a line that is mapped and readable is printed
-pub put_mapped : (program : Program) (l : Lane) (n : Local) (a x : ℕ) → is_mapped_state x ≡ true → is_readable_state x ≡ true → put_byte program l n a x ≡ print_byte l n a (byte_at program l n a)
+pub put_mapped : (program : Program) (l : ProcessorState) (n : NodeMemory) (a x : ℕ) → is_mapped_state x ≡ true → is_readable_state x ≡ true → put_byte program l n a x ≡ print_byte l n a (byte_at program l n a)
 put_mapped program l n a x mapped readable = rw (mapped, readable) refl
 
 -- one that isn't mapped ends the call
-pub put_unmapped : (program : Program) (l : Lane) (n : Local) (a x : ℕ) → is_mapped_state x ≡ false → put_byte program l n a x ≡ go_on (lane_after_call l (cut_short l.written)) n Next
+pub put_unmapped : (program : Program) (l : ProcessorState) (n : NodeMemory) (a x : ℕ) → is_mapped_state x ≡ false → put_byte program l n a x ≡ only_moves (lane_after_call l (cut_short l.written)) n Next
 put_unmapped program l n a x mapped = rw mapped refl
 
 -- and one that can't be read is waited for
-pub put_waits : (program : Program) (l : Lane) (n : Local) (a x : ℕ) → is_mapped_state x ≡ true → is_readable_state x ≡ false → put_byte program l n a x ≡ go_on l n (Waits SameWord (record { at = a; need = Read }) [])
+pub put_waits : (program : Program) (l : ProcessorState) (n : NodeMemory) (a x : ℕ) → is_mapped_state x ≡ true → is_readable_state x ≡ false → put_byte program l n a x ≡ only_moves l n (Waits SameWord (record { at = a; need = Read }) [])
 put_waits program l n a x mapped readable = rw (mapped, readable) refl
 
 -- a demand that a micro-op meets, or an original address that it enters
-native_steps : (image : List Cell) (m : Meaning) (d : Demand) (at k place : ℕ) (l : kept.Lane) (s : Shelf) (l' : kept.Lane) (s' : Shelf) → Meets m d → StepsTo image m at l s l' s' (Some k) → Follows image (native (program_of s.program) place (word_address at) (lane_of l (word_address at)) (local_of s) d) (ground_of s) (word_address k) l' s'
+native_steps : (image : List Cell) (m : Meaning) (d : Demand) (at k place : ℕ) (l : kept.ProcessorState) (s : Shelf) (l' : kept.ProcessorState) (s' : Shelf) → Meets m d → StepsTo image m at l s l' s' (Some k) → Follows image (native (program_of s.program) place (word_address at) (lane_of l (word_address at)) (local_of s) d) (ground_of s) (word_address k) l' s'
 native_steps image Unserved d at k place l s l' s' meets steps = absurd steps
 native_steps image (Demands e) d at k place l s l' s' meets steps =
     subst (λ (x : Demand). Follows image (native (program_of s.program) place (word_address at) (lane_of l (word_address at)) (local_of s) x) (ground_of s) (word_address k) l' s') meets (steps place)
 native_steps image (EntersBy original) d at k place l s l' s' meets steps = absurd meets
 
-entry_steps : (image : List Cell) (m : Meaning) (rd original at k place : ℕ) (l : kept.Lane) (s : Shelf) (l' : kept.Lane) (s' : Shelf) → EntersAt m rd original → StepsTo image m at l s l' s' (Some k) → Follows image (indirect place (lane_of l (word_address at)) (local_of s) rd original) (ground_of s) (word_address k) l' s'
+entry_steps : (image : List Cell) (m : Meaning) (rd original at k place : ℕ) (l : kept.ProcessorState) (s : Shelf) (l' : kept.ProcessorState) (s' : Shelf) → EntersAt m rd original → StepsTo image m at l s l' s' (Some k) → Follows image (indirect place (lane_of l (word_address at)) (local_of s) rd original) (ground_of s) (word_address k) l' s'
 entry_steps image Unserved rd original at k place l s l' s' enters steps = absurd steps
 entry_steps image (Demands e) rd original at k place l s l' s' enters steps = absurd enters
 entry_steps image (EntersBy target) rd original at k place l s l' s' enters steps =
     subst (λ (x : ℕ). Follows image (indirect place (lane_of l (word_address at)) (local_of s) x original) (ground_of s) (word_address k) l' s') (sym enters.0)
     (subst (λ (x : ℕ). Follows image (indirect place (lane_of l (word_address at)) (local_of s) 0 x) (ground_of s) (word_address k) l' s') enters.1 (steps place))
 
-rare_steps : (image : List Cell) (op : MicroOp) (at k : ℕ) (l : kept.Lane) (s : Shelf) (l' : kept.Lane) (s' : Shelf) → op.kind ≡ Rare → StepsTo image (meaning_of image_base op (registers_of l.registers)) at l s l' s' (Some k) → ⊥
-rare_steps image op at k l s l' s' is steps = subst (λ (q : MicroKind). StepsTo image (meaning_by q image_base op (registers_of l.registers)) at l s l' s' (Some k)) is steps
+slow_steps : (image : List Cell) (op : MicroOp) (at k : ℕ) (l : kept.ProcessorState) (s : Shelf) (l' : kept.ProcessorState) (s' : Shelf) → op.kind ≡ Slow → StepsTo image (meaning_of image_base op (registers_of l.registers)) at l s l' s' (Some k) → ⊥
+slow_steps image op at k l s l' s' is steps = subst (λ (q : MicroKind). StepsTo image (meaning_by q image_base op (registers_of l.registers)) at l s l' s' (Some k)) is steps
 
 -- a jump that keeps no link is a far jump
-far_is : (program : Program) (place at : ℕ) (l : Lane) (n : Local) (number : ℕ)
-    → native program place at l n (Jumps 0 (address_of_word number)) ≡ go_on l n (To (address_of_word number))
+far_is : (program : Program) (place at : ℕ) (l : ProcessorState) (n : NodeMemory) (number : ℕ)
+    → native program place at l n (Jumps 0 (address_of_word number)) ≡ only_moves l n (To (address_of_word number))
 far_is program place at l n number =
     let rest : address_of_word number % 4 ≡ 0 = omega arith in
     let test : eqb (address_of_word number % 4) 0 ≡ true = grind (arith, nat_tests) in
     let zero = put_zero l.registers (next_pc at) in
-    rw test (λ t. go_on (record l { registers = zero t }) n (To (address_of_word number)))
+    rw test (λ t. only_moves (record l { registers = zero t }) n (To (address_of_word number)))
 
 -- a micro-op that was executed is the word's
-micro_served : (image : List Cell) (word : Option RtWord) (place : Option Place) (op : MicroOp) (at k : ℕ) (l : kept.Lane) (s : Shelf) (l' : kept.Lane) (s' : Shelf) → IsMicroWord (word_address at) word op → StepsTo image (meaning_of image_base op (registers_of l.registers)) at l s l' s' (Some k) → Follows image (execute_read (program_of s.program) place word (lane_of l (word_address at)) (local_of s)) (ground_of s) (word_address k) l' s'
-micro_served image None place op at k l s l' s' is steps = absurd (rare_steps image op at k l s l' s' is steps)
+micro_served : (image : List Cell) (word : Option RtWord) (place : Option Place) (op : MicroOp) (at k : ℕ) (l : kept.ProcessorState) (s : Shelf) (l' : kept.ProcessorState) (s' : Shelf) → IsMicroWord (word_address at) word op → StepsTo image (meaning_of image_base op (registers_of l.registers)) at l s l' s' (Some k) → Follows image (execute_read (program_of s.program) place word (lane_of l (word_address at)) (local_of s)) (ground_of s) (word_address k) l' s'
+micro_served image None place op at k l s l' s' is steps = absurd (slow_steps image op at k l s l' s' is steps)
 micro_served image (Some (Native i)) place op at k l s l' s' is steps = native_steps image _ _ at k (place_address place) l s l' s' (is.meets (registers_of l.registers)) steps
 micro_served image (Some Poll) place op at k l s l' s' is steps = native_steps image _ Continues at k (place_address place) l s l' s' (is (registers_of l.registers)) steps
 micro_served image (Some (Xjalr rd rs1 imm)) place op at k l s l' s' is steps = entry_steps image _ rd ((reg (registers_of l.registers) rs1 + unsigned 32 imm) % 4294967296 / 2 * 2) at k (place_address place) l s l' s' (is.enters (registers_of l.registers)) steps
 micro_served image (Some (Far number)) place op at k l s l' s' is steps =
     let jumps = native_steps image _ (Jumps 0 (address_of_word number)) at k (place_address place) l s l' s'
     (is (registers_of l.registers)) steps in
-    subst (λ (x : Outcome). Follows image x (ground_of s) (word_address k) l' s')
+    subst (λ (x : WordOutcome). Follows image x (ground_of s) (word_address k) l' s')
     (far_is (program_of s.program) (place_address place) (word_address at) (lane_of l (word_address at)) (local_of s)
     number) jumps
-micro_served image (Some w) place op at k l s l' s' is steps = absurd (rare_steps image op at k l s l' s' is steps)
+micro_served image (Some w) place op at k l s l' s' is steps = absurd (slow_steps image op at k l s l' s' is steps)
 
 pub got_below : (xs : List Cell) (i : ℕ) (c : Cell) → slice_get xs i ≡ Some c → i < length xs
 got_below [] i c is = absurd (cc)
@@ -256,7 +256,7 @@ fetch_word image at c few is =
     rw (new, low, rest, back, is) refl
 
 -- a micro-op that was executed does what the next word does
-pub micro_step : (image : List Cell) (op : MicroOp) (at : ℕ) (l : kept.Lane) (s : Shelf) (l' : kept.Lane) (s' : Shelf) (o : Option ℕ) (c : Cell) → length image ≤ most_words → slice_get image at ≡ Some c → IsMicroWord (image_base + 4 * at) (read_word c.word) op → StepsTo image (meaning_of image_base op (registers_of l.registers)) at l s l' s' o → StepsOr image (next_outcome (program_of s.program) image (lane_of l (word_address at)) (local_of s)) l s l' s' o
+pub micro_step : (image : List Cell) (op : MicroOp) (at : ℕ) (l : kept.ProcessorState) (s : Shelf) (l' : kept.ProcessorState) (s' : Shelf) (o : Option ℕ) (c : Cell) → length image ≤ most_words → slice_get image at ≡ Some c → IsMicroWord (image_base + 4 * at) (read_word c.word) op → StepsTo image (meaning_of image_base op (registers_of l.registers)) at l s l' s' o → StepsOr image (next_outcome (program_of s.program) image (lane_of l (word_address at)) (local_of s)) l s l' s' o
 micro_step image op at l s l' s' None c few got is steps = steps
 micro_step image op at l s l' s' (Some k) c few got is steps =
     let below = got_below image at c got in

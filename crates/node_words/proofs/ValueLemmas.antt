@@ -11,13 +11,13 @@ use Rattle.node_model.specs.micro_op.declared.MicroKind.TheVariants as kind
 use Rattle.node_model.specs.micro_op.Micro.{Demands, meaning_of}
 use Rattle.node_model.specs.jump_map.Image.{Cell, image_base, most_words}
 use Rattle.node_model.specs.jump_map.Micro.{ReadsValue, op_of}
-use Rattle.node_words.specs.declared.body.Body.{Body}
+use Rattle.node_words.specs.declared.exec_state.ExecState.{ExecState}
 use Rattle.node_words.specs.Address.{word_address}
 use Rattle.node_words.specs.GoingOn.{GoesFurther, BeginsValueLook, DoesNext, PutsNext}
 use Rattle.node_words.proofs.LookLemmas.{Branched, branches, further, index_below, put_got, reg_zero, served}
 
 -- the first two words: the address, and whether it is one of the upper half
-pub value_begins : (image : List Cell) (at here index result words : ℕ) (op : MicroOp) (b b' : Body) (a : ℕ) (t : Bool)
+pub value_begins : (image : List Cell) (at here index result words : ℕ) (op : MicroOp) (b b' : ExecState) (a : ℕ) (t : Bool)
     → length image ≤ most_words → BeginsValueLook image at op
     → a ≡ (reg (registers_of b.lane.registers) op.rs1 + op.imm) % 2 ^ 32 → PutsNext b op.rd a b'
     → t ≡ taken Lt a 0 → here ≡ (at + 1) % 2 ^ 32 → index ≡ (at + 5) % 2 ^ 32
@@ -45,7 +45,7 @@ value_begins image at here index result words op b b' a t few begins is puts tes
     means steps)
 
 -- the last three: the word is loaded, and compared with the flag word
-pub value_tested : (image : List Cell) (at here index result words : ℕ) (op : MicroOp) (b b1 b' : Body) (a v : ℕ)
+pub value_tested : (image : List Cell) (at here index result words : ℕ) (op : MicroOp) (b b1 b' : ExecState) (a v : ℕ)
     (t : Bool) → length image ≤ most_words → ReadsValue image at op.rd op.rs1 op.rs2 op.imm
     → a ≡ (reg (registers_of b.lane.registers) op.rs1 + op.imm) % 2 ^ 32
     → DoesNext b (Loads Word op.rs2 a) b1 → PutsNext b1 op.rd 0xffffff03 b'

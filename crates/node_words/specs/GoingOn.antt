@@ -7,10 +7,10 @@ use Rattle.node_model.specs.rv32_step.declared.Demand.TheVariants.{Sets}
 use Rattle.node_model.specs.micro_op.declared.micro_op.MicroOp.{MicroOp}
 use Rattle.node_model.specs.micro_op.Micro.{Demands, meaning_of, by_immediate, by_registers}
 use Rattle.node_model.specs.jump_map.Micro.{IsMicroAt, ReadsState, ReadsStateBy, ReadsValue}
-use Rattle.first_memory.specs.exec_map.Contents.{program_of}
+use Rattle.exec_map.specs.Contents.{program_of}
 use Rattle.node_model.specs.jump_map.Image.{Cell, image_base}
 use Rattle.node_words.specs.Address.{word_address}
-use Rattle.node_words.specs.declared.body.Body.{Body}
+use Rattle.node_words.specs.declared.exec_state.ExecState.{ExecState}
 use Rattle.node_model.specs.Node.{Node, Work, Phase, Running, can_execute}
 use Rattle.node_words.specs.declared.hot.Way.{Way}
 use Rattle.node_words.specs.declared.hot.Way.TheVariants.{To}
@@ -26,7 +26,7 @@ phase_on phase zero = phase
 phase_on phase (suc k) = Running
 
 -- the node with this body at the word with this index, after so many words that go on
-abbrev pub node_on : Node → Body → (at words : ℕ) → Node
+abbrev pub node_on : Node → ExecState → (at words : ℕ) → Node
 node_on n b at words = record n {
   lane = lane_of b.lane (word_address at);
   local = local_of b.local;
@@ -36,18 +36,19 @@ node_on n b at words = record n {
 }
 
 -- a node goes on from one body to another by so many words, where its budget has more than so many
-abbrev pub BodyGoesOn : List Cell → ℕ → ℕ → Body → ℕ → ℕ → Body → Type 0
+abbrev pub BodyGoesOn : List Cell → ℕ → ℕ → ExecState → ℕ → ℕ → ExecState → Type 0
 BodyGoesOn image most from b words at b' =
     (work : Work) (n : Node) → work.image ≡ image → work.program ≡ program_of b.local.program
     → can_execute n.phase ≡ true → n.executed + most < work.budget
     → GoesOnBy work words (node_on n b from 0) (node_on n b' at words)
 
 -- a body that has gone on to a word with an index goes on from there to another
-pub record GoesFurther (image : List Cell) (b : Body) (at words : ℕ) (b' : Body) (at' words' : ℕ)
+pub record GoesFurther (image : List Cell) (b : ExecState) (at words : ℕ) (b' : ExecState)
+    (at' words' : ℕ)
     : Type 0 where
   pub more : words ≤ words'
   pub ground_same : ground_of b'.local ≡ ground_of b.local
-  pub goes : (most from : ℕ) (first : Body) → words' ≤ most
+  pub goes : (most from : ℕ) (first : ExecState) → words' ≤ most
       → ground_of b.local ≡ ground_of first.local → BodyGoesOn image most from first words at b
       → BodyGoesOn image most from first words' at' b'
 
@@ -71,7 +72,7 @@ words_of (Leap done) = done.words
 
 -- a body goes on from a word with an index by at least one word, and at most as many as there is
 -- room for; or nothing changed
-abbrev pub StridesOr : List Cell → (at room : ℕ) → Body → Body → Option Onward → Type 0
+abbrev pub StridesOr : List Cell → (at room : ℕ) → ExecState → ExecState → Option Onward → Type 0
 StridesOr image at room b b' None = (b'.lane ≡ b.lane) × (b'.local ≡ b.local)
 StridesOr image at room b b' (Some o) =
     (0 < words_of o) × (words_of o ≤ room)
@@ -107,12 +108,12 @@ pub record OrsAt (image : List Cell) (at : ℕ) (m : MicroOp) : Type 0 where
       → meaning_of image_base m registers ≡ by_registers op.Or m registers
 
 -- a body does what a word demands, after which the next one follows
-abbrev pub DoesNext : Body → Demand → Body → Type 0
+abbrev pub DoesNext : ExecState → Demand → ExecState → Type 0
 DoesNext b d b' =
     (image : List Cell) (at k : ℕ) → k ≡ at + 1 → k < 2 ^ 32
     → StepsTo image (Demands d) at b.lane b.local b'.lane b'.local (Some k)
 
 -- a register gets a value
-pub record PutsNext (b : Body) (r value : ℕ) (b' : Body) : Type 0 where
+pub record PutsNext (b : ExecState) (r value : ℕ) (b' : ExecState) : Type 0 where
   pub does : DoesNext b (Sets r value) b'
   pub registers : registers_of b'.lane.registers ≡ put (registers_of b.lane.registers) r value

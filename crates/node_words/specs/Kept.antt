@@ -4,8 +4,8 @@ use Rattle.elf32_read.specs.Elf.{Elf}
 use Rattle.block_layout.specs.Layout.{Shape, is_shared}
 use Rattle.byte_range.specs.Lines.{LineBytes, lines_memory}
 use Rattle.byte_range.specs.Window.{window_memory}
-use Rattle.first_memory.specs.SharedLines.{HasReadOnlyLines}
-use Rattle.first_memory.specs.exec_map.Contents.{program_of, class_of_line, first_byte, is_shared as is_shared_class}
+use Rattle.exec_map.specs.SharedLines.{HasReadOnlyLines}
+use Rattle.exec_map.specs.Contents.{program_of, class_of_line, first_byte, is_shared as is_shared_class}
 use Rattle.rv32_program.specs.declared.Class.TheVariants.{ReadOnly}
 use Rattle.rv32_program.specs.declared.End.TheVariants.{Exited}
 use Rattle.node_model.specs.rv32_step.Registers.{registers_of}
@@ -17,7 +17,7 @@ use Rattle.node_model.specs.micro_op.Micro.{Meaning, Unserved, Demands, Enters a
 use Rattle.node_model.specs.jump_map.Image.{Cell}
 use Rattle.node_words.specs.Address.{word_address}
 use Rattle.node_model.specs.declared.NodeCounts.{NodeCounts}
-use Rattle.node_words.specs.declared.lane.Lane as kept
+use Rattle.node_words.specs.declared.lane.ProcessorState as kept
 use Rattle.node_words.specs.declared.lane.Move as kept_move
 use Rattle.node_words.specs.declared.lane.Move.TheVariants as kept_to
 use Rattle.node_words.specs.declared.lane.Resume as kept_resume
@@ -26,13 +26,13 @@ use Rattle.node_words.specs.declared.lane.Want as kept_want
 use Rattle.node_words.specs.declared.lane.Wants as kept_wants
 use Rattle.node_words.specs.declared.lane.Tally as kept_tally
 use Rattle.node_words.specs.declared.lane.Tally.TheVariants as kept_count
-use Rattle.node_words.specs.declared.lane.Outcome as kept_outcome
+use Rattle.node_words.specs.declared.lane.WordOutcome as kept_outcome
 use Rattle.node_words.specs.declared.serve.Following as kept_following
 use Rattle.node_words.specs.declared.serve.Following.TheVariants as kept_after
 use Rattle.node_words.specs.declared.serve.Served as kept_served
 use Rattle.node_words.specs.declared.region.Region as kept_region
 use Rattle.node_words.specs.declared.region.Region.TheVariants as kept_at
-use Rattle.node_model.specs.Node.{Lane, Local, Phase, Waiting, Ended, Outcome, Move, Next, Again, To, Enters, Waits, Leaves, Resume, PastWord, SameWord, ByLines, Want, Tally, Nothing_counted, FalseMiss, FallsBack, Region, Memory, StateOf, Spill, Elsewhere, first_state, native, indirect, lane_after, phase_after, stop_at, counts_after}
+use Rattle.node_model.specs.Node.{ProcessorState, NodeMemory, Phase, Waiting, Ended, WordOutcome, Move, Next, Again, To, Enters, Waits, Leaves, Resume, PastWord, SameWord, ByLines, Want, Tally, Nothing_counted, FalseMiss, FallsBack, Region, Memory, StateOf, Spill, Elsewhere, first_state, native, indirect, lane_after, phase_after, stop_at, counts_after}
 use Rattle.node_model.specs.Turns.{wants_of}
 
 -- what contracts see of what words see of their node
@@ -85,14 +85,14 @@ IsPlace layout a (Some k) = (is_shared layout (a / 64) ≡ true) × (k ≡ place
 unfoldable pub copy_of : Copy → ℕ → ℕ
 copy_of c a = if is_shared c.layout (a / 64) then memory c a else flag_byte a
 
-abbrev pub local_of : Shelf → Local
+abbrev pub local_of : Shelf → NodeMemory
 local_of s = record {
   copy = copy_of s.copy;
   state = line_byte s.states;
   reservation = s.reservation;
 }
 
-abbrev pub lane_of : kept.Lane → ℕ → Lane
+abbrev pub lane_of : kept.ProcessorState → ℕ → ProcessorState
 lane_of l at = record {
   registers = registers_of l.registers;
   at = at;
@@ -143,23 +143,23 @@ tally_of kept_count.FalseMiss = FalseMiss
 tally_of kept_count.FallsBack = FallsBack
 
 -- what a word leaves of the processor and of what words see
-pub record LeavesBehind (outcome : Outcome) (ground : Ground) (at : ℕ) (l : kept.Lane) (s : Shelf)
-    : Type 0 where
+pub record LeavesBehind (outcome : WordOutcome) (ground : Ground) (at : ℕ)
+    (l : kept.ProcessorState) (s : Shelf) : Type 0 where
   pub lane : lane_of l at ≡ outcome.lane
   pub local : local_of s ≡ outcome.local
   pub ground_same : ground_of s ≡ ground
 
 -- what a word did is what the definition says
-pub record Does (outcome : Outcome) (ground : Ground) (at : ℕ) (l : kept.Lane) (s : Shelf)
-    (done : kept_outcome.Outcome) : Type 0 where
+pub record Does (outcome : WordOutcome) (ground : Ground) (at : ℕ) (l : kept.ProcessorState)
+    (s : Shelf) (done : kept_outcome.WordOutcome) : Type 0 where
   pub leaves : LeavesBehind outcome ground at l s
   pub output : done.output ≡ outcome.printed
   pub tally : tally_of done.tally ≡ outcome.tally
   pub move : move_of done.next ≡ outcome.move
 
 -- a word that prints and counts nothing, after which the word at an address follows
-pub record Follows (image : List Cell) (outcome : Outcome) (ground : Ground) (at : ℕ)
-    (l : kept.Lane) (s : Shelf) : Type 0 where
+pub record Follows (image : List Cell) (outcome : WordOutcome) (ground : Ground) (at : ℕ)
+    (l : kept.ProcessorState) (s : Shelf) : Type 0 where
   pub lane : lane_of l at ≡ lane_after image outcome.lane outcome.move
   pub local : local_of s ≡ outcome.local
   pub ground_same : ground_of s ≡ ground
@@ -171,8 +171,8 @@ pub record Follows (image : List Cell) (outcome : Outcome) (ground : Ground) (at
 
 -- what a micro-op at an index does: either nothing, and the path that serves every word is to serve
 -- it; or what the word does, and the word with this index follows
-abbrev pub StepsTo : List Cell → Meaning → ℕ → (l : kept.Lane) (s : Shelf)
-    → (l' : kept.Lane) (s' : Shelf) → Option ℕ → Type 0
+abbrev pub StepsTo : List Cell → Meaning → ℕ → (l : kept.ProcessorState) (s : Shelf)
+    → (l' : kept.ProcessorState) (s' : Shelf) → Option ℕ → Type 0
 StepsTo image meaning at l s l' s' None = (l' ≡ l) × (s' ≡ s)
 StepsTo image (Demands d) at l s l' s' (Some k) =
     (place : ℕ) → Follows image
@@ -197,8 +197,9 @@ wants_by (kept_after.Waits resume wants) = all_wants wants
 wants_by (kept_after.Leaves e) = []
 
 -- the word was served, and its move was made
-pub record Serves (image : List Cell) (outcome : Outcome) (ground : Ground) (counts : NodeCounts)
-    (l : kept.Lane) (s : Shelf) (after : NodeCounts) (done : kept_served.Served) : Type 0 where
+pub record Serves (image : List Cell) (outcome : WordOutcome) (ground : Ground)
+    (counts : NodeCounts) (l : kept.ProcessorState) (s : Shelf) (after : NodeCounts)
+    (done : kept_served.Served) : Type 0 where
   pub lane : lane_of l (word_address done.at) ≡ lane_after image outcome.lane outcome.move
   pub local : local_of s ≡ outcome.local
   pub ground_same : ground_of s ≡ ground
@@ -209,7 +210,8 @@ pub record Serves (image : List Cell) (outcome : Outcome) (ground : Ground) (cou
   pub wants : wants_by done.following ≡ wants_of outcome.move
 
 -- a word was executed, after which the word with an index follows; or nothing changed
-abbrev pub StepsOr : List Cell → Outcome → kept.Lane → Shelf → kept.Lane → Shelf → Option ℕ → Type 0
+abbrev pub StepsOr : List Cell → WordOutcome → kept.ProcessorState → Shelf → kept.ProcessorState
+    → Shelf → Option ℕ → Type 0
 StepsOr image outcome l s l' s' None = (l' ≡ l) × (s' ≡ s)
 StepsOr image outcome l s l' s' (Some k) =
     Follows image outcome (ground_of s) (word_address k) l' s'

@@ -12,11 +12,11 @@ ghost use Rattle.node_model.specs.jump_map.Image.{Cell, image_base};
 ghost use Rattle.node_model.specs.jump_map.Maps.{new_of};
 ghost use Rattle.node_words.specs.GoingOn.{index_by};
 ghost use Rattle.node_words.specs.Kept.{StepsTo, Shelf};
-ghost use Rattle.node_words.specs.Trails.{IsPlain, store_width};
+ghost use Rattle.node_words.specs.UndoLogs.{IsPlain, store_width};
 ghost use Rattle.node_words.specs.Address.{word_address};
-ghost use Rattle.node_words.specs.declared.lane.Lane.{Lane};
+ghost use Rattle.node_words.specs.declared.lane.ProcessorState.{ProcessorState};
 
-use crate::body::Body;
+use crate::exec_state::ExecState;
 use node_model::jump_map::{IMAGE_BASE, Image};
 use node_model::micro_op::{MicroKind, MicroOp};
 use rv32_decode::{Cond, LoadKind, Op, Reg, Width};
@@ -31,7 +31,7 @@ pub(crate) enum Way {
     To(u32),
 }
 
-impl<'a> Body<'a> {
+impl<'a> ExecState<'a> {
     /// Executes a micro-op at an index, and gives the index of the word that follows. `None` where
     /// the path that serves every word has to, and where it stores or begins a look and such words
     /// aren't to be executed; then nothing changed. Each loop has a copy of its own.
@@ -72,7 +72,7 @@ impl<'a> Body<'a> {
     {
         let a = self.lane.registers.get(op.rs1);
         match op.kind {
-            MicroKind::Rare => None,
+            MicroKind::Slow => None,
             MicroKind::Nothing => branch(false, 0),
             MicroKind::Constant => self.set(op.rd, op.imm),
             MicroKind::Jump => self.jump(op.rd, op.imm, at),
@@ -234,7 +234,7 @@ impl<'a> Body<'a> {
     }
 }
 
-/// The result of an operation that is rare.
+/// The result of an operation that is slow.
 #[inline(never)]
 fn alu_apart(op: Op, a: u32, b: u32) -> u32
     ensures { result ≡ operations.alu op a b }
@@ -245,7 +245,7 @@ fn alu_apart(op: Op, a: u32, b: u32) -> u32
 /// The word that follows a branch.
 #[inline(always)]
 fn branch(taken: bool, index: u32) -> Option<Way>
-    ensures { (image : List Cell) (at : ℕ) (l : Lane) (s : Shelf) →
+    ensures { (image : List Cell) (at : ℕ) (l : ProcessorState) (s : Shelf) →
         StepsTo image (Demands (branch_demand taken (word_address index))) at l s l s
         (index_by at result) }
 {

@@ -4,14 +4,14 @@ ghost use Rattle.std.specs.Prelude.{◌≡◌, ◌+◌, ◌*◌, ◌%◌, ◌^�
 ghost use Rattle.node_words.specs.Address.{word_address};
 
 use byte_range::Window;
-use first_memory::exec_map::Exit;
-use node_model::home_directory::Need;
+use exec_map::Exit;
+use node_model::dsm_messages::Need;
 use node_model::jump_map::IMAGE_BASE;
 use node_model::rv32_step::Registers;
 
 /// A processor in rewritten code, but for the position of its next word.
 #[derive(Drop)]
-pub struct Lane {
+pub struct ProcessorState {
     pub registers: Registers,
     /// The bytes of its own window.
     pub private: Window,
@@ -78,17 +78,17 @@ pub enum Tally {
 
 /// What a word printed and counts, and where the processor goes.
 #[derive(Clone, Copy, PartialEq, Eq)]
-pub struct Outcome {
+pub struct WordOutcome {
     pub output: Option<u8>,
     pub tally: Tally,
     pub next: Move,
 }
 
 /// The processor goes on so, and nothing else happens.
-pub fn go_on(next: Move) -> Outcome
+pub fn only_moves(next: Move) -> WordOutcome
     ensures { result ≡ record { output = None; tally = Tally.Nothing; next = next } }
 {
-    Outcome {
+    WordOutcome {
         output: None,
         tally: Tally::Nothing,
         next,
@@ -96,7 +96,7 @@ pub fn go_on(next: Move) -> Outcome
 }
 
 /// The processor waits until the line of an address may be read, or written.
-pub fn wait_for(resume: Resume, at: u32, need: Need) -> Outcome
+pub fn wait_for(resume: Resume, at: u32, need: Need) -> WordOutcome
     ensures { result ≡ record {
       output = None;
       tally = Tally.Nothing;
@@ -104,14 +104,14 @@ pub fn wait_for(resume: Resume, at: u32, need: Need) -> Outcome
     } }
 {
     let first = Want { at, need };
-    go_on(Move::Waits(resume, Wants { first, other: None }))
+    only_moves(Move::Waits(resume, Wants { first, other: None }))
 }
 
 /// The word ended the processor.
-pub fn exit_by(exit: Exit) -> Outcome
+pub fn exit_by(exit: Exit) -> WordOutcome
     ensures { result ≡ record { output = None; tally = Tally.Nothing; next = Move.Leaves exit } }
 {
-    go_on(Move::Leaves(exit))
+    only_moves(Move::Leaves(exit))
 }
 
 /// The address of the word with an index: `IMAGE_BASE` and four for each word, modulo 2^32.

@@ -1,31 +1,31 @@
 #![tactic(auto)]
 //! One word at a node: by its micro-op, or by the path that serves every word.
 //!
-//! A [`Body`] is a processor with what its words see of the node, its [`Local`]. Words change
-//! nothing else of a node: what a word wants of other nodes, and how a node takes messages, is said
-//! above this crate.
+//! An [`ExecState`] is a processor with what its words see of the node, its [`NodeMemory`]. Words
+//! change nothing else of a node: what a word wants of other nodes, and how a node takes messages,
+//! is said above this crate.
 
-mod body;
+mod exec_state;
 mod hot;
 mod lane;
 mod lines;
-mod local;
 mod looks;
-mod quiet;
-mod rare;
+mod node_memory;
 mod region;
 mod serve;
-mod trail;
+mod silent;
+mod slow_path;
+mod undo_log;
 
-pub use body::Body;
 pub use byte_range;
-pub use first_memory;
-pub use first_memory::exec_map;
-pub use lane::{Lane, Resume, Tally, Want, Wants, address_of, index_of};
-pub use local::Local;
+pub use exec_map;
+pub use exec_state::ExecState;
+pub use lane::{ProcessorState, Resume, Tally, Want, Wants, address_of, index_of};
+pub use node_memory::NodeMemory;
 pub use node_model;
 pub use node_model::{
-    flag_memory, home_directory, jump_map, micro_op, miss_handlers, runtime_words, rv32_step,
+    dsm_messages, flag_memory, home_directory, jump_map, micro_op, miss_handlers, runtime_words,
+    rv32_step,
 };
-pub use serve::{Following, Served, Stretch};
-pub use trail::{Note, Saved, Trail};
+pub use serve::{Following, Progress, Served};
+pub use undo_log::{Note, Saved, UndoLog};

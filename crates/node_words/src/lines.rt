@@ -5,8 +5,8 @@ ghost use Rattle.node_model.specs.Node as model;
 ghost use Rattle.node_words.specs.Kept.{local_of, others_of, wants_in};
 
 use crate::lane::{Want, Wants};
-use crate::local::Local;
-use node_model::home_directory::Need;
+use crate::node_memory::NodeMemory;
+use node_model::dsm_messages::Need;
 use node_model::state_table::{EXCLUSIVE, READ_ONLY, UNMAPPED};
 
 /// Whether a line with this state byte is mapped.
@@ -57,7 +57,7 @@ pub fn refuses(need: Need, state: u8) -> bool
     }
 }
 
-impl<'a> Local<'a> {
+impl<'a> NodeMemory<'a> {
     /// Whether the lines of two addresses meet a need.
     pub(crate) fn both_meet(&self, need: Need, low: u32, high: u32) -> bool
         ensures value { result ≡ model.both_meet (local_of self.now) need low high }

@@ -14,24 +14,20 @@ ghost use Rattle.node_words.specs.GoingOn.{BeginsLook, BeginsSecondLook, BeginsV
 ghost use Rattle.node_words.specs.GoingOn.{GoesFurther, OrsAt, PutsNext, StridesOr};
 ghost use Rattle.node_words.specs.GoingOn.{leads_to, words_of};
 ghost use Rattle.node_words.specs.Kept.{Shelf, StepsTo};
-ghost use Rattle.node_words.specs.declared.lane.Lane.{Lane};
+ghost use Rattle.node_words.specs.declared.lane.ProcessorState.{ProcessorState};
 
-use crate::body::Body;
+use crate::exec_state::ExecState;
 use crate::hot::Way;
-use crate::serve::Stretch;
+use crate::serve::Progress;
 use node_model::jump_map::Image;
 use node_model::micro_op::{MicroKind, MicroOp};
+use node_model::runtime_words::FLAG_WORD;
 use rv32_decode::{Cond, LoadKind, Reg, Width};
 use rv32_ops::taken;
+use rv32_program::addresses::STATE_TABLE;
 
 /// The most words that are executed at once.
 const MOST_AT_ONCE: u64 = 7;
-
-/// The address of the state byte of line 0.
-const STATE_TABLE: u32 = 0x8000_0000;
-
-/// The flag word, which a node's copy holds wherever it may not be read.
-const FLAG_WORD: u32 = 0xffff_ff03;
 
 /// How many words were executed, and where they lead.
 #[derive(Clone, Copy, Debug, PartialEq, Eq)]
@@ -41,11 +37,11 @@ pub(crate) enum Onward {
     /// So many words, to the one behind them.
     Straight(u64),
     /// A stretch that may lead elsewhere.
-    Leap(Stretch),
+    Leap(Progress),
 }
 
-impl<'a> Body<'a> {
-    /// Executes the word of a micro-op, those that it begins, or a quiet one that has none, and no
+impl<'a> ExecState<'a> {
+    /// Executes the word of a micro-op, those that it begins, or a silent one that has none, and no
     /// more words than there are from its index to the end. `None` where the path that serves every
     /// word has to; then nothing changed.
     #[inline(always)]
@@ -65,7 +61,7 @@ impl<'a> Body<'a> {
     {
         match self.way::<true, false>(image, op, at) {
             Some(Way::Next) => Some(Onward::Next),
-            Some(Way::To(next)) => Some(Onward::Leap(Stretch { at: next, words: 1 })),
+            Some(Way::To(next)) => Some(Onward::Leap(Progress { at: next, words: 1 })),
             None => self.stride_apart(image, op, at, end),
         }
     }
@@ -329,7 +325,7 @@ fn lead_on(at: u32, words: u32, next: u32) -> Onward
     if next == at.wrapping_add(words) {
         Onward::Straight(u64::from(words))
     } else {
-        Onward::Leap(Stretch {
+        Onward::Leap(Progress {
             at: next,
             words: u64::from(words),
         })
@@ -339,7 +335,7 @@ fn lead_on(at: u32, words: u32, next: u32) -> Onward
 /// The word that follows a branch.
 #[inline(always)]
 fn branch_next(taken: bool, index: u32, at: u32) -> u32
-    ensures steps { (image : List Cell) (l : Lane) (s : Shelf) → StepsTo image
+    ensures steps { (image : List Cell) (l : ProcessorState) (s : Shelf) → StepsTo image
         (Demands (branch_demand taken (word_address index))) at l s l s (Some result) }
     ensures passes { taken ≡ false → result ≡ (at + 1) % 2 ^ 32 }
 {

@@ -1,7 +1,7 @@
 //! One word of a node: by its micro-op, or by the path that serves every word.
 
 ghost use Rattle.std.specs.Prelude.{◌≡◌, ◌+◌, ◌^◌, ◌<◌, ◌≤◌, ℕ, Some, None, length};
-ghost use Rattle.first_memory.specs.exec_map.Contents.{program_of};
+ghost use Rattle.exec_map.specs.Contents.{program_of};
 ghost use Rattle.node_model.specs.jump_map.Image.{most_words};
 ghost use Rattle.node_model.specs.Node as model;
 ghost use Rattle.node_words.specs.Address.{word_address};
@@ -10,10 +10,10 @@ ghost use Rattle.node_words.specs.Kept.{resume_of, tally_of, phase_by, wants_by}
 ghost use Rattle.node_model.specs.Turns.{wants_of};
 ghost use Rattle.node_words.specs.GoingOn.{BodyGoesOn};
 
-use crate::body::Body;
+use crate::exec_state::ExecState;
 use crate::lane::{Move, Resume, Tally, Wants};
 use crate::looks::Onward;
-use first_memory::exec_map::Exit;
+use exec_map::Exit;
 use node_model::NodeCounts;
 use node_model::jump_map::{IMAGE_BASE, Image};
 
@@ -44,12 +44,12 @@ pub struct Served {
 
 /// How many words were executed one after another, and the index of the word that follows.
 #[derive(Clone, Copy, Debug, PartialEq, Eq)]
-pub struct Stretch {
+pub struct Progress {
     pub at: u32,
     pub words: u64,
 }
 
-impl<'a> Body<'a> {
+impl<'a> ExecState<'a> {
     /// Executes the word with an index by its micro-op, and gives the index of the word that
     /// follows. `None` where the path that serves every word has to; then nothing changed.
     #[inline(always)]
@@ -66,11 +66,11 @@ impl<'a> Body<'a> {
         }
     }
 
-    /// Executes words from an index on by their micro-ops, and quiet ones that have none, and at
+    /// Executes words from an index on by their micro-ops, and silent ones that have none, and at
     /// most so many. Those of a straight line are counted by their index, since the budget ends
     /// at an index on it; a jump moves that one as far as it goes.
     #[inline(never)]
-    pub fn run(&mut self, image: &Image, from: u32, most: u64) -> Stretch
+    pub fn run(&mut self, image: &Image, from: u32, most: u64) -> Progress
         requires { length image.now ≤ most_words }
         ensures words { BodyGoesOn image.now most from self.old result.words result.at self.new }
         ensures most { result.words ≤ most }
@@ -95,7 +95,7 @@ impl<'a> Body<'a> {
                 None => break,
             }
         }
-        Stretch {
+        Progress {
             at: at as u32,
             words: budget - (end - at),
         }

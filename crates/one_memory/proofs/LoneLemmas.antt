@@ -5,11 +5,11 @@ use Rattle.std.proofs.lemmas.Bool.{cases_lt, lt-ltb, le-ltb}
 use Rattle.std.proofs.lemmas.Bool.Decides.{eqb_tells}
 use Rattle.rv32_program.specs.declared.Exit.{Exit}
 use Rattle.rv32_step.specs.OneMemory.{Original, State, Step, run, step}
-use Rattle.workload.specs.Orders.{following, choice}
+use Rattle.random_order.specs.Orders.{following, choice}
 use Rattle.one_memory.specs.ByOrder.{one_more, goes_on, live, FollowsOrder, pick_among}
 use Rattle.one_memory.specs.Machine.{state_of, original_of}
 use Rattle.one_memory.specs.Turns.{after_steps, AreTurns}
-use Rattle.one_memory.specs.declared.by_order.Run.{Run}
+use Rattle.one_memory.specs.declared.by_order.OriginalRun.{OriginalRun}
 use Rattle.one_memory.specs.Running.{IsRunning, HasRun, steps_of}
 use Rattle.one_memory.proofs.ListLemmas.{filter_none, filter_one, one_from_filter}
 use Rattle.one_memory.proofs.OrderLemmas.{others, same_steps, is_live}
@@ -84,7 +84,7 @@ follows_alone o budget p (suc n) number steps s h =
     )
 
 -- the one processor of a run that goes on has been stepped to its end
-pub alone_to_end : (r : Run) (p n number : ℕ) (end : State) → IsRunning r → r.live.items ≡ p ∷ [] → AreTurns (original_of r.machine) p n (state_of r.machine) end → steps_of r p + n ≤ r.budget → (steps_of r p + n < r.budget → IsSome (end.processors p).exit) → HasRun r number end
+pub alone_to_end : (r : OriginalRun) (p n number : ℕ) (end : State) → IsRunning r → r.live.items ≡ p ∷ [] → AreTurns (original_of r.machine) p n (state_of r.machine) end → steps_of r p + n ≤ r.budget → (steps_of r p + n < r.budget → IsSome (end.processors p).exit) → HasRun r number end
 alone_to_end r p n number end running alone turns fits ends =
     let o = original_of r.machine in
     let s = state_of r.machine in
@@ -104,13 +104,13 @@ alone_to_end r p n number end running alone turns fits ends =
     }
 
 -- what is known of the one processor that goes on
-pub record IsLoneCounted (r : Run) (p : ℕ) : Type 0 where
+pub record IsLoneCounted (r : OriginalRun) (p : ℕ) : Type 0 where
   pub inside : p < length r.steps.items
   pub known : p < (original_of r.machine).nodes
   pub runs : ((state_of r.machine).processors p).exit ≡ None
   pub below : steps_of r p < r.budget
 
-pub lone_counted : (r : Run) (p : ℕ) → IsRunning r → r.live.items ≡ p ∷ [] → IsLoneCounted r p
+pub lone_counted : (r : OriginalRun) (p : ℕ) → IsRunning r → r.live.items ≡ p ∷ [] → IsLoneCounted r p
 lone_counted r p running alone =
     let o = original_of r.machine in
     let one : live o r.budget (steps_of r) (state_of r.machine) ≡ p ∷ [] = sym running.live ∙ alone in

@@ -12,10 +12,10 @@ use Rattle.rv32_program.specs.declared.Exit.{Exit}
 use Rattle.rv32_step.specs.OneMemory.{Original, Processor, State, Step, run, Request, Becomes, Prints, LoadsFrom, StoresTo, ReservesAt, StoresWhere, UpdatesAt, opening, answer, request, step, with_processor, with_store, after_conditional}
 use Rattle.rv32_decode.specs.declared.Width.TheVariants.{Word}
 use Rattle.llsc.specs.Reservation.{holds}
-use Rattle.workload.specs.Orders.{following, choice}
+use Rattle.random_order.specs.Orders.{following, choice}
 use Rattle.one_memory.specs.ByOrder.{one_more, goes_on, live, FollowsOrder, state_after, end_by, ends_by, IsRunByOrder}
 use Rattle.one_memory.specs.Machine.{state_of, original_of}
-use Rattle.one_memory.specs.declared.by_order.Run.{Run}
+use Rattle.one_memory.specs.declared.by_order.OriginalRun.{OriginalRun}
 use Rattle.one_memory.specs.Running.{IsRunning, HasRun, steps_of}
 use Rattle.one_memory.proofs.ListLemmas.{found, length_filtered, filter_same, filter_all, filter_removed, total, total_less}
 
@@ -146,10 +146,10 @@ in_front o budget number number' p k steps s steps' s' ls h all some chosen at n
     get_index xs i = get_or xs i 0
 
 -- the processor that is picked from those that go on
-pub pick_step : (r : Run) (k p : ℕ) → IsRunning r → k < length r.live.items → p ≡ get_or r.live.items k 0 → IsLive (original_of r.machine).nodes r.budget (steps_of r) (state_of r.machine) p
+pub pick_step : (r : OriginalRun) (k p : ℕ) → IsRunning r → k < length r.live.items → p ≡ get_or r.live.items k 0 → IsLive (original_of r.machine).nodes r.budget (steps_of r) (state_of r.machine) p
 pick_step r k p running within at = is_live (original_of r.machine) r.budget (steps_of r) (state_of r.machine) r.live.items k p running.live within at
 
-pub few_picked : (r : Run) → IsRunning r → length r.live.items ≤ 16
+pub few_picked : (r : OriginalRun) → IsRunning r → length r.live.items ≤ 16
 few_picked r running =
     let few = few_live (original_of r.machine) r.budget (steps_of r) (state_of r.machine) r.live.items running.live in
     let most = running.few in
@@ -157,14 +157,14 @@ few_picked r running =
     omega (arith, few, most, nodes)
 
 -- what is known of a processor's count of steps
-pub record IsCounted (r : Run) (p v : ℕ) : Type 0 where
+pub record IsCounted (r : OriginalRun) (p v : ℕ) : Type 0 where
   pub inside : p < length r.steps.items
   pub known : p < (original_of r.machine).nodes
   pub runs : ((state_of r.machine).processors p).exit ≡ None
   pub most : v < r.budget
   pub more : slice_index (set r.steps.items p (v + 1)) ≡ one_more (steps_of r) p
 
-pub is_counted : (r : Run) (k p v : ℕ) → IsRunning r → k < length r.live.items → p ≡ get_or r.live.items k p → v ≡ get_or r.steps.items p v → IsCounted r p v
+pub is_counted : (r : OriginalRun) (k p v : ℕ) → IsRunning r → k < length r.live.items → p ≡ get_or r.live.items k p → v ≡ get_or r.steps.items p v → IsCounted r p v
 is_counted r k p v running within at read =
     let l = pick_step r k p running within (get_or_read r.live.items k p within at 0) in
     let among = l.among in
@@ -182,7 +182,7 @@ is_counted r k p v running within at read =
     }
 
 -- a step from one run to the next, of the processor in a place of those that go on
-pub record IsTurn (r : Run) (k : ℕ) (r' : Run) : Type 0 where
+pub record IsTurn (r : OriginalRun) (k : ℕ) (r' : OriginalRun) : Type 0 where
   pub running : IsRunning r
   pub within : k < length r.live.items
   pub state : state_of r'.machine ≡ (step (original_of r.machine) (state_of r.machine) (get_or r.live.items k 0)).state
@@ -191,20 +191,20 @@ pub record IsTurn (r : Run) (k : ℕ) (r' : Run) : Type 0 where
   pub budget : r'.budget ≡ r.budget
 
 -- the steps left are fewer behind it
-pub falls : (r : Run) (k : ℕ) (r' : Run) → IsTurn r k r' → steps_left (original_of r'.machine).nodes r'.budget (steps_of r') < steps_left (original_of r.machine).nodes r.budget (steps_of r)
+pub falls : (r : OriginalRun) (k : ℕ) (r' : OriginalRun) → IsTurn r k r' → steps_left (original_of r'.machine).nodes r'.budget (steps_of r') < steps_left (original_of r.machine).nodes r.budget (steps_of r)
 falls r k r' turn =
     let l = pick_step r k _ turn.running turn.within refl in
     let nodes : (original_of r'.machine).nodes ≡ (original_of r.machine).nodes = ap (λ (o : Original). o.nodes) turn.original in
     rw (nodes, turn.budget) (fewer_left (original_of r.machine).nodes r.budget _ (steps_of r) (state_of r.machine) (steps_of r') l turn.steps)
 
 -- what may follow a run, gives a run from the start on
-abbrev pub Leads : Run → ℕ → Run → ℕ → Type 0
+abbrev pub Leads : OriginalRun → ℕ → OriginalRun → ℕ → Type 0
 Leads first number r number' = (end : State) → HasRun r number' end → HasRun first number end
 
-pub leads_self : (r : Run) (number : ℕ) → Leads r number r number
+pub leads_self : (r : OriginalRun) (number : ℕ) → Leads r number r number
 leads_self r number = λ end has. has
 
-pub leads_on : (from : Run) (first : ℕ) (r : Run) (number k : ℕ) (r' : Run) (number' : ℕ) → IsTurn r k r' → k ≡ choice (length r.live.items) (following number) → number' ≡ following number → Leads from first r number → Leads from first r' number'
+pub leads_on : (from : OriginalRun) (first : ℕ) (r : OriginalRun) (number k : ℕ) (r' : OriginalRun) (number' : ℕ) → IsTurn r k r' → k ≡ choice (length r.live.items) (following number) → number' ≡ following number → Leads from first r number → Leads from first r' number'
 leads_on from first r number k r' number' turn chosen next so_far = λ end has.
     let o = original_of r.machine in
     let p = get_or r.live.items k 0 in
@@ -221,7 +221,7 @@ leads_on from first r number k r' number' turn chosen next so_far = λ end has.
     })
 
 -- where none goes on, the run is whole
-pub none_left : (r : Run) (number : ℕ) → IsRunning r → r.live.items ≡ [] → HasRun r number (state_of r.machine)
+pub none_left : (r : OriginalRun) (number : ℕ) → IsRunning r → r.live.items ≡ [] → HasRun r number (state_of r.machine)
 none_left r number running none = record { picks = []; ordered = sym running.live ∙ none; end_is = refl }
 
 pub one_end : (budget : ℕ) (s : State) (ends more : List End) (p : ℕ) (exit : Option Exit) (e : End) → ends ≡ ends_by budget s p → exit ≡ (s.processors p).exit → e ≡ end_by budget exit → more ≡ ends ++ e ∷ [] → more ≡ ends_by budget s (p + 1)
@@ -230,14 +230,14 @@ one_end budget s ends more p exit e so_far is end pushed =
     ∙ sym (map-range_with_len_more (λ q. end_by budget (s.processors q).exit) 0 p p (omega arith))
 
 -- a run at the start
-pub record IsStart (o : Original) (b : ℕ) (r : Run) : Type 0 where
+pub record IsStart (o : Original) (b : ℕ) (r : OriginalRun) : Type 0 where
   pub state : state_of r.machine ≡ opening o
   pub steps : steps_of r ≡ (λ p. 0)
   pub original : original_of r.machine ≡ o
   pub budget : r.budget ≡ b
 
 -- a whole run from the start is one by the order
-pub by_order : (o : Original) (budget number : ℕ) (r : Run) (end : State) (output : List ℕ) (ends : List End) → IsStart o budget r → HasRun r number end → output ≡ end.output → ends ≡ ends_by budget end o.nodes → IsRunByOrder o budget number output ends
+pub by_order : (o : Original) (budget number : ℕ) (r : OriginalRun) (end : State) (output : List ℕ) (ends : List End) → IsStart o budget r → HasRun r number end → output ≡ end.output → ends ≡ ends_by budget end o.nodes → IsRunByOrder o budget number output ends
 by_order o budget number r end output ends start whole output_is ends_are =
     let picks = whole.picks in
     let same_original = subst (λ (w : Original). FollowsOrder w r.budget number (steps_of r) (state_of r.machine) picks) start.original whole.ordered in
@@ -257,12 +257,12 @@ pub same_live : (budget : ℕ) (steps : ℕ → ℕ) (s : State) (o o' : Origina
 same_live budget steps s o o' same = ap (λ (w : Original). live w budget steps s) same
 
 -- what is known of the processor in a place of those that go on
-pub record IsKnown (r : Run) (p : ℕ) : Type 0 where
+pub record IsKnown (r : OriginalRun) (p : ℕ) : Type 0 where
   pub inside : p < length r.steps.items
   pub known : p < (original_of r.machine).nodes
   pub runs : ((state_of r.machine).processors p).exit ≡ None
 
-pub known_of : (r : Run) (k p : ℕ) → IsRunning r → k < length r.live.items → p ≡ get_or r.live.items k p → IsKnown r p
+pub known_of : (r : OriginalRun) (k p : ℕ) → IsRunning r → k < length r.live.items → p ≡ get_or r.live.items k p → IsKnown r p
 known_of r k p running within at =
     let l = pick_step r k p running within (get_or_read r.live.items k p within at 0) in
     let among = l.among in

@@ -15,7 +15,7 @@ use Rattle.rv32_program.specs.Program.{class_at}
 use Rattle.byte_range.specs.Memory.{raw}
 use Rattle.rv32_decode.specs.Widths.{is_aligned}
 use Rattle.rv32_step.specs.Memory.{byte_by}
-use Rattle.one_memory.specs.declared.processor.Body.{Body}
+use Rattle.one_memory.specs.declared.processor.OriginalState.{OriginalState}
 use Rattle.one_memory.specs.Machine.{MemoryParts, HasFixed, byte_seen}
 
 -- an aligned access is made in one line
@@ -41,15 +41,15 @@ class_there : (m : MemoryParts) (a x : ℕ) → x / 64 ≡ a / 64 → class_in m
 class_there m a x same = ap (program_of m.program).class same
 
 -- the byte of an address in a line of this class
-abbrev byte_in : MemoryParts → Body → Class → ℕ → ℕ
+abbrev byte_in : MemoryParts → OriginalState → Class → ℕ → ℕ
 byte_in m k c a =
     byte_by c (lines_memory m.shared (first_byte m.program) a) (first_byte m.program a) (window_memory k.window a) 0
 
-seen_at : (m : MemoryParts) (k : Body) (c : Class) (a : ℕ) → c ≡ class_in m a → byte_in m k c a ≡ byte_seen m k a
+seen_at : (m : MemoryParts) (k : OriginalState) (c : Class) (a : ℕ) → c ≡ class_in m a → byte_in m k c a ≡ byte_seen m k a
 seen_at m k c a is = ap (λ x. byte_in m k x a) is
 
 -- the number that an access in a line of this class reads
-read_at : (m : MemoryParts) (k : Body) (c : Class) (w : Width) (a : ℕ) → c ≡ class_in m a → is_aligned w a ≡ true → raw w (byte_in m k c) a ≡ raw w (byte_seen m k) a
+read_at : (m : MemoryParts) (k : OriginalState) (c : Class) (w : Width) (a : ℕ) → c ≡ class_in m a → is_aligned w a ≡ true → raw w (byte_in m k c) a ≡ raw w (byte_seen m k) a
 read_at m k c w a is aligned =
     in_line w _ (byte_seen m k) a aligned (λ x same. seen_at m k c x (is ∙ sym (class_there m a x same)))
 
@@ -84,10 +84,10 @@ other_class e a outside is =
     segment_not_private (find (touches (a / 64)) e.segments) (rw f at is)
 
 -- what is read is what the processor sees
-abbrev pub IsRead : MemoryParts → Body → Width → ℕ → ℕ → Type 0
+abbrev pub IsRead : MemoryParts → OriginalState → Width → ℕ → ℕ → Type 0
 IsRead m k w a n = (class_in m a ≡ Unmapped → ⊥) × (n ≡ raw w (byte_seen m k) a)
 
-pub read_shared : (m : MemoryParts) (k : Body) (w : Width) (a n : ℕ) → is_aligned w a ≡ true → true ≡ is_shared (class_in m a) → n ≡ raw w (lines_memory m.shared (first_byte m.program)) a → IsRead m k w a n
+pub read_shared : (m : MemoryParts) (k : OriginalState) (w : Width) (a n : ℕ) → is_aligned w a ≡ true → true ≡ is_shared (class_in m a) → n ≡ raw w (lines_memory m.shared (first_byte m.program)) a → IsRead m k w a n
 read_shared m k w a n aligned found value =
     let class = shared_class (class_in m a) found in
     (mapped_class (class_in m a) Shared class (λ is. absurd (cc)), value ∙ read_at m k Shared w a (sym class) aligned)
@@ -100,7 +100,7 @@ none_window : (b : Bool) (v : ℕ) → None ≡ (if b then Some v else None) →
 none_window true v is = absurd (cc)
 none_window false v is = refl
 
-pub read_private : (m : MemoryParts) (k : Body) (w : Width) (a n : ℕ) → is_aligned w a ≡ true → Some n ≡ (if is_in_window a then Some (raw w (window_memory k.window) a) else None) → IsRead m k w a n
+pub read_private : (m : MemoryParts) (k : OriginalState) (w : Width) (a n : ℕ) → is_aligned w a ≡ true → Some n ≡ (if is_in_window a then Some (raw w (window_memory k.window) a) else None) → IsRead m k w a n
 read_private m k w a n aligned value =
     let parts = some_window (is_in_window a) n _ value in
     let class = private_class m.program a parts.0 in
@@ -113,18 +113,18 @@ unmapped_else ReadOnly s p r = absurd (r refl)
 unmapped_else Private s p r = absurd (p refl)
 unmapped_else Unmapped s p r = refl
 
-pub read_first : (m : MemoryParts) (k : Body) (w : Width) (a : ℕ) (r : Option ℕ) → is_aligned w a ≡ true → false ≡ is_shared (class_in m a) → None ≡ (if is_in_window a then Some (raw w (window_memory k.window) a) else None) → MatchOption r (class_in m a ≡ ReadOnly → ⊥) (λ n. (class_in m a ≡ ReadOnly) × (n ≡ raw w (first_byte m.program) a)) → MatchOption r (class_in m a ≡ Unmapped) (IsRead m k w a)
+pub read_first : (m : MemoryParts) (k : OriginalState) (w : Width) (a : ℕ) (r : Option ℕ) → is_aligned w a ≡ true → false ≡ is_shared (class_in m a) → None ≡ (if is_in_window a then Some (raw w (window_memory k.window) a) else None) → MatchOption r (class_in m a ≡ ReadOnly → ⊥) (λ n. (class_in m a ≡ ReadOnly) × (n ≡ raw w (first_byte m.program) a)) → MatchOption r (class_in m a ≡ Unmapped) (IsRead m k w a)
 read_first m k w a None aligned shared window first =
     unmapped_else (class_in m a) shared (other_class m.program a (none_window _ _ window)) first
 read_first m k w a (Some n) aligned shared window first =
     (mapped_class (class_in m a) ReadOnly first.0 (λ is. absurd (cc)), first.1 ∙ read_at m k ReadOnly w a (sym first.0) aligned)
 
 -- a byte is what an access to one byte reads
-pub as_byte : (m : MemoryParts) (k : Body) (a n : ℕ) → IsRead m k Byte a n → (class_in m a ≡ Unmapped → ⊥) × (n ≡ byte_seen m k a)
+pub as_byte : (m : MemoryParts) (k : OriginalState) (a n : ℕ) → IsRead m k Byte a n → (class_in m a ≡ Unmapped → ⊥) × (n ≡ byte_seen m k a)
 unfolding raw
 as_byte m k a n is = is
 
-pub as_byte_option : (m : MemoryParts) (k : Body) (a : ℕ) (r : Option ℕ) → false ≡ is_shared (class_in m a) → None ≡ (if is_in_window a then Some (raw Byte (window_memory k.window) a) else None) → MatchOption r (class_in m a ≡ ReadOnly → ⊥) (λ n. (class_in m a ≡ ReadOnly) × (n ≡ first_byte m.program a)) → MatchOption r (class_in m a ≡ Unmapped) (λ n. (class_in m a ≡ Unmapped → ⊥) × (n ≡ byte_seen m k a))
+pub as_byte_option : (m : MemoryParts) (k : OriginalState) (a : ℕ) (r : Option ℕ) → false ≡ is_shared (class_in m a) → None ≡ (if is_in_window a then Some (raw Byte (window_memory k.window) a) else None) → MatchOption r (class_in m a ≡ ReadOnly → ⊥) (λ n. (class_in m a ≡ ReadOnly) × (n ≡ first_byte m.program a)) → MatchOption r (class_in m a ≡ Unmapped) (λ n. (class_in m a ≡ Unmapped → ⊥) × (n ≡ byte_seen m k a))
 unfolding raw
 as_byte_option m k a None shared window first =
     unmapped_else (class_in m a) shared (other_class m.program a (none_window _ _ window)) first

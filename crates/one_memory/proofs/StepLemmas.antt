@@ -15,9 +15,9 @@ use Rattle.rv32_decode.specs.Widths.{width_of, is_aligned}
 use Rattle.rv32_step.specs.OneMemory.{Processor, LoadsFrom, request_at, request_for, answer, set_register, with_processor}
 use Rattle.micro_op.specs.Micro.{Meaning, Demands, meaning_of, index_address}
 use Rattle.micro_op.specs.declared.micro_op.MicroOp.{MicroOp}
-use Rattle.one_memory.specs.declared.processor.Body.{Body}
-use Rattle.one_memory.specs.declared.processor.Move.{Move}
-use Rattle.one_memory.specs.declared.processor.Move.TheVariants.{Next}
+use Rattle.one_memory.specs.declared.processor.OriginalState.{OriginalState}
+use Rattle.one_memory.specs.declared.processor.StepTarget.{StepTarget}
+use Rattle.one_memory.specs.declared.processor.StepTarget.TheVariants.{Next}
 use Rattle.one_memory.specs.Machine.{MemoryParts, Serves, Serving, IsDemandAt, Answers, Meets, Steps, processor_of, at_index, after_move, original_on, state_among}
 use Rattle.one_memory.proofs.ReadLemmas.{IsRead}
 
@@ -31,7 +31,7 @@ asks_for_load : (program : Program) (q : Processor) (kind : LoadKind) (r a : ℕ
 asks_for_load program q kind r a aligned there = rw (aligned, there) refl
 
 -- a load of what is read
-pub loaded : (p at : ℕ) (m : MemoryParts) (b b' : Body) (kind : LoadKind) (r a n : ℕ) → is_aligned (width_of kind) a ≡ true → IsRead m b (width_of kind) a n → processor_of (at_index ((at + 1) % 4294967296) b') ≡ set_register (processor_of (at_index at b)) r (extend kind n) → Meets p (Loads kind r a) at m b m b' Next
+pub loaded : (p at : ℕ) (m : MemoryParts) (b b' : OriginalState) (kind : LoadKind) (r a n : ℕ) → is_aligned (width_of kind) a ≡ true → IsRead m b (width_of kind) a n → processor_of (at_index ((at + 1) % 4294967296) b') ≡ set_register (processor_of (at_index at b)) r (extend kind n) → Meets p (Loads kind r a) at m b m b' Next
 loaded p at m b b' kind r a n aligned read now = λ nodes all.
     let q = processor_of (at_index at b) in
     let asks = asks_for_load (program_of m.program) q kind r a aligned (mapped _ read.0) in
@@ -42,14 +42,14 @@ serves_at : (e : Elf) (q : Processor) (m : Meaning) (d : Demand) (P : Demand →
 serves_at e q m d P is serves = rw is at serves
 
 -- what the micro-op demands is what the word requests
-pub served : (p at : ℕ) (m m' : MemoryParts) (b b' : Body) (op : MicroOp) (d : Demand) (move : Move) → Serves m.program (index_address 0 at) op → meaning_of 0 op (processor_of (at_index at b)).registers ≡ Demands d → Meets p d at m b m' b' move → Steps p at m b m' b' move
+pub served : (p at : ℕ) (m m' : MemoryParts) (b b' : OriginalState) (op : MicroOp) (d : Demand) (move : StepTarget) → Serves m.program (index_address 0 at) op → meaning_of 0 op (processor_of (at_index at b)).registers ≡ Demands d → Meets p d at m b m' b' move → Steps p at m b m' b' move
 served p at m m' b b' op d move serves means met =
     let q = processor_of (at_index at b) in
     let same = serves_at m.program q (meaning_of 0 op q.registers) d (IsDemandAt m.program (index_address 0 at) q) means (serves.serves q) refl in
     subst (λ r. Answers p r m (at_index at b) m' (after_move move at b')) (sym same) met
 
 -- what the instruction demands is what the word requests
-pub demanded : (p at : ℕ) (m m' : MemoryParts) (b b' : Body) (i : Instr) (d : Demand) (move : Move) → Some i ≡ code_at m.program (index_address 0 at) → d ≡ demand_of i (processor_of (at_index at b)).registers (index_address 0 at) → Meets p d at m b m' b' move → Steps p at m b m' b' move
+pub demanded : (p at : ℕ) (m m' : MemoryParts) (b b' : OriginalState) (i : Instr) (d : Demand) (move : StepTarget) → Some i ≡ code_at m.program (index_address 0 at) → d ≡ demand_of i (processor_of (at_index at b)).registers (index_address 0 at) → Meets p d at m b m' b' move → Steps p at m b m' b' move
 demanded p at m m' b b' i d move here is met =
     let q = processor_of (at_index at b) in
     let same = ap (request_for (program_of m.program) q) is ∙ ap (request_at (program_of m.program) q) here in

@@ -14,15 +14,15 @@ use Rattle.rv32_step.specs.Reservations.{with_reservation}
 use Rattle.rv32_step.specs.declared.Demand.TheVariants.{Reserves, StoresIf, Updates}
 use Rattle.rv32_step.specs.OneMemory.{Processor, State, ReservesAt, StoresWhere, UpdatesAt, request_for, answer, set_register, next_pc, after_exchange, after_conditional, with_processor, with_store, with_reserved, with_conditional, word_at}
 use Rattle.micro_op.specs.Micro.{index_address}
-use Rattle.one_memory.specs.declared.processor.Body.{Body}
-use Rattle.one_memory.specs.declared.processor.Move.TheVariants.{Next}
+use Rattle.one_memory.specs.declared.processor.OriginalState.{OriginalState}
+use Rattle.one_memory.specs.declared.processor.StepTarget.TheVariants.{Next}
 use Rattle.one_memory.specs.Machine.{MemoryParts, IsStored, Meets, processor_of, at_index, original_on, state_among, reserved_in, with_one}
 use Rattle.one_memory.proofs.ReadLemmas.{IsRead, class_in}
 use Rattle.one_memory.proofs.StepLemmas.{mapped}
 use Rattle.one_memory.proofs.TurnLemmas.{one_over}
 
 -- the state after a store
-state_stored : (nodes p : ℕ) (all : ℕ → Processor) (w : Width) (a v : ℕ) (m m' : MemoryParts) (b b' : Body) (q : Processor) → IsStored p w a v m b m' b' → with_store (original_on m nodes) (state_among all m) p q w a v ≡ state_among (with_one all p q) m'
+state_stored : (nodes p : ℕ) (all : ℕ → Processor) (w : Width) (a v : ℕ) (m m' : MemoryParts) (b b' : OriginalState) (q : Processor) → IsStored p w a v m b m' b' → with_store (original_on m nodes) (state_among all m) p q w a v ≡ state_among (with_one all p q) m'
 state_stored nodes p all w a v m m' b b' q h = λ t. record {
   shared = sym h.shared_is t;
   processors = with_one all p q;
@@ -44,12 +44,12 @@ next_at : (at : ℕ) → next_pc (index_address 0 at) ≡ index_address 0 ((at +
 next_at at = omega arith
 
 -- the word that is read
-word_read : (m : MemoryParts) (b : Body) (at a n nodes : ℕ) (all : ℕ → Processor) → IsRead m b Word a n → word_at (program_of m.program) (state_among all m) (processor_of (at_index at b)) a ≡ n
+word_read : (m : MemoryParts) (b : OriginalState) (at a n nodes : ℕ) (all : ℕ → Processor) → IsRead m b Word a n → word_at (program_of m.program) (state_among all m) (processor_of (at_index at b)) a ≡ n
 unfolding extend
 word_read m b at a n nodes all read = sym read.1
 
 -- a processor that has stored, and whose register is set
-processor_exchanged : (p at a v r value : ℕ) (m m' : MemoryParts) (b b1 b' : Body) → IsStored p Word a v m b m' b1 → registers_of b'.registers ≡ put (registers_of b1.registers) r value → b'.window ≡ b1.window → b'.written ≡ b1.written → after_exchange (program_of m.program) (processor_of (at_index at b)) a v r value ≡ processor_of (at_index ((at + 1) % 4294967296) b')
+processor_exchanged : (p at a v r value : ℕ) (m m' : MemoryParts) (b b1 b' : OriginalState) → IsStored p Word a v m b m' b1 → registers_of b'.registers ≡ put (registers_of b1.registers) r value → b'.window ≡ b1.window → b'.written ≡ b1.written → after_exchange (program_of m.program) (processor_of (at_index at b)) a v r value ≡ processor_of (at_index ((at + 1) % 4294967296) b')
 processor_exchanged p at a v r value m m' b b1 b' h registers window written = λ t. record {
   registers = (ap (λ (x : List ℕ). put (registers_of x) r value) (sym h.registers) ∙ sym registers) t;
   pc = next_at at t;
@@ -59,7 +59,7 @@ processor_exchanged p at a v r value m m' b b1 b' h registers window written = �
 }
 
 -- an update, where it may be made
-pub met_update : (p at : ℕ) (o : AmoOp) (r a v old new : ℕ) (m m' : MemoryParts) (b b1 b' : Body) → is_aligned Word a ≡ true → true ≡ is_writable (class_in m a) → IsRead m b Word a old → new ≡ amo o old v → IsStored p Word a new m b m' b1 → registers_of b'.registers ≡ put (registers_of b1.registers) r old → b'.window ≡ b1.window → b'.written ≡ b1.written → Meets p (Updates o r a v) at m b m' b' Next
+pub met_update : (p at : ℕ) (o : AmoOp) (r a v old new : ℕ) (m m' : MemoryParts) (b b1 b' : OriginalState) → is_aligned Word a ≡ true → true ≡ is_writable (class_in m a) → IsRead m b Word a old → new ≡ amo o old v → IsStored p Word a new m b m' b1 → registers_of b'.registers ≡ put (registers_of b1.registers) r old → b'.window ≡ b1.window → b'.written ≡ b1.written → Meets p (Updates o r a v) at m b m' b' Next
 met_update p at o r a v old new m m' b b1 b' aligned may read is h registers window written = λ nodes all.
     let q = processor_of (at_index at b) in
     let original = original_on m nodes in
@@ -78,7 +78,7 @@ state_reserved p all m m' reserved q rest is =
     ∙ ap (state_among (with_one all p q)) (sym rest)
 
 -- a processor whose register is set
-processor_set : (at : ℕ) (b b' : Body) (r value : ℕ) → registers_of b'.registers ≡ put (registers_of b.registers) r value → b'.window ≡ b.window → b'.written ≡ b.written → set_register (processor_of (at_index at b)) r value ≡ processor_of (at_index ((at + 1) % 4294967296) b')
+processor_set : (at : ℕ) (b b' : OriginalState) (r value : ℕ) → registers_of b'.registers ≡ put (registers_of b.registers) r value → b'.window ≡ b.window → b'.written ≡ b.written → set_register (processor_of (at_index at b)) r value ≡ processor_of (at_index ((at + 1) % 4294967296) b')
 processor_set at b b' r value registers window written = λ t. record {
   registers = sym registers t;
   pc = next_at at t;
@@ -88,7 +88,7 @@ processor_set at b b' r value registers window written = λ t. record {
 }
 
 -- a load that reserves
-pub met_reserve : (p at r a n : ℕ) (m m' : MemoryParts) (b b' : Body) → is_aligned Word a ≡ true → IsRead m b Word a n → registers_of b'.registers ≡ put (registers_of b.registers) r n → b'.window ≡ b.window → b'.written ≡ b.written → m' ≡ record m { reserved = m'.reserved } → reserved_in m'.reserved ≡ with_reservation (reserved_in m.reserved) p (Some a) → Meets p (Reserves r a) at m b m' b' Next
+pub met_reserve : (p at r a n : ℕ) (m m' : MemoryParts) (b b' : OriginalState) → is_aligned Word a ≡ true → IsRead m b Word a n → registers_of b'.registers ≡ put (registers_of b.registers) r n → b'.window ≡ b.window → b'.written ≡ b.written → m' ≡ record m { reserved = m'.reserved } → reserved_in m'.reserved ≡ with_reservation (reserved_in m.reserved) p (Some a) → Meets p (Reserves r a) at m b m' b' Next
 met_reserve p at r a n m m' b b' aligned read registers window written rest is = λ nodes all.
     let q = processor_of (at_index at b) in
     let original = original_on m nodes in
@@ -99,7 +99,7 @@ met_reserve p at r a n m m' b b' aligned read registers window written rest is =
     ∙ state_reserved p all m m' (Some a) (processor_of (at_index ((at + 1) % 4294967296) b')) rest is
 
 -- a conditional store that stores
-pub met_conditional : (p at r a v : ℕ) (m m1 m' : MemoryParts) (b b1 b' : Body) → is_aligned Word a ≡ true → true ≡ is_writable (class_in m a) → holds (reserved_in m.reserved p) a ≡ true → IsStored p Word a v m b m1 b1 → registers_of b'.registers ≡ put (registers_of b1.registers) r 0 → b'.window ≡ b1.window → b'.written ≡ b1.written → m' ≡ record m1 { reserved = m'.reserved } → reserved_in m'.reserved ≡ with_reservation (reserved_in m1.reserved) p None → Meets p (StoresIf r a v) at m b m' b' Next
+pub met_conditional : (p at r a v : ℕ) (m m1 m' : MemoryParts) (b b1 b' : OriginalState) → is_aligned Word a ≡ true → true ≡ is_writable (class_in m a) → holds (reserved_in m.reserved p) a ≡ true → IsStored p Word a v m b m1 b1 → registers_of b'.registers ≡ put (registers_of b1.registers) r 0 → b'.window ≡ b1.window → b'.written ≡ b1.written → m' ≡ record m1 { reserved = m'.reserved } → reserved_in m'.reserved ≡ with_reservation (reserved_in m1.reserved) p None → Meets p (StoresIf r a v) at m b m' b' Next
 met_conditional p at r a v m m1 m' b b1 b' aligned may reserved h registers window written rest is = λ nodes all.
     let q = processor_of (at_index at b) in
     let original = original_on m nodes in

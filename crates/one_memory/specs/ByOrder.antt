@@ -6,7 +6,7 @@ use Rattle.rv32_program.specs.declared.End.{End}
 use Rattle.rv32_program.specs.declared.End.TheVariants.{Exited, Stopped}
 use Rattle.rv32_program.specs.declared.Exit.{Exit}
 use Rattle.rv32_step.specs.OneMemory.{Original, State, Step, opening, step, run}
-use Rattle.workload.specs.Orders.{following, choice}
+use Rattle.random_order.specs.Orders.{following, choice}
 
 -- processor p has made one more step
 abbrev pub one_more : (ℕ → ℕ) → ℕ → ℕ → ℕ

@@ -6,7 +6,7 @@ use Rattle.exec_map.specs.Contents.{program_of, first_byte}
 use Rattle.block_layout.specs.Layout.{Shape}
 use Rattle.byte_range.specs.Lines.{LineBytes, lines_memory}
 use Rattle.byte_range.specs.Window.{window_memory}
-use Rattle.first_memory.specs.SharedLines.{HasReadOnlyLines}
+use Rattle.exec_map.specs.SharedLines.{HasReadOnlyLines}
 use Rattle.rv32_program.specs.Program.{class_at}
 use Rattle.rv32_step.specs.Registers.{registers_of}
 use Rattle.rv32_step.specs.Memory.{byte_by, shared_after, private_after}
@@ -17,12 +17,12 @@ use Rattle.rv32_step.specs.declared.Demand.{Demand}
 use Rattle.rv32_step.specs.OneMemory.{Original, Processor, State, Request, first_processor, answer, request, request_for}
 use Rattle.micro_op.specs.Micro.{Meaning, Unserved, Demands, Enters, meaning_of, index_address}
 use Rattle.micro_op.specs.declared.micro_op.MicroOp.{MicroOp}
-use Rattle.one_memory.specs.declared.code.Code.{Code}
-use Rattle.one_memory.specs.declared.code.Stretch.{Stretch}
-use Rattle.one_memory.specs.declared.processor.Body.{Body}
+use Rattle.one_memory.specs.declared.code.CodeTable.{CodeTable}
+use Rattle.one_memory.specs.declared.code.CodeRegion.{CodeRegion}
+use Rattle.one_memory.specs.declared.processor.OriginalState.{OriginalState}
 use Rattle.one_memory.specs.declared.processor.Processor.{Processor as ProcessorParts}
-use Rattle.one_memory.specs.declared.processor.Move.{Move}
-use Rattle.one_memory.specs.declared.processor.Move.TheVariants.{Next, To, Ends}
+use Rattle.one_memory.specs.declared.processor.StepTarget.{StepTarget}
+use Rattle.one_memory.specs.declared.processor.StepTarget.TheVariants.{Next, To, Ends}
 
 -- what all processors have in common
 pub record MemoryParts : Type 0 where
@@ -88,7 +88,7 @@ abbrev pub state_of : Parts → State
 state_of h = state_among (processors_of h) h.memory
 
 -- the byte of an address, as a processor sees it
-abbrev pub byte_seen : MemoryParts → Body → ℕ → ℕ
+abbrev pub byte_seen : MemoryParts → OriginalState → ℕ → ℕ
 byte_seen m body a =
     byte_by (class_at (program_of m.program) a) (lines_memory m.shared (first_byte m.program) a)
     (first_byte m.program a) (window_memory body.window a) 0
@@ -109,21 +109,21 @@ pub record Serves (e : Elf) (a : ℕ) (op : MicroOp) : Type 0 where
   pub serves : (q : Processor) → Serving (meaning_of 0 op q.registers) (IsDemandAt e a q)
 
 -- the micro-ops of the words from an index on
-pub record IsStretchOf (e : Elf) (s : Stretch) : Type 0 where
+pub record IsStretchOf (e : Elf) (s : CodeRegion) : Type 0 where
   pub serve : (k : ℕ) (op : MicroOp) → slice_get s.ops.items k ≡ Some op
       → Serves e (index_address 0 (s.first + k)) op
 
 -- the code of a program
-pub record IsCodeOf (e : Elf) (code : Code) : Type 0 where
+pub record IsCodeOf (e : Elf) (code : CodeTable) : Type 0 where
   pub near : IsStretchOf e code.near
-  pub far : (j : ℕ) (s : Stretch) → slice_get code.far.items j ≡ Some s → IsStretchOf e s
+  pub far : (j : ℕ) (s : CodeRegion) → slice_get code.far.items j ≡ Some s → IsStretchOf e s
 
 -- a processor at the index of a word, that has no exit
-abbrev pub at_index : ℕ → Body → ProcessorParts
+abbrev pub at_index : ℕ → OriginalState → ProcessorParts
 at_index at body = record { at = at; body = body; exit = None }
 
 -- a processor after a move from the index of a word
-abbrev pub after_move : Move → ℕ → Body → ProcessorParts
+abbrev pub after_move : StepTarget → ℕ → OriginalState → ProcessorParts
 after_move Next at body = at_index ((at + 1) % 2 ^ 32) body
 after_move (To target) at body = at_index target body
 after_move (Ends e) at body = record { at = at; body = body; exit = Some e }
@@ -133,8 +133,9 @@ abbrev pub with_one : (ℕ → Processor) → ℕ → Processor → ℕ → Proc
 with_one all p q i = if i == p then q else all i
 
 -- what a processor sees has these bytes and reservations, and else is as it was
-pub record IsPut (shared private : ℕ → ℕ) (reserved : ℕ → Option ℕ) (m : MemoryParts) (b : Body)
-    (m' : MemoryParts) (b' : Body) : Type 0 where
+pub record IsPut (shared private : ℕ → ℕ) (reserved : ℕ → Option ℕ) (m : MemoryParts)
+    (b : OriginalState)
+    (m' : MemoryParts) (b' : OriginalState) : Type 0 where
   pub shared_is : lines_memory m'.shared (first_byte m'.program) ≡ shared
   pub private_is : window_memory b'.window ≡ private
   pub reserved_is : reserved_in m'.reserved ≡ reserved
@@ -143,7 +144,8 @@ pub record IsPut (shared private : ℕ → ℕ) (reserved : ℕ → Option ℕ) 
   pub written : b'.written ≡ b.written
 
 -- processor p has stored
-abbrev pub IsStored : ℕ → Width → ℕ → ℕ → MemoryParts → Body → MemoryParts → Body → Type 0
+abbrev pub IsStored : ℕ → Width → ℕ → ℕ → MemoryParts → OriginalState → MemoryParts → OriginalState
+    → Type 0
 IsStored p w a value m b m' b' =
     IsPut
     (shared_after (class_at (program_of m.program) a)
@@ -154,7 +156,7 @@ IsStored p w a value m b m' b' =
     (after_store_by m.layout p a (reserved_in m.reserved)) m b m' b'
 
 -- nothing was stored
-abbrev pub IsKept : MemoryParts → Body → MemoryParts → Body → Type 0
+abbrev pub IsKept : MemoryParts → OriginalState → MemoryParts → OriginalState → Type 0
 IsKept m b m' b' =
     IsPut (lines_memory m.shared (first_byte m.program)) (window_memory b.window)
     (reserved_in m.reserved) m b m' b'
@@ -168,13 +170,15 @@ Answers p r m k m' k' =
     ≡ state_among (with_one all p (processor_of k')) m'
 
 -- the demand of the word at an index has been met, for processor p
-abbrev pub Meets : ℕ → Demand → ℕ → MemoryParts → Body → MemoryParts → Body → Move → Type 0
+abbrev pub Meets : ℕ → Demand → ℕ → MemoryParts → OriginalState → MemoryParts → OriginalState
+    → StepTarget → Type 0
 Meets p d at m body m' body' move =
     Answers p (request_for (program_of m.program) (processor_of (at_index at body)) d)
     m (at_index at body) m' (after_move move at body')
 
 -- a step from the index of a word has been made, by processor p
-abbrev pub Steps : ℕ → ℕ → MemoryParts → Body → MemoryParts → Body → Move → Type 0
+abbrev pub Steps : ℕ → ℕ → MemoryParts → OriginalState → MemoryParts → OriginalState → StepTarget
+    → Type 0
 Steps p at m body m' body' move =
     Answers p (request (program_of m.program) (processor_of (at_index at body)))
     m (at_index at body) m' (after_move move at body')

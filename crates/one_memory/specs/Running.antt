@@ -3,14 +3,14 @@ use Rattle.std.specs.Prelude.{◌≡◌, ◌≤◌, ◌^◌, ℕ, List, length, 
 use Rattle.rv32_step.specs.OneMemory.{State, Step, run}
 use Rattle.one_memory.specs.Machine.{original_of, state_of}
 use Rattle.one_memory.specs.ByOrder.{live, FollowsOrder}
-use Rattle.one_memory.specs.declared.by_order.Run.{Run}
+use Rattle.one_memory.specs.declared.by_order.OriginalRun.{OriginalRun}
 
 -- the steps that each processor has made
-abbrev pub steps_of : Run → ℕ → ℕ
+abbrev pub steps_of : OriginalRun → ℕ → ℕ
 steps_of r = slice_index r.steps.items
 
 -- the parts agree
-pub record IsRunning (r : Run) : Type 0 where
+pub record IsRunning (r : OriginalRun) : Type 0 where
   pub few : r.nodes ≤ 16
   pub budget : r.budget ≤ 2 ^ 32
   pub nodes : (original_of r.machine).nodes ≡ r.nodes
@@ -18,7 +18,7 @@ pub record IsRunning (r : Run) : Type 0 where
   pub live : r.live.items ≡ live (original_of r.machine) r.budget (steps_of r) (state_of r.machine)
 
 -- from one run on, the processors that the order of a number picks were stepped, until none goes on
-pub record HasRun (from : Run) (number : ℕ) (end : State) : Type 0 where
+pub record HasRun (from : OriginalRun) (number : ℕ) (end : State) : Type 0 where
   pub picks : List ℕ
   pub ordered : FollowsOrder (original_of from.machine) from.budget number (steps_of from)
       (state_of from.machine) picks

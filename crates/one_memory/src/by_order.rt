@@ -11,20 +11,20 @@ ghost use Rattle.one_memory.specs.Running.{IsRunning, HasRun, steps_of};
 use crate::{OneMemory, StepRefused};
 use block_layout::Layout;
 use exec_map::{End, Exit, Program};
+use random_order::{Order, order_of};
 use run_limits::{Budget, NodeCount};
 use std::alloc::{AllocError, Global};
-use workload::{Order, order_of};
 
 /// What a run left: the bytes printed, and how each processor ended.
 #[derive(Debug, Drop)]
-pub struct Outcome {
+pub struct OriginalOutcome {
     pub output: Vec<u8>,
     pub ends: Vec<End>,
 }
 
 /// Processors under way: how many steps each has made, and which go on.
 #[derive(Drop)]
-struct Run<'a> {
+struct OriginalRun<'a> {
     machine: OneMemory<'a>,
     nodes: NodeCount,
     /// After so many steps a processor is stopped.
@@ -43,19 +43,19 @@ pub fn run_by_order(
     nodes: NodeCount,
     order: u32,
     budget: Budget,
-) -> Result<Outcome, AllocError>
+) -> Result<OriginalOutcome, AllocError>
     ensures { IfOk result (λ r. IsRunByOrder
         (record { program = program_of program.now; layout = layout.now; nodes = nodes })
         budget order
         r.output.items r.ends.items) }
 {
-    let mut run = Run::new(alloc, program, layout, nodes, budget)?;
+    let mut run = OriginalRun::new(alloc, program, layout, nodes, budget)?;
     let mut order = order_of(order);
     run.execute(&mut order)?;
     run.outcome(alloc)
 }
 
-impl<'a> Run<'a> {
+impl<'a> OriginalRun<'a> {
     /// So many processors of a program, whose shared lines have these blocks, at the start.
     fn new(
         alloc: Global,
@@ -63,7 +63,7 @@ impl<'a> Run<'a> {
         layout: &'a Layout,
         nodes: NodeCount,
         budget: Budget,
-    ) -> Result<Run<'a>, AllocError>
+    ) -> Result<OriginalRun<'a>, AllocError>
         ensures running { IfOk result IsRunning }
         ensures opening { IfOk result (λ r. state_of r.machine ≡ opening (original_of r.machine)) }
         ensures steps { IfOk result (λ r. steps_of r ≡ (λ p. 0)) }
@@ -73,7 +73,7 @@ impl<'a> Run<'a> {
         ensures nodes { IfOk result (λ r. r.nodes ≡ nodes) }
         ensures budget { IfOk result (λ r. r.budget ≡ budget) }
     {
-        Ok(Run {
+        Ok(OriginalRun {
             machine: OneMemory::new(alloc, program, layout, nodes)?,
             nodes,
             budget: budget.number(),
@@ -156,7 +156,7 @@ impl<'a> Run<'a> {
     }
 
     /// What the run left, once no processor goes on.
-    fn outcome(self, alloc: Global) -> Result<Outcome, AllocError>
+    fn outcome(self, alloc: Global) -> Result<OriginalOutcome, AllocError>
         requires { (original_of self.machine).nodes ≡ self.nodes }
         ensures output { IfOk result (λ r.
             r.output.items ≡ (state_of self.entry.machine).output) }
@@ -165,7 +165,7 @@ impl<'a> Run<'a> {
     {
         let ends = self.ends(alloc)?;
         let output = self.machine.into_output();
-        Ok(Outcome { output, ends })
+        Ok(OriginalOutcome { output, ends })
     }
 
     /// How each processor ended.

@@ -12,9 +12,9 @@ use std::alloc::{AllocError, Global};
 /// A stretch of words goes on over so many bytes that hold no code.
 const GAP: u32 = 4096;
 
-/// The micro-ops of words one behind the other. One that is rare may stand where there is no code.
+/// The micro-ops of words one behind the other. One that is slow may stand where there is no code.
 #[derive(Drop)]
-pub struct Stretch {
+pub struct CodeRegion {
     /// The index of the first word, which is its address by four.
     first: u32,
     ops: Vec<MicroOp>,
@@ -22,26 +22,26 @@ pub struct Stretch {
 
 /// The micro-ops of all code words. Stretches that lie far apart are apart.
 #[derive(Drop)]
-pub struct Code {
-    near: Stretch,
+pub struct CodeTable {
+    near: CodeRegion,
     /// The stretches behind the first, ascending.
-    far: Vec<Stretch>,
+    far: Vec<CodeRegion>,
 }
 
-impl Code {
+impl CodeTable {
     /// Decodes the code words of a program.
-    pub fn read(alloc: Global, program: &Program<'_>) -> Result<Code, AllocError>
+    pub fn read(alloc: Global, program: &Program<'_>) -> Result<CodeTable, AllocError>
         ensures { IfOk result (IsCodeOf program.now) }
     {
-        let near = Stretch::read(alloc, program, program.next_code(0).unwrap_or(0))?;
+        let near = CodeRegion::read(alloc, program, program.next_code(0).unwrap_or(0))?;
         let mut far = Vec::new(alloc);
         let mut next = program.next_code(near.end());
         while let Some(address) = next {
-            let stretch = Stretch::read(alloc, program, address)?;
+            let stretch = CodeRegion::read(alloc, program, address)?;
             next = program.next_code(stretch.end());
             far.push(stretch)?;
         }
-        Ok(Code { near, far })
+        Ok(CodeTable { near, far })
     }
 
     /// The micro-op of the word with an index; `None` where no code stands.
@@ -70,9 +70,9 @@ impl Code {
     }
 }
 
-impl Stretch {
+impl CodeRegion {
     /// Decodes the words from an address on, as far as code goes on without a wide gap.
-    fn read(alloc: Global, program: &Program<'_>, address: u32) -> Result<Stretch, AllocError>
+    fn read(alloc: Global, program: &Program<'_>, address: u32) -> Result<CodeRegion, AllocError>
         requires aligned { address % 4 ≡ 0 }
         requires low { address + 4 ≤ 0x7fff0000 }
         ensures stretch { IfOk result (IsStretchOf program.now) }
@@ -89,7 +89,7 @@ impl Stretch {
                 _ => break,
             }
         }
-        Ok(Stretch {
+        Ok(CodeRegion {
             first: address / 4,
             ops,
         })
@@ -113,12 +113,12 @@ impl Stretch {
     }
 }
 
-/// The micro-op of the word at an address; a rare one where no code stands.
+/// The micro-op of the word at an address; a slow one where no code stands.
 fn micro_op(program: &Program<'_>, address: u32) -> MicroOp
     ensures { Serves program.now address result }
 {
     match program.code_at(address) {
         Some(i) => MicroOp::of(i, address, 0),
-        None => MicroOp::RARE,
+        None => MicroOp::SLOW,
     }
 }

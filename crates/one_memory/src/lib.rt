@@ -20,7 +20,7 @@ mod reservations;
 use crate::memory::Memory;
 use crate::processor::Processor;
 use block_layout::Layout;
-pub use by_order::{Outcome, run_by_order};
+pub use by_order::{OriginalOutcome, run_by_order};
 use exec_map::{Exit, Program};
 pub use law::reservation_law;
 use run_limits::NodeCount;

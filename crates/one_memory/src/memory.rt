@@ -18,12 +18,11 @@ ghost use Rattle.one_memory.specs.Stretches.{reaches_or_stands};
 ghost use Rattle.one_memory.specs.Machine.{Serves, reserved_in};
 
 use crate::breaks::BlockOf;
-use crate::code::Code;
+use crate::code::CodeTable;
 use crate::reservations::Reservations;
 use block_layout::{Block, Layout};
 use byte_range::LineMemory;
-use exec_map::{Class, Program};
-use first_memory::{read_only_memory, shared_memory};
+use exec_map::{Class, Program, read_only_memory, shared_memory};
 use micro_op::MicroOp;
 use rv32_decode::{Instr, Width};
 use rv32_step::Registers;
@@ -35,7 +34,7 @@ use std::marker::Model;
 pub struct Memory<'a> {
     program: &'a Program<'a>,
     layout: &'a Layout,
-    code: Code,
+    code: CodeTable,
     shared: LineMemory,
     reservations: Reservations,
     /// The read-only lines.
@@ -44,7 +43,7 @@ pub struct Memory<'a> {
 }
 
 impl<'a> Model for Memory<'a> {
-    ghost use Rattle.first_memory.specs.SharedLines.{HasSharedLines};
+    ghost use Rattle.exec_map.specs.SharedLines.{HasSharedLines};
     ghost use Rattle.one_memory.specs.Machine.{MemoryParts, IsCodeOf, HasFixed};
 
     ghost Value = { MemoryParts };
@@ -81,7 +80,7 @@ impl<'a> Memory<'a> {
             program,
             layout,
             reservations: Reservations::new(),
-            code: Code::read(alloc, program)?,
+            code: CodeTable::read(alloc, program)?,
             shared: shared_memory(alloc, program)?,
             fixed: read_only_memory(alloc, program)?,
             output: Vec::new(alloc),

@@ -32,7 +32,7 @@ use std::alloc::{AllocError, Global};
 /// What words read and write of their processor: its registers, the bytes of its own window, and
 /// the bytes that a write in progress has written.
 #[derive(Drop)]
-pub struct Body {
+pub struct OriginalState {
     registers: Registers,
     window: Window,
     written: u32,
@@ -42,13 +42,13 @@ pub struct Body {
 #[derive(Drop)]
 pub struct Processor {
     at: u32,
-    body: Body,
+    body: OriginalState,
     exit: Option<Exit>,
 }
 
 /// Where a step leads.
 #[derive(Clone, Copy)]
-pub enum Move {
+pub enum StepTarget {
     /// To the next word.
     Next,
     /// To the word with this index.
@@ -72,7 +72,7 @@ impl Processor {
     {
         Ok(Processor {
             at: entry / 4,
-            body: Body {
+            body: OriginalState {
                 registers: Registers::first(number, nodes.number()),
                 window: Window::zeros(alloc)?,
                 written: 0,
@@ -115,9 +115,9 @@ impl Processor {
         ensures err_memory { OnErr result (memory.new ≡ memory.old) }
     {
         match step(p, self.at, &mut self.body, memory)? {
-            Move::Next => self.at = self.at.wrapping_add(1),
-            Move::To(target) => self.at = target,
-            Move::Ends(exit) => self.exit = Some(exit),
+            StepTarget::Next => self.at = self.at.wrapping_add(1),
+            StepTarget::To(target) => self.at = target,
+            StepTarget::Ends(exit) => self.exit = Some(exit),
         }
         Ok(())
     }
@@ -138,9 +138,9 @@ impl Processor {
             let next = step(p, at, &mut self.body, memory)?;
             steps += 1;
             match next {
-                Move::Next => at = at.wrapping_add(1),
-                Move::To(target) => at = target,
-                Move::Ends(exit) => {
+                StepTarget::Next => at = at.wrapping_add(1),
+                StepTarget::To(target) => at = target,
+                StepTarget::Ends(exit) => {
                     self.exit = Some(exit);
                     break;
                 }
@@ -153,7 +153,12 @@ impl Processor {
 
 /// Executes the word with an index.
 #[inline(always)]
-fn step(p: u8, at: u32, body: &mut Body, memory: &mut Memory<'_>) -> Result<Move, AllocError>
+fn step(
+    p: u8,
+    at: u32,
+    body: &mut OriginalState,
+    memory: &mut Memory<'_>,
+) -> Result<StepTarget, AllocError>
     requires { p < 16 }
     ensures ok { IfOk result (Steps p at memory.old body.old memory.new body.new) }
     ensures program { memory.new.program ≡ memory.old.program }
@@ -166,13 +171,18 @@ fn step(p: u8, at: u32, body: &mut Body, memory: &mut Memory<'_>) -> Result<Move
     {
         meet(demand, p, at, body, memory)
     } else {
-        step_rare(p, at, body, memory)
+        step_slow(p, at, body, memory)
     }
 }
 
 /// Executes the word with an index, whichever it is.
 #[inline(never)]
-fn step_rare(p: u8, at: u32, body: &mut Body, memory: &mut Memory<'_>) -> Result<Move, AllocError>
+fn step_slow(
+    p: u8,
+    at: u32,
+    body: &mut OriginalState,
+    memory: &mut Memory<'_>,
+) -> Result<StepTarget, AllocError>
     requires { p < 16 }
     ensures ok { IfOk result (Steps p at memory.old body.old memory.new body.new) }
     ensures program { memory.new.program ≡ memory.old.program }
@@ -183,7 +193,7 @@ fn step_rare(p: u8, at: u32, body: &mut Body, memory: &mut Memory<'_>) -> Result
     let pc = address_of(at);
     match memory.code_at(pc) {
         Some(i) => meet(demand_of(i, &body.registers, pc), p, at, body, memory),
-        None => Ok(Move::Ends(Exit::Fetch(pc))),
+        None => Ok(StepTarget::Ends(Exit::Fetch(pc))),
     }
 }
 
@@ -204,7 +214,7 @@ fn demand_by(op: &MicroOp, registers: &Registers) -> Option<Demand>
     let b = registers.get(op.rs2);
     let sum = a.wrapping_add(op.imm);
     let demand = match op.kind {
-        MicroKind::Rare | MicroKind::EnterBy => return None,
+        MicroKind::Slow | MicroKind::EnterBy => return None,
         MicroKind::Nothing => Demand::Continues,
         MicroKind::Constant => Demand::Sets(op.rd, op.imm),
         MicroKind::Jump => Demand::Jumps(op.rd, address_of(op.imm)),
@@ -280,9 +290,9 @@ fn meet(
     d: Demand,
     p: u8,
     at: u32,
-    body: &mut Body,
+    body: &mut OriginalState,
     memory: &mut Memory<'_>,
-) -> Result<Move, AllocError>
+) -> Result<StepTarget, AllocError>
     requires { p < 16 }
     ensures ok { IfOk result (Meets p d at memory.old body.old memory.new body.new) }
     ensures program { memory.new.program ≡ memory.old.program }
@@ -293,9 +303,9 @@ fn meet(
     match d {
         Demand::Sets(r, value) => {
             body.registers.set(r, value);
-            Ok(Move::Next)
+            Ok(StepTarget::Next)
         }
-        Demand::Continues => Ok(Move::Next),
+        Demand::Continues => Ok(StepTarget::Next),
         Demand::Jumps(r, target) => Ok(jump(r, target, at, body)),
         Demand::Branches(target) => Ok(go_to(target, at)),
         Demand::Loads(kind, r, address) => Ok(load(kind, r, address, at, body, memory)),
@@ -303,7 +313,7 @@ fn meet(
             Ok(store(width, address, value, p, at, body, memory))
         }
         Demand::Calls => call(at, body, memory),
-        Demand::Traps(exit) => Ok(Move::Ends(exit)),
+        Demand::Traps(exit) => Ok(StepTarget::Ends(exit)),
         Demand::Reserves(r, address) => Ok(load_reserved(r, address, p, at, body, memory)),
         Demand::StoresIf(r, address, value) => {
             Ok(store_conditional(r, address, value, p, at, body, memory))
@@ -316,53 +326,60 @@ fn meet(
 
 /// Goes to a target, with the address of the next word in a register.
 #[inline(always)]
-fn jump(r: Reg, target: u32, at: u32, body: &mut Body) -> Move
+fn jump(r: Reg, target: u32, at: u32, body: &mut OriginalState) -> StepTarget
     ensures { (p : ℕ) (m : MemoryParts) →
         Meets p (Demand.Jumps r target) at m body.old m body.new result }
 {
     if target % 4 == 0 {
         body.registers.set(r, address_of(at.wrapping_add(1)));
-        Move::To(target / 4)
+        StepTarget::To(target / 4)
     } else {
-        Move::Ends(Exit::Misaligned(address_of(at)))
+        StepTarget::Ends(Exit::Misaligned(address_of(at)))
     }
 }
 
 /// Goes to a target.
 #[inline(always)]
-fn go_to(target: u32, at: u32) -> Move
-    ensures { (p : ℕ) (m : MemoryParts) (body : Body) →
+fn go_to(target: u32, at: u32) -> StepTarget
+    ensures { (p : ℕ) (m : MemoryParts) (body : OriginalState) →
         Meets p (Demand.Branches target) at m body m body result }
 {
     if target % 4 == 0 {
-        Move::To(target / 4)
+        StepTarget::To(target / 4)
     } else {
-        Move::Ends(Exit::Misaligned(address_of(at)))
+        StepTarget::Ends(Exit::Misaligned(address_of(at)))
     }
 }
 
 /// Loads into a register, where the access may be made.
 #[inline(always)]
-fn load(kind: LoadKind, r: Reg, address: u32, at: u32, body: &mut Body, memory: &Memory<'_>) -> Move
+fn load(
+    kind: LoadKind,
+    r: Reg,
+    address: u32,
+    at: u32,
+    body: &mut OriginalState,
+    memory: &Memory<'_>,
+) -> StepTarget
     ensures { (p : ℕ) → Meets p (Demand.Loads kind r address) at
         memory.now body.old memory.now body.new result }
 {
     let width = kind.width();
     if !width.is_aligned(address) {
-        return Move::Ends(Exit::Misaligned(address_of(at)));
+        return StepTarget::Ends(Exit::Misaligned(address_of(at)));
     }
     match read(width, address, body, memory) {
         Some(number) => {
             body.registers.set(r, extend(kind, number));
-            Move::Next
+            StepTarget::Next
         }
-        None => Move::Ends(Exit::Access(address_of(at))),
+        None => StepTarget::Ends(Exit::Access(address_of(at))),
     }
 }
 
 /// The number that an aligned access reads; `None` where the line isn't mapped.
 #[inline(always)]
-fn read(width: Width, address: u32, body: &Body, memory: &Memory<'_>) -> Option<u32>
+fn read(width: Width, address: u32, body: &OriginalState, memory: &Memory<'_>) -> Option<u32>
     requires { is_aligned width address ≡ true }
     ensures { MatchOption result
         (class_at (program_of memory.now.program) address ≡ Unmapped)
@@ -386,21 +403,21 @@ fn store(
     value: u32,
     p: u8,
     at: u32,
-    body: &mut Body,
+    body: &mut OriginalState,
     memory: &mut Memory<'_>,
-) -> Move
+) -> StepTarget
     ensures ok { Meets p (Demand.Stores width address value) at
         memory.old body.old memory.new body.new result }
     ensures program { memory.new.program ≡ memory.old.program }
     ensures layout { memory.new.layout ≡ memory.old.layout }
 {
     if !width.is_aligned(address) {
-        return Move::Ends(Exit::Misaligned(address_of(at)));
+        return StepTarget::Ends(Exit::Misaligned(address_of(at)));
     }
     if put_at(width, address, value, p, body, memory) {
-        Move::Next
+        StepTarget::Next
     } else {
-        Move::Ends(Exit::Access(address_of(at)))
+        StepTarget::Ends(Exit::Access(address_of(at)))
     }
 }
 
@@ -412,7 +429,7 @@ fn put_at(
     address: u32,
     value: u32,
     p: u8,
-    body: &mut Body,
+    body: &mut OriginalState,
     memory: &mut Memory<'_>,
 ) -> bool
     requires { is_aligned width address ≡ true }
@@ -441,9 +458,9 @@ fn load_reserved(
     address: u32,
     p: u8,
     at: u32,
-    body: &mut Body,
+    body: &mut OriginalState,
     memory: &mut Memory<'_>,
-) -> Move
+) -> StepTarget
     requires { p < 16 }
     ensures ok { Meets p (Demand.Reserves r address) at
         memory.old body.old memory.new body.new result }
@@ -451,15 +468,15 @@ fn load_reserved(
     ensures layout { memory.new.layout ≡ memory.old.layout }
 {
     if !Width::Word.is_aligned(address) {
-        return Move::Ends(Exit::Misaligned(address_of(at)));
+        return StepTarget::Ends(Exit::Misaligned(address_of(at)));
     }
     match read(Width::Word, address, body, memory) {
         Some(word) => {
             body.registers.set(r, word);
             memory.reserve(p, Some(address));
-            Move::Next
+            StepTarget::Next
         }
-        None => Move::Ends(Exit::Access(address_of(at))),
+        None => StepTarget::Ends(Exit::Access(address_of(at))),
     }
 }
 
@@ -471,9 +488,9 @@ fn store_conditional(
     value: u32,
     p: u8,
     at: u32,
-    body: &mut Body,
+    body: &mut OriginalState,
     memory: &mut Memory<'_>,
-) -> Move
+) -> StepTarget
     requires { p < 16 }
     ensures ok { Meets p (Demand.StoresIf r address value) at
         memory.old body.old memory.new body.new result }
@@ -481,20 +498,20 @@ fn store_conditional(
     ensures layout { memory.new.layout ≡ memory.old.layout }
 {
     if !Width::Word.is_aligned(address) {
-        return Move::Ends(Exit::Misaligned(address_of(at)));
+        return StepTarget::Ends(Exit::Misaligned(address_of(at)));
     }
     if !memory.may_store(address) {
-        return Move::Ends(Exit::Access(address_of(at)));
+        return StepTarget::Ends(Exit::Access(address_of(at)));
     }
     if !holds(memory.reservation(p), address) {
         body.registers.set(r, 1);
         memory.reserve(p, None);
-        return Move::Next;
+        return StepTarget::Next;
     }
     put_at(Width::Word, address, value, p, body, memory);
     body.registers.set(r, 0);
     memory.reserve(p, None);
-    Move::Next
+    StepTarget::Next
 }
 
 /// Whether this address is reserved.
@@ -516,32 +533,36 @@ fn update(
     value: u32,
     p: u8,
     at: u32,
-    body: &mut Body,
+    body: &mut OriginalState,
     memory: &mut Memory<'_>,
-) -> Move
+) -> StepTarget
     ensures ok { Meets p (Demand.Updates op r address value) at
         memory.old body.old memory.new body.new result }
     ensures program { memory.new.program ≡ memory.old.program }
     ensures layout { memory.new.layout ≡ memory.old.layout }
 {
     if !Width::Word.is_aligned(address) {
-        return Move::Ends(Exit::Misaligned(address_of(at)));
+        return StepTarget::Ends(Exit::Misaligned(address_of(at)));
     }
     let Some(old) = read(Width::Word, address, body, memory) else {
-        return Move::Ends(Exit::Access(address_of(at)));
+        return StepTarget::Ends(Exit::Access(address_of(at)));
     };
     let new = amo(op, old, value);
     if put_at(Width::Word, address, new, p, body, memory) {
         body.registers.set(r, old);
-        Move::Next
+        StepTarget::Next
     } else {
-        Move::Ends(Exit::Access(address_of(at)))
+        StepTarget::Ends(Exit::Access(address_of(at)))
     }
 }
 
 /// Makes one step of a call.
 #[inline(never)]
-fn call(at: u32, body: &mut Body, memory: &mut Memory<'_>) -> Result<Move, AllocError>
+fn call(
+    at: u32,
+    body: &mut OriginalState,
+    memory: &mut Memory<'_>,
+) -> Result<StepTarget, AllocError>
     ensures ok { (p : ℕ) → IfOk result
         (Meets p Demand.Calls at memory.old body.old memory.new body.new) }
     ensures program { memory.new.program ≡ memory.old.program }
@@ -550,25 +571,30 @@ fn call(at: u32, body: &mut Body, memory: &mut Memory<'_>) -> Result<Move, Alloc
     ensures err_memory { OnErr result (memory.new ≡ memory.old) }
 {
     match call_step(&body.registers, body.written) {
-        CallStep::Ends(code) => Ok(Move::Ends(Exit::Code(code))),
+        CallStep::Ends(code) => Ok(StepTarget::Ends(Exit::Code(code))),
         CallStep::Returns(value) => Ok(return_with(value, body)),
         CallStep::Puts(address) => put(address, at, body, memory),
     }
 }
 
 /// Ends a call with a result.
-fn return_with(value: u32, body: &mut Body) -> Move
-    ensures next { result ≡ Move.Next }
+fn return_with(value: u32, body: &mut OriginalState) -> StepTarget
+    ensures next { result ≡ StepTarget.Next }
     ensures value { (at : ℕ) → processor_of (at_index ((at + 1) % 2 ^ 32) body.new)
         ≡ model.after_call (processor_of (at_index at body.old)) value }
 {
     body.registers.set(Reg::A0, value);
     body.written = 0;
-    Move::Next
+    StepTarget::Next
 }
 
 /// Prints the byte of an address, or ends the write where the address isn't mapped.
-fn put(address: u32, at: u32, body: &mut Body, memory: &mut Memory<'_>) -> Result<Move, AllocError>
+fn put(
+    address: u32,
+    at: u32,
+    body: &mut OriginalState,
+    memory: &mut Memory<'_>,
+) -> Result<StepTarget, AllocError>
     requires { body.old.written + 1 < 2 ^ 32 }
     ensures ok { (p : ℕ) → IfOk result (λ move. Answers p
         (model.request_of_call (program_of memory.old.program) (processor_of (at_index at body.old))
@@ -583,7 +609,7 @@ fn put(address: u32, at: u32, body: &mut Body, memory: &mut Memory<'_>) -> Resul
         Some(byte) => {
             memory.print(byte)?;
             body.written += 1;
-            Ok(Move::To(at))
+            Ok(StepTarget::To(at))
         }
         None => {
             let written = body.written;
@@ -593,7 +619,7 @@ fn put(address: u32, at: u32, body: &mut Body, memory: &mut Memory<'_>) -> Resul
 }
 
 /// The byte of an address; `None` where the line isn't mapped.
-fn read_byte(address: u32, body: &Body, memory: &Memory<'_>) -> Option<u8>
+fn read_byte(address: u32, body: &OriginalState, memory: &Memory<'_>) -> Option<u8>
     ensures { MatchOption result
         (class_at (program_of memory.now.program) address ≡ Unmapped)
         (λ n. (class_at (program_of memory.now.program) address ≡ Unmapped → ⊥)

@@ -1,10 +1,14 @@
 #![tactic(auto)]
-//! The limits of a run, each of a type that holds its range.
+//! The limits of a run: budgets and counts, each of a type that holds its range, and the bound of
+//! stamps.
 
 ghost use Rattle.std.specs.Prelude.{◌≡◌, ◌*◌, ◌^◌, ◌≤◌, MatchOption};
 ghost use Rattle.run_limits.specs.Ranges.{IsBudget, IsLaneCount, IsNodeCount};
 
 use std::marker::Model;
+
+/// Each event's stamp is below this.
+pub const STAMPS: u64 = 1 << 56;
 
 /// How many words, or steps of the original, a processor may execute: 1 to 2^32. Contracts see the
 /// number.

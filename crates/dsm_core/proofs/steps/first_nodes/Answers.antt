@@ -2,7 +2,7 @@
 use Rattle.std.proofs.Common.{◌≤◌, ◌∷◌, [], ◌+◌, map, get_or, length, ap, ◌∙◌, sym, subst}
 use Rattle.std.proofs.lemmas.List.{length-append}
 use Rattle.run_order.specs.node_model.Node.{opening_node}
-use Rattle.node_machine.specs.Frame.{node_of, work_of as work_at}
+use Rattle.node_machine.specs.NodeState.{node_of, work_of as work_at}
 use Rattle.dsm_core.specs.CoreParts.{work_in}
 use Rattle.dsm_core.proofs.CoreSteps.{first_more}
 use Rattle.dsm_core.proofs.steps.first_nodes.Goals as goal

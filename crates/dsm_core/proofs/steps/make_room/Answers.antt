@@ -1,6 +1,6 @@
 -- A node with more room stands for the same.
 use Rattle.std.proofs.Common.{◌<◌, sym, subst}
-use Rattle.node_machine.specs.Frame.{node_of, work_of as work_at}
+use Rattle.node_machine.specs.NodeState.{node_of, work_of as work_at}
 use Rattle.dsm_core.proofs.CoreSteps.{set_same}
 use Rattle.dsm_core.proofs.steps.make_room.Goals as goal
 

@@ -1,7 +1,7 @@
 -- The node that was read is that of the core.
 use Rattle.std.proofs.Common.{◌∙◌, sym, ap}
 use Rattle.run_order.specs.node_model.Node.{opening_node, standing_of}
-use Rattle.node_machine.specs.Frame.{node_of, work_of as work_at}
+use Rattle.node_machine.specs.NodeState.{node_of, work_of as work_at}
 use Rattle.dsm_core.proofs.CoreSteps.{read_at}
 use Rattle.dsm_core.proofs.steps.standing.Goals as goal
 

@@ -1,7 +1,7 @@
 -- The node's turn is the core's event.
 use Rattle.std.proofs.Common.{◌<◌, ◌^◌, ◌∙◌, sym, subst}
 use Rattle.run_order.specs.node_model.Node.{Node}
-use Rattle.node_machine.specs.Frame.{node_of, work_of as work_at}
+use Rattle.node_machine.specs.NodeState.{node_of, work_of as work_at}
 use Rattle.dsm_core.proofs.CoreSteps.{same_node, set_same, taken}
 use Rattle.dsm_core.proofs.steps.take.Goals as goal
 

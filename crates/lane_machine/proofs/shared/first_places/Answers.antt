@@ -1,6 +1,6 @@
 -- By what is true of places at the start.
 use Rattle.std.proofs.Common.{ap, sym, subst, length, arith}
-use Rattle.lane_desk.specs.declared.place.Place.{Place}
+use Rattle.lane_machine.specs.declared.lane_protocol.LaneProtocol.{LaneProtocol}
 use Rattle.lane_machine.proofs.FirstPlaces.{AreFirst, IsFirst, one_longer, first_more, first_kept, first_reserved, first_at, first_among, first_apart}
 use Rattle.lane_machine.proofs.shared.first_places.Goals as goal
 
@@ -9,7 +9,7 @@ loop-lane-preserved c =
     let l = c.args.layout.now in
     let ps = c.loop-lane.places.items in
     let h = c.loop-lane.invariant in
-    let p : Place = record { reservation = c.new.result; waits = c.in_ok-new.field-0; pool = c.in_ok-new-2.field-0 } in
+    let p : LaneProtocol = record { reservation = c.new.result; waits = c.in_ok-new.field-0; pool = c.in_ok-new-2.field-0 } in
     let is : IsFirst l p = record { reservation = c.new.ensures; waits = c.in_ok-new.ensures; pool = c.in_ok-new-2.ensures } in
     let items = c.push_reserved.ensures.items in
     let longer = ap length items in

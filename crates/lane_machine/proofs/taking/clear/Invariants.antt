@@ -1,6 +1,6 @@
 use Rattle.std.proofs.Common.{◌≡◌, ℕ, ◌&&◌, not, cond, ltb, length}
 use Rattle.llsc.specs.Reservation.{cleared}
-use Rattle.lane_desk.specs.Waits.{waits_in}
+use Rattle.lane_machine.specs.Waits.{waits_in}
 use Rattle.lane_machine.specs.Places.{pools_in, reserved_in, is_spared}
 use Rattle.lane_machine.proofs.taking.clear.Given as goal
 

@@ -1,6 +1,6 @@
 use Rattle.std.proofs.Common.{◌≡◌, ◌*◌, ◌^◌, ◌≤◌}
-use Rattle.lane_desk.specs.lane_model.Nodes.{LaneNode}
-use Rattle.lane_desk.specs.lane_model.Turns.{words_of}
+use Rattle.lane_model.specs.Nodes.{LaneNode}
+use Rattle.lane_model.specs.Turns.{words_of}
 use Rattle.lane_machine.specs.Stored.{HaveParts}
 use Rattle.lane_machine.proofs.taking.words_of.Given as goal
 

@@ -3,7 +3,7 @@ use Rattle.std.proofs.Common.{◌≡◌, ◌/◌, ◌∙◌, ap, sym}
 use Rattle.block_layout.specs.Layout.{first_line}
 use Rattle.state_table.specs.StateByte.{state_with}
 use Rattle.state_table.specs.States.{state_of}
-use Rattle.node_words.specs.node_model.Node.{Local}
+use Rattle.node_words.specs.node_model.Node.{NodeMemory}
 use Rattle.node_words.specs.node_model.Turns.{block_at}
 use Rattle.node_words.specs.Kept.{want_of}
 use Rattle.node_machine.specs.Wanted.{block_with}
@@ -29,7 +29,7 @@ returns c = λ n here.
           (let b = w.in-Some.block in
           let below = (law.found l b (c.args.want.at / 64) valid (sym c.block_of-block.ensures ∙ w.in-Some.is)).0 in
           let state : state_of s.states b ≡ (block_at l n b).state =
-          sym (ap (λ (x : Local). state_with (x.state (first_line l b))) here
+          sym (ap (λ (x : NodeMemory). state_with (x.state (first_line l b))) here
           ∙ block_state laws l valid s.states b below c.laws.ensures.lines.one) in
           wanted_is l n (want_of c.args.want) c.match-block.block (block_with l c.args.want.at) b c.match-block.state
           w.block_state.result c.is_unmet.result w.block-is w.state-is (w.block_state.ensures ∙ state)

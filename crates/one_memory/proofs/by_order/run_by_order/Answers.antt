@@ -4,7 +4,7 @@ use Rattle.exec_map.specs.Contents.{program_of}
 use Rattle.one_memory.specs.Machine.{state_of, original_of}
 use Rattle.one_memory.specs.ByOrder.{IsRunByOrder, ends_by}
 use Rattle.one_memory.specs.Running.{HasRun}
-use Rattle.one_memory.specs.declared.by_order.Outcome.{Outcome}
+use Rattle.one_memory.specs.declared.by_order.OriginalOutcome.{OriginalOutcome}
 use Rattle.one_memory.proofs.OrderLemmas.{IsStart, by_order, if_ok_both}
 use Rattle.one_memory.proofs.by_order.run_by_order.Goals as goal
 
@@ -21,9 +21,9 @@ returns c =
     let nodes : new.nodes ≡ o.nodes = done.nodes ∙ run.nodes in
     let budget : new.budget ≡ c.args.budget = done.budget ∙ run.budget in
     if_ok_both c.outcome.result
-    (λ (r : Outcome). r.output.items ≡ (state_of new.machine).output)
-    (λ (r : Outcome). r.ends.items ≡ ends_by new.budget (state_of new.machine) new.nodes)
-    (λ (r : Outcome). IsRunByOrder o c.args.budget c.args.order r.output.items r.ends.items)
+    (λ (r : OriginalOutcome). r.output.items ≡ (state_of new.machine).output)
+    (λ (r : OriginalOutcome). r.ends.items ≡ ends_by new.budget (state_of new.machine) new.nodes)
+    (λ (r : OriginalOutcome). IsRunByOrder o c.args.budget c.args.order r.output.items r.ends.items)
     (λ r output ends. by_order o c.args.budget c.args.order old (state_of new.machine) r.output.items r.ends.items start whole output
     (ends ∙ ap (λ b. ends_by b (state_of new.machine) new.nodes) budget ∙ ap (λ n. ends_by c.args.budget (state_of new.machine) n) nodes))
     c.outcome.ensures.output c.outcome.ensures.ends

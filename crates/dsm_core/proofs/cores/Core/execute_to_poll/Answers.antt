@@ -2,7 +2,7 @@
 use Rattle.std.proofs.Common.{◌≡◌, ◌<◌, ◌^◌, ◌+◌, ◌∙◌, true, sym, subst, arith}
 use Rattle.run_order.specs.node_model.Node.{Work, Node, standing_of}
 use Rattle.run_order.specs.node_model.Core.{Exec, may_execute}
-use Rattle.node_machine.specs.Frame.{node_of}
+use Rattle.node_machine.specs.NodeState.{node_of}
 use Rattle.dsm_core.specs.CoreParts.{work_of, core_of}
 use Rattle.dsm_core.proofs.CoreRuns.{goes_nowhere, for_one, for_fewer}
 use Rattle.dsm_core.proofs.Rounds.{kept_there, for_there}

@@ -1,7 +1,7 @@
 -- The nodes that are stored are those of the core.
 use Rattle.std.proofs.Common.{◌≡◌, true, List, sym, subst}
 use Rattle.std.specs.Prelude.{◌↔◌}
-use Rattle.node_machine.specs.declared.frame.Frame.{Frame}
+use Rattle.node_machine.specs.declared.node_state.NodeState.{NodeState}
 use Rattle.run_order.specs.node_model.Core.{IsOver}
 use Rattle.dsm_core.specs.CoreParts.{CoreParts, work_of, core_with, core_of, HaveWork, AreParts}
 use Rattle.dsm_core.proofs.parts.Parts.is_over.Goals as goal
@@ -18,7 +18,7 @@ returns c =
     } in
     let w = work_of p in
     let are = subst AreParts (sym c.self.view_is) c.requires.parts in
-    let over = subst (λ (ns : List Frame). HaveWork w ns
+    let over = subst (λ (ns : List NodeState). HaveWork w ns
     → (c.are_over.result ≡ true) ↔ IsOver w (core_with w ns p.lists)) c.deref.ensures.value
     (c.are_over.ensures.value w p.lists (sym c.nodes-count.ensures.nodes)) in
     record {

@@ -4,8 +4,8 @@ use Rattle.std.specs.Prelude.{unwrap_or, slice_index}
 use Rattle.std.proofs.Math.Path.{fun_ext}
 use Rattle.rv32_program.specs.Program.{Program}
 use Rattle.rv32_step.specs.Registers.{registers_of, first_values}
-use Rattle.node_model.specs.jump_map.Maps.{new_of}
-use Rattle.node_model.specs.Node.{Running}
+use Rattle.lane_model.specs.node_model.jump_map.Maps.{new_of}
+use Rattle.lane_model.specs.node_model.Node.{Running}
 use Rattle.lane_machine.proofs.lane.Lane.new.Goals as goal
 
 abbrev three_zeros : List ℕ

@@ -4,8 +4,8 @@ use Rattle.std.proofs.lemmas.Bool.Decides.{nat_tests}
 use Rattle.block_layout.specs.Layout.{Shape}
 use Rattle.home_directory.specs.Effects.{members}
 use Rattle.home_directory.specs.Home.{count_of}
-use Rattle.node_machine.specs.Frame.{layout_of}
-use Rattle.lane_machine.specs.declared.frame.SharedFrame.{SharedFrame}
+use Rattle.node_machine.specs.NodeState.{layout_of}
+use Rattle.lane_machine.specs.declared.stored.StoredShared.{StoredShared}
 use Rattle.lane_machine.specs.Stored.{shared_of}
 use Rattle.lane_machine.specs.Words.{is_over}
 use Rattle.lane_machine.proofs.StandingLemmas.{over_is, over_by}
@@ -20,12 +20,12 @@ apart_test x y e = grind (arith, nat_tests)
 pub returns-then-self-len : goal.returns-then-self-len
 returns-then-self-len c = record {
   value = λ w x layout lanes shared ended.
-      let f = c.self.inside.frame in
+      let f = c.self.inside.inner in
       let view = c.self.view_is in
       let nodes = (layout_of f.state.body.value).nodes in
-      let over = over_is w x f (layout ∙ ap (λ (g : SharedFrame). layout_of g.state.body.value) (sym view))
-      (lanes ∙ ap (λ (g : SharedFrame). length g.places.items) (sym view)) (shared ∙ ap shared_of (sym view))
-      (ap (λ (g : SharedFrame). g.ended) view ∙ ended) in
+      let over = over_is w x f (layout ∙ ap (λ (g : StoredShared). layout_of g.state.body.value) (sym view))
+      (lanes ∙ ap (λ (g : StoredShared). length g.places.items) (sym view)) (shared ∙ ap shared_of (sym view))
+      (ap (λ (g : StoredShared). g.ended) view ∙ ended) in
       let count = c.len.ensures ∙ f.places.ok.0 in
       let some : eqb f.ended (length f.places.items) ≡ false =
       ap (eqb f.ended) (sym count) ∙ apart_test f.ended c.len.result c.if-self-len.true in
@@ -35,12 +35,12 @@ returns-then-self-len c = record {
 pub returns : goal.returns
 returns c = record {
   value = λ w x layout lanes shared ended.
-      let f = c.self.inside.frame in
+      let f = c.self.inside.inner in
       let view = c.self.view_is in
       let nodes = (layout_of f.state.body.value).nodes in
-      let over = over_is w x f (layout ∙ ap (λ (g : SharedFrame). layout_of g.state.body.value) (sym view))
-      (lanes ∙ ap (λ (g : SharedFrame). length g.places.items) (sym view)) (shared ∙ ap shared_of (sym view))
-      (ap (λ (g : SharedFrame). g.ended) view ∙ ended) in
+      let over = over_is w x f (layout ∙ ap (λ (g : StoredShared). layout_of g.state.body.value) (sym view))
+      (lanes ∙ ap (λ (g : StoredShared). length g.places.items) (sym view)) (shared ∙ ap shared_of (sym view))
+      (ap (λ (g : StoredShared). g.ended) view ∙ ended) in
       let count = c.len.ensures ∙ f.places.ok.0 in
       let all : eqb f.ended (length f.places.items) ≡ true =
       ap (eqb f.ended) (sym count) ∙ same_test f.ended c.len.result c.if-self-len.false in

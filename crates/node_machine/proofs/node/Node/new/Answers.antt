@@ -8,10 +8,10 @@ use Rattle.node_words.specs.exec_map.Contents.{program_of}
 use Rattle.node_words.specs.jump_map.Maps.{new_of}
 use Rattle.node_words.specs.home_directory.Effects.{entry_at, entries_of, requests_for, members}
 use Rattle.node_words.specs.miss_handlers.Waits.{wait_of}
-use Rattle.node_words.specs.declared.body.Body.{Body}
+use Rattle.node_words.specs.declared.exec_state.ExecState.{ExecState}
 use Rattle.node_words.specs.node_model.Node.{Node, Work, Running, opening_node}
 use Rattle.node_words.specs.Kept.{local_of, lane_of}
-use Rattle.node_machine.specs.Frame.{layout_of, entries_in}
+use Rattle.node_machine.specs.NodeState.{layout_of, entries_in}
 use Rattle.node_words.specs.Address.{word_address}
 use Rattle.node_machine.proofs.OpeningLemmas.{opening_entries, none_of}
 use Rattle.node_machine.proofs.node.Node.new.Goals as goal
@@ -40,8 +40,8 @@ returns-clause-opening c =
     let registers = ap registers_of (c.first.ensures ∙ ap (first_values me) (c.nodes.ensures.nodes ∙ sym (ap (λ (z : Shape). z.nodes) first.layout))) in
     let work : Work = record { program = program_of c.in_ok-first_local.field-0.program; image = image; layout = c.in_ok-first_local.field-0.copy.layout; budget = c.args.budget } in
     let local = first.local work (ap program_of first.program) first.layout in
-    let work_by : Body → Work = λ b. record { program = program_of b.local.program; image = image; layout = layout_of b; budget = c.args.budget } in
-    let node_by : Body → Node = λ b. record {
+    let work_by : ExecState → Work = λ b. record { program = program_of b.local.program; image = image; layout = layout_of b; budget = c.args.budget } in
+    let node_by : ExecState → Node = λ b. record {
       me = d.me;
       lane = lane_of b.lane (word_address c.index_of.result);
       local = local_of b.local;
@@ -57,7 +57,7 @@ returns-clause-opening c =
       output = c.new-6.result.items;
       counts = b.counts;
     } in
-    subst (λ (b : Body). node_by b ≡ opening_node (work_by b) me) (sym c.in_ok-new-4.ensures.ok)
+    subst (λ (b : ExecState). node_by b ≡ opening_node (work_by b) me) (sym c.in_ok-new-4.ensures.ok)
     (λ t. record {
       me = c.in_ok-new.ensures.me t;
       lane = record {

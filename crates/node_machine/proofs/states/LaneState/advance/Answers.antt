@@ -1,7 +1,7 @@
 -- A processor that may go on has words left.
 use Rattle.std.proofs.Common.{◌+◌, arith}
-use Rattle.node_machine.specs.Frame.{phase_of}
-use Rattle.node_machine.proofs.FrameLemmas.{following_runs}
+use Rattle.node_machine.specs.NodeState.{phase_of}
+use Rattle.node_machine.proofs.NodeStateLemmas.{following_runs}
 use Rattle.node_machine.proofs.states.LaneState.advance.Goals as goal
 
 pub returns-clause-lane : goal.returns-clause-lane

@@ -1,7 +1,7 @@
 use Rattle.std.proofs.Common.{Option, refl, sym, ◌∙◌, subst, arith}
 use Rattle.rv32_program.specs.declared.Exit.{Exit}
 use Rattle.one_memory.specs.Machine.{Steps, at_index, after_move}
-use Rattle.one_memory.specs.declared.processor.Move.TheVariants.{Next, To, Ends}
+use Rattle.one_memory.specs.declared.processor.StepTarget.TheVariants.{Next, To, Ends}
 use Rattle.one_memory.specs.Turns.{Turns}
 use Rattle.one_memory.proofs.TurnLemmas.{turn_more}
 use Rattle.one_memory.proofs.processor.Processor.run.Goals as goal

@@ -1,3 +1,0 @@
-pub mod WaitLists
-pub mod AskLemmas
-pub mod StoreLemmas

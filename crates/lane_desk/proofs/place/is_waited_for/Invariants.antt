@@ -1,7 +1,0 @@
-use Rattle.std.proofs.Common.{◌≡◌, drop}
-use Rattle.lane_desk.specs.Waits.{wait_among, waits_in}
-use Rattle.lane_desk.proofs.place.is_waited_for.Given as goal
-
-abbrev pub invariant-loop-place : goal.invariant-loop-place
-invariant-loop-place l =
-    wait_among (waits_in (drop l.place-index l.places)) l.block ≡ wait_among (waits_in l.places) l.block

@@ -1,7 +1,0 @@
-use Rattle.std.proofs.Common.{◌≡◌, drop}
-use Rattle.lane_desk.specs.Waits.{wait_among, waits_in, all_waits}
-use Rattle.lane_desk.proofs.place.need_of.Given as goal
-
-abbrev pub invariant-loop-place : goal.invariant-loop-place
-invariant-loop-place l =
-    wait_among (waits_in (drop l.place-index l.places)) l.block ≡ wait_among (all_waits l.desk l.places) l.block

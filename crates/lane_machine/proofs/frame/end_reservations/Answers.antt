@@ -1,9 +1,0 @@
--- The block of an address is one of the layout's.
-use Rattle.std.proofs.Common.{◌/◌, ◌∙◌, sym}
-use Rattle.block_layout.specs.Layout.{block_of}
-use Rattle.lane_machine.proofs.frame.end_reservations.Goals as goal
-
-pub clear-requires : goal.clear-requires
-clear-requires c =
-    (c.layout_law.ensures.found c.args.layout.now c.in-Some-block_of.block (c.in-Some.address / 64) c.nodes.ensures.valid
-    (sym c.block_of.ensures ∙ c.in-Some-block_of.is)).0

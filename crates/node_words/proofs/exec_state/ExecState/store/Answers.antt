@@ -1,0 +1,12 @@
+use Rattle.std.proofs.Common.{subst, refl}
+use Rattle.exec_map.specs.Contents.{program_of}
+use Rattle.node_model.specs.Node.{store, region_of}
+use Rattle.node_words.specs.Kept.{ground_of, Shelf, LeavesBehind, lane_of, local_of}
+use Rattle.node_words.proofs.exec_state.ExecState.store.Goals as goal
+
+pub returns-then-not-store-clause-leaves : goal.returns-then-not-store-clause-leaves
+returns-then-not-store-clause-leaves c at =
+    subst
+    (λ (o : Shelf). LeavesBehind (store (program_of o.program) (lane_of c.args.self.now.lane at) (local_of o) c.args.width c.args.address c.args.value (region_of c.args.address)) (ground_of o) at c.store_elsewhere.new.self.lane c.store_elsewhere.new.self.local)
+    (c.if-not-store.ensures.elsewhere refl).0
+    (c.store_elsewhere.ensures.leaves at)

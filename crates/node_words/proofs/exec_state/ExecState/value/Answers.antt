@@ -1,0 +1,18 @@
+-- By the bytes there.
+use Rattle.std.proofs.Common.{ap, ◌∙◌}
+use Rattle.rv32_decode.specs.declared.Width.{Width}
+use Rattle.rv32_ops.specs.Operations.{extend}
+use Rattle.byte_range.specs.Memory.{raw}
+use Rattle.exec_map.specs.Contents.{program_of}
+use Rattle.node_model.specs.Node.{byte_at}
+use Rattle.node_words.specs.Kept.{lane_of, local_of}
+use Rattle.node_words.proofs.exec_state.ExecState.value.Goals as goal
+
+pub returns : goal.returns
+returns c = record {
+  value = λ at.
+      let b = c.args.self.now in
+      c.extend.ensures ∙ ap (extend c.args.kind) (c.memory.ensures.value at
+      ∙ ap (λ (x : Width). raw x (byte_at (program_of b.local.program) (lane_of b.lane at) (local_of b.local)) c.args.address)
+      c.width.ensures.value);
+}

@@ -1,0 +1,114 @@
+-- Helps the code alone: what takes words back.
+use Rattle.std.specs.Prelude.{◌≡◌, ℕ, ◌+◌, ◌*◌, ◌/◌, ◌%◌, ◌^◌, ◌<◌, ◌≤◌, true, List, [], ◌∷◌, ◌++◌, Option, Some, None, slice_index, All}
+use Rattle.rv32_decode.specs.declared.Width.{Width}
+use Rattle.rv32_decode.specs.declared.Width.TheVariants.{Byte, Half, Word}
+use Rattle.rv32_decode.specs.Widths.{is_aligned, size_of}
+use Rattle.byte_range.specs.Memory.{stored}
+use Rattle.byte_range.specs.Window.{window_memory}
+use Rattle.rv32_program.specs.Program.{Program, class_at}
+use Rattle.node_model.specs.rv32_step.Memory.{shared_after, private_after}
+use Rattle.node_model.specs.rv32_step.Registers.{registers_of}
+use Rattle.exec_map.specs.Contents.{program_of}
+use Rattle.node_model.specs.micro_op.declared.MicroKind.{MicroKind}
+use Rattle.node_model.specs.micro_op.declared.MicroKind.TheVariants as kind
+use Rattle.node_words.specs.declared.lane.ProcessorState as kept
+use Rattle.node_words.specs.declared.undo_log.Note.{Note}
+use Rattle.node_words.specs.declared.undo_log.Saved.{Saved}
+use Rattle.node_model.specs.Node.{Region, Memory, StateOf, Spill, Elsewhere, region_of}
+use Rattle.node_words.specs.Kept.{Shelf, ground_of, lane_of, local_of, copy_of}
+
+-- the bytes that stores change: the copy's, and those of the window
+pub record Held : Type 0 where
+  pub copy : ℕ → ℕ
+  pub private : ℕ → ℕ
+
+abbrev pub held_of : kept.ProcessorState → Shelf → Held
+held_of l s = record { copy = copy_of s.copy; private = window_memory l.private }
+
+-- the bytes after a store at an address of a region
+abbrev pub held_stored : Program → Width → (a value : ℕ) → Held → Region → Held
+held_stored program w a value h Memory = record {
+  copy = shared_after (class_at program a) h.copy (stored w h.copy a value);
+  private = private_after (class_at program a) h.private (stored w h.private a value);
+}
+held_stored program w a value h (StateOf line) = h
+held_stored program w a value h (Spill k) = h
+held_stored program w a value h Elsewhere = h
+
+-- the bytes once what a store overwrote is put back
+abbrev pub undone : Program → Note → Held → Held
+undone program n h = held_stored program n.width n.address n.value h (region_of n.address)
+
+-- the bytes once the last note is put back, and so on to the first
+abbrev pub taken_back : Program → List Note → Held → Held
+taken_back program [] h = h
+taken_back program (n ∷ ns) h = undone program n (taken_back program ns h)
+
+abbrev pub IsAlignedNote : Note → Type 0
+IsAlignedNote n = is_aligned n.width n.address ≡ true
+
+-- how many bytes a micro-op of this kind stores, where it stores
+abbrev pub store_width : MicroKind → Option Width
+store_width kind.StoreByte = Some Byte
+store_width kind.StoreHalf = Some Half
+store_width kind.StoreWord = Some Word
+store_width k = None
+
+-- a micro-op that stores wasn't executed
+abbrev pub IsPlain : Option Width → Option ℕ → Type 0
+IsPlain None next = Unit {0}
+IsPlain (Some width) next = next ≡ None
+
+-- the number's bytes are those from an address on
+abbrev pub HasBytes : (ℕ → ℕ) → Width → (a value : ℕ) → Type 0
+HasBytes bytes w a value =
+    (k : ℕ) → k < size_of w → value / 2 ^ (8 * k) % 2 ^ 8 ≡ bytes (a + k)
+
+-- what a store overwrites is noted
+pub record Notes (memory : ℕ → ℕ) (w : Width) (a : ℕ) (old new : List Note) : Type 0 where
+  pub value : ℕ
+  pub note : new ≡ old ++ record { width = w; address = a; value = value } ∷ []
+  pub aligned : is_aligned w a ≡ true
+  pub bytes : HasBytes memory w a value
+
+-- what a micro-op overwrites at an address is noted, where it stores so many bytes; or it stores
+-- none
+abbrev pub NotesOr : (ℕ → ℕ) → Option Width → (a : ℕ) → (old new : List Note) → Type 0
+NotesOr bytes None a old new = new ≡ old
+NotesOr bytes (Some w) a old new = Notes bytes w a old new
+
+-- the lane's registers and words are saved
+pub record Saves (saved : Saved) (l : kept.ProcessorState) : Type 0 where
+  pub registers : (r : ℕ) → 0 < r → r < 32
+      → slice_index saved.registers r ≡ registers_of l.registers r
+  pub written : saved.written ≡ l.written
+  pub off : saved.off ≡ l.off
+  pub spills : saved.spills ≡ l.spills
+
+-- what was saved and noted takes a lane, and what words see, back to others
+pub record TakesBack (saved : Saved) (notes : List Note) (l : kept.ProcessorState) (s : Shelf)
+    (first : kept.ProcessorState) (seen : Shelf) : Type 0 where
+  pub aligned : All IsAlignedNote notes
+  pub saves : Saves saved first
+  pub others : (r : ℕ) → (0 < r → 32 ≤ r)
+      → registers_of l.registers r ≡ registers_of first.registers r
+  pub held : taken_back (program_of seen.program) notes (held_of l s) ≡ held_of first seen
+  pub state : (local_of s).state ≡ (local_of seen).state
+  pub reservation : s.reservation ≡ seen.reservation
+  pub ground_same : ground_of s ≡ ground_of seen
+
+-- lanes and what words see that differ in nothing
+pub record AreSame (l : kept.ProcessorState) (s : Shelf) (first : kept.ProcessorState)
+    (seen : Shelf) : Type 0 where
+  pub lane : (at : ℕ) → lane_of l at ≡ lane_of first at
+  pub local : local_of s ≡ local_of seen
+
+-- a micro-op changes no register but this one, and of what words see but the bytes
+pub record TouchesOnly (rd : ℕ) (l : kept.ProcessorState) (s : Shelf) (l' : kept.ProcessorState)
+    (s' : Shelf)
+    : Type 0 where
+  pub registers : (r : ℕ) → (0 < r → r ≡ rd → ⊥)
+      → registers_of l'.registers r ≡ registers_of l.registers r
+  pub state : (local_of s').state ≡ (local_of s).state
+  pub reservation : s'.reservation ≡ s.reservation
+  pub ground_same : ground_of s' ≡ ground_of s

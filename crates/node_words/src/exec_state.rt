@@ -1,0 +1,193 @@
+//! What a node executes words on: its processor's part, and what words see of the node.
+
+ghost use Rattle.std.specs.Prelude.{◌≡◌, ◌+◌, ◌*◌, ◌/◌, ◌%◌, ◌^◌, ◌<◌, ◌≤◌, ℕ, true};
+ghost use Rattle.rv32_decode.specs.Widths.{width_of, is_aligned};
+ghost use Rattle.rv32_program.specs.Program.{class_at};
+ghost use Rattle.rv32_program.specs.declared.Class.TheVariants.{Shared};
+ghost use Rattle.exec_map.specs.Contents.{program_of};
+ghost use Rattle.byte_range.specs.Memory.{raw};
+ghost use Rattle.node_model.specs.rv32_step.Memory.{load_value};
+ghost use Rattle.node_model.specs.Node as model;
+ghost use Rattle.node_words.specs.Kept.{ground_of, local_of, lane_of, LeavesBehind};
+ghost use Rattle.node_model.specs.flag_memory.Flag.{flag_byte as flag_at};
+
+use crate::lane::ProcessorState;
+use crate::node_memory::NodeMemory;
+use crate::region::{Region, region_of};
+use node_model::NodeCounts;
+use node_model::runtime_words::FLAG_WORD;
+use rv32_decode::{LoadKind, Reg, Width};
+use rv32_ops::extend;
+use rv32_program::addresses::{SPILLS, STATE_LINES, STATE_TABLE};
+
+/// A processor's part, what words see of their node, and what the node counts.
+#[derive(Drop)]
+pub struct ExecState<'a> {
+    pub lane: ProcessorState,
+    pub local: NodeMemory<'a>,
+    pub counts: NodeCounts,
+}
+
+impl<'a> ExecState<'a> {
+    /// Loads from an aligned address.
+    #[inline(always)]
+    pub(crate) fn load(&mut self, kind: LoadKind, rd: Reg, address: u32)
+        requires { is_aligned (width_of kind) address ≡ true }
+        ensures leaves { (at : ℕ) → LeavesBehind
+            (model.load (program_of self.old.local.program) (lane_of self.old.lane at)
+            (local_of self.old.local) kind rd address (model.region_of address))
+            (ground_of self.old.local) at self.new.lane self.new.local }
+        ensures counts { self.new.counts ≡ self.old.counts }
+    {
+        let width = kind.width();
+        if address >= SPILLS && width == Width::Word {
+            self.lane
+                .registers
+                .set(rd, self.lane.spills[spill_of(address)]);
+        } else if let Some(raw) = self.local.load(width, address) {
+            self.lane.registers.set(rd, extend(kind, raw));
+        } else if let Some(raw) = self.local.load_fixed(width, address) {
+            self.lane.registers.set(rd, extend(kind, raw));
+        } else {
+            self.load_elsewhere(kind, rd, address);
+        }
+    }
+
+    /// Loads from an aligned address, wherever it lies.
+    #[inline(never)]
+    fn load_elsewhere(&mut self, kind: LoadKind, rd: Reg, address: u32)
+        requires { is_aligned (width_of kind) address ≡ true }
+        ensures leaves { (at : ℕ) → LeavesBehind
+            (model.load (program_of self.old.local.program) (lane_of self.old.lane at)
+            (local_of self.old.local) kind rd address (model.region_of address))
+            (ground_of self.old.local) at self.new.lane self.new.local }
+        ensures counts { self.new.counts ≡ self.old.counts }
+    {
+        let value = match region_of(address) {
+            Region::Memory => extend(kind, self.memory(kind.width(), address)),
+            Region::StateOf(line) => u32::from(self.local.state(line)),
+            Region::Spill(k) => self.lane.spills[k],
+            Region::Elsewhere => 0,
+        };
+        self.lane.registers.set(rd, value);
+    }
+
+    /// Loads an unsigned byte, most often the state byte of a line.
+    #[inline(always)]
+    pub(crate) fn load_byte(&mut self, rd: Reg, address: u32)
+        ensures leaves { (at : ℕ) → LeavesBehind
+            (model.load (program_of self.old.local.program) (lane_of self.old.lane at)
+            (local_of self.old.local) LoadKind.ByteU rd address (model.region_of address))
+            (ground_of self.old.local) at self.new.lane self.new.local }
+        ensures counts { self.new.counts ≡ self.old.counts }
+    {
+        let line = address.wrapping_sub(STATE_TABLE);
+        if line < STATE_LINES {
+            self.lane
+                .registers
+                .set(rd, u32::from(self.local.state(line)));
+        } else {
+            self.load(LoadKind::ByteU, rd, address);
+        }
+    }
+
+    /// What a load from an aligned address gives.
+    pub fn value(&self, kind: LoadKind, address: u32) -> u32
+        requires { is_aligned (width_of kind) address ≡ true }
+        ensures value { (at : ℕ) → result ≡ load_value kind
+            (model.byte_at (program_of self.now.local.program) (lane_of self.now.lane at)
+            (local_of self.now.local)) address }
+    {
+        extend(kind, self.memory(kind.width(), address))
+    }
+
+    /// The number that the bytes from an address on make.
+    pub(crate) fn memory(&self, width: Width, address: u32) -> u32
+        requires { is_aligned width address ≡ true }
+        ensures value { (at : ℕ) → result ≡ raw width
+            (model.byte_at (program_of self.now.local.program) (lane_of self.now.lane at)
+            (local_of self.now.local)) address }
+        ensures byte { width ≡ Width.Byte → result < 2 ^ 8 }
+    {
+        if let Some(raw) = self.local.load(width, address) {
+            return raw;
+        }
+        if let Some(raw) = self.lane.private.load(width, address) {
+            return raw;
+        }
+        match self.local.load_fixed(width, address) {
+            Some(raw) => raw,
+            None => flag(width, address),
+        }
+    }
+
+    /// Stores at an aligned address.
+    #[inline(always)]
+    pub(crate) fn store(&mut self, width: Width, address: u32, value: u32)
+        requires { is_aligned width address ≡ true }
+        ensures leaves { (at : ℕ) → LeavesBehind
+            (model.store (program_of self.old.local.program) (lane_of self.old.lane at)
+            (local_of self.old.local) width address value (model.region_of address))
+            (ground_of self.old.local) at self.new.lane self.new.local }
+        ensures counts { self.new.counts ≡ self.old.counts }
+    {
+        if address >= SPILLS && width == Width::Word {
+            self.lane.spills[spill_of(address)] = value;
+        } else if !self.local.store(width, address, value) {
+            self.store_elsewhere(width, address, value);
+        }
+    }
+
+    /// Stores at an aligned address of a line that isn't shared.
+    #[inline(never)]
+    fn store_elsewhere(&mut self, width: Width, address: u32, value: u32)
+        requires aligned { is_aligned width address ≡ true }
+        requires elsewhere { class_at (program_of self.old.local.program) address ≡ Shared → ⊥ }
+        ensures leaves { (at : ℕ) → LeavesBehind
+            (model.store (program_of self.old.local.program) (lane_of self.old.lane at)
+            (local_of self.old.local) width address value (model.region_of address))
+            (ground_of self.old.local) at self.new.lane self.new.local }
+        ensures counts { self.new.counts ≡ self.old.counts }
+    {
+        match region_of(address) {
+            Region::Memory => {
+                let _ = self.lane.private.store(width, address, value);
+            }
+            Region::Spill(k) => self.lane.spills[k] = value,
+            Region::StateOf(_) | Region::Elsewhere => {}
+        }
+    }
+}
+
+/// Which of those words is at an address.
+#[inline(always)]
+fn spill_of(address: u32) -> usize
+    requires { 0xfffffff4 ≤ address }
+    ensures few { result < 3 }
+    ensures region { is_aligned Width.Word address ≡ true →
+        model.region_of address ≡ model.Spill result }
+{
+    ((u32::MAX - address) / 4) as usize
+}
+
+/// The byte of the flag word that an address has.
+fn flag_byte(address: u32) -> u8
+    ensures { result ≡ flag_at address }
+{
+    if address % 4 == 0 { 0x03 } else { 0xff }
+}
+
+/// The number that the bytes of the flag word from an address on make.
+#[tactic(auto, unfolding(byte_range::specs::Memory::raw))]
+fn flag(width: Width, address: u32) -> u32
+    requires { is_aligned width address ≡ true }
+    ensures value { result ≡ raw width flag_at address }
+    ensures byte { width ≡ Width.Byte → result < 2 ^ 8 }
+{
+    match width {
+        Width::Byte => u32::from(flag_byte(address)),
+        Width::Half if address % 4 == 0 => 0xff03,
+        Width::Half => 0xffff,
+        Width::Word => FLAG_WORD,
+    }
+}

@@ -1,6 +1,0 @@
-pub mod NodeLemmas
-pub mod CoreRuns
-pub mod CoreSteps
-pub mod Promised
-pub mod Ends
-pub mod Firsts
