@@ -7,15 +7,15 @@ use Rattle.std.proofs.lemmas.List.Elements.{All-nil, All-cons}
 use Rattle.std.proofs.lemmas.List.Elements.{All-append}
 use Rattle.block_layout.specs.Layout.{Shape, blocks, block_of, has_line, home, IsValid}
 use Rattle.rv32_program.specs.Program.{line_of}
-use Rattle.home_directory.specs.declared.messages.Message.{Message}
-use Rattle.home_directory.specs.declared.messages.Message.TheVariants.{Read, Write, FwdRead, FwdWrite, Inval, Data, Grant, Ack, Done, Bye}
-use Rattle.home_directory.specs.declared.messages.Wire.{Wire}
-use Rattle.home_directory.specs.Headers.{header_of, sent_by}
+use Rattle.home_directory.specs.dsm_messages.declared.messages.Message.{Message}
+use Rattle.home_directory.specs.dsm_messages.declared.messages.Message.TheVariants.{Read, Write, FwdRead, FwdWrite, Inval, Data, Grant, Ack, Done, Bye}
+use Rattle.home_directory.specs.dsm_messages.declared.messages.Wire.{Wire}
+use Rattle.home_directory.specs.dsm_messages.Headers.{header_of, sent_by}
 use Rattle.home_directory.specs.Table.{HomeRow, NodeRow}
 use Rattle.miss_handlers.specs.Rows.{Row, AtHome, AtNode, clears, at_home, at_node}
 use Rattle.templates.specs.declared.plans.PlanEntry.{PlanEntry}
 use Rattle.node_model.specs.Node.{Work, Node, Want}
-use Rattle.node_model.specs.Turns.{Turn, want_in, by_row_or, treated, journaled, after_word, each_block_once, wants_of}
+use Rattle.node_model.specs.Turns.{Turn, want_in, by_row_or, handled, journaled, after_word, each_block_once, wants_of}
 use Rattle.node_model.specs.Node.{word_outcome}
 use Rattle.node_model.specs.Core.{Core, Event, Exec, Take, event_step}
 use Rattle.event_text.specs.run_order.OwnRun.{Stamped}

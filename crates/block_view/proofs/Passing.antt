@@ -1,4 +1,4 @@
--- Words that are passed, and what is kept behind them.
+-- WrittenWords that are passed, and what is kept behind them.
 use Rattle.std.proofs.Common.{◌≡◌, ℕ, Bool, true, false, ◌&&◌, ◌/◌, cond, eqb, List, [], ◌∷◌, ◌++◌, Option, Some, None, refl, sym, ap, ◌∙◌, subst, append-nil, append_assoc, slice_index_or}
 use Rattle.std.specs.Prelude.{All, map, filter}
 use Rattle.std.specs.Option.{option_map_or}
@@ -67,7 +67,7 @@ totals_free n kept seen x free h = record {
       (free.counts (counts_from i seen no_counts)));
 }
 
--- 2. Words that write nothing
+-- 2. WrittenWords that write nothing
 
 unwritten_at : (b i : ℕ) (access : Option Accessed)
     → option_map_or (λ (a : Accessed). is_write a.kind) access false ≡ false

@@ -13,7 +13,7 @@ use Rattle.event_text.specs.run_trace.declared.traced.Accessed.{Accessed}
 use Rattle.event_text.specs.run_trace.Traced.{Traced, What, Word, Taken}
 use Rattle.block_view.specs.declared.sharing.Writer.{Writer}
 use Rattle.block_view.specs.declared.sharing.Writer.TheVariants as writer
-use Rattle.block_view.specs.declared.sharing.Words.{Words}
+use Rattle.block_view.specs.declared.sharing.WrittenWords.{WrittenWords}
 use Rattle.block_view.specs.declared.sharing.Writers.{Writers}
 use Rattle.block_view.specs.Sharing.{Write, writes_in, written_at, writes_of, written_by, are_of_several, are_apart}
 use Rattle.block_view.specs.Writers.{write_of, Writes, AreOfTwo, AreOfOne, IsWriterOf, Meet, AreWordsOf, AreWritersOf, AreSharedBy, is_several, says_shared, shared_in, writes_with}
@@ -38,7 +38,7 @@ before (w ∷ ws) i a k c (inr there) = elim (before ws i a k c there) [
   | inr new ↦ inr new
 ]
 
--- 2. Words
+-- 2. WrittenWords
 
 -- two values of one option
 same_some : (o : Option ℕ) (x y : ℕ) → o ≡ Some x → o ≡ Some y → x ≡ y
@@ -90,7 +90,7 @@ word_new old new meet ws i a h free put =
     }
 
 -- a word that the node has written first
-pub word_again : (s : Words) (ws : List Write) (i a : ℕ) → AreWordsOf s ws → get nat_cmp s.first a ≡ Some i
+pub word_again : (s : WrittenWords) (ws : List Write) (i a : ℕ) → AreWordsOf s ws → get nat_cmp s.first a ≡ Some i
     → AreWordsOf s (ws ++ write_of i a ∷ [])
 word_again s ws i a h is = record {
   some = λ c k is. stays ws (write_of i a ∷ []) k c (h.some c k is);
@@ -113,7 +113,7 @@ word_again s ws i a h is = record {
 }
 
 -- a word that another has written first
-pub word_met : (s : Words) (ws : List Write) (i j a : ℕ) → AreWordsOf s ws → get nat_cmp s.first a ≡ Some j → j ≢ i
+pub word_met : (s : WrittenWords) (ws : List Write) (i j a : ℕ) → AreWordsOf s ws → get nat_cmp s.first a ≡ Some j → j ≢ i
     → AreWordsOf (record { first = s.first; meet = true }) (ws ++ write_of i a ∷ [])
 word_met s ws i j a h is apart = record {
   some = λ c k is. stays ws (write_of i a ∷ []) k c (h.some c k is);
@@ -249,7 +249,7 @@ agree : (b : Bool) (i k : ℕ) → (b ≡ true → i ≡ k) → (not b || eqb i 
 agree true i k h = eq-eqb i k (h refl)
 agree false i k h = refl
 
-apart_as : (s : Words) (meet : Bool) (ws : List Write) → s.meet ≡ meet → AreWordsOf s ws → not meet ≡ are_apart ws
+apart_as : (s : WrittenWords) (meet : Bool) (ws : List Write) → s.meet ≡ meet → AreWordsOf s ws → not meet ≡ are_apart ws
 apart_as s true ws is h =
     let m = h.meet is in
     sym (not_all_of (λ v. list_all (λ w. not (eqb v.word w.word) || eqb v.node w.node) ws) ws m.one m.word m.writes

@@ -8,7 +8,7 @@ use Rattle.event_text.specs.run_trace.Traced.{Traced}
 use Rattle.block_view.specs.Sharing.{Write, writes_in, written_at, written_by}
 use Rattle.block_view.specs.declared.sharing.Writer.{Writer}
 use Rattle.block_view.specs.declared.sharing.Writer.TheVariants as writer
-use Rattle.block_view.specs.declared.sharing.Words.{Words}
+use Rattle.block_view.specs.declared.sharing.WrittenWords.{WrittenWords}
 use Rattle.block_view.specs.declared.sharing.Writers.{Writers}
 
 abbrev pub write_of : (node word : ℕ) → Write
@@ -51,7 +51,7 @@ pub record Meet (ws : List Write) : Type 0 where
   pub writes_too : Writes ws other word
 
 -- at each word the node is known that wrote it first, and whether another has written one too
-pub record AreWordsOf (s : Words) (ws : List Write) : Type 0 where
+pub record AreWordsOf (s : WrittenWords) (ws : List Write) : Type 0 where
   pub some : (a i : ℕ) → get nat_cmp s.first a ≡ Some i → Writes ws i a
   pub none : (a i : ℕ) → get nat_cmp s.first a ≡ None → Writes ws i a → ⊥
   pub apart : s.meet ≡ false → (i a : ℕ) → Writes ws i a → get nat_cmp s.first a ≡ Some i

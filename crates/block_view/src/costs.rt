@@ -16,7 +16,7 @@ ghost use Rattle.std.specs.BTreeMap.{get};
 use block_layout::Block;
 use event_text::node_machine::{NodeCounts, Wanted, WantedBlocks};
 use event_text::run_trace::{TakeTraced, Tallied, Traced, What, WordTraced};
-use home_directory::Need;
+use home_directory::dsm_messages::Need;
 use state_table::State;
 use std::alloc::{AllocError, Global};
 use std::collections::BTreeMap;

@@ -23,23 +23,23 @@ pub(crate) enum Writer {
 
 /// The aligned words of four bytes that are written, each by its address / 4.
 #[derive(Drop)]
-pub(crate) struct Words {
+pub(crate) struct WrittenWords {
     /// The node that wrote each first.
     pub first: BTreeMap<u32, u8>,
     /// Another node has written one of them too.
     pub meet: bool,
 }
 
-impl Words {
+impl WrittenWords {
     ghost use Rattle.std.specs.Prelude.{◌++◌, ◌∷◌, List, [], OnOk};
     ghost use Rattle.block_view.specs.Sharing.{Write};
     ghost use Rattle.block_view.specs.Writers.{AreWordsOf, write_of};
 
     /// No words.
-    fn new(alloc: Global) -> Words
+    fn new(alloc: Global) -> WrittenWords
         ensures { AreWordsOf result [] }
     {
-        Words {
+        WrittenWords {
             first: BTreeMap::new(alloc),
             meet: false,
         }
@@ -73,7 +73,7 @@ fn put_first(first: &mut BTreeMap<u32, u8>, word: u32, node: u8) -> Result<(), A
 #[derive(Drop)]
 pub(crate) struct Writers {
     pub who: Writer,
-    pub words: Words,
+    pub words: WrittenWords,
 }
 
 impl Writers {
@@ -87,7 +87,7 @@ impl Writers {
     {
         Writers {
             who: Writer::Nobody,
-            words: Words::new(alloc),
+            words: WrittenWords::new(alloc),
         }
     }
 

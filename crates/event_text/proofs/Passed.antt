@@ -7,7 +7,7 @@ use Rattle.run_trace.specs.declared.passed.Until.TheVariants.{Access}
 use Rattle.run_trace.specs.declared.traced.Accessed.{Accessed}
 use Rattle.run_trace.specs.Traced.{OfWord, What, Word, Taken, Traced}
 use Rattle.run_trace.specs.Passing.{IsPassed, IsPassedWhat, IsPassedWord, ends}
-use Rattle.event_text.specs.declared.shown.Options.{Options}
+use Rattle.event_text.specs.declared.shown.EventFilter.{EventFilter}
 use Rattle.event_text.specs.Shown.{block_reached, is_about, is_eventful, is_of_kind, is_of_node, is_shown, shown}
 
 -- every access ends such a pass
@@ -30,12 +30,12 @@ none_of true true false = refl
 none_of true false c = refl
 none_of false b c = refl
 
-hidden : (o : Options) (x : Traced) → o.words ≡ false → IsPassed Access x → is_shown o x ≡ false
+hidden : (o : EventFilter) (x : Traced) → o.words ≡ false → IsPassed Access x → is_shown o x ≡ false
 hidden o x e h =
     rw (of_no_kind o.words x.what e h) (none_of (nat_le o.from x.stamp && nat_le x.stamp o.to)
     (is_of_node o.node x.node) (option_map_or (λ b. is_about b x.what) o.block true))
 
-pub none_shown : (o : Options) (xs : List Traced) → o.words ≡ false → All (IsPassed Access) xs → shown o xs ≡ []
+pub none_shown : (o : EventFilter) (xs : List Traced) → o.words ≡ false → All (IsPassed Access) xs → shown o xs ≡ []
 none_shown o [] e h = refl
 none_shown o (x ∷ xs) e h =
     ap (λ b. cond b (x ∷ shown o xs) (shown o xs)) (hidden o x e (All-head (IsPassed Access) x xs h))

@@ -5,7 +5,7 @@ use Rattle.elf32_read.specs.Elf.{Elf}
 use Rattle.exec_map.specs.Contents.{word_at}
 use Rattle.rv32_text.specs.Listing.{word_digits}
 use Rattle.templates.specs.declared.places.Place.{Place}
-use Rattle.home_directory.specs.declared.headers.Sent.{Sent}
+use Rattle.dsm_messages.specs.declared.headers.Sent.{Sent}
 use Rattle.run_trace.specs.Traced.{OfWord, OfTake, What, Word, Taken, Traced}
 use Rattle.event_text.specs.Names.{row_name}
 use Rattle.event_text.specs.Parts.{number_text, text_if, header_text, sends_text, accessed_text, state_text, wants_text, tally_text, original_text}

@@ -1,13 +1,13 @@
 -- The names that the lines of a trace use.
 use Rattle.std.specs.Prelude.{ℕ, Bool, true, false, List, [], codes}
-use Rattle.home_directory.specs.declared.messages.Need.{Need}
-use Rattle.home_directory.specs.declared.messages.Need.TheVariants as need
+use Rattle.dsm_messages.specs.declared.messages.Need.{Need}
+use Rattle.dsm_messages.specs.declared.messages.Need.TheVariants as need
 use Rattle.state_table.specs.declared.State.{State}
 use Rattle.state_table.specs.declared.State.TheVariants.{Exclusive, Shared, Invalid, Pending}
 use Rattle.run_trace.specs.declared.traced.AccessKind.{AccessKind}
 use Rattle.run_trace.specs.declared.traced.AccessKind.TheVariants.{Reads, Writes, WritesNot, Exchanges}
-use Rattle.home_directory.specs.declared.headers.MessageKind.{MessageKind}
-use Rattle.home_directory.specs.declared.headers.MessageKind.TheVariants as kind
+use Rattle.dsm_messages.specs.declared.headers.MessageKind.{MessageKind}
+use Rattle.dsm_messages.specs.declared.headers.MessageKind.TheVariants as kind
 
 abbrev pub message_name : MessageKind → List ℕ
 message_name kind.Read = codes "Read"

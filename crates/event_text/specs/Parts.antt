@@ -4,8 +4,8 @@ use Rattle.std.specs.Fmt.{decimal}
 use Rattle.rv32_text.specs.Listing.{word_digits, text_of_word}
 use Rattle.state_table.specs.declared.State.{State}
 use Rattle.run_trace.specs.node_model.Node.{Tally, Nothing_counted, FalseMiss, FallsBack}
-use Rattle.home_directory.specs.declared.headers.Header.{Header}
-use Rattle.home_directory.specs.declared.headers.Sent.{Sent}
+use Rattle.dsm_messages.specs.declared.headers.Header.{Header}
+use Rattle.dsm_messages.specs.declared.headers.Sent.{Sent}
 use Rattle.run_trace.specs.declared.traced.Accessed.{Accessed}
 use Rattle.run_trace.specs.node_machine.declared.wanted.Wanted.{Wanted}
 use Rattle.event_text.specs.Names.{message_name, state_name, access_name, need_name}

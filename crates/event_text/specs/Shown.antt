@@ -6,7 +6,7 @@ use Rattle.elf32_read.specs.Elf.{Elf}
 use Rattle.run_trace.specs.node_machine.declared.wanted.Wanted.{Wanted}
 use Rattle.run_trace.specs.declared.traced.Accessed.{Accessed}
 use Rattle.run_trace.specs.Traced.{OfWord, What, Word, Taken, Traced}
-use Rattle.event_text.specs.declared.shown.Options.{Options}
+use Rattle.event_text.specs.declared.shown.EventFilter.{EventFilter}
 use Rattle.event_text.specs.Events.{event_line}
 
 abbrev pub has_wants : List Wanted → Bool
@@ -44,14 +44,14 @@ abbrev pub is_of_node : Option ℕ → (node : ℕ) → Bool
 is_of_node node i = option_map_or (λ k. k == i) node true
 
 -- an event has a line
-abbrev pub is_shown : Options → Traced → Bool
+abbrev pub is_shown : EventFilter → Traced → Bool
 is_shown o x =
     (nat_le o.from x.stamp && nat_le x.stamp o.to)
     && (is_of_node o.node x.node
     && (option_map_or (λ b. is_about b x.what) o.block true && is_of_kind o.words x.what))
 
 -- the events that have one
-abbrev pub shown : Options → List Traced → List Traced
+abbrev pub shown : EventFilter → List Traced → List Traced
 shown o trace = filter (is_shown o) trace
 
 -- the first line
@@ -59,5 +59,5 @@ abbrev pub head : List ℕ
 head = codes "stamp node: what it did\n"
 
 -- the text of a trace
-abbrev pub trace_text : Elf → Options → List Traced → List ℕ
+abbrev pub trace_text : Elf → EventFilter → List Traced → List ℕ
 trace_text elf o trace = head ++ flat_map (event_line elf) (shown o trace)

@@ -14,4 +14,4 @@ pub use names::{access_name, message_name, need_name, state_name};
 pub use parts::{push_decimal, push_header, push_if, push_number, push_original, push_state};
 pub use run_trace;
 pub use run_trace::node_machine;
-pub use shown::{Options, is_passed_shown, is_shown, push_head};
+pub use shown::{EventFilter, is_passed_shown, is_shown, push_head};

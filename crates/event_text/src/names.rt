@@ -3,7 +3,7 @@
 ghost use Rattle.std.specs.Prelude.{◌≡◌};
 ghost use Rattle.event_text.specs.Names as model;
 
-use home_directory::{MessageKind, Need};
+use dsm_messages::{MessageKind, Need};
 use run_trace::AccessKind;
 use state_table::State;
 

@@ -7,7 +7,7 @@ ghost use Rattle.run_trace.specs.Given.{tally_of};
 ghost use Rattle.event_text.specs.Parts as model;
 
 use crate::names::{access_name, message_name, need_name, state_name};
-use home_directory::{Header, Sent};
+use dsm_messages::{Header, Sent};
 use itoa::Buffer;
 use run_trace::node_machine::{Wanted, WantedBlocks};
 use run_trace::{Accessed, Tallied};

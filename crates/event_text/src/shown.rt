@@ -14,7 +14,7 @@ use std::alloc::AllocError;
 
 /// Which events are asked for.
 #[derive(Clone, Copy)]
-pub struct Options {
+pub struct EventFilter {
     /// The first and the last stamp.
     pub from: u64,
     pub to: u64,
@@ -27,7 +27,7 @@ pub struct Options {
 }
 
 /// Whether an event has a line.
-pub fn is_shown(options: &Options, event: &Traced) -> bool
+pub fn is_shown(options: &EventFilter, event: &Traced) -> bool
     ensures { result ≡ model.is_shown options.now (traced_of event.now) }
 {
     options.from <= event.stamp
@@ -38,7 +38,7 @@ pub fn is_shown(options: &Options, event: &Traced) -> bool
 }
 
 /// Whether a word that only accesses memory has a line.
-pub fn is_passed_shown(options: &Options, word: &WordPassed) -> bool
+pub fn is_passed_shown(options: &EventFilter, word: &WordPassed) -> bool
     ensures { result ≡ model.is_shown options.now (passed_of word.now) }
 {
     options.from <= word.stamp

@@ -4,7 +4,7 @@ use mathlib.Core.Option.{some, some-ne-none}
 use lib.ListN.{get_elem?}
 use Rattle.crossbeam_queue.specs.Fifo.{Pushes, Pops, Forks, Merges, Learns}
 use Rattle.crossbeam_queue.proofs.Lists.{at_set, at_snoc}
-use Rattle.home_directory.specs.declared.messages.Wire.{Wire}
+use Rattle.dsm_messages.specs.declared.messages.Wire.{Wire}
 use Rattle.fifo_link.specs.declared.rule.Hand.{Hand}
 use Rattle.fifo_link.specs.Rule.{hand, Fits, Linked, EndsWith}
 

@@ -2,7 +2,7 @@
 -- the wires that went through this end.
 use Rattle.std.specs.Prelude.{ℕ, List}
 use Rattle.atomic_table.specs.Seated.{TableId}
-use Rattle.home_directory.specs.declared.messages.Wire.{Wire}
+use Rattle.dsm_messages.specs.declared.messages.Wire.{Wire}
 
 pub record End : Type 0 where
   pub link : TableId

@@ -3,7 +3,7 @@
 use Rattle.std.specs.Prelude.{◌≡◌, ℕ, Bool, true, List, ◌++◌}
 use mathlib.Core.Option.{some}
 use lib.ListN.{get_elem?}
-use Rattle.home_directory.specs.declared.messages.Wire.{Wire}
+use Rattle.dsm_messages.specs.declared.messages.Wire.{Wire}
 use Rattle.fifo_link.specs.declared.rule.Hand.{Hand}
 
 abbrev pub hand : (sends takes : Bool) → (sent taken : List Wire) → Hand

@@ -2,9 +2,9 @@
 ghost use Rattle.std.specs.Prelude.{◌≡◌, ◌≤◌, [], ◌∷◌, ◌++◌, length};
 ghost use Rattle.std.specs.Prelude.{IsErr, IfOk, MatchResult, MatchOption};
 
-use crate::rule::{Ends, Hand, Ring, Sends, Takes};
+use crate::rule::{Hand, Pushes, Ring, Takes, TwoEnds};
 use crossbeam_queue::Pass;
-use home_directory::Wire;
+use dsm_messages::Wire;
 use std::alloc::{AllocError, Global};
 use std::collections::VecDeque;
 use std::marker::Model;
@@ -73,7 +73,7 @@ pub fn link(alloc: Global, capacity: usize) -> Result<(SendEnd, TakeEnd), AllocE
     ensures empty { IfOk result (λ e. (e.0.wires ≡ []) × (e.1.wires ≡ [])) }
 {
     let (ring, mut pass) = Ring::ruled(alloc, capacity)?;
-    let other = ring.another::<Ends>(&mut pass);
+    let other = ring.another::<TwoEnds>(&mut pass);
     let ring = Arc::new(alloc, ring)?;
     let again = Arc::try_clone(&ring)?;
     Ok((
@@ -86,16 +86,17 @@ pub fn link(alloc: Global, capacity: usize) -> Result<(SendEnd, TakeEnd), AllocE
 }
 
 impl SendEnd {
-    /// Puts the wire behind all that was sent, or hands it back where the ring held its capacity.
+    /// Puts the wire behind all that was sent, or hands it back, which the ring does where it held
+    /// its capacity at a moment of the call.
     pub fn push<R: Wait>(&mut self, rt: &R, wire: Wire) -> Result<(), Full>
         ensures link { self.new.link ≡ self.old.link }
         ensures capacity { self.new.capacity ≡ self.old.capacity }
         ensures sent { MatchResult result (λ _. self.new.wires ≡ self.old.wires ++ wire ∷ [])
             (λ full. (full.0 ≡ wire) × (self.new.wires ≡ self.old.wires)) }
-        // So many wires were in the ring, all of them sent before.
+        // As many wires as the ring holds were sent before.
         ensures full { IsErr result → self.old.capacity ≤ length self.old.wires }
     {
-        match self.ring.push_as::<Sends, R>(rt, &mut self.pass, wire) {
+        match self.ring.push_as::<Pushes, R>(rt, &mut self.pass, wire) {
             Ok(()) => Ok(()),
             Err(back) => Err(Full(back)),
         }
@@ -129,7 +130,7 @@ pub fn rejoin<R: Wait>(
         ring: again,
         pass: other,
     } = taker;
-    ring.absorb::<Ends>(&mut pass, other);
+    ring.absorb::<TwoEnds>(&mut pass, other);
     drop(again);
     let mut left = VecDeque::new(alloc);
     for _ in rt.forever() {

@@ -1,7 +1,7 @@
 //! The rule of a link's ring.
 use crossbeam_queue::RuledArrayQueue;
 use crossbeam_queue::protocol::{Join, Lesson, Outcome, Protocol, Split};
-use home_directory::Wire;
+use dsm_messages::Wire;
 use std::collections::LinkedList;
 
 // What a pass may do, and what it has sent and taken. No value of it is made.
@@ -24,9 +24,9 @@ impl Protocol<Wire, Hand> for InOrder {
 }
 
 // The two ends part.
-pub struct Ends;
+pub struct TwoEnds;
 
-impl Split<Hand> for Ends {
+impl Split<Hand> for TwoEnds {
     ghost use Rattle.std.specs.Prelude.{true, false, []};
     ghost use Rattle.fifo_link.specs.Rule.{hand};
 
@@ -35,7 +35,7 @@ impl Split<Hand> for Ends {
     ghost right = { λ v. hand false true [] v.taken };
 }
 
-impl Join<Hand> for Ends {
+impl Join<Hand> for TwoEnds {
     ghost use Rattle.std.specs.Prelude.{true, false, []};
     ghost use Rattle.fifo_link.specs.Rule.{hand};
 
@@ -45,16 +45,16 @@ impl Join<Hand> for Ends {
 }
 
 // A push tells of the wire; one that finds the ring full, that it holds the last that were sent.
-pub struct Sends;
+pub struct Pushes;
 
-impl Outcome<Wire, Hand> for Sends {
+impl Outcome<Wire, Hand> for Pushes {
     ghost use Rattle.std.specs.Prelude.{◌≡◌, [], ◌∷◌, ◌++◌};
     ghost use Rattle.fifo_link.specs.Rule.{hand};
 
     ghost then = { λ v x w. w ≡ hand v.sends v.takes (v.sent ++ x ∷ []) v.taken };
 }
 
-impl Lesson<Wire, Hand> for Sends {
+impl Lesson<Wire, Hand> for Pushes {
     ghost use Rattle.fifo_link.specs.Rule.{EndsWith};
 
     ghost fact = { λ v items. EndsWith v.sent items };

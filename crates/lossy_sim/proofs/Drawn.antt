@@ -2,13 +2,13 @@
 use Rattle.std.proofs.Common.{◌≡◌, ◌≢◌, ℕ, zero, suc, ◌+◌, ◌<◌, ◌≤◌, ◌==◌, ◌&&◌, not, Bool, true, false, List, [], ◌∷◌, ◌++◌, refl, ap, sym, ◌∙◌, subst, arith, append_assoc, append-nil, ne_eqb}
 use Rattle.std.specs.Prelude.{if◌then◌else◌}
 use Rattle.std.specs.List.{flat_map, range_with_len}
-use Rattle.workload.specs.Orders.{following, choice, after_turns}
-use Rattle.workload.proofs.Often.{turns_more}
+use Rattle.random_order.specs.Orders.{following, choice, after_turns}
+use Rattle.random_order.proofs.Often.{turns_more}
 use Rattle.lossy_link.specs.Sender.{Sending, Acknowledges}
 use Rattle.lossy_link.specs.Receiver.{Receiving}
 use Rattle.lossy_link.specs.Packets.{Receives}
 use Rattle.lossy_link.specs.declared.packet.Packet.{Packet}
-use Rattle.home_directory.specs.declared.messages.Wire.{Wire}
+use Rattle.dsm_messages.specs.declared.messages.Wire.{Wire}
 use Rattle.lossy_sim.specs.Links.{LossyLink, HasNetworkTurn, HaveCome, packet_at, packets_drawn, drawn_after, draw_for, received_by, kept_by, each_by, in_a_row, is_given}
 use Rattle.lossy_sim.specs.Draws.{HasBrought, HasReceived}
 

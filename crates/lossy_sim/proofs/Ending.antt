@@ -7,8 +7,8 @@ use Rattle.block_layout.specs.Layout.{IsValid}
 use Rattle.rv32_program.specs.Program.{IsAccepted}
 use Rattle.templates.specs.declared.plans.PlanEntry.{PlanEntry}
 use Rattle.node_model.specs.jump_map.Image.{IsRewriting}
-use Rattle.home_directory.specs.declared.messages.Wire.{Wire}
-use Rattle.workload.specs.Orders.{following}
+use Rattle.random_order.specs.Orders.{following}
+use Rattle.dsm_messages.specs.declared.messages.Wire.{Wire}
 use Rattle.lossy_link.specs.Receiver.{Receiving}
 use Rattle.node_model.specs.declared.Standing.{Standing}
 use Rattle.node_model.specs.declared.Standing.TheVariants.{Running, AtPoll, Waiting, Ended, Over}

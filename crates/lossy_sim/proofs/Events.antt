@@ -1,13 +1,13 @@
 -- Events of nodes and of the links between them, as they are stored.
 use Rattle.std.proofs.Common.{◌≡◌, ℕ, ◌*◌, ◌+◌, ◌<◌, ◌^◌, true, cond, eqb, ◌&&◌, List, [], length, get_or, set, refl, sym, ap, ◌∙◌, subst}
-use Rattle.home_directory.specs.declared.messages.Post.{Post}
-use Rattle.home_directory.specs.declared.messages.Wire.{Wire}
+use Rattle.dsm_messages.specs.declared.messages.Post.{Post}
+use Rattle.dsm_messages.specs.declared.messages.Wire.{Wire}
 use Rattle.lossy_link.specs.Receiver.{Receiving, Delivers}
 use Rattle.node_model.specs.Node.{Work, Node, opening_node, can_execute}
-use Rattle.node_model.specs.Turns.{Turn, quiet, word_turn, take_turn}
+use Rattle.node_model.specs.Turns.{Turn, silent, word_turn, take_turn}
 use Rattle.node_model.specs.Core.{Exec, Take, wires_to}
-use Rattle.dsm_core.specs.node_machine.declared.frame.Frame.{Frame}
-use Rattle.dsm_core.specs.node_machine.Frame.{node_of, work_of as work_at}
+use Rattle.dsm_core.specs.node_machine.declared.node_state.NodeState.{NodeState}
+use Rattle.dsm_core.specs.node_machine.NodeState.{node_of, work_of as work_at}
 use Rattle.dsm_core.specs.CoreSteps.{node_or, SameNodes, SameWorks, MayExecute, IsStamped}
 use Rattle.dsm_core.proofs.CoreSteps.{same_node, same_work, set_same, set_node}
 use Rattle.lossy_sim.specs.Links.{LossyLink, with_offered}
@@ -17,11 +17,11 @@ use Rattle.lossy_sim.proofs.Stored.{offered_nothing, link_delivered}
 
 -- 1. The node that was read
 
-pub same_nodes : (ns : List Frame) → SameNodes ns ns
+pub same_nodes : (ns : List NodeState) → SameNodes ns ns
 same_nodes ns = record { nodes = refl; works = refl }
 
 -- one that stands for the same took the place of node i
-pub same_set : (n i : ℕ) (ns0 ns1 : List Frame) (x y : Frame) → length ns1 ≡ n → i < n
+pub same_set : (n i : ℕ) (ns0 ns1 : List NodeState) (x y : NodeState) → length ns1 ≡ n → i < n
     → SameNodes ns0 ns1 → x ≡ get_or ns1 i x → node_of y ≡ node_of x → work_at y ≡ work_at x
     → SameNodes ns0 (set ns1 i y)
 same_set n i ns0 ns1 x y len bi same is node work =
@@ -32,19 +32,19 @@ same_set n i ns0 ns1 x y len bi same is node work =
     }
 
 -- it runs the same
-pub works_set : (n i : ℕ) (ns0 ns1 : List Frame) (x y : Frame) → length ns1 ≡ n → i < n
+pub works_set : (n i : ℕ) (ns0 ns1 : List NodeState) (x y : NodeState) → length ns1 ≡ n → i < n
     → SameNodes ns0 ns1 → x ≡ get_or ns1 i x → work_at y ≡ work_at x → SameWorks ns0 (set ns1 i y)
 works_set n i ns0 ns1 x y len bi same is work =
     set_same work_at ns1 i x y (subst (λ z. i < z) (sym len) bi) is work ∙ same.works
 
-pub may_read : (n i : ℕ) (ns0 ns1 : List Frame) (x : Frame) → length ns1 ≡ n → i < n
+pub may_read : (n i : ℕ) (ns0 ns1 : List NodeState) (x : NodeState) → length ns1 ≡ n → i < n
     → SameNodes ns0 ns1 → x ≡ get_or ns1 i x → MayExecute ns0 i
     → can_execute (node_of x).phase ≡ true
 may_read n i ns0 ns1 x len bi same is may = subst (λ (z : Node). can_execute z.phase ≡ true)
     (sym (same_node ns0 ns1 i x (node_of x) (subst (λ z. i < z) (sym len) bi) same is))
     (may (node_of x))
 
-pub stamp_read : (n i : ℕ) (ns0 ns1 : List Frame) (x : Frame) → length ns1 ≡ n → i < n
+pub stamp_read : (n i : ℕ) (ns0 ns1 : List NodeState) (x : NodeState) → length ns1 ≡ n → i < n
     → SameNodes ns0 ns1 → x ≡ get_or ns1 i x → IsStamped ns0 i → (node_of x).stamp < 2 ^ 56
 stamp_read n i ns0 ns1 x len bi same is stamp = subst (λ (z : Node). z.stamp < 2 ^ 56)
     (sym (same_node ns0 ns1 i x (node_of x) (subst (λ z. i < z) (sym len) bi) same is))
@@ -53,7 +53,7 @@ stamp_read n i ns0 ns1 x len bi same is stamp = subst (λ (z : Node). z.stamp < 
 -- 2. Its event
 
 -- node i has made a turn, and offered what it sends
-turn_made : (work : Work) (i : ℕ) (ns0 ns1 : List Frame) (y : Frame) (ls1 ls2 : List LossyLink)
+turn_made : (work : Work) (i : ℕ) (ns0 ns1 : List NodeState) (y : NodeState) (ls1 ls2 : List LossyLink)
     (s : State) (stamp : ℕ) (posts : List Post) (t : Turn) (order losses : ℕ)
     → i < length ns1 → SameNodes ns0 ns1 → node_of y ≡ t.node → posts ≡ t.sends
     → stamp ≡ (node_of y).stamp → ((k : ℕ) → s.nodes k ≡ node_or ns0 k (opening_node work k))
@@ -76,7 +76,7 @@ turn_made work i ns0 ns1 y ls1 ls2 s stamp posts t order losses below same en ep
     }
 
 -- node i has executed a word
-pub word_made : (n i : ℕ) (ns0 ns1 : List Frame) (x y : Frame) (ls1 ls2 : List LossyLink) (stamp : ℕ)
+pub word_made : (n i : ℕ) (ns0 ns1 : List NodeState) (x y : NodeState) (ls1 ls2 : List LossyLink) (stamp : ℕ)
     (posts : List Post) → length ns1 ≡ n → i < n → SameNodes ns0 ns1 → x ≡ get_or ns1 i x
     → HaveOffered ls1 ls2 n i stamp posts → node_of y ≡ (word_turn (work_at x) (node_of x)).node
     → posts ≡ (word_turn (work_at x) (node_of x)).sends → stamp ≡ (node_of y).stamp
@@ -94,8 +94,8 @@ word_made n i ns0 ns1 x y ls1 ls2 stamp posts len bi same is sent en ep es work 
     (subst (λ z. HaveOffered ls1 ls2 z i stamp posts) (sym e) sent)
 
 -- or has passed it, and sends nothing
-pub passed_made : (n i : ℕ) (ns : List Frame) (x y : Frame) (ls : List LossyLink) → length ns ≡ n
-    → i < n → x ≡ get_or ns i x → word_turn (work_at x) (node_of x) ≡ quiet (node_of y)
+pub passed_made : (n i : ℕ) (ns : List NodeState) (x y : NodeState) (ls : List LossyLink) → length ns ≡ n
+    → i < n → x ≡ get_or ns i x → word_turn (work_at x) (node_of x) ≡ silent (node_of y)
     → HaveMade n ns (set ns i y) ls ls (Exec i)
 passed_made n i ns x y ls len bi is turn =
     word_made n i ns ns x y ls ls (node_of y).stamp [] len bi (record { nodes = refl; works = refl })
@@ -103,7 +103,7 @@ passed_made n i ns x y ls len bi is turn =
     (sym (ap (λ (z : Turn). z.sends) turn)) refl
 
 -- node i has taken the message that the link from j has delivered
-pub message_made : (n i j : ℕ) (ns0 ns1 : List Frame) (x y : Frame) (ls0 ls2 : List LossyLink)
+pub message_made : (n i j : ℕ) (ns0 ns1 : List NodeState) (x y : NodeState) (ls0 ls2 : List LossyLink)
     (l : LossyLink) (r : Receiving Wire) (stamp : ℕ) (posts : List Post) (w : Wire)
     → length ns1 ≡ n → length ls0 ≡ n * n → i < n → j < n → SameNodes ns0 ns1 → x ≡ get_or ns1 i x
     → Delivers (link_at ls0 n j i).receiver w r

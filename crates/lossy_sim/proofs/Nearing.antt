@@ -5,8 +5,8 @@ use Rattle.std.specs.Option.{option_to_list}
 use Rattle.std.specs.List.{flat_map, range_with_len}
 use Rattle.std.proofs.Math.Nat.{min-le_left, min-le_right, min-eq_left, min-eq_right}
 use Rattle.std.proofs.lemmas.Nat.{mod_below}
-use Rattle.home_directory.specs.declared.messages.Wire.{Wire}
-use Rattle.workload.specs.Orders.{choice, after_turns}
+use Rattle.random_order.specs.Orders.{choice, after_turns}
+use Rattle.dsm_messages.specs.declared.messages.Wire.{Wire}
 use Rattle.lossy_link.specs.Sender.{Sending, Acknowledges, number_offered}
 use Rattle.lossy_link.specs.Receiver.{Receiving, IsWanted, held}
 use Rattle.lossy_link.specs.Packets.{Receives}

@@ -5,7 +5,7 @@ use Rattle.std.specs.Prelude.{Contains, All, if◌then◌else◌}
 use Rattle.std.specs.Option.{option_to_list}
 use Rattle.std.specs.List.{flat_map, range_with_len}
 use Rattle.std.proofs.lemmas.List.Elements.{All-nil, All-cons, All-head, All-tail, All-append, All-same, All-weaker}
-use Rattle.home_directory.specs.declared.messages.Wire.{Wire}
+use Rattle.dsm_messages.specs.declared.messages.Wire.{Wire}
 use Rattle.lossy_link.specs.Sender.{Sending, Acknowledges, number_offered}
 use Rattle.lossy_link.specs.Receiver.{Receiving, Delivers}
 use Rattle.lossy_link.specs.Packets.{Makes, Receives}

@@ -1,10 +1,10 @@
 -- Helps the code alone: a network turn of a link, draw by draw.
 use Rattle.std.specs.Prelude.{◌≡◌, ℕ, ◌==◌, Bool, if◌then◌else◌, List, [], ◌∷◌, ◌++◌}
-use Rattle.workload.specs.Orders.{after_turns}
+use Rattle.random_order.specs.Orders.{after_turns}
 use Rattle.lossy_link.specs.Receiver.{Receiving}
 use Rattle.lossy_link.specs.Packets.{Receives}
 use Rattle.lossy_link.specs.declared.packet.Packet.{Packet}
-use Rattle.home_directory.specs.declared.messages.Wire.{Wire}
+use Rattle.dsm_messages.specs.declared.messages.Wire.{Wire}
 use Rattle.lossy_sim.specs.Links.{LossyLink, HaveCome, packet_at, drawn_after, received_by, kept_by, each_by, in_a_row}
 
 -- what was kept back came, and then the packets behind fewer than k others had their draws

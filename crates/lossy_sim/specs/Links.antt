@@ -2,8 +2,8 @@
 use Rattle.std.specs.Prelude.{◌≡◌, ℕ, suc, ◌+◌, ◌==◌, ◌&&◌, ◌||◌, not, Bool, true, false, min, if◌then◌else◌, List, [], ◌∷◌, ◌++◌, length, map, slice_get}
 use Rattle.std.specs.Option.{option_to_list}
 use Rattle.std.specs.List.{flat_map, range_with_len}
-use Rattle.home_directory.specs.declared.messages.Wire.{Wire}
-use Rattle.workload.specs.Orders.{choice, after_turns}
+use Rattle.random_order.specs.Orders.{choice, after_turns}
+use Rattle.dsm_messages.specs.declared.messages.Wire.{Wire}
 use Rattle.lossy_link.specs.Sender.{Sending, Acknowledges, new_sender}
 use Rattle.lossy_link.specs.Receiver.{Receiving, new_receiver}
 use Rattle.lossy_link.specs.Packets.{Receives}

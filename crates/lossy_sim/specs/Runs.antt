@@ -1,7 +1,7 @@
 -- Helps the code alone: a run with loss, as it is stored.
 use Rattle.std.specs.Prelude.{◌≡◌, ℕ, ◌+◌, ◌*◌, ◌<◌, ◌≤◌, [], Some, map}
 use Rattle.std.specs.Vec.{vec_capacity}
-use Rattle.workload.specs.Orders.{following}
+use Rattle.random_order.specs.Orders.{following}
 use Rattle.node_model.specs.Node.{Work}
 use Rattle.node_model.specs.Core.{Core, Event}
 use Rattle.dsm_core.specs.CoreParts.{core_of, event_of, AreParts, HasStampsInRange}
@@ -9,14 +9,14 @@ use Rattle.shared_sim.specs.ByOrder.{pick_among}
 use Rattle.lossy_sim.specs.Stored.{AreLinks, state_of}
 use Rattle.lossy_sim.specs.UnderWay.{StandFor}
 use Rattle.lossy_sim.specs.WithLoss.{State, Turn, HasEvent, IsTurn, choices}
-use Rattle.lossy_sim.specs.declared.run.Run.{Run}
+use Rattle.lossy_sim.specs.declared.run.LossyRun.{LossyRun}
 
 -- the state of its nodes and links
-abbrev pub state_in : Work → Run → State
+abbrev pub state_in : Work → LossyRun → State
 state_in work r = state_of work r.parts.nodes r.links.items r.order r.losses
 
 -- it has nodes, empty lists, a link for each pair, and room for the choices
-pub record IsReady (r : Run) : Type 0 where
+pub record IsReady (r : LossyRun) : Type 0 where
   pub parts : AreParts r.parts
   pub empty : (j i : ℕ) → j < r.parts.layout.nodes → i < r.parts.layout.nodes
       → (core_of r.parts).list j i ≡ []
@@ -24,13 +24,13 @@ pub record IsReady (r : Run) : Type 0 where
   pub room : r.parts.layout.nodes * (1 + r.parts.layout.nodes) ≤ vec_capacity r.choices
 
 -- its nodes and links stand for a core whose stamps are in range
-pub record IsInRange (work : Work) (r : Run) : Type 0 where
+pub record IsInRange (work : Work) (r : LossyRun) : Type 0 where
   pub core : Core
   pub stand : StandFor work.layout.nodes (state_in work r).nodes (state_in work r).links core
   pub range : HasStampsInRange work.layout.nodes core
 
 -- the events that are allowed are listed
-abbrev pub IsListed : Work → Run → Type 0
+abbrev pub IsListed : Work → LossyRun → Type 0
 IsListed work r = map event_of r.choices.items ≡ choices work (state_in work r)
 
 -- the event that the order picks was made

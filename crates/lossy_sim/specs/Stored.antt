@@ -1,10 +1,10 @@
 -- Helps the code alone: nodes, and the links between them, as they are stored.
 use Rattle.std.specs.Prelude.{◌≡◌, ℕ, ◌+◌, ◌*◌, ◌<◌, ◌≤◌, ◌^◌, ◌==◌, true, if◌then◌else◌, List, length, slice_index_or}
-use Rattle.home_directory.specs.declared.messages.Post.{Post}
-use Rattle.home_directory.specs.declared.messages.Wire.{Wire}
+use Rattle.dsm_messages.specs.declared.messages.Post.{Post}
+use Rattle.dsm_messages.specs.declared.messages.Wire.{Wire}
 use Rattle.lossy_link.specs.Sender.{number_offered}
 use Rattle.lossy_link.specs.Receiver.{Receiving, Delivers}
-use Rattle.dsm_core.specs.node_machine.declared.frame.Frame.{Frame}
+use Rattle.dsm_core.specs.node_machine.declared.node_state.NodeState.{NodeState}
 use Rattle.node_model.specs.Node.{Work, opening_node}
 use Rattle.node_model.specs.Core.{Event, Exec, Take, wires_to}
 use Rattle.dsm_core.specs.CoreParts.{HaveWork}
@@ -38,7 +38,7 @@ HaveOfferedFew more old new n =
     (most : ℕ) → HaveSentFewer most old n → HaveSentFewer (most + more) new n
 
 -- nodes and links, with a number of the order and one of the losses
-abbrev pub state_of : Work → List Frame → List LossyLink → (order losses : ℕ) → State
+abbrev pub state_of : Work → List NodeState → List LossyLink → (order losses : ℕ) → State
 state_of work nodes links order losses = record {
   nodes = λ i. node_or nodes i (opening_node work i);
   links = link_at links work.layout.nodes;
@@ -52,13 +52,13 @@ pub record HasNextStamped (l : LossyLink) : Type 0 where
   pub stamp : (wire : Wire) (r : Receiving Wire) → Delivers l.receiver wire r → wire.stamp < 2 ^ 56
 
 -- the event is allowed, and its stamps are in range
-abbrev pub CanMake : (n : ℕ) → List Frame → List LossyLink → Event → Type 0
+abbrev pub CanMake : (n : ℕ) → List NodeState → List LossyLink → Event → Type 0
 CanMake n nodes links (Exec i) = CanExecute n nodes i
 CanMake n nodes links (Take i j) =
     (i < n) × (j < n) × IsStamped nodes i × HasNextStamped (link_at links n j i)
 
 -- the nodes and links have made the event, whatever they run
-abbrev pub HaveMade : (n : ℕ) (old_nodes new_nodes : List Frame)
+abbrev pub HaveMade : (n : ℕ) (old_nodes new_nodes : List NodeState)
     (old_links new_links : List LossyLink)
     → Event → Type 0
 HaveMade n old_nodes new_nodes old_links new_links e = (work : Work) (order losses : ℕ)
@@ -68,6 +68,6 @@ HaveMade n old_nodes new_nodes old_links new_links e = (work : Work) (order loss
 
 -- each link has had its network turn, with the draws from one number of the losses to another
 abbrev pub HaveTurned : (n : ℕ) (old new : List LossyLink) (losses last : ℕ) → Type 0
-HaveTurned n old new losses last = (work : Work) (nodes : List Frame) (order : ℕ)
+HaveTurned n old new losses last = (work : Work) (nodes : List NodeState) (order : ℕ)
     → work.layout.nodes ≡ n
     → HaveNetworkTurns n (state_of work nodes old order losses) (state_of work nodes new order last)

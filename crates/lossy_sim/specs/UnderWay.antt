@@ -1,6 +1,6 @@
 -- What is under way on a link: what was offered there without what was delivered.
 use Rattle.std.specs.Prelude.{◌≡◌, ℕ, ◌<◌, List, ◌++◌, Contains, All}
-use Rattle.home_directory.specs.declared.messages.Wire.{Wire}
+use Rattle.dsm_messages.specs.declared.messages.Wire.{Wire}
 use Rattle.lossy_link.specs.declared.packet.Packet.{Packet}
 use Rattle.lossy_link.specs.Runs as lossy
 use Rattle.lossy_link.specs.Runs.{IsLossyRun, offered, delivered}

@@ -2,8 +2,8 @@
 -- does.
 use Rattle.std.specs.Prelude.{◌≡◌, ℕ, suc, ◌+◌, ◌*◌, ◌%◌, ◌<◌, ◌==◌, ◌&&◌, ◌⊎◌, Bool, if◌then◌else◌, List, [], ◌∷◌, Some, is_some, filter}
 use Rattle.block_layout.specs.Update.{changed}
-use Rattle.home_directory.specs.declared.messages.Wire.{Wire}
-use Rattle.workload.specs.Orders.{following}
+use Rattle.random_order.specs.Orders.{following}
+use Rattle.dsm_messages.specs.declared.messages.Wire.{Wire}
 use Rattle.lossy_link.specs.Receiver.{Receiving, Delivers, held}
 use Rattle.node_model.specs.declared.Standing.TheVariants.{Over}
 use Rattle.node_model.specs.Node.{Work, Node, opening_node, standing_of}

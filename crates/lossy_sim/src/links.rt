@@ -2,7 +2,7 @@
 
 ghost use Rattle.std.specs.Prelude.{◌≡◌, ◌+◌, ◌^◌, ◌<◌, ◌==◌, ◌&&◌, not, ℕ, [], ◌∷◌, ◌++◌, true};
 ghost use Rattle.std.specs.Prelude.{if◌then◌else◌, IfOk, OnOk};
-ghost use Rattle.workload.specs.Orders.{following, choice};
+ghost use Rattle.random_order.specs.Orders.{following, choice};
 ghost use Rattle.lossy_link.specs.Sender.{number_offered, IsInWindow};
 ghost use Rattle.lossy_link.specs.Receiver.{Receiving, Delivers};
 ghost use Rattle.lossy_link.specs.Packets.{Makes};
@@ -11,11 +11,11 @@ ghost use Rattle.lossy_sim.specs.Links.{packet_at, packets_drawn, in_a_row, is_g
 ghost use Rattle.lossy_sim.specs.WithLoss.{has_next};
 ghost use Rattle.lossy_sim.specs.Draws.{HasBrought, HasReceived};
 
-use home_directory::Wire;
+use dsm_messages::Wire;
 use lossy_link::{Packet, Receiver, Sender};
+use random_order::Order;
 use std::alloc::{AllocError, Global};
 use std::marker::Model;
-use workload::Order;
 
 /// How many items the window of a link has.
 const WINDOW: u8 = 8;

@@ -47,10 +47,10 @@ fn list_events(standing: Standing, links: &[Link], count: u8, node: u8, events: 
     ensures few { length events.new.items ≤ length events.old.items + 1 + count }
     ensures room { vec_capacity events.new ≡ vec_capacity events.old }
 {
-    if may_execute(standing) {
+    if standing.may_execute() {
         events.push_reserved(Event::Exec(node));
     }
-    if may_take(standing) {
+    if standing.may_take() {
         list_takes(links, count, node, events);
     }
 }
@@ -90,26 +90,6 @@ fn is_over(standing: Standing) -> bool
     match standing {
         Standing::Over => true,
         Standing::Running | Standing::AtPoll | Standing::Waiting | Standing::Ended => false,
-    }
-}
-
-/// Whether a node may execute a word.
-fn may_execute(standing: Standing) -> bool
-    ensures { result ≡ model.may_execute standing }
-{
-    match standing {
-        Standing::Running | Standing::AtPoll => true,
-        Standing::Waiting | Standing::Ended | Standing::Over => false,
-    }
-}
-
-/// Whether a node may take a message.
-fn may_take(standing: Standing) -> bool
-    ensures { result ≡ model.may_take standing }
-{
-    match standing {
-        Standing::AtPoll | Standing::Waiting | Standing::Ended => true,
-        Standing::Running | Standing::Over => false,
     }
 }
 

@@ -11,9 +11,9 @@ ghost use Rattle.lossy_sim.specs.Stored.{HaveOfferedFew, HaveSentFewer, HaveTurn
 use crate::links::Link;
 use dsm_core::Event;
 use dsm_core::node_machine::Node;
-use home_directory::{Sends, Wire};
+use dsm_messages::{Sends, Wire};
+use random_order::Order;
 use std::alloc::{AllocError, Global};
-use workload::Order;
 
 /// Links between so many nodes: the link from node j to node i stands at place j × n + i.
 pub(crate) fn new_links(alloc: Global, count: u8) -> Result<Vec<Link>, AllocError>
@@ -73,7 +73,7 @@ fn execute(
         links.old.items links.new.items (model.Exec node)) }
     ensures few { OnOk result (HaveOfferedFew 18 links.old.items links.new.items count) }
 {
-    if nodes[node as usize].pass() {
+    if nodes[node as usize].exec_silent() {
         return Ok(());
     }
     nodes[node as usize].room()?;

@@ -16,8 +16,8 @@ use crate::nodes::{make, network_turn, new_links};
 use dsm_core::rewriting_law::progress_law;
 use dsm_core::run_order::stamp_law;
 use dsm_core::{Core, Event, Outcome, Parts, Work};
+use random_order::{Order, order_of};
 use std::alloc::{AllocError, Global};
-use workload::{Order, order_of};
 
 /// Each turn whose number is a multiple of this is the network's.
 const ROUND: u64 = 4;
@@ -39,7 +39,7 @@ pub fn lossy_simulate(
     loss_law();
     progress_law();
     stamp_law();
-    let mut run = Run::new(alloc, work, order, loss)?;
+    let mut run = LossyRun::new(alloc, work, order, loss)?;
     for turn in 1..u64::MAX {
         if run.is_over() {
             return Core::put_together(run.parts).outcome(alloc);
@@ -51,7 +51,7 @@ pub fn lossy_simulate(
 
 /// Nodes over lossy links on their way.
 #[derive(Drop)]
-struct Run<'a> {
+struct LossyRun<'a> {
     /// The nodes. Their lists stay empty: what is under way is on the links.
     parts: Parts<'a>,
     /// The links by sender and then receiver.
@@ -64,9 +64,14 @@ struct Run<'a> {
     choices: Vec<Event>,
 }
 
-impl<'a> Run<'a> {
+impl<'a> LossyRun<'a> {
     /// The nodes at the start, and links on which nothing is under way.
-    fn new(alloc: Global, work: &Work<'a>, order: u32, loss: u32) -> Result<Run<'a>, AllocError>
+    fn new(
+        alloc: Global,
+        work: &Work<'a>,
+        order: u32,
+        loss: u32,
+    ) -> Result<LossyRun<'a>, AllocError>
         requires rewritten { RunsRewritten (work_in work.now) }
         ensures ready { IfOk result IsReady }
         ensures opening { IfOk result (λ r. state_in (work_in work.now) r
@@ -76,7 +81,7 @@ impl<'a> Run<'a> {
         let parts = Core::new(alloc, work)?.take_apart();
         let count = parts.layout.nodes();
         let most = count as usize * (1 + count as usize);
-        Ok(Run {
+        Ok(LossyRun {
             links: new_links(alloc, count)?,
             order: order_of(order),
             losses: order_of(loss),

@@ -1,7 +1,7 @@
 -- Rows, one after another.
 use Rattle.std.proofs.Common.{◌≡◌, ℕ, List, [], ◌∷◌, ◌++◌, map, length, ◌<◌, get_or, remove, ap, ap₂, ◌∙◌, sym, append_assoc, append-nil, lt_irrefl, Vec, Global}
 use Rattle.std.specs.declared.collections.VecDeque.{VecDeque}
-use Rattle.home_directory.specs.declared.messages.Wire.{Wire}
+use Rattle.dsm_messages.specs.declared.messages.Wire.{Wire}
 use Rattle.node_threads.specs.Crew.{RowsOf, flat}
 
 abbrev Q : VecDeque Wire Global → List Wire

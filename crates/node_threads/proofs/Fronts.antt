@@ -2,7 +2,7 @@
 use Rattle.std.proofs.Common.{◌≡◌, ◌≢◌, ℕ, zero, suc, remove, ◌-◌, ◌+◌, ◌<◌, ◌≤◌, Option, Some, None, List, [], ◌∷◌, ◌++◌, set, get_or, length, length-set, refl, ap, ap₂, ◌∙◌, sym, subst, arith, eq-eqb, ne_eqb, ⊎_elim, Vec, Global, le_of_suc-le-suc, not-suc-le-zero}
 use Rattle.std.proofs.lemmas.Bool.{cases_eq}
 use Rattle.std.specs.declared.collections.VecDeque.{VecDeque}
-use Rattle.home_directory.specs.declared.messages.Wire.{Wire}
+use Rattle.dsm_messages.specs.declared.messages.Wire.{Wire}
 use Rattle.node_threads.specs.Works.{in_hand}
 use Rattle.node_threads.specs.Rows.{wires_at}
 use Rattle.node_threads.specs.Crew.{RowsOf, HandsFit, list_of, hand_at}

@@ -2,7 +2,7 @@
 use Rattle.std.proofs.Common.{◌≡◌, ℕ, zero, suc, List, [], ◌∷◌, ◌++◌, map, length, refl, ap, ap₂, ◌∙◌, sym, subst, subst₂, arith, get_or, remove, ◌<◌, Vec, Global}
 use Rattle.std.specs.declared.collections.VecDeque.{VecDeque}
 use Rattle.atomic_table.specs.Seated.{TableId}
-use Rattle.home_directory.specs.declared.messages.Wire.{Wire}
+use Rattle.dsm_messages.specs.declared.messages.Wire.{Wire}
 use Rattle.fifo_link.specs.End.{End}
 use Rattle.node_threads.specs.Mesh.{BeginRows, GathersRow, Crosses, Gathers, AsLong, tail}
 use Rattle.node_threads.specs.Works.{links_of}

@@ -1,4 +1,4 @@
-pub mod Deeds
+pub mod History
 pub mod Entries
 pub mod Flat
 pub mod Fronts

@@ -1,12 +1,12 @@
 -- Cores taken apart, and put together again.
 use Rattle.std.proofs.Common.{◌≡◌, ℕ, ◌<◌, ◌*◌, List, ◌++◌, map, length, refl, ap, ◌∙◌, sym, subst, subst₂, append_assoc, Vec, Global}
 use Rattle.std.specs.declared.collections.VecDeque.{VecDeque}
-use Rattle.home_directory.specs.declared.messages.Wire.{Wire}
+use Rattle.dsm_messages.specs.declared.messages.Wire.{Wire}
 use Rattle.dsm_protocol.specs.node_model.Node.{Work}
 use Rattle.dsm_protocol.specs.node_model.Core.{Core}
-use Rattle.dsm_core.specs.node_machine.declared.frame.Frame.{Frame}
+use Rattle.dsm_core.specs.node_machine.declared.node_state.NodeState.{NodeState}
 use Rattle.dsm_core.specs.run_order.OwnRun.{Stamped, StandsForOwnRun, OnlyAdds}
-use Rattle.dsm_core.specs.run_order.Apart.{Deed, HaveDone}
+use Rattle.dsm_core.specs.run_order.Apart.{LocalEvent, HaveDone}
 use Rattle.dsm_protocol.specs.Queue.{Queue}
 use Rattle.dsm_core.specs.CoreParts.{CoreParts, AreParts, work_of, core_of}
 use Rattle.node_threads.specs.Crew.{RowsOf, AreNodesOf, flat}
@@ -24,7 +24,7 @@ pub are_nodes : (p : CoreParts) → AreParts p
     → (work : Work) × (work.layout.nodes ≡ length p.nodes) × AreNodesOf work p.nodes
 are_nodes p are = (work_of p, sym are.count, nodes_of_work (work_of p) p.nodes are.works)
 
-module _ (p : CoreParts) (news : List Frame) (rs : List Queue)
+module _ (p : CoreParts) (news : List NodeState) (rs : List Queue)
     (old new : List (Vec (VecDeque Wire Global) Global)) (are : AreParts p)
     (square : RowsOf (length p.nodes) old) (many : length old ≡ length p.nodes)
     (was : flat old ≡ map (λ (q : Queue). q.wires) p.lists)
@@ -47,7 +47,7 @@ module _ (p : CoreParts) (news : List Frame) (rs : List Queue)
   pub gone_apart : HaveGoneApart p (record p { nodes = news; lists = rs })
   gone_apart = record {
     work = refl;
-    deeds = raced.deeds;
+    history = raced.history;
     done = have_done (work_of p) p.nodes news p.lists rs old new (sym are.count)
         (subst (λ n. length p.lists ≡ n * n) (sym are.count) are.lists.len)
         lists_len many square was now raced;
@@ -55,8 +55,8 @@ module _ (p : CoreParts) (news : List Frame) (rs : List Queue)
 
 -- the law of nodes apart
 abbrev pub ApartLaw : Type 0
-ApartLaw = (work : Work) (c d : Core) (events : List Stamped) (deeds : ℕ → List Deed)
-    → StandsForOwnRun work c events → HaveDone work c d deeds
+ApartLaw = (work : Work) (c d : Core) (events : List Stamped) (history : ℕ → List LocalEvent)
+    → StandsForOwnRun work c events → HaveDone work c d history
     → (own : List Stamped) × StandsForOwnRun work d own × OnlyAdds work.layout.nodes c d
 
 abbrev pub HasOwnRun : CoreParts → Type 0
@@ -65,5 +65,5 @@ HasOwnRun p = (events : List Stamped) × StandsForOwnRun (work_of p) (core_of p)
 pub own_after : (p q : CoreParts) → ApartLaw → HasOwnRun p → HaveGoneApart p q
     → HasOwnRun q × OnlyAdds p.layout.nodes (core_of p) (core_of q)
 own_after p q law own gone =
-    let r = law (work_of p) (core_of p) (core_of q) own.0 gone.deeds own.1 gone.done in
+    let r = law (work_of p) (core_of p) (core_of q) own.0 gone.history own.1 gone.done in
     ((r.0, subst (λ v. StandsForOwnRun v (core_of q) r.0) (sym gone.work) r.1), r.2)

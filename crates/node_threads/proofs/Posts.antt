@@ -2,8 +2,8 @@
 use Rattle.std.proofs.Common.{◌≡◌, ◌≢◌, ℕ, ◌<◌, ◌≤◌, Some, List, [], ◌∷◌, ◌++◌, set, get_or, remove, length, eq-eqb, ne_eqb, refl, ap, ap₂, ◌∙◌, sym, subst, append_assoc, append-nil, ⊎_elim, Global, lt_irrefl, arith}
 use Rattle.std.proofs.lemmas.Bool.{cases_eq}
 use Rattle.std.specs.declared.collections.VecDeque.{VecDeque}
-use Rattle.home_directory.specs.declared.messages.Post.{Post}
-use Rattle.home_directory.specs.declared.messages.Wire.{Wire}
+use Rattle.dsm_messages.specs.declared.messages.Post.{Post}
+use Rattle.dsm_messages.specs.declared.messages.Wire.{Wire}
 use Rattle.dsm_protocol.specs.node_model.Core.{wires_to}
 use Rattle.fifo_link.specs.End.{End}
 use Rattle.dsm_core.specs.run_order.Apart.{Takes, taken_from}

@@ -5,12 +5,12 @@ use Rattle.std.proofs.lemmas.List.{length-map}
 use Rattle.std.specs.declared.alloc.AllocError.{AllocError}
 use Rattle.std.specs.declared.collections.VecDeque.{VecDeque}
 use Rattle.atomic_table.specs.Seated.{TableId}
-use Rattle.home_directory.specs.declared.messages.Wire.{Wire}
+use Rattle.dsm_messages.specs.declared.messages.Wire.{Wire}
 use Rattle.dsm_protocol.specs.node_model.Node.{Work, Node}
-use Rattle.dsm_core.specs.node_machine.declared.frame.Frame.{Frame}
-use Rattle.dsm_core.specs.node_machine.Frame.{node_of, work_of}
+use Rattle.dsm_core.specs.node_machine.declared.node_state.NodeState.{NodeState}
+use Rattle.dsm_core.specs.node_machine.NodeState.{node_of, work_of}
 use Rattle.fifo_link.specs.End.{End}
-use Rattle.dsm_core.specs.run_order.Apart.{Deed, LeadsBy, taken_from, sent_to}
+use Rattle.dsm_core.specs.run_order.Apart.{LocalEvent, LeadsBy, taken_from, sent_to}
 use Rattle.node_threads.specs.Rows.{wires_at}
 use Rattle.node_threads.specs.Works.{Works, HasRows, IsReady, through, waiting, links_of, in_hand}
 use Rattle.node_threads.specs.Mesh.{BeginRows, Crosses, Gathers, GathersRow, AsLong, Unused, Fresh, IsMesh, first, tail}
@@ -56,7 +56,7 @@ Q o = o.items
 abbrev M : Vec (VecDeque Wire Global) Global → List (List Wire)
 M v = map Q v.items
 
-abbrev nodes_of : List Worker → List Frame
+abbrev nodes_of : List Worker → List NodeState
 nodes_of ws = map (λ (w : Worker). w.node) ws
 
 abbrev sends_of : List Worker → List (Vec End Global)
@@ -115,20 +115,20 @@ through_unused (e ∷ es) u (suc j) = through_unused es u.1 j
 
 -- what worker i has done
 record Did (work : Work) (ws bs : List Worker) (i : ℕ) : Type 0 where
-  pub deeds : List Deed
+  pub history : List LocalEvent
   pub leads : (d : Node)
-      → LeadsBy work (node_or (nodes_of ws) i d) deeds (node_or (nodes_of bs) i d)
+      → LeadsBy work (node_or (nodes_of ws) i d) history (node_or (nodes_of bs) i d)
   pub takes : (j : ℕ) → through (nth (map L (takes_of bs)) i) j
-      ≡ taken_from j deeds ++ in_hand j (hand_at (hands_of bs) i)
+      ≡ taken_from j history ++ in_hand j (hand_at (hands_of bs) i)
   pub pushed : ℕ → List Wire
   pub sends : (k : ℕ) → through (nth (map L (sends_of bs)) i) k ≡ pushed k
   pub outs : (d : Node) (k : ℕ) → k < work.layout.nodes → list_of (outs_of ws) i k
-      ++ sent_to work k (node_or (nodes_of ws) i d) deeds ≡ pushed k ++ list_of (outs_of bs) i k
+      ++ sent_to work k (node_or (nodes_of ws) i d) history ≡ pushed k ++ list_of (outs_of bs) i k
 
 did : (work : Work) (n : ℕ) (ws bs : List Worker) → AllWork ws bs → AreNodesOf work (nodes_of ws)
     → Fresh n (map L (sends_of ws)) → Fresh n (map L (takes_of ws)) → (i : ℕ) → Did work ws bs i
 did work n [] [] h an fs ft i = record {
-  deeds = [];
+  history = [];
   leads = λ d. refl;
   takes = λ j. refl;
   pushed = λ k. [];
@@ -136,19 +136,19 @@ did work n [] [] h an fs ft i = record {
   outs = λ d k lt. refl;
 }
 did work n (w ∷ ws) (b ∷ bs) h an fs ft zero = let x = h.0 in record {
-  deeds = x.deeds;
-  leads = λ d. subst (λ v. LeadsBy v (node_of w.node) x.deeds (node_of b.node)) an.0 x.leads;
-  takes = λ j. x.takes j ∙ ap (λ l. (l ++ taken_from j x.deeds) ++ in_hand j b.hand)
+  history = x.history;
+  leads = λ d. subst (λ v. LeadsBy v (node_of w.node) x.history (node_of b.node)) an.0 x.leads;
+  takes = λ j. x.takes j ∙ ap (λ l. (l ++ taken_from j x.history) ++ in_hand j b.hand)
       (through_unused w.takes.items ft.1 j);
   pushed = x.pushed;
   sends = λ k. x.sends k ∙ ap (λ l. l ++ x.pushed k) (through_unused w.sends.items fs.1 k);
   outs = λ d. subst (λ v. (k : ℕ) → k < v.layout.nodes → waiting w.outs.items k
-      ++ sent_to v k (node_of w.node) x.deeds ≡ x.pushed k ++ waiting b.outs.items k) an.0 x.outs;
+      ++ sent_to v k (node_of w.node) x.history ≡ x.pushed k ++ waiting b.outs.items k) an.0 x.outs;
 }
 did work n (w ∷ ws) (b ∷ bs) h an fs ft (suc i) =
     let p = did work n ws bs h.1 an.1 fs.2 ft.2 i in
     record {
-      deeds = p.deeds;
+      history = p.history;
       leads = p.leads;
       takes = p.takes;
       pushed = p.pushed;
@@ -231,7 +231,7 @@ pub record Prepared (ws : List Worker) : Type 0 where
   pub outs : RowsOf (length ws) (outs_of ws)
   pub cross : Crosses (map K (sends_of ws)) (map K (takes_of ws))
 
-pub prepared : (n : ℕ) (ns : List Frame) (rows : List (Vec (VecDeque Wire Global) Global))
+pub prepared : (n : ℕ) (ns : List NodeState) (rows : List (Vec (VecDeque Wire Global) Global))
     (ss ts : List (Vec End Global)) (ws : List Worker)
     → n ≡ length ns → RowsOf (length ns) rows → IsMesh n ss ts → nodes_of ws ≡ ns
     → sends_of ws ≡ ss → takes_of ws ≡ ts → outs_of ws ≡ rows → Prepared ws
@@ -307,7 +307,7 @@ hands_fit : (n : ℕ) (ws bs : List Worker) → AllWork ws bs → Fresh n (map L
     → HandsFit n (hands_of bs)
 hands_fit n [] [] w f = tt
 hands_fit n (a ∷ ws) (b ∷ bs) w f = hand_fits n b.takes.items
-    (λ j. through a.takes.items j ++ taken_from j w.0.deeds) b.hand (hands_of bs)
+    (λ j. through a.takes.items j ++ taken_from j w.0.history) b.hand (hands_of bs)
     (links_len b.takes.items a.takes.items w.0.same_takes ∙ f.0) w.0.takes
     (hands_fit n ws bs w.1 f.2)
 hands_fit n ws bs w f = absurd w
@@ -353,12 +353,12 @@ raced work ws bs found new p w e an g put rows many =
       rows = rows.0 ∙ many ∙ sym len;
       square = subst (λ i. RowsOf i new) (many ∙ sym len) rows.1;
       works = works_kept work ws bs w an;
-      deeds = λ i. (d i).deeds;
+      history = λ i. (d i).history;
       leads = λ i x. (d i).leads x;
       lists = λ j k x bj bk.
           let sent = through (nth (map L (sends_of bs)) j) k in
           let took = through (nth (map L (takes_of bs)) k) j in
-          let ts = taken_from j (d k).deeds in
+          let ts = taken_from j (d k).history in
           let h = in_hand j (hand_at (hands_of bs) k) in
           ap (λ l. ts ++ l) (put j k)
           ∙ sym (append_assoc ts h (list_of found j k))
@@ -371,8 +371,8 @@ raced work ws bs found new p w e an g put rows many =
           ∙ sym ((d j).outs x k (subst (λ i. k < i) (len ∙ sym e) bk));
     }
 
-pub came_to : (work : Work) (ws bs : List Worker) (ns : List Frame)
-    (old : List (Vec (VecDeque Wire Global) Global)) (ns' : List Frame)
+pub came_to : (work : Work) (ws bs : List Worker) (ns : List NodeState)
+    (old : List (Vec (VecDeque Wire Global) Global)) (ns' : List NodeState)
     (ss ts : List (Vec End Global)) (os : List (Vec (VecDeque Wire Global) Global))
     (hs : List (Option (ℕ × Wire))) (found new : List (Vec (VecDeque Wire Global) Global))
     → Prepared ws → AllWork ws bs → work.layout.nodes ≡ length ns → AreNodesOf work ns

@@ -2,10 +2,10 @@
 use Rattle.std.proofs.Common.{◌≡◌, ℕ, zero, suc, ◌+◌, ◌*◌, ◌<◌, List, [], ◌∷◌, ◌++◌, map, length, get_or, refl, ap, ◌∙◌, sym, subst, arith, not-suc-le-zero, le_of_suc-le-suc, Vec, Global}
 use Rattle.std.proofs.lemmas.List.{get_or-map, get_or_append_left, get_or-append-add, length-map, length-append}
 use Rattle.std.specs.declared.collections.VecDeque.{VecDeque}
-use Rattle.home_directory.specs.declared.messages.Wire.{Wire}
+use Rattle.dsm_messages.specs.declared.messages.Wire.{Wire}
 use Rattle.dsm_protocol.specs.node_model.Node.{Work, Node, opening_node}
-use Rattle.dsm_core.specs.node_machine.declared.frame.Frame.{Frame}
-use Rattle.dsm_core.specs.node_machine.Frame.{node_of, work_of}
+use Rattle.dsm_core.specs.node_machine.declared.node_state.NodeState.{NodeState}
+use Rattle.dsm_core.specs.node_machine.NodeState.{node_of, work_of}
 use Rattle.dsm_core.specs.run_order.Apart.{HaveDone, taken_from, sent_to}
 use Rattle.dsm_protocol.specs.Queue.{Queue, no_queue, wires_of}
 use Rattle.dsm_protocol.proofs.Squares.{list_in, place_below}
@@ -71,23 +71,23 @@ square_len n qs rows many ro is = let W : Queue → List Wire = λ q. q.wires in
     sym (length-map qs W) ∙ ap length is ∙ flat_len n rows ro ∙ ap (λ m. m * n) many
 
 -- every node runs the work, by place or one after another
-pub nodes_of_work : (work : Work) (ns : List Frame) → HaveWork work ns → AreNodesOf work ns
+pub nodes_of_work : (work : Work) (ns : List NodeState) → HaveWork work ns → AreNodesOf work ns
 nodes_of_work work [] h = tt
 nodes_of_work work (f ∷ fs) h = (h 0, nodes_of_work work fs (λ i. h (suc i)))
 
-pub have_work : (work : Work) (ns : List Frame) → AreNodesOf work ns → HaveWork work ns
+pub have_work : (work : Work) (ns : List NodeState) → AreNodesOf work ns → HaveWork work ns
 have_work work [] an i = refl
 have_work work (f ∷ fs) an zero = an.0
 have_work work (f ∷ fs) an (suc i) = have_work work fs an.1 i
 
 -- what the nodes and rows have done, as nodes and lists
-pub have_done : (work : Work) (olds news : List Frame) (qs rs : List Queue)
+pub have_done : (work : Work) (olds news : List NodeState) (qs rs : List Queue)
     (old new : List (Vec (VecDeque Wire Global) Global)) → work.layout.nodes ≡ length olds
     → length qs ≡ length olds * length olds → length rs ≡ length olds * length olds
     → length old ≡ length olds → RowsOf (length olds) old
     → flat old ≡ map (λ (q : Queue). q.wires) qs → map (λ (q : Queue). q.wires) rs ≡ flat new
     → (h : HaveRaced work olds old news new)
-    → HaveDone work (core_with work olds qs) (core_with work news rs) h.deeds
+    → HaveDone work (core_with work olds qs) (core_with work news rs) h.history
 have_done work olds news qs rs old new e lq lr many ro is_old is_new h =
     let n = length olds in
     record {
@@ -100,8 +100,8 @@ have_done work olds news qs rs old new e lq lr many ro is_old is_new h =
           let now : wires_of rs work.layout.nodes j k ≡ list_of new j k =
           ap (λ i. wires_of rs i j k) e
           ∙ list_at n rs new lr h.rows h.square (sym is_new) j k cj ck in
-          ap (λ l. taken_from j (h.deeds k) ++ l) now
+          ap (λ l. taken_from j (h.history k) ++ l) now
           ∙ h.lists j k (opening_node work j) cj ck
-          ∙ ap (λ l. l ++ sent_to work k (node_or olds j (opening_node work j)) (h.deeds j))
+          ∙ ap (λ l. l ++ sent_to work k (node_or olds j (opening_node work j)) (h.history j))
           (sym was);
     }

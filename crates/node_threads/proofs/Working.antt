@@ -3,29 +3,29 @@ use Rattle.std.proofs.Common.{◌≡◌, ◌≢◌, ℕ, ◌<◌, true, None, Re
 use Rattle.std.proofs.lemmas.Bool.{cases_eq}
 use Rattle.std.proofs.lemmas.List.{length-map}
 use Rattle.std.specs.declared.collections.VecDeque.{VecDeque}
-use Rattle.home_directory.specs.declared.messages.Post.{Post}
-use Rattle.home_directory.specs.declared.messages.Wire.{Wire}
+use Rattle.dsm_messages.specs.declared.messages.Post.{Post}
+use Rattle.dsm_messages.specs.declared.messages.Wire.{Wire}
 use Rattle.dsm_protocol.specs.node_model.Node.{Work, Node}
-use Rattle.dsm_protocol.specs.node_model.Turns.{Turn, quiet, word_turn}
+use Rattle.dsm_protocol.specs.node_model.Turns.{Turn, silent, word_turn}
 use Rattle.dsm_protocol.specs.node_model.Core.{wires_to, may_execute}
-use Rattle.dsm_core.specs.node_machine.declared.frame.Frame.{Frame}
-use Rattle.dsm_core.specs.node_machine.Frame.{node_of, work_of}
-use Rattle.dsm_core.specs.run_order.Apart.{Deed, Executes, MayDo, LeadsBy, turn_of, taken_from, sent_to}
+use Rattle.dsm_core.specs.node_machine.declared.node_state.NodeState.{NodeState}
+use Rattle.dsm_core.specs.node_machine.NodeState.{node_of, work_of}
+use Rattle.dsm_core.specs.run_order.Apart.{LocalEvent, Executes, MayDo, LeadsBy, turn_of, taken_from, sent_to}
 use Rattle.fifo_link.specs.End.{End}
 use Rattle.node_threads.specs.Rows.{wires_at}
 use Rattle.node_threads.specs.Works.{Works, HasRows, standing, through, waiting, links_of, in_hand}
 use Rattle.node_threads.specs.declared.worker.Worker.{Worker}
 use Rattle.node_threads.proofs.Entries.{wires_same, wires_other, wires_get, map_same}
 use Rattle.dsm_core.specs.node_machine.Runs.{GoesOnBy}
-use Rattle.node_threads.proofs.Deeds.{leads_append, taken_append, sent_append, words_of, words_lead, words_take, words_send}
+use Rattle.node_threads.proofs.History.{leads_append, taken_append, sent_append, words_of, words_lead, words_take, words_send}
 
--- no deed, and no wire was moved
+-- no local_event, and no wire was moved
 pub works_still : (a b : Worker) → b.hand ≡ None → work_of b.node ≡ work_of a.node
     → node_of b.node ≡ node_of a.node → b.sends ≡ a.sends → b.outs ≡ a.outs
     → ((j : ℕ) → through b.takes.items j ≡ through a.takes.items j)
     → links_of b.takes.items ≡ links_of a.takes.items → Works a b
 works_still a b none work node sends outs takes links = record {
-  deeds = [];
+  history = [];
   work = work;
   leads = sym node;
   takes = λ j. takes j
@@ -47,35 +47,35 @@ works_trans a b c x none y =
     let w : Work = work_of a.node in
     let n : Node = node_of a.node in
     let m : Node = node_of b.node in
-    let leads : LeadsBy w m y.deeds (node_of c.node) =
-    subst (λ v. LeadsBy v m y.deeds (node_of c.node)) x.work y.leads in
-    let outs : (k : ℕ) → k < w.layout.nodes → waiting b.outs.items k ++ sent_to w k m y.deeds
+    let leads : LeadsBy w m y.history (node_of c.node) =
+    subst (λ v. LeadsBy v m y.history (node_of c.node)) x.work y.leads in
+    let outs : (k : ℕ) → k < w.layout.nodes → waiting b.outs.items k ++ sent_to w k m y.history
     ≡ y.pushed k ++ waiting c.outs.items k =
-    subst (λ v. (k : ℕ) → k < v.layout.nodes → waiting b.outs.items k ++ sent_to v k m y.deeds
+    subst (λ v. (k : ℕ) → k < v.layout.nodes → waiting b.outs.items k ++ sent_to v k m y.history
     ≡ y.pushed k ++ waiting c.outs.items k) x.work y.outs in
     let takes : (j : ℕ) → through b.takes.items j
-    ≡ through a.takes.items j ++ taken_from j x.deeds =
+    ≡ through a.takes.items j ++ taken_from j x.history =
     λ j. x.takes j
-    ∙ ap (λ h. (through a.takes.items j ++ taken_from j x.deeds) ++ in_hand j h) none
-    ∙ append-nil (through a.takes.items j ++ taken_from j x.deeds) in
+    ∙ ap (λ h. (through a.takes.items j ++ taken_from j x.history) ++ in_hand j h) none
+    ∙ append-nil (through a.takes.items j ++ taken_from j x.history) in
     record {
-      deeds = x.deeds ++ y.deeds;
+      history = x.history ++ y.history;
       work = y.work ∙ x.work;
-      leads = leads_append w n m (node_of c.node) x.deeds y.deeds x.leads leads;
+      leads = leads_append w n m (node_of c.node) x.history y.history x.leads leads;
       takes = λ j. y.takes j
-          ∙ ap (λ l. l ++ taken_from j y.deeds ++ in_hand j c.hand) (takes j)
+          ∙ ap (λ l. l ++ taken_from j y.history ++ in_hand j c.hand) (takes j)
           ∙ ap (λ l. l ++ in_hand j c.hand)
-          (append_assoc (through a.takes.items j) (taken_from j x.deeds) (taken_from j y.deeds)
-          ∙ ap (λ l. through a.takes.items j ++ l) (sym (taken_append j x.deeds y.deeds)));
+          (append_assoc (through a.takes.items j) (taken_from j x.history) (taken_from j y.history)
+          ∙ ap (λ l. through a.takes.items j ++ l) (sym (taken_append j x.history y.history)));
       pushed = λ k. x.pushed k ++ y.pushed k;
       sends = λ k. y.sends k ∙ ap (λ l. l ++ y.pushed k) (x.sends k)
           ∙ append_assoc (through a.sends.items k) (x.pushed k) (y.pushed k);
       outs = λ k lt.
-          ap (λ l. waiting a.outs.items k ++ l) (sent_append w k n m x.deeds y.deeds x.leads)
-          ∙ sym (append_assoc (waiting a.outs.items k) (sent_to w k n x.deeds)
-          (sent_to w k m y.deeds))
-          ∙ ap (λ l. l ++ sent_to w k m y.deeds) (x.outs k lt)
-          ∙ append_assoc (x.pushed k) (waiting b.outs.items k) (sent_to w k m y.deeds)
+          ap (λ l. waiting a.outs.items k ++ l) (sent_append w k n m x.history y.history x.leads)
+          ∙ sym (append_assoc (waiting a.outs.items k) (sent_to w k n x.history)
+          (sent_to w k m y.history))
+          ∙ ap (λ l. l ++ sent_to w k m y.history) (x.outs k lt)
+          ∙ append_assoc (x.pushed k) (waiting b.outs.items k) (sent_to w k m y.history)
           ∙ ap (λ l. x.pushed k ++ l) (outs k lt)
           ∙ sym (append_assoc (x.pushed k) (y.pushed k) (waiting c.outs.items k));
       same_sends = y.same_sends ∙ x.same_sends;
@@ -101,7 +101,7 @@ works_flush b w k end next out left none node takes hand sends outs ks ko is_end
     let G : VecDeque Wire Global → List Wire = λ o. o.items in
     let ps : ℕ → List Wire = λ i. cond (eqb i k) p.0 [] in
     record {
-      deeds = [];
+      history = [];
       work = ap work_of node;
       leads = sym (ap node_of node);
       takes = λ j. ap (λ l. through l j) takes
@@ -135,8 +135,8 @@ works_flush b w k end next out left none node takes hand sends outs ks ko is_end
       same_outs = ap length outs ∙ length-set b.outs.items k left;
     }
 
--- the node has made a deed
-pub works_deed : (b w : Worker) (d : Deed) → w.hand ≡ None → work_of w.node ≡ work_of b.node
+-- the node has made a local_event
+pub works_local_event : (b w : Worker) (d : LocalEvent) → w.hand ≡ None → work_of w.node ≡ work_of b.node
     → MayDo (work_of b.node) (node_of b.node) d
     → node_of w.node ≡ (turn_of (work_of b.node) (node_of b.node) d).node
     → ((j : ℕ) → through w.takes.items j ≡ through b.takes.items j ++ taken_from j (d ∷ []))
@@ -147,10 +147,10 @@ pub works_deed : (b w : Worker) (d : Deed) → w.hand ≡ None → work_of w.nod
     ++ wires_to (node_of w.node).stamp k (turn_of (work_of b.node) (node_of b.node) d).sends)
     → length w.outs.items ≡ length b.outs.items
     → Works b w
-works_deed b w d hand work may node took same_takes sends outs len =
+works_local_event b w d hand work may node took same_takes sends outs len =
     let t = turn_of (work_of b.node) (node_of b.node) d in
     record {
-      deeds = d ∷ [];
+      history = d ∷ [];
       work = work;
       leads = (may, sym node);
       takes = λ j. took j
@@ -167,8 +167,8 @@ works_deed b w d hand work may node took same_takes sends outs len =
       same_outs = len;
     }
 
--- the same, where the node stands for the same as before its deed
-pub works_turn : (b w : Worker) (x : Frame) (d : Deed) (stamp : ℕ) (posts : List Post)
+-- the same, where the node stands for the same as before its local_event
+pub works_turn : (b w : Worker) (x : NodeState) (d : LocalEvent) (stamp : ℕ) (posts : List Post)
     → w.hand ≡ None → HasRows b → MayDo (work_of b.node) (node_of b.node) d
     → work_of x ≡ work_of b.node → node_of x ≡ node_of b.node → work_of w.node ≡ work_of x
     → node_of w.node ≡ (turn_of (work_of x) (node_of x) d).node
@@ -183,7 +183,7 @@ pub works_turn : (b w : Worker) (x : Frame) (d : Deed) (stamp : ℕ) (posts : Li
 works_turn b w x d stamp posts hand rows may wx nx work node sends at_stamp took links same outs len =
     let e : turn_of (work_of x) (node_of x) d ≡ turn_of (work_of b.node) (node_of b.node) d =
     ap₂ (λ v n. turn_of v n d) wx nx in
-    works_deed b w d hand (work ∙ wx) may (node ∙ ap (λ (t : Turn). t.node) e) took links same
+    works_local_event b w d hand (work ∙ wx) may (node ∙ ap (λ (t : Turn). t.node) e) took links same
     (λ k lt. outs k (subst (λ i. k < i) (sym rows.outs) lt)
     ∙ ap (λ s. waiting b.outs.items k ++ wires_to s k posts) at_stamp
     ∙ ap (λ l. waiting b.outs.items k ++ wires_to (node_of w.node).stamp k l)
@@ -193,10 +193,10 @@ works_turn b w x d stamp posts hand rows may wx nx work node sends at_stamp took
 -- a word that sends nothing
 pub works_pass : (b w : Worker) → w.hand ≡ None → may_execute (standing b.node) ≡ true
     → work_of w.node ≡ work_of b.node
-    → word_turn (work_of b.node) (node_of b.node) ≡ quiet (node_of w.node)
+    → word_turn (work_of b.node) (node_of b.node) ≡ silent (node_of w.node)
     → w.sends ≡ b.sends → w.takes ≡ b.takes → w.outs ≡ b.outs → Works b w
 works_pass b w hand may work turn sends takes outs =
-    works_deed b w Executes hand work may (sym (ap (λ (t : Turn). t.node) turn))
+    works_local_event b w Executes hand work may (sym (ap (λ (t : Turn). t.node) turn))
     (λ j. ap (λ v. through v.items j) takes ∙ sym (append-nil (through b.takes.items j)))
     (ap (λ v. links_of v.items) takes) sends
     (λ k lt. ap (λ o. waiting o.items k) outs ∙ sym (append-nil (waiting b.outs.items k))
@@ -210,7 +210,7 @@ pub works_words : (b w : Worker) (words : ℕ) → w.hand ≡ None
     → GoesOnBy (work_of b.node) words (node_of b.node) (node_of w.node)
     → w.sends ≡ b.sends → w.takes ≡ b.takes → w.outs ≡ b.outs → Works b w
 works_words b w words hand work on sends takes outs = record {
-  deeds = words_of words;
+  history = words_of words;
   work = work;
   leads = words_lead (work_of b.node) words (node_of b.node) (node_of w.node) on;
   takes = λ j. ap (λ v. through v.items j) takes
@@ -233,7 +233,7 @@ pub works_hand : (b w : Worker) → w.node ≡ b.node → w.sends ≡ b.sends �
     → links_of w.takes.items ≡ links_of b.takes.items
     → Works b w
 works_hand b w node sends outs took links = record {
-  deeds = [];
+  history = [];
   work = ap work_of node;
   leads = sym (ap node_of node);
   takes = λ j. took j

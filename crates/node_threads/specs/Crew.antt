@@ -2,10 +2,10 @@
 use Rattle.std.specs.Prelude.{◌≡◌, ℕ, zero, suc, ◌<◌, List, [], ◌∷◌, ◌++◌, map, Option, None, Some, Vec, length}
 use Rattle.std.specs.declared.alloc.Global.{Global}
 use Rattle.std.specs.declared.collections.VecDeque.{VecDeque}
-use Rattle.home_directory.specs.declared.messages.Wire.{Wire}
+use Rattle.dsm_messages.specs.declared.messages.Wire.{Wire}
 use Rattle.dsm_protocol.specs.node_model.Node.{Work}
-use Rattle.dsm_core.specs.node_machine.declared.frame.Frame.{Frame}
-use Rattle.dsm_core.specs.node_machine.Frame.{work_of}
+use Rattle.dsm_core.specs.node_machine.declared.node_state.NodeState.{NodeState}
+use Rattle.dsm_core.specs.node_machine.NodeState.{work_of}
 use Rattle.node_threads.specs.Rows.{wires_at}
 use Rattle.node_threads.specs.Works.{Works}
 use Rattle.node_threads.specs.declared.worker.Worker.{Worker}
@@ -43,7 +43,7 @@ flat [] = []
 flat (r ∷ rs) = map (λ (o : VecDeque Wire Global). o.items) r.items ++ flat rs
 
 -- every node runs this
-abbrev pub AreNodesOf : Work → List Frame → Type 0
+abbrev pub AreNodesOf : Work → List NodeState → Type 0
 AreNodesOf work [] = Unit {0}
 AreNodesOf work (f ∷ fs) = (work_of f ≡ work) × AreNodesOf work fs
 

@@ -1,7 +1,7 @@
 -- Rows of ends: the sending ends of each node, and the taking ends of each node.
 use Rattle.std.specs.Prelude.{◌≡◌, ℕ, List, [], ◌∷◌, ◌++◌, map, length, Vec}
 use Rattle.std.specs.declared.alloc.Global.{Global}
-use Rattle.home_directory.specs.declared.messages.Wire.{Wire}
+use Rattle.dsm_messages.specs.declared.messages.Wire.{Wire}
 use Rattle.fifo_link.specs.End.{End}
 use Rattle.node_threads.specs.Works.{links_of}
 

@@ -3,18 +3,18 @@ use Rattle.std.specs.Prelude.{◌≡◌, ℕ, ◌<◌, ◌==◌, if◌then◌els
 use Rattle.std.specs.declared.alloc.Global.{Global}
 use Rattle.std.specs.declared.collections.VecDeque.{VecDeque}
 use Rattle.atomic_table.specs.Seated.{TableId}
-use Rattle.home_directory.specs.declared.messages.Wire.{Wire}
+use Rattle.dsm_messages.specs.declared.messages.Wire.{Wire}
 use Rattle.dsm_protocol.specs.node_model.declared.Standing.{Standing}
 use Rattle.dsm_protocol.specs.node_model.Node.{standing_of}
-use Rattle.dsm_core.specs.node_machine.declared.frame.Frame.{Frame}
-use Rattle.dsm_core.specs.node_machine.Frame.{node_of, work_of}
-use Rattle.dsm_core.specs.run_order.Apart.{Deed, LeadsBy, taken_from, sent_to}
+use Rattle.dsm_core.specs.node_machine.declared.node_state.NodeState.{NodeState}
+use Rattle.dsm_core.specs.node_machine.NodeState.{node_of, work_of}
+use Rattle.dsm_core.specs.run_order.Apart.{LocalEvent, LeadsBy, taken_from, sent_to}
 use Rattle.fifo_link.specs.End.{End}
 use Rattle.node_threads.specs.Rows.{wires_at}
 use Rattle.node_threads.specs.declared.worker.Worker.{Worker}
 
 -- what a node may do next
-abbrev pub standing : Frame → Standing
+abbrev pub standing : NodeState → Standing
 standing f = standing_of (work_of f) (node_of f)
 
 -- the wires that went through the end for node k
@@ -45,20 +45,20 @@ pub record IsReady (w : Worker) : Type 0 where
   pub rows : HasRows w
   pub hand : w.hand ≡ None
 
--- The node has made some deeds. What each end took is what they took from its node, and then the
+-- The node has made some history. What each end took is what they took from its node, and then the
 -- wire in hand where it is from that node. What was in each outbox and what they sent to its node
 -- is what its end sent, and then what is in the outbox.
 pub record Works (old new : Worker) : Type 0 where
-  pub deeds : List Deed
+  pub history : List LocalEvent
   pub work : work_of new.node ≡ work_of old.node
-  pub leads : LeadsBy (work_of old.node) (node_of old.node) deeds (node_of new.node)
+  pub leads : LeadsBy (work_of old.node) (node_of old.node) history (node_of new.node)
   pub takes : (j : ℕ) → through new.takes.items j
-      ≡ through old.takes.items j ++ taken_from j deeds ++ in_hand j new.hand
+      ≡ through old.takes.items j ++ taken_from j history ++ in_hand j new.hand
   -- what each end sent
   pub pushed : ℕ → List Wire
   pub sends : (k : ℕ) → through new.sends.items k ≡ through old.sends.items k ++ pushed k
   pub outs : (k : ℕ) → k < (work_of old.node).layout.nodes
-      → waiting old.outs.items k ++ sent_to (work_of old.node) k (node_of old.node) deeds
+      → waiting old.outs.items k ++ sent_to (work_of old.node) k (node_of old.node) history
       ≡ pushed k ++ waiting new.outs.items k
   -- each end given is that handed in, of the same link
   pub same_sends : links_of new.sends.items ≡ links_of old.sends.items

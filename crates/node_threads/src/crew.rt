@@ -5,14 +5,14 @@ ghost use Rattle.node_threads.specs.Crew.{AllIdle};
 
 use crate::worker::Worker;
 use dsm_core::node_machine::Node;
+use dsm_messages::{Sends, Wire};
 use fifo_link::{SendEnd, TakeEnd};
-use home_directory::{Sends, Wire};
 use std::alloc::{AllocError, Global};
 use std::collections::VecDeque;
 
 /// What workers are made of, an entry for each.
 #[derive(Drop)]
-pub struct Gear<'a> {
+pub struct WorkerParts<'a> {
     /// Their nodes.
     pub nodes: Vec<Node<'a>>,
     /// The sending ends of each.
@@ -26,7 +26,7 @@ pub struct Gear<'a> {
 }
 
 /// A worker for each node, with nothing in hand.
-pub fn hire<'a>(
+pub fn make_workers<'a>(
     alloc: Global,
     nodes: Vec<Node<'a>>,
     sends: Vec<Vec<SendEnd>>,
@@ -81,7 +81,10 @@ pub fn all_back<'a>(
 }
 
 /// What the workers were made of.
-pub fn dismiss<'a>(alloc: Global, workers: Vec<Worker<'a>>) -> Result<Gear<'a>, AllocError>
+pub fn take_workers_apart<'a>(
+    alloc: Global,
+    workers: Vec<Worker<'a>>,
+) -> Result<WorkerParts<'a>, AllocError>
     ensures nodes { IfOk result (λ g. g.nodes.items ≡ map (λ w. w.node) workers.entry.items) }
     ensures sends { IfOk result (λ g. g.sends.items ≡ map (λ w. w.sends) workers.entry.items) }
     ensures takes { IfOk result (λ g. g.takes.items ≡ map (λ w. w.takes) workers.entry.items) }
@@ -102,7 +105,7 @@ pub fn dismiss<'a>(alloc: Global, workers: Vec<Worker<'a>>) -> Result<Gear<'a>, 
         outs.push(worker.outs)?;
         hands.push(worker.hand)?;
     }
-    Ok(Gear {
+    Ok(WorkerParts {
         nodes,
         sends,
         takes,

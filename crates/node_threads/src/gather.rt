@@ -4,8 +4,8 @@ ghost use Rattle.std.specs.Prelude.{◌≡◌, IfOk, length, map};
 ghost use Rattle.node_threads.specs.Mesh.{BeginRows, GathersRow, Crosses, Gathers, AsLong};
 ghost use Rattle.node_threads.specs.Works.{links_of};
 
+use dsm_messages::Wire;
 use fifo_link::{SendEnd, TakeEnd, rejoin};
-use home_directory::Wire;
 use std::alloc::{AllocError, Global};
 use std::collections::VecDeque;
 use std::sync::Wait;

@@ -4,7 +4,7 @@ ghost use Rattle.std.specs.Prelude.{◌≡◌, ◌≢◌, ◌<◌, ◌≤◌, �
 ghost use Rattle.node_threads.specs.Works.{in_hand};
 ghost use Rattle.node_threads.specs.Crew.{RowsOf, HandsFit, list_of, hand_at};
 
-use home_directory::Wire;
+use dsm_messages::Wire;
 use std::alloc::AllocError;
 use std::collections::VecDeque;
 

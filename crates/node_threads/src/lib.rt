@@ -1,7 +1,6 @@
 #![tactic(auto)]
 //! Nodes of a core in threads of their own, with links between them.
 
-mod bells;
 mod crew;
 mod gate;
 mod gather;
@@ -10,9 +9,10 @@ mod mesh;
 mod pace;
 mod racing;
 mod rows;
+mod signals;
 mod worker;
 
-pub use bells::Bells;
 pub use gate::{Gate, OpenGate};
 pub use racing::{race, race_with};
+pub use signals::Signals;
 pub use worker::Worker;

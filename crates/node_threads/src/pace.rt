@@ -1,6 +1,6 @@
 //! What a worker does next: hints, which mean nothing to any contract.
 
-use crate::bells::Bells;
+use crate::signals::Signals;
 use std::sync::Wait;
 use std::{hint, thread};
 
@@ -22,9 +22,9 @@ const WALK: u64 = 16;
 /// many before it sleeps between two: more, where something waits for room on a link.
 const SPINS: u32 = 200;
 
-const LOOKS: u32 = 260;
+const POLLS: u32 = 260;
 
-const CROWDED_LOOKS: u32 = 4000;
+const CROWDED_POLLS: u32 = 4000;
 
 /// How many sleeps in a row, in which no node worked, before a worker gives up.
 const SLEEPS: u32 = 30;
@@ -52,7 +52,7 @@ pub struct Pace {
     /// How many stretches and walks it has made since it let other threads run.
     stretches: u32,
     /// How many looks in a row found nothing.
-    looks: u32,
+    polls: u32,
     /// In how many sleeps in a row no node worked.
     sleeps: u32,
 }
@@ -68,7 +68,7 @@ impl Pace {
             made: 0,
             until: ROUND,
             stretches: 0,
-            looks: 0,
+            polls: 0,
             sleeps: 0,
         }
     }
@@ -84,7 +84,7 @@ impl Pace {
 
     /// It has done something.
     pub fn goes_on(&mut self) {
-        self.looks = 0;
+        self.polls = 0;
         self.sleeps = 0;
     }
 
@@ -115,7 +115,7 @@ impl Pace {
         }
     }
 
-    /// Whether it is time to look whether its node comes round.
+    /// Whether it is time to poll_link whether its node comes round.
     pub fn may_come_round(&self) -> bool {
         self.made >= self.until
     }
@@ -129,9 +129,9 @@ impl Pace {
         }
     }
 
-    /// Listens whether its node's bell was rung.
-    pub fn hear(&mut self, bells: &Bells, node: u8) {
-        if bells.hear(node) {
+    /// Listens whether its node's signal was rung.
+    pub fn poll(&mut self, signals: &Signals, node: u8) {
+        if signals.poll(node) {
             self.mail = true;
             self.still = false;
         }
@@ -140,16 +140,16 @@ impl Pace {
     /// Rests between two looks of which the first found nothing. Another worker that runs answers
     /// within a few of them; for one that doesn't, other threads are let run; and then it sleeps.
     /// When it wakes it looks, whatever woke it.
-    pub fn rest<R: Wait>(&mut self, rt: &R, bells: &Bells, node: u8) {
-        let most = if self.posted { CROWDED_LOOKS } else { LOOKS };
-        if self.looks < SPINS {
-            self.looks += 1;
+    pub fn rest<R: Wait>(&mut self, rt: &R, signals: &Signals, node: u8) {
+        let most = if self.posted { CROWDED_POLLS } else { POLLS };
+        if self.polls < SPINS {
+            self.polls += 1;
             hint::spin_loop();
-        } else if self.looks < most {
-            self.looks += 1;
+        } else if self.polls < most {
+            self.polls += 1;
             thread::yield_now();
         } else {
-            let all = bells.sleep(rt, node);
+            let all = signals.sleep(rt, node);
             self.sleeps = if all {
                 self.sleeps.saturating_add(1)
             } else {

@@ -9,18 +9,18 @@ ghost use Rattle.node_threads.specs.Works.{Works, IsReady};
 ghost use Rattle.node_threads.specs.Crew.{RowsOf, AreNodesOf};
 ghost use Rattle.node_threads.specs.Races.{HaveRaced, HaveGoneApart};
 
-use crate::bells::Bells;
-use crate::crew::{Gear, all_back, dismiss, hire};
+use crate::crew::{WorkerParts, all_back, make_workers, take_workers_apart};
 use crate::gate::Gate;
 use crate::gather::gather;
 use crate::hands::put_hands;
 use crate::mesh::mesh;
 use crate::rows::{lists, rows};
+use crate::signals::Signals;
 use crate::worker::Worker;
 use dsm_core::node_machine::Node;
 use dsm_core::run_order::stamp_law;
 use dsm_core::{Core, Parts};
-use home_directory::Wire;
+use dsm_messages::Wire;
 use std::alloc::{AllocError, Global};
 use std::collections::VecDeque;
 use std::sync::Wait;
@@ -155,17 +155,17 @@ fn race_nodes<'a, R: Threads + Wait + Sync, G: Gate + Sync>(
         → HaveRaced work nodes.entry.items rows.items r.0.items r.1.items) }
 {
     let (sends, takes) = mesh(alloc, capacity, nodes.len())?;
-    let workers = hire(alloc, nodes, sends, takes, rows)?;
-    let bells = Bells::new(alloc, workers.len())?;
-    let results = run_all(rt, workers, gate, &bells)?;
+    let workers = make_workers(alloc, nodes, sends, takes, rows)?;
+    let signals = Signals::new(alloc, workers.len())?;
+    let results = run_all(rt, workers, gate, &signals)?;
     let workers = all_back(alloc, results)?;
-    let Gear {
+    let WorkerParts {
         nodes,
         sends,
         takes,
         outs,
         hands,
-    } = dismiss(alloc, workers)?;
+    } = take_workers_apart(alloc, workers)?;
     let lists = gather(rt, alloc, sends, outs, takes)?;
     let lists = put_hands(lists, hands)?;
     Ok((nodes, lists))
@@ -176,7 +176,7 @@ fn run_all<'a, R: Threads + Wait + Sync, G: Gate + Sync>(
     rt: &R,
     workers: Vec<Worker<'a>>,
     gate: &G,
-    bells: &Bells,
+    signals: &Signals,
 ) -> Result<Vec<Result<Worker<'a>, AllocError>>, AllocError>
     requires ready { All IsReady workers.items }
     ensures len { IfOk result (λ v. length v.items ≡ length workers.entry.items) }
@@ -191,9 +191,9 @@ fn run_all<'a, R: Threads + Wait + Sync, G: Gate + Sync>(
             requires { IsReady worker }
             ensures { IfOk result (λ w. Works worker.entry w) }
         {
-            bells.enter();
-            let worked = worker.work(rt, gate, bells);
-            bells.leave();
+            signals.enter();
+            let worked = worker.work(rt, gate, signals);
+            signals.leave();
             worked
         },
     )

@@ -3,8 +3,8 @@
 ghost use Rattle.std.specs.Prelude.{◌≡◌, ◌≤◌, ◌+◌, ◌*◌, ◌++◌, OnOk, IfOk, length, map};
 ghost use Rattle.node_threads.specs.Crew.{RowsOf, flat};
 
+use dsm_messages::Wire;
 use dsm_protocol::Queue;
-use home_directory::Wire;
 use std::alloc::{AllocError, Global};
 use std::collections::VecDeque;
 

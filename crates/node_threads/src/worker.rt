@@ -2,24 +2,22 @@
 
 ghost use Rattle.std.specs.Prelude.{◌≡◌, ◌<◌, ◌++◌, ◌^◌, ℕ, List, None, Ok, true, false, OnOk};
 ghost use Rattle.std.specs.Prelude.{IfOk, length};
-ghost use Rattle.home_directory.specs.declared.messages.Wire.{Wire};
+ghost use Rattle.dsm_messages.specs.declared.messages.Wire.{Wire};
 ghost use Rattle.dsm_protocol.specs.node_model.declared.Standing.TheVariants.{AtPoll};
 ghost use Rattle.dsm_protocol.specs.node_model.Core.{may_execute, may_take, wires_to};
-ghost use Rattle.dsm_core.specs.node_machine.Frame.{node_of};
+ghost use Rattle.dsm_core.specs.node_machine.NodeState.{node_of};
 ghost use Rattle.node_threads.specs.Works.{Works, HasRows, standing, waiting};
 
-use crate::bells::Bells;
 use crate::gate::Gate;
 use crate::pace::Pace;
+use crate::signals::Signals;
 use dsm_core::node_machine::{Node, Standing};
+use dsm_messages::{Sends, Wire};
 use fifo_link::{Full, SendEnd, TakeEnd};
-use home_directory::{Sends, Wire};
+use run_limits::STAMPS;
 use std::alloc::AllocError;
 use std::collections::VecDeque;
 use std::sync::Wait;
-
-/// No stamp that is taken or given is as great as this.
-const STAMPS: u64 = 1 << 56;
 
 /// How many words a walk has at most.
 const WORDS: u32 = 1000;
@@ -96,10 +94,10 @@ fn pass_gate<G: Gate>(gate: &G, number: u8, events: &mut u64) {
 }
 
 /// Tells a node that something was sent to it.
-fn tell<G: Gate>(gate: &G, bells: &Bells, node: usize) {
+fn tell<G: Gate>(gate: &G, signals: &Signals, node: usize) {
     if let Ok(number) = u8::try_from(node) {
         if gate.tells(number) {
-            bells.ring(node);
+            signals.notify(node);
         }
     }
 }
@@ -111,7 +109,7 @@ impl<'a> Worker<'a> {
         self,
         rt: &R,
         gate: &G,
-        bells: &Bells,
+        signals: &Signals,
     ) -> Result<Worker<'a>, AllocError>
         requires rows { HasRows self }
         requires hand { self.hand ≡ None }
@@ -123,8 +121,8 @@ impl<'a> Worker<'a> {
             if worker.is_done() || pace.is_over() {
                 return Ok(worker);
             }
-            if !worker.round(rt, gate, bells, &mut pace)? {
-                pace.rest(rt, bells, worker.number);
+            if !worker.round(rt, gate, signals, &mut pace)? {
+                pace.rest(rt, signals, worker.number);
             }
         }
         unreachable!()
@@ -156,7 +154,7 @@ impl<'a> Worker<'a> {
         &mut self,
         rt: &R,
         gate: &G,
-        bells: &Bells,
+        signals: &Signals,
         pace: &mut Pace,
     ) -> Result<bool, AllocError>
         requires rows { HasRows self.old }
@@ -164,8 +162,8 @@ impl<'a> Worker<'a> {
         requires stamp { (node_of self.old.node).stamp < 2 ^ 56 }
         ensures works { OnOk result (Works self.old self.new) }
     {
-        let moved = self.flush_all(rt, gate, bells, pace)?;
-        pace.hear(bells, self.number);
+        let moved = self.flush_all(rt, gate, signals, pace)?;
+        pace.poll(signals, self.number);
         let did = self.act(rt, gate, pace)?;
         Ok(moved || did)
     }
@@ -185,7 +183,7 @@ impl<'a> Worker<'a> {
         match self.node.standing() {
             Standing::Running => self.run(gate, pace),
             Standing::AtPoll => self.poll(rt, gate, pace),
-            Standing::Waiting | Standing::Ended => self.look_all(rt, gate, pace),
+            Standing::Waiting | Standing::Ended => self.poll_links(rt, gate, pace),
             Standing::Over => Ok(false),
         }
     }
@@ -195,7 +193,7 @@ impl<'a> Worker<'a> {
         &mut self,
         rt: &R,
         gate: &G,
-        bells: &Bells,
+        signals: &Signals,
         pace: &mut Pace,
     ) -> Result<bool, AllocError>
         requires rows { HasRows self.old }
@@ -211,7 +209,7 @@ impl<'a> Worker<'a> {
         for k in 0..self.sends.len() {
             if flush(rt, &mut self.sends[k], &mut self.outs[k])? {
                 moved = true;
-                tell(gate, bells, k);
+                tell(gate, signals, k);
             }
         }
         pace.posted = self.has_posts();
@@ -231,7 +229,7 @@ impl<'a> Worker<'a> {
         requires at { standing self.old.node ≡ AtPoll }
         ensures works { OnOk result (Works self.old self.new) }
     {
-        if self.look_all(rt, gate, pace)? {
+        if self.poll_links(rt, gate, pace)? {
             return Ok(true);
         }
         self.run(gate, pace)
@@ -276,7 +274,7 @@ impl<'a> Worker<'a> {
         ensures works { OnOk result (Works self.old self.new) }
     {
         let most = pace.words;
-        let words = self.node.go_on(most);
+        let words = self.node.run_silent(most);
         pace.stretched(words);
         if words < most {
             return self.exec(pace);
@@ -311,7 +309,7 @@ impl<'a> Worker<'a> {
         requires may { may_execute (standing self.old.node) ≡ true }
         ensures works { OnOk result (Works self.old self.new) }
     {
-        let mark = self.node.mark();
+        let mark = self.node.snapshot();
         for _ in 0..CIRCLE {
             if self.node.stirs() {
                 return Ok(false);
@@ -360,7 +358,7 @@ impl<'a> Worker<'a> {
         ensures works { OnOk result (Works self.old self.new) }
     {
         pass_gate(gate, self.number, &mut self.events);
-        if self.node.pass() {
+        if self.node.exec_silent() {
             return Ok(());
         }
         self.exec(pace)
@@ -384,8 +382,8 @@ impl<'a> Worker<'a> {
     }
 
     /// Looks at the links by sender, and takes the first message that is there. Says whether there
-    /// was one. Where no bell was rung since the links were empty, it looks at none.
-    fn look_all<R: Wait, G: Gate>(
+    /// was one. Where no signal was rung since the links were empty, it looks at none.
+    fn poll_links<R: Wait, G: Gate>(
         &mut self,
         rt: &R,
         gate: &G,
@@ -407,7 +405,7 @@ impl<'a> Worker<'a> {
                 pace.mail = false;
                 return Ok(false);
             }
-            if self.look(rt, gate, from)? {
+            if self.poll_link(rt, gate, from)? {
                 pace.took();
                 pace.posted = true;
                 return Ok(true);
@@ -418,7 +416,12 @@ impl<'a> Worker<'a> {
 
     /// Looks at the link from a node, and takes a message that is there. Where its stamp is out of
     /// range it stays in hand.
-    fn look<R: Wait, G: Gate>(&mut self, rt: &R, gate: &G, from: u8) -> Result<bool, AllocError>
+    fn poll_link<R: Wait, G: Gate>(
+        &mut self,
+        rt: &R,
+        gate: &G,
+        from: u8,
+    ) -> Result<bool, AllocError>
         requires rows { HasRows self.old }
         requires from { from < length self.old.takes.items }
         requires hand { self.old.hand ≡ None }

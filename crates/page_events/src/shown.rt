@@ -5,8 +5,8 @@ ghost use Rattle.event_text.specs.run_trace.Given.{traced_of};
 ghost use Rattle.event_text.specs.run_trace.Passing.{passed_of};
 ghost use Rattle.page_events.specs.Shown as model;
 
+use dsm_messages::Headers;
 use event_text::run_trace::{Tallied, Traced, What, WordPassed, WordTraced};
-use home_directory::Headers;
 use std::alloc::{AllocError, Global};
 use std::marker::Model;
 
@@ -72,8 +72,8 @@ impl Shown {
         self.add(event_of(word))
     }
 
-    /// Whether the first 400 are there and one is behind them: of what is added from here on nothing
-    /// is kept.
+    /// Whether the first 400 are there and one is behind them: of what is added from here on
+    /// nothing is kept.
     pub fn is_full(&self) -> bool
         ensures value { result ≡ is_some self.now.behind }
         ensures full { result ≡ true → (seen more : List OfEvent) → self.now ≡ kept seen

@@ -3,10 +3,10 @@ use Rattle.std.specs.Prelude.{ℕ, ◌+◌, ◌==◌, Bool, is_some, if◌then�
 use Rattle.std.specs.Fmt.{decimal}
 use Rattle.std.specs.Option.{option_map_or}
 use Rattle.std.specs.List.{flat_map}
-use Rattle.home_directory.specs.declared.headers.Header.{Header}
-use Rattle.home_directory.specs.declared.headers.Sent.{Sent}
-use Rattle.home_directory.specs.declared.headers.MessageKind.{MessageKind}
-use Rattle.home_directory.specs.declared.headers.MessageKind.TheVariants as kind
+use Rattle.dsm_messages.specs.declared.headers.Header.{Header}
+use Rattle.dsm_messages.specs.declared.headers.Sent.{Sent}
+use Rattle.dsm_messages.specs.declared.headers.MessageKind.{MessageKind}
+use Rattle.dsm_messages.specs.declared.headers.MessageKind.TheVariants as kind
 use Rattle.page_events.specs.run_trace.Traced.{OfTake, What, Word, Taken, Traced}
 use Rattle.page_events.specs.event_text.Names.{message_name}
 use Rattle.page_events.specs.event_text.Parts.{header_text}

@@ -5,7 +5,7 @@ ghost use Rattle.page_events.specs.run_trace.Given.{traced_of, take_of, what_of}
 ghost use Rattle.page_view.specs.Arrows as model;
 
 use block_layout::Layout;
-use home_directory::{Header, MessageKind, Sent};
+use dsm_messages::{Header, MessageKind, Sent};
 use page_events::event_text::{message_name, push_decimal, push_header};
 use page_events::run_trace::{TakeTraced, Traced, What};
 use page_events::{

@@ -14,14 +14,14 @@ use std::alloc::AllocError;
 
 /// A wait of a node: from the row where it misses, if the page has it, to that where it goes on.
 #[derive(Clone, Copy)]
-pub(crate) struct Wait {
+pub(crate) struct DrawnWait {
     pub node: u8,
     pub from: Option<u16>,
     pub to: Option<u16>,
 }
 
 /// The wait that begins by an event, or ends by it and began before the page.
-fn wait_of(shown: &Shown, event: &Traced) -> Option<Wait>
+fn wait_of(shown: &Shown, event: &Traced) -> Option<DrawnWait>
     ensures { result ≡ model.wait_of shown.now.events (traced_of event.now) }
 {
     let node = event.node;
@@ -29,7 +29,7 @@ fn wait_of(shown: &Shown, event: &Traced) -> Option<Wait>
     let stamp = event.stamp;
     if is_miss(&event.what) {
         let to = row_of(shown, Sought::GoesOn { node, after: stamp });
-        return Some(Wait {
+        return Some(DrawnWait {
             node,
             from: row,
             to,
@@ -40,7 +40,7 @@ fn wait_of(shown: &Shown, event: &Traced) -> Option<Wait>
         before: stamp,
     };
     if goes_on(&event.what) && row_of(shown, sought).is_none() {
-        return Some(Wait {
+        return Some(DrawnWait {
             node,
             from: None,
             to: row,
@@ -50,7 +50,7 @@ fn wait_of(shown: &Shown, event: &Traced) -> Option<Wait>
 }
 
 /// Where the drawing of a wait begins.
-fn start_of(layout: &Layout, wait: Wait) -> Spot
+fn start_of(layout: &Layout, wait: DrawnWait) -> Spot
     ensures { result ≡ model.start_of layout.now.nodes wait }
 {
     Spot {
@@ -64,7 +64,7 @@ fn push_wait(
     out: &mut Vec<u8>,
     layout: &Layout,
     shown: &Shown,
-    wait: Wait,
+    wait: DrawnWait,
 ) -> Result<(), AllocError>
     ensures { OnOk result (out.new.items
         ≡ out.old.items ++ model.wait_text layout.now.nodes shown.now.events wait) }

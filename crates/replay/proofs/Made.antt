@@ -1,11 +1,11 @@
 -- Events that are made as they are told of.
 use Rattle.std.proofs.Common.{◌≡◌, ◌≢◌, ℕ, ◌+◌, List, [], ◌∷◌, ◌++◌, map, Option, Some, None, sym, refl, ap, ap₂, ◌∙◌, subst, eq-eqb, ne_eqb}
-use Rattle.dsm_core.specs.home_directory.declared.messages.Wire.{Wire}
+use Rattle.dsm_core.specs.dsm_messages.declared.messages.Wire.{Wire}
 use Rattle.run_order.specs.node_model.Node.{Work}
 use Rattle.run_order.specs.node_model.Core.{Core, Event, Exec, Take, May, take_first, event_step, opening_core, IsCoreRun, after}
 use Rattle.run_order.specs.OwnRun.{Stamped, StandsForOwnRun, events_of, stamp_in, maker, node_of, run_of}
 use Rattle.run_order.specs.Sorted.{AreSorted, AreMadeBelow, made_by}
-use Rattle.run_order.proofs.Deeds.{Deed, stamped, event_by, Run}
+use Rattle.run_order.proofs.History.{LocalEvent, stamped, event_by, Run}
 use Rattle.run_order.proofs.Moving.{Moves, grows, run_did, run_made, word_stamp}
 use Rattle.run_order.proofs.Lists.{events_by}
 use Rattle.run_order.proofs.Theorem.{run_tells}
@@ -67,15 +67,15 @@ by_node : (i : ℕ) (o : Option (ℕ × Wire)) → node_of (event_by i o) ≡ i
 by_node i None = refl
 by_node i (Some p) = refl
 
--- one deed of a run
-record IsOne (work : Work) (c : Core) (d : Deed) (u : Core) : Type 0 where
+-- one local_event of a run
+record IsOne (work : Work) (c : Core) (d : LocalEvent) (u : Core) : Type 0 where
   may : May work c (stamped d).event
   leads : event_step work c (stamped d).event ≡ u
   stamp : (u.nodes (maker (stamped d))).stamp ≡ d.stamp
 
-one_deed : (work : Work) (c u : Core) (d : Deed) (ds : List Deed) (t : Core)
+one_local_event : (work : Work) (c u : Core) (d : LocalEvent) (ds : List LocalEvent) (t : Core)
     → (r : Run (Moves work) c (d ∷ ds) t) → u ≡ r.0 → IsOne work c d u
-one_deed work c u d ds t r is =
+one_local_event work c u d ds t r is =
     let one = run_made work (d ∷ []) c r.0 (r.0, r.1, refl) in record {
       may = one.run.0;
       leads = one.leads ∙ sym is;
@@ -84,15 +84,15 @@ one_deed work c u d ds t r is =
           ∙ (grows work (c.nodes d.node) d (r.0.nodes d.node) r.1.0).1;
     }
 
--- what was made as it is told of are the deeds
-pub deeds_are : (work : Work) (ds : List Deed) (xs : List Stamped) (c t : Core)
+-- what was made as it is told of are the history
+pub deeds_are : (work : Work) (ds : List LocalEvent) (xs : List Stamped) (c t : Core)
     → Run (Moves work) c ds t → run_of (map stamped ds) ≡ run_of xs → AreMadeAs work c xs
     → map stamped ds ≡ xs
 deeds_are work [] [] c t r e a = refl
 deeds_are work [] (x ∷ xs) c t r e a = absurd cc
 deeds_are work (d ∷ ds) [] c t r e a = absurd cc
 deeds_are work (d ∷ ds) (x ∷ xs) c t r e a =
-    let one = one_deed work c r.0 d ds t r refl in
+    let one = one_local_event work c r.0 d ds t r refl in
     let event : (stamped d).event ≡ x.event = cc in
     let tails : run_of (map stamped ds) ≡ run_of xs = cc in
     let leads : event_step work c x.event ≡ r.0 =
@@ -105,11 +105,11 @@ deeds_are work (d ∷ ds) (x ∷ xs) c t r e a =
     ap₂ (λ z zs. z ∷ zs) first (deeds_are work ds xs r.0 t r.2 tails
     (subst (λ (u : Core). AreMadeAs work u xs) leads a.1))
 
-pub deeds_made : (work : Work) (ds : List Deed) (c t : Core) → Run (Moves work) c ds t
+pub deeds_made : (work : Work) (ds : List LocalEvent) (c t : Core) → Run (Moves work) c ds t
     → AreMadeAs work c (map stamped ds)
 deeds_made work [] c t r = tt
 deeds_made work (d ∷ ds) c t r =
-    let one = one_deed work c r.0 d ds t r refl in
+    let one = one_local_event work c r.0 d ds t r refl in
     let here : IsMadeAs work c (stamped d) = record {
       may = one.may;
       stamp = ap (λ (u : Core). (u.nodes (maker (stamped d))).stamp) one.leads ∙ one.stamp;

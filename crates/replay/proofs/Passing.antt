@@ -1,4 +1,4 @@
--- A quiet word of a stretch.
+-- A silent word of a stretch.
 use Rattle.std.proofs.Common.{◌≡◌, ℕ, ◌+◌, ◌<◌, true, List, [], ◌∷◌, ◌++◌, refl, sym, ap, ◌∙◌, subst, eq-eqb, arith}
 use Rattle.run_order.specs.node_model.declared.Entry.{Entry as JournalEntry}
 use Rattle.run_order.specs.node_model.Node.{Work, Node, standing_of}
@@ -9,9 +9,9 @@ use Rattle.dsm_core.specs.CoreParts.{work_of, core_of}
 use Rattle.dsm_core.specs.CoreWords.{HasPassed}
 use Rattle.replay.specs.declared.cursor.Cursor.{Cursor}
 use Rattle.replay.specs.declared.events.Replayer.{Replayer}
-use Rattle.replay.specs.declared.events.Stretch.{Stretch}
+use Rattle.replay.specs.declared.events.WordsAhead.{WordsAhead}
 use Rattle.replay.specs.Told.{Told}
-use Rattle.replay.specs.Way.{cursor_at, last_at, IsEntryOf, ComesFirst, HasFollowed, HasMade, HasMadeWord, IsQuiet, IsStretch}
+use Rattle.replay.specs.Way.{cursor_at, last_at, IsEntryOf, ComesFirst, HasFollowed, HasMade, HasMadeWord, IsSilent, IsStretch}
 use Rattle.replay.proofs.Cursors.{word_next, after_word, entry_kept, first_kept, mid_node}
 use Rattle.replay.proofs.Runs.{made_word, stamp_now}
 
@@ -19,11 +19,11 @@ word_node : (work : Work) (c : Core) (i : ℕ)
     → (event_step work c (Exec i)).nodes i ≡ (word_turn work (c.nodes i)).node
 word_node work c i = rw (eq-eqb i i refl) refl
 
--- a word that was passed is quiet
-quiet_word : (work : Work) (c d : Core) (i : ℕ) → i < work.layout.nodes → HasPassed work i c d
-    → IsQuiet work c (Exec i)
-quiet_word work c d i bi p = (
-  p.quiet,
+-- a word that was passed is silent
+silent_word : (work : Work) (c d : Core) (i : ℕ) → i < work.layout.nodes → HasPassed work i c d
+    → IsSilent work c (Exec i)
+silent_word work c d i bi p = (
+  p.silent,
   subst (λ (n : Node). may_execute (standing_of work n) ≡ true) (p.event.nodes i bi ∙ word_node work c i) p.may.1,
 )
 
@@ -43,11 +43,11 @@ passed_word a d before i e h bi entry lt first may p work f =
       may = may;
       stamp = stamp_now a d i (before ++ word_next a.cursors i ∷ []) made f.rec_is bi
           ∙ ap (λ (z : Cursor). z.last) f.own;
-      quiet = quiet_word (work_of a.core) (core_of a.core) (core_of d.core) i may.0 p;
+      silent = silent_word (work_of a.core) (core_of a.core) (core_of d.core) i may.0 p;
     }
 
 -- the words of a stretch behind one more are a stretch
-pub stretch_on : (a d : Replayer) (s : Stretch) (k : ℕ) → s.words ≡ k + 1 → IsStretch a s
+pub stretch_on : (a d : Replayer) (s : WordsAhead) (k : ℕ) → s.words ≡ k + 1 → IsStretch a s
     → HasFollowed a.cursors s.node (after_word a.cursors s.node) d.cursors
     → May (work_of d.core) (core_of d.core) (Exec s.node) → IsStretch d (record s { words = k })
 stretch_on a d s k count is f may =

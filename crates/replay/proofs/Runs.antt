@@ -1,6 +1,6 @@
 -- Runs on their way, one event after another.
 use Rattle.std.proofs.Common.{◌≡◌, ◌≢◌, ℕ, ◌+◌, ◌<◌, ◌≤◌, Bool, true, false, List, [], ◌∷◌, ◌++◌, Err, IsErrOf, sym, refl, ap, ◌∙◌, subst}
-use Rattle.dsm_core.specs.home_directory.declared.messages.Wire.{Wire}
+use Rattle.dsm_core.specs.dsm_messages.declared.messages.Wire.{Wire}
 use Rattle.run_order.specs.node_model.declared.Entry.{Entry as JournalEntry}
 use Rattle.run_order.specs.node_model.Node.{Work, Node}
 use Rattle.run_order.specs.node_model.Core.{Core, Exec, Take, May, AreAlike, event_step, opening_core}

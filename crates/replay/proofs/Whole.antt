@@ -1,9 +1,9 @@
 -- What a record tells of, and what it doesn't.
 use Rattle.std.proofs.Common.{◌≡◌, ◌≢◌, ℕ, zero, suc, ◌+◌, ◌-◌, ◌<◌, ◌≤◌, Bool, true, false, cond, eqb, ◌&&◌, ◌⊎◌, List, [], ◌∷◌, ◌++◌, map, length, sym, refl, ap, ◌∙◌, subst, append-nil, arith, eq-eqb, ne_eqb, ⊎_elim, inl, inr}
 use Rattle.std.proofs.lemmas.Bool.{cases_eq}
-use Rattle.dsm_core.specs.home_directory.declared.messages.Message.TheVariants.{Bye}
-use Rattle.dsm_core.specs.home_directory.declared.messages.Post.{Post}
-use Rattle.dsm_core.specs.home_directory.declared.messages.Wire.{Wire}
+use Rattle.dsm_core.specs.dsm_messages.declared.messages.Message.TheVariants.{Bye}
+use Rattle.dsm_core.specs.dsm_messages.declared.messages.Post.{Post}
+use Rattle.dsm_core.specs.dsm_messages.declared.messages.Wire.{Wire}
 use Rattle.dsm_core.specs.home_directory.Home.{post}
 use Rattle.run_order.specs.node_model.declared.Entry.{Entry as JournalEntry}
 use Rattle.run_order.specs.node_model.declared.Standing.TheVariants.{Over}
@@ -16,7 +16,7 @@ use Rattle.run_order.specs.Takes.{AreTakesWithin}
 use Rattle.run_order.specs.OwnRun.{Stamped, StandsForOwnRun, AreEventsOf, events_in, events_of, words_from, last_take, stamp_in, maker, run_of}
 use Rattle.run_order.proofs.Kept.{Kept, kept, word_kept, take_kept}
 use Rattle.run_order.proofs.Unique.{one_sorted}
-use Rattle.run_order.proofs.Theorem.{own_deeds}
+use Rattle.run_order.proofs.Theorem.{own_history}
 use Rattle.run_record.specs.declared.Record.{Record}
 use Rattle.replay.specs.declared.refused.ReplayRule.{ReplayRule}
 use Rattle.replay.specs.declared.refused.ReplayRule.TheVariants.{NoMessage, NotThere, Stamp}
@@ -276,9 +276,9 @@ again work c own r stands over has none takes =
     } in
     let same : map what_told all.0 ≡ own = one_sorted stamp_in maker work.layout.nodes
     (λ i. events_of i (c.nodes i)) (map what_told all.0) own mine stands.are_events in
-    let deeds = own_deeds work c own stands in
-    let made : AreMadeAs work o own = subst (λ l. AreMadeAs work o l) (sym deeds.1)
-    (deeds_made work deeds.0 o t deeds.2) in (
+    let history = own_history work c own stands in
+    let made : AreMadeAs work o own = subst (λ l. AreMadeAs work o l) (sym history.1)
+    (deeds_made work history.0 o t history.2) in (
       all.0,
       record {
         are_told = all.1;

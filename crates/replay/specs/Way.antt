@@ -2,7 +2,7 @@
 use Rattle.std.specs.Prelude.{◌≡◌, ◌≢◌, ℕ, true, zero, suc, ◌+◌, ◌-◌, ◌<◌, ◌≤◌, ◌⊎◌, List, [], ◌∷◌, ◌++◌, drop, map, length, slice_index_or, Option, MatchOption}
 use Rattle.run_order.specs.node_model.declared.Entry.{Entry as JournalEntry}
 use Rattle.run_order.specs.node_model.Node.{Work, standing_of}
-use Rattle.run_order.specs.node_model.Turns.{quiet, word_turn}
+use Rattle.run_order.specs.node_model.Turns.{silent, word_turn}
 use Rattle.run_order.specs.node_model.Core.{Core, Event, Exec, Take, May, may_execute, AreAlike, event_step, opening_core, after}
 use Rattle.run_order.specs.Sorted.{made_by}
 use Rattle.run_record.specs.declared.Record.{Record}
@@ -14,7 +14,7 @@ use Rattle.replay.specs.declared.cursor.Cursor.{Cursor}
 use Rattle.replay.specs.declared.cursor.Cursors.{Cursors}
 use Rattle.replay.specs.declared.cursor.First.{First}
 use Rattle.replay.specs.declared.events.Replayer.{Replayer}
-use Rattle.replay.specs.declared.events.Stretch.{Stretch}
+use Rattle.replay.specs.declared.events.WordsAhead.{WordsAhead}
 use Rattle.replay.specs.Told.{Told, told_in, entries_of, stamp_told, maker_told, what_told, AreToldBy, events_told, AreMadeAs}
 
 -- the entries, the first without so many of its words
@@ -158,11 +158,11 @@ pub record HasMadeOne (old new : Replayer) (before : List Told) (e : Event) (s :
 
 -- an event is a word that sends nothing and prints nothing, after which its node may execute
 -- another
-abbrev pub IsQuiet : Work → Core → Event → Type 0
-IsQuiet work c (Exec i) =
-    (word_turn work (c.nodes i) ≡ quiet (word_turn work (c.nodes i)).node)
+abbrev pub IsSilent : Work → Core → Event → Type 0
+IsSilent work c (Exec i) =
+    (word_turn work (c.nodes i) ≡ silent (word_turn work (c.nodes i)).node)
     × (may_execute (standing_of work (word_turn work (c.nodes i)).node) ≡ true)
-IsQuiet work c (Take i j) = ⊥
+IsSilent work c (Take i j) = ⊥
 
 -- a run has made one such word more, of node i
 pub record HasMadeWord (old new : Replayer) (before : List Told) (i : ℕ) : Type 0 where
@@ -171,10 +171,10 @@ pub record HasMadeWord (old new : Replayer) (before : List Told) (i : ℕ) : Typ
   pub made : HasMade new (before ++ told ∷ [])
   pub may : May (work_of old.core) (core_of old.core) (Exec i)
   pub stamp : ((core_of new.core).nodes i).stamp ≡ stamp_told told
-  pub quiet : IsQuiet (work_of old.core) (core_of old.core) (Exec i)
+  pub silent : IsSilent (work_of old.core) (core_of old.core) (Exec i)
 
 -- these words of a node are told of next, before the events of all others, and it may execute one
-pub record IsStretch (r : Replayer) (s : Stretch) : Type 0 where
+pub record IsStretch (r : Replayer) (s : WordsAhead) : Type 0 where
   pub node : s.node < r.cursors.rec.now.nodes
   pub may : May (work_of r.core) (core_of r.core) (Exec s.node)
   pub is_entry : IsEntryOf r.cursors s.node s.entry
@@ -183,7 +183,7 @@ pub record IsStretch (r : Replayer) (s : Stretch) : Type 0 where
       → ComesFirst r.cursors r.cursors.rec.now.nodes (last_at r.cursors s.node + s.words) s.node
 
 -- a stretch has a word less
-pub record IsWordLess (old new : Stretch) : Type 0 where
+pub record IsWordLess (old new : WordsAhead) : Type 0 where
   pub node : new.node ≡ old.node
   pub entry : new.entry ≡ old.entry
   pub words : old.words ≡ new.words + 1

@@ -164,7 +164,7 @@ impl<'a> Cursors<'a> {
     }
 
     /// A node has executed a word more.
-    pub(crate) fn pass_word(&mut self, node: u8, entry: Entry)
+    pub(crate) fn follow_word(&mut self, node: u8, entry: Entry)
         requires lawful { AreLawful self.old }
         requires node { node < self.old.rec.now.nodes }
         requires entry { IsEntryOf self.old node entry }
@@ -178,7 +178,7 @@ impl<'a> Cursors<'a> {
     }
 
     /// A node has made a take.
-    pub(crate) fn pass_take(&mut self, node: u8, entry: Entry)
+    pub(crate) fn follow_take(&mut self, node: u8, entry: Entry)
         requires node { node < self.old.rec.now.nodes }
         requires record { IsRecord self.old.rec.now }
         requires entry { IsEntryOf self.old node entry }

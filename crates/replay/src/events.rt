@@ -9,7 +9,7 @@ use std::alloc::{AllocError, Global};
 
 /// Words of one node that come before the events of all others.
 #[derive(Clone, Copy)]
-pub struct Stretch {
+pub struct WordsAhead {
     pub node: u8,
     /// How many they are.
     pub words: u64,
@@ -108,7 +108,7 @@ impl<'a> Replayer<'a> {
 
     /// The words that the record tells of next, where its next event is a word and the node may
     /// execute it: those that come before the events of all other nodes. They are at least one.
-    pub fn stretch(&self) -> Option<Stretch>
+    pub fn words_ahead(&self) -> Option<WordsAhead>
         requires running { IsRunning self.now }
         ensures words { IfSome result (IsStretch self.now) }
         ensures some { IfSome result (λ s. 0 < s.words) }
@@ -122,7 +122,7 @@ impl<'a> Replayer<'a> {
         if cursor.words >= entry.words || !self.core.enabled(Event::Exec(node)) {
             return None;
         }
-        Some(Stretch {
+        Some(WordsAhead {
             node,
             words: (entry.words - cursor.words).min(first.to - cursor.last),
             entry,
@@ -132,7 +132,7 @@ impl<'a> Replayer<'a> {
     /// Makes the next word of a stretch by its micro-op, where that serves it: such a word sends
     /// nothing and prints nothing. It says whether it did; where it didn't, nothing has changed.
     #[inline(always)]
-    pub fn pass_word(&mut self, stretch: &mut Stretch) -> bool
+    pub fn make_silent_word(&mut self, stretch: &mut WordsAhead) -> bool
         requires running { IsRunning self.old }
         requires stretch { IsStretch self.old stretch.old }
         requires some { 0 < stretch.old.words }
@@ -145,10 +145,10 @@ impl<'a> Replayer<'a> {
             → HasMade self.new before }
         ensures same { IsSame self.old self.new }
     {
-        if !self.core.pass(stretch.node) {
+        if !self.core.exec_silent(stretch.node) {
             return false;
         }
-        self.cursors.pass_word(stretch.node, stretch.entry);
+        self.cursors.follow_word(stretch.node, stretch.entry);
         stretch.words -= 1;
         true
     }
@@ -172,7 +172,7 @@ impl<'a> Replayer<'a> {
             return Err(self.broken(ReplayRule::NotThere, node));
         }
         let seen = self.core.step_seen(Event::Exec(node))?;
-        self.cursors.pass_word(node, entry);
+        self.cursors.follow_word(node, entry);
         Ok(seen)
     }
 
@@ -282,12 +282,12 @@ impl<'a> Replayer<'a> {
         ensures may { IfOk result (λ may. (may ≡ true)
             ↔ May (work_of self.new.core) (core_of self.new.core) (Exec node)) }
     {
-        if self.core.pass(node) {
-            self.cursors.pass_word(node, entry);
+        if self.core.exec_silent(node) {
+            self.cursors.follow_word(node, entry);
             return Ok(true);
         }
         self.core.step(Event::Exec(node))?;
-        self.cursors.pass_word(node, entry);
+        self.cursors.follow_word(node, entry);
         Ok(self.core.enabled(Event::Exec(node)))
     }
 
@@ -322,7 +322,7 @@ impl<'a> Replayer<'a> {
         if self.core.node(node).stamp() != entry.stamp {
             return Err(self.broken(ReplayRule::Stamp, node));
         }
-        self.cursors.pass_take(node, entry);
+        self.cursors.follow_take(node, entry);
         Ok(seen)
     }
 

@@ -18,7 +18,7 @@ mod refused;
 pub use dsm_core;
 pub use dsm_core::{node_machine, rewriting_law};
 use dsm_core::{Outcome, Work};
-pub use events::{Replayer, Stretch};
+pub use events::{Replayer, WordsAhead};
 pub use law::replay_law;
 pub use refused::{ReplayRefused, ReplayRule};
 pub use run_order;

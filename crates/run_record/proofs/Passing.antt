@@ -1,4 +1,4 @@
--- Lines that are read one after another, and what is at fault in those behind them.
+-- TextLines that are read one after another, and what is at fault in those behind them.
 use Rattle.std.proofs.Common.{◌≡◌, ℕ, ◌<◌, ◌≤◌, List, [], ◌∷◌, ◌++◌, length, refl, sym, ap, ◌∙◌, subst, inl, inr, append_assoc, length-append, Err, arith}
 use Rattle.std.specs.Prelude.{codes, IfErr}
 use Rattle.std.specs.declared.result.Result.{Result}

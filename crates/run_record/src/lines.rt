@@ -17,12 +17,12 @@ pub(crate) struct Line<'a> {
 
 /// The lines that are left.
 #[derive(Drop)]
-pub(crate) struct Lines<'a> {
+pub(crate) struct TextLines<'a> {
     bytes: &'a [u8],
     number: usize,
 }
 
-impl<'a> Model for Lines<'a> {
+impl<'a> Model for TextLines<'a> {
     ghost use Rattle.std.specs.Prelude.{◌^◌, ◌+◌, ◌≤◌, length};
     ghost use Rattle.run_record.specs.Reading.{Left};
 
@@ -53,12 +53,12 @@ fn first_line_length(text: &[u8]) -> usize
     }
 }
 
-impl<'a> Lines<'a> {
+impl<'a> TextLines<'a> {
     /// All lines of a text.
-    pub(crate) fn of(text: &'a [u8]) -> Lines<'a>
+    pub(crate) fn of(text: &'a [u8]) -> TextLines<'a>
         ensures { result ≡ record { bytes = text.now; number = 1 } }
     {
-        Lines {
+        TextLines {
             bytes: text,
             number: 1,
         }

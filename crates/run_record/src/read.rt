@@ -20,7 +20,7 @@ ghost use Rattle.run_record.specs.declared.version.Version.TheVariants.{Second};
 
 use crate::Record;
 use crate::line::{batch_of, number_line, range_of, take_of};
-use crate::lines::Lines;
+use crate::lines::TextLines;
 use crate::parts::{Blocks, Journals};
 use crate::refused::{RecordRefused, RecordRule};
 use crate::version::Version;
@@ -31,7 +31,7 @@ use run_limits::{Budget, NodeCount};
 use std::alloc::Global;
 
 /// Reads the line of the version.
-fn read_version(lines: &mut Lines<'_>) -> Result<Version, RecordRefused>
+fn read_version(lines: &mut TextLines<'_>) -> Result<Version, RecordRefused>
     ensures ok { IfOk result (λ v. IsRead awaits.Version lines.old
         (model.version_line v) (Nodes v) lines.new) }
     ensures err { IfErr result (IsFault awaits.Version lines.old) }
@@ -47,7 +47,7 @@ fn read_version(lines: &mut Lines<'_>) -> Result<Version, RecordRefused>
 }
 
 /// Reads the line of the number of nodes.
-fn read_nodes(lines: &mut Lines<'_>) -> Result<u8, RecordRefused>
+fn read_nodes(lines: &mut TextLines<'_>) -> Result<u8, RecordRefused>
     ensures count { IfOk result IsNodeCount }
     ensures ok { (v : Versions) → IfOk result (λ n. IsRead (Nodes v) lines.old
         (model.number_line (codes "nodes ") n) (awaits.Budget v n) lines.new) }
@@ -64,7 +64,7 @@ fn read_nodes(lines: &mut Lines<'_>) -> Result<u8, RecordRefused>
 }
 
 /// Reads the line of the budget.
-fn read_budget(lines: &mut Lines<'_>) -> Result<u64, RecordRefused>
+fn read_budget(lines: &mut TextLines<'_>) -> Result<u64, RecordRefused>
     ensures budget { IfOk result IsBudget }
     ensures ok { (v : Versions) (nodes : ℕ) → IfOk result (λ n. IsRead (awaits.Budget v nodes)
         lines.old (model.number_line (codes "budget ") n) (Batch v nodes) lines.new) }
@@ -82,7 +82,7 @@ fn read_budget(lines: &mut Lines<'_>) -> Result<u64, RecordRefused>
 }
 
 /// Reads the line of the batching.
-fn read_batch(lines: &mut Lines<'_>) -> Result<bool, RecordRefused>
+fn read_batch(lines: &mut TextLines<'_>) -> Result<bool, RecordRefused>
     ensures ok { (v : Versions) (nodes : ℕ) → IfOk result (λ b. IsRead (Batch v nodes) lines.old
         (model.batch_line b) (awaited_behind_batch v nodes) lines.new) }
     ensures err { (v : Versions) (nodes : ℕ) → IfErr result (IsFault (Batch v nodes) lines.old) }
@@ -95,7 +95,7 @@ fn read_batch(lines: &mut Lines<'_>) -> Result<bool, RecordRefused>
 }
 
 /// Reads the line of the number of rewritten words, where the version has one.
-fn read_code(lines: &mut Lines<'_>, version: Version) -> Result<Option<u32>, RecordRefused>
+fn read_code(lines: &mut TextLines<'_>, version: Version) -> Result<Option<u32>, RecordRefused>
     ensures version { IfOk result (λ c. model.version_of c ≡ version) }
     ensures code { IfOk result (λ c. IfSome c IsCodeLength) }
     ensures ok { (nodes : ℕ) → IfOk result (λ c. IsRead (awaited_behind_batch version nodes)
@@ -110,7 +110,7 @@ fn read_code(lines: &mut Lines<'_>, version: Version) -> Result<Option<u32>, Rec
 }
 
 /// Reads the line of the number of rewritten words.
-fn read_words(lines: &mut Lines<'_>) -> Result<u32, RecordRefused>
+fn read_words(lines: &mut TextLines<'_>) -> Result<u32, RecordRefused>
     ensures code { IfOk result IsCodeLength }
     ensures ok { (nodes : ℕ) → IfOk result (λ n. IsRead (awaits.Code nodes) lines.old
         (model.number_line (codes "code ") n) (Range Second nodes) lines.new) }
@@ -127,7 +127,7 @@ fn read_words(lines: &mut Lines<'_>) -> Result<u32, RecordRefused>
 }
 
 /// Reads the line of a range, where there is one.
-fn read_range(lines: &mut Lines<'_>) -> Result<Option<BlockRange>, RecordRefused>
+fn read_range(lines: &mut TextLines<'_>) -> Result<Option<BlockRange>, RecordRefused>
     ensures ok { (v : Versions) (nodes : ℕ) → IfOk result (λ next. MatchOption next
         (IsRead (Range v nodes) lines.old [] (Node v nodes 0) lines.new)
         (λ r. IsRead (Range v nodes) lines.old (model.block_line r) (Range v nodes) lines.new)) }
@@ -146,7 +146,7 @@ fn read_range(lines: &mut Lines<'_>) -> Result<Option<BlockRange>, RecordRefused
 }
 
 /// Reads the lines of the ranges.
-fn read_ranges(alloc: Global, lines: &mut Lines<'_>) -> Result<Vec<BlockRange>, RecordRefused>
+fn read_ranges(alloc: Global, lines: &mut TextLines<'_>) -> Result<Vec<BlockRange>, RecordRefused>
     ensures ok { (v : Versions) (nodes : ℕ) → IfOk result (λ rs. IsRead (Range v nodes) lines.old
         (model.block_lines rs.items) (Node v nodes 0) lines.new) }
     ensures digits { IfOk result (λ rs. All IsBlockLine rs.items) }
@@ -162,7 +162,7 @@ fn read_ranges(alloc: Global, lines: &mut Lines<'_>) -> Result<Vec<BlockRange>, 
 }
 
 /// Reads the line of a node's number.
-fn read_node(lines: &mut Lines<'_>, node: u8) -> Result<(), RecordRefused>
+fn read_node(lines: &mut TextLines<'_>, node: u8) -> Result<(), RecordRefused>
     ensures ok { (v : Versions) (nodes : ℕ) → IfOk result (λ _. IsRead (Node v nodes node)
         lines.old (model.number_line (codes "node ") node) (Take v nodes node 0) lines.new) }
     ensures err { (v : Versions) (nodes : ℕ)
@@ -180,7 +180,7 @@ fn read_node(lines: &mut Lines<'_>, node: u8) -> Result<(), RecordRefused>
 
 /// Reads a take behind a stamp, or the end of its node.
 fn read_take(
-    lines: &mut Lines<'_>,
+    lines: &mut TextLines<'_>,
     version: Version,
     nodes: u8,
     last: u64,
@@ -219,7 +219,7 @@ fn read_take(
 /// Reads the takes of a node, and its end.
 fn read_takes(
     alloc: Global,
-    lines: &mut Lines<'_>,
+    lines: &mut TextLines<'_>,
     version: Version,
     nodes: u8,
 ) -> Result<Vec<Entry>, RecordRefused>
@@ -242,7 +242,7 @@ fn read_takes(
 /// Reads the lines of each node.
 fn read_journals(
     alloc: Global,
-    lines: &mut Lines<'_>,
+    lines: &mut TextLines<'_>,
     version: Version,
     nodes: u8,
 ) -> Result<Vec<Vec<Entry>>, RecordRefused>
@@ -268,7 +268,7 @@ fn record_of(alloc: Global, text: &[u8]) -> Result<Record, RecordRefused>
     ensures words { IfOk result IsOfWords }
     ensures err { IfErr result (IsFault awaits.Version (record { bytes = text.now; number = 1 })) }
 {
-    let mut lines = Lines::of(text);
+    let mut lines = TextLines::of(text);
     let version = read_version(&mut lines)?;
     let nodes = read_nodes(&mut lines)?;
     let budget = read_budget(&mut lines)?;

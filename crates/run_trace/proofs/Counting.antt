@@ -7,9 +7,9 @@ use Rattle.std.proofs.lemmas.Bool.Decides.{eqb_tells}
 use Rattle.std.proofs.lemmas.List.{length-map}
 use Rattle.block_layout.specs.Layout.{Shape}
 use Rattle.buf_pool.specs.Pool.{empty_buffer}
-use Rattle.home_directory.specs.declared.messages.Message.{Message}
-use Rattle.home_directory.specs.declared.messages.Message.TheVariants.{Read, Write, FwdRead, FwdWrite, Inval, Data, Grant, Ack, Done, Bye}
-use Rattle.home_directory.specs.declared.messages.Wire.{Wire}
+use Rattle.home_directory.specs.dsm_messages.declared.messages.Message.{Message}
+use Rattle.home_directory.specs.dsm_messages.declared.messages.Message.TheVariants.{Read, Write, FwdRead, FwdWrite, Inval, Data, Grant, Ack, Done, Bye}
+use Rattle.home_directory.specs.dsm_messages.declared.messages.Wire.{Wire}
 use Rattle.home_directory.specs.Table.{Miss, want_row}
 use Rattle.node_model.specs.miss_handlers.Effects.{block_facts}
 use Rattle.node_model.specs.miss_handlers.Rows.{Row, AtHome, AtNode, row_of, clears}
@@ -17,11 +17,11 @@ use Rattle.templates.specs.declared.plans.PlanEntry.{PlanEntry}
 use Rattle.rv32_program.specs.declared.End.TheVariants.{Stopped}
 use Rattle.node_model.specs.declared.NodeCounts.{NodeCounts}
 use Rattle.node_model.specs.Node.{Work, Node, Want, Phase, Running, Resumed, Waiting, Ended, Nothing_counted, lane_resumed, tally_resumed, counts_after, stop_or, word_outcome}
-use Rattle.node_model.specs.Turns.{Turn, block_at, holding, want_in, want_all, with_miss, with_byes, wants_of, each_block_once, count_want, count_row, after_word, after_wants, word_turn, by_row_or, treated, has_no_wait, resumed, journaled, after_message, take_turn, is_ended}
+use Rattle.node_model.specs.Turns.{Turn, block_at, holding, want_in, want_all, with_miss, with_byes, wants_of, each_block_once, count_want, count_row, after_word, after_wants, word_turn, by_row_or, handled, has_no_wait, resumed, journaled, after_message, take_turn, is_ended}
 use Rattle.node_model.specs.Core.{Core, Event, Exec, Take, take_first, event_step, after}
 use Rattle.replay.specs.run_order.OwnRun.{Stamped, run_of}
-use Rattle.home_directory.specs.declared.headers.Sent.{Sent}
-use Rattle.home_directory.specs.Headers.{sent_by}
+use Rattle.home_directory.specs.dsm_messages.declared.headers.Sent.{Sent}
+use Rattle.home_directory.specs.dsm_messages.Headers.{sent_by}
 use Rattle.replay.specs.node_machine.Wanted.{block_with, wanted, wants_along}
 use Rattle.replay.specs.node_machine.declared.wanted.Wanted.{Wanted}
 use Rattle.run_trace.specs.Traced.{Traced, What, Word, Taken, word_traced, row_met, is_waiting, tally_of_wait, take_traced, first_traced, what_at, traced_at}
@@ -75,36 +75,36 @@ row_counts layout n None = none_more n.counts
 row_counts layout n (Some (AtHome b row)) = refl
 row_counts layout n (Some (AtNode b row)) = refl
 
-treated_counts : (layout : Shape) (n : Node) (j : ℕ) (m : Message)
-    → (treated layout n j m).node.counts
-    ≡ count_row (option_map_or clears (row_met layout n j m) false) (length (treated layout n j m).sends) n.counts
-treated_counts layout n j Bye = none_more n.counts
-treated_counts layout n j (Read b buf) = row_counts layout n (row_met layout n j (Read b buf))
-treated_counts layout n j (Write b buf) = row_counts layout n (row_met layout n j (Write b buf))
-treated_counts layout n j (FwdRead b r buf) = row_counts layout n (row_met layout n j (FwdRead b r buf))
-treated_counts layout n j (FwdWrite b r k buf) = row_counts layout n (row_met layout n j (FwdWrite b r k buf))
-treated_counts layout n j (Inval b r) = row_counts layout n (row_met layout n j (Inval b r))
-treated_counts layout n j (Data b k buf) = row_counts layout n (row_met layout n j (Data b k buf))
-treated_counts layout n j (Grant b k buf) = row_counts layout n (row_met layout n j (Grant b k buf))
-treated_counts layout n j (Ack b) = row_counts layout n (row_met layout n j (Ack b))
-treated_counts layout n j (Done b) = row_counts layout n (row_met layout n j (Done b))
+handled_counts : (layout : Shape) (n : Node) (j : ℕ) (m : Message)
+    → (handled layout n j m).node.counts
+    ≡ count_row (option_map_or clears (row_met layout n j m) false) (length (handled layout n j m).sends) n.counts
+handled_counts layout n j Bye = none_more n.counts
+handled_counts layout n j (Read b buf) = row_counts layout n (row_met layout n j (Read b buf))
+handled_counts layout n j (Write b buf) = row_counts layout n (row_met layout n j (Write b buf))
+handled_counts layout n j (FwdRead b r buf) = row_counts layout n (row_met layout n j (FwdRead b r buf))
+handled_counts layout n j (FwdWrite b r k buf) = row_counts layout n (row_met layout n j (FwdWrite b r k buf))
+handled_counts layout n j (Inval b r) = row_counts layout n (row_met layout n j (Inval b r))
+handled_counts layout n j (Data b k buf) = row_counts layout n (row_met layout n j (Data b k buf))
+handled_counts layout n j (Grant b k buf) = row_counts layout n (row_met layout n j (Grant b k buf))
+handled_counts layout n j (Ack b) = row_counts layout n (row_met layout n j (Ack b))
+handled_counts layout n j (Done b) = row_counts layout n (row_met layout n j (Done b))
 
 row_phase : (layout : Shape) (n : Node) (o : Option Row) → (by_row_or layout n o).node.phase ≡ n.phase
 row_phase layout n None = refl
 row_phase layout n (Some (AtHome b row)) = refl
 row_phase layout n (Some (AtNode b row)) = refl
 
-treated_phase : (layout : Shape) (n : Node) (j : ℕ) (m : Message) → (treated layout n j m).node.phase ≡ n.phase
-treated_phase layout n j Bye = refl
-treated_phase layout n j (Read b buf) = row_phase layout n (row_met layout n j (Read b buf))
-treated_phase layout n j (Write b buf) = row_phase layout n (row_met layout n j (Write b buf))
-treated_phase layout n j (FwdRead b r buf) = row_phase layout n (row_met layout n j (FwdRead b r buf))
-treated_phase layout n j (FwdWrite b r k buf) = row_phase layout n (row_met layout n j (FwdWrite b r k buf))
-treated_phase layout n j (Inval b r) = row_phase layout n (row_met layout n j (Inval b r))
-treated_phase layout n j (Data b k buf) = row_phase layout n (row_met layout n j (Data b k buf))
-treated_phase layout n j (Grant b k buf) = row_phase layout n (row_met layout n j (Grant b k buf))
-treated_phase layout n j (Ack b) = row_phase layout n (row_met layout n j (Ack b))
-treated_phase layout n j (Done b) = row_phase layout n (row_met layout n j (Done b))
+handled_phase : (layout : Shape) (n : Node) (j : ℕ) (m : Message) → (handled layout n j m).node.phase ≡ n.phase
+handled_phase layout n j Bye = refl
+handled_phase layout n j (Read b buf) = row_phase layout n (row_met layout n j (Read b buf))
+handled_phase layout n j (Write b buf) = row_phase layout n (row_met layout n j (Write b buf))
+handled_phase layout n j (FwdRead b r buf) = row_phase layout n (row_met layout n j (FwdRead b r buf))
+handled_phase layout n j (FwdWrite b r k buf) = row_phase layout n (row_met layout n j (FwdWrite b r k buf))
+handled_phase layout n j (Inval b r) = row_phase layout n (row_met layout n j (Inval b r))
+handled_phase layout n j (Data b k buf) = row_phase layout n (row_met layout n j (Data b k buf))
+handled_phase layout n j (Grant b k buf) = row_phase layout n (row_met layout n j (Grant b k buf))
+handled_phase layout n j (Ack b) = row_phase layout n (row_met layout n j (Ack b))
+handled_phase layout n j (Done b) = row_phase layout n (row_met layout n j (Done b))
 
 same_either : {A : Type 0} (b : Bool) (x : A) → cond b x x ≡ x
 same_either true x = refl
@@ -151,12 +151,12 @@ pub take_counts : (work : Work) (n : Node) (j : ℕ) (wire : Wire)
 take_counts work n j wire =
     let layout = work.layout in
     let m = journaled n j wire in
-    let t : Turn = treated layout m j wire.message in
+    let t : Turn = handled layout m j wire.message in
     let r : Node = resumed work t.node t.node.phase in
     let waits = is_waiting r.phase in
     let given = option_map_or clears (row_met layout n j wire.message) false in
-    let phase : t.node.phase ≡ n.phase = treated_phase layout m j wire.message in
-    let counts : t.node.counts ≡ count_row given (length t.sends) n.counts = treated_counts layout m j wire.message in
+    let phase : t.node.phase ≡ n.phase = handled_phase layout m j wire.message in
+    let counts : t.node.counts ≡ count_row given (length t.sends) n.counts = handled_counts layout m j wire.message in
     let long : length t.sends ≡ length (map sent_by t.sends) = sym (length-map t.sends sent_by) in
     ap (λ (k : Node). k.counts) (byes_node layout.nodes (after_message work n j wire) _)
     ∙ resumed_counts work t.node t.node.phase refl

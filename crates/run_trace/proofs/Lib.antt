@@ -4,7 +4,7 @@ mod Reaches
 mod WordEnds
 mod Meets
 mod TakeEnds
-mod Quiet
+mod Silent
 mod Tracings
 mod Passes
 pub mod Wholes

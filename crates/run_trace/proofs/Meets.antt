@@ -3,17 +3,17 @@
 use Rattle.std.proofs.Common.{◌≡◌, ℕ, zero, suc, ◌+◌, ◌⊎◌, Bool, true, false, not, cond, eqb, ltb, leb, ◌&&◌, ◌||◌, List, [], ◌∷◌, ◌++◌, Option, Some, None, refl, sym, ap, ◌∙◌, subst, inl, inr, arith, eq-eqb, ne_eqb}
 use Rattle.std.specs.Prelude.{is_some, is_none}
 use Rattle.buf_pool.specs.Pool.{Buffer}
-use Rattle.home_directory.specs.declared.messages.Need.{Need}
-use Rattle.home_directory.specs.declared.messages.Need.TheVariants.{Read as reading, Write as writing}
-use Rattle.home_directory.specs.declared.messages.Message.{Message}
-use Rattle.home_directory.specs.declared.messages.Message.TheVariants.{Read, Write, FwdRead, FwdWrite, Inval, Data, Grant, Ack, Done, Bye}
-use Rattle.home_directory.specs.declared.messages.Post.{Post}
+use Rattle.home_directory.specs.dsm_messages.declared.messages.Need.{Need}
+use Rattle.home_directory.specs.dsm_messages.declared.messages.Need.TheVariants.{Read as reading, Write as writing}
+use Rattle.home_directory.specs.dsm_messages.declared.messages.Message.{Message}
+use Rattle.home_directory.specs.dsm_messages.declared.messages.Message.TheVariants.{Read, Write, FwdRead, FwdWrite, Inval, Data, Grant, Ack, Done, Bye}
+use Rattle.home_directory.specs.dsm_messages.declared.messages.Post.{Post}
 use Rattle.home_directory.specs.declared.directory.Busy.{Busy}
 use Rattle.home_directory.specs.declared.directory.Request.{Request}
 use Rattle.home_directory.specs.declared.wait.Wait.{Wait}
 use Rattle.home_directory.specs.declared.wait.Answer.{Answer}
 use Rattle.home_directory.specs.declared.wait.Answer.TheVariants.{ByData, ByGrant}
-use Rattle.home_directory.specs.Home.{Entry, Home, done_with, invals, others, count_of, post, waits}
+use Rattle.home_directory.specs.Home.{DirectoryEntry, Home, done_with, invals, others, count_of, post, waits}
 use Rattle.home_directory.specs.Table.{Start, HomeRow, start_row, start_at, start_or, start_home, next_start, next_or, ask_when, ask_row, done_when, done_row, done_home, first_leaves, BlockFacts, LocalBlock, NodeRow, without_block, data_row, grant_row, ack_row, completion, is_complete, with_answer, one_ack_more, is_write, is_shared, node_row}
 use Rattle.state_table.specs.declared.State.TheVariants.{Shared}
 use Rattle.state_table.specs.StateByte.{can_read}
@@ -53,19 +53,19 @@ TellsHome h row = (any row.sends ≡ true)
     ⊎ ((row.home.occupancy ≡ h.occupancy + 1)
     ⊎ ((is_some h.entry.busy ≡ true) × (is_some row.home.entry.busy ≡ false)))
 
-write_on : (t : Bool) (n : ℕ) (e : Entry) (b r : ℕ) (buf : Buffer) → t ≡ e.sharers r
+write_on : (t : Bool) (n : ℕ) (e : DirectoryEntry) (b r : ℕ) (buf : Buffer) → t ≡ e.sharers r
     → OnSome (start_row n e b r writing buf) IsSent
 write_on true n e b r buf is = rw (sym is)
     (any_last (invals (others e.sharers r) b r n) _)
 write_on false n e b r buf is = rw (sym is)
     (any_last (invals (others e.sharers e.owner) b r n) _)
 
-read_on : (t : Bool) (n : ℕ) (e : Entry) (b r : ℕ) (buf : Buffer) → t ≡ e.sharers r
+read_on : (t : Bool) (n : ℕ) (e : DirectoryEntry) (b r : ℕ) (buf : Buffer) → t ≡ e.sharers r
     → OnSome (start_row n e b r reading buf) IsSent
 read_on true n e b r buf is = rw (sym is) tt
 read_on false n e b r buf is = rw (sym is) refl
 
-start_on : (n : ℕ) (e : Entry) (b r : ℕ) (need : Need) (buf : Buffer)
+start_on : (n : ℕ) (e : DirectoryEntry) (b r : ℕ) (need : Need) (buf : Buffer)
     → OnSome (start_row n e b r need buf) IsSent
 start_on n e b r reading buf = read_on (e.sharers r) n e b r buf refl
 start_on n e b r writing buf = write_on (e.sharers r) n e b r buf refl
@@ -86,16 +86,16 @@ pub ask_on : (n : ℕ) (h : Home) (b r : ℕ) (need : Need) (buf : Buffer)
 ask_on n h b r need buf = on_if (ltb r n) (ask_when n h b r need buf h.entry.busy) (TellsHome h)
     (ask_when_on n h b r need buf h.entry.busy)
 
-idle : (e : Entry) (need : Need) (r : ℕ) → is_some (done_with e need r).busy ≡ false
+idle : (e : DirectoryEntry) (need : Need) (r : ℕ) → is_some (done_with e need r).busy ≡ false
 idle e reading r = refl
 idle e writing r = refl
 
-next_on : (n : ℕ) (e : Entry) (b : ℕ) (qs : List Request) → OnSome (next_start n e b qs) IsSent
+next_on : (n : ℕ) (e : DirectoryEntry) (b : ℕ) (qs : List Request) → OnSome (next_start n e b qs) IsSent
 next_on n e b [] = tt
 next_on n e b (q ∷ qs) =
     on_if (ltb q.from n) (start_row n e b q.from q.need q.buf) IsSent (start_on n e b q.from q.need q.buf)
 
-start_or_on : (h : Home) (e : Entry) (o : Option Start) → OnSome o IsSent
+start_or_on : (h : Home) (e : DirectoryEntry) (o : Option Start) → OnSome o IsSent
     → is_some h.entry.busy ≡ true → is_some e.busy ≡ false
     → TellsHome h (start_home (first_leaves h) (start_or e o))
 start_or_on h e None p busy free = inr (inr (busy, free))

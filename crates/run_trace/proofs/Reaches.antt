@@ -13,24 +13,24 @@ use Rattle.rv32_step.specs.Demands.{cut_short}
 use Rattle.rv32_step.specs.declared.Demand.TheVariants.{Jumps, Branches, Loads, Stores, Reserves, StoresIf, Updates}
 use Rattle.rv32_step.specs.declared.CallStep.TheVariants.{Puts}
 use Rattle.llsc.specs.Reservation.{holds}
-use Rattle.home_directory.specs.declared.messages.Need.{Need}
-use Rattle.home_directory.specs.declared.messages.Need.TheVariants.{Read}
-use Rattle.node_model.specs.Node.{Lane, Local, Outcome, Memory, StateOf, Spill, Elsewhere, Next, Waits, SameWord, Want, region_of, byte_at, load, store, native, make_call, print_byte, go_on, lane_after_call, is_mapped_state, is_readable_state, is_fixed_state, is_writable_state, miss_r, miss_w, prepare, one_refuses, unmet, batch, batch_by, indirect}
+use Rattle.home_directory.specs.dsm_messages.declared.messages.Need.{Need}
+use Rattle.home_directory.specs.dsm_messages.declared.messages.Need.TheVariants.{Read}
+use Rattle.node_model.specs.Node.{ProcessorState, NodeMemory, WordOutcome, Memory, StateOf, Spill, Elsewhere, Next, Waits, SameWord, Want, region_of, byte_at, load, store, native, make_call, print_byte, only_moves, lane_after_call, is_mapped_state, is_readable_state, is_fixed_state, is_writable_state, miss_r, miss_w, prepare, one_refuses, unmet, batch, batch_by, indirect}
 use Rattle.run_trace.specs.declared.traced.AccessKind.TheVariants as access
-use Rattle.run_trace.specs.declared.reach.Reach.TheVariants.{Nowhere, At, IfPrints}
+use Rattle.run_trace.specs.declared.reach.WordAccess.TheVariants.{Nowhere, At, IfPrints}
 use Rattle.run_trace.specs.Looks.{IsReach, access_seen}
 
 -- a word that reaches nothing
-abbrev pub IsStill : Outcome → Type 0
+abbrev pub IsStill : WordOutcome → Type 0
 IsStill o = None ≡ access_seen o.access
 
-pub still_if : (b : Bool) (x y : Outcome) → IsStill x → IsStill y → IsStill (cond b x y)
+pub still_if : (b : Bool) (x y : WordOutcome) → IsStill x → IsStill y → IsStill (cond b x y)
 still_if true x y p q = p
 still_if false x y p q = q
 
 -- 1. Loads and stores by where they lie
 
-load_state : (p : Program) (l : Lane) (n : Local) (k : LoadKind) (r a line : ℕ) (x y z w : Bool)
+load_state : (p : Program) (l : ProcessorState) (n : NodeMemory) (k : LoadKind) (r a line : ℕ) (x y z w : Bool)
     → IsStill (load p l n k r a
     (cond x (StateOf line) (cond y (Spill 0) (cond z (Spill 1) (cond w (Spill 2) Elsewhere)))))
 load_state p l n k r a line true y z w = refl
@@ -39,7 +39,7 @@ load_state p l n k r a line false false true w = refl
 load_state p l n k r a line false false false true = refl
 load_state p l n k r a line false false false false = refl
 
-store_state : (p : Program) (l : Lane) (n : Local) (k : Width) (a v line : ℕ) (x y z w : Bool)
+store_state : (p : Program) (l : ProcessorState) (n : NodeMemory) (k : Width) (a v line : ℕ) (x y z w : Bool)
     → IsStill (store p l n k a v
     (cond x (StateOf line) (cond y (Spill 0) (cond z (Spill 1) (cond w (Spill 2) Elsewhere)))))
 store_state p l n k a v line true y z w = refl
@@ -55,19 +55,19 @@ beyond a h = grind (arith, nat_tests)
 within : (a : ℕ) → a < 2 ^ 31 → ltb a (2 ^ 31) ≡ true
 within a h = grind (arith, nat_tests)
 
-load_beyond : (p : Program) (l : Lane) (n : Local) (k : LoadKind) (r a : ℕ) → 2 ^ 31 ≤ a
+load_beyond : (p : Program) (l : ProcessorState) (n : NodeMemory) (k : LoadKind) (r a : ℕ) → 2 ^ 31 ≤ a
     → IsStill (load p l n k r a (region_of a))
 load_beyond p l n k r a h = rw (beyond a h) (load_state p l n k r a (a - 2 ^ 31)
     (ltb a (2 ^ 31 + 2 ^ 26)) (eqb a (2 ^ 32 - 4)) (eqb a (2 ^ 32 - 8)) (eqb a (2 ^ 32 - 12)))
 
-store_beyond : (p : Program) (l : Lane) (n : Local) (k : Width) (a v : ℕ) → 2 ^ 31 ≤ a
+store_beyond : (p : Program) (l : ProcessorState) (n : NodeMemory) (k : Width) (a v : ℕ) → 2 ^ 31 ≤ a
     → IsStill (store p l n k a v (region_of a))
 store_beyond p l n k a v h = rw (beyond a h) (store_state p l n k a v (a - 2 ^ 31)
     (ltb a (2 ^ 31 + 2 ^ 26)) (eqb a (2 ^ 32 - 4)) (eqb a (2 ^ 32 - 8)) (eqb a (2 ^ 32 - 12)))
 
 -- 2. Native instructions
 
-module _ (p : Program) (place at : ℕ) (l : Lane) (n : Local) where
+module _ (p : Program) (place at : ℕ) (l : ProcessorState) (n : NodeMemory) where
   pub loads_off : (k : LoadKind) (r a : ℕ) → is_aligned (width_of k) a ≡ false
       → IsReach Nowhere (native p place at l n (Loads k r a))
   loads_off k r a e = rw e refl
@@ -139,46 +139,46 @@ module _ (p : Program) (place at : ℕ) (l : Lane) (n : Local) where
 -- 3. A call
 
 -- a byte is read where it is printed
-put_reach : (p : Program) (l : Lane) (n : Local) (a state : ℕ) (x y : Bool)
-    → IsReach (IfPrints a) (cond x (cond y (print_byte l n a (byte_at p l n a)) (go_on l n (Waits SameWord (record { at = a; need = Read }) [])))
-    (go_on (lane_after_call l (cut_short l.written)) n Next))
+put_reach : (p : Program) (l : ProcessorState) (n : NodeMemory) (a state : ℕ) (x y : Bool)
+    → IsReach (IfPrints a) (cond x (cond y (print_byte l n a (byte_at p l n a)) (only_moves l n (Waits SameWord (record { at = a; need = Read }) [])))
+    (only_moves (lane_after_call l (cut_short l.written)) n Next))
 put_reach p l n a state true true = refl
 put_reach p l n a state true false = refl
 put_reach p l n a state false y = refl
 
-pub puts_reach : (p : Program) (l : Lane) (n : Local) (a : ℕ) → IsReach (IfPrints a) (make_call p l n (Puts a))
+pub puts_reach : (p : Program) (l : ProcessorState) (n : NodeMemory) (a : ℕ) → IsReach (IfPrints a) (make_call p l n (Puts a))
 puts_reach p l n a = put_reach p l n a (n.state (line_of a))
     (is_mapped_state (n.state (line_of a))) (is_readable_state (n.state (line_of a)))
 
 -- 4. Runtime words
 
-pub miss_r_still : (place : ℕ) (l : Lane) (n : Local) (w : Width) (a : ℕ) → IsReach Nowhere (miss_r place l n w a)
+pub miss_r_still : (place : ℕ) (l : ProcessorState) (n : NodeMemory) (w : Width) (a : ℕ) → IsReach Nowhere (miss_r place l n w a)
 miss_r_still place l n w a =
     still_if (is_aligned w a) _ _
     (still_if (is_mapped_state (n.state (line_of a))) _ _
     (still_if (is_readable_state (n.state (line_of a))) _ _ refl refl) refl) refl
 
-pub miss_w_still : (place : ℕ) (l : Lane) (n : Local) (w : Width) (a : ℕ) → IsReach Nowhere (miss_w place l n w a)
+pub miss_w_still : (place : ℕ) (l : ProcessorState) (n : NodeMemory) (w : Width) (a : ℕ) → IsReach Nowhere (miss_w place l n w a)
 miss_w_still place l n w a =
     still_if (is_aligned w a) _ _
     (still_if (is_fixed_state (n.state (line_of a))) _ _ refl
     (still_if (is_writable_state (n.state (line_of a))) _ _ refl refl)) refl
 
-pub prepare_still : (place : ℕ) (l : Lane) (n : Local) (a : ℕ) → IsReach Nowhere (prepare place l n a)
+pub prepare_still : (place : ℕ) (l : ProcessorState) (n : NodeMemory) (a : ℕ) → IsReach Nowhere (prepare place l n a)
 prepare_still place l n a =
     still_if (is_aligned Word a) _ _
     (still_if (is_fixed_state (n.state (line_of a))) _ _ refl
     (still_if (holds n.reservation a && not (is_writable_state (n.state (line_of a)))) _ _ refl refl)) refl
 
-pub indirect_still : (place : ℕ) (l : Lane) (n : Local) (r target : ℕ) → IsReach Nowhere (indirect place l n r target)
+pub indirect_still : (place : ℕ) (l : ProcessorState) (n : NodeMemory) (r target : ℕ) → IsReach Nowhere (indirect place l n r target)
 indirect_still place l n r target = still_if (eqb (target % 4) 0) _ _ refl refl
 
-batch_by_still : (l : Lane) (n : Local) (need : Need) (low high : ℕ) (ws : List Want)
+batch_by_still : (l : ProcessorState) (n : NodeMemory) (need : Need) (low high : ℕ) (ws : List Want)
     → IsReach Nowhere (batch_by l n need low high ws)
 batch_by_still l n need low high [] = refl
 batch_by_still l n need low high (w ∷ ws) = refl
 
-pub batch_still : (l : Lane) (n : Local) (need : Need) (low high : ℕ) → IsReach Nowhere (batch l n need low high)
+pub batch_still : (l : ProcessorState) (n : NodeMemory) (need : Need) (low high : ℕ) → IsReach Nowhere (batch l n need low high)
 batch_still l n need low high =
     still_if (one_refuses n need low high) _ _ refl
     (batch_by_still l n need low high (unmet n need low ++ unmet n need high))

@@ -5,20 +5,20 @@ use Rattle.std.specs.Option.{option_map, option_map_or}
 use Rattle.block_layout.specs.Layout.{Shape, blocks, home}
 use Rattle.block_layout.specs.Update.{changed}
 use Rattle.state_table.specs.declared.State.{State}
-use Rattle.home_directory.specs.declared.messages.Message.{Message}
-use Rattle.home_directory.specs.declared.messages.Message.TheVariants.{Read, Write, FwdRead, FwdWrite, Inval, Data, Grant, Ack, Done, Bye}
+use Rattle.home_directory.specs.dsm_messages.declared.messages.Message.{Message}
+use Rattle.home_directory.specs.dsm_messages.declared.messages.Message.TheVariants.{Read, Write, FwdRead, FwdWrite, Inval, Data, Grant, Ack, Done, Bye}
 use Rattle.buf_pool.specs.Pool.{Buffer}
-use Rattle.home_directory.specs.declared.messages.Need.{Need}
-use Rattle.home_directory.specs.declared.messages.Need.TheVariants.{Read as reading, Write as writing}
-use Rattle.home_directory.specs.declared.messages.Post.{Post}
-use Rattle.home_directory.specs.declared.messages.Wire.{Wire}
-use Rattle.home_directory.specs.Headers.{header_of, sent_by}
+use Rattle.home_directory.specs.dsm_messages.declared.messages.Need.{Need}
+use Rattle.home_directory.specs.dsm_messages.declared.messages.Need.TheVariants.{Read as reading, Write as writing}
+use Rattle.home_directory.specs.dsm_messages.declared.messages.Post.{Post}
+use Rattle.home_directory.specs.dsm_messages.declared.messages.Wire.{Wire}
+use Rattle.home_directory.specs.dsm_messages.Headers.{header_of, sent_by}
 use Rattle.home_directory.specs.Table.{HomeRow, NodeRow, ask_row, done_row, node_row}
 use Rattle.node_model.specs.miss_handlers.Effects.{block_facts}
 use Rattle.node_model.specs.miss_handlers.Rows.{Holding, Row, AtHome, AtNode, row_of, ask_row_of, node_row_of, home_of, at_home, at_node}
 use Rattle.node_model.specs.declared.NodeCounts.{NodeCounts}
 use Rattle.node_model.specs.Node.{Work, Node, Phase, Running, Resumed, Waiting, Ended, Tally, Nothing_counted, FalseMiss, FallsBack, counts_after, end_of}
-use Rattle.node_model.specs.Turns.{Turn, block_at, holding, by_row_or, treated, has_no_wait, resumed, journaled, count_row, after_message, is_ended, take_turn}
+use Rattle.node_model.specs.Turns.{Turn, block_at, holding, by_row_or, handled, has_no_wait, resumed, journaled, count_row, after_message, is_ended, take_turn}
 use Rattle.run_trace.specs.declared.takes.Sight.{Sight}
 use Rattle.replay.specs.node_machine.Wanted.{state_at}
 use Rattle.run_trace.specs.Traced.{state_if, ends_anew}
@@ -211,7 +211,7 @@ module _ (work : Work) (n m : Node) (like : HasSame n m) where
       (node_row (block_facts work.layout b) (block_at work.layout m b) j msg) refl
       (node_on (block_facts work.layout b) (block_at work.layout m b) j msg)
 
-  pub meets_seen : (j : ℕ) (msg : Message) → seen_of work n (header_of msg).block (treated work.layout m j msg)
+  pub meets_seen : (j : ℕ) (msg : Message) → seen_of work n (header_of msg).block (handled work.layout m j msg)
       ≡ is_some (row_of work.layout m.me (holding work.layout m) j msg)
   meets_seen j (Read b buf) = ask_case j b reading buf
   meets_seen j (Write b buf) = ask_case j b writing buf

@@ -4,7 +4,7 @@ use Rattle.std.specs.Prelude.{option_to_list}
 use Rattle.std.specs.Option.{option_map}
 use Rattle.templates.specs.declared.plans.PlanEntry.{PlanEntry}
 use Rattle.templates.specs.Code.{HasCode}
-use Rattle.home_directory.specs.declared.messages.Wire.{Wire}
+use Rattle.home_directory.specs.dsm_messages.declared.messages.Wire.{Wire}
 use Rattle.node_model.specs.Node.{Work, Node}
 use Rattle.node_model.specs.Core.{Core, Event, Exec, Take, May, AreAlike, opening_core, event_step, take_first, after}
 use Rattle.replay.specs.run_order.OwnRun.{Stamped, maker, node_of, run_of}
@@ -113,7 +113,7 @@ pub traced_on : (t u : Tracer) (seen : List Traced) (x : Stored) (h : HasTraced 
 traced_on t u seen x h one same =
     traced_after t u seen (traced_of x) one.told h one.made one.may one.is one.entries same
 
--- a quiet word more was made, which did this
+-- a silent word more was made, which did this
 pub word_after : (t u : Tracer) (seen : List Traced) (i s : ℕ) (w : OfWord) (h : HasTraced t seen)
     → HasMadeWord t.replayer u.replayer h.before i → ((core_of (core_in u.replayer)).nodes i).stamp ≡ s
     → word_traced (work_traced t) (plan_traced t) ((core_of (core_in t.replayer)).nodes i) ≡ w

@@ -15,16 +15,16 @@ use Rattle.templates.specs.declared.plans.PlanEntry.{PlanEntry}
 use Rattle.templates.specs.Sequences.{flag_word}
 use Rattle.state_table.specs.declared.State.{State}
 use Rattle.state_table.specs.StateByte.{can_read}
-use Rattle.home_directory.specs.declared.messages.Need.{Need}
-use Rattle.home_directory.specs.declared.messages.Need.TheVariants as need_by
-use Rattle.home_directory.specs.declared.messages.Post.{Post}
-use Rattle.home_directory.specs.Headers.{sent_by}
-use Rattle.home_directory.specs.declared.messages.Message.TheVariants.{Bye}
+use Rattle.home_directory.specs.dsm_messages.declared.messages.Need.{Need}
+use Rattle.home_directory.specs.dsm_messages.declared.messages.Need.TheVariants as need_by
+use Rattle.home_directory.specs.dsm_messages.declared.messages.Post.{Post}
+use Rattle.home_directory.specs.dsm_messages.Headers.{sent_by}
+use Rattle.home_directory.specs.dsm_messages.declared.messages.Message.TheVariants.{Bye}
 use Rattle.home_directory.specs.Home.{post}
 use Rattle.home_directory.specs.Table.{Miss, want_row}
 use Rattle.node_model.specs.miss_handlers.Effects.{block_facts}
 use Rattle.node_model.specs.declared.NodeCounts.{NodeCounts}
-use Rattle.node_model.specs.Node.{Work, Node, Want, Move, Next, Again, To, Enters, Waits, Leaves, Phase, Running, Resumed, Waiting, Ended, Outcome, word_outcome, phase_after, stop_at, end_of, is_at_poll, standing_in, has_all_byes, counts_after}
+use Rattle.node_model.specs.Node.{Work, Node, Want, Move, Next, Again, To, Enters, Waits, Leaves, Phase, Running, Resumed, Waiting, Ended, WordOutcome, word_outcome, phase_after, stop_at, end_of, is_at_poll, standing_in, has_all_byes, counts_after}
 use Rattle.node_model.specs.declared.Standing.{Standing}
 use Rattle.node_model.specs.declared.Standing.TheVariants as standing
 use Rattle.node_model.specs.Turns.{Turn, block_at, want_in, want_all, with_miss, with_byes, byes_to, is_ended, count_want, wants_of, each_block_once, after_word, after_wants, word_turn}
@@ -130,7 +130,7 @@ value_is (WritesIf a v true) = refl
 value_is (WritesIf a v false) = refl
 value_is (Exchanges a o n) = refl
 
-pub commit_is : (kind : CommitKind) (o : Outcome) → commits_when kind (access_seen o.access) (is_wait o.move) ≡ commits_by kind o
+pub commit_is : (kind : CommitKind) (o : WordOutcome) → commits_when kind (access_seen o.access) (is_wait o.move) ≡ commits_by kind o
 commit_is Never o = refl
 commit_is Always o = refl
 commit_is IfNotFlag o = ap (λ x. option_map_or (λ v. not (eqb v flag_word)) x false) (value_is o.access)

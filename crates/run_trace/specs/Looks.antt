@@ -11,21 +11,21 @@ use Rattle.templates.specs.Commits.{commit_at}
 use Rattle.templates.specs.Sequences.{flag_word}
 use Rattle.node_model.specs.jump_map.Maps.{old_of}
 use Rattle.block_layout.specs.Layout.{Shape}
-use Rattle.home_directory.specs.Headers.{sent_by}
+use Rattle.home_directory.specs.dsm_messages.Headers.{sent_by}
 use Rattle.node_model.specs.declared.Standing.{Standing}
 use Rattle.node_model.specs.declared.Standing.TheVariants as standing
-use Rattle.node_model.specs.Node.{Work, Node, Outcome, word_outcome}
+use Rattle.node_model.specs.Node.{Work, Node, WordOutcome, word_outcome}
 use Rattle.node_model.specs.Turns.{word_turn}
-use Rattle.replay.specs.node_machine.declared.frame.Frame.{Frame}
-use Rattle.replay.specs.node_machine.Frame.{work_of, node_of}
+use Rattle.replay.specs.node_machine.declared.node_state.NodeState.{NodeState}
+use Rattle.replay.specs.node_machine.NodeState.{work_of, node_of}
 use Rattle.replay.specs.node_machine.Wanted.{block_with, wanted_in, wants_of_word}
 use Rattle.replay.specs.dsm_core.declared.seen.Seen.{Seen}
 use Rattle.run_trace.specs.declared.traced.Accessed.{Accessed}
 use Rattle.run_trace.specs.declared.words.Before.{Before}
 use Rattle.run_trace.specs.declared.traced.AccessKind.TheVariants as access
 use Rattle.run_trace.specs.declared.reach.Reached.{Reached}
-use Rattle.run_trace.specs.declared.reach.Reach.{Reach}
-use Rattle.run_trace.specs.declared.reach.Reach.TheVariants.{Nowhere, At, IfPrints}
+use Rattle.run_trace.specs.declared.reach.WordAccess.{WordAccess}
+use Rattle.run_trace.specs.declared.reach.WordAccess.TheVariants.{Nowhere, At, IfPrints}
 
 -- an access, as it is reached
 abbrev pub access_seen : Access → Option Reached
@@ -42,14 +42,14 @@ access_seen (Exchanges a old new) =
     Some (record { kind = access.Exchanges; address = a; value = Some old })
 
 -- what is reached by a word that prints this
-abbrev pub reached_by : Reach → Option ℕ → Option Reached
+abbrev pub reached_by : WordAccess → Option ℕ → Option Reached
 reached_by Nowhere printed = None
 reached_by (At r) printed = Some r
 reached_by (IfPrints a) printed =
     option_map (λ b. record { kind = access.Reads; address = a; value = Some b }) printed
 
 -- a word reaches this
-abbrev pub IsReach : Reach → Outcome → Type 0
+abbrev pub IsReach : WordAccess → WordOutcome → Type 0
 IsReach reach o = reached_by reach o.printed ≡ access_seen o.access
 
 -- with the block in which it lies
@@ -85,7 +85,7 @@ pub record IsBefore (work : Work) (plan : List PlanEntry) (n : Node) (b : Before
 
 -- this was seen before a node's next word, while it was made, and of the node after it
 pub record IsAfterWord (work : Work) (plan : List PlanEntry) (n : Node) (b : Before) (s : Seen)
-    (layout : Shape) (after : Frame) : Type 0 where
+    (layout : Shape) (after : NodeState) : Type 0 where
   pub before : IsBefore work plan n b
   pub node : node_of after ≡ (word_turn work n).node
   pub work_is : work_of after ≡ work

@@ -3,9 +3,9 @@ use Rattle.std.specs.Prelude.{◌≡◌, ℕ, ◌<◌, Bool, true, false, not, �
 use Rattle.std.specs.Option.{option_map, option_map_or}
 use Rattle.std.specs.Borrow.{Bor}
 use Rattle.block_layout.specs.Layout.{Shape, blocks}
-use Rattle.home_directory.specs.declared.messages.Wire.{Wire}
+use Rattle.home_directory.specs.dsm_messages.declared.messages.Wire.{Wire}
 use Rattle.home_directory.specs.declared.wait.Wait.{Wait}
-use Rattle.home_directory.specs.Headers.{header_of, sent_by}
+use Rattle.home_directory.specs.dsm_messages.Headers.{header_of, sent_by}
 use Rattle.node_model.specs.Node.{Work, Node, end_of}
 use Rattle.node_model.specs.Turns.{block_at, after_message, take_turn}
 use Rattle.replay.specs.dsm_core.declared.seen.Seen.{Seen}

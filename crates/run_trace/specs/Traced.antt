@@ -5,11 +5,11 @@ use Rattle.block_layout.specs.Layout.{Shape, blocks}
 use Rattle.rv32_program.specs.declared.End.{End}
 use Rattle.rv32_step.specs.OneMemory.{Access, Nothing, Reads, Writes, WritesIf, Exchanges}
 use Rattle.state_table.specs.declared.State.{State}
-use Rattle.home_directory.specs.declared.messages.Message.{Message}
-use Rattle.home_directory.specs.declared.messages.Wire.{Wire}
-use Rattle.home_directory.specs.declared.headers.Header.{Header}
-use Rattle.home_directory.specs.declared.headers.Sent.{Sent}
-use Rattle.home_directory.specs.Headers.{header_of, sent_by}
+use Rattle.home_directory.specs.dsm_messages.declared.messages.Message.{Message}
+use Rattle.home_directory.specs.dsm_messages.declared.messages.Wire.{Wire}
+use Rattle.home_directory.specs.dsm_messages.declared.headers.Header.{Header}
+use Rattle.home_directory.specs.dsm_messages.declared.headers.Sent.{Sent}
+use Rattle.home_directory.specs.dsm_messages.Headers.{header_of, sent_by}
 use Rattle.node_model.specs.miss_handlers.Rows.{Row, row_of, clears}
 use Rattle.templates.specs.declared.places.Place.{Place}
 use Rattle.templates.specs.declared.plans.PlanEntry.{PlanEntry}

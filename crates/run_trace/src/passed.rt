@@ -2,7 +2,7 @@
 
 ghost use Rattle.std.specs.Prelude.{◌≡◌};
 ghost use Rattle.node_model.specs.Node.{word_outcome};
-ghost use Rattle.replay.specs.node_machine.Frame.{work_of, node_of};
+ghost use Rattle.replay.specs.node_machine.NodeState.{work_of, node_of};
 ghost use Rattle.replay.specs.node_machine.Touch.{IsTouch};
 ghost use Rattle.run_trace.specs.Looks.{access_seen};
 ghost use Rattle.run_trace.specs.Passing as model;

@@ -3,7 +3,7 @@
 ghost use Rattle.std.specs.Prelude.{◌≡◌, ℕ};
 ghost use Rattle.rv32_program.specs.Program.{Program};
 ghost use Rattle.node_model.specs.Node as model;
-ghost use Rattle.replay.specs.node_machine.Frame.{work_of, node_of};
+ghost use Rattle.replay.specs.node_machine.NodeState.{work_of, node_of};
 ghost use Rattle.rv32_step.specs.declared.Demand.TheVariants.{Loads, Stores, StoresIf, Updates};
 ghost use Rattle.rv32_step.specs.declared.Demand.TheVariants.{Reserves};
 ghost use Rattle.rv32_decode.specs.declared.AmoOp.{AmoOp};
@@ -14,6 +14,7 @@ use crate::traced::AccessKind;
 use replay::node_machine::Node;
 use runtime_words::RtWord;
 use rv32_decode::{LoadKind, Width};
+use rv32_program::addresses::MEMORY_END;
 use rv32_step::{CallStep, Demand, call_step, demand_of};
 
 /// An access of memory, and the value that it reads.
@@ -26,7 +27,7 @@ pub(crate) struct Reached {
 
 /// What a word reaches in memory, as far as the node tells before it.
 #[derive(Clone, Copy)]
-pub(crate) enum Reach {
+pub(crate) enum WordAccess {
     Nowhere,
     At(Reached),
     /// It reads a byte there, if it prints one.
@@ -34,43 +35,43 @@ pub(crate) enum Reach {
 }
 
 /// What a node's next word reaches.
-pub(crate) fn reach_of(node: &Node<'_>) -> Reach
+pub(crate) fn reach_of(node: &Node<'_>) -> WordAccess
     ensures { IsReach result (model.word_outcome (work_of node.now) (node_of node.now)) }
 {
     match node.next_word() {
         Some(word) => match word.what {
             Some(what) => reach_of_word(node, what),
-            None => Reach::Nowhere,
+            None => WordAccess::Nowhere,
         },
-        None => Reach::Nowhere,
+        None => WordAccess::Nowhere,
     }
 }
 
 /// What a word reaches at a node.
-fn reach_of_word(node: &Node<'_>, word: RtWord) -> Reach
+fn reach_of_word(node: &Node<'_>, word: RtWord) -> WordAccess
     ensures { (place : ℕ) → IsReach result (model.execute (work_of node.now).program place
         (node_of node.now).lane.at word (node_of node.now).lane (node_of node.now).local) }
 {
     match word {
         RtWord::Native(i) => reach_by(node, demand_of(i, node.registers(), node.at())),
         RtWord::Call => reach_of_call(call_step(node.registers(), node.written())),
-        _ => Reach::Nowhere,
+        _ => WordAccess::Nowhere,
     }
 }
 
 /// What one step of a call reaches.
-fn reach_of_call(step: CallStep) -> Reach
-    ensures { (program : Program) (l : model.Lane) (n : model.Local)
+fn reach_of_call(step: CallStep) -> WordAccess
+    ensures { (program : Program) (l : model.ProcessorState) (n : model.NodeMemory)
         → IsReach result (model.make_call program l n step) }
 {
     match step {
-        CallStep::Puts(address) => Reach::IfPrints(address),
-        CallStep::Ends(_) | CallStep::Returns(_) => Reach::Nowhere,
+        CallStep::Puts(address) => WordAccess::IfPrints(address),
+        CallStep::Ends(_) | CallStep::Returns(_) => WordAccess::Nowhere,
     }
 }
 
 /// What a demand reaches at a node.
-fn reach_by(node: &Node<'_>, demand: Demand) -> Reach
+fn reach_by(node: &Node<'_>, demand: Demand) -> WordAccess
     ensures { (place at : ℕ) → IsReach result (model.native (work_of node.now).program place at
         (node_of node.now).lane (node_of node.now).local demand) }
 {
@@ -80,15 +81,12 @@ fn reach_by(node: &Node<'_>, demand: Demand) -> Reach
         Demand::Stores(width, address, _) => store_reach(width, address),
         Demand::StoresIf(_, address, _) => store_if_reach(node, address),
         Demand::Updates(_, _, address, _) => update_reach(node, address),
-        _ => Reach::Nowhere,
+        _ => WordAccess::Nowhere,
     }
 }
 
-/// The state table begins at this address.
-const STATE_TABLE: u32 = 0x8000_0000;
-
 /// What a load reaches.
-fn load_reach(node: &Node<'_>, kind: LoadKind, address: u32) -> Reach
+fn load_reach(node: &Node<'_>, kind: LoadKind, address: u32) -> WordAccess
     ensures loads { (place at r : ℕ) → IsReach result (model.native (work_of node.now).program
         place at (node_of node.now).lane (node_of node.now).local (Loads kind r address)) }
     ensures reserves { (place at r : ℕ) → kind ≡ LoadKind.Word → IsReach result (model.native
@@ -96,12 +94,12 @@ fn load_reach(node: &Node<'_>, kind: LoadKind, address: u32) -> Reach
         (Reserves r address)) }
 {
     if !kind.width().is_aligned(address) {
-        return Reach::Nowhere;
+        return WordAccess::Nowhere;
     }
-    if address >= STATE_TABLE {
-        return Reach::Nowhere;
+    if address >= MEMORY_END {
+        return WordAccess::Nowhere;
     }
-    Reach::At(Reached {
+    WordAccess::At(Reached {
         kind: AccessKind::Reads,
         address,
         value: Some(node.value(kind, address)),
@@ -109,17 +107,18 @@ fn load_reach(node: &Node<'_>, kind: LoadKind, address: u32) -> Reach
 }
 
 /// What a store reaches.
-fn store_reach(width: Width, address: u32) -> Reach
-    ensures { (program : Program) (place at value : ℕ) (l : model.Lane) (n : model.Local)
+fn store_reach(width: Width, address: u32) -> WordAccess
+    ensures { (program : Program) (place at value : ℕ) (l : model.ProcessorState)
+        (n : model.NodeMemory)
         → IsReach result (model.native program place at l n (Stores width address value)) }
 {
     if !width.is_aligned(address) {
-        return Reach::Nowhere;
+        return WordAccess::Nowhere;
     }
-    if address >= STATE_TABLE {
-        return Reach::Nowhere;
+    if address >= MEMORY_END {
+        return WordAccess::Nowhere;
     }
-    Reach::At(Reached {
+    WordAccess::At(Reached {
         kind: AccessKind::Writes,
         address,
         value: None,
@@ -127,19 +126,19 @@ fn store_reach(width: Width, address: u32) -> Reach
 }
 
 /// What a conditional store reaches.
-fn store_if_reach(node: &Node<'_>, address: u32) -> Reach
+fn store_if_reach(node: &Node<'_>, address: u32) -> WordAccess
     ensures { (place at r value : ℕ) → IsReach result (model.native (work_of node.now).program
         place at (node_of node.now).lane (node_of node.now).local (StoresIf r address value)) }
 {
     if !Width::Word.is_aligned(address) {
-        return Reach::Nowhere;
+        return WordAccess::Nowhere;
     }
     let kind = if is_reserved(node.reserved(), address) {
         AccessKind::Writes
     } else {
         AccessKind::WritesNot
     };
-    Reach::At(Reached {
+    WordAccess::At(Reached {
         kind,
         address,
         value: None,
@@ -157,15 +156,15 @@ fn is_reserved(reserved: Option<u32>, address: u32) -> bool
 }
 
 /// What an exchange reaches.
-fn update_reach(node: &Node<'_>, address: u32) -> Reach
+fn update_reach(node: &Node<'_>, address: u32) -> WordAccess
     ensures { (place at r value : ℕ) (o : AmoOp) → IsReach result (model.native
         (work_of node.now).program place at (node_of node.now).lane (node_of node.now).local
         (Updates o r address value)) }
 {
     if !Width::Word.is_aligned(address) {
-        return Reach::Nowhere;
+        return WordAccess::Nowhere;
     }
-    Reach::At(Reached {
+    WordAccess::At(Reached {
         kind: AccessKind::Exchanges,
         address,
         value: Some(node.value(LoadKind::Word, address)),

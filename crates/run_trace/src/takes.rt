@@ -3,10 +3,10 @@
 ghost use Rattle.std.specs.Prelude.{◌≡◌, ◌<◌, ◌||◌, Option};
 ghost use Rattle.std.specs.Option.{option_map};
 ghost use Rattle.block_layout.specs.Layout.{blocks};
-ghost use Rattle.home_directory.specs.declared.messages.Wire.{Wire};
+ghost use Rattle.home_directory.specs.dsm_messages.declared.messages.Wire.{Wire};
 ghost use Rattle.home_directory.specs.declared.wait.Wait.{Wait as OfWait};
 ghost use Rattle.node_model.specs.Node.{Work, Node as OfNode};
-ghost use Rattle.replay.specs.node_machine.Frame.{work_of, node_of};
+ghost use Rattle.replay.specs.node_machine.NodeState.{work_of, node_of};
 ghost use Rattle.run_trace.specs.Given.{take_of};
 ghost use Rattle.run_trace.specs.Looks.{waits_in};
 ghost use Rattle.run_trace.specs.Taking as model;
@@ -15,7 +15,8 @@ ghost use Rattle.run_trace.specs.Traced as trace;
 use crate::traced::TakeTraced;
 use crate::words::{but_byes, tally};
 use block_layout::{Block, Layout};
-use home_directory::{Headers, Wait};
+use home_directory::Wait;
+use home_directory::dsm_messages::Headers;
 use replay::dsm_core::{Incoming, Seen};
 use replay::node_machine::{Node, NodeCounts, Standing};
 use rv32_program::End;
@@ -49,7 +50,7 @@ pub(crate) struct Sight {
 }
 
 /// What is seen of a node, as far as a message about a block can change it.
-pub(crate) fn look(node: &Node<'_>, layout: &Layout, block: Option<Block>) -> Sight
+pub(crate) fn sight_of(node: &Node<'_>, layout: &Layout, block: Option<Block>) -> Sight
     requires layout { layout.now ≡ (work_of node.now).layout }
     ensures { result ≡ model.sight_of layout.now (node_of node.now) block }
 {

@@ -1,7 +1,7 @@
 //! What an event of a run did, as it is looked at.
 
 use block_layout::Block;
-use home_directory::{Header, Headers};
+use home_directory::dsm_messages::{Header, Headers};
 use replay::node_machine::WantedBlocks;
 use rv32_program::End;
 use state_table::State;

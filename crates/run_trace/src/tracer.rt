@@ -5,14 +5,14 @@ ghost use Rattle.run_trace.specs.Taking.{block_of_first};
 
 use crate::entries::Entries;
 use crate::passed::{Until, WordPassed, ending, reached_by_touch};
-use crate::takes::{look, take_traced};
+use crate::takes::{sight_of, take_traced};
 use crate::traced::{Traced, What};
 use crate::words::{accessed_at, before_word, commits, place_of, word_traced};
 use block_layout::Block;
 use replay::dsm_core::{Event, Incoming, Work};
 use replay::node_machine::Touch;
 use replay::run_record::Record;
-use replay::{ReplayRefused, Replayer, Stretch};
+use replay::{ReplayRefused, Replayer, WordsAhead};
 use std::alloc::{AllocError, Global};
 use templates::{Code, Plan};
 
@@ -117,7 +117,7 @@ impl<'a> Tracer<'a> {
     /// Makes words that only compute or access memory, up to the first whose access ends the pass,
     /// and says what that did. `None` where an event comes before it that does more: `next` makes
     /// that one; and where all were made.
-    pub fn pass(&mut self, until: Until) -> Option<WordPassed>
+    pub fn run_until(&mut self, until: Until) -> Option<WordPassed>
         requires traced { (seen : List OfEvent) × HasTraced self.old seen }
         ensures passed { (seen : List OfEvent) → HasTraced self.old seen
             → HasPassedOn until self.new seen result }
@@ -125,8 +125,8 @@ impl<'a> Tracer<'a> {
         ensures most { events_to_trace self.new ≤ events_to_trace self.old }
         ensures same { IsSame self.old self.new }
     {
-        while let Some(stretch) = self.replayer.stretch() {
-            match self.pass_stretch(stretch, until) {
+        while let Some(stretch) = self.replayer.words_ahead() {
+            match self.run_ahead(stretch, until) {
                 Stop::Ended(word) => return Some(word),
                 Stop::Before => return None,
                 Stop::Through => {}
@@ -136,7 +136,7 @@ impl<'a> Tracer<'a> {
     }
 
     /// Makes words of a stretch, up to the first whose access ends the pass.
-    fn pass_stretch(&mut self, stretch: Stretch, until: Until) -> Stop
+    fn run_ahead(&mut self, stretch: WordsAhead, until: Until) -> Stop
         requires traced { (seen : List OfEvent) × HasTraced self.old seen }
         requires stretch { IsStretch (replayer_in self.old) stretch }
         requires some { 0 < stretch.words }
@@ -152,12 +152,12 @@ impl<'a> Tracer<'a> {
                 return Stop::Before;
             };
             if let Some(touch) = ending(until, touch) {
-                return match self.pass_access(&mut stretch, touch) {
+                return match self.run_to_access(&mut stretch, touch) {
                     Some(word) => Stop::Ended(word),
                     None => Stop::Before,
                 };
             }
-            if !self.replayer.pass_word(&mut stretch) {
+            if !self.replayer.make_silent_word(&mut stretch) {
                 return Stop::Before;
             }
         }
@@ -165,7 +165,7 @@ impl<'a> Tracer<'a> {
     }
 
     /// Makes the next word of a stretch, which touches memory so, and says what it did.
-    fn pass_access(&mut self, stretch: &mut Stretch, touch: Touch) -> Option<WordPassed>
+    fn run_to_access(&mut self, stretch: &mut WordsAhead, touch: Touch) -> Option<WordPassed>
         requires traced { (seen : List OfEvent) × HasTraced self.old seen }
         requires stretch { IsStretch (replayer_in self.old) stretch.old }
         requires some { 0 < stretch.old.words }
@@ -181,7 +181,7 @@ impl<'a> Tracer<'a> {
         let reached = reached_by_touch(node, touch)?;
         let place = place_of(node);
         let kind = self.entries.commit_at(self.plan, self.code, place);
-        if !self.replayer.pass_word(stretch) {
+        if !self.replayer.make_silent_word(stretch) {
             return None;
         }
         let core = self.replayer.core();
@@ -240,14 +240,14 @@ impl<'a> Tracer<'a> {
         let core = self.replayer.core();
         let first = core.first(from, node);
         let block = block_in(first);
-        let before = look(core.node(node), core.layout(), block);
+        let before = sight_of(core.node(node), core.layout(), block);
         let seen = self.replayer.make(Event::Take { node, from })?;
         let Some(incoming) = first else {
             unreachable!()
         };
         let core = self.replayer.core();
         let after = core.node(node);
-        let now = look(after, core.layout(), block);
+        let now = sight_of(after, core.layout(), block);
         let nodes = core.layout().nodes();
         Ok(Traced {
             stamp: after.stamp(),

@@ -6,7 +6,7 @@ ghost use Rattle.templates.specs.Code.{HasCode};
 ghost use Rattle.templates.specs.declared.plans.PlanEntry.{PlanEntry};
 ghost use Rattle.node_model.specs.jump_map.Maps.{old_of};
 ghost use Rattle.node_model.specs.Node.{Work, Node as OfNode, Tally, counts_after};
-ghost use Rattle.replay.specs.node_machine.Frame.{work_of, node_of};
+ghost use Rattle.replay.specs.node_machine.NodeState.{work_of, node_of};
 ghost use Rattle.run_trace.specs.Given.{tally_of, word_of};
 ghost use Rattle.run_trace.specs.Entries.{AreEntriesOf};
 ghost use Rattle.run_trace.specs.Looks.{IsBefore, IsAfterWord, reached_by, accessed_at, is_exited};
@@ -14,12 +14,13 @@ ghost use Rattle.run_trace.specs.Looks.{commits_when, waits_in};
 ghost use Rattle.run_trace.specs.Traced as trace;
 
 use crate::entries::Entries;
-use crate::reach::{Reach, Reached, reach_of};
+use crate::reach::{Reached, WordAccess, reach_of};
 use crate::traced::{AccessKind, Accessed, Tallied, WordTraced};
 use block_layout::Layout;
-use home_directory::Headers;
+use home_directory::dsm_messages::Headers;
 use replay::dsm_core::Seen;
 use replay::node_machine::{Node, NodeCounts, Standing};
+use runtime_words::FLAG_WORD;
 use rv32_program::End;
 use templates::{Code, CommitKind, Place, Plan};
 
@@ -28,7 +29,7 @@ use templates::{Code, CommitKind, Place, Plan};
 pub(crate) struct Before {
     pub place: Option<Place>,
     pub kind: CommitKind,
-    pub reach: Reach,
+    pub reach: WordAccess,
     pub counts: NodeCounts,
 }
 
@@ -91,12 +92,12 @@ pub(crate) fn word_traced(
 }
 
 /// What a word reaches that prints this.
-fn reached(reach: Reach, printed: Option<u8>) -> Option<Reached>
+fn reached(reach: WordAccess, printed: Option<u8>) -> Option<Reached>
     ensures { result ≡ reached_by reach printed }
 {
     match (reach, printed) {
-        (Reach::At(reached), _) => Some(reached),
-        (Reach::IfPrints(address), Some(byte)) => Some(Reached {
+        (WordAccess::At(reached), _) => Some(reached),
+        (WordAccess::IfPrints(address), Some(byte)) => Some(Reached {
             kind: AccessKind::Reads,
             address,
             value: Some(u32::from(byte)),
@@ -146,9 +147,6 @@ fn waits(standing: Standing) -> bool
     }
 }
 
-/// The word of a line that a node doesn't have.
-const FLAG: u32 = 0xffff_ff03;
-
 /// Whether a word commits a step of the original.
 pub(crate) fn commits(kind: CommitKind, reached: Option<Reached>, exits: bool, waits: bool) -> bool
     ensures { result ≡ (exits || commits_when kind reached waits) }
@@ -172,7 +170,7 @@ fn reads_other(reached: Option<Reached>) -> bool
                 value: Some(value),
                 ..
             },
-        ) => value != FLAG,
+        ) => value != FLAG_WORD,
         _ => false,
     }
 }

@@ -6,9 +6,9 @@ use Rattle.std.proofs.lemmas.List.{append-nil}
 use Rattle.std.proofs.lemmas.List.FromFn.{filter_of_map_range_with_len_more}
 use Rattle.std.proofs.lemmas.List.Elements.{filter-append}
 use Rattle.std.proofs.lemmas.Bool.Decides.{eqb_tells}
-use Rattle.dsm_core.specs.home_directory.declared.messages.Wire.{Wire}
+use Rattle.dsm_core.specs.dsm_messages.declared.messages.Wire.{Wire}
 use Rattle.dsm_core.specs.node_model.Node.{Work, Node, standing_of}
-use Rattle.dsm_core.specs.node_model.Turns.{Turn, quiet, word_turn}
+use Rattle.dsm_core.specs.node_model.Turns.{Turn, silent, word_turn}
 use Rattle.dsm_core.specs.node_model.Core.{Core, Event, Exec, Take, May, may_execute, may_take, event_step, wires_to, AreAlike}
 use Rattle.shared_sim.specs.ByOrder.{events_at, all_events, has_wire, is_allowed, choices}
 use Rattle.shared_sim.specs.Turns.{HasNoMail}
@@ -187,13 +187,13 @@ nothing_may work c e none may =
 
 -- 4. A word that prints nothing and sends nothing
 
-abbrev pub IsQuiet : Work → Core → ℕ → Type 0
-IsQuiet work c i = word_turn work (c.nodes i) ≡ quiet (word_turn work (c.nodes i)).node
+abbrev pub IsSilent : Work → Core → ℕ → Type 0
+IsSilent work c i = word_turn work (c.nodes i) ≡ silent (word_turn work (c.nodes i)).node
 
 abbrev pub after_word : Work → Core → ℕ → Core
 after_word work c i = event_step work c (Exec i)
 
-pub kept_list : (work : Work) (c : Core) (i j k : ℕ) → IsQuiet work c i
+pub kept_list : (work : Work) (c : Core) (i j k : ℕ) → IsSilent work c i
     → (after_word work c i).list j k ≡ c.list j k
 kept_list work c i j k still = elim (eqb_tells j i) [
   | inl e ↦ rw e.0 (ap (λ (t : Turn). c.list j k ++ wires_to (word_turn work (c.nodes i)).node.stamp k t.sends) still ∙ append-nil (c.list j k))
@@ -205,7 +205,7 @@ pub kept_node : (work : Work) (c : Core) (i k : ℕ) → k ≢ i
 kept_node work c i k apart = elim (eqb_tells k i) [ inl e ↦ absurd (apart e.1) | inr e ↦ rw e.0 refl ]
 
 -- the same is allowed behind it, where its node has no mail and may execute another
-pub kept_allowed : (work : Work) (c : Core) (i : ℕ) → IsQuiet work c i
+pub kept_allowed : (work : Work) (c : Core) (i : ℕ) → IsSilent work c i
     → HasNoMail work.layout.nodes c i → May work c (Exec i)
     → may_execute (standing_of work ((after_word work c i).nodes i)) ≡ true
     → (e : Event) → IsBelow work.layout.nodes e
@@ -235,7 +235,7 @@ kept_allowed work c i still none may again = same
     ]
     same (Take k j) low = same_take k j low.1
 
-pub kept_choices : (work : Work) (c : Core) (i : ℕ) → IsQuiet work c i
+pub kept_choices : (work : Work) (c : Core) (i : ℕ) → IsSilent work c i
     → HasNoMail work.layout.nodes c i → May work c (Exec i)
     → may_execute (standing_of work ((after_word work c i).nodes i)) ≡ true
     → choices work (after_word work c i) ≡ choices work c

@@ -4,7 +4,7 @@ use Rattle.std.specs.Prelude.{slice_get, filter}
 use Rattle.std.specs.List.{flat_map, range_with_len}
 use Rattle.std.proofs.lemmas.List.{length-map, get_or-set_same, get_or-set_other}
 use Rattle.std.proofs.lemmas.Bool.Decides.{eqb_tells}
-use Rattle.workload.specs.Orders.{following, choice, how_often}
+use Rattle.random_order.specs.Orders.{following, choice, how_often}
 use Rattle.dsm_core.specs.node_model.Node.{Work}
 use Rattle.dsm_core.specs.node_model.Core.{Core, Event, Exec, Take, May}
 use Rattle.dsm_core.specs.declared.cores.Event.{Event as Stored}

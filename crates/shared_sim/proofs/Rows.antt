@@ -10,7 +10,7 @@ use Rattle.std.proofs.lemmas.List.FromFn.{length-map-range_with_len}
 use Rattle.std.proofs.lemmas.List.Elements.{filter-append}
 use Rattle.std.proofs.lemmas.Bool.Decides.{eqb_tells}
 use Rattle.std.proofs.lemmas.Option.{slice_get-map, slice_get_read}
-use Rattle.dsm_core.specs.home_directory.declared.messages.Wire.{Wire}
+use Rattle.dsm_core.specs.dsm_messages.declared.messages.Wire.{Wire}
 use Rattle.dsm_core.specs.node_model.Node.{Work, Node, standing_of}
 use Rattle.dsm_core.specs.node_model.Turns.{Turn, word_turn, take_turn}
 use Rattle.dsm_core.specs.node_model.Core.{Core, Event, Exec, Take, AreAlike, may_execute, may_take, event_step, with_turn, with_list, take_first, wires_to}
@@ -285,7 +285,7 @@ tells_passed p q l i k work low passed apart tells =
     node = passed.event.nodes k low ∙ kept_node w c i k apart
 
     kept : (j : ℕ) → j < p.layout.nodes → d.list j k ≡ c.list j k
-    kept j below = passed.event.lists j k below low ∙ kept_list w c i j k passed.quiet
+    kept j below = passed.event.lists j k below low ∙ kept_list w c i j k passed.silent
 
     take : (j : ℕ) → j < p.layout.nodes → is_allowed w d (Take k j) ≡ is_allowed w c (Take k j)
     take j below = λ t. may_take (standing_of w (node t)) && has_wire (kept j below t)

@@ -3,10 +3,10 @@ use Rattle.std.proofs.Common.{◌≡◌, ◌≢◌, ℕ, zero, suc, ◌+◌, ◌
 use Rattle.std.specs.Prelude.{slice_get}
 use Rattle.std.proofs.Math.Nat.{mod-lt}
 use Rattle.std.proofs.lemmas.Bool.Decides.{eqb_tells}
-use Rattle.workload.specs.Orders.{following, choice, after_turns}
+use Rattle.random_order.specs.Orders.{following, choice, after_turns}
 use Rattle.dsm_core.specs.node_model.Node.{Work, Node, Phase, Running, Resumed, Waiting, Ended, standing_of, standing_in, is_at_poll, can_execute}
 use Rattle.dsm_core.specs.node_model.declared.Standing.TheVariants as standing
-use Rattle.dsm_core.specs.node_model.Turns.{quiet, word_turn}
+use Rattle.dsm_core.specs.node_model.Turns.{silent, word_turn}
 use Rattle.dsm_core.specs.node_model.Core.{Core, Event, Exec, Take, May, AreAlike, may_execute, may_take, after}
 use Rattle.dsm_core.specs.node_machine.Runs.{GoesOnBy}
 use Rattle.dsm_core.specs.CoreParts.{CoreParts, work_of, core_of}
@@ -16,7 +16,7 @@ use Rattle.shared_sim.specs.Listing.{IsCalm, Lists}
 use Rattle.shared_sim.specs.declared.listing.Listing.{Listing}
 use Rattle.shared_sim.specs.Turns.{ArePicked, LeadsOn}
 use Rattle.shared_sim.specs.Windows.{is_word_of, picks_of}
-use Rattle.shared_sim.proofs.Choices.{IsBelow, and_false, choice_may, kept_choices, kept_list, kept_node, after_word, IsQuiet}
+use Rattle.shared_sim.proofs.Choices.{IsBelow, and_false, choice_may, kept_choices, kept_list, kept_node, after_word, IsSilent}
 use Rattle.shared_sim.proofs.Rows.{lists_kept}
 
 -- 1. Each node's words, one after another, as the order picks them
@@ -86,7 +86,7 @@ hit_none i k o is apart = elim (eqb_tells k i) [
 ]
 
 goes_one : (work : Work) (k j : ℕ) (n m : Node) → k ≡ 1 + j → GoesOnBy work k n m
-    → (word_turn work n ≡ quiet (word_turn work n).node) × GoesOnBy work j (word_turn work n).node m
+    → (word_turn work n ≡ silent (word_turn work n).node) × GoesOnBy work j (word_turn work n).node m
 goes_one work k j n m is on =
     let count : k ≡ suc j = omega (arith, is) in
     let all = subst (λ z. GoesOnBy work z n m) count on in
@@ -100,7 +100,7 @@ stepped work c i = elim (eqb_tells i i) [ inl e ↦ rw e.0 refl | inr e ↦ absu
 behind_first : (work : Work) (turns number i : ℕ) (words : ℕ → ℕ) (c d : Core)
     → IsWindow work (suc turns) number words c d
     → pick_among (choices work c) (following number) ≡ Some (Exec i) → May work c (Exec i)
-    → (rest : ℕ → ℕ) × IsQuiet work c i × (choices work (after_word work c i) ≡ choices work c)
+    → (rest : ℕ → ℕ) × IsSilent work c i × (choices work (after_word work c i) ≡ choices work c)
     × IsWindow work turns (following number) rest (after_word work c i) d
 behind_first work turns number i words c d w picked may = (
   rest,
@@ -125,11 +125,11 @@ behind_first work turns number i words c d w picked may = (
     split : words i ≡ 1 + rest i
     split = w.are i may.0 ∙ ap (λ k. k + rest i) (hit_one i i _ picked refl)
 
-    both : (word_turn work (c.nodes i) ≡ quiet (word_turn work (c.nodes i)).node)
+    both : (word_turn work (c.nodes i) ≡ silent (word_turn work (c.nodes i)).node)
         × GoesOnBy work (rest i) (word_turn work (c.nodes i)).node (d.nodes i)
     both = goes_one work (words i) (rest i) (c.nodes i) (d.nodes i) split first
 
-    still : IsQuiet work c i
+    still : IsSilent work c i
     still = both.0
 
     here : GoesOnBy work (rest i) ((after_word work c i).nodes i) (d.nodes i)

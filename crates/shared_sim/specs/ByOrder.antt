@@ -1,8 +1,8 @@
 -- Core runs whose events follow an order.
 use Rattle.std.specs.Prelude.{◌≡◌, ℕ, Bool, true, false, ◌&&◌, List, [], ◌∷◌, Option, Some, length, map, filter, slice_get}
 use Rattle.std.specs.List.{flat_map, range_with_len}
-use Rattle.dsm_core.specs.home_directory.declared.messages.Wire.{Wire}
-use Rattle.workload.specs.Orders.{following, choice}
+use Rattle.random_order.specs.Orders.{following, choice}
+use Rattle.dsm_core.specs.dsm_messages.declared.messages.Wire.{Wire}
 use Rattle.dsm_core.specs.node_model.Node.{Work, standing_of}
 use Rattle.dsm_core.specs.node_model.Core.{Core, Event, Exec, Take, may_execute, may_take, opening_core, event_step, after, IsOver}
 use Rattle.dsm_core.specs.node_model.Outcome.{Outcome, IsOutcomeOf}

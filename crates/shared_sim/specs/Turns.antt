@@ -1,12 +1,12 @@
 -- Helps the code alone: the turns of an order, one after another.
 use Rattle.std.specs.Prelude.{◌≡◌, ℕ, ◌≤◌, List, [], ◌∷◌, Some, length}
-use Rattle.workload.specs.Orders.{following, after_turns}
+use Rattle.random_order.specs.Orders.{following, after_turns}
 use Rattle.dsm_core.specs.node_model.Node.{Work}
 use Rattle.dsm_core.specs.node_model.Core.{Core, Event, Exec, Take, AreAlike, event_step, after}
 use Rattle.shared_sim.specs.ByOrder.{choices, pick_among}
 use Rattle.shared_sim.specs.Listing.{Lists}
 pub use Rattle.shared_sim.specs.Mail.{HasNoMail}
-use Rattle.shared_sim.specs.declared.by_order.Run.{Run}
+use Rattle.shared_sim.specs.declared.by_order.OrderedRun.{OrderedRun}
 
 -- the order's next numbers pick these events
 abbrev pub ArePicked : Work → ℕ → Core → List Event → Type 0
@@ -29,7 +29,7 @@ maker (Exec i) = i
 maker (Take i j) = i
 
 -- the events that are allowed are listed
-pub record IsReady (r : Run) : Type 0 where
+pub record IsReady (r : OrderedRun) : Type 0 where
   pub lists : Lists r.core r.listing
   pub few : r.core.layout.nodes ≤ 16
-  pub trails : r.trails ≡ r.core.layout.nodes
+  pub undo_logs : r.undo_logs ≡ r.core.layout.nodes

@@ -1,6 +1,6 @@
 -- Helps the code alone: turns in which no message is on its way.
 use Rattle.std.specs.Prelude.{ℕ, zero, suc, ◌+◌, ◌==◌, Bool, false, if◌then◌else◌, List, Option, Some}
-use Rattle.workload.specs.Orders.{following}
+use Rattle.random_order.specs.Orders.{following}
 use Rattle.dsm_core.specs.node_model.Core.{Event, Exec}
 use Rattle.shared_sim.specs.ByOrder.{pick_among}
 

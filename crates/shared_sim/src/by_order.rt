@@ -11,9 +11,9 @@ ghost use Rattle.shared_sim.specs.Turns.{IsReady, LeadsOn, HasNoMail, maker};
 
 use crate::listing::Listing;
 use dsm_core::rewriting_law::progress_law;
-use dsm_core::{Core, Event, Outcome, Stop, Trails, Work};
+use dsm_core::{Core, Event, Outcome, Stop, UndoLogs, Work};
+use random_order::{Order, order_of};
 use std::alloc::{AllocError, Global};
-use workload::{Order, order_of};
 
 /// Runs the nodes of a layout to their ends, on one thread: at each turn the order of a number
 /// picks one of the events that are allowed, which are listed node by node, its word and then its
@@ -23,7 +23,7 @@ pub fn simulate(alloc: Global, work: &Work<'_>, order: u32) -> Result<Outcome, A
     ensures outcome { IfOk result (λ o. IsOutcomeByOrder (work_in work.now) order (outcome_of o)) }
 {
     progress_law();
-    let mut run = Run::new(alloc, work, order)?;
+    let mut run = OrderedRun::new(alloc, work, order)?;
     for _turn in 0..u64::MAX {
         if run.is_over() {
             return run.core.outcome(alloc);
@@ -41,18 +41,18 @@ const MOST_WINDOW: u32 = 4096;
 
 /// A core on its way, the order that picks its events, and those that are allowed now.
 #[derive(Drop)]
-struct Run<'a> {
+struct OrderedRun<'a> {
     core: Core<'a>,
     order: Order,
     listing: Listing,
-    trails: Trails,
+    undo_logs: UndoLogs,
     /// How many turns are tried at once, where no message is on its way.
     window: u32,
 }
 
-impl<'a> Run<'a> {
+impl<'a> OrderedRun<'a> {
     /// The core at the start, and the order of a number.
-    fn new(alloc: Global, work: &Work<'a>, order: u32) -> Result<Run<'a>, AllocError>
+    fn new(alloc: Global, work: &Work<'a>, order: u32) -> Result<OrderedRun<'a>, AllocError>
         requires rewritten { RunsRewritten (work_in work.now) }
         ensures ready { IfOk result IsReady }
         ensures opening { IfOk result (λ r. core_of r.core ≡ opening_core (work_of r.core)) }
@@ -61,12 +61,12 @@ impl<'a> Run<'a> {
     {
         let core = Core::new(alloc, work)?;
         let listing = Listing::new(alloc, &core)?;
-        let trails = Trails::new(alloc, core.layout().nodes())?;
-        Ok(Run {
+        let undo_logs = UndoLogs::new(alloc, core.layout().nodes())?;
+        Ok(OrderedRun {
             core,
             order: order_of(order),
             listing,
-            trails,
+            undo_logs,
             window: LEAST_WINDOW,
         })
     }
@@ -115,7 +115,7 @@ impl<'a> Run<'a> {
         ensures leads { OnOk result (LeadsOn (work_of self.old.core) 1
             self.old.order (core_of self.old.core) self.new.order (core_of self.new.core)) }
     {
-        if self.pass_some() {
+        if self.run_window() {
             return Ok(());
         }
         self.turn()
@@ -147,7 +147,7 @@ impl<'a> Run<'a> {
         ensures leads { OnOk result (LeadsOn (work_of self.old.core) 1
             self.old.order (core_of self.old.core) self.new.order (core_of self.new.core)) }
     {
-        let words = self.core.execute_on(node)?;
+        let words = self.core.run_until_send(node)?;
         self.order.skip(words);
         self.listing.list_after(&self.core, node);
         Ok(())
@@ -164,7 +164,7 @@ impl<'a> Run<'a> {
     {
         let place = self.order.next(self.listing.count);
         let event = self.listing.at(&self.core, place);
-        if self.pass(event) {
+        if self.exec_silent(event) {
             return Ok(());
         }
         self.core.step(event)?;
@@ -173,7 +173,7 @@ impl<'a> Run<'a> {
     }
 
     /// Makes an event that is allowed, where it is a word by a micro-op. Otherwise nothing changes.
-    fn pass(&mut self, event: Event) -> bool
+    fn exec_silent(&mut self, event: Event) -> bool
         requires ready { IsReady self.old }
         requires may { May (work_of self.old.core) (core_of self.old.core) (event_of event) }
         ensures event { result ≡ true → AreAlike self.old.core.layout.nodes (core_of self.new.core)
@@ -184,13 +184,13 @@ impl<'a> Run<'a> {
         ensures order { self.new.order ≡ self.old.order }
     {
         match event {
-            Event::Exec(node) => self.pass_on(node),
+            Event::Exec(node) => self.exec_silent_word(node),
             Event::Take { .. } => false,
         }
     }
 
     /// Executes a word of a node by a micro-op, where that serves it. Otherwise nothing changes.
-    fn pass_on(&mut self, node: u8) -> bool
+    fn exec_silent_word(&mut self, node: u8) -> bool
         requires ready { IsReady self.old }
         requires may { May (work_of self.old.core) (core_of self.old.core) (Exec node) }
         ensures event { result ≡ true → AreAlike self.old.core.layout.nodes (core_of self.new.core)
@@ -200,7 +200,7 @@ impl<'a> Run<'a> {
         ensures work { work_of self.new.core ≡ work_of self.old.core }
         ensures order { self.new.order ≡ self.old.order }
     {
-        if !self.core.pass(node) {
+        if !self.core.exec_silent(node) {
             return false;
         }
         if self.listing.no_mail[node as usize] {
@@ -212,7 +212,7 @@ impl<'a> Run<'a> {
 
     /// Makes some of the turns that come next at once, where no message is on its way: as many as
     /// the window, or those before a node stops. It says whether it made the whole window.
-    fn pass_some(&mut self) -> bool
+    fn run_window(&mut self) -> bool
         requires ready { IsReady self.old }
         requires some { 1 ≤ length (choices (work_of self.old.core) (core_of self.old.core)) }
         requires calm { IsCalm self.old.core.layout.nodes (core_of self.old.core) }
@@ -225,9 +225,9 @@ impl<'a> Run<'a> {
             self.old.order (core_of self.old.core) self.new.order (core_of self.new.core) }
     {
         let turns = self.window.max(LEAST_WINDOW);
-        if let Err(stop) = self.pass_turns(turns) {
+        if let Err(stop) = self.run_turns(turns) {
             self.window = turns / 2;
-            self.pass_before(stop, turns);
+            self.run_before(stop, turns);
             return false;
         }
         self.window = turns.saturating_mul(2).min(MOST_WINDOW);
@@ -235,7 +235,7 @@ impl<'a> Run<'a> {
     }
 
     /// Makes the turns before a node stops, where these aren't few.
-    fn pass_before(&mut self, stop: Stop, most: u32)
+    fn run_before(&mut self, stop: Stop, most: u32)
         requires ready { IsReady self.old }
         requires some { 1 ≤ length (choices (work_of self.old.core) (core_of self.old.core)) }
         requires calm { IsCalm self.old.core.layout.nodes (core_of self.old.core) }
@@ -250,13 +250,13 @@ impl<'a> Run<'a> {
             .order
             .turns_until(place, stop.words, self.listing.count, most);
         if turns >= LEAST_WINDOW / 2 {
-            let _ = self.pass_turns(turns);
+            let _ = self.run_turns(turns);
         }
     }
 
     /// Makes so many turns at once, where no message is on its way and each of them is a word by a
     /// micro-op. Otherwise nothing changes, and the answer tells a node that stops before.
-    fn pass_turns(&mut self, turns: u32) -> Result<(), Stop>
+    fn run_turns(&mut self, turns: u32) -> Result<(), Stop>
         requires ready { IsReady self.old }
         requires some { 1 ≤ length (choices (work_of self.old.core) (core_of self.old.core)) }
         requires calm { IsCalm self.old.core.layout.nodes (core_of self.old.core) }
@@ -272,7 +272,7 @@ impl<'a> Run<'a> {
     {
         let tally = self.order.tally(turns, self.listing.count);
         let words = self.listing.words(&self.core, &tally);
-        self.core.pass_each(&words, &mut self.trails)?;
+        self.core.run_each_undoable(&words, &mut self.undo_logs)?;
         self.order.skip(turns as u64);
         Ok(())
     }

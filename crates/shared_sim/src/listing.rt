@@ -4,7 +4,7 @@ ghost use Rattle.std.specs.Prelude.{◌≡◌, ◌≢◌, ◌≤◌, ◌<◌, �
 ghost use Rattle.std.specs.Prelude.{filter, length, slice_get, slice_index_or, Some, IfOk};
 ghost use Rattle.std.specs.Vec.{vec_capacity};
 ghost use Rattle.std.specs.List.{range_with_len};
-ghost use Rattle.workload.specs.Orders.{how_often};
+ghost use Rattle.random_order.specs.Orders.{how_often};
 ghost use Rattle.dsm_core.specs.node_model.Node.{standing_of};
 ghost use Rattle.dsm_core.specs.node_model.Core.{Exec, Take, May, may_take};
 ghost use Rattle.dsm_core.specs.CoreParts.{work_of, core_of, event_of};
@@ -13,7 +13,6 @@ ghost use Rattle.shared_sim.specs.Listing.{HasShape, Tells, TellsAll, Lists, IsC
 ghost use Rattle.shared_sim.specs.Turns.{HasNoMail};
 ghost use Rattle.shared_sim.specs.Windows.{picks_of};
 
-use dsm_core::node_machine::Standing;
 use dsm_core::{Core, Event};
 use std::alloc::{AllocError, Global};
 
@@ -228,8 +227,5 @@ fn may_take(core: &Core<'_>, node: u8) -> bool
     ensures value { result
         ≡ may_take (standing_of (work_of core.now) ((core_of core.now).nodes node)) }
 {
-    match core.node(node).standing() {
-        Standing::AtPoll | Standing::Waiting | Standing::Ended => true,
-        Standing::Running | Standing::Over => false,
-    }
+    core.node(node).standing().may_take()
 }

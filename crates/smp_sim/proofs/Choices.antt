@@ -6,14 +6,14 @@ use Rattle.std.proofs.lemmas.List.{append-nil}
 use Rattle.std.proofs.lemmas.List.FromFn.{filter_of_map_range_with_len_more}
 use Rattle.std.proofs.lemmas.List.Elements.{filter-append}
 use Rattle.std.proofs.lemmas.Bool.Decides.{eqb_tells}
-use Rattle.smp_core.specs.node_model.Core.{may_execute}
-use Rattle.smp_core.specs.lane_model.Nodes.{LaneWork, processors, node_of, lane_of}
-use Rattle.smp_core.specs.lane_model.Core.{LaneCore, LaneEvent, Exec, Take, May, is_over, may_take_first, standing_of}
-use Rattle.smp_core.specs.lane_law.Law.{AreAllOver, GoesOn}
+use Rattle.lane_model.specs.node_model.Core.{may_execute}
+use Rattle.lane_model.specs.Nodes.{LaneWork, processors, node_of, lane_of}
+use Rattle.lane_model.specs.Core.{LaneCore, LaneEvent, Exec, Take, May, is_over, may_take_first, standing_of}
+use Rattle.lane_law.specs.Law.{AreAllOver, GoesOn}
 use Rattle.shared_sim.specs.ByOrder.{has_wire}
 use Rattle.shared_sim.proofs.Choices.{both_true, has_some, nil_parts, some_wire}
-use Rattle.smp_core.specs.CoreParts.{AreAlike}
-use Rattle.smp_core.proofs.CoreRuns.{placed}
+use Rattle.smp_sim.specs.CoreParts.{AreAlike}
+use Rattle.smp_sim.proofs.CoreRuns.{placed}
 use Rattle.smp_sim.specs.ByOrder.{all_events, choices, is_allowed, takes_at}
 use Rattle.smp_sim.specs.Listing.{IsThere}
 

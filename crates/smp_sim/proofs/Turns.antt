@@ -1,15 +1,15 @@
 -- Turns of an order, one after another.
 use Rattle.std.proofs.Common.{◌≡◌, ℕ, ◌+◌, ◌*◌, ◌^◌, ◌<◌, ◌≤◌, List, [], ◌∷◌, ◌++◌, length, map, Some, refl, sym, ap, ◌∙◌, subst, arith, length-append}
 use Rattle.std.proofs.lemmas.Nat.{mul-le}
-use Rattle.workload.specs.Orders.{following, after_turns, choice}
-use Rattle.smp_core.specs.node_model.Outcome.{Outcome}
-use Rattle.smp_core.specs.lane_model.Nodes.{LaneWork, processors}
-use Rattle.smp_core.specs.lane_model.Core.{LaneCore, LaneEvent, May, after, event_step, is_over, opening_core}
-use Rattle.smp_core.specs.lane_model.Outcome.{IsLaneOutcomeOf}
-use Rattle.smp_core.specs.lane_law.Law.{AreAllOver, most_lane_events}
-use Rattle.smp_core.specs.declared.cores.SmpEvent.{SmpEvent as Stored}
-use Rattle.smp_core.specs.CoreParts.{CoreParts, IsRunTo, core_of, event_of, work_of}
-use Rattle.smp_core.proofs.CoreRuns.{few_nodes}
+use Rattle.random_order.specs.Orders.{following, after_turns, choice}
+use Rattle.lane_model.specs.node_model.Outcome.{Outcome}
+use Rattle.lane_model.specs.Nodes.{LaneWork, processors}
+use Rattle.lane_model.specs.Core.{LaneCore, LaneEvent, May, after, event_step, is_over, opening_core}
+use Rattle.lane_model.specs.Outcome.{IsLaneOutcomeOf}
+use Rattle.lane_law.specs.Law.{AreAllOver, most_lane_events}
+use Rattle.smp_sim.specs.declared.cores.SmpEvent.{SmpEvent as Stored}
+use Rattle.smp_sim.specs.CoreParts.{CoreParts, IsRunTo, core_of, event_of, work_of}
+use Rattle.smp_sim.proofs.CoreRuns.{few_nodes}
 use Rattle.smp_sim.specs.ByOrder.{choices, pick_among, FollowsOrder, IsLaneOutcomeByOrder}
 use Rattle.smp_sim.specs.Turns.{ArePicked, LeadsTo}
 use Rattle.smp_sim.proofs.Choices.{choices_alike, choice_may}

@@ -1,13 +1,13 @@
 -- Runs of nodes of several processors whose events follow an order.
 use Rattle.std.specs.Prelude.{◌≡◌, ℕ, Bool, ◌&&◌, List, [], ◌∷◌, ◌++◌, Option, Some, length, map, filter, slice_get}
 use Rattle.std.specs.List.{flat_map, range_with_len}
-use Rattle.workload.specs.Orders.{following, choice}
-use Rattle.smp_core.specs.node_model.Core.{may_execute}
-use Rattle.smp_core.specs.node_model.Outcome.{Outcome}
-use Rattle.smp_core.specs.lane_model.Nodes.{LaneWork, processors, node_of, lane_of}
-use Rattle.smp_core.specs.lane_model.Core.{LaneCore, LaneEvent, Exec, Take, IsLaneRun, standing_of, may_take_first, opening_core, event_step, after}
-use Rattle.smp_core.specs.lane_model.Outcome.{IsLaneOutcomeOf}
-use Rattle.smp_core.specs.lane_law.Law.{AreAllOver}
+use Rattle.random_order.specs.Orders.{following, choice}
+use Rattle.lane_model.specs.node_model.Core.{may_execute}
+use Rattle.lane_model.specs.node_model.Outcome.{Outcome}
+use Rattle.lane_model.specs.Nodes.{LaneWork, processors, node_of, lane_of}
+use Rattle.lane_model.specs.Core.{LaneCore, LaneEvent, Exec, Take, IsLaneRun, standing_of, may_take_first, opening_core, event_step, after}
+use Rattle.lane_model.specs.Outcome.{IsLaneOutcomeOf}
+use Rattle.lane_law.specs.Law.{AreAllOver}
 use Rattle.shared_sim.specs.ByOrder.{has_wire}
 
 -- the takes of node i, by sender

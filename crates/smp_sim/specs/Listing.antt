@@ -1,7 +1,7 @@
 -- Helps the code alone: events of processors and nodes that are there.
 use Rattle.std.specs.Prelude.{◌<◌}
-use Rattle.smp_core.specs.lane_model.Nodes.{LaneWork, processors}
-use Rattle.smp_core.specs.lane_model.Core.{LaneEvent, Exec, Take}
+use Rattle.lane_model.specs.Nodes.{LaneWork, processors}
+use Rattle.lane_model.specs.Core.{LaneEvent, Exec, Take}
 
 -- the event is of one of the processors, or of two of the nodes
 abbrev pub IsThere : LaneWork → LaneEvent → Type 0

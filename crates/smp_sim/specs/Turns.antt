@@ -1,9 +1,9 @@
 -- Helps the code alone: the turns of an order, one after another.
 use Rattle.std.specs.Prelude.{◌≡◌, ℕ, List, [], ◌∷◌, Some, length}
-use Rattle.workload.specs.Orders.{following, after_turns}
-use Rattle.smp_core.specs.lane_model.Nodes.{LaneWork}
-use Rattle.smp_core.specs.lane_model.Core.{LaneCore, LaneEvent, event_step, opening_core}
-use Rattle.smp_core.specs.CoreParts.{CoreParts, IsRunTo, work_of}
+use Rattle.random_order.specs.Orders.{following, after_turns}
+use Rattle.lane_model.specs.Nodes.{LaneWork}
+use Rattle.lane_model.specs.Core.{LaneCore, LaneEvent, event_step, opening_core}
+use Rattle.smp_sim.specs.CoreParts.{CoreParts, IsRunTo, work_of}
 use Rattle.smp_sim.specs.ByOrder.{choices, pick_among}
 
 -- the order's next numbers pick these events

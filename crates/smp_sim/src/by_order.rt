@@ -2,19 +2,20 @@
 
 ghost use Rattle.std.specs.Prelude.{◌≡◌, ◌≤◌, ◌*◌, List, Some, map, length, IfOk};
 ghost use Rattle.templates.specs.declared.plans.PlanEntry.{PlanEntry};
-ghost use Rattle.workload.specs.Orders.{following};
-ghost use Rattle.smp_core.specs.rewriting_law.Bounds.{RunsRewritten};
-ghost use Rattle.smp_core.specs.dsm_core.CoreParts.{work_in, outcome_of};
-ghost use Rattle.smp_core.specs.lane_model.Core.{LaneEvent};
-ghost use Rattle.smp_core.specs.lane_law.Law.{Interleaves, RunsOnLanes};
-ghost use Rattle.smp_core.specs.CoreParts.{event_of, work_with};
+ghost use Rattle.random_order.specs.Orders.{following};
+ghost use Rattle.dsm_core.specs.rewriting_law.Bounds.{RunsRewritten};
+ghost use Rattle.dsm_core.specs.CoreParts.{work_in, outcome_of};
+ghost use Rattle.lane_model.specs.Core.{LaneEvent};
+ghost use Rattle.lane_law.specs.Law.{Interleaves, RunsOnLanes};
+ghost use Rattle.smp_sim.specs.CoreParts.{event_of, work_with};
 ghost use Rattle.smp_sim.specs.ByOrder.{IsLaneOutcomeByOrder, IsLaneRunByOrder, pick_among};
 
+use crate::cores::{SmpCore, SmpEvent};
 use crate::listing::{MOST_EVENTS, list_events};
-use smp_core::lane_law::lane_law;
-use smp_core::{Outcome, SmpCore, SmpEvent, Work};
+use dsm_core::{Outcome, Work};
+use lane_law::lane_law;
+use random_order::{Order, order_of};
 use std::alloc::{AllocError, Global};
-use workload::{Order, order_of};
 
 /// Runs the nodes of a layout, each of so many processors, to their ends, on one thread: at each
 /// turn the order of a number picks one of the events that are allowed, which are listed with the

@@ -1,8 +1,14 @@
-//! Runs of nodes of several processors on one thread, by an order.
+//! n nodes of several processors that run rewritten code, the lists of messages between them, and
+//! their runs on one thread, by an order.
 #![tactic(auto)]
 
 mod by_order;
+mod cores;
 mod listing;
+mod node;
+mod outcome;
+mod steps;
+mod work;
 
 pub use by_order::smp_simulate;
-pub use smp_core::lane_law::{lane_law, lane_progress_law};
+pub use cores::{SmpCore, SmpEvent};

@@ -2,11 +2,11 @@
 
 ghost use Rattle.std.specs.Prelude.{◌≡◌, ◌<◌, ◌≤◌, ◌+◌, ◌++◌, [], ◌∷◌, map, filter, length};
 ghost use Rattle.std.specs.Vec.{vec_capacity};
-ghost use Rattle.smp_core.specs.CoreParts.{core_of, event_of, work_of};
+ghost use Rattle.smp_sim.specs.CoreParts.{core_of, event_of, work_of};
 ghost use Rattle.smp_sim.specs.ByOrder.{choices, is_allowed, takes_at};
 ghost use Rattle.smp_sim.specs.Listing.{IsThere};
 
-use smp_core::{SmpCore, SmpEvent};
+use crate::cores::{SmpCore, SmpEvent};
 
 /// The most events that may be allowed at once: a word of each of 16 processors, and 16 takes of
 /// each of 16 nodes.

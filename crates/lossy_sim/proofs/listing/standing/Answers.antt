@@ -1,7 +1,7 @@
 -- The node that was read is the node of the state.
 use Rattle.std.proofs.Common.{◌∙◌, sym, ap}
 use Rattle.node_model.specs.Node.{opening_node, standing_of}
-use Rattle.dsm_core.specs.node_machine.Frame.{node_of, work_of as work_at}
+use Rattle.dsm_core.specs.node_machine.NodeState.{node_of, work_of as work_at}
 use Rattle.dsm_core.proofs.CoreSteps.{read_at}
 use Rattle.lossy_sim.proofs.listing.standing.Goals as goal
 

@@ -7,41 +7,41 @@ use Rattle.lossy_sim.specs.Stored.{HaveOffered, HaveOfferedFew}
 use Rattle.lossy_sim.proofs.Events.{same_nodes, same_set, works_set, may_read, stamp_read, word_made, passed_made}
 use Rattle.lossy_sim.proofs.nodes.execute.Goals as goal
 
-pub pass-requires-clause-may : goal.pass-requires-clause-may
-pass-requires-clause-may c =
+pub exec_silent-requires-clause-may : goal.exec_silent-requires-clause-may
+exec_silent-requires-clause-may c =
     let ns = c.args.nodes.now.items in
     may_read c.args.count c.args.node ns ns c.index_mut.result.now c.requires.count
     c.requires.allowed.0 (same_nodes ns) c.index_mut.ensures.value c.requires.allowed.1
 
-pub pass-requires-clause-stamp : goal.pass-requires-clause-stamp
-pass-requires-clause-stamp c =
+pub exec_silent-requires-clause-stamp : goal.exec_silent-requires-clause-stamp
+exec_silent-requires-clause-stamp c =
     let ns = c.args.nodes.now.items in
     stamp_read c.args.count c.args.node ns ns c.index_mut.result.now c.requires.count
     c.requires.allowed.0 (same_nodes ns) c.index_mut.ensures.value c.requires.allowed.2
 
-pub returns-then-pass-clause-works : goal.returns-then-pass-clause-works
-returns-then-pass-clause-works c =
+pub returns-then-exec_silent-clause-works : goal.returns-then-exec_silent-clause-works
+returns-then-exec_silent-clause-works c =
     let ns = c.args.nodes.now.items in
-    works_set c.args.count c.args.node ns ns c.index_mut.result.now c.pass.new.self c.requires.count
-    c.requires.allowed.0 (same_nodes ns) c.index_mut.ensures.value c.pass.ensures.work
+    works_set c.args.count c.args.node ns ns c.index_mut.result.now c.exec_silent.new.self c.requires.count
+    c.requires.allowed.0 (same_nodes ns) c.index_mut.ensures.value c.exec_silent.ensures.work
 
-pub returns-then-pass-clause-event : goal.returns-then-pass-clause-event
-returns-then-pass-clause-event c = passed_made c.args.count c.args.node c.args.nodes.now.items
-    c.index_mut.result.now c.pass.new.self c.args.links.now.items c.requires.count
-    c.requires.allowed.0 c.index_mut.ensures.value (c.pass.ensures.passed c.if-pass.true).0
+pub returns-then-exec_silent-clause-event : goal.returns-then-exec_silent-clause-event
+returns-then-exec_silent-clause-event c = passed_made c.args.count c.args.node c.args.nodes.now.items
+    c.index_mut.result.now c.exec_silent.new.self c.args.links.now.items c.requires.count
+    c.requires.allowed.0 c.index_mut.ensures.value (c.exec_silent.ensures.passed c.if-exec_silent.true).0
 
 pub exec-turn-requires-clause-may : goal.exec-turn-requires-clause-may
 exec-turn-requires-clause-may c =
     let ns0 = c.args.nodes.now.items in
-    let ns1 = set ns0 c.args.node c.pass.new.self in
+    let ns1 = set ns0 c.args.node c.exec_silent.new.self in
     let ns2 = set ns1 c.args.node c.room.new.self in
-    let len1 : length ns1 ≡ c.args.count = length-set ns0 c.args.node c.pass.new.self
+    let len1 : length ns1 ≡ c.args.count = length-set ns0 c.args.node c.exec_silent.new.self
     ∙ c.requires.count in
     let len2 : length ns2 ≡ c.args.count = length-set ns1 c.args.node c.room.new.self ∙ len1 in
     let bi = c.requires.allowed.0 in
     let same1 : SameNodes ns0 ns1 = same_set c.args.count c.args.node ns0 ns0
-    c.index_mut.result.now c.pass.new.self c.requires.count bi (same_nodes ns0)
-    c.index_mut.ensures.value (c.pass.ensures.same c.if-pass.false) c.pass.ensures.work in
+    c.index_mut.result.now c.exec_silent.new.self c.requires.count bi (same_nodes ns0)
+    c.index_mut.ensures.value (c.exec_silent.ensures.same c.if-exec_silent.false) c.exec_silent.ensures.work in
     let same2 : SameNodes ns0 ns2 = same_set c.args.count c.args.node ns0 ns1
     c.index_mut-2.result.now c.room.new.self len1 bi same1 c.index_mut-2.ensures.value
     c.room.ensures.node c.room.ensures.work in
@@ -51,15 +51,15 @@ exec-turn-requires-clause-may c =
 pub exec-turn-requires-clause-stamp : goal.exec-turn-requires-clause-stamp
 exec-turn-requires-clause-stamp c =
     let ns0 = c.args.nodes.now.items in
-    let ns1 = set ns0 c.args.node c.pass.new.self in
+    let ns1 = set ns0 c.args.node c.exec_silent.new.self in
     let ns2 = set ns1 c.args.node c.room.new.self in
-    let len1 : length ns1 ≡ c.args.count = length-set ns0 c.args.node c.pass.new.self
+    let len1 : length ns1 ≡ c.args.count = length-set ns0 c.args.node c.exec_silent.new.self
     ∙ c.requires.count in
     let len2 : length ns2 ≡ c.args.count = length-set ns1 c.args.node c.room.new.self ∙ len1 in
     let bi = c.requires.allowed.0 in
     let same1 : SameNodes ns0 ns1 = same_set c.args.count c.args.node ns0 ns0
-    c.index_mut.result.now c.pass.new.self c.requires.count bi (same_nodes ns0)
-    c.index_mut.ensures.value (c.pass.ensures.same c.if-pass.false) c.pass.ensures.work in
+    c.index_mut.result.now c.exec_silent.new.self c.requires.count bi (same_nodes ns0)
+    c.index_mut.ensures.value (c.exec_silent.ensures.same c.if-exec_silent.false) c.exec_silent.ensures.work in
     let same2 : SameNodes ns0 ns2 = same_set c.args.count c.args.node ns0 ns1
     c.index_mut-2.result.now c.room.new.self len1 bi same1 c.index_mut-2.ensures.value
     c.room.ensures.node c.room.ensures.work in
@@ -69,15 +69,15 @@ exec-turn-requires-clause-stamp c =
 pub returns-clause-works : goal.returns-clause-works
 returns-clause-works c =
     let ns0 = c.args.nodes.now.items in
-    let ns1 = set ns0 c.args.node c.pass.new.self in
+    let ns1 = set ns0 c.args.node c.exec_silent.new.self in
     let ns2 = set ns1 c.args.node c.room.new.self in
-    let len1 : length ns1 ≡ c.args.count = length-set ns0 c.args.node c.pass.new.self
+    let len1 : length ns1 ≡ c.args.count = length-set ns0 c.args.node c.exec_silent.new.self
     ∙ c.requires.count in
     let len2 : length ns2 ≡ c.args.count = length-set ns1 c.args.node c.room.new.self ∙ len1 in
     let bi = c.requires.allowed.0 in
     let same1 : SameNodes ns0 ns1 = same_set c.args.count c.args.node ns0 ns0
-    c.index_mut.result.now c.pass.new.self c.requires.count bi (same_nodes ns0)
-    c.index_mut.ensures.value (c.pass.ensures.same c.if-pass.false) c.pass.ensures.work in
+    c.index_mut.result.now c.exec_silent.new.self c.requires.count bi (same_nodes ns0)
+    c.index_mut.ensures.value (c.exec_silent.ensures.same c.if-exec_silent.false) c.exec_silent.ensures.work in
     let same2 : SameNodes ns0 ns2 = same_set c.args.count c.args.node ns0 ns1
     c.index_mut-2.result.now c.room.new.self len1 bi same1 c.index_mut-2.ensures.value
     c.room.ensures.node c.room.ensures.work in
@@ -89,15 +89,15 @@ returns-clause-works c =
 pub returns-clause-event : goal.returns-clause-event
 returns-clause-event c =
     let ns0 = c.args.nodes.now.items in
-    let ns1 = set ns0 c.args.node c.pass.new.self in
+    let ns1 = set ns0 c.args.node c.exec_silent.new.self in
     let ns2 = set ns1 c.args.node c.room.new.self in
-    let len1 : length ns1 ≡ c.args.count = length-set ns0 c.args.node c.pass.new.self
+    let len1 : length ns1 ≡ c.args.count = length-set ns0 c.args.node c.exec_silent.new.self
     ∙ c.requires.count in
     let len2 : length ns2 ≡ c.args.count = length-set ns1 c.args.node c.room.new.self ∙ len1 in
     let bi = c.requires.allowed.0 in
     let same1 : SameNodes ns0 ns1 = same_set c.args.count c.args.node ns0 ns0
-    c.index_mut.result.now c.pass.new.self c.requires.count bi (same_nodes ns0)
-    c.index_mut.ensures.value (c.pass.ensures.same c.if-pass.false) c.pass.ensures.work in
+    c.index_mut.result.now c.exec_silent.new.self c.requires.count bi (same_nodes ns0)
+    c.index_mut.ensures.value (c.exec_silent.ensures.same c.if-exec_silent.false) c.exec_silent.ensures.work in
     let same2 : SameNodes ns0 ns2 = same_set c.args.count c.args.node ns0 ns1
     c.index_mut-2.result.now c.room.new.self len1 bi same1 c.index_mut-2.ensures.value
     c.room.ensures.node c.room.ensures.work in

@@ -1,7 +1,7 @@
 -- The first message that is left is offered on its link, and the others follow.
 use Rattle.std.proofs.Common.{refl, ◌≡◌, ◌<◌, ◌^◌, ◌∙◌, ℕ, List, [], ◌∷◌, true, false, eqb, length, sym, subst, inl, inr, arith}
 use Rattle.std.proofs.lemmas.Bool.Decides.{eqb_tells}
-use Rattle.home_directory.specs.declared.messages.Post.{Post}
+use Rattle.dsm_messages.specs.declared.messages.Post.{Post}
 use Rattle.lossy_link.specs.Sender.{number_offered}
 use Rattle.lossy_sim.specs.Links.{LossyLink}
 use Rattle.lossy_sim.proofs.Stored.{link_read, offered_first, offered_no_node, offered_last}

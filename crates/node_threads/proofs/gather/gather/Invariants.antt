@@ -1,5 +1,5 @@
 use Rattle.std.proofs.Common.{◌≡◌, ◌++◌, List, length, map}
-use Rattle.home_directory.specs.declared.messages.Wire.{Wire}
+use Rattle.dsm_messages.specs.declared.messages.Wire.{Wire}
 use Rattle.node_threads.specs.Mesh.{Crosses, Gathers, AsLong}
 use Rattle.node_threads.specs.Works.{links_of}
 use Rattle.node_threads.proofs.gather.gather.Given as goal

@@ -1,6 +1,6 @@
 use Rattle.std.proofs.Common.{rules, ◌<◌, ◌++◌, ap, ◌∙◌, sym, append_assoc, length, map, Global}
 use Rattle.std.specs.declared.collections.VecDeque.{VecDeque}
-use Rattle.home_directory.specs.declared.messages.Wire.{Wire}
+use Rattle.dsm_messages.specs.declared.messages.Wire.{Wire}
 use Rattle.dsm_protocol.specs.Queue.{Queue}
 use Rattle.node_threads.specs.Crew.{flat}
 use Rattle.node_threads.proofs.Flat.{flat_first}

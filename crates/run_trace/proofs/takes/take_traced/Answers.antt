@@ -2,7 +2,7 @@
 use Rattle.std.proofs.Common.{◌-◌, ◌||◌, not, eqb, cond, length, take, refl, sym, ap, ◌∙◌}
 use Rattle.std.specs.Prelude.{is_some}
 use Rattle.std.specs.Option.{option_map}
-use Rattle.home_directory.specs.Headers.{header_of}
+use Rattle.home_directory.specs.dsm_messages.Headers.{header_of}
 use Rattle.node_model.specs.declared.NodeCounts.{NodeCounts}
 use Rattle.node_model.specs.Node.{Node, counts_after}
 use Rattle.node_model.specs.Turns.{after_message, take_turn, journaled}

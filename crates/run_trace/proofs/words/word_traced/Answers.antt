@@ -3,7 +3,7 @@ use Rattle.std.proofs.Common.{◌≡◌, ℕ, ◌+◌, ◌-◌, ◌||◌, Bool, 
 use Rattle.std.specs.Prelude.{is_some}
 use Rattle.std.specs.Option.{option_map}
 use Rattle.block_layout.specs.Layout.{Shape}
-use Rattle.home_directory.specs.Headers.{sent_by}
+use Rattle.home_directory.specs.dsm_messages.Headers.{sent_by}
 use Rattle.node_model.specs.declared.NodeCounts.{NodeCounts}
 use Rattle.node_model.specs.Node.{Work, Node, Phase, word_outcome, end_of, standing_in, standing_of, counts_after}
 use Rattle.node_model.specs.Turns.{is_ended, after_wants, word_turn}

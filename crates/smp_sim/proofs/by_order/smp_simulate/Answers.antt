@@ -1,13 +1,13 @@
 -- Turn by turn the order picks an event, until nothing is allowed.
 use Rattle.std.proofs.Common.{◌≡◌, ◌<◌, ◌≤◌, ap, sym, ◌∙◌, subst, List, length, IfOk, arith}
 use Rattle.std.proofs.lemmas.Result.{IfOk-weaker}
-use Rattle.workload.specs.Orders.{following}
-use Rattle.smp_core.specs.lane_model.Nodes.{LaneWork}
-use Rattle.smp_core.specs.lane_model.Core.{LaneEvent}
-use Rattle.smp_core.specs.lane_model.Outcome.{IsLaneOutcomeOf}
-use Rattle.smp_core.specs.dsm_core.declared.outcome.Outcome.{Outcome}
-use Rattle.smp_core.specs.dsm_core.CoreParts.{outcome_of, work_in}
-use Rattle.smp_core.specs.CoreParts.{IsRunTo, core_of, event_of, work_of, work_with}
+use Rattle.random_order.specs.Orders.{following}
+use Rattle.lane_model.specs.Nodes.{LaneWork}
+use Rattle.lane_model.specs.Core.{LaneEvent}
+use Rattle.lane_model.specs.Outcome.{IsLaneOutcomeOf}
+use Rattle.dsm_core.specs.declared.outcome.Outcome.{Outcome}
+use Rattle.dsm_core.specs.CoreParts.{outcome_of, work_in}
+use Rattle.smp_sim.specs.CoreParts.{IsRunTo, core_of, event_of, work_of, work_with}
 use Rattle.smp_sim.specs.ByOrder.{IsLaneOutcomeByOrder}
 use Rattle.smp_sim.proofs.Choices.{over_without}
 use Rattle.smp_sim.proofs.Turns.{leads_more, none_listed, not_so_long, outcome_by_order, picked_here, picked_may}

@@ -1,7 +1,7 @@
 use Rattle.std.proofs.Common.{◌≡◌, ◌≤◌}
 use Rattle.std.specs.Vec.{vec_capacity}
-use Rattle.smp_core.specs.dsm_core.CoreParts.{work_in}
-use Rattle.smp_core.specs.CoreParts.{work_of, work_with}
+use Rattle.dsm_core.specs.CoreParts.{work_in}
+use Rattle.smp_sim.specs.CoreParts.{work_of, work_with}
 use Rattle.smp_sim.specs.Turns.{LeadsTo}
 use Rattle.smp_sim.proofs.by_order.smp_simulate.Given as goal
 

@@ -1,7 +1,7 @@
 -- The event is listed where the core allows it.
 use Rattle.std.proofs.Common.{◌++◌, ◌∷◌, [], cond, ap, sym, ◌∙◌, map}
 use Rattle.std.proofs.lemmas.List.{append-nil, map-append}
-use Rattle.smp_core.specs.CoreParts.{core_of, event_of, work_of}
+use Rattle.smp_sim.specs.CoreParts.{core_of, event_of, work_of}
 use Rattle.smp_sim.proofs.Choices.{told}
 use Rattle.smp_sim.proofs.listing.list_event.Goals as goal
 

@@ -2,10 +2,10 @@
 use Rattle.std.proofs.Common.{◌∙◌, ◌≤◌, [], map, arith}
 use Rattle.std.specs.Prelude.{filter}
 use Rattle.std.specs.List.{range_with_len}
-use Rattle.smp_core.specs.lane_model.Nodes.{processors}
-use Rattle.smp_core.specs.lane_model.Core.{Exec}
-use Rattle.smp_core.specs.CoreParts.{core_of, work_of}
-use Rattle.smp_core.proofs.CoreRuns.{few_nodes}
+use Rattle.lane_model.specs.Nodes.{processors}
+use Rattle.lane_model.specs.Core.{Exec}
+use Rattle.smp_sim.specs.CoreParts.{core_of, work_of}
+use Rattle.smp_sim.proofs.CoreRuns.{few_nodes}
 use Rattle.smp_sim.specs.ByOrder.{is_allowed, takes_at}
 use Rattle.smp_sim.proofs.Choices.{node_more, one_more}
 use Rattle.smp_sim.proofs.listing.list_events.Goals as goal

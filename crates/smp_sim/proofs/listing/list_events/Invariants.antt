@@ -2,9 +2,9 @@ use Rattle.std.proofs.Common.{◌≡◌, ◌+◌, ◌*◌, ◌≤◌, ◌++◌, 
 use Rattle.std.specs.Prelude.{filter}
 use Rattle.std.specs.List.{flat_map, range_with_len}
 use Rattle.std.specs.Vec.{vec_capacity}
-use Rattle.smp_core.specs.lane_model.Nodes.{processors}
-use Rattle.smp_core.specs.lane_model.Core.{Exec}
-use Rattle.smp_core.specs.CoreParts.{core_of, event_of, work_of}
+use Rattle.lane_model.specs.Nodes.{processors}
+use Rattle.lane_model.specs.Core.{Exec}
+use Rattle.smp_sim.specs.CoreParts.{core_of, event_of, work_of}
 use Rattle.smp_sim.specs.ByOrder.{is_allowed, takes_at}
 use Rattle.smp_sim.proofs.listing.list_events.Given as goal
 

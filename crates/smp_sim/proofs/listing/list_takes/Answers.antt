@@ -1,7 +1,7 @@
 -- One take more.
 use Rattle.std.proofs.Common.{◌∙◌, map, arith}
-use Rattle.smp_core.specs.lane_model.Core.{Take}
-use Rattle.smp_core.specs.CoreParts.{core_of, event_of, work_of}
+use Rattle.lane_model.specs.Core.{Take}
+use Rattle.smp_sim.specs.CoreParts.{core_of, event_of, work_of}
 use Rattle.smp_sim.specs.ByOrder.{is_allowed}
 use Rattle.smp_sim.proofs.Choices.{one_more}
 use Rattle.smp_sim.proofs.listing.list_takes.Goals as goal

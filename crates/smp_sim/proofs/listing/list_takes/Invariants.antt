@@ -1,7 +1,7 @@
 use Rattle.std.proofs.Common.{◌≡◌, ◌+◌, ◌≤◌, ◌++◌, length, map}
 use Rattle.std.specs.Prelude.{filter}
 use Rattle.std.specs.Vec.{vec_capacity}
-use Rattle.smp_core.specs.CoreParts.{core_of, event_of, work_of}
+use Rattle.smp_sim.specs.CoreParts.{core_of, event_of, work_of}
 use Rattle.smp_sim.specs.ByOrder.{is_allowed, takes_at}
 use Rattle.smp_sim.proofs.listing.list_takes.Given as goal
 

@@ -1,7 +1,7 @@
 -- By the draw.
 use Rattle.std.proofs.Common.{rules, ◌≡◌, ◌/◌, ◌^◌, arith}
 use Rattle.std.proofs.lemmas.Nat.{mod_below}
-use Rattle.workload.specs.Orders.{following}
+use Rattle.random_order.specs.Orders.{following}
 use Rattle.dsm_core.proofs.CoreSteps.{on_ok}
 use Rattle.lossy_sim.proofs.Drawn.{HasDrawn, drawn_lost, drawn_once, drawn_twice, drawn_kept, three_of}
 use Rattle.lossy_sim.proofs.links.Link.bring.Goals as goal

@@ -1,6 +1,6 @@
 use Rattle.std.proofs.Common.{◌≡◌, ℕ, length}
 use Rattle.lossy_link.specs.Receiver.{Receiving}
-use Rattle.home_directory.specs.declared.messages.Wire.{Wire}
+use Rattle.dsm_messages.specs.declared.messages.Wire.{Wire}
 use Rattle.lossy_sim.specs.Links.{HaveCome}
 use Rattle.lossy_sim.proofs.links.Link.bring_kept.Given as goal
 

@@ -4,7 +4,7 @@ use Rattle.node_threads.proofs.worker.Worker.stretch.Goals as goal
 
 pub returns-then-words-most : goal.returns-then-words-most
 returns-then-words-most c =
-    let w = c.go_on-words in
+    let w = c.run_silent-words in
     record {
       works = on_ok c.exec.result
           (λ x. works_before _ _ _ x c.requires.hand (works_words c.args.self.now _ w.result
@@ -14,7 +14,7 @@ returns-then-words-most c =
 
 pub returns : goal.returns
 returns c =
-    let w = c.go_on-words in
+    let w = c.run_silent-words in
     record {
       works = works_words c.args.self.now _ w.result c.requires.hand w.ensures.work
           w.ensures.goes_on refl refl refl;

@@ -1,5 +1,5 @@
 use Rattle.std.proofs.Common.{◌≡◌, ◌<◌, ◌^◌, true, None}
-use Rattle.dsm_core.specs.node_machine.Frame.{node_of}
+use Rattle.dsm_core.specs.node_machine.NodeState.{node_of}
 use Rattle.dsm_protocol.specs.node_model.Core.{may_execute}
 use Rattle.node_threads.specs.Works.{Works, HasRows, standing}
 use Rattle.node_threads.proofs.worker.Worker.walk.Given as goal

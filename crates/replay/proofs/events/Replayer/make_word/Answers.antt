@@ -24,8 +24,8 @@ returns-then-not-enabled-clause-refused c = λ rule i number err.
     (word_refused a c.args.node x.entry c.requires.running x.node x.is_entry x.words x.first
     (λ may. not_true c.enabled.result (c.enabled.ensures.value.1 may) c.if-not-enabled.true))
 
-pub pass_word-requires-clause-word : goal.pass_word-requires-clause-word
-pass_word-requires-clause-word c =
+pub follow_word-requires-clause-word : goal.follow_word-requires-clause-word
+follow_word-requires-clause-word c =
     let w = c.args.self.now.cursors in
     let x = c.requires.next in
     subst (λ (e : JournalEntry). (cursor_at w c.args.node).words < e.words)
@@ -34,20 +34,20 @@ pass_word-requires-clause-word c =
 pub returns-clause-made : goal.returns-clause-made
 returns-clause-made c = λ before h.
     let a = c.args.self.now in
-    let b : Replayer = record { core = c.step_seen.new.self; cursors = c.pass_word.new.self } in
+    let b : Replayer = record { core = c.step_seen.new.self; cursors = c.follow_word.new.self } in
     let x = c.requires.next in
     let made = c.in_ok-seen.ensures in
     let gone = made_word a b before c.args.node x.entry h x.node x.is_entry x.words x.first
     (c.enabled.ensures.value.0 c.if-not-enabled.false) made.event made.work
-    c.pass_word.ensures.followed in
+    c.follow_word.ensures.followed in
     record {
       told = word_next a.cursors c.args.node;
       event_is = refl;
       made = gone;
       may = c.enabled.ensures.value.0 c.if-not-enabled.false;
       stamp = stamp_now a b c.args.node (before ++ word_next a.cursors c.args.node ∷ []) gone
-          c.pass_word.ensures.followed.rec_is x.node
-          ∙ ap (λ (z : Cursor). z.last) c.pass_word.ensures.followed.own;
+          c.follow_word.ensures.followed.rec_is x.node
+          ∙ ap (λ (z : Cursor). z.last) c.follow_word.ensures.followed.own;
       leads = made.event;
       seen = made.seen;
     }
@@ -57,5 +57,5 @@ returns-clause-fewer c =
     let w = c.args.self.now.cursors in
     let x = c.requires.next in
     let le : (cursor_at w c.args.node).words + 1 ≤ x.entry.words = (let lt = x.words in omega (arith, lt)) in
-    words_less w c.pass_word.new.self c.args.node 1 x.entry c.pass_word.ensures.followed x.node x.is_entry le
+    words_less w c.follow_word.new.self c.args.node 1 x.entry c.follow_word.ensures.followed x.node x.is_entry le
     (omega arith)

@@ -57,18 +57,18 @@ returns-then-stamp-entry-clause-refused c = λ rule i number err.
 pub returns-clause-running : goal.returns-clause-running
 returns-clause-running c =
     let a = c.args.self.now in
-    let b : Replayer = record { core = c.step_seen.new.self; cursors = c.pass_take.new.self } in
+    let b : Replayer = record { core = c.step_seen.new.self; cursors = c.follow_take.new.self } in
     let r = c.requires in
     let made = c.in_ok-seen.ensures in
     run_take a b c.args.node c.args.entry r.running r.node r.entry r.words r.first
     (c.enabled.ensures.value.0 c.if-not-enabled.false) made.event
     (ap (λ (n : Node). n.stamp) (sym c.node.ensures.value) ∙ sym c.stamp.ensures.value
-    ∙ c.if-stamp-entry.false) made.work c.pass_take.ensures.followed
+    ∙ c.if-stamp-entry.false) made.work c.follow_take.ensures.followed
 
 pub returns-clause-made : goal.returns-clause-made
 returns-clause-made c = λ before h.
     let a = c.args.self.now in
-    let b : Replayer = record { core = c.step_seen.new.self; cursors = c.pass_take.new.self } in
+    let b : Replayer = record { core = c.step_seen.new.self; cursors = c.follow_take.new.self } in
     let r = c.requires in
     let made = c.in_ok-seen.ensures in
     let stamp = ap (λ (n : Node). n.stamp) (sym c.node.ensures.value) ∙ sym c.stamp.ensures.value
@@ -78,7 +78,7 @@ returns-clause-made c = λ before h.
       event_is = refl;
       made = made_take a b before c.args.node c.args.entry h r.node r.entry r.words r.first
           (c.enabled.ensures.value.0 c.if-not-enabled.false) made.event stamp made.work
-          c.pass_take.ensures.followed;
+          c.follow_take.ensures.followed;
       may = c.enabled.ensures.value.0 c.if-not-enabled.false;
       stamp = stamp;
       leads = made.event;

@@ -1,11 +1,11 @@
 -- A take, by what is seen of it.
 use Rattle.std.proofs.Common.{◌≡◌, ◌<◌, ◌∷◌, map, ap, sym, subst, ◌∙◌}
 use Rattle.block_layout.specs.Layout.{Shape}
-use Rattle.home_directory.specs.Headers.{header_of, sent_by}
+use Rattle.home_directory.specs.dsm_messages.Headers.{header_of, sent_by}
 use Rattle.node_model.specs.Node.{Work, Node}
 use Rattle.node_model.specs.Core.{Event, May}
 use Rattle.replay.specs.run_order.OwnRun.{node_of as event_node}
-use Rattle.replay.specs.node_machine.Frame.{node_of}
+use Rattle.replay.specs.node_machine.NodeState.{node_of}
 use Rattle.replay.specs.dsm_core.declared.seen.Incoming.{Incoming}
 use Rattle.replay.specs.dsm_core.CoreParts.{CoreParts, core_of}
 use Rattle.replay.specs.dsm_core.Seen.{incoming_of, sends_of_take}
@@ -54,11 +54,11 @@ returns-clause-made c = λ before h.
     is ∙ ap (λ (p : CoreParts). p.layout) core1 ∙ ap (λ (w : Work). w.layout) same.work in
     let was = c.node.ensures.value ∙ ap (λ (p : CoreParts). (core_of p).nodes i) core0 in
     let layout0 = c.layout.ensures.value ∙ ap (λ (p : CoreParts). p.layout) core0 in
-    let all : IsAfterTake work n j wire c.in-Some.incoming c.look-before.result c.in_ok-seen.seen c.look-now.result c.nodes-nodes.result = record {
+    let all : IsAfterTake work n j wire c.in-Some.incoming c.sight_of-before.result c.in_ok-seen.seen c.sight_of-now.result c.nodes-nodes.result = record {
       incoming = incoming;
-      seen_before = c.look-before.ensures ∙ (λ x. sight_of (layout0 x) (was x) (block x));
+      seen_before = c.sight_of-before.ensures ∙ (λ x. sight_of (layout0 x) (was x) (block x));
       sends = m.seen.sends ∙ ap (λ ws. map sent_by (sends_of_take work n j ws)) front;
-      seen_after = c.look-now.ensures ∙ (λ x. sight_of (layout1 _ c.layout-2.ensures.value x) (led x) (block x));
+      seen_after = c.sight_of-now.ensures ∙ (λ x. sight_of (layout1 _ c.layout-2.ensures.value x) (led x) (block x));
       count = c.nodes-nodes.ensures.nodes ∙ ap (λ (l : Shape). l.nodes) (layout1 _ c.layout-3.ensures.value);
     } in
     record {

@@ -1,0 +1,14 @@
+use Rattle.std.proofs.Common.{◌≡◌, ◌++◌, length, map}
+use Rattle.node_threads.proofs.crew.take_workers_apart.Given as goal
+
+abbrev pub invariant-workers : goal.invariant-workers
+invariant-workers l = record {
+  nodes : l.nodes.items ++ map (λ w. w.node) l.workers.items ≡ map (λ w. w.node) l.fn.workers.items;
+  sends : l.sends.items ++ map (λ w. w.sends) l.workers.items ≡ map (λ w. w.sends) l.fn.workers.items;
+  takes : l.takes.items ++ map (λ w. w.takes) l.workers.items ≡ map (λ w. w.takes) l.fn.workers.items;
+  outs : l.outs.items ++ map (λ w. w.outs) l.workers.items ≡ map (λ w. w.outs) l.fn.workers.items;
+  hands : l.hands.items ++ map (λ w. w.hand) l.workers.items ≡ map (λ w. w.hand) l.fn.workers.items;
+}
+
+abbrev pub decreases-workers : goal.decreases-workers
+decreases-workers l = length l.workers.items

@@ -1,0 +1,200 @@
+//! n nodes of several processors that run rewritten code, and the n × n lists of messages between
+//! the nodes.
+
+ghost use Rattle.std.specs.Prelude.{◌≡◌, ◌*◌, ◌<◌, ◌≤◌, ◌↔◌, ◌++◌, List, [], ◌∷◌, true, length};
+ghost use Rattle.std.specs.Prelude.{IfOk, OnOk, OnErr};
+ghost use Rattle.dsm_core.specs.rewriting_law.Bounds.{RunsRewritten};
+ghost use Rattle.lane_model.specs.Nodes.{processors};
+ghost use Rattle.lane_model.specs.Core as model;
+ghost use Rattle.lane_model.specs.Core.{May, event_step, opening_core};
+ghost use Rattle.lane_law.specs.Law.{AreAllOver, AreEmpty, GoesOn, most_lane_events};
+ghost use Rattle.dsm_core.specs.CoreParts.{work_in};
+ghost use Rattle.smp_sim.specs.CoreParts.{AreAlike, IsNode, IsRunTo, core_of, event_of, node_in};
+ghost use Rattle.smp_sim.specs.CoreParts.{work_of, work_with};
+
+use crate::node::SmpNode;
+use crate::steps::{are_over, first_nodes, is_enabled, make};
+use crate::work::SmpWork;
+use dsm_core::Work;
+use home_directory::dsm_messages::Sends;
+use lane_law::dsm_protocol::Queue;
+use lane_law::dsm_protocol::lists::empty_lists;
+use lane_law::lane_progress_law;
+use std::alloc::{AllocError, Global};
+use std::marker::Model;
+
+/// What may happen next in a core.
+#[derive(Clone, Copy, Debug, PartialEq, Eq)]
+pub enum SmpEvent {
+    /// A processor executes a word.
+    Exec(u8),
+    /// A node takes the first message of the list from another.
+    Take {
+        /// The node that takes it.
+        node: u8,
+        /// The node that sent it.
+        from: u8,
+    },
+}
+
+/// A core of nodes of several processors: nodes and lists that a run of events leads to from the
+/// start, with the bytes that the run prints.
+#[derive(Drop)]
+pub struct SmpCore<'a> {
+    pub(crate) work: SmpWork<'a>,
+    /// The nodes, by number.
+    pub(crate) nodes: Vec<SmpNode<'a>>,
+    /// The messages on their way: the list from node j to node i stands at place j × n + i.
+    pub(crate) lists: Vec<Queue>,
+    /// The bytes printed, in the order of the events.
+    pub(crate) output: Vec<u8>,
+    /// What an event sends, until it stands in the lists.
+    pub(crate) sends: Sends,
+}
+
+impl<'a> Model for SmpCore<'a> {
+    ghost use Rattle.smp_sim.specs.CoreParts.{CoreParts, IsCore};
+
+    ghost Value = { CoreParts };
+
+    ghost view = { λ c. record {
+      program = c.work.program.now;
+      image = c.work.image.now;
+      layout = c.work.layout.now;
+      budget = c.work.budget;
+      lanes = c.work.lanes;
+      nodes = c.nodes.items;
+      lists = c.lists.items;
+      output = c.output.items;
+    } };
+
+    ghost invariant = { λ c. IsCore (record {
+      program = c.work.program.now;
+      image = c.work.image.now;
+      layout = c.work.layout.now;
+      budget = c.work.budget;
+      lanes = c.work.lanes;
+      nodes = c.nodes.items;
+      lists = c.lists.items;
+      output = c.output.items;
+    }) };
+}
+
+impl<'a> SmpCore<'a> {
+    /// The nodes of a layout at the start, each with so many processors, and empty lists.
+    pub fn new(alloc: Global, work: &Work<'a>, lanes: u8) -> Result<SmpCore<'a>, AllocError>
+        requires rewritten { RunsRewritten (work_in work.now) }
+        requires some { 1 ≤ lanes }
+        requires four { lanes ≤ 4 }
+        requires few { (work_in work.now).layout.nodes * lanes ≤ 16 }
+        ensures opening { IfOk result (λ c. core_of c ≡ opening_core (work_of c)) }
+        ensures run { IfOk result (IsRunTo []) }
+        ensures work { IfOk result (λ c. work_of c ≡ work_with (work_in work.now) lanes) }
+    {
+        let count = work.layout.nodes();
+        let work = SmpWork {
+            program: work.program,
+            image: work.image,
+            layout: work.layout,
+            budget: work.budget,
+            lanes,
+        };
+        let nodes = first_nodes(alloc, &work)?;
+        let lists = empty_lists(alloc, count)?;
+        Ok(SmpCore {
+            work,
+            nodes,
+            lists,
+            output: Vec::new(alloc),
+            sends: Sends::new(),
+        })
+    }
+
+    /// What holds of every core; the call does nothing.
+    pub fn promises(&self)
+        // Some run from the start leads to it, and prints its bytes.
+        ensures run { (run : List model.LaneEvent) × IsRunTo run self.now }
+        // Each such run is of at most so many events.
+        ensures short { (run : List model.LaneEvent) → IsRunTo run self.now
+            → length run ≤ most_lane_events (work_of self.now) }
+        // Until every node is over some event is allowed.
+        ensures goes_on { GoesOn (work_of self.now) (core_of self.now) }
+        // Once every node is over, every list is empty.
+        ensures empty { AreAllOver (work_of self.now) (core_of self.now)
+            → AreEmpty (work_of self.now) (core_of self.now) }
+        // The nodes run rewritten code, on one to four processors each and 16 at most.
+        ensures rewritten { RunsRewritten (work_of self.now).work }
+        ensures some { 1 ≤ self.now.lanes }
+        ensures four { self.now.lanes ≤ 4 }
+        ensures few { processors (work_of self.now) ≤ 16 }
+    {
+        lane_progress_law();
+        // brings: what the type of a core says of its parts
+        let _lanes = self.work.lanes;
+    }
+
+    /// How many nodes there are.
+    pub fn node_count(&self) -> u8
+        ensures value { result ≡ self.now.layout.nodes }
+    {
+        self.work.layout.nodes()
+    }
+
+    /// How many processors each node has: one to four, and no more than 16 in all.
+    pub fn lanes(&self) -> u8
+        ensures value { result ≡ self.now.lanes }
+        ensures some { 1 ≤ self.now.lanes }
+        ensures few { processors (work_of self.now) ≤ 16 }
+    {
+        self.work.lanes
+    }
+
+    /// A node.
+    pub(crate) fn node(&self, node: u8) -> &SmpNode<'a>
+        requires node { node < self.now.layout.nodes }
+        ensures value { node_in (work_of self.now) node result.now
+            ≡ (core_of self.now).nodes node }
+        ensures is_node { IsNode (work_of self.now) result.now }
+    {
+        &self.nodes[node as usize]
+    }
+
+    /// Whether every node is over.
+    pub fn is_over(&self) -> bool
+        ensures value { (result ≡ true) ↔ AreAllOver (work_of self.now) (core_of self.now) }
+    {
+        are_over(&self.nodes, &self.lists, &self.work)
+    }
+
+    /// Whether an event is allowed.
+    pub fn enabled(&self, event: SmpEvent) -> bool
+        ensures value { (result ≡ true)
+            ↔ May (work_of self.now) (core_of self.now) (event_of event) }
+    {
+        is_enabled(&self.nodes, &self.lists, &self.work, event)
+    }
+
+    /// Makes an event that is allowed. It takes its memory first.
+    pub fn step(&mut self, event: SmpEvent) -> Result<(), AllocError>
+        requires enabled { May (work_of self.old) (core_of self.old) (event_of event) }
+        ensures event { OnOk result (AreAlike self.old.layout.nodes
+            (core_of self.new)
+            (event_step (work_of self.old) (core_of self.old) (event_of event))) }
+        // A run that leads to the core does so with this event behind it.
+        ensures run { OnOk result ((run : List model.LaneEvent) → IsRunTo run self.old
+            → IsRunTo (run ++ event_of event ∷ []) self.new) }
+        ensures err { OnErr result (core_of self.new ≡ core_of self.old) }
+        ensures output { OnErr result (self.new.output ≡ self.old.output) }
+        ensures work { work_of self.new ≡ work_of self.old }
+    {
+        lane_progress_law();
+        make(
+            &mut self.nodes,
+            &mut self.lists,
+            &mut self.output,
+            &mut self.sends,
+            &self.work,
+            event,
+        )
+    }
+}

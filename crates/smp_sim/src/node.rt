@@ -1,0 +1,214 @@
+//! A node of several processors, as it is stored, and its events.
+
+ghost use Rattle.std.specs.Prelude.{◌≡◌, ◌+◌, ◌^◌, ◌<◌, ◌≤◌, ℕ, true, IfOk, OnOk};
+ghost use Rattle.std.specs.Prelude.{List, ◌∷◌, length};
+ghost use Rattle.home_directory.specs.dsm_messages.declared.messages.Wire.{Wire as Sent};
+ghost use Rattle.lane_machine.specs.miss_handlers.Rows.{takes_away};
+ghost use Rattle.lane_model.specs.node_model.Core as plain;
+ghost use Rattle.lane_model.specs.node_model.Node as model;
+ghost use Rattle.lane_model.specs.node_model.Node.{IsLaidOver};
+ghost use Rattle.lane_model.specs.node_model.Turns.{later};
+ghost use Rattle.lane_model.specs.Core as core;
+ghost use Rattle.lane_model.specs.Nodes.{LaneWork, all_lanes, opening_node, processors, some_lane};
+ghost use Rattle.lane_model.specs.Turns.{word_turn, take_turn};
+ghost use Rattle.lane_machine.specs.Stored.{HasRoom, lane_turn};
+ghost use Rattle.smp_sim.specs.CoreParts.{IsNode, lane_work, node_in};
+ghost use Rattle.smp_sim.specs.CoreSteps.{AreFirstLanes, CanExecute};
+
+use crate::work::SmpWork;
+use exec_map::End;
+use home_directory::dsm_messages::{Message, Sends, Wire};
+use lane_machine::{Lane, NodeCounts, Shared, Standing, Turn};
+use std::alloc::{AllocError, Global};
+
+/// A node: its lanes, and what they share.
+#[derive(Drop)]
+pub struct SmpNode<'a> {
+    /// The lanes, by number.
+    pub lanes: Vec<Lane<'a>>,
+    /// What they share.
+    pub shared: Shared<'a>,
+}
+
+impl<'a> SmpNode<'a> {
+    /// A node at the start.
+    pub fn new(alloc: Global, work: &SmpWork<'a>, me: u8) -> Result<SmpNode<'a>, AllocError>
+        requires layout { IsLaidOver (lane_work work.now).work.program
+            (lane_work work.now).work.layout }
+        requires node { me < (lane_work work.now).work.layout.nodes }
+        requires some { 0 < work.now.lanes }
+        requires four { work.now.lanes ≤ 4 }
+        requires few { processors (lane_work work.now) ≤ 16 }
+        ensures is_node { IfOk result (IsNode (lane_work work.now)) }
+        ensures opening { IfOk result (λ x. node_in (lane_work work.now) me x
+            ≡ opening_node (lane_work work.now) me) }
+    {
+        let program = work.program;
+        let layout = work.layout;
+        let lanes = first_lanes(alloc, work, me)?;
+        let shared = Shared::new(alloc, program, layout, me, work.lanes)?;
+        Ok(SmpNode { lanes, shared })
+    }
+
+    /// Makes room for one event.
+    pub fn room(&mut self) -> Result<(), AllocError>
+        ensures is_node { (w : LaneWork) → IsNode w self.old → IsNode w self.new }
+        ensures node { (w : LaneWork) (i : ℕ) → node_in w i self.new ≡ node_in w i self.old }
+        ensures lanes { self.new.lanes.items ≡ self.old.lanes.items }
+        ensures room { OnOk result (HasRoom self.new.shared) }
+    {
+        self.shared.room()
+    }
+
+    /// A lane executes one word, and leaves what the node sends, in order.
+    pub fn exec(&mut self, lane: u8, sends: &mut Sends) -> Turn
+        requires node { (w : LaneWork) × IsNode w self.old }
+        requires lane { lane < length self.old.lanes.items }
+        requires may { CanExecute self.old lane }
+        requires room { HasRoom self.old.shared }
+        requires stamp { self.old.shared.state.stamp < 2 ^ 56 }
+        ensures is_node { (w : LaneWork) → IsNode w self.old → IsNode w self.new }
+        ensures turn { (w : LaneWork) (i : ℕ) → IsNode w self.old
+            → word_turn w (node_in w i self.old) lane
+            ≡ lane_turn (node_in w i self.new) sends.new.items result.output }
+        ensures stamp { result.stamp ≡ self.new.shared.state.stamp }
+        ensures stamps { self.new.shared.state.stamp ≡ self.old.shared.state.stamp + 1 }
+    {
+        self.lanes[lane as usize].exec(&mut self.shared, sends)
+    }
+
+    /// Takes a message from a node, and leaves what this one sends, in order.
+    pub fn take(&mut self, from: u8, wire: Wire, sends: &mut Sends) -> Turn
+        requires node { (w : LaneWork) × IsNode w self.old }
+        requires room { HasRoom self.old.shared }
+        requires stamp { self.old.shared.state.stamp < 2 ^ 56 }
+        requires wire { wire.stamp < 2 ^ 56 }
+        ensures is_node { (w : LaneWork) → IsNode w self.old → IsNode w self.new }
+        ensures turn { (w : LaneWork) (i : ℕ) → IsNode w self.old
+            → take_turn w (node_in w i self.old) from wire
+            ≡ lane_turn (node_in w i self.new) sends.new.items result.output }
+        ensures stamp { result.stamp ≡ self.new.shared.state.stamp }
+        ensures stamps { self.new.shared.state.stamp
+            ≡ later self.old.shared.state.stamp wire.stamp + 1 }
+    {
+        self.shared.take(&mut self.lanes, from, wire, sends)
+    }
+
+    /// What a lane may do next.
+    pub fn standing(&self, lane: u8) -> Standing
+        requires lane { lane < length self.now.lanes.items }
+        ensures value { (w : LaneWork) (i : ℕ) → IsNode w self.now
+            → result ≡ core.standing_of w (node_in w i self.now) lane }
+    {
+        self.lanes[lane as usize].standing()
+    }
+
+    /// Whether a lane may execute a word.
+    pub fn can_execute(&self, lane: u8) -> bool
+        requires lane { lane < length self.now.lanes.items }
+        ensures value { (w : LaneWork) (i : ℕ) → IsNode w self.now
+            → result ≡ plain.may_execute (core.standing_of w (node_in w i self.now) lane) }
+    {
+        self.standing(lane).may_execute()
+    }
+
+    /// Whether a lane lets the node take a message.
+    fn lets(&self, lane: u8) -> bool
+        requires lane { lane < length self.now.lanes.items }
+        ensures value { (w : LaneWork) (i : ℕ) → IsNode w self.now
+            → result ≡ core.lane_lets w (node_in w i self.now) lane }
+    {
+        self.standing(lane).may_take()
+    }
+
+    /// Whether some of so many lanes lets the node take a message.
+    fn some_lets(&self, lanes: u8) -> bool
+        requires lanes { lanes ≤ length self.now.lanes.items }
+        ensures value { (w : LaneWork) (i : ℕ) → IsNode w self.now
+            → result ≡ some_lane (core.lane_lets w (node_in w i self.now)) lanes }
+    {
+        let mut some = false;
+        for lane in 0..lanes {
+            some = self.lets(lane) || some;
+        }
+        some
+    }
+
+    /// Whether each of so many lanes does.
+    fn all_let(&self, lanes: u8) -> bool
+        requires lanes { lanes ≤ length self.now.lanes.items }
+        ensures value { (w : LaneWork) (i : ℕ) → IsNode w self.now
+            → result ≡ all_lanes (core.lane_lets w (node_in w i self.now)) lanes }
+    {
+        let mut all = true;
+        for lane in 0..lanes {
+            all = self.lets(lane) && all;
+        }
+        all
+    }
+
+    /// Whether the node, which has so many lanes, may take a message.
+    pub fn can_take(&self, lanes: u8, message: &Message) -> bool
+        requires lanes { lanes ≡ length self.now.lanes.items }
+        ensures value { (w : LaneWork) (i : ℕ) (wire : Sent) (rest : List Sent)
+            → IsNode w self.now → message.now ≡ wire.message
+            → result ≡ core.may_take_first w (node_in w i self.now) (wire ∷ rest) }
+    {
+        self.some_lets(lanes) && (!takes_away(message) || self.all_let(lanes))
+    }
+
+    /// Whether all lanes have ended, and all nodes have said so of theirs.
+    pub fn over(&self) -> bool
+        ensures value { (w : LaneWork) (i : ℕ) → IsNode w self.now
+            → result ≡ core.is_over w (node_in w i self.now) }
+    {
+        self.shared.over()
+    }
+
+    /// How a lane ended; `None` exactly where it hasn't.
+    pub fn end(&self, lane: u8) -> Option<End>
+        requires lane { lane < length self.now.lanes.items }
+        ensures value { (w : LaneWork) (i : ℕ) → IsNode w self.now
+            → result ≡ model.end_of ((node_in w i self.now).lanes lane).phase }
+    {
+        self.lanes[lane as usize].end()
+    }
+
+    /// What the node has counted over its lanes.
+    pub fn counts(&self) -> NodeCounts
+        ensures value { (w : LaneWork) (i : ℕ) → result ≡ (node_in w i self.now).shared.counts }
+    {
+        self.shared.counts()
+    }
+}
+
+/// The lanes of a node at the start.
+fn first_lanes<'a>(alloc: Global, work: &SmpWork<'a>, me: u8) -> Result<Vec<Lane<'a>>, AllocError>
+    requires node { me < (lane_work work.now).work.layout.nodes }
+    requires few { processors (lane_work work.now) ≤ 16 }
+    ensures first { IfOk result (λ ls. AreFirstLanes (lane_work work.now) me work.now.lanes
+        ls.items) }
+{
+    let program = work.program;
+    let image = work.image;
+    let layout = work.layout;
+    let count = work.lanes;
+    let processors = layout.nodes() * count;
+    let mut lanes = Vec::with_capacity(alloc, count as usize)?;
+    for lane in 0..count {
+        let p = me * count + lane;
+        let first = Lane::new(alloc, image, program, lane, p, processors, work.budget)?;
+        lanes.push_reserved(first);
+    }
+    Ok(lanes)
+}
+
+/// Whether a message takes something of its block away from the node.
+fn takes_away(message: &Message) -> bool
+    ensures { result ≡ takes_away message.now }
+{
+    match message {
+        Message::FwdRead { .. } | Message::FwdWrite { .. } | Message::Inval { .. } => true,
+        _ => false,
+    }
+}
