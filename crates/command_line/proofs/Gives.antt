@@ -1,5 +1,5 @@
 -- What `clap` gives of words that are arguments.
-use Rattle.std.proofs.Common.{◌≡◌, ℕ, Bool, true, false, List, bytes_eq, [], ◌∷◌, ◌++◌, if◌then◌else◌, refl, sym, ap, ◌∙◌, codes, append_assoc, append-nil, arith, inl, inr, subst, length-append}
+use Rattle.std.proofs.Common.{◌≡◌, ℕ, Bool, true, false, List, bytes_eq, [], ◌∷◌, ◌++◌, if◌then◌else◌, refl, sym, ap, ◌∙◌, codes, append_assoc, append-nil, inl, inr, subst}
 use Rattle.std.specs.List.{fold, flat_map}
 use Rattle.std.specs.Prelude.{unwrap_or}
 use Rattle.std.proofs.lemmas.Slice.Eq.{bytes_eq-Decides}
@@ -13,13 +13,12 @@ use Rattle.clap.specs.declared.parser.matches.ValueSource.TheVariants.{CommandLi
 use Rattle.clap.specs.Faults.{fault_of, built_fault}
 use Rattle.clap.proofs.FaultLemmas.{leaf_fault}
 use Rattle.command_line.specs.declared.table.Setting.{Setting}
-use Rattle.command_line.specs.declared.table.Setting.TheVariants.{Nodes, Order, Budget, Layout, Code, Verify, Record, Brief, NoBatch, Loss, PerNode, From, To, Block, Node}
 use Rattle.command_line.specs.declared.table.Role.{Role}
 use Rattle.command_line.specs.declared.table.Role.TheVariants as role
 use Rattle.command_line.specs.Commands.{option_word}
 use Rattle.command_line.specs.Asks.{Argument, Operand, Apart, Joined, Bare, words_of, AreArguments, is_same, operand_in, value_in}
-use Rattle.command_line.specs.Reading.{name_of, id_of, words_for, app_for, IsCut, IsLong, Reads, AreReadable}
-use Rattle.command_line.proofs.Words.{dashed}
+use Rattle.command_line.specs.Reading.{name_of, id_of, words_for, app_for, IsCut, Reads, AreReadable}
+use Rattle.command_line.proofs.Words.{dashed, is_long_alone, is_long_joined, no_operand, no_option}
 use Rattle.command_line.proofs.Told.{rules, shape, built_is, no_defaults, ends}
 use Rattle.command_line.proofs.Walking.{total, give, give_all, takes_all, reads_all, at, waits, Cut, or_nil}
 
@@ -62,40 +61,6 @@ given_more id name vs (r ∷ rs) =
     go false e false f t g more = rw (e, f) more
 
 -- ---- what an argument gives a role
-
-no_operand : (s : Setting) → bytes_eq (codes "operand") (name_of s) ≡ false
-no_operand Nodes = refl
-no_operand Order = refl
-no_operand Budget = refl
-no_operand Layout = refl
-no_operand Code = refl
-no_operand Verify = refl
-no_operand Record = refl
-no_operand Brief = refl
-no_operand NoBatch = refl
-no_operand Loss = refl
-no_operand PerNode = refl
-no_operand From = refl
-no_operand To = refl
-no_operand Block = refl
-no_operand Node = refl
-
-no_option : (s : Setting) → bytes_eq (name_of s) (codes "operand") ≡ false
-no_option Nodes = refl
-no_option Order = refl
-no_option Budget = refl
-no_option Layout = refl
-no_option Code = refl
-no_option Verify = refl
-no_option Record = refl
-no_option Brief = refl
-no_option NoBatch = refl
-no_option Loss = refl
-no_option PerNode = refl
-no_option From = refl
-no_option To = refl
-no_option Block = refl
-no_option Node = refl
 
 same_names : (s t : Setting) → bytes_eq (name_of s) (name_of t) ≡ is_same s t
 same_names s t = sym (ap (λ w. bytes_eq w (option_word t)) (dashed s)
@@ -176,62 +141,13 @@ module _ (settings : List Setting) where
       rows_at_end a ws = rows_after a.top.rules (names_of a) ws
 
   -- words that are arguments are readable
-  long_joined : (s : Setting) (v : List ℕ) → IsLong (option_word s ++ (61 ∷ v))
-  long_joined Nodes v =
-      record { more = omega (arith, length-append (codes "--nodes") (61 ∷ v)); first = refl; second = refl }
-  long_joined Order v =
-      record { more = omega (arith, length-append (codes "--order") (61 ∷ v)); first = refl; second = refl }
-  long_joined Budget v =
-      record { more = omega (arith, length-append (codes "--budget") (61 ∷ v)); first = refl; second = refl }
-  long_joined Layout v =
-      record { more = omega (arith, length-append (codes "--layout") (61 ∷ v)); first = refl; second = refl }
-  long_joined Code v =
-      record { more = omega (arith, length-append (codes "--code") (61 ∷ v)); first = refl; second = refl }
-  long_joined Verify v =
-      record { more = omega (arith, length-append (codes "--verify") (61 ∷ v)); first = refl; second = refl }
-  long_joined Record v =
-      record { more = omega (arith, length-append (codes "--record") (61 ∷ v)); first = refl; second = refl }
-  long_joined Brief v =
-      record { more = omega (arith, length-append (codes "--brief") (61 ∷ v)); first = refl; second = refl }
-  long_joined NoBatch v =
-      record { more = omega (arith, length-append (codes "--no-batch") (61 ∷ v)); first = refl; second = refl }
-  long_joined Loss v =
-      record { more = omega (arith, length-append (codes "--loss") (61 ∷ v)); first = refl; second = refl }
-  long_joined PerNode v =
-      record { more = omega (arith, length-append (codes "--per-node") (61 ∷ v)); first = refl; second = refl }
-  long_joined From v =
-      record { more = omega (arith, length-append (codes "--from") (61 ∷ v)); first = refl; second = refl }
-  long_joined To v =
-      record { more = omega (arith, length-append (codes "--to") (61 ∷ v)); first = refl; second = refl }
-  long_joined Block v =
-      record { more = omega (arith, length-append (codes "--block") (61 ∷ v)); first = refl; second = refl }
-  long_joined Node v =
-      record { more = omega (arith, length-append (codes "--node") (61 ∷ v)); first = refl; second = refl }
-
-  long_alone : (s : Setting) → IsLong (option_word s)
-  long_alone Nodes = record { more = omega arith; first = refl; second = refl }
-  long_alone Order = record { more = omega arith; first = refl; second = refl }
-  long_alone Budget = record { more = omega arith; first = refl; second = refl }
-  long_alone Layout = record { more = omega arith; first = refl; second = refl }
-  long_alone Code = record { more = omega arith; first = refl; second = refl }
-  long_alone Verify = record { more = omega arith; first = refl; second = refl }
-  long_alone Record = record { more = omega arith; first = refl; second = refl }
-  long_alone Brief = record { more = omega arith; first = refl; second = refl }
-  long_alone NoBatch = record { more = omega arith; first = refl; second = refl }
-  long_alone Loss = record { more = omega arith; first = refl; second = refl }
-  long_alone PerNode = record { more = omega arith; first = refl; second = refl }
-  long_alone From = record { more = omega arith; first = refl; second = refl }
-  long_alone To = record { more = omega arith; first = refl; second = refl }
-  long_alone Block = record { more = omega arith; first = refl; second = refl }
-  long_alone Node = record { more = omega arith; first = refl; second = refl }
-
   readable : (arguments : List Argument) → AreArguments settings arguments →
       AreReadable (flat_map words_of arguments)
   readable [] k = tt
   readable (Operand word ∷ more) k = (inl k.0, readable more k.1)
-  readable (Apart s v ∷ more) k = (inr (long_alone s), (inl k.0.1, readable more k.1))
-  readable (Joined s v ∷ more) k = (inr (long_joined s v), readable more k.1)
-  readable (Bare s ∷ more) k = (inr (long_alone s), readable more k.1)
+  readable (Apart s v ∷ more) k = (inr (is_long_alone s), (inl k.0.1, readable more k.1))
+  readable (Joined s v ∷ more) k = (inr (is_long_joined s v), readable more k.1)
+  readable (Bare s ∷ more) k = (inr (is_long_alone s), readable more k.1)
 
   pub cut_readable : (words : List (List ℕ)) (arguments : List Argument) →
       IsCut settings words arguments → AreReadable words

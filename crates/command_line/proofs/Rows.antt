@@ -1,6 +1,6 @@
 -- What is given says of a command's row one command, and nothing else.
-use Rattle.std.proofs.Common.{◌≡◌, ◌≢◌, ℕ, ◌-◌, ◌^◌, Bool, true, false, ◌<◌, length, MatchOption, List, [], ◌∷◌, map, codes, get_or, refl, sym, ap, ◌∙◌, subst, arith, Option, Some, None, Bor, option_map, unwrap_or}
-use Rattle.std.specs.Prelude.{IsTrue}
+use Rattle.std.proofs.Common.{◌≡◌, ◌≢◌, ℕ, ◌-◌, ◌^◌, Bool, true, false, ◌<◌, length, MatchOption, List, [], ◌∷◌, map, get_or, refl, sym, ap, ◌∙◌, subst, arith, Option, Some, None, Bor, option_map, unwrap_or, bytes_eq}
+use Rattle.std.specs.Prelude.{IsTrue, find}
 use Rattle.clap.specs.declared.parser.matches.ArgMatches.{ArgMatches}
 use Rattle.clap.specs.Words.{found_of, matched_of, raw_values}
 use Rattle.clap.proofs.WalkLemmas.{raw_values-rows}
@@ -14,7 +14,7 @@ use Rattle.command_line.specs.declared.table.Role.{Role}
 use Rattle.command_line.specs.declared.table.Role.TheVariants as role
 use Rattle.command_line.specs.declared.table.CommandWord.{CommandWord}
 use Rattle.command_line.specs.declared.table.CommandWord.TheVariants as word
-use Rattle.command_line.specs.Commands.{Command, Rewrite, Run, Listing, One, Sim, Replay, Generate, Assemble, Named, Between, Value, Amount, MaybeAmount, MaybeAt, Name, Switch, name_or_none, Row, row_of, IsFit, AreFew, is_alone, kind_of, settings_in}
+use Rattle.command_line.specs.Commands.{Execution, RewriteArguments, RunArguments, ListArguments, OneArguments, SimArguments, ReplayArguments, GenerateArguments, AssembleArguments, Command, Rewrite, Run, Listing, One, Sim, Replay, Generate, Assemble, Named, Between, Value, Amount, MaybeAmount, MaybeAt, Name, Switch, name_or_none, Row, execution_options, row_of, IsFit, AreFew, IsAlone, is_alone, kind_of, settings_in}
 use Rattle.command_line.specs.Asks.{Argument, IsNumber, ArePlaced, IsSet, AreSet, AreOfRow, Asks}
 use Rattle.command_line.specs.declared.Command.{Command as OfCode}
 use Rattle.command_line.specs.Meaning.{meaning_of}
@@ -319,104 +319,100 @@ same_seeds n m y w words h k =
 pub other_first : (v w : List ℕ) → v ≡ w → get_or v 0 0 ≢ get_or w 0 0 → ⊥
 other_first v w e h = h (ap (λ x. get_or x 0 0) e)
 
--- `rewrite` and `replay` differ from `run` in their second letter, and from each other in their
--- third
-other_second : (v w : List ℕ) → v ≡ w → get_or v 1 0 ≢ get_or w 1 0 → ⊥
-other_second v w e h = h (ap (λ x. get_or x 1 0) e)
+-- a command, by its word and its arguments
+abbrev pub Arguments : CommandWord → Type 0
+Arguments word.Rewrite = RewriteArguments
+Arguments word.Run = RunArguments
+Arguments word.List = ListArguments
+Arguments word.One = OneArguments
+Arguments word.Sim = SimArguments
+Arguments word.Replay = ReplayArguments
+Arguments word.Generate = GenerateArguments
+Arguments word.Assemble = AssembleArguments
 
-other_third : (v w : List ℕ) → v ≡ w → get_or v 2 0 ≢ get_or w 2 0 → ⊥
-other_third v w e h = h (ap (λ x. get_or x 2 0) e)
+abbrev pub command : (w : CommandWord) → Arguments w → Command
+command word.Rewrite a = Rewrite a
+command word.Run a = Run a
+command word.List a = Listing a
+command word.One a = One a
+command word.Sim a = Sim a
+command word.Replay a = Replay a
+command word.Generate a = Generate a
+command word.Assemble a = Assemble a
 
-pub as_rewrite : (g : Given) (c : Command) → Completes (codes "rewrite") g c → (x : List ℕ)
-    × (y : List ℕ) × (nb : Bool) × IsOfRow (row_of (Rewrite x y nb)) g
-as_rewrite g (Rewrite x y nb) h = (x, y, nb, h.of_row)
-as_rewrite g (Run f n b w k ve l t nb) h = absurd (other_second _ _ h.word_is (omega arith))
-as_rewrite g (Listing f) h = absurd (other_first _ _ h.word_is (omega arith))
-as_rewrite g (One f n o b l) h = absurd (other_first _ _ h.word_is (omega arith))
-as_rewrite g (Sim f n o b k ve l t nb ls pn) h = absurd (other_first _ _ h.word_is (omega arith))
-as_rewrite g (Replay f ve w t) h = absurd (other_third _ _ h.word_is (omega arith))
-as_rewrite g (Generate n y) h = absurd (other_first _ _ h.word_is (omega arith))
-as_rewrite g (Assemble x y) h = absurd (other_first _ _ h.word_is (omega arith))
+abbrev pub command_word : Command → CommandWord
+command_word (Rewrite a) = word.Rewrite
+command_word (Run a) = word.Run
+command_word (Listing a) = word.List
+command_word (One a) = word.One
+command_word (Sim a) = word.Sim
+command_word (Replay a) = word.Replay
+command_word (Generate a) = word.Generate
+command_word (Assemble a) = word.Assemble
 
-pub as_run : (g : Given) (c : Command) → Completes (codes "run") g c → (f : List ℕ)
-    × (n b : ℕ) × (w k ve l : Option (List ℕ)) × (t nb : Bool)
-    × IsOfRow (row_of (Run f n b w k ve l t nb)) g × IsFit (Run f n b w k ve l t nb)
-as_run g (Rewrite f o nb) h = absurd (other_second _ _ h.word_is (omega arith))
-as_run g (Run f n b w k ve l t nb) h = (f, n, b, w, k, ve, l, t, nb, h.of_row, h.fits)
-as_run g (Listing f) h = absurd (other_first _ _ h.word_is (omega arith))
-as_run g (One f n o b l) h = absurd (other_first _ _ h.word_is (omega arith))
-as_run g (Sim f n o b k ve l t nb ls pn) h = absurd (other_first _ _ h.word_is (omega arith))
-as_run g (Replay f ve w t) h = absurd (other_second _ _ h.word_is (omega arith))
-as_run g (Generate n y) h = absurd (other_first _ _ h.word_is (omega arith))
-as_run g (Assemble x y) h = absurd (other_first _ _ h.word_is (omega arith))
+abbrev IsWhole : Command → CommandWord → Type 0
+IsWhole c w = (a : Arguments w) × (c ≡ command w a)
 
-pub as_list : (g : Given) (c : Command) → Completes (codes "list") g c →
-    (f : List ℕ) × IsOfRow (row_of (Listing f)) g
-as_list g (Rewrite f o nb) h = absurd (other_first _ _ h.word_is (omega arith))
-as_list g (Run f n b w k ve l t nb) h = absurd (other_first _ _ h.word_is (omega arith))
-as_list g (Listing f) h = (f, h.of_row)
-as_list g (One f n o b l) h = absurd (other_first _ _ h.word_is (omega arith))
-as_list g (Sim f n o b k ve l t nb ls pn) h = absurd (other_first _ _ h.word_is (omega arith))
-as_list g (Replay f ve w t) h = absurd (other_first _ _ h.word_is (omega arith))
-as_list g (Generate n y) h = absurd (other_first _ _ h.word_is (omega arith))
-as_list g (Assemble x y) h = absurd (other_first _ _ h.word_is (omega arith))
+arguments_of : (c : Command) → IsWhole c (command_word c)
+arguments_of (Rewrite a) = (a, refl)
+arguments_of (Run a) = (a, refl)
+arguments_of (Listing a) = (a, refl)
+arguments_of (One a) = (a, refl)
+arguments_of (Sim a) = (a, refl)
+arguments_of (Replay a) = (a, refl)
+arguments_of (Generate a) = (a, refl)
+arguments_of (Assemble a) = (a, refl)
 
-pub as_one : (g : Given) (c : Command) → Completes (codes "one") g c → (f : List ℕ)
-    × (n : ℕ) × (o : ℕ) × (b : ℕ) × (l : Option (List ℕ)) × IsOfRow (row_of (One f n o b l)) g
-as_one g (Rewrite f o nb) h = absurd (other_first _ _ h.word_is (omega arith))
-as_one g (Run f n b w k ve l t nb) h = absurd (other_first _ _ h.word_is (omega arith))
-as_one g (Listing f) h = absurd (other_first _ _ h.word_is (omega arith))
-as_one g (One f n o b l) h = (f, n, o, b, l, h.of_row)
-as_one g (Sim f n o b k ve l t nb ls pn) h = absurd (other_first _ _ h.word_is (omega arith))
-as_one g (Replay f ve w t) h = absurd (other_first _ _ h.word_is (omega arith))
-as_one g (Generate n y) h = absurd (other_first _ _ h.word_is (omega arith))
-as_one g (Assemble x y) h = absurd (other_first _ _ h.word_is (omega arith))
+pub word_is : (c : Command) → text_of (command_word c) ≡ (row_of c).word
+word_is (Rewrite a) = refl
+word_is (Run a) = refl
+word_is (Listing a) = refl
+word_is (One a) = refl
+word_is (Sim a) = refl
+word_is (Replay a) = refl
+word_is (Generate a) = refl
+word_is (Assemble a) = refl
 
-pub as_sim : (g : Given) (c : Command) → Completes (codes "sim") g c → (f : List ℕ)
-    × (n : ℕ) × (o : ℕ) × (b : ℕ) × (k ve l : Option (List ℕ)) × (t nb : Bool)
-    × (ls pn : Option ℕ) × IsOfRow (row_of (Sim f n o b k ve l t nb ls pn)) g
-    × IsTrue (is_alone ve k nb) × AreFew n ls pn
-as_sim g (Rewrite f o nb) h = absurd (other_first _ _ h.word_is (omega arith))
-as_sim g (Run f n b w k ve l t nb) h = absurd (other_first _ _ h.word_is (omega arith))
-as_sim g (Listing f) h = absurd (other_first _ _ h.word_is (omega arith))
-as_sim g (One f n o b l) h = absurd (other_first _ _ h.word_is (omega arith))
-as_sim g (Sim f n o b k ve l t nb ls pn) h = (f, n, o, b, k, ve, l, t, nb, ls, pn, h.of_row, h.fits.0, h.fits.1)
-as_sim g (Replay f ve w t) h = absurd (other_first _ _ h.word_is (omega arith))
-as_sim g (Generate n y) h = absurd (other_first _ _ h.word_is (omega arith))
-as_sim g (Assemble x y) h = absurd (other_first _ _ h.word_is (omega arith))
+-- commands differ in their words
+abbrev command_words : List CommandWord
+command_words =
+    word.Rewrite ∷ word.Run ∷ word.List ∷ word.One ∷ word.Sim ∷ word.Replay ∷ word.Generate
+    ∷ word.Assemble ∷ []
 
-pub as_replay : (g : Given) (c : Command) → Completes (codes "replay") g c → (f : List ℕ)
-    × (ve : Option (List ℕ)) × (w : List ℕ) × (t : Bool) × IsOfRow (row_of (Replay f ve w t)) g
-as_replay g (Rewrite x y nb) h = absurd (other_third _ _ h.word_is (omega arith))
-as_replay g (Run f n b w k ve l t nb) h = absurd (other_second _ _ h.word_is (omega arith))
-as_replay g (Listing f) h = absurd (other_first _ _ h.word_is (omega arith))
-as_replay g (One f n o b l) h = absurd (other_first _ _ h.word_is (omega arith))
-as_replay g (Sim f n o b k ve l t nb ls pn) h = absurd (other_first _ _ h.word_is (omega arith))
-as_replay g (Replay f ve w t) h = (f, ve, w, t, h.of_row)
-as_replay g (Generate n y) h = absurd (other_first _ _ h.word_is (omega arith))
-as_replay g (Assemble x y) h = absurd (other_first _ _ h.word_is (omega arith))
+abbrev word_at : List ℕ → CommandWord
+word_at text = unwrap_or (find (λ w. bytes_eq (text_of w) text) command_words) word.Rewrite
 
-pub as_generate : (g : Given) (c : Command) → Completes (codes "gen") g c → (n : ℕ)
-    × (y : List ℕ) × IsOfRow (row_of (Generate n y)) g
-as_generate g (Rewrite x y nb) h = absurd (other_first _ _ h.word_is (omega arith))
-as_generate g (Run f n b w k ve l t nb) h = absurd (other_first _ _ h.word_is (omega arith))
-as_generate g (Listing f) h = absurd (other_first _ _ h.word_is (omega arith))
-as_generate g (One f n o b l) h = absurd (other_first _ _ h.word_is (omega arith))
-as_generate g (Sim f n o b k ve l t nb ls pn) h = absurd (other_first _ _ h.word_is (omega arith))
-as_generate g (Replay f ve w t) h = absurd (other_first _ _ h.word_is (omega arith))
-as_generate g (Generate n y) h = (n, y, h.of_row)
-as_generate g (Assemble x y) h = absurd (other_first _ _ h.word_is (omega arith))
+word_found : (w : CommandWord) → word_at (text_of w) ≡ w
+word_found word.Rewrite = refl
+word_found word.Run = refl
+word_found word.List = refl
+word_found word.One = refl
+word_found word.Sim = refl
+word_found word.Replay = refl
+word_found word.Generate = refl
+word_found word.Assemble = refl
 
-pub as_assemble : (g : Given) (c : Command) → Completes (codes "asm") g c → (x y : List ℕ)
-    × IsOfRow (row_of (Assemble x y)) g
-as_assemble g (Rewrite x y nb) h = absurd (other_first _ _ h.word_is (omega arith))
-as_assemble g (Run f n b w k ve l t nb) h = absurd (other_first _ _ h.word_is (omega arith))
-as_assemble g (Listing f) h = absurd (other_first _ _ h.word_is (omega arith))
-as_assemble g (One f n o b l) h = absurd (other_first _ _ h.word_is (omega arith))
-as_assemble g (Sim f n o b k ve l t nb ls pn) h = absurd (other_first _ _ h.word_is (omega arith))
-as_assemble g (Replay f ve w t) h = absurd (other_first _ _ h.word_is (omega arith))
-as_assemble g (Generate n y) h = absurd (other_first _ _ h.word_is (omega arith))
-as_assemble g (Assemble x y) h = (x, y, h.of_row)
+same_word : (v w : CommandWord) → text_of v ≡ text_of w → v ≡ w
+same_word v w e = sym (word_found v) ∙ ap word_at e ∙ word_found w
+
+of_word : (w : CommandWord) (c : Command) → text_of w ≡ (row_of c).word → IsWhole c w
+of_word w c e = subst (IsWhole c) (same_word (command_word c) w (word_is c ∙ sym e)) (arguments_of c)
+
+-- what completes a word is a command of that word
+pub record IsOf (w : CommandWord) (g : Given) (a : Arguments w) : Type 0 where
+  pub of_row : IsOfRow (row_of (command w a)) g
+  pub fits : IsFit (command w a)
+
+pub as_command : (w : CommandWord) (g : Given) (c : Command) → Completes (text_of w) g c
+    → (a : Arguments w) × IsOf w g a
+as_command w g c h =
+    let is = of_word w c (sym h.word_is) in (
+      is.0,
+      record {
+        of_row = subst (λ d. IsOfRow (row_of d) g) is.1 h.of_row;
+        fits = subst IsFit is.1 h.fits;
+      },
+    )
 
 pub same_file : (x y : List ℕ) (words : List (List ℕ)) → ArePlaced ((Named Read, Name x) ∷ []) words →
     ArePlaced ((Named Read, Name y) ∷ []) words → x ≡ y
@@ -435,139 +431,149 @@ alone_by g v v' k k' b b' verified verified' code code' batch batch' h =
     (subst (λ x. IsTrue (is_alone v x b')) (names_one g Code k k' code code')
     (subst (λ x. IsTrue (is_alone v k x)) (flag_one g NoBatch b b' refl batch batch') h))
 
+-- what is given says of nodes that run one thing
+abbrev execution : (file : List ℕ) (nodes budget : ℕ) (code verified layout : Option (List ℕ))
+    (brief no_batch : Bool) → Execution
+execution file nodes budget code verified layout brief no_batch = record {
+  file = file;
+  nodes = nodes;
+  budget = budget;
+  code = code;
+  verified = verified;
+  layout = layout;
+  brief = brief;
+  no_batch = no_batch;
+}
+
+abbrev IsFor : Given → Execution → Type 0
+IsFor g e = AreGiven (execution_options e) g
+
+one_execution : (g : Given) (e f : Execution) → e.file ≡ f.file → IsFor g e → IsFor g f → e ≡ f
+one_execution g e f file p q =
+    let nodes = says_one g Nodes e.nodes f.nodes p.0 q.0 in
+    let budget = says_one g Budget e.budget f.budget p.1.0 q.1.0 in
+    let code = names_one g Code e.code f.code p.1.1.0 q.1.1.0 in
+    let verified = names_one g Verify e.verified f.verified p.1.1.1.0 q.1.1.1.0 in
+    let layout = names_one g Layout e.layout f.layout p.1.1.1.1.0 q.1.1.1.1.0 in
+    let brief = flag_one g Brief e.brief f.brief refl p.1.1.1.1.1.0 q.1.1.1.1.1.0 in
+    let batch = flag_one g NoBatch e.no_batch f.no_batch refl p.1.1.1.1.1.1.0 q.1.1.1.1.1.1.0 in
+    ap (λ x. record e { file = x }) file
+    ∙ ap (λ x. execution f.file x e.budget e.code e.verified e.layout e.brief e.no_batch) nodes
+    ∙ ap (λ x. execution f.file f.nodes x e.code e.verified e.layout e.brief e.no_batch) budget
+    ∙ ap (λ x. execution f.file f.nodes f.budget x e.verified e.layout e.brief e.no_batch) code
+    ∙ ap (λ x. execution f.file f.nodes f.budget f.code x e.layout e.brief e.no_batch) verified
+    ∙ ap (λ x. execution f.file f.nodes f.budget f.code f.verified x e.brief e.no_batch) layout
+    ∙ ap (λ x. execution f.file f.nodes f.budget f.code f.verified f.layout x e.no_batch) brief
+    ∙ ap (λ x. record f { no_batch = x }) batch
+
+-- what is given beside a verified file is what the nodes run
+execution_alone : (g : Given) (e : Execution) (v k : Option (List ℕ)) (b : Bool)
+    → SaysName g Code k → SaysName g Verify v → SaysFlag g NoBatch b → IsFor g e → IsAlone e
+    → IsTrue (is_alone v k b)
+execution_alone g e v k b code verified batch options alone =
+    alone_by g e.verified v e.code k e.no_batch b options.1.1.1.0 verified options.1.1.0 code
+    options.1.1.1.1.1.1.0 batch alone
+
 pub run_alone : (g : Given) (c : Command) (v k : Option (List ℕ)) (b : Bool)
     → SaysName g Code k → SaysName g Verify v → SaysFlag g NoBatch b
-    → Completes (codes "run") g c → IsTrue (is_alone v k b)
+    → Completes (text_of word.Run) g c → IsTrue (is_alone v k b)
 run_alone g c v k b code verified batch h =
-    let r = as_run g c h in
-    alone_by g r.5 v r.4 k r.8 b r.9.options.1.1.1.1.0 verified r.9.options.1.1.1.0 code
-    r.9.options.1.1.1.1.1.1.1.0 batch r.10.1
+    let r = as_command word.Run g c h in
+    let a : RunArguments = r.0 in
+    execution_alone g a.execution v k b code verified batch r.1.of_row.options.1 r.1.fits.1
 
 pub sim_alone : (g : Given) (c : Command) (v k : Option (List ℕ)) (b : Bool)
     → SaysName g Code k → SaysName g Verify v → SaysFlag g NoBatch b
-    → Completes (codes "sim") g c → IsTrue (is_alone v k b)
+    → Completes (text_of word.Sim) g c → IsTrue (is_alone v k b)
 sim_alone g c v k b code verified batch h =
-    let r = as_sim g c h in
-    alone_by g r.5 v r.4 k r.8 b r.11.options.1.1.1.1.0 verified r.11.options.1.1.1.0 code
-    r.11.options.1.1.1.1.1.1.1.0 batch r.12
+    let r = as_command word.Sim g c h in
+    let a : SimArguments = r.0 in
+    execution_alone g a.execution v k b code verified batch r.1.of_row.options.1.1.1 r.1.fits.0
 
 -- the nodes, the loss and the processors of each node that are given are those of the command
 pub sim_few : (g : Given) (c : Command) (n : ℕ) (l p : Option ℕ) → SaysNumber g Nodes n
-    → SaysMaybe g Loss l → SaysMaybe g PerNode p → Completes (codes "sim") g c → AreFew n l p
+    → SaysMaybe g Loss l → SaysMaybe g PerNode p → Completes (text_of word.Sim) g c → AreFew n l p
 sim_few g c n l p nodes loss lanes h =
-    let r = as_sim g c h in
-    subst (λ x. AreFew x l p) (says_one g Nodes r.1 n r.11.options.0 nodes)
-    (subst (λ x. AreFew r.1 x p) (maybes_one g Loss r.9 l r.11.options.1.1.1.1.1.1.1.1.0 loss)
-    (subst (λ x. AreFew r.1 r.9 x)
-    (maybes_one g PerNode r.10 p r.11.options.1.1.1.1.1.1.1.1.1.0 lanes) r.13))
+    let r = as_command word.Sim g c h in
+    let a : SimArguments = r.0 in
+    subst (λ x. AreFew x l p)
+    (says_one g Nodes a.execution.nodes n r.1.of_row.options.1.1.1.0 nodes)
+    (subst (λ x. AreFew a.execution.nodes x p)
+    (maybes_one g Loss a.loss l r.1.of_row.options.1.0 loss)
+    (subst (λ x. AreFew a.execution.nodes a.loss x)
+    (maybes_one g PerNode a.lanes p r.1.of_row.options.1.1.0 lanes) r.1.fits.1))
 
-one_row : (g : Given) (c d : Command) → IsOfRow (row_of c) g → IsOfRow (row_of d) g →
-    (row_of c).word ≡ (row_of d).word → c ≡ d
-one_row g (Rewrite x y nb) (Rewrite v w nc) p q e =
-    let same = same_files Write x y v w _ p.places q.places in
-    let batch = flag_one g NoBatch nb nc refl p.options.0 q.options.0 in
-    ap (λ f. Rewrite f y nb) same.0 ∙ ap (λ f. Rewrite v f nb) same.1
-    ∙ ap (λ z. Rewrite v w z) batch
-one_row g (Run x n b u c ve k s nb) (Run y m r v d vf l t nc) p q e =
-    let file = same_file x y _ p.places q.places in
-    let nodes = says_one g Nodes n m p.options.0 q.options.0 in
-    let budget = says_one g Budget b r p.options.1.0 q.options.1.0 in
-    let recorded = names_one g Record u v p.options.1.1.0 q.options.1.1.0 in
-    let code = names_one g Code c d p.options.1.1.1.0 q.options.1.1.1.0 in
-    let verified = names_one g Verify ve vf p.options.1.1.1.1.0 q.options.1.1.1.1.0 in
-    let layout = names_one g Layout k l p.options.1.1.1.1.1.0 q.options.1.1.1.1.1.0 in
-    let brief = flag_one g Brief s t refl p.options.1.1.1.1.1.1.0 q.options.1.1.1.1.1.1.0 in
-    let batch = flag_one g NoBatch nb nc refl p.options.1.1.1.1.1.1.1.0 q.options.1.1.1.1.1.1.1.0 in
-    cc
-one_row g (Listing x) (Listing y) p q e = ap Listing (same_file x y _ p.places q.places)
-one_row g (One x n o b k) (One y m r d l) p q e =
-    let file = same_file x y _ p.places q.places in
-    let nodes = says_one g Nodes n m p.options.0 q.options.0 in
-    let order = says_one g Order o r p.options.1.0 q.options.1.0 in
-    let budget = says_one g Budget b d p.options.1.1.0 q.options.1.1.0 in
-    let layout = names_one g Layout k l p.options.1.1.1.0 q.options.1.1.1.0 in
-    cc
-one_row g (Sim x n o b c ve k s nb ls pn) (Sim y m r d f vf l t nc lt pm) p q e =
-    let file = same_file x y _ p.places q.places in
-    let nodes = says_one g Nodes n m p.options.0 q.options.0 in
-    let order = says_one g Order o r p.options.1.0 q.options.1.0 in
-    let budget = says_one g Budget b d p.options.1.1.0 q.options.1.1.0 in
-    let code = names_one g Code c f p.options.1.1.1.0 q.options.1.1.1.0 in
-    let verified = names_one g Verify ve vf p.options.1.1.1.1.0 q.options.1.1.1.1.0 in
-    let layout = names_one g Layout k l p.options.1.1.1.1.1.0 q.options.1.1.1.1.1.0 in
-    let brief = flag_one g Brief s t refl p.options.1.1.1.1.1.1.0 q.options.1.1.1.1.1.1.0 in
-    let batch = flag_one g NoBatch nb nc refl p.options.1.1.1.1.1.1.1.0 q.options.1.1.1.1.1.1.1.0 in
-    let loss = maybes_one g Loss ls lt p.options.1.1.1.1.1.1.1.1.0 q.options.1.1.1.1.1.1.1.1.0 in
-    let lanes = maybes_one g PerNode pn pm p.options.1.1.1.1.1.1.1.1.1.0 q.options.1.1.1.1.1.1.1.1.1.0 in
-    cc
-one_row g (Replay x ve y s) (Replay v vf w t) p q e =
-    let files = same_files Read x y v w _ p.places q.places in
-    let verified = names_one g Verify ve vf p.options.0 q.options.0 in
-    let brief = flag_one g Brief s t refl p.options.1.0 q.options.1.0 in
-    ap (λ f. Replay f ve y s) files.0 ∙ ap (λ o. Replay v o y s) verified
-    ∙ ap (λ f. Replay v vf f s) files.1 ∙ ap (λ b. Replay v vf w b) brief
-one_row g (Generate n y) (Generate m w) p q e =
-    let same = same_seeds n m y w _ p.places q.places in
-    ap (λ k. Generate k y) same.0 ∙ ap (λ f. Generate m f) same.1
-one_row g (Rewrite x y nb) (Run v m r z d ve l t nc) p q e = absurd (other_second _ _ e (omega arith))
-one_row g (Rewrite x y nb) (Listing v) p q e = absurd (other_first _ _ e (omega arith))
-one_row g (Rewrite x y nb) (One v m r d l) p q e = absurd (other_first _ _ e (omega arith))
-one_row g (Rewrite x y nb) (Sim v m r d f ve l t nc ls pn) p q e = absurd (other_first _ _ e (omega arith))
-one_row g (Run x n b u c ve k s nb) (Rewrite v w nc) p q e = absurd (other_second _ _ e (omega arith))
-one_row g (Run x n b u c ve k s nb) (Listing v) p q e = absurd (other_first _ _ e (omega arith))
-one_row g (Run x n b u c ve k s nb) (One v m r d l) p q e = absurd (other_first _ _ e (omega arith))
-one_row g (Run x n b u c ve k s nb) (Sim v m r d f vf l t nc ls pn) p q e = absurd (other_first _ _ e (omega arith))
-one_row g (Listing x) (Rewrite v w nb) p q e = absurd (other_first _ _ e (omega arith))
-one_row g (Listing x) (Run v m r z d ve l t nb) p q e = absurd (other_first _ _ e (omega arith))
-one_row g (Listing x) (One v m r d l) p q e = absurd (other_first _ _ e (omega arith))
-one_row g (Listing x) (Sim v m r d f ve l t nb ls pn) p q e = absurd (other_first _ _ e (omega arith))
-one_row g (One x n o b k) (Rewrite v w nb) p q e = absurd (other_first _ _ e (omega arith))
-one_row g (One x n o b k) (Run v m r z d ve l t nb) p q e = absurd (other_first _ _ e (omega arith))
-one_row g (One x n o b k) (Listing v) p q e = absurd (other_first _ _ e (omega arith))
-one_row g (One x n o b k) (Sim v m r d f ve l t nb ls pn) p q e = absurd (other_first _ _ e (omega arith))
-one_row g (Sim x n o b c ve k s nb ls pn) (Rewrite v w nc) p q e = absurd (other_first _ _ e (omega arith))
-one_row g (Sim x n o b c ve k s nb ls pn) (Run v m r z d vf l t nc) p q e = absurd (other_first _ _ e (omega arith))
-one_row g (Sim x n o b c ve k s nb ls pn) (Listing v) p q e = absurd (other_first _ _ e (omega arith))
-one_row g (Sim x n o b c ve k s nb ls pn) (One v m r d l) p q e = absurd (other_first _ _ e (omega arith))
-one_row g (Rewrite x y nb) (Replay v ve w t) p q e = absurd (other_third _ _ e (omega arith))
-one_row g (Rewrite x y nb) (Generate m w) p q e = absurd (other_first _ _ e (omega arith))
-one_row g (Run x n b u c ve k s nb) (Replay v vf w t) p q e = absurd (other_second _ _ e (omega arith))
-one_row g (Run x n b u c ve k s nb) (Generate m w) p q e = absurd (other_first _ _ e (omega arith))
-one_row g (Listing x) (Replay v ve w t) p q e = absurd (other_first _ _ e (omega arith))
-one_row g (Listing x) (Generate m w) p q e = absurd (other_first _ _ e (omega arith))
-one_row g (One x n o b k) (Replay v ve w t) p q e = absurd (other_first _ _ e (omega arith))
-one_row g (One x n o b k) (Generate m w) p q e = absurd (other_first _ _ e (omega arith))
-one_row g (Sim x n o b c ve k s nb ls pn) (Replay v vf w t) p q e = absurd (other_first _ _ e (omega arith))
-one_row g (Sim x n o b c ve k s nb ls pn) (Generate m w) p q e = absurd (other_first _ _ e (omega arith))
-one_row g (Replay x ve u s) (Rewrite v w nb) p q e = absurd (other_third _ _ e (omega arith))
-one_row g (Replay x ve u s) (Run v m r z d vf l t nb) p q e = absurd (other_second _ _ e (omega arith))
-one_row g (Replay x ve u s) (Listing v) p q e = absurd (other_first _ _ e (omega arith))
-one_row g (Replay x ve u s) (One v m r d l) p q e = absurd (other_first _ _ e (omega arith))
-one_row g (Replay x ve u s) (Sim v m r d f vf l t nb ls pn) p q e = absurd (other_first _ _ e (omega arith))
-one_row g (Replay x ve u s) (Generate m w) p q e = absurd (other_first _ _ e (omega arith))
-one_row g (Generate n y) (Rewrite v w nb) p q e = absurd (other_first _ _ e (omega arith))
-one_row g (Generate n y) (Run v m r z d ve l t nb) p q e = absurd (other_first _ _ e (omega arith))
-one_row g (Generate n y) (Listing v) p q e = absurd (other_first _ _ e (omega arith))
-one_row g (Generate n y) (One v m r d l) p q e = absurd (other_first _ _ e (omega arith))
-one_row g (Generate n y) (Sim v m r d f ve l t nb ls pn) p q e = absurd (other_first _ _ e (omega arith))
-one_row g (Generate n y) (Replay v ve w t) p q e = absurd (other_first _ _ e (omega arith))
-one_row g (Assemble x y) (Assemble v w) p q e =
-    let files = same_files Write x y v w _ p.places q.places in
-    ap (λ f. Assemble f y) files.0 ∙ ap (λ f. Assemble v f) files.1
-one_row g (Rewrite x y nb) (Assemble v' w') p q e = absurd (other_first _ _ e (omega arith))
-one_row g (Assemble v' w') (Rewrite x y nb) p q e = absurd (other_first _ _ e (omega arith))
-one_row g (Run f n b w k ve l t nb) (Assemble v' w') p q e = absurd (other_first _ _ e (omega arith))
-one_row g (Assemble v' w') (Run f n b w k ve l t nb) p q e = absurd (other_first _ _ e (omega arith))
-one_row g (Listing f) (Assemble v' w') p q e = absurd (other_first _ _ e (omega arith))
-one_row g (Assemble v' w') (Listing f) p q e = absurd (other_first _ _ e (omega arith))
-one_row g (One f n o b l) (Assemble v' w') p q e = absurd (other_first _ _ e (omega arith))
-one_row g (Assemble v' w') (One f n o b l) p q e = absurd (other_first _ _ e (omega arith))
-one_row g (Sim f n o b k ve l t nb ls pn) (Assemble v' w') p q e = absurd (other_first _ _ e (omega arith))
-one_row g (Assemble v' w') (Sim f n o b k ve l t nb ls pn) p q e = absurd (other_first _ _ e (omega arith))
-one_row g (Replay f ve w t) (Assemble v' w') p q e = absurd (other_first _ _ e (omega arith))
-one_row g (Assemble v' w') (Replay f ve w t) p q e = absurd (other_first _ _ e (omega arith))
-one_row g (Generate n y) (Assemble v' w') p q e = absurd (other_first _ _ e (omega arith))
-one_row g (Assemble v' w') (Generate n y) p q e = absurd (other_first _ _ e (omega arith))
+abbrev one : (file : List ℕ) (nodes order budget : ℕ) (layout : Option (List ℕ)) → OneArguments
+one file nodes order budget layout =
+    record { file = file; nodes = nodes; order = order; budget = budget; layout = layout }
+
+abbrev sim : (execution : Execution) (order : ℕ) (loss lanes : Option ℕ) → SimArguments
+sim execution order loss lanes =
+    record { execution = execution; order = order; loss = loss; lanes = lanes }
+
+abbrev replay : (file record_file : List ℕ) (verified : Option (List ℕ)) (brief : Bool)
+    → ReplayArguments
+replay file record_file verified brief =
+    record { file = file; record_file = record_file; verified = verified; brief = brief }
+
+one_of_word : (g : Given) (w : CommandWord) (a b : Arguments w)
+    → IsOfRow (row_of (command w a)) g → IsOfRow (row_of (command w b)) g → a ≡ b
+one_of_word g word.Rewrite a b p q =
+    let same = same_files Write a.input a.output b.input b.output _ p.places q.places in
+    let batch = flag_one g NoBatch a.no_batch b.no_batch refl p.options.0 q.options.0 in
+    ap (λ x. record a { input = x }) same.0
+    ∙ ap (λ x. record b { output = x; no_batch = a.no_batch }) same.1
+    ∙ ap (λ x. record b { no_batch = x }) batch
+one_of_word g word.Run a b p q =
+    let file = same_file a.execution.file b.execution.file _ p.places q.places in
+    let same = one_execution g a.execution b.execution file p.options.1 q.options.1 in
+    let recorded = names_one g Record a.record_file b.record_file p.options.0 q.options.0 in
+    ap (λ x. record a { execution = x }) same ∙ ap (λ x. record b { record_file = x }) recorded
+one_of_word g word.List a b p q =
+    ap (λ x. record a { file = x }) (same_file a.file b.file _ p.places q.places)
+one_of_word g word.One a b p q =
+    let file = same_file a.file b.file _ p.places q.places in
+    let nodes = says_one g Nodes a.nodes b.nodes p.options.0 q.options.0 in
+    let order = says_one g Order a.order b.order p.options.1.0 q.options.1.0 in
+    let budget = says_one g Budget a.budget b.budget p.options.1.1.0 q.options.1.1.0 in
+    let layout = names_one g Layout a.layout b.layout p.options.1.1.1.0 q.options.1.1.1.0 in
+    ap (λ x. one x a.nodes a.order a.budget a.layout) file
+    ∙ ap (λ x. one b.file x a.order a.budget a.layout) nodes
+    ∙ ap (λ x. one b.file b.nodes x a.budget a.layout) order
+    ∙ ap (λ x. one b.file b.nodes b.order x a.layout) budget
+    ∙ ap (λ x. one b.file b.nodes b.order b.budget x) layout
+one_of_word g word.Sim a b p q =
+    let file = same_file a.execution.file b.execution.file _ p.places q.places in
+    let same = one_execution g a.execution b.execution file p.options.1.1.1 q.options.1.1.1 in
+    let order = says_one g Order a.order b.order p.options.0 q.options.0 in
+    let loss = maybes_one g Loss a.loss b.loss p.options.1.0 q.options.1.0 in
+    let lanes = maybes_one g PerNode a.lanes b.lanes p.options.1.1.0 q.options.1.1.0 in
+    ap (λ x. sim x a.order a.loss a.lanes) same ∙ ap (λ x. sim b.execution x a.loss a.lanes) order
+    ∙ ap (λ x. sim b.execution b.order x a.lanes) loss
+    ∙ ap (λ x. sim b.execution b.order b.loss x) lanes
+one_of_word g word.Replay a b p q =
+    let files = same_files Read a.file a.record_file b.file b.record_file _ p.places q.places in
+    let verified = names_one g Verify a.verified b.verified p.options.0 q.options.0 in
+    let brief = flag_one g Brief a.brief b.brief refl p.options.1.0 q.options.1.0 in
+    ap (λ x. replay x a.record_file a.verified a.brief) files.0
+    ∙ ap (λ x. replay b.file x a.verified a.brief) files.1
+    ∙ ap (λ x. replay b.file b.record_file x a.brief) verified
+    ∙ ap (λ x. replay b.file b.record_file b.verified x) brief
+one_of_word g word.Generate a b p q =
+    let same = same_seeds a.number b.number a.output b.output _ p.places q.places in
+    ap (λ x. record a { number = x }) same.0 ∙ ap (λ x. record b { output = x }) same.1
+one_of_word g word.Assemble a b p q =
+    let files = same_files Write a.text a.output b.text b.output _ p.places q.places in
+    ap (λ x. record a { text = x }) files.0 ∙ ap (λ x. record b { output = x }) files.1
+
+one_row : (g : Given) (c d : Command) → IsOfRow (row_of c) g → IsOfRow (row_of d) g
+    → (row_of c).word ≡ (row_of d).word → c ≡ d
+one_row g c d p q e =
+    let w = command_word c in
+    let a = of_word w c (word_is c) in
+    let b = of_word w d (word_is c ∙ e) in
+    a.1 ∙ ap (command w) (one_of_word g w a.0 b.0 (subst (λ x. IsOfRow (row_of x) g) a.1 p)
+    (subst (λ x. IsOfRow (row_of x) g) b.1 q)) ∙ sym b.1
 
 -- ---- words of a row, and what they give
 
@@ -601,94 +607,23 @@ row_given row words r g e = record {
   options = set_given g row.options r.arguments e r.options;
 }
 
--- the word of a command, with its options
-pub command_word : Command → CommandWord
-command_word (Rewrite x y nb) = word.Rewrite
-command_word (Run f n b w k ve l t nb) = word.Run
-command_word (Listing f) = word.List
-command_word (One f n o b l) = word.One
-command_word (Sim f n o b k ve l t nb ls pn) = word.Sim
-command_word (Replay f ve w t) = word.Replay
-command_word (Generate n y) = word.Generate
-command_word (Assemble x y) = word.Assemble
+-- the options of a command are those of its word
+settings_by : (w : CommandWord) (a : Arguments w)
+    → settings_in (row_of (command w a)).options ≡ settings_of w
+settings_by word.Rewrite a = refl
+settings_by word.Run a = refl
+settings_by word.List a = refl
+settings_by word.One a = refl
+settings_by word.Sim a = refl
+settings_by word.Replay a = refl
+settings_by word.Generate a = refl
+settings_by word.Assemble a = refl
 
-pub word_is : (c : Command) → text_of (command_word c) ≡ (row_of c).word
-unfolding command_word
-word_is (Rewrite x y nb) = refl
-word_is (Run f n b w k ve l t nb) = refl
-word_is (Listing f) = refl
-word_is (One f n o b l) = refl
-word_is (Sim f n o b k ve l t nb ls pn) = refl
-word_is (Replay f ve w t) = refl
-word_is (Generate n y) = refl
-word_is (Assemble x y) = refl
-
-word_settings : (w : CommandWord) (c : Command) → text_of w ≡ (row_of c).word →
-    settings_in (row_of c).options ≡ settings_of w
-word_settings word.Rewrite (Rewrite x y nb) e = refl
-word_settings word.Run (Run f n b w k ve l t nb) e = refl
-word_settings word.List (Listing f) e = refl
-word_settings word.One (One f n o b l) e = refl
-word_settings word.Sim (Sim f n o b k ve l t nb ls pn) e = refl
-word_settings word.Replay (Replay f ve w t) e = refl
-word_settings word.Generate (Generate n y) e = refl
-word_settings word.Assemble (Assemble x y) e = refl
-word_settings word.Rewrite (Run f n b w k ve l t nb) e = absurd (other_second _ _ e (omega arith))
-word_settings word.Rewrite (Listing f) e = absurd (other_first _ _ e (omega arith))
-word_settings word.Rewrite (One f n o b l) e = absurd (other_first _ _ e (omega arith))
-word_settings word.Rewrite (Sim f n o b k ve l t nb ls pn) e = absurd (other_first _ _ e (omega arith))
-word_settings word.Run (Rewrite x y nb) e = absurd (other_second _ _ e (omega arith))
-word_settings word.Run (Listing f) e = absurd (other_first _ _ e (omega arith))
-word_settings word.Run (One f n o b l) e = absurd (other_first _ _ e (omega arith))
-word_settings word.Run (Sim f n o b k ve l t nb ls pn) e = absurd (other_first _ _ e (omega arith))
-word_settings word.List (Rewrite x y nb) e = absurd (other_first _ _ e (omega arith))
-word_settings word.List (Run f n b w k ve l t nb) e = absurd (other_first _ _ e (omega arith))
-word_settings word.List (One f n o b l) e = absurd (other_first _ _ e (omega arith))
-word_settings word.List (Sim f n o b k ve l t nb ls pn) e = absurd (other_first _ _ e (omega arith))
-word_settings word.One (Rewrite x y nb) e = absurd (other_first _ _ e (omega arith))
-word_settings word.One (Run f n b w k ve l t nb) e = absurd (other_first _ _ e (omega arith))
-word_settings word.One (Listing f) e = absurd (other_first _ _ e (omega arith))
-word_settings word.One (Sim f n o b k ve l t nb ls pn) e = absurd (other_first _ _ e (omega arith))
-word_settings word.Sim (Rewrite x y nb) e = absurd (other_first _ _ e (omega arith))
-word_settings word.Sim (Run f n b w k ve l t nb) e = absurd (other_first _ _ e (omega arith))
-word_settings word.Sim (Listing f) e = absurd (other_first _ _ e (omega arith))
-word_settings word.Sim (One f n o b l) e = absurd (other_first _ _ e (omega arith))
-word_settings word.Rewrite (Replay f ve w t) e = absurd (other_third _ _ e (omega arith))
-word_settings word.Rewrite (Generate n y) e = absurd (other_first _ _ e (omega arith))
-word_settings word.Run (Replay f ve w t) e = absurd (other_second _ _ e (omega arith))
-word_settings word.Run (Generate n y) e = absurd (other_first _ _ e (omega arith))
-word_settings word.List (Replay f ve w t) e = absurd (other_first _ _ e (omega arith))
-word_settings word.List (Generate n y) e = absurd (other_first _ _ e (omega arith))
-word_settings word.One (Replay f ve w t) e = absurd (other_first _ _ e (omega arith))
-word_settings word.One (Generate n y) e = absurd (other_first _ _ e (omega arith))
-word_settings word.Sim (Replay f ve w t) e = absurd (other_first _ _ e (omega arith))
-word_settings word.Sim (Generate n y) e = absurd (other_first _ _ e (omega arith))
-word_settings word.Replay (Rewrite x y nb) e = absurd (other_third _ _ e (omega arith))
-word_settings word.Replay (Run f n b w k ve l t nb) e = absurd (other_second _ _ e (omega arith))
-word_settings word.Replay (Listing f) e = absurd (other_first _ _ e (omega arith))
-word_settings word.Replay (One f n o b l) e = absurd (other_first _ _ e (omega arith))
-word_settings word.Replay (Sim f n o b k ve l t nb ls pn) e = absurd (other_first _ _ e (omega arith))
-word_settings word.Replay (Generate n y) e = absurd (other_first _ _ e (omega arith))
-word_settings word.Generate (Rewrite x y nb) e = absurd (other_first _ _ e (omega arith))
-word_settings word.Generate (Run f n b w k ve l t nb) e = absurd (other_first _ _ e (omega arith))
-word_settings word.Generate (Listing f) e = absurd (other_first _ _ e (omega arith))
-word_settings word.Generate (One f n o b l) e = absurd (other_first _ _ e (omega arith))
-word_settings word.Generate (Sim f n o b k ve l t nb ls pn) e = absurd (other_first _ _ e (omega arith))
-word_settings word.Generate (Replay f ve w t) e = absurd (other_first _ _ e (omega arith))
-word_settings word.Rewrite (Assemble x y) e = absurd (other_first _ _ e (omega arith))
-word_settings word.Assemble (Rewrite x y nb) e = absurd (other_first _ _ e (omega arith))
-word_settings word.Run (Assemble x y) e = absurd (other_first _ _ e (omega arith))
-word_settings word.Assemble (Run f n b w k ve l t nb) e = absurd (other_first _ _ e (omega arith))
-word_settings word.List (Assemble x y) e = absurd (other_first _ _ e (omega arith))
-word_settings word.Assemble (Listing f) e = absurd (other_first _ _ e (omega arith))
-word_settings word.One (Assemble x y) e = absurd (other_first _ _ e (omega arith))
-word_settings word.Assemble (One f n o b l) e = absurd (other_first _ _ e (omega arith))
-word_settings word.Sim (Assemble x y) e = absurd (other_first _ _ e (omega arith))
-word_settings word.Assemble (Sim f n o b k ve l t nb ls pn) e = absurd (other_first _ _ e (omega arith))
-word_settings word.Replay (Assemble x y) e = absurd (other_first _ _ e (omega arith))
-word_settings word.Assemble (Replay f ve w t) e = absurd (other_first _ _ e (omega arith))
-word_settings word.Generate (Assemble x y) e = absurd (other_first _ _ e (omega arith))
-word_settings word.Assemble (Generate n y) e = absurd (other_first _ _ e (omega arith))
+word_settings : (w : CommandWord) (c : Command) → text_of w ≡ (row_of c).word
+    → settings_in (row_of c).options ≡ settings_of w
+word_settings w c e =
+    let is = of_word w c e in
+    ap (λ d. settings_in (row_of d).options) is.1 ∙ settings_by w is.0
 
 pub same_head : (v w : List ℕ) (vs ws : List (List ℕ)) → v ∷ vs ≡ w ∷ ws → v ≡ w
 same_head v w vs ws e = cc

@@ -10,11 +10,10 @@ use Rattle.clap.specs.Kinds.{or_else}
 use Rattle.clap.specs.Takes.{is_given}
 use Rattle.clap.specs.Faults.{is_simple_and_free, is_free_app, defaults_fault, default_fault, given_default_fault, check_fault}
 use Rattle.command_line.specs.declared.table.Setting.{Setting}
-use Rattle.command_line.specs.declared.table.Setting.TheVariants.{Nodes, Order, Budget, Layout, Code, Verify, Record, Brief, NoBatch, Loss, PerNode, From, To, Block, Node}
 use Rattle.command_line.specs.Commands.{option_word, kind_of}
 use Rattle.command_line.specs.Asks.{option_of, HasOption, takes_value}
 use Rattle.command_line.specs.Reading.{name_of, rule_for, rule_by, operand_rule, app_for}
-use Rattle.command_line.proofs.Words.{dashed}
+use Rattle.command_line.proofs.Words.{dashed, no_operand}
 
 -- the arguments as they are built
 abbrev pub option_rule : Bool → List ℕ → Rule
@@ -145,23 +144,6 @@ find_id (s ∷ settings) name =
         ≡ option_map rule (cond b (Some s) (option_of settings (45 ∷ 45 ∷ name)))
     go true e = refl
     go false e = e
-
-no_operand : (s : Setting) → bytes_eq (codes "operand") (name_of s) ≡ false
-no_operand Nodes = refl
-no_operand Order = refl
-no_operand Budget = refl
-no_operand Layout = refl
-no_operand Code = refl
-no_operand Verify = refl
-no_operand Record = refl
-no_operand Brief = refl
-no_operand NoBatch = refl
-no_operand Loss = refl
-no_operand PerNode = refl
-no_operand From = refl
-no_operand To = refl
-no_operand Block = refl
-no_operand Node = refl
 
 rule_at : (s : Setting) (b : Bool) → takes_value (kind_of s) ≡ b →
     Some (rule s) ≡ Some (option_rule b (name_of s))

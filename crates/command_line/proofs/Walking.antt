@@ -12,11 +12,10 @@ use Rattle.clap.specs.declared.error.kind.ErrorKind.{ErrorKind}
 use Rattle.clap.specs.declared.error.kind.ErrorKind.TheVariants.{UnknownArgument, TooManyValues, InvalidValue}
 use Rattle.clap.specs.Faults.{walk_fault, turn_fault, settle_fault}
 use Rattle.command_line.specs.declared.table.Setting.{Setting}
-use Rattle.command_line.specs.declared.table.Setting.TheVariants.{Nodes, Order, Budget, Layout, Code, Verify, Record, Brief, NoBatch, Loss, PerNode, From, To, Block, Node}
 use Rattle.command_line.specs.Commands.{option_word, kind_of}
 use Rattle.command_line.specs.Asks.{Argument, Operand, Apart, Joined, Bare, words_of, IsPlain, IsArgument, AreArguments, option_of, HasOption, takes_value}
 use Rattle.command_line.specs.Reading.{name_of, IsCut, IsLong, IsReadable, AreReadable}
-use Rattle.command_line.proofs.Words.{word_found, has_equals, cut_at, uncut, has_option}
+use Rattle.command_line.proofs.Words.{Long, long_alone, long_joined, word_found, has_equals, cut_at, uncut, has_option}
 use Rattle.command_line.proofs.Told.{rules, rule, option_rule, operands, shape, by_long, by_id, long_rule}
 
 and_false : (b : Bool) → (b && false) ≡ false
@@ -54,45 +53,6 @@ plain (x ∷ xs) h = go (x == 45) refl
     go : (b : Bool) → (x == 45) ≡ b → Plain (x ∷ xs)
     go true e = absurd (h.no_dash (eqb-true x 45 e))
     go false e = record { dashes = rw e refl; long = rw e refl; short = rw e refl }
-
--- a word of two dashes and more is an option
-pub record Long (word name : List ℕ) (value : Option (List ℕ)) : Type 0 where
-  pub dashes : bytes_eq word (45 ∷ 45 ∷ []) ≡ false
-  pub long : long_of word ≡ Some (name, value)
-
-pub long_joined : (s : Setting) (v : List ℕ) → Long (option_word s ++ (61 ∷ v)) (name_of s) (Some v)
-long_joined Nodes v = record { dashes = refl; long = refl }
-long_joined Order v = record { dashes = refl; long = refl }
-long_joined Budget v = record { dashes = refl; long = refl }
-long_joined Layout v = record { dashes = refl; long = refl }
-long_joined Code v = record { dashes = refl; long = refl }
-long_joined Verify v = record { dashes = refl; long = refl }
-long_joined Record v = record { dashes = refl; long = refl }
-long_joined Brief v = record { dashes = refl; long = refl }
-long_joined NoBatch v = record { dashes = refl; long = refl }
-long_joined Loss v = record { dashes = refl; long = refl }
-long_joined PerNode v = record { dashes = refl; long = refl }
-long_joined From v = record { dashes = refl; long = refl }
-long_joined To v = record { dashes = refl; long = refl }
-long_joined Block v = record { dashes = refl; long = refl }
-long_joined Node v = record { dashes = refl; long = refl }
-
-pub long_alone : (s : Setting) → Long (option_word s) (name_of s) None
-long_alone Nodes = record { dashes = refl; long = refl }
-long_alone Order = record { dashes = refl; long = refl }
-long_alone Budget = record { dashes = refl; long = refl }
-long_alone Layout = record { dashes = refl; long = refl }
-long_alone Code = record { dashes = refl; long = refl }
-long_alone Verify = record { dashes = refl; long = refl }
-long_alone Record = record { dashes = refl; long = refl }
-long_alone Brief = record { dashes = refl; long = refl }
-long_alone NoBatch = record { dashes = refl; long = refl }
-long_alone Loss = record { dashes = refl; long = refl }
-long_alone PerNode = record { dashes = refl; long = refl }
-long_alone From = record { dashes = refl; long = refl }
-long_alone To = record { dashes = refl; long = refl }
-long_alone Block = record { dashes = refl; long = refl }
-long_alone Node = record { dashes = refl; long = refl }
 
 pub long_word : (x : ℕ) (xs : List ℕ) → Long (45 ∷ 45 ∷ x ∷ xs)
     (before_first (λ d. d == 61) (x ∷ xs))

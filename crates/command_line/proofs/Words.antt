@@ -1,13 +1,14 @@
 -- The words of options.
-use Rattle.std.proofs.Common.{◌≡◌, ℕ, suc, Bool, true, false, ◌==◌, ◌||◌, ◌+◌, ◌<◌, List, length, take, get_or, Some, eqb-true, cond, bytes_eq, [], ◌∷◌, ◌++◌, slice_index, refl, sym, ap, ◌∙◌, arith}
+use Rattle.std.proofs.Common.{◌≡◌, ℕ, suc, Bool, true, false, ◌==◌, ◌||◌, ◌+◌, ◌<◌, List, length, take, get_or, Some, eqb-true, cond, bytes_eq, [], ◌∷◌, ◌++◌, slice_index, refl, sym, ap, ◌∙◌, arith, codes, length-append, Option, None}
 use Rattle.std.specs.List.{list_any, position_or_len, before_first, after_first}
 use Rattle.std.proofs.lemmas.List.Sums.{passes_at_first, split_at_first}
 use Rattle.std.proofs.lemmas.Slice.Eq.{bytes_eq-Decides}
+use Rattle.clap.specs.Lexer.{long_of}
 use Rattle.command_line.specs.declared.table.Setting.{Setting}
 use Rattle.command_line.specs.declared.table.Setting.TheVariants.{Nodes, Order, Budget, Layout, Code, Verify, Record, Brief, NoBatch, Loss, PerNode, From, To, Block, Node}
 use Rattle.command_line.specs.Commands.{option_word, kind_of}
 use Rattle.command_line.specs.Asks.{option_of, HasOption, IsPlain, takes_value}
-use Rattle.command_line.specs.Reading.{name_of}
+use Rattle.command_line.specs.Reading.{name_of, IsLong}
 
 abbrev pub has_equals : List ℕ → Bool
 has_equals word = list_any (λ c. c == 61) word
@@ -83,6 +84,130 @@ not_plain Node w e p = p.no_dash (ap (λ x. slice_index x 0) e)
 
 pub not_plain_joined : (s : Setting) (v w : List ℕ) → w ≡ option_word s ++ (61 ∷ v) → IsPlain w → ⊥
 not_plain_joined s v w e p = p.no_dash (ap (λ x. slice_index x 0) e ∙ dash_first s (61 ∷ v))
+
+-- an option's name is not that of operands
+pub no_operand : (s : Setting) → bytes_eq (codes "operand") (name_of s) ≡ false
+no_operand Nodes = refl
+no_operand Order = refl
+no_operand Budget = refl
+no_operand Layout = refl
+no_operand Code = refl
+no_operand Verify = refl
+no_operand Record = refl
+no_operand Brief = refl
+no_operand NoBatch = refl
+no_operand Loss = refl
+no_operand PerNode = refl
+no_operand From = refl
+no_operand To = refl
+no_operand Block = refl
+no_operand Node = refl
+
+pub no_option : (s : Setting) → bytes_eq (name_of s) (codes "operand") ≡ false
+no_option Nodes = refl
+no_option Order = refl
+no_option Budget = refl
+no_option Layout = refl
+no_option Code = refl
+no_option Verify = refl
+no_option Record = refl
+no_option Brief = refl
+no_option NoBatch = refl
+no_option Loss = refl
+no_option PerNode = refl
+no_option From = refl
+no_option To = refl
+no_option Block = refl
+no_option Node = refl
+
+-- a word of two dashes and more is an option
+pub record Long (word name : List ℕ) (value : Option (List ℕ)) : Type 0 where
+  pub dashes : bytes_eq word (45 ∷ 45 ∷ []) ≡ false
+  pub long : long_of word ≡ Some (name, value)
+
+pub long_joined : (s : Setting) (v : List ℕ) → Long (option_word s ++ (61 ∷ v)) (name_of s) (Some v)
+long_joined Nodes v = record { dashes = refl; long = refl }
+long_joined Order v = record { dashes = refl; long = refl }
+long_joined Budget v = record { dashes = refl; long = refl }
+long_joined Layout v = record { dashes = refl; long = refl }
+long_joined Code v = record { dashes = refl; long = refl }
+long_joined Verify v = record { dashes = refl; long = refl }
+long_joined Record v = record { dashes = refl; long = refl }
+long_joined Brief v = record { dashes = refl; long = refl }
+long_joined NoBatch v = record { dashes = refl; long = refl }
+long_joined Loss v = record { dashes = refl; long = refl }
+long_joined PerNode v = record { dashes = refl; long = refl }
+long_joined From v = record { dashes = refl; long = refl }
+long_joined To v = record { dashes = refl; long = refl }
+long_joined Block v = record { dashes = refl; long = refl }
+long_joined Node v = record { dashes = refl; long = refl }
+
+pub long_alone : (s : Setting) → Long (option_word s) (name_of s) None
+long_alone Nodes = record { dashes = refl; long = refl }
+long_alone Order = record { dashes = refl; long = refl }
+long_alone Budget = record { dashes = refl; long = refl }
+long_alone Layout = record { dashes = refl; long = refl }
+long_alone Code = record { dashes = refl; long = refl }
+long_alone Verify = record { dashes = refl; long = refl }
+long_alone Record = record { dashes = refl; long = refl }
+long_alone Brief = record { dashes = refl; long = refl }
+long_alone NoBatch = record { dashes = refl; long = refl }
+long_alone Loss = record { dashes = refl; long = refl }
+long_alone PerNode = record { dashes = refl; long = refl }
+long_alone From = record { dashes = refl; long = refl }
+long_alone To = record { dashes = refl; long = refl }
+long_alone Block = record { dashes = refl; long = refl }
+long_alone Node = record { dashes = refl; long = refl }
+
+-- an option's word is long
+pub is_long_joined : (s : Setting) (v : List ℕ) → IsLong (option_word s ++ (61 ∷ v))
+is_long_joined Nodes v =
+    record { more = omega (arith, length-append (codes "--nodes") (61 ∷ v)); first = refl; second = refl }
+is_long_joined Order v =
+    record { more = omega (arith, length-append (codes "--order") (61 ∷ v)); first = refl; second = refl }
+is_long_joined Budget v =
+    record { more = omega (arith, length-append (codes "--budget") (61 ∷ v)); first = refl; second = refl }
+is_long_joined Layout v =
+    record { more = omega (arith, length-append (codes "--layout") (61 ∷ v)); first = refl; second = refl }
+is_long_joined Code v =
+    record { more = omega (arith, length-append (codes "--code") (61 ∷ v)); first = refl; second = refl }
+is_long_joined Verify v =
+    record { more = omega (arith, length-append (codes "--verify") (61 ∷ v)); first = refl; second = refl }
+is_long_joined Record v =
+    record { more = omega (arith, length-append (codes "--record") (61 ∷ v)); first = refl; second = refl }
+is_long_joined Brief v =
+    record { more = omega (arith, length-append (codes "--brief") (61 ∷ v)); first = refl; second = refl }
+is_long_joined NoBatch v =
+    record { more = omega (arith, length-append (codes "--no-batch") (61 ∷ v)); first = refl; second = refl }
+is_long_joined Loss v =
+    record { more = omega (arith, length-append (codes "--loss") (61 ∷ v)); first = refl; second = refl }
+is_long_joined PerNode v =
+    record { more = omega (arith, length-append (codes "--per-node") (61 ∷ v)); first = refl; second = refl }
+is_long_joined From v =
+    record { more = omega (arith, length-append (codes "--from") (61 ∷ v)); first = refl; second = refl }
+is_long_joined To v =
+    record { more = omega (arith, length-append (codes "--to") (61 ∷ v)); first = refl; second = refl }
+is_long_joined Block v =
+    record { more = omega (arith, length-append (codes "--block") (61 ∷ v)); first = refl; second = refl }
+is_long_joined Node v =
+    record { more = omega (arith, length-append (codes "--node") (61 ∷ v)); first = refl; second = refl }
+
+pub is_long_alone : (s : Setting) → IsLong (option_word s)
+is_long_alone Nodes = record { more = omega arith; first = refl; second = refl }
+is_long_alone Order = record { more = omega arith; first = refl; second = refl }
+is_long_alone Budget = record { more = omega arith; first = refl; second = refl }
+is_long_alone Layout = record { more = omega arith; first = refl; second = refl }
+is_long_alone Code = record { more = omega arith; first = refl; second = refl }
+is_long_alone Verify = record { more = omega arith; first = refl; second = refl }
+is_long_alone Record = record { more = omega arith; first = refl; second = refl }
+is_long_alone Brief = record { more = omega arith; first = refl; second = refl }
+is_long_alone NoBatch = record { more = omega arith; first = refl; second = refl }
+is_long_alone Loss = record { more = omega arith; first = refl; second = refl }
+is_long_alone PerNode = record { more = omega arith; first = refl; second = refl }
+is_long_alone From = record { more = omega arith; first = refl; second = refl }
+is_long_alone To = record { more = omega arith; first = refl; second = refl }
+is_long_alone Block = record { more = omega arith; first = refl; second = refl }
+is_long_alone Node = record { more = omega arith; first = refl; second = refl }
 
 pub equals_inside : (xs ys : List ℕ) → has_equals (xs ++ (61 ∷ ys)) ≡ true
 equals_inside [] ys = refl

@@ -5,7 +5,7 @@ use Rattle.std.specs.Str.Parse.{IsNumeral, digits_value}
 use Rattle.command_line.specs.declared.table.Kind.{Kind}
 use Rattle.command_line.specs.declared.table.Kind.TheVariants.{Number, MaybeNumber, MaybeAddress, File, Flag}
 use Rattle.command_line.specs.declared.table.Setting.{Setting}
-use Rattle.command_line.specs.Commands.{Command, Place, Named, Between, Value, Amount, MaybeAmount, MaybeAt, Name, NoName, Switch, Row, row_of, IsFit, option_word, kind_of, settings_in}
+use Rattle.command_line.specs.Commands.{Command, OperandKind, Named, Between, Value, Amount, MaybeAmount, MaybeAt, Name, NoName, Switch, Row, row_of, IsFit, option_word, kind_of, settings_in}
 
 -- an argument behind the command's word: an operand, which is a word of its own; or an option with
 -- its value, as two words or as one; or a flag
@@ -94,11 +94,11 @@ pub record IsAddress (word : List ℕ) (address : ℕ) : Type 0 where
   pub value : digits_value 16 digits ≡ address
 
 -- what a word says in its place
-abbrev pub IsPlaced : Place → List ℕ → Value → Type 0
+abbrev pub IsPlaced : OperandKind → List ℕ → Value → Type 0
 IsPlaced (Named access) word value = value ≡ Name word
 IsPlaced (Between low high) word value = (n : ℕ) × IsNumber low high word n × (value ≡ Amount n)
 
-abbrev pub ArePlaced : List (Place × Value) → List (List ℕ) → Type 0
+abbrev pub ArePlaced : List (OperandKind × Value) → List (List ℕ) → Type 0
 ArePlaced [] [] = Unit {0}
 ArePlaced (place ∷ places) (word ∷ words) =
     IsPlaced place.0 word place.1 × ArePlaced places words

@@ -9,36 +9,81 @@ use Rattle.command_line.specs.declared.table.Kind.TheVariants.{Number, MaybeNumb
 use Rattle.command_line.specs.declared.table.Setting.{Setting}
 use Rattle.command_line.specs.declared.table.Setting.TheVariants.{Nodes, Order, Budget, Layout, Code, Verify, Record, Brief, NoBatch, Loss, PerNode, From, To, Block, Node}
 
+-- write the rewritten executable of the one in a file into another, without batches where these are
+-- not wanted
+pub record RewriteArguments : Type 0 where
+  pub input : List ℕ
+  pub output : List ℕ
+  pub no_batch : Bool
+
+-- what nodes run: so many nodes the rewritten code of the executable in a file, at most so many
+-- words of each processor; where they are named, the code is that of the executable in a file, or
+-- of a verified one, which may have been rewritten by another plan, and the blocks are those of the
+-- layout in a file; a brief text has no counts; the code has no batches where these aren't wanted
+pub record Execution : Type 0 where
+  pub file : List ℕ
+  pub nodes : ℕ
+  pub budget : ℕ
+  pub code : Option (List ℕ)
+  pub verified : Option (List ℕ)
+  pub layout : Option (List ℕ)
+  pub brief : Bool
+  pub no_batch : Bool
+
+-- run nodes, each in a thread of its own; the record of the run goes into a file, where one is
+-- named
+pub record RunArguments : Type 0 where
+  pub execution : Execution
+  pub record_file : Option (List ℕ)
+
+-- list the code words of the executable in a file
+pub record ListArguments : Type 0 where
+  pub file : List ℕ
+
+-- run so many processors of the original on one memory, by the order of a number, at most so many
+-- steps of each, with the blocks of the layout in a file, where one is named
+pub record OneArguments : Type 0 where
+  pub file : List ℕ
+  pub nodes : ℕ
+  pub order : ℕ
+  pub budget : ℕ
+  pub layout : Option (List ℕ)
+
+-- run nodes by the order of a number; where a loss is given, over links that lose packets, by the
+-- order of its number; where lanes are, with so many processors on each node
+pub record SimArguments : Type 0 where
+  pub execution : Execution
+  pub order : ℕ
+  pub loss : Option ℕ
+  pub lanes : Option ℕ
+
+-- make the run of a record once more: a file holds the executable, and another the record; a
+-- verified file and the text are as of nodes that run
+pub record ReplayArguments : Type 0 where
+  pub file : List ℕ
+  pub record_file : List ℕ
+  pub verified : Option (List ℕ)
+  pub brief : Bool
+
+-- write the executable that a number makes into a file
+pub record GenerateArguments : Type 0 where
+  pub number : ℕ
+  pub output : List ℕ
+
+-- write the executable of the assembly text in a file into another
+pub record AssembleArguments : Type 0 where
+  pub text : List ℕ
+  pub output : List ℕ
+
 pub data Command : Type 0 where
-  -- write the rewritten executable of the one in a file into another, without batches where these
-  -- are not wanted
-  Rewrite : (input output : List ℕ) (no_batch : Bool) → Command
-  -- run so many nodes of the rewritten code of the executable in a file, each in a thread of its
-  -- own, at most so many words of each processor; where they are named, the record of the run goes
-  -- into a file, the code is that of the executable in a file, or of a verified one, which may have
-  -- been rewritten by another plan, and the blocks are those of the layout in a file; a brief text
-  -- has no counts; the code has no batches where these aren't wanted
-  Run : (file : List ℕ) (nodes budget : ℕ) (record_file code verified layout : Option (List ℕ))
-      (brief no_batch : Bool) → Command
-  -- list its code words
-  Listing : (file : List ℕ) → Command
-  -- run so many processors of the original on one memory, by the order of a number, at most so
-  -- many steps of each, with the blocks of the layout in a file, where one is named
-  One : (file : List ℕ) (nodes order budget : ℕ) (layout : Option (List ℕ)) → Command
-  -- run so many nodes of the rewritten code by the order of a number, at most so many words of each
-  -- processor; the code, the blocks and the text are as of a run; where a loss is given, over links
-  -- that lose packets, by the order of its number; where lanes are, with so many processors on each
-  -- node
-  Sim : (file : List ℕ) (nodes order budget : ℕ) (code verified layout : Option (List ℕ))
-      (brief no_batch : Bool) (loss lanes : Option ℕ) → Command
-  -- make the run of a record once more: a file holds the executable, and another the record; a
-  -- verified file and the text are as of a run
-  Replay : (file : List ℕ) (verified : Option (List ℕ)) (record_file : List ℕ) (brief : Bool)
-      → Command
-  -- write the executable that a number makes into a file
-  Generate : (number : ℕ) (output : List ℕ) → Command
-  -- write the executable of the assembly text in a file into another
-  Assemble : (text output : List ℕ) → Command
+  Rewrite : RewriteArguments → Command
+  Run : RunArguments → Command
+  Listing : ListArguments → Command
+  One : OneArguments → Command
+  Sim : SimArguments → Command
+  Replay : ReplayArguments → Command
+  Generate : GenerateArguments → Command
+  Assemble : AssembleArguments → Command
 
 -- the word of an option
 abbrev pub option_word : Setting → List ℕ
@@ -78,9 +123,9 @@ kind_of Node = MaybeNumber 0 15
 
 -- the place of an operand, which stands behind the command's word without an option: the name of
 -- a file, or a number
-pub data Place : Type 0 where
-  Named : (access : Access) → Place
-  Between : (low high : ℕ) → Place
+pub data OperandKind : Type 0 where
+  Named : (access : Access) → OperandKind
+  Between : (low high : ℕ) → OperandKind
 
 -- what a place or an option says: a number; a number that may be left out, or an address that may
 -- be; the name of a file; no name; or whether a flag is there
@@ -100,58 +145,60 @@ name_or_none (Some name) = Name name
 -- a row of the table: the command's word, its places and its options, with what each says
 pub record Row : Type 0 where
   pub word : List ℕ
-  pub places : List (Place × Value)
+  pub places : List (OperandKind × Value)
   pub options : List (Setting × Value)
+
+-- the options of nodes that run, with what each says
+abbrev pub execution_options : Execution → List (Setting × Value)
+execution_options e =
+    (Nodes, Amount e.nodes) ∷ (Budget, Amount e.budget) ∷ (Code, name_or_none e.code)
+    ∷ (Verify, name_or_none e.verified) ∷ (Layout, name_or_none e.layout)
+    ∷ (Brief, Switch e.brief) ∷ (NoBatch, Switch e.no_batch) ∷ []
 
 -- the table
 abbrev pub row_of : Command → Row
-row_of (Rewrite input output no_batch) = record {
+row_of (Rewrite a) = record {
   word = codes "rewrite";
-  places = (Named Read, Name input) ∷ (Named Write, Name output) ∷ [];
-  options = (NoBatch, Switch no_batch) ∷ [];
+  places = (Named Read, Name a.input) ∷ (Named Write, Name a.output) ∷ [];
+  options = (NoBatch, Switch a.no_batch) ∷ [];
 }
-row_of (Run file nodes budget record_file code verified layout brief no_batch) = record {
+row_of (Run a) = record {
   word = codes "run";
-  places = (Named Read, Name file) ∷ [];
-  options =
-      (Nodes, Amount nodes) ∷ (Budget, Amount budget) ∷ (Record, name_or_none record_file)
-      ∷ (Code, name_or_none code) ∷ (Verify, name_or_none verified)
-      ∷ (Layout, name_or_none layout) ∷ (Brief, Switch brief) ∷ (NoBatch, Switch no_batch) ∷ [];
+  places = (Named Read, Name a.execution.file) ∷ [];
+  options = (Record, name_or_none a.record_file) ∷ execution_options a.execution;
 }
-row_of (Listing file) = record {
+row_of (Listing a) = record {
   word = codes "list";
-  places = (Named Read, Name file) ∷ [];
+  places = (Named Read, Name a.file) ∷ [];
   options = [];
 }
-row_of (One file nodes order budget layout) = record {
+row_of (One a) = record {
   word = codes "one";
-  places = (Named Read, Name file) ∷ [];
+  places = (Named Read, Name a.file) ∷ [];
   options =
-      (Nodes, Amount nodes) ∷ (Order, Amount order) ∷ (Budget, Amount budget)
-      ∷ (Layout, name_or_none layout) ∷ [];
+      (Nodes, Amount a.nodes) ∷ (Order, Amount a.order) ∷ (Budget, Amount a.budget)
+      ∷ (Layout, name_or_none a.layout) ∷ [];
 }
-row_of (Sim file nodes order budget code verified layout brief no_batch loss lanes) = record {
+row_of (Sim a) = record {
   word = codes "sim";
-  places = (Named Read, Name file) ∷ [];
+  places = (Named Read, Name a.execution.file) ∷ [];
   options =
-      (Nodes, Amount nodes) ∷ (Order, Amount order) ∷ (Budget, Amount budget)
-      ∷ (Code, name_or_none code) ∷ (Verify, name_or_none verified)
-      ∷ (Layout, name_or_none layout) ∷ (Brief, Switch brief) ∷ (NoBatch, Switch no_batch)
-      ∷ (Loss, MaybeAmount loss) ∷ (PerNode, MaybeAmount lanes) ∷ [];
+      (Order, Amount a.order) ∷ (Loss, MaybeAmount a.loss) ∷ (PerNode, MaybeAmount a.lanes)
+      ∷ execution_options a.execution;
 }
-row_of (Replay file verified record_file brief) = record {
+row_of (Replay a) = record {
   word = codes "replay";
-  places = (Named Read, Name file) ∷ (Named Read, Name record_file) ∷ [];
-  options = (Verify, name_or_none verified) ∷ (Brief, Switch brief) ∷ [];
+  places = (Named Read, Name a.file) ∷ (Named Read, Name a.record_file) ∷ [];
+  options = (Verify, name_or_none a.verified) ∷ (Brief, Switch a.brief) ∷ [];
 }
-row_of (Generate number output) = record {
+row_of (Generate a) = record {
   word = codes "gen";
-  places = (Between 0 (2 ^ 32 - 1), Amount number) ∷ (Named Write, Name output) ∷ [];
+  places = (Between 0 (2 ^ 32 - 1), Amount a.number) ∷ (Named Write, Name a.output) ∷ [];
   options = [];
 }
-row_of (Assemble text output) = record {
+row_of (Assemble a) = record {
   word = codes "asm";
-  places = (Named Read, Name text) ∷ (Named Write, Name output) ∷ [];
+  places = (Named Read, Name a.text) ∷ (Named Write, Name a.output) ∷ [];
   options = [];
 }
 
@@ -167,6 +214,10 @@ is_alone None code no_batch = true
 is_alone (Some file) None no_batch = not no_batch
 is_alone (Some file) (Some other) no_batch = false
 
+-- nodes that run have no more of these than they may
+abbrev pub IsAlone : Execution → Type 0
+IsAlone e = IsTrue (is_alone e.verified e.code e.no_batch)
+
 -- whether nodes may have so many processors each: only over links that lose nothing, and at most 16
 -- together
 abbrev pub AreFew : (nodes : ℕ) → (loss lanes : Option ℕ) → Type 0
@@ -176,10 +227,8 @@ AreFew nodes (Some loss) (Some lanes) = ⊥
 
 -- a command lacks nothing, and has nothing too much
 abbrev pub IsFit : Command → Type 0
-IsFit (Run file nodes budget record_file code verified layout brief no_batch) =
-    IsKept record_file nodes × IsTrue (is_alone verified code no_batch)
-IsFit (Sim file nodes order budget code verified layout brief no_batch loss lanes) =
-    IsTrue (is_alone verified code no_batch) × AreFew nodes loss lanes
+IsFit (Run a) = IsKept a.record_file a.execution.nodes × IsAlone a.execution
+IsFit (Sim a) = IsAlone a.execution × AreFew a.execution.nodes a.loss a.lanes
 IsFit command = Unit {0}
 
 -- the options that a command has
@@ -193,7 +242,7 @@ file_for Read Read (Name file) = file ∷ []
 file_for Write Write (Name file) = file ∷ []
 file_for wanted access value = []
 
-abbrev pub file_at : Access → Place × Value → List (List ℕ)
+abbrev pub file_at : Access → OperandKind × Value → List (List ℕ)
 file_at wanted (Named access, value) = file_for wanted access value
 file_at wanted (Between low high, value) = []
 

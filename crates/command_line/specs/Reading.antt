@@ -28,14 +28,15 @@ text_of word.Replay = codes "replay"
 text_of word.Generate = codes "gen"
 text_of word.Assemble = codes "asm"
 
+abbrev pub execution_settings : List Setting
+execution_settings = Nodes ∷ Budget ∷ Code ∷ Verify ∷ Layout ∷ Brief ∷ NoBatch ∷ []
+
 abbrev pub settings_of : CommandWord → List Setting
 settings_of word.Rewrite = NoBatch ∷ []
-settings_of word.Run =
-    Nodes ∷ Budget ∷ Record ∷ Code ∷ Verify ∷ Layout ∷ Brief ∷ NoBatch ∷ []
+settings_of word.Run = Record ∷ execution_settings
 settings_of word.List = []
 settings_of word.One = Nodes ∷ Order ∷ Budget ∷ Layout ∷ []
-settings_of word.Sim =
-    Nodes ∷ Order ∷ Budget ∷ Code ∷ Verify ∷ Layout ∷ Brief ∷ NoBatch ∷ Loss ∷ PerNode ∷ []
+settings_of word.Sim = Order ∷ Loss ∷ PerNode ∷ execution_settings
 settings_of word.Replay = Verify ∷ Brief ∷ []
 settings_of word.Generate = []
 settings_of word.Assemble = []

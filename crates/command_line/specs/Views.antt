@@ -18,9 +18,9 @@ pub data View : Type 0 where
   -- show the rewritten code of the executable in a file; it has no batches where these aren't
   -- wanted
   Code : (file : List ℕ) (no_batch : Bool) → View
-  -- show the events of the run of a record, in a line each: a file holds the executable, and another
-  -- the record; of those that have such stamps, are about the block that has the byte at an address,
-  -- and are of a node, where these are given
+  -- show the events of the run of a record, in a line each: a file holds the executable, and
+  -- another the record; of those that have such stamps, are about the block that has the byte at an
+  -- address, and are of a node, where these are given
   Trace : (file record_file : List ℕ) (from to block node : Option ℕ) → View
   -- show what each block cost in the run of a record
   Blocks : (file record_file : List ℕ) → View

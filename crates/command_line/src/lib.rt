@@ -26,77 +26,125 @@ mod view;
 pub use view::{View, view_of};
 
 /// What the program is to do.
-#[derive(Clone, Copy, Debug, PartialEq, Eq)]
+#[derive(Clone, Copy)]
 pub enum Command<'a> {
-    /// Write the rewritten executable of the one in the file `input` into the file `output`: with
-    /// `no_batch`, no run of accesses shares a check.
-    Rewrite {
-        input: &'a str,
-        output: &'a str,
-        no_batch: bool,
-    },
-    /// Run `nodes` nodes of the rewritten code of the executable in a file, each in a thread of its
-    /// own, at most `budget` words of each processor. Where they are named, the record of the run
-    /// goes into the file `record_file`, the code is that of the executable in the file `code`, or
-    /// in the file `verified`, which may go by another plan, and the blocks are those of the layout
-    /// in the file `layout`. A `brief` text has no counts. `no_batch` is as of `Rewrite`.
-    Run {
-        file: &'a str,
-        nodes: NodeCount,
-        budget: Budget,
-        record_file: Option<&'a str>,
-        code: Option<&'a str>,
-        verified: Option<&'a str>,
-        layout: Option<&'a str>,
-        brief: bool,
-        no_batch: bool,
-    },
+    /// Write the rewritten executable of the one in a file into another.
+    Rewrite(RewriteArguments<'a>),
+    /// Run nodes, each in a thread of its own.
+    Run(RunArguments<'a>),
     /// List the code words of the executable in a file.
-    List {
-        file: &'a str,
-    },
-    /// Run `nodes` processors of the original on one memory by the order of a number, at most
-    /// `budget` steps of each, with the blocks of the layout in a file, where one is named.
-    One {
-        file: &'a str,
-        nodes: NodeCount,
-        order: u32,
-        budget: Budget,
-        layout: Option<&'a str>,
-    },
-    /// Run `nodes` nodes of its rewritten code by the order of a number, at most `budget` words of
-    /// each processor. The code, the blocks and the text are as of `Run`. The `machine` says what
-    /// the nodes, and the links between them, are like.
-    Sim {
-        file: &'a str,
-        nodes: NodeCount,
-        order: u32,
-        budget: Budget,
-        code: Option<&'a str>,
-        verified: Option<&'a str>,
-        layout: Option<&'a str>,
-        brief: bool,
-        no_batch: bool,
-        machine: Machine,
-    },
-    /// Make the run of the record in the file `record_file` once more, of the executable in `file`.
-    /// A verified file and the text are as of `Run`.
-    Replay {
-        file: &'a str,
-        verified: Option<&'a str>,
-        record_file: &'a str,
-        brief: bool,
-    },
-    /// Write the executable that a number makes into the file `output`.
-    Generate {
-        number: u32,
-        output: &'a str,
-    },
-    /// Write the executable of the assembly text in the file `text` into the file `output`.
-    Assemble {
-        text: &'a str,
-        output: &'a str,
-    },
+    List(ListArguments<'a>),
+    /// Run processors of the original on one memory, by the order of a number.
+    One(OneArguments<'a>),
+    /// Run nodes by the order of a number.
+    Sim(SimArguments<'a>),
+    /// Make the run of a record once more.
+    Replay(ReplayArguments<'a>),
+    /// Write the executable that a number makes into a file.
+    Generate(GenerateArguments<'a>),
+    /// Write the executable of the assembly text in a file into another.
+    Assemble(AssembleArguments<'a>),
+}
+
+/// What `rewrite` is given.
+#[derive(Clone, Copy)]
+pub struct RewriteArguments<'a> {
+    /// The file of the executable.
+    pub input: &'a str,
+    /// The file that the rewritten executable goes into.
+    pub output: &'a str,
+    /// Whether no run of accesses shares a check.
+    pub no_batch: bool,
+}
+
+/// What nodes run: what `run` and `sim` both are given.
+#[derive(Clone, Copy)]
+pub struct Execution<'a> {
+    /// The file of the executable, whose rewritten code the nodes run.
+    pub file: &'a str,
+    pub nodes: NodeCount,
+    /// How many words of each processor are run at most.
+    pub budget: Budget,
+    /// The file of the executable that has the code, where one is named.
+    pub code: Option<&'a str>,
+    /// The file of a verified executable that has it, which may go by another plan.
+    pub verified: Option<&'a str>,
+    /// The file of the layout of the blocks.
+    pub layout: Option<&'a str>,
+    /// Whether the text has no counts.
+    pub brief: bool,
+    /// Whether no run of accesses shares a check.
+    pub no_batch: bool,
+}
+
+/// What `run` is given.
+#[derive(Clone, Copy)]
+pub struct RunArguments<'a> {
+    pub execution: Execution<'a>,
+    /// The file that the record of the run goes into, where one is named.
+    pub record_file: Option<&'a str>,
+}
+
+/// What `list` is given.
+#[derive(Clone, Copy)]
+pub struct ListArguments<'a> {
+    /// The file of the executable.
+    pub file: &'a str,
+}
+
+/// What `one` is given.
+#[derive(Clone, Copy)]
+pub struct OneArguments<'a> {
+    /// The file of the executable.
+    pub file: &'a str,
+    /// How many processors are run.
+    pub nodes: NodeCount,
+    /// The number of the order.
+    pub order: u32,
+    /// How many steps of each processor are made at most.
+    pub budget: Budget,
+    /// The file of the layout of the blocks, where one is named.
+    pub layout: Option<&'a str>,
+}
+
+/// What `sim` is given.
+#[derive(Clone, Copy)]
+pub struct SimArguments<'a> {
+    pub execution: Execution<'a>,
+    /// The number of the order.
+    pub order: u32,
+    /// What the nodes and the links are like.
+    pub machine: Machine,
+}
+
+/// What `replay` is given.
+#[derive(Clone, Copy)]
+pub struct ReplayArguments<'a> {
+    /// The file of the executable.
+    pub file: &'a str,
+    /// The file of the record.
+    pub record_file: &'a str,
+    /// The file of a verified executable, where one is named.
+    pub verified: Option<&'a str>,
+    /// Whether the text has no counts.
+    pub brief: bool,
+}
+
+/// What `gen` is given.
+#[derive(Clone, Copy)]
+pub struct GenerateArguments<'a> {
+    pub number: u32,
+    /// The file that the executable goes into.
+    pub output: &'a str,
+}
+
+/// What `asm` is given.
+#[derive(Clone, Copy)]
+pub struct AssembleArguments<'a> {
+    /// The file of the assembly text.
+    pub text: &'a str,
+    /// The file that the executable goes into.
+    pub output: &'a str,
 }
 
 /// What the nodes of a run by an order, and the links between them, are like.
@@ -316,11 +364,11 @@ fn rewrite_of<'a>(matches: &ArgMatches<'a>) -> Option<Command<'a>>
 {
     let (input, output) = two_operands_in(matches)?;
     let no_batch = flag_in(matches, Setting::NoBatch)?;
-    Some(Command::Rewrite {
+    Some(Command::Rewrite(RewriteArguments {
         input,
         output,
         no_batch,
-    })
+    }))
 }
 
 /// The command `run`, which goes without a record for one node alone.
@@ -332,29 +380,32 @@ fn run_of<'a>(matches: &ArgMatches<'a>) -> Option<Command<'a>>
     let file = file_in(matches)?;
     let nodes = nodes_in(matches)?;
     let budget = budget_in(matches)?;
-    let record_file = name_in(matches, Setting::Record)?;
     let code = name_in(matches, Setting::Code)?;
     let verified = name_in(matches, Setting::Verify)?;
     let layout = name_in(matches, Setting::Layout)?;
     let brief = flag_in(matches, Setting::Brief)?;
     let no_batch = flag_in(matches, Setting::NoBatch)?;
+    let record_file = name_in(matches, Setting::Record)?;
     if record_file.is_none() && nodes.number() != 1 {
         return None;
     }
     if !is_alone(verified, code, no_batch) {
         return None;
     }
-    Some(Command::Run {
+    let execution = Execution {
         file,
         nodes,
         budget,
-        record_file,
         code,
         verified,
         layout,
         brief,
         no_batch,
-    })
+    };
+    Some(Command::Run(RunArguments {
+        execution,
+        record_file,
+    }))
 }
 
 /// The command `list`.
@@ -364,7 +415,7 @@ fn list_of<'a>(matches: &ArgMatches<'a>) -> Option<Command<'a>>
         (λ c. Completes (codes "list") (given_by matches.now) (meaning_of c)) }
 {
     let file = file_in(matches)?;
-    Some(Command::List { file })
+    Some(Command::List(ListArguments { file }))
 }
 
 /// The command `one`.
@@ -378,13 +429,13 @@ fn one_of<'a>(matches: &ArgMatches<'a>) -> Option<Command<'a>>
     let order = order_in(matches)?;
     let budget = budget_in(matches)?;
     let layout = name_in(matches, Setting::Layout)?;
-    Some(Command::One {
+    Some(Command::One(OneArguments {
         file,
         nodes,
         order,
         budget,
         layout,
-    })
+    }))
 }
 
 /// The command `sim`.
@@ -395,31 +446,34 @@ fn sim_of<'a>(matches: &ArgMatches<'a>) -> Option<Command<'a>>
 {
     let file = file_in(matches)?;
     let nodes = nodes_in(matches)?;
-    let order = order_in(matches)?;
     let budget = budget_in(matches)?;
     let code = name_in(matches, Setting::Code)?;
     let verified = name_in(matches, Setting::Verify)?;
     let layout = name_in(matches, Setting::Layout)?;
     let brief = flag_in(matches, Setting::Brief)?;
     let no_batch = flag_in(matches, Setting::NoBatch)?;
+    let order = order_in(matches)?;
     let loss = loss_in(matches)?;
     let lanes = lanes_in(matches)?;
     let machine = machine_of(nodes, loss, lanes)?;
     if !is_alone(verified, code, no_batch) {
         return None;
     }
-    Some(Command::Sim {
+    let execution = Execution {
         file,
         nodes,
-        order,
         budget,
         code,
         verified,
         layout,
         brief,
         no_batch,
+    };
+    Some(Command::Sim(SimArguments {
+        execution,
+        order,
         machine,
-    })
+    }))
 }
 
 /// The command `replay`.
@@ -431,12 +485,12 @@ fn replay_of<'a>(matches: &ArgMatches<'a>) -> Option<Command<'a>>
     let (file, record_file) = two_operands_in(matches)?;
     let verified = name_in(matches, Setting::Verify)?;
     let brief = flag_in(matches, Setting::Brief)?;
-    Some(Command::Replay {
+    Some(Command::Replay(ReplayArguments {
         file,
-        verified,
         record_file,
+        verified,
         brief,
-    })
+    }))
 }
 
 /// The number of a word that makes an executable.
@@ -459,7 +513,7 @@ fn generate_of<'a>(matches: &ArgMatches<'a>) -> Option<Command<'a>>
 {
     let (word, output) = two_operands_in(matches)?;
     let number = seed_of(word)?;
-    Some(Command::Generate { number, output })
+    Some(Command::Generate(GenerateArguments { number, output }))
 }
 
 /// The command `asm`.
@@ -469,7 +523,7 @@ fn assemble_of<'a>(matches: &ArgMatches<'a>) -> Option<Command<'a>>
         (λ c. Completes (codes "asm") (given_by matches.now) (meaning_of c)) }
 {
     let (text, output) = two_operands_in(matches)?;
-    Some(Command::Assemble { text, output })
+    Some(Command::Assemble(AssembleArguments { text, output }))
 }
 
 /// The command of a word that is a command's, with these arguments.

@@ -104,9 +104,9 @@ impl CommandWord {
     {
         match self {
             CommandWord::Run => &[
+                Setting::Record,
                 Setting::Nodes,
                 Setting::Budget,
-                Setting::Record,
                 Setting::Code,
                 Setting::Verify,
                 Setting::Layout,
@@ -125,16 +125,16 @@ impl CommandWord {
                 Setting::Layout,
             ],
             CommandWord::Sim => &[
-                Setting::Nodes,
                 Setting::Order,
+                Setting::Loss,
+                Setting::PerNode,
+                Setting::Nodes,
                 Setting::Budget,
                 Setting::Code,
                 Setting::Verify,
                 Setting::Layout,
                 Setting::Brief,
                 Setting::NoBatch,
-                Setting::Loss,
-                Setting::PerNode,
             ],
         }
     }

@@ -12,34 +12,34 @@ use Rattle.rv32_program.specs.Program.{Program}
 use Rattle.rv32_program.specs.declared.End.{End}
 use Rattle.templates.specs.declared.plans.PlanEntry.{PlanEntry}
 use Rattle.jump_map.specs.Image.{Cell, IsRewriting}
-use Rattle.judged_files.specs.rewriter.Parts.{Parts, IsRewritten}
-use Rattle.judged_files.specs.rewriter.RewrittenFile.{rewritten_elf}
+use Rattle.rewriter.specs.Parts.{Parts, IsRewritten}
+use Rattle.rewriter.specs.RewrittenFile.{rewritten_elf}
 use Rattle.node_model.specs.Node.{Work}
 use Rattle.node_model.specs.Core.{Core, Event, IsOver, opening_core, after}
 use Rattle.node_model.specs.Outcome.{Outcome}
 use Rattle.node_model.specs.declared.Entry.{Entry}
-use Rattle.judged_files.specs.run_order.OwnRun.{Stamped, StandsForOwnRun, run_of}
-use Rattle.judged_files.specs.rewriting_law.Bounds.{RunsRewritten}
+use Rattle.run_order.specs.OwnRun.{Stamped, StandsForOwnRun, run_of}
+use Rattle.rewriting_law.specs.Bounds.{RunsRewritten}
 use Rattle.run_record.specs.declared.Record.{Record}
 use Rattle.run_record.specs.Record.{IsRecord}
 use Rattle.run_record.specs.Telling.{IsOfWords}
 use Rattle.run_record.specs.Text.{record_text}
-use Rattle.judged_files.specs.replay.Replay.{TellsWholeRun, HasJournalsOf}
-use Rattle.judged_files.specs.replay.Told.{Told, AreToldBy, what_told}
+use Rattle.replay.specs.Replay.{TellsWholeRun, HasJournalsOf}
+use Rattle.replay.specs.Told.{Told, AreToldBy, what_told}
 use Rattle.judged_files.specs.Code.{Choice, Planned, Verified, choice_of, IsRewritingOf}
 use Rattle.judged_files.specs.Executables.{ReadsAs}
 use Rattle.commands.specs.Headline.{IsOutcomeRecorded, IsTextWith}
-use Rattle.judged_files.specs.WholeRuns.{IsRunOf}
+use Rattle.prepared_run.specs.WholeRuns.{IsRunOf, IsRunOfCode, IsWholeRun}
 use Rattle.judged_files.specs.Inputs.{Inputs}
-use Rattle.judged_files.specs.WholeRuns.{IsRunOfCode, IsWholeRun}
 use Rattle.commands.specs.Outcomes.{status_of}
 use Rattle.commands.specs.Outcomes as outcomes
 use Rattle.commands.specs.Records.{record_of}
-use Rattle.judged_files.specs.Replays.{IsLayoutOfBlocks, IsOutcomeOfReplay, IsTextOf, IsWorkOf}
+use Rattle.judged_files.specs.Records.{IsLayoutOfBlocks, IsTextOf}
+use Rattle.prepared_run.specs.Replays.{IsOutcomeOfReplay, IsWorkOf}
 use Rattle.commands.specs.Text.{text_of}
 use Rattle.commands.proofs.BlockWords.{named_words}
 use Rattle.commands.proofs.RecordLemmas.{AreShort, TellTakes, is_record}
-use Rattle.judged_files.proofs.RunLemmas.{shape_facts}
+use Rattle.prepared_run.proofs.RunLemmas.{shape_facts}
 use Rattle.commands.proofs.SharedRanges.{HasLines, same_ranges}
 
 -- the laws of short runs, of journals, of the texts of records, of rewriting, and of records

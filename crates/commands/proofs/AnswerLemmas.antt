@@ -2,17 +2,17 @@
 use Rattle.std.proofs.Common.{◌≡◌, ◌⊎◌, ℕ, ◌<◌, ◌≤◌, Bool, true, false, List, [], ◌++◌, length, Option, Some, None, append-nil, option_map, refl, sym, ap, ◌∙◌, subst, inl, inr, arith}
 use Rattle.std.specs.Prelude.{Contains, IfSome, IfOk, IfErr, MatchOption, Result, Ok, Err, if◌then◌else◌}
 use Rattle.dsm_io.specs.Causes.{Rose}
-use Rattle.command_line.specs.Commands.{Command, Rewrite, Run, Listing, One, Sim, Replay, Generate, Assemble, reads, writes}
+use Rattle.command_line.specs.Commands.{RewriteArguments, Command, Rewrite, Run, Listing, One, Sim, Replay, Generate, Assemble, reads, writes}
 use Rattle.command_line.specs.declared.Command.{Command as OfCode}
 use Rattle.command_line.specs.Asks.{Asks}
 use Rattle.command_line.specs.Meaning.{meaning_of}
-use Rattle.judged_files.specs.declared.failure.Failure.{Failure}
-use Rattle.judged_files.specs.declared.failure.Failure.TheVariants.{Input, NotWritten, Refused, Layout, Record, Text, Output, OutOfMemory}
+use Rattle.text_output.specs.declared.failure.Failure.{Failure}
+use Rattle.text_output.specs.declared.failure.Failure.TheVariants.{Input, NotWritten, Refused, Layout, Record, Text, Output, OutOfMemory}
 use Rattle.dsm_io.specs.States.{SinkState, FilesState}
 use Rattle.commands.specs.Answers.{HasBytes, IsFault, IsLeft, IsUnwritten, IsWriteFault, IsRefusalStatus, AreLeft, AreWritten}
-use Rattle.judged_files.specs.Answers.{IsTooLong, file_limit}
+use Rattle.judged_files.specs.Failures.{IsTooLong, file_limit, IsReadFailure, IsNamedFailure}
 use Rattle.commands.specs.Refusals.{IsRefused, IsLayoutRefused, IsRecordRefused, IsTextRefused}
-use Rattle.judged_files.specs.Failures.{status_of, line_of, IsReadFailure, FailsAs, Puts, IsWriteFailure, IsNoRefusal, IsNamedFailure, PutsPrefix}
+use Rattle.text_output.specs.Failures.{status_of, line_of, FailsAs, Puts, IsWriteFailure, IsNoRefusal, PutsPrefix}
 use Rattle.commands.specs.Failures.{IsFailure, IsPerformFailure, IsRewriteFailure, IsSuccess, IsInputFailure, AreInputs, AreKept}
 use Rattle.commands.specs.Headline.{IsText, IsRewrittenFile, IsRewrittenText, PrintsPrefix}
 use Rattle.judged_files.specs.Inputs.{Inputs}
@@ -38,20 +38,20 @@ low_status false = omega arith
 
 pub is_low : (c : Command) (files : FilesState) (inputs : Inputs) (text : List ℕ)
     (status : ℕ) → IsText c files inputs text status → status ≤ 1
-is_low (Rewrite input output no_batch) files inputs text status h =
+is_low (Rewrite a) files inputs text status h =
     let zero = h.status_is in omega (arith, zero)
-is_low (Run file nodes budget record_file code verified layout brief no_batch) files inputs text status h =
+is_low (Run a) files inputs text status h =
     subst (λ s. s ≤ 1) (sym h.status_is) (low_status _)
-is_low (One file nodes order budget layout) files inputs text status h =
+is_low (One a) files inputs text status h =
     subst (λ s. s ≤ 1) (sym h.status_is) (low_status _)
-is_low (Sim file nodes order budget code verified layout brief no_batch loss lanes) files inputs text status h =
+is_low (Sim a) files inputs text status h =
     subst (λ s. s ≤ 1) (sym h.status_is) (low_status _)
-is_low (Listing file) files inputs text status h = let zero = h.1 in omega (arith, zero)
-is_low (Replay file verified record_file brief) files inputs text status h =
+is_low (Listing a) files inputs text status h = let zero = h.1 in omega (arith, zero)
+is_low (Replay a) files inputs text status h =
     subst (λ s. s ≤ 1) (sym h.status_is) (low_status _)
-is_low (Generate number output) files inputs text status h =
+is_low (Generate a) files inputs text status h =
     let zero = h.1 in omega (arith, zero)
-is_low (Assemble assembly output) files inputs text status h =
+is_low (Assemble a) files inputs text status h =
     let zero = h.status_is in omega (arith, zero)
 
 pub succeeds : (c : Command) (files files_now : FilesState) (before now : SinkState) (inputs : Inputs)
@@ -341,7 +341,7 @@ prefix_of_failure c files files_now before now Output h five contents told =
     absurd (omega (arith, five))
 prefix_of_failure c files files_now before now OutOfMemory h five contents told = h contents told
 
-pub line_five : (f : Failure) → status_of f ≡ 5 → line_of f ≡ Rattle.judged_files.specs.Text.out_of_memory
+pub line_five : (f : Failure) → status_of f ≡ 5 → line_of f ≡ Rattle.text_output.specs.Text.out_of_memory
 line_five (Input line) five = absurd (omega (arith, five))
 line_five (NotWritten line) five = absurd (omega (arith, five))
 line_five (Refused line) five = absurd (omega (arith, five))
@@ -374,40 +374,40 @@ none_written c none inputs before now = (
     nothing_in : (name : List ℕ) → Contains [] name → ⊥
     nothing_in name h = omega (arith, h.1)
 
-pub only_output : (input output name : List ℕ) (no_batch : Bool) → Contains (writes (Rewrite input output no_batch)) name
-    → name ≡ output
-only_output input output name no_batch h = only_of output name h
+pub only_output : (a : RewriteArguments) (name : List ℕ) → Contains (writes (Rewrite a)) name
+    → name ≡ a.output
+only_output a name h = only_of a.output name h
 
-pub has_output : (input output : List ℕ) (no_batch : Bool) → Contains (writes (Rewrite input output no_batch)) output
-has_output input output no_batch = (0, omega arith, refl)
+pub has_output : (a : RewriteArguments) → Contains (writes (Rewrite a)) a.output
+has_output a = (0, omega arith, refl)
 
-pub rewritten_written : (input output : List ℕ) (no_batch : Bool) (inputs : Inputs) (now : FilesState)
-    → IfSome (now.held output) (IsRewrittenFile inputs.batches inputs.executable)
-    → AreWritten (Rewrite input output no_batch) inputs now
-rewritten_written input output no_batch inputs now h name there =
-    subst (λ n. IfSome (now.held n) (IsRewrittenFile inputs.batches inputs.executable)) (sym (only_output input output name no_batch there)) h
+pub rewritten_written : (a : RewriteArguments) (inputs : Inputs) (now : FilesState)
+    → IfSome (now.held a.output) (IsRewrittenFile inputs.batches inputs.executable)
+    → AreWritten (Rewrite a) inputs now
+rewritten_written a inputs now h name there =
+    subst (λ n. IfSome (now.held n) (IsRewrittenFile inputs.batches inputs.executable)) (sym (only_output a name there)) h
 
-left_at : (input output : List ℕ) (no_batch : Bool) (inputs : Inputs) (before now : FilesState)
-    → (now.held output ≡ before.held output)
-    ⊎ Rose (before.failed_writes output) (now.failed_writes output)
-    → AreLeft (Rewrite input output no_batch) inputs before now
-left_at input output no_batch inputs before now h name there =
-    subst (IsLeft (Rewrite input output no_batch) inputs before now) (sym (only_output input output name no_batch there))
+left_at : (a : RewriteArguments) (inputs : Inputs) (before now : FilesState)
+    → (now.held a.output ≡ before.held a.output)
+    ⊎ Rose (before.failed_writes a.output) (now.failed_writes a.output)
+    → AreLeft (Rewrite a) inputs before now
+left_at a inputs before now h name there =
+    subst (IsLeft (Rewrite a) inputs before now) (sym (only_output a name there))
     (elim h [ inl same ↦ inl same | inr rose ↦ inr (inr rose) ])
 
-pub rewrite_left : (input output : List ℕ) (no_batch : Bool) (inputs : Inputs) (before now : FilesState) (f : Failure)
-    → IsRewriteFailure inputs.batches inputs.executable before now output f
-    → AreLeft (Rewrite input output no_batch) inputs before now
-rewrite_left input output no_batch inputs before now (Input line) h = absurd h
-rewrite_left input output no_batch inputs before now (NotWritten line) h =
-    left_at input output no_batch inputs before now (inr h.1.0)
-rewrite_left input output no_batch inputs before now (Refused line) h =
-    left_at input output no_batch inputs before now (inl (h.1 output))
-rewrite_left input output no_batch inputs before now (Layout line) h = absurd h
-rewrite_left input output no_batch inputs before now (Record line) h = absurd h
-rewrite_left input output no_batch inputs before now (Text line) h = absurd h
-rewrite_left input output no_batch inputs before now Output h = absurd h
-rewrite_left input output no_batch inputs before now OutOfMemory h = left_at input output no_batch inputs before now h
+pub rewrite_left : (a : RewriteArguments) (inputs : Inputs) (before now : FilesState) (f : Failure)
+    → IsRewriteFailure inputs.batches inputs.executable before now a.output f
+    → AreLeft (Rewrite a) inputs before now
+rewrite_left a inputs before now (Input line) h = absurd h
+rewrite_left a inputs before now (NotWritten line) h =
+    left_at a inputs before now (inr h.1.0)
+rewrite_left a inputs before now (Refused line) h =
+    left_at a inputs before now (inl (h.1 a.output))
+rewrite_left a inputs before now (Layout line) h = absurd h
+rewrite_left a inputs before now (Record line) h = absurd h
+rewrite_left a inputs before now (Text line) h = absurd h
+rewrite_left a inputs before now Output h = absurd h
+rewrite_left a inputs before now OutOfMemory h = left_at a inputs before now h
 
 -- a rewritten file wasn't written
 pub rewrite_unwritten : (batches : Bool) (file bytes : List ℕ) (before now : FilesState)
@@ -433,20 +433,20 @@ rewrite_kept batches output file before now (Text line) h four = absurd h
 rewrite_kept batches output file before now Output h four = absurd h
 rewrite_kept batches output file before now OutOfMemory h four = absurd (omega (arith, four))
 
-pub rewrite_fails : (input output : List ℕ) (no_batch : Bool) (inputs : Inputs) (before now : FilesState) (state : SinkState)
-    (f : Failure) → IsRewriteFailure inputs.batches inputs.executable before now output f
-    → IsPerformFailure (Rewrite input output no_batch) inputs before now state state f
-rewrite_fails input output no_batch inputs before now state (Input line) h = absurd h
-rewrite_fails input output no_batch inputs before now state (NotWritten line) h =
-    let at : IsUnwritten (Rewrite input output no_batch) before now (λ l. line.items ≡ l) =
-    (output, has_output input output no_batch, h.1.0, h.1.1) in
+pub rewrite_fails : (a : RewriteArguments) (inputs : Inputs) (before now : FilesState) (state : SinkState)
+    (f : Failure) → IsRewriteFailure inputs.batches inputs.executable before now a.output f
+    → IsPerformFailure (Rewrite a) inputs before now state state f
+rewrite_fails a inputs before now state (Input line) h = absurd h
+rewrite_fails a inputs before now state (NotWritten line) h =
+    let at : IsUnwritten (Rewrite a) before now (λ l. line.items ≡ l) =
+    (a.output, has_output a, h.1.0, h.1.1) in
     (refl, (h.0, at))
-rewrite_fails input output no_batch inputs before now state (Refused line) h = (h.0, refl)
-rewrite_fails input output no_batch inputs before now state (Layout line) h = absurd h
-rewrite_fails input output no_batch inputs before now state (Record line) h = absurd h
-rewrite_fails input output no_batch inputs before now state (Text line) h = absurd h
-rewrite_fails input output no_batch inputs before now state Output h = absurd h
-rewrite_fails input output no_batch inputs before now state OutOfMemory h = inl refl
+rewrite_fails a inputs before now state (Refused line) h = (h.0, refl)
+rewrite_fails a inputs before now state (Layout line) h = absurd h
+rewrite_fails a inputs before now state (Record line) h = absurd h
+rewrite_fails a inputs before now state (Text line) h = absurd h
+rewrite_fails a inputs before now state Output h = absurd h
+rewrite_fails a inputs before now state OutOfMemory h = inl refl
 
 pub same_taken : (o : Option (List ℕ)) → o ≡ option_map (λ t. t ++ []) o
 same_taken None = refl

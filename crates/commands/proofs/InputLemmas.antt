@@ -1,14 +1,13 @@
 -- The files that commands read.
-use Rattle.std.proofs.Common.{◌≡◌, ◌⊎◌, ℕ, ◌<◌, ◌≤◌, Bool, List, [], ◌∷◌, ◌++◌, length, Option, Some, None, option_map, refl, sym, ap, ◌∙◌, subst, inl, inr, arith}
+use Rattle.std.proofs.Common.{◌≡◌, ◌⊎◌, ℕ, ◌<◌, Bool, List, [], ◌∷◌, ◌++◌, length, Option, Some, None, option_map, refl, sym, ap, ◌∙◌, subst, inl, inr, arith}
 use Rattle.std.specs.Prelude.{Contains, IfSome}
 use Rattle.std.proofs.lemmas.List.Elements.{Contains-append_left, Contains-append_right, Contains-append_cases}
 use Rattle.dsm_io.specs.States.{FilesState}
-use Rattle.command_line.specs.Commands.{Command, Rewrite, Run, Listing, One, Sim, Replay, Generate, Assemble, reads}
-use Rattle.judged_files.specs.Answers.{file_limit}
-use Rattle.judged_files.specs.Failures.{AreBytes, AreContents, IsContent}
+use Rattle.judged_files.specs.Failures.{file_limit, AreBytes, AreContents, IsContent}
+use Rattle.command_line.specs.Commands.{Execution, RunArguments, SimArguments, Command, Rewrite, Run, Listing, One, Sim, Replay, Generate, Assemble, reads}
 use Rattle.commands.specs.Failures.{AreInputs, AreRead}
 use Rattle.judged_files.specs.Inputs.{Inputs}
-use Rattle.commands.specs.Inputs.{input_of, code_of, verified_of, layout_of, text_file_of, bytes_in}
+use Rattle.commands.specs.Inputs.{FileNames, execution_files, file_names, bytes_in}
 
 -- the file of a name that may be left out
 abbrev pub named : Option (List ℕ) → List (List ℕ)
@@ -17,36 +16,59 @@ named (Some name) = name ∷ []
 
 -- a command reads its executable, its record or its assembly text, its code, its verified file and
 -- its layout
-abbrev files_of : Command → List (List ℕ)
-files_of c =
-    named (input_of c) ++ (named (text_file_of c)
-    ++ (named (code_of c) ++ (named (verified_of c) ++ named (layout_of c))))
+abbrev named_in : FileNames → List (List ℕ)
+named_in names =
+    named names.executable ++ (named names.text
+    ++ (named names.code ++ (named names.verified ++ named names.layout)))
 
-reads_are : (c : Command) → reads c ≡ files_of c
-reads_are (Rewrite input output no_batch) = refl
-reads_are (Run file nodes budget record_file None None None brief no_batch) = refl
-reads_are (Run file nodes budget record_file None None (Some layout) brief no_batch) = refl
-reads_are (Run file nodes budget record_file None (Some verified) None brief no_batch) = refl
-reads_are (Run file nodes budget record_file None (Some verified) (Some layout) brief no_batch) = refl
-reads_are (Run file nodes budget record_file (Some code) None None brief no_batch) = refl
-reads_are (Run file nodes budget record_file (Some code) None (Some layout) brief no_batch) = refl
-reads_are (Run file nodes budget record_file (Some code) (Some verified) None brief no_batch) = refl
-reads_are (Run file nodes budget record_file (Some code) (Some verified) (Some layout) brief no_batch) = refl
-reads_are (Listing file) = refl
-reads_are (One file nodes order budget None) = refl
-reads_are (One file nodes order budget (Some layout)) = refl
-reads_are (Sim file nodes order budget None None None brief no_batch loss lanes) = refl
-reads_are (Sim file nodes order budget None None (Some layout) brief no_batch loss lanes) = refl
-reads_are (Sim file nodes order budget None (Some verified) None brief no_batch loss lanes) = refl
-reads_are (Sim file nodes order budget None (Some verified) (Some layout) brief no_batch loss lanes) = refl
-reads_are (Sim file nodes order budget (Some code) None None brief no_batch loss lanes) = refl
-reads_are (Sim file nodes order budget (Some code) None (Some layout) brief no_batch loss lanes) = refl
-reads_are (Sim file nodes order budget (Some code) (Some verified) None brief no_batch loss lanes) = refl
-reads_are (Sim file nodes order budget (Some code) (Some verified) (Some layout) brief no_batch loss lanes) = refl
-reads_are (Replay file None record_file brief) = refl
-reads_are (Replay file (Some verified) record_file brief) = refl
-reads_are (Generate number output) = refl
-reads_are (Assemble text output) = refl
+-- nodes that run, with other files beside the executable
+abbrev with_files : Execution → (code verified layout : Option (List ℕ)) → Execution
+with_files e code verified layout =
+    record e { code = code; verified = verified; layout = layout }
+
+run_reads : (a : RunArguments) (code verified layout : Option (List ℕ))
+    → reads (Run (record a { execution = with_files a.execution code verified layout }))
+    ≡ named_in (execution_files (with_files a.execution code verified layout))
+run_reads a None None None = refl
+run_reads a None None (Some layout) = refl
+run_reads a None (Some verified) None = refl
+run_reads a None (Some verified) (Some layout) = refl
+run_reads a (Some code) None None = refl
+run_reads a (Some code) None (Some layout) = refl
+run_reads a (Some code) (Some verified) None = refl
+run_reads a (Some code) (Some verified) (Some layout) = refl
+
+sim_reads : (a : SimArguments) (code verified layout : Option (List ℕ))
+    → reads (Sim (record a { execution = with_files a.execution code verified layout }))
+    ≡ named_in (execution_files (with_files a.execution code verified layout))
+sim_reads a None None None = refl
+sim_reads a None None (Some layout) = refl
+sim_reads a None (Some verified) None = refl
+sim_reads a None (Some verified) (Some layout) = refl
+sim_reads a (Some code) None None = refl
+sim_reads a (Some code) None (Some layout) = refl
+sim_reads a (Some code) (Some verified) None = refl
+sim_reads a (Some code) (Some verified) (Some layout) = refl
+
+reads_are : (c : Command) → reads c ≡ named_in (file_names c)
+reads_are (Rewrite a) = refl
+reads_are (Run a) = run_reads a a.execution.code a.execution.verified a.execution.layout
+reads_are (Listing a) = refl
+reads_are (One a) = go a.layout
+  where
+    go : (layout : Option (List ℕ)) → reads (One (record a { layout = layout }))
+        ≡ named_in (file_names (One (record a { layout = layout })))
+    go None = refl
+    go (Some layout) = refl
+reads_are (Sim a) = sim_reads a a.execution.code a.execution.verified a.execution.layout
+reads_are (Replay a) = go a.verified
+  where
+    go : (verified : Option (List ℕ)) → reads (Replay (record a { verified = verified }))
+        ≡ named_in (file_names (Replay (record a { verified = verified })))
+    go None = refl
+    go (Some verified) = refl
+reads_are (Generate a) = refl
+reads_are (Assemble a) = refl
 
 -- a list of one name
 pub only_of : (file name : List ℕ) → Contains (file ∷ []) name → name ≡ file
@@ -66,76 +88,76 @@ of_named (Some other) name h = ap Some (sym (only_of other name h))
 
 -- the files behind the code, behind the record, and behind the executable
 abbrev behind_code : Command → List (List ℕ)
-behind_code c = named (verified_of c) ++ named (layout_of c)
+behind_code c = named ((file_names c).verified) ++ named ((file_names c).layout)
 
 abbrev behind_text : Command → List (List ℕ)
-behind_text c = named (code_of c) ++ behind_code c
+behind_text c = named ((file_names c).code) ++ behind_code c
 
 abbrev behind_input : Command → List (List ℕ)
-behind_input c = named (text_file_of c) ++ behind_text c
+behind_input c = named ((file_names c).text) ++ behind_text c
 
-read_of : (c : Command) (name : List ℕ) → Contains (named (input_of c) ++ behind_input c) name
+read_of : (c : Command) (name : List ℕ) → Contains (named ((file_names c).executable) ++ behind_input c) name
     → Contains (reads c) name
 read_of c name h = subst (λ ns. Contains ns name) (sym (reads_are c)) h
 
-pub reads_input : (c : Command) (name : List ℕ) → input_of c ≡ Some name → Contains (reads c) name
+pub reads_input : (c : Command) (name : List ℕ) → (file_names c).executable ≡ Some name → Contains (reads c) name
 reads_input c name e =
-    read_of c name (Contains-append_left (named (input_of c)) (behind_input c) name
-    (among (input_of c) name e))
+    read_of c name (Contains-append_left (named ((file_names c).executable)) (behind_input c) name
+    (among ((file_names c).executable) name e))
 
-pub reads_text : (c : Command) (name : List ℕ) → text_file_of c ≡ Some name
+pub reads_text : (c : Command) (name : List ℕ) → (file_names c).text ≡ Some name
     → Contains (reads c) name
 reads_text c name e =
-    read_of c name (Contains-append_right (named (input_of c)) (behind_input c) name
-    (Contains-append_left (named (text_file_of c)) (behind_text c) name
-    (among (text_file_of c) name e)))
+    read_of c name (Contains-append_right (named ((file_names c).executable)) (behind_input c) name
+    (Contains-append_left (named ((file_names c).text)) (behind_text c) name
+    (among ((file_names c).text) name e)))
 
 -- behind its record
 reads_behind : (c : Command) (name : List ℕ) → Contains (behind_text c) name
     → Contains (reads c) name
 reads_behind c name h =
-    read_of c name (Contains-append_right (named (input_of c)) (behind_input c) name
-    (Contains-append_right (named (text_file_of c)) (behind_text c) name h))
+    read_of c name (Contains-append_right (named ((file_names c).executable)) (behind_input c) name
+    (Contains-append_right (named ((file_names c).text)) (behind_text c) name h))
 
-pub reads_code : (c : Command) (name : List ℕ) → code_of c ≡ Some name → Contains (reads c) name
+pub reads_code : (c : Command) (name : List ℕ) → (file_names c).code ≡ Some name → Contains (reads c) name
 reads_code c name e =
-    reads_behind c name (Contains-append_left (named (code_of c)) (behind_code c) name
-    (among (code_of c) name e))
+    reads_behind c name (Contains-append_left (named ((file_names c).code)) (behind_code c) name
+    (among ((file_names c).code) name e))
 
-pub reads_verified : (c : Command) (name : List ℕ) → verified_of c ≡ Some name
+pub reads_verified : (c : Command) (name : List ℕ) → (file_names c).verified ≡ Some name
     → Contains (reads c) name
 reads_verified c name e =
-    reads_behind c name (Contains-append_right (named (code_of c)) (behind_code c) name
-    (Contains-append_left (named (verified_of c)) (named (layout_of c)) name
-    (among (verified_of c) name e)))
+    reads_behind c name (Contains-append_right (named ((file_names c).code)) (behind_code c) name
+    (Contains-append_left (named ((file_names c).verified)) (named ((file_names c).layout)) name
+    (among ((file_names c).verified) name e)))
 
-pub reads_layout : (c : Command) (name : List ℕ) → layout_of c ≡ Some name → Contains (reads c) name
+pub reads_layout : (c : Command) (name : List ℕ) → (file_names c).layout ≡ Some name → Contains (reads c) name
 reads_layout c name e =
-    reads_behind c name (Contains-append_right (named (code_of c)) (behind_code c) name
-    (Contains-append_right (named (verified_of c)) (named (layout_of c)) name
-    (among (layout_of c) name e)))
+    reads_behind c name (Contains-append_right (named ((file_names c).code)) (behind_code c) name
+    (Contains-append_right (named ((file_names c).verified)) (named ((file_names c).layout)) name
+    (among ((file_names c).layout) name e)))
 
 -- and nothing else
 abbrev IsRead : Command → List ℕ → Type 0
-IsRead c name = (input_of c ≡ Some name) ⊎ ((text_file_of c ≡ Some name) ⊎ ((code_of c ≡ Some name)
-    ⊎ ((verified_of c ≡ Some name) ⊎ (layout_of c ≡ Some name))))
+IsRead c name = ((file_names c).executable ≡ Some name) ⊎ (((file_names c).text ≡ Some name) ⊎ (((file_names c).code ≡ Some name)
+    ⊎ (((file_names c).verified ≡ Some name) ⊎ ((file_names c).layout ≡ Some name))))
 
 reads_only : (c : Command) (name : List ℕ) → Contains (reads c) name → IsRead c name
 reads_only c name h =
-    elim (Contains-append_cases (named (input_of c)) (behind_input c) name
+    elim (Contains-append_cases (named ((file_names c).executable)) (behind_input c) name
     (subst (λ ns. Contains ns name) (reads_are c) h)) [
-      | inl first ↦ inl (of_named (input_of c) name first)
+      | inl first ↦ inl (of_named ((file_names c).executable) name first)
       | inr more ↦ inr (
-          elim (Contains-append_cases (named (text_file_of c)) (behind_text c) name more) [
-            | inl k ↦ inl (of_named (text_file_of c) name k)
+          elim (Contains-append_cases (named ((file_names c).text)) (behind_text c) name more) [
+            | inl k ↦ inl (of_named ((file_names c).text) name k)
             | inr rest ↦ inr (
-                elim (Contains-append_cases (named (code_of c)) (behind_code c) name rest) [
-                  | inl k ↦ inl (of_named (code_of c) name k)
+                elim (Contains-append_cases (named ((file_names c).code)) (behind_code c) name rest) [
+                  | inl k ↦ inl (of_named ((file_names c).code) name k)
                   | inr last ↦ inr (
-                      elim (Contains-append_cases (named (verified_of c)) (named (layout_of c)) name
+                      elim (Contains-append_cases (named ((file_names c).verified)) (named ((file_names c).layout)) name
                       last) [
-                        | inl k ↦ inl (of_named (verified_of c) name k)
-                        | inr k ↦ inr (of_named (layout_of c) name k)
+                        | inl k ↦ inl (of_named ((file_names c).verified) name k)
+                        | inr k ↦ inr (of_named ((file_names c).layout) name k)
                       ])
                 ])
           ])
@@ -175,24 +197,24 @@ inputs executable code verified layout text batches = record {
   batches = batches;
 }
 
-pub inputs_read : (c : Command) (files : FilesState) (i : Inputs) → AreRead c files i
+pub inputs_read : (c : Command) (files : FilesState) (i : Inputs) → AreRead (file_names c) files i
     → AreInputs c files i
 inputs_read c files i h contents told =
-    let one = bytes_are files contents (input_of c) i.executable h.executable
+    let one = bytes_are files contents ((file_names c).executable) i.executable h.executable
     (λ name e. told name (reads_input c name e)) in
-    let two = named_is files contents (code_of c) i.code h.code
+    let two = named_is files contents ((file_names c).code) i.code h.code
     (λ name e. told name (reads_code c name e)) in
-    let three = named_is files contents (verified_of c) i.verified h.verified
+    let three = named_is files contents ((file_names c).verified) i.verified h.verified
     (λ name e. told name (reads_verified c name e)) in
-    let four = named_is files contents (layout_of c) i.layout h.layout
+    let four = named_is files contents ((file_names c).layout) i.layout h.layout
     (λ name e. told name (reads_layout c name e)) in
-    let five = bytes_are files contents (text_file_of c) i.text h.text
+    let five = bytes_are files contents ((file_names c).text) i.text h.text
     (λ name e. told name (reads_text c name e)) in
-    let first = bytes_in contents (input_of c) in
-    let second = option_map contents (code_of c) in
-    let third = option_map contents (verified_of c) in
-    let fourth = option_map contents (layout_of c) in
-    let fifth = bytes_in contents (text_file_of c) in
+    let first = bytes_in contents ((file_names c).executable) in
+    let second = option_map contents ((file_names c).code) in
+    let third = option_map contents ((file_names c).verified) in
+    let fourth = option_map contents ((file_names c).layout) in
+    let fifth = bytes_in contents ((file_names c).text) in
     ap (λ x. inputs x i.code i.verified i.layout i.text i.batches) one
     ∙ ap (λ x. inputs first x i.verified i.layout i.text i.batches) two
     ∙ ap (λ x. inputs first second x i.layout i.text i.batches) three
@@ -230,16 +252,16 @@ short_bytes files (Some other) bytes name content h e is long =
     same_inside x y e = cc
 
 pub none_long : (c : Command) (files : FilesState) (i : Inputs) (name content : List ℕ)
-    → AreRead c files i → Contains (reads c) name → files.held name ≡ Some content
+    → AreRead (file_names c) files i → Contains (reads c) name → files.held name ≡ Some content
     → file_limit < length content → ⊥
 none_long c files i name content h there is long = elim (reads_only c name there) [
-  | inl e ↦ short_bytes files (input_of c) i.executable name content h.executable e is long
-  | inr (inl e) ↦ short_bytes files (text_file_of c) i.text name content h.text e is long
-  | inr (inr (inl e)) ↦ short_named files (code_of c) i.code name content h.code e is long
+  | inl e ↦ short_bytes files ((file_names c).executable) i.executable name content h.executable e is long
+  | inr (inl e) ↦ short_bytes files ((file_names c).text) i.text name content h.text e is long
+  | inr (inr (inl e)) ↦ short_named files ((file_names c).code) i.code name content h.code e is long
   | inr (inr (inr (inl e))) ↦
-      short_named files (verified_of c) i.verified name content h.verified e is long
+      short_named files ((file_names c).verified) i.verified name content h.verified e is long
   | inr (inr (inr (inr e))) ↦
-      short_named files (layout_of c) i.layout name content h.layout e is long
+      short_named files ((file_names c).layout) i.layout name content h.layout e is long
 ]
 
 -- files are read after others, which leaves what each holds

@@ -14,29 +14,28 @@ use Rattle.rv32_program.specs.declared.Exit.{Exit}
 use Rattle.rv32_program.specs.declared.End.{End}
 use Rattle.rv32_program.specs.declared.End.TheVariants.{Exited, Stopped}
 use Rattle.rv32_step.specs.OneMemory.{Original, State, Pick, Step, opening, step, IsRun, run}
-use Rattle.workload.specs.Orders.{following, choice}
+use Rattle.random_order.specs.Orders.{following, choice}
 use Rattle.one_memory.specs.ByOrder.{FollowsOrder, end_by, goes_on, live, one_more}
 use Rattle.templates.specs.declared.plans.PlanEntry.{PlanEntry}
 use Rattle.node_model.specs.Node.{Work, Phase, Running, Resumed, Waiting, Ended, end_of}
 use Rattle.node_model.specs.Core.{Event, opening_core, after}
 use Rattle.node_model.specs.Outcome.{Outcome}
-use Rattle.judged_files.specs.run_order.OwnRun.{Stamped, run_of}
-use Rattle.judged_files.specs.rewriting_law.Bounds.{is_step_of, steps_of}
-use Rattle.judged_files.specs.rewriting_law.CoreRun.{picks_of}
-use Rattle.judged_files.specs.rewriting_law.Interleaving.{EndsAs, original_by_node, original_after}
-use Rattle.smp_sim.specs.lane_model.Nodes.{LaneWork, processors}
-use Rattle.smp_sim.specs.lane_model.Core.{LaneEvent, opening_core as opening_lanes, after as after_lanes}
-use Rattle.smp_sim.specs.lane_law.Law.{original_by_lane, phase_of, original_after as lanes_after}
-use Rattle.smp_sim.specs.lane_law.Picks.{picks_of as picks_of_lanes}
+use Rattle.run_order.specs.OwnRun.{Stamped, run_of}
+use Rattle.rewriting_law.specs.Bounds.{is_step_of, steps_of}
+use Rattle.rewriting_law.specs.CoreRun.{picks_of}
+use Rattle.rewriting_law.specs.Interleaving.{EndsAs, original_by_node, original_after}
+use Rattle.lane_model.specs.Nodes.{LaneWork, processors}
+use Rattle.lane_model.specs.Core.{LaneEvent, opening_core as opening_lanes, after as after_lanes}
+use Rattle.lane_law.specs.Law.{original_by_lane, phase_of, original_after as lanes_after}
+use Rattle.lane_law.specs.Picks.{picks_of as picks_of_lanes}
 use Rattle.dsm_io.specs.States.{FilesState, SinkState}
-use Rattle.command_line.specs.Commands.{Command, Rewrite, Run, Listing, One, Sim, Replay, Generate, Assemble}
-use Rattle.commands.specs.Headline.{IsOutcomeByOrder, IsText, Prints}
-use Rattle.judged_files.specs.WholeRuns.{IsRunOf}
+use Rattle.prepared_run.specs.WholeRuns.{IsRunOf, IsRunOfCode, IsWholeRun}
+use Rattle.command_line.specs.Commands.{SimArguments, Command, Rewrite, Run, Listing, One, Sim, Replay, Generate, Assemble}
+use Rattle.commands.specs.Headline.{IsOutcomeByOrder, IsText, IsTextOfSim, Prints}
 use Rattle.judged_files.specs.Code.{Choice, choice_of}
 use Rattle.judged_files.specs.Inputs.{Inputs}
 use Rattle.commands.specs.Inputs.{inputs_of}
-use Rattle.commands.specs.Interleaved.{IsInterleaved, IsLayoutGiven, IsLayoutKept, IsTextOfOriginal, PrintsOriginal, TellsOfOriginal, least_steps}
-use Rattle.judged_files.specs.WholeRuns.{IsRunOfCode, IsWholeRun}
+use Rattle.commands.specs.Interleaved.{IsInterleaved, IsLayoutGiven, IsLayoutOfRecord, IsTextOfOriginal, PrintsOriginal, TellsOfOriginal, least_steps, processors_on}
 use Rattle.commands.specs.LaneRuns.{IsLaneRunOf, IsWholeLaneRun}
 use Rattle.commands.specs.Outcomes.{told}
 use Rattle.commands.specs.Processors.{outcome_head}
@@ -124,17 +123,17 @@ of_whole work plan events o whole = record {
       (has_end phase 0 work.layout.nodes o.ends whole.ends p (omega arith) (omega (arith, low))) none);
 }
 
-original_as : (program : Program) (layout : Shape) (nodes budget : ℕ) (least : ℕ → ℕ)
+original_as : (program : Program) (layout : Shape) (nodes budget : ℕ) (fewest_steps : ℕ → ℕ)
     (program' : Program) (nodes' budget' : ℕ) (output : List ℕ) (ends : List End)
     → program ≡ program' → nodes ≡ nodes' → budget ≡ budget'
     → IsInterleaved (record { program = program; layout = layout; nodes = nodes }) budget
-    (least budget) output ends
+    (fewest_steps budget) output ends
     → IsInterleaved (record { program = program'; layout = layout; nodes = nodes' }) budget'
-    (least budget') output ends
-original_as program layout nodes budget least program' nodes' budget' output ends p n b h =
-    subst (λ x. IsInterleaved (record { program = program'; layout = layout; nodes = nodes' }) x (least x) output ends) b
-    (subst (λ x. IsInterleaved (record { program = program'; layout = layout; nodes = x }) budget (least budget) output ends) n
-    (subst (λ x. IsInterleaved (record { program = x; layout = layout; nodes = nodes }) budget (least budget) output ends) p h))
+    (fewest_steps budget') output ends
+original_as program layout nodes budget fewest_steps program' nodes' budget' output ends p n b h =
+    subst (λ x. IsInterleaved (record { program = program'; layout = layout; nodes = nodes' }) x (fewest_steps x) output ends) b
+    (subst (λ x. IsInterleaved (record { program = program'; layout = layout; nodes = x }) budget (fewest_steps budget) output ends) n
+    (subst (λ x. IsInterleaved (record { program = x; layout = layout; nodes = nodes }) budget (fewest_steps budget) output ends) p h))
 
 -- ---- texts
 
@@ -352,34 +351,44 @@ by_order inputs nodes order budget o text h is =
 
 -- ---- what is printed
 
+of_sim : (inputs : Inputs) (a : SimArguments) (loss lanes : Option ℕ) (text : List ℕ) (status : ℕ)
+    → IsTextOfSim (record a { loss = loss; lanes = lanes }) inputs text status
+    → TellsOfOriginal inputs.executable (IsLayoutGiven inputs a.execution.nodes)
+    (processors_on a.execution.nodes lanes) a.execution.budget (least_steps lanes a.execution.budget)
+    text
+of_sim inputs a None None text status h =
+    of_run inputs a.execution.nodes a.execution.budget h.is.work h.is.own h.outcome a.execution.brief
+    text h.is.is_run h.text_is
+of_sim inputs a (Some loss) None text status h =
+    of_run inputs a.execution.nodes a.execution.budget h.is.work h.is.own h.outcome a.execution.brief
+    text h.is.is_run h.text_is
+of_sim inputs a loss (Some lanes) text status h =
+    of_lane_run inputs a.execution.nodes lanes a.execution.budget h.is.work h.is.events h.outcome
+    a.execution.brief text h.is.is_run h.text_is
+
 tells : (c : Command) (files : FilesState) (inputs : Inputs) (text : List ℕ)
     (status : ℕ) → IsText c files inputs text status → IsTextOfOriginal c inputs text
-tells (Rewrite input output no_batch) files inputs text status h = tt
-tells (Run file nodes budget record_file code verified layout brief no_batch) files inputs text status h =
-    of_run inputs nodes budget h.is.work h.is.own h.outcome brief text h.is.is_run h.text_is
-tells (One file nodes order budget layout) files inputs text status h =
-    by_order inputs nodes order budget h.outcome text h.is h.text_is
-tells (Sim file nodes order budget code verified layout brief no_batch None None) files inputs text status h =
-    of_run inputs nodes budget h.is.work h.is.own h.outcome brief text h.is.is_run h.text_is
-tells (Sim file nodes order budget code verified layout brief no_batch (Some loss) None) files inputs text status h =
-    of_run inputs nodes budget h.is.work h.is.own h.outcome brief text h.is.is_run h.text_is
-tells (Sim file nodes order budget code verified layout brief no_batch loss (Some lanes)) files inputs text status
-    h =
-    of_lane_run inputs nodes lanes budget h.is.work h.is.events h.outcome brief text h.is.is_run h.text_is
-tells (Listing file) files inputs text status h = tt
-tells (Replay file verified record_file brief) files inputs text status h =
+tells (Rewrite a) files inputs text status h = tt
+tells (Run a) files inputs text status h =
+    of_run inputs a.execution.nodes a.execution.budget h.is.work h.is.own h.outcome a.execution.brief text h.is.is_run h.text_is
+tells (One a) files inputs text status h =
+    by_order inputs a.nodes a.order a.budget h.outcome text h.is h.text_is
+tells (Sim a) files inputs text status h =
+    of_sim inputs a a.loss a.lanes text status h
+tells (Listing a) files inputs text status h = tt
+tells (Replay a) files inputs text status h =
     let kept = h.is.kept in
     let asked = h.is.asked in
     record {
       kept = kept;
       record_is = asked.text;
       tells = of_code (choice_of kept.batch inputs.verified) inputs.executable h.is.elf h.is.plan
-          h.is.work _ h.outcome (IsLayoutKept kept) kept.nodes kept.budget brief text h.is.of_code
+          h.is.work _ h.outcome (IsLayoutOfRecord kept) kept.nodes kept.budget a.brief text h.is.of_code
           (asked.laid_out, asked.valid) (ap (λ (s : Shape). s.nodes) asked.laid_out.layout_is)
           asked.limit h.text_is;
     }
-tells (Generate number output) files inputs text status h = tt
-tells (Assemble assembly output) files inputs text status h = tt
+tells (Generate a) files inputs text status h = tt
+tells (Assemble a) files inputs text status h = tt
 
 pub prints_original : (c : Command) (contents : List ℕ → List ℕ) (files : FilesState)
     (before now : SinkState) (status : ℕ) → Prints c contents files before now status

@@ -10,10 +10,10 @@ use Rattle.elf32_read.specs.Elf.{Elf}
 use Rattle.exec_map.specs.Contents.{IsNextCode, is_code_word, word_of}
 use Rattle.rv32_text.specs.Listing.{line_of}
 use Rattle.dsm_io.specs.Causes.{Appends}
-use Rattle.judged_files.specs.declared.failure.Failure.{Failure}
+use Rattle.text_output.specs.declared.failure.Failure.{Failure}
 use Rattle.dsm_io.specs.States.{SinkState}
-use Rattle.judged_files.specs.Failures.{IsPutFailure, FailsAs, IsLike, IsNever}
-use Rattle.judged_files.proofs.Pieces.{joins, put_fails}
+use Rattle.text_output.specs.Failures.{IsPutFailure, FailsAs, IsLike, IsNever}
+use Rattle.text_output.proofs.Pieces.{joins, put_fails}
 use Rattle.commands.specs.Headline.{listing_below, listing}
 
 -- the pieces of those below n that pass a test

@@ -5,21 +5,22 @@ use Rattle.std.proofs.lemmas.List.{length-map}
 use Rattle.rv32_decode.specs.declared.Instr.{Instr}
 use Rattle.rv32_program.specs.Program.{Program}
 use Rattle.elf32_read.specs.Elf.{Elf}
+use Rattle.elf32_read.proofs.Judging.{no_rule}
 use Rattle.exec_map.specs.Contents.{program_of, AreSharedRanges}
 use Rattle.exec_map.specs.Refusals.{Fits}
 use Rattle.block_layout.specs.Layout.{Shape, IsValid}
 use Rattle.block_layout.specs.Text.{IsFirstBroken}
 use Rattle.block_layout.specs.declared.layout.BlockRange.{BlockRange}
 use Rattle.block_layout.specs.declared.ranges.Lines.{Lines}
-use Rattle.block_layout.specs.declared.refused.Rule.{Rule}
+use Rattle.block_layout.specs.declared.refused.LayoutRule.{LayoutRule}
 use Rattle.templates.specs.declared.plans.PlanEntry.{PlanEntry}
 use Rattle.templates.specs.WholePlan.{IsPlanOf}
 use Rattle.jump_map.specs.Image.{Cell, IsRewriting, image_words, most_words, read_cell}
-use Rattle.judged_files.specs.rewriter.RewrittenFile.{rewritten_elf}
-use Rattle.judged_files.specs.rewriter.TooLarge.{IsTooLarge}
-use Rattle.judged_files.specs.rewrite_verify.Refusals as verify
-use Rattle.judged_files.specs.rewrite_verify.declared.refused.VerifyRefused.{VerifyRefused}
-use Rattle.judged_files.specs.rewrite_verify.declared.refused.VerifyRefused.TheVariants.{OutOfMemory}
+use Rattle.rewriter.specs.RewrittenFile.{rewritten_elf}
+use Rattle.rewriter.specs.TooLarge.{IsTooLarge}
+use Rattle.rewrite_verify.specs.Refusals as verify
+use Rattle.rewrite_verify.specs.declared.refused.VerifyRefused.{VerifyRefused}
+use Rattle.rewrite_verify.specs.declared.refused.VerifyRefused.TheVariants.{OutOfMemory}
 use Rattle.node_model.specs.Node.{Work}
 use Rattle.node_model.specs.Outcome.{Outcome}
 use Rattle.run_record.specs.declared.Record.{Record}
@@ -28,14 +29,15 @@ use Rattle.run_record.specs.Record.{IsRecord, NamesOtherCode}
 use Rattle.run_record.specs.Rules.{IsFirstFault}
 use Rattle.run_record.specs.Telling.{IsOfWords}
 use Rattle.run_record.specs.Text.{record_text}
-use Rattle.judged_files.specs.replay.declared.refused.ReplayRule.{ReplayRule}
-use Rattle.judged_files.specs.replay.Refusals as events
-use Rattle.judged_files.specs.replay.Replay.{TellsWholeRun}
-use Rattle.judged_files.specs.replay.Told.{Told}
+use Rattle.replay.specs.declared.refused.ReplayRule.{ReplayRule}
+use Rattle.replay.specs.Refusals as events
+use Rattle.replay.specs.Replay.{TellsWholeRun}
+use Rattle.replay.specs.Told.{Told}
 use Rattle.judged_files.specs.Code.{Choice, Planned, Verified, choice_of, IsRewritingOf, IsUnchosen}
 use Rattle.judged_files.specs.Executables.{IsUnaccepted, ReadsAs}
 use Rattle.judged_files.specs.Inputs.{Inputs}
-use Rattle.judged_files.specs.Replays.{AreFaultyBlocks, IsBadRecord, IsBadReplayLayout, IsBrokenRecord, IsBrokenRun, IsFaultyText, IsLayoutOfBlocks, IsNoRecord, IsNoRecordOfCode, IsOutcomeOfReplay, IsReplayRefused, IsTextOf, IsWorkOf}
+use Rattle.judged_files.specs.Records.{AreFaultyBlocks, IsFaultyText, IsLayoutOfBlocks, IsTextOf}
+use Rattle.prepared_run.specs.Replays.{IsBadRecord, IsBadReplayLayout, IsBrokenRecord, IsBrokenRun, IsNoRecord, IsNoRecordOfCode, IsOutcomeOfReplay, IsReplayRefused, IsWorkOf}
 use Rattle.commands.proofs.AgainLemmas.{HaveRecordLaws, one_elf, one_image, one_list, one_text, one_work, shared_some}
 use Rattle.commands.proofs.SharedRanges.{HasLines}
 
@@ -48,7 +50,7 @@ pub record HaveFaultLaws : Type 0 where
       → verify.Fits original e r → r ≡ OutOfMemory
   pub texts : (r : Record) (rule : RecordRule) (line : ℕ) → IsRecord r → IsOfWords r
       → IsFirstFault (record_text r) rule line → ⊥
-  pub ranges : (ranges : List BlockRange) (shared : List Lines) (n : ℕ) (rule : Rule) (number : ℕ)
+  pub ranges : (ranges : List BlockRange) (shared : List Lines) (n : ℕ) (rule : LayoutRule) (number : ℕ)
       → IsFirstBroken ranges shared n rule number
       → IsValid (record { shared = shared; named = ranges; nodes = n }) → ⊥
   pub broken : (work : Work) (r : Record) (told : List Told) (rule : ReplayRule) (node entry : ℕ)
@@ -61,7 +63,7 @@ pub record HaveFaultLaws : Type 0 where
 taken_file : (choice : Choice) (file : List ℕ) (elf : Elf) (plan : List PlanEntry) (image : List Cell)
     (line : List ℕ) → IsRewritingOf choice file elf plan image → IsUnaccepted file line → ⊥
 taken_file choice file elf plan image line h (inl unread) =
-    h.executable.reads.0.no_rule unread.0 unread.1.fits
+    no_rule file h.executable.reads.0 unread.0 unread.1.fits
 taken_file choice file elf plan image line h (inr k) =
     let other : Elf = k.0 in
     let reads : ReadsAs file other = k.1 in
@@ -89,7 +91,7 @@ taken_choice : HaveFaultLaws → (choice : Choice) (file : List ℕ) (elf : Elf)
 taken_choice faults (Planned batches) file elf plan image line h k =
     taken_code faults batches elf plan image k.0 h.chosen h.rewriting k.1
 taken_choice faults (Verified verified) file elf plan image line h (inl unread) =
-    h.chosen.0.no_rule unread.0 unread.1.fits
+    no_rule verified h.chosen.0 unread.0 unread.1.fits
 taken_choice faults (Verified verified) file elf plan image line h (inr k) =
     k.is_reason (faults.verified elf k.elf plan image k.refused h.rewriting
     (one_elf verified k.elf (rewritten_elf elf image plan) k.reads h.chosen) k.fits)

@@ -1,14 +1,14 @@
 -- The text of an outcome, which is put in pieces.
 use Rattle.std.proofs.Common.{◌≡◌, ℕ, Bool, true, false, List, refl, ◌∙◌}
-use Rattle.judged_files.specs.declared.failure.Failure.{Failure}
+use Rattle.text_output.specs.declared.failure.Failure.{Failure}
 use Rattle.dsm_io.specs.States.{SinkState}
 use Rattle.node_model.specs.Outcome.{Outcome}
 use Rattle.commands.specs.Outcomes.{status_of, told}
 use Rattle.commands.specs.Headline.{IsTextWith}
-use Rattle.judged_files.specs.Failures.{FailsAs, Puts, IsNever}
+use Rattle.text_output.specs.Failures.{FailsAs, Puts, IsNever}
 use Rattle.commands.specs.Failures.{IsTextOfOutcome}
 use Rattle.std.specs.Prelude.{Result, Ok, Err, IfOk, IfErr}
-use Rattle.judged_files.proofs.Pieces.{fails_too, never}
+use Rattle.text_output.proofs.Pieces.{fails_too, never}
 
 -- the text of an outcome with these facts is put, or isn't
 

@@ -16,9 +16,9 @@ use Rattle.jump_map.specs.Image.{Cell, IsRewriting, image_words, most_words, rea
 use Rattle.node_model.specs.declared.Entry.{Entry}
 use Rattle.node_model.specs.Node.{Work, Node, IsLaidOver}
 use Rattle.node_model.specs.Core.{Core, Event, IsCoreRun, opening_core, after}
-use Rattle.judged_files.specs.run_order.OwnRun.{Stamped, StandsForOwnRun, run_of}
-use Rattle.judged_files.specs.run_order.Takes.{AreTakesWithin}
-use Rattle.judged_files.specs.rewriting_law.Bounds.{RunsRewritten, most_events}
+use Rattle.run_order.specs.OwnRun.{Stamped, StandsForOwnRun, run_of}
+use Rattle.run_order.specs.Takes.{AreTakesWithin}
+use Rattle.rewriting_law.specs.Bounds.{RunsRewritten, most_events}
 use Rattle.run_record.specs.Lists.{items_of}
 use Rattle.run_record.specs.Record.{IsBlockLine, IsTakeBehind, AreTakesBehind, IsCodeLength, IsRecord}
 use Rattle.commands.specs.Records.{record_at, record_of}

@@ -5,15 +5,15 @@ use Rattle.dsm_io.specs.Causes.{Rose}
 use Rattle.node_model.specs.Node.{Work}
 use Rattle.node_model.specs.Core.{Core, IsOver}
 use Rattle.node_model.specs.Outcome.{Outcome, IsOutcomeOf}
-use Rattle.judged_files.specs.run_order.OwnRun.{Stamped, StandsForOwnRun, run_of}
+use Rattle.run_order.specs.OwnRun.{Stamped, StandsForOwnRun, run_of}
 use Rattle.run_record.specs.Text.{record_text}
-use Rattle.command_line.specs.Commands.{Command, Run, writes}
-use Rattle.judged_files.specs.declared.failure.Failure.{Failure}
-use Rattle.judged_files.specs.declared.failure.Failure.TheVariants.{Input, NotWritten, Refused, Layout, Record, Text, Output, OutOfMemory}
+use Rattle.text_output.specs.declared.failure.Failure.{Failure}
+use Rattle.text_output.specs.declared.failure.Failure.TheVariants.{Input, NotWritten, Refused, Layout, Record, Text, Output, OutOfMemory}
+use Rattle.command_line.specs.Commands.{RunArguments, Command, Run, writes}
 use Rattle.dsm_io.specs.States.{SinkState, FilesState}
 use Rattle.commands.specs.Answers.{HasBytes, IsLeft, IsUnwritten, AreLeft, AreWritten}
-use Rattle.judged_files.specs.Failures.{FailsAs, IsNever}
-use Rattle.judged_files.specs.Ready.{GivesRuns, IsOwnOutcome}
+use Rattle.text_output.specs.Failures.{FailsAs, IsNever}
+use Rattle.prepared_run.specs.Ready.{GivesRuns, IsOwnOutcome}
 use Rattle.commands.specs.Failures.{IsMade, IsOwnRecorded, IsRecordFailure, IsPerformFailure, AreKept}
 use Rattle.commands.specs.Headline.{IsRecordOfRun, IsOutcomeRecorded, held_by}
 use Rattle.judged_files.specs.Inputs.{Inputs}
@@ -80,31 +80,30 @@ record_held inputs nodes budget held o h =
       bytes_are = is;
     }) h.is_recorded
 
-module _ (file : List ℕ) (nodes budget : ℕ) (o : Option (List ℕ))
-    (code verified layout : Option (List ℕ)) (brief no_batch : Bool) where
+module _ (a : RunArguments) where
   abbrev asked : Command
-  asked = Run file nodes budget o code verified layout brief no_batch
+  asked = Run a
 
-  writes_are : writes asked ≡ named o
-  writes_are = go o
+  writes_are : writes asked ≡ named a.record_file
+  writes_are = go a.record_file
     where
-      go : (x : Option (List ℕ)) → writes (Run file nodes budget x code verified layout brief no_batch) ≡ named x
+      go : (x : Option (List ℕ)) → writes (Run (record a { record_file = x })) ≡ named x
       go None = refl
       go (Some name) = refl
 
-  pub record_named : (name : List ℕ) → Contains (writes asked) name → o ≡ Some name
-  record_named name h = of_named o name (subst (λ ns. Contains ns name) writes_are h)
+  pub record_named : (name : List ℕ) → Contains (writes asked) name → a.record_file ≡ Some name
+  record_named name h = of_named a.record_file name (subst (λ ns. Contains ns name) writes_are h)
 
-  pub names_record : (name : List ℕ) → o ≡ Some name → Contains (writes asked) name
-  names_record name e = subst (λ ns. Contains ns name) (sym writes_are) (among o name e)
+  pub names_record : (name : List ℕ) → a.record_file ≡ Some name → Contains (writes asked) name
+  names_record name e = subst (λ ns. Contains ns name) (sym writes_are) (among a.record_file name e)
 
   -- each file that it writes holds such a record
   pub record_written : (inputs : Inputs) (now : FilesState) (outcome : Outcome)
-      → IsOutcomeRecorded inputs nodes budget (held_by now o) outcome
+      → IsOutcomeRecorded inputs a.execution.nodes a.execution.budget (held_by now a.record_file) outcome
       → AreWritten asked inputs now
   record_written inputs now outcome is name there =
-      subst (λ x. IfSome (held_by now x) (IsRecordOfRun inputs nodes budget))
-      (record_named name there) (record_held inputs nodes budget (held_by now o) outcome is)
+      subst (λ x. IfSome (held_by now x) (IsRecordOfRun inputs a.execution.nodes a.execution.budget))
+      (record_named name there) (record_held inputs a.execution.nodes a.execution.budget (held_by now a.record_file) outcome is)
 
   pub written_left : (inputs : Inputs) (before now : FilesState) → AreWritten asked inputs now
       → AreLeft asked inputs before now
@@ -115,11 +114,11 @@ module _ (file : List ℕ) (nodes budget : ℕ) (o : Option (List ℕ))
   same_left inputs before now h name there = inl (h name)
 
   -- a record that wasn't written, of a run that was made
-  bytes_of_run : (inputs : Inputs) (work : Work) → GivesRuns inputs nodes budget work
+  bytes_of_run : (inputs : Inputs) (work : Work) → GivesRuns inputs a.execution.nodes a.execution.budget work
       → (made : (outcome : Outcome) × IsOwnOutcome work outcome) → HasBytes asked inputs
   bytes_of_run inputs work runs made =
       let h : IsOwnOutcome work made.0 = made.1 in
-      let is : IsRecordOfRun inputs nodes budget
+      let is : IsRecordOfRun inputs a.execution.nodes a.execution.budget
       (record_text (record_of inputs.batches work h.own)) = record {
         work = work;
         own = h.own;
@@ -129,9 +128,9 @@ module _ (file : List ℕ) (nodes budget : ℕ) (o : Option (List ℕ))
       } in
       (record_text (record_of inputs.batches work h.own), is)
 
-  fails_by : (x : Option (List ℕ)) → o ≡ x → (inputs : Inputs) (work : Work)
+  fails_by : (x : Option (List ℕ)) → a.record_file ≡ x → (inputs : Inputs) (work : Work)
       (before now : FilesState) (state : SinkState) (f : Failure)
-      → GivesRuns inputs nodes budget work → IsMade work f → IsRecordFailure x before now f
+      → GivesRuns inputs a.execution.nodes a.execution.budget work → IsMade work f → IsRecordFailure x before now f
       → IsPerformFailure asked inputs before now state state f
   fails_by None e inputs work before now state f runs made h =
       subst (IsPerformFailure asked inputs before now state state) (sym h) (inl refl)
@@ -148,12 +147,12 @@ module _ (file : List ℕ) (nodes budget : ℕ) (o : Option (List ℕ))
   fails_by (Some name) e inputs work before now state OutOfMemory runs made h = inl refl
 
   pub record_fails : (inputs : Inputs) (work : Work) (before now : FilesState) (state : SinkState)
-      (f : Failure) → GivesRuns inputs nodes budget work → IsMade work f
-      → IsRecordFailure o before now f → IsPerformFailure asked inputs before now state state f
+      (f : Failure) → GivesRuns inputs a.execution.nodes a.execution.budget work → IsMade work f
+      → IsRecordFailure a.record_file before now f → IsPerformFailure asked inputs before now state state f
   record_fails inputs work before now state f runs made h =
-      fails_by o refl inputs work before now state f runs made h
+      fails_by a.record_file refl inputs work before now state f runs made h
 
-  left_at : (inputs : Inputs) (before now : FilesState) (name : List ℕ) → o ≡ Some name
+  left_at : (inputs : Inputs) (before now : FilesState) (name : List ℕ) → a.record_file ≡ Some name
       → (now.held name ≡ before.held name)
       ⊎ Rose (before.failed_writes name) (now.failed_writes name)
       → AreLeft asked inputs before now
@@ -163,7 +162,7 @@ module _ (file : List ℕ) (nodes budget : ℕ) (o : Option (List ℕ))
       subst (IsLeft asked inputs before now) same
       (elim h [ inl kept ↦ inl kept | inr rose ↦ inr (inr rose) ])
 
-  left_by : (x : Option (List ℕ)) → o ≡ x → (inputs : Inputs) (before now : FilesState)
+  left_by : (x : Option (List ℕ)) → a.record_file ≡ x → (inputs : Inputs) (before now : FilesState)
       (f : Failure) → IsRecordFailure x before now f → AreLeft asked inputs before now
   left_by None e inputs before now f h = λ name there.
       let bad : None ≡ Some name = sym e ∙ record_named name there in
@@ -179,8 +178,8 @@ module _ (file : List ℕ) (nodes budget : ℕ) (o : Option (List ℕ))
   left_by (Some name) e inputs before now OutOfMemory h = left_at inputs before now name e h
 
   pub record_left : (inputs : Inputs) (before now : FilesState) (f : Failure)
-      → IsRecordFailure o before now f → AreLeft asked inputs before now
-  record_left inputs before now f h = left_by o refl inputs before now f h
+      → IsRecordFailure a.record_file before now f → AreLeft asked inputs before now
+  record_left inputs before now f h = left_by a.record_file refl inputs before now f h
 
 pub record_kept : (o : Option (List ℕ)) (before now : FilesState) (f : Failure)
     → IsRecordFailure o before now f → AreKept before now f

@@ -1,21 +1,21 @@
 -- A record's run, made once more.
-use Rattle.std.proofs.Common.{ℕ, Bool, List, Option, map, refl, inl}
+use Rattle.std.proofs.Common.{Bool, map, refl, inl}
 use Rattle.node_model.specs.Core.{opening_core, after}
 use Rattle.node_model.specs.Node.{Work}
 use Rattle.node_model.specs.Outcome.{Outcome}
 use Rattle.run_record.specs.declared.Record.{Record as Kept}
-use Rattle.judged_files.specs.replay.Replay.{IsReplay}
-use Rattle.judged_files.specs.replay.Told.{what_told, events_told}
-use Rattle.command_line.specs.Commands.{Replay}
-use Rattle.judged_files.specs.declared.failure.Failure.{Failure}
-use Rattle.judged_files.specs.declared.failure.Failure.TheVariants.{Input, NotWritten, Refused, Layout, Record, Text, Output, OutOfMemory}
+use Rattle.replay.specs.Replay.{IsReplay}
+use Rattle.replay.specs.Told.{what_told, events_told}
+use Rattle.text_output.specs.declared.failure.Failure.{Failure}
+use Rattle.text_output.specs.declared.failure.Failure.TheVariants.{Input, NotWritten, Refused, Layout, Record, Text, Output, OutOfMemory}
+use Rattle.command_line.specs.Commands.{ReplayArguments, Replay}
 use Rattle.dsm_io.specs.States.{SinkState, FilesState}
-use Rattle.judged_files.specs.Failures.{FailsAs, IsReplayRefusal}
+use Rattle.text_output.specs.Failures.{FailsAs}
+use Rattle.prepared_run.specs.Replays.{IsReplayRefusal, IsBadReplayLayout, IsOutcomeOfReplay, IsReplayRefused}
 use Rattle.commands.specs.Failures.{IsPerformFailure, IsReplayFailure}
-use Rattle.judged_files.specs.Ready.{IsReadyFor}
+use Rattle.prepared_run.specs.Ready.{IsReadyFor}
 use Rattle.commands.specs.Headline.{IsTextWith}
 use Rattle.judged_files.specs.Inputs.{Inputs}
-use Rattle.judged_files.specs.Replays.{IsBadReplayLayout, IsOutcomeOfReplay, IsReplayRefused}
 
 -- nothing is put then
 pub refused_replay : (inputs : Inputs) (brief : Bool) (state : SinkState) (f : Failure)
@@ -44,17 +44,17 @@ unput_replay inputs brief before now Output h = h
 unput_replay inputs brief before now OutOfMemory h = h
 
 -- it is a failure of the command
-pub replay_fails : (file : List ℕ) (verified : Option (List ℕ)) (record_file : List ℕ) (brief : Bool) (inputs : Inputs) (fb fn : FilesState)
-    (before now : SinkState) (f : Failure) → IsReplayFailure inputs brief before now f
-    → IsPerformFailure (Replay file verified record_file brief) inputs fb fn before now f
-replay_fails file verified record_file brief inputs fb fn before now (Input line) h = h
-replay_fails file verified record_file brief inputs fb fn before now (NotWritten line) h = absurd h
-replay_fails file verified record_file brief inputs fb fn before now (Refused line) h = h
-replay_fails file verified record_file brief inputs fb fn before now (Layout line) h = h
-replay_fails file verified record_file brief inputs fb fn before now (Record line) h = h
-replay_fails file verified record_file brief inputs fb fn before now (Text line) h = absurd h
-replay_fails file verified record_file brief inputs fb fn before now Output h = h
-replay_fails file verified record_file brief inputs fb fn before now OutOfMemory h = h
+pub replay_fails : (a : ReplayArguments) (inputs : Inputs) (fb fn : FilesState)
+    (before now : SinkState) (f : Failure) → IsReplayFailure inputs a.brief before now f
+    → IsPerformFailure (Replay a) inputs fb fn before now f
+replay_fails a inputs fb fn before now (Input line) h = h
+replay_fails a inputs fb fn before now (NotWritten line) h = absurd h
+replay_fails a inputs fb fn before now (Refused line) h = h
+replay_fails a inputs fb fn before now (Layout line) h = h
+replay_fails a inputs fb fn before now (Record line) h = h
+replay_fails a inputs fb fn before now (Text line) h = absurd h
+replay_fails a inputs fb fn before now Output h = h
+replay_fails a inputs fb fn before now OutOfMemory h = h
 
 pub outcome_of_replay : (inputs : Inputs) (kept : Kept) (work : Work) (o : Outcome)
     → IsReadyFor inputs kept work → IsReplay work kept o → IsOutcomeOfReplay inputs o

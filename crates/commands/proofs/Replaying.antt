@@ -1,10 +1,10 @@
 -- A replay of the record that a run left, by the two commands.
-use Rattle.std.proofs.Common.{◌≡◌, ◌⊎◌, ℕ, Bool, List, Option, None, Some, refl, sym, ap, option_map, ◌∙◌, subst, inl, inr}
+use Rattle.std.proofs.Common.{◌⊎◌, ℕ, List, subst}
 use Rattle.dsm_io.specs.Causes.{Appends, AppendsPrefix}
 use Rattle.dsm_io.specs.States.{FilesState, SinkState}
-use Rattle.command_line.specs.Commands.{Command, Rewrite, Run, Listing, One, Sim, Replay, Generate, Assemble}
-use Rattle.commands.specs.Again.{IsReplayOf, PutOneText}
-use Rattle.commands.specs.Headline.{IsText, Prints, PrintsPrefix}
+use Rattle.command_line.specs.Commands.{RunArguments, ReplayArguments, Command, Rewrite, Run, Listing, One, Sim, Replay, Generate, Assemble}
+use Rattle.commands.specs.Again.{IsReplayOf, IsReplayOfRun, PutOneText}
+use Rattle.commands.specs.Headline.{IsText, Prints, PrintsPrefix, held_by}
 use Rattle.judged_files.specs.Inputs.{Inputs}
 use Rattle.commands.specs.Inputs.{inputs_of}
 use Rattle.commands.specs.Refusals.{IsRefused, IsLayoutRefused, IsRecordRefused}
@@ -12,43 +12,25 @@ use Rattle.commands.proofs.AgainLemmas.{HaveRecordLaws, replay_of_run, same_text
 use Rattle.commands.proofs.NotRefused.{HaveFaultLaws, not_refused}
 
 module _ (contents later : List ℕ → List ℕ) (left : FilesState) where
-  -- what holds of a run and a replay of the same executable and of what the run left
-  abbrev Holds : (Command → Command → Type 0) → Type 0
-  Holds P = (file name input record_file : List ℕ) (nodes budget : ℕ)
-      (code verified again layout : Option (List ℕ)) (brief no_batch short : Bool)
-      → later input ≡ contents file → option_map later again ≡ option_map contents verified
-      → left.held name ≡ Some (later record_file) → short ≡ brief
-      → P (Run file nodes budget (Some name) code verified layout brief no_batch)
-      (Replay input again record_file short)
-
-  by_commands : (P : Command → Command → Type 0) → Holds P → (ran replay : Command)
-      → IsReplayOf contents later left ran replay → P ran replay
-  by_commands P here (Run file nodes budget (Some name) code verified layout brief no_batch)
-      (Replay input again record_file short) is =
-      here file name input record_file nodes budget code verified again layout brief no_batch short
-      is.0 is.1 is.2 is.3
-  by_commands P here (Run file nodes budget (Some name) code verified layout brief no_batch) (Rewrite a b d)
-      is = absurd is
-  by_commands P here (Run file nodes budget (Some name) code verified layout brief no_batch)
-      (Run a b d e f g i j k) is = absurd is
-  by_commands P here (Run file nodes budget (Some name) code verified layout brief no_batch) (Listing a) is =
-      absurd is
-  by_commands P here (Run file nodes budget (Some name) code verified layout brief no_batch) (One a b d e f)
-      is = absurd is
-  by_commands P here (Run file nodes budget (Some name) code verified layout brief no_batch)
-      (Sim a b d e f g i j k l m) is = absurd is
-  by_commands P here (Run file nodes budget (Some name) code verified layout brief no_batch) (Generate a b)
-      is = absurd is
-  by_commands P here (Run file nodes budget (Some name) code verified layout brief no_batch) (Assemble a b)
-      is = absurd is
-  by_commands P here (Run file nodes budget None code verified layout brief no_batch) replay is = absurd is
-  by_commands P here (Rewrite a b d) replay is = absurd is
+  by_commands : (P : Command → Command → Type 0)
+      → ((a : RunArguments) (b : ReplayArguments) → IsReplayOfRun contents later left a b
+      → P (Run a) (Replay b))
+      → (ran replay : Command) → IsReplayOf contents later left ran replay → P ran replay
+  by_commands P here (Run a) (Replay b) is = here a b is
+  by_commands P here (Run a) (Rewrite b) is = absurd is
+  by_commands P here (Run a) (Run b) is = absurd is
+  by_commands P here (Run a) (Listing b) is = absurd is
+  by_commands P here (Run a) (One b) is = absurd is
+  by_commands P here (Run a) (Sim b) is = absurd is
+  by_commands P here (Run a) (Generate b) is = absurd is
+  by_commands P here (Run a) (Assemble b) is = absurd is
+  by_commands P here (Rewrite a) replay is = absurd is
   by_commands P here (Listing a) replay is = absurd is
-  by_commands P here (One a b d e f) replay is = absurd is
-  by_commands P here (Sim a b d e f g i j k l m) replay is = absurd is
-  by_commands P here (Replay a b d e) replay is = absurd is
-  by_commands P here (Generate a b) replay is = absurd is
-  by_commands P here (Assemble a b) replay is = absurd is
+  by_commands P here (One a) replay is = absurd is
+  by_commands P here (Sim a) replay is = absurd is
+  by_commands P here (Replay a) replay is = absurd is
+  by_commands P here (Generate a) replay is = absurd is
+  by_commands P here (Assemble a) replay is = absurd is
 
   -- the same text, and the same status
   pub prints_again : HaveRecordLaws → (ran replay : Command) (found : FilesState)
@@ -60,13 +42,13 @@ module _ (contents later : List ℕ → List ℕ) (left : FilesState) where
       by_commands (λ c d. Prints c contents left before now status
       → Prints d later found before_again now_again status_again
       → PutOneText before now status before_again now_again status_again)
-      (λ file name input record_file nodes budget code verified again layout brief no_batch short
-      executable same_verified held flag h k.
-      let a : Inputs =
-      inputs_of (Run file nodes budget (Some name) code verified layout brief no_batch) contents in
-      let b : Inputs = inputs_of (Replay input again record_file short) later in
-      let same = same_text laws a b nodes budget (left.held name) brief short h.text k.text
-      status status_again held executable same_verified flag h.is k.is in
+      (λ a b is h k.
+      let e = a.execution in
+      let first : Inputs = inputs_of (Run a) contents in
+      let second : Inputs = inputs_of (Replay b) later in
+      let same = same_text laws first second e.nodes e.budget (held_by left a.record_file) e.brief
+      b.brief h.text k.text status status_again is.left_record is.executable is.verified is.brief h.is
+      k.is in
       record {
         text = h.text;
         put = h.put;
@@ -87,13 +69,12 @@ module _ (contents later : List ℕ → List ℕ) (left : FilesState) where
       → Prints d later found before_again now_again status
       → (text : List ℕ) × AppendsPrefix before.taken now.taken text
       × Appends before_again.taken now_again.taken text)
-      (λ file name input record_file nodes budget code verified again layout brief no_batch short
-      executable same_verified held flag h k.
-      let a : Inputs =
-      inputs_of (Run file nodes budget (Some name) code verified layout brief no_batch) contents in
-      let b : Inputs = inputs_of (Replay input again record_file short) later in
-      let same = same_text laws a b nodes budget (left.held name) brief short h.text k.text
-      h.status status held executable same_verified flag h.is k.is in (
+      (λ a b is h k.
+      let e = a.execution in
+      let first : Inputs = inputs_of (Run a) contents in
+      let second : Inputs = inputs_of (Replay b) later in
+      let same = same_text laws first second e.nodes e.budget (held_by left a.record_file) e.brief
+      b.brief h.text k.text h.status status is.left_record is.executable is.verified is.brief h.is k.is in (
         h.text,
         h.put,
         subst (Appends before_again.taken now_again.taken) same.0 k.put,
@@ -112,12 +93,12 @@ module _ (contents later : List ℕ → List ℕ) (left : FilesState) where
       → IsRefused d (inputs_of d later) line
       ⊎ (IsLayoutRefused d (inputs_of d later) line
       ⊎ IsRecordRefused d (inputs_of d later) line) → ⊥)
-      (λ file name input record_file nodes budget code verified again layout brief no_batch short
-      executable same_verified held flag h.
-      let a : Inputs =
-      inputs_of (Run file nodes budget (Some name) code verified layout brief no_batch) contents in
-      let b : Inputs = inputs_of (Replay input again record_file short) later in
-      not_refused laws faults b h.outcome
-      (replay_of_run laws a b nodes budget (left.held name) h.outcome held executable same_verified h.is)
+      (λ a b is h.
+      let e = a.execution in
+      let first : Inputs = inputs_of (Run a) contents in
+      let second : Inputs = inputs_of (Replay b) later in
+      not_refused laws faults second h.outcome
+      (replay_of_run laws first second e.nodes e.budget (held_by left a.record_file) h.outcome
+      is.left_record is.executable is.verified h.is)
       line)
       ran replay is

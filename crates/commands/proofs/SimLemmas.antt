@@ -3,11 +3,11 @@ use Rattle.std.proofs.Common.{◌≡◌, ℕ, ◌<◌, ◌≤◌, List, [], ◌�
 use Rattle.elf32_read.specs.Elf.{Elf}
 use Rattle.templates.specs.declared.plans.PlanEntry.{PlanEntry}
 use Rattle.jump_map.specs.Image.{IsRewriting}
-use Rattle.judged_files.specs.rewriting_law.Bounds.{RunsRewritten}
-use Rattle.smp_sim.specs.lane_model.Nodes.{LaneWork, processors}
-use Rattle.smp_sim.specs.lane_model.Core.{LaneCore, LaneEvent, IsLaneRun, event_step, opening_core as opening_lanes, after as after_lanes}
-use Rattle.smp_sim.specs.lane_law.Law.{RunsOnLanes, Interleaves, AllLicensed, IsCoherent, SameReservations, StopsAtBudget, AreEmpty, original_after, AreAllOver as AreLanesOver}
-use Rattle.smp_sim.specs.smp_core.CoreParts.{work_with}
+use Rattle.rewriting_law.specs.Bounds.{RunsRewritten}
+use Rattle.lane_model.specs.Nodes.{LaneWork, processors}
+use Rattle.lane_model.specs.Core.{LaneCore, LaneEvent, IsLaneRun, event_step, opening_core as opening_lanes, after as after_lanes}
+use Rattle.lane_law.specs.Law.{RunsOnLanes, Interleaves, AllLicensed, IsCoherent, SameReservations, StopsAtBudget, AreEmpty, original_after, AreAllOver as AreLanesOver}
+use Rattle.smp_sim.specs.CoreParts.{work_with}
 use Rattle.smp_sim.specs.ByOrder.{IsLaneOutcomeByOrder}
 use Rattle.command_line.specs.declared.Machine.{Machine}
 use Rattle.command_line.specs.declared.Machine.TheVariants.{Plain, Lossy, Lanes}
@@ -15,10 +15,10 @@ use Rattle.command_line.specs.Meaning.{lanes_of, loss_of}
 use Rattle.node_model.specs.Node.{Work, standing_of}
 use Rattle.node_model.specs.Core.{Core, IsOver, opening_core, after}
 use Rattle.node_model.specs.Outcome.{Outcome}
-use Rattle.lossy_sim.specs.shared_sim.ByOrder.{IsOutcomeByOrder}
+use Rattle.shared_sim.specs.ByOrder.{IsOutcomeByOrder}
 use Rattle.lossy_sim.specs.UnderWay.{StandFor}
 use Rattle.lossy_sim.specs.WithLoss.{State, AreAllOver, IsOutcomeWithLoss, ordinary}
-use Rattle.judged_files.specs.Ready.{GivesRuns, IsAskedWork}
+use Rattle.prepared_run.specs.Ready.{GivesRuns, IsAskedWork}
 use Rattle.commands.specs.Headline.{IsOutcomeOfLaneSim, IsOutcomeOfLosslessSim, IsOutcomeOfLossySim, IsOutcomeOfSim}
 use Rattle.commands.specs.LaneRuns.{IsWholeLaneRun}
 use Rattle.commands.specs.Runs.{IsOutcomeOn, IsOutcomeOnLanes}

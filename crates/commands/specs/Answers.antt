@@ -6,8 +6,9 @@ use Rattle.command_line.specs.Commands.{Command, reads, writes}
 use Rattle.judged_files.specs.Inputs.{Inputs}
 use Rattle.commands.specs.Inputs.{AreTold, inputs_of}
 use Rattle.commands.specs.Headline.{IsWritten, PrintsPrefix}
-use Rattle.judged_files.specs.Text.{cannot_read, cannot_write, too_long, cannot_write_output}
-use Rattle.judged_files.specs.Answers.{IsTooLong}
+use Rattle.judged_files.specs.Text.{cannot_read, too_long}
+use Rattle.text_output.specs.Text.{cannot_write, cannot_write_output}
+use Rattle.judged_files.specs.Failures.{IsTooLong}
 
 -- a file that the command reads couldn't be read, or is too long, and the line says so
 abbrev pub IsReadFault : Command → FilesState → FilesState → (List ℕ → Type 0) → Type 0

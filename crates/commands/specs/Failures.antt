@@ -3,10 +3,10 @@ use Rattle.std.specs.Prelude.{◌≡◌, ℕ, ◌≤◌, ◌⊎◌, Bool, List, 
 use Rattle.node_model.specs.Node.{Work}
 use Rattle.node_model.specs.Core.{Core, IsOver}
 use Rattle.node_model.specs.Outcome.{Outcome, IsOutcomeOf}
-use Rattle.judged_files.specs.run_order.OwnRun.{Stamped, StandsForOwnRun, run_of}
+use Rattle.run_order.specs.OwnRun.{Stamped, StandsForOwnRun, run_of}
 use Rattle.run_record.specs.Text.{record_text}
-use Rattle.judged_files.specs.declared.failure.Failure.{Failure}
-use Rattle.judged_files.specs.declared.failure.Failure.TheVariants.{Input, NotWritten, Refused, Layout, Record, Text, Output, OutOfMemory}
+use Rattle.text_output.specs.declared.failure.Failure.{Failure}
+use Rattle.text_output.specs.declared.failure.Failure.TheVariants.{Input, NotWritten, Refused, Layout, Record, Text, Output, OutOfMemory}
 use Rattle.commands.specs.Text.{text_of}
 use Rattle.commands.specs.Outcomes as outcomes
 use Rattle.command_line.specs.Commands.{Command, reads}
@@ -15,21 +15,22 @@ use Rattle.commands.specs.Answers.{IsReadFault, HasBytes, IsUnwritten, IsWriteFa
 use Rattle.judged_files.specs.Code.{Planned, IsUnrewritten}
 use Rattle.commands.specs.Records.{record_at}
 use Rattle.commands.specs.Refusals.{IsRefused, IsLayoutRefused, IsRecordRefused, IsTextRefused, IsBadAssembly}
-use Rattle.judged_files.specs.Replays.{IsOutcomeOfReplay, IsReplayRefused, IsBadReplayLayout, IsBadRecord}
+use Rattle.prepared_run.specs.Replays.{IsOutcomeOfReplay, IsReplayRefused, IsBadReplayLayout, IsBadRecord}
 use Rattle.commands.specs.Headline.{IsRewrittenFile, IsAssembledFile, IsText, IsTextWith, Prints, PrintsPrefix}
 use Rattle.judged_files.specs.Inputs.{Inputs}
-use Rattle.commands.specs.Inputs.{AreTold, input_of, code_of, verified_of, layout_of, text_file_of, batches_of, inputs_of}
-use Rattle.judged_files.specs.Failures.{status_of, IsReadFailure, AreContents, AreBytes, FailsAs, IsWriteFailure}
-use Rattle.judged_files.specs.Ready.{IsOwnOutcome}
+use Rattle.text_output.specs.Failures.{status_of, FailsAs, IsWriteFailure}
+use Rattle.judged_files.specs.Failures.{IsReadFailure, AreContents, AreBytes}
+use Rattle.prepared_run.specs.Ready.{IsOwnOutcome}
+use Rattle.commands.specs.Inputs.{FileNames, AreTold, inputs_of}
 
--- the inputs are the contents of the command's files
-pub record AreRead (command : Command) (files : FilesState) (inputs : Inputs) : Type 0 where
-  pub executable : AreBytes files (input_of command) inputs.executable
-  pub code : AreContents files (code_of command) inputs.code
-  pub verified : AreContents files (verified_of command) inputs.verified
-  pub layout : AreContents files (layout_of command) inputs.layout
-  pub text : AreBytes files (text_file_of command) inputs.text
-  pub batches : inputs.batches ≡ batches_of command
+-- the inputs are the contents of the files of these names
+pub record AreRead (names : FileNames) (files : FilesState) (inputs : Inputs) : Type 0 where
+  pub executable : AreBytes files names.executable inputs.executable
+  pub code : AreContents files names.code inputs.code
+  pub verified : AreContents files names.verified inputs.verified
+  pub layout : AreContents files names.layout inputs.layout
+  pub text : AreBytes files names.text inputs.text
+  pub batches : inputs.batches ≡ names.batches
 
 -- a refusal of an assembly text; or a failure because it is out of memory
 abbrev pub IsAssemblyRefusal : List ℕ → Failure → Type 0

@@ -8,15 +8,15 @@ use Rattle.templates.specs.declared.plans.PlanEntry.{PlanEntry}
 use Rattle.templates.specs.WholePlan.{IsPlanOf}
 use Rattle.jump_map.specs.Image.{Cell, IsRewriting}
 use Rattle.elf32_write.specs.Layout.{file_of}
-use Rattle.judged_files.specs.rewriter.RewrittenFile.{rewritten_elf}
+use Rattle.rewriter.specs.RewrittenFile.{rewritten_elf}
 use Rattle.node_model.specs.Node.{Work}
 use Rattle.node_model.specs.Core.{Event, IsOver, opening_core, after}
 use Rattle.node_model.specs.Outcome.{Outcome}
-use Rattle.judged_files.specs.run_order.OwnRun.{Stamped, StandsForOwnRun}
+use Rattle.run_order.specs.OwnRun.{Stamped, StandsForOwnRun}
 use Rattle.run_record.specs.Text.{record_text}
-use Rattle.lossy_sim.specs.shared_sim.ByOrder.{FollowsOrder}
-use Rattle.smp_sim.specs.lane_model.Nodes.{LaneWork}
-use Rattle.smp_sim.specs.lane_model.Core.{LaneEvent, opening_core as opening_lanes}
+use Rattle.shared_sim.specs.ByOrder.{FollowsOrder}
+use Rattle.lane_model.specs.Nodes.{LaneWork}
+use Rattle.lane_model.specs.Core.{LaneEvent, opening_core as opening_lanes}
 use Rattle.smp_sim.specs.ByOrder.{FollowsOrder as FollowsOrderOnLanes}
 use Rattle.lossy_sim.specs.UnderWay.{StandFor}
 use Rattle.lossy_sim.specs.WithLoss.{State, Turn, AreAllOver, FollowsLoss, opening_state, ordinary}
@@ -24,7 +24,7 @@ use Rattle.block_layout.specs.Layout.{Shape}
 use Rattle.one_memory.specs.ByOrder.{IsRunByOrder}
 use Rattle.workload.specs.Generated.{generated_elf}
 use Rattle.rv32_asm.specs.Assembling.{IsAssembled}
-use Rattle.command_line.specs.Commands.{Command, Rewrite, Run, Listing, One, Sim, Replay, Generate, Assemble}
+use Rattle.command_line.specs.Commands.{SimArguments, Command, Rewrite, Run, Listing, One, Sim, Replay, Generate, Assemble}
 use Rattle.dsm_io.specs.Causes.{Appends, AppendsPrefix}
 use Rattle.dsm_io.specs.States.{FilesState, SinkState}
 use Rattle.judged_files.specs.Executables.{IsProgramOf}
@@ -34,9 +34,9 @@ use Rattle.judged_files.specs.Layouts.{IsLayoutFor}
 use Rattle.commands.specs.LaneRuns.{IsLaneRunOf}
 use Rattle.commands.specs.Outcomes.{status_of, told}
 use Rattle.commands.specs.Records.{record_of}
-use Rattle.judged_files.specs.Replays.{IsOutcomeOfReplay}
+use Rattle.prepared_run.specs.Replays.{IsOutcomeOfReplay}
 use Rattle.commands.specs.Text.{text_of}
-use Rattle.judged_files.specs.WholeRuns.{IsRunOf}
+use Rattle.prepared_run.specs.WholeRuns.{IsRunOf}
 
 -- the bytes are the record of some such run
 pub record IsRecordOfRun (inputs : Inputs) (nodes budget : ℕ) (bytes : List ℕ) : Type 0 where
@@ -72,8 +72,8 @@ pub record IsOutcomeOfLosslessSim (inputs : Inputs) (nodes order budget : ℕ) (
 
 -- The outcome of the run by the order of a number over links that lose packets, by the order of a
 -- loss: of the turns of nodes and network that the rule gives until each node is over. The nodes'
--- events lead to a core of which these are the nodes, with what is under way on the links, and which
--- stands for its own run, whose outcome this is.
+-- events lead to a core of which these are the nodes, with what is under way on the links, and
+-- which stands for its own run, whose outcome this is.
 pub record IsOutcomeOfLossySim (inputs : Inputs) (nodes order budget loss : ℕ) (outcome : Outcome)
     : Type 0
   where
@@ -181,6 +181,12 @@ pub record IsTextWith (Is : Outcome → Type 0) (brief : Bool) (text : List ℕ)
     pub text_is : text ≡ text_of (told brief outcome)
     pub status_is : status ≡ status_of outcome
 
+-- the text of such a run by an order
+abbrev pub IsTextOfSim : SimArguments → Inputs → List ℕ → ℕ → Type 0
+IsTextOfSim a inputs =
+    IsTextWith (IsOutcomeOfSim inputs a.execution.nodes a.order a.execution.budget a.lanes a.loss)
+    a.execution.brief
+
 -- what a file that may be left out holds, where it is named and that is told
 abbrev pub held_by : FilesState → Option (List ℕ) → Option (List ℕ)
 held_by files None = None
@@ -189,22 +195,19 @@ held_by files (Some name) = files.held name
 -- the text that a command asks for, where it reads these files, and the status, beside what the
 -- files hold then: of a run that is recorded, the text is of the run whose record the file holds
 abbrev pub IsText : Command → FilesState → Inputs → List ℕ → ℕ → Type 0
-IsText (Rewrite input output no_batch) files inputs text status =
+IsText (Rewrite a) files inputs text status =
     IsRewrittenText inputs.batches inputs.executable text status
-IsText (Run file nodes budget record_file code verified layout brief no_batch) files inputs text
-    status =
-    IsTextWith (IsOutcomeRecorded inputs nodes budget (held_by files record_file)) brief text status
-IsText (One file nodes order budget layout) files inputs text status =
-    IsTextWith (IsOutcomeByOrder inputs nodes order budget) false text status
-IsText (Sim file nodes order budget code verified layout brief no_batch loss lanes) files inputs
-    text status =
-    IsTextWith (IsOutcomeOfSim inputs nodes order budget lanes loss) brief text status
-IsText (Listing file) files inputs text status = IsListingText inputs.executable text status
-IsText (Replay file verified record_file brief) files inputs text status =
-    IsTextWith (IsOutcomeOfReplay inputs) brief text status
-IsText (Generate number output) files inputs text status = IsNoText text status
-IsText (Assemble assembly output) files inputs text status =
-    IsAssembledText inputs.text text status
+IsText (Run a) files inputs text status =
+    IsTextWith (IsOutcomeRecorded inputs a.execution.nodes a.execution.budget
+    (held_by files a.record_file)) a.execution.brief text status
+IsText (One a) files inputs text status =
+    IsTextWith (IsOutcomeByOrder inputs a.nodes a.order a.budget) false text status
+IsText (Sim a) files inputs text status = IsTextOfSim a inputs text status
+IsText (Listing a) files inputs text status = IsListingText inputs.executable text status
+IsText (Replay a) files inputs text status =
+    IsTextWith (IsOutcomeOfReplay inputs) a.brief text status
+IsText (Generate a) files inputs text status = IsNoText text status
+IsText (Assemble a) files inputs text status = IsAssembledText inputs.text text status
 
 -- the whole text was put, and the files hold what goes with it
 pub record Prints (command : Command) (contents : List ℕ → List ℕ)
@@ -223,10 +226,10 @@ pub record PrintsPrefix (command : Command) (contents : List ℕ → List ℕ)
 
 -- the bytes that a command writes into its file
 abbrev pub IsWritten : Command → Inputs → List ℕ → Type 0
-IsWritten (Rewrite input output no_batch) inputs bytes =
+IsWritten (Rewrite a) inputs bytes =
     IsRewrittenFile inputs.batches inputs.executable bytes
-IsWritten (Run file nodes budget record_file code verified layout brief no_batch) inputs bytes =
-    IsRecordOfRun inputs nodes budget bytes
-IsWritten (Generate number output) inputs bytes = bytes ≡ file_of (generated_elf number)
-IsWritten (Assemble assembly output) inputs bytes = IsAssembledFile inputs.text bytes
+IsWritten (Run a) inputs bytes =
+    IsRecordOfRun inputs a.execution.nodes a.execution.budget bytes
+IsWritten (Generate a) inputs bytes = bytes ≡ file_of (generated_elf a.number)
+IsWritten (Assemble a) inputs bytes = IsAssembledFile inputs.text bytes
 IsWritten command inputs bytes = ⊥

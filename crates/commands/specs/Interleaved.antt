@@ -15,16 +15,16 @@ use Rattle.dsm_io.specs.Causes.{Appends}
 use Rattle.dsm_io.specs.States.{SinkState}
 use Rattle.judged_files.specs.Executables.{IsProgramOf}
 use Rattle.judged_files.specs.Inputs.{Inputs}
-use Rattle.judged_files.specs.rewriting_law.Bounds.{steps_of}
+use Rattle.rewriting_law.specs.Bounds.{steps_of}
 use Rattle.commands.specs.Inputs.{inputs_of}
 use Rattle.judged_files.specs.Layouts.{IsLayoutFor}
-use Rattle.judged_files.specs.Replays.{IsLayoutOfBlocks, IsTextOf}
+use Rattle.judged_files.specs.Records.{IsLayoutOfBlocks, IsTextOf}
 use Rattle.commands.specs.Processors.{outcome_head}
 use Rattle.commands.specs.Text.{outcome_tail}
 
 -- What some interleaved run of the processors gives: the bytes printed, and how each ended: by its
 -- exit; one that has none was stopped by the budget, and has made so many steps or more.
-pub record IsInterleaved (original : Original) (budget least : ℕ) (output : List ℕ)
+pub record IsInterleaved (original : Original) (budget fewest_steps : ℕ) (output : List ℕ)
     (ends : List End) : Type 0
   where
     pub picks : List Pick
@@ -34,13 +34,13 @@ pub record IsInterleaved (original : Original) (budget least : ℕ) (output : Li
         ≡ ends_by budget (run original (opening original) picks) original.nodes
     pub worked : (p : ℕ) → p < original.nodes
         → ((run original (opening original) picks).processors p).exit ≡ None
-        → least ≤ steps_of p picks
+        → fewest_steps ≤ steps_of p picks
 
 -- The text tells of such a run of the program of the executable in a file, on so many processors,
 -- whose shared lines have the blocks of such a layout. Behind the ends stand the lines of what
 -- nodes counted, or none.
 pub record TellsOfOriginal (file : List ℕ) (IsLaidOut : Elf → Shape → Type 0)
-    (processors budget least : ℕ) (text : List ℕ) : Type 0 where
+    (processors budget fewest_steps : ℕ) (text : List ℕ) : Type 0 where
   pub elf : Elf
   pub executable : IsProgramOf file elf
   pub layout : Shape
@@ -49,7 +49,8 @@ pub record TellsOfOriginal (file : List ℕ) (IsLaidOut : Elf → Shape → Type
   pub ends : List End
   pub counts : List NodeCounts
   pub interleaved : IsInterleaved
-      (record { program = program_of elf; layout = layout; nodes = processors }) budget least output
+      (record { program = program_of elf; layout = layout; nodes = processors }) budget fewest_steps
+      output
       ends
   pub text_is : text ≡ outcome_head (length output) ++ (output ++ outcome_tail ends counts)
 
@@ -68,30 +69,28 @@ abbrev pub least_steps : (lanes : Option ℕ) → (words : ℕ) → ℕ
 least_steps lanes words = option_map_or (λ m. 0) lanes (words / 40)
 
 -- the blocks that a record names, over the executable's shared lines
-abbrev pub IsLayoutKept : Record → Elf → Shape → Type 0
-IsLayoutKept kept elf layout = IsLayoutOfBlocks elf kept layout × IsValid layout
+abbrev pub IsLayoutOfRecord : Record → Elf → Shape → Type 0
+IsLayoutOfRecord kept elf layout = IsLayoutOfBlocks elf kept layout × IsValid layout
 
 -- the text tells of a run on as many processors as the record says, with its budget and its blocks
-pub record TellsOfRecorded (inputs : Inputs) (text : List ℕ) : Type 0 where
+pub record TellsOfRecord (inputs : Inputs) (text : List ℕ) : Type 0 where
   pub kept : Record
   pub record_is : IsTextOf kept inputs.text
-  pub tells : TellsOfOriginal inputs.executable (IsLayoutKept kept) kept.nodes kept.budget
+  pub tells : TellsOfOriginal inputs.executable (IsLayoutOfRecord kept) kept.nodes kept.budget
       (least_steps None kept.budget) text
 
 -- the text of a command that runs a program tells of the original
 abbrev pub IsTextOfOriginal : Command → Inputs → List ℕ → Type 0
-IsTextOfOriginal (Run file nodes budget record_file code verified layout brief no_batch) inputs
-    text =
-    TellsOfOriginal inputs.executable (IsLayoutGiven inputs nodes) nodes budget
-    (least_steps None budget) text
-IsTextOfOriginal (Sim file nodes order budget code verified layout brief no_batch loss lanes) inputs
-    text =
-    TellsOfOriginal inputs.executable (IsLayoutGiven inputs nodes) (processors_on nodes lanes)
-    budget (least_steps lanes budget) text
-IsTextOfOriginal (One file nodes order budget layout) inputs text =
-    TellsOfOriginal inputs.executable (IsLayoutGiven inputs nodes) nodes budget budget text
-IsTextOfOriginal (Replay file verified record_file brief) inputs text =
-    TellsOfRecorded inputs text
+IsTextOfOriginal (Run a) inputs text =
+    TellsOfOriginal inputs.executable (IsLayoutGiven inputs a.execution.nodes) a.execution.nodes
+    a.execution.budget (least_steps None a.execution.budget) text
+IsTextOfOriginal (Sim a) inputs text =
+    TellsOfOriginal inputs.executable (IsLayoutGiven inputs a.execution.nodes)
+    (processors_on a.execution.nodes a.lanes) a.execution.budget
+    (least_steps a.lanes a.execution.budget) text
+IsTextOfOriginal (One a) inputs text =
+    TellsOfOriginal inputs.executable (IsLayoutGiven inputs a.nodes) a.nodes a.budget a.budget text
+IsTextOfOriginal (Replay a) inputs text = TellsOfRecord inputs text
 IsTextOfOriginal command inputs text = Unit {0}
 
 -- the whole of such a text was put

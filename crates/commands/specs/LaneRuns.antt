@@ -3,12 +3,12 @@ use Rattle.std.specs.Prelude.{◌≡◌, ℕ, List, ◌++◌, Some, map}
 use Rattle.elf32_read.specs.Elf.{Elf}
 use Rattle.templates.specs.declared.plans.PlanEntry.{PlanEntry}
 use Rattle.node_model.specs.Outcome.{Outcome}
-use Rattle.smp_sim.specs.lane_model.Nodes.{LaneWork}
-use Rattle.smp_sim.specs.lane_model.Core.{LaneEvent, IsLaneRun, opening_core, after}
-use Rattle.smp_sim.specs.lane_model.Outcome.{ends_after, counts_after}
-use Rattle.smp_sim.specs.lane_law.Law.{RunsOnLanes, Interleaves, AllLicensed, IsCoherent, SameReservations, StopsAtBudget, AreAllOver, AreEmpty, original_after}
+use Rattle.lane_model.specs.Nodes.{LaneWork}
+use Rattle.lane_model.specs.Core.{LaneEvent, IsLaneRun, opening_core, after}
+use Rattle.lane_model.specs.Outcome.{ends_after, counts_after}
+use Rattle.lane_law.specs.Law.{RunsOnLanes, Interleaves, AllLicensed, IsCoherent, SameReservations, StopsAtBudget, AreAllOver, AreEmpty, original_after}
 use Rattle.judged_files.specs.Inputs.{Inputs}
-use Rattle.judged_files.specs.Ready.{IsAskedWork}
+use Rattle.prepared_run.specs.Ready.{IsAskedWork}
 
 -- the events are a whole run of the nodes, from the start until each is over, with this outcome
 pub record IsWholeLaneRun (w : LaneWork) (plan : List PlanEntry) (events : List LaneEvent)

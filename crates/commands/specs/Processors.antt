@@ -6,7 +6,7 @@ use Rattle.rv32_program.specs.declared.Exit.{Exit}
 use Rattle.rv32_program.specs.declared.Exit.TheVariants.{Code, Ebreak, Illegal, Misaligned, Access, Fetch}
 use Rattle.rv32_program.specs.declared.End.{End}
 use Rattle.rv32_program.specs.declared.End.TheVariants.{Exited, Stopped}
-use Rattle.judged_files.specs.Text.{hex8}
+use Rattle.text_output.specs.Text.{hex8}
 
 abbrev pub exit_text : Exit → List ℕ
 exit_text (Code c) = codes "exit " ++ decimal c

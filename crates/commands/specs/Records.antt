@@ -3,7 +3,7 @@ use Rattle.std.specs.Prelude.{Bool, List, Some, map, length}
 use Rattle.std.specs.List.{range_with_len}
 use Rattle.node_model.specs.Node.{Work}
 use Rattle.node_model.specs.Core.{Core, opening_core, after}
-use Rattle.judged_files.specs.run_order.OwnRun.{Stamped, run_of}
+use Rattle.run_order.specs.OwnRun.{Stamped, run_of}
 use Rattle.run_record.specs.declared.Record.{Record}
 
 -- what the nodes of a core run, with batches or without, and in how many words; and the messages

@@ -7,7 +7,7 @@ use Rattle.command_line.specs.Commands.{Command, Rewrite, Run, Listing, One, Sim
 use Rattle.judged_files.specs.Code.{Planned, IsUnrewritten}
 use Rattle.judged_files.specs.Executables.{IsProgramOf, IsUnaccepted}
 use Rattle.judged_files.specs.Inputs.{Inputs}
-use Rattle.judged_files.specs.Replays.{IsReplayRefused, IsBadReplayLayout, IsBadRecord}
+use Rattle.prepared_run.specs.Replays.{IsReplayRefused, IsBadReplayLayout, IsBadRecord}
 use Rattle.rv32_asm.specs.Rules.{IsFirstFault as IsFirstFaultOfText}
 use Rattle.rv32_asm.specs.declared.refused.AsmRule.{AsmRule}
 use Rattle.judged_files.specs.Text.{assembly_line}
@@ -21,33 +21,27 @@ pub record IsBadLayout (inputs : Inputs) (nodes : ℕ) (line : List ℕ) : Type 
 
 -- a command's executable, its verified file or its file of code is refused with this line
 abbrev pub IsRefused : Command → Inputs → List ℕ → Type 0
-IsRefused (Rewrite input output no_batch) inputs line =
+IsRefused (Rewrite a) inputs line =
     IsUnrewritten (Planned inputs.batches) inputs.executable line
-IsRefused (Run file nodes budget record_file code verified layout brief no_batch) inputs line =
-    IsRunRefused inputs line
-IsRefused (Listing file) inputs line = IsUnaccepted inputs.executable line
-IsRefused (One file nodes order budget layout) inputs line = IsUnaccepted inputs.executable line
-IsRefused (Sim file nodes order budget code verified layout brief no_batch loss lanes) inputs line =
-    IsRunRefused inputs line
-IsRefused (Replay file verified record_file brief) inputs line = IsReplayRefused inputs line
-IsRefused (Generate number output) inputs line = ⊥
-IsRefused (Assemble text output) inputs line = ⊥
+IsRefused (Run a) inputs line = IsRunRefused inputs line
+IsRefused (Listing a) inputs line = IsUnaccepted inputs.executable line
+IsRefused (One a) inputs line = IsUnaccepted inputs.executable line
+IsRefused (Sim a) inputs line = IsRunRefused inputs line
+IsRefused (Replay a) inputs line = IsReplayRefused inputs line
+IsRefused (Generate a) inputs line = ⊥
+IsRefused (Assemble a) inputs line = ⊥
 
 -- a command's layout is refused with this line
 abbrev pub IsLayoutRefused : Command → Inputs → List ℕ → Type 0
-IsLayoutRefused (Run file nodes budget record_file code verified layout brief no_batch) inputs
-    line =
-    IsBadRunLayout inputs nodes line
-IsLayoutRefused (One file nodes order budget layout) inputs line = IsBadLayout inputs nodes line
-IsLayoutRefused (Sim file nodes order budget code verified layout brief no_batch loss lanes) inputs
-    line =
-    IsBadRunLayout inputs nodes line
-IsLayoutRefused (Replay file verified record_file brief) inputs line = IsBadReplayLayout inputs line
+IsLayoutRefused (Run a) inputs line = IsBadRunLayout inputs a.execution.nodes line
+IsLayoutRefused (One a) inputs line = IsBadLayout inputs a.nodes line
+IsLayoutRefused (Sim a) inputs line = IsBadRunLayout inputs a.execution.nodes line
+IsLayoutRefused (Replay a) inputs line = IsBadReplayLayout inputs line
 IsLayoutRefused command inputs line = ⊥
 
 -- a command's record is refused with this line
 abbrev pub IsRecordRefused : Command → Inputs → List ℕ → Type 0
-IsRecordRefused (Replay file verified record_file brief) inputs line = IsBadRecord inputs line
+IsRecordRefused (Replay a) inputs line = IsBadRecord inputs line
 IsRecordRefused command inputs line = ⊥
 
 -- the assembly text breaks a rule, and the line says at which line first, and which rule is the
@@ -60,5 +54,5 @@ pub record IsBadAssembly (text line : List ℕ) : Type 0 where
 
 -- a command's assembly text is refused with this line
 abbrev pub IsTextRefused : Command → Inputs → List ℕ → Type 0
-IsTextRefused (Assemble text output) inputs line = IsBadAssembly inputs.text line
+IsTextRefused (Assemble a) inputs line = IsBadAssembly inputs.text line
 IsTextRefused command inputs line = ⊥

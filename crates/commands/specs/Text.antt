@@ -3,7 +3,7 @@ use Rattle.std.specs.Prelude.{List, ℕ, ◌++◌, length, codes}
 use Rattle.rv32_program.specs.declared.End.{End}
 use Rattle.node_model.specs.declared.NodeCounts.{NodeCounts}
 use Rattle.node_model.specs.Outcome.{Outcome}
-use Rattle.judged_files.specs.Text.{node_lines}
+use Rattle.prepared_run.specs.Text.{node_lines}
 use Rattle.commands.specs.Processors.{outcome_head, processor_lines}
 
 -- what stands behind the bytes printed: how each processor ended, and what each node counted

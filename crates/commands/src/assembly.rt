@@ -6,11 +6,10 @@ ghost use Rattle.commands.specs.Headline.{IsAssembledFile, IsAssembledText};
 
 use dsm_io::Files;
 use elf32_write::write_elf;
-use judged_files::failure::Failure;
-use judged_files::output::write_file;
 use judged_files::refusal::assembly_line;
 use rv32_asm::{AsmRefused, assemble};
 use std::alloc::Global;
+use text_output::{Failure, write_file};
 
 /// Writes the executable of an assembly text into the file `output`.
 pub fn assemble_into<F: Files>(

@@ -3,13 +3,12 @@
 ghost use Rattle.std.specs.Prelude.{◌≡◌, ◌≢◌, ℕ, List, IfOk, IfErr, IfSome, OnOk};
 ghost use Rattle.elf32_write.specs.Layout.{file_of};
 ghost use Rattle.workload.specs.Generated.{generated_elf};
-ghost use Rattle.judged_files.specs.Failures.{IsWriteFailure};
+ghost use Rattle.text_output.specs.Failures.{IsWriteFailure};
 
 use dsm_io::Files;
 use elf32_write::write_elf;
-use judged_files::failure::Failure;
-use judged_files::output::write_file;
 use std::alloc::{AllocError, Global};
+use text_output::{Failure, write_file};
 use workload::program_of;
 
 /// Writes the executable that a number makes into the file `output`; the status is 0.

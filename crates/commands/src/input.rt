@@ -3,113 +3,90 @@
 ghost use Rattle.std.specs.Prelude.{◌≡◌, ◌<◌, ◌≤◌, ℕ, List, length, Option, Some, Contains, IfOk};
 ghost use Rattle.std.specs.Prelude.{IfErr, MatchResult};
 ghost use Rattle.command_line.specs.Commands.{reads};
-ghost use Rattle.command_line.specs.Meaning.{meaning_of, file_name};
-ghost use Rattle.commands.specs.Inputs.{input_of as model_input_of, code_of as model_code_of};
-ghost use Rattle.commands.specs.Inputs.{verified_of as model_verified_of};
-ghost use Rattle.commands.specs.Inputs.{layout_of as model_layout_of};
-ghost use Rattle.commands.specs.Inputs.{text_file_of as model_text_file_of};
-ghost use Rattle.commands.specs.Inputs.{batches_of as model_batches_of};
+ghost use Rattle.command_line.specs.Meaning.{execution_of, file_name, meaning_of};
+ghost use Rattle.commands.specs.Inputs.{execution_files as model_execution_files};
+ghost use Rattle.commands.specs.Inputs.{file_names as model_file_names, no_file};
+ghost use Rattle.commands.specs.Runs.{names_of};
 ghost use Rattle.judged_files.specs.Given.{contents_of};
-ghost use Rattle.judged_files.specs.Answers.{file_limit};
+ghost use Rattle.judged_files.specs.Failures.{file_limit};
 ghost use Rattle.commands.specs.Failures.{AreInputs, IsInputFailure};
-ghost use Rattle.judged_files.specs.Failures.{IsNoRefusal};
+ghost use Rattle.text_output.specs.Failures.{IsNoRefusal};
 
-use command_line::Command;
+use command_line::{Command, Execution};
 use dsm_io::Files;
-use judged_files::failure::Failure;
 use judged_files::input::{InputFiles, read_bytes, read_named};
 use std::alloc::Global;
+use text_output::Failure;
 
-/// The name of the file that a command reads as an executable.
-fn input_of<'a>(command: &Command<'a>) -> Option<&'a str>
-    ensures { file_name result ≡ model_input_of (meaning_of command.now) }
+/// The files that a command reads, each where it reads one.
+#[derive(Clone, Copy)]
+struct FileNames<'a> {
+    executable: Option<&'a str>,
+    /// The rewritten executable.
+    code: Option<&'a str>,
+    /// The verified executable.
+    verified: Option<&'a str>,
+    layout: Option<&'a str>,
+    /// The record, or the assembly text.
+    text: Option<&'a str>,
+    /// Whether the command asks for code with batches.
+    batches: bool,
+}
+
+/// The files of a command that reads an executable, or none.
+fn files_with<'a>(executable: Option<&'a str>) -> FileNames<'a>
+    ensures { names_of result ≡ record no_file { executable = file_name executable.entry } }
 {
-    match command {
-        Command::Rewrite { input, .. } => Some(*input),
-        Command::Run { file, .. }
-        | Command::List { file }
-        | Command::One { file, .. }
-        | Command::Sim { file, .. }
-        | Command::Replay { file, .. } => Some(*file),
-        Command::Generate { .. } | Command::Assemble { .. } => None,
+    FileNames {
+        executable,
+        code: None,
+        verified: None,
+        layout: None,
+        text: None,
+        batches: true,
     }
 }
 
-/// The name of the file that a command reads as the rewritten executable.
-fn code_of<'a>(command: &Command<'a>) -> Option<&'a str>
-    ensures { file_name result ≡ model_code_of (meaning_of command.now) }
+/// The files of nodes that run.
+fn execution_files<'a>(execution: &Execution<'a>) -> FileNames<'a>
+    ensures { names_of result ≡ model_execution_files (execution_of execution.now) }
 {
-    match command {
-        Command::Run { code, .. } | Command::Sim { code, .. } => *code,
-        Command::Rewrite { .. }
-        | Command::List { .. }
-        | Command::One { .. }
-        | Command::Replay { .. }
-        | Command::Generate { .. }
-        | Command::Assemble { .. } => None,
+    FileNames {
+        executable: Some(execution.file),
+        code: execution.code,
+        verified: execution.verified,
+        layout: execution.layout,
+        text: None,
+        batches: !execution.no_batch,
     }
 }
 
-/// The name of the file that a command reads as a verified one.
-fn verified_of<'a>(command: &Command<'a>) -> Option<&'a str>
-    ensures { file_name result ≡ model_verified_of (meaning_of command.now) }
+/// The files of a command.
+fn file_names<'a>(command: &Command<'a>) -> FileNames<'a>
+    ensures { names_of result ≡ model_file_names (meaning_of command.now) }
 {
     match command {
-        Command::Run { verified, .. }
-        | Command::Sim { verified, .. }
-        | Command::Replay { verified, .. } => *verified,
-        Command::Rewrite { .. }
-        | Command::List { .. }
-        | Command::One { .. }
-        | Command::Generate { .. }
-        | Command::Assemble { .. } => None,
-    }
-}
-
-/// The name of the file that a command reads as a layout.
-fn layout_of<'a>(command: &Command<'a>) -> Option<&'a str>
-    ensures { file_name result ≡ model_layout_of (meaning_of command.now) }
-{
-    match command {
-        Command::Run { layout, .. } | Command::One { layout, .. } | Command::Sim { layout, .. } =>
-            *layout,
-        Command::Rewrite { .. }
-        | Command::List { .. }
-        | Command::Replay { .. }
-        | Command::Generate { .. }
-        | Command::Assemble { .. } => None,
-    }
-}
-
-/// The name of the file that a command reads as a record, or as an assembly text.
-fn text_file_of<'a>(command: &Command<'a>) -> Option<&'a str>
-    ensures { file_name result ≡ model_text_file_of (meaning_of command.now) }
-{
-    match command {
-        Command::Replay { record_file, .. } => Some(*record_file),
-        Command::Assemble { text, .. } => Some(*text),
-        Command::Rewrite { .. }
-        | Command::Run { .. }
-        | Command::List { .. }
-        | Command::One { .. }
-        | Command::Sim { .. }
-        | Command::Generate { .. } => None,
-    }
-}
-
-/// Whether a command asks for code with batches.
-fn batches_of(command: &Command<'_>) -> bool
-    ensures value { result ≡ model_batches_of (meaning_of command.now) }
-{
-    match command {
-        Command::Rewrite { no_batch, .. }
-        | Command::Run { no_batch, .. }
-        | Command::Sim { no_batch, .. } => !*no_batch,
-        Command::List { .. }
-        | Command::One { .. }
-        | Command::Replay { .. }
-        | Command::Generate { .. }
-        | Command::Assemble { .. } => true,
+        Command::Rewrite(arguments) => FileNames {
+            batches: !arguments.no_batch,
+            ..files_with(Some(arguments.input))
+        },
+        Command::Run(arguments) => execution_files(&arguments.execution),
+        Command::List(arguments) => files_with(Some(arguments.file)),
+        Command::One(arguments) => FileNames {
+            layout: arguments.layout,
+            ..files_with(Some(arguments.file))
+        },
+        Command::Sim(arguments) => execution_files(&arguments.execution),
+        Command::Replay(arguments) => FileNames {
+            verified: arguments.verified,
+            text: Some(arguments.record_file),
+            ..files_with(Some(arguments.file))
+        },
+        Command::Generate(_) => files_with(None),
+        Command::Assemble(arguments) => FileNames {
+            text: Some(arguments.text),
+            ..files_with(None)
+        },
     }
 }
 
@@ -131,17 +108,18 @@ pub fn read_inputs<F: Files>(
     ensures writes { (n : List ℕ)
         → (F.state files.old).failed_writes n ≤ (F.state files.new).failed_writes n }
 {
-    let executable = read_bytes(alloc, files, input_of(command))?;
-    let code = read_named(alloc, files, code_of(command))?;
-    let verified = read_named(alloc, files, verified_of(command))?;
-    let layout = read_named(alloc, files, layout_of(command))?;
-    let text = read_bytes(alloc, files, text_file_of(command))?;
+    let names = file_names(command);
+    let executable = read_bytes(alloc, files, names.executable)?;
+    let code = read_named(alloc, files, names.code)?;
+    let verified = read_named(alloc, files, names.verified)?;
+    let layout = read_named(alloc, files, names.layout)?;
+    let text = read_bytes(alloc, files, names.text)?;
     Ok(InputFiles {
         executable,
         code,
         verified,
         layout,
         text,
-        batches: batches_of(command),
+        batches: names.batches,
     })
 }

@@ -10,12 +10,12 @@ ghost use Rattle.commands.specs.Inputs.{inputs_of};
 ghost use Rattle.commands.specs.Refusals.{IsRefused, IsLayoutRefused, IsRecordRefused};
 
 use block_layout::range_list_law;
-use judged_files::check_plan::plan_law;
-use judged_files::replay::replay_law;
-use judged_files::rewrite_verify::verify_law;
-use judged_files::rewriter::rewrite_law;
-use judged_files::rewriting_law::progress_law;
-use judged_files::run_order::journal_law;
+use check_plan::plan_law;
+use replay::replay_law;
+use rewrite_verify::verify_law;
+use rewriter::rewrite_law;
+use rewriting_law::progress_law;
+use run_order::journal_law;
 use run_record::record_law;
 
 /// The law of a `run` and a `replay` of the record that it left, which the callers use by its

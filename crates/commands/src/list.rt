@@ -6,16 +6,15 @@ ghost use Rattle.rv32_text.specs.Listing.{line_of as model_line_of};
 ghost use Rattle.dsm_io.specs.Causes.{Appends};
 ghost use Rattle.commands.specs.Headline.{IsListingText, listing};
 ghost use Rattle.judged_files.specs.Executables.{IsUnaccepted};
-ghost use Rattle.judged_files.specs.Failures.{Puts, FailsAs, IsLike, IsNever};
+ghost use Rattle.text_output.specs.Failures.{Puts, FailsAs, IsLike, IsNever};
 
 use dsm_io::Sink;
 use exec_map::Program;
-use judged_files::failure::Failure;
 use judged_files::input::{elf_of, program_of};
-use judged_files::output::put;
 use judged_files::refusal::Subject;
 use rv32_text::line_of;
 use std::alloc::{AllocError, Global};
+use text_output::{Failure, put};
 
 /// The lines are put in pieces of about so many bytes.
 const PIECE: usize = 0x1_0000;

@@ -3,19 +3,19 @@
 ghost use Rattle.std.specs.Prelude.{false, IfOk, IfErr};
 ghost use Rattle.commands.specs.Headline.{IsTextWith, IsOutcomeByOrder};
 ghost use Rattle.judged_files.specs.Executables.{IsUnaccepted};
-ghost use Rattle.judged_files.specs.Failures.{Puts, FailsAs};
+ghost use Rattle.text_output.specs.Failures.{Puts, FailsAs};
 ghost use Rattle.judged_files.specs.Given.{bytes_of};
 ghost use Rattle.commands.specs.Refusals.{IsBadLayout};
 
 use crate::outcome::put_outcome;
 use dsm_io::Sink;
-use judged_files::failure::Failure;
 use judged_files::input::{Inputs, elf_of, program_of};
 use judged_files::layout::layout_for;
 use judged_files::refusal::Subject;
 use one_memory::run_by_order;
 use run_limits::{Budget, NodeCount};
 use std::alloc::Global;
+use text_output::Failure;
 
 /// Runs the original of the executable among these files, with the blocks of the layout, and puts
 /// the text of the outcome.

@@ -4,18 +4,17 @@ ghost use Rattle.std.specs.Prelude.{◌≡◌, ◌≤◌, IfOk, IfErr};
 ghost use Rattle.std.specs.List.{list_all};
 ghost use Rattle.commands.specs.Outcomes.{status_of, told};
 ghost use Rattle.commands.specs.Processors.{is_success};
-ghost use Rattle.lossy_sim.specs.dsm_core.CoreParts.{outcome_of};
-ghost use Rattle.judged_files.specs.Failures.{Puts, FailsAs, IsNever};
+ghost use Rattle.dsm_core.specs.CoreParts.{outcome_of};
+ghost use Rattle.text_output.specs.Failures.{Puts, FailsAs, IsNever};
 ghost use Rattle.commands.specs.Failures.{IsTextOfOutcome};
 
 use crate::text::{outcome_head, outcome_tail};
+use dsm_core::Outcome;
 use dsm_io::Sink;
 use exec_map::{End, Exit};
-use judged_files::failure::Failure;
-use judged_files::output::put;
-use lossy_sim::dsm_core::Outcome;
 use node_model::NodeCounts;
 use std::alloc::Global;
+use text_output::{Failure, put};
 
 /// Puts the text of the outcome of nodes, which may be brief, and gives its status.
 pub fn put_told<O: Sink>(

@@ -2,25 +2,24 @@
 
 ghost use Rattle.std.specs.Prelude.{◌≡◌, ◌≢◌, ℕ, List, Some, map, IfErr, IfOk, IfSome, OnOk};
 ghost use Rattle.std.specs.List.{range_with_len};
-ghost use Rattle.lossy_sim.specs.dsm_core.CoreParts.{work_of, core_of};
+ghost use Rattle.dsm_core.specs.CoreParts.{work_of, core_of};
 ghost use Rattle.run_record.specs.Lists.{items_of};
 ghost use Rattle.run_record.specs.Text as model;
 ghost use Rattle.command_line.specs.Meaning.{file_name};
 ghost use Rattle.commands.specs.Failures.{IsRecordFailure};
-ghost use Rattle.judged_files.specs.Ready.{work_for};
+ghost use Rattle.prepared_run.specs.Ready.{work_for};
 ghost use Rattle.commands.specs.Headline.{held_by};
 ghost use Rattle.commands.specs.Records.{record_at};
 
+use dsm_core::Core;
 use dsm_io::Files;
-use judged_files::failure::Failure;
-use judged_files::output::write_file;
-use judged_files::prepare::Prepared;
-use judged_files::rewriting_law::progress_law;
-use judged_files::run_order::journal_law;
-use lossy_sim::dsm_core::Core;
 use node_model::Entry;
+use prepared_run::Prepared;
+use rewriting_law::progress_law;
+use run_order::journal_law;
 use run_record::{Blocks, Journals, Record, write_record};
 use std::alloc::{AllocError, Global};
+use text_output::{Failure, write_file};
 
 /// Writes the record of a core's run into a file, where one is named.
 pub fn write_record_of<F: Files>(

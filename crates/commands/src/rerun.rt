@@ -1,27 +1,27 @@
 //! `replay`: the run of a record, made once more.
 
 ghost use Rattle.std.specs.Prelude.{◌≡◌, IfOk, IfErr};
-ghost use Rattle.lossy_sim.specs.dsm_core.CoreParts.{outcome_of};
-ghost use Rattle.judged_files.specs.replay.Replay.{IsReplay};
-ghost use Rattle.judged_files.specs.rewriting_law.Bounds.{RunsRewritten};
+ghost use Rattle.dsm_core.specs.CoreParts.{outcome_of};
+ghost use Rattle.replay.specs.Replay.{IsReplay};
+ghost use Rattle.rewriting_law.specs.Bounds.{RunsRewritten};
 ghost use Rattle.run_record.specs.Record.{IsRecord};
 ghost use Rattle.commands.specs.Headline.{IsTextWith};
-ghost use Rattle.judged_files.specs.Failures.{Puts, IsRecordRefusal};
+ghost use Rattle.text_output.specs.Failures.{Puts, IsRecordRefusal};
 ghost use Rattle.commands.specs.Failures.{IsReplayFailure};
-ghost use Rattle.judged_files.specs.Ready.{work_for};
+ghost use Rattle.prepared_run.specs.Ready.{work_for};
 ghost use Rattle.judged_files.specs.Given.{bytes_of};
-ghost use Rattle.judged_files.specs.Replays.{IsBrokenRun, IsOutcomeOfReplay};
+ghost use Rattle.prepared_run.specs.Replays.{IsBrokenRun, IsOutcomeOfReplay};
 
 use crate::outcome::put_told;
+use dsm_core::Outcome;
 use dsm_io::Sink;
-use judged_files::failure::Failure;
 use judged_files::input::{Inputs, elf_of};
-use judged_files::prepare::{Prepared, prepare_replay};
-use judged_files::refusal::{Subject, event_line};
-use judged_files::replay::{ReplayRefused, replay};
-use lossy_sim::dsm_core::Outcome;
+use judged_files::refusal::Subject;
+use prepared_run::{Prepared, event_line, prepare_replay};
+use replay::{ReplayRefused, replay};
 use run_record::Record;
 use std::alloc::Global;
+use text_output::Failure;
 
 /// Makes the run of the record among these files once more, of the rewritten code of the executable
 /// among them, and puts the text of the outcome.

@@ -2,17 +2,16 @@
 
 ghost use Rattle.std.specs.Prelude.{◌≡◌, ◌≢◌, ℕ, List, [], IfOk, OnOk, IfErr, IfSome};
 ghost use Rattle.judged_files.specs.Code.{IsUnrewritten, Planned};
-ghost use Rattle.judged_files.specs.Failures.{IsRefusal, IsNever};
+ghost use Rattle.text_output.specs.Failures.{IsRefusal, IsNever};
 ghost use Rattle.commands.specs.Failures.{IsRewriteFailure};
 ghost use Rattle.commands.specs.Headline.{IsRewrittenFile, IsRewrittenText};
 
 use dsm_io::Files;
 use judged_files::code::planned_rewriting;
-use judged_files::failure::Failure;
 use judged_files::input::{elf_of, program_of};
-use judged_files::output::write_file;
 use judged_files::refusal::Subject;
 use std::alloc::Global;
+use text_output::{Failure, write_file};
 
 /// Writes the rewritten executable of the one that a file holds, with batches or without, into the
 /// file `output`.

@@ -3,12 +3,13 @@
 ghost use Rattle.std.specs.Prelude.{◌≡◌, ◌++◌, ◌∷◌, [], length, IfOk, OnOk};
 ghost use Rattle.commands.specs.Processors as lines;
 ghost use Rattle.commands.specs.Text as model;
-ghost use Rattle.judged_files.specs.Text.{hex8};
+ghost use Rattle.text_output.specs.Text.{hex8};
 
 use exec_map::{End, Exit};
-use judged_files::text::{push_address, push_nodes, push_number};
 use node_model::NodeCounts;
+use prepared_run::push_nodes;
 use std::alloc::{AllocError, Global};
+use text_output::{push_address, push_number};
 
 /// How the program is called.
 pub const USAGE: &str = concat!(

@@ -10,13 +10,14 @@ ghost use Rattle.commands.specs.Inputs.{AreTold, inputs_of};
 ghost use Rattle.commands.specs.Interleaved.{PrintsOriginal};
 ghost use Rattle.judged_files.specs.Given.{bytes_of};
 ghost use Rattle.commands.specs.Failures.{IsSuccess, IsFailure, IsPerformFailure, AreKept};
-ghost use Rattle.judged_files.specs.Failures.{IsNoRefusal, Puts};
+ghost use Rattle.text_output.specs.Failures.{IsNoRefusal, Puts};
 ghost use Rattle.commands.specs.Refusals.{IsRefused, IsLayoutRefused, IsRecordRefused};
 ghost use Rattle.commands.specs.Refusals.{IsTextRefused};
-ghost use Rattle.judged_files.specs.Answers.{Tells, file_limit};
+ghost use Rattle.text_output.specs.Answers.{Tells};
+ghost use Rattle.judged_files.specs.Failures.{file_limit};
 ghost use Rattle.commands.specs.Answers.{IsFault, IsRefusalStatus, AreLeft, AreWritten};
 ghost use Rattle.commands.specs.Text.{usage};
-ghost use Rattle.judged_files.specs.Text.{out_of_memory};
+ghost use Rattle.text_output.specs.Text.{out_of_memory};
 
 use crate::assembly::assemble_into;
 use crate::generate::generate_into;
@@ -25,18 +26,17 @@ use crate::list::list;
 use crate::one::one;
 use crate::rerun::put_replay;
 use crate::rewrite::rewrite_into;
-use crate::run::{RunOptions, run};
-use crate::sim::{SimOptions, sim};
+use crate::run::run;
+use crate::sim::sim;
 use crate::text::USAGE;
 use command_line::{Command, command_of};
 use dsm_io::{Files, Sink, Text};
-use judged_files::failure::Failure;
 use judged_files::input::Inputs;
-use judged_files::output::{tell, tell_out_of_memory};
 use node_threads::Gate;
 use std::alloc::Global;
 use std::sync::Wait;
 use std::thread::Threads;
+use text_output::{Failure, tell, tell_out_of_memory};
 
 /// Does what the words ask for, and answers the status: 0 where every processor ended by itself
 /// with code 0, or none runs; 1 where some processor ended otherwise; 2 for a faulty command line;
@@ -67,7 +67,7 @@ pub fn shasta<R: Threads + Wait + Sync, F: Files, O: Sink, E: Sink, G: Gate + Sy
     ensures prints { (c : Asked) (contents : List ℕ → List ℕ) → Asks words.now c
         → AreTold c (F.state files.old) contents → result ≤ 1
         → Prints c contents (F.state files.new) (O.state out.old) (O.state out.new) result }
-    ensures quiet { result ≤ 1 → (E.state err.new).taken ≡ (E.state err.old).taken }
+    ensures silent { result ≤ 1 → (E.state err.new).taken ≡ (E.state err.old).taken }
     // So the text of `one`, `sim`, `run` and `replay` tells of the original alone: of a run of its
     // processors on one memory, interleaved instruction by instruction. A processor without an exit
     // has made steps there: of `one` as many as the budget, of the others at least one for each 40
@@ -214,50 +214,28 @@ fn perform<R: Threads + Wait + Sync, F: Files, O: Sink, G: Gate + Sync>(
 {
     let file = inputs.executable;
     match command {
-        Command::Rewrite { output, .. } => {
-            rewrite_into(alloc, file, inputs.batches, output, files)
+        Command::Rewrite(arguments) => {
+            rewrite_into(alloc, file, inputs.batches, arguments.output, files)
         }
-        Command::Run {
-            nodes,
-            budget,
-            record_file,
-            brief,
-            ..
-        } => {
-            let options = RunOptions {
-                nodes: *nodes,
-                budget: *budget,
-                record_file: *record_file,
-                brief: *brief,
-            };
-            run(rt, alloc, inputs, options, files, out, gate)
+        Command::Run(arguments) => run(rt, alloc, inputs, arguments, files, out, gate),
+        Command::List(_) => list(alloc, file, out),
+        Command::One(arguments) => {
+            one(
+                alloc,
+                inputs,
+                arguments.nodes,
+                arguments.order,
+                arguments.budget,
+                out,
+            )
         }
-        Command::List { file: _ } => list(alloc, file, out),
-        Command::One {
-            nodes,
-            order,
-            budget,
-            ..
-        } => one(alloc, inputs, *nodes, *order, *budget, out),
-        Command::Sim {
-            nodes,
-            order,
-            budget,
-            brief,
-            machine,
-            ..
-        } => {
-            let options = SimOptions {
-                nodes: *nodes,
-                order: *order,
-                budget: *budget,
-                machine: *machine,
-                brief: *brief,
-            };
-            sim(alloc, inputs, options, out)
+        Command::Sim(arguments) => sim(alloc, inputs, arguments, out),
+        Command::Replay(arguments) => put_replay(alloc, inputs, arguments.brief, out),
+        Command::Generate(arguments) => {
+            generate_into(alloc, arguments.number, arguments.output, files)
         }
-        Command::Replay { brief, .. } => put_replay(alloc, inputs, *brief, out),
-        Command::Generate { number, output } => generate_into(alloc, *number, output, files),
-        Command::Assemble { output, .. } => assemble_into(alloc, inputs.text, output, files),
+        Command::Assemble(arguments) => {
+            assemble_into(alloc, inputs.text, arguments.output, files)
+        }
     }
 }

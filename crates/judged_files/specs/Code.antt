@@ -6,7 +6,7 @@ use Rattle.exec_map.specs.Contents.{program_of}
 use Rattle.templates.specs.declared.plans.PlanEntry.{PlanEntry}
 use Rattle.templates.specs.WholePlan.{IsPlanOf}
 use Rattle.rewrite_verify.specs.jump_map.Image.{Cell, IsRewriting}
-use Rattle.rewrite_verify.specs.rewriter.declared.file.Part.{Part}
+use Rattle.rewrite_verify.specs.rewriter.declared.file.FilePart.{FilePart}
 use Rattle.rewrite_verify.specs.rewriter.RewrittenFile.{rewritten_elf, IsFirstDifference}
 use Rattle.rewrite_verify.specs.Refusals.{Fits}
 use Rattle.rewrite_verify.specs.declared.refused.VerifyRefused.{VerifyRefused}
@@ -71,7 +71,7 @@ abbrev pub IsOtherFile : Elf → Option (List ℕ) → List ℕ → Type 0
 IsOtherFile wanted None line = ⊥
 IsOtherFile wanted (Some file) line =
     IsUnread Code file line
-    ⊎ ((elf : Elf) × (part : Part) × ReadsAs file elf × IsFirstDifference wanted elf part
+    ⊎ ((elf : Elf) × (part : FilePart) × ReadsAs file elf × IsFirstDifference wanted elf part
     × (line ≡ code_line part))
 
 -- the file of code isn't that of the rewritten executable, and this line says why

@@ -4,7 +4,7 @@ use Rattle.std.specs.Prelude.{◌≡◌, ℕ, ◌⊎◌, List, Option, Some}
 use Rattle.elf32_read.specs.Elf.{Elf}
 use Rattle.exec_map.specs.Contents.{AreSharedRanges}
 use Rattle.block_layout.specs.declared.ranges.Lines.{Lines}
-use Rattle.block_layout.specs.declared.refused.Rule.{Rule}
+use Rattle.block_layout.specs.declared.refused.LayoutRule.{LayoutRule}
 use Rattle.block_layout.specs.Text.{IsFirstFault}
 use Rattle.templates.specs.declared.plans.PlanEntry.{PlanEntry}
 use Rattle.rewrite_verify.specs.jump_map.Image.{Cell}
@@ -22,7 +22,7 @@ pub record IsFaultyLayout (elf : Elf) (layout : Option (List ℕ)) (nodes : ℕ)
     pub text_is : layout ≡ Some text
     pub shared : List Lines
     pub lines : AreSharedRanges elf shared
-    pub rule : Rule
+    pub rule : LayoutRule
     pub number : ℕ
     pub fault : IsFirstFault text shared nodes rule number
     pub line_is : line ≡ layout_line rule number

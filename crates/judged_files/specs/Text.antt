@@ -1,7 +1,6 @@
--- The lines that errors have.
-use Rattle.std.specs.Prelude.{ℕ, ◌+◌, List, [], ◌∷◌, ◌++◌, codes}
+-- The lines that refusals have, and those of files that can't be read.
+use Rattle.std.specs.Prelude.{ℕ, List, [], ◌++◌, codes}
 use Rattle.std.specs.Fmt.{decimal}
-use Rattle.rv32_text.specs.Listing.{word_digits}
 use Rattle.rv32_program.specs.declared.Exit.TheVariants.{Code}
 use Rattle.elf32_read.specs.Refusals as files
 use Rattle.elf32_read.specs.declared.refused.FileRule.{FileRule}
@@ -11,55 +10,25 @@ use Rattle.exec_map.specs.declared.refused.ProgramRule.{ProgramRule}
 use Rattle.exec_map.specs.declared.refused.ProgramRule.TheVariants.{TooHigh, Overlap, WritableCode, NoCode, TooMuch, EntryNotCode, Unsupported, CodeAlign, TooManySegments}
 use Rattle.rv32_program.specs.declared.Class.{Class}
 use Rattle.rv32_program.specs.declared.Class.TheVariants.{Shared}
-use Rattle.rewrite_verify.specs.rewriter.declared.file.Part.{Part}
-use Rattle.rewrite_verify.specs.rewriter.declared.file.Part.TheVariants as part
+use Rattle.rewrite_verify.specs.rewriter.declared.file.FilePart.{FilePart}
+use Rattle.rewrite_verify.specs.rewriter.declared.file.FilePart.TheVariants as part
 use Rattle.rewrite_verify.specs.declared.refused.VerifyRefused.{VerifyRefused}
 use Rattle.rewrite_verify.specs.declared.refused.VerifyRefused.TheVariants as verify
 use Rattle.block_layout.specs.Text as layouts
-use Rattle.block_layout.specs.declared.refused.Rule.{Rule}
-use Rattle.replay.specs.run_record.Rules as records
-use Rattle.replay.specs.run_record.declared.refused.RecordRule.{RecordRule}
-use Rattle.replay.specs.node_model.declared.NodeCounts.{NodeCounts}
-use Rattle.replay.specs.Refusals as replays
-use Rattle.replay.specs.declared.refused.ReplayRule.{ReplayRule}
+use Rattle.block_layout.specs.declared.refused.LayoutRule.{LayoutRule}
+use Rattle.run_record.specs.Rules as records
+use Rattle.run_record.specs.declared.refused.RecordRule.{RecordRule}
 use Rattle.rv32_asm.specs.Rules as assembly
 use Rattle.rv32_asm.specs.declared.refused.AsmRule.{AsmRule}
+use Rattle.text_output.specs.Text.{hex8}
 use Rattle.judged_files.specs.declared.refusal.Subject.{Subject}
 use Rattle.judged_files.specs.declared.refusal.Subject.TheVariants as subject
-
--- what a node counts
-abbrev pub counts_text : NodeCounts → List ℕ
-counts_text c =
-    codes "read " ++ (decimal c.read ++ (codes " exclusive " ++ (decimal c.exclusive
-    ++ (codes " upgrade " ++ (decimal c.upgrade ++ (codes " false " ++ (decimal c.falses
-    ++ (codes " invalidations " ++ (decimal c.invalidations ++ (codes " fallbacks "
-    ++ (decimal c.fallbacks ++ (codes " messages " ++ decimal c.messages))))))))))))
-
--- a line for each node, from this number on
-abbrev pub node_lines : ℕ → List NodeCounts → List ℕ
-node_lines i [] = []
-node_lines i (c ∷ cs) =
-    codes "node " ++ (decimal i ++ (codes " " ++ (counts_text c
-    ++ (codes "\n" ++ node_lines (i + 1) cs))))
-
--- a word in eight hexadecimal digits, behind 0x
-abbrev pub hex8 : ℕ → List ℕ
-hex8 n = codes "0x" ++ word_digits n
 
 abbrev pub cannot_read : List ℕ → List ℕ
 cannot_read name = codes "shasta: cannot read " ++ (name ++ codes "\n")
 
 abbrev pub too_long : List ℕ → List ℕ
 too_long name = codes "shasta: " ++ (name ++ codes " is longer than 33554432 bytes\n")
-
-abbrev pub cannot_write : List ℕ → List ℕ
-cannot_write name = codes "shasta: cannot write " ++ (name ++ codes "\n")
-
-abbrev pub cannot_write_output : List ℕ
-cannot_write_output = codes "shasta: cannot write output\n"
-
-abbrev pub out_of_memory : List ℕ
-out_of_memory = codes "shasta: out of memory\n"
 
 -- what a refusal is of: the executable, or a file of its rewritten code, or a verified one
 abbrev pub subject_text : Subject → List ℕ
@@ -118,12 +87,12 @@ too_many_words words =
     refusal subject.Executable 20 (codes "CodeTooLarge " ++ (decimal words ++ codes " words"))
 
 -- a file of code that is read, but isn't that of the rewriting: the first part that differs
-abbrev pub part_name : Part → List ℕ
+abbrev pub part_name : FilePart → List ℕ
 part_name part.Plan = codes "Plan"
 part_name part.Map = codes "Map"
 part_name part.Code = codes "Code"
 
-abbrev pub code_line : Part → List ℕ
+abbrev pub code_line : FilePart → List ℕ
 code_line differs = refusal subject.Code 21 (codes "PlanRefused " ++ part_name differs)
 
 -- why a verified file is that of no rewriting: the number, and the name with what it names; want of
@@ -150,7 +119,7 @@ abbrev pub verify_line : VerifyRefused → List ℕ
 verify_line refused = refusal subject.Code (verify_number refused) (verify_text refused)
 
 -- the line of a rule that refuses a layout, and of the line that breaks it
-abbrev pub layout_line : Rule → ℕ → List ℕ
+abbrev pub layout_line : LayoutRule → ℕ → List ℕ
 layout_line rule line =
     codes "shasta: layout refused " ++ (decimal (layouts.number_of rule)
     ++ (codes " at line " ++ (decimal line ++ codes "\n")))
@@ -160,14 +129,6 @@ abbrev pub record_line : RecordRule → ℕ → List ℕ
 record_line rule line =
     codes "shasta: record refused " ++ (decimal (records.number_of rule)
     ++ (codes " at line " ++ (decimal line ++ codes "\n")))
-
--- the line of a rule that refuses the events of a record: the node and its entry that tells of the
--- event that breaks it
-abbrev pub event_line : ReplayRule → (node entry : ℕ) → List ℕ
-event_line rule node entry =
-    codes "shasta: record refused " ++ (decimal (replays.number_of rule)
-    ++ (codes " at node " ++ (decimal node
-    ++ (codes " entry " ++ (decimal entry ++ codes "\n")))))
 
 -- the line of a rule that refuses an assembly text, and of the line that breaks it
 abbrev pub assembly_line : AsmRule → ℕ → List ℕ

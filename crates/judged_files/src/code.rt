@@ -9,9 +9,8 @@ ghost use Rattle.rewrite_verify.specs.rewriter.RewrittenFile.{rewritten_elf};
 ghost use Rattle.judged_files.specs.Code.{IsChosen, IsFileOf, IsOtherFile, IsUnchosen, Verified};
 ghost use Rattle.judged_files.specs.Code.{choice_of};
 ghost use Rattle.judged_files.specs.Executables.{HasLongCode, ReadsAs};
-ghost use Rattle.judged_files.specs.Failures.{IsRefusal, IsNever};
+ghost use Rattle.text_output.specs.Failures.{IsRefusal, IsNever};
 
-use crate::failure::Failure;
 use crate::input::elf_of;
 use crate::refusal::{Subject, code_line, too_many_words, verify_line};
 use elf32_read::Elf;
@@ -20,6 +19,7 @@ use rewrite_verify::jump_map::ImageRefused;
 use rewrite_verify::rewriter::{Options, Rewritten, rewrite};
 use rewrite_verify::{VerifyRefused, verify};
 use std::alloc::Global;
+use text_output::Failure;
 
 /// The rewriting of a program that was accepted from the original: that of the verified file, where
 /// there is one; else that by the program's plan, with batches or without.

@@ -5,17 +5,18 @@ ghost use Rattle.judged_files.specs.Given.{bytes_of, contents_of};
 ghost use Rattle.judged_files.specs.Text as model;
 ghost use Rattle.judged_files.specs.Executables.{ReadsAs, IsUnread, IsRejection};
 ghost use Rattle.judged_files.specs.Failures.{AreBytes, AreContents, IsContent, IsNamedFailure};
-ghost use Rattle.judged_files.specs.Failures.{IsNever, IsReadFailure, IsRefusal};
+ghost use Rattle.text_output.specs.Failures.{IsNever, IsRefusal};
+ghost use Rattle.judged_files.specs.Failures.{IsReadFailure};
 ghost use Rattle.exec_map.specs.Contents.{program_of as model_program_of};
 ghost use Rattle.exec_map.specs.Refusals.{IsAcceptable};
 ghost use Rattle.rv32_program.specs.Program.{IsAccepted};
 
-use crate::failure::Failure;
 use crate::refusal::{Subject, file_line, program_line};
 use dsm_io::{FileError, Files};
 use elf32_read::{Elf, ElfRefused, read_elf};
 use exec_map::{Program, ProgramRefused, accept};
 use std::alloc::{AllocError, Global};
+use text_output::Failure;
 
 /// What a command is given: the files that it reads, and whether code is rewritten with batches.
 #[derive(Drop)]

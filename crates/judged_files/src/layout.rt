@@ -2,19 +2,19 @@
 
 ghost use Rattle.std.specs.Prelude.{option_map, IfOk, IfErr};
 ghost use Rattle.block_layout.specs.Layout.{IsValid};
-ghost use Rattle.judged_files.specs.Failures.{IsRefusal, IsNever};
+ghost use Rattle.text_output.specs.Failures.{IsRefusal, IsNever};
 ghost use Rattle.judged_files.specs.Layouts.{IsLayoutFor};
 ghost use Rattle.judged_files.specs.Refusals.{IsFaultyLayout};
-ghost use Rattle.judged_files.specs.Replays.{AreFaultyBlocks, IsLayoutOfBlocks};
+ghost use Rattle.judged_files.specs.Records.{AreFaultyBlocks, IsLayoutOfBlocks};
 ghost use Rattle.run_limits.specs.Ranges.{IsNodeCount};
 
-use crate::failure::Failure;
 use crate::refusal::layout_line;
 use block_layout::{Layout, LayoutRefused, default_layout, layout_with, read_layout};
 use exec_map::Program;
-use replay::run_record::Record;
 use run_limits::NodeCount;
+use run_record::Record;
 use std::alloc::Global;
+use text_output::Failure;
 
 /// The layout of a program's shared lines for so many nodes: that of a text, or, where there is
 /// none, that where each line is a block.

@@ -1,15 +1,15 @@
 //! The record of a run, out of a text.
 
 ghost use Rattle.std.specs.Prelude.{length, IfErr, IfOk};
-ghost use Rattle.replay.specs.run_record.Record.{NamesOtherCode};
-ghost use Rattle.judged_files.specs.Failures.{IsRecordRefusal};
-ghost use Rattle.judged_files.specs.Replays.{IsFaultyText, IsOtherCode, IsTextOf};
+ghost use Rattle.run_record.specs.Record.{NamesOtherCode};
+ghost use Rattle.text_output.specs.Failures.{IsRecordRefusal};
+ghost use Rattle.judged_files.specs.Records.{IsFaultyText, IsOtherCode, IsTextOf};
 
-use crate::failure::Failure;
 use crate::refusal::record_line;
-use replay::run_record::{Record, RecordRefused, check_code, read_record};
 use rewrite_verify::jump_map::Image;
+use run_record::{Record, RecordRefused, check_code, read_record};
 use std::alloc::Global;
+use text_output::Failure;
 
 /// The record that a text is.
 pub fn record_in(alloc: Global, text: &[u8]) -> Result<Record, Failure>

@@ -3,18 +3,18 @@
 
 ghost use Rattle.std.specs.Prelude.{◌≡◌, ◌++◌, IfOk, OnOk};
 ghost use Rattle.std.specs.Fmt.{decimal};
+ghost use Rattle.text_output.specs.Text.{hex8};
 ghost use Rattle.judged_files.specs.Text as model;
 
-use crate::text::{push_address, push_count, push_number};
-use block_layout::Rule;
+use block_layout::LayoutRule;
 use elf32_read::FileRule;
 use exec_map::{Class, ProgramRule};
-use replay::ReplayRule;
-use replay::run_record::RecordRule;
 use rewrite_verify::VerifyRefused;
-use rewrite_verify::rewriter::Part;
+use rewrite_verify::rewriter::FilePart;
+use run_record::RecordRule;
 use rv32_asm::AsmRule;
 use std::alloc::{AllocError, Global};
+use text_output::{push_address, push_count, push_number};
 
 /// What a file is read for.
 #[derive(Clone, Copy)]
@@ -69,7 +69,7 @@ pub fn too_many_words(alloc: Global, words: u64) -> Result<Vec<u8>, AllocError>
 }
 
 /// The line that says in which part a file of code differs first from that of the rewriting.
-pub fn code_line(alloc: Global, part: Part) -> Result<Vec<u8>, AllocError>
+pub fn code_line(alloc: Global, part: FilePart) -> Result<Vec<u8>, AllocError>
     ensures { IfOk result (λ line. line.items ≡ model.code_line part) }
 {
     let mut line = begin(alloc, Subject::Code, 21)?;
@@ -105,18 +105,18 @@ fn verify_number(refused: &VerifyRefused) -> u8
 }
 
 /// The name of a part.
-fn part_name(part: Part) -> &'static [u8]
+fn part_name(part: FilePart) -> &'static [u8]
     ensures { result.now ≡ model.part_name part }
 {
     match part {
-        Part::Plan => b"Plan",
-        Part::Map => b"Map",
-        Part::Code => b"Code",
+        FilePart::Plan => b"Plan",
+        FilePart::Map => b"Map",
+        FilePart::Code => b"Code",
     }
 }
 
 /// The line of a rule that refuses a layout, and of the line that breaks it.
-pub fn layout_line(alloc: Global, rule: Rule, number: usize) -> Result<Vec<u8>, AllocError>
+pub fn layout_line(alloc: Global, rule: LayoutRule, number: usize) -> Result<Vec<u8>, AllocError>
     ensures { IfOk result (λ line. line.items ≡ model.layout_line rule number) }
 {
     let mut line = Vec::new(alloc);
@@ -150,27 +150,6 @@ pub fn assembly_line(alloc: Global, rule: AsmRule, number: usize) -> Result<Vec<
     push_number(&mut line, u64::from(rule.number()))?;
     line.extend_from_slice(b" at line ")?;
     push_number(&mut line, number as u64)?;
-    line.extend_from_slice(b"\n")?;
-    Ok(line)
-}
-
-/// The line of a rule that refuses the events of a record, and of the entry that tells of the event
-/// that breaks it.
-pub fn event_line(
-    alloc: Global,
-    rule: ReplayRule,
-    node: u8,
-    entry: usize,
-) -> Result<Vec<u8>, AllocError>
-    ensures { IfOk result (λ line. line.items ≡ model.event_line rule node entry) }
-{
-    let mut line = Vec::new(alloc);
-    line.extend_from_slice(b"shasta: record refused ")?;
-    push_number(&mut line, u64::from(rule.number()))?;
-    line.extend_from_slice(b" at node ")?;
-    push_number(&mut line, u64::from(node))?;
-    line.extend_from_slice(b" entry ")?;
-    push_number(&mut line, entry as u64)?;
     line.extend_from_slice(b"\n")?;
     Ok(line)
 }
@@ -286,7 +265,7 @@ fn push_index(line: &mut Vec<u8>, name: &[u8], index: usize) -> Result<(), Alloc
 
 /// Appends a name and a word in hexadecimal digits.
 fn push_place(line: &mut Vec<u8>, name: &[u8], word: u32) -> Result<(), AllocError>
-    ensures { OnOk result (line.new.items ≡ line.old.items ++ (name.now ++ model.hex8 word)) }
+    ensures { OnOk result (line.new.items ≡ line.old.items ++ (name.now ++ hex8 word)) }
 {
     line.extend_from_slice(name)?;
     push_address(line, word)?;

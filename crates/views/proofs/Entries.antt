@@ -8,10 +8,10 @@ use Rattle.code_view.specs.declared.view.CodeView.{CodeView}
 use Rattle.code_view.proofs.Lines.{count_past, front_of, member_of, none_left, past_entry}
 use Rattle.dsm_io.specs.Causes.{Appends}
 use Rattle.dsm_io.specs.States.{SinkState}
-use Rattle.judged_files.specs.declared.failure.Failure.{Failure}
-use Rattle.judged_files.specs.declared.failure.Failure.TheVariants.{OutOfMemory}
-use Rattle.judged_files.specs.Failures.{FailsAs, IsLike, IsNever, IsPutFailure}
-use Rattle.judged_files.proofs.Pieces.{joins, put_fails, stops_behind}
+use Rattle.text_output.specs.declared.failure.Failure.{Failure}
+use Rattle.text_output.specs.declared.failure.Failure.TheVariants.{OutOfMemory}
+use Rattle.text_output.specs.Failures.{FailsAs, IsLike, IsNever, IsPutFailure}
+use Rattle.text_output.proofs.Pieces.{joins, put_fails, stops_behind}
 use Rattle.views.specs.Failures.{shown_text}
 
 -- the text of the entries from one on, of which the first word has this number

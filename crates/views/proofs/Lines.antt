@@ -14,21 +14,21 @@ use Rattle.run_trace.specs.Traced.{Traced}
 use Rattle.run_trace.specs.Trace.{IsTraceOf, trace_of}
 use Rattle.run_trace.specs.Tracing.{HasTraced, IsSame, plan_traced, record_traced, work_traced}
 use Rattle.run_trace.proofs.Wholes.{HasOne, goes_on, so_far}
-use Rattle.block_view.specs.event_text.declared.shown.Options.{Options}
+use Rattle.block_view.specs.event_text.declared.shown.EventFilter.{EventFilter}
 use Rattle.block_view.specs.event_text.Events.{event_line}
 use Rattle.block_view.specs.event_text.Shown.{head, is_shown, shown, trace_text}
-use Rattle.judged_files.specs.declared.failure.Failure.{Failure}
-use Rattle.judged_files.specs.declared.failure.Failure.TheVariants.{OutOfMemory}
-use Rattle.judged_files.specs.Failures.{FailsAs, IsLike, IsNever, IsPutFailure}
-use Rattle.judged_files.proofs.Pieces.{joins, put_fails, stops_behind}
+use Rattle.text_output.specs.declared.failure.Failure.{Failure}
+use Rattle.text_output.specs.declared.failure.Failure.TheVariants.{OutOfMemory}
+use Rattle.text_output.specs.Failures.{FailsAs, IsLike, IsNever, IsPutFailure}
+use Rattle.text_output.proofs.Pieces.{joins, put_fails, stops_behind}
 use Rattle.views.specs.Failures.{TellsWhole}
 use Rattle.views.specs.Trace.{HasPushedMore, ShowsNoMore}
 
 -- the lines of some events
-abbrev pub lines_of : Elf → Options → List Traced → List ℕ
+abbrev pub lines_of : Elf → EventFilter → List Traced → List ℕ
 lines_of elf o events = flat_map (event_line elf) (shown o events)
 
-text_more : (elf : Elf) (o : Options) (seen more : List Traced)
+text_more : (elf : Elf) (o : EventFilter) (seen more : List Traced)
     → trace_text elf o (seen ++ more) ≡ trace_text elf o seen ++ lines_of elf o more
 text_more elf o seen more =
     ap (λ xs. head ++ flat_map (event_line elf) xs) (filter-append (is_shown o) seen more)
@@ -36,17 +36,17 @@ text_more elf o seen more =
     ∙ sym (append_assoc head (lines_of elf o seen) (lines_of elf o more))
 
 -- an event that is shown has a line, and one that isn't has none
-pub line_shown : (elf : Elf) (o : Options) (x : Traced) → is_shown o x ≡ true
+pub line_shown : (elf : Elf) (o : EventFilter) (x : Traced) → is_shown o x ≡ true
     → lines_of elf o (x ∷ []) ≡ event_line elf x
 line_shown elf o x e =
     ap (λ b. flat_map (event_line elf) (cond b (x ∷ []) [])) e ∙ append-nil (event_line elf x)
 
-pub line_hidden : (elf : Elf) (o : Options) (x : Traced) → is_shown o x ≡ false
+pub line_hidden : (elf : Elf) (o : EventFilter) (x : Traced) → is_shown o x ≡ false
     → lines_of elf o (x ∷ []) ≡ []
 line_hidden elf o x e = ap (λ b. flat_map (event_line elf) (cond b (x ∷ []) [])) e
 
 -- events were made, and their lines were put in pieces, or are gathered
-pub record IsUnderWay (elf : Elf) (o : Options) (first t : Tracer) (start now : SinkState) (lines : List ℕ) : Type 0
+pub record IsUnderWay (elf : Elf) (o : EventFilter) (first t : Tracer) (start now : SinkState) (lines : List ℕ) : Type 0
   where
     pub seen : List Traced
     pub traced : HasTraced t seen
@@ -68,7 +68,7 @@ pub same_self : (t : Tracer) → IsSame t t
 same_self t = record { work = refl; plan = refl; rec_is = refl; code = refl }
 
 -- more events
-pub events_gathered : (elf : Elf) (o : Options) (first t u : Tracer) (start now : SinkState) (lines more : List ℕ)
+pub events_gathered : (elf : Elf) (o : EventFilter) (first t u : Tracer) (start now : SinkState) (lines more : List ℕ)
     (way : IsUnderWay elf o first t start now lines) → IsSame t u → HasPushedMore elf o u way.seen lines more
     → IsUnderWay elf o first u start now more
 events_gathered elf o first t u start now lines more way same pushed = record {
@@ -85,7 +85,7 @@ events_gathered elf o first t u start now lines more way same pushed = record {
 }
 
 -- the lines are put
-pub lines_put : (elf : Elf) (o : Options) (first t : Tracer) (start before now : SinkState) (lines rest : List ℕ)
+pub lines_put : (elf : Elf) (o : EventFilter) (first t : Tracer) (start before now : SinkState) (lines rest : List ℕ)
     → IsUnderWay elf o first t start before lines → Appends before.taken now.taken lines
     → now.faults ≡ before.faults → rest ≡ [] → IsUnderWay elf o first t start now rest
 lines_put elf o first t start before now lines rest way put same nil = record {
@@ -116,7 +116,7 @@ goes_further first t seen trace one traced same whole =
     (whole_same first t trace same whole)
 
 -- what is left of the whole text
-pub rest_of : (elf : Elf) (o : Options) (first t : Tracer) (start now : SinkState) (lines : List ℕ)
+pub rest_of : (elf : Elf) (o : EventFilter) (first t : Tracer) (start now : SinkState) (lines : List ℕ)
     (trace : List Traced) → HasOne (record_traced t) → (way : IsUnderWay elf o first t start now lines)
     → IsWhole first trace
     → (rest : List ℕ) × (trace_text elf o trace ≡ way.pieces ++ (lines ++ rest))
@@ -129,7 +129,7 @@ rest_of elf o first t start now lines trace one way whole =
     )
 
 -- the lines aren't put
-pub lines_fail : (elf : Elf) (o : Options) (first t : Tracer) (start before now : SinkState) (lines : List ℕ)
+pub lines_fail : (elf : Elf) (o : EventFilter) (first t : Tracer) (start before now : SinkState) (lines : List ℕ)
     (trace : List Traced) (f : Failure) → HasOne (record_traced t)
     → IsUnderWay elf o first t start before lines → IsWhole first trace → IsPutFailure before now lines f
     → FailsAs (IsLike (trace_text elf o trace)) IsNever IsNever start now f
@@ -139,7 +139,7 @@ lines_fail elf o first t start before now lines trace f one way whole h =
     way.pieces lines rest.0 f refl rest.1 way.put way.faults h
 
 -- no line more is gathered
-pub lines_stop : (elf : Elf) (o : Options) (first t : Tracer) (start now : SinkState) (lines : List ℕ)
+pub lines_stop : (elf : Elf) (o : EventFilter) (first t : Tracer) (start now : SinkState) (lines : List ℕ)
     (trace : List Traced) (f : Failure) → HasOne (record_traced t) → f ≡ OutOfMemory
     → IsUnderWay elf o first t start now lines → IsWhole first trace
     → FailsAs (IsLike (trace_text elf o trace)) IsNever IsNever start now f
@@ -168,7 +168,7 @@ same_trace work plan r one other law a b =
     a.trace_is ∙ ap (trace_of work plan) (law a.told b.told a.whole.are_told b.whole.are_told) ∙ sym b.trace_is
 
 -- all that are asked for were made, and their lines are put
-pub whole_put : (elf : Elf) (o : Options) (first t u : Tracer) (start before now : SinkState) (lines : List ℕ)
+pub whole_put : (elf : Elf) (o : EventFilter) (first t u : Tracer) (start before now : SinkState) (lines : List ℕ)
     (trace : List Traced) → (way : IsUnderWay elf o first t start before lines) → IsSame t u
     → ShowsNoMore o u way.seen → IsWhole first trace → Appends before.taken now.taken lines
     → Appends start.taken now.taken (trace_text elf o trace)

@@ -10,10 +10,10 @@ use Rattle.node_model.specs.Core.{Core, event_step, opening_core}
 use Rattle.run_order.specs.OwnRun.{Stamped, maker}
 use Rattle.run_order.specs.Sorted.{AreSorted, PrecedesAll}
 use Rattle.run_record.specs.declared.Record.{Record}
-use Rattle.judged_files.specs.replay.Told.{Told, maker_told, stamp_told, what_told}
+use Rattle.replay.specs.Told.{Told, maker_told, stamp_told, what_told}
 use Rattle.run_trace.specs.Traced.{Traced, What, traced_at, what_at}
 use Rattle.run_trace.specs.Trace.{IsTraceOf, trace_from}
-use Rattle.block_view.specs.event_text.declared.shown.Options.{Options}
+use Rattle.block_view.specs.event_text.declared.shown.EventFilter.{EventFilter}
 use Rattle.block_view.specs.event_text.Shown.{is_shown, shown}
 use Rattle.views.specs.Failures.{AreAllUpTo}
 
@@ -76,17 +76,17 @@ neither : (a b : Bool) → ((a && false) && b) ≡ false
 neither true b = refl
 neither false b = refl
 
-late_hidden : (o : Options) (x : Traced) → o.to < x.stamp → is_shown o x ≡ false
+late_hidden : (o : EventFilter) (x : Traced) → o.to < x.stamp → is_shown o x ≡ false
 late_hidden o x late = rw (lt-leb x.stamp o.to late) (neither (nat_le o.from x.stamp) _)
 
-none_shown : (o : Options) (xs : List Traced) → All (λ (x : Traced). o.to < x.stamp) xs → shown o xs ≡ []
+none_shown : (o : EventFilter) (xs : List Traced) → All (λ (x : Traced). o.to < x.stamp) xs → shown o xs ≡ []
 none_shown o [] h = refl
 none_shown o (x ∷ xs) h =
     ap (λ b. cond b (x ∷ shown o xs) (shown o xs))
     (late_hidden o x (All-head (λ (y : Traced). o.to < y.stamp) x xs h))
     ∙ none_shown o xs (All-tail (λ (y : Traced). o.to < y.stamp) x xs h)
 
-pub all_shown : (o : Options) (seen trace : List Traced) → AreAllUpTo o.to seen trace
+pub all_shown : (o : EventFilter) (seen trace : List Traced) → AreAllUpTo o.to seen trace
     → shown o trace ≡ shown o seen
 all_shown o seen trace h =
     ap (shown o) h.trace_is ∙ filter-append (is_shown o) seen h.behind

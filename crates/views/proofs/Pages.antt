@@ -5,7 +5,7 @@ use Rattle.run_trace.specs.declared.tracer.Tracer.{Tracer}
 use Rattle.run_trace.specs.Traced.{Traced}
 use Rattle.run_trace.specs.Tracing.{HasTraced, IsSame, record_traced}
 use Rattle.run_trace.proofs.Wholes.{HasOne}
-use Rattle.block_view.specs.event_text.declared.shown.Options.{Options}
+use Rattle.block_view.specs.event_text.declared.shown.EventFilter.{EventFilter}
 use Rattle.block_view.specs.event_text.Shown.{is_shown, shown}
 use Rattle.page_view.specs.page_events.Shown.{Kept, kept}
 use Rattle.views.specs.Page.{HasAddedMore}
@@ -13,25 +13,25 @@ use Rattle.views.specs.Trace.{ShowsNoMore}
 use Rattle.views.proofs.Lines.{IsWhole, goes_further, same_on, whole_same}
 use Rattle.views.proofs.Passed.{passed_hidden}
 
-pub more_shown : (o : Options) (seen : List Traced) (x : Traced) → is_shown o x ≡ true
+pub more_shown : (o : EventFilter) (seen : List Traced) (x : Traced) → is_shown o x ≡ true
     → kept (shown o seen ++ x ∷ []) ≡ kept (shown o (seen ++ x ∷ []))
 more_shown o seen x e = sym (ap kept (filter-append (is_shown o) seen (x ∷ [])
     ∙ ap (λ b. shown o seen ++ cond b (x ∷ []) []) e))
 
-pub no_more_shown : (o : Options) (seen : List Traced) (x : Traced) → is_shown o x ≡ false
+pub no_more_shown : (o : EventFilter) (seen : List Traced) (x : Traced) → is_shown o x ≡ false
     → kept (shown o seen) ≡ kept (shown o (seen ++ x ∷ []))
 no_more_shown o seen x e = sym (ap kept (filter-append (is_shown o) seen (x ∷ [])
     ∙ ap (λ b. shown o seen ++ cond b (x ∷ []) []) e ∙ append-nil (shown o seen)))
 
 -- events were made, and those that are shown were added
-pub record IsGathered (o : Options) (first t : Tracer) (k : Kept) : Type 0 where
+pub record IsGathered (o : EventFilter) (first t : Tracer) (k : Kept) : Type 0 where
   pub seen : List Traced
   pub traced : HasTraced t seen
   pub same : IsSame first t
   pub kept_is : k ≡ kept (shown o seen)
 
 -- more events
-pub added : (o : Options) (first t u : Tracer) (k now : Kept) (way : IsGathered o first t k) → IsSame t u
+pub added : (o : EventFilter) (first t u : Tracer) (k now : Kept) (way : IsGathered o first t k) → IsSame t u
     → HasAddedMore o u way.seen now → IsGathered o first u now
 added o first t u k now way same more = record {
   seen = way.seen ++ more.more;
@@ -41,19 +41,19 @@ added o first t u k now way same more = record {
 }
 
 -- all that are asked for were made
-pub all_gathered : (o : Options) (first t u : Tracer) (k now : Kept) (trace : List Traced)
+pub all_gathered : (o : EventFilter) (first t u : Tracer) (k now : Kept) (trace : List Traced)
     → (way : IsGathered o first t k) → IsSame t u → now ≡ kept (shown o way.seen) → ShowsNoMore o u way.seen
     → IsWhole first trace → now ≡ kept (shown o trace)
 all_gathered o first t u k now trace way same is all whole =
     is ∙ ap kept (sym (all trace (whole_same first u trace (same_on first t u way.same same) whole)))
 
 -- words that were passed are kept with those before them
-pub passed_kept : (o : Options) (seen more : List Traced) (k : Kept) → shown o more ≡ [] → k ≡ kept (shown o seen)
+pub passed_kept : (o : EventFilter) (seen more : List Traced) (k : Kept) → shown o more ≡ [] → k ≡ kept (shown o seen)
     → k ≡ kept (shown o (seen ++ more))
 passed_kept o seen more k hidden is = is ∙ ap kept (sym (passed_hidden o seen more hidden))
 
 -- a word that ends a pass
-pub word_added : (o : Options) (t : Tracer) (seen more : List Traced) (x : Traced) (now : Kept)
+pub word_added : (o : EventFilter) (t : Tracer) (seen more : List Traced) (x : Traced) (now : Kept)
     → HasTraced t (seen ++ (more ++ x ∷ [])) → now ≡ kept (shown o ((seen ++ more) ++ x ∷ []))
     → HasAddedMore o t seen now
 word_added o t seen more x now traced is = record {
@@ -63,14 +63,14 @@ word_added o t seen more x now traced is = record {
 }
 
 -- an event behind a pass that no word ends
-pub event_added : (o : Options) (t : Tracer) (seen more : List Traced) (x : Traced) (now : Kept)
+pub event_added : (o : EventFilter) (t : Tracer) (seen more : List Traced) (x : Traced) (now : Kept)
     → HasTraced t ((seen ++ more) ++ x ∷ []) → now ≡ kept (shown o ((seen ++ more) ++ x ∷ []))
     → HasAddedMore o t seen now
 event_added o t seen more x now traced is =
     word_added o t seen more x now (subst (HasTraced t) (append_assoc seen more (x ∷ [])) traced) is
 
 -- of those that follow none is kept
-pub full_gathered : (o : Options) (first t : Tracer) (k : Kept) (trace : List Traced) → HasOne (record_traced t)
+pub full_gathered : (o : EventFilter) (first t : Tracer) (k : Kept) (trace : List Traced) → HasOne (record_traced t)
     → IsGathered o first t k → ((seen more : List Traced) → k ≡ kept seen → kept (seen ++ more) ≡ kept seen)
     → IsWhole first trace → k ≡ kept (shown o trace)
 full_gathered o first t k trace one way full whole =

@@ -7,21 +7,21 @@ use Rattle.elf_symbols.specs.Symbols.{Symbol, functions_of}
 use Rattle.templates.specs.declared.plans.PlanEntry.{PlanEntry}
 use Rattle.node_model.specs.Node.{Work}
 use Rattle.run_record.specs.declared.Record.{Record as Kept}
-use Rattle.judged_files.specs.replay.Told.{Told}
-use Rattle.judged_files.specs.replay.Replay.{TellsWholeRun}
+use Rattle.replay.specs.Told.{Told}
+use Rattle.replay.specs.Replay.{TellsWholeRun}
 use Rattle.run_trace.specs.Trace.{trace_of}
 use Rattle.command_line.specs.Views.{View, Trace, Blocks, reads}
 use Rattle.dsm_io.specs.Causes.{Rose}
 use Rattle.dsm_io.specs.States.{FilesState, SinkState}
-use Rattle.judged_files.specs.declared.failure.Failure.{Failure}
-use Rattle.judged_files.specs.declared.failure.Failure.TheVariants.{Input, NotWritten, Refused, Layout, Record, Text, Output, OutOfMemory}
-use Rattle.judged_files.specs.Answers.{IsTooLong, file_limit}
-use Rattle.judged_files.specs.Failures.{FailsAs, IsContent, IsLike, IsNever, IsNoRefusal, IsReadFailure, IsRecordRefusal, IsReplayRefusal, Puts}
+use Rattle.text_output.specs.declared.failure.Failure.{Failure}
+use Rattle.text_output.specs.declared.failure.Failure.TheVariants.{Input, NotWritten, Refused, Layout, Record, Text, Output, OutOfMemory}
+use Rattle.judged_files.specs.Failures.{IsTooLong, file_limit, IsContent, IsReadFailure}
+use Rattle.text_output.specs.Failures.{FailsAs, IsLike, IsNever, IsNoRefusal, IsRecordRefusal, Puts}
+use Rattle.prepared_run.specs.Replays.{IsReplayRefusal, IsReplayRefused, IsBadReplayLayout, IsBadRecord, IsBrokenRun, IsWorkOf}
 use Rattle.judged_files.specs.Inputs.{Inputs}
-use Rattle.judged_files.specs.Ready.{work_for}
-use Rattle.judged_files.specs.Replays.{IsReplayRefused, IsBadReplayLayout, IsBadRecord, IsBrokenRun, IsWorkOf}
-use Rattle.judged_files.specs.declared.prepare.Prepared.{Prepared}
-use Rattle.judged_files.proofs.ReplayLemmas.{text_refused}
+use Rattle.prepared_run.specs.Ready.{work_for}
+use Rattle.prepared_run.specs.declared.ready.Prepared.{Prepared}
+use Rattle.prepared_run.proofs.ReplayLemmas.{text_refused}
 use Rattle.views.specs.Failures.{AreRecorded, FailsAsRun, IsFailure, IsRecordingFailure, IsSuccess, IsTextOfBlocks, IsTextOfRun, IsTextOfTrace}
 use Rattle.views.specs.Headline.{AreTold, IsLayoutRefused, IsRecordRefused, IsRefused, IsText}
 use Rattle.views.specs.Blocks.{AreCostsOfRun, IsCostsText}

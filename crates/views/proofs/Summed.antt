@@ -5,8 +5,8 @@ use Rattle.block_layout.specs.Layout.{Shape}
 use Rattle.templates.specs.declared.plans.PlanEntry.{PlanEntry}
 use Rattle.node_model.specs.Node.{Work}
 use Rattle.run_record.specs.declared.Record.{Record as Kept}
-use Rattle.judged_files.specs.replay.declared.refused.ReplayRule.{ReplayRule}
-use Rattle.judged_files.specs.replay.Refusals.{IsFirstBroken, IsUnfinished}
+use Rattle.replay.specs.declared.refused.ReplayRule.{ReplayRule}
+use Rattle.replay.specs.Refusals.{IsFirstBroken, IsUnfinished}
 use Rattle.run_trace.specs.declared.passed.Until.TheVariants as until
 use Rattle.run_trace.specs.declared.passed.WordPassed.{WordPassed}
 use Rattle.run_trace.specs.declared.tracer.Tracer.{Tracer}

@@ -5,12 +5,12 @@ use Rattle.command_line.specs.Views.{View, Help, Code, AsksView, meaning_of_view
 use Rattle.command_line.specs.declared.view.View.{View as OfCode}
 use Rattle.dsm_io.specs.Causes.{Appends}
 use Rattle.dsm_io.specs.States.{FilesState, SinkState}
-use Rattle.judged_files.specs.declared.failure.Failure.{Failure}
-use Rattle.judged_files.specs.declared.failure.Failure.TheVariants.{Input, NotWritten, Refused, Layout, Record, Text, Output, OutOfMemory}
-use Rattle.judged_files.specs.Answers.{file_limit}
+use Rattle.text_output.specs.declared.failure.Failure.{Failure}
+use Rattle.text_output.specs.declared.failure.Failure.TheVariants.{Input, NotWritten, Refused, Layout, Record, Text, Output, OutOfMemory}
+use Rattle.judged_files.specs.Failures.{file_limit, IsContent, IsReadFailure}
 use Rattle.judged_files.specs.Code.{Planned, IsUnrewritten}
-use Rattle.judged_files.specs.Failures.{FailsAs, IsContent, IsNever, IsNoRefusal, IsPutFailure, IsReadFailure, Puts, line_of, status_of}
-use Rattle.judged_files.specs.Text.{out_of_memory}
+use Rattle.text_output.specs.Failures.{FailsAs, IsNever, IsNoRefusal, IsPutFailure, Puts, line_of, status_of}
+use Rattle.text_output.specs.Text.{out_of_memory}
 use Rattle.views.specs.Answers.{IsFault, IsRefusalStatus}
 use Rattle.views.specs.Failures.{IsFailure, IsSuccess, IsTextOfCode}
 use Rattle.views.specs.Headline.{AreTold, IsLayoutRefused, IsRecordRefused, IsRefused, Prints, PrintsPrefix, usage}

@@ -4,12 +4,12 @@ use Rattle.std.specs.Prelude.{Contains, IfErr, IfSome, MatchResult, OnOk}
 use Rattle.command_line.specs.Views.{View, Page, reads, writes}
 use Rattle.dsm_io.specs.Causes.{Rose}
 use Rattle.dsm_io.specs.States.{FilesState, SinkState}
-use Rattle.judged_files.specs.declared.failure.Failure.{Failure}
-use Rattle.judged_files.specs.declared.failure.Failure.TheVariants.{Input, NotWritten, Refused, Layout, Record, Text, Output, OutOfMemory}
-use Rattle.judged_files.specs.Answers.{file_limit}
-use Rattle.judged_files.specs.Failures.{IsNoRefusal, IsWriteFailure, status_of}
+use Rattle.text_output.specs.declared.failure.Failure.{Failure}
+use Rattle.text_output.specs.declared.failure.Failure.TheVariants.{Input, NotWritten, Refused, Layout, Record, Text, Output, OutOfMemory}
+use Rattle.judged_files.specs.Failures.{file_limit}
+use Rattle.text_output.specs.Failures.{IsNoRefusal, IsWriteFailure, status_of}
 use Rattle.judged_files.specs.Inputs.{Inputs}
-use Rattle.judged_files.proofs.Pieces.{nothing_put}
+use Rattle.text_output.proofs.Pieces.{nothing_put}
 use Rattle.views.specs.Answers.{AreLeft, IsRefusalStatus}
 use Rattle.views.specs.Failures.{AreKept, AreRecorded, AreSame, IsFailure, IsPageFailure, IsPageUnwritten, IsPageWritten, IsRecordingFailure, IsRunRefused, IsSuccess}
 use Rattle.views.specs.Headline.{AreTold, AreWritten, IsWritten}

@@ -3,8 +3,9 @@ use Rattle.std.specs.Prelude.{◌≡◌, ℕ, ◌⊎◌, List, IfSome, Contains}
 use Rattle.dsm_io.specs.Causes.{Rose}
 use Rattle.dsm_io.specs.States.{FilesState, SinkState}
 use Rattle.command_line.specs.Views.{View, reads, writes}
-use Rattle.judged_files.specs.Answers.{IsTooLong}
-use Rattle.judged_files.specs.Text.{cannot_read, cannot_write, too_long, cannot_write_output}
+use Rattle.judged_files.specs.Failures.{IsTooLong}
+use Rattle.judged_files.specs.Text.{cannot_read, too_long}
+use Rattle.text_output.specs.Text.{cannot_write, cannot_write_output}
 use Rattle.views.specs.Headline.{AreTold, IsWritten, PrintsPrefix}
 
 -- a file that the view reads couldn't be read, or is too long, and the line says so

@@ -11,8 +11,8 @@ use Rattle.run_trace.specs.Trace.{IsTraceOf}
 use Rattle.run_trace.specs.Sums.{counts_by_node}
 use Rattle.block_view.specs.Text.{IsBlocksText}
 use Rattle.judged_files.specs.Inputs.{Inputs}
-use Rattle.judged_files.specs.Replays.{IsWorkOf}
-use Rattle.judged_files.specs.Text.{node_lines}
+use Rattle.prepared_run.specs.Replays.{IsWorkOf}
+use Rattle.prepared_run.specs.Text.{node_lines}
 
 -- the text of the costs of a trace: what each node counts, in the lines that an outcome has of it,
 -- and behind them the lines of the blocks, where these functions name the code

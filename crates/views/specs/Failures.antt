@@ -6,15 +6,16 @@ use Rattle.code_view.specs.Code.{code_text}
 use Rattle.code_view.specs.declared.view.CodeView.{CodeView}
 use Rattle.node_model.specs.Node.{Work}
 use Rattle.run_record.specs.declared.Record.{Record as Kept}
-use Rattle.judged_files.specs.replay.Told.{Told}
-use Rattle.judged_files.specs.replay.Replay.{TellsWholeRun}
-use Rattle.judged_files.specs.declared.failure.Failure.{Failure}
-use Rattle.judged_files.specs.declared.failure.Failure.TheVariants.{Input, NotWritten, Refused, Layout, Record, Text, Output, OutOfMemory}
-use Rattle.judged_files.specs.Failures.{FailsAs, IsContent, IsReadFailure, IsReplayRefusal, IsWriteFailure, status_of}
+use Rattle.replay.specs.Told.{Told}
+use Rattle.replay.specs.Replay.{TellsWholeRun}
+use Rattle.text_output.specs.declared.failure.Failure.{Failure}
+use Rattle.text_output.specs.declared.failure.Failure.TheVariants.{Input, NotWritten, Refused, Layout, Record, Text, Output, OutOfMemory}
+use Rattle.text_output.specs.Failures.{FailsAs, IsWriteFailure, status_of}
+use Rattle.judged_files.specs.Failures.{IsContent, IsReadFailure}
+use Rattle.prepared_run.specs.Replays.{IsReplayRefusal, IsReplayRefused, IsBadReplayLayout, IsBadRecord}
 use Rattle.judged_files.specs.Inputs.{Inputs}
-use Rattle.judged_files.specs.Ready.{work_for}
-use Rattle.judged_files.specs.declared.prepare.Prepared.{Prepared}
-use Rattle.judged_files.specs.Replays.{IsReplayRefused, IsBadReplayLayout, IsBadRecord}
+use Rattle.prepared_run.specs.Ready.{work_for}
+use Rattle.prepared_run.specs.declared.ready.Prepared.{Prepared}
 use Rattle.views.specs.declared.trace.Selection.{Selection}
 use Rattle.elf_symbols.specs.Symbols.{Symbol}
 use Rattle.run_trace.specs.declared.tracer.Tracer.{Tracer}

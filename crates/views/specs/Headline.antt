@@ -8,7 +8,7 @@ use Rattle.dsm_io.specs.Causes.{Appends, AppendsPrefix}
 use Rattle.dsm_io.specs.States.{FilesState, SinkState}
 use Rattle.command_line.specs.Views.{View, Help, Code, Trace, Blocks, reads, Page, writes}
 use Rattle.judged_files.specs.Code.{Planned, IsRewritingOf, IsUnrewritten}
-use Rattle.judged_files.specs.Replays.{IsReplayRefused, IsBadReplayLayout, IsBadRecord}
+use Rattle.prepared_run.specs.Replays.{IsReplayRefused, IsBadReplayLayout, IsBadRecord}
 use Rattle.views.specs.Trace.{recorded, IsTraceText}
 use Rattle.views.specs.Blocks.{AreCostsOfRun}
 use Rattle.views.specs.Page.{IsPageText}

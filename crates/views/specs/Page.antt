@@ -9,12 +9,12 @@ use Rattle.run_trace.specs.declared.tracer.Tracer.{Tracer}
 use Rattle.run_trace.specs.Traced.{Traced}
 use Rattle.run_trace.specs.Trace.{IsTraceOf}
 use Rattle.run_trace.specs.Tracing.{HasTraced}
-use Rattle.block_view.specs.event_text.declared.shown.Options.{Options}
+use Rattle.block_view.specs.event_text.declared.shown.EventFilter.{EventFilter}
 use Rattle.block_view.specs.event_text.Shown.{shown}
 use Rattle.page_view.specs.page_events.Shown.{Kept, kept}
 use Rattle.page_view.specs.Page.{page_text}
 use Rattle.judged_files.specs.Inputs.{Inputs}
-use Rattle.judged_files.specs.Replays.{IsWorkOf}
+use Rattle.prepared_run.specs.Replays.{IsWorkOf}
 use Rattle.views.specs.declared.trace.Selection.{Selection}
 use Rattle.views.specs.Trace.{ShowsNoMore, options_about}
 
@@ -34,12 +34,13 @@ pub record IsPageText (inputs : Inputs) (s : Selection) (text : List ℕ) : Type
   pub text_is : text ≡ drawn_text elf work.layout s trace
 
 -- more events are traced, and those that are shown are added
-pub record HasAddedMore (o : Options) (t : Tracer) (seen : List Traced) (now : Kept) : Type 0 where
+pub record HasAddedMore (o : EventFilter) (t : Tracer) (seen : List Traced) (now : Kept)
+    : Type 0 where
   pub more : List Traced
   pub traced : HasTraced t (seen ++ more)
   pub kept_is : now ≡ kept (shown o (seen ++ more))
 
 -- more events that are shown are added, or there are no more
-abbrev pub HasAddedOn : Options → Tracer → (seen : List Traced) → Kept → Bool → Type 0
+abbrev pub HasAddedOn : EventFilter → Tracer → (seen : List Traced) → Kept → Bool → Type 0
 HasAddedOn o t seen now true = HasAddedMore o t seen now
 HasAddedOn o t seen now false = (now ≡ kept (shown o seen)) × ShowsNoMore o t seen

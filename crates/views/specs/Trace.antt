@@ -11,11 +11,11 @@ use Rattle.run_trace.specs.declared.tracer.Tracer.{Tracer}
 use Rattle.run_trace.specs.Traced.{Traced}
 use Rattle.run_trace.specs.Trace.{IsTraceOf}
 use Rattle.run_trace.specs.Tracing.{HasTraced, plan_traced, record_traced, work_traced}
-use Rattle.block_view.specs.event_text.declared.shown.Options.{Options}
+use Rattle.block_view.specs.event_text.declared.shown.EventFilter.{EventFilter}
 use Rattle.block_view.specs.event_text.Events.{event_line}
 use Rattle.block_view.specs.event_text.Shown.{head, shown, trace_text}
 use Rattle.judged_files.specs.Inputs.{Inputs}
-use Rattle.judged_files.specs.Replays.{IsWorkOf}
+use Rattle.prepared_run.specs.Replays.{IsWorkOf}
 use Rattle.views.specs.declared.trace.Selection.{Selection}
 
 -- what a view of a recorded run reads: an executable, and the text of a record
@@ -30,7 +30,7 @@ recorded executable text = record {
 }
 
 -- the events that are asked for, about one block, or about any or none
-abbrev pub options_about : Selection → Option ℕ → Options
+abbrev pub options_about : Selection → Option ℕ → EventFilter
 options_about s block = record {
   from = unwrap_or s.from 0;
   to = unwrap_or s.to (2 ^ 64 - 1);
@@ -40,7 +40,7 @@ options_about s block = record {
 }
 
 -- about the block in which an address lies, where one is asked for; none where it lies in no block
-abbrev pub options_at : Shape → Selection → (address : Option ℕ) → Option Options
+abbrev pub options_at : Shape → Selection → (address : Option ℕ) → Option EventFilter
 options_at layout s None = Some (options_about s None)
 options_at layout s (Some address) =
     option_map (λ b. options_about s (Some b)) (block_of layout (address / 64))
@@ -63,13 +63,13 @@ pub record IsTraceText (inputs : Inputs) (s : Selection) (text : List ℕ) : Typ
   pub text_is : text ≡ selected_text elf work.layout s trace
 
 -- of the events of the whole run, none is shown but those that are among these
-abbrev pub ShowsNoMore : Options → Tracer → (seen : List Traced) → Type 0
+abbrev pub ShowsNoMore : EventFilter → Tracer → (seen : List Traced) → Type 0
 ShowsNoMore o t seen = (trace : List Traced)
     → IsTraceOf (work_traced t) (plan_traced t) (record_traced t) trace
     → shown o trace ≡ shown o seen
 
 -- more events are traced, and their lines are appended
-pub record HasPushedMore (elf : Elf) (o : Options) (t : Tracer) (seen : List Traced)
+pub record HasPushedMore (elf : Elf) (o : EventFilter) (t : Tracer) (seen : List Traced)
     (lines now : List ℕ) : Type 0
   where
     pub more : List Traced
@@ -77,7 +77,7 @@ pub record HasPushedMore (elf : Elf) (o : Options) (t : Tracer) (seen : List Tra
     pub lines_are : now ≡ lines ++ flat_map (event_line elf) (shown o more)
 
 -- the lines of more events are appended, or there are no more
-abbrev pub HasPushedOn : Elf → Options → Tracer → (seen : List Traced) → (lines now : List ℕ)
+abbrev pub HasPushedOn : Elf → EventFilter → Tracer → (seen : List Traced) → (lines now : List ℕ)
     → Bool → Type 0
 HasPushedOn elf o t seen lines now true = HasPushedMore elf o t seen lines now
 HasPushedOn elf o t seen lines now false = (now ≡ lines) × ShowsNoMore o t seen

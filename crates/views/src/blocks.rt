@@ -1,19 +1,19 @@
 //! `blocks`: what each block cost in a recorded run.
 
 ghost use Rattle.std.specs.Prelude.{◌≡◌, ◌⊎◌, ℕ, [], List, IfErr, IfOk, IsErrOf, OnOk};
-ghost use Rattle.judged_files.specs.rewriting_law.Bounds.{RunsRewritten};
+ghost use Rattle.rewriting_law.specs.Bounds.{RunsRewritten};
 ghost use Rattle.run_record.specs.Record.{IsRecord};
-ghost use Rattle.judged_files.specs.replay.Refusals.{IsFirstBroken, IsUnfinished};
-ghost use Rattle.judged_files.specs.replay.declared.refused.ReplayRule.{ReplayRule as Rules};
-ghost use Rattle.judged_files.specs.replay.declared.refused.ReplayRefused.TheVariants.{Broken};
+ghost use Rattle.replay.specs.Refusals.{IsFirstBroken, IsUnfinished};
+ghost use Rattle.replay.specs.declared.refused.ReplayRule.{ReplayRule as Rules};
+ghost use Rattle.replay.specs.declared.refused.ReplayRefused.TheVariants.{Broken};
 ghost use Rattle.run_trace.specs.Traced.{Traced as OfEvent};
 ghost use Rattle.run_trace.specs.Trace.{IsTraceOf};
 ghost use Rattle.run_trace.specs.Tracing.{HasTraced, plan_traced, record_traced, work_traced};
 ghost use Rattle.block_view.specs.Kept.{AreSumsOf, layout_in};
-ghost use Rattle.judged_files.specs.Failures.{IsRecordRefusal, Puts};
+ghost use Rattle.text_output.specs.Failures.{IsRecordRefusal, Puts};
 ghost use Rattle.judged_files.specs.Given.{bytes_of};
-ghost use Rattle.judged_files.specs.Ready.{work_for};
-ghost use Rattle.judged_files.specs.Replays.{IsBrokenRun};
+ghost use Rattle.prepared_run.specs.Ready.{work_for};
+ghost use Rattle.prepared_run.specs.Replays.{IsBrokenRun};
 ghost use Rattle.views.specs.Blocks.{IsCostsText};
 ghost use Rattle.views.specs.Failures.{FailsAsRun, IsTextOfBlocks, IsTextOfRun};
 
@@ -23,16 +23,14 @@ use block_view::Sums;
 use dsm_io::Sink;
 use elf_symbols::Symbols;
 use flow_graph::Graph;
-use judged_files::failure::Failure;
 use judged_files::input::{Inputs, elf_of};
-use judged_files::output::put;
-use judged_files::prepare::{Prepared, prepare_replay};
 use judged_files::refusal::Subject;
-use judged_files::replay::ReplayRefused;
-use judged_files::text::push_nodes;
+use prepared_run::{Prepared, prepare_replay, push_nodes};
+use replay::ReplayRefused;
 use run_record::Record;
 use run_trace::{Tracer, Until};
 use std::alloc::{AllocError, Global};
+use text_output::{Failure, put};
 
 /// Puts what each block cost in the run of the record among these files and the executable among
 /// them.
@@ -96,7 +94,7 @@ fn sums_of<'a>(
     let mut sums = Sums::new(alloc, layout)?;
     loop {
         sums.laws();
-        if let Some(word) = tracer.pass(Until::Write) {
+        if let Some(word) = tracer.run_until(Until::Write) {
             sums.add_passed(&word)?;
         } else if let Some(event) = tracer.next()? {
             sums.add(&event)?;

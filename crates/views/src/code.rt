@@ -3,7 +3,7 @@
 ghost use Rattle.std.specs.Prelude.{◌≡◌, IfErr, OnOk};
 ghost use Rattle.dsm_io.specs.Causes.{Appends};
 ghost use Rattle.judged_files.specs.Code.{Planned, IsUnrewritten};
-ghost use Rattle.judged_files.specs.Failures.{FailsAs, IsLike, IsNever, Puts};
+ghost use Rattle.text_output.specs.Failures.{FailsAs, IsLike, IsNever, Puts};
 ghost use Rattle.code_view.specs.Code.{IsShown, code_text};
 ghost use Rattle.exec_map.specs.Contents.{program_of};
 ghost use Rattle.jump_map.specs.Image.{IsRewriting};
@@ -14,12 +14,11 @@ use dsm_io::Sink;
 use exec_map::Program;
 use flow_graph::Graph;
 use judged_files::code::planned_rewriting;
-use judged_files::failure::Failure;
 use judged_files::input::{elf_of, program_of};
-use judged_files::output::put;
 use judged_files::refusal::Subject;
-use judged_files::rewriter::Rewritten;
+use rewriter::Rewritten;
 use std::alloc::Global;
+use text_output::{Failure, put};
 
 /// The text is put in pieces of about so many bytes.
 const PIECE: usize = 0x1_0000;

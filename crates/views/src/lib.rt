@@ -10,5 +10,5 @@ mod text;
 mod top;
 mod trace;
 
-pub use judged_files::output::tell_out_of_memory;
+pub use text_output::tell_out_of_memory;
 pub use top::shasta_view;

@@ -2,7 +2,7 @@
 
 ghost use Rattle.std.specs.Prelude.{◌≡◌, ◌≢◌, ◌<◌, [], ◌∷◌, ◌++◌, None, ℕ, List, true, false};
 ghost use Rattle.std.specs.Prelude.{IfErr, IfOk, OnOk};
-ghost use Rattle.judged_files.specs.rewriting_law.Bounds.{RunsRewritten};
+ghost use Rattle.rewriting_law.specs.Bounds.{RunsRewritten};
 ghost use Rattle.run_record.specs.Record.{IsRecord};
 ghost use Rattle.run_trace.specs.Given.{traced_of};
 ghost use Rattle.run_trace.specs.Traced.{Traced as OfEvent};
@@ -12,26 +12,25 @@ ghost use Rattle.run_trace.specs.Tracing.{HasTraced, IsSame, events_to_trace};
 ghost use Rattle.run_trace.specs.Tracing.{plan_traced, record_traced, work_traced};
 ghost use Rattle.block_view.specs.event_text.Shown.{shown};
 ghost use Rattle.page_view.specs.page_events.Shown.{kept};
-ghost use Rattle.judged_files.specs.Failures.{IsReplayRefusal};
+ghost use Rattle.prepared_run.specs.Replays.{IsReplayRefusal};
 ghost use Rattle.judged_files.specs.Given.{bytes_of};
-ghost use Rattle.judged_files.specs.Ready.{work_for};
+ghost use Rattle.prepared_run.specs.Ready.{work_for};
 ghost use Rattle.views.specs.Failures.{IsPageFailure, IsPageWritten, TellsWhole};
 ghost use Rattle.views.specs.Page.{HasAddedOn, IsPageText, drawn_text};
 
 use crate::recorded::{RecordedRun, judged_run, next_event_to, read_recorded};
 use crate::trace::Selection;
-use block_view::event_text::{Options, is_passed_shown, is_shown, shown_law};
+use block_view::event_text::{EventFilter, is_passed_shown, is_shown, shown_law};
 use dsm_io::Files;
 use flow_graph::Graph;
-use judged_files::failure::Failure;
 use judged_files::input::{Inputs, elf_of};
-use judged_files::output::write_file;
 use judged_files::refusal::Subject;
-use judged_files::replay::replay_law;
 use page_view::page_events::Shown;
 use page_view::{Page, push_page};
+use replay::replay_law;
 use run_trace::{Traced, Tracer, Until, WordPassed};
 use std::alloc::{AllocError, Global};
+use text_output::{Failure, write_file};
 
 /// Writes the page of the events that are asked for, of the run of an executable whose record is in
 /// a file, into another file.
@@ -103,7 +102,7 @@ fn page_of_run(
 fn shown_events(
     alloc: Global,
     tracer: &mut Tracer<'_>,
-    options: &Options,
+    options: &EventFilter,
 ) -> Result<Shown, AllocError>
     requires start { HasTraced tracer.old [] }
     requires whole { TellsWhole (work_traced tracer.old) (record_traced tracer.old) }
@@ -128,7 +127,7 @@ fn shown_events(
 fn add_next(
     events: &mut Shown,
     tracer: &mut Tracer<'_>,
-    options: &Options,
+    options: &EventFilter,
 ) -> Result<bool, AllocError>
     requires traced { (seen : List OfEvent) × HasTraced tracer.old seen }
     requires whole { TellsWhole (work_traced tracer.old) (record_traced tracer.old) }
@@ -142,7 +141,7 @@ fn add_next(
 {
     replay_law();
     shown_law();
-    if let Some(word) = tracer.pass(Until::Access) {
+    if let Some(word) = tracer.run_until(Until::Access) {
         if word.stamp > options.to {
             return Ok(false);
         }
@@ -159,7 +158,7 @@ fn add_next(
 /// Adds a word that only accesses memory to the events of a page, if it is shown.
 fn add_passed_if_shown(
     events: &mut Shown,
-    options: &Options,
+    options: &EventFilter,
     word: &WordPassed,
 ) -> Result<(), AllocError>
     ensures { (seen : List OfEvent) → events.old ≡ kept (shown options.now seen)
@@ -172,7 +171,7 @@ fn add_passed_if_shown(
 }
 
 /// Adds an event to those of a page, if it is shown.
-fn add_if_shown(events: &mut Shown, options: &Options, event: Traced) -> Result<(), AllocError>
+fn add_if_shown(events: &mut Shown, options: &EventFilter, event: Traced) -> Result<(), AllocError>
     ensures { (seen : List OfEvent) → events.old ≡ kept (shown options.now seen)
         → OnOk result (events.new ≡ kept (shown options.now (seen ++ traced_of event ∷ []))) }
 {

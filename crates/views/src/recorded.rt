@@ -2,35 +2,34 @@
 
 ghost use Rattle.std.specs.Prelude.{◌≡◌, ◌⊎◌, ◌≤◌, ℕ, List, IfErr, IfOk, OnOk};
 ghost use Rattle.node_model.specs.Node.{Work as OfRun};
-ghost use Rattle.judged_files.specs.rewriting_law.Bounds.{RunsRewritten};
+ghost use Rattle.rewriting_law.specs.Bounds.{RunsRewritten};
 ghost use Rattle.run_trace.specs.Traced.{Traced as OfEvent};
 ghost use Rattle.run_trace.specs.Tracing.{HasTraced, HasGoneOn, IsFewer, IsSame};
 ghost use Rattle.run_trace.specs.Tracing.{record_traced, work_traced};
 ghost use Rattle.judged_files.specs.Executables.{ReadsAs};
-ghost use Rattle.judged_files.specs.Failures.{IsRecordRefusal, IsReplayRefusal};
+ghost use Rattle.text_output.specs.Failures.{IsRecordRefusal};
+ghost use Rattle.prepared_run.specs.Replays.{IsReplayRefusal, IsBrokenRun, IsWorkOf};
 ghost use Rattle.judged_files.specs.Given.{bytes_of, contents_of};
-ghost use Rattle.judged_files.specs.Ready.{work_for};
-ghost use Rattle.judged_files.specs.Replays.{IsBrokenRun, IsWorkOf};
+ghost use Rattle.prepared_run.specs.Ready.{work_for};
 ghost use Rattle.run_record.specs.Record.{IsRecord};
 ghost use Rattle.run_record.specs.declared.Record.{Record as Kept};
-ghost use Rattle.judged_files.specs.dsm_core.CoreParts.{outcome_of};
-ghost use Rattle.judged_files.specs.replay.Refusals.{IsFirstBroken, IsUnfinished};
-ghost use Rattle.judged_files.specs.replay.Replay.{IsReplay};
-ghost use Rattle.judged_files.specs.replay.declared.refused.ReplayRule.{ReplayRule as Rules};
-ghost use Rattle.judged_files.specs.replay.declared.refused.ReplayRefused.TheVariants.{Broken};
+ghost use Rattle.dsm_core.specs.CoreParts.{outcome_of};
+ghost use Rattle.replay.specs.Refusals.{IsFirstBroken, IsUnfinished};
+ghost use Rattle.replay.specs.Replay.{IsReplay};
+ghost use Rattle.replay.specs.declared.refused.ReplayRule.{ReplayRule as Rules};
+ghost use Rattle.replay.specs.declared.refused.ReplayRefused.TheVariants.{Broken};
 ghost use Rattle.views.specs.Failures.{AreRecorded, HasGoneOnTo, IsRecordingFailure, TellsWhole};
 
+use dsm_core::Outcome;
 use dsm_io::Files;
 use elf32_read::Elf;
-use judged_files::dsm_core::Outcome;
-use judged_files::failure::Failure;
 use judged_files::input::{InputFiles, Inputs, read_file};
-use judged_files::prepare::{Prepared, prepare_replay};
-use judged_files::refusal::event_line;
-use judged_files::replay::{ReplayRefused, replay, replay_law};
+use prepared_run::{Prepared, event_line, prepare_replay};
+use replay::{ReplayRefused, replay, replay_law};
 use run_record::Record;
 use run_trace::{Traced, Tracer};
 use std::alloc::{AllocError, Global};
+use text_output::Failure;
 
 /// A recorded run that was judged.
 #[derive(Drop)]

@@ -3,9 +3,10 @@
 ghost use Rattle.std.specs.Prelude.{◌≡◌, ◌≢◌, ◌≤◌, ◌⊎◌, ◌<◌, ℕ, List, Some, length, Contains};
 ghost use Rattle.std.specs.Prelude.{IfErr, OnOk, MatchResult};
 ghost use Rattle.command_line.specs.Views.{View as Asked, AsksView, meaning_of_view, reads, writes};
-ghost use Rattle.judged_files.specs.Answers.{Tells, file_limit};
-ghost use Rattle.judged_files.specs.Failures.{IsNoRefusal};
-ghost use Rattle.judged_files.specs.Text.{out_of_memory};
+ghost use Rattle.text_output.specs.Answers.{Tells};
+ghost use Rattle.judged_files.specs.Failures.{file_limit};
+ghost use Rattle.text_output.specs.Failures.{IsNoRefusal};
+ghost use Rattle.text_output.specs.Text.{out_of_memory};
 ghost use Rattle.views.specs.Headline.{AreTold, IsLayoutRefused, IsRecordRefused, IsRefused};
 ghost use Rattle.views.specs.Headline.{AreWritten, Prints, PrintsPrefix, usage};
 ghost use Rattle.views.specs.Answers.{AreLeft, IsFault, IsRefusalStatus};
@@ -19,10 +20,9 @@ use crate::text::USAGE;
 use crate::trace::{Selection, put_trace};
 use command_line::{View, view_of};
 use dsm_io::{Files, Sink, Text};
-use judged_files::failure::Failure;
 use judged_files::input::read_file;
-use judged_files::output::{put, tell, tell_out_of_memory};
 use std::alloc::Global;
+use text_output::{Failure, put, tell, tell_out_of_memory};
 
 /// Shows what the words ask for, or writes it into a file, and answers the status: 0 where the
 /// whole text was put or the file written; 2 for a faulty command line; 3 where a file or the
@@ -48,7 +48,7 @@ pub fn shasta_view<F: Files, O: Sink, E: Sink>(
     ensures prints { (v : Asked) (contents : List ℕ → List ℕ) → AsksView words.now v
         → AreTold v (F.state files.old) contents → result ≡ 0
         → Prints v contents (O.state out.old) (O.state out.new) }
-    ensures quiet { result ≡ 0 → (E.state err.new).taken ≡ (E.state err.old).taken }
+    ensures silent { result ≡ 0 → (E.state err.new).taken ≡ (E.state err.old).taken }
 
     // Status 4 is for a refused executable; the refusal is told.
     ensures refused { (v : Asked) (contents : List ℕ → List ℕ) → AsksView words.now v

@@ -4,7 +4,7 @@ ghost use Rattle.std.specs.Prelude.{◌≡◌, ◌<◌, ◌++◌, ◌∷◌, [],
 ghost use Rattle.std.specs.Prelude.{IfErr, IfOk, OnOk};
 ghost use Rattle.std.specs.List.{flat_map};
 ghost use Rattle.dsm_io.specs.Causes.{Appends};
-ghost use Rattle.judged_files.specs.rewriting_law.Bounds.{RunsRewritten};
+ghost use Rattle.rewriting_law.specs.Bounds.{RunsRewritten};
 ghost use Rattle.run_record.specs.Record.{IsRecord};
 ghost use Rattle.run_trace.specs.Given.{traced_of};
 ghost use Rattle.run_trace.specs.Traced.{Traced as OfEvent};
@@ -14,27 +14,26 @@ ghost use Rattle.run_trace.specs.Tracing.{HasTraced, IsSame, events_to_trace};
 ghost use Rattle.run_trace.specs.Tracing.{plan_traced, record_traced, work_traced};
 ghost use Rattle.block_view.specs.event_text.Events.{event_line};
 ghost use Rattle.block_view.specs.event_text.Shown.{head, shown, trace_text};
-ghost use Rattle.judged_files.specs.Failures.{FailsAs, IsLike, IsNever, Puts};
+ghost use Rattle.text_output.specs.Failures.{FailsAs, IsLike, IsNever, Puts};
 ghost use Rattle.judged_files.specs.Given.{bytes_of};
-ghost use Rattle.judged_files.specs.Ready.{work_for};
+ghost use Rattle.prepared_run.specs.Ready.{work_for};
 ghost use Rattle.views.specs.Failures.{FailsAsRun, IsTextOfTrace, TellsWhole};
 ghost use Rattle.views.specs.Trace.{HasPushedOn, options_about, options_at, selected_text};
 
 use crate::recorded::{RecordedRun, judged_run, next_event_to};
 use block_layout::{Block, Layout};
 use block_view::event_text::{
-    Options, is_passed_shown, is_shown, push_event, push_head, push_passed, shown_law,
+    EventFilter, is_passed_shown, is_shown, push_event, push_head, push_passed, shown_law,
 };
 use dsm_io::Sink;
 use exec_map::Program;
 use flow_graph::Graph;
-use judged_files::failure::Failure;
 use judged_files::input::{Inputs, elf_of};
-use judged_files::output::put;
 use judged_files::refusal::Subject;
-use judged_files::replay::replay_law;
+use replay::replay_law;
 use run_trace::{Traced, Tracer, Until, WordPassed};
 use std::alloc::{AllocError, Global};
+use text_output::{Failure, put};
 
 /// The text is put in pieces of about so many bytes.
 const PIECE: usize = 0x1_0000;
@@ -54,10 +53,10 @@ pub(crate) struct Selection {
 
 impl Selection {
     /// The events about one block, or about any or none.
-    pub(crate) fn about(self, block: Option<Block>) -> Options
+    pub(crate) fn about(self, block: Option<Block>) -> EventFilter
         ensures { result ≡ options_about self block }
     {
-        Options {
+        EventFilter {
             from: self.from.unwrap_or(0),
             to: self.to.unwrap_or(u64::MAX),
             node: self.node,
@@ -67,7 +66,7 @@ impl Selection {
     }
 
     /// The events that are asked for. None where the address lies in no block.
-    fn options(self, layout: &Layout) -> Option<Options>
+    fn options(self, layout: &Layout) -> Option<EventFilter>
         ensures { result ≡ options_at layout.now self self.address }
     {
         match self.address {
@@ -140,7 +139,7 @@ fn put_head<O: Sink>(alloc: Global, out: &mut O) -> Result<(), Failure>
 fn put_run<O: Sink>(
     alloc: Global,
     run: &RecordedRun<'_>,
-    options: &Options,
+    options: &EventFilter,
     out: &mut O,
 ) -> Result<(), Failure>
     requires rewritten { RunsRewritten (work_for run.now.prepared) }
@@ -170,7 +169,7 @@ fn put_events<O: Sink>(
     alloc: Global,
     program: &Program<'_>,
     tracer: &mut Tracer<'_>,
-    options: &Options,
+    options: &EventFilter,
     out: &mut O,
 ) -> Result<(), Failure>
     requires start { HasTraced tracer.old [] }
@@ -206,7 +205,7 @@ fn push_next(
     lines: &mut Vec<u8>,
     program: &Program<'_>,
     tracer: &mut Tracer<'_>,
-    options: &Options,
+    options: &EventFilter,
 ) -> Result<bool, AllocError>
     requires traced { (seen : List OfEvent) × HasTraced tracer.old seen }
     requires whole { TellsWhole (work_traced tracer.old) (record_traced tracer.old) }
@@ -219,7 +218,7 @@ fn push_next(
 {
     replay_law();
     shown_law();
-    if let Some(word) = tracer.pass(Until::Access) {
+    if let Some(word) = tracer.run_until(Until::Access) {
         if word.stamp > options.to {
             return Ok(false);
         }
@@ -237,7 +236,7 @@ fn push_next(
 fn push_passed_if_shown(
     lines: &mut Vec<u8>,
     program: &Program<'_>,
-    options: &Options,
+    options: &EventFilter,
     word: &WordPassed,
 ) -> Result<(), AllocError>
     ensures { OnOk result (lines.new.items ≡ lines.old.items
@@ -253,7 +252,7 @@ fn push_passed_if_shown(
 fn push_if_shown(
     lines: &mut Vec<u8>,
     program: &Program<'_>,
-    options: &Options,
+    options: &EventFilter,
     event: &Traced,
 ) -> Result<(), AllocError>
     ensures { OnOk result (lines.new.items ≡ lines.old.items

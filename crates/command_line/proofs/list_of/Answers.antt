@@ -1,13 +1,14 @@
 use Rattle.std.proofs.Common.{refl}
+use Rattle.command_line.specs.declared.table.CommandWord.TheVariants as word
 use Rattle.command_line.specs.Reading.{given_by}
-use Rattle.command_line.proofs.Rows.{as_list, one_file, placed_file}
+use Rattle.command_line.proofs.Rows.{as_command, one_file, placed_file}
 use Rattle.command_line.proofs.list_of.Goals as goal
 
 pub returns-in_err-file : goal.returns-in_err-file
 returns-in_err-file c =
     rw c.from_residual.ensures (λ d h.
-    let r = as_list (given_by c.args.matches.now) d h in
-    c.in_err-file.ensures r.0 (one_file r.0 _ r.1.places))
+    let r = as_command word.List (given_by c.args.matches.now) d h in
+    c.in_err-file.ensures r.0.file (one_file r.0.file _ r.1.of_row.places))
 
 pub returns : goal.returns
 returns c = record {

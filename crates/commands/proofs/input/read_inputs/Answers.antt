@@ -1,8 +1,8 @@
 use Rattle.std.proofs.lemmas.Result.{err_from_is_err_and}
-use Rattle.std.proofs.Common.{◌≤◌, ◌≡◌, ◌∙◌, ℕ, List, option_map, arith, refl, subst}
+use Rattle.std.proofs.Common.{◌≤◌, ◌≡◌, ◌∙◌, ℕ, List, option_map, ap, arith, refl, subst}
 use Rattle.command_line.specs.Meaning.{meaning_of}
 use Rattle.dsm_io.specs.States.{FilesState}
-use Rattle.commands.specs.Inputs.{input_of, code_of, verified_of, layout_of, text_file_of}
+use Rattle.commands.specs.Inputs.{FileNames, file_names}
 use Rattle.judged_files.specs.Inputs.{Inputs}
 use Rattle.judged_files.specs.Failures.{AreBytes, AreContents, IsNamedFailure}
 use Rattle.commands.specs.Failures.{AreRead}
@@ -16,10 +16,10 @@ returns-in_err-executable-clause-failure g c =
     let files_now : FilesState = g.F.Files.state c.read_bytes.new.files in
     let cmd = meaning_of c.args.command.now in
     let f = c.in_err-executable.field-0.0 in
-    let failed : IsNamedFailure files files_now (input_of cmd) f =
-    subst (λ o. IsNamedFailure files files_now o f) c.input_of.ensures c.in_err-executable.ensures.failure in
+    let failed : IsNamedFailure files files_now ((file_names cmd).executable) f =
+    subst (λ o. IsNamedFailure files files_now o f) (ap (λ (n : FileNames). n.executable) c.file_names-names.ensures) c.in_err-executable.ensures.failure in
     let p = err_from_is_err_and c.from_residual.result c.from_residual.ensures.1 in
-    rw (p.1, p.2) (named_fails cmd files files files_now (input_of cmd) f (λ n. refl)
+    rw (p.1, p.2) (named_fails cmd files files files_now ((file_names cmd).executable) f (λ n. refl)
     (λ n. omega arith) (reads_input cmd) failed)
 
 pub returns-in_err-code-clause-failure : goal.returns-in_err-code-clause-failure
@@ -29,10 +29,10 @@ returns-in_err-code-clause-failure g c =
     let files_now : FilesState = g.F.Files.state c.read_named.new.files in
     let cmd = meaning_of c.args.command.now in
     let f = c.in_err-code.field-0.0 in
-    let failed : IsNamedFailure between files_now (code_of cmd) f =
-    subst (λ o. IsNamedFailure between files_now o f) c.code_of.ensures c.in_err-code.ensures.failure in
+    let failed : IsNamedFailure between files_now ((file_names cmd).code) f =
+    subst (λ o. IsNamedFailure between files_now o f) (ap (λ (n : FileNames). n.code) c.file_names-names.ensures) c.in_err-code.ensures.failure in
     let p = err_from_is_err_and c.from_residual-in_err-code.result c.from_residual-in_err-code.ensures.1 in
-    rw (p.1, p.2) (named_fails cmd files between files_now (code_of cmd) f c.in_ok-executable.ensures.contents
+    rw (p.1, p.2) (named_fails cmd files between files_now ((file_names cmd).code) f c.in_ok-executable.ensures.contents
     c.in_ok-executable.ensures.reads (reads_code cmd) failed)
 
 pub returns-in_err-verified-clause-failure : goal.returns-in_err-verified-clause-failure
@@ -42,13 +42,13 @@ returns-in_err-verified-clause-failure g c =
     let files_now : FilesState = g.F.Files.state c.read_named-2.new.files in
     let cmd = meaning_of c.args.command.now in
     let f = c.in_err-verified.field-0.0 in
-    let failed : IsNamedFailure between files_now (verified_of cmd) f =
-    subst (λ o. IsNamedFailure between files_now o f) c.verified_of.ensures c.in_err-verified.ensures.failure in
+    let failed : IsNamedFailure between files_now ((file_names cmd).verified) f =
+    subst (λ o. IsNamedFailure between files_now o f) (ap (λ (n : FileNames). n.verified) c.file_names-names.ensures) c.in_err-verified.ensures.failure in
     let low : (n : List ℕ) → files.failed_reads n ≤ between.failed_reads n =
     λ n. let one = c.in_ok-executable.ensures.reads n in
     let two = c.in_ok-code.ensures.reads n in omega (arith, one, two) in
     let p = err_from_is_err_and c.from_residual-in_err-verified.result c.from_residual-in_err-verified.ensures.1 in
-    rw (p.1, p.2) (named_fails cmd files between files_now (verified_of cmd) f
+    rw (p.1, p.2) (named_fails cmd files between files_now ((file_names cmd).verified) f
     (λ n. c.in_ok-code.ensures.contents n ∙ c.in_ok-executable.ensures.contents n) low
     (reads_verified cmd) failed)
 
@@ -59,14 +59,14 @@ returns-in_err-layout-clause-failure g c =
     let files_now : FilesState = g.F.Files.state c.read_named-3.new.files in
     let cmd = meaning_of c.args.command.now in
     let f = c.in_err-layout.field-0.0 in
-    let failed : IsNamedFailure between files_now (layout_of cmd) f =
-    subst (λ o. IsNamedFailure between files_now o f) c.layout_of.ensures c.in_err-layout.ensures.failure in
+    let failed : IsNamedFailure between files_now ((file_names cmd).layout) f =
+    subst (λ o. IsNamedFailure between files_now o f) (ap (λ (n : FileNames). n.layout) c.file_names-names.ensures) c.in_err-layout.ensures.failure in
     let low : (n : List ℕ) → files.failed_reads n ≤ between.failed_reads n =
     λ n. let one = c.in_ok-executable.ensures.reads n in
     let two = c.in_ok-code.ensures.reads n in
     let three = c.in_ok-verified.ensures.reads n in omega (arith, one, two, three) in
     let p = err_from_is_err_and c.from_residual-in_err-layout.result c.from_residual-in_err-layout.ensures.1 in
-    rw (p.1, p.2) (named_fails cmd files between files_now (layout_of cmd) f
+    rw (p.1, p.2) (named_fails cmd files between files_now ((file_names cmd).layout) f
     (λ n. c.in_ok-verified.ensures.contents n ∙ c.in_ok-code.ensures.contents n
     ∙ c.in_ok-executable.ensures.contents n) low (reads_layout cmd) failed)
 
@@ -77,15 +77,15 @@ returns-in_err-text-clause-failure g c =
     let files_now : FilesState = g.F.Files.state c.read_bytes-2.new.files in
     let cmd = meaning_of c.args.command.now in
     let f = c.in_err-text.field-0.0 in
-    let failed : IsNamedFailure between files_now (text_file_of cmd) f =
-    subst (λ o. IsNamedFailure between files_now o f) c.text_file_of.ensures c.in_err-text.ensures.failure in
+    let failed : IsNamedFailure between files_now ((file_names cmd).text) f =
+    subst (λ o. IsNamedFailure between files_now o f) (ap (λ (n : FileNames). n.text) c.file_names-names.ensures) c.in_err-text.ensures.failure in
     let low : (n : List ℕ) → files.failed_reads n ≤ between.failed_reads n =
     λ n. let one = c.in_ok-executable.ensures.reads n in
     let two = c.in_ok-code.ensures.reads n in
     let three = c.in_ok-verified.ensures.reads n in
     let four = c.in_ok-layout.ensures.reads n in omega (arith, one, two, three, four) in
     let p = err_from_is_err_and c.from_residual-in_err-text.result c.from_residual-in_err-text.ensures.1 in
-    rw (p.1, p.2) (named_fails cmd files between files_now (text_file_of cmd) f
+    rw (p.1, p.2) (named_fails cmd files between files_now ((file_names cmd).text) f
     (λ n. c.in_ok-layout.ensures.contents n ∙ c.in_ok-verified.ensures.contents n
     ∙ c.in_ok-code.ensures.contents n ∙ c.in_ok-executable.ensures.contents n) low (reads_text cmd)
     failed)
@@ -111,23 +111,23 @@ returns-clause-ok g c =
       verified = verified;
       layout = layout;
       text = c.in_ok-text.text.items;
-      batches = c.batches_of.result;
+      batches = c.file_names-names.result.batches;
     } in
-    let read : AreRead cmd files given = record {
-      executable = subst (λ o. AreBytes files o given.executable) c.input_of.ensures
+    let read : AreRead (file_names cmd) files given = record {
+      executable = subst (λ o. AreBytes files o given.executable) (ap (λ (n : FileNames). n.executable) c.file_names-names.ensures)
           c.in_ok-executable.ensures.ok;
-      code = content_before files first (code_of cmd) code c.in_ok-executable.ensures.contents
-          (subst (λ o. AreContents first o code) c.code_of.ensures c.in_ok-code.ensures.ok);
-      verified = content_before files second (verified_of cmd) verified same_second
-          (subst (λ o. AreContents second o verified) c.verified_of.ensures
+      code = content_before files first ((file_names cmd).code) code c.in_ok-executable.ensures.contents
+          (subst (λ o. AreContents first o code) (ap (λ (n : FileNames). n.code) c.file_names-names.ensures) c.in_ok-code.ensures.ok);
+      verified = content_before files second ((file_names cmd).verified) verified same_second
+          (subst (λ o. AreContents second o verified) (ap (λ (n : FileNames). n.verified) c.file_names-names.ensures)
           c.in_ok-verified.ensures.ok);
-      layout = content_before files third (layout_of cmd) layout same_third
-          (subst (λ o. AreContents third o layout) c.layout_of.ensures c.in_ok-layout.ensures.ok);
-      text = bytes_before files fourth (text_file_of cmd) given.text
+      layout = content_before files third ((file_names cmd).layout) layout same_third
+          (subst (λ o. AreContents third o layout) (ap (λ (n : FileNames). n.layout) c.file_names-names.ensures) c.in_ok-layout.ensures.ok);
+      text = bytes_before files fourth ((file_names cmd).text) given.text
           (λ n. c.in_ok-layout.ensures.contents n ∙ same_third n)
-          (subst (λ o. AreBytes fourth o given.text) c.text_file_of.ensures
+          (subst (λ o. AreBytes fourth o given.text) (ap (λ (n : FileNames). n.text) c.file_names-names.ensures)
           c.in_ok-text.ensures.ok);
-      batches = c.batches_of.ensures.value;
+      batches = ap (λ (n : FileNames). n.batches) c.file_names-names.ensures;
     } in
     inputs_read cmd files given read
 
@@ -152,22 +152,22 @@ returns-clause-longer g c = λ name content there is long.
       verified = verified;
       layout = layout;
       text = c.in_ok-text.text.items;
-      batches = c.batches_of.result;
+      batches = c.file_names-names.result.batches;
     } in
-    let read : AreRead cmd files given = record {
-      executable = subst (λ o. AreBytes files o given.executable) c.input_of.ensures
+    let read : AreRead (file_names cmd) files given = record {
+      executable = subst (λ o. AreBytes files o given.executable) (ap (λ (n : FileNames). n.executable) c.file_names-names.ensures)
           c.in_ok-executable.ensures.ok;
-      code = content_before files first (code_of cmd) code c.in_ok-executable.ensures.contents
-          (subst (λ o. AreContents first o code) c.code_of.ensures c.in_ok-code.ensures.ok);
-      verified = content_before files second (verified_of cmd) verified same_second
-          (subst (λ o. AreContents second o verified) c.verified_of.ensures
+      code = content_before files first ((file_names cmd).code) code c.in_ok-executable.ensures.contents
+          (subst (λ o. AreContents first o code) (ap (λ (n : FileNames). n.code) c.file_names-names.ensures) c.in_ok-code.ensures.ok);
+      verified = content_before files second ((file_names cmd).verified) verified same_second
+          (subst (λ o. AreContents second o verified) (ap (λ (n : FileNames). n.verified) c.file_names-names.ensures)
           c.in_ok-verified.ensures.ok);
-      layout = content_before files third (layout_of cmd) layout same_third
-          (subst (λ o. AreContents third o layout) c.layout_of.ensures c.in_ok-layout.ensures.ok);
-      text = bytes_before files fourth (text_file_of cmd) given.text
+      layout = content_before files third ((file_names cmd).layout) layout same_third
+          (subst (λ o. AreContents third o layout) (ap (λ (n : FileNames). n.layout) c.file_names-names.ensures) c.in_ok-layout.ensures.ok);
+      text = bytes_before files fourth ((file_names cmd).text) given.text
           (λ n. c.in_ok-layout.ensures.contents n ∙ same_third n)
-          (subst (λ o. AreBytes fourth o given.text) c.text_file_of.ensures
+          (subst (λ o. AreBytes fourth o given.text) (ap (λ (n : FileNames). n.text) c.file_names-names.ensures)
           c.in_ok-text.ensures.ok);
-      batches = c.batches_of.ensures.value;
+      batches = ap (λ (n : FileNames). n.batches) c.file_names-names.ensures;
     } in
     none_long cmd files given name content read there is long

@@ -3,8 +3,8 @@ use Rattle.std.proofs.lemmas.Result.{err_from_is_err_and}
 use Rattle.dsm_io.specs.Causes.{Appends}
 use Rattle.dsm_io.specs.States.{SinkState}
 use Rattle.commands.specs.Headline.{listing}
-use Rattle.judged_files.specs.Failures.{IsPutFailure, IsLike, IsNever}
-use Rattle.judged_files.proofs.Pieces.{nothing_put, stops_behind}
+use Rattle.text_output.specs.Failures.{IsPutFailure, IsLike, IsNever}
+use Rattle.text_output.proofs.Pieces.{nothing_put, stops_behind}
 use Rattle.commands.proofs.ListingLemmas.{IsUnderWay, reaches_first, rest_of, rest_more, line_gathered, lines_put, lines_fail}
 use Rattle.commands.proofs.list.put_lines.Goals as goal
 use Rattle.commands.proofs.list.put_lines.Goals.{then-len-ge-PIECE+in_ok-put, else-len-ge-PIECE}

@@ -8,13 +8,13 @@ use Rattle.dsm_io.specs.States.{SinkState}
 use Rattle.node_model.specs.Outcome.{Outcome}
 use Rattle.judged_files.specs.Executables.{IsUnaccepted, IsUnread, IsRejection}
 use Rattle.judged_files.specs.declared.refusal.Subject.TheVariants.{Executable}
-use Rattle.judged_files.specs.Failures.{IsNever}
+use Rattle.text_output.specs.Failures.{IsNever}
 use Rattle.judged_files.specs.Given.{bytes_of}
 use Rattle.commands.specs.Headline.{IsOutcomeByOrder, IsTextWith}
 use Rattle.judged_files.specs.Layouts.{IsLayoutFor}
 use Rattle.commands.specs.Refusals.{IsBadLayout}
 use Rattle.judged_files.specs.Refusals.{IsFaultyLayout}
-use Rattle.judged_files.proofs.Pieces.{never, refused_first}
+use Rattle.text_output.proofs.Pieces.{never, refused_first}
 use Rattle.commands.proofs.Pieces.{outcome_put, outcome_fails}
 use Rattle.commands.proofs.one.one.Goals as goal
 

@@ -7,8 +7,8 @@ use Rattle.commands.specs.Outcomes as outcomes
 use Rattle.commands.specs.Processors.{outcome_head}
 use Rattle.commands.specs.Text.{outcome_tail, text_of}
 use Rattle.commands.specs.Failures.{IsTextOfOutcome}
-use Rattle.judged_files.specs.Failures.{IsNever, IsPutFailure}
-use Rattle.judged_files.proofs.Pieces.{joins, nothing_put, put_fails}
+use Rattle.text_output.specs.Failures.{IsNever, IsPutFailure}
+use Rattle.text_output.proofs.Pieces.{joins, nothing_put, put_fails}
 use Rattle.commands.proofs.outcome.put_outcome.Goals as goal
 
 pub returns-in_err-put-clause-failure : goal.returns-in_err-put-clause-failure

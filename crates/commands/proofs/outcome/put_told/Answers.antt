@@ -3,11 +3,11 @@ use Rattle.rv32_program.specs.declared.End.{End}
 use Rattle.node_model.specs.declared.NodeCounts.{NodeCounts}
 use Rattle.node_model.specs.Outcome.{Outcome}
 use Rattle.dsm_io.specs.States.{SinkState}
-use Rattle.judged_files.specs.declared.failure.Failure.{Failure}
+use Rattle.text_output.specs.declared.failure.Failure.{Failure}
 use Rattle.commands.specs.Outcomes.{told}
-use Rattle.judged_files.specs.Failures.{FailsAs, IsNever}
+use Rattle.text_output.specs.Failures.{FailsAs, IsNever}
 use Rattle.commands.specs.Failures.{IsTextOfOutcome}
-use Rattle.lossy_sim.specs.dsm_core.CoreParts.{outcome_of}
+use Rattle.dsm_core.specs.CoreParts.{outcome_of}
 use Rattle.commands.proofs.outcome.put_told.Goals as goal
 
 -- an outcome by its parts

@@ -3,7 +3,7 @@ use Rattle.std.proofs.Common.{◌≡◌, [], ◌∷◌, ◌++◌, List, ap, ap�
 use Rattle.std.proofs.lemmas.List.FromFn.{map-range_with_len_more}
 use Rattle.node_model.specs.declared.Entry.{Entry}
 use Rattle.node_model.specs.Node.{Node}
-use Rattle.lossy_sim.specs.dsm_core.CoreParts.{core_of}
+use Rattle.dsm_core.specs.CoreParts.{core_of}
 use Rattle.run_record.specs.Lists.{items_of}
 use Rattle.commands.proofs.RecordLemmas.{items_more}
 use Rattle.commands.proofs.record.journals.Goals as goal

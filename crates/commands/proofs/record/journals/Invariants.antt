@@ -1,6 +1,6 @@
 use Rattle.std.proofs.Common.{◌≡◌, map}
 use Rattle.std.specs.List.{range_with_len}
-use Rattle.lossy_sim.specs.dsm_core.CoreParts.{core_of}
+use Rattle.dsm_core.specs.CoreParts.{core_of}
 use Rattle.run_record.specs.Lists.{items_of}
 use Rattle.commands.proofs.record.journals.Given as goal
 

@@ -4,7 +4,7 @@ use Rattle.block_layout.specs.Layout.{Shape}
 use Rattle.block_layout.specs.declared.layout.BlockRange.{BlockRange}
 use Rattle.node_model.specs.declared.Entry.{Entry}
 use Rattle.node_model.specs.Node.{Work}
-use Rattle.lossy_sim.specs.dsm_core.CoreParts.{core_of, work_of}
+use Rattle.dsm_core.specs.CoreParts.{core_of, work_of}
 use Rattle.commands.proofs.RecordLemmas.{is_record}
 use Rattle.commands.proofs.record.record_text.Goals as goal
 

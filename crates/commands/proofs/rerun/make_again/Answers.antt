@@ -1,7 +1,7 @@
 use Rattle.std.proofs.Common.{subst}
 use Rattle.std.specs.Prelude.{◌⊎◌}
 use Rattle.node_model.specs.Node.{Work}
-use Rattle.judged_files.specs.replay.Refusals.{IsFirstBroken, IsUnfinished}
+use Rattle.replay.specs.Refusals.{IsFirstBroken, IsUnfinished}
 use Rattle.commands.proofs.rerun.make_again.Goals as goal
 
 pub returns-in_ok-event_line-in-Err-Broken-clause-refused :

@@ -1,21 +1,21 @@
 use Rattle.std.proofs.Common.{inl, inr}
 use Rattle.std.proofs.lemmas.Result.{err_from_is_err_and}
-use Rattle.lossy_sim.specs.dsm_core.CoreParts.{outcome_of}
+use Rattle.dsm_core.specs.CoreParts.{outcome_of}
 use Rattle.node_model.specs.Outcome.{Outcome}
 use Rattle.dsm_io.specs.States.{SinkState}
 use Rattle.judged_files.specs.Executables.{IsUnread}
 use Rattle.judged_files.specs.declared.refusal.Subject.TheVariants.{Executable}
 use Rattle.commands.specs.Headline.{IsTextWith}
-use Rattle.judged_files.specs.Failures.{FailsAs, IsNever}
+use Rattle.text_output.specs.Failures.{FailsAs, IsNever}
 use Rattle.commands.specs.Failures.{IsReplayFailure}
-use Rattle.judged_files.specs.Ready.{work_for}
+use Rattle.prepared_run.specs.Ready.{work_for}
 use Rattle.judged_files.specs.Given.{bytes_of}
-use Rattle.judged_files.specs.Replays.{IsBadReplayLayout, IsBrokenRun, IsOutcomeOfReplay, IsReplayRefused}
+use Rattle.prepared_run.specs.Replays.{IsBadReplayLayout, IsBrokenRun, IsOutcomeOfReplay, IsReplayRefused}
 use Rattle.commands.proofs.AnswerLemmas.{err_as}
-use Rattle.judged_files.proofs.Pieces.{never}
+use Rattle.text_output.proofs.Pieces.{never}
 use Rattle.commands.proofs.Pieces.{outcome_put, outcome_fails}
 use Rattle.commands.proofs.ReplayLemmas.{outcome_of_replay, refused_replay, unput_replay}
-use Rattle.judged_files.proofs.ReplayLemmas.{replay_refused, text_refused}
+use Rattle.prepared_run.proofs.ReplayLemmas.{replay_refused, text_refused}
 use Rattle.commands.proofs.rerun.put_replay.Goals as goal
 
 pub returns-in_err-elf-clause-failure : goal.returns-in_err-elf-clause-failure

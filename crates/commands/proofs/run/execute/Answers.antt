@@ -1,9 +1,9 @@
 use Rattle.std.proofs.Common.{◌≡◌}
 use Rattle.std.proofs.lemmas.Result.{err_from_is_err_and}
 use Rattle.command_line.specs.Meaning.{file_name}
-use Rattle.lossy_sim.specs.dsm_core.CoreParts.{core_of, outcome_of, work_of}
+use Rattle.dsm_core.specs.CoreParts.{core_of, outcome_of, work_of}
 use Rattle.dsm_io.specs.States.{FilesState}
-use Rattle.judged_files.specs.Ready.{work_for}
+use Rattle.prepared_run.specs.Ready.{work_for}
 use Rattle.commands.specs.Headline.{held_by}
 use Rattle.commands.proofs.Recorded.{is_made, own_outcome, own_recorded, wants_memory}
 use Rattle.commands.proofs.run.execute.Goals as goal

@@ -1,6 +1,6 @@
 use Rattle.std.proofs.Common.{◌≡◌, ◌∙◌}
-use Rattle.lossy_sim.specs.dsm_core.CoreParts.{work_of}
-use Rattle.judged_files.specs.Ready.{work_for}
+use Rattle.dsm_core.specs.CoreParts.{work_of}
+use Rattle.prepared_run.specs.Ready.{work_for}
 use Rattle.commands.proofs.AnswerLemmas.{ok_as}
 use Rattle.commands.proofs.run.raced_core.Goals as goal
 

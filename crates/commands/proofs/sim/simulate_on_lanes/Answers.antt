@@ -1,6 +1,6 @@
 use Rattle.std.proofs.Common.{ℕ, ◌<◌, ◌≤◌, sym, subst, arith}
-use Rattle.lossy_sim.specs.dsm_core.CoreParts.{outcome_of, work_in}
-use Rattle.smp_sim.specs.smp_core.CoreParts.{work_with}
+use Rattle.dsm_core.specs.CoreParts.{outcome_of, work_in}
+use Rattle.smp_sim.specs.CoreParts.{work_with}
 use Rattle.smp_sim.specs.ByOrder.{IsLaneOutcomeByOrder}
 use Rattle.commands.specs.Runs.{IsOutcomeOnLanes}
 use Rattle.commands.proofs.AnswerLemmas.{ok_as}

@@ -5,7 +5,7 @@ use Rattle.commands.specs.Answers.{AreLeft, AreWritten}
 use Rattle.commands.specs.Headline.{IsText}
 use Rattle.commands.specs.Inputs.{AreTold, inputs_of}
 use Rattle.judged_files.specs.Given.{bytes_of}
-use Rattle.judged_files.specs.Failures.{Puts}
+use Rattle.text_output.specs.Failures.{Puts}
 use Rattle.commands.specs.Failures.{IsSuccess, IsFailure, IsPerformFailure, AreInputs, AreKept}
 use Rattle.commands.proofs.AnswerLemmas.{ok_as, err_as, succeeds, fails_with, left_before, kept_before}
 use Rattle.commands.proofs.top.answer.Goals as goal

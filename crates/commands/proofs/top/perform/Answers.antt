@@ -1,9 +1,9 @@
 use Rattle.std.proofs.Common.{subst}
 use Rattle.command_line.specs.Commands.{Assemble, Generate, IsFit, Replay, Rewrite}
-use Rattle.command_line.specs.Meaning.{meaning_of, file_name}
+use Rattle.command_line.specs.Meaning.{assemble_of, generate_of, meaning_of, replay_of, rewrite_of}
 use Rattle.dsm_io.specs.States.{SinkState, FilesState}
 use Rattle.commands.specs.Failures.{IsAssemblyFailure, IsPerformFailure, IsReplayFailure, IsRewriteFailure}
-use Rattle.judged_files.specs.Failures.{IsWriteFailure}
+use Rattle.text_output.specs.Failures.{IsWriteFailure}
 use Rattle.judged_files.specs.Given.{bytes_of}
 use Rattle.commands.proofs.AnswerLemmas.{err_as, plain_failure, puts_nothing, rewrite_fails}
 use Rattle.commands.proofs.AssemblyLemmas.{assembles, assembly_fails}
@@ -23,13 +23,11 @@ returns-in-Rewrite-clause-failure g c =
     let files_now : FilesState = g.F.Files.state c.rewrite_into.new.files in
     let state : SinkState = g.O.Sink.state c.args.out.now in
     let inputs = bytes_of c.args.inputs.now in
-    let input = c.in-Rewrite.input.now in
-    let output = c.in-Rewrite.output.now in
-    let no_batch = c.in-Rewrite.no_batch in
+    let a = rewrite_of c.in-Rewrite.arguments in
     rw c.in-Rewrite.is
-    (err_as (IsRewriteFailure inputs.batches inputs.executable files files_now output)
-    (IsPerformFailure (Rewrite input output no_batch) inputs files files_now state state)
-    c.rewrite_into.result (rewrite_fails input output no_batch inputs files files_now state)
+    (err_as (IsRewriteFailure inputs.batches inputs.executable files files_now a.output)
+    (IsPerformFailure (Rewrite a) inputs files files_now state state)
+    c.rewrite_into.result (rewrite_fails a inputs files files_now state)
     c.rewrite_into.ensures.failure)
 
 pub returns-in-List-clause-failure : goal.returns-in-List-clause-failure
@@ -62,17 +60,15 @@ returns-in-Replay-clause-failure g c =
     let before : SinkState = g.O.Sink.state c.args.out.now in
     let now : SinkState = g.O.Sink.state c.put_replay.new.out in
     let inputs = bytes_of c.args.inputs.now in
-    let brief = c.in-Replay.brief in
-    let verified = file_name c.in-Replay.verified in
-    let asked = Replay c.in-Replay.file.now verified c.in-Replay.record_file.now brief in
-    rw c.in-Replay.is (err_as (IsReplayFailure inputs brief before now)
-    (IsPerformFailure asked inputs files files before now) c.put_replay.result
-    (replay_fails c.in-Replay.file.now verified c.in-Replay.record_file.now brief inputs files files before now)
+    let a = replay_of c.in-Replay.arguments in
+    rw c.in-Replay.is (err_as (IsReplayFailure inputs a.brief before now)
+    (IsPerformFailure (Replay a) inputs files files before now) c.put_replay.result
+    (replay_fails a inputs files files before now)
     c.put_replay.ensures.failure)
 
 pub returns-in-Generate-clause-ok : goal.returns-in-Generate-clause-ok
 returns-in-Generate-clause-ok g c =
-    rw c.in-Generate.is (generates c.in-Generate.number c.in-Generate.output.now
+    rw c.in-Generate.is (generates (generate_of c.in-Generate.arguments)
     (g.F.Files.state c.generate_into.new.files) (bytes_of c.args.inputs.now)
     (g.O.Sink.state c.args.out.now) c.generate_into.result c.generate_into.ensures.status)
 
@@ -82,17 +78,16 @@ returns-in-Generate-clause-failure g c =
     let files_now : FilesState = g.F.Files.state c.generate_into.new.files in
     let state : SinkState = g.O.Sink.state c.args.out.now in
     let inputs = bytes_of c.args.inputs.now in
-    let number = c.in-Generate.number in
-    let output = c.in-Generate.output.now in
-    rw c.in-Generate.is (err_as (IsWriteFailure files files_now output)
-    (IsPerformFailure (Generate number output) inputs files files_now state state)
-    c.generate_into.result (generate_fails number output inputs files files_now state)
+    let a = generate_of c.in-Generate.arguments in
+    rw c.in-Generate.is (err_as (IsWriteFailure files files_now a.output)
+    (IsPerformFailure (Generate a) inputs files files_now state state)
+    c.generate_into.result (generate_fails a inputs files files_now state)
     c.generate_into.ensures.failure)
 
 pub returns-in-Assemble-clause-ok : goal.returns-in-Assemble-clause-ok
 returns-in-Assemble-clause-ok g c =
     let inputs = bytes_of c.args.inputs.now in
-    rw c.in-Assemble.is (assembles c.in-Assemble.text.now c.in-Assemble.output.now
+    rw c.in-Assemble.is (assembles (assemble_of c.in-Assemble.arguments)
     (g.F.Files.state c.assemble_into.new.files) inputs
     (g.O.Sink.state c.args.out.now) c.assemble_into.result c.assemble_into.ensures.text)
 
@@ -102,62 +97,26 @@ returns-in-Assemble-clause-failure g c =
     let files_now : FilesState = g.F.Files.state c.assemble_into.new.files in
     let state : SinkState = g.O.Sink.state c.args.out.now in
     let inputs = bytes_of c.args.inputs.now in
-    let text = c.in-Assemble.text.now in
-    let output = c.in-Assemble.output.now in
-    rw c.in-Assemble.is (err_as (IsAssemblyFailure inputs.text files files_now output)
-    (IsPerformFailure (Assemble text output) inputs files files_now state state)
-    c.assemble_into.result (assembly_fails text output inputs files files_now state)
+    let a = assemble_of c.in-Assemble.arguments in
+    rw c.in-Assemble.is (err_as (IsAssemblyFailure inputs.text files files_now a.output)
+    (IsPerformFailure (Assemble a) inputs files files_now state state)
+    c.assemble_into.result (assembly_fails a inputs files files_now state)
     c.assemble_into.ensures.failure)
 
 pub returns-in-Run-clause-ok : goal.returns-in-Run-clause-ok
-returns-in-Run-clause-ok g c =
-    rw c.in-Run.is (c.run.ensures.ok (record {
-      file = c.in-Run.file.now;
-      code = file_name c.in-Run.code;
-      verified = file_name c.in-Run.verified;
-      layout = file_name c.in-Run.layout;
-      no_batch = c.in-Run.no_batch;
-    }))
+returns-in-Run-clause-ok g c = rw c.in-Run.is c.run.ensures.ok
 
 pub returns-in-Run-clause-failure : goal.returns-in-Run-clause-failure
-returns-in-Run-clause-failure g c =
-    rw c.in-Run.is (c.run.ensures.failure (record {
-      file = c.in-Run.file.now;
-      code = file_name c.in-Run.code;
-      verified = file_name c.in-Run.verified;
-      layout = file_name c.in-Run.layout;
-      no_batch = c.in-Run.no_batch;
-    }))
+returns-in-Run-clause-failure g c = rw c.in-Run.is c.run.ensures.failure
 
 pub returns-in-Run-clause-written : goal.returns-in-Run-clause-written
-returns-in-Run-clause-written g c =
-    rw c.in-Run.is (c.run.ensures.written (record {
-      file = c.in-Run.file.now;
-      code = file_name c.in-Run.code;
-      verified = file_name c.in-Run.verified;
-      layout = file_name c.in-Run.layout;
-      no_batch = c.in-Run.no_batch;
-    }))
+returns-in-Run-clause-written g c = rw c.in-Run.is c.run.ensures.written
 
 pub returns-in-Run-clause-left : goal.returns-in-Run-clause-left
-returns-in-Run-clause-left g c =
-    rw c.in-Run.is (c.run.ensures.left (record {
-      file = c.in-Run.file.now;
-      code = file_name c.in-Run.code;
-      verified = file_name c.in-Run.verified;
-      layout = file_name c.in-Run.layout;
-      no_batch = c.in-Run.no_batch;
-    }))
+returns-in-Run-clause-left g c = rw c.in-Run.is c.run.ensures.left
 
 pub returns-in-Run-clause-others : goal.returns-in-Run-clause-others
-returns-in-Run-clause-others g c =
-    rw c.in-Run.is (c.run.ensures.others (record {
-      file = c.in-Run.file.now;
-      code = file_name c.in-Run.code;
-      verified = file_name c.in-Run.verified;
-      layout = file_name c.in-Run.layout;
-      no_batch = c.in-Run.no_batch;
-    }))
+returns-in-Run-clause-others g c = rw c.in-Run.is c.run.ensures.others
 
 pub sim-requires : goal.sim-requires
 sim-requires g c = record { few = (subst (λ x. IsFit (meaning_of x)) c.in-Sim.is c.requires.fits).1 }

@@ -3,10 +3,10 @@ use Rattle.std.specs.Prelude.{Contains}
 use Rattle.command_line.specs.Commands.{reads}
 use Rattle.command_line.specs.Meaning.{meaning_of}
 use Rattle.dsm_io.specs.States.{SinkState, FilesState}
-use Rattle.judged_files.specs.Answers.{Tells}
+use Rattle.text_output.specs.Answers.{Tells}
 use Rattle.commands.specs.Answers.{AreLeft, AreWritten}
 use Rattle.commands.specs.Failures.{IsFailure, IsSuccess}
-use Rattle.judged_files.specs.Failures.{line_of}
+use Rattle.text_output.specs.Failures.{line_of}
 use Rattle.commands.specs.Inputs.{AreTold, inputs_of}
 use Rattle.commands.specs.Text.{usage}
 use Rattle.commands.proofs.AnswerLemmas.{fault_of, refusal_of, layout_refusal_of, record_refusal_of, text_refusal_of, prefix_of_failure, asked_as, none_as}

@@ -1,7 +1,7 @@
 use Rattle.std.proofs.Common.{◌≡◌, ◌++◌, ℕ, List, ap, ◌∙◌, codes, append_assoc}
 use Rattle.std.specs.Fmt.{decimal}
 use Rattle.exec_map.specs.declared.refused.ProgramRule.TheVariants.{Overlap, Unsupported, TooManySegments}
-use Rattle.judged_files.specs.Text.{hex8}
+use Rattle.text_output.specs.Text.{hex8}
 use Rattle.judged_files.specs.Text as model
 use Rattle.judged_files.proofs.refusal.push_rule.Goals as goal
 

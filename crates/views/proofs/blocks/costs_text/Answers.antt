@@ -1,5 +1,5 @@
 use Rattle.std.proofs.Common.{◌∙◌, subst}
-use Rattle.judged_files.specs.Ready.{work_for}
+use Rattle.prepared_run.specs.Ready.{work_for}
 use Rattle.views.specs.Blocks.{IsCostsText}
 use Rattle.views.proofs.Summed.{refused_by, traced_by}
 use Rattle.views.proofs.blocks.costs_text.Goals as goal

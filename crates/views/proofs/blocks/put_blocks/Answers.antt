@@ -5,12 +5,12 @@ use Rattle.dsm_io.specs.Causes.{Appends}
 use Rattle.dsm_io.specs.States.{SinkState}
 use Rattle.elf_symbols.specs.Symbols.{functions_of}
 use Rattle.judged_files.specs.Executables.{IsUnread}
-use Rattle.judged_files.specs.Failures.{IsNever, IsPutFailure, Puts}
+use Rattle.text_output.specs.Failures.{IsNever, IsPutFailure, Puts}
 use Rattle.judged_files.specs.Given.{bytes_of}
-use Rattle.judged_files.specs.Replays.{IsBadReplayLayout, IsReplayRefused}
+use Rattle.prepared_run.specs.Replays.{IsBadReplayLayout, IsReplayRefused}
 use Rattle.judged_files.specs.declared.refusal.Subject.TheVariants.{Executable}
-use Rattle.judged_files.proofs.Pieces.{never, nothing_put, put_fails}
-use Rattle.judged_files.proofs.ReplayLemmas.{replay_refused}
+use Rattle.text_output.proofs.Pieces.{never, nothing_put, put_fails}
+use Rattle.prepared_run.proofs.ReplayLemmas.{replay_refused}
 use Rattle.views.specs.Blocks.{AreCostsOfRun}
 use Rattle.views.specs.Failures.{FailsAsRun, IsTextOfBlocks}
 use Rattle.views.proofs.Runs.{broken_refused, costs_are, costs_unput, refused_run}

@@ -2,7 +2,7 @@ use Rattle.std.proofs.Common.{◌≡◌, ◌++◌, ap, ◌∙◌, subst}
 use Rattle.run_trace.specs.Sums.{counts_by_node}
 use Rattle.block_view.specs.Kept.{layout_in}
 use Rattle.block_view.specs.Text.{IsBlocksText}
-use Rattle.judged_files.specs.Text.{node_lines}
+use Rattle.prepared_run.specs.Text.{node_lines}
 use Rattle.views.proofs.blocks.text_of.Goals as goal
 
 pub returns : goal.returns

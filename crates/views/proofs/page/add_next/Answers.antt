@@ -13,7 +13,7 @@ use Rattle.views.proofs.page.add_next.Goals as goal
 pub returns-then-word-options-clause-next : goal.returns-then-word-options-clause-next
 returns-then-word-options-clause-next c = λ seen traced kept_is.
     let o = c.args.options.now in
-    let t = c.pass.new.self in
+    let t = c.run_until.new.self in
     let p : HasPassedOn Access t seen (Some c.in-Some.word) = c.in-Some.ensures.passed seen traced in (
       kept_is,
       late_word o t seen p.more (passed_of c.in-Some.word) (c.replay_law.ensures.one (record_traced t))
@@ -23,7 +23,7 @@ returns-then-word-options-clause-next c = λ seen traced kept_is.
 pub returns-in-Some-clause-next : goal.returns-in-Some-clause-next
 returns-in-Some-clause-next c = λ seen traced kept_is.
     let o = c.args.options.now in
-    let t = c.pass.new.self in
+    let t = c.run_until.new.self in
     let p : HasPassedOn Access t seen (Some c.in-Some.word) = c.in-Some.ensures.passed seen traced in
     let hidden : shown o p.more ≡ [] = c.shown_law.ensures.none o p.more c.requires.words p.passed in
     word_added o t seen p.more (passed_of c.in-Some.word) c.add_passed_if_shown.new.events p.traced
@@ -32,14 +32,14 @@ returns-in-Some-clause-next c = λ seen traced kept_is.
 pub next_event_to-requires-clause-traced : goal.next_event_to-requires-clause-traced
 next_event_to-requires-clause-traced c =
     let seen = c.requires.traced.0 in
-    let p : HasPassedOn Access c.pass.new.self seen None = c.in_default.ensures.passed seen c.requires.traced.1 in
+    let p : HasPassedOn Access c.run_until.new.self seen None = c.in_default.ensures.passed seen c.requires.traced.1 in
     (seen ++ (p.more ++ []), p.traced)
 
 -- all were made, or the next is later than all that are asked for
 pub returns-in_default-2-clause-next : goal.returns-in_default-2-clause-next
 returns-in_default-2-clause-next c = λ seen traced kept_is.
     let o = c.args.options.now in
-    let t = c.pass.new.self in
+    let t = c.run_until.new.self in
     let u = c.next_event_to.new.tracer in
     let p : HasPassedOn Access t seen None = c.in_default.ensures.passed seen traced in
     let passed : HasTraced t (seen ++ p.more) =
@@ -52,7 +52,7 @@ returns-in_default-2-clause-next c = λ seen traced kept_is.
 pub returns-clause-next : goal.returns-clause-next
 returns-clause-next c = λ seen traced kept_is.
     let o = c.args.options.now in
-    let t = c.pass.new.self in
+    let t = c.run_until.new.self in
     let u = c.next_event_to.new.tracer in
     let x = traced_of c.in-Some-2.event in
     let p : HasPassedOn Access t seen None = c.in_default.ensures.passed seen traced in

@@ -3,13 +3,13 @@ use Rattle.std.proofs.lemmas.Result.{err_from_is_err_and}
 use Rattle.block_layout.specs.Layout.{Shape}
 use Rattle.run_trace.specs.Trace.{IsTraceOf, trace_of}
 use Rattle.judged_files.specs.Executables.{IsUnread}
-use Rattle.judged_files.specs.Failures.{IsNever}
+use Rattle.text_output.specs.Failures.{IsNever}
 use Rattle.judged_files.specs.Given.{bytes_of}
-use Rattle.judged_files.specs.Ready.{work_for}
-use Rattle.judged_files.specs.Replays.{IsBadReplayLayout}
+use Rattle.prepared_run.specs.Ready.{work_for}
+use Rattle.prepared_run.specs.Replays.{IsBadReplayLayout}
 use Rattle.judged_files.specs.declared.refusal.Subject.TheVariants.{Executable}
-use Rattle.judged_files.proofs.Pieces.{never}
-use Rattle.judged_files.proofs.ReplayLemmas.{replay_refused}
+use Rattle.text_output.proofs.Pieces.{never}
+use Rattle.prepared_run.proofs.ReplayLemmas.{replay_refused}
 use Rattle.views.proofs.page.page_of.Goals as goal
 
 pub returns-in_err-elf-clause-failure : goal.returns-in_err-elf-clause-failure

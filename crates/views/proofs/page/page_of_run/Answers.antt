@@ -1,6 +1,6 @@
 use Rattle.std.proofs.Common.{◌≡◌, None, ◌++◌, ap, ◌∙◌}
 use Rattle.block_view.specs.event_text.Shown.{shown}
-use Rattle.judged_files.specs.Ready.{work_for}
+use Rattle.prepared_run.specs.Ready.{work_for}
 use Rattle.page_view.specs.Page.{page_text, text_of}
 use Rattle.views.proofs.Lines.{tells_by, whole_by}
 use Rattle.views.proofs.page.page_of_run.Goals as goal

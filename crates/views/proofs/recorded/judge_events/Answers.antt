@@ -1,6 +1,6 @@
 use Rattle.views.proofs.Summed.{IsRefusedAt}
 use Rattle.std.proofs.Common.{subst}
-use Rattle.judged_files.specs.Ready.{work_for}
+use Rattle.prepared_run.specs.Ready.{work_for}
 use Rattle.views.proofs.recorded.judge_events.Goals as goal
 
 pub returns-in-Err-clause-refused : goal.returns-in-Err-clause-refused

@@ -5,13 +5,14 @@ use Rattle.command_line.specs.Views.{Help, Code, Trace, Blocks, meaning_of_view,
 use Rattle.dsm_io.specs.Causes.{Appends}
 use Rattle.dsm_io.specs.States.{SinkState, FilesState}
 use Rattle.judged_files.specs.Code.{Planned, IsUnrewritten}
-use Rattle.judged_files.specs.Failures.{FailsAs, IsContent, IsNever, IsPutFailure, Puts}
+use Rattle.text_output.specs.Failures.{FailsAs, IsNever, IsPutFailure, Puts}
+use Rattle.judged_files.specs.Failures.{IsContent}
 use Rattle.judged_files.specs.Given.{bytes_of, contents_of}
 use Rattle.views.specs.Failures.{AreRecorded, FailsAsRun, IsFailure, IsSuccess, IsTextOfBlocks, IsTextOfCode, IsTextOfTrace, AreKept, IsPageFailure, IsPageWritten}
 use Rattle.views.specs.declared.trace.Selection.{Selection}
 use Rattle.views.proofs.Runs.{blocks_of_run, not_long, run_fails, run_succeeds, trace_of_run, unread_fails, unread_no_refusal}
 use Rattle.views.specs.Headline.{usage, AreTold, AreWritten}
-use Rattle.views.proofs.Viewed.{code_fails, err_as, help_fails, help_succeeds, on_ok_as}
+use Rattle.views.proofs.Viewed.{code_fails, code_succeeds, err_as, help_fails, help_succeeds, on_ok_as}
 use Rattle.views.specs.Answers.{AreLeft}
 use Rattle.views.proofs.Written.{asked_for, err_all, nothing_left, nothing_written, ok_all, page_fails, page_kept, page_left, page_longer, page_succeeds, page_written}
 use Rattle.views.proofs.top.answer.Goals as goal
@@ -39,6 +40,21 @@ returns-in-Help-clause-failure g c =
     rw c.in-Help.is
     (err_as (IsPutFailure before now text) (IsFailure Help files files before now) c.put.result
     (λ f h. help_fails files files before now text f is h) c.put.ensures.failure)
+
+pub returns-in_ok-bytes-in-Code-clause-ok : goal.returns-in_ok-bytes-in-Code-clause-ok
+returns-in_ok-bytes-in-Code-clause-ok g c =
+    let files : FilesState = g.F.Files.state c.args.files.now in
+    let before : SinkState = g.O.Sink.state c.args.out.now in
+    let now : SinkState = g.O.Sink.state c.put_code.new.out in
+    let file = c.in-Code.file.now in
+    let no_batch = c.in-Code.no_batch in
+    let bytes = c.deref.result.now in
+    let content : IsContent (files.held file) bytes =
+    subst (IsContent (files.held file)) (sym c.deref.ensures.value) c.in_ok-bytes-in-Code.ensures.ok in
+    rw c.in-Code.is
+    (on_ok_as (Puts (IsTextOfCode (not no_batch) bytes) 0 before now)
+    (IsSuccess (Code file no_batch) files before now) c.put_code.result
+    (code_succeeds file no_batch files before now bytes content) c.put_code.ensures.ok)
 
 pub returns-in_ok-bytes-in-Code-clause-failure : goal.returns-in_ok-bytes-in-Code-clause-failure
 returns-in_ok-bytes-in-Code-clause-failure g c =

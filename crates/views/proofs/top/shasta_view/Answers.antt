@@ -2,8 +2,8 @@ use Rattle.std.proofs.Common.{◌≡◌, ◌⊎◌, ℕ, List, sym, ◌∙◌, s
 use Rattle.std.specs.Prelude.{Contains}
 use Rattle.command_line.specs.Views.{meaning_of_view, reads}
 use Rattle.dsm_io.specs.States.{SinkState, FilesState}
-use Rattle.judged_files.specs.Answers.{Tells}
-use Rattle.judged_files.specs.Failures.{line_of}
+use Rattle.text_output.specs.Answers.{Tells}
+use Rattle.text_output.specs.Failures.{line_of}
 use Rattle.views.specs.Answers.{AreLeft, IsRefusalStatus}
 use Rattle.views.specs.Failures.{IsFailure, IsSuccess}
 use Rattle.views.specs.Headline.{AreTold, AreWritten, usage}

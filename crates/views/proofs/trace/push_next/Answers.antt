@@ -11,7 +11,7 @@ use Rattle.views.proofs.trace.push_next.Goals as goal
 pub returns-then-word-options-clause-next : goal.returns-then-word-options-clause-next
 returns-then-word-options-clause-next c = λ seen traced.
     let o = c.args.options.now in
-    let t = c.pass.new.self in
+    let t = c.run_until.new.self in
     let p : HasPassedOn Access t seen (Some c.in-Some.word) = c.in-Some.ensures.passed seen traced in (
       refl,
       late_word o t seen p.more (passed_of c.in-Some.word) (c.replay_law.ensures.one (record_traced t))
@@ -21,7 +21,7 @@ returns-then-word-options-clause-next c = λ seen traced.
 pub returns-in-Some-clause-next : goal.returns-in-Some-clause-next
 returns-in-Some-clause-next c = λ seen traced.
     let o = c.args.options.now in
-    let t = c.pass.new.self in
+    let t = c.run_until.new.self in
     let p : HasPassedOn Access t seen (Some c.in-Some.word) = c.in-Some.ensures.passed seen traced in
     word_pushed c.args.program.now o t seen p.more (passed_of c.in-Some.word) c.args.lines.now.items
     c.push_passed_if_shown.new.lines.items (c.shown_law.ensures.none o p.more c.requires.words p.passed) p.traced
@@ -30,14 +30,14 @@ returns-in-Some-clause-next c = λ seen traced.
 pub next_event_to-requires-clause-traced : goal.next_event_to-requires-clause-traced
 next_event_to-requires-clause-traced c =
     let seen = c.requires.traced.0 in
-    let p : HasPassedOn Access c.pass.new.self seen None = c.in_default.ensures.passed seen c.requires.traced.1 in
+    let p : HasPassedOn Access c.run_until.new.self seen None = c.in_default.ensures.passed seen c.requires.traced.1 in
     (seen ++ (p.more ++ []), p.traced)
 
 -- all were made, or the next is later than all that are asked for
 pub returns-in_default-2-clause-next : goal.returns-in_default-2-clause-next
 returns-in_default-2-clause-next c = λ seen traced.
     let o = c.args.options.now in
-    let t = c.pass.new.self in
+    let t = c.run_until.new.self in
     let u = c.next_event_to.new.tracer in
     let p : HasPassedOn Access t seen None = c.in_default.ensures.passed seen traced in
     let passed : HasTraced t (seen ++ p.more) =
@@ -50,7 +50,7 @@ returns-in_default-2-clause-next c = λ seen traced.
 pub returns-clause-next : goal.returns-clause-next
 returns-clause-next c = λ seen traced.
     let o = c.args.options.now in
-    let t = c.pass.new.self in
+    let t = c.run_until.new.self in
     let u = c.next_event_to.new.tracer in
     let x = traced_of c.in-Some-2.event in
     let p : HasPassedOn Access t seen None = c.in_default.ensures.passed seen traced in

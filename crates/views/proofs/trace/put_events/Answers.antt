@@ -3,8 +3,8 @@ use Rattle.std.proofs.lemmas.Result.{err_from_is_err_and}
 use Rattle.dsm_io.specs.Causes.{Appends}
 use Rattle.dsm_io.specs.States.{SinkState}
 use Rattle.block_view.specs.event_text.Shown.{head}
-use Rattle.judged_files.specs.Failures.{IsPutFailure}
-use Rattle.judged_files.proofs.Pieces.{nothing_put}
+use Rattle.text_output.specs.Failures.{IsPutFailure}
+use Rattle.text_output.proofs.Pieces.{nothing_put}
 use Rattle.run_trace.specs.Tracing.{record_traced, work_traced}
 use Rattle.views.specs.Trace.{HasPushedMore, HasPushedOn}
 use Rattle.views.proofs.Lines.{IsUnderWay, events_gathered, lines_fail, lines_put, lines_stop, same_self, tells_by, whole_put}

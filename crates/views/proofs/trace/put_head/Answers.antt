@@ -2,8 +2,8 @@ use Rattle.std.proofs.Common.{[], ◌++◌, append-nil, ap, refl, subst, sym, �
 use Rattle.dsm_io.specs.Causes.{Appends}
 use Rattle.dsm_io.specs.States.{SinkState}
 use Rattle.block_view.specs.event_text.Shown.{head}
-use Rattle.judged_files.specs.Failures.{FailsAs, IsLike, IsNever, IsPutFailure}
-use Rattle.judged_files.proofs.Pieces.{nothing_put, put_fails}
+use Rattle.text_output.specs.Failures.{FailsAs, IsLike, IsNever, IsPutFailure}
+use Rattle.text_output.proofs.Pieces.{nothing_put, put_fails}
 use Rattle.views.proofs.Viewed.{err_as}
 use Rattle.views.proofs.trace.put_head.Goals as goal
 

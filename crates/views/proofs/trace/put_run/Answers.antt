@@ -1,5 +1,5 @@
 use Rattle.std.proofs.Common.{◌∙◌}
-use Rattle.judged_files.specs.Ready.{work_for}
+use Rattle.prepared_run.specs.Ready.{work_for}
 use Rattle.views.proofs.Lines.{tells_by, whole_by}
 use Rattle.views.proofs.trace.put_run.Goals as goal
 

@@ -3,16 +3,16 @@ use Rattle.std.specs.Prelude.{false, IfErr, IfSome, OnOk}
 use Rattle.std.specs.Option.{option_map_or}
 use Rattle.dsm_io.specs.Causes.{Appends}
 use Rattle.dsm_io.specs.States.{SinkState}
-use Rattle.block_view.specs.event_text.declared.shown.Options.{Options}
+use Rattle.block_view.specs.event_text.declared.shown.EventFilter.{EventFilter}
 use Rattle.block_view.specs.event_text.Shown.{head, trace_text}
-use Rattle.judged_files.specs.Failures.{FailsAs, IsLike, IsNever}
+use Rattle.text_output.specs.Failures.{FailsAs, IsLike, IsNever}
 use Rattle.views.specs.Trace.{selected_text}
 use Rattle.views.proofs.Passed.{no_words}
 use Rattle.views.proofs.trace.put_selected.Goals as goal
 
 pub put_run-requires-clause-words : goal.put_run-requires-clause-words
 put_run-requires-clause-words g c =
-    subst (λ o. IfSome o (λ (x : Options). x.words ≡ false)) (sym c.options.ensures ∙ c.in-Some.is)
+    subst (λ o. IfSome o (λ (x : EventFilter). x.words ≡ false)) (sym c.options.ensures ∙ c.in-Some.is)
     (no_words c.args.run.now.prepared.layout c.args.selection c.args.selection.address)
 
 pub returns-in-Some-clause-ok : goal.returns-in-Some-clause-ok

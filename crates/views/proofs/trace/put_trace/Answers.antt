@@ -5,13 +5,13 @@ use Rattle.dsm_io.specs.Causes.{Appends}
 use Rattle.dsm_io.specs.States.{SinkState}
 use Rattle.run_trace.specs.Trace.{IsTraceOf, trace_of}
 use Rattle.judged_files.specs.Executables.{IsUnread}
-use Rattle.judged_files.specs.Failures.{FailsAs, IsLike, IsNever, Puts}
+use Rattle.text_output.specs.Failures.{FailsAs, IsLike, IsNever, Puts}
 use Rattle.judged_files.specs.Given.{bytes_of}
-use Rattle.judged_files.specs.Ready.{work_for}
-use Rattle.judged_files.specs.Replays.{IsBadReplayLayout}
+use Rattle.prepared_run.specs.Ready.{work_for}
+use Rattle.prepared_run.specs.Replays.{IsBadReplayLayout}
 use Rattle.judged_files.specs.declared.refusal.Subject.TheVariants.{Executable}
-use Rattle.judged_files.proofs.Pieces.{never}
-use Rattle.judged_files.proofs.ReplayLemmas.{replay_refused}
+use Rattle.text_output.proofs.Pieces.{never}
+use Rattle.prepared_run.proofs.ReplayLemmas.{replay_refused}
 use Rattle.views.specs.Failures.{FailsAsRun, IsTextOfTrace}
 use Rattle.views.specs.Trace.{selected_text}
 use Rattle.views.proofs.Runs.{refused_run, text_of_trace, unput_run}

@@ -3,13 +3,14 @@ use Rattle.std.proofs.lemmas.Result.{err_from_is_err_and}
 use Rattle.replay.specs.run_record.Record.{NamesOtherCode}
 use Rattle.judged_files.specs.Code.{choice_of, IsRewritingOf, IsUnchosen}
 use Rattle.judged_files.specs.Executables.{IsProgramOf, IsRejection}
-use Rattle.judged_files.specs.Failures.{IsNever, IsRecordRefusal}
+use Rattle.text_output.specs.Failures.{IsNever, IsRecordRefusal}
 use Rattle.judged_files.specs.Given.{bytes_of}
-use Rattle.judged_files.specs.Replays.{AreFaultyBlocks, IsBadReplayLayout, IsFaultyText, IsOtherCode, IsReplayRefused}
-use Rattle.judged_files.proofs.Pieces.{never}
-use Rattle.judged_files.proofs.ReplayLemmas.{asked_for, ready_for, replay_refused, text_refused}
-use Rattle.judged_files.proofs.RunLemmas.{AreReady, HaveLaws, are_ready, laid_over_blocks, runs_rewritten}
-use Rattle.judged_files.proofs.prepare.prepare_replay.Goals as goal
+use Rattle.judged_files.specs.Records.{AreFaultyBlocks, IsFaultyText, IsOtherCode}
+use Rattle.prepared_run.specs.Replays.{IsBadReplayLayout, IsReplayRefused}
+use Rattle.text_output.proofs.Pieces.{never}
+use Rattle.prepared_run.proofs.ReplayLemmas.{asked_for, ready_for, replay_refused, text_refused}
+use Rattle.prepared_run.proofs.RunLemmas.{AreReady, HaveLaws, are_ready, laid_over_blocks, runs_rewritten}
+use Rattle.prepared_run.proofs.ready.prepare_replay.Goals as goal
 
 pub returns-in_err-program-clause-refused : goal.returns-in_err-program-clause-refused
 returns-in_err-program-clause-refused c =

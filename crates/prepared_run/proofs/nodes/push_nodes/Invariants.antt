@@ -1,6 +1,6 @@
 use Rattle.std.proofs.Common.{◌≡◌, ◌++◌, drop}
-use Rattle.judged_files.specs.Text.{node_lines}
-use Rattle.judged_files.proofs.text.push_nodes.Given as goal
+use Rattle.prepared_run.specs.Text.{node_lines}
+use Rattle.prepared_run.proofs.nodes.push_nodes.Given as goal
 
 -- the lines that are to come, behind those that there are, make the whole
 abbrev pub invariant-loop-node : goal.invariant-loop-node

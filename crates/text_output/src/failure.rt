@@ -1,7 +1,7 @@
 //! Why a command didn't do its work: the status, and the line that is told.
 
 ghost use Rattle.std.specs.Prelude.{◌≡◌};
-ghost use Rattle.judged_files.specs.Failures.{line_of, status_of};
+ghost use Rattle.text_output.specs.Failures.{line_of, status_of};
 
 use std::alloc::AllocError;
 
@@ -27,7 +27,7 @@ pub enum Failure {
 
 impl From<AllocError> for Failure {
     ghost use Rattle.std.specs.Prelude.{◌≡◌};
-    ghost use Rattle.judged_files.specs.declared.failure.Failure.TheVariants.{OutOfMemory};
+    ghost use Rattle.text_output.specs.declared.failure.Failure.TheVariants.{OutOfMemory};
 
     ghost from_gives = { λ _ f. f ≡ OutOfMemory };
 

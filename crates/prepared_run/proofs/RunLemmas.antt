@@ -23,11 +23,11 @@ use Rattle.replay.specs.rewriting_law.Interleaving.{Interleaves, IsCoherent, ori
 use Rattle.replay.specs.dsm_core.CoreParts.{work_with}
 use Rattle.judged_files.specs.Code.{Choice, choice_of, IsChosen, IsFileOf, IsRewritingOf}
 use Rattle.judged_files.specs.Executables.{IsProgramOf}
-use Rattle.judged_files.specs.Ready.{GivesCode, GivesRuns, IsAskedWork}
+use Rattle.prepared_run.specs.Ready.{GivesCode, GivesRuns, IsAskedWork}
 use Rattle.judged_files.specs.Inputs.{Inputs}
 use Rattle.judged_files.specs.Layouts.{IsLayoutBy, IsLayoutFor}
-use Rattle.judged_files.specs.WholeRuns.{HasMail}
-use Rattle.judged_files.specs.Replays.{IsLayoutOfBlocks}
+use Rattle.prepared_run.specs.WholeRuns.{HasMail}
+use Rattle.judged_files.specs.Records.{IsLayoutOfBlocks}
 
 -- ---- the layout
 

@@ -1,67 +1,27 @@
 -- The run of a record, made once more, and how a record is refused.
 use Rattle.std.specs.Prelude.{◌≡◌, ℕ, ◌⊎◌, List, map, length}
 use Rattle.elf32_read.specs.Elf.{Elf}
-use Rattle.exec_map.specs.Contents.{program_of, AreSharedRanges}
-use Rattle.block_layout.specs.declared.ranges.Lines.{Lines}
-use Rattle.block_layout.specs.declared.refused.Rule.{Rule}
-use Rattle.block_layout.specs.Layout.{Shape, IsValid}
-use Rattle.block_layout.specs.Text.{IsFirstBroken}
+use Rattle.exec_map.specs.Contents.{program_of}
+use Rattle.block_layout.specs.Layout.{IsValid}
 use Rattle.templates.specs.declared.plans.PlanEntry.{PlanEntry}
 use Rattle.rewrite_verify.specs.jump_map.Image.{Cell}
 use Rattle.replay.specs.node_model.Node.{Work}
 use Rattle.replay.specs.node_model.Outcome.{Outcome}
 use Rattle.replay.specs.run_record.declared.Record.{Record}
-use Rattle.replay.specs.run_record.declared.refused.RecordRule.{RecordRule}
-use Rattle.replay.specs.run_record.declared.refused.RecordRule.TheVariants as rules
-use Rattle.replay.specs.run_record.Record.{IsRecord, NamesOtherCode}
-use Rattle.replay.specs.run_record.Rules.{IsFirstFault}
-use Rattle.replay.specs.run_record.Telling.{IsOfWords}
-use Rattle.replay.specs.run_record.Text.{record_text}
+use Rattle.replay.specs.run_record.Record.{NamesOtherCode}
 use Rattle.replay.specs.declared.refused.ReplayRule.{ReplayRule}
 use Rattle.replay.specs.Refusals as events
 use Rattle.replay.specs.Replay.{TellsWholeRun}
 use Rattle.replay.specs.Told.{Told, what_told}
+use Rattle.text_output.specs.declared.failure.Failure.{Failure}
+use Rattle.text_output.specs.declared.failure.Failure.TheVariants as failure
+use Rattle.text_output.specs.Failures.{IsRefusal}
 use Rattle.judged_files.specs.Code.{choice_of, IsRewritingOf, IsUnchosen}
 use Rattle.judged_files.specs.Executables.{IsProgramOf, IsUnaccepted}
 use Rattle.judged_files.specs.Inputs.{Inputs}
-use Rattle.judged_files.specs.WholeRuns.{IsRunOfCode}
-use Rattle.judged_files.specs.Text.{layout_line, record_line, event_line}
-
--- the text is that of the record
-pub record IsTextOf (kept : Record) (text : List ℕ) : Type 0 where
-  pub text_is : text ≡ record_text kept
-  pub is_record : IsRecord kept
-  pub of_words : IsOfWords kept
-
--- the text is that of no record: the line says which of its lines breaks a rule first, and which
--- rule is the lowest
-pub record IsFaultyText (text line : List ℕ) : Type 0 where
-  pub rule : RecordRule
-  pub number : ℕ
-  pub fault : IsFirstFault text rule number
-  pub line_is : line ≡ record_line rule number
-
--- the layout is that of the record's blocks over the executable's shared lines
-pub record IsLayoutOfBlocks (elf : Elf) (kept : Record) (layout : Shape) : Type 0 where
-  pub shared : List Lines
-  pub lines : AreSharedRanges elf shared
-  pub layout_is : layout ≡ record { shared = shared; named = kept.blocks; nodes = kept.nodes }
-
--- one of the record's blocks breaks a rule of layouts of the executable's shared lines: the line
--- says which block first, and which rule is the lowest
-pub record AreFaultyBlocks (elf : Elf) (kept : Record) (line : List ℕ) : Type 0 where
-  pub shared : List Lines
-  pub lines : AreSharedRanges elf shared
-  pub rule : Rule
-  pub number : ℕ
-  pub broken : IsFirstBroken kept.blocks shared kept.nodes rule number
-  pub line_is : line ≡ layout_line rule number
-
--- the record names another number of rewritten words than this: the line says so, of the fifth line
--- of the record's text
-pub record IsOtherCode (kept : Record) (words : ℕ) (line : List ℕ) : Type 0 where
-  pub other : NamesOtherCode kept words
-  pub line_is : line ≡ record_line rules.Code 5
+use Rattle.judged_files.specs.Records.{AreFaultyBlocks, IsFaultyText, IsLayoutOfBlocks, IsOtherCode, IsTextOf}
+use Rattle.prepared_run.specs.WholeRuns.{IsRunOfCode}
+use Rattle.prepared_run.specs.Text.{event_line}
 
 -- What a record asks to be run: the rewriting of the executable's program, by the program's plan
 -- or, where one is given, that of a verified file, of as many words as the record names, on the
@@ -156,3 +116,9 @@ pub record IsBrokenRecord (inputs : Inputs) (line : List ℕ) : Type 0 where
 abbrev pub IsBadRecord : Inputs → List ℕ → Type 0
 IsBadRecord inputs line =
     IsNoRecord inputs line ⊎ (IsNoRecordOfCode inputs line ⊎ IsBrokenRecord inputs line)
+
+-- what a record asks to be run is refused, or the record is
+abbrev pub IsReplayRefusal : Inputs → Failure → Type 0
+IsReplayRefusal inputs (failure.Record line) = IsBadRecord inputs line.items
+IsReplayRefusal inputs f =
+    IsRefusal (IsReplayRefused inputs) (IsBadReplayLayout inputs) f

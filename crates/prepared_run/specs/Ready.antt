@@ -9,11 +9,11 @@ use Rattle.replay.specs.node_model.Outcome.{Outcome, IsOutcomeOf}
 use Rattle.replay.specs.run_order.OwnRun.{Stamped, StandsForOwnRun, run_of}
 use Rattle.replay.specs.run_record.declared.Record.{Record as Kept}
 use Rattle.replay.specs.dsm_core.CoreParts.{work_with}
-use Rattle.judged_files.specs.declared.prepare.Prepared.{Prepared}
-use Rattle.judged_files.specs.WholeRuns.{IsRunOfCode, IsRunOf}
+use Rattle.prepared_run.specs.declared.ready.Prepared.{Prepared}
+use Rattle.prepared_run.specs.WholeRuns.{IsRunOfCode, IsRunOf}
 use Rattle.rewrite_verify.specs.rewriter.RewrittenFile.{rewritten_elf}
 use Rattle.judged_files.specs.Code.{Choice, IsFileOf, IsRewritingOf, choice_of}
-use Rattle.judged_files.specs.Replays.{IsWorkOf}
+use Rattle.prepared_run.specs.Replays.{IsWorkOf}
 use Rattle.judged_files.specs.Inputs.{Inputs}
 use Rattle.judged_files.specs.Layouts.{IsLayoutFor}
 

@@ -3,10 +3,10 @@ use Rattle.std.proofs.Common.{◌≡◌, ℕ, List, [], ◌++◌, length, take, 
 use Rattle.std.proofs.Math.Seq.{take-append_seam}
 use Rattle.std.proofs.lemmas.List.{take-append-drop}
 use Rattle.dsm_io.specs.Causes.{Rose, Appends, AppendsPrefix}
-use Rattle.judged_files.specs.declared.failure.Failure.{Failure}
-use Rattle.judged_files.specs.declared.failure.Failure.TheVariants.{Input, NotWritten, Refused, Layout, Record, Text, Output, OutOfMemory}
+use Rattle.text_output.specs.declared.failure.Failure.{Failure}
+use Rattle.text_output.specs.declared.failure.Failure.TheVariants.{Input, NotWritten, Refused, Layout, Record, Text, Output, OutOfMemory}
 use Rattle.dsm_io.specs.States.{SinkState}
-use Rattle.judged_files.specs.Failures.{IsPutFailure, IsRefusal, FailsAs, IsNever}
+use Rattle.text_output.specs.Failures.{IsPutFailure, IsRefusal, FailsAs, IsNever}
 
 pub joins : (before middle now : Option (List ℕ)) (p q : List ℕ) → Appends before middle p
     → Appends middle now q → Appends before now (p ++ q)

@@ -3,12 +3,12 @@ use Rattle.std.proofs.lemmas.Result.{err_from_is_err_and}
 use Rattle.rewrite_verify.specs.rewriter.RewrittenFile.{rewritten_elf}
 use Rattle.judged_files.specs.Code.{choice_of, IsRewritingOf, IsFileOf, IsOtherFile, IsUnchosen}
 use Rattle.judged_files.specs.Executables.{IsProgramOf, IsRejection}
-use Rattle.judged_files.specs.Failures.{IsNever}
+use Rattle.text_output.specs.Failures.{IsNever}
 use Rattle.judged_files.specs.Given.{bytes_of}
 use Rattle.judged_files.specs.Refusals.{IsRunRefused, IsBadRunLayout, IsFaultyLayout}
-use Rattle.judged_files.proofs.Pieces.{never, refused_too}
-use Rattle.judged_files.proofs.RunLemmas.{AreReady, HaveLaws, are_ready, asked_work, gives_code, gives_runs, laid_over, runs_rewritten}
-use Rattle.judged_files.proofs.prepare.prepare.Goals as goal
+use Rattle.text_output.proofs.Pieces.{never, refused_too}
+use Rattle.prepared_run.proofs.RunLemmas.{AreReady, HaveLaws, are_ready, asked_work, gives_code, gives_runs, laid_over, runs_rewritten}
+use Rattle.prepared_run.proofs.ready.prepare.Goals as goal
 
 pub returns-in_err-program-clause-refused : goal.returns-in_err-program-clause-refused
 returns-in_err-program-clause-refused c =

@@ -2,10 +2,10 @@
 
 ghost use Rattle.std.specs.Prelude.{◌≡◌, ◌≢◌, ℕ, List, IfErr, IfOk, IfSome, OnOk};
 ghost use Rattle.dsm_io.specs.Causes.{Appends};
-ghost use Rattle.judged_files.specs.Failures.{IsPutFailure, IsWriteFailure};
-ghost use Rattle.judged_files.specs.Text as model;
-ghost use Rattle.judged_files.specs.Answers.{Tells};
-ghost use Rattle.judged_files.specs.Text.{out_of_memory};
+ghost use Rattle.text_output.specs.Failures.{IsPutFailure, IsWriteFailure};
+ghost use Rattle.text_output.specs.Text as model;
+ghost use Rattle.text_output.specs.Answers.{Tells};
+ghost use Rattle.text_output.specs.Text.{out_of_memory};
 
 use crate::failure::Failure;
 use dsm_io::{FileError, Files, Sink, SinkError};

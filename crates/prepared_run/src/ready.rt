@@ -4,26 +4,26 @@ ghost use Rattle.std.specs.Prelude.{◌≡◌, IfOk, IfErr};
 ghost use Rattle.replay.specs.rewriting_law.Bounds.{RunsRewritten};
 ghost use Rattle.replay.specs.dsm_core.CoreParts.{work_in};
 ghost use Rattle.judged_files.specs.Executables.{ReadsAs};
-ghost use Rattle.judged_files.specs.Ready.{IsAskedWork, IsReadyFor, GivesRuns, work_for};
-ghost use Rattle.judged_files.specs.Failures.{IsRefusal, IsReplayRefusal};
+ghost use Rattle.prepared_run.specs.Ready.{IsAskedWork, IsReadyFor, GivesRuns, work_for};
+ghost use Rattle.text_output.specs.Failures.{IsRefusal};
+ghost use Rattle.prepared_run.specs.Replays.{IsReplayRefusal, IsWorkOf};
 ghost use Rattle.judged_files.specs.Given.{bytes_of};
-ghost use Rattle.judged_files.specs.Replays.{IsWorkOf};
 ghost use Rattle.judged_files.specs.Refusals.{IsRunRefused, IsBadRunLayout};
 
-use crate::code::{judge_code, rewriting_of};
-use crate::failure::Failure;
-use crate::input::{Inputs, program_of};
-use crate::layout::{layout_for, layout_of_blocks};
-use crate::record::{judge_words, record_in};
 use block_layout::Layout;
 use elf32_read::Elf;
 use exec_map::Program;
+use judged_files::code::{judge_code, rewriting_of};
+use judged_files::input::{Inputs, program_of};
+use judged_files::layout::{layout_for, layout_of_blocks};
+use judged_files::record::{judge_words, record_in};
 use replay::dsm_core::Work;
 use replay::rewriting_law::{bounds_law, interleaving_law, progress_law};
 use replay::run_record::Record;
 use rewrite_verify::rewriter::Rewritten;
 use run_limits::{Budget, NodeCount};
 use std::alloc::Global;
+use text_output::Failure;
 
 /// The parts of a run.
 #[derive(Drop)]

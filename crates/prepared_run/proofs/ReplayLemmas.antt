@@ -7,14 +7,15 @@ use Rattle.rewrite_verify.specs.jump_map.Image.{Cell}
 use Rattle.replay.specs.run_record.declared.Record.{Record as Kept}
 use Rattle.replay.specs.run_record.Record.{NamesOtherCode}
 use Rattle.replay.specs.dsm_core.CoreParts.{work_with}
-use Rattle.judged_files.specs.declared.failure.Failure.{Failure}
-use Rattle.judged_files.specs.declared.failure.Failure.TheVariants.{Input, NotWritten, Refused, Layout, Record, Text, Output, OutOfMemory}
-use Rattle.judged_files.specs.Failures.{IsRecordRefusal, IsRefusal, IsReplayRefusal}
-use Rattle.judged_files.specs.Ready.{IsReadyFor}
+use Rattle.text_output.specs.declared.failure.Failure.{Failure}
+use Rattle.text_output.specs.declared.failure.Failure.TheVariants.{Input, NotWritten, Refused, Layout, Record, Text, Output, OutOfMemory}
+use Rattle.text_output.specs.Failures.{IsRecordRefusal, IsRefusal}
+use Rattle.prepared_run.specs.Replays.{IsReplayRefusal, IsBadRecord, IsBadReplayLayout, IsReplayRefused, IsWorkOf}
+use Rattle.prepared_run.specs.Ready.{IsReadyFor}
 use Rattle.judged_files.specs.Code.{choice_of}
 use Rattle.judged_files.specs.Inputs.{Inputs}
-use Rattle.judged_files.specs.Replays.{IsBadRecord, IsBadReplayLayout, IsLayoutOfBlocks, IsReplayRefused, IsTextOf, IsWorkOf}
-use Rattle.judged_files.proofs.RunLemmas.{AreReady, HaveLaws, gives_code}
+use Rattle.judged_files.specs.Records.{IsLayoutOfBlocks, IsTextOf}
+use Rattle.prepared_run.proofs.RunLemmas.{AreReady, HaveLaws, gives_code}
 
 -- ---- refusals before the run
 

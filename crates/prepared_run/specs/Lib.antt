@@ -1,0 +1,4 @@
+pub mod Text
+pub mod WholeRuns
+pub mod Replays
+pub mod Ready
