@@ -1,8 +1,8 @@
 //! Executables of assembly texts.
 
-use command_calls::calls::{Answer, call, executable, sure, text_of, try_held};
-use command_calls::watch::Watch;
 use std::test::Fail;
+use test_calls::calls::{Expected, call, executable, sure, text_of, try_held};
+use test_calls::watch::Watch;
 
 /// The program that writes its three bytes of data, as a text.
 const HI_TEXT: &str = ".segment rx 0x10000
@@ -57,7 +57,7 @@ fn refuses_assembly_texts(rt: HostRuntime) -> Result<(), Fail> {
     let alloc = rt.alloc();
     for (text, why) in REFUSED {
         let err = text_of(alloc, &["shasta: text refused ", why, "\n"])?;
-        let answer = Answer {
+        let answer = Expected {
             status: 8,
             out: &[],
             err: &err,

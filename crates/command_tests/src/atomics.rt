@@ -1,8 +1,8 @@
 //! LR, SC and the AMOs on one memory and rewritten, and processors that share a counter.
 
-use command_calls::calls::{NODE, text_of};
-use command_calls::cases::{Case, Input, try_case, try_program};
 use std::test::Fail;
+use test_calls::calls::{NODE, text_of};
+use test_calls::cases::{Case, Input, try_case, try_program};
 
 /// Programs whose data's memory has 64 bytes of zeros, and how each ends.
 const RESERVATIONS: [(&str, &str); 15] = [

@@ -1,8 +1,8 @@
 //! Runs of accesses behind one check, and the same programs without batches.
 
-use command_calls::calls::NODE;
-use command_calls::cases::{Case, Input, try_case};
 use std::test::Fail;
+use test_calls::calls::NODE;
+use test_calls::cases::{Case, Input, try_case};
 
 /// A jump into the middle of a run of two.
 const JUMPS_INTO: &str = "lui x5, 0x20

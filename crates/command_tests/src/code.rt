@@ -1,18 +1,18 @@
 //! Files of rewritten code: what `rewrite` writes, runs by them, and why one is refused.
 
-use command_calls::calls::{Answer, NODE, executable, rewritten, try_held};
-use command_calls::cases::{Case, Input, try_case};
-use command_calls::samples::HI;
 use std::sync::Wait;
 use std::test::Fail;
 use std::thread::Threads;
+use test_calls::calls::{Expected, NODE, executable, rewritten, try_held};
+use test_calls::cases::{Case, Input, try_case};
+use test_calls::samples::HI;
 
 /// The rewritten file stands above the addresses that a program may have, so it is no input.
 #[test]
 fn writes_an_executable(rt: HostRuntime) -> Result<(), Fail> {
     let file = executable(rt.alloc(), "ebreak", b"", 64)?;
     let code = rewritten(&rt, &file)?;
-    let answer = Answer {
+    let answer = Expected {
         status: 4,
         out: &[],
         err: "shasta: executable refused 12 TooHigh segment 2\n",
@@ -27,7 +27,7 @@ fn try_code(
     file: &[u8],
     code: &[u8],
     text: &str,
-    answer: &Answer<'_>,
+    answer: &Expected<'_>,
 ) -> Result<(), Fail> {
     let held = [("IN", file), ("OUT", code), ("L", text.as_bytes())];
     let calls = [
@@ -77,7 +77,7 @@ fn tells_why_a_file_of_code_is_refused(rt: HostRuntime) -> Result<(), Fail> {
         if let Some(byte) = changed.get_mut(place) {
             *byte ^= bits;
         }
-        let answer = Answer {
+        let answer = Expected {
             status: 4,
             out: &[],
             err,
@@ -128,7 +128,7 @@ fn judges_what_it_reads_in_order(rt: HostRuntime) -> Result<(), Fail> {
         ),
         (&file, &code, "", 0, [out, NODE], ""),
     ] {
-        let answer = Answer {
+        let answer = Expected {
             status,
             out: &out,
             err,

@@ -1,10 +1,10 @@
 //! A direct jump past more rewritten words than a JAL reaches.
 
-use command_calls::calls::{Answer, NODE, call, rewritten, sure, text_of, try_held};
-use command_calls::watch::Watch;
 use std::sync::Wait;
 use std::test::Fail;
 use std::thread::Threads;
+use test_calls::calls::{Expected, NODE, call, rewritten, sure, text_of, try_held};
+use test_calls::watch::Watch;
 
 /// The executable of a jump past 100,000 loads, to which nothing leads.
 fn far_program(rt: &(impl Threads + Wait + Sync + AllocGlobal)) -> Result<Vec<u8>, Fail> {
@@ -29,7 +29,7 @@ const BYTES: [(usize, [u8; 4]); 3] = [
 #[test]
 fn jumps_far(rt: HostRuntime) -> Result<(), Fail> {
     let file = far_program(&rt)?;
-    let answer = Answer {
+    let answer = Expected {
         status: 0,
         out: &["output 0\n\nprocessor 0 exit 0\n", NODE],
         err: "",

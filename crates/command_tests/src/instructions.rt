@@ -2,8 +2,8 @@
 //! memory and rewritten. Above each stands its assembly without the last two instructions, which
 //! are `addi x17, x0, 93; ecall`; a branch's target is a distance.
 
-use command_calls::cases::try_program;
 use std::test::Fail;
+use test_calls::cases::try_program;
 
 #[test]
 fn executes_each_instruction(rt: HostRuntime) -> Result<(), Fail> {

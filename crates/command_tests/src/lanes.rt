@@ -1,11 +1,11 @@
 //! `sim` on nodes of several processors: what is printed under each order.
 
 use crate::threads::{COUNTED, COUNTS};
-use command_calls::calls::{Answer, NODE, call, executable, sure};
-use command_calls::samples::READS;
-use command_calls::watch::Watch;
 use std::str::from_utf8;
 use std::test::Fail;
+use test_calls::calls::{Expected, NODE, call, executable, sure};
+use test_calls::samples::READS;
+use test_calls::watch::Watch;
 
 /// What four processors on two nodes end with where those but the first read a word of node 0: the
 /// line of node 1, up to what it counts by chance.
@@ -58,7 +58,7 @@ fn reads_by_two_processors_of_a_node(rt: HostRuntime) -> Result<(), Fail> {
         } else {
             "0"
         };
-        let answer = Answer {
+        let answer = Expected {
             status: 0,
             out: &[READ, chance, BEHIND],
             err: "",

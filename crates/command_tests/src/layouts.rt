@@ -1,9 +1,9 @@
 //! Runs with a layout: what it changes, and why it is refused.
 
 use crate::atomics::{COUNTED, COUNTER};
-use command_calls::calls::NODE;
-use command_calls::cases::{Case, Input, try_case};
 use std::test::Fail;
+use test_calls::calls::NODE;
+use test_calls::cases::{Case, Input, try_case};
 
 /// EBREAK alone, with one line of shared memory at 0x20000.
 const STOP: &str = "ebreak";

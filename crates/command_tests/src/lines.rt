@@ -159,59 +159,35 @@ fn words_of(alloc: Global, line: &str) -> Result<Vec<Text>, Fail> {
 }
 
 /// The count of nodes, the order and the budget of a command, 0 for what it lacks, with its file.
-fn parts_of(command: Command<'_>) -> (&str, u8, u32, u64) {
+fn parts_of<'a>(command: &Command<'a>) -> (&'a str, u8, u32, u64) {
     match command {
-        Command::Rewrite {
-            input,
-            output: _,
-            no_batch: _,
-        } => (input, 0, 0, 0),
-        Command::Run {
-            file,
-            nodes,
-            budget,
-            record_file: _,
-            code: _,
-            verified: _,
-            layout: _,
-            brief: _,
-            no_batch: _,
-        } => (file, nodes.number(), 0, budget.number()),
-        Command::List { file } => (file, 0, 0, 0),
-        Command::Replay {
-            file,
-            verified: _,
-            record_file: _,
-            brief: _,
-        } => (file, 0, 0, 0),
-        Command::Generate { number, output } => (output, 0, number, 0),
-        Command::Assemble { text, output: _ } => (text, 0, 0, 0),
-        Command::One {
-            file,
-            nodes,
-            order,
-            budget,
-            layout: _,
+        Command::Rewrite(arguments) => (arguments.input, 0, 0, 0),
+        Command::Run(arguments) => {
+            let nodes = arguments.execution.nodes.number();
+            let budget = arguments.execution.budget.number();
+            (arguments.execution.file, nodes, 0, budget)
         }
-        | Command::Sim {
-            file,
-            nodes,
-            order,
-            budget,
-            code: _,
-            verified: _,
-            layout: _,
-            brief: _,
-            no_batch: _,
-            machine: _,
-        } => (file, nodes.number(), order, budget.number()),
+        Command::List(arguments) => (arguments.file, 0, 0, 0),
+        Command::Replay(arguments) => (arguments.file, 0, 0, 0),
+        Command::Generate(arguments) => (arguments.output, 0, arguments.number, 0),
+        Command::Assemble(arguments) => (arguments.text, 0, 0, 0),
+        Command::One(arguments) => {
+            let nodes = arguments.nodes.number();
+            let budget = arguments.budget.number();
+            (arguments.file, nodes, arguments.order, budget)
+        }
+        Command::Sim(arguments) => {
+            let nodes = arguments.execution.nodes.number();
+            let budget = arguments.execution.budget.number();
+            (arguments.execution.file, nodes, arguments.order, budget)
+        }
     }
 }
 
 /// The same of the command on the file `a` that words ask for.
 fn asked_of(alloc: Global, words: &[Text]) -> Result<Asked, AllocError> {
     match command_of(alloc, words) {
-        Ok(Some(command)) => match parts_of(command) {
+        Ok(Some(command)) => match parts_of(&command) {
             ("a", nodes, order, budget) => Ok(Some((nodes, order, budget))),
             _ => Ok(None),
         },

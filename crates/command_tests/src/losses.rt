@@ -1,8 +1,8 @@
 //! `sim` on two nodes over links that lose packets: what is printed is as over links that don't.
 
-use command_calls::cases::{Case, Input, try_case};
-use command_calls::samples::{READ, READS, STAYED, STAYS, WAITED, WAITS};
 use std::test::Fail;
+use test_calls::cases::{Case, Input, try_case};
+use test_calls::samples::{READ, READS, STAYED, STAYS, WAITED, WAITS};
 
 const CASES: [Case; 3] = [
     // four messages under every order and every loss

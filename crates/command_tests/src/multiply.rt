@@ -2,8 +2,8 @@
 //! and rewritten. Above each stands its assembly without the last two instructions, which are
 //! `addi x17, x0, 93; ecall`.
 
-use command_calls::cases::try_program;
 use std::test::Fail;
+use test_calls::cases::try_program;
 
 #[test]
 fn multiplies_and_divides(rt: HostRuntime) -> Result<(), Fail> {

@@ -1,8 +1,8 @@
 //! `sim` on two nodes: how their processors end, and what they count.
 
-use command_calls::cases::{Case, Input, try_case};
-use command_calls::samples::{READ, READS, STAYED, STAYS, WAITED, WAITS};
 use std::test::Fail;
+use test_calls::cases::{Case, Input, try_case};
+use test_calls::samples::{READ, READS, STAYED, STAYS, WAITED, WAITS};
 
 /// Programs whose data is zeros.
 const CASES: [Case; 5] = [

@@ -1,9 +1,9 @@
 //! Small programs whose whole answers are known.
 
-use command_calls::calls::NODE;
-use command_calls::cases::{Case, Input, try_case, try_program};
-use command_calls::samples::HI;
 use std::test::Fail;
+use test_calls::calls::NODE;
+use test_calls::cases::{Case, Input, try_case, try_program};
+use test_calls::samples::HI;
 
 /// A program that loads the flag word, whose line may be read.
 pub const FALSE_LOAD: &str = "lui x5, 0x20; lw x6, 0(x5); addi x10, x6, 0; addi x17, x0, 93; ecall";

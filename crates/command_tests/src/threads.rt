@@ -1,13 +1,13 @@
 //! `run` on two nodes in threads of their own, its record, and what a gate is told.
 
-use command_calls::calls::{Answer, call, executable, sure};
-use command_calls::cases::{Case, Input, try_case};
-use command_calls::samples::{BLOCKS, READ, READS, STAYED, STAYS, STORES, USAGE, WAITED, WAITS};
-use command_calls::watch::Watch;
 use std::str::from_utf8;
 use std::sync::Wait;
 use std::test::Fail;
 use std::thread::Threads;
+use test_calls::calls::{Expected, call, executable, sure};
+use test_calls::cases::{Case, Input, try_case};
+use test_calls::samples::{BLOCKS, READ, READS, STAYED, STAYS, STORES, USAGE, WAITED, WAITS};
+use test_calls::watch::Watch;
 
 /// Each of two processors adds 1 to a word a thousand times, by LR and SC, and says by an AMO on
 /// another line that it is done; processor 0 waits for both, and writes the word.
@@ -64,7 +64,7 @@ fn try_run(
 ) -> Result<(), Fail> {
     let line = "run IN --nodes 2 --record R";
     let called = call(rt, sure(&[("IN", file)]), line, "R", gate)?;
-    let answer = Answer {
+    let answer = Expected {
         status: 0,
         out: &[READ],
         err: "",

@@ -1,11 +1,11 @@
 //! Files of rewritten code by another plan than the program's own.
 
 use crate::programs::{FALSE_LOAD, FALSE_MISS};
-use command_calls::calls::{Answer, executable, push_words, rewritten, try_held};
-use command_calls::samples::USAGE;
 use std::sync::Wait;
 use std::test::Fail;
 use std::thread::Threads;
+use test_calls::calls::{Expected, executable, push_words, rewritten, try_held};
+use test_calls::samples::USAGE;
 
 /// The rewritten words of the program by a plan whose load spills x1, behind `sw x1, -4(x0)` and
 /// before `lw x1, -4(x0)`, in place of taking x10. The runtime's own words are no instructions, so
@@ -71,7 +71,7 @@ fn runs_a_verified_file(rt: HostRuntime) -> Result<(), Fail> {
         let verified = file_with(&rt, &file, scratch)?;
         let held = [("IN", file.as_slice()), ("FILE", verified.as_slice())];
         let calls = ["run IN --verify FILE", "sim --verify=FILE IN"];
-        let answer = Answer {
+        let answer = Expected {
             status,
             out: &out,
             err,
@@ -91,7 +91,7 @@ fn excludes_other_code_beside_a_verified_file(rt: HostRuntime) -> Result<(), Fai
         "replay IN RECORD --verify FILE --code FILE",
         "rewrite IN OUT --verify FILE",
     ];
-    let answer = Answer {
+    let answer = Expected {
         status: 2,
         out: &[],
         err: USAGE,

@@ -1,11 +1,11 @@
 //! Runs by a file of rewritten code by another plan than the program's own, and their replays.
 
-use command_calls::calls::{Answer, NODE, call, executable, sure, try_held};
-use command_calls::watch::Watch;
 use std::str::from_utf8;
 use std::sync::Wait;
 use std::test::Fail;
 use std::thread::Threads;
+use test_calls::calls::{Expected, NODE, call, executable, sure, try_held};
+use test_calls::watch::Watch;
 
 /// Two loads by one register, which share a check by the program's own plan.
 const LOADS: &str = "lui x5, 0x20
@@ -39,7 +39,7 @@ fn written<'a>(
     out: &[&str],
 ) -> Result<Vec<u8>, Fail> {
     let called = call(rt, sure(held), line, "OUT", &Watch::new(false))?;
-    let answer = Answer {
+    let answer = Expected {
         status: 0,
         out,
         err: "",
@@ -66,7 +66,7 @@ fn replays_a_verified_file(rt: HostRuntime) -> Result<(), Fail> {
         ("replay IN R --verify FILE", [EXITED, NODE]),
         ("replay --verify=FILE IN R --brief", [EXITED, ""]),
     ] {
-        let answer = Answer {
+        let answer = Expected {
             status: 0,
             out: &out,
             err: "",
@@ -117,7 +117,7 @@ fn refuses_a_replay_by_a_file(rt: HostRuntime) -> Result<(), Fail> {
         ("R", RECORD.as_bytes()),
     ];
     for (line, status, err) in REFUSED {
-        let answer = Answer {
+        let answer = Expected {
             status,
             out: &[],
             err,

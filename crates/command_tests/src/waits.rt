@@ -2,10 +2,10 @@
 //! of, and for ever.
 
 use crate::threads::{COUNTS, RUN, try_counting};
-use command_calls::calls::executable;
-use command_calls::cases::{Case, Input, try_case};
-use command_calls::watch::Watch;
 use std::test::Fail;
+use test_calls::calls::executable;
+use test_calls::cases::{Case, Input, try_case};
+use test_calls::watch::Watch;
 
 /// Each processor reads a word of shared memory until another stores to it, which none does.
 const SPINS: &str = "lui x5, 0x20

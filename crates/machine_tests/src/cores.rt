@@ -189,14 +189,14 @@ fn play(core: &mut Core<'_>, events: &[Event]) -> Result<(), Fail> {
             return Err(Fail::from("an event that is allowed"));
         }
         if let Event::Exec(node) = event {
-            go_on(core, *node)?;
+            execute_to_end(core, *node)?;
         }
     }
     Ok(())
 }
 
 /// A node executes words until it stands at a poll or waits, a hundred at most.
-fn go_on(core: &mut Core<'_>, node: u8) -> Result<(), AllocError> {
+fn execute_to_end(core: &mut Core<'_>, node: u8) -> Result<(), AllocError> {
     for _ in 0..100 {
         if node >= core.layout().nodes() || core.node(node).standing() != Standing::Running {
             return Ok(());

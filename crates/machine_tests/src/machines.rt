@@ -8,10 +8,10 @@ use block_layout::default_layout;
 use elf32_read::read_elf;
 use exec_map::{Exit, accept};
 use one_memory::{OneMemory, StepRefused};
+use random_order::order_of;
 use run_limits::NodeCount;
 use std::alloc::{AllocError, Global};
 use std::test::Fail;
-use workload::order_of;
 
 /// So many steps of a processor.
 fn run(machine: &mut OneMemory<'_>, p: u8, steps: usize) -> Result<(), StepRefused>

@@ -3,7 +3,7 @@
 use crate::files::{HI, executable};
 use elf32_read::{Elf, Section, read_elf};
 use exec_map::accept;
-use rewriter::{CodeRefused, Options, Part, Rewritten, rewrite};
+use rewriter::{CodeRefused, FilePart, Options, Rewritten, rewrite};
 use std::alloc::Global;
 use std::test::Fail;
 
@@ -64,7 +64,7 @@ fn writes_the_segments_the_plan_and_the_map(rt: HostRuntime) -> Result<(), Fail>
 }
 
 /// The part that is refused where the file's byte at an offset is changed, if one is.
-fn part_refused(alloc: Global, offset: usize) -> Result<Option<Part>, Fail> {
+fn part_refused(alloc: Global, offset: usize) -> Result<Option<FilePart>, Fail> {
     let mut out = rewritten_file(alloc)?;
     if let Some(byte) = out.get_mut(offset) {
         *byte ^= 1;
@@ -86,9 +86,9 @@ fn takes_the_file_alone(rt: HostRuntime) -> Result<(), Fail> {
     let alloc = rt.alloc();
     for (offset, part) in [
         (0x10000, None),
-        (0x3004, Some(Part::Code)),
-        (0x3028, Some(Part::Plan)),
-        (0x3070, Some(Part::Map)),
+        (0x3004, Some(FilePart::Code)),
+        (0x3028, Some(FilePart::Plan)),
+        (0x3070, Some(FilePart::Map)),
     ] {
         if part_refused(alloc, offset)? != part {
             return Err(Fail::new(format_args!("at {offset}")));

@@ -1,6 +1,6 @@
 //! Links.
+use dsm_messages::{Message, Wire};
 use fifo_link::{Full, link, rejoin};
-use home_directory::{Message, Wire};
 use std::test::*;
 
 fn wire(stamp: u64) -> Wire {

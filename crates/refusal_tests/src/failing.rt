@@ -1,19 +1,19 @@
 //! Files and sinks that refuse one call, each in its turn.
 
 use crate::replays::NAMED;
-use command_calls::calls::{
-    Answer, Called, Faults, Held, NO_FAULTS, call, executable, rewritten, try_calls,
-};
-use command_calls::samples::{READ, READS, WAITED};
-use command_calls::watch::Watch;
 use std::str::from_utf8;
 use std::sync::Wait;
 use std::test::Fail;
 use std::thread::Threads;
+use test_calls::calls::{
+    Called, Expected, Faults, Held, NO_FAULTS, call, executable, rewritten, try_calls,
+};
+use test_calls::samples::{READ, READS, WAITED};
+use test_calls::watch::Watch;
 
 /// A command, what is told where the first call of its files fails, where the second does, and so
 /// on, and the text that it prints where none fails.
-struct Command {
+struct CommandRow {
     words: &'static str,
     lines: &'static [&'static str],
     text: &'static str,
@@ -28,18 +28,18 @@ const LISTED: &str = "00010000: 000202b7 lui x5, 0x20
 00010014: 00000073 ecall
 ";
 
-const COMMANDS: [Command; 8] = [
-    Command {
+const COMMANDS: [CommandRow; 8] = [
+    CommandRow {
         words: "list IN",
         lines: &["shasta: cannot read IN\n"],
         text: LISTED,
     },
-    Command {
+    CommandRow {
         words: "one IN --nodes 2 --layout L",
         lines: &["shasta: cannot read IN\n", "shasta: cannot read L\n"],
         text: WAITED,
     },
-    Command {
+    CommandRow {
         words: "sim IN --nodes 2 --layout L --code C",
         lines: &[
             "shasta: cannot read IN\n",
@@ -48,7 +48,7 @@ const COMMANDS: [Command; 8] = [
         ],
         text: READ,
     },
-    Command {
+    CommandRow {
         words: "run IN --nodes 2 --record OUT --layout L --code C",
         lines: &[
             "shasta: cannot read IN\n",
@@ -58,22 +58,22 @@ const COMMANDS: [Command; 8] = [
         ],
         text: READ,
     },
-    Command {
+    CommandRow {
         words: "run IN --nodes 2 --record OUT",
         lines: &["shasta: cannot read IN\n", "shasta: cannot write OUT\n"],
         text: READ,
     },
-    Command {
+    CommandRow {
         words: "replay IN R",
         lines: &["shasta: cannot read IN\n", "shasta: cannot read R\n"],
         text: READ,
     },
-    Command {
+    CommandRow {
         words: "rewrite IN OUT",
         lines: &["shasta: cannot read IN\n", "shasta: cannot write OUT\n"],
         text: "",
     },
-    Command {
+    CommandRow {
         words: "gen 0 OUT",
         lines: &["shasta: cannot write OUT\n"],
         text: "",
@@ -160,7 +160,7 @@ const LAYOUT: &[u8] = b"0x20000 0x40 64 0\n";
 fn try_files(
     rt: &(impl Threads + Wait + Sync + AllocGlobal),
     files: &[(&str, &[u8])],
-    command: &Command,
+    command: &CommandRow,
 ) -> Result<(), Fail> {
     let mut number: u64 = 0;
     for line in command.lines.iter().chain([""].iter()) {
@@ -172,7 +172,7 @@ fn try_files(
         let held = Held { files, faults };
         let called = call(rt, held, command.words, "OUT", &Watch::new(false))?;
         let failed = !line.is_empty();
-        let answer = Answer {
+        let answer = Expected {
             status: if failed { 3 } else { 0 },
             out: &[if failed { "" } else { command.text }],
             err: line,
@@ -198,7 +198,7 @@ fn is_cut(called: &Called, text: &str, status: u8, line: &str) -> Result<bool, F
 fn try_put(
     rt: &(impl Threads + Wait + Sync + AllocGlobal),
     held: Held<'_>,
-    command: &Command,
+    command: &CommandRow,
     (status, line): (u8, &str),
     number: u64,
 ) -> Result<(), Fail> {
@@ -210,7 +210,7 @@ fn try_put(
         let words = command.words;
         return Err(Fail::new(format_args!("{words}: no put is refused")));
     }
-    let whole = Answer {
+    let whole = Expected {
         status: 0,
         out: &[command.text],
         err: "",
@@ -256,7 +256,7 @@ fn ends_with_its_status_untold(rt: HostRuntime) -> Result<(), Fail> {
         ("R", NAMED.as_bytes()),
     ];
     for (words, status) in UNTOLD {
-        let answer = Answer {
+        let answer = Expected {
             status,
             out: &[],
             err: "",

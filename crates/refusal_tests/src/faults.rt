@@ -1,9 +1,9 @@
 //! What is told where a command does no work.
 
-use command_calls::calls::{Answer, try_held};
-use command_calls::cases::{Case, Input, try_case};
-use command_calls::samples::USAGE;
 use std::test::Fail;
+use test_calls::calls::{Expected, try_held};
+use test_calls::cases::{Case, Input, try_case};
+use test_calls::samples::USAGE;
 
 /// Each command that reads an executable, where its words, its file or its name are at fault.
 const CASES: [Case; 5] = [
@@ -99,7 +99,7 @@ fn tells_what_is_wrong(rt: HostRuntime) -> Result<(), Fail> {
 fn tells_that_a_file_is_too_long(rt: HostRuntime) -> Result<(), Fail> {
     let mut long = Vec::new(rt.alloc());
     long.resize(33_554_433, 0)?;
-    let answer = Answer {
+    let answer = Expected {
         status: 3,
         out: &[],
         err: "shasta: IN is longer than 33554432 bytes\n",

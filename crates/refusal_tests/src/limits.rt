@@ -2,10 +2,10 @@
 //! greatest number of segments.
 
 use crate::refusals::try_refused;
-use command_calls::calls::{Answer, executable, push_code, push_words, text_of, try_held};
-use command_calls::samples::HI;
 use std::alloc::Global;
 use std::test::Fail;
+use test_calls::calls::{Expected, executable, push_code, push_words, text_of, try_held};
+use test_calls::samples::HI;
 
 /// The bytes of the longest file that is read.
 const LONGEST: usize = 33_554_432;
@@ -41,7 +41,7 @@ fn names_the_last_line(rt: HostRuntime) -> Result<(), Fail> {
     for (begin, last, refusal) in LAST_LINES {
         let text = text_of_length(alloc, LONGEST, begin, last)?;
         let err = text_of(alloc, &["shasta: layout refused ", refusal, "\n"])?;
-        let answer = Answer {
+        let answer = Expected {
             status: 6,
             out: &[],
             err: &err,
@@ -58,7 +58,7 @@ fn reads_no_longer_layout(rt: HostRuntime) -> Result<(), Fail> {
     let alloc = rt.alloc();
     let file = executable(alloc, HI, b"hi\n", 3)?;
     let text = text_of_length(alloc, LONGEST + 1, "", "?")?;
-    let answer = Answer {
+    let answer = Expected {
         status: 3,
         out: &[],
         err: "shasta: L is longer than 33554432 bytes\n",

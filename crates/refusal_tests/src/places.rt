@@ -1,94 +1,94 @@
 //! Refusals of executables and of layouts at the first and the last place that they may name, and
 //! of two faulty lines the first.
 
-use crate::refusals::{Rule, WHOLE, break_by, file_of, try_refused};
-use command_calls::calls::{Answer, executable, text_of, try_held};
-use command_calls::samples::HI;
+use crate::refusals::{RefusalRow, WHOLE, break_by, file_of, try_refused};
 use std::sync::Wait;
 use std::test::Fail;
 use std::thread::Threads;
+use test_calls::calls::{Expected, executable, text_of, try_held};
+use test_calls::samples::HI;
 
 /// Rules that the file of a program which writes breaks: 8195 bytes, with two program headers, 32
 /// bytes of code at 0x1000 and three of data at 0x2000.
-const SMALL: [Rule; 15] = [
-    Rule {
+const SMALL: [RefusalRow; 15] = [
+    RefusalRow {
         len: 0,
         bytes: &[],
         line: "1 Short",
     },
-    Rule {
+    RefusalRow {
         len: 51,
         bytes: &[],
         line: "1 Short",
     },
-    Rule {
+    RefusalRow {
         len: 52,
         bytes: &[],
         line: "7 ProgramTable",
     },
-    Rule {
+    RefusalRow {
         len: 115,
         bytes: &[],
         line: "7 ProgramTable",
     },
-    Rule {
+    RefusalRow {
         len: 116,
         bytes: &[],
         line: "10 SegmentOutside header 0",
     },
-    Rule {
+    RefusalRow {
         len: 4127,
         bytes: &[],
         line: "10 SegmentOutside header 0",
     },
-    Rule {
+    RefusalRow {
         len: 4128,
         bytes: &[],
         line: "10 SegmentOutside header 1",
     },
-    Rule {
+    RefusalRow {
         len: 8194,
         bytes: &[],
         line: "10 SegmentOutside header 1",
     },
     // e_phoff 0xfffffff0
-    Rule {
+    RefusalRow {
         len: WHOLE,
         bytes: &[(28, 0xf0), (29, 0xff), (30, 0xff), (31, 0xff)],
         line: "7 ProgramTable",
     },
     // the second p_memsz 2
-    Rule {
+    RefusalRow {
         len: WHOLE,
         bytes: &[(104, 0x2)],
         line: "11 SegmentSizes header 1",
     },
     // the second p_vaddr 0x7fff0000
-    Rule {
+    RefusalRow {
         len: WHOLE,
         bytes: &[(94, 0xff), (95, 0x7f)],
         line: "12 TooHigh segment 1",
     },
     // the second p_vaddr 0x00010020: no byte is in both, but a line is
-    Rule {
+    RefusalRow {
         len: WHOLE,
         bytes: &[(92, 0x20), (94, 0x1)],
         line: "13 Overlap segments 0 1",
     },
     // the first p_flags 7
-    Rule {
+    RefusalRow {
         len: WHOLE,
         bytes: &[(76, 0x7)],
         line: "14 WritableCode segment 0",
     },
     // the second p_memsz 0x01000001
-    Rule {
+    RefusalRow {
         len: WHOLE,
         bytes: &[(104, 0x1), (107, 0x1)],
         line: "16 TooMuch shared",
     },
     // e_entry 0x00010002
-    Rule {
+    RefusalRow {
         len: WHOLE,
         bytes: &[(24, 0x2)],
         line: "17 EntryNotCode 0x00010002",
@@ -97,45 +97,45 @@ const SMALL: [Rule; 15] = [
 
 /// Rules that a file with 999 program headers breaks, at the first place and at the last. The last
 /// headers begin at 0x7cd4 and 0x7cf4.
-const PLACES: [Rule; 20] = [
-    Rule {
+const PLACES: [RefusalRow; 20] = [
+    RefusalRow {
         len: WHOLE,
         bytes: &[(44, 0xe7), (45, 0x3), (52, 0x3)],
         line: "9 Dynamic header 0",
     },
-    Rule {
+    RefusalRow {
         len: WHOLE,
         bytes: &[(44, 0xe7), (45, 0x3), (0x7cf4, 0x2)],
         line: "9 Dynamic header 998",
     },
-    Rule {
+    RefusalRow {
         len: WHOLE,
         bytes: &[(44, 0xe7), (45, 0x3), (59, 0xff)],
         line: "10 SegmentOutside header 0",
     },
     // p_offset 0xff000000, of no bytes
-    Rule {
+    RefusalRow {
         len: WHOLE,
         bytes: &[(44, 0xe7), (45, 0x3), (0x7cfb, 0xff)],
         line: "10 SegmentOutside header 998",
     },
-    Rule {
+    RefusalRow {
         len: WHOLE,
         bytes: &[(44, 0xe7), (45, 0x3), (72, 0x8)],
         line: "11 SegmentSizes header 0",
     },
     // p_filesz 1 and p_memsz 0
-    Rule {
+    RefusalRow {
         len: WHOLE,
         bytes: &[(44, 0xe7), (45, 0x3), (0x7d04, 0x1)],
         line: "11 SegmentSizes header 998",
     },
-    Rule {
+    RefusalRow {
         len: WHOLE,
         bytes: &[(44, 0xe7), (45, 0x3), (62, 0xff), (63, 0x7f)],
         line: "12 TooHigh segment 0",
     },
-    Rule {
+    RefusalRow {
         len: WHOLE,
         bytes: &[
             (44, 0xe7),
@@ -146,17 +146,17 @@ const PLACES: [Rule; 20] = [
         ],
         line: "12 TooHigh segment 998",
     },
-    Rule {
+    RefusalRow {
         len: WHOLE,
         bytes: &[(44, 0xe7), (45, 0x3), (62, 0x40)],
         line: "13 Overlap segments 0 1",
     },
-    Rule {
+    RefusalRow {
         len: WHOLE,
         bytes: &[(44, 0xe7), (45, 0x3), (0x7cfe, 0x1), (0x7d08, 0x1)],
         line: "13 Overlap segments 0 998",
     },
-    Rule {
+    RefusalRow {
         len: WHOLE,
         bytes: &[
             (44, 0xe7),
@@ -168,18 +168,18 @@ const PLACES: [Rule; 20] = [
         ],
         line: "13 Overlap segments 997 998",
     },
-    Rule {
+    RefusalRow {
         len: WHOLE,
         bytes: &[(44, 0xe7), (45, 0x3), (76, 0x7)],
         line: "14 WritableCode segment 0",
     },
-    Rule {
+    RefusalRow {
         len: WHOLE,
         bytes: &[(44, 0xe7), (45, 0x3), (0x7d08, 0x1), (0x7d0c, 0x7)],
         line: "14 WritableCode segment 998",
     },
     // p_vaddr 0x10000000 and p_memsz 0x01000001
-    Rule {
+    RefusalRow {
         len: WHOLE,
         bytes: &[
             (44, 0xe7),
@@ -190,12 +190,12 @@ const PLACES: [Rule; 20] = [
         ],
         line: "16 TooMuch read-only",
     },
-    Rule {
+    RefusalRow {
         len: WHOLE,
         bytes: &[(44, 0xe7), (45, 0x3), (26, 0x0)],
         line: "17 EntryNotCode 0x00000000",
     },
-    Rule {
+    RefusalRow {
         len: WHOLE,
         bytes: &[
             (44, 0xe7),
@@ -208,7 +208,7 @@ const PLACES: [Rule; 20] = [
         line: "17 EntryNotCode 0xffffffff",
     },
     // csrrs x5, cycle, x0
-    Rule {
+    RefusalRow {
         len: WHOLE,
         bytes: &[
             (44, 0xe7),
@@ -220,7 +220,7 @@ const PLACES: [Rule; 20] = [
         ],
         line: "18 Unsupported 0x00010000 word 0xc00022f3",
     },
-    Rule {
+    RefusalRow {
         len: WHOLE,
         bytes: &[
             (44, 0xe7),
@@ -233,13 +233,13 @@ const PLACES: [Rule; 20] = [
         line: "18 Unsupported 0x00010008 word 0xc00022f3",
     },
     // two section headers at 0x7e00, of which the second is of ten bytes of code
-    Rule {
+    RefusalRow {
         len: WHOLE,
         bytes: &[(44, 0xe7), (45, 0x3), (33, 0x7e), (46, 0x28), (48, 0x2)],
         line: "19 CodeAlign section 0",
     },
     // six, of which the second is of no bytes and the last of ten bytes of code
-    Rule {
+    RefusalRow {
         len: WHOLE,
         bytes: &[
             (44, 0xe7),
@@ -262,18 +262,18 @@ const PLACES: [Rule; 20] = [
 const MOST: usize = 2097172;
 
 /// Rules that the last of 65,535 program headers breaks.
-const LAST: [Rule; 3] = [
-    Rule {
+const LAST: [RefusalRow; 3] = [
+    RefusalRow {
         len: WHOLE,
         bytes: &[(44, 0xff), (45, 0xff), (0x1ffff4, 0x3)],
         line: "9 Dynamic header 65534",
     },
-    Rule {
+    RefusalRow {
         len: WHOLE,
         bytes: &[(44, 0xff), (45, 0xff), (0x1ffff4, 0x1), (0x1ffffb, 0xff)],
         line: "10 SegmentOutside header 65534",
     },
-    Rule {
+    RefusalRow {
         len: WHOLE,
         bytes: &[(44, 0xff), (45, 0xff), (0x1ffff4, 0x1), (0x200004, 0x1)],
         line: "11 SegmentSizes header 65534",
@@ -338,7 +338,7 @@ fn try_layout(
     refusal: &str,
 ) -> Result<(), Fail> {
     let err = text_of(rt.alloc(), &["shasta: layout refused ", refusal, "\n"])?;
-    let answer = Answer {
+    let answer = Expected {
         status: 6,
         out: &[],
         err: &err,

@@ -1,13 +1,13 @@
 //! Each refusal of a file with its line, alone and with another: the one that is judged first is
 //! told.
 
-use command_calls::calls::{
-    Answer, NODE, executable, push_code, push_sizes, push_words, text_of, try_held,
-};
 use std::alloc::Global;
 use std::sync::Wait;
 use std::test::Fail;
 use std::thread::Threads;
+use test_calls::calls::{
+    Expected, NODE, executable, push_code, push_sizes, push_words, text_of, try_held,
+};
 
 /// A program that exits with code 0.
 const CODE: &str = "addi x10, x0, 0; addi x17, x0, 93; ecall";
@@ -16,74 +16,74 @@ const CODE: &str = "addi x10, x0, 0; addi x17, x0, 93; ecall";
 pub const WHOLE: usize = usize::MAX;
 
 /// A rule: the length to which it cuts the file, the bytes that it changes, and what is told.
-pub struct Rule {
+pub struct RefusalRow {
     pub len: usize,
     pub bytes: &'static [(usize, u8)],
     pub line: &'static str,
 }
 
 /// Rules that a file of 8195 bytes breaks, with two program headers and three bytes of data.
-const SMALL: [Rule; 18] = [
-    Rule {
+const SMALL: [RefusalRow; 18] = [
+    RefusalRow {
         len: 51,
         bytes: &[],
         line: "1 Short",
     },
-    Rule {
+    RefusalRow {
         len: WHOLE,
         bytes: &[(0, 0x7e)],
         line: "2 NotElf",
     },
-    Rule {
+    RefusalRow {
         len: WHOLE,
         bytes: &[(4, 2)],
         line: "3 NotElf32",
     },
-    Rule {
+    RefusalRow {
         len: WHOLE,
         bytes: &[(5, 2)],
         line: "3 NotElf32",
     },
     // e_type, and e_flags behind it
-    Rule {
+    RefusalRow {
         len: WHOLE,
         bytes: &[(16, 3), (36, 1)],
         line: "4 NotExec type 3",
     },
-    Rule {
+    RefusalRow {
         len: WHOLE,
         bytes: &[(18, 62), (19, 1)],
         line: "5 NotRiscv machine 318",
     },
-    Rule {
+    RefusalRow {
         len: WHOLE,
         bytes: &[(36, 1)],
         line: "6 Flags 0x00000001",
     },
     // e_phnum 0, in a whole file and where the file ends behind its header; e_phentsize
-    Rule {
+    RefusalRow {
         len: WHOLE,
         bytes: &[(44, 0)],
         line: "7 ProgramTable",
     },
-    Rule {
+    RefusalRow {
         len: 52,
         bytes: &[(44, 0)],
         line: "7 ProgramTable",
     },
-    Rule {
+    RefusalRow {
         len: WHOLE,
         bytes: &[(42, 56)],
         line: "7 ProgramTable",
     },
     // one section header at offset 0, of no bytes
-    Rule {
+    RefusalRow {
         len: WHOLE,
         bytes: &[(48, 1)],
         line: "8 SectionTable",
     },
     // e_shoff 0xfffffff0 with one section header of 40 bytes
-    Rule {
+    RefusalRow {
         len: WHOLE,
         bytes: &[
             (32, 0xf0),
@@ -96,37 +96,37 @@ const SMALL: [Rule; 18] = [
         line: "8 SectionTable",
     },
     // PT_INTERP second, and the first outside: the lower number is told
-    Rule {
+    RefusalRow {
         len: WHOLE,
         bytes: &[(59, 0xff), (84, 3)],
         line: "9 Dynamic header 1",
     },
     // p_offset 0xfffffff0
-    Rule {
+    RefusalRow {
         len: WHOLE,
         bytes: &[(88, 0xf0), (89, 0xff), (90, 0xff), (91, 0xff)],
         line: "10 SegmentOutside header 1",
     },
     // p_filesz 0xffffffff: the sum with the offset is above 2^32
-    Rule {
+    RefusalRow {
         len: WHOLE,
         bytes: &[(100, 0xff), (101, 0xff), (102, 0xff), (103, 0xff)],
         line: "10 SegmentOutside header 1",
     },
     // the file ends within the last segment
-    Rule {
+    RefusalRow {
         len: 8194,
         bytes: &[],
         line: "10 SegmentOutside header 1",
     },
     // p_memsz 2, of three bytes
-    Rule {
+    RefusalRow {
         len: WHOLE,
         bytes: &[(104, 2)],
         line: "11 SegmentSizes header 1",
     },
     // p_vaddr 0xfffffffe and p_memsz 3
-    Rule {
+    RefusalRow {
         len: WHOLE,
         bytes: &[(92, 0xfe), (93, 0xff), (94, 0xff), (95, 0xff)],
         line: "11 SegmentSizes header 1",
@@ -134,7 +134,7 @@ const SMALL: [Rule; 18] = [
 ];
 
 /// Has a file break a rule.
-pub fn break_by(file: &mut Vec<u8>, rule: &Rule) {
+pub fn break_by(file: &mut Vec<u8>, rule: &RefusalRow) {
     for (offset, byte) in rule.bytes {
         if let Some(place) = file.get_mut(*offset) {
             *place = *byte;
@@ -151,7 +151,7 @@ pub fn try_refused(
     line: &str,
 ) -> Result<(), Fail> {
     let err = text_of(rt.alloc(), &["shasta: executable refused ", line, "\n"])?;
-    let answer = Answer {
+    let answer = Expected {
         status: 4,
         out: &[],
         err: &err,
@@ -170,7 +170,7 @@ fn tells_why_a_file_is_refused(rt: HostRuntime) -> Result<(), Fail> {
 }
 
 /// The flag of total store order breaks no rule.
-const ACCEPTED: Rule = Rule {
+const ACCEPTED: RefusalRow = RefusalRow {
     len: WHOLE,
     bytes: &[(36, 0x10)],
     line: "",
@@ -180,7 +180,7 @@ const ACCEPTED: Rule = Rule {
 fn accepts_total_store_order(rt: HostRuntime) -> Result<(), Fail> {
     let mut file = executable(rt.alloc(), CODE, b"hi\n", 3)?;
     break_by(&mut file, &ACCEPTED);
-    let answer = Answer {
+    let answer = Expected {
         status: 0,
         out: &["output 0\n\nprocessor 0 exit 0\n", NODE],
         err: "",
@@ -209,117 +209,117 @@ const CODE_SECTION: &str = "00000000 00000001 00000006 00010000 00008000 0000000
 const MANY: usize = 470_000;
 
 /// The rules, ascending.
-const RULES: [Rule; 20] = [
-    Rule {
+const RULES: [RefusalRow; 20] = [
+    RefusalRow {
         len: 51,
         bytes: &[],
         line: "1 Short",
     },
-    Rule {
+    RefusalRow {
         len: WHOLE,
         bytes: &[(0, 0x7e)],
         line: "2 NotElf",
     },
-    Rule {
+    RefusalRow {
         len: WHOLE,
         bytes: &[(4, 2)],
         line: "3 NotElf32",
     },
-    Rule {
+    RefusalRow {
         len: WHOLE,
         bytes: &[(16, 3)],
         line: "4 NotExec type 3",
     },
-    Rule {
+    RefusalRow {
         len: WHOLE,
         bytes: &[(18, 62)],
         line: "5 NotRiscv machine 62",
     },
-    Rule {
+    RefusalRow {
         len: WHOLE,
         bytes: &[(36, 1)],
         line: "6 Flags 0x00000001",
     },
     // e_phentsize 56
-    Rule {
+    RefusalRow {
         len: WHOLE,
         bytes: &[(42, 56)],
         line: "7 ProgramTable",
     },
     // a section header, of no bytes
-    Rule {
+    RefusalRow {
         len: WHOLE,
         bytes: &[(46, 0), (48, 1)],
         line: "8 SectionTable",
     },
     // PT_INTERP second
-    Rule {
+    RefusalRow {
         len: WHOLE,
         bytes: &[(84, 3)],
         line: "9 Dynamic header 1",
     },
     // the first p_offset 0xff008000
-    Rule {
+    RefusalRow {
         len: WHOLE,
         bytes: &[(59, 0xff)],
         line: "10 SegmentOutside header 0",
     },
     // the last byte of the first p_memsz 8, of twelve bytes or 1,880,012
-    Rule {
+    RefusalRow {
         len: WHOLE,
         bytes: &[(72, 8)],
         line: "11 SegmentSizes header 0",
     },
     // the second p_vaddr 0x7fff0000
-    Rule {
+    RefusalRow {
         len: WHOLE,
         bytes: &[(94, 0xff), (95, 0x7f)],
         line: "12 TooHigh segment 1",
     },
     // the first p_vaddr 0x00400000, which is the second too
-    Rule {
+    RefusalRow {
         len: WHOLE,
         bytes: &[(62, 0x40)],
         line: "13 Overlap segments 0 1",
     },
     // the second p_flags 7
-    Rule {
+    RefusalRow {
         len: WHOLE,
         bytes: &[(108, 7)],
         line: "14 WritableCode segment 1",
     },
     // the first p_flags 4
-    Rule {
+    RefusalRow {
         len: WHOLE,
         bytes: &[(76, 4)],
         line: "15 NoCode",
     },
     // the second p_memsz 0x01000003
-    Rule {
+    RefusalRow {
         len: WHOLE,
         bytes: &[(107, 1)],
         line: "16 TooMuch shared",
     },
     // e_entry 0x00010001
-    Rule {
+    RefusalRow {
         len: WHOLE,
         bytes: &[(24, 1)],
         line: "17 EntryNotCode 0x00010001",
     },
     // csrrs x5, cycle, x0
-    Rule {
+    RefusalRow {
         len: WHOLE,
         bytes: &[(0x8000, 0xf3), (0x8001, 0x22), (0x8002, 0), (0x8003, 0xc0)],
         line: "18 Unsupported 0x00010000 word 0xc00022f3",
     },
     // two section headers at 0x7e00, of which the second is of ten bytes of code
-    Rule {
+    RefusalRow {
         len: WHOLE,
         bytes: &[(33, 0x7e), (46, 40), (48, 2)],
         line: "19 CodeAlign section 0",
     },
     // e_phnum 1000
-    Rule {
+    RefusalRow {
         len: WHOLE,
         bytes: &[(44, 0xe8), (45, 3)],
         line: "22 TooManySegments 1000 segments",
@@ -376,7 +376,7 @@ fn counts_the_words_last(rt: HostRuntime) -> Result<(), Fail> {
         try_refused(&rt, &file, "run IN", rule.line)?;
     }
     try_refused(&rt, &many, "run IN", "20 CodeTooLarge 4230005 words")?;
-    let answer = Answer {
+    let answer = Expected {
         status: 4,
         out: &[],
         err: "shasta: code refused 50 NoPlan\n",

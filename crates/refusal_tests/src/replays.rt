@@ -1,15 +1,13 @@
 //! `replay` of records, and the executables that `gen` writes.
 
-use command_calls::calls::{
-    Answer, Called, call, executable, expect_text, sure, text_of, try_held,
-};
-use command_calls::samples::{BLOCKS, READ, READS, STORES, WAITED};
-use command_calls::watch::Watch;
 use std::alloc::Global;
 use std::str::from_utf8;
 use std::sync::Wait;
 use std::test::Fail;
 use std::thread::Threads;
+use test_calls::calls::{Called, Expected, call, executable, expect_text, sure, text_of, try_held};
+use test_calls::samples::{BLOCKS, READ, READS, STORES, WAITED};
+use test_calls::watch::Watch;
 
 /// A record of the program that reads, on two nodes: the last word of node 0 has the stamp 6. Then
 /// it takes its own Bye, the Read that node 1 sends at 8, its own FwdRead, Done and the Bye of node
@@ -185,7 +183,7 @@ fn try_words(
     out: &str,
     err: &str,
 ) -> Result<(), Fail> {
-    let answer = Answer {
+    let answer = Expected {
         status,
         out: &[out],
         err,

@@ -2,9 +2,9 @@
 
 use crate::calls::show;
 use crate::trace::{RECORD, ROW};
-use command_calls::calls::{Answer, executable, push_words};
 use std::alloc::Global;
 use std::test::Fail;
+use test_calls::calls::{Expected, executable, push_words};
 
 /// What its nodes count, and what its block costs: node 1 asks for it. The last line goes on with
 /// the name of the code, where it has one.
@@ -71,7 +71,7 @@ fn names_the_code(rt: HostRuntime) -> Result<(), Fail> {
     let alloc = rt.alloc();
     let program = named(alloc)?;
     let files = [("IN", program.as_slice()), ("R", RECORD.as_bytes())];
-    let answer = Answer {
+    let answer = Expected {
         status: 0,
         out: &[COSTS, " read+0x4\n"],
         err: "",
@@ -85,7 +85,7 @@ fn shows_costs(rt: HostRuntime) -> Result<(), Fail> {
     let program = executable(alloc, ROW, &[7, 0, 0, 0], 64)?;
     let files = [("IN", program.as_slice()), ("R", RECORD.as_bytes())];
     for (line, status, out, err) in CALLS {
-        let answer = Answer { status, out, err };
+        let answer = Expected { status, out, err };
         show(alloc, &files, line, &[])?.expect(alloc, line, &answer)?;
     }
     Ok(())

@@ -1,9 +1,9 @@
 //! Calls of the viewer on files in memory.
 
-use command_calls::calls::Called;
 use dsm_io::{MemFiles, MemSink, Text};
 use std::alloc::Global;
 use std::test::Fail;
+use test_calls::calls::Called;
 use views::shasta_view;
 
 /// How the viewer is called.

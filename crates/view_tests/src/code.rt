@@ -1,9 +1,9 @@
 //! `code` and `--help`: their texts, and what is told of faulty words and files.
 
 use crate::calls::{USAGE, show};
-use command_calls::calls::{Answer, executable};
-use command_calls::samples::HI;
 use std::test::Fail;
+use test_calls::calls::{Expected, executable};
+use test_calls::samples::HI;
 
 /// A program that loads a word, whose line may be read.
 const LOADS: &str = "lui x5, 0x20; lw x6, 0(x5); addi x10, x6, 0; addi x17, x0, 93; ecall";
@@ -82,7 +82,7 @@ fn shows_code(rt: HostRuntime) -> Result<(), Fail> {
     let alloc = rt.alloc();
     for (program, line, status, out, err) in CALLS {
         let file = executable(alloc, program, b"", 64)?;
-        let answer = Answer { status, out, err };
+        let answer = Expected { status, out, err };
         show(alloc, &[("IN", &file)], line, &[])?.expect(alloc, line, &answer)?;
     }
     Ok(())
@@ -107,7 +107,7 @@ fn shows_runs(rt: HostRuntime) -> Result<(), Fail> {
 fn tells_refusals_and_faults(rt: HostRuntime) -> Result<(), Fail> {
     let alloc = rt.alloc();
     let called = show(alloc, &[("IN", b"text")], "code IN", &[])?;
-    let refused = Answer {
+    let refused = Expected {
         status: 4,
         out: &[],
         err: "shasta: executable refused 1 Short\n",

@@ -2,9 +2,9 @@
 
 use crate::calls::{USAGE, show};
 use crate::trace::{RECORD, ROW};
-use command_calls::calls::{Answer, executable};
 use std::str::from_utf8;
 use std::test::Fail;
+use test_calls::calls::{Expected, executable};
 
 /// What the page's file holds before.
 const BEFORE: &str = "before";
@@ -44,7 +44,7 @@ fn writes_pages(rt: HostRuntime) -> Result<(), Fail> {
         ("R", RECORD.as_bytes()),
         ("OUT", BEFORE.as_bytes()),
     ];
-    let answer = Answer {
+    let answer = Expected {
         status: 0,
         out: &[],
         err: "",
@@ -72,7 +72,7 @@ fn leaves_the_file(rt: HostRuntime) -> Result<(), Fail> {
         ("OUT", BEFORE.as_bytes()),
     ];
     for (line, status, err) in UNWRITTEN {
-        let answer = Answer {
+        let answer = Expected {
             status,
             out: &[],
             err,

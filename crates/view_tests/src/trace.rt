@@ -1,8 +1,8 @@
 //! `trace`, of the run of two nodes that docs/PROTOCOL.md follows message by message.
 
 use crate::calls::show;
-use command_calls::calls::{Answer, executable};
 use std::test::Fail;
+use test_calls::calls::{Expected, executable};
 
 /// A processor other than 0 loads a shared word; each exits with code 0.
 pub(crate) const ROW: &str = "lui x5, 0x20; beq x10, x0, end; lw x6, 0(x5); end:; addi x10, x0, 0;
@@ -103,7 +103,7 @@ fn shows_a_run(rt: HostRuntime) -> Result<(), Fail> {
         ("B", broken.as_bytes()),
     ];
     for (line, status, out, err) in CALLS {
-        let answer = Answer { status, out, err };
+        let answer = Expected { status, out, err };
         show(alloc, &files, line, &[])?.expect(alloc, line, &answer)?;
     }
     Ok(())

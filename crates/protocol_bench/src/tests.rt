@@ -3,7 +3,8 @@
 use crate::drive::{layout_of, nodes_of, take, take_all, want};
 use buf_pool::{Buf, Pool};
 use dsm_protocol::Protocol;
-use home_directory::{Directory, Message, Need, Post};
+use home_directory::Directory;
+use home_directory::dsm_messages::{Message, Need, Post};
 use state_table::State;
 use std::alloc::{AllocError, Global};
 use std::test::Fail;

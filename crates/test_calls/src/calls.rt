@@ -173,7 +173,7 @@ pub fn call(
 
 /// What a call answers: its status, the parts of what the output takes, and what the errors take.
 #[derive(Clone, Copy)]
-pub struct Answer<'a> {
+pub struct Expected<'a> {
     pub status: u8,
     pub out: &'a [&'a str],
     pub err: &'a str,
@@ -199,7 +199,7 @@ impl Called {
     }
 
     /// Fails the test where the call of these words answered otherwise.
-    pub fn expect(&self, alloc: Global, words: &str, answer: &Answer<'_>) -> Result<(), Fail> {
+    pub fn expect(&self, alloc: Global, words: &str, answer: &Expected<'_>) -> Result<(), Fail> {
         let out = from_utf8(&self.out)?;
         let err = from_utf8(&self.err)?;
         let wanted = text_of(alloc, answer.out)?;
@@ -216,7 +216,7 @@ pub fn try_calls(
     rt: &(impl Threads + Wait + Sync + AllocGlobal),
     held: Held<'_>,
     calls: &[&str],
-    answer: &Answer<'_>,
+    answer: &Expected<'_>,
 ) -> Result<(), Fail> {
     let alloc = rt.alloc();
     let gate = Watch::new(false);
@@ -239,7 +239,7 @@ pub fn try_held(
     rt: &(impl Threads + Wait + Sync + AllocGlobal),
     files: &[(&str, &[u8])],
     calls: &[&str],
-    answer: &Answer<'_>,
+    answer: &Expected<'_>,
 ) -> Result<(), Fail> {
     try_calls(rt, sure(files), calls, answer)
 }
@@ -251,7 +251,7 @@ pub fn rewritten(
 ) -> Result<Vec<u8>, Fail> {
     let line = "rewrite IN OUT";
     let called = call(rt, sure(&[("IN", file)]), line, "OUT", &Watch::new(false))?;
-    let answer = Answer {
+    let answer = Expected {
         status: 0,
         out: &[],
         err: "",

@@ -1,6 +1,6 @@
 //! Rows of tables: programs and how they end, and calls and their answers.
 
-use crate::calls::{Answer, NODE, executable, push_code, text_of, try_held};
+use crate::calls::{Expected, NODE, executable, push_code, text_of, try_held};
 use std::alloc::Global;
 use std::sync::Wait;
 use std::test::Fail;
@@ -41,7 +41,7 @@ fn try_with(
     file: &[u8],
     text: &[u8],
     calls: &[&str],
-    answer: &Answer<'_>,
+    answer: &Expected<'_>,
 ) -> Result<(), Fail> {
     let files = [("IN", file), ("L", text), ("-x", text)];
     try_held(rt, &files, calls, answer)
@@ -50,7 +50,7 @@ fn try_with(
 /// Makes the calls of a case, and fails the test where one answers otherwise.
 pub fn try_case(rt: &(impl Threads + Wait + Sync + AllocGlobal), case: &Case) -> Result<(), Fail> {
     let file = bytes_of(rt.alloc(), case.input)?;
-    let answer = Answer {
+    let answer = Expected {
         status: case.status,
         out: case.out,
         err: case.err,
@@ -66,7 +66,7 @@ fn try_text(
     status: u8,
     text: &str,
 ) -> Result<(), Fail> {
-    let answer = Answer {
+    let answer = Expected {
         status,
         out: &[text],
         err: "",

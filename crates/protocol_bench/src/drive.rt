@@ -5,9 +5,9 @@ ghost use Rattle.std.specs.Prelude.{◌≡◌, ◌<◌, ◌≤◌, IfOk};
 use block_layout::{Layout, Lines, Ranges, default_layout};
 use dsm_protocol::Protocol;
 use flag_memory::FirstBytes;
-use home_directory::Need;
+use home_directory::dsm_messages::Need;
+use random_order::{Order, order_of};
 use std::alloc::{AllocError, Global};
-use workload::{Order, order_of};
 
 /// How many times all lists are looked through, at most, after a round of wants.
 const PASSES: u32 = 1000;
