@@ -1,9 +1,9 @@
-/* A hash table that all processors fill at once: words of numbers that look like chance are counted, each
-   chain under a lock of its own. A processor takes its nodes from its own heap. Processor 0 counts the
-   numbers alone, and compares.
+/* A hash table that all processors fill at once: words of numbers that look like chance are
+   counted, each chain under a lock of its own. A processor takes its nodes from its own heap.
+   Processor 0 counts the numbers alone, and compares.
 
-   Layout: none. A bucket's lock and chain are in one line of their own; a larger block would move the
-   buckets of others with it, and the nodes of one chain come from different processors. */
+   Layout: none. A bucket's lock and chain are in one line of their own; a larger block would
+   move the buckets of others with it, and the nodes of one chain come from different processors. */
 #include "kernel.h"
 
 #ifndef SIZE

@@ -1,4 +1,5 @@
-/* What the kernels share: how each tells what it found. */
+/* What the kernels share: numbers that look like chance, powers, and how each tells what it
+   found. */
 #ifndef KERNEL_H
 #define KERNEL_H
 
@@ -10,6 +11,18 @@
 static inline unsigned next_of(unsigned number)
 {
     return number * 1664525u + 1013904223u;
+}
+
+/* A power by a modulus of 65536 at most. */
+static inline unsigned power(unsigned number, unsigned exponent, unsigned modulus)
+{
+    unsigned result = 1;
+    for (; exponent != 0; exponent /= 2) {
+        if (exponent & 1)
+            result = result * number % modulus;
+        number = number * number % modulus;
+    }
+    return result;
 }
 
 /* Prints the sum of the result and whether it is right; gives what main gives. */

@@ -1,9 +1,11 @@
-/* LU: factors a matrix into a lower and an upper one by blocks, each of which is contiguous; numbers
-   modulo 65521, so that every order of the processors gives the same. A processor works on the blocks
-   that are its own. Each checks its part of the product; processor 0 prints a sum of the factors.
+/* LU: factors a matrix into a lower and an upper one by blocks, each of which is contiguous;
+   numbers modulo 65521, so that every order of the processors gives the same. A processor works on
+   the blocks that are its own. Each checks its part of the product; processor 0 prints a sum of the
+   factors.
 
-   Layout: a block of B x B words is read whole by the processors of its row and column, and written
-   by one. With B = 8 it has 256 bytes, so blocks of memory of 256 bytes fetch it by one request. */
+   Layout: a block of B x B words is read whole by the processors of its row and column, and
+   written by one. With B = 8 it has 256 bytes, so blocks of memory of 256 bytes fetch it by one
+   request. */
 #include "kernel.h"
 
 #ifndef SIZE
@@ -19,17 +21,6 @@ static unsigned wrong;
 static unsigned original(unsigned row, unsigned column)
 {
     return row == column ? 40000 + row : (row * 331 + column * 577 + 1) % 1000;
-}
-
-static unsigned power(unsigned number, unsigned exponent)
-{
-    unsigned result = 1;
-    for (; exponent != 0; exponent /= 2) {
-        if (exponent & 1)
-            result = result * number % MODULUS;
-        number = number * number % MODULUS;
-    }
-    return result;
 }
 
 static unsigned *element(unsigned row, unsigned column)
@@ -55,7 +46,7 @@ static void subtract(unsigned to[B][B], unsigned left[B][B], unsigned right[B][B
 static void factor(unsigned block[B][B])
 {
     for (unsigned k = 0; k < B; k += 1) {
-        unsigned inverse = power(block[k][k], MODULUS - 2);
+        unsigned inverse = power(block[k][k], MODULUS - 2, MODULUS);
         for (unsigned row = k + 1; row < B; row += 1) {
             block[row][k] = block[row][k] * inverse % MODULUS;
             for (unsigned column = k + 1; column < B; column += 1)
@@ -79,7 +70,7 @@ static void solve_right(unsigned block[B][B], unsigned diagonal[B][B])
 static void solve_below(unsigned block[B][B], unsigned diagonal[B][B])
 {
     for (unsigned k = 0; k < B; k += 1) {
-        unsigned inverse = power(diagonal[k][k], MODULUS - 2);
+        unsigned inverse = power(diagonal[k][k], MODULUS - 2, MODULUS);
         for (unsigned row = 0; row < B; row += 1) {
             block[row][k] = block[row][k] * inverse % MODULUS;
             for (unsigned column = k + 1; column < B; column += 1)

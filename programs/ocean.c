@@ -1,10 +1,10 @@
-/* Ocean: a grid that each step draws towards the mean of its neighbours, first at its red points, then
-   at its black ones. A processor has a strip of rows and reads the last row of each neighbour. All
-   numbers are whole, so every number of processors gives the same; processor 0 makes the same grid
-   alone and compares.
+/* Ocean: a grid that each step draws towards the mean of its neighbours, first at its red points,
+   then at its black ones. A processor has a strip of rows and reads the last row of each neighbour.
+   All numbers are whole, so every number of processors gives the same; processor 0 makes the same
+   grid alone and compares.
 
-   Layout: a row of 64 words has 256 bytes, and a neighbour reads all of it: blocks of 256 bytes fetch
-   it by one request, and no block has rows of two strips. */
+   Layout: a row of 64 words has 256 bytes, and a neighbour reads all of it: blocks of 256 bytes
+   fetch it by one request, and no block has rows of two strips. */
 #include "kernel.h"
 
 #ifndef SIZE

@@ -1,8 +1,10 @@
-/* Radix sort: numbers are sorted by eight bits at a time. Each processor counts the digits of its part,
-   all add up where their numbers go, and each moves its own. Processor 0 checks the order and the sum.
+/* Radix sort: numbers are sorted by eight bits at a time. Each processor counts the digits of its
+   part, all add up where their numbers go, and each moves its own. Processor 0 checks the order and
+   the sum.
 
-   Layout: a processor reads its part in one stretch, so blocks of 1024 bytes of `keys` are fetched by
-   fewer requests; where numbers go is scattered, so in large blocks of the target two processors meet. */
+   Layout: a processor reads its part in one stretch, so blocks of 1024 bytes of `keys` are
+   fetched by fewer requests; where numbers go is scattered, so in large blocks of the target two
+   processors meet. */
 #include "kernel.h"
 
 #ifndef SIZE

@@ -1,9 +1,10 @@
-/* The travelling salesman by branch and bound: the shortest way through all towns and back. Processors
-   take the ways of three towns one by one and go on by depth, and give up where a way is no shorter than
-   the best so far. Its length is the same whoever finds it. Processor 0 finds it alone too.
+/* The travelling salesman by branch and bound: the shortest way through all towns and back.
+   Processors take the ways of three towns one by one and go on by depth, and give up where a way is
+   no shorter than the best so far. Its length is the same whoever finds it. Processor 0 finds it
+   alone too.
 
-   Layout: the distances are written once and read by all, so a block of 256 bytes fetches them by one
-   request; the best length has a line of its own, since it is read at each branch. */
+   Layout: the distances are written once and read by all, so a block of 256 bytes fetches them
+   by one request; the best length has a line of its own, since it is read at each branch. */
 #include "kernel.h"
 
 #ifndef SIZE

@@ -1,9 +1,10 @@
-/* Tasks with stealing: each processor has a queue of tasks, and takes one of another's where its own is
-   empty. A task adds up a stretch of numbers, or makes two tasks of its halves. Processor 0 adds all up
-   alone, and compares.
+/* Tasks with stealing: each processor has a queue of tasks, and takes one of another's where its
+   own is empty. A task adds up a stretch of numbers, or makes two tasks of its halves. Processor 0
+   adds all up alone, and compares.
 
-   Layout: a queue's lock, its ends and its tasks are written by its owner, and by others only where they
-   steal: a block of 512 bytes has one queue, so a thief fetches all of it by one request. */
+   Layout: a queue's lock, its ends and its tasks are written by its owner, and by others only
+   where they steal: a block of 512 bytes has one queue, so a thief fetches all of it by one
+   request. */
 #include "kernel.h"
 
 #ifndef SIZE

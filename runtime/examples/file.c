@@ -1,20 +1,33 @@
-/* Reads a file that is linked in, line by line. */
+/* Reads the files that are linked in and named by the program's own words. */
 #include <errno.h>
 #include <stdio.h>
 #include <string.h>
 
-int main(void)
+char *program_arguments[] = {"file", "poem.txt", "text.layout", "absent.txt", 0};
+
+static void read_file(const char *name)
 {
     char line[80];
     unsigned lines = 0, letters = 0;
-    FILE *file = fopen("poem.txt", "r");
+    FILE *file = fopen(name, "r");
+    if (file == 0) {
+        printf("%s: %s\n", name, errno == ENOENT ? "ENOENT" : "another error");
+        return;
+    }
     while (fgets(line, sizeof line, file) != 0) {
         lines += 1;
         letters += (unsigned)strlen(line);
     }
     fseek(file, 5, SEEK_SET);
-    printf("%u lines, %u letters, then %c at %ld\n", lines, letters, fgetc(file), ftell(file));
+    printf("%s: %u lines, %u letters, then %c at %ld\n", name, lines, letters, fgetc(file),
+           ftell(file));
     fclose(file);
-    printf("absent: %s\n", fopen("absent.txt", "r") == 0 && errno == ENOENT ? "ENOENT" : "there");
+}
+
+int main(int count, char **words)
+{
+    for (int k = 1; k < count; k += 1)
+        read_file(words[k]);
+    printf("%s of %d words\n", words[0], count);
     return 0;
 }

@@ -1,4 +1,5 @@
-/* malloc and its kin: blocks keep what they hold, and where there is no room 0 comes, and ENOMEM. */
+/* malloc and its kin: blocks keep what they hold, and where there is no room 0 comes, and
+   ENOMEM. */
 #include <errno.h>
 #include <stdint.h>
 #include <stdio.h>

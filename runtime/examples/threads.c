@@ -1,5 +1,6 @@
-/* <threads.h>: as many threads as there are processors that wait; a mutex, a condition, what is done
-   once, and what each thread keeps for itself. It prints the same for each number of processors. */
+/* <threads.h>: as many threads as there are processors that wait; a mutex, a condition, what is
+   done once, and what each thread keeps for itself. It prints the same for each number of
+   processors. */
 #include <errno.h>
 #include <stdatomic.h>
 #include <stdio.h>

@@ -1,6 +1,6 @@
-/* Counts the words of a text, by threads: each takes a part of the text, counts it in a place of its
-   own, and adds what it found to a table that all share, under a mutex. It prints the same for every
-   number of processors. With -DAPART each place is in a line of its own. */
+/* Counts the words of a text, by threads: each takes a part of the text, counts it in a place of
+   its own, and adds what it found to a table that all share, under a mutex. It prints the same
+   for every number of processors. With -DAPART each place is in a line of its own. */
 #include <stdio.h>
 #include <stdlib.h>
 #include <string.h>

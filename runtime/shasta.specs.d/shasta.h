@@ -33,13 +33,15 @@ static inline unsigned processors(void)
     return __shasta_own[1];
 }
 
-/* Calls the function with the argument on each processor, this one among them, and comes back when
-   all have come back. Only processor 0 calls it, and not while threads run. What the argument points
-   to has to lie in shared memory, as main's own variables do in a program that calls this.
-   For each other processor: a write miss and a read miss until it begins, the same at its end. */
+/* Calls the function with the argument on each processor, this one among them, and comes back
+   when all have come back. Only processor 0 calls it, and not while threads run. What the
+   argument points to has to lie in shared memory, as main's own variables do in a program that
+   calls this. For each other processor: a write miss and a read miss until it begins, the same
+   at its end. */
 void parallel(void (*function)(void *), void *argument);
 
-/* Adds to a word and gives what it was before. A write miss where another node had the line last. */
+/* Adds to a word and gives what it was before. A write miss where another node had the line
+   last. */
 static inline unsigned fetch_and_add(unsigned *word, unsigned more)
 {
     return __atomic_fetch_add(word, more, __ATOMIC_ACQ_REL);
@@ -62,7 +64,8 @@ static inline void enter(struct lock *lock)
         ;
 }
 
-/* Enters where the lock is free, and says whether it did. A read miss, and a write miss if it does. */
+/* Enters where the lock is free, and says whether it did. A read miss, and a write miss if it
+   does. */
 static inline int try_enter(struct lock *lock)
 {
     unsigned ticket = __atomic_load_n(&lock->serving, __ATOMIC_ACQUIRE);
@@ -97,9 +100,9 @@ static inline void meet(struct barrier *barrier, unsigned count)
         ;
 }
 
-/* Memory of whole lines, which no other block shares; 0 where there is no room. As malloc it takes it
-   from the processor's own heap: no message but for a new page, which is a write miss at the heap's
-   lock. Give it back by free. */
+/* Memory of whole lines, which no other block shares; 0 where there is no room. As malloc it
+   takes it from the processor's own heap: no message but for a new page, which is a write miss
+   at the heap's lock. Give it back by free. */
 static inline void *allocate_lines(size_t bytes)
 {
     return aligned_alloc(LINE, (bytes + LINE - 1) / LINE * LINE);

@@ -1,6 +1,6 @@
-/* The part of C's <threads.h> that fits: a thread is a processor that has nothing to do, and has it
-   until it is joined, or ends if it is detached. There is no clock, and nothing takes turns: a thread
-   that waits keeps its processor. What calls cost is said in misses, as in shasta.h. */
+/* The part of C's <threads.h> that fits: a thread is a processor that has nothing to do, and has
+   it until it is joined, or ends if it is detached. There is no clock, and nothing takes turns:
+   a thread that waits keeps its processor. What calls cost is said in misses, as in shasta.h. */
 #ifndef THREADS_H
 #define THREADS_H
 
@@ -57,8 +57,8 @@ int mtx_init(mtx_t *mutex, int kind);
 /* A write miss where another node had the mutex last, none where this one had. */
 int mtx_lock(mtx_t *mutex);
 
-/* Takes it where it is free; else thrd_busy, and thrd_timedout of the second, which has no clock and
-   doesn't wait. */
+/* Takes it where it is free; else thrd_busy, and thrd_timedout of the second, which has no clock
+   and doesn't wait. */
 int mtx_trylock(mtx_t *mutex);
 int mtx_timedlock(mtx_t *restrict mutex, const struct timespec *restrict until);
 

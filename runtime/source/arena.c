@@ -1,4 +1,5 @@
-/* The arena whose size the link sets (`-Wl,--defsym=__heap_size=BYTES`), handed out from its start. */
+/* The arena whose size the link sets (`-Wl,--defsym=__heap_size=BYTES`), handed out from its
+   start. */
 #include "own.h"
 
 #include <errno.h>

@@ -4,16 +4,17 @@
 #include <stdint.h>
 #include <unistd.h>
 
-/* The image of the thread-local data, how many bytes it has, and how many there are with those that are
-   0 at the start. The last two are numbers in the form of addresses; weak, since they may be 0. */
+/* The image of the thread-local data, how many bytes it has, and how many there are with those
+   that are 0 at the start. The last two are numbers in the form of addresses; weak, since they
+   may be 0. */
 extern const unsigned char __shasta_thread_start[];
 extern const unsigned char __shasta_thread_data[] __attribute__((weak));
 extern const unsigned char __shasta_thread_size[] __attribute__((weak));
 
 void __libc_init_array(void);
 
-/* The words by which main is called; a program may have its own. */
-__attribute__((weak)) char *program_arguments[] = {"program", 0};
+/* The words by which main is called, the program's own or those of arguments.c. */
+extern char *program_arguments[];
 
 int main(int count, char **words, char **environment);
 

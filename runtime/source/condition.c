@@ -1,4 +1,5 @@
-/* The condition of <threads.h>: tickets again, of which a signal serves one, and a broadcast all. */
+/* The condition of <threads.h>: tickets again, of which a signal serves one, and a broadcast
+   all. */
 #include "threads.h"
 
 int cnd_init(cnd_t *condition)

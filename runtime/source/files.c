@@ -10,9 +10,6 @@
 
 enum { FIRST = 3, MOST = 16 };
 
-/* None, where the program has none. */
-__attribute__((weak)) const struct linked_file linked_files[] = {{0, 0, 0}};
-
 static struct {
     const struct linked_file *file;
     off_t at;

@@ -8,7 +8,7 @@ struct linked_file {
     unsigned length;
 };
 
-/* The program's, ended by one without a name. */
+/* The program's, or those of no_files.c; ended by one without a name. */
 extern const struct linked_file linked_files[];
 
 #endif

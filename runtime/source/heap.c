@@ -1,7 +1,8 @@
-/* malloc and its kin. Each processor takes small blocks from pages of its own, a page for each size,
-   so that no line has blocks of two processors; what it needs for that lies in its private memory, so
-   it takes no lock and sends no message but for a new page. A block that another processor gives back
-   goes to the owner of its page. Large blocks are whole pages of the one arena, by first fit. */
+/* malloc and its kin. Each processor takes small blocks from pages of its own, a page for each
+   size, so that no line has blocks of two processors; what it needs for that lies in its private
+   memory, so it takes no lock and sends no message but for a new page. A block that another
+   processor gives back goes to the owner of its page. Large blocks are whole pages of the one
+   arena, by first fit. */
 #include "own.h"
 
 #include <errno.h>

@@ -1,5 +1,6 @@
-/* The output: each processor collects a line in its own memory and writes it whole, under a lock, so
-   that lines of two don't mix. stdout and stderr are this one output; there is no input. */
+/* The output: each processor collects a line in its own memory and writes it whole, under a
+   lock, so that lines of two don't mix. stdout and stderr are this one output; there is no
+   input. */
 #include "own.h"
 
 #include <errno.h>

@@ -42,7 +42,8 @@ void __shasta_flush(void);
 /* Ends this processor. */
 _Noreturn void __shasta_end(int code);
 
-/* More memory at a multiple of so many bytes, of the arena that the link sets; 0 where there is none. */
+/* More memory at a multiple of so many bytes, of the arena that the link sets; 0 where there is
+   none. */
 void *__shasta_more(size_t bytes, size_t multiple);
 
 /* What processors other than 0 do, and what processor 0 says to them at its end; absent where the

@@ -1,4 +1,5 @@
-/* Processors other than 0 wait, each at a seat of its own in a line of its own, until one calls them. */
+/* Processors other than 0 wait, each at a seat of its own in a line of its own, until one calls
+   them. */
 #include "pool.h"
 
 struct seat __shasta_seats[MOST_PROCESSORS];

@@ -24,3 +24,8 @@ ready:  mv      s0, a0
         mv      a0, s0
         mv      a1, s1
         tail    __shasta_begin
+
+# So the linker looks for the digits of printf's numbers in this library before the C library. Nothing
+# reaches this section, so it isn't linked.
+        .section .unused, "a"
+        .word   __dtoa_engine

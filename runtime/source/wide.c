@@ -1,4 +1,5 @@
-/* Atomic accesses of 64 bits, for which RV32 has no instruction: GCC calls these. One lock for all. */
+/* Atomic accesses of 64 bits, for which RV32 has no instruction: GCC calls these. One lock for
+   all. */
 #include "own.h"
 
 #include <stdint.h>
@@ -11,8 +12,8 @@ static struct lock lock;
 uint64_t wide_load(const volatile void *word, int order) CALL(load);
 void wide_store(volatile void *word, uint64_t value, int order) CALL(store);
 uint64_t wide_exchange(volatile void *word, uint64_t value, int order) CALL(exchange);
-_Bool wide_compare_exchange(volatile void *word, void *expected, uint64_t value, _Bool weak, int order,
-                            int other) CALL(compare_exchange);
+_Bool wide_compare_exchange(volatile void *word, void *expected, uint64_t value, _Bool weak,
+                            int order, int other) CALL(compare_exchange);
 
 uint64_t wide_load(const volatile void *word, int order)
 {
@@ -38,8 +39,8 @@ void wide_store(volatile void *word, uint64_t value, int order)
     wide_exchange(word, value, order);
 }
 
-_Bool wide_compare_exchange(volatile void *word, void *expected, uint64_t value, _Bool weak, int order,
-                            int other)
+_Bool wide_compare_exchange(volatile void *word, void *expected, uint64_t value, _Bool weak,
+                            int order, int other)
 {
     (void)weak, (void)order, (void)other;
     enter(&lock);
