@@ -9,7 +9,7 @@ nodes of two processors; and by `run`, each time with a replay of its record, on
 nodes. Each run must print what `one` prints on one processor, and end with 0 everywhere; a replay what
 its run printed. The script tells what differs, then how many messages `sim` on 4 nodes takes by order
 0, with lines of 64 bytes and with the layout of programs/NAME.layout where there is one."""
-import pathlib, re, subprocess, sys, tempfile
+import pathlib, re, shutil, subprocess, sys, tempfile
 
 root = pathlib.Path(__file__).resolve().parent.parent
 BUILD = ["riscv64-unknown-elf-gcc", f"--specs={root}/runtime/shasta.specs", "-DINTEGER_PRINTF", "-O2",
@@ -17,6 +17,7 @@ BUILD = ["riscv64-unknown-elf-gcc", f"--specs={root}/runtime/shasta.specs", "-DI
 NODES = ("1", "2", "4", "8", "16")
 LOSSES = ("0", "5", "77")
 BUDGET = ["--budget", "4294967295"]
+PACKAGES = "gcc-riscv64-unknown-elf binutils-riscv64-unknown-elf picolibc-riscv64-unknown-elf"
 
 
 def said(program, *words):
@@ -53,6 +54,9 @@ def messages(program, file, *layout):
 
 
 def main():
+    if shutil.which(BUILD[0]) is None:
+        print(f"kernels: the packages are lacking: apt-get install -y {PACKAGES}", file=sys.stderr)
+        return 1
     program = str(pathlib.Path(sys.argv[1]).resolve())
     orders = int(sys.argv[2]) if len(sys.argv) > 2 else 10
     names = sys.argv[3:] or sorted(path.stem for path in (root / "programs").glob("*.c"))
