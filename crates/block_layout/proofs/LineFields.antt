@@ -4,8 +4,12 @@ use Rattle.std.specs.List.{list_all, position, prefix_len}
 use Rattle.std.proofs.lemmas.Bool.{cases_lt, false≢true, and_parts, and_from, eqb-true, lt-ltb, not-false}
 use Rattle.std.proofs.lemmas.List.{take_at, drop_at, take_rest, get_or-drop, take-append-drop}
 use Rattle.std.proofs.lemmas.List.Quantifiers.{position-Some}
-use Rattle.block_layout.specs.Text.{spaces}
+use Rattle.std.specs.Prelude.{replicate}
 use Rattle.block_layout.specs.Parts.{is_space, is_mark, Begins, SplitsAtGap}
+
+-- so many spaces
+abbrev blanks : ℕ → List ℕ
+blanks n = replicate n 32
 
 prefix_at : (q : ℕ → Bool) (w : List ℕ) (x : ℕ) (more : List ℕ) → list_all q w ≡ true → q x ≡ false → prefix_len q (w ++ x ∷ more) ≡ length w
 prefix_at q [] x more all e = rw e refl
@@ -26,12 +30,12 @@ all_front q xs zero h each = refl
 all_front q [] (suc i) h each = refl
 all_front q (x ∷ xs) (suc i) h each = and_from _ _ (each 0 (omega arith)) (all_front q xs i (omega arith) (λ k less. each (suc k) (omega arith)))
 
-front_spaces : (xs : List ℕ) (i : ℕ) → i ≤ length xs → ((k : ℕ) → k < i → is_mark (get_or xs k 0) ≡ false) → take i xs ≡ spaces i
+front_spaces : (xs : List ℕ) (i : ℕ) → i ≤ length xs → ((k : ℕ) → k < i → is_mark (get_or xs k 0) ≡ false) → take i xs ≡ blanks i
 front_spaces xs zero h each = refl
 front_spaces [] (suc i) h each = absurd (omega arith)
 front_spaces (x ∷ xs) (suc i) h each =
     let first : x ≡ 32 = eqb-true x 32 (not-false (eqb x 32) (each 0 (omega arith))) in
-    let more : take i xs ≡ spaces i = front_spaces xs i (omega arith) (λ k less. each (suc k) (omega arith)) in
+    let more : take i xs ≡ blanks i = front_spaces xs i (omega arith) (λ k less. each (suc k) (omega arith)) in
     rw (first, more) refl
 
 begins_at : (xs : List ℕ) (i : ℕ) → i < length xs → is_mark (get_or xs i 0) ≡ true → Begins (drop i xs)
@@ -54,21 +58,21 @@ gap_found text word behind rest end gap found word_is behind_is mark rest_is =
           absurd (false≢true (sym (ap not here) ∙ m))
     ] in
     let behind_are : take gap behind ++ drop gap behind ≡ behind = take-append-drop gap behind in
-    let spaces_are : take gap behind ≡ spaces gap = front_spaces behind gap (omega (arith, next.0)) (λ k less. next.2 k less) in
+    let spaces_are : take gap behind ≡ blanks gap = front_spaces behind gap (omega (arith, next.0)) (λ k less. next.2 k less) in
     let end_is : rest ≡ drop gap behind = rest_is ∙ take_rest behind gap in
+    let same : gap ≡ suc (gap - 1) = omega (arith, some) in
     record {
-      gap = gap;
-      some = some;
-      text_is = sym (take-append-drop end text) ∙ ap (λ w. w ++ drop end text) (sym word_is) ∙ ap (λ b. word ++ b) (sym behind_is ∙ sym behind_are ∙ ap (λ s. s ++ drop gap behind) spaces_are ∙ ap (λ r. spaces gap ++ r) (sym end_is));
+      gap = gap - 1;
+      text_is = sym (take-append-drop end text) ∙ ap (λ w. w ++ drop end text) (sym word_is) ∙ ap (λ b. word ++ b) (sym behind_is ∙ sym behind_are ∙ ap (λ s. s ++ drop gap behind) spaces_are ∙ ap (λ r. blanks gap ++ r) (sym end_is) ∙ ap (λ n. blanks n ++ rest) same);
       no_space = ap (list_all is_mark) word_is ∙ all_front is_mark text end (omega (arith, space.0)) (λ k less. ap not (space.2 k less));
       begins = subst Begins (sym end_is) (begins_at behind gap next.0 next.1);
     }
 
-all_spaces : (n : ℕ) → list_all (λ c. not (is_mark c)) (spaces n) ≡ true
+all_spaces : (n : ℕ) → list_all (λ c. not (is_mark c)) (blanks n) ≡ true
 all_spaces zero = refl
 all_spaces (suc n) = all_spaces n
 
-spaces_length : (n : ℕ) → length (spaces n) ≡ n
+spaces_length : (n : ℕ) → length (blanks n) ≡ n
 spaces_length zero = refl
 spaces_length (suc n) = ap suc (spaces_length n)
 
@@ -80,27 +84,23 @@ pub record IsGap (text word rest : List ℕ) : Type 0 where
   pub mark : position is_mark (drop (length word) text) ≡ Some gap
   pub rest_is : drop gap (drop (length word) text) ≡ rest
 
-mark_behind : (n : ℕ) (rest : List ℕ) → Begins rest → position is_mark (spaces n ++ rest) ≡ Some n
+mark_behind : (n : ℕ) (rest : List ℕ) → Begins rest → position is_mark (blanks n ++ rest) ≡ Some n
 mark_behind n [] b = absurd b
-mark_behind n (c ∷ cs) b = place_at is_mark (spaces n) c cs (all_spaces n) b ∙ ap Some (spaces_length n)
+mark_behind n (c ∷ cs) b = place_at is_mark (blanks n) c cs (all_spaces n) b ∙ ap Some (spaces_length n)
 
-gap_at : (text word rest : List ℕ) (g : ℕ) → text ≡ word ++ (spaces (suc g) ++ rest) → list_all is_mark word ≡ true → Begins rest → IsGap text word rest
+gap_at : (text word rest : List ℕ) (g : ℕ) → text ≡ word ++ (blanks (suc g) ++ rest) → list_all is_mark word ≡ true → Begins rest → IsGap text word rest
 gap_at text word rest g is no_space begins =
-    let behind : drop (length word) text ≡ spaces (suc g) ++ rest = ap (drop (length word)) is ∙ drop_at word (spaces (suc g) ++ rest) (length word) refl in
+    let behind : drop (length word) text ≡ blanks (suc g) ++ rest = ap (drop (length word)) is ∙ drop_at word (blanks (suc g) ++ rest) (length word) refl in
     record {
       gap = suc g;
-      end = ap (position is_space) is ∙ place_at is_space word 32 (spaces g ++ rest) no_space refl;
-      word_is = ap (take (length word)) is ∙ take_at word (spaces (suc g) ++ rest) (length word) refl;
+      end = ap (position is_space) is ∙ place_at is_space word 32 (blanks g ++ rest) no_space refl;
+      word_is = ap (take (length word)) is ∙ take_at word (blanks (suc g) ++ rest) (length word) refl;
       mark = ap (position is_mark) behind ∙ mark_behind (suc g) rest begins;
-      rest_is = ap (drop (suc g)) behind ∙ drop_at (spaces (suc g)) rest (suc g) (spaces_length (suc g));
+      rest_is = ap (drop (suc g)) behind ∙ drop_at (blanks (suc g)) rest (suc g) (spaces_length (suc g));
     }
 
-gap_by : (text word rest : List ℕ) (n : ℕ) → 0 < n → text ≡ word ++ (spaces n ++ rest) → list_all is_mark word ≡ true → Begins rest → IsGap text word rest
-gap_by text word rest zero some is no_space begins = absurd (omega arith)
-gap_by text word rest (suc g) some is no_space begins = gap_at text word rest g is no_space begins
-
 pub is_gap : (text word rest : List ℕ) → SplitsAtGap text word rest → IsGap text word rest
-is_gap text word rest h = gap_by text word rest h.gap h.some h.text_is h.no_space h.begins
+is_gap text word rest h = gap_at text word rest h.gap h.text_is h.no_space h.begins
 
 pub no_end : (text word rest : List ℕ) → None ≡ position is_space text → SplitsAtGap text word rest → ⊥
 no_end text word rest none h =

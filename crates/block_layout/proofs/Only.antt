@@ -1,6 +1,7 @@
 -- A text has one layout or one first fault.
 use Rattle.std.proofs.Common.{◌≡◌, ℕ, ◌<◌, true, false, ◌==◌, if◌then◌else◌, List, [], ◌∷◌, ◌++◌, length, take, drop, get_or, Option, Some, None, IsSome, codes, refl, sym, ap, ◌∙◌, subst, inl, inr, arith}
-use Rattle.std.specs.List.{list_all, find, position}
+use Rattle.std.specs.List.{find, position}
+use Rattle.std.specs.Str.Parse.{AllDigits, digits_value}
 use Rattle.std.proofs.lemmas.Bool.{cases_lt, false≢true}
 use Rattle.std.proofs.lemmas.List.{length-append, get_or_append_left, get_or_at}
 use Rattle.block_layout.specs.declared.ranges.Lines.{Lines}
@@ -8,7 +9,7 @@ use Rattle.block_layout.specs.declared.layout.BlockRange.{BlockRange}
 use Rattle.block_layout.specs.declared.refused.LayoutRule.{LayoutRule}
 use Rattle.block_layout.specs.declared.refused.LayoutRule.TheVariants.{Syntax, BlockSize, Unaligned, NotShared, Overlap, Home}
 use Rattle.block_layout.specs.Layout.{Shape, IsValid, IsRange, AreApart, names}
-use Rattle.block_layout.specs.Text.{text_lines, says_nothing, spaces, is_decimal_digit, number_behind, IsHexadecimal, IsDecimal, IsHomeWord, HasFields, Name, IsLayoutOf, Violates, Breaks, number_of, IsFirstFault, IsFirstBroken}
+use Rattle.block_layout.specs.Text.{text_lines, says_nothing, spaces, IsHexadecimal, IsDecimal, IsHomeWord, HasFields, Name, IsLayoutOf, Violates, Breaks, number_of, IsFirstFault, IsFirstBroken}
 use Rattle.block_layout.specs.Parts.{is_mark, SplitsAtGap, AreWords}
 use Rattle.block_layout.proofs.LineFields.{IsGap, is_gap}
 use Rattle.block_layout.proofs.Fields.{words_of_fields}
@@ -47,16 +48,15 @@ words_once line a b c d x y z w h k =
 hexadecimal_once : (v w : List ℕ) (m n : ℕ) → v ≡ w → IsHexadecimal v m → IsHexadecimal w n → m ≡ n
 hexadecimal_once v w m n e h k =
     let f : 48 ∷ 120 ∷ h.digits ≡ 48 ∷ 120 ∷ k.digits = sym h.word_is ∙ e ∙ k.word_is in
-    h.value ∙ ap (λ ds. number_behind 16 0 (drop 2 ds)) f ∙ sym k.value
+    sym h.value ∙ ap (λ ds. digits_value 16 (drop 2 ds)) f ∙ k.value
 
 decimal_once : (most : ℕ) (v w : List ℕ) (m n : ℕ) → v ≡ w → IsDecimal most v m → IsDecimal most w n → m ≡ n
-decimal_once most v w m n e h k = h.value ∙ ap (number_behind 10 0) e ∙ sym k.value
+decimal_once most v w m n e h k = sym h.value ∙ ap (digits_value 10) e ∙ k.value
 
 no_star : (v w : List ℕ) (n : ℕ) → v ≡ w → v ≡ codes "*" → IsDecimal 2 w n → ⊥
 no_star v w n e star h =
-    let P : List ℕ → Type 0 = λ x. list_all is_decimal_digit x ≡ true in
-    let t : list_all is_decimal_digit (42 ∷ []) ≡ true = subst P (sym e ∙ star) h.all in
-    false≢true t
+    let digit : AllDigits 10 (codes "*") = subst (AllDigits 10) (sym e ∙ star) h.numeral.1 in
+    absurd (omega (arith, digit.0))
 
 home_once : (v w : List ℕ) (g h : Option ℕ) → v ≡ w → IsHomeWord v g → IsHomeWord w h → g ≡ h
 home_once v w None None e p q = refl

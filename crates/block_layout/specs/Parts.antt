@@ -1,8 +1,8 @@
 -- Helps the code alone: a line taken apart at its spaces.
-use Rattle.std.specs.Prelude.{◌≡◌, ℕ, ◌<◌, Bool, true, not, ◌==◌, if◌then◌else◌, List, [], ◌∷◌, ◌++◌, Option, None, Some}
+use Rattle.std.specs.Prelude.{◌≡◌, ℕ, Bool, true, not, ◌==◌, List, [], ◌∷◌, ◌++◌}
 use Rattle.std.specs.List.{list_all}
 use Rattle.block_layout.specs.declared.layout.BlockRange.{BlockRange}
-use Rattle.block_layout.specs.Text.{spaces, is_hexadecimal_digit, digit_value, IsHexadecimal, IsDecimal, IsHomeWord}
+use Rattle.block_layout.specs.Text.{spaces, IsHexadecimal, IsDecimal, IsHomeWord}
 
 abbrev pub is_space : ℕ → Bool
 is_space c = c == 32
@@ -17,7 +17,6 @@ Begins (c ∷ cs) = is_mark c ≡ true
 -- a word without spaces, one space or more, and then what begins with another mark
 pub record SplitsAtGap (text word rest : List ℕ) : Type 0 where
   pub gap : ℕ
-  pub some : 0 < gap
   pub text_is : text ≡ word ++ (spaces gap ++ rest)
   pub no_space : list_all is_mark word ≡ true
   pub begins : Begins rest
@@ -36,7 +35,3 @@ pub record AreFields (a b c d : List ℕ) (r : BlockRange) : Type 0 where
   pub length : IsHexadecimal b r.length
   pub block : IsDecimal 5 c r.block
   pub home : IsHomeWord d r.home
-
--- the value of a hexadecimal digit
-abbrev pub hexadecimal_value : ℕ → Option ℕ
-hexadecimal_value c = if is_hexadecimal_digit c then Some (digit_value c) else None

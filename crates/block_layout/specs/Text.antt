@@ -1,6 +1,7 @@
 -- The text of a layout: a line for each range, with start, length, block size and home.
-use Rattle.std.specs.Prelude.{◌≡◌, ℕ, ◌+◌, ◌-◌, ◌*◌, ◌<◌, ◌≤◌, Bool, true, false, ◌==◌, ◌&&◌, ◌||◌, nat_le, if◌then◌else◌, List, [], ◌∷◌, ◌++◌, length, slice_index, codes, replicate, Option, None, Some, IsSome, find, ◌⊎◌}
+use Rattle.std.specs.Prelude.{◌≡◌, ℕ, suc, ◌+◌, ◌<◌, ◌≤◌, Bool, true, false, ◌==◌, ◌||◌, List, [], ◌∷◌, ◌++◌, length, slice_index, codes, replicate, Option, None, Some, IsSome, find, ◌⊎◌}
 use Rattle.std.specs.List.{list_all, slice_split}
+use Rattle.std.specs.Str.Parse.{IsNumeral, digits_value}
 use Rattle.block_layout.specs.declared.ranges.Lines.{Lines}
 use Rattle.block_layout.specs.declared.layout.BlockRange.{BlockRange}
 use Rattle.block_layout.specs.declared.refused.LayoutRule.{LayoutRule}
@@ -15,45 +16,28 @@ text_lines text = slice_split (λ c. c == 10) text
 abbrev pub says_nothing : List ℕ → Bool
 says_nothing line = list_all (λ c. c == 32) line || slice_index line 0 == 35
 
-abbrev pub is_decimal_digit : ℕ → Bool
-is_decimal_digit c = nat_le 48 c && nat_le c 57
-
--- 0 to 9, A to F or a to f
-abbrev pub is_hexadecimal_digit : ℕ → Bool
-is_hexadecimal_digit c =
-    is_decimal_digit c || ((nat_le 65 c && nat_le c 70) || (nat_le 97 c && nat_le c 102))
-
-abbrev pub digit_value : ℕ → ℕ
-digit_value c = if nat_le c 57 then c - 48 else if nat_le c 70 then c - 55 else c - 87
-
--- the number that digits in a base make, behind a number
-abbrev pub number_behind : ℕ → ℕ → List ℕ → ℕ
-number_behind base n [] = n
-number_behind base n (c ∷ cs) = number_behind base (n * base + digit_value c) cs
-
 -- 0x and 1 to 8 hexadecimal digits of either case
 pub record IsHexadecimal (word : List ℕ) (n : ℕ) : Type 0 where
   pub digits : List ℕ
   pub word_is : word ≡ codes "0x" ++ digits
-  pub some : 0 < length digits
+  pub numeral : IsNumeral 16 digits
   pub few : length digits ≤ 8
-  pub all : list_all is_hexadecimal_digit digits ≡ true
-  pub value : n ≡ number_behind 16 0 digits
+  pub value : digits_value 16 digits ≡ n
 
 -- so many decimal digits at most, and one at least
 pub record IsDecimal (most : ℕ) (word : List ℕ) (n : ℕ) : Type 0 where
-  pub some : 0 < length word
+  pub numeral : IsNumeral 10 word
   pub few : length word ≤ most
-  pub all : list_all is_decimal_digit word ≡ true
-  pub value : n ≡ number_behind 10 0 word
+  pub value : digits_value 10 word ≡ n
 
 -- a node's number, or a star for none
 abbrev pub IsHomeWord : List ℕ → Option ℕ → Type 0
 IsHomeWord word None = word ≡ codes "*"
 IsHomeWord word (Some n) = IsDecimal 2 word n
 
+-- one space, and n more
 abbrev pub spaces : ℕ → List ℕ
-spaces n = replicate n 32
+spaces n = replicate (suc n) 32
 
 -- four fields, with one space or more between them and none before or after
 pub record HasFields (line : List ℕ) (r : BlockRange) : Type 0 where
@@ -66,9 +50,6 @@ pub record HasFields (line : List ℕ) (r : BlockRange) : Type 0 where
   pub third_gap : ℕ
   pub line_is : line ≡ start_word ++ (spaces first_gap ++ (length_word ++ (spaces second_gap
       ++ (block_word ++ (spaces third_gap ++ home_word)))))
-  pub first_spaces : 0 < first_gap
-  pub second_spaces : 0 < second_gap
-  pub third_spaces : 0 < third_gap
   pub start : IsHexadecimal start_word r.start
   pub length : IsHexadecimal length_word r.length
   pub block : IsDecimal 5 block_word r.block

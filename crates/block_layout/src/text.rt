@@ -2,10 +2,12 @@
 
 ghost use Rattle.std.specs.Prelude.{◌≡◌, ℕ, ◌==◌, ◌≤◌, ◌<◌, ◌^◌, not, List, position, IfSome};
 ghost use Rattle.std.specs.Prelude.{MatchOption, Option, Some};
+ghost use Rattle.std.specs.Prelude.{length};
 ghost use Rattle.std.specs.List.{list_all};
+ghost use Rattle.std.specs.Str.Parse.{AllDigits, digits_value};
 ghost use Rattle.block_layout.specs.Text.{HasFields, IsHexadecimal, IsDecimal, IsHomeWord};
 ghost use Rattle.block_layout.specs.Text.{says_nothing};
-ghost use Rattle.block_layout.specs.Parts.{SplitsAtGap, AreWords, AreFields, hexadecimal_value};
+ghost use Rattle.block_layout.specs.Parts.{SplitsAtGap, AreWords, AreFields};
 ghost use Rattle.block_layout.specs.declared.layout.BlockRange.{BlockRange as Fields};
 
 use crate::layout::BlockRange;
@@ -33,17 +35,20 @@ pub(crate) fn says_nothing(line: &[u8]) -> bool
     is_blank(line) || line[0] == b'#'
 }
 
-/// The value of a hexadecimal digit, in either case.
-fn hexadecimal_value(byte: u8) -> Option<u32>
-    ensures value { result ≡ hexadecimal_value byte }
-    ensures low { IfSome result (λ v. v < 16) }
+/// The number that digits in a radix write, in either case: none where a byte is no such digit.
+fn number_in(digits: &[u8], radix: u32) -> Option<u32>
+    requires some { 2 ≤ radix }
+    requires few { radix ≤ 36 }
+    requires small { radix ^ length digits.now ≤ 2 ^ 32 }
+    ensures { MatchOption result (AllDigits radix digits.now → ⊥)
+        (λ n. AllDigits radix digits.now × (digits_value radix digits.now ≡ n)) }
 {
-    match byte {
-        b'0'..=b'9' => Some(u32::from(byte - b'0')),
-        b'A'..=b'F' => Some(u32::from(byte - b'A') + 10),
-        b'a'..=b'f' => Some(u32::from(byte - b'a') + 10),
-        _ => None,
+    let mut number = 0;
+    for byte in digits {
+        let digit = char::from(*byte).to_digit(radix)?;
+        number = number * radix + digit;
     }
+    Some(number)
 }
 
 /// The number of a hexadecimal word.
@@ -55,11 +60,7 @@ fn hexadecimal(word: &[u8]) -> Option<u32>
     if digits.is_empty() || digits.len() > MOST_ADDRESS_DIGITS {
         return None;
     }
-    let mut number = 0;
-    for digit in digits {
-        number = number * 16 + hexadecimal_value(*digit)?;
-    }
-    Some(number)
+    number_in(digits, 16)
 }
 
 /// The number of a decimal word, which has at most so many digits.
@@ -72,14 +73,7 @@ fn decimal(word: &[u8], most: usize) -> Option<u32>
     if word.is_empty() || word.len() > most {
         return None;
     }
-    let mut number = 0;
-    for digit in word {
-        if !digit.is_ascii_digit() {
-            return None;
-        }
-        number = number * 10 + u32::from(*digit - b'0');
-    }
-    Some(number)
+    number_in(word, 10)
 }
 
 /// The home that a word names: none for a star.

@@ -2,7 +2,7 @@
 use Rattle.std.proofs.Common.{◌≡◌, ℕ, ◌+◌, ◌*◌, ◌^◌, ◌%◌, ◌<◌, ◌≤◌, Bool, true, false, ◌&&◌, ◌==◌, cond, inl, inr, Option, Some, None, List, [], length, get_or, IfSome, IfNone, refl, sym, ap, subst, ◌∙◌, arith}
 use Rattle.std.specs.Prelude.{nat_lt, nat_le, find, is_some}
 use Rattle.std.specs.List.{list_any}
-use Rattle.std.proofs.lemmas.Bool.{cases_lt, cases_Bool, false≢true, and_parts, and_left, and_right, true_from_ne_false, le-ltb, leb-true, cond-false}
+use Rattle.std.proofs.lemmas.Bool.{cases_lt, cases_Bool, false≢true, and_parts, and_left, and_right, le-ltb, leb-true, cond-false}
 use Rattle.std.proofs.lemmas.Bool.Decides.{nat_tests}
 use Rattle.std.proofs.lemmas.List.Folds.{Any-from_list_any}
 use Rattle.std.proofs.lemmas.List.Sums.{AllPass-from_list_all}
@@ -11,8 +11,8 @@ use Rattle.rv32_decode.specs.declared.Instr.{Instr}
 use Rattle.rv32_decode.specs.Rows.{instruction_of}
 use Rattle.elf32_read.specs.Elf.{Elf, Segment, are_placed, is_placed}
 use Rattle.rv32_program.specs.declared.Class.TheVariants.{Unmapped}
-use Rattle.exec_map.specs.declared.refused.ProgramRule.TheVariants.{EntryNotCode}
 use Rattle.exec_map.specs.Refusals.{IsAcceptable, has_memory, is_too_high}
+use Rattle.exec_map.proofs.Judging.{no_rule}
 use Rattle.exec_map.proofs.Words.{high_end, not_high, no_word}
 use Rattle.rv32_program.specs.Program.{IsAccepted}
 use Rattle.exec_map.specs.declared.stretches.NumberRange.{NumberRange}
@@ -63,7 +63,7 @@ go_on e code h from (Some a) below some least low none = up_to_next e from (Some
 
 -- rules 12 to 14 among the others don't fit
 pub none_below : (e : Elf) → IsAcceptable e → NoRuleBelow e 15
-none_below e h r fits = absurd (h.no_rule r fits)
+none_below e h r fits = absurd (no_rule e h r fits)
 
 -- a code word is below the private window
 le_by : (a : ℕ) (s : Segment) → s.vaddr + s.memsz ≤ 0x7fff0000 → length s.bytes ≤ s.memsz → a + 4 ≤ s.vaddr + length s.bytes → a + 4 ≤ 0x7fff0000
@@ -113,12 +113,9 @@ instruction_in : (o : Option Instr) → is_some o ≡ true → (i : Instr) × (o
 instruction_in None h = absurd (false≢true h)
 instruction_in (Some i) h = (i, refl)
 
-entry_word : (e : Elf) → IsAcceptable e → is_code_word e e.entry ≡ true
-entry_word e h = true_from_ne_false (is_code_word e e.entry) (λ out. h.no_rule (EntryNotCode e.entry) (refl, out))
-
 pub accepted : (e : Elf) → are_placed e.segments ≡ true → IsAcceptable e → AllSupported e → IsAccepted (program_of e)
 accepted e placed h all =
-    let starts = entry_word e h in
+    let starts : is_code_word e e.entry ≡ true = h.entry in
     let first = instruction_in (instruction_of (word_of e e.entry)) (all.supported e.entry starts) in
     record {
       aligned = λ a i is. aligned (a % 4) _ (code_parts (is_code_word e a) _ i is).0;

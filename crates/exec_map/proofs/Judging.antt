@@ -1,21 +1,24 @@
 -- The rules one after another.
-use Rattle.std.proofs.Common.{◌≡◌, ℕ, ◌+◌, ◌%◌, ◌<◌, ◌≤◌, true, false, ◌&&◌, ◌||◌, not, inl, inr, Some, None, List, [], ◌∷◌, length, refl, sym, ap, ◌∙◌, arith}
-use Rattle.std.specs.Prelude.{position, nat_lt, nat_le, ◌==◌}
+use Rattle.std.proofs.Common.{◌≡◌, ℕ, zero, suc, ◌+◌, ◌%◌, ◌<◌, ◌≤◌, true, false, ◌&&◌, ◌||◌, not, inl, inr, Option, Some, None, List, [], ◌∷◌, length, get_or, refl, sym, ap, ◌∙◌, arith}
+use Rattle.std.specs.Prelude.{AllPairs, position, nat_lt, nat_le, ◌==◌}
 use Rattle.std.specs.List.{list_any, filter}
 use Rattle.std.specs.List.Sorted.{IsPermutation}
 use Rattle.std.proofs.Math.Path.{fun_ext}
-use Rattle.std.proofs.lemmas.Bool.{cases_lt, cases_eq, cases_Bool, false≢true, and_parts, and_from, and_right, eq-eqb, le-ltb, leb-true, cond-true, cond-false}
+use Rattle.std.proofs.lemmas.Bool.{cases_lt, cases_eq, cases_Bool, false≢true, true_from_ne_false, and_parts, and_from, and_right, eq-eqb, le-ltb, leb-true, cond-true, cond-false}
 use Rattle.std.proofs.lemmas.Bool.Decides.{nat_tests}
 use Rattle.std.proofs.lemmas.List.Sorted.{list_any-IsPermutation}
+use Rattle.std.proofs.lemmas.Option.{get_or_from_slice_get, slice_get-get_or}
 use Rattle.elf32_read.specs.Elf.{Elf, Segment, Section, are_placed, is_placed}
 use Rattle.rv32_program.specs.declared.Class.{Class}
+use Rattle.rv32_program.specs.declared.Class.TheVariants.{Shared, ReadOnly, Private, Unmapped}
 use Rattle.exec_map.specs.declared.stretches.NumberRange.{NumberRange}
 use Rattle.exec_map.specs.declared.refused.ProgramRule.{ProgramRule}
 use Rattle.exec_map.specs.declared.refused.ProgramRule.TheVariants.{TooHigh, Overlap, WritableCode, NoCode, TooMuch, EntryNotCode, Unsupported, CodeAlign, TooManySegments}
-use Rattle.exec_map.specs.Contents.{is_executable, is_code_section, is_code_word, is_supported_word, AllSupported}
-use Rattle.exec_map.specs.Refusals.{has_memory, Fits, number_of, IsRefusedBy, IsAcceptable, AreOverlapping, IsTooMuch, is_too_high, is_writable_code, is_broken_code, is_whole_code, is_within}
+use Rattle.exec_map.specs.Contents.{is_executable, is_code_section, is_code_word, is_supported_word, word_of, is_writable, touches, AllSupported}
+use Rattle.exec_map.specs.Refusals.{has_memory, Fits, number_of, IsRefusedBy, IsAcceptable, AreOverlapping, IsFirstOverlap, IsFirstUnsupported, IsTooMuch, lines_of_all, line_limit, is_too_high, is_writable_code, is_broken_code, is_whole_code, is_within}
 use Rattle.exec_map.specs.Index.{NoRuleBelow, AreCode, have}
 use Rattle.exec_map.proofs.Halving.{have_here}
+use Rattle.exec_map.proofs.Overlaps.{get_within}
 
 pub refused : (e : Elf) (r : ProgramRule) → Fits e r → NoRuleBelow e (number_of r) → IsRefusedBy e r
 refused e r fits below = record { fits = fits; first = below }
@@ -147,12 +150,108 @@ below_19 e below all = step e 18 below (only_18 e (λ a w f. false≢true (sym f
 pub below_22 : (e : Elf) → NoRuleBelow e 19 → None ≡ position (is_broken_code e.segments) e.sections → NoRuleBelow e 22
 below_22 e below none = step e 21 (step e 20 (step e 19 below (only_19 e (λ k f. some_none k (none ∙ f)))) (only_20 e)) (only_21 e)
 
+-- where no pair is the first to overlap, none overlaps
+none_on : (xs : List Segment) (k : ℕ) → ((i j : ℕ) → IsFirstOverlap xs i j → ⊥) → ((i l : ℕ) → i < k → AreOverlapping xs i l → ⊥) → (n l : ℕ) → l < n → AreOverlapping xs k l → ⊥
+none_on xs k never before zero l lt here = absurd (omega arith)
+none_on xs k never before (suc n) l lt here = never k l (record {
+  overlap = here;
+  least = λ i m other. elim (cases_lt i k) [ inl less ↦ absurd (before i m less other) | inr le ↦ le ];
+  next = λ m other. elim (cases_lt m l) [
+    | inl less ↦ absurd (none_on xs k never before n m (omega arith) other)
+    | inr le ↦ le
+  ];
+})
+
+none_up : (xs : List Segment) → ((i j : ℕ) → IsFirstOverlap xs i j → ⊥) → (n k l : ℕ) → k < n → AreOverlapping xs k l → ⊥
+none_up xs never zero k l lt here = absurd (omega arith)
+none_up xs never (suc n) k l lt here =
+    none_on xs k never (λ i m less. none_up xs never n i m (omega arith)) (l + 1) l (omega arith) here
+
+pub none_overlap : (xs : List Segment) → ((i j : ℕ) → IsFirstOverlap xs i j → ⊥) → (k l : ℕ) → AreOverlapping xs k l → ⊥
+none_overlap xs never k l here = none_up xs never (k + 1) k l (omega arith) here
+
+-- no line is in two segments just where none overlap
+apart_by : (xs : List Segment) → ((k l : ℕ) → AreOverlapping xs k l → ⊥) → AllPairs (λ s t. (line : ℕ) → touches line s ≡ true → touches line t ≡ false) xs
+apart_by xs never i j d lt in_j = λ line one.
+    elim (cases_Bool (touches line (get_or xs j d))) [
+      | inl other ↦ absurd (never i j (record {
+        order = lt;
+        one = get_or xs i d;
+        other = get_or xs j d;
+        one_is = slice_get-get_or xs i d (omega arith);
+        other_is = slice_get-get_or xs j d in_j;
+        line = line;
+        in_one = one;
+        in_other = other;
+      }))
+      | inr out ↦ out
+    ]
+
+overlap_never : (xs : List Segment) → AllPairs (λ s t. (line : ℕ) → touches line s ≡ true → touches line t ≡ false) xs → (k l : ℕ) → AreOverlapping xs k l → ⊥
+overlap_never xs apart k l h =
+    let in_l = get_within xs l h.other h.other_is in
+    let one : get_or xs k h.one ≡ h.one = get_or_from_slice_get xs k h.one h.one h.one_is in
+    let other : get_or xs l h.one ≡ h.other = get_or_from_slice_get xs l h.other h.one h.other_is in
+    let out = apart k l h.one h.order in_l h.line (ap (touches h.line) one ∙ h.in_one) in
+    false≢true (sym out ∙ ap (touches h.line) other ∙ h.in_other)
+
+-- where no word is the lowest that has no row, each has one
+supported_below : (e : Elf) → ((a w : ℕ) → IsFirstUnsupported e a w → ⊥) → (n a : ℕ) → a < n → is_code_word e a ≡ true → is_supported_word (word_of e a) ≡ true
+supported_below e never zero a lt word = absurd (omega arith)
+supported_below e never (suc n) a lt word =
+    true_from_ne_false (is_supported_word (word_of e a)) (λ out. never a (word_of e a) (record {
+      code_word = word;
+      reads = refl;
+      unsupported = out;
+      lowest = λ b less here. supported_below e never n b (omega arith) here;
+    }))
+
+none_from : (o : Option ℕ) → ((k : ℕ) → o ≡ Some k → ⊥) → o ≡ None
+none_from None never = refl
+none_from (Some k) never = absurd (never k refl)
+
+at_most : (n limit : ℕ) → (limit < n → ⊥) → n ≤ limit
+at_most n limit never = elim (cases_lt limit n) [ inl many ↦ absurd (never many) | inr few ↦ few ]
+
+-- where no rule fits the executable is acceptable
+pub acceptable_by : (e : Elf) → ((r : ProgramRule) → Fits e r → ⊥) → IsAcceptable e
+acceptable_by e never =
+    let shared : lines_of_all is_writable e.segments ≤ line_limit = at_most _ line_limit (never (TooMuch Shared)) in
+    record {
+      low = none_from _ (λ k f. never (TooHigh k) f);
+      apart = apart_by e.segments (none_overlap e.segments (λ i j f. never (Overlap i j) f));
+      unwritten = none_from _ (λ k f. never (WritableCode k) f);
+      few_shared = shared;
+      few_read_only = at_most _ line_limit (λ many. never (TooMuch ReadOnly) (shared, many));
+      entry = true_from_ne_false (is_code_word e e.entry) (λ out. never (EntryNotCode e.entry) (refl, out));
+      supported = record { supported = λ a word. supported_below e (λ b w f. never (Unsupported b w) f) (a + 1) a (omega arith) word };
+      whole = none_from _ (λ k f. never (CodeAlign k) f);
+      few_segments = at_most _ 999 (λ many. never (TooManySegments (length e.segments)) (refl, many));
+    }
+
+nothing : (o : Option ℕ) (k : ℕ) → o ≡ None → o ≡ Some k → ⊥
+nothing o k none some = cc
+
+-- and no rule fits an acceptable executable
+pub no_rule : (e : Elf) → IsAcceptable e → (r : ProgramRule) → Fits e r → ⊥
+no_rule e h (TooHigh k) f = nothing _ k h.low f
+no_rule e h (Overlap i j) f = overlap_never e.segments h.apart i j f.overlap
+no_rule e h (WritableCode k) f = nothing _ k h.unwritten f
+no_rule e h NoCode f = false≢true (sym (f e.entry) ∙ h.entry)
+no_rule e h (TooMuch Shared) f = let few = h.few_shared in omega (arith, few, f)
+no_rule e h (TooMuch ReadOnly) f = let few = h.few_read_only in let many = f.1 in omega (arith, few, many)
+no_rule e h (TooMuch Private) f = f
+no_rule e h (TooMuch Unmapped) f = f
+no_rule e h (EntryNotCode a) f = false≢true (sym f.1 ∙ ap (is_code_word e) f.0 ∙ h.entry)
+no_rule e h (Unsupported a w) f = false≢true (sym f.unsupported ∙ ap is_supported_word f.reads ∙ h.supported.supported a f.code_word)
+no_rule e h (CodeAlign k) f = nothing _ k h.whole f
+no_rule e h (TooManySegments n) f = let is : n ≡ length e.segments = f.0 in let many : 999 < n = f.1 in let few = h.few_segments in omega (arith, is, many, few)
+
 pub acceptable : (e : Elf) → NoRuleBelow e 22 → length e.segments ≤ 999 → IsAcceptable e
-acceptable e below few = record {
-  no_rule = λ r f.
-      let late = step e 22 below (only_22 e (λ n g. let is : n ≡ length e.segments = g.0 in let many : 999 < n = g.1 in absurd (omega arith))) r f in
-      no_23 r late;
-}
+acceptable e below few =
+    acceptable_by e (λ r f.
+    let late = step e 22 below (only_22 e (λ n g. let is : n ≡ length e.segments = g.0 in let many : 999 < n = g.1 in absurd (omega arith))) r f in
+    no_23 r late)
 
 -- sections are judged by the sorted segments as by all
 not_within : (s : Section) (t : Segment) → 0 < s.size → is_placed t ≡ true → has_memory t ≡ false → is_within s t ≡ false

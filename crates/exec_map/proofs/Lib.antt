@@ -3,7 +3,7 @@ mod Merging
 mod Looking
 mod FirstBytes
 mod Places
-mod Judging
+pub mod Judging
 mod Accepting
 mod Sharing
 mod Ordering

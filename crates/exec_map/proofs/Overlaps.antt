@@ -52,7 +52,7 @@ overlap_from xs k l d lt in_l h =
       in_other = line.2;
     }
 
-get_within : {X : Type 0} (xs : List X) (i : ℕ) (x : X) → slice_get xs i ≡ Some x → i < length xs
+pub get_within : {X : Type 0} (xs : List X) (i : ℕ) (x : X) → slice_get xs i ≡ Some x → i < length xs
 get_within [] i x h = absurd (cc)
 get_within (y ∷ ys) zero x h = omega arith
 get_within (y ∷ ys) (suc i) x h = let rest = get_within ys i x h in omega arith

@@ -1,11 +1,11 @@
--- Why an executable is refused: each rule with what it names, and the order of the rules.
--- An executable is accepted where no rule fits it.
-use Rattle.std.specs.Prelude.{◌≡◌, ℕ, ◌+◌, ◌-◌, ◌/◌, ◌%◌, ◌<◌, ◌≤◌, Bool, true, false, not, if◌then◌else◌, ◌&&◌, ◌==◌, nat_lt, nat_le, List, Some, length, slice_get, position}
+-- What an acceptable executable has, which is that no rule fits it; and why an executable is
+-- refused: each rule with what it names, and the order of the rules.
+use Rattle.std.specs.Prelude.{◌≡◌, ℕ, ◌+◌, ◌-◌, ◌/◌, ◌%◌, ◌<◌, ◌≤◌, Bool, true, false, not, if◌then◌else◌, ◌&&◌, ◌==◌, nat_lt, nat_le, List, Some, None, AllPairs, length, slice_get, position}
 use Rattle.std.specs.List.{list_any, sum_by}
 use Rattle.elf32_read.specs.Elf.{Elf, Segment, Section}
 use Rattle.rv32_program.specs.declared.Class.{Class}
 use Rattle.rv32_program.specs.declared.Class.TheVariants.{Shared, ReadOnly}
-use Rattle.exec_map.specs.Contents.{is_executable, is_writable, touches, is_code_section, is_code_word, word_of, is_supported_word}
+use Rattle.exec_map.specs.Contents.{is_executable, is_writable, touches, is_code_section, is_code_word, word_of, is_supported_word, AllSupported}
 use Rattle.exec_map.specs.declared.refused.ProgramRule.{ProgramRule}
 use Rattle.exec_map.specs.declared.refused.ProgramRule.TheVariants.{TooHigh, Overlap, WritableCode, NoCode, TooMuch, EntryNotCode, Unsupported, CodeAlign, TooManySegments}
 
@@ -109,6 +109,16 @@ pub record IsRefusedBy (e : Elf) (r : ProgramRule) : Type 0 where
   pub fits : Fits e r
   pub first : (q : ProgramRule) → Fits e q → number_of r ≤ number_of q
 
--- no rule fits the executable
+-- Each segment ends at 0x7fff0000 or below it, no line is in two of them, and none is writable and
+-- executable. The entry is a code word, every code word has a row, and sections of code are whole.
+-- There are 999 segments at most, and 16 MiB at most of each kind.
 pub record IsAcceptable (e : Elf) : Type 0 where
-  pub no_rule : (r : ProgramRule) → Fits e r → ⊥
+  pub low : position is_too_high e.segments ≡ None
+  pub apart : AllPairs (λ s t. (k : ℕ) → touches k s ≡ true → touches k t ≡ false) e.segments
+  pub unwritten : position is_writable_code e.segments ≡ None
+  pub few_shared : lines_of_all is_writable e.segments ≤ line_limit
+  pub few_read_only : lines_of_all (λ s. not (is_writable s)) e.segments ≤ line_limit
+  pub entry : is_code_word e e.entry ≡ true
+  pub supported : AllSupported e
+  pub whole : position (is_broken_code e.segments) e.sections ≡ None
+  pub few_segments : length e.segments ≤ 999

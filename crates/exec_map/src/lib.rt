@@ -9,7 +9,7 @@ ghost use Rattle.byte_range.specs.Memory.{raw};
 ghost use Rattle.rv32_program.specs.Program.{IsAccepted};
 ghost use Rattle.elf32_read.specs.Elf.{Elf as Fields};
 ghost use Rattle.exec_map.specs.Contents as model;
-ghost use Rattle.exec_map.specs.Refusals.{IsRefusedBy, IsAcceptable};
+ghost use Rattle.exec_map.specs.Refusals.{Fits, IsRefusedBy, IsAcceptable};
 
 mod code;
 mod first_memory;
@@ -208,4 +208,10 @@ pub fn first_bytes_law()
     ensures len { (e : Fields) (a n : ℕ) → length (model.first_bytes e a n) ≡ n }
     ensures each { (e : Fields) (a n k : ℕ) → k < n
         → slice_index (model.first_bytes e a n) k ≡ model.first_byte e (a + k) }
+{}
+
+/// An executable is acceptable just where no rule fits it.
+pub fn refusal_law()
+    ensures no_rule { (e : Fields) (r : ProgramRule) → IsAcceptable e → Fits e r → ⊥ }
+    ensures acceptable { (e : Fields) → ((r : ProgramRule) → Fits e r → ⊥) → IsAcceptable e }
 {}

@@ -1,15 +1,13 @@
 -- How large the parts of a rewritten file are.
-use Rattle.std.proofs.Common.{◌≡◌, ◌∙◌, ℕ, ◌+◌, ◌*◌, ◌/◌, ◌-◌, ◌^◌, ◌<◌, ◌≤◌, ◌&&◌, Bool, true, false, cond, inl, inr, not, if◌then◌else◌, nat_le, nat_lt, List, [], ◌∷◌, ◌++◌, length, length-append, map, refl, sym, ap, arith}
+use Rattle.std.proofs.Common.{◌≡◌, ◌∙◌, ℕ, ◌+◌, ◌*◌, ◌/◌, ◌-◌, ◌^◌, ◌<◌, ◌≤◌, ◌&&◌, Bool, true, false, cond, not, if◌then◌else◌, nat_le, nat_lt, List, [], ◌∷◌, ◌++◌, length, length-append, map, refl, sym, ap, arith}
 use Rattle.std.specs.List.{flat_map, list_all, sum_by}
-use Rattle.std.proofs.lemmas.Bool.{and_from, and_parts, cases_lt, le-leb, leb-true, lt-ltb, ltb-false}
+use Rattle.std.proofs.lemmas.Bool.{and_from, and_parts, le-leb, leb-true, lt-ltb, ltb-false}
 use Rattle.std.proofs.lemmas.List.{length-map}
 use Rattle.std.proofs.lemmas.List.Folds.{list_all-append}
 use Rattle.std.proofs.lemmas.List.Sums.{sum_by-append, sum_by-cons}
 use Rattle.elf32_read.specs.Elf.{Elf, Segment, are_known_flags, are_placed, is_placed, is_in_limits, segments_size, sections_size}
 use Rattle.exec_map.specs.Contents.{is_writable}
-use Rattle.exec_map.specs.Refusals.{IsAcceptable, has_memory, lines_of, lines_of_all, line_limit}
-use Rattle.exec_map.specs.declared.refused.ProgramRule.TheVariants.{TooMuch, TooManySegments}
-use Rattle.rv32_program.specs.declared.Class.TheVariants.{Shared, ReadOnly}
+use Rattle.exec_map.specs.Refusals.{IsAcceptable, has_memory, lines_of, lines_of_all}
 use Rattle.templates.specs.declared.plans.PlanEntry.{PlanEntry}
 use Rattle.jump_map.specs.Image.{Cell, image_base, most_words}
 use Rattle.rewriter.specs.RewrittenFile.{word_bytes, entry_bytes, plan_bytes, mapping_bytes, map_bytes, code_bytes, without_execution, segment_with, elf_of_parts}
@@ -101,16 +99,8 @@ accepted_size : (e : Elf) → IsAcceptable e → are_placed e.segments ≡ true
     → segments_size e.segments ≤ 2 ^ 25
 accepted_size e a placed =
     let all = both_sizes e.segments placed in
-    let shared : lines_of_all is_writable e.segments ≤ line_limit =
-    elim (cases_lt line_limit (lines_of_all is_writable e.segments)) [
-      | inl many ↦ absurd (a.no_rule (TooMuch Shared) many)
-      | inr few ↦ few
-    ] in
-    let read : lines_of_all (λ s. not (is_writable s)) e.segments ≤ line_limit =
-    elim (cases_lt line_limit (lines_of_all (λ s. not (is_writable s)) e.segments)) [
-      | inl many ↦ absurd (a.no_rule (TooMuch ReadOnly) (shared, many))
-      | inr few ↦ few
-    ] in
+    let shared = a.few_shared in
+    let read = a.few_read_only in
     omega (arith, all, shared, read)
 
 same_placed : (ss : List Segment) → are_placed (map without_execution ss) ≡ are_placed ss
@@ -133,11 +123,7 @@ in_limits original entry plan addresses code a known placed few_plan few_map few
     let more : List Segment = segment_with code ∷ [] in
     let count : length (map without_execution old ++ more) ≡ length old + 1 =
     length-append (map without_execution old) more ∙ ap (λ n. n + 1) (length-map old without_execution) in
-    let few : length old ≤ 999 =
-    elim (cases_lt 999 (length old)) [
-      | inl many ↦ absurd (a.no_rule (TooManySegments (length old)) (refl, many))
-      | inr few ↦ few
-    ] in
+    let few : length old ≤ 999 = a.few_segments in
     let here : is_placed (segment_with code) ≡ true =
     and_from _ _ (le-leb (length code) (length code) (omega arith)) (le-leb (image_base + length code) (2 ^ 32) (omega (arith, few_code))) in
     let all_placed : are_placed (map without_execution old ++ more) ≡ true =
