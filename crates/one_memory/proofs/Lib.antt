@@ -2,6 +2,7 @@ mod ServeLemmas
 mod ReadLemmas
 mod ReservedLemmas
 mod StepLemmas
+mod ServedLemmas
 mod StoreLemmas
 mod BreakLemmas
 mod CodeLemmas

@@ -11,7 +11,7 @@ use Rattle.byte_range.specs.Lines.{LineBytes, lines_memory, place_of}
 use Rattle.byte_range.specs.Window.{window_memory, is_in_window}
 use Rattle.rv32_program.specs.declared.Class.{Class}
 use Rattle.rv32_program.specs.declared.Class.TheVariants.{Shared, ReadOnly, Private, Unmapped}
-use Rattle.rv32_program.specs.Program.{class_at}
+use Rattle.rv32_program.specs.Program.{class_at, is_writable as may_be_written}
 use Rattle.byte_range.specs.Memory.{raw}
 use Rattle.rv32_decode.specs.Widths.{is_aligned}
 use Rattle.rv32_step.specs.Memory.{byte_by}
@@ -68,7 +68,7 @@ private_line a = elim (cases_Bool (is_in_window a)) [
   | inr e ↦ rw e (grind (arith, nat_tests))
 ]
 
-private_class : (e : Elf) (a : ℕ) → is_in_window a ≡ true → class_of_line e (a / 64) ≡ Private
+pub private_class : (e : Elf) (a : ℕ) → is_in_window a ≡ true → class_of_line e (a / 64) ≡ Private
 private_class e a inside = let t = private_line a ∙ inside in rw t refl
 
 segment_not_private : (o : Option Segment) → segment_class o ≡ Private → ⊥
@@ -78,7 +78,7 @@ segment_not_private (Some s) is = elim (cases_Bool (is_writable s)) [
   | inr e ↦ absurd (let x = rw e at is in cc)
 ]
 
-other_class : (e : Elf) (a : ℕ) → is_in_window a ≡ false → class_of_line e (a / 64) ≡ Private → ⊥
+pub other_class : (e : Elf) (a : ℕ) → is_in_window a ≡ false → class_of_line e (a / 64) ≡ Private → ⊥
 other_class e a outside is =
     let f = private_line a ∙ outside in
     segment_not_private (find (touches (a / 64)) e.segments) (rw f at is)
@@ -92,11 +92,11 @@ read_shared m k w a n aligned found value =
     let class = shared_class (class_in m a) found in
     (mapped_class (class_in m a) Shared class (λ is. absurd (cc)), value ∙ read_at m k Shared w a (sym class) aligned)
 
-some_window : (b : Bool) (n v : ℕ) → Some n ≡ (if b then Some v else None) → (b ≡ true) × (n ≡ v)
+pub some_window : (b : Bool) (n v : ℕ) → Some n ≡ (if b then Some v else None) → (b ≡ true) × (n ≡ v)
 some_window true n v is = (refl, (cc))
 some_window false n v is = absurd (cc)
 
-none_window : (b : Bool) (v : ℕ) → None ≡ (if b then Some v else None) → b ≡ false
+pub none_window : (b : Bool) (v : ℕ) → None ≡ (if b then Some v else None) → b ≡ false
 none_window true v is = absurd (cc)
 none_window false v is = refl
 
@@ -105,6 +105,13 @@ read_private m k w a n aligned value =
     let parts = some_window (is_in_window a) n _ value in
     let class = private_class m.program a parts.0 in
     (mapped_class (class_in m a) Private class (λ is. absurd (cc)), parts.1 ∙ read_at m k Private w a (sym class) aligned)
+
+-- neither shared nor private, so not to be written
+pub unwritable_else : (c : Class) → is_shared c ≡ false → (c ≡ Private → ⊥) → false ≡ may_be_written c
+unwritable_else Shared s p = absurd (cc)
+unwritable_else ReadOnly s p = refl
+unwritable_else Private s p = absurd (p refl)
+unwritable_else Unmapped s p = refl
 
 -- neither shared nor private
 unmapped_else : (c : Class) → false ≡ is_shared c → (c ≡ Private → ⊥) → (c ≡ ReadOnly → ⊥) → c ≡ Unmapped

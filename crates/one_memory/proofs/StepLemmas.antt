@@ -9,16 +9,15 @@ use Rattle.rv32_program.specs.declared.Class.{Class}
 use Rattle.rv32_program.specs.declared.Class.TheVariants.{Shared, ReadOnly, Private, Unmapped}
 use Rattle.rv32_program.specs.Program.{Program, class_at, is_mapped}
 use Rattle.rv32_step.specs.declared.Demand.{Demand}
-use Rattle.rv32_step.specs.declared.Demand.TheVariants.{Loads}
+use Rattle.rv32_step.specs.declared.Demand.TheVariants.{Loads, Sets}
 use Rattle.rv32_step.specs.Demands.{demand_of}
 use Rattle.rv32_decode.specs.Widths.{width_of, is_aligned}
 use Rattle.rv32_step.specs.OneMemory.{Processor, LoadsFrom, request_at, request_for, answer, set_register, with_processor}
-use Rattle.micro_op.specs.Micro.{Meaning, Demands, meaning_of, index_address}
-use Rattle.micro_op.specs.declared.micro_op.MicroOp.{MicroOp}
+use Rattle.micro_op.specs.Micro.{index_address}
 use Rattle.one_memory.specs.declared.processor.OriginalState.{OriginalState}
 use Rattle.one_memory.specs.declared.processor.StepTarget.{StepTarget}
 use Rattle.one_memory.specs.declared.processor.StepTarget.TheVariants.{Next}
-use Rattle.one_memory.specs.Machine.{MemoryParts, Serves, Serving, IsDemandAt, Answers, Meets, Steps, processor_of, at_index, after_move, original_on, state_among}
+use Rattle.one_memory.specs.Machine.{MemoryParts, Answers, Meets, Steps, processor_of, at_index, after_move, original_on, state_among}
 use Rattle.one_memory.proofs.ReadLemmas.{IsRead}
 
 pub mapped : (c : Class) → (c ≡ Unmapped → ⊥) → is_mapped c ≡ true
@@ -38,15 +37,13 @@ loaded p at m b b' kind r a n aligned read now = λ nodes all.
     ap (λ x. (answer (original_on m nodes) (state_among all m) p q x).state) asks
     ∙ ap (λ x. with_processor (state_among all m) p x) (ap (λ v. set_register q r (extend kind v)) (sym read.1) ∙ sym now)
 
-serves_at : (e : Elf) (q : Processor) (m : Meaning) (d : Demand) (P : Demand → Type 0) → m ≡ Demands d → Serving m P → P d
-serves_at e q m d P is serves = rw is at serves
-
--- what the micro-op demands is what the word requests
-pub served : (p at : ℕ) (m m' : MemoryParts) (b b' : OriginalState) (op : MicroOp) (d : Demand) (move : StepTarget) → Serves m.program (index_address 0 at) op → meaning_of 0 op (processor_of (at_index at b)).registers ≡ Demands d → Meets p d at m b m' b' move → Steps p at m b m' b' move
-served p at m m' b b' op d move serves means met =
+-- the same, where the register is set
+pub loaded_set : (p at : ℕ) (m : MemoryParts) (b b' : OriginalState) (kind : LoadKind) (r a n : ℕ) (move : StepTarget) → is_aligned (width_of kind) a ≡ true → IsRead m b (width_of kind) a n → Meets p (Sets r (extend kind n)) at m b m b' move → Meets p (Loads kind r a) at m b m b' move
+loaded_set p at m b b' kind r a n move aligned read set = λ nodes all.
     let q = processor_of (at_index at b) in
-    let same = serves_at m.program q (meaning_of 0 op q.registers) d (IsDemandAt m.program (index_address 0 at) q) means (serves.serves q) refl in
-    subst (λ r. Answers p r m (at_index at b) m' (after_move move at b')) (sym same) met
+    let asks = asks_for_load (program_of m.program) q kind r a aligned (mapped _ read.0) in
+    ap (λ x. (answer (original_on m nodes) (state_among all m) p q x).state) asks
+    ∙ ap (λ v. with_processor (state_among all m) p (set_register q r (extend kind v))) (sym read.1) ∙ set nodes all
 
 -- what the instruction demands is what the word requests
 pub demanded : (p at : ℕ) (m m' : MemoryParts) (b b' : OriginalState) (i : Instr) (d : Demand) (move : StepTarget) → Some i ≡ code_at m.program (index_address 0 at) → d ≡ demand_of i (processor_of (at_index at b)).registers (index_address 0 at) → Meets p d at m b m' b' move → Steps p at m b m' b' move

@@ -1,23 +1,27 @@
 -- What a store leaves.
-use Rattle.std.proofs.Common.{◌≡◌, ℕ, ◌+◌, ◌%◌, true, List, Option, Some, None, refl, sym, ap, ◌∙◌, arith}
+use Rattle.std.proofs.Common.{◌≡◌, ℕ, ◌+◌, ◌%◌, true, if◌then◌else◌, List, Option, Some, None, refl, sym, ap, ◌∙◌, arith}
 use Rattle.rv32_decode.specs.declared.AmoOp.{AmoOp}
 use Rattle.rv32_decode.specs.declared.Width.{Width}
 use Rattle.rv32_decode.specs.declared.Width.TheVariants.{Word}
 use Rattle.rv32_decode.specs.Widths.{is_aligned}
 use Rattle.rv32_ops.specs.Operations.{extend, amo}
-use Rattle.byte_range.specs.Window.{window_memory}
-use Rattle.exec_map.specs.Contents.{program_of}
+use Rattle.byte_range.specs.Lines.{lines_memory}
+use Rattle.byte_range.specs.Memory.{stored}
+use Rattle.byte_range.specs.Window.{window_memory, is_in_window}
+use Rattle.exec_map.specs.Contents.{program_of, first_byte}
 use Rattle.llsc.specs.Reservation.{holds}
 use Rattle.rv32_program.specs.Program.{Program, class_at, is_mapped, is_writable}
 use Rattle.rv32_step.specs.Registers.{registers_of, put}
-use Rattle.rv32_step.specs.Reservations.{with_reservation}
-use Rattle.rv32_step.specs.declared.Demand.TheVariants.{Reserves, StoresIf, Updates}
-use Rattle.rv32_step.specs.OneMemory.{Processor, State, ReservesAt, StoresWhere, UpdatesAt, request_for, answer, set_register, next_pc, after_exchange, after_conditional, with_processor, with_store, with_reserved, with_conditional, word_at}
+use Rattle.rv32_program.specs.declared.Class.TheVariants.{Private}
+use Rattle.rv32_step.specs.Memory.{shared_after, private_after}
+use Rattle.rv32_step.specs.Reservations.{with_reservation, after_store_by}
+use Rattle.rv32_step.specs.declared.Demand.TheVariants.{Stores, Reserves, StoresIf, Updates}
+use Rattle.rv32_step.specs.OneMemory.{Processor, State, StoresTo, ReservesAt, StoresWhere, UpdatesAt, request_for, answer, set_register, next_pc, after_store, after_exchange, after_conditional, with_processor, with_store, with_reserved, with_conditional, word_at}
 use Rattle.micro_op.specs.Micro.{index_address}
 use Rattle.one_memory.specs.declared.processor.OriginalState.{OriginalState}
 use Rattle.one_memory.specs.declared.processor.StepTarget.TheVariants.{Next}
 use Rattle.one_memory.specs.Machine.{MemoryParts, IsStored, Meets, processor_of, at_index, original_on, state_among, reserved_in, with_one}
-use Rattle.one_memory.proofs.ReadLemmas.{IsRead, class_in}
+use Rattle.one_memory.proofs.ReadLemmas.{IsRead, class_in, private_class}
 use Rattle.one_memory.proofs.StepLemmas.{mapped}
 use Rattle.one_memory.proofs.TurnLemmas.{one_over}
 
@@ -29,6 +33,21 @@ state_stored nodes p all w a v m m' b b' q h = λ t. record {
   reservations = sym h.reserved_is t;
   output = sym h.output t;
 }
+
+-- a store to the window
+pub stored_apart : (p a v : ℕ) (w : Width) (m m' : MemoryParts) (b b' : OriginalState) → is_in_window a ≡ true → window_memory b'.window ≡ (if is_in_window a then stored w (window_memory b.window) a v else window_memory b.window) → b'.registers ≡ b.registers → b'.written ≡ b.written → m' ≡ record m { reserved = m'.reserved } → reserved_in m'.reserved ≡ after_store_by m.layout p a (reserved_in m.reserved) → IsStored p w a v m b m' b'
+stored_apart p a v w m m' b b' inside bytes registers written rest reserved =
+    let class : class_in m a ≡ Private = private_class m.program a inside in
+    let shared : ℕ → ℕ = lines_memory m.shared (first_byte m.program) in
+    let private : ℕ → ℕ = window_memory b.window in
+    record {
+      shared_is = ap (λ (x : MemoryParts). lines_memory x.shared (first_byte x.program)) rest ∙ ap (λ c. shared_after c shared (stored w shared a v)) (sym class);
+      private_is = bytes ∙ ap (λ x. if x then stored w private a v else private) inside ∙ ap (λ c. private_after c private (stored w private a v)) (sym class);
+      reserved_is = reserved;
+      output = ap (λ (x : MemoryParts). x.output) rest;
+      registers = registers;
+      written = written;
+    }
 
 -- what an access asks for, where it may be made
 asks_update : (program : Program) (q : Processor) (o : AmoOp) (r a v : ℕ) → is_aligned Word a ≡ true → true ≡ is_writable (class_at program a) → request_for program q (Updates o r a v) ≡ UpdatesAt o r a v
@@ -47,6 +66,29 @@ next_at at = omega arith
 word_read : (m : MemoryParts) (b : OriginalState) (at a n nodes : ℕ) (all : ℕ → Processor) → IsRead m b Word a n → word_at (program_of m.program) (state_among all m) (processor_of (at_index at b)) a ≡ n
 unfolding extend
 word_read m b at a n nodes all read = sym read.1
+
+asks_store : (program : Program) (q : Processor) (w : Width) (a v : ℕ) → is_aligned w a ≡ true → true ≡ is_writable (class_at program a) → request_for program q (Stores w a v) ≡ StoresTo w a v
+asks_store program q w a v aligned may = rw (aligned, sym may) refl
+
+-- a processor that has stored
+processor_stored : (p at a v : ℕ) (w : Width) (m m' : MemoryParts) (b b' : OriginalState) → IsStored p w a v m b m' b' → after_store (program_of m.program) (processor_of (at_index at b)) w a v ≡ processor_of (at_index ((at + 1) % 4294967296) b')
+processor_stored p at a v w m m' b b' h = λ t. record {
+  registers = registers_of (sym h.registers t);
+  pc = next_at at t;
+  private = sym h.private_is t;
+  written = sym h.written t;
+  exit = None;
+}
+
+-- a store, where it may be made
+pub met_store : (p at : ℕ) (w : Width) (a v : ℕ) (m m' : MemoryParts) (b b' : OriginalState) → is_aligned w a ≡ true → true ≡ is_writable (class_in m a) → IsStored p w a v m b m' b' → Meets p (Stores w a v) at m b m' b' Next
+met_store p at w a v m m' b b' aligned may h = λ nodes all.
+    let q = processor_of (at_index at b) in
+    let original = original_on m nodes in
+    let base = state_among all m in
+    ap (λ x. (answer original base p q x).state) (asks_store original.program q w a v aligned may)
+    ∙ ap (λ (x : Processor). with_store original base p x w a v) (processor_stored p at a v w m m' b b' h)
+    ∙ state_stored nodes p all w a v m m' b b' (processor_of (at_index ((at + 1) % 4294967296) b')) h
 
 -- a processor that has stored, and whose register is set
 processor_exchanged : (p at a v r value : ℕ) (m m' : MemoryParts) (b b1 b' : OriginalState) → IsStored p Word a v m b m' b1 → registers_of b'.registers ≡ put (registers_of b1.registers) r value → b'.window ≡ b1.window → b'.written ≡ b1.written → after_exchange (program_of m.program) (processor_of (at_index at b)) a v r value ≡ processor_of (at_index ((at + 1) % 4294967296) b')

@@ -44,21 +44,17 @@ impl CodeTable {
         Ok(CodeTable { near, far })
     }
 
-    /// The micro-op of the word with an index; `None` where no code stands.
+    /// The micro-op of the word with an index, where that is in the first stretch.
     #[inline(always)]
-    pub fn fetch(&self, at: u32) -> Option<&MicroOp>
+    pub fn fetch_near(&self, at: u32) -> Option<&MicroOp>
         ensures serves { (e : Elf) → IsCodeOf e self.now
             → IfSome result (λ op. Serves e (index_address 0 at) op.now) }
     {
-        match self.near.get(at) {
-            Some(op) => Some(op),
-            None => self.fetch_far(at),
-        }
+        self.near.get(at)
     }
 
     /// The micro-op of a word that isn't in the first stretch.
-    #[inline(never)]
-    fn fetch_far(&self, at: u32) -> Option<&MicroOp>
+    pub fn fetch_far(&self, at: u32) -> Option<&MicroOp>
         ensures serves { (e : Elf) → IsCodeOf e self.now
             → IfSome result (λ op. Serves e (index_address 0 at) op.now) }
     {

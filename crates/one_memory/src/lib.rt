@@ -16,7 +16,10 @@ mod law;
 mod memory;
 mod processor;
 mod reservations;
+mod running;
+mod served;
 
+use crate::code::CodeTable;
 use crate::memory::Memory;
 use crate::processor::Processor;
 use block_layout::Layout;
@@ -57,6 +60,7 @@ pub struct NotAllowed;
 /// The processors of a program, 1 to 16 of them, on one memory.
 #[derive(Drop)]
 pub struct OneMemory<'a> {
+    code: CodeTable,
     memory: Memory<'a>,
     nodes: NodeCount,
     processors: Vec<Processor>,
@@ -64,7 +68,7 @@ pub struct OneMemory<'a> {
 
 impl<'a> Model for OneMemory<'a> {
     ghost use Rattle.std.specs.Prelude.{◌≡◌, ◌≤◌, length};
-    ghost use Rattle.one_memory.specs.Machine.{Parts};
+    ghost use Rattle.one_memory.specs.Machine.{Parts, IsCodeOf};
 
     ghost Value = { Parts };
 
@@ -74,7 +78,8 @@ impl<'a> Model for OneMemory<'a> {
       processors = m.processors.items;
     } };
 
-    ghost invariant = { λ m. (length m.processors.items ≡ m.nodes) × (m.nodes ≤ 16) };
+    ghost invariant = { λ m. (length m.processors.items ≡ m.nodes) × (m.nodes ≤ 16)
+        × IsCodeOf m.memory.program m.code };
 }
 
 impl<'a> OneMemory<'a> {
@@ -91,12 +96,14 @@ impl<'a> OneMemory<'a> {
         ensures nodes { IfOk result (λ m. (original_of m).nodes ≡ nodes) }
     {
         let entry = program.entry();
+        let code = CodeTable::read(alloc, program)?;
         let memory = Memory::new(alloc, program, layout)?;
         let mut processors = Vec::new(alloc);
         for p in 0..nodes.number() {
             processors.push(Processor::new(alloc, p, nodes, entry)?)?;
         }
         Ok(OneMemory {
+            code,
             memory,
             nodes,
             processors,
@@ -121,7 +128,7 @@ impl<'a> OneMemory<'a> {
         if processor.exit().is_some() {
             return Err(StepRefused::Ended(p));
         }
-        processor.step(p, &mut self.memory)?;
+        processor.step(p, &self.code, &mut self.memory)?;
         Ok(())
     }
 
@@ -180,7 +187,7 @@ impl<'a> OneMemory<'a> {
         ensures most { IfOk result (λ n. n ≤ most) }
         ensures original { original_of self.new ≡ original_of self.old }
     {
-        self.processors[p as usize].run(p, &mut self.memory, most)
+        self.processors[p as usize].run(p, &self.code, &mut self.memory, most)
     }
 
     /// The bytes printed so far.

@@ -1,7 +1,7 @@
 //! What all processors have in common.
 
 ghost use Rattle.std.specs.Prelude.{◌≡◌, ◌+◌, ◌*◌, ◌/◌, ◌^◌, ◌<◌, ◌≤◌, ◌∷◌, ◌++◌, [], ℕ, Bool};
-ghost use Rattle.std.specs.Prelude.{true, Some, None, MatchOption, IfOk, IfSome, OnOk, OnErr};
+ghost use Rattle.std.specs.Prelude.{true, false, Some, None, MatchOption, IfOk, IfSome, OnOk, OnErr};
 ghost use Rattle.std.specs.Prelude.{is_some, if◌then◌else◌};
 ghost use Rattle.exec_map.specs.Contents.{program_of, first_byte, is_shared};
 ghost use Rattle.rv32_program.specs.Program.{IsAccepted, class_at, is_writable};
@@ -10,20 +10,17 @@ ghost use Rattle.byte_range.specs.Memory.{raw, stored};
 ghost use Rattle.byte_range.specs.Lines.{lines_memory};
 ghost use Rattle.rv32_decode.specs.Widths.{is_aligned};
 ghost use Rattle.rv32_step.specs.OneMemory.{Processor as AnyProcessor};
-ghost use Rattle.micro_op.specs.Micro.{index_address};
 ghost use Rattle.block_layout.specs.Layout.{block_of as model_block_of};
 ghost use Rattle.rv32_step.specs.Registers.{registers_of};
 ghost use Rattle.rv32_step.specs.Reservations as model;
 ghost use Rattle.one_memory.specs.Stretches.{reaches_or_stands};
-ghost use Rattle.one_memory.specs.Machine.{Serves, reserved_in};
+ghost use Rattle.one_memory.specs.Machine.{reserved_in};
 
 use crate::breaks::BlockOf;
-use crate::code::CodeTable;
 use crate::reservations::Reservations;
 use block_layout::{Block, Layout};
 use byte_range::LineMemory;
 use exec_map::{Class, Program, read_only_memory, shared_memory};
-use micro_op::MicroOp;
 use rv32_decode::{Instr, Width};
 use rv32_step::Registers;
 use std::alloc::{AllocError, Global};
@@ -34,7 +31,6 @@ use std::marker::Model;
 pub struct Memory<'a> {
     program: &'a Program<'a>,
     layout: &'a Layout,
-    code: CodeTable,
     shared: LineMemory,
     reservations: Reservations,
     /// The read-only lines.
@@ -44,7 +40,7 @@ pub struct Memory<'a> {
 
 impl<'a> Model for Memory<'a> {
     ghost use Rattle.exec_map.specs.SharedLines.{HasSharedLines};
-    ghost use Rattle.one_memory.specs.Machine.{MemoryParts, IsCodeOf, HasFixed};
+    ghost use Rattle.one_memory.specs.Machine.{MemoryParts, HasFixed};
 
     ghost Value = { MemoryParts };
 
@@ -56,8 +52,7 @@ impl<'a> Model for Memory<'a> {
       output = m.output.items;
     } };
 
-    ghost invariant = { λ m. IsCodeOf m.program.now m.code
-        × HasSharedLines m.program.now m.shared
+    ghost invariant = { λ m. HasSharedLines m.program.now m.shared
         × HasFixed m.program.now m.fixed };
 }
 
@@ -80,20 +75,10 @@ impl<'a> Memory<'a> {
             program,
             layout,
             reservations: Reservations::new(),
-            code: CodeTable::read(alloc, program)?,
             shared: shared_memory(alloc, program)?,
             fixed: read_only_memory(alloc, program)?,
             output: Vec::new(alloc),
         })
-    }
-
-    /// The micro-op of the word with an index.
-    #[inline(always)]
-    pub fn fetch(&self, at: u32) -> Option<&MicroOp>
-        ensures serves { IfSome result (λ op.
-            Serves self.now.program (index_address 0 at) op.now) }
-    {
-        self.code.fetch(at)
     }
 
     /// The instruction of the code word at an address.
@@ -154,6 +139,7 @@ impl<'a> Memory<'a> {
             then stored width (lines_memory self.old.shared (first_byte self.old.program))
             address value
             else lines_memory self.old.shared (first_byte self.old.program)) }
+        ensures elsewhere { result ≡ false → self.new ≡ self.old }
         ensures program { self.new.program ≡ self.old.program }
         ensures layout { self.new.layout ≡ self.old.layout }
         ensures reserved { self.new.reserved ≡ self.old.reserved }

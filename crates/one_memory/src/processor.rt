@@ -3,18 +3,19 @@
 ghost use Rattle.std.specs.Prelude.{◌≡◌, ◌+◌, ◌*◌, ◌/◌, ◌%◌, ◌^◌, ◌<◌, ◌≤◌, ◌&&◌, not, is_some, ℕ};
 ghost use Rattle.std.specs.Prelude.{true, false, Some, None, MatchOption, IfOk, IfSome, IsSome};
 ghost use Rattle.std.specs.Prelude.{OnOk, OnErr};
-ghost use Rattle.exec_map.specs.Contents.{program_of};
+ghost use Rattle.exec_map.specs.Contents.{program_of, is_shared};
 ghost use Rattle.byte_range.specs.Memory.{raw};
 ghost use Rattle.rv32_decode.specs.Widths.{is_aligned};
 ghost use Rattle.rv32_program.specs.Program.{class_at, is_writable};
 ghost use Rattle.rv32_step.specs.Registers.{registers_of};
 ghost use Rattle.rv32_step.specs.OneMemory as model;
-ghost use Rattle.rv32_step.specs.Demands.{branch_demand};
 ghost use Rattle.llsc.specs.Reservation.{holds as model_holds};
 ghost use Rattle.rv32_program.specs.declared.Class.TheVariants.{Unmapped};
-ghost use Rattle.micro_op.specs.Micro.{Demands, meaning_of, index_address};
+ghost use Rattle.micro_op.specs.Micro as micro;
+ghost use Rattle.micro_op.specs.Micro.{Demands, meaning_of, sum_address, index_address};
 ghost use Rattle.one_memory.specs.Machine.{MemoryParts, processor_of, at_index, after_move};
-ghost use Rattle.one_memory.specs.Machine.{byte_seen, IsStored, IsKept, Answers, Meets, Steps};
+ghost use Rattle.one_memory.specs.Machine.{byte_seen, IsStored, Answers, Meets, Steps};
+ghost use Rattle.one_memory.specs.Machine.{IsCodeOf, IsServed, IsTried};
 ghost use Rattle.one_memory.specs.Stretches.{reaches_or_stands};
 ghost use Rattle.one_memory.specs.Turns.{Turns};
 
@@ -22,10 +23,9 @@ use crate::memory::Memory;
 use block_layout::Block;
 use byte_range::Window;
 use exec_map::Exit;
-use micro_op::{MicroKind, MicroOp};
 use run_limits::NodeCount;
-use rv32_decode::{AmoOp, Cond, LoadKind, Op, Reg, Width};
-use rv32_ops::{alu, amo, extend, taken};
+use rv32_decode::{AmoOp, LoadKind, Reg, Width};
+use rv32_ops::{amo, extend};
 use rv32_step::{CallStep, Demand, Registers, call_step, cut_short, demand_of};
 use std::alloc::{AllocError, Global};
 
@@ -33,17 +33,17 @@ use std::alloc::{AllocError, Global};
 /// the bytes that a write in progress has written.
 #[derive(Drop)]
 pub struct OriginalState {
-    registers: Registers,
-    window: Window,
-    written: u32,
+    pub registers: Registers,
+    pub window: Window,
+    pub written: u32,
 }
 
 /// A processor: the index of its next word, what words read and write of it, and its exit.
 #[derive(Drop)]
 pub struct Processor {
-    at: u32,
-    body: OriginalState,
-    exit: Option<Exit>,
+    pub at: u32,
+    pub body: OriginalState,
+    pub exit: Option<Exit>,
 }
 
 /// Where a step leads.
@@ -99,85 +99,10 @@ impl Processor {
         }
         memory.is_reached(block, &self.body.registers, address_of(self.at))
     }
-
-    /// Executes the next word, as processor `p`.
-    ///
-    /// Fails, with nothing changed, where there is no memory for a byte of output.
-    pub fn step(&mut self, p: u8, memory: &mut Memory<'_>) -> Result<(), AllocError>
-        requires number { p < 16 }
-        requires runs { self.old.exit ≡ None }
-        ensures ok { OnOk result
-            (Answers p (model.request (program_of memory.old.program) (processor_of self.old))
-            memory.old self.old memory.new self.new) }
-        ensures program { memory.new.program ≡ memory.old.program }
-        ensures layout { memory.new.layout ≡ memory.old.layout }
-        ensures err_processor { OnErr result (self.new ≡ self.old) }
-        ensures err_memory { OnErr result (memory.new ≡ memory.old) }
-    {
-        match step(p, self.at, &mut self.body, memory)? {
-            StepTarget::Next => self.at = self.at.wrapping_add(1),
-            StepTarget::To(target) => self.at = target,
-            StepTarget::Ends(exit) => self.exit = Some(exit),
-        }
-        Ok(())
-    }
-
-    /// Executes so many words, as processor `p`, or fewer where it ends. Gives how many.
-    pub fn run(&mut self, p: u8, memory: &mut Memory<'_>, most: u64) -> Result<u64, AllocError>
-        requires number { p < 16 }
-        requires runs { self.old.exit ≡ None }
-        ensures turns { IfOk result (λ n. Turns p n memory.old self.old memory.new self.new) }
-        ensures all { IfOk result (λ n. n < most → IsSome self.new.exit) }
-        ensures most { IfOk result (λ n. n ≤ most) }
-        ensures program { memory.new.program ≡ memory.old.program }
-        ensures layout { memory.new.layout ≡ memory.old.layout }
-    {
-        let mut at = self.at;
-        let mut steps = 0;
-        while steps < most {
-            let next = step(p, at, &mut self.body, memory)?;
-            steps += 1;
-            match next {
-                StepTarget::Next => at = at.wrapping_add(1),
-                StepTarget::To(target) => at = target,
-                StepTarget::Ends(exit) => {
-                    self.exit = Some(exit);
-                    break;
-                }
-            }
-        }
-        self.at = at;
-        Ok(steps)
-    }
 }
 
-/// Executes the word with an index.
-#[inline(always)]
-fn step(
-    p: u8,
-    at: u32,
-    body: &mut OriginalState,
-    memory: &mut Memory<'_>,
-) -> Result<StepTarget, AllocError>
-    requires { p < 16 }
-    ensures ok { IfOk result (Steps p at memory.old body.old memory.new body.new) }
-    ensures program { memory.new.program ≡ memory.old.program }
-    ensures layout { memory.new.layout ≡ memory.old.layout }
-    ensures err_body { OnErr result (body.new ≡ body.old) }
-    ensures err_memory { OnErr result (memory.new ≡ memory.old) }
-{
-    if let Some(op) = memory.fetch(at)
-        && let Some(demand) = demand_by(op, &body.registers)
-    {
-        meet(demand, p, at, body, memory)
-    } else {
-        step_slow(p, at, body, memory)
-    }
-}
-
-/// Executes the word with an index, whichever it is.
-#[inline(never)]
-fn step_slow(
+/// Executes the word with an index, by its instruction.
+pub fn step_slow(
     p: u8,
     at: u32,
     body: &mut OriginalState,
@@ -199,89 +124,10 @@ fn step_slow(
 
 /// The address of the word with an index.
 #[inline(always)]
-fn address_of(at: u32) -> u32
+pub fn address_of(at: u32) -> u32
     ensures { result ≡ index_address 0 at }
 {
     at.wrapping_mul(4)
-}
-
-/// What a micro-op demands; `None` where it is left to the path that serves every word.
-#[inline(always)]
-fn demand_by(op: &MicroOp, registers: &Registers) -> Option<Demand>
-    ensures { IfSome result (λ d. meaning_of 0 op.now (registers_of registers.now) ≡ Demands d) }
-{
-    let a = registers.get(op.rs1);
-    let b = registers.get(op.rs2);
-    let sum = a.wrapping_add(op.imm);
-    let demand = match op.kind {
-        MicroKind::Slow | MicroKind::EnterBy => return None,
-        MicroKind::Nothing => Demand::Continues,
-        MicroKind::Constant => Demand::Sets(op.rd, op.imm),
-        MicroKind::Jump => Demand::Jumps(op.rd, address_of(op.imm)),
-        MicroKind::JumpBy => Demand::Jumps(op.rd, sum / 2 * 2),
-        MicroKind::BranchEq => branch(taken(Cond::Eq, a, b), op.imm),
-        MicroKind::BranchNe => branch(taken(Cond::Ne, a, b), op.imm),
-        MicroKind::BranchLt => branch(taken(Cond::Lt, a, b), op.imm),
-        MicroKind::BranchGe => branch(taken(Cond::Ge, a, b), op.imm),
-        MicroKind::BranchLtu => branch(taken(Cond::Ltu, a, b), op.imm),
-        MicroKind::BranchGeu => branch(taken(Cond::Geu, a, b), op.imm),
-        MicroKind::LoadByte => Demand::Loads(LoadKind::Byte, op.rd, sum),
-        MicroKind::LoadHalf => Demand::Loads(LoadKind::Half, op.rd, sum),
-        MicroKind::LoadWord => Demand::Loads(LoadKind::Word, op.rd, sum),
-        MicroKind::LoadByteU => Demand::Loads(LoadKind::ByteU, op.rd, sum),
-        MicroKind::LoadHalfU => Demand::Loads(LoadKind::HalfU, op.rd, sum),
-        MicroKind::StoreByte => Demand::Stores(Width::Byte, sum, b),
-        MicroKind::StoreHalf => Demand::Stores(Width::Half, sum, b),
-        MicroKind::StoreWord => Demand::Stores(Width::Word, sum, b),
-        MicroKind::AddImm
-        | MicroKind::Look
-        | MicroKind::LookToRead
-        | MicroKind::LookToWrite
-        | MicroKind::LookAtValue
-        | MicroKind::LookAgain => Demand::Sets(op.rd, alu(Op::Add, a, op.imm)),
-        MicroKind::SltImm => Demand::Sets(op.rd, alu(Op::Slt, a, op.imm)),
-        MicroKind::SltuImm => Demand::Sets(op.rd, alu(Op::Sltu, a, op.imm)),
-        MicroKind::XorImm => Demand::Sets(op.rd, alu(Op::Xor, a, op.imm)),
-        MicroKind::OrImm => Demand::Sets(op.rd, alu(Op::Or, a, op.imm)),
-        MicroKind::AndImm => Demand::Sets(op.rd, alu(Op::And, a, op.imm)),
-        MicroKind::SllImm => Demand::Sets(op.rd, alu(Op::Sll, a, op.imm)),
-        MicroKind::SrlImm => Demand::Sets(op.rd, alu(Op::Srl, a, op.imm)),
-        MicroKind::SraImm => Demand::Sets(op.rd, alu(Op::Sra, a, op.imm)),
-        MicroKind::Add => Demand::Sets(op.rd, alu(Op::Add, a, b)),
-        MicroKind::Sub => Demand::Sets(op.rd, alu(Op::Sub, a, b)),
-        MicroKind::Sll => Demand::Sets(op.rd, alu(Op::Sll, a, b)),
-        MicroKind::Slt => Demand::Sets(op.rd, alu(Op::Slt, a, b)),
-        MicroKind::Sltu => Demand::Sets(op.rd, alu(Op::Sltu, a, b)),
-        MicroKind::Xor => Demand::Sets(op.rd, alu(Op::Xor, a, b)),
-        MicroKind::Srl => Demand::Sets(op.rd, alu(Op::Srl, a, b)),
-        MicroKind::Sra => Demand::Sets(op.rd, alu(Op::Sra, a, b)),
-        MicroKind::Or | MicroKind::BothToRead | MicroKind::BothToWrite => Demand::Sets(
-            op.rd,
-            alu(Op::Or, a, b),
-        ),
-        MicroKind::And => Demand::Sets(op.rd, alu(Op::And, a, b)),
-        MicroKind::Mul => Demand::Sets(op.rd, alu(Op::Mul, a, b)),
-        MicroKind::Mulh => Demand::Sets(op.rd, alu(Op::Mulh, a, b)),
-        MicroKind::Mulhsu => Demand::Sets(op.rd, alu(Op::Mulhsu, a, b)),
-        MicroKind::Mulhu => Demand::Sets(op.rd, alu(Op::Mulhu, a, b)),
-        MicroKind::Div => Demand::Sets(op.rd, alu(Op::Div, a, b)),
-        MicroKind::Divu => Demand::Sets(op.rd, alu(Op::Divu, a, b)),
-        MicroKind::Rem => Demand::Sets(op.rd, alu(Op::Rem, a, b)),
-        MicroKind::Remu => Demand::Sets(op.rd, alu(Op::Remu, a, b)),
-    };
-    Some(demand)
-}
-
-/// A branch to the word with an index, where it is taken.
-#[inline(always)]
-fn branch(taken: bool, index: u32) -> Demand
-    ensures { result ≡ branch_demand taken (index_address 0 index) }
-{
-    if taken {
-        Demand::Branches(address_of(index))
-    } else {
-        Demand::Continues
-    }
 }
 
 /// Does what the word with an index demands.
@@ -379,7 +225,7 @@ fn load(
 
 /// The number that an aligned access reads; `None` where the line isn't mapped.
 #[inline(always)]
-fn read(width: Width, address: u32, body: &OriginalState, memory: &Memory<'_>) -> Option<u32>
+pub fn read(width: Width, address: u32, body: &OriginalState, memory: &Memory<'_>) -> Option<u32>
     requires { is_aligned width address ≡ true }
     ensures { MatchOption result
         (class_at (program_of memory.now.program) address ≡ Unmapped)
@@ -388,10 +234,23 @@ fn read(width: Width, address: u32, body: &OriginalState, memory: &Memory<'_>) -
 {
     match memory.load(width, address) {
         Some(number) => Some(number),
-        None => match body.window.load(width, address) {
-            Some(number) => Some(number),
-            None => memory.load_first(width, address),
-        },
+        None => read_apart(width, address, body, memory),
+    }
+}
+
+/// The same, where the line isn't shared.
+#[inline(never)]
+fn read_apart(width: Width, address: u32, body: &OriginalState, memory: &Memory<'_>) -> Option<u32>
+    requires aligned { is_aligned width address ≡ true }
+    requires apart { is_shared (class_at (program_of memory.now.program) address) ≡ false }
+    ensures { MatchOption result
+        (class_at (program_of memory.now.program) address ≡ Unmapped)
+        (λ n. (class_at (program_of memory.now.program) address ≡ Unmapped → ⊥)
+        × (n ≡ raw width (byte_seen memory.now body.now) address)) }
+{
+    match body.window.load(width, address) {
+        Some(number) => Some(number),
+        None => memory.load_first(width, address),
     }
 }
 
@@ -424,7 +283,7 @@ fn store(
 /// Puts the low bits of a value at an address, as processor `p`, and ends what the others have
 /// reserved there. Gives whether that may be done; else nothing changes.
 #[inline(always)]
-fn put_at(
+pub fn put_at(
     width: Width,
     address: u32,
     value: u32,
@@ -436,7 +295,8 @@ fn put_at(
     ensures may { result ≡ is_writable (class_at (program_of memory.old.program) address) }
     ensures stored { result ≡ true →
         IsStored p width address value memory.old body.old memory.new body.new }
-    ensures kept { result ≡ false → IsKept memory.old body.old memory.new body.new }
+    ensures kept_body { result ≡ false → body.new ≡ body.old }
+    ensures kept_memory { result ≡ false → memory.new ≡ memory.old }
     ensures program { memory.new.program ≡ memory.old.program }
     ensures layout { memory.new.layout ≡ memory.old.layout }
 {
@@ -444,11 +304,37 @@ fn put_at(
         memory.end_others(p, address);
         return true;
     }
-    if body.window.store(width, address, value) {
-        memory.end_others(p, address);
-        return true;
+    put_apart(width, address, value, p, body, memory)
+}
+
+/// The same, where the line isn't shared.
+#[inline(never)]
+fn put_apart(
+    width: Width,
+    address: u32,
+    value: u32,
+    p: u8,
+    body: &mut OriginalState,
+    memory: &mut Memory<'_>,
+) -> bool
+    requires aligned { is_aligned width address ≡ true }
+    requires apart { is_shared (class_at (program_of memory.old.program) address) ≡ false }
+    ensures may { result ≡ is_writable (class_at (program_of memory.old.program) address) }
+    ensures stored { result ≡ true →
+        IsStored p width address value memory.old body.old memory.new body.new }
+    ensures kept_body { result ≡ false → body.new ≡ body.old }
+    ensures kept_memory { result ≡ false → memory.new ≡ memory.old }
+    ensures program { memory.new.program ≡ memory.old.program }
+    ensures layout { memory.new.layout ≡ memory.old.layout }
+{
+    match body.window.load(width, address) {
+        Some(_) => {
+            body.window.store(width, address, value);
+            memory.end_others(p, address);
+            true
+        }
+        None => false,
     }
-    false
 }
 
 /// Loads the word of an address into a register, and reserves the address.

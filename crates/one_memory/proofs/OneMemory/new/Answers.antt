@@ -2,7 +2,7 @@ use Rattle.std.proofs.Common.{◌≡◌, ◌+◌, List, refl, sym, ◌∙◌, su
 use Rattle.block_layout.specs.Layout.{Shape}
 use Rattle.elf32_read.specs.Elf.{Elf}
 use Rattle.one_memory.specs.declared.processor.Processor.{Processor as ProcessorParts}
-use Rattle.one_memory.specs.Machine.{original_on}
+use Rattle.one_memory.specs.Machine.{original_on, IsCodeOf}
 use Rattle.one_memory.proofs.TurnLemmas.{AreFirst, none_first, one_first, original_with, opened}
 use Rattle.one_memory.proofs.OneMemory.new.Goals as goal
 
@@ -21,7 +21,8 @@ pub invariant_of-result : goal.invariant_of-result
 invariant_of-result c =
     let range = c.number-p-end.ensures.range in
     let all : c.loop-p.p ≡ c.args.nodes = omega (arith, c.number-p-end.ensures.value, c.loop-p-test.false, c.loop-p.auto.p-end) in
-    (c.loop-p.invariant.len ∙ all, omega (arith, range.1, c.number-p-end.ensures.value))
+    let code = subst (λ (e : Elf). IsCodeOf e c.in_ok-code.code) (sym c.in_ok-memory.ensures.program) c.in_ok-code.ensures in
+    (c.loop-p.invariant.len ∙ all, omega (arith, range.1, c.number-p-end.ensures.value), code)
 
 pub returns-clause-opening : goal.returns-clause-opening
 returns-clause-opening c =
