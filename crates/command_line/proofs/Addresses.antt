@@ -5,8 +5,8 @@ use Rattle.std.specs.Str.Parse.{IsNumeral, digits_value, without_leading_plus}
 use Rattle.std.proofs.lemmas.Int.Digits.{digits_value-lt}
 use Rattle.std.proofs.Math.Nat.{pow-le-pow_right}
 use Rattle.command_line.specs.declared.table.Kind.TheVariants.{MaybeAddress}
-use Rattle.command_line.specs.Commands.{MaybeAt}
-use Rattle.command_line.specs.Asks.{IsAddress, IsSet}
+use Rattle.command_line.specs.Table.{MaybeAt}
+use Rattle.command_line.specs.Arguments.{IsAddress, IsSet}
 
 same_at : (n m : Option ℕ) → MaybeAt n ≡ MaybeAt m → n ≡ m
 same_at n m e = cc

@@ -2,8 +2,8 @@
 use Rattle.std.proofs.Common.{◌≡◌, ℕ, true, false, List, [], ◌∷◌, ◌++◌, refl, sym, ap, ◌∙◌, subst}
 use Rattle.std.specs.List.{flat_map}
 use Rattle.command_line.specs.declared.table.Setting.{Setting}
-use Rattle.command_line.specs.Commands.{option_word}
-use Rattle.command_line.specs.Asks.{Argument, Operand, Apart, Joined, Bare, words_of, HasOption, IsArgument, AreArguments}
+use Rattle.command_line.specs.Table.{option_word}
+use Rattle.command_line.specs.Arguments.{Argument, Operand, Apart, Joined, Bare, words_of, HasOption, IsArgument, AreArguments}
 use Rattle.command_line.specs.Reading.{IsCut}
 use Rattle.command_line.proofs.Words.{no_equals, not_plain, not_plain_joined, not_joined, same_parts, same_option}
 

@@ -15,8 +15,8 @@ use Rattle.clap.proofs.FaultLemmas.{leaf_fault}
 use Rattle.command_line.specs.declared.table.Setting.{Setting}
 use Rattle.command_line.specs.declared.table.Role.{Role}
 use Rattle.command_line.specs.declared.table.Role.TheVariants as role
-use Rattle.command_line.specs.Commands.{option_word}
-use Rattle.command_line.specs.Asks.{Argument, Operand, Apart, Joined, Bare, words_of, AreArguments, is_same, operand_in, value_in}
+use Rattle.command_line.specs.Table.{option_word}
+use Rattle.command_line.specs.Arguments.{Argument, Operand, Apart, Joined, Bare, words_of, AreArguments, is_same, operand_in, value_in}
 use Rattle.command_line.specs.Reading.{name_of, id_of, words_for, app_for, IsCut, Reads, AreReadable}
 use Rattle.command_line.proofs.Words.{dashed, is_long_alone, is_long_joined, no_operand, no_option}
 use Rattle.command_line.proofs.Told.{rules, shape, built_is, no_defaults, ends}

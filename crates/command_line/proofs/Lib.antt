@@ -6,4 +6,5 @@ pub mod Gives
 pub mod Addresses
 pub mod Rows
 pub mod Triples
+pub mod Tables
 pub mod Viewing

@@ -14,8 +14,11 @@ use Rattle.command_line.specs.declared.table.Role.{Role}
 use Rattle.command_line.specs.declared.table.Role.TheVariants as role
 use Rattle.command_line.specs.declared.table.CommandWord.{CommandWord}
 use Rattle.command_line.specs.declared.table.CommandWord.TheVariants as word
-use Rattle.command_line.specs.Commands.{Execution, RewriteArguments, RunArguments, ListArguments, OneArguments, SimArguments, ReplayArguments, GenerateArguments, AssembleArguments, Command, Rewrite, Run, Listing, One, Sim, Replay, Generate, Assemble, Named, Between, Value, Amount, MaybeAmount, MaybeAt, Name, Switch, name_or_none, Row, execution_options, row_of, IsFit, AreFew, IsAlone, is_alone, kind_of, settings_in}
-use Rattle.command_line.specs.Asks.{Argument, IsNumber, ArePlaced, IsSet, AreSet, AreOfRow, Asks}
+use Rattle.command_line.specs.Tasks.{Execution, RunArguments, OneArguments, SimArguments, ReplayArguments, AreFew, IsAlone, is_alone}
+use Rattle.command_line.specs.Commands.{RewriteArguments, ListArguments, GenerateArguments, AssembleArguments, Command, Rewrite, Run, Listing, One, Sim, Replay, Generate, Assemble, IsFit}
+use Rattle.command_line.specs.Table.{Named, Between, Value, Amount, MaybeAmount, MaybeAt, Name, Switch, name_or_none, Row, execution_options, row_of, kind_of, settings_in}
+use Rattle.command_line.specs.Asks.{IsNumber}
+use Rattle.command_line.specs.Arguments.{Argument, ArePlaced, Asks, IsSet, AreSet, AreOfRow}
 use Rattle.command_line.specs.declared.Command.{Command as OfCode}
 use Rattle.command_line.specs.Meaning.{meaning_of}
 use Rattle.command_line.specs.Reading.{IsCut, Reads, IsOfRow, AreGiven, SaysNumber, SaysMaybe, SaysName, SaysFlag, Completes, given_by, id_of, words_for, settings_of, text_of}

@@ -10,8 +10,8 @@ use Rattle.clap.specs.Kinds.{or_else}
 use Rattle.clap.specs.Takes.{is_given}
 use Rattle.clap.specs.Faults.{is_simple_and_free, is_free_app, defaults_fault, default_fault, given_default_fault, check_fault}
 use Rattle.command_line.specs.declared.table.Setting.{Setting}
-use Rattle.command_line.specs.Commands.{option_word, kind_of}
-use Rattle.command_line.specs.Asks.{option_of, HasOption, takes_value}
+use Rattle.command_line.specs.Table.{option_word, kind_of}
+use Rattle.command_line.specs.Arguments.{option_of, HasOption, takes_value}
 use Rattle.command_line.specs.Reading.{name_of, rule_for, rule_by, operand_rule, app_for}
 use Rattle.command_line.proofs.Words.{dashed, no_operand}
 

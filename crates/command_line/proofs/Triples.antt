@@ -2,8 +2,8 @@
 use Rattle.std.proofs.Common.{◌≡◌, ℕ, List, [], ◌∷◌, length, map, get_or, refl, sym, ap, ◌∙◌, subst, arith, Bor}
 use Rattle.std.proofs.lemmas.List.{length-map}
 use Rattle.command_line.specs.declared.table.Access.TheVariants.{Read, Write}
-use Rattle.command_line.specs.Commands.{Named, Name}
-use Rattle.command_line.specs.Asks.{ArePlaced}
+use Rattle.command_line.specs.Table.{Named, Name}
+use Rattle.command_line.specs.Arguments.{ArePlaced}
 use Rattle.command_line.proofs.Rows.{same_name}
 
 pub three_files : (x y z : List ℕ) (words : List (List ℕ))

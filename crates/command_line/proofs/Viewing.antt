@@ -8,8 +8,8 @@ use Rattle.command_line.specs.declared.table.Setting.TheVariants.{NoBatch, From,
 use Rattle.command_line.specs.declared.table.ViewWord.{ViewWord}
 use Rattle.command_line.specs.declared.table.ViewWord.TheVariants as word
 use Rattle.command_line.specs.declared.view.View.{View as OfCode}
-use Rattle.command_line.specs.Commands.{settings_in}
-use Rattle.command_line.specs.Asks.{Argument, AreOfRow, ArePlaced}
+use Rattle.command_line.specs.Table.{settings_in}
+use Rattle.command_line.specs.Arguments.{Argument, AreOfRow, ArePlaced}
 use Rattle.command_line.specs.Reading.{IsCut, Reads, IsOfRow, given_by, words_for}
 use Rattle.command_line.specs.Views.{View, Help, Code, Trace, Blocks, Page, AsksView, IsViewGiven, meaning_of_view, row_of, view_settings, view_text}
 use Rattle.command_line.proofs.Addresses.{at_one}

@@ -12,8 +12,9 @@ use Rattle.clap.specs.declared.error.kind.ErrorKind.{ErrorKind}
 use Rattle.clap.specs.declared.error.kind.ErrorKind.TheVariants.{UnknownArgument, TooManyValues, InvalidValue}
 use Rattle.clap.specs.Faults.{walk_fault, turn_fault, settle_fault}
 use Rattle.command_line.specs.declared.table.Setting.{Setting}
-use Rattle.command_line.specs.Commands.{option_word, kind_of}
-use Rattle.command_line.specs.Asks.{Argument, Operand, Apart, Joined, Bare, words_of, IsPlain, IsArgument, AreArguments, option_of, HasOption, takes_value}
+use Rattle.command_line.specs.Table.{option_word, kind_of}
+use Rattle.command_line.specs.Asks.{IsPlain}
+use Rattle.command_line.specs.Arguments.{Argument, Operand, Apart, Joined, Bare, words_of, IsArgument, AreArguments, option_of, HasOption, takes_value}
 use Rattle.command_line.specs.Reading.{name_of, IsCut, IsLong, IsReadable, AreReadable}
 use Rattle.command_line.proofs.Words.{Long, long_alone, long_joined, word_found, has_equals, cut_at, uncut, has_option}
 use Rattle.command_line.proofs.Told.{rules, rule, option_rule, operands, shape, by_long, by_id, long_rule}

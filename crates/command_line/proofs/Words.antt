@@ -6,8 +6,9 @@ use Rattle.std.proofs.lemmas.Slice.Eq.{bytes_eq-Decides}
 use Rattle.clap.specs.Lexer.{long_of}
 use Rattle.command_line.specs.declared.table.Setting.{Setting}
 use Rattle.command_line.specs.declared.table.Setting.TheVariants.{Nodes, Order, Budget, Layout, Code, Verify, Record, Brief, NoBatch, Loss, PerNode, From, To, Block, Node}
-use Rattle.command_line.specs.Commands.{option_word, kind_of}
-use Rattle.command_line.specs.Asks.{option_of, HasOption, IsPlain, takes_value}
+use Rattle.command_line.specs.Table.{option_word, kind_of}
+use Rattle.command_line.specs.Asks.{IsPlain}
+use Rattle.command_line.specs.Arguments.{option_of, HasOption, takes_value}
 use Rattle.command_line.specs.Reading.{name_of, IsLong}
 
 abbrev pub has_equals : List ℕ → Bool

@@ -1,5 +1,8 @@
+pub mod Arguments
 pub mod Asks
 pub mod Commands
 pub mod Meaning
+pub mod Tasks
 pub mod Reading
+pub mod Table
 pub mod Views

@@ -14,7 +14,8 @@ use Rattle.command_line.specs.declared.GenerateArguments.{GenerateArguments as G
 use Rattle.command_line.specs.declared.AssembleArguments.{AssembleArguments as AssembleOfCode}
 use Rattle.command_line.specs.declared.Machine.{Machine}
 use Rattle.command_line.specs.declared.Machine.TheVariants.{Lossy, Lanes}
-use Rattle.command_line.specs.Commands.{Execution, RewriteArguments, RunArguments, ListArguments, OneArguments, SimArguments, ReplayArguments, GenerateArguments, AssembleArguments, Command, Rewrite, Run, Listing, One, Sim, Replay, Generate, Assemble}
+use Rattle.command_line.specs.Tasks.{Execution, RunArguments, OneArguments, SimArguments, ReplayArguments}
+use Rattle.command_line.specs.Commands.{RewriteArguments, ListArguments, GenerateArguments, AssembleArguments, Command, Rewrite, Run, Listing, One, Sim, Replay, Generate, Assemble}
 
 -- the name of a file that may be left out
 abbrev pub file_name : Option (Bor (List ℕ)) → Option (List ℕ)

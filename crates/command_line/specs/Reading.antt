@@ -14,8 +14,10 @@ use Rattle.command_line.specs.declared.table.Role.{Role}
 use Rattle.command_line.specs.declared.table.Role.TheVariants as role
 use Rattle.command_line.specs.declared.parsing.Given.{Given}
 use Rattle.command_line.specs.declared.parsing.Given.TheVariants as are
-use Rattle.command_line.specs.Commands.{Command, Value, Row, Amount, MaybeAmount, MaybeAt, Switch, name_or_none, option_word, kind_of, row_of, IsFit}
-use Rattle.command_line.specs.Asks.{IsPlain, IsSet, ArePlaced, Argument, words_of, AreArguments, operands_of, values_of, takes_value}
+use Rattle.command_line.specs.Commands.{Command, IsFit}
+use Rattle.command_line.specs.Table.{Value, Row, Amount, MaybeAmount, MaybeAt, Switch, name_or_none, option_word, kind_of, row_of}
+use Rattle.command_line.specs.Asks.{IsPlain}
+use Rattle.command_line.specs.Arguments.{IsSet, ArePlaced, Argument, words_of, AreArguments, operands_of, values_of, takes_value}
 
 -- the text of a command's word, and the command's options
 abbrev pub text_of : CommandWord → List ℕ

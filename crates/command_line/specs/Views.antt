@@ -8,8 +8,8 @@ use Rattle.command_line.specs.declared.table.ViewWord.{ViewWord}
 use Rattle.command_line.specs.declared.table.ViewWord.TheVariants as word
 use Rattle.command_line.specs.declared.view.View.{View as OfCode}
 use Rattle.command_line.specs.declared.view.View.TheVariants as asked
-use Rattle.command_line.specs.Commands.{Row, Named, Name, MaybeAmount, MaybeAt, Switch, files_of}
-use Rattle.command_line.specs.Asks.{AreOfRow}
+use Rattle.command_line.specs.Table.{Row, Named, Name, MaybeAmount, MaybeAt, Switch, files_of}
+use Rattle.command_line.specs.Arguments.{AreOfRow}
 use Rattle.command_line.specs.Reading.{IsOfRow}
 
 pub data View : Type 0 where

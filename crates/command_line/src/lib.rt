@@ -4,8 +4,9 @@
 ghost use Rattle.std.specs.Prelude.{◌≡◌, ℕ, ◌-◌, ◌^◌, Bool, List, [], ◌∷◌, codes, Option};
 ghost use Rattle.std.specs.Prelude.{option_map, IfOk, MatchOption};
 ghost use Rattle.command_line.specs.Commands as model;
-ghost use Rattle.command_line.specs.Commands.{AreFew, is_alone};
+ghost use Rattle.command_line.specs.Tasks.{AreFew, is_alone};
 ghost use Rattle.command_line.specs.Asks.{Asks, IsNumber};
+ghost use Rattle.command_line.specs.Table.{kind_of};
 ghost use Rattle.command_line.specs.Meaning.{file_name, lanes_of, loss_of, meaning_of};
 ghost use Rattle.command_line.specs.Reading.{Completes, SaysFlag, SaysMaybe, SaysName};
 ghost use Rattle.command_line.specs.Reading.{SaysNumber, given_by, text_of};
@@ -330,7 +331,7 @@ fn machine_of(nodes: NodeCount, loss: Option<u32>, lanes: Option<LaneCount>) -> 
 
 /// Whether a flag is there.
 fn flag_in(matches: &ArgMatches<'_>, setting: Setting) -> Option<bool>
-    requires flag { model.kind_of setting ≡ Kind.Flag }
+    requires flag { kind_of setting ≡ Kind.Flag }
     ensures there { MatchOption result
         ((b : Bool) → SaysFlag (given_by matches.now) setting b → ⊥)
         (λ b. SaysFlag (given_by matches.now) setting b) }

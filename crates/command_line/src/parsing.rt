@@ -3,7 +3,8 @@
 ghost use Rattle.std.specs.Prelude.{◌≡◌, ◌≢◌, ◌⊎◌, ◌∷◌, ◌↔◌, [], ℕ, List, IsTrue, IfOk, MatchOption};
 ghost use Rattle.std.specs.Prelude.{false, map};
 ghost use Rattle.clap.specs.Words.{app_of, rule_of};
-ghost use Rattle.command_line.specs.Asks.{Argument, IsPlain};
+ghost use Rattle.command_line.specs.Asks.{IsPlain};
+ghost use Rattle.command_line.specs.Arguments.{Argument};
 ghost use Rattle.command_line.specs.Reading.{IsCut, Reads, app_for, rule_for, given_by, IsGivenAs};
 ghost use Rattle.command_line.specs.Reading.{IsLong, AreReadable};
 

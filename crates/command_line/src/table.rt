@@ -1,8 +1,8 @@
 //! The options of the commands.
 
 ghost use Rattle.std.specs.Prelude.{◌≡◌, ◌≢◌, MatchOption};
-ghost use Rattle.command_line.specs.Commands as model;
-ghost use Rattle.command_line.specs.Asks as rule;
+ghost use Rattle.command_line.specs.Table as model;
+ghost use Rattle.command_line.specs.Arguments as rule;
 ghost use Rattle.command_line.specs.Reading.{id_of, name_of, settings_of, text_of};
 ghost use Rattle.command_line.specs.Views.{view_settings, view_text};
 

@@ -4,7 +4,8 @@ use Rattle.std.specs.Prelude.{Contains, IfSome}
 use Rattle.std.proofs.lemmas.List.Elements.{Contains-append_left, Contains-append_right, Contains-append_cases}
 use Rattle.dsm_io.specs.States.{FilesState}
 use Rattle.judged_files.specs.Failures.{file_limit, AreBytes, AreContents, IsContent}
-use Rattle.command_line.specs.Commands.{Execution, RunArguments, SimArguments, Command, Rewrite, Run, Listing, One, Sim, Replay, Generate, Assemble, reads}
+use Rattle.command_line.specs.Tasks.{Execution, RunArguments, SimArguments}
+use Rattle.command_line.specs.Commands.{Command, Rewrite, Run, Listing, One, Sim, Replay, Generate, Assemble, reads}
 use Rattle.commands.specs.Failures.{AreInputs, AreRead}
 use Rattle.judged_files.specs.Inputs.{Inputs}
 use Rattle.commands.specs.Inputs.{FileNames, execution_files, file_names, bytes_in}

@@ -1,14 +1,16 @@
 -- A whole run of nodes is an interleaved run of the original.
 use Rattle.std.proofs.Common.{◌≡◌, ◌≢◌, ℕ, zero, suc, ◌+◌, ◌*◌, ◌<◌, ◌≤◌, ◌&&◌, not, cond, eqb, Bool, true, false, List, [], ◌∷◌, ◌++◌, length, map, get_or, Option, Some, None, refl, sym, ap, ◌∙◌, subst, inl, inr, arith}
-use Rattle.std.specs.Prelude.{is_some, nat_lt}
-use Rattle.std.specs.List.{filter, range_with_len}
+use Rattle.std.specs.Prelude.{is_some, nat_lt, codes, IfSome, ◌^◌}
+use Rattle.std.specs.Fmt.{digits}
+use Rattle.std.specs.List.{filter, flat_map, range_with_len}
 use Rattle.std.proofs.Math.Nat.{mod-lt}
 use Rattle.std.proofs.lemmas.Bool.{cases_Bool, ltb-false}
 use Rattle.std.proofs.lemmas.Bool.Decides.{eqb_tells}
 use Rattle.std.proofs.lemmas.List.Sums.{sum_by-cons}
 use Rattle.elf32_read.specs.Elf.{Elf}
-use Rattle.exec_map.specs.Contents.{program_of}
-use Rattle.block_layout.specs.Layout.{Shape}
+use Rattle.exec_map.specs.Contents.{program_of, AreSharedRanges}
+use Rattle.block_layout.specs.Layout.{Shape, IsValid}
+use Rattle.block_layout.specs.declared.ranges.Lines.{Lines}
 use Rattle.rv32_program.specs.Program.{Program}
 use Rattle.rv32_program.specs.declared.Exit.{Exit}
 use Rattle.rv32_program.specs.declared.End.{End}
@@ -20,6 +22,7 @@ use Rattle.templates.specs.declared.plans.PlanEntry.{PlanEntry}
 use Rattle.node_model.specs.Node.{Work, Phase, Running, Resumed, Waiting, Ended, end_of}
 use Rattle.node_model.specs.Core.{Event, opening_core, after}
 use Rattle.node_model.specs.Outcome.{Outcome}
+use Rattle.node_model.specs.declared.Entry.{Entry}
 use Rattle.run_order.specs.OwnRun.{Stamped, run_of}
 use Rattle.rewriting_law.specs.Bounds.{is_step_of, steps_of}
 use Rattle.rewriting_law.specs.CoreRun.{picks_of}
@@ -30,12 +33,23 @@ use Rattle.lane_law.specs.Law.{original_by_lane, phase_of, original_after as lan
 use Rattle.lane_law.specs.Picks.{picks_of as picks_of_lanes}
 use Rattle.dsm_io.specs.States.{FilesState, SinkState}
 use Rattle.prepared_run.specs.WholeRuns.{IsRunOf, IsRunOfCode, IsWholeRun}
-use Rattle.command_line.specs.Commands.{SimArguments, Command, Rewrite, Run, Listing, One, Sim, Replay, Generate, Assemble}
+use Rattle.command_line.specs.Tasks.{SimArguments, Task, Run, One, Sim, Replay}
+use Rattle.command_line.specs.Commands as command
+use Rattle.command_line.specs.Commands.{as_command}
+use Rattle.command_line.specs.Asks.{Asks, AsksToRun}
 use Rattle.commands.specs.Headline.{IsOutcomeByOrder, IsText, IsTextOfSim, Prints}
 use Rattle.judged_files.specs.Code.{Choice, choice_of}
 use Rattle.judged_files.specs.Inputs.{Inputs}
-use Rattle.commands.specs.Inputs.{inputs_of}
-use Rattle.commands.specs.Interleaved.{IsInterleaved, IsLayoutGiven, IsLayoutOfRecord, IsTextOfOriginal, PrintsOriginal, TellsOfOriginal, least_steps, processors_on}
+use Rattle.judged_files.specs.Layouts.{IsLayoutFor}
+use Rattle.judged_files.specs.Records.{IsLayoutOfBlocks, IsTextOf}
+use Rattle.run_record.proofs.Told.{whole}
+use Rattle.run_record.specs.declared.Record.{Record}
+use Rattle.run_record.specs.declared.version.Version.{Version}
+use Rattle.run_record.specs.Record.{IsCodeLength}
+use Rattle.run_record.specs.Text.{number_line, version_of, version_line, batch_line, code_line, block_line, block_lines, take_lines, journal_lines}
+use Rattle.commands.specs.Inputs.{AreTold, inputs_of}
+use Rattle.commands.specs.Interleaved.{AreFilesTold, BeginsRecord, IsInterleaved, IsLaidOutBy, IsTextOfOriginal, PrintsOriginal, TellsOfOriginal, least_steps, processors_on}
+use Rattle.commands.proofs.RecordHeads.{blocks_are}
 use Rattle.commands.specs.LaneRuns.{IsLaneRunOf, IsWholeLaneRun}
 use Rattle.commands.specs.Outcomes.{told}
 use Rattle.commands.specs.Processors.{outcome_head}
@@ -143,16 +157,30 @@ text_as : (brief : Bool) (o : Outcome)
 text_as true o = refl
 text_as false o = refl
 
+-- the layout that a text gives, or none, is over the executable's shared lines
+layout_given : (elf : Elf) (text : Option (List ℕ)) (nodes : ℕ) (layout : Shape)
+    → IsLayoutFor elf text nodes layout
+    → AreSharedRanges elf layout.shared × IsLaidOutBy text nodes layout
+layout_given elf None nodes layout h = (
+  subst (λ (s : Shape). AreSharedRanges elf s.shared) (sym h.reads) h.lines,
+  (ap (λ (s : Shape). s.nodes) h.reads, ap (λ (s : Shape). s.named) h.reads),
+)
+layout_given elf (Some text) nodes layout h = (
+  subst (AreSharedRanges elf) (sym h.reads.shared_is) h.lines,
+  (h.reads.nodes_is, h.reads.named, h.reads.valid),
+)
+
 of_code : (choice : Choice) (file : List ℕ) (elf : Elf) (plan : List PlanEntry) (work : Work)
-    (own : List Stamped) (o : Outcome) (IsLaidOut : Elf → Shape → Type 0) (nodes budget : ℕ)
+    (own : List Stamped) (o : Outcome) (IsLaidOut : Shape → Type 0) (nodes budget : ℕ)
     (brief : Bool) (text : List ℕ) → IsRunOfCode choice file elf plan work own o
-    → IsLaidOut elf work.layout → work.layout.nodes ≡ nodes → work.budget ≡ budget
-    → text ≡ text_of (told brief o)
+    → AreSharedRanges elf work.layout.shared → IsLaidOut work.layout → work.layout.nodes ≡ nodes
+    → work.budget ≡ budget → text ≡ text_of (told brief o)
     → TellsOfOriginal file IsLaidOut nodes budget (least_steps None budget) text
-of_code choice file elf plan work own o IsLaidOut nodes budget brief text code laid n b is = record {
+of_code choice file elf plan work own o IsLaidOut nodes budget brief text code lines laid n b is = record {
   elf = elf;
   executable = code.rewritten.executable;
   layout = work.layout;
+  lines = lines;
   laid_out = laid;
   output = o.output;
   ends = o.ends;
@@ -165,11 +193,106 @@ of_code choice file elf plan work own o IsLaidOut nodes budget brief text code l
 of_run : (inputs : Inputs) (nodes budget : ℕ) (work : Work) (own : List Stamped) (o : Outcome)
     (brief : Bool) (text : List ℕ) → IsRunOf inputs nodes budget work own o
     → text ≡ text_of (told brief o)
-    → TellsOfOriginal inputs.executable (IsLayoutGiven inputs nodes) nodes budget
+    → TellsOfOriginal inputs.executable (IsLaidOutBy inputs.layout nodes) nodes budget
     (least_steps None budget) text
 of_run inputs nodes budget work own o brief text h is =
+    let given = layout_given h.elf inputs.layout nodes work.layout h.laid_out in
     of_code (choice_of inputs.batches inputs.verified) inputs.executable h.elf h.plan work own o
-    (IsLayoutGiven inputs nodes) nodes budget brief text h.of_code h.laid_out h.count h.limit is
+    (IsLaidOutBy inputs.layout nodes) nodes budget brief text h.of_code given.0 given.1 h.count h.limit
+    is
+
+-- ---- records
+
+-- the number of the version
+abbrev version_number : Option ℕ → ℕ
+version_number None = 1
+version_number (Some words) = 2
+
+version_is : (code : Option ℕ)
+    → version_line (version_of code) ≡ number_line (codes "shasta-record ") (version_number code)
+unfolding digits
+version_is None = refl
+version_is (Some words) = refl
+
+version_low : (code : Option ℕ) → version_number code ≤ 2
+version_low None = omega arith
+version_low (Some words) = omega arith
+
+abbrev batch_number : Bool → ℕ
+batch_number true = 1
+batch_number false = 0
+
+batch_is : (batch : Bool) → batch_line batch ≡ number_line (codes "batch ") (batch_number batch)
+unfolding digits
+batch_is true = refl
+batch_is false = refl
+
+batch_low : (batch : Bool) → batch_number batch ≤ 1
+batch_low true = omega arith
+batch_low false = omega arith
+
+code_low : (code : Option ℕ) → IfSome code IsCodeLength → IfSome code (λ words. words < 2 ^ 32)
+code_low None h = tt
+code_low (Some words) h = let few = h.few in omega (arith, few)
+
+-- behind the blocks the first node's journal begins
+first_node : (version : Version) (js : List (List Entry)) → 0 < length js
+    → (behind : List ℕ) × (journal_lines version 0 js ≡ codes "node 0\n" ++ behind)
+unfolding digits
+first_node version [] some = absurd (omega (arith, some))
+first_node version (es ∷ more) some =
+    (take_lines version 0 es ++ (codes "end\n" ++ journal_lines version 1 more), refl)
+
+begins : (kept : Record) (text : List ℕ) (shared : List Lines) → IsTextOf kept text
+    → IsValid (record { shared = shared; named = kept.blocks; nodes = kept.nodes })
+    → BeginsRecord text (record { shared = shared; named = kept.blocks; nodes = kept.nodes })
+    kept.budget
+begins kept text shared h valid =
+    let some = valid.some_node in
+    let each = h.is_record.each in
+    let first = first_node (version_of kept.code) kept.journals (omega (arith, some, each)) in
+    let blocks = ap (λ t. block_lines kept.blocks ++ t) first.1
+    ∙ ap (λ t. t ++ (codes "node 0\n" ++ first.0)) (blocks_are kept.blocks) in
+    let code = ap (λ t. code_line kept.code ++ t) blocks in
+    let batch = ap (λ t. batch_line kept.batch ++ t) code
+    ∙ ap (λ t. t ++ (code_line kept.code
+    ++ (flat_map block_line kept.blocks ++ (codes "node 0\n" ++ first.0)))) (batch_is kept.batch) in
+    let budget = ap (λ t. number_line (codes "budget ") kept.budget ++ t) batch in
+    let nodes = ap (λ t. number_line (codes "nodes ") kept.nodes ++ t) budget in
+    let all = ap (λ t. version_line (version_of kept.code) ++ t) nodes in
+    record {
+      version = version_number kept.code;
+      batch = batch_number kept.batch;
+      code = kept.code;
+      behind = first.0;
+      text_is = h.text_is ∙ whole kept ∙ all ∙ ap (λ t. t
+          ++ (number_line (codes "nodes ") kept.nodes
+          ++ (number_line (codes "budget ") kept.budget
+          ++ (number_line (codes "batch ") (batch_number kept.batch) ++ (code_line kept.code
+          ++ (flat_map block_line kept.blocks ++ (codes "node 0\n" ++ first.0)))))))
+          (version_is kept.code);
+      versions = version_low kept.code;
+      batches = batch_low kept.batch;
+      few_words = code_low kept.code h.is_record.code;
+      limit = h.is_record.budget;
+      words = h.of_words;
+      valid = valid;
+    }
+
+-- so does the text of a record, of the layout of its blocks
+begins_so : (kept : Record) (text : List ℕ) (elf : Elf) (layout : Shape) → IsTextOf kept text
+    → IsLayoutOfBlocks elf kept layout → IsValid layout
+    → AreSharedRanges elf layout.shared
+    × ((layout.nodes ≡ kept.nodes) × BeginsRecord text layout kept.budget)
+begins_so kept text elf layout h laid valid =
+    let same = laid.layout_is in (
+      subst (λ (s : Shape). AreSharedRanges elf s.shared) (sym same) laid.lines,
+      (
+        ap (λ (s : Shape). s.nodes) same,
+        subst (λ s. BeginsRecord text s kept.budget) (sym same)
+            (begins kept text laid.shared h (subst IsValid same valid)),
+      ),
+    )
 
 -- ---- nodes of several processors
 
@@ -190,16 +313,18 @@ of_whole_lanes w plan events o whole = record {
 of_lane_run : (inputs : Inputs) (nodes lanes budget : ℕ) (w : LaneWork) (events : List LaneEvent)
     (o : Outcome) (brief : Bool) (text : List ℕ)
     → IsLaneRunOf inputs nodes lanes budget w events o → text ≡ text_of (told brief o)
-    → TellsOfOriginal inputs.executable (IsLayoutGiven inputs nodes) (nodes * lanes) budget
+    → TellsOfOriginal inputs.executable (IsLaidOutBy inputs.layout nodes) (nodes * lanes) budget
     (least_steps (Some lanes) budget) text
 of_lane_run inputs nodes lanes budget w events o brief text h is =
     let many : processors w ≡ nodes * lanes =
     ap (λ n. n * w.lanes) h.asked.count ∙ ap (λ m. nodes * m) h.lanes_are in
+    let given = layout_given h.elf inputs.layout nodes w.work.layout h.asked.laid_out in
     record {
       elf = h.elf;
       executable = h.asked.rewritten.executable;
       layout = w.work.layout;
-      laid_out = h.asked.laid_out;
+      lines = given.0;
+      laid_out = given.1;
       output = o.output;
       ends = o.ends;
       counts = (told brief o).counts;
@@ -324,14 +449,16 @@ order_worked o budget number steps s (q ∷ qs) h p low none =
 
 by_order : (inputs : Inputs) (nodes order budget : ℕ) (o : Outcome) (text : List ℕ)
     → IsOutcomeByOrder inputs nodes order budget o → text ≡ text_of (told false o)
-    → TellsOfOriginal inputs.executable (IsLayoutGiven inputs nodes) nodes budget budget text
+    → TellsOfOriginal inputs.executable (IsLaidOutBy inputs.layout nodes) nodes budget budget text
 by_order inputs nodes order budget o text h is =
     let original : Original = record { program = program_of h.elf; layout = h.layout; nodes = nodes } in
+    let given = layout_given h.elf inputs.layout nodes h.layout h.laid_out in
     record {
       elf = h.elf;
       executable = h.executable;
       layout = h.layout;
-      laid_out = h.laid_out;
+      lines = given.0;
+      laid_out = given.1;
       output = o.output;
       ends = o.ends;
       counts = o.counts;
@@ -353,7 +480,7 @@ by_order inputs nodes order budget o text h is =
 
 of_sim : (inputs : Inputs) (a : SimArguments) (loss lanes : Option ℕ) (text : List ℕ) (status : ℕ)
     → IsTextOfSim (record a { loss = loss; lanes = lanes }) inputs text status
-    → TellsOfOriginal inputs.executable (IsLayoutGiven inputs a.execution.nodes)
+    → TellsOfOriginal inputs.executable (IsLaidOutBy inputs.layout a.execution.nodes)
     (processors_on a.execution.nodes lanes) a.execution.budget (least_steps lanes a.execution.budget)
     text
 of_sim inputs a None None text status h =
@@ -366,35 +493,55 @@ of_sim inputs a loss (Some lanes) text status h =
     of_lane_run inputs a.execution.nodes lanes a.execution.budget h.is.work h.is.events h.outcome
     a.execution.brief text h.is.is_run h.text_is
 
-tells : (c : Command) (files : FilesState) (inputs : Inputs) (text : List ℕ)
-    (status : ℕ) → IsText c files inputs text status → IsTextOfOriginal c inputs text
-tells (Rewrite a) files inputs text status h = tt
-tells (Run a) files inputs text status h =
-    of_run inputs a.execution.nodes a.execution.budget h.is.work h.is.own h.outcome a.execution.brief text h.is.is_run h.text_is
-tells (One a) files inputs text status h =
-    by_order inputs a.nodes a.order a.budget h.outcome text h.is h.text_is
-tells (Sim a) files inputs text status h =
-    of_sim inputs a a.loss a.lanes text status h
-tells (Listing a) files inputs text status h = tt
-tells (Replay a) files inputs text status h =
+tells : (p : Task) (files : FilesState) (contents : List ℕ → List ℕ) (text : List ℕ)
+    (status : ℕ) → IsText (as_command p) files (inputs_of (as_command p) contents) text status
+    → IsTextOfOriginal p contents text
+tells (Run a) files contents text status h =
+    of_run (inputs_of (command.Run a) contents) a.execution.nodes a.execution.budget h.is.work
+    h.is.own h.outcome a.execution.brief text h.is.is_run h.text_is
+tells (One a) files contents text status h =
+    by_order (inputs_of (command.One a) contents) a.nodes a.order a.budget h.outcome text h.is
+    h.text_is
+tells (Sim a) files contents text status h =
+    of_sim (inputs_of (command.Sim a) contents) a a.loss a.lanes text status h
+tells (Replay a) files contents text status h =
+    let inputs = inputs_of (command.Replay a) contents in
     let kept = h.is.kept in
     let asked = h.is.asked in
+    let same = begins_so kept inputs.text h.is.elf h.is.work.layout asked.text asked.laid_out
+    asked.valid in
     record {
-      kept = kept;
-      record_is = asked.text;
+      nodes = kept.nodes;
+      budget = kept.budget;
       tells = of_code (choice_of kept.batch inputs.verified) inputs.executable h.is.elf h.is.plan
-          h.is.work _ h.outcome (IsLayoutOfRecord kept) kept.nodes kept.budget a.brief text h.is.of_code
-          (asked.laid_out, asked.valid) (ap (λ (s : Shape). s.nodes) asked.laid_out.layout_is)
-          asked.limit h.text_is;
+          h.is.work _ h.outcome
+          (λ (layout : Shape). (layout.nodes ≡ kept.nodes) × BeginsRecord inputs.text layout kept.budget)
+          kept.nodes kept.budget a.brief text h.is.of_code same.0 same.1 same.1.0 asked.limit
+          h.text_is;
     }
-tells (Generate a) files inputs text status h = tt
-tells (Assemble a) files inputs text status h = tt
 
-pub prints_original : (c : Command) (contents : List ℕ → List ℕ) (files : FilesState)
-    (before now : SinkState) (status : ℕ) → Prints c contents files before now status
-    → PrintsOriginal c contents before now
-prints_original c contents files before now status h = record {
+pub prints_original : (p : Task) (contents : List ℕ → List ℕ) (files : FilesState)
+    (before now : SinkState) (status : ℕ) → Prints (as_command p) contents files before now status
+    → PrintsOriginal p contents before now
+prints_original p contents files before now status h = record {
   text = h.text;
-  is = tells c files (inputs_of c contents) h.text status h.is;
+  is = tells p files contents h.text status h.is;
   put = h.put;
 }
+
+-- ---- what is asked
+
+-- words that ask to run a program ask for the command
+pub asks_as : (words : List (List ℕ)) (p : Task) → AsksToRun words p
+    → Asks words (as_command p)
+asks_as words (Run a) h = record { of_row = h.of_row; fits = h.fits }
+asks_as words (One a) h = record { of_row = h.of_row; fits = h.fits }
+asks_as words (Sim a) h = record { of_row = h.of_row; fits = h.fits }
+asks_as words (Replay a) h = record { of_row = h.of_row; fits = h.fits }
+
+pub told_as : (p : Task) (files : FilesState) (contents : List ℕ → List ℕ)
+    → AreFilesTold p files contents → AreTold (as_command p) files contents
+told_as (Run a) files contents h = h
+told_as (One a) files contents h = h
+told_as (Sim a) files contents h = h
+told_as (Replay a) files contents h = h

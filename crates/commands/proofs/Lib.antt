@@ -8,6 +8,7 @@ pub mod Recorded
 pub mod ReplayLemmas
 pub mod GenerateLemmas
 pub mod AssemblyLemmas
+pub mod RecordHeads
 pub mod InterleavedLemmas
 pub mod BlockWords
 pub mod SharedRanges

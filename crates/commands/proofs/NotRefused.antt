@@ -6,6 +6,7 @@ use Rattle.rv32_decode.specs.declared.Instr.{Instr}
 use Rattle.rv32_program.specs.Program.{Program}
 use Rattle.elf32_read.specs.Elf.{Elf}
 use Rattle.elf32_read.proofs.Judging.{no_rule}
+use Rattle.exec_map.proofs.Judging.{no_rule as no_program_rule}
 use Rattle.exec_map.specs.Contents.{program_of, AreSharedRanges}
 use Rattle.exec_map.specs.Refusals.{Fits}
 use Rattle.block_layout.specs.Layout.{Shape, IsValid}
@@ -68,7 +69,7 @@ taken_file choice file elf plan image line h (inr k) =
     let other : Elf = k.0 in
     let reads : ReadsAs file other = k.1 in
     let is : other ≡ elf = one_elf file other elf reads h.executable.reads in
-    h.executable.accepted.no_rule k.2.0 (subst (λ e. Fits e k.2.0) is k.2.1.fits)
+    no_program_rule elf h.executable.accepted k.2.0 (subst (λ e. Fits e k.2.0) is k.2.1.fits)
 
 taken_code : HaveFaultLaws → (batches : Bool) (elf : Elf) (plan : List PlanEntry)
     (image : List Cell) (words : ℕ) → IsPlanOf batches (program_of elf).code plan

@@ -59,7 +59,7 @@ home_low : (nodes : ℕ) (home : Option ℕ) → nodes ≤ 16 → is_home nodes 
 home_low nodes None few e = tt
 home_low nodes (Some h) few e = let low = ltb-true h nodes e in omega (arith, low, few)
 
-block_line : (shared : List Lines) (nodes : ℕ) → nodes ≤ 16 → (r : BlockRange) → IsRange shared nodes r
+pub block_line : (shared : List Lines) (nodes : ℕ) → nodes ≤ 16 → (r : BlockRange) → IsRange shared nodes r
     → IsBlockLine r
 block_line shared nodes few r h = record {
   size = (let low = small r.block (64 ∷ 128 ∷ 256 ∷ 512 ∷ 1024 ∷ 2048 ∷ 4096 ∷ []) sizes_small h.size in omega (arith, low));

@@ -9,7 +9,8 @@ use Rattle.run_order.specs.OwnRun.{Stamped, StandsForOwnRun, run_of}
 use Rattle.run_record.specs.Text.{record_text}
 use Rattle.text_output.specs.declared.failure.Failure.{Failure}
 use Rattle.text_output.specs.declared.failure.Failure.TheVariants.{Input, NotWritten, Refused, Layout, Record, Text, Output, OutOfMemory}
-use Rattle.command_line.specs.Commands.{RunArguments, Command, Run, writes}
+use Rattle.command_line.specs.Tasks.{RunArguments}
+use Rattle.command_line.specs.Commands.{Command, Run, writes}
 use Rattle.dsm_io.specs.States.{SinkState, FilesState}
 use Rattle.commands.specs.Answers.{HasBytes, IsLeft, IsUnwritten, AreLeft, AreWritten}
 use Rattle.text_output.specs.Failures.{FailsAs, IsNever}

@@ -8,7 +8,8 @@ use Rattle.replay.specs.Replay.{IsReplay}
 use Rattle.replay.specs.Told.{what_told, events_told}
 use Rattle.text_output.specs.declared.failure.Failure.{Failure}
 use Rattle.text_output.specs.declared.failure.Failure.TheVariants.{Input, NotWritten, Refused, Layout, Record, Text, Output, OutOfMemory}
-use Rattle.command_line.specs.Commands.{ReplayArguments, Replay}
+use Rattle.command_line.specs.Tasks.{ReplayArguments}
+use Rattle.command_line.specs.Commands.{Replay}
 use Rattle.dsm_io.specs.States.{SinkState, FilesState}
 use Rattle.text_output.specs.Failures.{FailsAs}
 use Rattle.prepared_run.specs.Replays.{IsReplayRefusal, IsBadReplayLayout, IsOutcomeOfReplay, IsReplayRefused}

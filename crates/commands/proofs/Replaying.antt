@@ -2,7 +2,8 @@
 use Rattle.std.proofs.Common.{◌⊎◌, ℕ, List, subst}
 use Rattle.dsm_io.specs.Causes.{Appends, AppendsPrefix}
 use Rattle.dsm_io.specs.States.{FilesState, SinkState}
-use Rattle.command_line.specs.Commands.{RunArguments, ReplayArguments, Command, Rewrite, Run, Listing, One, Sim, Replay, Generate, Assemble}
+use Rattle.command_line.specs.Tasks.{RunArguments, ReplayArguments}
+use Rattle.command_line.specs.Commands.{Command, Rewrite, Run, Listing, One, Sim, Replay, Generate, Assemble}
 use Rattle.commands.specs.Again.{IsReplayOf, IsReplayOfRun, PutOneText}
 use Rattle.commands.specs.Headline.{IsText, Prints, PrintsPrefix, held_by}
 use Rattle.judged_files.specs.Inputs.{Inputs}

@@ -1,6 +1,7 @@
 -- A replay of the record that a run left.
 use Rattle.std.specs.Prelude.{◌≡◌, ℕ, List, Some, option_map}
-use Rattle.command_line.specs.Commands.{RunArguments, ReplayArguments, Command, Run, Replay}
+use Rattle.command_line.specs.Tasks.{RunArguments, ReplayArguments}
+use Rattle.command_line.specs.Commands.{Command, Run, Replay}
 use Rattle.commands.specs.Headline.{held_by}
 use Rattle.dsm_io.specs.Causes.{Appends}
 use Rattle.dsm_io.specs.States.{FilesState, SinkState}

@@ -24,7 +24,8 @@ use Rattle.block_layout.specs.Layout.{Shape}
 use Rattle.one_memory.specs.ByOrder.{IsRunByOrder}
 use Rattle.workload.specs.Generated.{generated_elf}
 use Rattle.rv32_asm.specs.Assembling.{IsAssembled}
-use Rattle.command_line.specs.Commands.{SimArguments, Command, Rewrite, Run, Listing, One, Sim, Replay, Generate, Assemble}
+use Rattle.command_line.specs.Tasks.{SimArguments}
+use Rattle.command_line.specs.Commands.{Command, Rewrite, Run, Listing, One, Sim, Replay, Generate, Assemble}
 use Rattle.dsm_io.specs.Causes.{Appends, AppendsPrefix}
 use Rattle.dsm_io.specs.States.{FilesState, SinkState}
 use Rattle.judged_files.specs.Executables.{IsProgramOf}

@@ -1,7 +1,8 @@
 -- The files that commands read.
 use Rattle.std.specs.Prelude.{◌≡◌, ℕ, Bool, true, not, List, [], Option, None, Some, option_map, Contains}
 use Rattle.dsm_io.specs.States.{FilesState}
-use Rattle.command_line.specs.Commands.{Execution, Command, Rewrite, Run, Listing, One, Sim, Replay, Generate, Assemble, reads}
+use Rattle.command_line.specs.Tasks.{Execution}
+use Rattle.command_line.specs.Commands.{Command, Rewrite, Run, Listing, One, Sim, Replay, Generate, Assemble, reads}
 use Rattle.judged_files.specs.Inputs.{Inputs}
 
 -- the files that a command reads, each where it reads one: as an executable; as the rewritten

@@ -1,12 +1,15 @@
-//! What a run and a replay of its record print. There is no code here.
+//! What a run and a replay of its record print, and what the lines tell with which a record begins.
+//! There is no code here.
 
-ghost use Rattle.std.specs.Prelude.{◌⊎◌, ℕ, List};
+ghost use Rattle.std.specs.Prelude.{◌≡◌, ◌⊎◌, ℕ, List};
+ghost use Rattle.block_layout.specs.Layout.{Shape};
 ghost use Rattle.dsm_io.specs.Causes.{Appends, AppendsPrefix};
 ghost use Rattle.dsm_io.specs.States.{FilesState, SinkState};
 ghost use Rattle.command_line.specs.Commands.{Command};
 ghost use Rattle.commands.specs.Again.{IsReplayOf, PutOneText};
 ghost use Rattle.commands.specs.Headline.{IsText, Prints, PrintsPrefix};
 ghost use Rattle.commands.specs.Inputs.{inputs_of};
+ghost use Rattle.commands.specs.Interleaved.{BeginsRecord};
 ghost use Rattle.commands.specs.Refusals.{IsRefused, IsLayoutRefused, IsRecordRefused};
 
 use block_layout::range_list_law;
@@ -54,3 +57,11 @@ pub fn run_and_replay_law()
     verify_law();
     replay_law();
 }
+
+/// The law of the lines with which a record begins: they tell its nodes, its budget and its blocks.
+/// A caller uses the clause; the call does nothing.
+pub fn record_head_law()
+    ensures one { (text : List ℕ) (layout other : Shape) (budget limit : ℕ)
+        → BeginsRecord text layout budget → BeginsRecord text other limit
+        → (layout.nodes ≡ other.nodes) × (budget ≡ limit) × (layout.named ≡ other.named) }
+{}

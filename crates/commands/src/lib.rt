@@ -16,7 +16,7 @@ mod sim;
 mod text;
 mod top;
 
-pub use law::run_and_replay_law;
+pub use law::{record_head_law, run_and_replay_law};
 pub use node_threads::{Gate, OpenGate};
 pub use text_output::tell_out_of_memory;
 pub use top::shasta;

@@ -6,7 +6,7 @@ ghost use Rattle.std.specs.Prelude.{◌≤◌, ◌*◌, IfOk, IfErr};
 ghost use Rattle.rewriting_law.specs.Bounds.{RunsRewritten};
 ghost use Rattle.dsm_core.specs.CoreParts.{outcome_of, work_in};
 ghost use Rattle.smp_sim.specs.CoreParts.{work_with};
-ghost use Rattle.command_line.specs.Commands.{AreFew};
+ghost use Rattle.command_line.specs.Tasks.{AreFew};
 ghost use Rattle.command_line.specs.Meaning.{lanes_of, loss_of, sim_of};
 ghost use Rattle.commands.specs.Headline.{IsTextOfSim};
 ghost use Rattle.commands.specs.Runs.{IsOutcomeOn, IsOutcomeOnLanes};

@@ -3,11 +3,12 @@
 ghost use Rattle.std.specs.Prelude.{◌≡◌, ◌≢◌, ◌≤◌, ◌⊎◌, ◌<◌, ℕ, List, Some, length, Contains, IfOk};
 ghost use Rattle.std.specs.Prelude.{IfErr, MatchResult};
 ghost use Rattle.command_line.specs.Commands.{Command as Asked, IsFit, reads, writes};
-ghost use Rattle.command_line.specs.Asks.{Asks};
+ghost use Rattle.command_line.specs.Tasks.{Task};
+ghost use Rattle.command_line.specs.Asks.{Asks, AsksToRun};
 ghost use Rattle.command_line.specs.Meaning.{meaning_of};
 ghost use Rattle.commands.specs.Headline.{IsText, Prints, PrintsPrefix};
 ghost use Rattle.commands.specs.Inputs.{AreTold, inputs_of};
-ghost use Rattle.commands.specs.Interleaved.{PrintsOriginal};
+ghost use Rattle.commands.specs.Interleaved.{AreFilesTold, PrintsOriginal};
 ghost use Rattle.judged_files.specs.Given.{bytes_of};
 ghost use Rattle.commands.specs.Failures.{IsSuccess, IsFailure, IsPerformFailure, AreKept};
 ghost use Rattle.text_output.specs.Failures.{IsNoRefusal, Puts};
@@ -73,9 +74,9 @@ pub fn shasta<R: Threads + Wait + Sync, F: Files, O: Sink, E: Sink, G: Gate + Sy
     // has made steps there: of `one` as many as the budget, of the others at least one for each 40
     // words of the budget; for nodes of several processors no number is promised. The run of
     // `replay` has the processors, the budget and the blocks of the record.
-    ensures interleaved { (c : Asked) (contents : List ℕ → List ℕ) → Asks words.now c
-        → AreTold c (F.state files.old) contents → result ≤ 1
-        → PrintsOriginal c contents (O.state out.old) (O.state out.new) }
+    ensures interleaved { (p : Task) (contents : List ℕ → List ℕ) → AsksToRun words.now p
+        → AreFilesTold p (F.state files.old) contents → result ≤ 1
+        → PrintsOriginal p contents (O.state out.old) (O.state out.new) }
 
     // Status 4 is for a refused executable, one that isn't the rewritten one, or a verified file
     // that is that of no rewriting; the refusal is told.

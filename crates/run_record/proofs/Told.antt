@@ -164,7 +164,7 @@ pub rest_of : {A : Type 0} (P : A → Type 0) (x : A) (xs : List A) → All P (x
 rest_of P x xs h = λ k d lt. h (suc k) d (omega (arith, lt))
 
 -- the lines of ranges, up to an 'n'
-blocks_told : (rs ss : List BlockRange) (us vs : List ℕ) → All IsBlockLine rs → All HasWords rs
+pub blocks_told : (rs ss : List BlockRange) (us vs : List ℕ) → All IsBlockLine rs → All HasWords rs
     → All IsBlockLine ss → All HasWords ss
     → block_lines rs ++ 110 ∷ us ≡ block_lines ss ++ 110 ∷ vs → (rs ≡ ss) × (us ≡ vs)
 blocks_told [] [] us vs p h q k e = let rest : us ≡ vs = cc in (refl, rest)

@@ -1,6 +1,6 @@
 use Rattle.std.proofs.Common.{◌≡◌, [], None, refl, rules, ap, length, arith}
 use Rattle.command_line.specs.declared.table.Kind.TheVariants.{MaybeNumber}
-use Rattle.command_line.specs.Commands.{kind_of}
+use Rattle.command_line.specs.Table.{kind_of}
 use Rattle.command_line.specs.Reading.{given_by}
 use Rattle.command_line.proofs.Rows.{maybe_by, maybe_few}
 use Rattle.command_line.proofs.maybe_number_in.Goals as goal

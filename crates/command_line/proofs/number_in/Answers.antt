@@ -1,6 +1,6 @@
 use Rattle.std.proofs.Common.{◌≡◌, [], refl, rules, ap, length, arith}
 use Rattle.command_line.specs.declared.table.Kind.TheVariants.{Number}
-use Rattle.command_line.specs.Commands.{kind_of}
+use Rattle.command_line.specs.Table.{kind_of}
 use Rattle.command_line.specs.Reading.{given_by}
 use Rattle.command_line.proofs.Rows.{says_by, says_read, says_few}
 use Rattle.command_line.proofs.number_in.Goals as goal

@@ -1,7 +1,7 @@
 use Rattle.std.proofs.Common.{◌∙◌, refl, rules, sym, subst}
 use Rattle.command_line.specs.declared.table.CommandWord.TheVariants as word
 use Rattle.command_line.specs.declared.table.Setting.TheVariants.{Loss, PerNode}
-use Rattle.command_line.specs.Commands.{AreFew}
+use Rattle.command_line.specs.Tasks.{AreFew}
 use Rattle.command_line.specs.Meaning.{file_name, loss_of, lanes_of}
 use Rattle.command_line.specs.Reading.{given_by, SaysMaybe}
 use Rattle.command_line.proofs.Rows.{as_command, one_file, placed_file, sim_alone, sim_few}

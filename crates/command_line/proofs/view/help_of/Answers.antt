@@ -1,5 +1,5 @@
 use Rattle.std.proofs.Common.{[], ap, length, arith, refl, ◌∙◌, subst, sym}
-use Rattle.command_line.specs.Asks.{ArePlaced}
+use Rattle.command_line.specs.Arguments.{ArePlaced}
 use Rattle.command_line.specs.Reading.{given_by}
 use Rattle.command_line.proofs.Viewing.{as_help, no_place}
 use Rattle.command_line.proofs.view.help_of.Goals as goal

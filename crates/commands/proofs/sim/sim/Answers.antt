@@ -1,7 +1,7 @@
 use Rattle.std.proofs.Common.{inl, sym, subst}
 use Rattle.std.proofs.lemmas.Result.{err_from_is_err_and}
 use Rattle.dsm_core.specs.CoreParts.{outcome_of}
-use Rattle.command_line.specs.Commands.{AreFew, SimArguments}
+use Rattle.command_line.specs.Tasks.{AreFew, SimArguments}
 use Rattle.command_line.specs.Meaning.{lanes_of, loss_of, sim_of}
 use Rattle.node_model.specs.Outcome.{Outcome}
 use Rattle.dsm_io.specs.States.{SinkState}

@@ -2,10 +2,12 @@ use Rattle.std.proofs.Common.{subst}
 use Rattle.command_line.specs.Commands.{Assemble, Generate, IsFit, Replay, Rewrite}
 use Rattle.command_line.specs.Meaning.{assemble_of, generate_of, meaning_of, replay_of, rewrite_of}
 use Rattle.dsm_io.specs.States.{SinkState, FilesState}
-use Rattle.commands.specs.Failures.{IsAssemblyFailure, IsPerformFailure, IsReplayFailure, IsRewriteFailure}
-use Rattle.text_output.specs.Failures.{IsWriteFailure}
+use Rattle.commands.specs.Failures.{AreKept, IsAssemblyFailure, IsPerformFailure, IsReplayFailure, IsRewriteFailure}
+use Rattle.commands.specs.Headline.{IsText, IsTextWith}
+use Rattle.prepared_run.specs.Replays.{IsOutcomeOfReplay}
+use Rattle.text_output.specs.Failures.{IsWriteFailure, Puts}
 use Rattle.judged_files.specs.Given.{bytes_of}
-use Rattle.commands.proofs.AnswerLemmas.{err_as, plain_failure, puts_nothing, rewrite_fails}
+use Rattle.commands.proofs.AnswerLemmas.{err_as, ok_as, plain_failure, puts_nothing, rewrite_fails, rewrite_kept}
 use Rattle.commands.proofs.AssemblyLemmas.{assembles, assembly_fails}
 use Rattle.commands.proofs.GenerateLemmas.{generates, generate_fails}
 use Rattle.commands.proofs.ReplayLemmas.{replay_fails}
@@ -30,6 +32,17 @@ returns-in-Rewrite-clause-failure g c =
     c.rewrite_into.result (rewrite_fails a inputs files files_now state)
     c.rewrite_into.ensures.failure)
 
+pub returns-in-Rewrite-clause-kept : goal.returns-in-Rewrite-clause-kept
+returns-in-Rewrite-clause-kept g c =
+    let files : FilesState = g.F.Files.state c.args.files.now in
+    let files_now : FilesState = g.F.Files.state c.rewrite_into.new.files in
+    let inputs = bytes_of c.args.inputs.now in
+    let a = rewrite_of c.in-Rewrite.arguments in
+    err_as (IsRewriteFailure inputs.batches inputs.executable files files_now a.output)
+    (AreKept files files_now) c.rewrite_into.result
+    (rewrite_kept inputs.batches a.output inputs.executable files files_now)
+    c.rewrite_into.ensures.failure
+
 pub returns-in-List-clause-failure : goal.returns-in-List-clause-failure
 returns-in-List-clause-failure g c =
     let files : FilesState = g.F.Files.state c.args.files.now in
@@ -53,6 +66,18 @@ returns-in-Sim-clause-failure g c =
     let now : SinkState = g.O.Sink.state c.sim.new.out in
     plain_failure (meaning_of c.args.command.now) (bytes_of c.args.inputs.now) files files before now
     c.sim.result (rw c.in-Sim.is c.sim.ensures.failure)
+
+pub returns-in-Replay-clause-ok : goal.returns-in-Replay-clause-ok
+returns-in-Replay-clause-ok g c =
+    let files : FilesState = g.F.Files.state c.args.files.now in
+    let before : SinkState = g.O.Sink.state c.args.out.now in
+    let now : SinkState = g.O.Sink.state c.put_replay.new.out in
+    let inputs = bytes_of c.args.inputs.now in
+    let a = replay_of c.in-Replay.arguments in
+    rw c.in-Replay.is
+    (ok_as (λ status. Puts (IsTextWith (IsOutcomeOfReplay inputs) a.brief) status before now)
+    (λ status. Puts (IsText (Replay a) files inputs) status before now) c.put_replay.result
+    (λ status put. put) c.put_replay.ensures.ok)
 
 pub returns-in-Replay-clause-failure : goal.returns-in-Replay-clause-failure
 returns-in-Replay-clause-failure g c =

@@ -1,6 +1,6 @@
 use Rattle.std.proofs.Common.{◌≡◌, ℕ, List, sym, ◌∙◌, subst, inl, inr, rules}
 use Rattle.std.specs.Prelude.{Contains}
-use Rattle.command_line.specs.Commands.{reads}
+use Rattle.command_line.specs.Commands.{as_command, reads}
 use Rattle.command_line.specs.Meaning.{meaning_of}
 use Rattle.dsm_io.specs.States.{SinkState, FilesState}
 use Rattle.text_output.specs.Answers.{Tells}
@@ -10,7 +10,7 @@ use Rattle.text_output.specs.Failures.{line_of}
 use Rattle.commands.specs.Inputs.{AreTold, inputs_of}
 use Rattle.commands.specs.Text.{usage}
 use Rattle.commands.proofs.AnswerLemmas.{fault_of, refusal_of, layout_refusal_of, record_refusal_of, text_refusal_of, prefix_of_failure, asked_as, none_as}
-use Rattle.commands.proofs.InterleavedLemmas.{prints_original}
+use Rattle.commands.proofs.InterleavedLemmas.{asks_as, prints_original, told_as}
 use Rattle.commands.proofs.top.shasta.Goals as goal
 
 pub returns-in-Ok-None-clause-usage : goal.returns-in-Ok-None-clause-usage
@@ -38,10 +38,11 @@ returns-in-Ok-clause-prints g c = λ d contents asks told low.
     success.prints contents told
 
 pub returns-in-Ok-clause-interleaved : goal.returns-in-Ok-clause-interleaved
-returns-in-Ok-clause-interleaved g c = λ d contents asks told low.
-    prints_original d contents (g.F.Files.state c.answer.new.files) (g.O.Sink.state c.args.out.now)
+returns-in-Ok-clause-interleaved g c = λ p contents asks told low.
+    prints_original p contents (g.F.Files.state c.answer.new.files) (g.O.Sink.state c.args.out.now)
     (g.O.Sink.state c.answer.new.out) c.in-Ok.status
-    (returns-in-Ok-clause-prints g c d contents asks told low)
+    (returns-in-Ok-clause-prints g c (as_command p) contents (asks_as c.args.words.now p asks)
+    (told_as p (g.F.Files.state c.args.files.now) contents told) low)
 
 pub returns-in-Ok-clause-longer : goal.returns-in-Ok-clause-longer
 returns-in-Ok-clause-longer g c = λ d name content asks among holds long.
