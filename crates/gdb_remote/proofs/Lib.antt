@@ -1,0 +1,3 @@
+pub mod Hexadecimals
+pub mod PacketsRead
+pub mod WordsFound

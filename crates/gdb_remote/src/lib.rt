@@ -1,0 +1,19 @@
+#![tactic(auto)]
+//! The remote protocol of GDB, as a target that is only looked at speaks it: packets, and what a
+//! packet asks for.
+
+mod arguments;
+mod frame;
+mod hexadecimal;
+mod law;
+mod reader;
+mod request;
+mod words;
+
+pub use frame::push_framed;
+pub use hexadecimal::{bytes_of, push_bytes, push_word};
+pub use law::{packet_law, word_law};
+pub use reader::{Event, INTERRUPT, PACKET_SIZE, Phase, Reader};
+pub use request::{
+    Direction, Extent, Look, Point, PointKind, Request, Setting, Thread, request_of,
+};
