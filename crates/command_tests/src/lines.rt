@@ -4,6 +4,7 @@ use command_line::{Command, command_of};
 use dsm_io::Text;
 use std::alloc::{AllocError, Global};
 use std::test::Fail;
+use test_calls::calls::words_of;
 
 /// What a line asks of the file `a`, if it is a command: a count of nodes, an order and a budget, 0
 /// for what the command lacks.
@@ -148,15 +149,6 @@ const OTHERS: [(&str, Asked); 69] = [
     ("asm a", None),
     ("asm a b --brief", None),
 ];
-
-/// The words of a line.
-fn words_of(alloc: Global, line: &str) -> Result<Vec<Text>, Fail> {
-    let mut words = Vec::new(alloc);
-    for word in line.split(' ') {
-        words.push(Text::of(String::from_str(alloc, word)?))?;
-    }
-    Ok(words)
-}
 
 /// The count of nodes, the order and the budget of a command, 0 for what it lacks, with its file.
 fn parts_of<'a>(command: &Command<'a>) -> (&'a str, u8, u32, u64) {

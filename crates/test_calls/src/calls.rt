@@ -130,20 +130,49 @@ fn sink_of(alloc: Global, fails: &[u64], refusals: &[u64]) -> Result<MemSink, Al
     Ok(MemSink::with_refusals(alloc, fails, refusals.to_vec(alloc)?))
 }
 
-/// The words of a line, with spaces between them.
-fn words_of(alloc: Global, line: &str) -> Result<Vec<Text>, AllocError> {
+/// The words of a line, between its spaces; none of an empty line.
+pub fn words_of(alloc: Global, line: &str) -> Result<Vec<Text>, AllocError> {
     let mut words = Vec::new(alloc);
-    for word in line.split_whitespace() {
+    if line.is_empty() {
+        return Ok(words);
+    }
+    for word in line.split(' ') {
         words.push(Text::of(String::from_str(alloc, word)?))?;
     }
     Ok(words)
 }
 
-/// What a name holds; nothing where it isn't read.
-fn content_of(alloc: Global, files: &mut MemFiles, name: &str) -> Vec<u8> {
-    match files.read(alloc, name, 0x200_0000) {
-        Ok(bytes) => bytes,
-        Err(_) => Vec::new(alloc),
+/// The outside of a call: its files, its output and its errors.
+#[derive(Drop)]
+pub struct Outside {
+    pub files: MemFiles,
+    pub out: MemSink,
+    pub err: MemSink,
+}
+
+impl Outside {
+    /// The outside where these files are held and these calls fail.
+    pub fn of(alloc: Global, held: Held<'_>) -> Result<Outside, Fail> {
+        let faults = held.faults;
+        let files = files_of(alloc, held.files, faults.files)?;
+        let out = sink_of(alloc, faults.out, faults.out_memory)?;
+        let err = sink_of(alloc, faults.err, faults.err_memory)?;
+        Ok(Outside { files, out, err })
+    }
+
+    /// What a call with this status left there, and what a file then holds; nothing where it isn't
+    /// read.
+    pub fn left(&mut self, alloc: Global, status: u8, written: &str) -> Result<Called, Fail> {
+        let written = match self.files.read(alloc, written, 0x200_0000) {
+            Ok(bytes) => bytes,
+            Err(_) => Vec::new(alloc),
+        };
+        Ok(Called {
+            status,
+            out: self.out.taken().to_vec(alloc)?,
+            err: self.err.taken().to_vec(alloc)?,
+            written,
+        })
     }
 }
 
@@ -158,17 +187,17 @@ pub fn call(
 ) -> Result<Called, Fail> {
     let alloc = rt.alloc();
     let words = words_of(alloc, line)?;
-    let faults = held.faults;
-    let mut files = files_of(alloc, held.files, faults.files)?;
-    let mut out = sink_of(alloc, faults.out, faults.out_memory)?;
-    let mut err = sink_of(alloc, faults.err, faults.err_memory)?;
-    let status = shasta(rt, alloc, &words, &mut files, &mut out, &mut err, gate);
-    Ok(Called {
-        status,
-        out: out.taken().to_vec(alloc)?,
-        err: err.taken().to_vec(alloc)?,
-        written: content_of(alloc, &mut files, written),
-    })
+    let mut outside = Outside::of(alloc, held)?;
+    let status = shasta(
+        rt,
+        alloc,
+        &words,
+        &mut outside.files,
+        &mut outside.out,
+        &mut outside.err,
+        gate,
+    );
+    outside.left(alloc, status, written)
 }
 
 /// What a call answers: its status, the parts of what the output takes, and what the errors take.

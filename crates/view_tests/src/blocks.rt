@@ -1,10 +1,10 @@
 //! `blocks`, of the run of two nodes whose trace `trace` puts.
 
-use crate::calls::show;
+use crate::calls::{Row, try_views};
 use crate::trace::{RECORD, ROW};
 use std::alloc::Global;
 use std::test::Fail;
-use test_calls::calls::{Expected, executable, push_words};
+use test_calls::calls::{executable, push_words};
 
 /// What its nodes count, and what its block costs: node 1 asks for it. The last line goes on with
 /// the name of the code, where it has one.
@@ -17,8 +17,7 @@ messages  about a block, of a node about it, of code that asks for it; most firs
 2           node 1 read 1 exclusive 0 upgrade 0 invalidations 0
 1           code 00010008";
 
-/// A call, and its status, output and errors.
-const CALLS: [(&str, u8, &[&str], &str); 3] = [
+const CALLS: [Row; 3] = [
     ("blocks IN R", 0, &[COSTS, "\n"], ""),
     (
         "blocks IN IN",
@@ -66,27 +65,16 @@ fn named(alloc: Global) -> Result<Vec<u8>, Fail> {
 }
 
 /// Of the two functions that have the load `read` begins last; the load is its second word.
-#[test]
-fn names_the_code(rt: HostRuntime) -> Result<(), Fail> {
-    let alloc = rt.alloc();
-    let program = named(alloc)?;
-    let files = [("IN", program.as_slice()), ("R", RECORD.as_bytes())];
-    let answer = Expected {
-        status: 0,
-        out: &[COSTS, " read+0x4\n"],
-        err: "",
-    };
-    show(alloc, &files, "blocks IN R", &[])?.expect(alloc, "blocks IN R", &answer)
+const NAMED: [Row; 1] = [("blocks IN R", 0, &[COSTS, " read+0x4\n"], "")];
+
+/// Makes the calls of a table where IN holds a program, and R the record.
+fn try_costs(alloc: Global, program: &[u8], rows: &[Row]) -> Result<(), Fail> {
+    try_views(alloc, &[("IN", program), ("R", RECORD.as_bytes())], rows)
 }
 
 #[test]
 fn shows_costs(rt: HostRuntime) -> Result<(), Fail> {
     let alloc = rt.alloc();
-    let program = executable(alloc, ROW, &[7, 0, 0, 0], 64)?;
-    let files = [("IN", program.as_slice()), ("R", RECORD.as_bytes())];
-    for (line, status, out, err) in CALLS {
-        let answer = Expected { status, out, err };
-        show(alloc, &files, line, &[])?.expect(alloc, line, &answer)?;
-    }
-    Ok(())
+    try_costs(alloc, &named(alloc)?, &NAMED)?;
+    try_costs(alloc, &executable(alloc, ROW, &[7, 0, 0, 0], 64)?, &CALLS)
 }

@@ -1,9 +1,8 @@
 //! Calls of the viewer on files in memory.
 
-use dsm_io::{MemFiles, MemSink, Text};
 use std::alloc::Global;
 use std::test::Fail;
-use test_calls::calls::Called;
+use test_calls::calls::{Called, Expected, Held, Outside, sure, words_of};
 use views::shasta_view;
 
 /// How the viewer is called.
@@ -14,32 +13,35 @@ pub(crate) const USAGE: &str = "usage: shasta_view code IN [--no-batch]
        shasta_view --help
 ";
 
-/// Calls the viewer with these words, with spaces between them, where files have these names and
-/// contents; the puts to the output with these numbers fail. What was written is what OUT then
-/// holds.
-pub(crate) fn show(
-    alloc: Global,
-    all: &[(&str, &[u8])],
-    line: &str,
-    fails: &[u64],
-) -> Result<Called, Fail> {
-    let mut words = Vec::new(alloc);
-    for word in line.split_whitespace() {
-        words.push(Text::of(String::from_str(alloc, word)?))?;
+/// Calls the viewer on files with these words, with spaces between them, and then reads OUT.
+pub(crate) fn show(alloc: Global, held: Held<'_>, line: &str) -> Result<Called, Fail> {
+    let words = words_of(alloc, line)?;
+    let mut outside = Outside::of(alloc, held)?;
+    let status = shasta_view(
+        alloc,
+        &words,
+        &mut outside.files,
+        &mut outside.out,
+        &mut outside.err,
+    );
+    outside.left(alloc, status, "OUT")
+}
+
+/// A call, and its status, output and errors.
+pub(crate) type Row = (&'static str, u8, &'static [&'static str], &'static str);
+
+/// Calls the viewer, and fails the test where it answers otherwise.
+pub(crate) fn try_view(alloc: Global, held: Held<'_>, row: &Row) -> Result<(), Fail> {
+    let (line, status, out, err) = *row;
+    let answer = Expected { status, out, err };
+    show(alloc, held, line)?.expect(alloc, line, &answer)
+}
+
+/// Makes each call of a table where these files are held.
+pub(crate) fn try_views(alloc: Global, files: &[(&str, &[u8])], rows: &[Row]) -> Result<(), Fail> {
+    let held = sure(files);
+    for row in rows {
+        try_view(alloc, held, row)?;
     }
-    let mut held = Vec::new(alloc);
-    for (name, bytes) in all {
-        let name = Text::of(String::from_str(alloc, name)?);
-        held.push((name, bytes.to_vec(alloc)?))?;
-    }
-    let mut files = MemFiles::new(alloc, held, Vec::new(alloc));
-    let mut out = MemSink::with_refusals(alloc, fails.to_vec(alloc)?, Vec::new(alloc));
-    let mut err = MemSink::with_refusals(alloc, Vec::new(alloc), Vec::new(alloc));
-    let status = shasta_view(alloc, &words, &mut files, &mut out, &mut err);
-    Ok(Called {
-        status,
-        out: out.taken().to_vec(alloc)?,
-        err: err.taken().to_vec(alloc)?,
-        written: files.held("OUT").unwrap_or(b"").to_vec(alloc)?,
-    })
+    Ok(())
 }

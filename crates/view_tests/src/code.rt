@@ -1,8 +1,10 @@
 //! `code` and `--help`: their texts, and what is told of faulty words and files.
 
-use crate::calls::{USAGE, show};
+use crate::calls::{Row, USAGE, show, try_view, try_views};
+use std::alloc::Global;
+use std::str::from_utf8;
 use std::test::Fail;
-use test_calls::calls::{Expected, executable};
+use test_calls::calls::{Faults, Held, NO_FAULTS, executable, sure};
 use test_calls::samples::HI;
 
 /// A program that loads a word, whose line may be read.
@@ -62,30 +64,50 @@ const LOADS_CODE: &str = "00010000: 000202b7 lui x5, 0x20                   ; as
   a0000030: 0000002b 00010014 single   * trap.fetch
 ";
 
-/// A program without data, a call, and its status, output and errors.
-const CALLS: [(&str, &str, u8, &[&str], &str); 11] = [
-    (HI, "code IN", 0, &[HEAD, HI_CODE], ""),
-    (HI, "code --no-batch IN", 0, &[HEAD, HI_CODE], ""),
-    (LOADS, "code IN", 0, &[HEAD, LOADS_CODE], ""),
-    (HI, "--help", 0, &[USAGE], ""),
-    (HI, "", 2, &[], USAGE),
-    (HI, "code", 2, &[], USAGE),
-    (HI, "code IN IN", 2, &[], USAGE),
-    (HI, "code IN --brief", 2, &[], USAGE),
-    (HI, "--help IN", 2, &[], USAGE),
-    (HI, "list IN", 2, &[], USAGE),
-    (HI, "code a", 3, &[], "shasta: cannot read a\n"),
+/// Calls where IN holds the first program.
+const CALLS: [Row; 10] = [
+    ("code IN", 0, &[HEAD, HI_CODE], ""),
+    ("code --no-batch IN", 0, &[HEAD, HI_CODE], ""),
+    ("--help", 0, &[USAGE], ""),
+    ("", 2, &[], USAGE),
+    ("code", 2, &[], USAGE),
+    ("code IN IN", 2, &[], USAGE),
+    ("code IN --brief", 2, &[], USAGE),
+    ("--help IN", 2, &[], USAGE),
+    ("list IN", 2, &[], USAGE),
+    ("code a", 3, &[], "shasta: cannot read a\n"),
 ];
+
+/// And where it holds the second.
+const LOADS_CALLS: [Row; 1] = [("code IN", 0, &[HEAD, LOADS_CODE], "")];
+
+/// And where it holds none.
+const REFUSED: [Row; 1] = [("code IN", 4, &[], "shasta: executable refused 1 Short\n")];
+
+/// And where the first put fails.
+const FAILED: Row = ("code IN", 3, &[], "shasta: cannot write output\n");
+
+/// Makes the calls of a table where IN holds a program without data.
+fn try_code(alloc: Global, program: &str, rows: &[Row]) -> Result<(), Fail> {
+    let file = executable(alloc, program, b"", 64)?;
+    try_views(alloc, &[("IN", &file)], rows)
+}
 
 #[test]
 fn shows_code(rt: HostRuntime) -> Result<(), Fail> {
-    let alloc = rt.alloc();
-    for (program, line, status, out, err) in CALLS {
-        let file = executable(alloc, program, b"", 64)?;
-        let answer = Expected { status, out, err };
-        show(alloc, &[("IN", &file)], line, &[])?.expect(alloc, line, &answer)?;
+    try_code(rt.alloc(), HI, &CALLS)?;
+    try_code(rt.alloc(), LOADS, &LOADS_CALLS)
+}
+
+/// Fails the test where the code of a file has a run, or none, and this says otherwise.
+fn try_runs(alloc: Global, file: &[u8], line: &str, runs: bool) -> Result<(), Fail> {
+    let called = show(alloc, sure(&[("IN", file)]), line)?;
+    let text = from_utf8(&called.out)?;
+    let has_runs = text.contains("; run of 2, s ");
+    if has_runs == runs && text.contains(" batch.r (") == runs && called.status == 0 {
+        return Ok(());
     }
-    Ok(())
+    Err(Fail::new(format_args!("{line}: {text}")))
 }
 
 /// Two loads that share a check are a run of two; without batches each has its own.
@@ -93,32 +115,21 @@ fn shows_code(rt: HostRuntime) -> Result<(), Fail> {
 fn shows_runs(rt: HostRuntime) -> Result<(), Fail> {
     let alloc = rt.alloc();
     let file = executable(alloc, PAIR, b"", 64)?;
-    for (line, runs) in [("code IN", true), ("code IN --no-batch", false)] {
-        let called = show(alloc, &[("IN", &file)], line, &[])?;
-        let text = std::str::from_utf8(&called.out)?;
-        assert_eq!(rt; text.contains("; run of 2, s "), runs);
-        assert_eq!(rt; text.contains(" batch.r ("), runs);
-        assert_eq!(rt; called.status, 0);
-    }
-    Ok(())
+    try_runs(alloc, &file, "code IN", true)?;
+    try_runs(alloc, &file, "code IN --no-batch", false)
 }
 
 #[test]
 fn tells_refusals_and_faults(rt: HostRuntime) -> Result<(), Fail> {
     let alloc = rt.alloc();
-    let called = show(alloc, &[("IN", b"text")], "code IN", &[])?;
-    let refused = Expected {
-        status: 4,
-        out: &[],
-        err: "shasta: executable refused 1 Short\n",
-    };
-    called.expect(alloc, "code IN", &refused)?;
+    try_views(alloc, &[("IN", b"text")], &REFUSED)?;
     let file = executable(alloc, HI, b"", 64)?;
-    let called = show(alloc, &[("IN", &file)], "code IN", &[1])?;
-    assert_eq!(rt; called.status, 3);
-    assert_eq!(rt;
-        std::str::from_utf8(&called.err)?,
-        "shasta: cannot write output\n"
-    );
-    Ok(())
+    let failing = Held {
+        files: &[("IN", &file)],
+        faults: Faults {
+            out: &[1],
+            ..NO_FAULTS
+        },
+    };
+    try_view(alloc, failing, &FAILED)
 }

@@ -4,6 +4,7 @@ use command_line::{View, view_of};
 use dsm_io::Text;
 use std::alloc::{AllocError, Global};
 use std::test::Fail;
+use test_calls::calls::words_of;
 
 /// What of the trace of the record `r` of a run of `a` a line asks for, if it asks for one: from
 /// which stamp, to which, of the block of which address, and of which node.
@@ -30,15 +31,6 @@ const LINES: [(&str, Asked); 12] = [
     ("trace a r --no-batch", None),
 ];
 
-/// The words of a line.
-fn words_of(alloc: Global, line: &str) -> Result<Vec<Text>, Fail> {
-    let mut words = Vec::new(alloc);
-    for word in line.split(' ') {
-        words.push(Text::of(String::from_str(alloc, word)?))?;
-    }
-    Ok(words)
-}
-
 fn asked_of(alloc: Global, words: &[Text]) -> Result<Asked, AllocError> {
     match view_of(alloc, words)? {
         Some(
@@ -58,9 +50,9 @@ fn asked_of(alloc: Global, words: &[Text]) -> Result<Asked, AllocError> {
 #[test]
 fn reads_the_words_of_trace(rt: HostRuntime) -> Result<(), Fail> {
     let alloc = rt.alloc();
-    for (line, wanted) in LINES {
+    for (line, wanted) in &LINES {
         let words = words_of(alloc, line)?;
-        if asked_of(alloc, &words)? != wanted {
+        if asked_of(alloc, &words)? != *wanted {
             return Err(Fail::new(format_args!("{line}")));
         }
     }

@@ -1,8 +1,8 @@
 //! `trace`, of the run of two nodes that docs/PROTOCOL.md follows message by message.
 
-use crate::calls::show;
+use crate::calls::{Row, try_views};
 use std::test::Fail;
-use test_calls::calls::{Expected, executable};
+use test_calls::calls::executable;
 
 /// A processor other than 0 loads a shared word; each exits with code 0.
 pub(crate) const ROW: &str = "lui x5, 0x20; beq x10, x0, end; lw x6, 0(x5); end:; addi x10, x0, 0;
@@ -61,9 +61,9 @@ const LAST: &str = "15 node 1: 00010014 ecall; commits; ends
 16 node 1: takes Bye from 1
 ";
 
-/// A call, and its status, output and errors; B is the record with one entry changed, whose message
+/// B is the record with one entry changed, whose message
 /// isn't there yet.
-const CALLS: [(&str, u8, &[&str], &str); 6] = [
+const CALLS: [Row; 6] = [
     (
         "trace IN R",
         0,
@@ -102,9 +102,5 @@ fn shows_a_run(rt: HostRuntime) -> Result<(), Fail> {
         ("R", RECORD.as_bytes()),
         ("B", broken.as_bytes()),
     ];
-    for (line, status, out, err) in CALLS {
-        let answer = Expected { status, out, err };
-        show(alloc, &files, line, &[])?.expect(alloc, line, &answer)?;
-    }
-    Ok(())
+    try_views(alloc, &files, &CALLS)
 }
