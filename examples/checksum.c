@@ -1,7 +1,7 @@
 /* Two checksums of words in read-only memory, Adler-32 by remainders and FNV-1a by products: each
-   processor makes those of some words, and behind a barrier processor 0 prints them. */
-#include "barrier.h"
-#include "number.h"
+   processor makes those of some words, then processor 0 prints them. */
+#include <shasta.h>
+#include <stdio.h>
 
 static const char *const words[] = {"Wikipedia", "foobar", "shasta", ""};
 
@@ -32,18 +32,19 @@ static unsigned fnv_of(const char *word)
     return sum;
 }
 
-int main(int me, int count)
+static void work(void *unused)
 {
-    for (int k = me; k < WORDS; k += count) {
+    (void)unused;
+    for (unsigned k = processor(); k < WORDS; k += processors()) {
         adler[k] = adler_of(words[k]);
         fnv[k] = fnv_of(words[k]);
     }
-    meet((unsigned)count);
-    if (me != 0)
-        return 0;
-    for (int k = 0; k < WORDS; k += 1) {
-        print_number("adler", adler[k]);
-        print_number("fnv", fnv[k]);
-    }
+}
+
+int main(void)
+{
+    parallel(work, 0);
+    for (unsigned k = 0; k < WORDS; k += 1)
+        printf("adler %u\nfnv %u\n", adler[k], fnv[k]);
     return 0;
 }

@@ -1,13 +1,13 @@
 /* The greatest common divisors of all pairs of numbers up to a limit, by remainders: each processor
-   makes some rows of the table. Behind a barrier processor 0 prints the sum of the table, and how many
-   remainders the longest way to a divisor takes. */
-#include "barrier.h"
-#include "number.h"
+   makes some rows of the table. Then processor 0 prints the sum of the table, and how many remainders
+   the longest way to a divisor takes. */
+#include <shasta.h>
+#include <stdio.h>
 
 enum { SIDE = 40 };
 
-static unsigned char divisors[SIDE][SIDE] __attribute__((aligned(64)));
-static unsigned char steps[SIDE][SIDE] __attribute__((aligned(64)));
+static unsigned char divisors[SIDE][SIDE] IN_OWN_LINE;
+static unsigned char steps[SIDE][SIDE] IN_OWN_LINE;
 
 static void fill(unsigned row, unsigned column)
 {
@@ -24,14 +24,17 @@ static void fill(unsigned row, unsigned column)
     steps[row][column] = taken;
 }
 
-int main(int me, int count)
+static void work(void *unused)
 {
-    for (unsigned row = (unsigned)me; row < SIDE; row += (unsigned)count)
+    (void)unused;
+    for (unsigned row = processor(); row < SIDE; row += processors())
         for (unsigned column = 0; column < SIDE; column += 1)
             fill(row, column);
-    meet((unsigned)count);
-    if (me != 0)
-        return 0;
+}
+
+int main(void)
+{
+    parallel(work, 0);
     unsigned sum = 0;
     unsigned most = 0;
     for (unsigned row = 0; row < SIDE; row += 1)
@@ -40,7 +43,6 @@ int main(int me, int count)
             if (most < steps[row][column])
                 most = steps[row][column];
         }
-    print_number("sum", sum);
-    print_number("remainders", most);
+    printf("sum %u\nremainders %u\n", sum, most);
     return 0;
 }

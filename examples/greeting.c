@@ -1,5 +1,5 @@
 /* A greeting from each processor. */
-#include "shasta.h"
+#include "bare.h"
 
 int main(int me, int count)
 {

@@ -1,7 +1,7 @@
 /* Accounts that the processors share: each moves money between them in rounds, under one lock, and meets
    the others at a barrier behind every round; then processor 0 prints what is in the accounts. The lock
    gives tickets and serves them in their order. */
-#include "print.h"
+#include "bare.h"
 
 enum { ACCOUNTS = 5, FIRST = 1000, ROUNDS = 6, MOVES = 4 };
 

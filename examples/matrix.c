@@ -1,14 +1,15 @@
 /* The product of two matrices of signed numbers, in 64 bits: each processor makes some of its rows.
-   Behind a barrier processor 0 prints the two halves of its trace, and the mean of each matrix,
-   which is rounded towards zero. */
-#include "barrier.h"
-#include "number.h"
+   Then processor 0 prints the two halves of its trace, and the mean of each matrix, which is rounded
+   towards zero. */
+#include <shasta.h>
+#include <stdio.h>
 
 enum { SIDE = 12 };
 
 static int left[SIDE][SIDE];
 static int right[SIDE][SIDE];
-static long long product[SIDE][SIDE] __attribute__((aligned(64)));
+static long long product[SIDE][SIDE] IN_OWN_LINE;
+static struct barrier filled;
 
 static void fill(int row)
 {
@@ -28,34 +29,34 @@ static void multiply(int row)
     }
 }
 
-static void print_mean(int matrix[SIDE][SIDE])
+static int mean_of(int matrix[SIDE][SIDE])
 {
     int mean = 0;
     for (int row = 0; row < SIDE; row += 1)
         for (int column = 0; column < SIDE; column += 1)
             mean += matrix[row][column] / (SIDE * SIDE);
-    if (mean < 0)
-        print_number("mean minus", -(unsigned)mean);
-    else
-        print_number("mean", (unsigned)mean);
+    return mean;
 }
 
-int main(int me, int count)
+static void work(void *unused)
 {
+    (void)unused;
+    int me = (int)processor();
+    int count = (int)processors();
     for (int row = me; row < SIDE; row += count)
         fill(row);
-    meet((unsigned)count);
+    meet(&filled, processors());
     for (int row = me; row < SIDE; row += count)
         multiply(row);
-    meet(2 * (unsigned)count);
-    if (me != 0)
-        return 0;
+}
+
+int main(void)
+{
+    parallel(work, 0);
     long long trace = 0;
     for (int row = 0; row < SIDE; row += 1)
         trace += product[row][row];
-    print_number("high", (unsigned)(trace >> 32));
-    print_number("low", (unsigned)trace);
-    print_mean(left);
-    print_mean(right);
+    printf("high %u\nlow %u\n", (unsigned)(trace >> 32), (unsigned)trace);
+    printf("mean %d\nmean %d\n", mean_of(left), mean_of(right));
     return 0;
 }

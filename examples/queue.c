@@ -1,7 +1,7 @@
 /* A bounded queue without a lock, of which each processor is a writer and a reader: the processors put in
    the numbers 1 to 200 and take them out, until all are out; then processor 0 prints how many came, how
    many of them came twice, and their sum. A cell's turn says who is next at it: a writer, or a reader. */
-#include "print.h"
+#include "bare.h"
 
 enum { NUMBERS = 200, CELLS = 8 };
 

@@ -1,5 +1,5 @@
 /* A sort by insertion of words in read-only memory; it prints them a line each. */
-#include "shasta.h"
+#include "bare.h"
 
 static const char *const words[] = {
     "shasta", "block", "node", "line", "home", "state", "flag", "owner", "sharer", "miss",

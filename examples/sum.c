@@ -1,6 +1,6 @@
 /* A sum that the processors share: each adds up its part of the numbers 1 to 1000, in lines of memory of
    its own, and says when it is done; processor 0 waits for all, adds the parts and prints the sum. */
-#include "shasta.h"
+#include "bare.h"
 
 enum { NUMBERS = 1000, PROCESSORS = 16 };
 
@@ -13,7 +13,7 @@ struct part {
 
 static struct part parts[PROCESSORS] __attribute__((aligned(64)));
 
-static void print(unsigned number)
+static void print_number(unsigned number)
 {
     char digits[12];
     unsigned at = sizeof digits;
@@ -45,6 +45,6 @@ int main(int me, int count)
             ;
         total += parts[p].sum;
     }
-    print(total);
+    print_number(total);
     return 0;
 }

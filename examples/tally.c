@@ -1,6 +1,6 @@
 /* The program of docs/USING.md: each processor adds up its part of the numbers 1 to 100 and adds this
    to a total, under a lock; behind a barrier processor 0 prints the total. */
-#include "print.h"
+#include "bare.h"
 
 enum { NUMBERS = 100 };
 

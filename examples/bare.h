@@ -1,11 +1,20 @@
-/* Numbers as text. */
-#ifndef PRINT_H
-#define PRINT_H
+/* What a program finds that uses no library: two calls of the machine, and numbers as text. `start.s`
+   has the calls, and calls main. */
+#ifndef BARE_H
+#define BARE_H
 
-#include "shasta.h"
+/* Writes the bytes to the output, in order; gives how many. */
+int write_bytes(const char *bytes, unsigned length);
+
+/* Ends this processor with a code. */
+_Noreturn void exit_with(int code);
+
+/* A program's own part: `me` is the processor's number, below `count`. What it gives is the code with
+   which the processor ends. */
+int main(int me, int count);
 
 /* Writes a word, a space, a number and a line feed to the output, by one call. */
-static void print(const char *word, unsigned number)
+static inline void print(const char *word, unsigned number)
 {
     char text[32];
     unsigned at = sizeof text;
