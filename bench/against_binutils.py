@@ -17,7 +17,7 @@ Then `readelf -hlW` reads the files that `gen` and `asm` write: the header and t
 those that are stated, without a warning. qemu-riscv32 runs them where they may be run: `hello` of
 docs/USING.md, and `gen`'s behind a start that says that there is one processor; it must print what
 `one` prints."""
-import argparse, pathlib, random, re, struct, subprocess, sys, tempfile
+import argparse, pathlib, random, re, shutil, struct, subprocess, sys, tempfile
 
 here = pathlib.Path(__file__).resolve().parent
 sys.path.insert(0, str(here / "outside"))
@@ -25,7 +25,7 @@ sys.dont_write_bytecode = True
 import rows
 from rows import word_of
 
-TOOLS = "riscv64-unknown-elf-"
+TOOLS, PACKAGES = "riscv64-unknown-elf-", "binutils-riscv64-unknown-elf qemu-user"
 CODE, DATA = 0x10000, 0x200000
 HELLO = """.segment rx 0x10000
 lui x11, 0x20
@@ -163,6 +163,8 @@ def main():
     parser.add_argument("--seed", type=int, default=0)
     asked = parser.parse_args()
     program = asked.program.resolve()
+    if None in map(shutil.which, (f"{TOOLS}objdump", "qemu-riscv32")):
+        raise SystemExit(f"against_binutils: the packages are lacking: apt-get install -y {PACKAGES}")
     with tempfile.TemporaryDirectory() as folder:
         wrong = [*listing(program, asked.words, asked.seed, pathlib.Path(folder)),
                  *files(program, pathlib.Path(folder))]

@@ -1,23 +1,27 @@
 #!/usr/bin/env python3
 """Compares what instructions do with what qemu-riscv32 makes of them.
 
-    bench/against_qemu.py PROGRAM [--programs N] [--first N] [--seed N] [--file N] [--plant A=B]
+    bench/against_qemu.py PROGRAM [--programs N] [--first N] [--alone N] [--file N] [--seed N]
+                          [--plant A=B]
 
 PROGRAM is the built program (crates/shasta/out/shasta); qemu-riscv32 is of Debian's qemu-user.
-Straight-line programs are made from numbers (outside/programs.py), so many (20,000) from the first
-(0) on, in files of so many (100). Each program sets its registers to edge values and random ones,
-executes 20 to 200 instructions of RV32IMA, with jumps forward, and prints its 32 registers and a
-buffer of 256 bytes. A file ends by an exit, an ebreak, an illegal word, or an access to memory that
-isn't there. `one`, `run` and qemu-riscv32 must print the same for each file, and the same as
-outside/rows.py computes, and end alike. For each program that differs the script says what does.
+Straight-line programs are made from numbers (outside/programs.py), so many (33,000) from the first
+(0) on. Those with the numbers below so many (10,000) stand alone, each in a file that ends by an
+ebreak. The others stand in files of so many (100), which end by an exit, an ebreak, an illegal
+word, or an access to memory that isn't there. Each program sets its registers to edge values and
+random ones, executes 20 to 200 instructions of RV32IMA, with jumps forward, and prints its 32
+registers and a buffer of 256 bytes. `one`, `run` and qemu-riscv32 must print the same for each
+file, and the same as outside/rows.py computes, and end alike. For each program that differs the
+script says what does.
 
 Then it prints how often each kind of instruction was executed, with the corner cases of its
-operands, and names those that never came. What is left out, since qemu has no such rule: an access
-that isn't aligned, and a store by the processor itself to the word that it has reserved.
+operands, and names those that never came; and last, which kind came least often. What is left out,
+since qemu has no such rule: an access that isn't aligned, and a store by the processor itself to
+the word that it has reserved.
 
 With --plant A=B qemu is given a file in which each instruction A is a B with the same fields: so
 the two disagree by a wrong row, and the script stops at the first program in which that shows."""
-import argparse, pathlib, re, resource, struct, subprocess, sys, tempfile
+import argparse, pathlib, re, resource, shutil, struct, subprocess, sys, tempfile
 
 here = pathlib.Path(__file__).resolve().parent
 sys.path.insert(0, str(here / "outside"))
@@ -33,14 +37,30 @@ SIGNALS = {"ebreak": 5, "illegal": 4, "access": 11}
 def options():
     parser = argparse.ArgumentParser(prog="bench/against_qemu.py")
     parser.add_argument("program", type=pathlib.Path)
-    parser.add_argument("--programs", type=int, default=20000)
+    parser.add_argument("--programs", type=int, default=33000)
     parser.add_argument("--first", type=int, default=0)
-    parser.add_argument("--seed", type=int, default=0)
+    parser.add_argument("--alone", type=int, default=10000)
     parser.add_argument("--file", type=int, default=100)
+    parser.add_argument("--seed", type=int, default=0)
     parser.add_argument("--plant")
     asked = parser.parse_args()
     asked.program = asked.program.resolve()
+    if shutil.which("qemu-riscv32") is None:
+        raise SystemExit("against_qemu: the package is lacking: apt-get install -y qemu-user")
     return asked
+
+
+def files(asked):
+    """The numbers of each file's programs, and how the file ends."""
+    first, last = asked.first, asked.first + asked.programs
+    while first < last:
+        if first < asked.alone:
+            numbers, end = range(first, first + 1), "ebreak"
+        else:
+            numbers = range(first, min(first + asked.file, last))
+            end = ENDS[first // asked.file % len(ENDS)]
+        yield numbers, end
+        first = numbers.stop
 
 
 def end_words(end, status):
@@ -67,16 +87,16 @@ def executable(words):
 class File:
     """Some programs behind one another, and how they end."""
 
-    def __init__(self, asked, first, machine):
-        numbers = range(first, min(first + asked.file, asked.first + asked.programs))
-        self.first, self.words, self.printed, self.places = first, [], [], []
+    def __init__(self, asked, numbers, end, machine):
+        self.first, self.words, self.printed, self.places = numbers.start, [], [], []
         self.programs = [programs.Program(asked.seed, number) for number in numbers]
         machine.begin()
         for program in self.programs:
             self.places.append(len(self.words))
             self.printed.append(machine.run(program, programs.CODE + 4 * len(self.words)))
             self.words += program.words()
-        self.end, self.status = ENDS[first // asked.file % len(ENDS)], first // asked.file % 256
+        self.end, self.status = end, numbers.start // asked.file % 256
+        machine.counts["ebreak"] += end == "ebreak"
         self.last = programs.CODE + 4 * len(self.words)
         self.words += end_words(self.end, self.status)
 
@@ -156,9 +176,8 @@ def table(machine):
 def main():
     asked, machine, wrong = options(), programs.Machine(), 0
     with tempfile.TemporaryDirectory() as folder:
-        for first in range(asked.first, asked.first + asked.programs, asked.file):
-            file = File(asked, first, machine)
-            machine.counts["ebreak"] += file.end == "ebreak"
+        for numbers, end in files(asked):
+            file = File(asked, numbers, end, machine)
             found = sorted(judged(asked, file, pathlib.Path(folder)))
             wrong += len(found)
             for _, text in found[:1 if asked.plant else None]:
@@ -168,9 +187,9 @@ def main():
     table(machine)
     said = called("qemu-riscv32", "--version")[0].decode()
     version = re.search(r"version (\S+)", said).group(1)
-    executed = sum(machine.counts.values())
+    executed, rarest = sum(machine.counts.values()), min(rows.ROWS, key=machine.counts.__getitem__)
     print(f"{asked.programs:,} programs, {executed:,} instructions, by one, run and qemu-riscv32 "
-          f"{version}: {wrong} differ")
+          f"{version}: {wrong} differ; {rarest} came least often, {machine.counts[rarest]:,} times")
     return 1 if wrong else 0
 
 

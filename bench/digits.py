@@ -7,10 +7,11 @@ PROGRAM is the shasta that was built. digits.c, built over the runtime, prints C
 in each of FORMS. A number in the form `f` has to be the double, rounded once: to its places, or to
 17 digits where these are fewer; in the forms `e` and `g` what Python prints, which is exact. The
 script tells the first that differ, and how many do."""
-import decimal, pathlib, re, struct, subprocess, sys, tempfile
+import decimal, pathlib, re, shutil, struct, subprocess, sys, tempfile
 
 root = pathlib.Path(__file__).resolve().parent.parent
 BUILD = ["riscv64-unknown-elf-gcc", f"--specs={root}/runtime/shasta.specs", "-O2"]
+PACKAGES = "gcc-riscv64-unknown-elf binutils-riscv64-unknown-elf picolibc-riscv64-unknown-elf"
 FORMS = ("%.0f %f %.3f %.10f %10.2f %010.3f %.0e %e %.16e %-12.1e "
          "%g %.17g %.14g %.0g %#g %.3g %+g %G %.15g").split()
 EXACT = decimal.Context(prec=1200, rounding=decimal.ROUND_HALF_EVEN)
@@ -36,6 +37,9 @@ def awaited(bits):
 
 
 def main():
+    if shutil.which(BUILD[0]) is None:
+        print(f"digits: the packages are lacking: apt-get install -y {PACKAGES}", file=sys.stderr)
+        return 1
     count = sys.argv[2] if len(sys.argv) > 2 else "3000"
     with tempfile.TemporaryDirectory() as folder:
         file = f"{folder}/digits.elf"

@@ -1,10 +1,11 @@
 #!/usr/bin/env python3
-"""Builds the kernels of programs/ and runs each in every way there is.
+"""Builds the kernels of programs/ and runs each in every way there is, and so the programs of
+runtime/examples that print the same for every number of processors.
 
     bench/kernels.py PROGRAM [ORDERS [NAME..]]
 
-PROGRAM is the shasta that was built; NAME is a kernel (all), ORDERS how many orders of `sim` are tried
-(10). Each kernel runs by `one`; by `sim` under the orders; by `sim` with losses on 4 nodes; by `sim` on
+PROGRAM is the shasta that was built; NAME is a kernel or one of SMALL below (all), ORDERS how many
+orders of `sim` are tried (10). Each runs by `one`; by `sim` under the orders; by `sim` with losses on 4 nodes; by `sim` on
 nodes of two processors; and by `run`, each time with a replay of its record, on 1, 2, 4, 8 and 16
 nodes. Each run must print what `one` prints on one processor, and end with 0 everywhere; a replay what
 its run printed. The script tells what differs, then how many messages `sim` on 4 nodes takes by order
@@ -14,6 +15,7 @@ import pathlib, re, shutil, subprocess, sys, tempfile
 root = pathlib.Path(__file__).resolve().parent.parent
 BUILD = ["riscv64-unknown-elf-gcc", f"--specs={root}/runtime/shasta.specs", "-DINTEGER_PRINTF", "-O2",
          "-Wl,--defsym=__heap_size=0x10000"]
+SMALL = ("all", "file", "heap", "hello", "numbers", "threads", "words")
 NODES = ("1", "2", "4", "8", "16")
 LOSSES = ("0", "5", "77")
 BUDGET = ["--budget", "4294967295"]
@@ -59,20 +61,24 @@ def main():
         return 1
     program = str(pathlib.Path(sys.argv[1]).resolve())
     orders = int(sys.argv[2]) if len(sys.argv) > 2 else 10
-    names = sys.argv[3:] or sorted(path.stem for path in (root / "programs").glob("*.c"))
+    names = sys.argv[3:] or [*sorted(path.stem for path in (root / "programs").glob("*.c")), *SMALL]
     failed = 0
     for name in names:
         with tempfile.TemporaryDirectory() as folder:
             file = f"{folder}/{name}.elf"
-            subprocess.run([*BUILD, root / f"programs/{name}.c", "-o", file], check=True)
+            if name in SMALL:
+                shutil.copy(root / f"runtime/examples/{name}.elf", file)
+            else:
+                subprocess.run([*BUILD, root / f"programs/{name}.c", "-o", file], check=True)
             differ, runs = differing(program, file, orders)
             failed += len(differ)
             for way in differ:
                 print(f"{name}: {' '.join(way)} prints otherwise")
+            print(f"{name}: {runs} runs, {len(differ)} differ; messages {messages(program, file)}", end="")
             layout = root / f"programs/{name}.layout"
-            with_layout = messages(program, file, "--layout", layout) if layout.is_file() else ""
-            print(f"{name}: {runs} runs, {len(differ)} differ; messages {messages(program, file)}, "
-                  f"with its layout {with_layout}", flush=True)
+            if layout.is_file():
+                print(f", with its layout {messages(program, file, '--layout', layout)}", end="")
+            print(flush=True)
     return 1 if failed else 0
 
 

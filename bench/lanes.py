@@ -1,10 +1,10 @@
 #!/usr/bin/env python3
-"""Runs the C programs of examples/ on nodes of several processors.
+"""Runs the bare C programs of examples/ on nodes of several processors.
 
-    ./lanes.py PROGRAM [ORDERS]
+    ./lanes.py PROGRAM [ORDERS [NAME..]]
 
-PROGRAM is the built program (crates/shasta/out/shasta). Each program, but for the greeting, whose lines
-come in any order, runs by `sim` on N nodes of M processors for each N and M with at most 16 processors in
+PROGRAM is the built program (crates/shasta/out/shasta). Each program that is named, or every one but for
+the greeting, whose lines come in any order, runs by `sim` on N nodes of M processors for each N and M with at most 16 processors in
 all, by so many orders (4); it must print what `one` prints for N * M processors, and end as it does. The
 script says what differs, and how many runs there were. Then it counts, for 8 nodes of one processor, 4 of
 two and 2 of four, the misses, the invalidations and the messages of each program, by order 0: what the
@@ -12,7 +12,7 @@ processors of a node save by sharing its copy."""
 import pathlib, re, subprocess, sys
 
 bench = pathlib.Path(__file__).resolve().parent
-NAMES = ("sum", "sort", "lock", "tally", "queue", "matrix", "divisors", "checksum")
+NAMES = sys.argv[3:] or ("sum", "sort", "lock", "tally", "queue")
 SHAPES = [(nodes, lanes) for lanes in (1, 2, 3, 4) for nodes in range(1, 16 // lanes + 1)]
 
 

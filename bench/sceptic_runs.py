@@ -3,11 +3,11 @@
 
     bench/sceptic_runs.py PROGRAM [--runs N] [--first N] [--way WAY] [--budget B]
 
-PROGRAM is the built program (crates/shasta/out/shasta). So many runs (555) are made, numbered from
-the first (0) on: of all executables of examples/, bench/, bench/programs/ and bench/threads/ in
-turn, on 2 nodes, then on 3, and so on to 16, where it begins anew; so 555 runs have each program on
-each number of nodes once. A run has a budget of so many words a node (300,000). `replay` takes its
-record, and must print the same bytes, with the same status.
+PROGRAM is the built program (crates/shasta/out/shasta). So many runs (720) are made, numbered from
+the first (0) on: of all executables of examples/, runtime/examples/, bench/, bench/programs/ and
+bench/threads/ in turn, on 2 nodes, then on 3, and so on to 16, where it begins anew; so 720 runs
+have each program on each number of nodes once. A run has a budget of so many words a node
+(300,000). `replay` takes its record, and must print the same bytes, with the same status.
 
 WAY is `idle` (one run at a time), `load` (one for each processor at a time, beside as many loops
 that only count), or `one` (all threads on processor 0, by taskset). Runs that differ are told; the
@@ -16,7 +16,8 @@ took."""
 import argparse, concurrent.futures, os, pathlib, re, subprocess, sys, tempfile
 
 bench = pathlib.Path(__file__).resolve().parent
-FOLDERS = (bench.parent / "examples", bench, bench / "programs", bench / "threads")
+FOLDERS = (bench.parent / "examples", bench.parent / "runtime/examples", bench, bench / "programs",
+           bench / "threads")
 PROGRAMS = [file for folder in FOLDERS for file in sorted(folder.glob("*.elf"))]
 NODES = range(2, 17)
 
@@ -57,7 +58,7 @@ def is_repeated(asked, number, folder):
 
 def main():
     asked = options()
-    count = os.cpu_count() if asked.way == "load" else 1
+    count = len(os.sched_getaffinity(0)) if asked.way == "load" else 1
     loops = [subprocess.Popen([sys.executable, "-c", "while True: pass"])
              for _ in range(count if asked.way == "load" else 0)]
     numbers = range(asked.first, asked.first + asked.runs)

@@ -1,5 +1,5 @@
 /* What the programs share: one processor works, and prints one number by which its work can be compared. */
-#include "../../examples/print.h"
+#include "../../examples/bare.h"
 
 /* The next of a row of numbers that look like chance. */
 static inline unsigned next_of(unsigned number)

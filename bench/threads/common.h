@@ -1,5 +1,5 @@
 /* What the programs share: a barrier, and lines of their own. */
-#include "../../examples/shasta.h"
+#include "../../examples/bare.h"
 
 #define LINE __attribute__((aligned(64)))
 
