@@ -37,7 +37,7 @@ CLAUSE_SAYS = (
     "From the contract of `shasta`, in [src/top.rt](../crates/commands/src/top.rt). `words` are "
     "the words of the command line, `files` and `out` what the call reads from and prints to, "
     "before it (`.old`) and behind it (`.new`); `F.state` and `O.state` are what contracts see of "
-    "these two, and `result` is the status. `Asked` is `Command` of command_line.")
+    "these two, and `result` is the status.")
 WIDTH = 100
 
 
