@@ -12,3 +12,4 @@ mod OrderLemmas
 mod LoneLemmas
 mod MayBreakLemmas
 mod ReservingLemmas
+mod ShownLemmas

@@ -11,7 +11,7 @@ use Rattle.rv32_program.specs.Program.{line_of}
 use Rattle.rv32_step.specs.Registers.{put}
 use Rattle.rv32_step.specs.Reservations.{after_store_by, after_other, with_reservation}
 use Rattle.rv32_step.specs.declared.Demand.TheVariants.{StoresIf}
-use Rattle.rv32_step.specs.OneMemory.{Original, State, Processor, StepResult, Request, Becomes, Prints, LoadsFrom, StoresTo, ReservesAt, StoresWhere, UpdatesAt, Pick, Step, Break, WritesIf, request, request_at, request_for, answer, step, pick_step, shared_stored, with_store, after_conditional, with_conditional}
+use Rattle.rv32_step.specs.OneMemory.{Original, State, Processor, StepResult, Request, Becomes, Prints, LoadsFrom, StoresTo, ReservesAt, StoresWhere, UpdatesAt, Pick, Step, Break, WritesIf, request, request_at, request_for, answer, step, after_pick, shared_stored, with_store, after_conditional, with_conditional}
 use Rattle.one_memory.specs.Reserving.{IsAtConditional, StoresExactly, IsInBlockOf, Replaces, ReplacesBy}
 
 -- a reservation after another's store
@@ -57,7 +57,7 @@ answered o s p q x (ReservesAt r a) = replaced s.reservations p q (Some a)
 answered o s p q x (StoresWhere r a v) = conditional o s p q a v _ (holds (s.reservations q) a)
 answered o s p q x (UpdatesAt f r a v) = after_stored o.layout a p q s.reservations
 
-pub stays : (o : Original) (s : State) (k : Pick) (p : ℕ) → ((pick_step o s k).state.reservations p ≡ s.reservations p) ⊎ ReplacesBy o s p k
+pub stays : (o : Original) (s : State) (k : Pick) (p : ℕ) → ((after_pick o s k).reservations p ≡ s.reservations p) ⊎ ReplacesBy o s p k
 stays o s (Step q) p = answered o s p q (s.processors q) (request o.program (s.processors q))
 stays o s (Break r q) p = replaced s.reservations p r None
 

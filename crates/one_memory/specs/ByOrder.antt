@@ -46,8 +46,7 @@ end_by budget exit = option_map_or (λ e. Exited e) exit (Stopped budget)
 
 -- the ends of so many processors
 abbrev pub ends_by : ℕ → State → ℕ → List End
-ends_by budget s nodes =
-    map (λ p. end_by budget (s.processors p).exit) (range_with_len 0 nodes)
+ends_by budget s nodes = map (λ p. end_by budget (s.processors p).exit) (range_with_len 0 nodes)
 
 -- the ends of the processors after the picks
 abbrev pub ends_after : Original → ℕ → List ℕ → List End

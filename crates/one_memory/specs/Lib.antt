@@ -4,3 +4,4 @@ pub mod Turns
 pub mod Stretches
 pub mod Reserving
 pub mod Running
+pub mod Shown

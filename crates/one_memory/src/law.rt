@@ -2,7 +2,7 @@
 
 ghost use Rattle.std.specs.Prelude.{◌≡◌, ℕ, ◌⊎◌};
 ghost use Rattle.llsc.specs.Reservation.{holds};
-ghost use Rattle.rv32_step.specs.OneMemory.{Original, State, Pick, pick_step};
+ghost use Rattle.rv32_step.specs.OneMemory.{Original, State, Pick, after_pick};
 ghost use Rattle.one_memory.specs.Reserving.{IsAtConditional, StoresExactly, ReplacesBy};
 
 /// What holds of reservations on one memory. A caller uses the clauses; the call does nothing.
@@ -15,6 +15,6 @@ pub fn reservation_law()
     // A reservation stays, but for the processor's own LR and SC, another's store, AMO or storing
     // SC in the block, and a break.
     ensures stays { (original : Original) (s : State) (k : Pick) (p : ℕ)
-        → ((pick_step original s k).state.reservations p ≡ s.reservations p)
+        → ((after_pick original s k).reservations p ≡ s.reservations p)
         ⊎ ReplacesBy original s p k }
 {}

@@ -4,10 +4,12 @@
 ghost use Rattle.std.specs.Prelude.{◌≡◌, ◌<◌, ◌≤◌, ◌↔◌, ℕ, true, false, None, IfOk, OnOk, OnErr};
 ghost use Rattle.std.specs.Prelude.{IsErrOf, IsSome};
 ghost use Rattle.exec_map.specs.Contents.{program_of};
-ghost use Rattle.rv32_step.specs.OneMemory.{Original, Break, MayBreak, Allowed, opening, pick_step};
+ghost use Rattle.rv32_step.specs.OneMemory.{Original, Break, MayBreak, Allowed, opening, after_pick};
 ghost use Rattle.rv32_step.specs.OneMemory.{step as model_step};
+ghost use Rattle.rv32_step.specs.Registers.{registers_of};
 ghost use Rattle.one_memory.specs.Machine.{state_of, original_of};
 ghost use Rattle.one_memory.specs.Turns.{AreTurns};
+ghost use Rattle.one_memory.specs.Shown.{byte_shown};
 
 mod breaks;
 mod by_order;
@@ -21,12 +23,13 @@ mod served;
 
 use crate::code::CodeTable;
 use crate::memory::Memory;
-use crate::processor::Processor;
+use crate::processor::{Processor, address_of, read_byte};
 use block_layout::Layout;
 pub use by_order::{OriginalOutcome, run_by_order};
 use exec_map::{Exit, Program};
 pub use law::reservation_law;
 use run_limits::NodeCount;
+use rv32_step::Registers;
 use std::alloc::{AllocError, Global};
 use std::marker::Model;
 use thiserror::Error;
@@ -50,6 +53,15 @@ impl From<AllocError> for StepRefused {
     fn from(_: AllocError) -> StepRefused {
         StepRefused::OutOfMemory
     }
+}
+
+/// What happens next on the one memory.
+#[derive(Clone, Copy, Debug, PartialEq, Eq)]
+pub enum Pick {
+    /// The processor of this number makes a step.
+    Step(u8),
+    /// The reservation of processor `of` is broken by processor `by`.
+    Break { of: u8, by: u8 },
 }
 
 /// The rule on breaks doesn't allow it.
@@ -139,7 +151,7 @@ impl<'a> OneMemory<'a> {
         requires own { p < (original_of self.old).nodes }
         requires other { q < (original_of self.old).nodes }
         ensures ok { OnOk result (state_of self.new
-            ≡ (pick_step (original_of self.old) (state_of self.old) (Break p q)).state) }
+            ≡ after_pick (original_of self.old) (state_of self.old) (Break p q)) }
         ensures allowed { OnOk result
             (Allowed (original_of self.old) (state_of self.old) (Break p q)) }
         ensures refused { OnErr result
@@ -210,5 +222,44 @@ impl<'a> OneMemory<'a> {
         ensures { result ≡ ((state_of self.now).processors p).exit }
     {
         self.processors[p as usize].exit()
+    }
+    /// The registers of processor `p`.
+    pub fn registers(&self, p: u8) -> &Registers
+        requires { p < (original_of self.now).nodes }
+        ensures { registers_of result.now ≡ ((state_of self.now).processors p).registers }
+    {
+        &self.processors[p as usize].body.registers
+    }
+
+    /// The address of processor `p`'s next instruction.
+    pub fn pc(&self, p: u8) -> u32
+        requires { p < (original_of self.now).nodes }
+        ensures { result ≡ ((state_of self.now).processors p).pc }
+    {
+        address_of(self.processors[p as usize].at)
+    }
+
+    /// How many bytes a write in progress of processor `p` has written.
+    pub fn written(&self, p: u8) -> u32
+        requires { p < (original_of self.now).nodes }
+        ensures { result ≡ ((state_of self.now).processors p).written }
+    {
+        self.processors[p as usize].body.written
+    }
+
+    /// The address that processor `p` has reserved.
+    pub fn reservation(&self, p: u8) -> Option<u32>
+        requires { p < (original_of self.now).nodes }
+        ensures { result ≡ (state_of self.now).reservations p }
+    {
+        self.memory.reservation(p)
+    }
+
+    /// The byte of an address, as processor `p` sees it; `None` where the line isn't mapped.
+    pub fn byte(&self, p: u8, address: u32) -> Option<u8>
+        requires { p < (original_of self.now).nodes }
+        ensures { result ≡ byte_shown (original_of self.now) (state_of self.now) p address }
+    {
+        read_byte(address, &self.processors[p as usize].body, &self.memory)
     }
 }

@@ -505,7 +505,7 @@ fn put(
 }
 
 /// The byte of an address; `None` where the line isn't mapped.
-fn read_byte(address: u32, body: &OriginalState, memory: &Memory<'_>) -> Option<u8>
+pub fn read_byte(address: u32, body: &OriginalState, memory: &Memory<'_>) -> Option<u8>
     ensures { MatchOption result
         (class_at (program_of memory.now.program) address ≡ Unmapped)
         (λ n. (class_at (program_of memory.now.program) address ≡ Unmapped → ⊥)

@@ -53,8 +53,7 @@ stores_by base i = false
 
 -- the first or the last of so many bytes is in the block
 abbrev pub touches : Shape → ℕ → ℕ → ℕ → Bool
-touches layout b a size =
-    is_in_block layout b a || is_in_block layout b ((a + (size - 1)) % 2 ^ 32)
+touches layout b a size = is_in_block layout b a || is_in_block layout b ((a + (size - 1)) % 2 ^ 32)
 
 -- a load or a store by the base register, which has this value, to a byte of the block
 abbrev pub accesses_by : Shape → ℕ → ℕ → ℕ → Instr → Bool
@@ -67,8 +66,7 @@ accesses_by layout b base value i = false
 -- these are the instructions from an address on
 abbrev pub StandFrom : Program → ℕ → List Instr → Type 0
 StandFrom program a [] = Unit {0}
-StandFrom program a (i ∷ is) =
-    (program.code a ≡ Some i) × StandFrom program ((a + 4) % 2 ^ 32) is
+StandFrom program a (i ∷ is) = (program.code a ≡ Some i) × StandFrom program ((a + 4) % 2 ^ 32) is
 
 -- from pc on there is a stretch of at most 16 plain instructions that leave a base register as it
 -- is, store by it, and access a byte of the block by it

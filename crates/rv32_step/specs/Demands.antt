@@ -47,20 +47,17 @@ abbrev pub demand_of : Instr → (ℕ → ℕ) → ℕ → Demand
 demand_of (Lui rd upper) registers pc = Sets rd (upper * 2 ^ 12)
 demand_of (Auipc rd upper) registers pc = Sets rd ((pc + upper * 2 ^ 12) % 2 ^ 32)
 demand_of (Jal rd offset) registers pc = Jumps rd (offset_address pc offset)
-demand_of (Jalr rd rs1 imm) registers pc =
-    Jumps rd (offset_address (reg registers rs1) imm / 2 * 2)
+demand_of (Jalr rd rs1 imm) registers pc = Jumps rd (offset_address (reg registers rs1) imm / 2 * 2)
 demand_of (Branch c rs1 rs2 offset) registers pc =
     branch_demand (taken c (reg registers rs1) (reg registers rs2)) (offset_address pc offset)
-demand_of (Load k rd rs1 imm) registers pc =
-    Loads k rd (offset_address (reg registers rs1) imm)
+demand_of (Load k rd rs1 imm) registers pc = Loads k rd (offset_address (reg registers rs1) imm)
 demand_of (Store w rs1 rs2 imm) registers pc =
     Stores w (offset_address (reg registers rs1) imm) (reg registers rs2)
 demand_of (OpImm o rd rs1 imm) registers pc =
     Sets rd (alu (operation_of o) (reg registers rs1) (unsigned 32 imm))
 demand_of (ShiftImm o rd rs1 amount) registers pc =
     Sets rd (alu (shift_of o) (reg registers rs1) amount)
-demand_of (Op o rd rs1 rs2) registers pc =
-    Sets rd (alu o (reg registers rs1) (reg registers rs2))
+demand_of (Op o rd rs1 rs2) registers pc = Sets rd (alu o (reg registers rs1) (reg registers rs2))
 demand_of (Fence rd rs1 bits) registers pc = Continues
 demand_of Ecall registers pc = Calls
 demand_of Ebreak registers pc = Traps (EbreakExit pc)

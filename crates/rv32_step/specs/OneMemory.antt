@@ -33,19 +33,20 @@ pub record Original : Type 0 where
   pub layout : Shape
   pub nodes : ℕ
 
+-- a processor: its registers and pc, the bytes of its own window, how many bytes a write in
+-- progress has written, and its exit
 pub record Processor : Type 0 where
   pub registers : ℕ → ℕ
   pub pc : ℕ
-  -- the bytes of its own window
   pub private : ℕ → ℕ
-  -- the bytes that a write in progress has written
   pub written : ℕ
   pub exit : Option Exit
 
+-- the shared bytes, the processors, the address that each has reserved, or none, and the bytes that
+-- were printed
 pub record State : Type 0 where
   pub shared : ℕ → ℕ
   pub processors : ℕ → Processor
-  -- the address that each processor has reserved, or none
   pub reservations : ℕ → Option ℕ
   pub output : List ℕ
 
@@ -86,28 +87,21 @@ value_read (Writes width address value) = None
 value_read (WritesIf address value reserved) = None
 value_read (Exchanges address old new) = Some old
 
--- an access at pc of this width, to a line that may be accessed so or not. Misaligned is judged
--- before Access
-abbrev pub exit_of_access : ℕ → Bool → Bool → Option Exit
-exit_of_access pc aligned may =
-    if aligned then (if may then None else Some (NoAccess pc)) else Some (Misaligned pc)
+-- an access at pc of this width to an address whose line may be accessed so or not. Misaligned is
+-- judged before Access
+abbrev pub exit_of_access : ℕ → Width → ℕ → Bool → Option Exit
+exit_of_access pc w a may =
+    if is_aligned w a then (if may then None else Some (NoAccess pc)) else Some (Misaligned pc)
 
 -- the exit by which a demand at pc ends the processor, where it may not be met
 abbrev pub exit_of_demand : (ℕ → Class) → ℕ → Demand → Option Exit
-exit_of_demand class pc (Loads k r a) =
-    exit_of_access pc (is_aligned (width_of k) a) (is_mapped (class a))
-exit_of_demand class pc (Stores w a value) =
-    exit_of_access pc (is_aligned w a) (is_writable (class a))
-exit_of_demand class pc (Jumps r target) =
-    if target % 4 == 0 then None else Some (Misaligned pc)
-exit_of_demand class pc (Branches target) =
-    if target % 4 == 0 then None else Some (Misaligned pc)
-exit_of_demand class pc (Reserves r a) =
-    exit_of_access pc (is_aligned Word a) (is_mapped (class a))
-exit_of_demand class pc (StoresIf r a value) =
-    exit_of_access pc (is_aligned Word a) (is_writable (class a))
-exit_of_demand class pc (Updates o r a value) =
-    exit_of_access pc (is_aligned Word a) (is_writable (class a))
+exit_of_demand class pc (Loads k r a) = exit_of_access pc (width_of k) a (is_mapped (class a))
+exit_of_demand class pc (Stores w a value) = exit_of_access pc w a (is_writable (class a))
+exit_of_demand class pc (Jumps r target) = if target % 4 == 0 then None else Some (Misaligned pc)
+exit_of_demand class pc (Branches target) = if target % 4 == 0 then None else Some (Misaligned pc)
+exit_of_demand class pc (Reserves r a) = exit_of_access pc Word a (is_mapped (class a))
+exit_of_demand class pc (StoresIf r a value) = exit_of_access pc Word a (is_writable (class a))
+exit_of_demand class pc (Updates o r a value) = exit_of_access pc Word a (is_writable (class a))
 exit_of_demand class pc (Traps e) = Some e
 exit_of_demand class pc d = None
 
@@ -130,22 +124,9 @@ next_pc pc = (pc + 4) % 2 ^ 32
 abbrev pub with_exit : Processor → Exit → Processor
 with_exit q e = record q { exit = Some e }
 
--- the next instruction follows
-abbrev pub to_next : Processor → Processor
-to_next q = record q { pc = next_pc q.pc }
-
 -- the register gets the value, and the next instruction follows
 abbrev pub set_register : Processor → ℕ → ℕ → Processor
-set_register q r value =
-    record q { registers = put q.registers r value; pc = next_pc q.pc }
-
--- the register gets the address of the next instruction, and the target follows
-abbrev pub after_jump : Processor → ℕ → ℕ → Processor
-after_jump q r target = record q { registers = put q.registers r (next_pc q.pc); pc = target }
-
--- the target follows
-abbrev pub after_branch : Processor → ℕ → Processor
-after_branch q target = record q { pc = target }
+set_register q r value = record q { registers = put q.registers r value; pc = next_pc q.pc }
 
 -- a0 gets the result, and the call is done
 abbrev pub after_call : Processor → ℕ → Processor
@@ -159,12 +140,14 @@ request_of_call program q (Puts a) =
     if is_mapped (class_at program a) then Prints a
     else Becomes (after_call q (cut_short q.written))
 
--- a demand that may be met
+-- a demand that may be met: the next instruction follows but where a jump or a branch goes to its
+-- target, and a jump's register gets the address of the next instruction
 abbrev pub request_by : Program → Processor → Demand → Request
 request_by program q (Sets r value) = Becomes (set_register q r value)
-request_by program q Continues = Becomes (to_next q)
-request_by program q (Jumps r target) = Becomes (after_jump q r target)
-request_by program q (Branches target) = Becomes (after_branch q target)
+request_by program q Continues = Becomes (record q { pc = next_pc q.pc })
+request_by program q (Jumps r target) =
+    Becomes (record q { registers = put q.registers r (next_pc q.pc); pc = target })
+request_by program q (Branches target) = Becomes (record q { pc = target })
 request_by program q (Loads k r a) = LoadsFrom k r a
 request_by program q (Stores w a value) = StoresTo w a value
 request_by program q Calls = request_of_call program q (call_step q.registers q.written)
@@ -178,8 +161,7 @@ request_unless program q d (Some e) = Becomes (with_exit q e)
 request_unless program q d None = request_by program q d
 
 abbrev pub request_for : Program → Processor → Demand → Request
-request_for program q d =
-    request_unless program q d (exit_of_demand (class_at program) q.pc d)
+request_for program q d = request_unless program q d (exit_of_demand (class_at program) q.pc d)
 
 abbrev pub request_at : Program → Processor → Option Instr → Request
 request_at program q None = Becomes (with_exit q (Fetch q.pc))
@@ -214,14 +196,7 @@ after_conditional program q r a value reserved =
 
 -- the byte of an address, as the processor sees it
 abbrev pub byte_at : Program → State → Processor → ℕ → ℕ
-byte_at program s q a =
-    byte_by (class_at program a) (s.shared a) (program.first a) (q.private a) 0
-
--- what a step leaves, what it accesses, and what it prints
-pub record StepResult : Type 0 where
-  pub state : State
-  pub access : Access
-  pub printed : Option ℕ
+byte_at program s q a = byte_by (class_at program a) (s.shared a) (program.first a) (q.private a) 0
 
 abbrev pub with_processor : State → ℕ → Processor → State
 with_processor s p q = record s { processors = λ i. if i == p then q else s.processors i }
@@ -253,50 +228,57 @@ with_conditional original s p q a value reserved =
 abbrev pub word_at : Program → State → Processor → ℕ → ℕ
 word_at program s q a = load_value WordLoad (byte_at program s q) a
 
+-- the state once the memory has answered a request of processor p, which is q
+abbrev pub state_by : Original → State → ℕ → Processor → Request → State
+state_by original s p q (Becomes q') = with_processor s p q'
+state_by original s p q (Prints a) = record (with_processor s p (after_print q)) {
+  output = s.output ++ byte_at original.program s q a ∷ [];
+}
+state_by original s p q (LoadsFrom k r a) =
+    with_processor s p (set_register q r (load_value k (byte_at original.program s q) a))
+state_by original s p q (StoresTo w a value) =
+    with_store original s p (after_store original.program q w a value) w a value
+state_by original s p q (ReservesAt r a) =
+    with_reserved s p (set_register q r (word_at original.program s q a)) (Some a)
+state_by original s p q (StoresWhere r a value) =
+    with_conditional original s p
+    (after_conditional original.program q r a value (holds (s.reservations p) a)) a value
+    (holds (s.reservations p) a)
+state_by original s p q (UpdatesAt o r a value) =
+    with_store original s p
+    (after_exchange original.program q a (amo o (word_at original.program s q a) value) r
+    (word_at original.program s q a))
+    Word a (amo o (word_at original.program s q a) value)
+
+-- how a request of the processor q accesses memory
+abbrev pub access_by : Original → State → ℕ → Processor → Request → Access
+access_by original s p q (Becomes q') = Nothing
+access_by original s p q (Prints a) = Reads ByteU a (byte_at original.program s q a)
+access_by original s p q (LoadsFrom k r a) =
+    Reads k a (load_value k (byte_at original.program s q) a)
+access_by original s p q (StoresTo w a value) = Writes w a value
+access_by original s p q (ReservesAt r a) = Reads WordLoad a (word_at original.program s q a)
+access_by original s p q (StoresWhere r a value) = WritesIf a value (holds (s.reservations p) a)
+access_by original s p q (UpdatesAt o r a value) =
+    Exchanges a (word_at original.program s q a) (amo o (word_at original.program s q a) value)
+
+-- the byte that a request prints
+abbrev pub byte_printed : Original → State → Processor → Request → Option ℕ
+byte_printed original s q (Prints a) = Some (byte_at original.program s q a)
+byte_printed original s q asked = None
+
+-- what a step leaves, what it accesses, and what it prints
+pub record StepResult : Type 0 where
+  pub state : State
+  pub access : Access
+  pub printed : Option ℕ
+
 -- the memory's answer to a request of processor p, which is q
 abbrev pub answer : Original → State → ℕ → Processor → Request → StepResult
-answer original s p q (Becomes q') = record {
-  state = with_processor s p q';
-  access = Nothing;
-  printed = None;
-}
-answer original s p q (Prints a) = record {
-  state = record (with_processor s p (after_print q)) {
-    output = s.output ++ byte_at original.program s q a ∷ [];
-  };
-  access = Reads ByteU a (byte_at original.program s q a);
-  printed = Some (byte_at original.program s q a);
-}
-answer original s p q (LoadsFrom k r a) = record {
-  state = with_processor s p (set_register q r (load_value k (byte_at original.program s q) a));
-  access = Reads k a (load_value k (byte_at original.program s q) a);
-  printed = None;
-}
-answer original s p q (StoresTo w a value) = record {
-  state = with_store original s p (after_store original.program q w a value) w a value;
-  access = Writes w a value;
-  printed = None;
-}
-answer original s p q (ReservesAt r a) = record {
-  state = with_reserved s p (set_register q r (word_at original.program s q a)) (Some a);
-  access = Reads WordLoad a (word_at original.program s q a);
-  printed = None;
-}
-answer original s p q (StoresWhere r a value) = record {
-  state = with_conditional original s p
-      (after_conditional original.program q r a value (holds (s.reservations p) a)) a value
-      (holds (s.reservations p) a);
-  access = WritesIf a value (holds (s.reservations p) a);
-  printed = None;
-}
-answer original s p q (UpdatesAt o r a value) = record {
-  state = with_store original s p
-      (after_exchange original.program q a (amo o (word_at original.program s q a) value) r
-      (word_at original.program s q a))
-      Word a (amo o (word_at original.program s q a) value);
-  access = Exchanges a (word_at original.program s q a)
-      (amo o (word_at original.program s q a) value);
-  printed = None;
+answer original s p q asked = record {
+  state = state_by original s p q asked;
+  access = access_by original s p q asked;
+  printed = byte_printed original s q asked;
 }
 
 -- one step of processor p
@@ -330,32 +312,35 @@ abbrev pub Allowed : Original → State → Pick → Type 0
 Allowed original s (Step p) = (p < original.nodes) × ((s.processors p).exit ≡ None)
 Allowed original s (Break p q) = MayBreak original s p q
 
--- a break ends the reservation of p
-abbrev pub broken : State → ℕ → StepResult
-broken s p = record {
-  state = record s { reservations = with_reservation s.reservations p None };
-  access = Nothing;
-  printed = None;
-}
-
-abbrev pub pick_step : Original → State → Pick → StepResult
-pick_step original s (Step p) = step original s p
-pick_step original s (Break p q) = broken s p
+-- the state after a pick; a break ends the reservation of p
+abbrev pub after_pick : Original → State → Pick → State
+after_pick original s (Step p) =
+    state_by original s p (s.processors p) (request original.program (s.processors p))
+after_pick original s (Break p q) =
+    record s { reservations = with_reservation s.reservations p None }
 
 -- the picks are an interleaved run from this state on
 abbrev pub IsRun : Original → State → List Pick → Type 0
 IsRun original s [] = Unit {0}
-IsRun original s (k ∷ ks) =
-    Allowed original s k × IsRun original (pick_step original s k).state ks
+IsRun original s (k ∷ ks) = Allowed original s k × IsRun original (after_pick original s k) ks
 
 -- the state after the picks
 abbrev pub run : Original → State → List Pick → State
 run original s [] = s
-run original s (k ∷ ks) = run original (pick_step original s k).state ks
+run original s (k ∷ ks) = run original (after_pick original s k) ks
 
 abbrev pub is_of : ℕ → Pick → Bool
 is_of p (Step q) = p == q
 is_of p (Break r q) = false
+
+-- what a pick leaves, accesses and prints; a break neither accesses nor prints
+abbrev pub pick_step : Original → State → Pick → StepResult
+pick_step original s (Step p) = step original s p
+pick_step original s (Break p q) = record {
+  state = after_pick original s (Break p q);
+  access = Nothing;
+  printed = None;
+}
 
 -- the value that processor p reads in a pick
 abbrev pub value_of_pick : ℕ → Pick → StepResult → List ℕ
@@ -366,4 +351,4 @@ abbrev pub values_read : Original → ℕ → State → List Pick → List ℕ
 values_read original p s [] = []
 values_read original p s (k ∷ ks) =
     value_of_pick p k (pick_step original s k)
-    ++ values_read original p (pick_step original s k).state ks
+    ++ values_read original p (after_pick original s k) ks

@@ -3,7 +3,7 @@ use Rattle.std.proofs.Common.{◌≡◌, ℕ, ◌<◌, cond, eqb, Bool, true, fa
 use Rattle.std.specs.Option.{option_to_list}
 use Rattle.block_layout.specs.Layout.{Shape}
 use Rattle.rv32_program.specs.declared.Exit.{Exit}
-use Rattle.rv32_step.specs.OneMemory.{Original, Processor, State, Pick, Step, step, value_read, pick_step, value_of_pick, IsRun, run, values_read}
+use Rattle.rv32_step.specs.OneMemory.{Original, Processor, State, Pick, Step, step, value_read, after_pick, pick_step, value_of_pick, IsRun, run, values_read}
 use Rattle.templates.specs.declared.plans.PlanEntry.{PlanEntry}
 use Rattle.dsm_protocol.specs.node_model.Node.{Work, ProcessorState, NodeMemory, WordOutcome}
 use Rattle.rewriting_law.specs.Licence.{Licensed}
@@ -14,13 +14,13 @@ module _ (original : Original) where
   pub run_append : (ks js : List Pick) (s : State)
       → run original s (ks ++ js) ≡ run original (run original s ks) js
   run_append [] js s = refl
-  run_append (k ∷ ks) js s = run_append ks js (pick_step original s k).state
+  run_append (k ∷ ks) js s = run_append ks js (after_pick original s k)
 
   is_run_append : (ks js : List Pick) (s : State) → IsRun original s ks
       → IsRun original (run original s ks) js → IsRun original s (ks ++ js)
   is_run_append [] js s h g = g
   is_run_append (k ∷ ks) js s h g =
-      (h.0, is_run_append ks js (pick_step original s k).state h.1 g)
+      (h.0, is_run_append ks js (after_pick original s k) h.1 g)
 
   values_append : (p : ℕ) (ks js : List Pick) (s : State)
       → values_read original p s (ks ++ js)
@@ -28,7 +28,7 @@ module _ (original : Original) where
   values_append p [] js s = refl
   values_append p (k ∷ ks) js s =
       let here = value_of_pick p k (pick_step original s k) in
-      let t = (pick_step original s k).state in
+      let t = after_pick original s k in
       ap (λ xs. here ++ xs) (values_append p ks js t)
       ∙ sym (append_assoc here (values_read original p t ks)
       (values_read original p (run original t ks) js))

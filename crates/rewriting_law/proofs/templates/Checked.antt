@@ -118,7 +118,7 @@ load_outcome l n k rd a v = record {
 
 -- where an access of this width may not be made, its exit is the processor's
 abbrev pub Refuses : Program → Processor → Width → ℕ → Bool → Type 0
-Refuses program q w x may = (e : Exit) → exit_of_access q.pc (is_aligned w x) may ≡ Some e
+Refuses program q w x may = (e : Exit) → exit_of_access q.pc w x may ≡ Some e
     → request program q ≡ Becomes (with_exit q e)
 
 -- where the registers are between the spills and the reloads
@@ -304,7 +304,7 @@ module _ (program : Program) (accepted : IsAccepted program) where
         acts = ap (λ z. miss_r a l n w z) is
 
         leave : (e : Exit) → miss_r a l n w x ≡ exit_by l n e
-            → exit_of_access q.pc (is_aligned w x) (is_mapped (class_at program x)) ≡ Some e
+            → exit_of_access q.pc w x (is_mapped (class_at program x)) ≡ Some e
             → FirstLeads program OfPlace a j at (Does program OfPlace a (j + 1) (next_pc at) rest)
             (checking (MissR w rs1 imm) rest) q l n
         leave e does h = leaves OfPlace a j at K q l n (execute program a at (MissR w rs1 imm) l n)
@@ -371,7 +371,7 @@ module _ (program : Program) (accepted : IsAccepted program) where
         acts = ap (λ z. miss_w a l n w z) is
 
         leave : (e : Exit) → miss_w a l n w x ≡ exit_by l n e
-            → exit_of_access q.pc (is_aligned w x) (is_writable (class_at program x)) ≡ Some e
+            → exit_of_access q.pc w x (is_writable (class_at program x)) ≡ Some e
             → FirstLeads program OfPlace a j at (Does program OfPlace a (j + 1) (next_pc at) rest)
             (checking (MissW w rs1 imm) rest) q l n
         leave e does h = leaves OfPlace a j at K q l n (execute program a at (MissW w rs1 imm) l n)

@@ -25,7 +25,7 @@ use Rattle.rv32_program.specs.declared.CallKind.{CallKind}
 use Rattle.rv32_program.specs.declared.CallKind.TheVariants.{Exit, Write, Unknown}
 use Rattle.rv32_program.specs.Program.{Program, IsAccepted, call_of, class_at, is_mapped, line_of}
 use Rattle.rv32_program.specs.Liveness.{uses, passes, Next as Follows}
-use Rattle.rv32_step.specs.OneMemory.{Processor, Reads, Request, Becomes, Prints, request, request_at, request_for, request_unless, request_of_call, with_exit, set_register, to_next, after_jump, after_branch, after_call, next_pc}
+use Rattle.rv32_step.specs.OneMemory.{Processor, Reads, Request, Becomes, Prints, request, request_at, request_for, request_unless, request_of_call, with_exit, set_register, after_call, next_pc}
 use Rattle.runtime_words.specs.declared.RtWord.{RtWord}
 use Rattle.runtime_words.specs.declared.RtWord.TheVariants.{Native, Call, Xjalr, TrapFetch, TrapIllegal, TrapEbreak}
 use Rattle.templates.specs.declared.commits.CommitKind.{CommitKind}
@@ -49,6 +49,16 @@ use Rattle.rewriting_law.proofs.templates.Conditionals.{conditional_does}
 use Rattle.rewriting_law.proofs.templates.Checked.{asks, next_is, byte_mapped, leaves}
 use Rattle.rewriting_law.proofs.templates.StateChecks.{state_load_does, store_does}
 use Rattle.rewriting_law.proofs.templates.Flagged.{flag_load_does}
+
+-- a processor that goes on with the next instruction; that jumps; that branches
+abbrev to_next : Processor → Processor
+to_next q = record q { pc = next_pc q.pc }
+
+abbrev after_jump : Processor → ℕ → ℕ → Processor
+after_jump q r target = record q { registers = put q.registers r (next_pc q.pc); pc = target }
+
+abbrev after_branch : Processor → ℕ → Processor
+after_branch q target = record q { pc = target }
 
 -- where a code word only_moves, a place is
 pub aligned_place : (program : Program) (a b : ℕ) (i : Instr) → program.code a ≡ Some i
