@@ -8,8 +8,8 @@ use Rattle.std.proofs.lemmas.List.{get_or_default}
 use Rattle.dsm_protocol.specs.declared.nodes.BareNode.{BareNode}
 use Rattle.dsm_protocol.specs.Events.{pending}
 use Rattle.dsm_protocol.specs.Nodes.{Nodes, no_node, node_at, world_of, AreReached}
-use Rattle.node_model.specs.miss_handlers.declared.Waiting.{Waiting}
-use Rattle.node_model.specs.miss_handlers.Waits.{wait_in, AreWaits}
+use Rattle.message_queues.specs.node_model.miss_handlers.declared.Waiting.{Waiting}
+use Rattle.message_queues.specs.node_model.miss_handlers.Waits.{wait_in, AreWaits}
 
 pub count_alike : (p q : ℕ → Bool) (n : ℕ) → ((i : ℕ) → i < n → p i ≡ q i)
     → count_of p n ≡ count_of q n

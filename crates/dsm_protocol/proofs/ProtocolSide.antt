@@ -22,8 +22,8 @@ use Rattle.home_directory.specs.dsm_messages.declared.messages.Post.{Post}
 use Rattle.home_directory.specs.declared.wait.Wait.{Wait}
 use Rattle.home_directory.specs.Table.{meets, state_in_wait, request, first_wait, Miss, want_row}
 use Rattle.home_directory.specs.Home.{post}
-use Rattle.node_model.specs.miss_handlers.Effects.{block_facts as facts}
-use Rattle.node_model.specs.miss_handlers.Rows.{Row, AtHome, AtNode, taker_in, is_bye}
+use Rattle.message_queues.specs.node_model.miss_handlers.Effects.{block_facts as facts}
+use Rattle.message_queues.specs.node_model.miss_handlers.Rows.{Row, AtHome, AtNode, taker_in, is_bye}
 use Rattle.coherence.specs.Messages as m
 use Rattle.coherence.specs.Machine as k
 use Rattle.coherence.specs.Table.{update}

@@ -15,8 +15,8 @@ use Rattle.home_directory.specs.declared.directory.Busy.{Busy}
 use Rattle.home_directory.specs.declared.directory.Request.{Request}
 use Rattle.home_directory.specs.Home.{DirectoryEntry, Home, others, done_with, post, invals}
 use Rattle.home_directory.specs.Table.{BlockFacts, LocalBlock, NodeRow, HomeRow, Start, meets, state_for, bytes_by, is_complete, completion, with_answer, one_ack_more, data_row, grant_row, ack_row, node_row, read_start, grant_start, write_start, start_row, start_at, ask_when, ask_row, start_or, next_or, done_when, done_row}
-use Rattle.node_model.specs.miss_handlers.Effects.{block_facts as facts}
-use Rattle.node_model.specs.miss_handlers.Rows.{Row, AtHome, AtNode, home_of, if_home, at_home, at_node, node_row_of, taker_in, takes_away}
+use Rattle.message_queues.specs.node_model.miss_handlers.Effects.{block_facts as facts}
+use Rattle.message_queues.specs.node_model.miss_handlers.Rows.{Row, AtHome, AtNode, home_of, if_home, at_home, at_node, node_row_of, taker_in, takes_away}
 use Rattle.dsm_protocol.specs.World.{World, local_block}
 use Rattle.dsm_protocol.specs.Events.{holding, row_of}
 use Rattle.dsm_protocol.specs.Holds.{wanted, is_for_home, NoneIs}

@@ -5,7 +5,7 @@ use Rattle.block_layout.specs.Layout.{Shape}
 use Rattle.home_directory.specs.dsm_messages.declared.messages.Message.{Message}
 use Rattle.home_directory.specs.dsm_messages.declared.messages.Message.TheVariants.{Read, Write, FwdRead, FwdWrite, Inval, Data, Grant, Ack, Done, Bye}
 use Rattle.home_directory.specs.dsm_messages.declared.messages.Post.{Post}
-use Rattle.node_model.specs.miss_handlers.Rows.{is_bye}
+use Rattle.message_queues.specs.node_model.miss_handlers.Rows.{is_bye}
 use Rattle.coherence.specs.Messages as m
 use Rattle.coherence.specs.Machine.{those_to, wires}
 use Rattle.dsm_protocol.specs.World.{messages_to}

@@ -21,7 +21,7 @@ use Rattle.coherence.specs.Machine as k
 use Rattle.dsm_protocol.specs.World.{World, with_sends, after_miss}
 use Rattle.dsm_protocol.specs.Abstraction.{Contents, contents, need_of, state_of, wait_of, wire_of, wires_of, setting_of, StandsFor, most_waits}
 use Rattle.dsm_protocol.specs.Sound.{IsLaid, IsRoomy, AreSound, HasNoBye, NoByes, Sound, size}
-use Rattle.node_model.specs.miss_handlers.Effects.{block_facts as facts}
+use Rattle.message_queues.specs.node_model.miss_handlers.Effects.{block_facts as facts}
 use Rattle.dsm_protocol.specs.Events.{pending, Leads}
 use Rattle.dsm_protocol.specs.Memory.{store_bytes, store_in}
 use Rattle.dsm_protocol.proofs.Bytes.{store_contents, store_length}

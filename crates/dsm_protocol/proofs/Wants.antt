@@ -10,15 +10,16 @@ use Rattle.home_directory.specs.dsm_messages.declared.messages.Need.{Need}
 use Rattle.home_directory.specs.dsm_messages.declared.messages.Post.{Post}
 use Rattle.home_directory.specs.Effects.{Directory, entry_at, entries_of}
 use Rattle.home_directory.specs.Table.{meets, Miss, want_row}
-use Rattle.node_model.specs.miss_handlers.Waits.{wait_of}
-use Rattle.node_model.specs.miss_handlers.Effects.{miss_of, states_after, waits_after}
+use Rattle.message_queues.specs.node_model.miss_handlers.Waits.{wait_of}
+use Rattle.message_queues.specs.node_model.miss_handlers.Effects.{miss_of, states_after, waits_after}
 use Rattle.coherence.specs.Machine.{Event, Want}
 use Rattle.dsm_protocol.specs.declared.nodes.BareNode.{BareNode}
 use Rattle.dsm_protocol.specs.World.{messages_to, with_sends, after_miss}
 use Rattle.dsm_protocol.specs.Abstraction.{Contents, need_of}
 use Rattle.dsm_protocol.specs.Sound.{NoByes, Sound}
-use Rattle.dsm_protocol.specs.Queue.{Queue, list_of, AreQueues, SameMessages, AreSent}
-use Rattle.node_model.specs.miss_handlers.Effects.{block_facts as facts}
+use Rattle.message_queues.specs.Queue.{Queue, list_of, AreQueues}
+use Rattle.dsm_protocol.specs.Messages.{SameMessages, AreSent}
+use Rattle.message_queues.specs.node_model.miss_handlers.Effects.{block_facts as facts}
 use Rattle.dsm_protocol.specs.Events.{pending, Leads}
 use Rattle.dsm_protocol.specs.Nodes.{Nodes, no_node, node_in, node_at, world_of, IsNode, AreReached}
 use Rattle.dsm_protocol.specs.Want.{posts_of, HasWanted}

@@ -16,7 +16,7 @@ use Rattle.home_directory.specs.dsm_messages.declared.messages.Post.{Post}
 use Rattle.home_directory.specs.declared.wait.Wait.{Wait}
 use Rattle.home_directory.specs.Home.{first_entry}
 use Rattle.home_directory.specs.Table.{meets}
-use Rattle.node_model.specs.miss_handlers.Rows.{Row, block_in, clears, taker_in, takes_away, is_bye}
+use Rattle.message_queues.specs.node_model.miss_handlers.Rows.{Row, block_in, clears, taker_in, takes_away, is_bye}
 use Rattle.coherence.specs.Machine.{Event, after}
 use Rattle.dsm_protocol.specs.World.{World, with_list, with_sends}
 use Rattle.dsm_protocol.specs.Abstraction.{Contents, setting_of}

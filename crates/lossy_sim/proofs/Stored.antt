@@ -8,7 +8,7 @@ use Rattle.dsm_messages.specs.declared.messages.Wire.{Wire}
 use Rattle.lossy_link.specs.Sender.{number_offered}
 use Rattle.lossy_link.specs.Receiver.{Receiving}
 use Rattle.node_model.specs.Core.{wires_to}
-use Rattle.dsm_protocol.proofs.Squares.{below_row, place_below, first_is}
+use Rattle.message_queues.proofs.Squares.{below_row, place_below, first_is}
 use Rattle.lossy_sim.specs.Links.{LossyLink, new_link, with_offered}
 use Rattle.lossy_sim.specs.Stored.{link_at, AreLinks, HaveOffered, HaveSentFewer}
 

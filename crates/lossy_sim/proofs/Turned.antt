@@ -5,7 +5,7 @@ use Rattle.std.proofs.lemmas.Bool.Decides.{eqb_tells, leb_tells}
 use Rattle.block_layout.specs.Update.{changed}
 use Rattle.dsm_messages.specs.declared.messages.Wire.{Wire}
 use Rattle.lossy_link.specs.Sender.{Sending, Acknowledges, number_offered}
-use Rattle.dsm_protocol.proofs.Squares.{place_below}
+use Rattle.message_queues.proofs.Squares.{place_below}
 use Rattle.lossy_sim.specs.Links.{LossyLink, HasNetworkTurn, new_link, is_given, drawn_after, packets_drawn}
 use Rattle.lossy_sim.specs.Stored.{link_at, HaveTurned, HaveOfferedFew}
 

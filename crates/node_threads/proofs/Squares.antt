@@ -8,7 +8,7 @@ use Rattle.dsm_core.specs.node_machine.declared.node_state.NodeState.{NodeState}
 use Rattle.dsm_core.specs.node_machine.NodeState.{node_of, work_of}
 use Rattle.dsm_core.specs.run_order.Apart.{HaveDone, taken_from, sent_to}
 use Rattle.dsm_protocol.specs.Queue.{Queue, no_queue, wires_of}
-use Rattle.dsm_protocol.proofs.Squares.{list_in, place_below}
+use Rattle.message_queues.proofs.Squares.{list_in, place_below}
 use Rattle.dsm_core.specs.CoreParts.{HaveWork, core_with}
 use Rattle.node_threads.specs.Rows.{wires_at}
 use Rattle.node_threads.specs.Crew.{RowsOf, AreNodesOf, flat, list_of}

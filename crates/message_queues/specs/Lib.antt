@@ -1,0 +1,2 @@
+pub mod Queue
+pub use Rattle.node_model.specs as node_model
