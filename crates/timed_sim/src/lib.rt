@@ -1,0 +1,13 @@
+//! Runs of nodes on one thread, by a clock.
+#![tactic(auto)]
+
+mod clocks;
+mod costs;
+mod due;
+mod link;
+mod links;
+mod run;
+
+pub use costs::{Costs, Spent};
+pub use dsm_core;
+pub use run::{Timed, simulate_by_clock};

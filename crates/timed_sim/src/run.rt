@@ -1,0 +1,208 @@
+//! A core whose events follow a clock.
+
+ghost use Rattle.std.specs.Prelude.{◌≡◌, ◌^◌, true, false, List, Some, None, IfOk, OnOk, All};
+ghost use Rattle.std.specs.Option.{option_map};
+ghost use Rattle.dsm_core.specs.node_model.Core.{Exec, IsOver, opening_core};
+ghost use Rattle.dsm_core.specs.run_order.OwnRun.{Stamped, StandsForOwnRun, run_of};
+ghost use Rattle.dsm_core.specs.node_model.Outcome.{IsOutcomeOf};
+ghost use Rattle.dsm_core.specs.rewriting_law.Bounds.{RunsRewritten};
+ghost use Rattle.dsm_core.specs.CoreParts.{work_in, work_of, core_of, event_of, outcome_of};
+ghost use Rattle.timed_sim.specs.Clock.{AreInRange, IsOutcomeByClock, clock_of, next};
+ghost use Rattle.timed_sim.specs.Clock.{opening_times};
+ghost use Rattle.timed_sim.specs.Stored.{due_of, times_in, AreSameTimes, AreWithin, IsReady};
+ghost use Rattle.timed_sim.specs.Stored.{HasMade, IsKept, HasEnded};
+
+use crate::clocks::Clocks;
+use crate::costs::{Costs, Spent};
+use crate::due::{Due, node_of};
+use block_layout::layout_law;
+use dsm_core::rewriting_law::progress_law;
+use dsm_core::{Core, Event, Outcome, Work};
+use std::alloc::{AllocError, Global};
+
+/// What a run by a clock gives.
+#[derive(Drop)]
+pub struct Timed {
+    /// The outcome of the run.
+    pub outcome: Outcome,
+    /// What each node has spent its time on, until the last is over.
+    pub spent: Vec<Spent>,
+    /// The time at which the last node is over.
+    pub time: u128,
+}
+
+/// Runs the nodes of a layout to their ends, on one thread, by a clock, and gives the outcome, what
+/// each node has spent its time on, and the time at which the last is over. The unit of time is
+/// what a node takes for one word.
+///
+/// Of all nodes' next events the one that begins first is made, and of equals that of the least
+/// node; `specs/Clock` states the rule. A node that runs executes its next word; at a poll it takes
+/// the message that arrived first, if one has arrived, and else executes its word. Where it waits,
+/// or has ended, it takes the message that arrives first. So the run is one of the core runs of
+/// which the law of rewriting speaks: what it computes is an interleaved run of the original.
+///
+/// It ends, since no node executes more words than its budget. It fails only where memory runs out.
+pub fn simulate_by_clock(alloc: Global, work: &Work<'_>, costs: &Costs) -> Result<Timed, AllocError>
+    requires rewritten { RunsRewritten (work_in work.now) }
+    requires costs { AreInRange costs.now }
+    ensures outcome { IfOk result (λ t. IsOutcomeByClock (work_in work.now) costs.now
+        (outcome_of t.outcome) t.spent.items t.time) }
+    // What each node has spent its time on adds up to the time of the run.
+    ensures sums { IfOk result (λ t. All (λ s. clock_of s ≡ t.time) t.spent.items) }
+{
+    layout_law();
+    progress_law();
+    let mut run = TimedRun::new(alloc, work, costs)?;
+    for _turn in 0..u64::MAX {
+        match run.next() {
+            Some(due) => run.make(due)?,
+            None => return run.timed(alloc),
+        }
+    }
+    unreachable!()
+}
+
+/// A core on its way, and its clocks.
+#[derive(Drop)]
+struct TimedRun<'a> {
+    core: Core<'a>,
+    clocks: Clocks,
+    costs: Costs,
+}
+
+impl<'a> TimedRun<'a> {
+    /// The core and the clocks at the start.
+    fn new(alloc: Global, work: &Work<'a>, costs: &Costs) -> Result<TimedRun<'a>, AllocError>
+        requires rewritten { RunsRewritten (work_in work.now) }
+        requires costs { AreInRange costs.now }
+        ensures ready { IfOk result IsReady }
+        ensures opening { IfOk result (λ r. core_of r.core ≡ opening_core (work_of r.core)) }
+        ensures times { IfOk result (λ r. AreSameTimes r.core.layout.nodes (times_in r)
+            opening_times) }
+        ensures work { IfOk result (λ r. work_of r.core ≡ work_in work.now) }
+        ensures costs { IfOk result (λ r. r.costs ≡ costs.now) }
+    {
+        let core = Core::new(alloc, work)?;
+        let clocks = Clocks::new(alloc, core.layout().nodes())?;
+        Ok(TimedRun {
+            core,
+            clocks,
+            costs: *costs,
+        })
+    }
+
+    /// The next event; `None` exactly where every node is over.
+    fn next(&self) -> Option<Due>
+        requires ready { IsReady self.now }
+        requires within { AreWithin self.now.core.layout.nodes (2 ^ 127) (times_in self.now) }
+        ensures value { option_map due_of result
+            ≡ next (work_of self.now.core) (times_in self.now) (core_of self.now.core) }
+        ensures over { result ≡ None → IsOver (work_of self.now.core) (core_of self.now.core) }
+    {
+        self.core.promises();
+        self.clocks.next(&self.core)
+    }
+
+    /// Makes the next event.
+    fn make(&mut self, due: Due) -> Result<(), AllocError>
+        requires ready { IsReady self.old }
+        requires within { AreWithin self.old.core.layout.nodes (2 ^ 100) (times_in self.old) }
+        requires next { next (work_of self.old.core) (times_in self.old) (core_of self.old.core)
+            ≡ Some (due_of due) }
+        ensures ready { OnOk result (IsReady self.new) }
+        ensures work { OnOk result (work_of self.new.core ≡ work_of self.old.core) }
+        ensures costs { OnOk result (self.new.costs ≡ self.old.costs) }
+        ensures made { OnOk result (HasMade self.old.costs (work_of self.old.core)
+            (times_in self.old) (core_of self.old.core) (due_of due)
+            (times_in self.new) (core_of self.new.core)) }
+    {
+        if self.make_silent(due) {
+            return Ok(());
+        }
+        self.make_seen(due)
+    }
+
+    /// Makes the next event, where it is a word by a micro-op. Otherwise nothing changes.
+    fn make_silent(&mut self, due: Due) -> bool
+        requires ready { IsReady self.old }
+        requires within { AreWithin self.old.core.layout.nodes (2 ^ 100) (times_in self.old) }
+        requires next { next (work_of self.old.core) (times_in self.old) (core_of self.old.core)
+            ≡ Some (due_of due) }
+        ensures ready { result ≡ true → IsReady self.new }
+        ensures work { work_of self.new.core ≡ work_of self.old.core }
+        ensures costs { self.new.costs ≡ self.old.costs }
+        ensures made { result ≡ true → HasMade self.old.costs (work_of self.old.core)
+            (times_in self.old) (core_of self.old.core) (due_of due)
+            (times_in self.new) (core_of self.new.core) }
+        ensures kept { result ≡ false → IsKept self.old self.new }
+    {
+        match due.event {
+            Event::Exec(node) => self.make_silent_word(due, node),
+            Event::Take { .. } => false,
+        }
+    }
+
+    /// Executes the next word of a node, which is the next event, by a micro-op, where that serves
+    /// it. Otherwise nothing changes.
+    fn make_silent_word(&mut self, due: Due, node: u8) -> bool
+        requires ready { IsReady self.old }
+        requires within { AreWithin self.old.core.layout.nodes (2 ^ 100) (times_in self.old) }
+        requires next { next (work_of self.old.core) (times_in self.old) (core_of self.old.core)
+            ≡ Some (due_of due) }
+        requires word { event_of due.event ≡ Exec node }
+        ensures ready { result ≡ true → IsReady self.new }
+        ensures work { work_of self.new.core ≡ work_of self.old.core }
+        ensures costs { self.new.costs ≡ self.old.costs }
+        ensures made { result ≡ true → HasMade self.old.costs (work_of self.old.core)
+            (times_in self.old) (core_of self.old.core) (due_of due)
+            (times_in self.new) (core_of self.new.core) }
+        ensures kept { result ≡ false → IsKept self.old self.new }
+    {
+        let count = self.core.layout().nodes();
+        if !self.core.exec_silent(node) {
+            return false;
+        }
+        self.clocks.count_word(count, node);
+        true
+    }
+
+    /// Makes the next event, and counts what was seen of it.
+    fn make_seen(&mut self, due: Due) -> Result<(), AllocError>
+        requires ready { IsReady self.old }
+        requires within { AreWithin self.old.core.layout.nodes (2 ^ 100) (times_in self.old) }
+        requires next { next (work_of self.old.core) (times_in self.old) (core_of self.old.core)
+            ≡ Some (due_of due) }
+        ensures ready { OnOk result (IsReady self.new) }
+        ensures work { OnOk result (work_of self.new.core ≡ work_of self.old.core) }
+        ensures costs { OnOk result (self.new.costs ≡ self.old.costs) }
+        ensures made { OnOk result (HasMade self.old.costs (work_of self.old.core)
+            (times_in self.old) (core_of self.old.core) (due_of due)
+            (times_in self.new) (core_of self.new.core)) }
+    {
+        let standing = self.core.node(node_of(due.event)).standing();
+        let mut seen = self.core.step_seen(due.event)?;
+        self.clocks
+            .pass(&self.costs, self.core.layout(), standing, due, &mut seen)
+    }
+
+    /// What the run gives, once every node is over.
+    fn timed(&self, alloc: Global) -> Result<Timed, AllocError>
+        requires ready { IsReady self.now }
+        requires within { AreWithin self.now.core.layout.nodes (2 ^ 127) (times_in self.now) }
+        requires over { IsOver (work_of self.now.core) (core_of self.now.core) }
+        ensures outcome { IfOk result (λ t. (events : List Stamped)
+            × StandsForOwnRun (work_of self.now.core) (core_of self.now.core) events
+            × IsOutcomeOf (work_of self.now.core) (run_of events) (outcome_of t.outcome)) }
+        ensures times { IfOk result (λ t. HasEnded self.now.core.layout.nodes (times_in self.now)
+            t.spent.items t.time) }
+    {
+        let outcome = self.core.outcome(alloc)?;
+        let count = self.core.layout().nodes();
+        let time = self.clocks.last(count);
+        Ok(Timed {
+            outcome,
+            spent: self.clocks.until(alloc, count, time)?,
+            time,
+        })
+    }
+}
