@@ -53,7 +53,7 @@ impl<'a> Model for Symbols<'a> {
 }
 
 impl<'a> Symbols<'a> {
-    ghost use Rattle.std.specs.Prelude.{◌≡◌, ◌+◌, ◌<◌, ◌≤◌, IfOk, IfSome};
+    ghost use Rattle.std.specs.Prelude.{◌≡◌, ◌+◌, ◌<◌, ◌≤◌, map, IfOk, IfSome};
     ghost use Rattle.std.specs.Option.{option_map};
     ghost use Rattle.elf_symbols.specs.Given.{symbol_of};
     ghost use Rattle.elf_symbols.specs.Symbols.{functions_of, symbol_at};
@@ -68,6 +68,13 @@ impl<'a> Symbols<'a> {
         Ok(Symbols {
             functions: functions_in(alloc, table, names)?,
         })
+    }
+
+    /// The functions, in the order of the table.
+    pub fn functions(&self) -> &[Symbol<'a>]
+        ensures { map symbol_of result.now ≡ self.now }
+    {
+        &self.functions
     }
 
     /// The function that has the byte at an address: of several the one that begins last, and of

@@ -1,0 +1,7 @@
+mod Adding
+mod Instructions
+mod Numbering
+mod Ordering
+mod Sequences
+mod Sweeping
+mod Totals

@@ -1,0 +1,14 @@
+use Rattle.std.proofs.Common.{ℕ, drop, take}
+use Rattle.templates.specs.Code.{code_of}
+use Rattle.templates.specs.Plans.{AscendsFrom}
+use Rattle.check_costs.specs.Given.{AreCountsOf}
+use Rattle.check_costs.specs.Sweep.{HasCome}
+use Rattle.check_costs.proofs.counts.counts_of.Given as goal
+
+-- the counts are those of the entries so far, and the sweep has come no further than the next
+abbrev pub invariant-loop-entry : goal.invariant-loop-entry
+invariant-loop-entry l = record {
+  come : (before : ℕ) × HasCome l.symbols before l.functions
+      × AscendsFrom before (drop l.entry-index l.plan);
+  counts : AreCountsOf l.symbols (code_of l.code) (take l.entry-index l.plan) l.counts.items;
+}

@@ -1,0 +1,4 @@
+pub mod Kinds
+pub mod Counts
+pub mod Given
+pub mod Sweep
