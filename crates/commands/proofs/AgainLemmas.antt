@@ -31,12 +31,11 @@ use Rattle.judged_files.specs.Executables.{ReadsAs}
 use Rattle.commands.specs.Headline.{IsOutcomeRecorded, IsTextWith}
 use Rattle.prepared_run.specs.WholeRuns.{IsRunOf, IsRunOfCode, IsWholeRun}
 use Rattle.judged_files.specs.Inputs.{Inputs}
-use Rattle.commands.specs.Outcomes.{status_of}
-use Rattle.commands.specs.Outcomes as outcomes
+use Rattle.prepared_run.specs.Outcomes.{status_of, text_of}
+use Rattle.prepared_run.specs.Outcomes as outcomes
 use Rattle.commands.specs.Records.{record_of}
 use Rattle.judged_files.specs.Records.{IsLayoutOfBlocks, IsTextOf}
 use Rattle.prepared_run.specs.Replays.{IsOutcomeOfReplay, IsWorkOf}
-use Rattle.commands.specs.Text.{text_of}
 use Rattle.commands.proofs.BlockWords.{named_words}
 use Rattle.commands.proofs.RecordLemmas.{AreShort, TellTakes, is_record}
 use Rattle.prepared_run.proofs.RunLemmas.{shape_facts}

@@ -3,10 +3,9 @@ use Rattle.std.proofs.Common.{◌≡◌, ℕ, Bool, true, false, List, refl, ◌
 use Rattle.text_output.specs.declared.failure.Failure.{Failure}
 use Rattle.dsm_io.specs.States.{SinkState}
 use Rattle.node_model.specs.Outcome.{Outcome}
-use Rattle.commands.specs.Outcomes.{status_of, told}
+use Rattle.prepared_run.specs.Outcomes.{status_of, told, IsTextOfOutcome}
 use Rattle.commands.specs.Headline.{IsTextWith}
 use Rattle.text_output.specs.Failures.{FailsAs, Puts, IsNever}
-use Rattle.commands.specs.Failures.{IsTextOfOutcome}
 use Rattle.std.specs.Prelude.{Result, Ok, Err, IfOk, IfErr}
 use Rattle.text_output.proofs.Pieces.{fails_too, never}
 

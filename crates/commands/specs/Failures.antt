@@ -7,8 +7,6 @@ use Rattle.run_order.specs.OwnRun.{Stamped, StandsForOwnRun, run_of}
 use Rattle.run_record.specs.Text.{record_text}
 use Rattle.text_output.specs.declared.failure.Failure.{Failure}
 use Rattle.text_output.specs.declared.failure.Failure.TheVariants.{Input, NotWritten, Refused, Layout, Record, Text, Output, OutOfMemory}
-use Rattle.commands.specs.Text.{text_of}
-use Rattle.commands.specs.Outcomes as outcomes
 use Rattle.command_line.specs.Commands.{Command, reads}
 use Rattle.dsm_io.specs.States.{SinkState, FilesState}
 use Rattle.commands.specs.Answers.{IsReadFault, HasBytes, IsUnwritten, IsWriteFault, IsPutFault, IsRefusalStatus}
@@ -38,11 +36,8 @@ IsAssemblyRefusal text (Text line) = IsBadAssembly text line.items
 IsAssemblyRefusal text OutOfMemory = Unit {0}
 IsAssemblyRefusal text f = ⊥
 
--- the text and the status of an outcome
-abbrev pub IsTextOfOutcome : Outcome → List ℕ → ℕ → Type 0
-IsTextOfOutcome o text status = (text ≡ text_of o) × (status ≡ outcomes.status_of o)
-
--- the same of a core whose record is what the file of the record holds, where that is told
+-- the outcome of the own run of a core whose nodes are over, and whose record is what the file of
+-- the record holds, where that is told
 pub record IsOwnRecorded (batches : Bool) (work : Work) (held : Option (List ℕ)) (o : Outcome)
     : Type 0
   where

@@ -33,10 +33,9 @@ use Rattle.judged_files.specs.Inputs.{Inputs}
 use Rattle.commands.specs.Inputs.{inputs_of}
 use Rattle.judged_files.specs.Layouts.{IsLayoutFor}
 use Rattle.commands.specs.LaneRuns.{IsLaneRunOf}
-use Rattle.commands.specs.Outcomes.{status_of, told}
+use Rattle.prepared_run.specs.Outcomes.{status_of, told, text_of}
 use Rattle.commands.specs.Records.{record_of}
 use Rattle.prepared_run.specs.Replays.{IsOutcomeOfReplay}
-use Rattle.commands.specs.Text.{text_of}
 use Rattle.prepared_run.specs.WholeRuns.{IsRunOf}
 
 -- the bytes are the record of some such run

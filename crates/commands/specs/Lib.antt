@@ -1,8 +1,6 @@
-pub mod Processors
 pub mod Text
 pub mod Inputs
 pub mod Refusals
-pub mod Outcomes
 pub mod Records
 pub mod LaneRuns
 pub mod Headline

@@ -1,21 +1,7 @@
--- The texts that are printed.
-use Rattle.std.specs.Prelude.{List, ℕ, ◌++◌, length, codes}
-use Rattle.rv32_program.specs.declared.End.{End}
-use Rattle.node_model.specs.declared.NodeCounts.{NodeCounts}
-use Rattle.node_model.specs.Outcome.{Outcome}
-use Rattle.prepared_run.specs.Text.{node_lines}
-use Rattle.commands.specs.Processors.{outcome_head, processor_lines}
+-- The program's own text.
+use Rattle.std.specs.Prelude.{List, ℕ, ◌++◌, codes}
 
--- what stands behind the bytes printed: how each processor ended, and what each node counted
-abbrev pub outcome_tail : List End → List NodeCounts → List ℕ
-outcome_tail ends counts = codes "\n" ++ (processor_lines 0 ends ++ node_lines 0 counts)
-
--- the text of an outcome
-abbrev pub text_of : Outcome → List ℕ
-text_of o = outcome_head (length o.output) ++ (o.output ++ outcome_tail o.ends o.counts)
-
--- the lines that errors have
-
+-- how the program is called
 unfoldable pub usage : List ℕ
 usage =
     codes "usage: shasta rewrite IN OUT [--no-batch]\n" ++ (codes "       shasta list IN\n"

@@ -7,7 +7,6 @@ mod input;
 mod law;
 mod list;
 mod one;
-mod outcome;
 mod record;
 mod rerun;
 mod rewrite;

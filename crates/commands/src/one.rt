@@ -7,12 +7,12 @@ ghost use Rattle.text_output.specs.Failures.{Puts, FailsAs};
 ghost use Rattle.judged_files.specs.Given.{bytes_of};
 ghost use Rattle.commands.specs.Refusals.{IsBadLayout};
 
-use crate::outcome::put_outcome;
 use dsm_io::Sink;
 use judged_files::input::{Inputs, elf_of, program_of};
 use judged_files::layout::layout_for;
 use judged_files::refusal::Subject;
 use one_memory::run_by_order;
+use prepared_run::put_outcome;
 use run_limits::{Budget, NodeCount};
 use std::alloc::Global;
 use text_output::Failure;

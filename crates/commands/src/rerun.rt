@@ -12,12 +12,11 @@ ghost use Rattle.prepared_run.specs.Ready.{work_for};
 ghost use Rattle.judged_files.specs.Given.{bytes_of};
 ghost use Rattle.prepared_run.specs.Replays.{IsBrokenRun, IsOutcomeOfReplay};
 
-use crate::outcome::put_told;
 use dsm_core::Outcome;
 use dsm_io::Sink;
 use judged_files::input::{Inputs, elf_of};
 use judged_files::refusal::Subject;
-use prepared_run::{Prepared, event_line, prepare_replay};
+use prepared_run::{Prepared, event_line, prepare_replay, put_told};
 use replay::{ReplayRefused, replay};
 use run_record::Record;
 use std::alloc::Global;

@@ -14,7 +14,6 @@ ghost use Rattle.commands.specs.Failures.{AreKept};
 ghost use Rattle.prepared_run.specs.Ready.{work_for};
 ghost use Rattle.judged_files.specs.Given.{bytes_of};
 
-use crate::outcome::put_told;
 use crate::record::write_record_of;
 use command_line::RunArguments;
 use dsm_core::{Core, Outcome};
@@ -22,7 +21,7 @@ use dsm_io::{Files, Sink};
 use judged_files::input::{Inputs, elf_of};
 use judged_files::refusal::Subject;
 use node_threads::{Gate, race};
-use prepared_run::{Prepared, prepare};
+use prepared_run::{Prepared, prepare, put_told};
 use std::alloc::{AllocError, Global};
 use std::sync::Wait;
 use std::thread::Threads;

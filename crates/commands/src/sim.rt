@@ -15,7 +15,6 @@ ghost use Rattle.prepared_run.specs.Ready.{work_for};
 ghost use Rattle.judged_files.specs.Given.{bytes_of};
 ghost use Rattle.judged_files.specs.Refusals.{IsRunRefused, IsBadRunLayout};
 
-use crate::outcome::put_told;
 use command_line::{Machine, SimArguments};
 use dsm_core::{Outcome, Work};
 use dsm_io::Sink;
@@ -23,7 +22,7 @@ use judged_files::input::{Inputs, elf_of};
 use judged_files::refusal::Subject;
 use lane_law::{lane_law, lane_progress_law};
 use lossy_sim::lossy_simulate;
-use prepared_run::{Prepared, prepare};
+use prepared_run::{Prepared, prepare, put_told};
 use run_limits::LaneCount;
 use shared_sim::simulate;
 use smp_sim::smp_simulate;

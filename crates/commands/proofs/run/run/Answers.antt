@@ -11,9 +11,9 @@ use Rattle.judged_files.specs.declared.refusal.Subject.TheVariants.{Executable}
 use Rattle.commands.specs.Headline.{IsText, IsOutcomeRecorded, held_by}
 use Rattle.text_output.specs.Failures.{FailsAs, IsNever}
 use Rattle.prepared_run.specs.Ready.{work_for}
-use Rattle.commands.specs.Failures.{IsOwnRecorded, IsTextOfOutcome, AreKept}
+use Rattle.prepared_run.specs.Outcomes.{IsTextOfOutcome, told}
+use Rattle.commands.specs.Failures.{IsOwnRecorded, AreKept}
 use Rattle.judged_files.specs.Given.{bytes_of}
-use Rattle.commands.specs.Outcomes.{told}
 use Rattle.judged_files.specs.Refusals.{IsRunRefused, IsBadRunLayout}
 use Rattle.text_output.proofs.Pieces.{never, refused_first}
 use Rattle.commands.proofs.AnswerLemmas.{err_as, plain_fails, plain_failure}

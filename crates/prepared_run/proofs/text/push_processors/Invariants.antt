@@ -1,6 +1,6 @@
 use Rattle.std.proofs.Common.{◌≡◌, ◌++◌, drop}
-use Rattle.commands.specs.Processors.{processor_lines}
-use Rattle.commands.proofs.text.push_processors.Given as goal
+use Rattle.prepared_run.specs.Processors.{processor_lines}
+use Rattle.prepared_run.proofs.text.push_processors.Given as goal
 
 -- the lines that are to come, behind those that there are, make the whole
 abbrev pub invariant-loop-processor : goal.invariant-loop-processor

@@ -1,14 +1,13 @@
 use Rattle.std.proofs.Common.{◌≡◌, ℕ, List, [], sym, ap, ◌∙◌, subst, IfErr, Result}
 use Rattle.rv32_program.specs.declared.End.{End}
-use Rattle.node_model.specs.declared.NodeCounts.{NodeCounts}
-use Rattle.node_model.specs.Outcome.{Outcome}
+use Rattle.replay.specs.node_model.declared.NodeCounts.{NodeCounts}
+use Rattle.replay.specs.node_model.Outcome.{Outcome}
 use Rattle.dsm_io.specs.States.{SinkState}
 use Rattle.text_output.specs.declared.failure.Failure.{Failure}
-use Rattle.commands.specs.Outcomes.{told}
+use Rattle.prepared_run.specs.Outcomes.{told, IsTextOfOutcome}
 use Rattle.text_output.specs.Failures.{FailsAs, IsNever}
-use Rattle.commands.specs.Failures.{IsTextOfOutcome}
-use Rattle.dsm_core.specs.CoreParts.{outcome_of}
-use Rattle.commands.proofs.outcome.put_told.Goals as goal
+use Rattle.replay.specs.dsm_core.CoreParts.{outcome_of}
+use Rattle.prepared_run.proofs.outcome.put_told.Goals as goal
 
 -- an outcome by its parts
 abbrev of : List ℕ → List End → List NodeCounts → Outcome

@@ -2,17 +2,16 @@
 
 ghost use Rattle.std.specs.Prelude.{◌≡◌, ◌≤◌, IfOk, IfErr};
 ghost use Rattle.std.specs.List.{list_all};
-ghost use Rattle.commands.specs.Outcomes.{status_of, told};
-ghost use Rattle.commands.specs.Processors.{is_success};
-ghost use Rattle.dsm_core.specs.CoreParts.{outcome_of};
+ghost use Rattle.prepared_run.specs.Outcomes.{status_of, told, IsTextOfOutcome};
+ghost use Rattle.prepared_run.specs.Processors.{is_success};
+ghost use Rattle.replay.specs.dsm_core.CoreParts.{outcome_of};
 ghost use Rattle.text_output.specs.Failures.{Puts, FailsAs, IsNever};
-ghost use Rattle.commands.specs.Failures.{IsTextOfOutcome};
 
 use crate::text::{outcome_head, outcome_tail};
-use dsm_core::Outcome;
 use dsm_io::Sink;
 use exec_map::{End, Exit};
-use node_model::NodeCounts;
+use replay::dsm_core::Outcome;
+use replay::node_model::NodeCounts;
 use std::alloc::Global;
 use text_output::{Failure, put};
 
@@ -48,6 +47,7 @@ pub fn put_outcome<O: Sink>(
     ensures ok { IfOk result (λ status. Puts (IsTextOfOutcome
         (record { output = output.now; ends = ends.now; counts = counts.now }))
         status (O.state out.old) (O.state out.new)) }
+    ensures faults { IfOk result (λ status. (O.state out.new).faults ≡ (O.state out.old).faults) }
     ensures failure { IfErr result (FailsAs (IsTextOfOutcome
         (record { output = output.now; ends = ends.now; counts = counts.now }))
         IsNever IsNever (O.state out.old) (O.state out.new)) }

@@ -2,14 +2,13 @@ use Rattle.std.proofs.Common.{◌≡◌, [], ◌++◌, length, refl, sym, ap, �
 use Rattle.std.proofs.lemmas.Result.{err_from_is_err_and}
 use Rattle.dsm_io.specs.Causes.{Appends}
 use Rattle.dsm_io.specs.States.{SinkState}
-use Rattle.node_model.specs.Outcome.{Outcome}
-use Rattle.commands.specs.Outcomes as outcomes
-use Rattle.commands.specs.Processors.{outcome_head}
-use Rattle.commands.specs.Text.{outcome_tail, text_of}
-use Rattle.commands.specs.Failures.{IsTextOfOutcome}
+use Rattle.replay.specs.node_model.Outcome.{Outcome}
+use Rattle.prepared_run.specs.Outcomes as outcomes
+use Rattle.prepared_run.specs.Processors.{outcome_head}
+use Rattle.prepared_run.specs.Outcomes.{outcome_tail, text_of, IsTextOfOutcome}
 use Rattle.text_output.specs.Failures.{IsNever, IsPutFailure}
 use Rattle.text_output.proofs.Pieces.{joins, nothing_put, put_fails}
-use Rattle.commands.proofs.outcome.put_outcome.Goals as goal
+use Rattle.prepared_run.proofs.outcome.put_outcome.Goals as goal
 
 pub returns-in_err-put-clause-failure : goal.returns-in_err-put-clause-failure
 returns-in_err-put-clause-failure g c =
@@ -83,3 +82,7 @@ returns-clause-ok g c =
       joins start.taken middle.taken now.taken head (o.output ++ tail) first
           (joins middle.taken before.taken now.taken o.output tail c.in_ok-put-2.ensures.ok third),
     )
+
+pub returns-clause-faults : goal.returns-clause-faults
+returns-clause-faults g c =
+    c.in_ok-put-3.ensures.faults ∙ c.in_ok-put-2.ensures.faults ∙ c.in_ok-put.ensures.faults
