@@ -7,4 +7,5 @@ pub mod Addresses
 pub mod Rows
 pub mod Triples
 pub mod Tables
+pub mod Times
 pub mod Viewing

@@ -143,7 +143,7 @@ name_one Flag [] n m h k = absurd (no_switch n false h)
 name_one Flag (x ∷ []) n m h k = absurd (no_switch n true h)
 name_one Flag (x ∷ y ∷ more) n m h k = absurd h
 
-names_one : (g : Given) (s : Setting) (n m : Option (List ℕ)) → SaysName g s n → SaysName g s m → n ≡ m
+pub names_one : (g : Given) (s : Setting) (n m : Option (List ℕ)) → SaysName g s n → SaysName g s m → n ≡ m
 names_one g s n m h k = name_one (kind_of s) (g (role.Option s)) n m h k
 
 -- an option has one number, or none
@@ -422,11 +422,11 @@ pub same_file : (x y : List ℕ) (words : List (List ℕ)) → ArePlaced ((Named
 same_file x y words h k =
     ap (λ xs. get_or xs 0 []) (sym (one_file x words h) ∙ one_file y words k)
 
-says_one : (g : Given) (s : Setting) (n m : ℕ) → SaysNumber g s n → SaysNumber g s m → n ≡ m
+pub says_one : (g : Given) (s : Setting) (n m : ℕ) → SaysNumber g s n → SaysNumber g s m → n ≡ m
 says_one g s n m h k = set_one (kind_of s) (g (role.Option s)) n m h k
 
 -- what is given beside a verified file is what the command has there
-alone_by : (g : Given) (v v' k k' : Option (List ℕ)) (b b' : Bool) → SaysName g Verify v
+pub alone_by : (g : Given) (v v' k k' : Option (List ℕ)) (b b' : Bool) → SaysName g Verify v
     → SaysName g Verify v' → SaysName g Code k → SaysName g Code k' → SaysFlag g NoBatch b
     → SaysFlag g NoBatch b' → IsTrue (is_alone v k b) → IsTrue (is_alone v' k' b')
 alone_by g v v' k k' b b' verified verified' code code' batch batch' h =

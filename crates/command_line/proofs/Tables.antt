@@ -8,7 +8,7 @@ use Rattle.command_line.specs.declared.table.Access.{Access}
 use Rattle.command_line.specs.declared.table.Access.TheVariants as access
 use Rattle.command_line.specs.declared.table.Kind.TheVariants as kind
 use Rattle.command_line.specs.declared.table.Setting.{Setting}
-use Rattle.command_line.specs.declared.table.Setting.TheVariants.{Nodes, Order, Budget, Layout, Code, Verify, Record, Brief, NoBatch, Loss, PerNode, From, To, Block, Node}
+use Rattle.command_line.specs.declared.table.Setting.TheVariants.{Nodes, Order, Budget, Layout, Code, Verify, Record, Brief, NoBatch, Loss, PerNode, From, To, Block, Node, Latency, Line, Handling}
 use Rattle.command_line.specs.declared.Command.{Command as OfCode}
 use Rattle.command_line.specs.Tasks.{Execution, Saying, Number, MaybeNumber, Read, Write, Flag}
 use Rattle.command_line.specs.Tasks as rows
@@ -328,7 +328,7 @@ values_same s (Bare t ∷ xs) = ap (λ vs. value_in s (Bare t) ++ vs) (values_sa
 abbrev all_settings : List Setting
 all_settings =
     Nodes ∷ Order ∷ Budget ∷ Layout ∷ Code ∷ Verify ∷ Record ∷ Brief ∷ NoBatch ∷ Loss ∷ PerNode
-    ∷ From ∷ To ∷ Block ∷ Node ∷ []
+    ∷ From ∷ To ∷ Block ∷ Node ∷ Latency ∷ Line ∷ Handling ∷ []
 
 abbrev setting_at : List ℕ → Setting
 setting_at word = unwrap_or (option_of all_settings word) Nodes
@@ -349,6 +349,9 @@ setting_found From = refl
 setting_found To = refl
 setting_found Block = refl
 setting_found Node = refl
+setting_found Latency = refl
+setting_found Line = refl
+setting_found Handling = refl
 
 same_setting : (s t : Setting) → option_word s ≡ option_word t → s ≡ t
 same_setting s t e = sym (setting_found s) ∙ ap setting_at e ∙ setting_found t

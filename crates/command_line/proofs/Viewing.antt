@@ -11,9 +11,10 @@ use Rattle.command_line.specs.declared.view.View.{View as OfCode}
 use Rattle.command_line.specs.Table.{settings_in}
 use Rattle.command_line.specs.Arguments.{Argument, AreOfRow, ArePlaced}
 use Rattle.command_line.specs.Reading.{IsCut, Reads, IsOfRow, given_by, words_for}
-use Rattle.command_line.specs.Views.{View, Help, Code, Trace, Blocks, Page, AsksView, IsViewGiven, meaning_of_view, row_of, view_settings, view_text}
+use Rattle.command_line.specs.Views.{View, TimeArguments, Help, Code, Trace, Blocks, Page, Time, AsksView, IsFitView, IsViewGiven, meaning_of_view, row_of, view_settings, view_text}
 use Rattle.command_line.proofs.Addresses.{at_one}
 use Rattle.command_line.proofs.Cuts.{same_cut}
+use Rattle.command_line.proofs.Times.{one_time, other_second}
 use Rattle.command_line.proofs.Triples.{same_three}
 use Rattle.command_line.proofs.Rows.{cut_of, flag_one, given_set, other_first, row_given, maybes_one, same_file, same_files, same_head, same_tail}
 
@@ -27,6 +28,7 @@ as_help g (Code file no_batch) h = absurd (other_first _ _ h.word_is (omega arit
 as_help g (Trace f r a z b n) h = absurd (other_first _ _ h.word_is (omega arith))
 as_help g (Blocks f r) h = absurd (other_first _ _ h.word_is (omega arith))
 as_help g (Page f r o a z) h = absurd (other_first _ _ h.word_is (omega arith))
+as_help g (Time b) h = absurd (other_first _ _ h.word_is (omega arith))
 
 pub as_code : (g : Given) (v : View) → IsViewGiven (codes "code") g v
     → (file : List ℕ) × (no_batch : Bool) × IsOfRow (row_of (Code file no_batch)) g
@@ -35,6 +37,7 @@ as_code g (Code file no_batch) h = (file, no_batch, h.of_row)
 as_code g (Trace f r a z b n) h = absurd (other_first _ _ h.word_is (omega arith))
 as_code g (Blocks f r) h = absurd (other_first _ _ h.word_is (omega arith))
 as_code g (Page f r o a z) h = absurd (other_first _ _ h.word_is (omega arith))
+as_code g (Time b) h = absurd (other_first _ _ h.word_is (omega arith))
 
 pub as_trace : (g : Given) (v : View) → IsViewGiven (codes "trace") g v
     → (f r : List ℕ) × (a z b n : Option ℕ) × IsOfRow (row_of (Trace f r a z b n)) g
@@ -43,6 +46,7 @@ as_trace g (Code file no_batch) h = absurd (other_first _ _ h.word_is (omega ari
 as_trace g (Trace f r a z b n) h = (f, r, a, z, b, n, h.of_row)
 as_trace g (Blocks f r) h = absurd (other_first _ _ h.word_is (omega arith))
 as_trace g (Page f r o a z) h = absurd (other_first _ _ h.word_is (omega arith))
+as_trace g (Time b) h = absurd (other_second _ _ h.word_is (omega arith))
 
 pub as_blocks : (g : Given) (v : View) → IsViewGiven (codes "blocks") g v
     → (f r : List ℕ) × IsOfRow (row_of (Blocks f r)) g
@@ -51,6 +55,7 @@ as_blocks g (Code file no_batch) h = absurd (other_first _ _ h.word_is (omega ar
 as_blocks g (Trace f r a z b n) h = absurd (other_first _ _ h.word_is (omega arith))
 as_blocks g (Blocks f r) h = (f, r, h.of_row)
 as_blocks g (Page f r o a z) h = absurd (other_first _ _ h.word_is (omega arith))
+as_blocks g (Time b) h = absurd (other_first _ _ h.word_is (omega arith))
 
 pub as_page : (g : Given) (v : View) → IsViewGiven (codes "page") g v
     → (f r o : List ℕ) × (a z : Option ℕ) × IsOfRow (row_of (Page f r o a z)) g
@@ -59,6 +64,16 @@ as_page g (Code file no_batch) h = absurd (other_first _ _ h.word_is (omega arit
 as_page g (Trace f r a z b n) h = absurd (other_first _ _ h.word_is (omega arith))
 as_page g (Blocks f r) h = absurd (other_first _ _ h.word_is (omega arith))
 as_page g (Page f r o a z) h = (f, r, o, a, z, h.of_row)
+as_page g (Time b) h = absurd (other_first _ _ h.word_is (omega arith))
+
+pub as_time : (g : Given) (v : View) → IsViewGiven (codes "time") g v
+    → (a : TimeArguments) × IsOfRow (row_of (Time a)) g × IsFitView (Time a)
+as_time g Help h = absurd (other_first _ _ h.word_is (omega arith))
+as_time g (Code file no_batch) h = absurd (other_first _ _ h.word_is (omega arith))
+as_time g (Trace f r a z b n) h = absurd (other_second _ _ h.word_is (omega arith))
+as_time g (Blocks f r) h = absurd (other_first _ _ h.word_is (omega arith))
+as_time g (Page f r o a z) h = absurd (other_first _ _ h.word_is (omega arith))
+as_time g (Time a) h = (a, h.of_row, h.fits)
 
 -- without a place there is no operand
 pub no_place : (words : List (List ℕ)) → ArePlaced [] words → words ≡ []
@@ -110,6 +125,17 @@ one_view g (Page f r o a z) Help p q e = absurd (other_first _ _ e (omega arith)
 one_view g (Page f r o a z) (Code y nc) p q e = absurd (other_first _ _ e (omega arith))
 one_view g (Page f r o a z) (Trace f' r' a' z' b' n') p q e = absurd (other_first _ _ e (omega arith))
 one_view g (Page f r o a z) (Blocks f' r') p q e = absurd (other_first _ _ e (omega arith))
+one_view g (Time a) (Time b) p q e = ap (λ x. Time x) (one_time g a b p q)
+one_view g Help (Time d) p q e = absurd (other_first _ _ e (omega arith))
+one_view g (Code x nb) (Time d) p q e = absurd (other_first _ _ e (omega arith))
+one_view g (Trace f r a z b n) (Time d) p q e = absurd (other_second _ _ e (omega arith))
+one_view g (Blocks f r) (Time d) p q e = absurd (other_first _ _ e (omega arith))
+one_view g (Page f r o a z) (Time d) p q e = absurd (other_first _ _ e (omega arith))
+one_view g (Time d) Help p q e = absurd (other_first _ _ e (omega arith))
+one_view g (Time d) (Code x nb) p q e = absurd (other_first _ _ e (omega arith))
+one_view g (Time d) (Trace f r a z b n) p q e = absurd (other_second _ _ e (omega arith))
+one_view g (Time d) (Blocks f r) p q e = absurd (other_first _ _ e (omega arith))
+one_view g (Time d) (Page f r o a z) p q e = absurd (other_first _ _ e (omega arith))
 
 -- the word of a view, with its options
 pub view_word : View → ViewWord
@@ -118,6 +144,7 @@ view_word (Code file no_batch) = word.Code
 view_word (Trace f r a z b n) = word.Trace
 view_word (Blocks f r) = word.Blocks
 view_word (Page f r o a z) = word.Page
+view_word (Time a) = word.Time
 
 pub word_is : (v : View) → view_text (view_word v) ≡ (row_of v).word
 unfolding view_word
@@ -126,6 +153,7 @@ word_is (Code file no_batch) = refl
 word_is (Trace f r a z b n) = refl
 word_is (Blocks f r) = refl
 word_is (Page f r o a z) = refl
+word_is (Time a) = refl
 
 word_settings : (w : ViewWord) (v : View) → view_text w ≡ (row_of v).word
     → settings_in (row_of v).options ≡ view_settings w
@@ -154,11 +182,23 @@ word_settings word.Page Help e = absurd (other_first _ _ e (omega arith))
 word_settings word.Page (Code file no_batch) e = absurd (other_first _ _ e (omega arith))
 word_settings word.Page (Trace f r a z b n) e = absurd (other_first _ _ e (omega arith))
 word_settings word.Page (Blocks f r) e = absurd (other_first _ _ e (omega arith))
+word_settings word.Time (Time a) e = refl
+word_settings word.Help (Time a) e = absurd (other_first _ _ e (omega arith))
+word_settings word.Code (Time a) e = absurd (other_first _ _ e (omega arith))
+word_settings word.Trace (Time a) e = absurd (other_second _ _ e (omega arith))
+word_settings word.Blocks (Time a) e = absurd (other_first _ _ e (omega arith))
+word_settings word.Page (Time a) e = absurd (other_first _ _ e (omega arith))
+word_settings word.Time Help e = absurd (other_first _ _ e (omega arith))
+word_settings word.Time (Code x nb) e = absurd (other_first _ _ e (omega arith))
+word_settings word.Time (Trace f r a z b n) e = absurd (other_second _ _ e (omega arith))
+word_settings word.Time (Blocks f r) e = absurd (other_first _ _ e (omega arith))
+word_settings word.Time (Page f r o a z) e = absurd (other_first _ _ e (omega arith))
 
 -- what is asked by a word and the words behind it
 record Behind (w : ViewWord) (words : List (List ℕ)) (v : View) : Type 0 where
   pub word_is : (row_of v).word ≡ view_text w
   pub of_row : AreOfRow (row_of v) words
+  pub fits : IsFitView v
 
 behind : (first : List ℕ) (rest words : List (List ℕ)) (w : ViewWord) (v : View)
     → words ≡ first ∷ rest → view_text w ≡ first → AsksView words v → Behind w rest v
@@ -167,6 +207,7 @@ behind first rest words w v e f h =
     record {
       word_is = same_head _ _ _ _ g ∙ sym f;
       of_row = subst (AreOfRow (row_of v)) (same_tail _ _ _ _ g) h.of_row;
+      fits = h.fits;
     }
 
 -- the words behind are arguments of the view's options
@@ -183,6 +224,7 @@ given w words v m r h =
     record {
       word_is = h.word_is;
       of_row = row_given (row_of v) words h.of_row (given_by m) (λ x. r.gives x ∙ ap (words_for x) same);
+      fits = h.fits;
     }
 
 asked : (first : List ℕ) (rest words : List (List ℕ)) (w : ViewWord) (v : View) (m : ArgMatches)
@@ -198,6 +240,7 @@ asked first rest words w v m e f r h = record {
     places = subst (ArePlaced (row_of v).places) (r.gives role.Operand) h.of_row.places;
     options = given_set (given_by m) (row_of v).options r.arguments r.gives h.of_row.options;
   };
+  fits = h.fits;
 }
 
 pub only_one : (words : List (List ℕ)) (v w : View) → AsksView words v → AsksView words w → v ≡ w
@@ -205,9 +248,13 @@ only_one words v w p q =
     let e = sym p.words_are ∙ q.words_are in
     let row = subst (AreOfRow (row_of w)) (sym (same_tail _ _ _ _ e)) q.of_row in
     let x = view_word v in
-    let b : Behind x p.behind v = record { word_is = sym (word_is v); of_row = p.of_row } in
+    let b : Behind x p.behind v = record { word_is = sym (word_is v); of_row = p.of_row; fits = p.fits } in
     let k : Behind x p.behind w =
-    record { word_is = sym (same_head _ _ _ _ e) ∙ sym (word_is v); of_row = row } in
+    record {
+      word_is = sym (same_head _ _ _ _ e) ∙ sym (word_is v);
+      of_row = row;
+      fits = q.fits;
+    } in
     let same = same_cut (view_settings x) p.behind p.of_row.arguments row.arguments
     (behind_cut x p.behind v b) (behind_cut x p.behind w k) in
     one_view (λ r. words_for r p.of_row.arguments) v w

@@ -5,7 +5,7 @@ use Rattle.std.proofs.lemmas.List.Sums.{passes_at_first, split_at_first}
 use Rattle.std.proofs.lemmas.Slice.Eq.{bytes_eq-Decides}
 use Rattle.clap.specs.Lexer.{long_of}
 use Rattle.command_line.specs.declared.table.Setting.{Setting}
-use Rattle.command_line.specs.declared.table.Setting.TheVariants.{Nodes, Order, Budget, Layout, Code, Verify, Record, Brief, NoBatch, Loss, PerNode, From, To, Block, Node}
+use Rattle.command_line.specs.declared.table.Setting.TheVariants.{Nodes, Order, Budget, Layout, Code, Verify, Record, Brief, NoBatch, Loss, PerNode, From, To, Block, Node, Latency, Line, Handling}
 use Rattle.command_line.specs.Table.{option_word, kind_of}
 use Rattle.command_line.specs.Asks.{IsPlain}
 use Rattle.command_line.specs.Arguments.{option_of, HasOption, takes_value}
@@ -31,6 +31,9 @@ dashed From = refl
 dashed To = refl
 dashed Block = refl
 dashed Node = refl
+dashed Latency = refl
+dashed Line = refl
+dashed Handling = refl
 
 pub no_equals : (s : Setting) → has_equals (option_word s) ≡ false
 no_equals Nodes = refl
@@ -48,6 +51,9 @@ no_equals From = refl
 no_equals To = refl
 no_equals Block = refl
 no_equals Node = refl
+no_equals Latency = refl
+no_equals Line = refl
+no_equals Handling = refl
 
 dash_first : (s : Setting) (v : List ℕ) → slice_index (option_word s ++ v) 0 ≡ 45
 dash_first Nodes v = refl
@@ -65,6 +71,9 @@ dash_first From v = refl
 dash_first To v = refl
 dash_first Block v = refl
 dash_first Node v = refl
+dash_first Latency v = refl
+dash_first Line v = refl
+dash_first Handling v = refl
 
 pub not_plain : (s : Setting) (w : List ℕ) → w ≡ option_word s → IsPlain w → ⊥
 not_plain Nodes w e p = p.no_dash (ap (λ x. slice_index x 0) e)
@@ -82,6 +91,9 @@ not_plain From w e p = p.no_dash (ap (λ x. slice_index x 0) e)
 not_plain To w e p = p.no_dash (ap (λ x. slice_index x 0) e)
 not_plain Block w e p = p.no_dash (ap (λ x. slice_index x 0) e)
 not_plain Node w e p = p.no_dash (ap (λ x. slice_index x 0) e)
+not_plain Latency w e p = p.no_dash (ap (λ x. slice_index x 0) e)
+not_plain Line w e p = p.no_dash (ap (λ x. slice_index x 0) e)
+not_plain Handling w e p = p.no_dash (ap (λ x. slice_index x 0) e)
 
 pub not_plain_joined : (s : Setting) (v w : List ℕ) → w ≡ option_word s ++ (61 ∷ v) → IsPlain w → ⊥
 not_plain_joined s v w e p = p.no_dash (ap (λ x. slice_index x 0) e ∙ dash_first s (61 ∷ v))
@@ -103,6 +115,9 @@ no_operand From = refl
 no_operand To = refl
 no_operand Block = refl
 no_operand Node = refl
+no_operand Latency = refl
+no_operand Line = refl
+no_operand Handling = refl
 
 pub no_option : (s : Setting) → bytes_eq (name_of s) (codes "operand") ≡ false
 no_option Nodes = refl
@@ -120,6 +135,9 @@ no_option From = refl
 no_option To = refl
 no_option Block = refl
 no_option Node = refl
+no_option Latency = refl
+no_option Line = refl
+no_option Handling = refl
 
 -- a word of two dashes and more is an option
 pub record Long (word name : List ℕ) (value : Option (List ℕ)) : Type 0 where
@@ -142,6 +160,9 @@ long_joined From v = record { dashes = refl; long = refl }
 long_joined To v = record { dashes = refl; long = refl }
 long_joined Block v = record { dashes = refl; long = refl }
 long_joined Node v = record { dashes = refl; long = refl }
+long_joined Latency v = record { dashes = refl; long = refl }
+long_joined Line v = record { dashes = refl; long = refl }
+long_joined Handling v = record { dashes = refl; long = refl }
 
 pub long_alone : (s : Setting) → Long (option_word s) (name_of s) None
 long_alone Nodes = record { dashes = refl; long = refl }
@@ -159,6 +180,9 @@ long_alone From = record { dashes = refl; long = refl }
 long_alone To = record { dashes = refl; long = refl }
 long_alone Block = record { dashes = refl; long = refl }
 long_alone Node = record { dashes = refl; long = refl }
+long_alone Latency = record { dashes = refl; long = refl }
+long_alone Line = record { dashes = refl; long = refl }
+long_alone Handling = record { dashes = refl; long = refl }
 
 -- an option's word is long
 pub is_long_joined : (s : Setting) (v : List ℕ) → IsLong (option_word s ++ (61 ∷ v))
@@ -192,6 +216,12 @@ is_long_joined Block v =
     record { more = omega (arith, length-append (codes "--block") (61 ∷ v)); first = refl; second = refl }
 is_long_joined Node v =
     record { more = omega (arith, length-append (codes "--node") (61 ∷ v)); first = refl; second = refl }
+is_long_joined Latency v =
+    record { more = omega (arith, length-append (codes "--latency") (61 ∷ v)); first = refl; second = refl }
+is_long_joined Line v =
+    record { more = omega (arith, length-append (codes "--line") (61 ∷ v)); first = refl; second = refl }
+is_long_joined Handling v =
+    record { more = omega (arith, length-append (codes "--handling") (61 ∷ v)); first = refl; second = refl }
 
 pub is_long_alone : (s : Setting) → IsLong (option_word s)
 is_long_alone Nodes = record { more = omega arith; first = refl; second = refl }
@@ -209,6 +239,9 @@ is_long_alone From = record { more = omega arith; first = refl; second = refl }
 is_long_alone To = record { more = omega arith; first = refl; second = refl }
 is_long_alone Block = record { more = omega arith; first = refl; second = refl }
 is_long_alone Node = record { more = omega arith; first = refl; second = refl }
+is_long_alone Latency = record { more = omega arith; first = refl; second = refl }
+is_long_alone Line = record { more = omega arith; first = refl; second = refl }
+is_long_alone Handling = record { more = omega arith; first = refl; second = refl }
 
 pub equals_inside : (xs ys : List ℕ) → has_equals (xs ++ (61 ∷ ys)) ≡ true
 equals_inside [] ys = refl

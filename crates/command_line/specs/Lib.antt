@@ -1,6 +1,7 @@
 pub mod Arguments
 pub mod Asks
 pub mod Commands
+pub mod Costs
 pub mod Meaning
 pub mod Tasks
 pub mod Reading

@@ -7,7 +7,7 @@ use Rattle.command_line.specs.declared.table.Access.TheVariants.{Read, Write}
 use Rattle.command_line.specs.declared.table.Kind.{Kind}
 use Rattle.command_line.specs.declared.table.Kind.TheVariants.{Number, MaybeNumber, MaybeAddress, File, Flag}
 use Rattle.command_line.specs.declared.table.Setting.{Setting}
-use Rattle.command_line.specs.declared.table.Setting.TheVariants.{Nodes, Order, Budget, Layout, Code, Verify, Record, Brief, NoBatch, Loss, PerNode, From, To, Block, Node}
+use Rattle.command_line.specs.declared.table.Setting.TheVariants.{Nodes, Order, Budget, Layout, Code, Verify, Record, Brief, NoBatch, Loss, PerNode, From, To, Block, Node, Latency, Line, Handling}
 use Rattle.command_line.specs.Tasks.{Execution}
 use Rattle.command_line.specs.Commands.{Command, Rewrite, Run, Listing, One, Sim, Replay, Generate, Assemble}
 
@@ -28,6 +28,9 @@ option_word From = codes "--from"
 option_word To = codes "--to"
 option_word Block = codes "--block"
 option_word Node = codes "--node"
+option_word Latency = codes "--latency"
+option_word Line = codes "--line"
+option_word Handling = codes "--handling"
 
 -- what an option is given
 abbrev pub kind_of : Setting → Kind
@@ -46,6 +49,9 @@ kind_of From = MaybeNumber 0 (2 ^ 56 - 1)
 kind_of To = MaybeNumber 0 (2 ^ 56 - 1)
 kind_of Block = MaybeAddress
 kind_of Node = MaybeNumber 0 15
+kind_of Latency = Number 0 1000000 1200
+kind_of Line = Number 0 1000000 300
+kind_of Handling = Number 0 1000000 300
 
 -- the place of an operand, which stands behind the command's word without an option: the name of
 -- a file, or a number

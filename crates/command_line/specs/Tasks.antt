@@ -1,6 +1,6 @@
 -- The commands that run a program, in one table: of each its word, what stands in its places, and
 -- its options.
-use Rattle.std.specs.Prelude.{◌≡◌, ℕ, ◌-◌, ◌*◌, ◌^◌, ◌≤◌, Bool, true, false, not, IsTrue, List, [], ◌∷◌, ◌++◌, Option, None, Some, codes}
+use Rattle.std.specs.Prelude.{◌≡◌, ℕ, ◌-◌, ◌*◌, ◌^◌, ◌≤◌, Bool, not, ◌&&◌, ◌||◌, IsTrue, List, [], ◌∷◌, ◌++◌, Option, None, Some, is_some, codes}
 use Rattle.std.specs.List.{flat_map}
 
 -- what nodes run: so many nodes the rewritten code of the executable in a file, at most so many
@@ -124,9 +124,7 @@ IsKept (Some file) nodes = Unit {0}
 -- whether there is no verified file; or, beside it, no file of code, and no word that batches
 -- aren't wanted
 abbrev pub is_alone : (verified code : Option (List ℕ)) (no_batch : Bool) → Bool
-is_alone None code no_batch = true
-is_alone (Some file) None no_batch = not no_batch
-is_alone (Some file) (Some other) no_batch = false
+is_alone verified code no_batch = not (is_some verified && (is_some code || no_batch))
 
 -- nodes that run have no more of these than they may
 abbrev pub IsAlone : Execution → Type 0

@@ -19,12 +19,14 @@ use run_limits::{Budget, LaneCount, NodeCount};
 use std::alloc::{AllocError, Global};
 use table::{CommandWord, Kind, Role, Setting};
 
+mod cost;
 mod number;
 mod parsing;
 mod table;
 mod view;
 
-pub use view::{View, view_of};
+pub use cost::Cost;
+pub use view::{TimeArguments, View, view_of};
 
 /// What the program is to do.
 #[derive(Clone, Copy)]

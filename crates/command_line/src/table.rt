@@ -46,6 +46,9 @@ pub(crate) enum Setting {
     To,
     Block,
     Node,
+    Latency,
+    Line,
+    Handling,
 }
 
 /// What an argument is for.
@@ -77,6 +80,7 @@ pub(crate) enum ViewWord {
     Trace,
     Blocks,
     Page,
+    Time,
 }
 
 impl CommandWord {
@@ -152,6 +156,7 @@ impl ViewWord {
             "trace" => Some(ViewWord::Trace),
             "blocks" => Some(ViewWord::Blocks),
             "page" => Some(ViewWord::Page),
+            "time" => Some(ViewWord::Time),
             _ => None,
         }
     }
@@ -166,6 +171,16 @@ impl ViewWord {
             ViewWord::Trace => &[Setting::From, Setting::To, Setting::Block, Setting::Node],
             ViewWord::Blocks => &[],
             ViewWord::Page => &[Setting::From, Setting::To],
+            ViewWord::Time => &[
+                Setting::Nodes,
+                Setting::Budget,
+                Setting::Verify,
+                Setting::Layout,
+                Setting::NoBatch,
+                Setting::Latency,
+                Setting::Line,
+                Setting::Handling,
+            ],
         }
     }
 }
@@ -191,6 +206,9 @@ impl Setting {
             Setting::To => "to",
             Setting::Block => "block",
             Setting::Node => "node",
+            Setting::Latency => "latency",
+            Setting::Line => "line",
+            Setting::Handling => "handling",
         }
     }
 
@@ -228,6 +246,16 @@ impl Setting {
             },
             Setting::Block => Kind::MaybeAddress,
             Setting::Node => Kind::MaybeNumber { low: 0, high: 15 },
+            Setting::Latency => Kind::Number {
+                low: 0,
+                high: 1_000_000,
+                default: 1200,
+            },
+            Setting::Line | Setting::Handling => Kind::Number {
+                low: 0,
+                high: 1_000_000,
+                default: 300,
+            },
         }
     }
 

@@ -1,16 +1,23 @@
 //! The words of the viewer's command line, and what they ask for.
 
 ghost use Rattle.std.specs.Prelude.{◌≡◌, ℕ, codes, IfOk, MatchOption, Option};
-ghost use Rattle.command_line.specs.Reading.{given_by, SaysAt, SaysMaybe};
+ghost use Rattle.command_line.specs.Costs.{IsCost};
+ghost use Rattle.command_line.specs.Reading.{given_by, SaysAt, SaysMaybe, SaysNumber};
+ghost use Rattle.command_line.specs.Table.{kind_of};
 ghost use Rattle.command_line.specs.Views.{View as Asked, AsksView, IsViewGiven, meaning_of_view};
 ghost use Rattle.command_line.specs.Views.{view_text};
 
+use crate::cost::Cost;
 use crate::number::address_of;
 use crate::parsing::{Given, arguments_in, given_for, three_operands_in};
-use crate::table::{Role, Setting, ViewWord};
-use crate::{file_in, flag_in, maybe_number_in, two_operands_in};
+use crate::table::{Kind, Role, Setting, ViewWord};
+use crate::{
+    budget_in, file_in, flag_in, is_alone, maybe_number_in, name_in, nodes_in, number_in,
+    two_operands_in,
+};
 use clap::ArgMatches;
 use dsm_io::Text;
+use run_limits::{Budget, NodeCount};
 use std::alloc::{AllocError, Global};
 
 /// What the viewer is to do.
@@ -51,6 +58,30 @@ pub enum View<'a> {
         from: Option<u64>,
         to: Option<u64>,
     },
+    /// Run nodes by a clock, and show what they spend their time on.
+    Time(TimeArguments<'a>),
+}
+
+/// What `time` is given.
+#[derive(Clone, Copy, Debug, PartialEq, Eq)]
+pub struct TimeArguments<'a> {
+    /// The file of the executable, whose rewritten code the nodes run.
+    pub file: &'a str,
+    pub nodes: NodeCount,
+    /// How many words of each processor are run at most.
+    pub budget: Budget,
+    /// The file of a verified executable that has the code, where one is named.
+    pub verified: Option<&'a str>,
+    /// The file of the layout of the blocks, where one is named.
+    pub layout: Option<&'a str>,
+    /// Whether no run of accesses shares a check.
+    pub no_batch: bool,
+    /// How long a message to another node is on its way.
+    pub latency: Cost,
+    /// How much longer for each line of bytes that it carries.
+    pub line: Cost,
+    /// What taking a message costs the node that takes it.
+    pub handling: Cost,
 }
 
 /// The view `--help`.
@@ -159,6 +190,50 @@ fn page_of<'a>(matches: &ArgMatches<'a>) -> Option<View<'a>>
     })
 }
 
+/// The cost that an option has.
+fn cost_in(matches: &ArgMatches<'_>, setting: Setting) -> Option<Cost>
+    requires kind { (default : ℕ) × IsCost default
+        × (kind_of setting ≡ Kind.Number 0 1000000 default) }
+    ensures { MatchOption result
+        ((n : ℕ) → SaysNumber (given_by matches.now) setting n → ⊥)
+        (λ c. SaysNumber (given_by matches.now) setting c) }
+{
+    let number = number_in(matches, setting)?;
+    let cost = Cost::of(number)?;
+    Some(cost)
+}
+
+/// The view `time`.
+fn time_of<'a>(matches: &ArgMatches<'a>) -> Option<View<'a>>
+    ensures { MatchOption result
+        ((v : Asked) → IsViewGiven (codes "time") (given_by matches.now) v → ⊥)
+        (λ v. IsViewGiven (codes "time") (given_by matches.now) (meaning_of_view v)) }
+{
+    let file = file_in(matches)?;
+    let nodes = nodes_in(matches)?;
+    let budget = budget_in(matches)?;
+    let verified = name_in(matches, Setting::Verify)?;
+    let layout = name_in(matches, Setting::Layout)?;
+    let no_batch = flag_in(matches, Setting::NoBatch)?;
+    let latency = cost_in(matches, Setting::Latency)?;
+    let line = cost_in(matches, Setting::Line)?;
+    let handling = cost_in(matches, Setting::Handling)?;
+    if !is_alone(verified, None, no_batch) {
+        return None;
+    }
+    Some(View::Time(TimeArguments {
+        file,
+        nodes,
+        budget,
+        verified,
+        layout,
+        no_batch,
+        latency,
+        line,
+        handling,
+    }))
+}
+
 /// The view of a word that is a view's, with these arguments.
 fn view_in<'a>(word: ViewWord, matches: &ArgMatches<'a>) -> Option<View<'a>>
     ensures { MatchOption result
@@ -171,6 +246,7 @@ fn view_in<'a>(word: ViewWord, matches: &ArgMatches<'a>) -> Option<View<'a>>
         ViewWord::Trace => trace_of(matches),
         ViewWord::Blocks => blocks_of(matches),
         ViewWord::Page => page_of(matches),
+        ViewWord::Time => time_of(matches),
     }
 }
 

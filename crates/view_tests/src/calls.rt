@@ -10,6 +10,8 @@ pub(crate) const USAGE: &str = "usage: shasta_view code IN [--no-batch]
        shasta_view trace IN RECORD [--from S] [--to S] [--block 0xA] [--node I]
        shasta_view blocks IN RECORD
        shasta_view page IN RECORD OUT [--from S] [--to S]
+       shasta_view time IN [--nodes N] [--budget B] [--layout FILE] [--verify FILE | --no-batch] \
+    [--latency L] [--line P] [--handling H]
        shasta_view --help
 ";
 

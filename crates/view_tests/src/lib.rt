@@ -12,4 +12,6 @@ mod lines;
 #[cfg(test)]
 mod page;
 #[cfg(test)]
+mod time;
+#[cfg(test)]
 mod trace;

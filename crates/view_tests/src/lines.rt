@@ -1,4 +1,4 @@
-//! Lines of `trace`.
+//! Lines of `trace` and of `time`.
 
 use command_line::{View, view_of};
 use dsm_io::Text;
@@ -32,18 +32,24 @@ const LINES: [(&str, Asked); 12] = [
 ];
 
 fn asked_of(alloc: Global, words: &[Text]) -> Result<Asked, AllocError> {
-    match view_of(alloc, words)? {
-        Some(
-            View::Trace {
-                file: "a",
-                record_file: "r",
-                from,
-                to,
-                block,
-                node,
-            },
-        ) => Ok(Some((from, to, block, node))),
-        _ => Ok(None),
+    match view_of(alloc, words) {
+        Ok(Some(view)) => Ok(trace_of(&view)),
+        Ok(None) => Ok(None),
+        Err(error) => Err(error),
+    }
+}
+
+fn trace_of(view: &View<'_>) -> Asked {
+    match view {
+        View::Trace {
+            file,
+            record_file,
+            from,
+            to,
+            block,
+            node,
+        } if *file == "a" && *record_file == "r" => Some((*from, *to, *block, *node)),
+        _ => None,
     }
 }
 
@@ -53,6 +59,98 @@ fn reads_the_words_of_trace(rt: HostRuntime) -> Result<(), Fail> {
     for (line, wanted) in &LINES {
         let words = words_of(alloc, line)?;
         if asked_of(alloc, &words)? != *wanted {
+            return Err(Fail::new(format_args!("{line}")));
+        }
+    }
+    Ok(())
+}
+
+/// What of a run of `a` by a clock a line asks for, if it asks for one: how many nodes, the budget,
+/// the verified file, the layout, whether there are no batches, and what messages cost.
+type Run = Option<
+    (
+        u8,
+        u64,
+        Option<&'static str>,
+        Option<&'static str>,
+        bool,
+        [u32; 3],
+    ),
+>;
+
+const RUNS: [(&str, Run); 12] = [
+    (
+        "time a",
+        Some((1, 100_000_000, None, None, false, [1200, 300, 300])),
+    ),
+    (
+        "time --latency 0 --nodes=16 a --line=1000000 --budget 5 --handling 0000000007 --no-batch",
+        Some((16, 5, None, None, true, [0, 1_000_000, 7])),
+    ),
+    (
+        "time a --verify v --layout=l",
+        Some((
+            1,
+            100_000_000,
+            Some("v"),
+            Some("l"),
+            false,
+            [1200, 300, 300],
+        )),
+    ),
+    ("time a --latency 1000001", None),
+    ("time a --line=1000001", None),
+    ("time a --handling 4294967297", None),
+    ("time a --line=-1", None),
+    ("time a --handling", None),
+    ("time a --handling 1 --handling 1", None),
+    ("time a --verify v --no-batch", None),
+    ("time a --order 1", None),
+    ("time a r", None),
+];
+
+fn run_of(alloc: Global, words: &[Text]) -> Result<Run, AllocError> {
+    match view_of(alloc, words) {
+        Ok(Some(view)) => Ok(time_of(&view)),
+        Ok(None) => Ok(None),
+        Err(error) => Err(error),
+    }
+}
+
+fn time_of(view: &View<'_>) -> Run {
+    match view {
+        View::Time(asked) if asked.file == "a" => Some((
+            asked.nodes.number(),
+            asked.budget.number(),
+            known(asked.verified),
+            known(asked.layout),
+            asked.no_batch,
+            [
+                asked.latency.number(),
+                asked.line.number(),
+                asked.handling.number(),
+            ],
+        )),
+        _ => None,
+    }
+}
+
+/// A name that stands in the table.
+fn known(name: Option<&str>) -> Option<&'static str> {
+    match name {
+        None => None,
+        Some("v") => Some("v"),
+        Some("l") => Some("l"),
+        Some(_) => Some(""),
+    }
+}
+
+#[test]
+fn reads_the_words_of_time(rt: HostRuntime) -> Result<(), Fail> {
+    let alloc = rt.alloc();
+    for (line, wanted) in &RUNS {
+        let words = words_of(alloc, line)?;
+        if run_of(alloc, &words)? != *wanted {
             return Err(Fail::new(format_args!("{line}")));
         }
     }

@@ -9,3 +9,4 @@ mod Summed
 mod Runs
 mod Pages
 mod Written
+mod Timed

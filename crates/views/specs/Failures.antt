@@ -1,7 +1,7 @@
 -- Helps the code alone: how a view fails, and how it succeeds.
-use Rattle.std.specs.Prelude.{◌≡◌, ℕ, ◌<◌, ◌⊎◌, Bool, List, [], ◌∷◌, ◌++◌, All, Option, None, Some, IfSome}
+use Rattle.std.specs.Prelude.{◌≡◌, ℕ, ◌<◌, ◌⊎◌, Bool, not, List, [], ◌∷◌, ◌++◌, All, Option, None, Some, IfSome, Contains}
 use Rattle.dsm_io.specs.States.{FilesState, SinkState}
-use Rattle.command_line.specs.Views.{View}
+use Rattle.command_line.specs.Views.{View, TimeArguments, Time, reads}
 use Rattle.code_view.specs.Code.{code_text}
 use Rattle.code_view.specs.declared.view.CodeView.{CodeView}
 use Rattle.node_model.specs.Node.{Work}
@@ -11,7 +11,7 @@ use Rattle.replay.specs.Replay.{TellsWholeRun}
 use Rattle.text_output.specs.declared.failure.Failure.{Failure}
 use Rattle.text_output.specs.declared.failure.Failure.TheVariants.{Input, NotWritten, Refused, Layout, Record, Text, Output, OutOfMemory}
 use Rattle.text_output.specs.Failures.{FailsAs, IsWriteFailure, status_of}
-use Rattle.judged_files.specs.Failures.{IsContent, IsReadFailure}
+use Rattle.judged_files.specs.Failures.{AreContents, IsContent, IsReadFailure}
 use Rattle.prepared_run.specs.Replays.{IsReplayRefusal, IsReplayRefused, IsBadReplayLayout, IsBadRecord}
 use Rattle.judged_files.specs.Inputs.{Inputs}
 use Rattle.prepared_run.specs.Ready.{work_for}
@@ -28,6 +28,7 @@ use Rattle.views.specs.Trace.{recorded, IsTraceText}
 use Rattle.views.specs.Blocks.{AreCostsOfRun, IsCostsText}
 use Rattle.views.specs.Answers.{IsReadFault, IsPutFault, IsWriteFault, IsRefusalStatus}
 use Rattle.views.specs.Page.{IsPageText}
+use Rattle.views.specs.Time.{IsTimeText, costs_of}
 use Rattle.views.specs.Headline.{AreTold, IsCodeText, IsRefused, IsLayoutRefused, IsRecordRefused, Prints, PrintsPrefix}
 
 -- the text of what is shown
@@ -45,6 +46,10 @@ IsTextOfTrace inputs s text status = IsTraceText inputs s text
 -- the text of what blocks cost in a run, with any status
 abbrev pub IsTextOfBlocks : Inputs → List ℕ → ℕ → Type 0
 IsTextOfBlocks inputs text status = AreCostsOfRun inputs text
+
+-- the text of a run by a clock, with any status
+abbrev pub IsTextOfTime : Inputs → TimeArguments → List ℕ → ℕ → Type 0
+IsTextOfTime inputs a text status = IsTimeText inputs a.nodes a.budget (costs_of a) text
 
 -- there is a trace of the whole run that a record tells of, and the text is that of its costs
 pub record IsTextOfRun (symbols : List Symbol) (prepared : Prepared) (kept : Kept) (text : List ℕ)
@@ -73,6 +78,20 @@ abbrev pub IsRecordingFailure : (file record_file : List ℕ) → FilesState →
     → Type 0
 IsRecordingFailure file record_file before now f =
     (name : List ℕ) × ((name ≡ file) ⊎ (name ≡ record_file)) × IsReadFailure before now name f
+
+-- the inputs are what the files of `time` are told to hold
+pub record AreTimed (files : FilesState) (a : TimeArguments) (inputs : Inputs) : Type 0 where
+  pub executable : IsContent (files.held a.file) inputs.executable
+  pub code : inputs.code ≡ None
+  pub verified : AreContents files a.verified inputs.verified
+  pub layout : AreContents files a.layout inputs.layout
+  pub text : inputs.text ≡ []
+  pub batches : inputs.batches ≡ not a.no_batch
+
+-- one of the files of `time` wasn't read
+abbrev pub IsTimingFailure : TimeArguments → FilesState → FilesState → Failure → Type 0
+IsTimingFailure a before now f =
+    (name : List ℕ) × Contains (reads (Time a)) name × IsReadFailure before now name f
 
 -- the record tells of a whole run
 abbrev pub TellsWhole : Work → Kept → Type 0

@@ -6,12 +6,14 @@ use Rattle.jump_map.specs.Image.{Cell}
 use Rattle.code_view.specs.Code.{code_text}
 use Rattle.dsm_io.specs.Causes.{Appends, AppendsPrefix}
 use Rattle.dsm_io.specs.States.{FilesState, SinkState}
-use Rattle.command_line.specs.Views.{View, Help, Code, Trace, Blocks, reads, Page, writes}
+use Rattle.command_line.specs.Views.{View, Help, Code, Trace, Blocks, reads, Page, Time, writes}
 use Rattle.judged_files.specs.Code.{Planned, IsRewritingOf, IsUnrewritten}
+use Rattle.judged_files.specs.Refusals.{IsBadRunLayout, IsRunRefused}
 use Rattle.prepared_run.specs.Replays.{IsReplayRefused, IsBadReplayLayout, IsBadRecord}
 use Rattle.views.specs.Trace.{recorded, IsTraceText}
 use Rattle.views.specs.Blocks.{AreCostsOfRun}
 use Rattle.views.specs.Page.{IsPageText}
+use Rattle.views.specs.Time.{IsTimeText, costs_of, timed}
 
 -- how the viewer is called
 unfoldable pub usage : List ℕ
@@ -20,7 +22,9 @@ usage =
     ++ (codes "       shasta_view trace IN RECORD [--from S] [--to S] [--block 0xA] [--node I]\n"
     ++ (codes "       shasta_view blocks IN RECORD\n"
     ++ (codes "       shasta_view page IN RECORD OUT [--from S] [--to S]\n"
-    ++ codes "       shasta_view --help\n")))
+    ++ (codes "       shasta_view time IN [--nodes N] [--budget B] [--layout FILE]"
+    ++ (codes " [--verify FILE | --no-batch] [--latency L] [--line P] [--handling H]\n"
+    ++ codes "       shasta_view --help\n")))))
 
 -- the text of the rewritten code of the executable in a file, by the program's plan, with batches
 -- or without
@@ -41,6 +45,7 @@ IsText (Trace file record_file from to block i) contents text =
 IsText (Blocks file record_file) contents text =
     AreCostsOfRun (recorded (contents file) (contents record_file)) text
 IsText (Page file record_file output from to) contents text = text ≡ []
+IsText (Time a) contents text = IsTimeText (timed a contents) a.nodes a.budget (costs_of a) text
 
 -- what a view writes into a file
 abbrev pub IsWritten : View → (List ℕ → List ℕ) → List ℕ → Type 0
@@ -66,8 +71,9 @@ IsRefused (Blocks file record_file) contents line =
     IsReplayRefused (recorded (contents file) (contents record_file)) line
 IsRefused (Page file record_file output from to) contents line =
     IsReplayRefused (recorded (contents file) (contents record_file)) line
+IsRefused (Time a) contents line = IsRunRefused (timed a contents) line
 
--- the layout of a view's record is refused with this line
+-- the layout of a view, or of its record, is refused with this line
 abbrev pub IsLayoutRefused : View → (List ℕ → List ℕ) → List ℕ → Type 0
 IsLayoutRefused (Trace file record_file from to block i) contents line =
     IsBadReplayLayout (recorded (contents file) (contents record_file)) line
@@ -75,6 +81,7 @@ IsLayoutRefused (Blocks file record_file) contents line =
     IsBadReplayLayout (recorded (contents file) (contents record_file)) line
 IsLayoutRefused (Page file record_file output from to) contents line =
     IsBadReplayLayout (recorded (contents file) (contents record_file)) line
+IsLayoutRefused (Time a) contents line = IsBadRunLayout (timed a contents) a.nodes line
 IsLayoutRefused view contents line = ⊥
 
 -- a view's record is refused with this line

@@ -7,6 +7,7 @@ mod code;
 mod page;
 mod recorded;
 mod text;
+mod time;
 mod top;
 mod trace;
 

@@ -2,7 +2,8 @@
 
 ghost use Rattle.std.specs.Prelude.{◌≡◌, ◌≢◌, ◌≤◌, ◌⊎◌, ◌<◌, ℕ, List, Some, length, Contains};
 ghost use Rattle.std.specs.Prelude.{IfErr, OnOk, MatchResult};
-ghost use Rattle.command_line.specs.Views.{View as Asked, AsksView, meaning_of_view, reads, writes};
+ghost use Rattle.command_line.specs.Views.{View as Asked, Time, TimeArguments, AsksView};
+ghost use Rattle.command_line.specs.Views.{meaning_of_view, reads, writes};
 ghost use Rattle.text_output.specs.Answers.{Tells};
 ghost use Rattle.judged_files.specs.Failures.{file_limit};
 ghost use Rattle.text_output.specs.Failures.{IsNoRefusal};
@@ -11,12 +12,14 @@ ghost use Rattle.views.specs.Headline.{AreTold, IsLayoutRefused, IsRecordRefused
 ghost use Rattle.views.specs.Headline.{AreWritten, Prints, PrintsPrefix, usage};
 ghost use Rattle.views.specs.Answers.{AreLeft, IsFault, IsRefusalStatus};
 ghost use Rattle.views.specs.Failures.{AreKept, IsFailure, IsSuccess};
+ghost use Rattle.views.specs.Time.{PrintsTime};
 
 use crate::blocks::put_blocks;
 use crate::code::put_code;
 use crate::page::write_page;
 use crate::recorded::read_recorded;
 use crate::text::USAGE;
+use crate::time::{put_time, read_timed};
 use crate::trace::{Selection, put_trace};
 use command_line::{View, view_of};
 use dsm_io::{Files, Sink, Text};
@@ -26,8 +29,8 @@ use text_output::{Failure, put, tell, tell_out_of_memory};
 
 /// Shows what the words ask for, or writes it into a file, and answers the status: 0 where the
 /// whole text was put or the file written; 2 for a faulty command line; 3 where a file or the
-/// output failed; 4 where the executable is refused; 5 where it was out of memory; 6 where the
-/// layout of a record is refused; 7 where the record is.
+/// output failed; 4 where the executable or a verified file is refused; 5 where it was out of
+/// memory; 6 where the layout, or that of a record, is refused; 7 where the record is.
 pub fn shasta_view<F: Files, O: Sink, E: Sink>(
     alloc: Global,
     words: &[Text],
@@ -49,8 +52,14 @@ pub fn shasta_view<F: Files, O: Sink, E: Sink>(
         → AreTold v (F.state files.old) contents → result ≡ 0
         → Prints v contents (O.state out.old) (O.state out.new) }
     ensures silent { result ≡ 0 → (E.state err.new).taken ≡ (E.state err.old).taken }
+    // Of `time` that is the outcome of the run by the clock, which tells of an interleaved run of
+    // the original's processors on one memory; and what the nodes spent their time on.
+    ensures time { (a : TimeArguments) (contents : List ℕ → List ℕ) → AsksView words.now (Time a)
+        → AreTold (Time a) (F.state files.old) contents → result ≡ 0
+        → PrintsTime a contents (O.state out.old) (O.state out.new) }
 
-    // Status 4 is for a refused executable; the refusal is told.
+    // Status 4 is for a refused executable or a verified file that is that of no rewriting; the
+    // refusal is told.
     ensures refused { (v : Asked) (contents : List ℕ → List ℕ) → AsksView words.now v
         → AreTold v (F.state files.old) contents → result ≡ 4
         → (line : List ℕ) × IsRefused v contents line
@@ -58,8 +67,8 @@ pub fn shasta_view<F: Files, O: Sink, E: Sink>(
     ensures nothing { (result ≡ 2) ⊎ IsRefusalStatus result
         → (O.state out.new).taken ≡ (O.state out.old).taken }
 
-    // Status 6 is for a refused layout of a record, and status 7 for a refused record, by its text
-    // or by the events that it tells of; the refusal is told.
+    // Status 6 is for a refused layout, or that of a record, and status 7 for a refused record, by
+    // its text or by the events that it tells of; the refusal is told.
     ensures layout { (v : Asked) (contents : List ℕ → List ℕ) → AsksView words.now v
         → AreTold v (F.state files.old) contents → result ≡ 6
         → (line : List ℕ) × IsLayoutRefused v contents line
@@ -181,6 +190,10 @@ fn answer<F: Files, O: Sink>(
                 node: None,
             };
             write_page(alloc, files, file, record_file, output, selection)
+        }
+        View::Time(arguments) => {
+            let read = read_timed(alloc, files, arguments)?;
+            put_time(alloc, &read.lend(), arguments, out)
         }
     }
 }

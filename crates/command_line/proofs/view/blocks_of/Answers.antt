@@ -14,6 +14,7 @@ returns-in_err-file c =
 pub returns : goal.returns
 returns c = record {
   word_is = refl;
+  fits = tt;
   of_row = record {
     places = placed_files Read c.in_ok-file.file.now c.in_ok-file.record_file.now _ c.in_ok-file.ensures;
     options = tt;

@@ -19,6 +19,7 @@ returns-in_err-no_batch c =
 pub returns : goal.returns
 returns c = record {
   word_is = refl;
+  fits = tt;
   of_row = record {
     places = placed_file c.in_ok-file.file.now _ c.in_ok-file.ensures;
     options = (c.in_ok-no_batch.ensures.there, tt);

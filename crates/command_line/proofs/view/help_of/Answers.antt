@@ -7,6 +7,7 @@ use Rattle.command_line.proofs.view.help_of.Goals as goal
 pub returns-in-Nothing : goal.returns-in-Nothing
 returns-in-Nothing c = record {
   word_is = refl;
+  fits = tt;
   of_row = record { places = subst (ArePlaced []) (sym c.in-Nothing.ensures) tt; options = tt };
 }
 

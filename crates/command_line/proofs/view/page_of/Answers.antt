@@ -25,6 +25,7 @@ returns-in_err-to c =
 pub returns : goal.returns
 returns c = record {
   word_is = refl;
+  fits = tt;
   of_row = record {
     places = placed_three c.in_ok-file.file.now c.in_ok-file.record_file.now c.in_ok-file.output.now _ c.in_ok-file.ensures;
     options = (c.in_ok-from.ensures, (c.in_ok-to.ensures, tt));

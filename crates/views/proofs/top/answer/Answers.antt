@@ -1,20 +1,22 @@
 use Rattle.std.proofs.Common.{not, ◌≡◌, ℕ, List, refl, subst, sym}
 use Rattle.std.specs.Prelude.{Contains}
 use Rattle.std.proofs.lemmas.Result.{err_from_is_err_and}
-use Rattle.command_line.specs.Views.{Help, Code, Trace, Blocks, meaning_of_view, reads, Page}
+use Rattle.command_line.specs.Views.{Help, Code, Trace, Blocks, meaning_of_view, reads, Page, Time, time_of}
 use Rattle.dsm_io.specs.Causes.{Appends}
 use Rattle.dsm_io.specs.States.{SinkState, FilesState}
 use Rattle.judged_files.specs.Code.{Planned, IsUnrewritten}
 use Rattle.text_output.specs.Failures.{FailsAs, IsNever, IsPutFailure, Puts}
 use Rattle.judged_files.specs.Failures.{IsContent}
 use Rattle.judged_files.specs.Given.{bytes_of, contents_of}
-use Rattle.views.specs.Failures.{AreRecorded, FailsAsRun, IsFailure, IsSuccess, IsTextOfBlocks, IsTextOfCode, IsTextOfTrace, AreKept, IsPageFailure, IsPageWritten}
+use Rattle.judged_files.specs.Refusals.{IsBadRunLayout, IsRunRefused}
+use Rattle.views.specs.Failures.{AreRecorded, FailsAsRun, IsFailure, IsSuccess, IsTextOfBlocks, IsTextOfCode, IsTextOfTime, IsTextOfTrace, AreKept, AreTimed, IsPageFailure, IsPageWritten}
 use Rattle.views.specs.declared.trace.Selection.{Selection}
 use Rattle.views.proofs.Runs.{blocks_of_run, not_long, run_fails, run_succeeds, trace_of_run, unread_fails, unread_no_refusal}
 use Rattle.views.specs.Headline.{usage, AreTold, AreWritten}
 use Rattle.views.proofs.Viewed.{code_fails, code_succeeds, err_as, help_fails, help_succeeds, on_ok_as}
 use Rattle.views.specs.Answers.{AreLeft}
 use Rattle.views.proofs.Written.{asked_for, err_all, nothing_left, nothing_written, ok_all, page_fails, page_kept, page_left, page_longer, page_succeeds, page_written}
+use Rattle.views.proofs.Timed as timing
 use Rattle.views.proofs.top.answer.Goals as goal
 
 pub returns-in-Help-clause-ok : goal.returns-in-Help-clause-ok
@@ -309,3 +311,86 @@ returns-in_ok-read-in-Trace-clause-left g c =
     rw c.in-Trace.is (err_all (λ f. (contents : List ℕ → List ℕ) → AreTold (Trace a.file.now a.record_file.now a.from a.to a.block a.node) files contents
     → AreLeft (Trace a.file.now a.record_file.now a.from a.to a.block a.node) contents files files_now) c.put_trace.result
     (λ f contents told. nothing_left (Trace a.file.now a.record_file.now a.from a.to a.block a.node) contents files files_now refl))
+
+pub returns-in_ok-read-in-Time-clause-ok : goal.returns-in_ok-read-in-Time-clause-ok
+returns-in_ok-read-in-Time-clause-ok g c =
+    let files : FilesState = g.F.Files.state c.args.files.now in
+    let before : SinkState = g.O.Sink.state c.args.out.now in
+    let now : SinkState = g.O.Sink.state c.put_time.new.out in
+    let a = time_of c.in-Time.arguments in
+    let inputs = bytes_of c.lend-in-Time.result in
+    let held : AreTimed files a inputs =
+    subst (AreTimed files a) (sym c.lend-in-Time.ensures.value) c.in_ok-read-in-Time.ensures.ok in
+    rw c.in-Time.is
+    (on_ok_as (Puts (IsTextOfTime inputs a) 0 before now) (IsSuccess (Time a) files before now) c.put_time.result
+    (timing.time_succeeds a files before now inputs held) c.put_time.ensures.ok)
+
+pub returns-in_ok-read-in-Time-clause-failure : goal.returns-in_ok-read-in-Time-clause-failure
+returns-in_ok-read-in-Time-clause-failure g c =
+    let files : FilesState = g.F.Files.state c.args.files.now in
+    let files_now : FilesState = g.F.Files.state c.read_timed.new.files in
+    let before : SinkState = g.O.Sink.state c.args.out.now in
+    let now : SinkState = g.O.Sink.state c.put_time.new.out in
+    let a = time_of c.in-Time.arguments in
+    let inputs = bytes_of c.lend-in-Time.result in
+    let held : AreTimed files a inputs =
+    subst (AreTimed files a) (sym c.lend-in-Time.ensures.value) c.in_ok-read-in-Time.ensures.ok in
+    rw c.in-Time.is
+    (err_as (FailsAs (IsTextOfTime inputs a) (IsRunRefused inputs) (IsBadRunLayout inputs a.nodes) before now)
+    (IsFailure (Time a) files files_now before now) c.put_time.result
+    (λ f h. timing.time_fails a files files_now before now inputs f held h) c.put_time.ensures.failure)
+
+pub returns-in_ok-read-in-Time-clause-longer : goal.returns-in_ok-read-in-Time-clause-longer
+returns-in_ok-read-in-Time-clause-longer g c = λ name content there is long.
+    let files : FilesState = g.F.Files.state c.args.files.now in
+    let a = time_of c.in-Time.arguments in
+    absurd (timing.not_long a files (contents_of c.in_ok-read-in-Time.read) name content
+    c.in_ok-read-in-Time.ensures.ok (subst (λ x. Contains (reads (meaning_of_view x)) name) c.in-Time.is there) is long)
+
+pub returns-in_err-read-in-Time-clause-failure : goal.returns-in_err-read-in-Time-clause-failure
+returns-in_err-read-in-Time-clause-failure g c =
+    let files : FilesState = g.F.Files.state c.args.files.now in
+    let files_now : FilesState = g.F.Files.state c.read_timed.new.files in
+    let state : SinkState = g.O.Sink.state c.args.out.now in
+    let a = time_of c.in-Time.arguments in
+    let p = err_from_is_err_and c.from_residual-in_err-read-in-Time.result
+    c.from_residual-in_err-read-in-Time.ensures.1 in
+    rw (c.in-Time.is, p.1, p.2) (timing.unread_fails a files files_now state c.in_err-read-in-Time.field-0.0
+    c.in_err-read-in-Time.ensures.failure)
+
+pub returns-in_err-read-in-Time-clause-longer : goal.returns-in_err-read-in-Time-clause-longer
+returns-in_err-read-in-Time-clause-longer g c = λ name content there is long.
+    let files : FilesState = g.F.Files.state c.args.files.now in
+    let files_now : FilesState = g.F.Files.state c.read_timed.new.files in
+    let a = time_of c.in-Time.arguments in
+    let p = err_from_is_err_and c.from_residual-in_err-read-in-Time.result
+    c.from_residual-in_err-read-in-Time.ensures.1 in
+    rw (p.1, p.2) (timing.unread_no_refusal a files files_now c.in_err-read-in-Time.field-0.0
+    c.in_err-read-in-Time.ensures.failure)
+
+pub returns-in_ok-read-in-Time-clause-written : goal.returns-in_ok-read-in-Time-clause-written
+returns-in_ok-read-in-Time-clause-written g c =
+    let files : FilesState = g.F.Files.state c.args.files.now in
+    let files_now : FilesState = g.F.Files.state c.read_timed.new.files in
+    let a = time_of c.in-Time.arguments in
+    rw c.in-Time.is (ok_all ((contents : List ℕ → List ℕ) → AreTold (Time a) files contents
+    → AreWritten (Time a) contents files_now) c.put_time.result
+    (λ contents told. nothing_written (Time a) contents files_now (timing.writes_none a)))
+
+pub returns-in_ok-read-in-Time-clause-left : goal.returns-in_ok-read-in-Time-clause-left
+returns-in_ok-read-in-Time-clause-left g c =
+    let files : FilesState = g.F.Files.state c.args.files.now in
+    let files_now : FilesState = g.F.Files.state c.read_timed.new.files in
+    let a = time_of c.in-Time.arguments in
+    rw c.in-Time.is (err_all (λ f. (contents : List ℕ → List ℕ) → AreTold (Time a) files contents
+    → AreLeft (Time a) contents files files_now) c.put_time.result
+    (λ f contents told. nothing_left (Time a) contents files files_now (timing.writes_none a)))
+
+pub returns-in_err-read-in-Time-clause-left : goal.returns-in_err-read-in-Time-clause-left
+returns-in_err-read-in-Time-clause-left g c =
+    let files : FilesState = g.F.Files.state c.args.files.now in
+    let files_now : FilesState = g.F.Files.state c.read_timed.new.files in
+    let a = time_of c.in-Time.arguments in
+    let p = err_from_is_err_and c.from_residual-in_err-read-in-Time.result
+    c.from_residual-in_err-read-in-Time.ensures.1 in
+    rw (c.in-Time.is, p.1) (λ contents told. nothing_left (Time a) contents files files_now (timing.writes_none a))

@@ -1,12 +1,13 @@
 use Rattle.std.proofs.Common.{◌≡◌, ◌⊎◌, ℕ, List, sym, ◌∙◌, subst, inl, inr, rules}
 use Rattle.std.specs.Prelude.{Contains}
-use Rattle.command_line.specs.Views.{meaning_of_view, reads}
+use Rattle.command_line.specs.Views.{Time, meaning_of_view, reads}
 use Rattle.dsm_io.specs.States.{SinkState, FilesState}
 use Rattle.text_output.specs.Answers.{Tells}
 use Rattle.text_output.specs.Failures.{line_of}
 use Rattle.views.specs.Answers.{AreLeft, IsRefusalStatus}
 use Rattle.views.specs.Failures.{IsFailure, IsSuccess}
 use Rattle.views.specs.Headline.{AreTold, AreWritten, usage}
+use Rattle.views.proofs.Timed.{prints_time}
 use Rattle.views.proofs.Viewed.{asked_as, failing, fault_of, layout_of, line_five, none_as, not_two, not_zero, nothing_of, prefix_of_failure, record_of, refusal_of}
 use Rattle.views.proofs.top.shasta_view.Goals as goal
 
@@ -210,3 +211,12 @@ returns-in-Err-answer-clause-left g c = λ v contents asks told s.
     let files_now : FilesState = g.F.Files.state c.answer.new.files in
     subst (λ x. AreLeft x contents files files_now) same
     (c.in-Err-answer.ensures.left contents (subst (λ x. AreTold x files contents) (sym same) told))
+
+pub returns-in-Ok-clause-time : goal.returns-in-Ok-clause-time
+returns-in-Ok-clause-time g c = λ a contents asks told zero.
+    prints_time a contents (g.O.Sink.state c.args.out.now) (g.O.Sink.state c.answer.new.out)
+    (returns-in-Ok-clause-prints g c (Time a) contents asks told zero)
+
+pub returns-in-Err-answer-clause-time : goal.returns-in-Err-answer-clause-time
+returns-in-Err-answer-clause-time g c = λ a contents asks told zero.
+    absurd (not_zero c.in-Err-answer.failure (sym c.status.ensures.value ∙ zero))
