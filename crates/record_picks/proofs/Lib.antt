@@ -1,0 +1,4 @@
+mod Lists
+mod Takes
+mod Traces
+mod Ways
