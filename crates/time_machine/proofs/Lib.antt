@@ -1,0 +1,4 @@
+mod Picks
+mod Started
+mod Touches
+mod Moved

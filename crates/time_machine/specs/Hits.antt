@@ -1,0 +1,16 @@
+-- Helps the code alone: the last pick that hits a stop.
+use Rattle.std.specs.Prelude.{◌≡◌, ℕ, ◌<◌, List, Option, Some, None}
+use Rattle.time_machine.specs.declared.run.Hit.{Hit}
+use Rattle.time_machine.specs.declared.stops.Stop.{Stop}
+use Rattle.time_machine.specs.Stand.{Run}
+use Rattle.time_machine.specs.Stops.{hit_at}
+use Rattle.time_machine.specs.Moves.{IsLastHit}
+
+-- of the picks before a position
+abbrev pub IsLatest : Run → List Stop → (before : ℕ) → Option Hit → Type 0
+IsLatest r stops before None = (k : ℕ) → k < before → hit_at r stops k ≡ None
+IsLatest r stops before (Some h) = IsLastHit r stops before h.stop h.pick
+
+abbrev pub later : Option Hit → (k : ℕ) → Option ℕ → Option Hit
+later latest k None = latest
+later latest k (Some stop) = Some (record { pick = k; stop = stop })

@@ -1,0 +1,4 @@
+pub mod Stand
+pub mod Stops
+pub mod Moves
+pub mod Hits

@@ -1,0 +1,11 @@
+#![tactic(auto)]
+//! A run on one memory that is gone through pick by pick, forwards and backwards.
+
+mod machine;
+mod run;
+mod step;
+mod stops;
+
+pub use machine::TimeMachine;
+pub use one_memory;
+pub use stops::{Stop, Watch, WatchKind};

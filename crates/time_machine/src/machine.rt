@@ -1,0 +1,203 @@
+//! A position in a run, and its moves.
+
+ghost use Rattle.std.specs.Prelude.{◌≡◌, ◌+◌, ◌^◌, ◌<◌, ◌≤◌, ℕ, length, Some, None, IfOk, OnOk, OnErr};
+ghost use Rattle.one_memory.specs.Machine.{original_of, state_of};
+ghost use Rattle.time_machine.specs.Stand.{Stand, IsInterleaved, original_in, state_at};
+ghost use Rattle.time_machine.specs.Stops.{step_at};
+ghost use Rattle.time_machine.specs.Moves.{EndsForward, EndsBackward};
+
+use crate::run::PickedRun;
+use crate::step::NextStep;
+use crate::stops::{Stop, first_met};
+use block_layout::Layout;
+use exec_map::Program;
+use one_memory::{OneMemory, Pick};
+use run_limits::NodeCount;
+use std::alloc::{AllocError, Global};
+use std::marker::Model;
+
+/// A position in a run on one memory, and the processors there. A move that runs out of memory may
+/// end at any position.
+#[derive(Drop)]
+pub struct TimeMachine<'a> {
+    run: PickedRun<'a>,
+    machine: OneMemory<'a>,
+    position: usize,
+}
+
+impl<'a> Model for TimeMachine<'a> {
+    ghost use Rattle.std.specs.Prelude.{◌≡◌, ◌≤◌, length};
+    ghost use Rattle.one_memory.specs.Machine.{original_of, state_of};
+    ghost use Rattle.time_machine.specs.Stand.{Stand, original_in, state_at};
+
+    ghost Value = { Stand };
+
+    ghost view = { λ m. record {
+      run = m.run;
+      position = m.position;
+    } };
+
+    ghost invariant = { λ m. (original_of m.machine ≡ original_in m.run)
+        × (state_of m.machine ≡ state_at m.run m.position)
+        × (m.position ≤ length m.run.picks) };
+}
+
+impl<'a> TimeMachine<'a> {
+    /// The run of these picks, at its start.
+    pub fn new(
+        alloc: Global,
+        program: &'a Program<'a>,
+        layout: &'a Layout,
+        nodes: NodeCount,
+        picks: Vec<Pick>,
+    ) -> Result<TimeMachine<'a>, AllocError>
+        requires { IsInterleaved (record {
+          program = program.now;
+          layout = layout.now;
+          nodes = nodes;
+          picks = picks.items;
+        }) }
+        ensures { IfOk result (λ m. m ≡ record {
+          run = record {
+            program = program.now;
+            layout = layout.now;
+            nodes = nodes;
+            picks = picks.items;
+          };
+          position = 0;
+        }) }
+    {
+        let run = PickedRun {
+            program,
+            layout,
+            nodes,
+            picks,
+        };
+        let machine = run.start(alloc)?;
+        Ok(TimeMachine {
+            run,
+            machine,
+            position: 0,
+        })
+    }
+
+    /// The processors, after the picks up to this position.
+    pub fn machine(&self) -> &OneMemory<'a>
+        ensures original { original_of result.now ≡ original_in self.now.run }
+        ensures state { state_of result.now ≡ state_at self.now.run self.now.position }
+    {
+        &self.machine
+    }
+
+    /// How many picks have been made.
+    pub fn position(&self) -> usize
+        ensures value { result ≡ self.now.position }
+        ensures within { result ≤ length self.now.run.picks }
+    {
+        self.position
+    }
+
+    /// All picks of the run.
+    pub fn picks(&self) -> &[Pick]
+        ensures { result.now ≡ self.now.run.picks }
+    {
+        &self.run.picks
+    }
+
+    /// Goes to a position. A pick forwards or backwards is one position more or less.
+    pub fn go_to(&mut self, alloc: Global, position: usize) -> Result<(), AllocError>
+        requires { position ≤ length self.old.run.picks }
+        ensures run { self.new.run ≡ self.old.run }
+        ensures ok { OnOk result (self.new.position ≡ position) }
+    {
+        self.rewind(alloc, position)?;
+        while self.position() < position {
+            self.advance()?;
+        }
+        Ok(())
+    }
+
+    /// Goes forwards to the first stop that is met, and gives the number of the first that is; or
+    /// to a position, if none is met up to there.
+    pub fn forward_to_stop(
+        &mut self,
+        stops: &[Stop],
+        to: usize,
+    ) -> Result<Option<usize>, AllocError>
+        requires ahead { self.old.position ≤ to }
+        requires within { to ≤ length self.old.run.picks }
+        ensures run { self.new.run ≡ self.old.run }
+        ensures ends { IfOk result (λ stop. EndsForward self.old.run stops.now self.old.position to
+            stop self.new.position) }
+    {
+        let mut made = self.next_step();
+        while self.position() < to {
+            self.advance()?;
+            let next = self.next_step();
+            if let Some(stop) = first_met(stops, made, next) {
+                return Ok(Some(stop));
+            }
+            made = next;
+        }
+        Ok(None)
+    }
+
+    /// Goes backwards to before the last pick that hits a stop, and gives the number of the first
+    /// stop that it hits; or to the start, if no pick hits any.
+    pub fn back_to_stop(
+        &mut self,
+        alloc: Global,
+        stops: &[Stop],
+    ) -> Result<Option<usize>, AllocError>
+        ensures run { self.new.run ≡ self.old.run }
+        ensures ends { IfOk result (λ stop. EndsBackward self.old.run stops.now self.old.position
+            stop self.new.position) }
+    {
+        let latest = self.run.last_hit(alloc, stops, self.position)?;
+        match latest {
+            Some(hit) => {
+                self.go_to(alloc, hit.pick)?;
+                Ok(Some(hit.stop))
+            }
+            None => {
+                self.go_to(alloc, 0)?;
+                Ok(None)
+            }
+        }
+    }
+
+    /// Goes to the start, where a position lies behind.
+    fn rewind(&mut self, alloc: Global, position: usize) -> Result<(), AllocError>
+        requires { position ≤ length self.old.run.picks }
+        ensures run { self.new.run ≡ self.old.run }
+        ensures ok { OnOk result (self.new.position ≤ position) }
+    {
+        if position < self.position {
+            self.machine = self.run.start(alloc)?;
+            self.position = 0;
+        }
+        Ok(())
+    }
+
+    /// Makes the next pick. Fails, with nothing changed, where there is no memory for a byte of
+    /// output.
+    fn advance(&mut self) -> Result<(), AllocError>
+        requires { self.old.position < length self.old.run.picks }
+        ensures run { self.new.run ≡ self.old.run }
+        ensures ok { OnOk result (self.new.position ≡ self.old.position + 1) }
+        ensures err { OnErr result (self.new.position ≡ self.old.position) }
+    {
+        // brings: the number of picks has room
+        let _picks = self.run.len();
+        self.run.make(&mut self.machine, self.position)?;
+        self.position += 1;
+        Ok(())
+    }
+
+    /// The step that the next pick is, if it is one.
+    fn next_step(&self) -> Option<NextStep>
+        ensures { result ≡ step_at self.now.run self.now.position }
+    {
+        self.run.step(&self.machine, self.position)
+    }
+}

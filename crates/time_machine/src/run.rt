@@ -1,0 +1,146 @@
+//! A run on one memory, by its picks.
+
+ghost use Rattle.std.specs.Prelude.{◌≡◌, ◌+◌, ◌^◌, ◌<◌, ◌≤◌, length, IfOk, OnOk, OnErr};
+ghost use Rattle.exec_map.specs.Contents.{program_of};
+ghost use Rattle.rv32_step.specs.OneMemory.{Allowed, after_pick};
+ghost use Rattle.one_memory.specs.Machine.{original_of, state_of};
+ghost use Rattle.one_memory.specs.Shown.{pick_of};
+ghost use Rattle.time_machine.specs.Stand.{IsInterleaved, original_in, state_at};
+ghost use Rattle.time_machine.specs.Stops.{step_at};
+ghost use Rattle.time_machine.specs.Hits.{IsLatest, later as model_later};
+
+use crate::step::{NextStep, step_of};
+use crate::stops::{Stop, first_hit};
+use block_layout::Layout;
+use exec_map::Program;
+use one_memory::{OneMemory, Pick, StepRefused};
+use run_limits::NodeCount;
+use std::alloc::{AllocError, Global};
+use std::marker::Model;
+
+/// A program, the blocks of its shared lines, how many processors run it, and what happens.
+#[derive(Drop)]
+pub(crate) struct PickedRun<'a> {
+    pub program: &'a Program<'a>,
+    pub layout: &'a Layout,
+    pub nodes: NodeCount,
+    pub picks: Vec<Pick>,
+}
+
+impl<'a> Model for PickedRun<'a> {
+    ghost use Rattle.time_machine.specs.Stand.{Run, IsInterleaved};
+
+    ghost Value = { Run };
+
+    ghost view = { λ r. record {
+      program = r.program.now;
+      layout = r.layout.now;
+      nodes = r.nodes;
+      picks = r.picks.items;
+    } };
+
+    ghost invariant = { λ r. IsInterleaved (record {
+      program = r.program.now;
+      layout = r.layout.now;
+      nodes = r.nodes;
+      picks = r.picks.items;
+    }) };
+}
+
+/// A pick that hits a stop.
+#[derive(Clone, Copy)]
+pub(crate) struct Hit {
+    pub pick: usize,
+    pub stop: usize,
+}
+
+impl<'a> PickedRun<'a> {
+    /// How many picks there are.
+    pub fn len(&self) -> usize
+        ensures value { result ≡ length self.now.picks }
+        ensures fits { result < 2 ^ 64 }
+    {
+        self.picks.len()
+    }
+
+    /// The processors at the start.
+    pub fn start(&self, alloc: Global) -> Result<OneMemory<'a>, AllocError>
+        ensures original { IfOk result (λ m. original_of m ≡ original_in self.now) }
+        ensures state { IfOk result (λ m. state_of m ≡ state_at self.now 0) }
+    {
+        OneMemory::new(alloc, self.program, self.layout, self.nodes)
+    }
+
+    /// Makes pick `k`. Fails, with nothing changed, where there is no memory for a byte of output.
+    pub fn make(&self, machine: &mut OneMemory<'_>, k: usize) -> Result<(), AllocError>
+        requires there { k < length self.now.picks }
+        requires original { original_of machine.old ≡ original_in self.now }
+        requires state { state_of machine.old ≡ state_at self.now k }
+        ensures original { original_of machine.new ≡ original_in self.now }
+        ensures ok { OnOk result (state_of machine.new ≡ state_at self.now (k + 1)) }
+        ensures err { OnErr result (state_of machine.new ≡ state_at self.now k) }
+    {
+        make_pick(machine, self.picks[k])
+    }
+
+    /// The step that pick `k` is, if it is one.
+    pub fn step(&self, machine: &OneMemory<'_>, k: usize) -> Option<NextStep>
+        requires original { original_of machine.now ≡ original_in self.now }
+        requires state { state_of machine.now ≡ state_at self.now k }
+        ensures { result ≡ step_at self.now k }
+    {
+        let pick = *self.picks.get(k)?;
+        step_of(self.program, machine, pick)
+    }
+
+    /// The last of so many picks that hits one of the stops.
+    pub fn last_hit(
+        &self,
+        alloc: Global,
+        stops: &[Stop],
+        before: usize,
+    ) -> Result<Option<Hit>, AllocError>
+        requires { before ≤ length self.now.picks }
+        ensures { IfOk result (IsLatest self.now stops.now before) }
+    {
+        let mut machine = self.start(alloc)?;
+        let mut latest = None;
+        for k in 0..before {
+            let hit = first_hit(stops, self.step(&machine, k));
+            latest = later(latest, k, hit);
+            self.make(&mut machine, k)?;
+        }
+        Ok(latest)
+    }
+}
+
+/// The later of two hits: pick `k` may hit a stop.
+fn later(latest: Option<Hit>, k: usize, stop: Option<usize>) -> Option<Hit>
+    ensures { result ≡ model_later latest k stop }
+{
+    match stop {
+        Some(stop) => Some(Hit { pick: k, stop }),
+        None => latest,
+    }
+}
+
+/// Makes a pick. Fails, with nothing changed, where there is no memory for a byte of output.
+fn make_pick(machine: &mut OneMemory<'_>, pick: Pick) -> Result<(), AllocError>
+    requires { Allowed (original_of machine.old) (state_of machine.old) (pick_of pick) }
+    ensures ok { OnOk result (state_of machine.new
+        ≡ after_pick (original_of machine.old) (state_of machine.old) (pick_of pick)) }
+    ensures err { OnErr result (state_of machine.new ≡ state_of machine.old) }
+    ensures original { original_of machine.new ≡ original_of machine.old }
+{
+    match pick {
+        Pick::Step(p) => match machine.step(p) {
+            Ok(()) => Ok(()),
+            Err(StepRefused::OutOfMemory) => Err(AllocError),
+            Err(StepRefused::Ended(_)) => unreachable!(),
+        },
+        Pick::Break { of, by } => match machine.break_reservation(of, by) {
+            Ok(()) => Ok(()),
+            Err(_) => unreachable!(),
+        },
+    }
+}
