@@ -25,13 +25,14 @@ CHAPTERS = (
     ("What is printed",
      "A text has the bytes that the processors printed, and a line for each processor.",
      ("rv32_text", "node_model", "dsm_io", "text_output", "judged_files.Text",
-      "prepared_run.Text", "commands.Processors", "commands.Text")),
+      "prepared_run.Text", "prepared_run.Processors", "prepared_run.Outcomes")),
     ("What words ask for",
      "The words of a command line ask for a command, and a command reads files.",
      ("command_line", "judged_files", "prepared_run", "commands", "block_layout.Text")),
     ("The clause",
      "What the text of a command says of the original program.",
-     ("judged_files.Executables", "judged_files.Layouts", "commands.Interleaved")),
+     ("judged_files.Executables", "judged_files.Layouts", "prepared_run.Interleaved",
+      "commands.Interleaved")),
 )
 CLAUSE_SAYS = (
     "From the contract of `shasta`, in [src/top.rt](../crates/commands/src/top.rt). `words` are "
@@ -62,20 +63,77 @@ def entries_of(lines):
 
 
 def laid_out(lines):
-    """A type of the code, with as many of its fields or variants on a line as it has room for."""
+    """A type of the code, with as many of its fields or variants on a line as it has room for; one
+    with a comment has a line of its own."""
     head = re.sub(r"^pub(\(crate\))? ", "", lines[0])
     if len(lines) == 1:
         return [head]
     entries = entries_of(lines[1:-1])
     if any(comment for comment, _ in entries):
-        inner = [f"    {line}" for comment, text in entries for line in [*comment, text]]
-        return [head, *inner, "}"]
+        inner, short = [], []
+        for comment, text in [*entries, (["//"], "")]:
+            if not comment:
+                short.append(text)
+                continue
+            inner += [*packed(short, 4), *(f"    {line}" for line in [*comment, text])]
+            short = []
+        return [head, *inner[:-2], "}"]
     text = " ".join(text for _, text in entries)
     whole = f"{head} {text.removesuffix(',')} }}"
     if len(whole) <= WIDTH:
         return [whole]
     inner = textwrap.wrap(text.replace("{ ", "{~").replace(" }", "~}"), WIDTH - 4)
     return [head, *("    " + line.replace("~", " ") for line in inner), "}"]
+
+
+def packed(entries, indent):
+    """These texts in lines that begin so far in, as many on a line as it has room for."""
+    lines = []
+    for text in entries:
+        if lines and len(lines[-1]) + 1 + len(text) <= WIDTH:
+            lines[-1] += f" {text}"
+        else:
+            lines.append(" " * indent + text)
+    return lines
+
+
+def inside_of(lines, indent):
+    """The lines within the braces of a record, whose fields begin so far in, laid out closer. A
+    field of several lines stays as it is."""
+    fields = []
+    for line in lines:
+        if line[indent] == " " and fields:
+            fields[-1].append(line)
+        else:
+            fields.append([line])
+    found, short = [], []
+    for field in fields:
+        if len(field) == 1 and not field[0].strip().startswith("--"):
+            short.append(field[0].strip())
+        else:
+            found += [*packed(short, indent), *field]
+            short = []
+    return [*found, *packed(short, indent)]
+
+
+def closer(lines):
+    """The lines of a definition, where the fields of a record's value are laid out closer."""
+    found, left = [], list(lines)
+    while left:
+        line = left.pop(0)
+        found.append(line)
+        if not line.endswith("{"):
+            continue
+        own = len(line) - len(line.lstrip())
+        end = next(i for i, other in enumerate(left) if other.startswith(" " * own + "}"))
+        inner = inside_of(left[:end], own + 2)
+        whole = f"{line} {inner[0].strip().removesuffix(';')} }}{left[end].strip()[1:]}"
+        if len(inner) == 1 and len(whole) <= WIDTH:
+            found[-1] = whole
+        else:
+            found += [*inner, left[end]]
+        left = left[end + 1:]
+    return found
 
 
 def listed(names):
@@ -92,6 +150,9 @@ class Book:
         for found in places.values():
             for name in {found.name, *self.constructors(found)}:
                 self.named.setdefault(name, set()).add(found.place)
+        self.types = {"ℕ", "ℤ", "Bool", "List", "Option", *(
+            found.name for found in places.values()
+            if found.kind in ("struct", "enum", "record", "data") and " (" not in found.lines[0])}
         self.chapters, self.files, self.order = {}, {}, []
         for place in sorted(places, key=self.rank):
             self.add(place)
@@ -231,12 +292,28 @@ class Book:
     def shown(self, found):
         """A definition's lines; of a type with a model what contracts see of it."""
         if not found.is_of_code:
-            return found.lines
+            return closer(self.with_fields(found))
         model = self.sources.code[found.crate, found.module].model_of(found.name)
         if not model:
             return laid_out(found.lines)
         head = re.sub(r"^pub(\(crate\))? ", "", found.lines[0]).removesuffix(" {")
         return [f"{head}  // seen as {ghost(model, 'Value')}"]
+
+    def with_fields(self, found):
+        """A definition's lines; of a record those fields closer that are no statements."""
+        if found.kind != "record":
+            return found.lines
+        lines, things = [], []
+        for line in [*found.lines, ""]:
+            field = re.fullmatch(r"  pub \w+ : (.*)", line)
+            told = lines[-1:] and lines[-1].strip().startswith("--") and not things
+            if field and not told and set(re.findall(NAME, field.group(1))) <= self.types:
+                things.append(line.strip() + ";")
+                continue
+            joined = packed(things, 2)
+            lines += [*(text.removesuffix(";") for text in joined), line]
+            things = []
+        return lines[:-1]
 
     def notes(self, crate, module, places):
         """What names stand for that are other ones where they are defined, or that several things
