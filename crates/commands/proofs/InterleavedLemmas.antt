@@ -12,13 +12,13 @@ use Rattle.exec_map.specs.Contents.{program_of, AreSharedRanges}
 use Rattle.block_layout.specs.Layout.{Shape, IsValid}
 use Rattle.block_layout.specs.declared.ranges.Lines.{Lines}
 use Rattle.rv32_program.specs.declared.Exit.{Exit}
-use Rattle.rv32_step.specs.OneMemory.{Original, State, Pick, Step, opening, step, IsRun, run}
+use Rattle.rv32_step.specs.OneMemory.{Original, State, Pick, Step, is_of, opening, step, IsRun, run}
 use Rattle.random_order.specs.Orders.{following, choice}
 use Rattle.one_memory.specs.ByOrder.{FollowsOrder, end_by, goes_on, live, one_more}
 use Rattle.templates.specs.declared.plans.PlanEntry.{PlanEntry}
 use Rattle.node_model.specs.Outcome.{Outcome}
 use Rattle.node_model.specs.declared.Entry.{Entry}
-use Rattle.rewriting_law.specs.Bounds.{is_step_of, steps_of}
+use Rattle.rewriting_law.specs.Bounds.{steps_of}
 use Rattle.lane_model.specs.Nodes.{LaneWork, processors}
 use Rattle.lane_model.specs.Core.{LaneEvent, opening_core as opening_lanes, after as after_lanes}
 use Rattle.lane_law.specs.Law.{original_by_lane, phase_of, original_after as lanes_after}
@@ -256,25 +256,19 @@ made_all budget steps s p stays none =
 counted : (steps : ℕ → ℕ) (q p : ℕ) (ks : List Pick)
     → one_more steps q p + steps_of p ks ≡ steps p + steps_of p (Step q ∷ ks)
 counted steps q p ks =
-    let more : steps_of p (Step q ∷ ks) ≡ cond (eqb q p) 1 0 + steps_of p ks =
-    sum_by-cons (λ x. cond (is_step_of p x) 1 0) (Step q) ks in
+    let more : steps_of p (Step q ∷ ks) ≡ cond (eqb p q) 1 0 + steps_of p ks =
+    sum_by-cons (λ x. cond (is_of p x) 1 0) (Step q) ks in
     elim (eqb_tells p q) [
-      | inl h ↦ elim (eqb_tells q p) [
-        | inl k ↦
-            let made : one_more steps q p ≡ steps p + 1 = rw h.0 refl in
-            let now : steps_of p (Step q ∷ ks) ≡ 1 + steps_of p ks =
-            more ∙ ap (λ b. cond b 1 0 + steps_of p ks) k.0 in
-            omega (arith, made, now)
-        | inr k ↦ absurd (k.1 (sym h.1))
-      ]
-      | inr h ↦ elim (eqb_tells q p) [
-        | inl k ↦ absurd (h.1 (sym k.1))
-        | inr k ↦
-            let made : one_more steps q p ≡ steps p = rw h.0 refl in
-            let now : steps_of p (Step q ∷ ks) ≡ 0 + steps_of p ks =
-            more ∙ ap (λ b. cond b 1 0 + steps_of p ks) k.0 in
-            omega (arith, made, now)
-      ]
+      | inl h ↦
+          let made : one_more steps q p ≡ steps p + 1 = rw h.0 refl in
+          let now : steps_of p (Step q ∷ ks) ≡ 1 + steps_of p ks =
+          more ∙ ap (λ b. cond b 1 0 + steps_of p ks) h.0 in
+          omega (arith, made, now)
+      | inr h ↦
+          let made : one_more steps q p ≡ steps p = rw h.0 refl in
+          let now : steps_of p (Step q ∷ ks) ≡ 0 + steps_of p ks =
+          more ∙ ap (λ b. cond b 1 0 + steps_of p ks) h.0 in
+          omega (arith, made, now)
     ]
 
 -- where none goes on any more, each without an exit has made its budget of steps

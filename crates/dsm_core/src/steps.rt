@@ -78,16 +78,6 @@ fn standing(nodes: &[Node<'_>], node: u8) -> Standing
     nodes[node as usize].standing()
 }
 
-/// Whether a node has ended, and has been told by all nodes that they have.
-fn is_over(standing: Standing) -> bool
-    ensures { (result ≡ true) ↔ (standing ≡ Standing.Over) }
-{
-    match standing {
-        Standing::Over => true,
-        Standing::Running | Standing::AtPoll | Standing::Waiting | Standing::Ended => false,
-    }
-}
-
 /// Whether every node is over.
 pub(crate) fn are_over(nodes: &[Node<'_>], count: u8) -> bool
     requires count { length nodes.now ≡ count }
@@ -96,7 +86,7 @@ pub(crate) fn are_over(nodes: &[Node<'_>], count: u8) -> bool
         → (result ≡ true) ↔ IsOver work (core_with work nodes.now lists) }
 {
     for node in 0..count {
-        if !is_over(standing(nodes, node)) {
+        if !standing(nodes, node).is_over() {
             return false;
         }
     }

@@ -1,16 +1,10 @@
--- Helps the code alone: whether a node is over, where a word stores, and what becomes of a
--- reservation then, or once a block was given up.
+-- Helps the code alone: where a word stores, and what becomes of a reservation then, or once a
+-- block was given up.
 use Rattle.std.specs.Prelude.{ℕ, Bool, true, false, Option, Some, None}
 use Rattle.block_layout.specs.Layout.{Shape}
 use Rattle.llsc.specs.Reservation.{cleared}
 use Rattle.rv32_step.specs.Reservations.{after_other}
 use Rattle.rv32_step.specs.OneMemory.{Access, Nothing, Reads, Writes, WritesIf, Exchanges}
-use Rattle.lane_model.specs.node_model.declared.Standing.{Standing}
-use Rattle.lane_model.specs.node_model.declared.Standing.TheVariants as standing
-
-abbrev pub is_over : Standing → Bool
-is_over standing.Over = true
-is_over s = false
 
 -- the address at which an access stores
 abbrev pub stored_by : Access → Option ℕ

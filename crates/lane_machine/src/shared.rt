@@ -17,7 +17,6 @@ ghost use Rattle.lane_machine.specs.Waits.{AreApart};
 ghost use Rattle.lane_machine.specs.Stored.{HasRoom, HaveLanes, AreLanes};
 ghost use Rattle.lane_machine.specs.Stored.{HaveParts, AllHeld, AllWaitFor, AreKept};
 ghost use Rattle.lane_machine.specs.Stored.{ended_in, shared_of};
-ghost use Rattle.lane_machine.specs.Words.{is_over};
 
 use crate::lane::Lane;
 use crate::lane_protocol::LaneProtocol;
@@ -127,7 +126,7 @@ impl<'a> Shared<'a> {
         if self.inner.ended as usize != self.inner.places.len() {
             return false;
         }
-        is_over(ended_standing(&self.inner.state.byes, self.inner.layout.nodes()))
+        ended_standing(&self.inner.state.byes, self.inner.layout.nodes()).is_over()
     }
 
     /// Takes a message from a node, and leaves what the node sends, in order.
@@ -227,14 +226,4 @@ fn first_places(alloc: Global, layout: &Layout, lanes: u8) -> Result<Vec<LanePro
         });
     }
     Ok(places)
-}
-
-/// Whether a node is over.
-fn is_over(standing: Standing) -> bool
-    ensures { result ≡ is_over standing }
-{
-    match standing {
-        Standing::Over => true,
-        Standing::Running | Standing::AtPoll | Standing::Waiting | Standing::Ended => false,
-    }
 }

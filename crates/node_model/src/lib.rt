@@ -2,7 +2,7 @@
 //! What a node that runs rewritten code is, what it does in an event, and what a core of such nodes
 //! is. There is no code here but what is seen of a node: types, and what a standing allows.
 
-ghost use Rattle.std.specs.Prelude.{◌≡◌};
+ghost use Rattle.std.specs.Prelude.{◌≡◌, ◌↔◌, true};
 ghost use Rattle.node_model.specs.Core as model;
 
 pub use jump_map;
@@ -43,6 +43,16 @@ impl Standing {
         match self {
             Standing::AtPoll | Standing::Waiting | Standing::Ended => true,
             Standing::Running | Standing::Over => false,
+        }
+    }
+
+    /// Whether the node has ended, and has been told by all nodes that they have.
+    pub fn is_over(self) -> bool
+        ensures { (result ≡ true) ↔ (self ≡ Standing.Over) }
+    {
+        match self {
+            Standing::Over => true,
+            Standing::Running | Standing::AtPoll | Standing::Waiting | Standing::Ended => false,
         }
     }
 }

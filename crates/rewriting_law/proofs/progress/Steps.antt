@@ -6,16 +6,16 @@ use Rattle.std.proofs.lemmas.List.Sums.{sum_by-append}
 use Rattle.block_layout.specs.Layout.{Shape, has_line}
 use Rattle.rv32_program.specs.declared.End.TheVariants.{Exited, Stopped}
 use Rattle.rv32_program.specs.Program.{line_of}
-use Rattle.rv32_step.specs.OneMemory.{Step, Break, State, opening, run}
+use Rattle.rv32_step.specs.OneMemory.{Step, Break, State, is_of, opening, run}
 use Rattle.home_directory.specs.dsm_messages.declared.messages.Wire.{Wire}
 use Rattle.templates.specs.declared.plans.PlanEntry.{PlanEntry}
 use Rattle.dsm_protocol.specs.node_model.Node.{Work, Node, Running, Resumed, Waiting, Ended, word_outcome}
 use Rattle.dsm_protocol.specs.node_model.Turns.{is_ended, wants_of, after_word, after_wants, word_turn, handled, journaled, after_message, take_turn, each_block_once}
 use Rattle.dsm_protocol.specs.node_model.Core.{Core, Event, Exec, Take, IsCoreRun, opening_core, take_first, event_step, after}
-use Rattle.rewriting_law.specs.Bounds.{is_step_of, steps_of}
+use Rattle.rewriting_law.specs.Bounds.{steps_of}
 use Rattle.rewriting_law.specs.CoreRun.{Order, break_by, order_of, commits, picks_of_take, picks_at, picks_of}
 use Rattle.rewriting_law.specs.Interleaving.{original_by_node}
-use Rattle.rewriting_law.proofs.templates.RegisterLemmas.{equal, apart}
+use Rattle.rewriting_law.proofs.templates.RegisterLemmas.{equal}
 use Rattle.rewriting_law.proofs.words.CodeSide.{Pace, one_if, CodeSide}
 use Rattle.rewriting_law.proofs.one_memory.Matching.{Activity, Runs, Awaits, HasEnded, StandsIn, with_at}
 use Rattle.rewriting_law.proofs.protocol_side.Directory.{directory}
@@ -47,7 +47,7 @@ own_step : (i : ℕ) (b : Bool) → steps_of i (cond b (Step i ∷ []) []) ≡ o
 own_step i true = ap (λ t. 0 + cond t 1 0) (equal i i refl)
 own_step i false = refl
 
-other_step : (p i : ℕ) (b : Bool) → eqb i p ≡ false → steps_of p (cond b (Step i ∷ []) []) ≡ 0
+other_step : (p i : ℕ) (b : Bool) → eqb p i ≡ false → steps_of p (cond b (Step i ∷ []) []) ≡ 0
 other_step p i true e = ap (λ t. 0 + cond t 1 0) e
 other_step p i false e = refl
 
@@ -108,7 +108,7 @@ module _ (work : Work) (plan : List PlanEntry) (lay : Layout work)
       | inr t ↦ (
           let b = commits work plan (c.nodes k) in
           let none : steps_of i (cond b (Step k ∷ []) []) ≡ 0 =
-          other_step i k b (apart k i (λ same. t.1 (sym same))) in
+          other_step i k b t.0 in
           let before = h.steps i in
           let there : (cond (eqb i k) (pace_of_word work plan lay code c paces k) (paces i)).commits
           ≡ (paces i).commits =
@@ -172,7 +172,7 @@ module _ (work : Work) (plan : List PlanEntry) (lay : Layout work)
         kept = record {
           words = rest.kept.words;
           steps = λ i.
-              let all = sum_by-append (λ x. cond (is_step_of i x) 1 0) (picks_at work plan c e)
+              let all = sum_by-append (λ x. cond (is_of i x) 1 0) (picks_at work plan c e)
               (picks_of work plan d es) in
               let here = rest.kept.steps i in
               omega (arith, all, here);

@@ -1,13 +1,13 @@
 -- By how many lanes have ended, and the Byes taken.
-use Rattle.std.proofs.Common.{◌≡◌, ◌≢◌, ℕ, ◌&&◌, ◌∙◌, true, false, ap, sym, eqb, length, arith}
+use Rattle.std.proofs.Common.{◌≡◌, ◌≢◌, ◌↔◌, ℕ, ◌&&◌, ◌∙◌, true, false, ap, subst, sym, eqb, length, arith}
 use Rattle.std.proofs.lemmas.Bool.Decides.{nat_tests}
 use Rattle.block_layout.specs.Layout.{Shape}
 use Rattle.home_directory.specs.Effects.{members}
 use Rattle.home_directory.specs.Home.{count_of}
 use Rattle.node_machine.specs.NodeState.{layout_of}
+use Rattle.lane_model.specs.node_model.declared.Standing.TheVariants as standing
 use Rattle.lane_machine.specs.declared.stored.StoredShared.{StoredShared}
 use Rattle.lane_machine.specs.Stored.{shared_of}
-use Rattle.lane_machine.specs.Words.{is_over}
 use Rattle.lane_machine.proofs.StandingLemmas.{over_is, over_by}
 use Rattle.lane_machine.proofs.shared.Shared.over.Goals as goal
 
@@ -45,8 +45,9 @@ returns c = record {
       let all : eqb f.ended (length f.places.items) ≡ true =
       ap (eqb f.ended) (sym count) ∙ same_test f.ended c.len.result c.if-self-len.false in
       let many : c.nodes.result ≡ nodes = c.nodes.ensures.nodes ∙ ap (λ (s : Shape). s.nodes) c.self.invariant.layout in
-      c.is_over.ensures ∙ ap is_over c.ended_standing.ensures
-      ∙ over_by (eqb (count_of (members f.state.byes) c.nodes.result) c.nodes.result)
+      over_by (eqb (count_of (members f.state.byes) c.nodes.result) c.nodes.result) c.is_over.result
+      (subst (λ s. (c.is_over.result ≡ true) ↔ (s ≡ standing.Over)) c.ended_standing.ensures
+      c.is_over.ensures)
       ∙ (λ t. eqb (count_of (members f.state.byes) (many t)) (many t))
       ∙ sym (over ∙ ap (λ t. t && eqb (count_of (members f.state.byes) nodes) nodes) all);
 }
