@@ -5,5 +5,6 @@ mod LayingLemmas
 mod ExpansionLemmas
 mod StartLemmas
 mod MicroLemmas
+mod SequenceLemmas
 pub mod ImageLemmas
 mod NearLemmas

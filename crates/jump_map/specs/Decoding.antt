@@ -2,13 +2,12 @@
 use Rattle.std.specs.Prelude.{◌≡◌, ℕ, List, Some, length, slice_get}
 use Rattle.micro_op.specs.declared.micro_op.MicroOp.{MicroOp}
 use Rattle.jump_map.specs.Image.{Cell, address_of_word, read_cell}
-use Rattle.jump_map.specs.Micro.{IsMicroWord, IsLookAt}
+use Rattle.jump_map.specs.Micro.{IsMicroWord}
 
 -- each micro-op is that of the word of its number
 pub record AreMicros (image : List Cell) (micros : List MicroOp) : Type 0 where
   pub each : (k : ℕ) (c : Cell) (m : MicroOp) → slice_get image k ≡ Some c
       → slice_get micros k ≡ Some m → IsMicroWord (address_of_word k) (read_cell c).what m
-  pub looks : (k : ℕ) (m : MicroOp) → slice_get micros k ≡ Some m → IsLookAt image k m
 
 -- and every word has one
 pub record HasMicros (image : List Cell) (micros : List MicroOp) : Type 0 where

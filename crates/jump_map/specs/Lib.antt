@@ -1,6 +1,7 @@
 pub mod Image
 pub mod Maps
 pub mod Micro
+pub mod Strides
 pub mod Decoding
 pub mod Storage
 pub mod HeadsValue

@@ -1,19 +1,22 @@
 //! Rewritten code, and the maps between original and rewritten addresses.
 
 ghost use Rattle.std.specs.Prelude.{◌≡◌, ◌≤◌, ℕ, List, length, option_copied, IfOk, IfSome};
-ghost use Rattle.std.specs.Prelude.{IsErrOf, slice_get};
+ghost use Rattle.std.specs.Prelude.{IsErrOf};
 ghost use Rattle.templates.specs.rv32_program.Program.{Program};
 ghost use Rattle.templates.specs.declared.plans.PlanEntry.{PlanEntry};
 ghost use Rattle.templates.specs.Plans.{AscendsFrom};
 ghost use Rattle.jump_map.specs.Image.{Cell, most_words, HasRunsOf, HasNoFar, Expands, IsRewriting};
 ghost use Rattle.jump_map.specs.Image.{IsTooLong};
-ghost use Rattle.jump_map.specs.Micro.{IsMicroAnswer, IsLookAt};
+ghost use Rattle.jump_map.specs.Micro.{AreMicrosOf, IsMicroAnswer};
+ghost use Rattle.jump_map.specs.Strides.{HasStrides};
 ghost use Rattle.jump_map.specs.Maps.{index_of, new_of, old_of, word_at, fetch};
 
 use crate::building::build;
 use crate::cells::Cells;
 use crate::heads::PlaceIndex;
 use crate::micros::decode_cells;
+use crate::sequences::find_strides;
+use crate::strides::StrideKind;
 use micro_op::MicroOp;
 use runtime_words::RtWord;
 use std::alloc::{AllocError, Global};
@@ -62,6 +65,7 @@ pub struct Image {
     cells: Cells,
     index: PlaceIndex,
     micros: Vec<MicroOp>,
+    strides: Vec<StrideKind>,
 }
 
 impl Model for Image {
@@ -73,12 +77,14 @@ impl Model for Image {
     ghost use Rattle.jump_map.specs.Maps.{begins_at};
     ghost use Rattle.jump_map.specs.Heads.{single_start};
     ghost use Rattle.jump_map.specs.Decoding.{HasMicros};
+    ghost use Rattle.jump_map.specs.Strides.{HasStrides};
 
     ghost view = { λ i. i.cells };
 
     ghost invariant = { λ i.
         ((a : ℕ) → single_start i.index a ≡ position (begins_at a) i.cells)
-        × HasMicros i.cells i.micros.items };
+        × HasMicros i.cells i.micros.items
+        × HasStrides i.micros.items i.strides.items };
 }
 
 impl Image {
@@ -97,10 +103,12 @@ impl Image {
             Ok((cells, index)) => {
                 cells.words_law();
                 let micros = decode_cells(alloc, &cells)?;
+                let strides = find_strides(alloc, micros.as_slice())?;
                 Ok(Image {
                     cells,
                     index,
                     micros,
+                    strides,
                 })
             }
             Err(refused) => Err(refused),
@@ -149,21 +157,19 @@ impl Image {
         self.cells.word(index_of(new)?)
     }
 
-    /// The micro-ops of all words, each at its number, so many as there are words.
+    /// The micro-ops of all words, and what is executed at once from each word on.
     #[inline(always)]
-    pub fn micros(&self) -> &[MicroOp]
-        ensures value { (index : ℕ) → IsMicroAnswer self.now index (slice_get result.now index) }
-        ensures looks { (index : ℕ) →
-            IfSome (slice_get result.now index) (IsLookAt self.now index) }
+    pub fn tables(&self) -> (&[MicroOp], &[StrideKind])
+        ensures micros { AreMicrosOf self.now result.0.now }
+        ensures strides { HasStrides result.0.now result.1.now }
     {
-        self.micros.as_slice()
+        (self.micros.as_slice(), self.strides.as_slice())
     }
 
     /// The micro-op of the word of a number; None exactly where there is no such word.
     #[inline(always)]
     pub fn micro(&self, index: u32) -> Option<&MicroOp>
         ensures value { IsMicroAnswer self.now index (option_copied result) }
-        ensures looks { IfSome (option_copied result) (IsLookAt self.now index) }
     {
         self.micros.get(index as usize)
     }

@@ -4,12 +4,11 @@ ghost use Rattle.std.specs.Prelude.{◌≡◌, ◌+◌, ◌*◌, ◌<◌, ℕ, S
 ghost use Rattle.micro_op.specs.rv32_step.declared.Demand.TheVariants.{Jumps};
 ghost use Rattle.micro_op.specs.Micro.{Meets, meaning_of};
 ghost use Rattle.jump_map.specs.Image.{Cell, image_base, address_of_word, most_words, read_cell};
-ghost use Rattle.jump_map.specs.Micro.{IsMicroWord, IsLookAt};
+ghost use Rattle.jump_map.specs.Micro.{IsMicroWord};
 ghost use Rattle.jump_map.specs.Decoding.{HasMicros};
 
 use crate::cells::Cells;
 use crate::image::IMAGE_BASE;
-use crate::looks::{both_at, look_at};
 use micro_op::{MicroKind, MicroOp};
 use runtime_words::{RtWord, WordNumber};
 use rv32_decode::Reg;
@@ -49,32 +48,8 @@ pub(crate) fn decode_cells(alloc: Global, cells: &Cells) -> Result<Vec<MicroOp>,
     Ok(micros)
 }
 
-/// The micro-op of the word of a number, which says by its kind where words that belong together
-/// begin.
+/// The micro-op of the word of a number.
 fn micro_at(cells: &Cells, k: usize) -> MicroOp
-    requires few { k < most_words }
-    ensures value { (c : Cell) → slice_get cells.now k ≡ Some c →
-        IsMicroWord (address_of_word k) (read_cell c).what result }
-    ensures looks { IsLookAt cells.now k result }
-{
-    let op = single_at(cells, k);
-    match op.kind {
-        MicroKind::AddImm => look_at(cells, k, op),
-        MicroKind::Or => both_at(cells, k, op),
-        // none of a single word is of such a kind
-        MicroKind::Look
-        | MicroKind::LookToRead
-        | MicroKind::LookToWrite
-        | MicroKind::LookAtValue
-        | MicroKind::LookAgain
-        | MicroKind::BothToRead
-        | MicroKind::BothToWrite => MicroOp::SLOW,
-        _ => op,
-    }
-}
-
-/// The micro-op of the word of a number by itself.
-pub(crate) fn single_at(cells: &Cells, k: usize) -> MicroOp
     requires few { k < most_words }
     ensures value { (c : Cell) → slice_get cells.now k ≡ Some c →
         IsMicroWord (address_of_word k) (read_cell c).what result }
@@ -86,7 +61,7 @@ pub(crate) fn single_at(cells: &Cells, k: usize) -> MicroOp
 }
 
 /// The micro-op of a word at an address.
-pub(crate) fn micro_of(what: Option<RtWord>, address: u32) -> MicroOp
+fn micro_of(what: Option<RtWord>, address: u32) -> MicroOp
     ensures value { IsMicroWord address what result }
 {
     match what {

@@ -20,7 +20,7 @@ use Rattle.rv32_step.specs.declared.Demand.{Demand}
 use Rattle.rv32_step.specs.declared.Demand.TheVariants.{Sets, Continues, Jumps, Loads, Stores}
 use Rattle.micro_op.specs.declared.micro_op.MicroOp.{MicroOp}
 use Rattle.micro_op.specs.declared.MicroKind.{MicroKind}
-use Rattle.micro_op.specs.declared.MicroKind.TheVariants.{Slow, Nothing, Constant, Jump, JumpBy, EnterBy, BranchEq, BranchNe, BranchLt, BranchGe, BranchLtu, BranchGeu, LoadByte, LoadHalf, LoadWord, LoadByteU, LoadHalfU, StoreByte, StoreHalf, StoreWord, AddImm, Look, LookToRead, LookToWrite, LookAtValue, LookAgain, BothToRead, BothToWrite, SltImm, SltuImm, XorImm, OrImm, AndImm, SllImm, SrlImm, SraImm, Add, Sub, Sll, Slt, Sltu, Xor, Srl, Sra, Or, And, Mul, Mulh, Mulhsu, Mulhu, Div, Divu, Rem, Remu}
+use Rattle.micro_op.specs.declared.MicroKind.TheVariants.{Slow, Nothing, Constant, Jump, JumpBy, EnterBy, BranchEq, BranchNe, BranchLt, BranchGe, BranchLtu, BranchGeu, LoadByte, LoadHalf, LoadWord, LoadByteU, LoadHalfU, StoreByte, StoreHalf, StoreWord, AddImm, SltImm, SltuImm, XorImm, OrImm, AndImm, SllImm, SrlImm, SraImm, Add, Sub, Sll, Slt, Sltu, Xor, Srl, Sra, Or, And, Mul, Mulh, Mulhsu, Mulhu, Div, Divu, Rem, Remu}
 
 -- what a micro-op does: it is left to the path that serves every word; or it demands what an
 -- instruction may demand; or it enters the sequence of an original address
@@ -80,13 +80,6 @@ meaning_by StoreByte base m registers = stores width.Byte m registers
 meaning_by StoreHalf base m registers = stores width.Half m registers
 meaning_by StoreWord base m registers = stores width.Word m registers
 meaning_by AddImm base m registers = by_immediate op.Add m registers
-meaning_by Look base m registers = by_immediate op.Add m registers
-meaning_by LookToRead base m registers = by_immediate op.Add m registers
-meaning_by LookToWrite base m registers = by_immediate op.Add m registers
-meaning_by LookAtValue base m registers = by_immediate op.Add m registers
-meaning_by LookAgain base m registers = by_immediate op.Add m registers
-meaning_by BothToRead base m registers = by_registers op.Or m registers
-meaning_by BothToWrite base m registers = by_registers op.Or m registers
 meaning_by SltImm base m registers = by_immediate op.Slt m registers
 meaning_by SltuImm base m registers = by_immediate op.Sltu m registers
 meaning_by XorImm base m registers = by_immediate op.Xor m registers

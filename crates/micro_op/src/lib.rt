@@ -3,9 +3,6 @@
 //!
 //! A micro-op has one kind, of which its machine makes one `match`, and the operands of that kind.
 //! Direct targets are indices of words, and LUI and AUIPC are constants.
-//!
-//! Where micro-ops in a row belong together, the first may be of a kind that says so: a machine may
-//! then do by one `match` what they do one after another.
 
 mod kinds;
 mod micro_op;
@@ -16,20 +13,6 @@ pub use rv32_step;
 /// What a micro-op does.
 #[derive(Clone, Copy, Debug, PartialEq, Eq)]
 pub enum MicroKind {
-    /// AddImm, with which words begin that read the state of a line.
-    Look,
-    /// The same, where they also test whether the line may be read.
-    LookToRead,
-    /// The same, where they also test whether the line may be written.
-    LookToWrite,
-    /// AddImm, with which words begin that load a word and compare it with the flag word.
-    LookAtValue,
-    /// AddImm, with which words begin that read the state of a batch's second line.
-    LookAgain,
-    /// Or of the states of a batch's lines, behind which it is tested whether both may be read.
-    BothToRead,
-    /// The same, whether both may be written.
-    BothToWrite,
     /// The path that serves every word serves this one.
     Slow,
     /// FENCE.

@@ -50,12 +50,7 @@ pub fn serve(
         MicroKind::StoreByte => store_by(Width::Byte, op, p, at, body, memory),
         MicroKind::StoreHalf => store_by(Width::Half, op, p, at, body, memory),
         MicroKind::StoreWord => store_by(Width::Word, op, p, at, body, memory),
-        MicroKind::AddImm
-        | MicroKind::Look
-        | MicroKind::LookToRead
-        | MicroKind::LookToWrite
-        | MicroKind::LookAtValue
-        | MicroKind::LookAgain => by_immediate(Op::Add, op, at, body),
+        MicroKind::AddImm => by_immediate(Op::Add, op, at, body),
         MicroKind::SltImm => by_immediate(Op::Slt, op, at, body),
         MicroKind::SltuImm => by_immediate(Op::Sltu, op, at, body),
         MicroKind::XorImm => by_immediate(Op::Xor, op, at, body),
@@ -72,6 +67,7 @@ pub fn serve(
         MicroKind::Xor => by_registers(Op::Xor, op, at, body),
         MicroKind::Srl => by_registers(Op::Srl, op, at, body),
         MicroKind::Sra => by_registers(Op::Sra, op, at, body),
+        MicroKind::Or => by_registers(Op::Or, op, at, body),
         MicroKind::And => by_registers(Op::And, op, at, body),
         MicroKind::Mul => by_registers(Op::Mul, op, at, body),
         MicroKind::Mulh => by_registers(Op::Mulh, op, at, body),
@@ -81,9 +77,6 @@ pub fn serve(
         MicroKind::Divu => by_registers(Op::Divu, op, at, body),
         MicroKind::Rem => by_registers(Op::Rem, op, at, body),
         MicroKind::Remu => by_registers(Op::Remu, op, at, body),
-        MicroKind::Or | MicroKind::BothToRead | MicroKind::BothToWrite => {
-            by_registers(Op::Or, op, at, body)
-        }
     }
 }
 

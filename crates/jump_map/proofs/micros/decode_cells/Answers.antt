@@ -9,5 +9,5 @@ loop-k-preserved c =
     record {
       count = simp (items, length-append) (omega (arith, h.count));
       are = micros_more c.args.cells.now c.loop-k.micros.items c.push.new.self.items c.micro_at.result c.loop-k.k items
-          h.count h.are c.micro_at.ensures.value c.micro_at.ensures.looks;
+          h.count h.are c.micro_at.ensures.value;
     }
