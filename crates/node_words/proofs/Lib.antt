@@ -1,8 +1,14 @@
 pub mod StepLemmas
 pub mod MemoryLemmas
 pub mod WordLemmas
-pub mod LookLemmas
-pub mod ValueLemmas
-pub mod BatchLemmas
 pub mod ShelfLemmas
+pub mod AccessLemmas
+pub mod StrideLemmas
 pub mod UndoLogLemmas
+pub mod RegisterLemmas
+pub mod ReachLemmas
+pub mod OneWord
+pub mod SequenceLemmas
+pub mod FlagLemmas
+pub mod HeadLemmas
+pub mod WholeLemmas

@@ -1,5 +1,5 @@
 -- Bytes of lines by their class.
-use Rattle.std.proofs.Common.{◌≡◌, ℕ, ◌+◌, ◌-◌, ◌/◌, ◌%◌, ◌^◌, ◌<◌, ◌≤◌, Bool, true, false, cond, leb, ltb, Option, Some, None, refl, ap, sym, ◌∙◌, arith, inl, inr}
+use Rattle.std.proofs.Common.{◌≡◌, ℕ, ◌+◌, ◌-◌, ◌/◌, ◌%◌, ◌^◌, ◌<◌, ◌≤◌, Bool, true, false, cond, leb, ltb, Option, Some, None, refl, sym, ◌∙◌, arith, inl, inr}
 use Rattle.std.proofs.lemmas.Bool.Decides.{eqb_tells, nat_tests}
 use Rattle.std.specs.Prelude.{find, is_some}
 use Rattle.elf32_read.specs.Elf.{Elf, Segment}
@@ -8,12 +8,12 @@ use Rattle.rv32_decode.specs.declared.Width.TheVariants.{Byte, Half, Word}
 use Rattle.rv32_decode.specs.Widths.{is_aligned}
 use Rattle.rv32_program.specs.declared.Class.{Class}
 use Rattle.rv32_program.specs.declared.Class.TheVariants.{Shared, ReadOnly, Private, Unmapped}
-use Rattle.exec_map.specs.Contents.{class_of_line, first_byte, is_private, is_read_only, segment_class, is_writable, touches}
+use Rattle.exec_map.specs.Contents.{class_of_line, is_private, is_read_only, segment_class, is_writable, touches}
 use Rattle.node_words.specs.Kept.{HasFixed}
 use Rattle.byte_range.specs.Memory.{raw}
 use Rattle.byte_range.specs.Window.{is_in_window}
 use Rattle.node_model.specs.rv32_step.Memory.{byte_by}
-use Rattle.byte_range.specs.Lines.{LineBytes, lines_memory, place_of}
+use Rattle.byte_range.specs.Lines.{LineBytes, place_of}
 use Rattle.node_model.specs.Node.{Memory, Spill, region_of}
 
 -- an aligned access stays in one line
@@ -98,13 +98,6 @@ read_only_tells Unmapped e = cc
 -- a line that has a place is read-only, and one that has none isn't
 pub fixed_place : (e : Elf) (m : LineBytes) (line : ℕ) → HasFixed e m → is_some (place_of m.ranges line) ≡ true → class_of_line e line ≡ ReadOnly
 fixed_place e m line fixed there = read_only_tells (class_of_line e line) (sym (fixed.lines line) ∙ there)
-
-pub not_fixed_place : (e : Elf) (m : LineBytes) (line : ℕ) → HasFixed e m → is_some (place_of m.ranges line) ≡ false → class_of_line e line ≡ ReadOnly → ⊥
-not_fixed_place e m line fixed none is = let both : true ≡ false = sym (ap is_read_only is) ∙ sym (fixed.lines line) ∙ none in absurd (cc)
-
--- what is read of a read-only line is what the program begins with
-pub fixed_raw : (e : Elf) (m : LineBytes) (w : Width) (a n : ℕ) → HasFixed e m → n ≡ raw w (lines_memory m (first_byte e)) a → n ≡ raw w (first_byte e) a
-fixed_raw e m w a n fixed is = is ∙ ap (λ (f : ℕ → ℕ). raw w f a) fixed.bytes
 
 -- the lines of the window are private, and no others
 pub private_line : (e : Elf) (line : ℕ) → is_private line ≡ true → class_of_line e line ≡ Private

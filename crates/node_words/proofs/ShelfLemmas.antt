@@ -146,6 +146,16 @@ pub place_of_line : (s : Shape) (line at : ℕ) → is_shared s line ≡ true �
 unfolding place_of
 place_of_line s line at on is = rw on (let z : shared_before s line ≡ at / 64 = omega (arith, is) in ap (λ x. Some x) z)
 
+-- the place of the line of an address, by that of its byte
+pub place_of_address : (s : Shape) (a at : ℕ) → is_shared s (a / 64) ≡ true → at ≡ 64 * shared_before s (a / 64) + a % 64
+    → place_of s (a / 64) ≡ Some (at / 64)
+place_of_address s a at on is =
+    let whole : 64 * (at / 64) ≡ 64 * shared_before s (a / 64) = omega (arith, is) in
+    place_of_line s (a / 64) (64 * (at / 64)) on whole ∙ ap (λ x. Some x) (back (at / 64))
+  where
+    back : (x : ℕ) → 64 * x / 64 ≡ x
+    back x = omega arith
+
 pub block_none : (s : Shape) (line : ℕ) → is_shared s line ≡ false → block_of s line ≡ None
 unfolding block_of
 block_none s line out = rw out refl
@@ -176,12 +186,6 @@ pub record FirstOf (s : Shape) (first count : ℕ) : Type 0 where
   pub each : (line : ℕ) → first ≤ line → line < first + count
       → (is_shared s line ≡ true) × (shared_before s line ≡ line - first)
 
-pub none_first : (laws : PlaceLaws) (s : Shape) (valid : IsValid s) (first : ℕ) → first ≤ 2 ^ 26 → FirstOf s first 0
-none_first laws s valid first low = record {
-  fits = omega (arith, low);
-  each = λ line a b. absurd (omega (arith, a, b));
-}
-
 -- a block more
 pub more_first : (laws : PlaceLaws) (s : Shape) (valid : IsValid s) (first count b : ℕ) → FirstOf s first count
     → b < blocks s → first_line s b ≡ first + count → start s b ≡ count → first_line s b + lines s b ≤ 2 ^ 26
@@ -207,9 +211,6 @@ first_lines laws s valid first count of = record {
       let p = e.1 in
       (e.0, omega (arith, p, low));
 }
-
-pub no_first : (s : Shape) → AreFirstLines s 0 0
-no_first s = record { fits = omega arith; first = λ a low high. absurd (omega (arith, high)) }
 
 -- the state byte of a read-only line
 pub fixed_byte : (e : Elf) (states : States) (copy : Copy) (m : LineBytes) (line : ℕ) → HasLines e states copy → HasFixed e m

@@ -5,8 +5,7 @@ use Rattle.rv32_decode.specs.declared.AmoOp.{AmoOp}
 use Rattle.rv32_decode.specs.declared.LoadKind.{LoadKind}
 use Rattle.rv32_decode.specs.declared.LoadKind.TheVariants.{Word as WordLoad}
 use Rattle.rv32_decode.specs.Widths.{is_aligned}
-use Rattle.rv32_ops.specs.Operations.{alu, amo}
-use Rattle.rv32_decode.specs.declared.Op.{Op as Operation}
+use Rattle.rv32_ops.specs.Operations.{amo}
 use Rattle.node_model.specs.rv32_step.Memory.{load_value}
 use Rattle.node_model.specs.llsc.Reservation.{holds}
 use Rattle.rv32_decode.specs.declared.Width.{Width}
@@ -17,8 +16,6 @@ use Rattle.node_model.specs.micro_op.declared.MicroKind.{MicroKind}
 use Rattle.node_model.specs.micro_op.Micro.{Meaning, meaning_by, meaning_of}
 use Rattle.node_model.specs.jump_map.Image.{Cell, image_base}
 use Rattle.node_words.specs.declared.lane.ProcessorState as kept
-use Rattle.node_words.specs.declared.lane.Move.TheVariants as kept_to
-use Rattle.node_words.specs.declared.lane.Tally.TheVariants as kept_count
 use Rattle.node_words.specs.declared.lane.WordOutcome as kept_outcome
 use Rattle.node_model.specs.Node.{ProcessorState, NodeMemory, WordOutcome, Next, To, Waits, SameWord, only_moves, lane_after_call, Nothing_counted, Region, Memory, StateOf, Spill, Elsewhere, native, store_if, put_byte, print_byte, byte_at, is_mapped_state, is_readable_state, execute_at, execute_read, next_outcome, place_address, indirect, load, store, phase_after, lane_after, region_of, set_register}
 use Rattle.std.proofs.Common.{eqb, ◌&&◌}
@@ -35,10 +32,10 @@ use Rattle.std.proofs.Common.{◌-◌, [], ◌∷◌, leb, length, zero, suc}
 use Rattle.std.specs.Prelude.{slice_get}
 use Rattle.rv32_decode.specs.Fields.{unsigned}
 use Rattle.node_model.specs.rv32_step.declared.Demand.{Demand}
-use Rattle.node_model.specs.rv32_step.declared.Demand.TheVariants.{Continues, Jumps, Reserves, Sets, StoresIf, Updates}
+use Rattle.node_model.specs.rv32_step.declared.Demand.TheVariants.{Continues, Jumps, Reserves, StoresIf, Updates}
 use Rattle.node_model.specs.rv32_step.Registers.{reg}
 use Rattle.node_model.specs.micro_op.declared.MicroKind.TheVariants.{Slow}
-use Rattle.node_model.specs.micro_op.Micro.{Unserved, Demands, Enters as EntersBy, Meets, EntersAt, by_registers}
+use Rattle.node_model.specs.micro_op.Micro.{Unserved, Demands, Enters as EntersBy, Meets, EntersAt}
 use Rattle.node_model.specs.runtime_words.declared.RtWord.{RtWord}
 use Rattle.node_model.specs.runtime_words.declared.RtWord.TheVariants.{Native, Poll, Xjalr, Far}
 use Rattle.node_model.specs.templates.declared.places.Place.{Place}
@@ -49,7 +46,7 @@ use Rattle.node_model.specs.jump_map.Image.{read_cell, most_words}
 use Rattle.node_model.specs.jump_map.Maps.{fetch}
 use Rattle.node_model.specs.jump_map.Micro.{IsMicroWord}
 use Rattle.node_words.specs.Kept.{StepsOr}
-use Rattle.node_words.specs.Kept.{Shelf, Ground, ground_of, LeavesBehind, Does, Follows, StepsTo, lane_of, local_of, move_of, tally_of}
+use Rattle.node_words.specs.Kept.{Shelf, Ground, ground_of, LeavesBehind, Does, Follows, StepsTo, lane_of, local_of}
 use Rattle.node_words.specs.Address.{word_address}
 use Rattle.node_model.specs.Turns.{wants_of}
 
@@ -59,16 +56,6 @@ updated_to program l n r a old new = record (store program l n Word a new (regio
   lane = set_register (store program l n Word a new (region_of a)).lane r old;
   access = Exchanges a old new;
 }
-
--- a micro-op of a kind does what that kind means
-pub stepped : (image : List Cell) (k : MicroKind) (op : MicroOp) (registers : ℕ → ℕ) (at : ℕ) (l : kept.ProcessorState) (s : Shelf) (l' : kept.ProcessorState) (s' : Shelf) (o : Option ℕ) (m : Meaning) → op.kind ≡ k → StepsTo image m at l s l' s' o → meaning_by k image_base op registers ≡ m → StepsTo image (meaning_of image_base op registers) at l s l' s' o
-stepped image k op registers at l s l' s' o m is does means =
-    subst (λ (x : Meaning). StepsTo image x at l s l' s' o) (sym (ap (λ (q : MicroKind). meaning_by q image_base op registers) is ∙ means)) does
-
--- an operation on two registers puts its result into a register
-pub operates : (o : Operation) (op : MicroOp) (registers : ℕ → ℕ) (a b r : ℕ) → r ≡ alu o a b → a ≡ reg registers op.rs1 → b ≡ reg registers op.rs2 → by_registers o op registers ≡ Demands (Sets op.rd r)
-operates o op registers a b r result first second =
-    ap (λ x. Demands (Sets op.rd x)) (sym (result ∙ ap (λ x. alu o x b) first ∙ ap (alu o (reg registers op.rs1)) second))
 
 -- the word that follows is the next one
 pub next_follows : (image : List Cell) (outcome : WordOutcome) (g : Ground) (at k : ℕ) (l : kept.ProcessorState) (s : Shelf) → k ≡ (at + 1) % 4294967296 → outcome.move ≡ Next → outcome.printed ≡ None → outcome.tally ≡ Nothing_counted → LeavesBehind outcome g (word_address at) l s → Follows image outcome g (word_address k) l s
@@ -133,15 +120,6 @@ native_next image place at l s l' s' d e done next does is =
     let here = λ (x : Demand). native (program_of s.program) place (word_address at) (lane_of l (word_address at)) (local_of s) x in
     subst (λ (x : Demand). Follows image (here x) (ground_of s) (word_address ((at + 1) % 4294967296)) l' s') is
     (next_follows image (here d) (ground_of s) at _ l' s' refl next.0 next.1 next.2 does.leaves)
-
--- a check that changed nothing, and after which the next word follows, or another one
-pub check_next : (image : List Cell) (whole : WordOutcome) (at : ℕ) (l : kept.ProcessorState) (s : Shelf) (done : kept_outcome.WordOutcome) → Does whole (ground_of s) (word_address at) l s done → done.next ≡ kept_to.Next → done.output ≡ None → done.tally ≡ kept_count.Nothing → Follows image whole (ground_of s) (word_address ((at + 1) % 4294967296)) l s
-check_next image whole at l s done does next output tally =
-    next_follows image whole (ground_of s) at _ l s refl (sym does.move ∙ ap move_of next) (sym does.output ∙ output) (sym does.tally ∙ ap tally_of tally) does.leaves
-
-pub check_to : (image : List Cell) (whole : WordOutcome) (at k : ℕ) (l : kept.ProcessorState) (s : Shelf) (done : kept_outcome.WordOutcome) → Does whole (ground_of s) (word_address at) l s done → done.next ≡ kept_to.To k → done.output ≡ None → done.tally ≡ kept_count.Nothing → Follows image whole (ground_of s) (word_address k) l s
-check_to image whole at k l s done does next output tally =
-    to_follows image whole (ground_of s) at k l s (sym does.move ∙ ap move_of next) (sym does.output ∙ output) (sym does.tally ∙ ap tally_of tally) does.leaves
 
 -- a write of x0 is lost
 and_false : (b : Bool) → (b && false) ≡ false
@@ -219,7 +197,7 @@ slow_steps : (image : List Cell) (op : MicroOp) (at k : ℕ) (l : kept.Processor
 slow_steps image op at k l s l' s' is steps = subst (λ (q : MicroKind). StepsTo image (meaning_by q image_base op (registers_of l.registers)) at l s l' s' (Some k)) is steps
 
 -- a jump that keeps no link is a far jump
-far_is : (program : Program) (place at : ℕ) (l : ProcessorState) (n : NodeMemory) (number : ℕ)
+pub far_is : (program : Program) (place at : ℕ) (l : ProcessorState) (n : NodeMemory) (number : ℕ)
     → native program place at l n (Jumps 0 (address_of_word number)) ≡ only_moves l n (To (address_of_word number))
 far_is program place at l n number =
     let rest : address_of_word number % 4 ≡ 0 = omega arith in
@@ -246,7 +224,7 @@ got_below [] i c is = absurd (cc)
 got_below (x ∷ xs) zero c is = omega arith
 got_below (x ∷ xs) (suc i) c is = let rest = got_below xs i c is in omega arith
 
-fetch_word : (image : List Cell) (at : ℕ) (c : Cell) → length image ≤ most_words → slice_get image at ≡ Some c → fetch image (word_address at) ≡ Some (read_cell c)
+pub fetch_word : (image : List Cell) (at : ℕ) (c : Cell) → length image ≤ most_words → slice_get image at ≡ Some c → fetch image (word_address at) ≡ Some (read_cell c)
 fetch_word image at c few is =
     let below = got_below image at c is in
     let new : word_address at ≡ image_base + 4 * at = omega arith in

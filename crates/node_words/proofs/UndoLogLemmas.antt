@@ -6,8 +6,6 @@ use Rattle.std.specs.Prelude.{All, length, slice_index, slice_set}
 use Rattle.std.proofs.lemmas.Grind.{get_or-set_at}
 use Rattle.std.proofs.lemmas.List.{get_or-set_other, get_or_append_left, get_or_push, length_push}
 use Rattle.std.specs.Prelude.{get_or}
-use Rattle.byte_range.specs.Range.{Range}
-use Rattle.byte_range.specs.Window.{window_memory}
 use Rattle.std.proofs.lemmas.List.Elements.{All-nil, All-push}
 use Rattle.rv32_decode.specs.declared.LoadKind.{LoadKind}
 use Rattle.rv32_decode.specs.declared.Width.{Width}
@@ -39,7 +37,7 @@ use Rattle.node_words.specs.declared.undo_log.Note.{Note}
 use Rattle.node_words.specs.declared.undo_log.Saved.{Saved}
 use Rattle.node_words.specs.Address.{word_address}
 use Rattle.node_words.specs.Kept.{Shelf, Ground, Follows, LeavesBehind, StepsTo, ground_of, lane_of, local_of}
-use Rattle.node_words.specs.UndoLogs.{Held, held_of, held_stored, undone, taken_back, IsAlignedNote, IsPlain, store_width, HasBytes, NotesOr, Saves, TakesBack, AreSame, TouchesOnly}
+use Rattle.node_words.specs.UndoLogs.{Held, held_of, held_stored, undone, taken_back, IsAlignedNote, store_width, HasBytes, NotesOr, Saves, TakesBack, TouchesOnly}
 
 -- 1. Bytes that are put back
 
@@ -184,13 +182,6 @@ kind_changes kind.StoreByte base op registers = refl
 kind_changes kind.StoreHalf base op registers = refl
 kind_changes kind.StoreWord base op registers = refl
 kind_changes kind.AddImm base op registers = refl
-kind_changes kind.Look base op registers = refl
-kind_changes kind.LookToRead base op registers = refl
-kind_changes kind.LookToWrite base op registers = refl
-kind_changes kind.LookAtValue base op registers = refl
-kind_changes kind.LookAgain base op registers = refl
-kind_changes kind.BothToRead base op registers = refl
-kind_changes kind.BothToWrite base op registers = refl
 kind_changes kind.SltImm base op registers = refl
 kind_changes kind.SltuImm base op registers = refl
 kind_changes kind.XorImm base op registers = refl
@@ -441,30 +432,10 @@ pub taken_by : (op : MicroOp) (image : List Cell) (at : ℕ) (o : Option ℕ) (l
 taken_by op image at None l s l' s' saved old new first seen low steps notes back = taken_still op at l s l' s' saved old new first seen steps.0 steps.1 notes back
 taken_by op image at (Some k) l s l' s' saved old new first seen low steps notes back = taken_on image op at k l s l' s' saved old new first seen low steps notes back
 
--- a micro-op that was executed without its store has nothing to be noted
-pub plain_notes : (f : ℕ → ℕ) (w : Option Width) (k a : ℕ) (notes : List Note) → IsPlain w (Some k) → NotesOr f w a notes notes
-plain_notes f None k a notes plain = refl
-plain_notes f (Some w) k a notes plain = absurd (cc)
-
--- a micro-op that wasn't executed changed nothing
-pub unmoved : (image : List Cell) (m : Meaning) (at : ℕ) (l : kept.ProcessorState) (s : Shelf) (l' : kept.ProcessorState) (s' : Shelf) (o : Option ℕ)
-    → StepsTo image m at l s l' s' o → ((k : ℕ) → o ≡ Some k → ⊥) → (l' ≡ l) × (s' ≡ s)
-unmoved image m at l s l' s' None steps none = steps
-unmoved image m at l s l' s' (Some k) steps none = absurd (none k refl)
-
--- what is the same may stand for it
-pub steps_from : (image : List Cell) (op : MicroOp) (at : ℕ) (l l1 : kept.ProcessorState) (s s1 : Shelf) (l2 : kept.ProcessorState) (s2 : Shelf) (o : Option ℕ)
-    → l1 ≡ l → s1 ≡ s → StepsTo image (meaning_of image_base op (registers_of l1.registers)) at l1 s1 l2 s2 o
-    → StepsTo image (meaning_of image_base op (registers_of l.registers)) at l s l2 s2 o
-steps_from image op at l l1 s s1 l2 s2 o lane local steps =
-    subst (λ (x : Shelf). StepsTo image (meaning_of image_base op (registers_of l.registers)) at l x l2 s2 o) local
-    (subst (λ (x : kept.ProcessorState). StepsTo image (meaning_of image_base op (registers_of x.registers)) at x s1 l2 s2 o) lane steps)
-
-pub takes_from : (saved : Saved) (notes : List Note) (l l1 : kept.ProcessorState) (s s1 : Shelf) (first : kept.ProcessorState) (seen : Shelf)
-    → l1 ≡ l → s1 ≡ s → TakesBack saved notes l s first seen → TakesBack saved notes l1 s1 first seen
-takes_from saved notes l l1 s s1 first seen lane local back =
-    subst (λ (x : Shelf). TakesBack saved notes l1 x first seen) (sym local)
-    (subst (λ (x : kept.ProcessorState). TakesBack saved notes x s first seen) (sym lane) back)
+-- a micro-op that doesn't store has nothing to be noted
+pub none_noted : (f : ℕ → ℕ) (w : Option Width) (a : ℕ) (notes : List Note) → None ≡ w → NotesOr f w a notes notes
+none_noted f None a notes is = refl
+none_noted f (Some w) a notes is = absurd (cc)
 
 -- no word is taken back by an empty undo_log
 pub taken_none : (saved : Saved) (l : kept.ProcessorState) (s : Shelf) → Saves saved l → TakesBack saved [] l s l s
@@ -539,46 +510,6 @@ store_back at l s l' s' n leaves =
         ap (λ (x : NodeMemory). x.reservation) leaves.local ∙ bytes.reservation,
       ),
     )
-
--- what is put back, and what was saved, is what the undo_log takes back to
-pub taken_same : (saved : Saved) (notes : List Note) (l : kept.ProcessorState) (s : Shelf) (m l' : kept.ProcessorState) (s' : Shelf) (first : kept.ProcessorState) (seen : Shelf)
-    → TakesBack saved notes l s first seen
-    → held_of m s' ≡ taken_back (program_of s.program) notes (held_of l s) → Unchanged l s m s'
-    → ((r : ℕ) → 0 < r → r < 32 → registers_of l'.registers r ≡ slice_index saved.registers r)
-    → ((r : ℕ) → (0 < r → 32 ≤ r) → registers_of l'.registers r ≡ registers_of m.registers r)
-    → l'.written ≡ saved.written → l'.off ≡ saved.off → l'.spills ≡ saved.spills → l'.private ≡ m.private
-    → AreSame l' s' first seen
-taken_same saved notes l s m l' s' first seen back held same registers others written off spills private =
-    let program = seen_program s seen back.ground_same in
-    let all = held ∙ ap (λ (p : Program). taken_back p notes (held_of l s)) program ∙ back.held in
-    let regs : registers_of l'.registers ≡ registers_of first.registers = fun_ext (λ r. go r (ltb 0 r) refl (ltb r 32) refl) in
-    let window = ap (λ (r : Range). window_memory r) private ∙ ap (λ (h : Held). h.private) all in
-    record {
-      lane = λ at t. record {
-        registers = regs t;
-        at = at;
-        private = window t;
-        written = (written ∙ back.saves.written) t;
-        off = (off ∙ back.saves.off) t;
-        spills = slice_index ((spills ∙ back.saves.spills) t);
-      };
-      local = λ t. record {
-        copy = (all t).copy;
-        state = (same.1 ∙ back.state) t;
-        reservation = (same.2 ∙ back.reservation) t;
-      };
-    }
-  where
-    outside : (r : ℕ) → (0 < r → 32 ≤ r) → registers_of l'.registers r ≡ registers_of first.registers r
-    outside r other = others r other ∙ same.0 r ∙ back.others r other
-
-    go : (r : ℕ) (t : Bool) → ltb 0 r ≡ t → (u : Bool) → ltb r 32 ≡ u → registers_of l'.registers r ≡ registers_of first.registers r
-    go r true e true f =
-        let some : 0 < r = grind (arith, nat_tests) in
-        let low : r < 32 = grind (arith, nat_tests) in
-        registers r some low ∙ back.saves.registers r some low
-    go r true e false f = let high : 32 ≤ r = grind (arith, nat_tests) in outside r (λ _. high)
-    go r false e u f = let zero : r ≤ 0 = grind (arith, nat_tests) in outside r (λ some. absurd (omega (arith, zero, some)))
 
 pub aligned_front : (front : List Note) (n : Note) → All IsAlignedNote (front ++ n ∷ []) → All IsAlignedNote front
 aligned_front front n all = λ k d less.

@@ -163,12 +163,3 @@ goes_by image most from words at here next to n total first b b' same lead sum f
     (subst (λ (k : ℕ). BodyGoesOn image most from first k next b') sum
     ((goes words).goes most from first (omega (arith, sum, few)) ground
     (subst (λ (k : ℕ). BodyGoesOn image most from first words k b) (sym same) on)))
-
--- a smaller budget
-pub goes_within : (image : List Cell) (few most from words at words' at' : ℕ) (first b : ExecState) → few ≤ most
-    → words ≡ words' → at ≡ at' → BodyGoesOn image few from first words at b
-    → BodyGoesOn image most from first words' at' b
-goes_within image few most from words at words' at' first b less same here on =
-    subst (λ (k : ℕ). BodyGoesOn image most from first words' k b) here
-    (subst (λ (k : ℕ). BodyGoesOn image most from first k at b) same
-    (λ work n is program may room. on work n is program may (omega (arith, less, room))))

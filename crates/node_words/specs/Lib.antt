@@ -2,6 +2,7 @@ pub mod Address
 pub mod Kept
 pub mod Runs
 pub mod GoingOn
+pub mod Strides
 pub mod Blocks
 pub mod UndoLogs
 pub use Rattle.rv32_ops.specs as rv32_ops

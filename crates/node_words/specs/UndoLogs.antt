@@ -54,11 +54,6 @@ store_width kind.StoreHalf = Some Half
 store_width kind.StoreWord = Some Word
 store_width k = None
 
--- a micro-op that stores wasn't executed
-abbrev pub IsPlain : Option Width → Option ℕ → Type 0
-IsPlain None next = Unit {0}
-IsPlain (Some width) next = next ≡ None
-
 -- the number's bytes are those from an address on
 abbrev pub HasBytes : (ℕ → ℕ) → Width → (a value : ℕ) → Type 0
 HasBytes bytes w a value =

@@ -44,9 +44,9 @@ impl<'a> ExecState<'a> {
             self.lane
                 .registers
                 .set(rd, self.lane.spills[spill_of(address)]);
-        } else if let Some(raw) = self.local.load(width, address) {
-            self.lane.registers.set(rd, extend(kind, raw));
         } else if let Some(raw) = self.local.load_fixed(width, address) {
+            self.lane.registers.set(rd, extend(kind, raw));
+        } else if let Some(raw) = self.local.load(width, address) {
             self.lane.registers.set(rd, extend(kind, raw));
         } else {
             self.load_elsewhere(kind, rd, address);
@@ -72,12 +72,13 @@ impl<'a> ExecState<'a> {
         self.lane.registers.set(rd, value);
     }
 
-    /// Loads an unsigned byte, most often the state byte of a line.
+    /// Loads from an aligned address, most often the state byte of a line.
     #[inline(always)]
-    pub(crate) fn load_byte(&mut self, rd: Reg, address: u32)
+    pub(crate) fn load_apart(&mut self, kind: LoadKind, rd: Reg, address: u32)
+        requires { is_aligned (width_of kind) address ≡ true }
         ensures leaves { (at : ℕ) → LeavesBehind
             (model.load (program_of self.old.local.program) (lane_of self.old.lane at)
-            (local_of self.old.local) LoadKind.ByteU rd address (model.region_of address))
+            (local_of self.old.local) kind rd address (model.region_of address))
             (ground_of self.old.local) at self.new.lane self.new.local }
         ensures counts { self.new.counts ≡ self.old.counts }
     {
@@ -87,7 +88,7 @@ impl<'a> ExecState<'a> {
                 .registers
                 .set(rd, u32::from(self.local.state(line)));
         } else {
-            self.load(LoadKind::ByteU, rd, address);
+            self.load(kind, rd, address);
         }
     }
 

@@ -5,16 +5,17 @@
 //! change nothing else of a node: what a word wants of other nodes, and how a node takes messages,
 //! is said above this crate.
 
+mod arms;
 mod exec_state;
-mod hot;
 mod lane;
 mod lines;
-mod looks;
 mod node_memory;
 mod region;
+mod sequences;
 mod serve;
 mod silent;
 mod slow_path;
+mod strides;
 mod undo_log;
 
 pub use byte_range;

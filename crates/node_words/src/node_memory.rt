@@ -1,7 +1,7 @@
 //! What words see of their node: its copy of the shared bytes, and the state of each line.
 
 ghost use Rattle.std.specs.Prelude.{◌≡◌, ◌+◌, ◌*◌, ◌/◌, ◌%◌, ◌^◌, ◌<◌, ◌≤◌, ℕ, true, false, Some};
-ghost use Rattle.std.specs.Prelude.{None, MatchOption, length};
+ghost use Rattle.std.specs.Prelude.{None, MatchOption, IfSome, bit_and, bit_or, length};
 ghost use Rattle.exec_map.specs.Contents.{program_of, first_byte};
 ghost use Rattle.rv32_program.specs.declared.Class.TheVariants.{Shared, ReadOnly};
 ghost use Rattle.rv32_program.specs.Program.{class_at};
@@ -18,6 +18,7 @@ ghost use Rattle.node_model.specs.Node as model;
 ghost use Rattle.node_words.specs.Kept.{ground_of, local_of, AreFirstLines, HasFixed, HasLines};
 ghost use Rattle.node_words.specs.Kept.{IsPlace};
 ghost use Rattle.node_words.specs.Blocks.{ShelfLaws, blocks_at};
+ghost use Rattle.node_words.specs.Strides.{IsLoaded};
 
 use block_layout::{Block, Layout, Lines, layout_law};
 use buf_pool::Pool;
@@ -238,6 +239,136 @@ impl<'a> NodeMemory<'a> {
         match self.place(address) {
             Some(at) => Some(self.copy.load_at(address, at, width)),
             None => None,
+        }
+    }
+
+    /// At which place of the shared bytes that of an address stands, where its line is one of the
+    /// first and the address is aligned.
+    #[inline(always)]
+    fn near(&self, width: Width, address: u32) -> Option<u32>
+        ensures aligned { IfSome result (λ at. is_aligned width address ≡ true) }
+        ensures place { IfSome result (λ at. IsPlace self.now.copy.layout address (Some at)) }
+    {
+        let place = address.wrapping_sub(self.base);
+        if place < self.len && width.is_aligned(address) {
+            Some(place)
+        } else {
+            None
+        }
+    }
+
+    /// The number that the bytes of one of the first shared lines make. `None` elsewhere, and where
+    /// the address is misaligned.
+    #[inline(always)]
+    pub(crate) fn load_near(&self, width: Width, address: u32) -> Option<u32>
+        ensures value { IfSome result (IsLoaded self.now width address) }
+    {
+        match self.near(width, address) {
+            Some(at) => Some(self.copy.load_at(address, at, width)),
+            None => None,
+        }
+    }
+
+    /// The same, where the line may be read.
+    #[inline(always)]
+    pub(crate) fn load_readable(&self, width: Width, address: u32) -> Option<u32>
+        ensures value { IfSome result (IsLoaded self.now width address) }
+        ensures readable { IfSome result (λ n.
+            model.is_readable_state ((local_of self.now).state (address / 64)) ≡ true) }
+    {
+        let at = self.near(width, address)?;
+        if self.states.byte_at(address / 64, at / 64) & 2 == 0 {
+            Some(self.copy.load_at(address, at, width))
+        } else {
+            None
+        }
+    }
+
+    /// Puts the low bits of a value into the bytes of one of the first shared lines, and says
+    /// whether it does: not elsewhere, and not where the address is misaligned.
+    #[inline(always)]
+    pub(crate) fn store_near(&mut self, width: Width, address: u32, value: u32) -> bool
+        ensures elsewhere { result ≡ false → self.new ≡ self.old }
+        ensures aligned { result ≡ true → is_aligned width address ≡ true }
+        ensures shared { result ≡ true →
+            (class_at (program_of self.old.program) address ≡ Shared) × (address < 2 ^ 31) }
+        ensures local { result ≡ true → local_of self.new ≡ record (local_of self.old) {
+          copy = stored width (local_of self.old).copy address value;
+        } }
+        ensures ground { ground_of self.new ≡ ground_of self.old }
+    {
+        match self.near(width, address) {
+            Some(at) => {
+                self.copy.store_at(address, at, width, value);
+                true
+            }
+            None => false,
+        }
+    }
+
+    /// The same, where the line may be written.
+    #[inline(always)]
+    pub(crate) fn store_writable(&mut self, width: Width, address: u32, value: u32) -> bool
+        ensures elsewhere { result ≡ false → self.new ≡ self.old }
+        ensures aligned { result ≡ true → is_aligned width address ≡ true }
+        ensures shared { result ≡ true →
+            (class_at (program_of self.old.program) address ≡ Shared) × (address < 2 ^ 31) }
+        ensures local { result ≡ true → local_of self.new ≡ record (local_of self.old) {
+          copy = stored width (local_of self.old).copy address value;
+        } }
+        ensures writable { result ≡ true →
+            model.is_writable_state ((local_of self.old).state (address / 64)) ≡ true }
+        ensures ground { ground_of self.new ≡ ground_of self.old }
+    {
+        match self.near(width, address) {
+            Some(at) if self.states.byte_at(address / 64, at / 64) == 0 => {
+                self.copy.store_at(address, at, width, value);
+                true
+            }
+            _ => false,
+        }
+    }
+
+    /// The state byte of the second of two lines, where these bits are clear in the state bytes of
+    /// both.
+    #[inline(always)]
+    pub(crate) fn second_state(&self, bits: u8, low: u32, high: u32) -> Option<u8>
+        ensures state { IfSome result (λ state. state ≡ (local_of self.now).state (high / 64)) }
+        ensures clear { IfSome result (λ state.
+            bit_and (bit_or ((local_of self.now).state (low / 64)) state) bits ≡ 0) }
+        ensures small { IfSome result (λ state.
+            bit_or ((local_of self.now).state (low / 64)) state < 2 ^ 8) }
+    {
+        let Some(one) = self.near(Width::Byte, low) else {
+            return self.second_state_far(bits, low, high);
+        };
+        let Some(other) = self.near(Width::Byte, high) else {
+            return self.second_state_far(bits, low, high);
+        };
+        let first = self.states.byte_at(low / 64, one / 64);
+        let second = self.states.byte_at(high / 64, other / 64);
+        if (first | second) & bits == 0 {
+            Some(second)
+        } else {
+            None
+        }
+    }
+
+    /// The same, whichever lines they are.
+    #[inline(never)]
+    fn second_state_far(&self, bits: u8, low: u32, high: u32) -> Option<u8>
+        ensures state { IfSome result (λ state. state ≡ (local_of self.now).state (high / 64)) }
+        ensures clear { IfSome result (λ state.
+            bit_and (bit_or ((local_of self.now).state (low / 64)) state) bits ≡ 0) }
+        ensures small { IfSome result (λ state.
+            bit_or ((local_of self.now).state (low / 64)) state < 2 ^ 8) }
+    {
+        let first = self.state(low / 64);
+        let second = self.state(high / 64);
+        if (first | second) & bits == 0 {
+            Some(second)
+        } else {
+            None
         }
     }
 

@@ -8,17 +8,12 @@ ghost use Rattle.node_words.specs.Address.{word_address};
 ghost use Rattle.node_words.specs.Kept.{StepsOr, Serves, ground_of, local_of, lane_of, move_of};
 ghost use Rattle.node_words.specs.Kept.{resume_of, tally_of, phase_by, wants_by};
 ghost use Rattle.node_model.specs.Turns.{wants_of};
-ghost use Rattle.node_words.specs.GoingOn.{BodyGoesOn};
 
 use crate::exec_state::ExecState;
 use crate::lane::{Move, Resume, Tally, Wants};
-use crate::looks::Onward;
 use exec_map::Exit;
 use node_model::NodeCounts;
 use node_model::jump_map::{IMAGE_BASE, Image};
-
-/// The most words that are executed in a row.
-const MOST_IN_A_ROW: u64 = 0x8000_0000;
 
 /// What follows a word.
 #[derive(Clone, Copy, PartialEq, Eq)]
@@ -61,43 +56,8 @@ impl<'a> ExecState<'a> {
         ensures counts { self.new.counts ≡ self.old.counts }
     {
         match image.micro(at) {
-            Some(op) => self.step::<true, true>(image, op, at),
+            Some(op) => self.step(image, op, at),
             None => None,
-        }
-    }
-
-    /// Executes words from an index on by their micro-ops, and silent ones that have none, and at
-    /// most so many. Those of a straight line are counted by their index, since the budget ends
-    /// at an index on it; a jump moves that one as far as it goes.
-    #[inline(never)]
-    pub fn run(&mut self, image: &Image, from: u32, most: u64) -> Progress
-        requires { length image.now ≤ most_words }
-        ensures words { BodyGoesOn image.now most from self.old result.words result.at self.new }
-        ensures most { result.words ≤ most }
-        ensures ground { ground_of self.new.local ≡ ground_of self.old.local }
-        ensures counts { self.new.counts ≡ self.old.counts }
-    {
-        let micros = image.micros();
-        let length = micros.len() as u64;
-        let budget = most.min(MOST_IN_A_ROW);
-        let mut at = u64::from(from);
-        let mut end = at + budget;
-        let mut limit = end.min(length);
-        while at < limit {
-            match self.stride(image, &micros[at as usize], at as u32, end) {
-                Some(Onward::Next) => at += 1,
-                Some(Onward::Straight(words)) => at += words,
-                Some(Onward::Leap(done)) => {
-                    end = end - at - done.words + u64::from(done.at);
-                    at = u64::from(done.at);
-                    limit = end.min(length);
-                }
-                None => break,
-            }
-        }
-        Progress {
-            at: at as u32,
-            words: budget - (end - at),
         }
     }
 

@@ -134,8 +134,7 @@ impl<'a> ExecState<'a> {
     }
 
     /// Executes the word with an index by its micro-op, as `step_at` does, and notes first what it
-    /// overwrites. `None` also where there is no room for that. A word that stores is tried once
-    /// without its store: so no other word is asked whether it stores.
+    /// overwrites. `None` also where there is no room for that.
     #[inline(always)]
     fn step_noting(
         &mut self,
@@ -156,10 +155,10 @@ impl<'a> ExecState<'a> {
         let op = image.micro(at)?;
         // brings: the register's number is below 32
         let _ = op.rd.number();
-        if let Some(next) = self.step::<false, true>(image, op, at) {
-            return Some(next);
+        match width_stored(op.kind) {
+            Some(_) => self.store_noting(image, op, at, saved, notes),
+            None => self.step(image, op, at),
         }
-        self.store_noting(image, op, at, saved, notes)
     }
 
     /// Executes a micro-op at an index, and notes first what it overwrites. `None` also where there
@@ -173,6 +172,7 @@ impl<'a> ExecState<'a> {
         saved: &Saved,
         notes: &mut Vec<Note>,
     ) -> Option<u32>
+        requires low { at < most_words }
         ensures steps { StepsTo image.now
             (meaning_of image_base op.now (registers_of self.old.lane.registers)) at
             self.old.lane self.old.local self.new.lane self.new.local result }
@@ -188,7 +188,7 @@ impl<'a> ExecState<'a> {
         if !self.note(op, notes) {
             return None;
         }
-        self.step::<true, true>(image, op, at)
+        self.step(image, op, at)
     }
 
     /// Notes what a micro-op overwrites, and says whether there was room for it; else nothing is

@@ -1,13 +1,21 @@
-use Rattle.std.proofs.Common.{◌≡◌, ◌-◌, ◌/◌, sym, arith, rules}
+use Rattle.std.proofs.Common.{◌≡◌, ℕ, ◌*◌, ◌-◌, ◌/◌, ap, arith, rules, subst, sym}
+use Rattle.node_model.specs.Node.{indirect}
 use Rattle.node_words.specs.Address.{word_address}
+use Rattle.node_words.specs.Kept.{Follows, ground_of, lane_of, local_of}
 use Rattle.node_words.proofs.StepLemmas.{enter_follows, new_address}
 use Rattle.node_words.proofs.exec_state.ExecState.enter.Goals as goal
 
-pub returns : goal.returns
-returns c at place =
+pub returns-in-Some-clause-steps : goal.returns-in-Some-clause-steps
+returns-in-Some-clause-steps c done at place =
     let image = c.args.image.now in
-    let new = c.in_ok-new_of.field-0 in
+    let b = c.args.self.now in
+    let original = c.sum_by.result / 2 * 2 in
+    let new = c.in-Some.new in
     let k = (new - 2684354560) / 4 in
-    let is = new_address image c.args.original new (sym c.in_ok-new_of.ensures.value) in
+    let is = new_address image original new (sym c.in-Some.ensures.value) in
     let same : word_address k ≡ new = omega (arith, is.1) in
-    enter_follows image c.args.self.now.lane c.args.self.now.local at place c.args.original new k (search rules) (sym c.in_ok-new_of.ensures.value) same
+    let follows = enter_follows image b.lane b.local at place original new k (search rules) (sym c.in-Some.ensures.value) same in
+    subst (λ (a : ℕ). Follows image (indirect place (lane_of b.lane (word_address at)) (local_of b.local) 0 a)
+    (ground_of b.local) (word_address c.to.new.self.at) b.lane b.local) (ap (λ x. x / 2 * 2) c.sum_by.ensures)
+    (subst (λ (n : ℕ). Follows image (indirect place (lane_of b.lane (word_address at)) (local_of b.local) 0 original)
+    (ground_of b.local) (word_address n) b.lane b.local) (sym c.to.ensures.at) follows)

@@ -19,8 +19,8 @@ returns-in-Some-clause-leaves c at =
     let p = b.local.program in
     let a = c.args.address in
     let n = local_of b.local in
-    let given = c.in-Some.ensures.value.2 ∙ ap (λ (w : Width). raw w n.copy a) c.width-width.ensures.value in
-    let same = given ∙ raw_in_line (width_of c.args.kind) (class_of_line p) Shared n.copy (first_byte p) (window_memory b.lane.private) flag_byte a c.requires c.in-Some.ensures.value.0 in
+    let given = c.in-Some.ensures.value.2 ∙ ap (λ (w : Width). raw w (first_byte p) a) c.width-width.ensures.value in
+    let same = given ∙ raw_in_line (width_of c.args.kind) (class_of_line p) ReadOnly n.copy (first_byte p) (window_memory b.lane.private) flag_byte a c.requires c.in-Some.ensures.value.0 in
     let value = c.extend.ensures ∙ ap (extend c.args.kind) same in
     let registers = c.set-in-Some.ensures ∙ ap (put (registers_of b.lane.registers) c.args.rd) value in
     subst (λ (q : Region). LeavesBehind (load (program_of p) (lane_of b.lane at) n c.args.kind c.args.rd a q) (ground_of b.local) at (record b.lane { registers = c.set-in-Some.new.self }) b.local) (sym (memory_region a c.in-Some.ensures.value.1))
@@ -30,17 +30,17 @@ returns-in-Some-clause-leaves c at =
       ground_same = refl;
     })
 
-pub returns-in-Some-load_fixed-clause-leaves : goal.returns-in-Some-load_fixed-clause-leaves
-returns-in-Some-load_fixed-clause-leaves c at =
+pub returns-in-Some-load-clause-leaves : goal.returns-in-Some-load-clause-leaves
+returns-in-Some-load-clause-leaves c at =
     let b = c.args.self.now in
     let p = b.local.program in
     let a = c.args.address in
     let n = local_of b.local in
-    let given = c.in-Some-load_fixed.ensures.value.2 ∙ ap (λ (w : Width). raw w (first_byte p) a) c.width-width.ensures.value in
-    let same = given ∙ raw_in_line (width_of c.args.kind) (class_of_line p) ReadOnly n.copy (first_byte p) (window_memory b.lane.private) flag_byte a c.requires c.in-Some-load_fixed.ensures.value.0 in
-    let value = c.extend-in-Some-load_fixed.ensures ∙ ap (extend c.args.kind) same in
-    let registers = c.set-in-Some-load_fixed.ensures ∙ ap (put (registers_of b.lane.registers) c.args.rd) value in
-    subst (λ (q : Region). LeavesBehind (load (program_of p) (lane_of b.lane at) n c.args.kind c.args.rd a q) (ground_of b.local) at (record b.lane { registers = c.set-in-Some-load_fixed.new.self }) b.local) (sym (memory_region a c.in-Some-load_fixed.ensures.value.1))
+    let given = c.in-Some-load.ensures.value.2 ∙ ap (λ (w : Width). raw w n.copy a) c.width-width.ensures.value in
+    let same = given ∙ raw_in_line (width_of c.args.kind) (class_of_line p) Shared n.copy (first_byte p) (window_memory b.lane.private) flag_byte a c.requires c.in-Some-load.ensures.value.0 in
+    let value = c.extend-in-Some-load.ensures ∙ ap (extend c.args.kind) same in
+    let registers = c.set-in-Some-load.ensures ∙ ap (put (registers_of b.lane.registers) c.args.rd) value in
+    subst (λ (q : Region). LeavesBehind (load (program_of p) (lane_of b.lane at) n c.args.kind c.args.rd a q) (ground_of b.local) at (record b.lane { registers = c.set-in-Some-load.new.self }) b.local) (sym (memory_region a c.in-Some-load.ensures.value.1))
     (record {
       lane = λ t. record (lane_of b.lane at) { registers = registers t };
       local = refl;

@@ -1,124 +1,72 @@
-use Rattle.std.proofs.Common.{◌+◌, ◌-◌, ◌<◌, ◌∙◌, Some, length, subst, arith}
-use Rattle.node_words.specs.declared.looks.Onward.{Onward}
-use Rattle.node_words.specs.declared.looks.Onward.TheVariants.{Next, Straight, Leap}
-use Rattle.node_words.specs.GoingOn.{StridesOr}
-use Rattle.node_words.proofs.LookLemmas.{answered}
-use Rattle.node_words.proofs.WordLemmas.{goes_by}
+use Rattle.std.proofs.Common.{◌≡◌, ℕ, ◌-◌, ◌∙◌, ap, arith, refl, subst, sym}
+use Rattle.node_words.specs.declared.strides.Going.{Going}
+use Rattle.node_words.specs.GoingOn.{BodyGoesOn}
+use Rattle.node_words.specs.Kept.{ground_of}
+use Rattle.node_words.proofs.WordLemmas.{body_starts, goes_by, goes_none}
 use Rattle.node_words.proofs.exec_state.ExecState.run.Goals as goal
 
-pub loop-at-preserved-in-Some-Next : goal.loop-at-preserved-in-Some-Next
-loop-at-preserved-in-Some-Next c =
-    let image = c.args.image.now in
-    let l = c.loop-at in
-    let i = l.invariant in
-    let goes : StridesOr image l.at (l.end - l.at) l.self c.stride.new.self (Some Next) =
-    subst (λ (o : Onward). StridesOr image l.at (l.end - l.at) l.self c.stride.new.self (Some o))
-    c.in-Some-Next.field-0-is c.in-Some-Next.ensures.goes in
-    let budget = c.min-budget.result in
-    let few = c.requires in
-    let test = c.loop-at-test.true in
-    let ends = i.ends in
-    let left = i.left in
-    let low = i.low in
-    let short = i.short in
-    let within = i.within in
-    let inside = i.inside in
-    let some = goes.0 in
-    let most = goes.1 in
-    let ops = c.micros-micros.result.now in
-    let below : l.at < length image =
-    answered image l.at ops l.at (omega (arith, test, inside)) (c.micros-micros.ensures.value l.at) in
+pub loop-going-init : goal.loop-going-init
+loop-going-init c =
+    let b = c.args.self.now in
+    let most = c.args.most in
+    let none : 0 ≡ most - most = omega arith in
     record {
-      words = goes_by image budget c.args.from (budget - (l.end - l.at)) l.at _ _ (l.at + 1) 1
-          (budget - (l.end - (l.at + 1))) c.args.self.now l.self c.stride.new.self (omega (arith, low))
-          (omega (arith, most, below, few, short, left)) (omega (arith, ends, left, some, most, test, within))
-          (omega arith) goes.2 i.ground i.words;
-      ends = omega (arith, some, most, ends, test, within);
-      left = omega (arith, some, most, ends, left, test, within);
-      low = omega (arith, some, most, below, few, short, left, low);
-      short = i.short;
-      within = omega (arith, within);
-      inside = i.inside;
-      ground = (goes.2 0).ground_same ∙ i.ground;
-      counts = c.stride.ensures.counts ∙ i.counts;
+      words = subst (λ (n : ℕ). BodyGoesOn c.args.image.now most c.args.from b n c.args.from b) none
+          (body_starts c.args.image.now most c.args.from b);
+      left = omega arith;
+      low = c.ranges.from.fits;
+      ground = refl;
+      counts = refl;
     }
 
-pub loop-at-preserved-in-Some-Straight : goal.loop-at-preserved-in-Some-Straight
-loop-at-preserved-in-Some-Straight c =
+pub loop-going-preserved : goal.loop-going-preserved
+loop-going-preserved c =
     let image = c.args.image.now in
-    let l = c.loop-at in
+    let most = c.args.most in
+    let l = c.loop-going in
     let i = l.invariant in
-    let goes : StridesOr image l.at (l.end - l.at) l.self c.stride.new.self (Some (Straight c.in-Some-Straight.words)) =
-    subst (λ (o : Onward). StridesOr image l.at (l.end - l.at) l.self c.stride.new.self (Some o))
-    c.in-Some-Straight.field-0-is c.in-Some-Straight.ensures.goes in
-    let budget = c.min-budget.result in
-    let few = c.requires in
-    let test = c.loop-at-test.true in
-    let ends = i.ends in
+    let b' = c.go_on.new.self in
+    let going = c.go_on.new.going in
+    let stride = c.if-not-go_on.ensures.tried in
+    let some = stride.some in
     let left = i.left in
-    let low = i.low in
-    let short = i.short in
-    let within = i.within in
-    let inside = i.inside in
-    let some = goes.0 in
-    let most = goes.1 in
-    let ops = c.micros-micros.result.now in
-    let below : l.at < length image =
-    answered image l.at ops l.at (omega (arith, test, inside)) (c.micros-micros.ensures.value l.at) in
-    let n = c.in-Some-Straight.words in
     record {
-      words = goes_by image budget c.args.from (budget - (l.end - l.at)) l.at _ _ (l.at + n) n
-          (budget - (l.end - (l.at + n))) c.args.self.now l.self c.stride.new.self (omega (arith, low))
-          (omega (arith, most, below, few, short, left)) (omega (arith, ends, left, some, most, test, within))
-          (omega arith) goes.2 i.ground i.words;
-      ends = omega (arith, some, most, ends, test, within);
-      left = omega (arith, some, most, ends, left, test, within);
-      low = omega (arith, some, most, below, few, short, left, low);
-      short = i.short;
-      within = omega (arith, within);
-      inside = i.inside;
-      ground = (goes.2 0).ground_same ∙ i.ground;
-      counts = c.stride.ensures.counts ∙ i.counts;
+      words = goes_by image most c.args.from (most - l.going.left) l.going.at l.going.at going.at going.at
+          (l.going.left - going.left) (most - going.left) c.args.self.now l.self b' refl refl (omega (arith, some, left))
+          (omega arith) stride.goes i.ground i.words;
+      left = omega (arith, some, left);
+      low = stride.low;
+      ground = (stride.goes 0).ground_same ∙ i.ground;
+      counts = c.go_on.ensures.counts ∙ i.counts;
     }
 
-pub loop-at-preserved : goal.loop-at-preserved
-loop-at-preserved c =
+pub returns-clause-words : goal.returns-clause-words
+returns-clause-words c =
     let image = c.args.image.now in
-    let l = c.loop-at in
+    let most = c.args.most in
+    let l = c.loop-going in
     let i = l.invariant in
-    let goes : StridesOr image l.at (l.end - l.at) l.self c.stride.new.self (Some (Leap c.in-Some-Leap.done)) =
-    subst (λ (o : Onward). StridesOr image l.at (l.end - l.at) l.self c.stride.new.self (Some o))
-    c.in-Some-Leap.field-0-is c.in-Some-Leap.ensures.goes in
-    let budget = c.min-budget.result in
-    let few = c.requires in
-    let test = c.loop-at-test.true in
-    let ends = i.ends in
+    let last = c.run_singly-last.result in
+    let few = c.run_singly-last.ensures.most in
     let left = i.left in
-    let low = i.low in
-    let short = i.short in
-    let within = i.within in
-    let inside = i.inside in
-    let some = goes.0 in
-    let most = goes.1 in
-    let ops = c.micros-micros.result.now in
-    let below : l.at < length image =
-    answered image l.at ops l.at (omega (arith, test, inside)) (c.micros-micros.ensures.value l.at) in
-    let done = c.in-Some-Leap.done in
-    let to = c.from-at-in-Some-Leap.result in
-    let far = c.from.result in
-    let is = c.from-at-in-Some-Leap.ensures in
-    let also = c.from.ensures in
-    record {
-      words = goes_by image budget c.args.from (budget - (l.end - l.at)) l.at _ _ to done.words
-          (budget - ((l.end - l.at - done.words + far) - to)) c.args.self.now l.self c.stride.new.self
-          (omega (arith, low)) (omega (arith, is)) (omega (arith, ends, left, some, most, test, within, is, also))
-          (omega arith) goes.2 i.ground i.words;
-      ends = omega (arith, is, also);
-      left = omega (arith, ends, left, is, also);
-      low = omega (arith, is);
-      short = i.short;
-      within = omega arith;
-      inside = omega arith;
-      ground = (goes.2 0).ground_same ∙ i.ground;
-      counts = c.stride.ensures.counts ∙ i.counts;
-    }
+    goes_by image most c.args.from (most - l.going.left) l.going.at _ last.at last.at last.words _ c.args.self.now l.self
+    c.run_singly-last.new.self refl refl (omega arith) (omega (arith, few, left)) c.run_singly-last.ensures.goes i.ground
+    i.words
+
+pub returns-clause-ground : goal.returns-clause-ground
+returns-clause-ground c = (c.run_singly-last.ensures.goes 0).ground_same ∙ c.loop-going.invariant.ground
+
+pub returns-then-not-go_on-clause-words : goal.returns-then-not-go_on-clause-words
+returns-then-not-go_on-clause-words c =
+    let image = c.args.image.now in
+    let most = c.args.most in
+    let l = c.loop-going in
+    let b' = c.go_on.new.self in
+    let stays = c.if-not-go_on.ensures.tried in
+    let first = c.args.self.now in
+    subst (λ (g : Going). BodyGoesOn image most c.args.from first (most - g.left) g.at b') (sym stays.place)
+    ((goes_none image l.going.at (most - l.going.left) l.self b' stays.lane stays.local).goes most c.args.from first
+    (omega arith) l.invariant.ground l.invariant.words)
+
+pub returns-then-not-go_on-clause-ground : goal.returns-then-not-go_on-clause-ground
+returns-then-not-go_on-clause-ground c = ap ground_of c.if-not-go_on.ensures.tried.local ∙ c.loop-going.invariant.ground

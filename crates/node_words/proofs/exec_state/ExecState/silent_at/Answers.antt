@@ -1,4 +1,4 @@
-use Rattle.std.proofs.Common.{◌≡◌, ◌∙◌, ℕ, Option, ap, sym, subst}
+use Rattle.std.proofs.Common.{◌∙◌, Option, ap, subst}
 use Rattle.exec_map.specs.Contents.{program_of}
 use Rattle.node_model.specs.jump_map.declared.image.ImageWord.{ImageWord}
 use Rattle.node_model.specs.jump_map.Maps.{fetch}

@@ -1,5 +1,4 @@
 use Rattle.std.proofs.Common.{◌≡◌, ◌+◌, ◌/◌, ◌*◌, ◌%◌, ◌^◌, ℕ, subst, arith}
-use Rattle.exec_map.specs.Contents.{program_of}
 use Rattle.node_model.specs.rv32_step.Registers.{reg, registers_of}
 use Rattle.node_model.specs.Node.{batch, indirect, miss_w, need_of_run, prepare}
 use Rattle.node_words.specs.Address.{word_address}

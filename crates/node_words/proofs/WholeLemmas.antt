@@ -1,0 +1,327 @@
+-- Whole sequences, from body to body.
+use Rattle.std.proofs.Common.{◌≡◌, ◌≢◌, ℕ, zero, suc, ◌+◌, ◌-◌, ◌*◌, ◌/◌, ◌%◌, ◌^◌, ◌<◌, ◌≤◌, Bool, true, false, ◌==◌, List, [], ◌∷◌, length, Some, refl, sym, ap, ◌∙◌, subst, arith}
+use Rattle.std.specs.Prelude.{bit_and, bit_or, slice_index, slice_index_or}
+use Rattle.rv32_decode.specs.declared.Cond.{Cond}
+use Rattle.rv32_decode.specs.declared.LoadKind.{LoadKind}
+use Rattle.rv32_decode.specs.declared.LoadKind.TheVariants.{Word as WordLoad}
+use Rattle.rv32_decode.specs.declared.Width.{Width}
+use Rattle.rv32_ops.specs.Operations.{taken}
+use Rattle.rv32_program.specs.Program.{Program}
+use Rattle.exec_map.specs.Contents.{program_of}
+use Rattle.node_model.specs.rv32_step.Memory.{load_value}
+use Rattle.node_model.specs.rv32_step.Registers.{reg, registers_of}
+use Rattle.node_model.specs.micro_op.Kinds.{branch_kind, kind_of_load, store_kind}
+use Rattle.node_model.specs.micro_op.declared.micro_op.MicroOp.{MicroOp}
+use Rattle.node_model.specs.micro_op.declared.MicroKind.{MicroKind}
+use Rattle.node_model.specs.micro_op.Micro.{Enters, Meaning, meaning_by, meaning_of, sum_address}
+use Rattle.node_model.specs.jump_map.Image.{image_base, most_words}
+use Rattle.node_model.specs.jump_map.Strides.{IsEntry, IsFlagged, IsJump, IsNumber, IsOver, IsPolled, IsRead, IsReadHead, IsWrite, IsWriteHead, StandsAt}
+use Rattle.node_model.specs.Node.{NodeMemory, ProcessorState, byte_at, is_readable_state, is_writable_state, lane_stored, local_stored, set_register}
+use Rattle.node_words.specs.declared.exec_state.ExecState.{ExecState}
+use Rattle.node_words.specs.Address.{word_address}
+use Rattle.node_words.specs.GoingOn.{GoesFurther}
+use Rattle.node_words.specs.Kept.{StepsTo, ground_of, lane_of, local_of}
+use Rattle.node_words.specs.declared.strides.Going.{Going}
+use Rattle.node_words.specs.Strides.{Gives, IsStored, StridesBy, left_by_check, left_by_head, left_one, state_at}
+use Rattle.node_words.proofs.StepLemmas.{got_below, micro_step}
+use Rattle.node_words.proofs.WordLemmas.{goes_both, goes_none, goes_one}
+use Rattle.node_words.proofs.ReachLemmas.{Code, Reaches, reaches_both, reaches_further, stands_in}
+use Rattle.node_words.proofs.SequenceLemmas.{jump_behind_reaches, jump_reaches, number_reaches, over_reaches, placed, poll_reaches, read_reaches, write_reaches}
+use Rattle.node_words.proofs.FlagLemmas.{flag_reaches}
+use Rattle.node_words.proofs.HeadLemmas.{read_head_reaches, write_head_reaches}
+
+-- a scratch register is left so wherever the processor is
+
+one_placed : (spilled : Bool) (word r v e : ℕ) (l : ProcessorState)
+    → placed (left_one spilled word r v l) e ≡ left_one spilled word r v (placed l e)
+one_placed true word r v e l = refl
+one_placed false word r v e l = refl
+
+check_placed : (n s t e : ℕ) (l : ProcessorState) → placed (left_by_check n s t l) e ≡ left_by_check n s t (placed l e)
+check_placed n s t e l =
+    one_placed _ 1 t 0x80000000 e (left_one (n == 2) 0 s 0 l)
+    ∙ ap (left_one _ 1 t 0x80000000) (one_placed (n == 2) 0 s 0 e l)
+
+head_placed : (n s t u v e : ℕ) (l : ProcessorState)
+    → placed (left_by_head n s t u v l) e ≡ left_by_head n s t u v (placed l e)
+head_placed n s t u v e l =
+    one_placed _ 2 u v e (left_one _ 1 t 0x80000000 (left_one (n == 3) 0 s 0 l))
+    ∙ ap (left_one _ 2 u v) (one_placed _ 1 t 0x80000000 e (left_one (n == 3) 0 s 0 l)
+    ∙ ap (left_one _ 1 t 0x80000000) (one_placed (n == 3) 0 s 0 e l))
+
+-- words that lead to what a body stands for lead to that body
+goes : (c : Code) (at at' k w : ℕ) (b b' : ExecState) (l : ProcessorState) (m : NodeMemory)
+    → c.program ≡ program_of b.local.program → ground_of b'.local ≡ ground_of b.local
+    → lane_of b'.lane (word_address at') ≡ l → local_of b'.local ≡ m
+    → Reaches c k (lane_of b.lane (word_address at)) (local_of b.local) l m → GoesFurther c.image b at w b' at' (w + k)
+goes c at at' k w b b' l m same ground lane local leads =
+    reaches_further c at w at' k b b' same ground
+    (subst (λ (x : ProcessorState). Reaches c k (lane_of b.lane (word_address at)) (local_of b.local) x (local_of b'.local))
+    (sym lane)
+    (subst (λ (x : NodeMemory). Reaches c k (lane_of b.lane (word_address at)) (local_of b.local) l x) (sym local) leads))
+
+-- what a load gives, by the code's program
+given : (c : Code) (q : LoadKind) (a v at : ℕ) (b : ExecState) → c.program ≡ program_of b.local.program → Gives b q a v
+    → v ≡ load_value q (byte_at c.program (lane_of b.lane at) (local_of b.local)) a
+given c q a v at b same gives =
+    gives.loaded at ∙ ap (λ (p : Program). load_value q (byte_at p (lane_of b.lane at) (local_of b.local)) a) (sym same)
+
+-- a load whose line may be read
+pub read_goes : (c : Code) (at at' n a v s t rd w : ℕ) (q : LoadKind) (b b' : ExecState)
+    → c.program ≡ program_of b.local.program → n ≤ 2 → (there : IsRead c.micros at n (kind_of_load q)) → s ≡ there.x.s
+    → t ≡ there.x.t → rd ≡ there.load.access.rd
+    → a ≡ (reg (registers_of b.lane.registers) there.x.base + there.x.imm) % 2 ^ 32
+    → is_readable_state ((local_of b.local).state (a / 64)) ≡ true → Gives b q a v → at' ≡ at + (9 + 2 * n)
+    → ((k : ℕ) → lane_of b'.lane k ≡ set_register (left_by_check n s t (lane_of b.lane k)) rd v)
+    → b'.local ≡ b.local → GoesFurther c.image b at w b' at' (w + (8 + 2 * n))
+read_goes c at at' n a v s t rd w q b b' same few there s_is t_is rd_is is readable gives end lane local =
+    let l = lane_of b.lane (word_address at) in
+    let x = there.x in
+    let r = there.load.access.rd in
+    let next = at + (9 + 2 * n) in
+    goes c at at' (8 + 2 * n) w b b' _ (local_of b.local) same (ap ground_of local)
+    (lane (word_address at')
+    ∙ (λ i. set_register (left_by_check n (s_is i) (t_is i) (lane_of b.lane (word_address (end i)))) (rd_is i) v)
+    ∙ ap (λ (y : ProcessorState). set_register y r v) (sym (check_placed n x.s x.t next l)))
+    (ap local_of local)
+    (read_reaches c at n a v q l (local_of b.local) (registers_of b.lane.registers) (slice_index b.lane.spills) few there is
+    readable gives.aligned gives.low (given c q a v (word_address at) b same gives))
+
+-- a store whose line may be written
+pub write_goes : (c : Code) (at at' n a v s t w : ℕ) (q : Width) (b m b' : ExecState)
+    → c.program ≡ program_of b.local.program → n ≤ 2 → (there : IsWrite c.micros at n (store_kind q)) → s ≡ there.x.s
+    → t ≡ there.x.t → a ≡ (reg (registers_of b.lane.registers) there.x.base + there.x.imm) % 2 ^ 32
+    → v ≡ reg (registers_of b.lane.registers) there.store.access.rs2
+    → is_writable_state ((local_of b.local).state (a / 64)) ≡ true → IsStored b q a v m → at' ≡ at + (8 + 2 * n)
+    → ((k : ℕ) → lane_of b'.lane k ≡ left_by_check n s t (lane_of m.lane k)) → b'.local ≡ m.local
+    → GoesFurther c.image b at w b' at' (w + (7 + 2 * n))
+write_goes c at at' n a v s t w q b m b' same few there s_is t_is is value writable stored end lane local =
+    let l = lane_of b.lane (word_address at) in
+    let x = there.x in
+    let next = at + (8 + 2 * n) in
+    let leaves = stored.leaves (word_address at') in
+    goes c at at' (7 + 2 * n) w b b' _ (local_stored c.program (local_of b.local) q a v) same
+    (ap ground_of local ∙ leaves.ground_same)
+    (lane (word_address at') ∙ ap (left_by_check n s t) leaves.lane
+    ∙ (λ i. left_by_check n (s_is i) (t_is i)
+    (lane_stored (sym same i) (lane_of b.lane (word_address (end i))) q a v))
+    ∙ sym (check_placed n x.s x.t next (lane_stored c.program l q a v)))
+    (ap local_of local ∙ leaves.local ∙ ap (λ (p : Program). local_stored p (local_of b.local) q a v) (sym same))
+    (write_reaches c at n a v q l (local_of b.local) (registers_of b.lane.registers) (slice_index b.lane.spills) few there is
+    value writable stored.aligned stored.low)
+
+-- a load that looks at its value
+pub flag_goes : (c : Code) (at at' n a v s r w : ℕ) (b b' : ExecState) → c.program ≡ program_of b.local.program → n ≤ 1
+    → (there : IsFlagged c.micros at n) → s ≡ there.s → r ≡ there.v
+    → a ≡ (reg (registers_of b.lane.registers) there.base + there.imm) % 2 ^ 32 → Gives b WordLoad a v
+    → v ≢ 0xffffff03 → at' ≡ at + (7 + 2 * n)
+    → ((k : ℕ) → lane_of b'.lane k ≡ set_register (left_one (n == 1) 0 s 0xffffff03 (lane_of b.lane k)) r v)
+    → b'.local ≡ b.local → GoesFurther c.image b at w b' at' (w + (5 + 2 * n))
+flag_goes c at at' n a v s r w b b' same few there s_is r_is is gives apart end lane local =
+    let l = lane_of b.lane (word_address at) in
+    let next = at + (7 + 2 * n) in
+    goes c at at' (5 + 2 * n) w b b' _ (local_of b.local) same (ap ground_of local)
+    (lane (word_address at')
+    ∙ (λ i. set_register (left_one (n == 1) 0 (s_is i) 0xffffff03 (lane_of b.lane (word_address (end i)))) (r_is i) v)
+    ∙ ap (λ (y : ProcessorState). set_register y there.v v) (sym (one_placed (n == 1) 0 there.s 0xffffff03 next l)))
+    (ap local_of local)
+    (flag_reaches c at n a v l (local_of b.local) (registers_of b.lane.registers) (slice_index b.lane.spills) few there is
+    gives.aligned gives.low (given c WordLoad a v (word_address at) b same gives) apart)
+
+-- the head of a batch that only loads
+pub read_head_goes : (c : Code) (at at' n w : ℕ) (b b' : ExecState) → c.program ≡ program_of b.local.program → n ≤ 3
+    → (there : IsReadHead c.micros at n)
+    → bit_and (bit_or (state_at b there.head.x.base there.head.x.imm) (state_at b there.head.x.base there.head.high)) 2 ≡ 0
+    → at' ≡ at + (16 + 2 * n)
+    → ((k : ℕ) → lane_of b'.lane k ≡ left_by_head n there.head.x.s there.head.x.t there.head.u
+    (state_at b there.head.x.base there.head.high) (lane_of b.lane k))
+    → b'.local ≡ b.local → GoesFurther c.image b at w b' at' (w + (12 + 2 * n))
+read_head_goes c at at' n w b b' same few there clear end lane local =
+    let l = lane_of b.lane (word_address at) in
+    let h = there.head in
+    let x = h.x in
+    let next = at + (16 + 2 * n) in
+    let state = state_at b x.base h.high in
+    goes c at at' (12 + 2 * n) w b b' _ (local_of b.local) same (ap ground_of local)
+    (lane (word_address at')
+    ∙ ap (λ (i : ℕ). left_by_head n x.s x.t h.u state (lane_of b.lane (word_address i))) end
+    ∙ sym (head_placed n x.s x.t h.u state next l))
+    (ap local_of local)
+    (read_head_reaches c at n _ _ l (local_of b.local) (registers_of b.lane.registers) (slice_index b.lane.spills) few there
+    refl refl clear)
+
+-- that of one that stores
+pub write_head_goes : (c : Code) (at at' n w : ℕ) (b b' : ExecState) → c.program ≡ program_of b.local.program → n ≤ 3
+    → (there : IsWriteHead c.micros at n)
+    → bit_or (state_at b there.head.x.base there.head.x.imm) (state_at b there.head.x.base there.head.high) ≡ 0
+    → at' ≡ at + (15 + 2 * n)
+    → ((k : ℕ) → lane_of b'.lane k ≡ left_by_head n there.head.x.s there.head.x.t there.head.u
+    (state_at b there.head.x.base there.head.high) (lane_of b.lane k))
+    → b'.local ≡ b.local → GoesFurther c.image b at w b' at' (w + (11 + 2 * n))
+write_head_goes c at at' n w b b' same few there clear end lane local =
+    let l = lane_of b.lane (word_address at) in
+    let h = there.head in
+    let x = h.x in
+    let next = at + (15 + 2 * n) in
+    let state = state_at b x.base h.high in
+    goes c at at' (11 + 2 * n) w b b' _ (local_of b.local) same (ap ground_of local)
+    (lane (word_address at')
+    ∙ ap (λ (i : ℕ). left_by_head n x.s x.t h.u state (lane_of b.lane (word_address i))) end
+    ∙ sym (head_placed n x.s x.t h.u state next l))
+    (ap local_of local)
+    (write_head_reaches c at n _ _ l (local_of b.local) (registers_of b.lane.registers) (slice_index b.lane.spills) few there
+    refl refl clear)
+
+-- a number, and the same with a jump behind it
+pub number_goes : (c : Code) (at at' v rd w : ℕ) (b b' : ExecState) → c.program ≡ program_of b.local.program
+    → (there : IsNumber c.micros at) → rd ≡ there.upper.rd → v ≡ (there.upper.imm + there.lower.imm) % 2 ^ 32
+    → at' ≡ at + 2 → ((k : ℕ) → lane_of b'.lane k ≡ set_register (lane_of b.lane k) rd v) → b'.local ≡ b.local
+    → GoesFurther c.image b at w b' at' (w + 2)
+number_goes c at at' v rd w b b' same there rd_is is end lane local =
+    goes c at at' 2 w b b' _ (local_of b.local) same (ap ground_of local)
+    (lane (word_address at') ∙ ap (λ (r : ℕ). set_register (lane_of b.lane (word_address at')) r v) rd_is) (ap local_of local)
+    (number_reaches c at at' v (lane_of b.lane (word_address at)) (local_of b.local) (registers_of b.lane.registers)
+    (slice_index b.lane.spills) end there is)
+
+pub call_goes : (c : Code) (at at' v rd w : ℕ) (b b' : ExecState) → c.program ≡ program_of b.local.program
+    → (there : IsNumber c.micros at) → rd ≡ there.upper.rd → v ≡ (there.upper.imm + there.lower.imm) % 2 ^ 32
+    → (jump : IsJump c.micros (at + 2)) → at' ≡ jump.jump.imm
+    → ((k : ℕ) → lane_of b'.lane k ≡ set_register (lane_of b.lane k) rd v) → b'.local ≡ b.local
+    → GoesFurther c.image b at w b' at' (w + 3)
+call_goes c at at' v rd w b b' same there rd_is is jump end lane local =
+    let l = lane_of b.lane (word_address at) in
+    let m = local_of b.local in
+    goes c at at' 3 w b b' _ m same (ap ground_of local)
+    (lane (word_address at') ∙ ap (λ (r : ℕ). set_register (lane_of b.lane (word_address at')) r v) rd_is) (ap local_of local)
+    (reaches_both 2 1 3 refl
+    (number_reaches c at (at + 2) v l m (registers_of b.lane.registers) (slice_index b.lane.spills) refl there is)
+    (jump_reaches c (at + 2) at' l m _ (slice_index b.lane.spills) jump end))
+
+-- words that change nothing but where the processor is
+
+pub poll_goes : (c : Code) (at at' w : ℕ) (b : ExecState) → c.program ≡ program_of b.local.program
+    → IsPolled c.micros at → at' ≡ at + 1 → GoesFurther c.image b at w b at' (w + 1)
+poll_goes c at at' w b same there end =
+    goes c at at' 1 w b b _ (local_of b.local) same refl refl refl
+    (poll_reaches c at at' (lane_of b.lane (word_address at)) (local_of b.local) (registers_of b.lane.registers)
+    (slice_index b.lane.spills) end there)
+
+pub jump_goes : (c : Code) (at at' w : ℕ) (b : ExecState) → c.program ≡ program_of b.local.program
+    → (there : IsJump c.micros at) → at' ≡ there.jump.imm → GoesFurther c.image b at w b at' (w + 1)
+jump_goes c at at' w b same there end =
+    goes c at at' 1 w b b _ (local_of b.local) same refl refl refl
+    (jump_reaches c at at' (lane_of b.lane (word_address at)) (local_of b.local) (registers_of b.lane.registers)
+    (slice_index b.lane.spills) there end)
+
+pub over_goes : (c : Code) (at at' w : ℕ) (q : Cond) (b : ExecState) → c.program ≡ program_of b.local.program
+    → (there : IsOver c.micros at (branch_kind q))
+    → taken q (reg (registers_of b.lane.registers) there.branch.rs1) (reg (registers_of b.lane.registers) there.branch.rs2) ≡ true
+    → at' ≡ at + 2 → GoesFurther c.image b at w b at' (w + 1)
+over_goes c at at' w q b same there holds end =
+    goes c at at' 1 w b b _ (local_of b.local) same refl refl refl
+    (over_reaches c at at' q (lane_of b.lane (word_address at)) (local_of b.local) (registers_of b.lane.registers)
+    (slice_index b.lane.spills) there holds end)
+
+pub jump_behind_goes : (c : Code) (at at' w : ℕ) (q : Cond) (b : ExecState) → c.program ≡ program_of b.local.program
+    → (there : IsOver c.micros at (branch_kind q))
+    → taken q (reg (registers_of b.lane.registers) there.branch.rs1) (reg (registers_of b.lane.registers) there.branch.rs2) ≡ false
+    → at' ≡ there.jump.jump.imm → GoesFurther c.image b at w b at' (w + 2)
+jump_behind_goes c at at' w q b same there fails end =
+    goes c at at' 2 w b b _ (local_of b.local) same refl refl refl
+    (jump_behind_reaches c at at' q (lane_of b.lane (word_address at)) (local_of b.local) (registers_of b.lane.registers)
+    (slice_index b.lane.spills) there fails end)
+
+-- behind a poll, where there is one
+polled : (c : Code) (at n w : ℕ) (b : ExecState) → c.program ≡ program_of b.local.program → n ≤ 1
+    → ((i : ℕ) → i < n → IsPolled c.micros (at + i)) → GoesFurther c.image b at w b (at + n) (w + n)
+polled c at zero w b same few polls =
+    let here : at ≡ at + 0 = omega arith in
+    let none : w ≡ w + 0 = omega arith in
+    subst (λ (i : ℕ). GoesFurther c.image b at w b i (w + 0)) here
+    (subst (λ (i : ℕ). GoesFurther c.image b at w b at i) none (goes_none c.image at w b b refl refl))
+polled c at (suc zero) w b same few polls =
+    let here : at + 0 ≡ at = omega arith in
+    poll_goes c at (at + 1) w b same (subst (λ (i : ℕ). IsPolled c.micros i) here (polls 0 (omega arith))) refl
+polled c at (suc (suc n)) w b same few polls = absurd (omega (arith, few))
+
+pub over_behind : (c : Code) (at at' n w : ℕ) (q : Cond) (b : ExecState) → c.program ≡ program_of b.local.program → n ≤ 1
+    → ((i : ℕ) → i < n → IsPolled c.micros (at + i)) → (there : IsOver c.micros (at + n) (branch_kind q))
+    → taken q (reg (registers_of b.lane.registers) there.branch.rs1) (reg (registers_of b.lane.registers) there.branch.rs2) ≡ true
+    → at' ≡ at + (n + 2) → GoesFurther c.image b at w b at' (w + (n + 1))
+over_behind c at at' n w q b same few polls there holds end =
+    let sum : w + n + 1 ≡ w + (n + 1) = omega arith in
+    subst (λ (i : ℕ). GoesFurther c.image b at w b at' i) sum
+    (goes_both c.image at w (at + n) (w + n) at' (w + n + 1) b b b (polled c at n w b same few polls)
+    (over_goes c (at + n) at' (w + n) q b same there holds (omega (arith, end))))
+
+pub jump_behind : (c : Code) (at at' n w : ℕ) (q : Cond) (b : ExecState) → c.program ≡ program_of b.local.program → n ≤ 1
+    → ((i : ℕ) → i < n → IsPolled c.micros (at + i)) → (there : IsOver c.micros (at + n) (branch_kind q))
+    → taken q (reg (registers_of b.lane.registers) there.branch.rs1) (reg (registers_of b.lane.registers) there.branch.rs2) ≡ false
+    → at' ≡ there.jump.jump.imm → GoesFurther c.image b at w b at' (w + (n + 2))
+jump_behind c at at' n w q b same few polls there fails end =
+    let sum : w + n + 2 ≡ w + (n + 2) = omega arith in
+    subst (λ (i : ℕ). GoesFurther c.image b at w b at' i) sum
+    (goes_both c.image at w (at + n) (w + n) at' (w + n + 2) b b b (polled c at n w b same few polls)
+    (jump_behind_goes c (at + n) at' (w + n) q b same there fails end))
+
+pub poll_jump_goes : (c : Code) (at at' w : ℕ) (b : ExecState) → c.program ≡ program_of b.local.program
+    → IsPolled c.micros at → (there : IsJump c.micros (at + 1)) → at' ≡ there.jump.imm
+    → GoesFurther c.image b at w b at' (w + 2)
+poll_jump_goes c at at' w b same poll there end =
+    let sum : w + 1 + 1 ≡ w + 2 = omega arith in
+    subst (λ (i : ℕ). GoesFurther c.image b at w b at' i) sum
+    (goes_both c.image at w (at + 1) (w + 1) at' (w + 1 + 1) b b b (poll_goes c at (at + 1) w b same poll refl)
+    (jump_goes c (at + 1) at' (w + 1) b same there end))
+
+pub poll_enter_goes : (c : Code) (at at' w : ℕ) (b : ExecState) → c.program ≡ program_of b.local.program
+    → IsPolled c.micros at → (there : IsEntry c.micros (at + 1))
+    → ((k : ℕ) → StepsTo c.image (Enters (sum_address there.entry (registers_of b.lane.registers) / 2 * 2)) k b.lane b.local b.lane b.local (Some at'))
+    → GoesFurther c.image b at w b at' (w + 2)
+poll_enter_goes c at at' w b same poll there steps =
+    let op = there.entry in
+    let f = registers_of b.lane.registers in
+    let is = stands_in c (at + 1) op there.there in
+    let means : meaning_of image_base op f ≡ Enters (sum_address op f / 2 * 2) =
+    ap (λ (k : MicroKind). meaning_by k image_base op f) there.is in
+    let sum : w + 1 + 1 ≡ w + 2 = omega arith in
+    subst (λ (i : ℕ). GoesFurther c.image b at w b at' i) sum
+    (goes_both c.image at w (at + 1) (w + 1) at' (w + 1 + 1) b b b (poll_goes c at (at + 1) w b same poll refl)
+    (goes_one c.image (at + 1) (w + 1) at' b b
+    (micro_step c.image op (at + 1) b.lane b.local b.lane b.local (Some at') is.cell c.few is.there is.micro
+    (subst (λ (x : Meaning). StepsTo c.image x (at + 1) b.lane b.local b.lane b.local (Some at')) (sym means) (steps (at + 1))))))
+
+-- the words of a stride
+
+pub strides_by : (c : Code) (k : ℕ) (from to : Going) (b b' : ExecState) → to.left + k ≡ from.left → 0 < k
+    → to.at < 2 ^ 32 → ((w : ℕ) → GoesFurther c.image b from.at w b' to.at (w + k)) → StridesBy c.image from b to b'
+strides_by c k from to b b' left some low goes =
+    let count : k ≡ from.left - to.left = omega (arith, left) in
+    record {
+      some = omega (arith, left, some);
+      low = low;
+      goes = λ words. subst (λ (n : ℕ). GoesFurther c.image b from.at words b' to.at (words + n)) count (goes words);
+    }
+
+-- a micro-op that stands at a number
+
+pub read_at : (micros : List MicroOp) (k : ℕ) (none m : MicroOp) → StandsAt micros k m → slice_index_or micros k none ≡ m
+read_at [] k none m is = absurd (cc)
+read_at (x ∷ xs) zero none m is = cc
+read_at (x ∷ xs) (suc k) none m is = read_at xs k none m is
+
+-- an element that was read is the one that stands there
+pub found_at : (micros : List MicroOp) (k : ℕ) (found m : MicroOp) → found ≡ slice_index_or micros k found
+    → StandsAt micros k m → found ≡ m
+found_at micros k found m is stands = is ∙ read_at micros k found m stands
+
+pub stands_below : (micros : List MicroOp) (k : ℕ) (m : MicroOp) → StandsAt micros k m → k < length micros
+stands_below [] k m is = absurd (cc)
+stands_below (x ∷ xs) zero m is = omega arith
+stands_below (x ∷ xs) (suc k) m is = let rest = stands_below xs k m is in omega (arith, rest)
+
+pub stands_low : (c : Code) (k : ℕ) (m : MicroOp) → StandsAt c.micros k m → k < most_words
+stands_low c k m stands =
+    let is = stands_in c k m stands in
+    let below = got_below c.image k is.cell is.there in
+    let few = c.few in
+    omega (arith, below, few)

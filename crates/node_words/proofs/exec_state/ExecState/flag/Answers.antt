@@ -1,0 +1,71 @@
+use Rattle.std.proofs.Common.{rules, Fits, w64, ◌≡◌, ◌+◌, ◌*◌, ap, ◌∙◌, refl, arith}
+use Rattle.std.specs.Prelude.{slice_index_or}
+use Rattle.node_model.specs.rv32_step.Registers.{registers_of}
+use Rattle.node_model.specs.micro_op.declared.micro_op.MicroOp.{MicroOp}
+use Rattle.node_model.specs.micro_op.declared.MicroKind.TheVariants as kind
+use Rattle.node_model.specs.micro_op.Micro.{sum_address}
+use Rattle.node_model.specs.jump_map.Strides.{flag_look, op_of}
+use Rattle.node_model.specs.Node.{ProcessorState, set_register}
+use Rattle.node_words.specs.Kept.{lane_of}
+use Rattle.node_words.proofs.ReachLemmas.{Code, code_of}
+use Rattle.node_words.proofs.SequenceLemmas.{begins}
+use Rattle.node_words.proofs.WholeLemmas.{flag_goes, found_at, read_at, stands_below, stands_low, strides_by}
+use Rattle.node_words.proofs.exec_state.ExecState.flag.Goals as goal
+
+pub offset_bounds-micros-first : goal.offset_bounds-micros-first
+offset_bounds-micros-first c =
+    let below = stands_below c.args.micros.now _ _ (c.requires.there.look 0 _ refl) in search rules
+
+pub bounds-micros-first : goal.bounds-micros-first
+bounds-micros-first c =
+    let below = stands_below c.args.micros.now _ _ (c.requires.there.look 0 _ refl) in search rules
+
+pub overflow_add-first-in-Some : goal.overflow_add-first-in-Some
+overflow_add-first-in-Some c =
+    let below = stands_below c.args.micros.now _ _ (c.requires.there.look 2 _ refl) in search rules
+
+pub offset_bounds-micros-first-in-Some : goal.offset_bounds-micros-first-in-Some
+offset_bounds-micros-first-in-Some c =
+    let below = stands_below c.args.micros.now _ _ (c.requires.there.look 2 _ refl) in search rules
+
+pub bounds-micros-first-in-Some : goal.bounds-micros-first-in-Some
+bounds-micros-first-in-Some c =
+    let below = stands_below c.args.micros.now _ _ (c.requires.there.look 2 _ refl) in search rules
+
+pub bounds-micros-first-in-Some-2 : goal.bounds-micros-first-in-Some-2
+bounds-micros-first-in-Some-2 c =
+    let below = stands_below c.args.micros.now _ _ (c.requires.there.look 2 _ refl) in search rules
+
+pub on-requires-clause-low : goal.on-requires-clause-low
+on-requires-clause-low c =
+    let below = stands_below c.args.micros.now _ _ (c.requires.there.look 2 _ refl) in
+    let fits : Fits w64 ((c.args.going.now.at + c.args.spilled + 2) * 8) = search rules in
+    let some = c.requires.few in
+    omega (arith, some, fits)
+
+pub returns-in-Some-clause-strides : goal.returns-in-Some-clause-strides
+returns-in-Some-clause-strides c image few are =
+    let b = c.args.self.now in
+    let micros = c.args.micros.now in
+    let at = c.args.going.now.at in
+    let n = c.args.spilled in
+    let there = c.requires.there in
+    let code : Code = code_of b image micros few are in
+    let first = op_of kind.AddImm there.s there.base 0 there.imm in
+    let look = found_at micros (at + n) _ first c.index-micros-first.is
+    (begins micros (at + n) (flag_look (at + n) there.s there.v there.base there.imm) first there.look refl) in
+    let second = op_of kind.LoadWord there.v there.base 0 there.imm in
+    let element = slice_index_or micros (at + n + 2) c.index-micros-first-in-Some.result in
+    let load : element ≡ second = read_at micros (at + n + 2) c.index-micros-first-in-Some.result second (there.look 2 _ refl) in
+    let is = c.sum_by.ensures ∙ ap (λ (m : MicroOp). sum_address m (registers_of b.lane.registers)) look in
+    let next = c.on.ensures.at in
+    let some = c.requires.few in
+    let last = stands_low code (at + n + 2) second (there.look 2 _ refl) in
+    strides_by code (5 + 2 * n) c.args.going.now c.on.new.self b _ c.on.ensures.left (omega arith)
+    (omega (arith, next, some, last))
+    (λ w. flag_goes code at c.on.new.self.at n c.sum_by.result c.in-Some.value _ _ w b _ refl some there
+    (ap (λ (m : MicroOp). m.rd) look) (ap (λ (m : MicroOp). m.rd) load) is c.in-Some.ensures.value
+    c.in-Some.ensures.unlike next
+    (λ k. (λ i. record (lane_of c.leave_one.new.self.lane k) { registers = c.set.ensures i })
+    ∙ ap (λ (l : ProcessorState). set_register l element.rd c.in-Some.value) (c.leave_one.ensures.lane k))
+    c.leave_one.ensures.local)

@@ -1,0 +1,40 @@
+use Rattle.std.proofs.Common.{◌≡◌, ◌+◌, ◌*◌, ap, ◌∙◌, refl, arith}
+use Rattle.std.specs.Prelude.{slice_index_or}
+use Rattle.node_model.specs.rv32_step.Registers.{registers_of}
+use Rattle.node_model.specs.micro_op.declared.micro_op.MicroOp.{MicroOp}
+use Rattle.node_model.specs.micro_op.declared.MicroKind.TheVariants as kind
+use Rattle.node_model.specs.micro_op.Micro.{sum_address}
+use Rattle.node_model.specs.jump_map.Strides.{op_of, state_look}
+use Rattle.node_model.specs.Node.{ProcessorState, set_register}
+use Rattle.node_words.specs.Kept.{lane_of}
+use Rattle.node_words.proofs.ReachLemmas.{Code, code_of}
+use Rattle.node_words.proofs.SequenceLemmas.{begins}
+use Rattle.node_words.proofs.WholeLemmas.{found_at, read_at, read_goes, stands_low, strides_by}
+use Rattle.node_words.proofs.exec_state.ExecState.read.Goals as goal
+
+pub returns-in-Some-clause-strides : goal.returns-in-Some-clause-strides
+returns-in-Some-clause-strides c image few are =
+    let b = c.args.self.now in
+    let micros = c.args.micros.now in
+    let at = c.args.going.now.at in
+    let n = c.args.spilled in
+    let there = c.requires.there in
+    let x = there.x in
+    let code : Code = code_of b image micros few are in
+    let first = op_of kind.AddImm x.s x.base 0 x.imm in
+    let look = found_at micros (at + n) _ first c.index-micros-first.is (begins micros (at + n) (state_look x.s x.t x.base x.imm) first there.look refl) in
+    let table = read_at micros (at + n + 1) c.index-micros-first-in-Some.result (op_of kind.Constant x.t 0 0 0x80000000) (there.look 1 _ refl) in
+    let element = slice_index_or micros (at + n + 8) c.index-micros-first-in-Some-2.result in
+    let load : element ≡ there.load.access = read_at micros (at + n + 8) c.index-micros-first-in-Some-2.result there.load.access there.load.there in
+    let is = c.sum_by.ensures ∙ ap (λ (m : MicroOp). sum_address m (registers_of b.lane.registers)) look in
+    let next = c.on.ensures.at in
+    let some = c.requires.few in
+    let last = stands_low code (at + n + 8) there.load.access there.load.there in
+    strides_by code (8 + 2 * n) c.args.going.now c.on.new.self b _ c.on.ensures.left (omega arith)
+    (omega (arith, next, some, last))
+    (λ w. read_goes code at c.on.new.self.at n c.sum_by.result c.in-Some.value _ _ _ w c.args.kind b _ refl some there
+    (ap (λ (m : MicroOp). m.rd) look) (ap (λ (m : MicroOp). m.rd) table) (ap (λ (m : MicroOp). m.rd) load) is
+    c.in-Some.ensures.readable c.in-Some.ensures.value next
+    (λ k. (λ i. record (lane_of c.leave.new.self.lane k) { registers = c.set.ensures i })
+    ∙ ap (λ (l : ProcessorState). set_register l element.rd c.in-Some.value) (c.leave.ensures.lane k))
+    c.leave.ensures.local)

@@ -1,0 +1,39 @@
+use Rattle.std.proofs.Common.{rules, Fits, w64, ◌≡◌, ℕ, ◌+◌, ◌*◌, ◌%◌, ◌^◌, ◌<◌, sym, ◌∙◌, refl, arith}
+use Rattle.std.proofs.lemmas.Nat.{and_mask}
+use Rattle.std.specs.Prelude.{bit_and, bit_or}
+use Rattle.node_model.specs.jump_map.Strides.{skip}
+use Rattle.node_words.specs.Strides.{state_at}
+use Rattle.node_words.proofs.ReachLemmas.{Code, code_of}
+use Rattle.node_words.proofs.WholeLemmas.{stands_below, stands_low, strides_by, write_head_goes}
+use Rattle.node_words.proofs.exec_state.ExecState.write_head.Goals as goal
+
+-- a byte of which all bits are clear
+no_bits : (n : ℕ) → n < 2 ^ 8 → bit_and n 255 ≡ 0 → n ≡ 0
+no_bits n small clear =
+    let low : n % 2 ^ 8 ≡ 0 = sym (and_mask n 8) ∙ clear in
+    omega (arith, small, low)
+
+pub on-requires-clause-low : goal.on-requires-clause-low
+on-requires-clause-low c =
+    let below = stands_below c.args.micros.now _ _ (c.requires.there.test 0 _ refl) in
+    let fits : Fits w64 ((c.args.going.now.at + c.args.spilled + 10 + 0) * 8) = search rules in
+    let some = c.requires.few in
+    omega (arith, some, fits)
+
+pub returns-then-head-clause-strides : goal.returns-then-head-clause-strides
+returns-then-head-clause-strides c image few are =
+    let b = c.args.self.now in
+    let at = c.args.going.now.at in
+    let n = c.args.spilled in
+    let there = c.requires.there in
+    let h = there.head in
+    let code : Code = code_of b image c.args.micros.now few are in
+    let next = c.on.ensures.at in
+    let some = c.requires.few in
+    let last = stands_low code (at + n + 10 + 0) (skip h.x.s (at + n + 15)) (there.test 0 _ refl) in
+    let both = bit_or (state_at b h.x.base h.x.imm) (state_at b h.x.base h.high) in
+    strides_by code (11 + 2 * n) c.args.going.now c.on.new.self b c.head.new.self c.on.ensures.left (omega arith)
+    (omega (arith, next, some, last))
+    (λ w. write_head_goes code at c.on.new.self.at n w b c.head.new.self refl some there
+    (no_bits both (c.if-head.ensures.small refl h) (c.if-head.ensures.clear refl h)) next (c.if-head.ensures.lane refl h)
+    c.head.ensures.local)

@@ -1,0 +1,413 @@
+//! What one word does, by its micro-op.
+//!
+//! Each function says whether it has done what the micro-op does. Where it hasn't, nothing has
+//! changed, and the word is left to the path that serves every word.
+
+ghost use Rattle.std.specs.Prelude.{◌≡◌, ◌≢◌, ◌+◌, ◌*◌, ◌/◌, ◌^◌, ◌<◌, ◌≤◌, ℕ, List, Some};
+ghost use Rattle.std.specs.Prelude.{IfSome, true, false};
+ghost use Rattle.rv32_decode.specs.declared.LoadKind.{LoadKind};
+ghost use Rattle.byte_range.specs.Window.{is_in_window};
+ghost use Rattle.rv32_ops.specs.Operations as operations;
+ghost use Rattle.node_model.specs.rv32_step.Registers.{reg, registers_of};
+ghost use Rattle.node_model.specs.rv32_step.declared.Demand.TheVariants.{Jumps, Sets};
+ghost use Rattle.node_model.specs.micro_op.Micro as micro;
+ghost use Rattle.node_model.specs.micro_op.Micro.{Demands, Enters, meaning_of, sum_address};
+ghost use Rattle.node_model.specs.jump_map.Image.{Cell, image_base, most_words};
+ghost use Rattle.node_model.specs.Node as model;
+ghost use Rattle.node_words.specs.Address.{word_address};
+ghost use Rattle.node_words.specs.Kept.{StepsTo, local_of};
+ghost use Rattle.node_words.specs.Strides.{Gives, IsStored, IsStoredOr, IsTried, StepsBy};
+
+use crate::exec_state::ExecState;
+use crate::lane::address_of;
+use crate::lines::{is_readable, is_writable};
+use crate::strides::Going;
+use node_model::jump_map::{IMAGE_BASE, Image};
+use node_model::micro_op::MicroOp;
+use node_model::runtime_words::FLAG_WORD;
+use rv32_decode::{Cond, LoadKind, Op, Width};
+use rv32_ops::{alu, extend, taken};
+use rv32_program::addresses::MEMORY_END;
+
+/// The first address of the window.
+const WINDOW: u32 = 0x7fff_0000;
+
+impl<'a> ExecState<'a> {
+    /// Puts a number into a register.
+    #[inline(always)]
+    pub(crate) fn constant(&mut self, op: &MicroOp, going: &mut Going) -> bool
+        requires room { 0 < going.old.left }
+        requires low { going.old.at < most_words }
+        requires means { meaning_of image_base op.now (registers_of self.old.lane.registers)
+            ≡ Demands (Sets op.now.rd op.now.imm) }
+        ensures tried { (image : List Cell) → IsTried result
+            (StepsBy image op.now going.old self.old going.new self.new)
+            going.old self.old going.new self.new }
+        ensures counts { self.new.counts ≡ self.old.counts }
+    {
+        self.lane.registers.set(op.rd, op.imm);
+        going.on(1, 1);
+        true
+    }
+
+    /// An operation on a register and the immediate.
+    #[inline(always)]
+    pub(crate) fn by_immediate(&mut self, o: Op, op: &MicroOp, going: &mut Going) -> bool
+        requires room { 0 < going.old.left }
+        requires low { going.old.at < most_words }
+        requires means { meaning_of image_base op.now (registers_of self.old.lane.registers)
+            ≡ micro.by_immediate o op.now (registers_of self.old.lane.registers) }
+        ensures tried { (image : List Cell) → IsTried result
+            (StepsBy image op.now going.old self.old going.new self.new)
+            going.old self.old going.new self.new }
+        ensures counts { self.new.counts ≡ self.old.counts }
+    {
+        let value = alu(o, self.lane.registers.get(op.rs1), op.imm);
+        self.lane.registers.set(op.rd, value);
+        going.on(1, 1);
+        true
+    }
+
+    /// An operation on two registers.
+    #[inline(always)]
+    pub(crate) fn by_registers(&mut self, o: Op, op: &MicroOp, going: &mut Going) -> bool
+        requires room { 0 < going.old.left }
+        requires low { going.old.at < most_words }
+        requires means { meaning_of image_base op.now (registers_of self.old.lane.registers)
+            ≡ micro.by_registers o op.now (registers_of self.old.lane.registers) }
+        ensures tried { (image : List Cell) → IsTried result
+            (StepsBy image op.now going.old self.old going.new self.new)
+            going.old self.old going.new self.new }
+        ensures counts { self.new.counts ≡ self.old.counts }
+    {
+        let a = self.lane.registers.get(op.rs1);
+        let value = alu(o, a, self.lane.registers.get(op.rs2));
+        self.lane.registers.set(op.rd, value);
+        going.on(1, 1);
+        true
+    }
+
+    /// A slow operation on two registers.
+    #[inline(always)]
+    pub(crate) fn by_slow(&mut self, o: Op, op: &MicroOp, going: &mut Going) -> bool
+        requires room { 0 < going.old.left }
+        requires low { going.old.at < most_words }
+        requires means { meaning_of image_base op.now (registers_of self.old.lane.registers)
+            ≡ micro.by_registers o op.now (registers_of self.old.lane.registers) }
+        ensures tried { (image : List Cell) → IsTried result
+            (StepsBy image op.now going.old self.old going.new self.new)
+            going.old self.old going.new self.new }
+        ensures counts { self.new.counts ≡ self.old.counts }
+    {
+        let a = self.lane.registers.get(op.rs1);
+        let value = alu_apart(o, a, self.lane.registers.get(op.rs2));
+        self.lane.registers.set(op.rd, value);
+        going.on(1, 1);
+        true
+    }
+
+    /// A jump that keeps no link, where it is the last of so many words.
+    #[inline(always)]
+    pub(crate) fn jump(&self, words: u64, op: &MicroOp, going: &mut Going) -> bool
+        requires room { words ≤ going.old.left }
+        ensures left { going.new.left + words ≡ going.old.left }
+        ensures at { going.new.at ≡ op.now.imm }
+        ensures low { going.new.at < 2 ^ 32 }
+        ensures done { result ≡ true }
+    {
+        going.to(words, op.imm);
+        true
+    }
+
+    /// A jump that keeps the address of the next word in a register.
+    #[inline(always)]
+    pub(crate) fn link(&mut self, op: &MicroOp, going: &mut Going) -> bool
+        requires room { 0 < going.old.left }
+        requires low { going.old.at < most_words }
+        requires means { meaning_of image_base op.now (registers_of self.old.lane.registers)
+            ≡ Demands (Jumps op.now.rd (word_address op.now.imm)) }
+        ensures tried { (image : List Cell) → IsTried result
+            (StepsBy image op.now going.old self.old going.new self.new)
+            going.old self.old going.new self.new }
+        ensures counts { self.new.counts ≡ self.old.counts }
+    {
+        let next = address_of(going.at as u32 + 1);
+        self.lane.registers.set(op.rd, next);
+        going.to(1, op.imm);
+        true
+    }
+
+    /// Enters the sequence of an original address, where it is the last of so many words.
+    #[inline(always)]
+    pub(crate) fn enter(&self, words: u64, op: &MicroOp, image: &Image, going: &mut Going) -> bool
+        requires room { words ≤ going.old.left }
+        ensures left { result ≡ true → going.new.left + words ≡ going.old.left }
+        ensures steps { result ≡ true → (at : ℕ) → StepsTo image.now
+            (Enters (sum_address op.now (registers_of self.now.lane.registers) / 2 * 2)) at
+            self.now.lane self.now.local self.now.lane self.now.local (Some going.new.at) }
+        ensures low { result ≡ true → going.new.at < 2 ^ 32 }
+        ensures none { result ≡ false → going.new ≡ going.old }
+    {
+        let original = self.sum_by(op) / 2 * 2;
+        if original % 4 != 0 {
+            return false;
+        }
+        match image.new_of(original) {
+            Some(new) => {
+                going.to(words, (new - IMAGE_BASE) / 4);
+                true
+            }
+            None => false,
+        }
+    }
+
+    /// A branch.
+    #[inline(always)]
+    pub(crate) fn branch(&self, c: Cond, op: &MicroOp, going: &mut Going) -> bool
+        requires room { 0 < going.old.left }
+        requires low { going.old.at < most_words }
+        requires means { meaning_of image_base op.now (registers_of self.now.lane.registers)
+            ≡ micro.branches c image_base op.now (registers_of self.now.lane.registers) }
+        ensures tried { (image : List Cell) → IsTried result
+            (StepsBy image op.now going.old self.now going.new self.now)
+            going.old self.now going.new self.now }
+    {
+        if self.holds(c, op) {
+            going.to(1, op.imm);
+        } else {
+            going.on(1, 1);
+        }
+        true
+    }
+
+    /// A load, where it is aligned.
+    #[inline(always)]
+    pub(crate) fn load_by(&mut self, kind: LoadKind, op: &MicroOp, going: &mut Going) -> bool
+        requires room { 0 < going.old.left }
+        requires low { going.old.at < most_words }
+        requires means { meaning_of image_base op.now (registers_of self.old.lane.registers)
+            ≡ micro.loads kind op.now (registers_of self.old.lane.registers) }
+        ensures tried { (image : List Cell) → IsTried result
+            (StepsBy image op.now going.old self.old going.new self.new)
+            going.old self.old going.new self.new }
+        ensures counts { self.new.counts ≡ self.old.counts }
+    {
+        match self.local.load_near(kind.width(), self.sum_by(op)) {
+            Some(raw) => {
+                self.lane.registers.set(op.rd, extend(kind, raw));
+                going.on(1, 1);
+                true
+            }
+            None => self.load_far(kind, op, going),
+        }
+    }
+
+    /// The same wherever the address lies.
+    #[inline(never)]
+    fn load_far(&mut self, kind: LoadKind, op: &MicroOp, going: &mut Going) -> bool
+        requires room { 0 < going.old.left }
+        requires low { going.old.at < most_words }
+        requires means { meaning_of image_base op.now (registers_of self.old.lane.registers)
+            ≡ micro.loads kind op.now (registers_of self.old.lane.registers) }
+        ensures tried { (image : List Cell) → IsTried result
+            (StepsBy image op.now going.old self.old going.new self.new)
+            going.old self.old going.new self.new }
+        ensures counts { self.new.counts ≡ self.old.counts }
+    {
+        let address = self.sum_by(op);
+        if kind.width().is_aligned(address) {
+            self.load_apart(kind, op.rd, address);
+            going.on(1, 1);
+            true
+        } else {
+            false
+        }
+    }
+
+    /// A store, where it is aligned.
+    #[inline(always)]
+    pub(crate) fn store_by(&mut self, width: Width, op: &MicroOp, going: &mut Going) -> bool
+        requires room { 0 < going.old.left }
+        requires low { going.old.at < most_words }
+        requires means { meaning_of image_base op.now (registers_of self.old.lane.registers)
+            ≡ micro.stores width op.now (registers_of self.old.lane.registers) }
+        ensures tried { (image : List Cell) → IsTried result
+            (StepsBy image op.now going.old self.old going.new self.new)
+            going.old self.old going.new self.new }
+        ensures counts { self.new.counts ≡ self.old.counts }
+    {
+        let address = self.sum_by(op);
+        let value = self.lane.registers.get(op.rs2);
+        if self.local.store_near(width, address, value) {
+            going.on(1, 1);
+            true
+        } else {
+            self.store_far(width, op, going)
+        }
+    }
+
+    /// The same wherever the address lies.
+    #[inline(never)]
+    fn store_far(&mut self, width: Width, op: &MicroOp, going: &mut Going) -> bool
+        requires room { 0 < going.old.left }
+        requires low { going.old.at < most_words }
+        requires means { meaning_of image_base op.now (registers_of self.old.lane.registers)
+            ≡ micro.stores width op.now (registers_of self.old.lane.registers) }
+        ensures tried { (image : List Cell) → IsTried result
+            (StepsBy image op.now going.old self.old going.new self.new)
+            going.old self.old going.new self.new }
+        ensures counts { self.new.counts ≡ self.old.counts }
+    {
+        let address = self.sum_by(op);
+        if width.is_aligned(address) {
+            let value = self.lane.registers.get(op.rs2);
+            self.store(width, address, value);
+            going.on(1, 1);
+            true
+        } else {
+            false
+        }
+    }
+
+    /// Whether a condition holds of the registers of a micro-op.
+    #[inline(always)]
+    pub(crate) fn holds(&self, c: Cond, op: &MicroOp) -> bool
+        ensures { let registers = registers_of self.now.lane.registers in
+            result ≡ operations.taken c (reg registers op.now.rs1) (reg registers op.now.rs2) }
+    {
+        let a = self.lane.registers.get(op.rs1);
+        taken(c, a, self.lane.registers.get(op.rs2))
+    }
+
+    /// The address that rs1 and the immediate of a micro-op make.
+    #[inline(always)]
+    pub(crate) fn sum_by(&self, op: &MicroOp) -> u32
+        ensures { result ≡ sum_address op.now (registers_of self.now.lane.registers) }
+    {
+        self.lane.registers.get(op.rs1).wrapping_add(op.imm)
+    }
+
+    /// What a load from an address gives, where its line may be read; `None` also where it is
+    /// misaligned, or neither of a line nor of the window.
+    #[inline(always)]
+    pub(crate) fn value_checked(&self, kind: LoadKind, address: u32) -> Option<u32>
+        ensures value { IfSome result (Gives self.now kind address) }
+        ensures readable { IfSome result (λ value.
+            model.is_readable_state ((local_of self.now.local).state (address / 64)) ≡ true) }
+    {
+        match self.local.load_readable(kind.width(), address) {
+            Some(raw) => Some(extend(kind, raw)),
+            None => self.value_readable(kind, address),
+        }
+    }
+
+    /// The same, whichever line it is.
+    #[inline(never)]
+    fn value_readable(&self, kind: LoadKind, address: u32) -> Option<u32>
+        ensures value { IfSome result (Gives self.now kind address) }
+        ensures readable { IfSome result (λ value.
+            model.is_readable_state ((local_of self.now.local).state (address / 64)) ≡ true) }
+    {
+        if is_readable(self.local.state(address / 64)) {
+            self.value_far(kind, address)
+        } else {
+            None
+        }
+    }
+
+    /// The word of an address, where it isn't the flag word.
+    #[inline(always)]
+    pub(crate) fn value_unlike_flag(&self, address: u32) -> Option<u32>
+        ensures value { IfSome result (Gives self.now LoadKind.Word address) }
+        ensures unlike { IfSome result (λ value. value ≢ 0xffffff03) }
+    {
+        match self.value_at(LoadKind::Word, address) {
+            Some(value) if value != FLAG_WORD => Some(value),
+            _ => None,
+        }
+    }
+
+    /// What a load from an address gives; `None` where it is misaligned, or neither of a line nor
+    /// of the window.
+    #[inline(always)]
+    fn value_at(&self, kind: LoadKind, address: u32) -> Option<u32>
+        ensures value { IfSome result (Gives self.now kind address) }
+    {
+        match self.local.load_near(kind.width(), address) {
+            Some(raw) => Some(extend(kind, raw)),
+            None => self.value_far(kind, address),
+        }
+    }
+
+    /// The same, whichever line it is.
+    #[inline(never)]
+    fn value_far(&self, kind: LoadKind, address: u32) -> Option<u32>
+        ensures value { IfSome result (Gives self.now kind address) }
+    {
+        let width = kind.width();
+        if !width.is_aligned(address) {
+            return None;
+        }
+        if let Some(raw) = self.local.load_fixed(width, address) {
+            return Some(extend(kind, raw));
+        }
+        if let Some(raw) = self.local.load(width, address) {
+            return Some(extend(kind, raw));
+        }
+        match self.lane.private.load(width, address) {
+            Some(raw) => Some(extend(kind, raw)),
+            None => None,
+        }
+    }
+
+    /// Stores at an address where its line may be written, and says whether it does: also not where
+    /// it is misaligned, or neither of a shared line nor of the window.
+    #[inline(always)]
+    pub(crate) fn put_checked(&mut self, width: Width, address: u32, value: u32) -> bool
+        ensures stores { IsStoredOr result (IsStored self.old width address value self.new)
+            self.old self.new }
+        ensures writable { result ≡ true →
+            model.is_writable_state ((local_of self.old.local).state (address / 64)) ≡ true }
+        ensures counts { self.new.counts ≡ self.old.counts }
+    {
+        if self.local.store_writable(width, address, value) {
+            return true;
+        }
+        self.put_far(width, address, value)
+    }
+
+    /// The same, whichever line it is.
+    #[inline(never)]
+    fn put_far(&mut self, width: Width, address: u32, value: u32) -> bool
+        ensures stores { IsStoredOr result (IsStored self.old width address value self.new)
+            self.old self.new }
+        ensures writable { result ≡ true →
+            model.is_writable_state ((local_of self.old.local).state (address / 64)) ≡ true }
+        ensures counts { self.new.counts ≡ self.old.counts }
+    {
+        if !width.is_aligned(address) || !is_writable(self.local.state(address / 64)) {
+            return false;
+        }
+        if is_in_window(address) {
+            let _ = self.lane.private.store(width, address, value);
+            return true;
+        }
+        self.local.store(width, address, value)
+    }
+}
+
+/// Whether an address is in the window.
+#[inline(always)]
+fn is_in_window(address: u32) -> bool
+    ensures { result ≡ is_in_window address }
+{
+    WINDOW <= address && address < MEMORY_END
+}
+
+/// The result of an operation that is slow.
+#[inline(never)]
+fn alu_apart(op: Op, a: u32, b: u32) -> u32
+    ensures { result ≡ operations.alu op a b }
+{
+    alu(op, a, b)
+}

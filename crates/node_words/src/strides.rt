@@ -1,0 +1,334 @@
+//! Words in a row, by strides: one `match` for each, whether it is a word or a whole sequence.
+
+ghost use Rattle.std.specs.Prelude.{◌≡◌, ◌+◌, ◌-◌, ◌^◌, ◌<◌, ◌≤◌, ℕ, true, length};
+ghost use Rattle.node_model.specs.rv32_step.Registers.{registers_of};
+ghost use Rattle.node_model.specs.micro_op.Micro.{meaning_of};
+ghost use Rattle.node_model.specs.jump_map.Image.{image_base, most_words};
+ghost use Rattle.node_model.specs.jump_map.Micro.{AreMicrosOf};
+ghost use Rattle.node_model.specs.jump_map.Strides.{HasStrides, IsPlain, IsStride};
+ghost use Rattle.node_words.specs.GoingOn.{BodyGoesOn, GoesFurther};
+ghost use Rattle.node_words.specs.Kept.{StepsTo, ground_of};
+ghost use Rattle.node_words.specs.Strides.{IsTried, StepsBy, StridesBy};
+
+use crate::exec_state::ExecState;
+use crate::serve::Progress;
+use node_model::jump_map::{Image, StrideKind};
+use node_model::micro_op::MicroOp;
+use rv32_decode::{Cond, LoadKind, Op, Width};
+
+/// No stride has more words.
+const MOST_AT_ONCE: u64 = 18;
+
+/// The number of the next word, and how many more words there may be.
+#[derive(Clone, Copy)]
+pub(crate) struct Going {
+    pub(crate) at: usize,
+    pub(crate) left: u64,
+}
+
+impl Going {
+    /// So many words were executed, and the word so much further on follows.
+    #[inline(always)]
+    pub(crate) fn on(&mut self, words: u64, further: usize)
+        requires room { words ≤ self.old.left }
+        requires low { self.old.at + further < 2 ^ 64 }
+        ensures at { self.new.at ≡ self.old.at + further }
+        ensures left { self.new.left + words ≡ self.old.left }
+    {
+        self.at += further;
+        self.left -= words;
+    }
+
+    /// So many words were executed, and the word of a number follows.
+    #[inline(always)]
+    pub(crate) fn to(&mut self, words: u64, number: u32)
+        requires room { words ≤ self.old.left }
+        ensures at { self.new.at ≡ number }
+        ensures low { self.new.at < 2 ^ 32 }
+        ensures left { self.new.left + words ≡ self.old.left }
+    {
+        self.at = number as usize;
+        self.left -= words;
+    }
+}
+
+impl<'a> ExecState<'a> {
+    /// Executes words from an index on by their micro-ops, and silent ones that have none, and at
+    /// most so many.
+    #[inline(never)]
+    pub fn run(&mut self, image: &Image, from: u32, most: u64) -> Progress
+        requires { length image.now ≤ most_words }
+        ensures words { BodyGoesOn image.now most from self.old result.words result.at self.new }
+        ensures most { result.words ≤ most }
+        ensures ground { ground_of self.new.local ≡ ground_of self.old.local }
+        ensures counts { self.new.counts ≡ self.old.counts }
+    {
+        let (micros, strides) = image.tables();
+        let mut going = Going {
+            at: from as usize,
+            left: most,
+        };
+        while going.left >= MOST_AT_ONCE {
+            if !self.go_on(image, strides, micros, &mut going) {
+                return Progress {
+                    at: going.at as u32,
+                    words: most - going.left,
+                };
+            }
+        }
+        let last = self.run_singly(image, going.at as u32, going.left);
+        Progress {
+            at: last.at,
+            words: most - going.left + last.words,
+        }
+    }
+
+    /// Executes words from an index on one by one, and at most so many.
+    #[inline(never)]
+    fn run_singly(&mut self, image: &Image, from: u32, most: u64) -> Progress
+        requires { length image.now ≤ most_words }
+        ensures goes { (words : ℕ) → GoesFurther image.now self.old from words self.new result.at
+            (words + result.words) }
+        ensures most { result.words ≤ most }
+        ensures counts { self.new.counts ≡ self.old.counts }
+    {
+        let mut at = from;
+        let mut words = 0;
+        while words < most {
+            match self.step_on(image, at) {
+                Some(next) => at = next,
+                None => break,
+            }
+            words += 1;
+        }
+        Progress { at, words }
+    }
+
+    /// Executes the stride of the next word, or a silent word. Says whether it does; else nothing
+    /// changes.
+    #[inline(always)]
+    fn go_on(
+        &mut self,
+        image: &Image,
+        strides: &[StrideKind],
+        micros: &[MicroOp],
+        going: &mut Going,
+    ) -> bool
+        requires few { length image.now ≤ most_words }
+        requires micros { AreMicrosOf image.now micros.now }
+        requires strides { HasStrides micros.now strides.now }
+        requires room { 18 ≤ going.old.left }
+        requires low { going.old.at < 2 ^ 32 }
+        ensures tried { IsTried result
+            (StridesBy image.now going.old self.old going.new self.new)
+            going.old self.old going.new self.new }
+        ensures counts { self.new.counts ≡ self.old.counts }
+    {
+        if self.stride_on(image, strides, micros, going) {
+            return true;
+        }
+        match self.step_apart(image, going.at as u32) {
+            Some(next) => {
+                going.to(1, next);
+                true
+            }
+            None => false,
+        }
+    }
+
+    /// Executes the stride of the next word. Says whether it does; else nothing changes.
+    #[inline(always)]
+    fn stride_on(
+        &mut self,
+        image: &Image,
+        strides: &[StrideKind],
+        micros: &[MicroOp],
+        going: &mut Going,
+    ) -> bool
+        requires few { length image.now ≤ most_words }
+        requires micros { AreMicrosOf image.now micros.now }
+        requires strides { HasStrides micros.now strides.now }
+        requires room { 18 ≤ going.old.left }
+        ensures tried { IsTried result
+            (StridesBy image.now going.old self.old going.new self.new)
+            going.old self.old going.new self.new }
+        ensures counts { self.new.counts ≡ self.old.counts }
+    {
+        match strides.get(going.at) {
+            Some(kind) => self.stride(*kind, image, micros, going),
+            None => false,
+        }
+    }
+
+    /// Executes a micro-op at an index, and gives the index of the word that follows. `None` where
+    /// the path that serves every word has to; then nothing changed.
+    #[inline(always)]
+    pub(crate) fn step(&mut self, image: &Image, op: &MicroOp, at: u32) -> Option<u32>
+        requires low { at < most_words }
+        ensures steps { StepsTo image.now
+            (meaning_of image_base op.now (registers_of self.old.lane.registers)) at
+            self.old.lane self.old.local self.new.lane self.new.local result }
+        ensures counts { self.new.counts ≡ self.old.counts }
+    {
+        let mut going = Going {
+            at: at as usize,
+            left: 1,
+        };
+        if self.one(StrideKind::plain(op), image, op, &mut going) {
+            Some(going.at as u32)
+        } else {
+            None
+        }
+    }
+
+    /// Executes what begins with the next word, of this kind. Says whether it does; else nothing
+    /// changes.
+    #[inline(always)]
+    fn stride(
+        &mut self,
+        kind: StrideKind,
+        image: &Image,
+        micros: &[MicroOp],
+        going: &mut Going,
+    ) -> bool
+        requires few { length image.now ≤ most_words }
+        requires micros { AreMicrosOf image.now micros.now }
+        requires there { IsStride micros.now going.old.at kind }
+        requires room { 18 ≤ going.old.left }
+        ensures tried { IsTried result
+            (StridesBy image.now going.old self.old going.new self.new)
+            going.old self.old going.new self.new }
+        ensures counts { self.new.counts ≡ self.old.counts }
+    {
+        match kind {
+            StrideKind::OverEq => self.over(Cond::Eq, 0, micros, going),
+            StrideKind::OverNe => self.over(Cond::Ne, 0, micros, going),
+            StrideKind::OverLt => self.over(Cond::Lt, 0, micros, going),
+            StrideKind::OverGe => self.over(Cond::Ge, 0, micros, going),
+            StrideKind::OverLtu => self.over(Cond::Ltu, 0, micros, going),
+            StrideKind::OverGeu => self.over(Cond::Geu, 0, micros, going),
+            StrideKind::PollOverEq => self.over(Cond::Eq, 1, micros, going),
+            StrideKind::PollOverNe => self.over(Cond::Ne, 1, micros, going),
+            StrideKind::PollOverLt => self.over(Cond::Lt, 1, micros, going),
+            StrideKind::PollOverGe => self.over(Cond::Ge, 1, micros, going),
+            StrideKind::PollOverLtu => self.over(Cond::Ltu, 1, micros, going),
+            StrideKind::PollOverGeu => self.over(Cond::Geu, 1, micros, going),
+            StrideKind::PollJump => self.poll_jump(micros, going),
+            StrideKind::PollEnter => self.poll_enter(image, micros, going),
+            StrideKind::Number => self.number(micros, going),
+            StrideKind::Call => self.far_call(micros, going),
+            StrideKind::ReadByte0 => self.read(LoadKind::Byte, 0, micros, going),
+            StrideKind::ReadHalf0 => self.read(LoadKind::Half, 0, micros, going),
+            StrideKind::ReadWord0 => self.read(LoadKind::Word, 0, micros, going),
+            StrideKind::ReadByteU0 => self.read(LoadKind::ByteU, 0, micros, going),
+            StrideKind::ReadHalfU0 => self.read(LoadKind::HalfU, 0, micros, going),
+            StrideKind::ReadByte1 => self.read(LoadKind::Byte, 1, micros, going),
+            StrideKind::ReadHalf1 => self.read(LoadKind::Half, 1, micros, going),
+            StrideKind::ReadWord1 => self.read(LoadKind::Word, 1, micros, going),
+            StrideKind::ReadByteU1 => self.read(LoadKind::ByteU, 1, micros, going),
+            StrideKind::ReadHalfU1 => self.read(LoadKind::HalfU, 1, micros, going),
+            StrideKind::ReadByte2 => self.read(LoadKind::Byte, 2, micros, going),
+            StrideKind::ReadHalf2 => self.read(LoadKind::Half, 2, micros, going),
+            StrideKind::ReadWord2 => self.read(LoadKind::Word, 2, micros, going),
+            StrideKind::ReadByteU2 => self.read(LoadKind::ByteU, 2, micros, going),
+            StrideKind::ReadHalfU2 => self.read(LoadKind::HalfU, 2, micros, going),
+            StrideKind::WriteByte0 => self.write(Width::Byte, 0, micros, going),
+            StrideKind::WriteHalf0 => self.write(Width::Half, 0, micros, going),
+            StrideKind::WriteWord0 => self.write(Width::Word, 0, micros, going),
+            StrideKind::WriteByte1 => self.write(Width::Byte, 1, micros, going),
+            StrideKind::WriteHalf1 => self.write(Width::Half, 1, micros, going),
+            StrideKind::WriteWord1 => self.write(Width::Word, 1, micros, going),
+            StrideKind::WriteByte2 => self.write(Width::Byte, 2, micros, going),
+            StrideKind::WriteHalf2 => self.write(Width::Half, 2, micros, going),
+            StrideKind::WriteWord2 => self.write(Width::Word, 2, micros, going),
+            StrideKind::Flag0 => self.flag(0, micros, going),
+            StrideKind::Flag1 => self.flag(1, micros, going),
+            StrideKind::ReadHead0 => self.read_head(0, micros, going),
+            StrideKind::ReadHead1 => self.read_head(1, micros, going),
+            StrideKind::ReadHead2 => self.read_head(2, micros, going),
+            StrideKind::ReadHead3 => self.read_head(3, micros, going),
+            StrideKind::WriteHead0 => self.write_head(0, micros, going),
+            StrideKind::WriteHead1 => self.write_head(1, micros, going),
+            StrideKind::WriteHead2 => self.write_head(2, micros, going),
+            StrideKind::WriteHead3 => self.write_head(3, micros, going),
+            _ => self.one(kind, image, &micros[going.at], going),
+        }
+    }
+
+    /// Executes the next word, whose micro-op has this kind of stride. Says whether it does; else
+    /// nothing changes.
+    #[inline(always)]
+    fn one(&mut self, kind: StrideKind, image: &Image, op: &MicroOp, going: &mut Going) -> bool
+        requires plain { IsPlain kind op.now }
+        requires room { 0 < going.old.left }
+        requires low { going.old.at < most_words }
+        ensures tried { IsTried result
+            (StepsBy image.now op.now going.old self.old going.new self.new)
+            going.old self.old going.new self.new }
+        ensures counts { self.new.counts ≡ self.old.counts }
+    {
+        match kind {
+            StrideKind::Nothing => nothing(going),
+            StrideKind::Constant => self.constant(op, going),
+            StrideKind::Jump => self.jump(1, op, going),
+            StrideKind::Link => self.link(op, going),
+            StrideKind::EnterBy => self.enter(1, op, image, going),
+            StrideKind::BranchEq => self.branch(Cond::Eq, op, going),
+            StrideKind::BranchNe => self.branch(Cond::Ne, op, going),
+            StrideKind::BranchLt => self.branch(Cond::Lt, op, going),
+            StrideKind::BranchGe => self.branch(Cond::Ge, op, going),
+            StrideKind::BranchLtu => self.branch(Cond::Ltu, op, going),
+            StrideKind::BranchGeu => self.branch(Cond::Geu, op, going),
+            StrideKind::LoadByte => self.load_by(LoadKind::Byte, op, going),
+            StrideKind::LoadHalf => self.load_by(LoadKind::Half, op, going),
+            StrideKind::LoadWord => self.load_by(LoadKind::Word, op, going),
+            StrideKind::LoadByteU => self.load_by(LoadKind::ByteU, op, going),
+            StrideKind::LoadHalfU => self.load_by(LoadKind::HalfU, op, going),
+            StrideKind::StoreByte => self.store_by(Width::Byte, op, going),
+            StrideKind::StoreHalf => self.store_by(Width::Half, op, going),
+            StrideKind::StoreWord => self.store_by(Width::Word, op, going),
+            StrideKind::AddImm => self.by_immediate(Op::Add, op, going),
+            StrideKind::SltImm => self.by_immediate(Op::Slt, op, going),
+            StrideKind::SltuImm => self.by_immediate(Op::Sltu, op, going),
+            StrideKind::XorImm => self.by_immediate(Op::Xor, op, going),
+            StrideKind::OrImm => self.by_immediate(Op::Or, op, going),
+            StrideKind::AndImm => self.by_immediate(Op::And, op, going),
+            StrideKind::SllImm => self.by_immediate(Op::Sll, op, going),
+            StrideKind::SrlImm => self.by_immediate(Op::Srl, op, going),
+            StrideKind::SraImm => self.by_immediate(Op::Sra, op, going),
+            StrideKind::Add => self.by_registers(Op::Add, op, going),
+            StrideKind::Sub => self.by_registers(Op::Sub, op, going),
+            StrideKind::Sll => self.by_registers(Op::Sll, op, going),
+            StrideKind::Slt => self.by_registers(Op::Slt, op, going),
+            StrideKind::Sltu => self.by_registers(Op::Sltu, op, going),
+            StrideKind::Xor => self.by_registers(Op::Xor, op, going),
+            StrideKind::Srl => self.by_registers(Op::Srl, op, going),
+            StrideKind::Sra => self.by_registers(Op::Sra, op, going),
+            StrideKind::Or => self.by_registers(Op::Or, op, going),
+            StrideKind::And => self.by_registers(Op::And, op, going),
+            StrideKind::Mul => self.by_registers(Op::Mul, op, going),
+            StrideKind::Mulh => self.by_slow(Op::Mulh, op, going),
+            StrideKind::Mulhsu => self.by_slow(Op::Mulhsu, op, going),
+            StrideKind::Mulhu => self.by_slow(Op::Mulhu, op, going),
+            StrideKind::Div => self.by_slow(Op::Div, op, going),
+            StrideKind::Divu => self.by_slow(Op::Divu, op, going),
+            StrideKind::Rem => self.by_slow(Op::Rem, op, going),
+            StrideKind::Remu => self.by_slow(Op::Remu, op, going),
+            // Slow, and whole sequences
+            _ => false,
+        }
+    }
+}
+
+/// A word that changes nothing.
+#[inline(always)]
+fn nothing(going: &mut Going) -> bool
+    requires room { 0 < going.old.left }
+    requires low { going.old.at < most_words }
+    ensures at { going.new.at ≡ going.old.at + 1 }
+    ensures left { going.new.left + 1 ≡ going.old.left }
+    ensures done { result ≡ true }
+{
+    going.on(1, 1);
+    true
+}
