@@ -15,6 +15,7 @@ use Rattle.dsm_core.specs.node_model.Core.{wires_to}
 use Rattle.timed_sim.specs.declared.costs.Costs.{Costs}
 use Rattle.timed_sim.specs.Clock.{AreInRange, delay, delays_to, lines_carried, lines_of_block, last_of, with_sent, with_sends, behind_first}
 use Rattle.timed_sim.specs.Stored.{link_at, AreLinks}
+use Rattle.timed_sim.specs.Stretches.{HaveFewLines}
 
 -- 1. As many times as messages
 
@@ -80,9 +81,6 @@ sent_by_then time most (d ∷ ds) times by soon =
     (λ k e low. soon (suc k) e (omega (arith, low)))
 
 -- 3. How long a message is on its way
-
-abbrev pub HaveFewLines : Shape → Type 0
-HaveFewLines layout = (b : ℕ) → b < blocks layout → lines layout b ≤ 64
 
 few_of_block : (layout : Shape) (block : Option ℕ) → HaveFewLines layout
     → lines_of_block layout block ≤ 64

@@ -5,3 +5,4 @@ pub mod Steps
 pub mod Made
 pub mod Running
 pub mod Words
+pub mod Stretching

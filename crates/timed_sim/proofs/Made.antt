@@ -15,8 +15,9 @@ use Rattle.timed_sim.specs.declared.costs.Spent.{Spent}
 use Rattle.timed_sim.specs.declared.run.TimedRun.{TimedRun}
 use Rattle.timed_sim.specs.Clock.{AreInRange, Due, Times, clock_of, next, opening_times, times_after, times_by}
 use Rattle.timed_sim.specs.Stored.{AreInStep, AreSameTimes, AreWithin, HasMade, AreClocks, IsBelow, IsKept, IsReady, times_in, times_of}
+use Rattle.timed_sim.specs.Stretches.{HaveFewLines}
 use Rattle.timed_sim.proofs.Next.{IsNextAt}
-use Rattle.timed_sim.proofs.Arrivals.{AreBy, HaveFewLines, by_more}
+use Rattle.timed_sim.proofs.Arrivals.{AreBy, by_more}
 use Rattle.timed_sim.proofs.Steps.{step_in_step, step_within}
 
 pub may_below : (work : Work) (c : Core) (e : Event) → May work c e → IsBelow work.layout.nodes e
@@ -73,15 +74,16 @@ made_in_step costs work times new_times c new d may in_step made j i bj bi =
     ∙ ap length (sym (made.core_is.lists j i bj bi))
 
 pub ready_made : (costs : Costs) (old new : TimedRun) (d : Due)
-    → work_of new.core ≡ work_of old.core → new.costs ≡ old.costs
+    → work_of new.core ≡ work_of old.core → new.costs ≡ old.costs → new.undo_logs ≡ old.undo_logs
     → May (work_of old.core) (core_of old.core) d.event → IsReady old
     → AreClocks old.core.layout.nodes new.clocks
     → HasMade costs (work_of old.core) (times_in old) (core_of old.core) d (times_in new)
     (core_of new.core)
     → IsReady new
-ready_made costs old new d same costs_same may ready clocks made = record {
+ready_made costs old new d same costs_same logs may ready clocks made = record {
   clocks = subst (λ (w : Work). AreClocks w.layout.nodes new.clocks) (sym same) clocks;
   costs = subst AreInRange (sym costs_same) ready.costs;
+  undo_logs = logs ∙ ready.undo_logs ∙ ap (λ (w : Work). w.layout.nodes) (sym same);
   in_step = subst (λ (w : Work). AreInStep w.layout.nodes (times_in new) (core_of new.core))
       (sym same)
       (made_in_step costs (work_of old.core) (times_in old) (times_in new) (core_of old.core)
@@ -102,6 +104,7 @@ ready_kept old new kept ready =
       clocks = subst (λ (w : Work). AreClocks w.layout.nodes new.clocks) (sym kept.work)
           (subst (AreClocks n) (sym kept.clocks) ready.clocks);
       costs = subst AreInRange (sym kept.costs) ready.costs;
+      undo_logs = kept.undo_logs ∙ ready.undo_logs ∙ ap (λ (w : Work). w.layout.nodes) (sym kept.work);
       in_step = subst (λ (w : Work). AreInStep w.layout.nodes (times_in new) (core_of new.core))
           (sym kept.work)
           (subst (λ (t : Times). AreInStep n t (core_of new.core)) (sym (times_kept old new kept))

@@ -206,18 +206,23 @@ none_over work times c in_step none goes_on = λ i low. over_by (standing_of wor
 
 -- 5. Nodes and times that are the same have the same next event
 
-first_to_same : (n : ℕ) (s t : Times) (i : ℕ) → i < n → AreSameTimes n s t
+pub first_to_same : (n : ℕ) (s t : Times) (i : ℕ) → i < n → AreSameTimes n s t
     → first_to n s i ≡ first_to n t i
 first_to_same n s t i low same =
     earliest_same (λ j. first_from j i (s.arrivals j i)) (λ j. first_from j i (t.arrivals j i)) n
     (λ j below. ap (first_from j i) (same.arrivals j i below low))
 
-pub next_same : (work : Work) (s t : Times) (c d : Core) → AreSameTimes work.layout.nodes s t
-    → AreAlike work.layout.nodes c d → next work s c ≡ next work t d
-next_same work s t c d same alike =
-    earliest_same (next_of work s c) (next_of work t d) work.layout.nodes (λ i low.
-    let node = alike.nodes i low in
+pub next_of_same : (work : Work) (s t : Times) (c d : Core) (i : ℕ) → i < work.layout.nodes
+    → AreSameTimes work.layout.nodes s t → c.nodes i ≡ d.nodes i
+    → next_of work s c i ≡ next_of work t d i
+next_of_same work s t c d i low same node =
     let spent = same.spent i low in
     let first = first_to_same work.layout.nodes s t i low same in
     λ z. next_by (standing_of work (node z)) (record { time = clock_of (spent z); event = Exec i })
-    (first z))
+    (first z)
+
+pub next_same : (work : Work) (s t : Times) (c d : Core) → AreSameTimes work.layout.nodes s t
+    → AreAlike work.layout.nodes c d → next work s c ≡ next work t d
+next_same work s t c d same alike =
+    earliest_same (next_of work s c) (next_of work t d) work.layout.nodes
+    (λ i low. next_of_same work s t c d i low same (alike.nodes i low))

@@ -5,17 +5,18 @@ use Rattle.std.specs.List.{range_with_len}
 use Rattle.std.proofs.Math.Nat.{mul-le-mul, le-max_right}
 use Rattle.std.proofs.lemmas.List.{get_or_default}
 use Rattle.dsm_core.specs.node_model.Node.{Work, standing_of}
-use Rattle.dsm_core.specs.node_model.Core.{Core, Event, AreAlike, IsOver, IsCoreRun, opening_core, event_step, after}
+use Rattle.dsm_core.specs.node_model.Core.{Core, Event, Exec, Take, May, AreAlike, IsOver, IsCoreRun, opening_core, event_step, after}
 use Rattle.dsm_core.specs.node_model.Outcome.{Outcome, IsOutcomeOf}
-use Rattle.dsm_core.specs.run_order.OwnRun.{Stamped, StandsForOwnRun, run_of}
+use Rattle.dsm_core.specs.run_order.OwnRun.{Stamped, StandsForOwnRun, node_of, run_of}
 use Rattle.dsm_core.specs.rewriting_law.Bounds.{RunsRewritten, most_events}
-use Rattle.dsm_core.proofs.CoreRuns.{alike_also, alike_back, alike_same, may_alike, run_append, after_append, after_alike}
+use Rattle.dsm_core.proofs.CoreRuns.{alike_also, alike_back, alike_same, may_alike, run_alike, run_append, after_append, after_alike}
 use Rattle.dsm_core.proofs.Promised.{stands_alike}
 use Rattle.timed_sim.specs.declared.clocks.Clocks.{Clocks}
 use Rattle.timed_sim.specs.declared.costs.Costs.{Costs}
 use Rattle.timed_sim.specs.declared.costs.Spent.{Spent}
 use Rattle.timed_sim.specs.Clock.{Due, Times, AreNext, IsOutcomeByClock, clock_of, events_in, idle_until, last_clock, next, nothing_spent, opening_times, times_after, times_after_all}
 use Rattle.timed_sim.specs.Stored.{AreClocks, AreSameTimes, HasEnded, HasMade, times_of}
+use Rattle.timed_sim.specs.Stretches.{HaveMade}
 use Rattle.timed_sim.proofs.Next.{IsNextAt, next_same}
 use Rattle.timed_sim.proofs.Steps.{times_same}
 
@@ -58,12 +59,12 @@ same_also n s t u a b = record {
   arrivals = λ j i below low. a.arrivals j i below low ∙ b.arrivals j i below low;
 }
 
--- 2. A run on its way: so many events were made, each the next by the rule
+-- 2. A run on its way: so many events were made at least, each the next by the rule
 
 pub record IsOnItsWay (costs : Costs) (work : Work) (turn : ℕ) (times : Times) (c : Core)
     : Type 0 where
   pub run : List Due
-  pub many : length run ≡ turn
+  pub many : turn ≤ length run
   pub by_rule : AreNext costs work opening_times (opening_core work) run
   pub is_run : IsCoreRun work (opening_core work) (events_in run)
   pub core_is : AreAlike work.layout.nodes c (after work (opening_core work) (events_in run))
@@ -74,7 +75,7 @@ pub way_first : (costs : Costs) (work : Work) (times : Times) (c : Core) → c �
     → AreSameTimes work.layout.nodes times opening_times → IsOnItsWay costs work 0 times c
 way_first costs work times c opening same = record {
   run = [];
-  many = refl;
+  many = omega arith;
   by_rule = tt;
   is_run = tt;
   core_is = subst (λ (z : Core). AreAlike work.layout.nodes z (opening_core work)) (sym opening)
@@ -111,6 +112,66 @@ way_more costs work turn times new_times c new d way is here made =
           (same_also n new_times (times_after costs work times c d) (times_after costs work reached middle d)
           made.times_are
           (times_same costs work times reached c middle d is.low is.may way.times_are way.core_is));
+    }
+
+-- cores and times that are the same make the same events
+may_low : (work : Work) (c : Core) (e : Event) → May work c e → node_of e < work.layout.nodes
+may_low work c (Exec i) may = may.0
+may_low work c (Take i j) may = may.0
+
+next_all_same : (costs : Costs) (work : Work) (s t : Times) (c d : Core) (ds : List Due)
+    → AreSameTimes work.layout.nodes s t → AreAlike work.layout.nodes c d
+    → IsCoreRun work c (events_in ds) → AreNext costs work s c ds → AreNext costs work t d ds
+next_all_same costs work s t c d [] same alike run next = tt
+next_all_same costs work s t c d (x ∷ xs) same alike run next = (
+  sym (next_same work s t c d same alike) ∙ next.0,
+  next_all_same costs work (times_after costs work s c x) (times_after costs work t d x)
+      (event_step work c x.event) (event_step work d x.event) xs
+      (times_same costs work s t c d x (may_low work c x.event run.0) run.0 same alike)
+      (after_alike work c d (x.event ∷ []) alike (run.0, tt)) run.1 next.1,
+)
+
+times_all_same : (costs : Costs) (work : Work) (s t : Times) (c d : Core) (ds : List Due)
+    → AreSameTimes work.layout.nodes s t → AreAlike work.layout.nodes c d
+    → IsCoreRun work c (events_in ds)
+    → AreSameTimes work.layout.nodes (times_after_all costs work s c ds)
+    (times_after_all costs work t d ds)
+times_all_same costs work s t c d [] same alike run = same
+times_all_same costs work s t c d (x ∷ xs) same alike run =
+    times_all_same costs work (times_after costs work s c x) (times_after costs work t d x)
+    (event_step work c x.event) (event_step work d x.event) xs
+    (times_same costs work s t c d x (may_low work c x.event run.0) run.0 same alike)
+    (after_alike work c d (x.event ∷ []) alike (run.0, tt)) run.1
+
+pub way_all : (costs : Costs) (work : Work) (turn : ℕ) (times new_times : Times) (c new : Core)
+    → IsOnItsWay costs work turn times c → HaveMade costs work times c new_times new
+    → IsOnItsWay costs work (turn + 1) new_times new
+way_all costs work turn times new_times c new way m =
+    let o = opening_core work in
+    let n = work.layout.nodes in
+    let middle = after work o (events_in way.run) in
+    let reached = times_after_all costs work opening_times o way.run in
+    let es = events_in m.dues in
+    let many = way.many in
+    let some = m.some in
+    record {
+      run = way.run ++ m.dues;
+      many = omega (arith, length-append way.run m.dues, many, some);
+      by_rule = next_append costs work opening_times o way.run m.dues way.by_rule
+          (next_all_same costs work times reached c middle m.dues way.times_are way.core_is m.is_run
+          m.by_rule);
+      is_run = subst (IsCoreRun work o) (sym (events_append way.run m.dues))
+          (run_append work o (events_in way.run) es way.is_run
+          (run_alike work c middle es way.core_is m.is_run));
+      core_is = subst (λ fs. AreAlike n new (after work o fs)) (sym (events_append way.run m.dues))
+          (subst (λ (z : Core). AreAlike n new z) (sym (after_append work o (events_in way.run) es))
+          (alike_also n new (after work c es) (after work middle es) m.core_is
+          (after_alike work c middle es way.core_is m.is_run)));
+      times_are = subst (λ (z : Times). AreSameTimes n new_times z)
+          (sym (times_append costs work opening_times o way.run m.dues))
+          (same_also n new_times (times_after_all costs work times c m.dues)
+          (times_after_all costs work reached middle m.dues) m.times_are
+          (times_all_same costs work times reached c middle m.dues way.times_are way.core_is m.is_run));
     }
 
 -- no core run is as long as that

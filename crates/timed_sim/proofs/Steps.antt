@@ -20,8 +20,9 @@ use Rattle.timed_sim.specs.declared.costs.Costs.{Costs}
 use Rattle.timed_sim.specs.declared.costs.Spent.{Spent}
 use Rattle.timed_sim.specs.Clock.{AreInRange, Due, Times, clock_of, with_gap, with_event, spent_after, need_after, delays_to, with_sent, with_sends, behind_first, without_taken, times_by, times_after}
 use Rattle.timed_sim.specs.Stored.{AreInStep, AreSameTimes, AreWithin}
+use Rattle.timed_sim.specs.Stretches.{HaveFewLines}
 use Rattle.timed_sim.proofs.Next.{IsNextAt}
-use Rattle.timed_sim.proofs.Arrivals.{AreBy, HaveFewLines, length_sent, length_delays, length_behind, by_more, behind_by, sent_by_then, delays_few}
+use Rattle.timed_sim.proofs.Arrivals.{AreBy, length_sent, length_delays, length_behind, by_more, behind_by, sent_by_then, delays_few}
 
 -- 1. The same event at nodes and times that are the same
 

@@ -95,7 +95,7 @@ same_if : {X : Type 0} (b : Bool) (x : X) → cond b x x ≡ x
 same_if true x = refl
 same_if false x = refl
 
-abbrev word_due : Times → (i : ℕ) → Due
+abbrev pub word_due : Times → (i : ℕ) → Due
 word_due times i = record { time = clock_of (times.spent i); event = Exec i }
 
 word_times : (costs : Costs) (layout : Shape) (s : Standing) (times : Times) (i n : ℕ)
@@ -112,6 +112,20 @@ word_times costs layout s times i n may =
       arrivals = λ j k below low. sym (same_if (eqb j i) (times.arrivals j k));
     }
 
+pub word_made_at : (costs : Costs) (work : Work) (times new_times : Times) (c new : Core) (i : ℕ)
+    → May work c (Exec i) → HasPassed work i c new
+    → AreSameTimes work.layout.nodes new_times (with_word i times)
+    → HasMade costs work times c (word_due times i) new_times new
+word_made_at costs work times new_times c new i may p same =
+    let standing = standing_of work (c.nodes i) in
+    let wants : wants_at work c (Exec i) ≡ [] = passed_wants work i c new may.0 p in
+    let sends : sends_at work c (Exec i) ≡ [] = ap (λ (t : Turn). t.sends) p.silent in
+    let after = times_by costs work.layout standing [] [] times (word_due times i) in
+    made_by costs work times new_times c new (word_due times i) standing [] [] p.event refl
+    (sym wants) (ap (map sent_by) (sym sends))
+    (same_also work.layout.nodes new_times (with_word i times) after same
+    (word_times costs work.layout standing times i work.layout.nodes may.1))
+
 pub word_made : (costs : Costs) (old new : TimedRun) (i : ℕ) (d : Due)
     → work_of new.core ≡ work_of old.core
     → HasPassed (work_of old.core) i (core_of old.core) (core_of new.core) → d.event ≡ Exec i
@@ -123,21 +137,11 @@ pub word_made : (costs : Costs) (old new : TimedRun) (i : ℕ) (d : Due)
 word_made costs old new i d same p here is times =
     let work = work_of old.core in
     let c = core_of old.core in
-    let n = old.core.layout.nodes in
-    let stored = times_of n new.clocks in
     let time = is.word i here in
     let due : d ≡ word_due (times_in old) i = λ t. record { time = time t; event = here t } in
-    let may : May work c (Exec i) = subst (May work c) here is.may in
-    let wants : wants_at work c (Exec i) ≡ [] = passed_wants work i c (core_of new.core) may.0 p in
-    let sends : sends_at work c (Exec i) ≡ [] = ap (λ (t : Turn). t.sends) p.silent in
-    let after = times_by costs work.layout (standing_of work (c.nodes i)) [] [] (times_in old)
-    (word_due (times_in old) i) in
-    let whole = same_also n stored (with_word i (times_in old)) after times
-    (word_times costs work.layout (standing_of work (c.nodes i)) (times_in old) i n may.1) in
     subst (λ (x : Due). HasMade costs work (times_in old) c x (times_in new) (core_of new.core))
     (sym due)
-    (made_by costs work (times_in old) (times_in new) c (core_of new.core)
-    (word_due (times_in old) i) (standing_of work (c.nodes i)) [] [] p.event refl (sym wants)
-    (ap (map sent_by) (sym sends))
-    (subst (λ m. AreSameTimes n (times_of m new.clocks) after)
-    (sym (ap (λ (w : Work). w.layout.nodes) same)) whole))
+    (word_made_at costs work (times_in old) (times_in new) c (core_of new.core) i
+    (subst (May work c) here is.may) p
+    (subst (λ m. AreSameTimes work.layout.nodes (times_of m new.clocks) (with_word i (times_in old)))
+    (sym (ap (λ (w : Work). w.layout.nodes) same)) times))

@@ -87,6 +87,7 @@ times_in r = times_of r.core.layout.nodes r.clocks
 pub record IsReady (r : TimedRun) : Type 0 where
   pub clocks : AreClocks r.core.layout.nodes r.clocks
   pub costs : AreInRange r.costs
+  pub undo_logs : r.undo_logs ≡ r.core.layout.nodes
   pub in_step : AreInStep r.core.layout.nodes (times_in r) (core_of r.core)
 
 -- the event was made
@@ -96,12 +97,13 @@ pub record HasMade (costs : Costs) (work : Work) (times : Times) (c : Core) (d :
   pub core_is : AreAlike work.layout.nodes new (event_step work c d.event)
   pub times_are : AreSameTimes work.layout.nodes new_times (times_after costs work times c d)
 
--- nothing of the run has changed
+-- nothing of the run has changed but how many words are tried at once
 pub record IsKept (old new : TimedRun) : Type 0 where
   pub work : work_of new.core ≡ work_of old.core
   pub core : core_of new.core ≡ core_of old.core
   pub clocks : new.clocks ≡ old.clocks
   pub costs : new.costs ≡ old.costs
+  pub undo_logs : new.undo_logs ≡ old.undo_logs
 
 -- this is what n nodes have spent once each is idle until the last clock, and the last clock
 pub record HasEnded (n : ℕ) (times : Times) (spent : List Spent) (last : ℕ) : Type 0 where

@@ -54,7 +54,7 @@ impl Clocks {
     }
 
     /// A node takes the message that arrives first.
-    fn first_to(&self, count: u8, node: u8) -> Option<Due>
+    pub(crate) fn first_to(&self, count: u8, node: u8) -> Option<Due>
         requires clocks { AreClocks count self.now }
         requires node { node < count }
         ensures { option_map due_of result ≡ first_to count (times_of count self.now) node }
@@ -67,7 +67,7 @@ impl Clocks {
     }
 
     /// The next event of a node.
-    fn next_of(&self, core: &Core<'_>, node: u8) -> Option<Due>
+    pub(crate) fn next_of(&self, core: &Core<'_>, node: u8) -> Option<Due>
         requires clocks { AreClocks core.now.layout.nodes self.now }
         requires within { AreWithin core.now.layout.nodes (2 ^ 127)
             (times_of core.now.layout.nodes self.now) }

@@ -7,6 +7,7 @@ mod due;
 mod link;
 mod links;
 mod run;
+mod stretch;
 
 pub use costs::{Costs, Spent};
 pub use dsm_core;

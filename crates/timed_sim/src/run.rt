@@ -1,6 +1,7 @@
 //! A core whose events follow a clock.
 
-ghost use Rattle.std.specs.Prelude.{◌≡◌, ◌^◌, true, false, List, Some, None, IfOk, OnOk, All};
+ghost use Rattle.std.specs.Prelude.{◌≡◌, ◌<◌, ◌≤◌, ◌^◌, ℕ, true, false, List, Some, None};
+ghost use Rattle.std.specs.Prelude.{IfOk, OnOk, OnErr, All, slice_index_or};
 ghost use Rattle.std.specs.Option.{option_map};
 ghost use Rattle.dsm_core.specs.node_model.Core.{Exec, IsOver, opening_core};
 ghost use Rattle.dsm_core.specs.run_order.OwnRun.{Stamped, StandsForOwnRun, run_of};
@@ -11,13 +12,14 @@ ghost use Rattle.timed_sim.specs.Clock.{AreInRange, IsOutcomeByClock, clock_of, 
 ghost use Rattle.timed_sim.specs.Clock.{opening_times};
 ghost use Rattle.timed_sim.specs.Stored.{due_of, times_in, AreSameTimes, AreWithin, IsReady};
 ghost use Rattle.timed_sim.specs.Stored.{HasMade, IsKept, HasEnded};
+ghost use Rattle.timed_sim.specs.Stretches.{AreFree, HaveMade};
 
 use crate::clocks::Clocks;
 use crate::costs::{Costs, Spent};
 use crate::due::{Due, node_of};
 use block_layout::layout_law;
 use dsm_core::rewriting_law::progress_law;
-use dsm_core::{Core, Event, Outcome, Work};
+use dsm_core::{Core, Event, Outcome, Stop, UndoLogs, Work};
 use std::alloc::{AllocError, Global};
 
 /// What a run by a clock gives.
@@ -54,13 +56,18 @@ pub fn simulate_by_clock(alloc: Global, work: &Work<'_>, costs: &Costs) -> Resul
     progress_law();
     let mut run = TimedRun::new(alloc, work, costs)?;
     for _turn in 0..u64::MAX {
-        match run.next() {
-            Some(due) => run.make(due)?,
-            None => return run.timed(alloc),
+        if !run.make_next()? {
+            return run.timed(alloc);
         }
     }
     unreachable!()
 }
+
+/// The fewest words of a node that are tried at once.
+const LEAST_WINDOW: u32 = 16;
+
+/// The most words of a node that are made at once.
+const MOST_WINDOW: u32 = 4096;
 
 /// A core on its way, and its clocks.
 #[derive(Drop)]
@@ -68,6 +75,9 @@ struct TimedRun<'a> {
     core: Core<'a>,
     clocks: Clocks,
     costs: Costs,
+    undo_logs: UndoLogs,
+    /// How many words of a node are tried at once.
+    window: u32,
 }
 
 impl<'a> TimedRun<'a> {
@@ -84,11 +94,118 @@ impl<'a> TimedRun<'a> {
     {
         let core = Core::new(alloc, work)?;
         let clocks = Clocks::new(alloc, core.layout().nodes())?;
+        let undo_logs = UndoLogs::new(alloc, core.layout().nodes())?;
         Ok(TimedRun {
             core,
             clocks,
             costs: *costs,
+            undo_logs,
+            window: LEAST_WINDOW,
         })
+    }
+
+    /// Makes events that come next, and says whether there are any; there are until every node is
+    /// over.
+    fn make_next(&mut self) -> Result<bool, AllocError>
+        requires ready { IsReady self.old }
+        requires within { AreWithin self.old.core.layout.nodes (2 ^ 100) (times_in self.old) }
+        ensures ready { OnOk result (IsReady self.new) }
+        ensures work { OnOk result (work_of self.new.core ≡ work_of self.old.core) }
+        ensures costs { OnOk result (self.new.costs ≡ self.old.costs) }
+        ensures made { IfOk result (λ made. made ≡ true → HaveMade self.old.costs
+            (work_of self.old.core) (times_in self.old) (core_of self.old.core)
+            (times_in self.new) (core_of self.new.core)) }
+        ensures kept { IfOk result (λ made. made ≡ false → IsKept self.old self.new) }
+        ensures over { IfOk result (λ made. made ≡ false
+            → IsOver (work_of self.old.core) (core_of self.old.core)) }
+    {
+        if self.make_words() {
+            return Ok(true);
+        }
+        match self.next() {
+            Some(due) => {
+                self.make(due)?;
+                Ok(true)
+            }
+            None => Ok(false),
+        }
+    }
+
+    /// Makes words that come next at once, where nothing else begins before them. It says whether
+    /// it made any; else the core and the clocks are as they were.
+    fn make_words(&mut self) -> bool
+        requires ready { IsReady self.old }
+        requires within { AreWithin self.old.core.layout.nodes (2 ^ 100) (times_in self.old) }
+        ensures ready { IsReady self.new }
+        ensures work { work_of self.new.core ≡ work_of self.old.core }
+        ensures costs { self.new.costs ≡ self.old.costs }
+        ensures made { result ≡ true → HaveMade self.old.costs (work_of self.old.core)
+            (times_in self.old) (core_of self.old.core) (times_in self.new)
+            (core_of self.new.core) }
+        ensures kept { result ≡ false → IsKept self.old self.new }
+    {
+        let window = self.window.max(LEAST_WINDOW).min(MOST_WINDOW);
+        let end = self.clocks.free_until(&self.core, window);
+        match self.make_words_until(end) {
+            Ok(made) => {
+                self.window = window * 2;
+                made
+            }
+            Err(stop) => {
+                self.window = window / 2;
+                self.make_words_before(stop, end)
+            }
+        }
+    }
+
+    /// Makes the words that nodes can execute before one of them stops, and says whether it made
+    /// any.
+    fn make_words_before(&mut self, stop: Stop, end: u128) -> bool
+        requires ready { IsReady self.old }
+        requires within { AreWithin self.old.core.layout.nodes (2 ^ 100) (times_in self.old) }
+        requires free { AreFree (work_of self.old.core) (times_in self.old)
+            (core_of self.old.core) end }
+        ensures ready { IsReady self.new }
+        ensures work { work_of self.new.core ≡ work_of self.old.core }
+        ensures costs { self.new.costs ≡ self.old.costs }
+        ensures made { result ≡ true → HaveMade self.old.costs (work_of self.old.core)
+            (times_in self.old) (core_of self.old.core) (times_in self.new)
+            (core_of self.new.core) }
+        ensures kept { result ≡ false → IsKept self.old self.new }
+    {
+        let count = self.core.layout().nodes();
+        let until = self.clocks.time_after(count, stop.node, stop.words);
+        match self.make_words_until(end.min(until)) {
+            Ok(made) => made,
+            Err(_) => false,
+        }
+    }
+
+    /// Makes all words that nodes execute until a time, where micro-ops serve all of them, and says
+    /// whether there are any. Otherwise the core and the clocks are as they were, and the answer
+    /// tells a node that stopped early.
+    fn make_words_until(&mut self, end: u128) -> Result<bool, Stop>
+        requires ready { IsReady self.old }
+        requires within { AreWithin self.old.core.layout.nodes (2 ^ 100) (times_in self.old) }
+        requires free { AreFree (work_of self.old.core) (times_in self.old)
+            (core_of self.old.core) end }
+        ensures ready { IsReady self.new }
+        ensures work { work_of self.new.core ≡ work_of self.old.core }
+        ensures costs { self.new.costs ≡ self.old.costs }
+        ensures made { IfOk result (λ made. made ≡ true → HaveMade self.old.costs
+            (work_of self.old.core) (times_in self.old) (core_of self.old.core)
+            (times_in self.new) (core_of self.new.core)) }
+        ensures none { IfOk result (λ made. made ≡ false → IsKept self.old self.new) }
+        ensures kept { OnErr result (IsKept self.old self.new) }
+    {
+        let count = self.core.layout().nodes();
+        let words = self.clocks.words_until(&self.core, end);
+        if !is_any(&words, count) {
+            return Ok(false);
+        }
+        self.core.run_each_undoable(&words, &mut self.undo_logs)?;
+        self.clocks.count_words(count, &words);
+        Ok(true)
     }
 
     /// The next event; `None` exactly where every node is over.
@@ -205,4 +322,17 @@ impl<'a> TimedRun<'a> {
             time,
         })
     }
+}
+
+/// Whether any node executes a word.
+fn is_any(words: &[u32; 16], count: u8) -> bool
+    requires { count ≤ 16 }
+    ensures { result ≡ true → (k : ℕ) × (k < count) × (1 ≤ slice_index_or words.now k 0) }
+{
+    for node in 0..count {
+        if words[node as usize] > 0 {
+            return true;
+        }
+    }
+    false
 }

@@ -1,19 +1,18 @@
 -- Each turn makes the next event by the rule; no core run has as many events as there are turns.
-use Rattle.std.proofs.Common.{◌≡◌, ◌+◌, ◌*◌, ◌^◌, List, Some, IfOk, All, sym, ap, ◌∙◌, subst, arith}
-use Rattle.std.specs.Option.{option_map}
+use Rattle.std.proofs.Common.{◌≡◌, ◌+◌, ◌*◌, ◌^◌, List, IfOk, All, sym, ◌∙◌, subst, arith}
 use Rattle.std.proofs.lemmas.Result.{IfOk-weaker}
 use Rattle.dsm_core.specs.node_model.Node.{Work}
+use Rattle.dsm_core.specs.node_model.Core.{Core, IsOver}
 use Rattle.dsm_core.specs.node_model.Outcome.{IsOutcomeOf}
 use Rattle.dsm_core.specs.run_order.OwnRun.{Stamped, StandsForOwnRun, run_of}
 use Rattle.dsm_core.specs.rewriting_law.Bounds.{RunsRewritten}
 use Rattle.dsm_core.specs.CoreParts.{work_of, core_of, outcome_of}
 use Rattle.timed_sim.specs.declared.costs.Costs.{Costs}
 use Rattle.timed_sim.specs.declared.run.Timed.{Timed}
-use Rattle.timed_sim.specs.Clock.{IsOutcomeByClock, clock_of, next, opening_times}
-use Rattle.timed_sim.specs.Stored.{AreWithin, HasEnded, due_of, times_in}
-use Rattle.timed_sim.proofs.Next.{next_is}
-use Rattle.timed_sim.proofs.Made.{made_within, opening_within, within_more, within_same}
-use Rattle.timed_sim.proofs.Running.{IsOnItsWay, both_ok, not_so_long, outcome_by_clock, sums, way_first, way_more}
+use Rattle.timed_sim.specs.Clock.{IsOutcomeByClock, Times, clock_of, opening_times}
+use Rattle.timed_sim.specs.Stored.{AreWithin, HasEnded, times_in}
+use Rattle.timed_sim.proofs.Made.{opening_within, times_kept, within_more, within_same}
+use Rattle.timed_sim.proofs.Running.{IsOnItsWay, both_ok, not_so_long, outcome_by_clock, sums, way_all, way_first}
 use Rattle.timed_sim.proofs.run.simulate_by_clock.Goals as goal
 
 pub loop-turn-init : goal.loop-turn-init
@@ -34,26 +33,24 @@ pub loop-turn-preserved : goal.loop-turn-preserved
 loop-turn-preserved c =
     let l = c.loop-turn in
     let r = l.run in
-    let q = c.make.new.self in
-    let m = c.in_ok-make-in-Some.ensures in
-    let d = due_of c.in-Some.due in
+    let q = c.make_next.new.self in
+    let m = c.in_ok-make_next.ensures in
     let work = work_of r.core in
+    let n = r.core.layout.nodes in
     let runs = subst RunsRewritten (sym l.invariant.work) c.requires.rewritten in
-    let here : next work (times_in r) (core_of r.core) ≡ Some d =
-    sym c.next.ensures.value ∙ ap (option_map due_of) c.in-Some.is in
-    let is = next_is work (times_in r) (core_of r.core) d l.invariant.ready.in_step here in
+    let made = m.made c.if-not-branch.false in
     record {
       ready = m.ready;
       work = m.work ∙ l.invariant.work;
       costs = m.costs ∙ l.invariant.costs;
       within = subst (λ (w : Work). AreWithin w.layout.nodes (2 ^ 26 * (l._turn + 1)) (times_in q)) (sym m.work)
-          (made_within r.costs work (times_in r) (times_in q) (core_of r.core) (core_of q.core) d l._turn
-          l.invariant.ready.costs (λ b low. c.layout_law.ensures.few work.layout b runs.valid low) is m.made
-          l.invariant.within);
+          (within_more n (2 ^ 26 * l._turn + 2 ^ 26) (2 ^ 26 * (l._turn + 1)) (times_in q) (omega arith)
+          (made.within (λ b low. c.layout_law.ensures.few work.layout b runs.valid low) (2 ^ 26 * l._turn)
+          l.invariant.within));
       way = subst (λ (w : Work). IsOnItsWay q.costs w (l._turn + 1) (times_in q) (core_of q.core)) (sym m.work)
           (subst (λ (k : Costs). IsOnItsWay k work (l._turn + 1) (times_in q) (core_of q.core)) (sym m.costs)
-          (way_more r.costs work l._turn (times_in r) (times_in q) (core_of r.core) (core_of q.core) d
-          l.invariant.way is here m.made));
+          (way_all r.costs work l._turn (times_in r) (times_in q) (core_of r.core) (core_of q.core)
+          l.invariant.way made));
     }
 
 pub unreachable-requires : goal.unreachable-requires
@@ -66,27 +63,47 @@ unreachable-requires c =
     (λ events run. c.progress_law.ensures.short work runs.plan events runs.accepted runs.valid runs.laid_over runs.rewriting runs.some run)
     l.invariant.way
 
-pub returns-in-None-clause-outcome : goal.returns-in-None-clause-outcome
-returns-in-None-clause-outcome c =
+pub timed-requires-clause-over : goal.timed-requires-clause-over
+timed-requires-clause-over c =
+    let r = c.loop-turn.run in
+    let q = c.make_next.new.self in
+    let kept = c.in_ok-make_next.ensures.kept c.if-not-branch.true in
+    let over = c.in_ok-make_next.ensures.over c.if-not-branch.true in
+    subst (λ (w : Work). IsOver w (core_of q.core)) (sym kept.work)
+    (subst (λ (z : Core). IsOver (work_of r.core) z) (sym kept.core) over)
+
+pub returns-then-not-branch-clause-outcome : goal.returns-then-not-branch-clause-outcome
+returns-then-not-branch-clause-outcome c =
     let l = c.loop-turn in
     let r = l.run in
-    let work = work_of r.core in
-    let over = c.next.ensures.over c.in-None.is in
-    subst (λ (w : Work). IfOk c.timed.result (λ (t : Timed). IsOutcomeByClock w c.args.costs.now (outcome_of t.outcome) t.spent.items t.time)) l.invariant.work
+    let q = c.make_next.new.self in
+    let work = work_of q.core in
+    let kept = c.in_ok-make_next.ensures.kept c.if-not-branch.true in
+    let over : IsOver work (core_of q.core) =
+    subst (λ (w : Work). IsOver w (core_of q.core)) (sym kept.work)
+    (subst (λ (z : Core). IsOver (work_of r.core) z) (sym kept.core)
+    (c.in_ok-make_next.ensures.over c.if-not-branch.true)) in
+    let way : IsOnItsWay r.costs work l._turn (times_in q) (core_of q.core) =
+    subst (λ (w : Work). IsOnItsWay r.costs w l._turn (times_in q) (core_of q.core)) (sym kept.work)
+    (subst (λ (z : Core). IsOnItsWay r.costs (work_of r.core) l._turn (times_in q) z) (sym kept.core)
+    (subst (λ (t : Times). IsOnItsWay r.costs (work_of r.core) l._turn t (core_of r.core))
+    (sym (times_kept r q kept)) l.invariant.way)) in
+    subst (λ (w : Work). IfOk c.timed.result (λ (t : Timed). IsOutcomeByClock w c.args.costs.now (outcome_of t.outcome) t.spent.items t.time))
+    (kept.work ∙ l.invariant.work)
     (subst (λ (k : Costs). IfOk c.timed.result (λ (t : Timed). IsOutcomeByClock work k (outcome_of t.outcome) t.spent.items t.time)) l.invariant.costs
     (both_ok c.timed.result
-    (λ (t : Timed). (own : List Stamped) × StandsForOwnRun work (core_of r.core) own × IsOutcomeOf work (run_of own) (outcome_of t.outcome))
-    (λ (t : Timed). HasEnded r.core.layout.nodes (times_in r) t.spent.items t.time)
+    (λ (t : Timed). (own : List Stamped) × StandsForOwnRun work (core_of q.core) own × IsOutcomeOf work (run_of own) (outcome_of t.outcome))
+    (λ (t : Timed). HasEnded q.core.layout.nodes (times_in q) t.spent.items t.time)
     (λ (t : Timed). IsOutcomeByClock work r.costs (outcome_of t.outcome) t.spent.items t.time)
-    (λ t given ended. outcome_by_clock r.costs work l._turn (times_in r) (core_of r.core) (outcome_of t.outcome) t.spent.items t.time
-    l.invariant.way over given ended)
+    (λ t given ended. outcome_by_clock r.costs work l._turn (times_in q) (core_of q.core) (outcome_of t.outcome) t.spent.items t.time
+    way over given ended)
     c.timed.ensures.outcome c.timed.ensures.times))
 
-pub returns-in-None-clause-sums : goal.returns-in-None-clause-sums
-returns-in-None-clause-sums c =
-    let r = c.loop-turn.run in
+pub returns-then-not-branch-clause-sums : goal.returns-then-not-branch-clause-sums
+returns-then-not-branch-clause-sums c =
+    let q = c.make_next.new.self in
     IfOk-weaker c.timed.result
-    (λ (t : Timed). HasEnded r.core.layout.nodes (times_in r) t.spent.items t.time)
+    (λ (t : Timed). HasEnded q.core.layout.nodes (times_in q) t.spent.items t.time)
     (λ (t : Timed). All (λ s. clock_of s ≡ t.time) t.spent.items)
-    (λ t ended. sums r.core.layout.nodes (times_in r) t.spent.items t.time ended)
+    (λ t ended. sums q.core.layout.nodes (times_in q) t.spent.items t.time ended)
     c.timed.ensures.times

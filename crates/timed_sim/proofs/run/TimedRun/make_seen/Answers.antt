@@ -54,7 +54,13 @@ pub returns-clause-made : goal.returns-clause-made
 returns-clause-made c =
     let r = c.args.self.now in
     let q : TimedRun =
-    record { core = c.step_seen.new.self; clocks = c.pass.new.self; costs = r.costs } in
+    record {
+      core = c.step_seen.new.self;
+      clocks = c.pass.new.self;
+      costs = r.costs;
+      undo_logs = r.undo_logs;
+      window = r.window;
+    } in
     let seen = c.in_ok-seen.ensures in
     let stood = c.standing-standing.ensures.value
     ∙ (λ t. standing_of (c.node.ensures.work t) (c.node.ensures.value t))
@@ -69,7 +75,13 @@ pub returns-clause-ready : goal.returns-clause-ready
 returns-clause-ready c =
     let r = c.args.self.now in
     let q : TimedRun =
-    record { core = c.step_seen.new.self; clocks = c.pass.new.self; costs = r.costs } in
+    record {
+      core = c.step_seen.new.self;
+      clocks = c.pass.new.self;
+      costs = r.costs;
+      undo_logs = r.undo_logs;
+      window = r.window;
+    } in
     let d = due_of c.args.due in
     let work = work_of r.core in
     let is = next_is work (times_in r) (core_of r.core) d c.requires.ready.in_step c.requires.next in
@@ -77,6 +89,8 @@ returns-clause-ready c =
     (λ clocks made. record {
       clocks = subst (λ (s : Shape). AreClocks s.nodes q.clocks) c.layout.ensures.value clocks;
       costs = c.requires.ready.costs;
+      undo_logs = c.requires.ready.undo_logs
+          ∙ ap (λ (w : Work). w.layout.nodes) (sym c.in_ok-seen.ensures.work);
       in_step = subst (λ (w : Work). AreInStep w.layout.nodes (times_in q) (core_of q.core))
           (sym c.in_ok-seen.ensures.work)
           (made_in_step r.costs work (times_in r) (times_in q) (core_of r.core) (core_of q.core) d is.may

@@ -35,7 +35,13 @@ pub returns-clause-made : goal.returns-clause-made
 returns-clause-made c = λ made.
     let r = c.args.self.now in
     let q : TimedRun =
-    record { core = c.exec_silent.new.self; clocks = c.count_word.new.self; costs = r.costs } in
+    record {
+      core = c.exec_silent.new.self;
+      clocks = c.count_word.new.self;
+      costs = r.costs;
+      undo_logs = r.undo_logs;
+      window = r.window;
+    } in
     let is = next_is (work_of r.core) (times_in r) (core_of r.core) (due_of c.args.due)
     c.requires.ready.in_step c.requires.next in
     let nodes : c.nodes-count.result ≡ r.core.layout.nodes =
@@ -48,10 +54,16 @@ pub returns-clause-ready : goal.returns-clause-ready
 returns-clause-ready c = λ made.
     let r = c.args.self.now in
     let q : TimedRun =
-    record { core = c.exec_silent.new.self; clocks = c.count_word.new.self; costs = r.costs } in
+    record {
+      core = c.exec_silent.new.self;
+      clocks = c.count_word.new.self;
+      costs = r.costs;
+      undo_logs = r.undo_logs;
+      window = r.window;
+    } in
     let is = next_is (work_of r.core) (times_in r) (core_of r.core) (due_of c.args.due)
     c.requires.ready.in_step c.requires.next in
     let nodes : c.nodes-count.result ≡ r.core.layout.nodes =
     c.nodes-count.ensures.nodes ∙ ap (λ (s : Shape). s.nodes) c.layout.ensures.value in
-    ready_made r.costs r q (due_of c.args.due) c.exec_silent.ensures.work refl is.may c.requires.ready
+    ready_made r.costs r q (due_of c.args.due) c.exec_silent.ensures.work refl refl is.may c.requires.ready
     (subst (λ n. AreClocks n q.clocks) nodes c.count_word.ensures.clocks) (returns-clause-made c made)

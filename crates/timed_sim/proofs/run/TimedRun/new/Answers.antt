@@ -14,11 +14,14 @@ returns-clause-ready c =
     let clocks = c.in_ok-clocks.clocks in
     let nodes : c.nodes.result ≡ core.layout.nodes =
     c.nodes.ensures.nodes ∙ ap (λ (s : Shape). s.nodes) c.layout.ensures.value in
+    let logs : c.nodes-2.result ≡ core.layout.nodes =
+    c.nodes-2.ensures.nodes ∙ ap (λ (s : Shape). s.nodes) c.layout-2.ensures.value in
     let same = subst (λ n. AreSameTimes n (times_of n clocks) opening_times) nodes
     c.in_ok-clocks.ensures.opening in
     record {
       clocks = subst (λ n. AreClocks n clocks) nodes c.in_ok-clocks.ensures.clocks;
       costs = c.requires.costs;
+      undo_logs = c.in_ok-undo_logs.ensures.nodes ∙ logs;
       in_step = λ j i below low. ap length (same.arrivals j i below low)
           ∙ opening_in_step core.layout.nodes (work_of core) j i below low
           ∙ sym (ap (λ (d : Core). length (d.list j i)) c.in_ok-core.ensures.opening);
