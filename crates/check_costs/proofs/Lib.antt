@@ -2,6 +2,7 @@ mod Adding
 mod Instructions
 mod Numbering
 mod Ordering
+mod Ranking
 mod Sequences
 mod Sweeping
 mod Totals

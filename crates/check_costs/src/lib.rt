@@ -5,7 +5,9 @@ mod counts;
 mod entries;
 mod functions;
 mod kinds;
+mod table;
 
 pub use counts::{WordCounts, counts_of};
 pub use entries::push_kinds;
 pub use kinds::WordKind;
+pub use table::{Row, table_of};
