@@ -1,15 +1,11 @@
 -- What is given says of an option one address, or none.
-use Rattle.std.proofs.Common.{◌≡◌, ℕ, ◌^◌, ◌<◌, ◌≤◌, false, cond, ◌==◌, List, [], ◌∷◌, ◌++◌, length, codes, slice_index, refl, sym, ap, ◌∙◌, subst, arith, Option, Some, None}
+use Rattle.std.proofs.Common.{◌≡◌, ℕ, ◌^◌, ◌<◌, ◌≤◌, false, cond, ◌==◌, List, [], ◌∷◌, ◌++◌, length, codes, slice_index, sym, ap, ◌∙◌, subst, arith, Option, Some}
 use Rattle.std.specs.Prelude.{drop}
 use Rattle.std.specs.Str.Parse.{IsNumeral, digits_value, without_leading_plus}
 use Rattle.std.proofs.lemmas.Int.Digits.{digits_value-lt}
 use Rattle.std.proofs.Math.Nat.{pow-le-pow_right}
-use Rattle.command_line.specs.declared.table.Kind.TheVariants.{MaybeAddress}
-use Rattle.command_line.specs.Table.{MaybeAt}
-use Rattle.command_line.specs.Arguments.{IsAddress, IsSet}
-
-same_at : (n m : Option ℕ) → MaybeAt n ≡ MaybeAt m → n ≡ m
-same_at n m e = cc
+use Rattle.command_line.specs.Tasks.{MaybeAddress}
+use Rattle.command_line.specs.Asks.{IsAddress, IsSaid}
 
 address_one : (word : List ℕ) (a b : ℕ) → IsAddress word a → IsAddress word b → a ≡ b
 address_one word a b h k =
@@ -30,16 +26,14 @@ no_address text digits e no_plus none a h =
     let low : digits_value 16 digits < 2 ^ 32 = omega (arith, small, most) in
     none (subst (λ ds. IsNumeral 16 ds × (digits_value 16 ds < 2 ^ 32)) (sym plain) (numeral, low))
 
-pub at_one : (values : List (List ℕ)) (n m : Option ℕ) → IsSet MaybeAddress values (MaybeAt n)
-    → IsSet MaybeAddress values (MaybeAt m) → n ≡ m
-at_one [] n m h k = same_at n m (h ∙ sym k)
+pub at_one : (values : List (List ℕ)) (n m : Option ℕ) → IsSaid (MaybeAddress n) values
+    → IsSaid (MaybeAddress m) values → n ≡ m
+at_one [] n m h k = h ∙ sym k
 at_one (x ∷ []) n m h k =
-    same_at n (Some h.0) h.2 ∙ ap Some (address_one x h.0 k.0 h.1 k.1)
-    ∙ sym (same_at m (Some k.0) k.2)
+    h.2 ∙ ap (λ a. Some a) (address_one x h.0 k.0 h.1 k.1) ∙ sym k.2
 at_one (x ∷ y ∷ more) n m h k = absurd h
 
 pub at_unread : (values : List (List ℕ)) (word : List ℕ) (n : Option ℕ) → values ≡ word ∷ []
-    → ((a : ℕ) → IsAddress word a → ⊥) → IsSet MaybeAddress values (MaybeAt n) → ⊥
+    → ((a : ℕ) → IsAddress word a → ⊥) → IsSaid (MaybeAddress n) values → ⊥
 at_unread values word n e none says =
-    let given = subst (λ vs. IsSet MaybeAddress vs (MaybeAt n)) e says in
-    none given.0 given.1
+    let given = subst (IsSaid (MaybeAddress n)) e says in none given.0 given.1

@@ -1,7 +1,8 @@
 -- What `clap` gives of words that are arguments.
 use Rattle.std.proofs.Common.{◌≡◌, ℕ, Bool, true, false, List, bytes_eq, [], ◌∷◌, ◌++◌, if◌then◌else◌, refl, sym, ap, ◌∙◌, codes, append_assoc, append-nil, inl, inr, subst}
 use Rattle.std.specs.List.{fold, flat_map}
-use Rattle.std.specs.Prelude.{unwrap_or}
+use Rattle.std.specs.Prelude.{All, Contains, unwrap_or}
+use Rattle.std.proofs.lemmas.List.Elements.{All-head, All-tail}
 use Rattle.std.proofs.lemmas.Slice.Eq.{bytes_eq-Decides}
 use Rattle.clap.specs.Kinds.{Kinds, or_else}
 use Rattle.clap.specs.Walk.{Row, Walk, nothing_held, settled, walked, with_values, all_of, rows_of, rows_after}
@@ -15,12 +16,12 @@ use Rattle.clap.proofs.FaultLemmas.{leaf_fault}
 use Rattle.command_line.specs.declared.table.Setting.{Setting}
 use Rattle.command_line.specs.declared.table.Role.{Role}
 use Rattle.command_line.specs.declared.table.Role.TheVariants as role
-use Rattle.command_line.specs.Table.{option_word}
-use Rattle.command_line.specs.Arguments.{Argument, Operand, Apart, Joined, Bare, words_of, AreArguments, is_same, operand_in, value_in}
-use Rattle.command_line.specs.Reading.{name_of, id_of, words_for, app_for, IsCut, Reads, AreReadable}
-use Rattle.command_line.proofs.Words.{dashed, is_long_alone, is_long_joined, no_operand, no_option}
+use Rattle.command_line.specs.Table.{name_of, offered, option_word}
+use Rattle.command_line.specs.Asks.{Argument, Operand, Apart, Joined, Bare, operand_in, value_in, words_of}
+use Rattle.command_line.specs.Reading.{id_of, words_for, app_for, IsCut, IsLong, Reads, AreReadable}
+use Rattle.command_line.proofs.Words.{dashed, is_long_alone, is_long_joined, no_operand, no_option, option_in}
 use Rattle.command_line.proofs.Told.{rules, shape, built_is, no_defaults, ends}
-use Rattle.command_line.proofs.Walking.{total, give, give_all, takes_all, reads_all, at, waits, Cut, or_nil}
+use Rattle.command_line.proofs.Walking.{Cut, Is, at, give, give_all, or_nil, reads_all, takes_all, total, waits}
 
 -- what rows give a name
 abbrev pub given : List ℕ → List Row → List (List ℕ)
@@ -62,39 +63,73 @@ given_more id name vs (r ∷ rs) =
 
 -- ---- what an argument gives a role
 
-same_names : (s t : Setting) → bytes_eq (name_of s) (name_of t) ≡ is_same s t
+same_names : (s t : Setting)
+    → bytes_eq (name_of s) (name_of t) ≡ bytes_eq (option_word s) (option_word t)
 same_names s t = sym (ap (λ w. bytes_eq w (option_word t)) (dashed s)
     ∙ ap (bytes_eq (45 ∷ 45 ∷ name_of s)) (dashed t))
 
 abbrev pub word_for : Role → Argument → List (List ℕ)
 word_for role.Operand a = operand_in a
-word_for (role.Option s) a = value_in s a
+word_for (role.Option s) a = value_in (option_word s) a
+
+-- values of an option are given to its name alone
+abbrev value_for : Role → (option : List ℕ) → List (List ℕ) → List (List ℕ)
+value_for role.Operand option vs = []
+value_for (role.Option t) option vs = if bytes_eq option (option_word t) then vs else []
+
+gives_value : (s : Setting) (vs : List (List ℕ)) (r : Role) (rows : List Row)
+    → given (id_of r) (with_values (name_of s) AsWritten CommandLine vs rows)
+    ≡ given (id_of r) rows ++ value_for r (option_word s) vs
+gives_value s vs role.Operand rows =
+    given_more (codes "operand") (name_of s) vs rows
+    ∙ ap (λ b. given (codes "operand") rows ++ (if b then vs else [])) (no_option s)
+gives_value s vs (role.Option t) rows =
+    given_more (name_of t) (name_of s) vs rows
+    ∙ ap (λ b. given (name_of t) rows ++ (if b then vs else [])) (same_names s t)
 
 module _ (settings : List Setting) where
-  gives_one : (a : Argument) (r : Role) (rows : List Row) →
-      given (id_of r) (give settings a rows) ≡ given (id_of r) rows ++ word_for r a
-  gives_one (Operand word) role.Operand rows = given_more (codes "operand") (codes "operand") (word ∷ []) rows
-  gives_one (Operand word) (role.Option t) rows =
+  abbrev Gives : Argument → Role → List Row → Type 0
+  Gives a r rows = given (id_of r) (give settings a rows) ≡ given (id_of r) rows ++ word_for r a
+
+  gives_operand : (word : List ℕ) (r : Role) (rows : List Row) → Gives (Operand word) r rows
+  gives_operand word role.Operand rows =
+      given_more (codes "operand") (codes "operand") (word ∷ []) rows
+  gives_operand word (role.Option t) rows =
       given_more (name_of t) (codes "operand") (word ∷ []) rows
       ∙ ap (λ b. given (name_of t) rows ++ (if b then word ∷ [] else [])) (no_operand t)
-  gives_one (Apart s v) role.Operand rows =
-      given_more (codes "operand") (name_of s) (v ∷ []) rows
-      ∙ ap (λ b. given (codes "operand") rows ++ (if b then v ∷ [] else [])) (no_option s)
-  gives_one (Apart s v) (role.Option t) rows =
-      given_more (name_of t) (name_of s) (v ∷ []) rows
-      ∙ ap (λ b. given (name_of t) rows ++ (if b then v ∷ [] else [])) (same_names s t)
-  gives_one (Joined s v) role.Operand rows =
-      given_more (codes "operand") (name_of s) (v ∷ []) rows
-      ∙ ap (λ b. given (codes "operand") rows ++ (if b then v ∷ [] else [])) (no_option s)
-  gives_one (Joined s v) (role.Option t) rows =
-      given_more (name_of t) (name_of s) (v ∷ []) rows
-      ∙ ap (λ b. given (name_of t) rows ++ (if b then v ∷ [] else [])) (same_names s t)
-  gives_one (Bare s) role.Operand rows =
-      given_more (codes "operand") (name_of s) ([] ∷ []) rows
-      ∙ ap (λ b. given (codes "operand") rows ++ (if b then [] ∷ [] else [])) (no_option s)
-  gives_one (Bare s) (role.Option t) rows =
-      given_more (name_of t) (name_of s) ([] ∷ []) rows
-      ∙ ap (λ b. given (name_of t) rows ++ (if b then [] ∷ [] else [])) (same_names s t)
+
+  for_apart : (r : Role) (option v : List ℕ)
+      → value_for r option (v ∷ []) ≡ word_for r (Apart option v)
+  for_apart role.Operand option v = refl
+  for_apart (role.Option t) option v = refl
+
+  for_joined : (r : Role) (option v : List ℕ)
+      → value_for r option (v ∷ []) ≡ word_for r (Joined option v)
+  for_joined role.Operand option v = refl
+  for_joined (role.Option t) option v = refl
+
+  for_bare : (r : Role) (option : List ℕ)
+      → value_for r option ([] ∷ []) ≡ word_for r (Bare option)
+  for_bare role.Operand option = refl
+  for_bare (role.Option t) option = refl
+
+  gives_one : (a : Argument) (r : Role) (rows : List Row) → Is settings a → Gives a r rows
+  gives_one (Operand word) r rows k = gives_operand word r rows
+  gives_one (Apart option v) r rows k =
+      let o = option_in settings option true k.0 in
+      subst (λ w. Gives (Apart w v) r rows) o.word_is
+      (gives_value o.setting (v ∷ []) r rows
+      ∙ ap (λ ws. given (id_of r) rows ++ ws) (for_apart r (option_word o.setting) v))
+  gives_one (Joined option v) r rows k =
+      let o = option_in settings option true k in
+      subst (λ w. Gives (Joined w v) r rows) o.word_is
+      (gives_value o.setting (v ∷ []) r rows
+      ∙ ap (λ ws. given (id_of r) rows ++ ws) (for_joined r (option_word o.setting) v))
+  gives_one (Bare option) r rows k =
+      let o = option_in settings option false k in
+      subst (λ w. Gives (Bare w) r rows) o.word_is
+      (gives_value o.setting ([] ∷ []) r rows
+      ∙ ap (λ ws. given (id_of r) rows ++ ws) (for_bare r (option_word o.setting)))
 
   words_more : (a : Argument) (more : List Argument) (r : Role) →
       words_for r (a ∷ more) ≡ word_for r a ++ words_for r more
@@ -105,14 +140,15 @@ module _ (settings : List Setting) where
   none_for role.Operand = refl
   none_for (role.Option t) = refl
 
-  pub gives_all : (arguments : List Argument) (r : Role) (rows : List Row) →
-      given (id_of r) (give_all settings arguments rows)
+  pub gives_all : (arguments : List Argument) (r : Role) (rows : List Row)
+      → All (Is settings) arguments → given (id_of r) (give_all settings arguments rows)
       ≡ given (id_of r) rows ++ words_for r arguments
-  gives_all [] r rows =
+  gives_all [] r rows k =
       sym (ap (λ ws. given (id_of r) rows ++ ws) (none_for r) ∙ append-nil (given (id_of r) rows))
-  gives_all (a ∷ more) r rows =
-      gives_all more r (give settings a rows)
-      ∙ ap (λ ws. ws ++ words_for r more) (gives_one a r rows)
+  gives_all (a ∷ more) r rows k =
+      gives_all more r (give settings a rows) (All-tail (Is settings) a more k)
+      ∙ ap (λ ws. ws ++ words_for r more)
+      (gives_one a r rows (All-head (Is settings) a more k))
       ∙ append_assoc (given (id_of r) rows) (word_for r a) (words_for r more)
       ∙ ap (λ ws. given (id_of r) rows ++ ws) (sym (words_more a more r))
 
@@ -141,13 +177,30 @@ module _ (settings : List Setting) where
       rows_at_end a ws = rows_after a.top.rules (names_of a) ws
 
   -- words that are arguments are readable
-  readable : (arguments : List Argument) → AreArguments settings arguments →
+  option_long : (option : List ℕ) (b : Bool) → Contains (offered settings) (option, b)
+      → IsLong option
+  option_long option b has =
+      let o = option_in settings option b has in subst IsLong o.word_is (is_long_alone o.setting)
+
+  joined_long : (option v : List ℕ) → Contains (offered settings) (option, true)
+      → IsLong (option ++ (61 ∷ v))
+  joined_long option v has =
+      let o = option_in settings option true has in
+      subst (λ w. IsLong (w ++ (61 ∷ v))) o.word_is (is_long_joined o.setting v)
+
+  readable_one : (a : Argument) (rest : List (List ℕ)) → Is settings a → AreReadable rest
+      → AreReadable (words_of a ++ rest)
+  readable_one (Operand word) rest k r = (inl k, r)
+  readable_one (Apart option v) rest k r = (inr (option_long option true k.0), (inl k.1, r))
+  readable_one (Joined option v) rest k r = (inr (joined_long option v k), r)
+  readable_one (Bare option) rest k r = (inr (option_long option false k), r)
+
+  readable : (arguments : List Argument) → All (Is settings) arguments →
       AreReadable (flat_map words_of arguments)
   readable [] k = tt
-  readable (Operand word ∷ more) k = (inl k.0, readable more k.1)
-  readable (Apart s v ∷ more) k = (inr (is_long_alone s), (inl k.0.1, readable more k.1))
-  readable (Joined s v ∷ more) k = (inr (is_long_joined s v), readable more k.1)
-  readable (Bare s ∷ more) k = (inr (is_long_alone s), readable more k.1)
+  readable (a ∷ more) k =
+      readable_one a (flat_map words_of more) (All-head (Is settings) a more k)
+      (readable more (All-tail (Is settings) a more k))
 
   pub cut_readable : (words : List (List ℕ)) (arguments : List Argument) →
       IsCut settings words arguments → AreReadable words
@@ -177,5 +230,5 @@ module _ (settings : List Setting) where
         arguments = cut.0;
         is_cut = cut.1;
         gives = λ x. ap (given (id_of x)) (f ∙ matches_are words ∙ (taken words cut.0 cut.1).1)
-            ∙ gives_all cut.0 x [];
+            ∙ gives_all cut.0 x [] cut.1.are_arguments;
       }

@@ -3,9 +3,9 @@ pub mod Cuts
 pub mod Told
 pub mod Walking
 pub mod Gives
+pub mod Given
 pub mod Addresses
 pub mod Rows
 pub mod Triples
-pub mod Tables
 pub mod Times
 pub mod Viewing

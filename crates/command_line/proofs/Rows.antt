@@ -1,235 +1,179 @@
 -- What is given says of a command's row one command, and nothing else.
-use Rattle.std.proofs.Common.{◌≡◌, ◌≢◌, ℕ, ◌-◌, ◌^◌, Bool, true, false, ◌<◌, length, MatchOption, List, [], ◌∷◌, map, get_or, refl, sym, ap, ◌∙◌, subst, arith, Option, Some, None, Bor, option_map, unwrap_or, bytes_eq}
+use Rattle.std.proofs.Common.{◌≡◌, ◌≢◌, ℕ, ◌-◌, ◌^◌, Bool, ◌<◌, length, MatchOption, List, [], ◌∷◌, map, get_or, refl, sym, ap, ◌∙◌, subst, arith, Option, Some, None, Bor, option_map, unwrap_or, bytes_eq}
 use Rattle.std.specs.Prelude.{IsTrue, find}
 use Rattle.clap.specs.declared.parser.matches.ArgMatches.{ArgMatches}
 use Rattle.clap.specs.Words.{found_of, matched_of, raw_values}
 use Rattle.clap.proofs.WalkLemmas.{raw_values-rows}
-use Rattle.command_line.specs.declared.table.Access.{Access}
-use Rattle.command_line.specs.declared.table.Access.TheVariants.{Read, Write}
+use Rattle.command_line.specs.declared.table.Access.TheVariants as access
 use Rattle.command_line.specs.declared.table.Kind.{Kind}
-use Rattle.command_line.specs.declared.table.Kind.TheVariants.{Number, MaybeNumber, MaybeAddress, File, Flag}
+use Rattle.command_line.specs.declared.table.Kind.TheVariants as kind
 use Rattle.command_line.specs.declared.table.Setting.{Setting}
 use Rattle.command_line.specs.declared.table.Setting.TheVariants.{Nodes, Order, Budget, Layout, Code, Verify, Record, Brief, NoBatch, Loss, PerNode}
 use Rattle.command_line.specs.declared.table.Role.{Role}
-use Rattle.command_line.specs.declared.table.Role.TheVariants as role
 use Rattle.command_line.specs.declared.table.CommandWord.{CommandWord}
 use Rattle.command_line.specs.declared.table.CommandWord.TheVariants as word
-use Rattle.command_line.specs.Tasks.{Execution, RunArguments, OneArguments, SimArguments, ReplayArguments, AreFew, IsAlone, is_alone}
-use Rattle.command_line.specs.Commands.{RewriteArguments, ListArguments, GenerateArguments, AssembleArguments, Command, Rewrite, Run, Listing, One, Sim, Replay, Generate, Assemble, IsFit}
-use Rattle.command_line.specs.Table.{Named, Between, Value, Amount, MaybeAmount, MaybeAt, Name, Switch, name_or_none, Row, execution_options, row_of, kind_of, settings_in}
-use Rattle.command_line.specs.Asks.{IsNumber}
-use Rattle.command_line.specs.Arguments.{Argument, ArePlaced, Asks, IsSet, AreSet, AreOfRow}
 use Rattle.command_line.specs.declared.Command.{Command as OfCode}
+use Rattle.command_line.specs.Tasks.{Execution, RunArguments, OneArguments, SimArguments, ReplayArguments, Number, MaybeNumber, Read, Write, Flag, AreFew, IsAlone, execution_options, is_alone}
+use Rattle.command_line.specs.Commands.{RewriteArguments, ListArguments, GenerateArguments, AssembleArguments, Command, Rewrite, Run, Listing, One, Sim, Replay, Generate, Assemble, IsFit, row_of}
+use Rattle.command_line.specs.Asks.{Argument, ArePlaced, Asks, IsNumber, IsSaid, valued}
 use Rattle.command_line.specs.Meaning.{meaning_of}
-use Rattle.command_line.specs.Reading.{IsCut, Reads, IsOfRow, AreGiven, SaysNumber, SaysMaybe, SaysName, SaysFlag, Completes, given_by, id_of, words_for, settings_of, text_of}
+use Rattle.command_line.specs.Table.{kind_of, name_of, offered, settings_of, text_of}
+use Rattle.command_line.specs.Reading.{IsCut, Reads, IsOfRow, IsOne, AreTwo, AreGiven, IsMaybeOf, IsNameOf, IsNumberOf, SaysNumber, SaysMaybe, SaysName, SaysFlag, Completes, given_by, id_of, words_for}
 use Rattle.command_line.proofs.Cuts.{same_cut}
+use Rattle.command_line.proofs.Given.{given_of, gives, row_back, row_cut, row_given, same_head}
 
 abbrev Given : Type 0
-Given = Role → List (List ℕ)
+Given = List ℕ → List (List ℕ)
 
 -- what the code reads of a role is what it is given
 pub given_raw : (m : ArgMatches) (r : Role) (id : List ℕ) (o : Option (Bor (List (Bor (List ℕ))))) →
     id ≡ id_of r →
     option_map (λ s. map (λ v. v.now) s.now) o ≡ option_map raw_values (matched_of (found_of m) id) →
-    given_by m r ≡ unwrap_or (option_map (λ s. map (λ v. v.now) s.now) o) []
+    given_by m (id_of r) ≡ unwrap_or (option_map (λ s. map (λ v. v.now) s.now) o) []
 given_raw m r id o f e =
     sym (ap (λ x. unwrap_or x []) (e ∙ ap (λ i. option_map raw_values (matched_of (found_of m) i)) f
     ∙ raw_values-rows (found_of m) (id_of r)))
 
-same_amount : (n m : ℕ) → Amount n ≡ Amount m → n ≡ m
-same_amount n m e = cc
+-- an option says one number
+number_one : (k : Kind) (values : List (List ℕ)) (n m : ℕ) → IsNumberOf k values n
+    → IsNumberOf k values m → n ≡ m
+number_one (kind.Number low high default) [] n m h k = h ∙ sym k
+number_one (kind.Number low high default) (x ∷ []) n m h k = sym h.value ∙ k.value
+number_one (kind.Number low high default) (x ∷ y ∷ more) n m h k = absurd h
+number_one (kind.MaybeNumber low high) values n m h k = absurd h
+number_one kind.MaybeAddress values n m h k = absurd h
+number_one (kind.File access) values n m h k = absurd h
+number_one kind.Flag values n m h k = absurd h
 
-pub same_name : (x y : List ℕ) → Name x ≡ Name y → x ≡ y
-same_name x y e = cc
-
-not_maybe : (n : ℕ) (o : Option ℕ) → Amount n ≡ MaybeAmount o → ⊥
-not_maybe n o e = absurd (cc)
-
-not_at : (n : ℕ) (o : Option ℕ) → Amount n ≡ MaybeAt o → ⊥
-not_at n o e = absurd (cc)
-
-set_one : (kind : Kind) (values : List (List ℕ)) (n m : ℕ) → IsSet kind values (Amount n) →
-    IsSet kind values (Amount m) → n ≡ m
-set_one (Number low high default) [] n m h k = same_amount n m (h ∙ sym k)
-set_one (Number low high default) (x ∷ []) n m h k =
-    let e = same_amount n h.0 h.2 in
-    let f = same_amount m k.0 k.2 in
-    e ∙ sym h.1.value ∙ k.1.value ∙ sym f
-set_one (Number low high default) (x ∷ y ∷ more) n m h k = absurd h
-set_one (MaybeNumber low high) [] n m h k = same_amount n m (h ∙ sym k)
-set_one (MaybeNumber low high) (x ∷ []) n m h k = absurd (not_maybe n _ h.2)
-set_one (MaybeNumber low high) (x ∷ y ∷ more) n m h k = absurd h
-set_one MaybeAddress [] n m h k = same_amount n m (h ∙ sym k)
-set_one MaybeAddress (x ∷ []) n m h k = absurd (not_at n _ h.2)
-set_one MaybeAddress (x ∷ y ∷ more) n m h k = absurd h
-set_one (File access) [] n m h k = same_amount n m (h ∙ sym k)
-set_one (File access) (x ∷ []) n m h k = same_amount n m (h.1 ∙ sym k.1)
-set_one (File access) (x ∷ y ∷ more) n m h k = absurd h
-set_one Flag [] n m h k = same_amount n m (h ∙ sym k)
-set_one Flag (x ∷ []) n m h k = same_amount n m (h ∙ sym k)
-set_one Flag (x ∷ y ∷ more) n m h k = absurd h
+pub says_one : (g : Given) (s : Setting) (n m : ℕ) → SaysNumber g s n → SaysNumber g s m → n ≡ m
+says_one g s n m h k = number_one (kind_of s) (g (name_of s)) n m h k
 
 -- an option that is given one value, and none
-pub says_by : (g : Given) (s : Setting) (values : List (List ℕ)) (kind : Kind) (n : ℕ) →
-    g (role.Option s) ≡ values → kind_of s ≡ kind → IsSet kind values (Amount n) → SaysNumber g s n
-says_by g s values kind n e k h =
-    subst (λ vs. IsSet (kind_of s) vs (Amount n)) (sym e)
-    (subst (λ x. IsSet x values (Amount n)) (sym k) h)
+pub says_by : (g : Given) (s : Setting) (values : List (List ℕ)) (k : Kind) (n : ℕ)
+    → g (name_of s) ≡ values → kind_of s ≡ k → IsNumberOf k values n → SaysNumber g s n
+says_by g s values k n e f h =
+    subst (λ vs. IsNumberOf (kind_of s) vs n) (sym e) (subst (λ x. IsNumberOf x values n) (sym f) h)
 
-pub set_by : (g : Given) (s : Setting) (values : List (List ℕ)) (kind : Kind) (n : ℕ) →
-    g (role.Option s) ≡ values → kind_of s ≡ kind → SaysNumber g s n → IsSet kind values (Amount n)
-set_by g s values kind n e k h =
-    subst (λ x. IsSet x values (Amount n)) k (subst (λ vs. IsSet (kind_of s) vs (Amount n)) e h)
+pub set_by : (g : Given) (s : Setting) (values : List (List ℕ)) (k : Kind) (n : ℕ)
+    → g (name_of s) ≡ values → kind_of s ≡ k → SaysNumber g s n → IsNumberOf k values n
+set_by g s values k n e f h =
+    subst (λ x. IsNumberOf x values n) f (subst (λ vs. IsNumberOf (kind_of s) vs n) e h)
 
-pub says_read : (g : Given) (s : Setting) (word : List ℕ) (low high default : ℕ) (r : Option ℕ) →
-    g (role.Option s) ≡ word ∷ [] → kind_of s ≡ Number low high default →
-    MatchOption r ((n : ℕ) → IsNumber low high word n → ⊥) (λ n. IsNumber low high word n) →
-    MatchOption r ((n : ℕ) → SaysNumber g s n → ⊥) (λ n. SaysNumber g s n)
+pub says_read : (g : Given) (s : Setting) (word : List ℕ) (low high default : ℕ) (r : Option ℕ)
+    → g (name_of s) ≡ word ∷ [] → kind_of s ≡ kind.Number low high default
+    → MatchOption r ((n : ℕ) → IsNumber low high word n → ⊥) (λ n. IsNumber low high word n)
+    → MatchOption r ((n : ℕ) → SaysNumber g s n → ⊥) (λ n. SaysNumber g s n)
 says_read g s word low high default None e k h = λ n says.
-    let given : IsSet (Number low high default) (word ∷ []) (Amount n) =
-    set_by g s (word ∷ []) (Number low high default) n e k says in
-    h given.0 given.1
+    h n (set_by g s (word ∷ []) (kind.Number low high default) n e k says)
 says_read g s word low high default (Some n) e k h =
-    says_by g s (word ∷ []) (Number low high default) n e k (n, h, refl)
+    says_by g s (word ∷ []) (kind.Number low high default) n e k h
 
-set_few : (kind : Kind) (values : List (List ℕ)) (value : Value) → IsSet kind values value →
-    1 < length values → ⊥
-set_few kind [] value h lt = omega (arith, lt)
-set_few kind (x ∷ []) value h lt = omega (arith, lt)
-set_few kind (x ∷ y ∷ more) value h lt = h
+number_few : (k : Kind) (values : List (List ℕ)) (n : ℕ) → 1 < length values
+    → IsNumberOf k values n → ⊥
+number_few (kind.Number low high default) [] n lt h = omega (arith, lt)
+number_few (kind.Number low high default) (x ∷ []) n lt h = omega (arith, lt)
+number_few (kind.Number low high default) (x ∷ y ∷ more) n lt h = h
+number_few (kind.MaybeNumber low high) values n lt h = h
+number_few kind.MaybeAddress values n lt h = h
+number_few (kind.File access) values n lt h = h
+number_few kind.Flag values n lt h = h
 
-pub says_few : (g : Given) (s : Setting) (n : ℕ) → 1 < length (g (role.Option s)) →
-    SaysNumber g s n → ⊥
-says_few g s n lt h = set_few (kind_of s) (g (role.Option s)) (Amount n) h lt
+pub says_few : (g : Given) (s : Setting) (n : ℕ) → 1 < length (g (name_of s)) → SaysNumber g s n
+    → ⊥
+says_few g s n lt h = number_few (kind_of s) (g (name_of s)) n lt h
 
 -- an option names one file, or none
-same_named : (n m : Option (List ℕ)) → name_or_none n ≡ name_or_none m → n ≡ m
-same_named None None e = refl
-same_named None (Some y) e = absurd (cc)
-same_named (Some x) None e = absurd (cc)
-same_named (Some x) (Some y) e = ap Some (same_name x y e)
+read_one : (values : List (List ℕ)) (n m : Option (List ℕ)) → IsSaid (Read n) values
+    → IsSaid (Read m) values → n ≡ m
+read_one [] n m h k = h ∙ sym k
+read_one (x ∷ []) n m h k = h.1 ∙ sym k.1
+read_one (x ∷ y ∷ more) n m h k = absurd h
 
-no_amount : (n : Option (List ℕ)) (k : ℕ) → name_or_none n ≡ Amount k → ⊥
-no_amount None k e = absurd (cc)
-no_amount (Some x) k e = absurd (cc)
+write_one : (values : List (List ℕ)) (n m : Option (List ℕ)) → IsSaid (Write n) values
+    → IsSaid (Write m) values → n ≡ m
+write_one [] n m h k = h ∙ sym k
+write_one (x ∷ []) n m h k = h.1 ∙ sym k.1
+write_one (x ∷ y ∷ more) n m h k = absurd h
 
-no_switch : (n : Option (List ℕ)) (b : Bool) → name_or_none n ≡ Switch b → ⊥
-no_switch None b e = absurd (cc)
-no_switch (Some x) b e = absurd (cc)
+name_one : (k : Kind) (values : List (List ℕ)) (n m : Option (List ℕ)) → IsNameOf k values n
+    → IsNameOf k values m → n ≡ m
+name_one (kind.Number low high default) values n m h k = absurd h
+name_one (kind.MaybeNumber low high) values n m h k = absurd h
+name_one kind.MaybeAddress values n m h k = absurd h
+name_one (kind.File access.Read) values n m h k = read_one values n m h k
+name_one (kind.File access.Write) values n m h k = write_one values n m h k
+name_one kind.Flag values n m h k = absurd h
 
-no_maybe : (n : Option (List ℕ)) (o : Option ℕ) → name_or_none n ≡ MaybeAmount o → ⊥
-no_maybe None o e = absurd (cc)
-no_maybe (Some x) o e = absurd (cc)
-
-no_at : (n : Option (List ℕ)) (o : Option ℕ) → name_or_none n ≡ MaybeAt o → ⊥
-no_at None o e = absurd (cc)
-no_at (Some x) o e = absurd (cc)
-
-name_one : (kind : Kind) (values : List (List ℕ)) (n m : Option (List ℕ)) →
-    IsSet kind values (name_or_none n) → IsSet kind values (name_or_none m) → n ≡ m
-name_one (Number low high default) [] n m h k = absurd (no_amount n _ h)
-name_one (Number low high default) (x ∷ []) n m h k = absurd (no_amount n h.0 h.2)
-name_one (Number low high default) (x ∷ y ∷ more) n m h k = absurd h
-name_one (MaybeNumber low high) [] n m h k = absurd (no_maybe n _ h)
-name_one (MaybeNumber low high) (x ∷ []) n m h k = absurd (no_maybe n _ h.2)
-name_one (MaybeNumber low high) (x ∷ y ∷ more) n m h k = absurd h
-name_one MaybeAddress [] n m h k = absurd (no_at n _ h)
-name_one MaybeAddress (x ∷ []) n m h k = absurd (no_at n _ h.2)
-name_one MaybeAddress (x ∷ y ∷ more) n m h k = absurd h
-name_one (File access) [] n m h k = same_named n m (h ∙ sym k)
-name_one (File access) (x ∷ []) n m h k = same_named n m (h.1 ∙ sym k.1)
-name_one (File access) (x ∷ y ∷ more) n m h k = absurd h
-name_one Flag [] n m h k = absurd (no_switch n false h)
-name_one Flag (x ∷ []) n m h k = absurd (no_switch n true h)
-name_one Flag (x ∷ y ∷ more) n m h k = absurd h
-
-pub names_one : (g : Given) (s : Setting) (n m : Option (List ℕ)) → SaysName g s n → SaysName g s m → n ≡ m
-names_one g s n m h k = name_one (kind_of s) (g (role.Option s)) n m h k
+pub names_one : (g : Given) (s : Setting) (n m : Option (List ℕ)) → SaysName g s n
+    → SaysName g s m → n ≡ m
+names_one g s n m h k = name_one (kind_of s) (g (name_of s)) n m h k
 
 -- an option has one number, or none
-same_maybe : (n m : Option ℕ) → MaybeAmount n ≡ MaybeAmount m → n ≡ m
-same_maybe n m e = cc
-
-some_maybe : (n : Option ℕ) (k : ℕ) → MaybeAmount n ≡ MaybeAmount (Some k) → n ≡ Some k
-some_maybe n k e = same_maybe n (Some k) e
-
-maybe_at : (n o : Option ℕ) → MaybeAmount n ≡ MaybeAt o → ⊥
-maybe_at n o e = absurd (cc)
-
-maybe_one : (kind : Kind) (values : List (List ℕ)) (n m : Option ℕ)
-    → IsSet kind values (MaybeAmount n) → IsSet kind values (MaybeAmount m) → n ≡ m
-maybe_one (Number low high default) [] n m h k = same_maybe n m (h ∙ sym k)
-maybe_one (Number low high default) (x ∷ []) n m h k = absurd (not_maybe h.0 n (sym h.2))
-maybe_one (Number low high default) (x ∷ y ∷ more) n m h k = absurd h
-maybe_one (MaybeNumber low high) [] n m h k = same_maybe n m (h ∙ sym k)
-maybe_one (MaybeNumber low high) (x ∷ []) n m h k =
-    some_maybe n h.0 h.2 ∙ ap Some (sym h.1.value ∙ k.1.value) ∙ sym (some_maybe m k.0 k.2)
-maybe_one (MaybeNumber low high) (x ∷ y ∷ more) n m h k = absurd h
-maybe_one MaybeAddress [] n m h k = same_maybe n m (h ∙ sym k)
-maybe_one MaybeAddress (x ∷ []) n m h k = absurd (maybe_at n _ h.2)
-maybe_one MaybeAddress (x ∷ y ∷ more) n m h k = absurd h
-maybe_one (File access) [] n m h k = same_maybe n m (h ∙ sym k)
-maybe_one (File access) (x ∷ []) n m h k = same_maybe n m (h.1 ∙ sym k.1)
-maybe_one (File access) (x ∷ y ∷ more) n m h k = absurd h
-maybe_one Flag [] n m h k = same_maybe n m (h ∙ sym k)
-maybe_one Flag (x ∷ []) n m h k = same_maybe n m (h ∙ sym k)
-maybe_one Flag (x ∷ y ∷ more) n m h k = absurd h
+maybe_one : (k : Kind) (values : List (List ℕ)) (n m : Option ℕ) → IsMaybeOf k values n
+    → IsMaybeOf k values m → n ≡ m
+maybe_one (kind.Number low high default) values n m h k = absurd h
+maybe_one (kind.MaybeNumber low high) [] n m h k = h ∙ sym k
+maybe_one (kind.MaybeNumber low high) (x ∷ []) n m h k =
+    h.2 ∙ ap (λ i. Some i) (sym h.1.value ∙ k.1.value) ∙ sym k.2
+maybe_one (kind.MaybeNumber low high) (x ∷ y ∷ more) n m h k = absurd h
+maybe_one kind.MaybeAddress values n m h k = absurd h
+maybe_one (kind.File access) values n m h k = absurd h
+maybe_one kind.Flag values n m h k = absurd h
 
 pub maybes_one : (g : Given) (s : Setting) (n m : Option ℕ) → SaysMaybe g s n → SaysMaybe g s m
     → n ≡ m
-maybes_one g s n m h k = maybe_one (kind_of s) (g (role.Option s)) n m h k
+maybes_one g s n m h k = maybe_one (kind_of s) (g (name_of s)) n m h k
 
-pub maybe_by : (g : Given) (s : Setting) (values : List (List ℕ)) (kind : Kind) (n : Option ℕ)
-    → g (role.Option s) ≡ values → kind_of s ≡ kind → IsSet kind values (MaybeAmount n)
-    → SaysMaybe g s n
-maybe_by g s values kind n e k h =
-    subst (λ vs. IsSet (kind_of s) vs (MaybeAmount n)) (sym e)
-    (subst (λ x. IsSet x values (MaybeAmount n)) (sym k) h)
+pub maybe_by : (g : Given) (s : Setting) (values : List (List ℕ)) (k : Kind) (n : Option ℕ)
+    → g (name_of s) ≡ values → kind_of s ≡ k → IsMaybeOf k values n → SaysMaybe g s n
+maybe_by g s values k n e f h =
+    subst (λ vs. IsMaybeOf (kind_of s) vs n) (sym e) (subst (λ x. IsMaybeOf x values n) (sym f) h)
 
 pub maybe_unread : (g : Given) (s : Setting) (word : List ℕ) (low high : ℕ) (n : Option ℕ)
-    → g (role.Option s) ≡ word ∷ [] → kind_of s ≡ MaybeNumber low high
+    → g (name_of s) ≡ word ∷ [] → kind_of s ≡ kind.MaybeNumber low high
     → ((n : ℕ) → IsNumber low high word n → ⊥) → SaysMaybe g s n → ⊥
 maybe_unread g s word low high n e k none says =
-    let given : IsSet (MaybeNumber low high) (word ∷ []) (MaybeAmount n) =
-    subst (λ x. IsSet x (word ∷ []) (MaybeAmount n)) k
-    (subst (λ vs. IsSet (kind_of s) vs (MaybeAmount n)) e says) in
+    let given : IsMaybeOf (kind.MaybeNumber low high) (word ∷ []) n =
+    subst (λ x. IsMaybeOf x (word ∷ []) n) k
+    (subst (λ vs. IsMaybeOf (kind_of s) vs n) e says) in
     none given.0 given.1
 
-pub maybe_few : (g : Given) (s : Setting) (n : Option ℕ) → 1 < length (g (role.Option s))
+many_maybe : (k : Kind) (values : List (List ℕ)) (n : Option ℕ) → 1 < length values
+    → IsMaybeOf k values n → ⊥
+many_maybe (kind.Number low high default) values n lt h = h
+many_maybe (kind.MaybeNumber low high) [] n lt h = omega (arith, lt)
+many_maybe (kind.MaybeNumber low high) (x ∷ []) n lt h = omega (arith, lt)
+many_maybe (kind.MaybeNumber low high) (x ∷ y ∷ more) n lt h = h
+many_maybe kind.MaybeAddress values n lt h = h
+many_maybe (kind.File access) values n lt h = h
+many_maybe kind.Flag values n lt h = h
+
+pub maybe_few : (g : Given) (s : Setting) (n : Option ℕ) → 1 < length (g (name_of s))
     → SaysMaybe g s n → ⊥
-maybe_few g s n lt h = set_few (kind_of s) (g (role.Option s)) (MaybeAmount n) h lt
+maybe_few g s n lt h = many_maybe (kind_of s) (g (name_of s)) n lt h
 
 -- a flag is there, or not
-same_switch : (b d : Bool) → Switch b ≡ Switch d → b ≡ d
-same_switch b d e = cc
-
-switch_one : (values : List (List ℕ)) (b d : Bool) → IsSet Flag values (Switch b) →
-    IsSet Flag values (Switch d) → b ≡ d
-switch_one [] b d h k = same_switch b d (h ∙ sym k)
-switch_one (x ∷ []) b d h k = same_switch b d (h ∙ sym k)
+switch_one : (values : List (List ℕ)) (b d : Bool) → IsSaid (Flag b) values
+    → IsSaid (Flag d) values → b ≡ d
+switch_one [] b d h k = h ∙ sym k
+switch_one (x ∷ []) b d h k = h ∙ sym k
 switch_one (x ∷ y ∷ more) b d h k = absurd h
 
-abbrev IsFlag : Setting → Type 0
-IsFlag s = kind_of s ≡ Flag
+pub flag_one : (g : Given) (s : Setting) (b d : Bool) → SaysFlag g s b → SaysFlag g s d → b ≡ d
+flag_one g s b d h k = switch_one (g (name_of s)) b d h k
 
-flag_set : (g : Given) (s : Setting) (b : Bool) → IsFlag s → SaysFlag g s b
-    → IsSet Flag (g (role.Option s)) (Switch b)
-flag_set g s b k h = subst (λ x. IsSet x (g (role.Option s)) (Switch b)) k h
+pub flag_at : (g : Given) (s : Setting) (values : List (List ℕ)) (b : Bool)
+    → g (name_of s) ≡ values → IsSaid (Flag b) values → SaysFlag g s b
+flag_at g s values b e h = subst (IsSaid (Flag b)) (sym e) h
 
-pub flag_one : (g : Given) (s : Setting) (b d : Bool) → IsFlag s → SaysFlag g s b → SaysFlag g s d
-    → b ≡ d
-flag_one g s b d e h k =
-    switch_one (g (role.Option s)) b d (flag_set g s b e h) (flag_set g s d e k)
+many_switch : (values : List (List ℕ)) (b : Bool) → 1 < length values → IsSaid (Flag b) values → ⊥
+many_switch [] b lt h = omega (arith, lt)
+many_switch (x ∷ []) b lt h = omega (arith, lt)
+many_switch (x ∷ y ∷ more) b lt h = h
 
-pub flag_at : (g : Given) (s : Setting) (values : List (List ℕ)) (b : Bool) → IsFlag s
-    → g (role.Option s) ≡ values → IsSet Flag values (Switch b) → SaysFlag g s b
-flag_at g s values b k e h =
-    subst (λ x. IsSet x (g (role.Option s)) (Switch b)) (sym k)
-    (subst (λ vs. IsSet Flag vs (Switch b)) (sym e) h)
-
-pub flag_few : (g : Given) (s : Setting) (b : Bool) → 1 < length (g (role.Option s))
+pub flag_few : (g : Given) (s : Setting) (b : Bool) → 1 < length (g (name_of s))
     → SaysFlag g s b → ⊥
-flag_few g s b lt h = set_few (kind_of s) (g (role.Option s)) (Switch b) h lt
+flag_few g s b lt h = many_switch (g (name_of s)) b lt h
 
 pub nothing : (xs : List (Bor (List ℕ))) → length xs ≡ 0 → map (λ v. v.now) xs ≡ []
 nothing [] e = refl
@@ -248,73 +192,111 @@ pair (x ∷ []) d e = absurd (omega (arith, e))
 pair (x ∷ y ∷ []) d e = refl
 pair (x ∷ y ∷ z ∷ more) d e = absurd (omega (arith, e))
 
-pub one_file : (f : List ℕ) (words : List (List ℕ)) →
-    ArePlaced ((Named Read, Name f) ∷ []) words → words ≡ f ∷ []
+-- ---- places
+
+same_name : (x y : List ℕ) → Some x ≡ Some y → x ≡ y
+same_name x y e = cc
+
+pub one_file : (f : List ℕ) (words : List (List ℕ)) → ArePlaced (Read (Some f) ∷ []) words
+    → IsOne f words
 one_file f [] h = absurd h
-one_file f (w ∷ []) h = ap (λ x. x ∷ []) (sym (same_name f w h.0))
+one_file f (w ∷ []) h =
+    let same : f ≡ w = same_name f w h.0.1 in
+    (ap (λ x. x ∷ []) (sym same), subst (λ x. 0 < length x) (sym same) h.0.0)
 one_file f (w ∷ x ∷ more) h = absurd h.1
 
-pub placed_file : (f : List ℕ) (words : List (List ℕ)) → words ≡ f ∷ [] →
-    ArePlaced ((Named Read, Name f) ∷ []) words
-placed_file f words e = subst (ArePlaced ((Named Read, Name f) ∷ [])) (sym e) (refl, tt)
+pub placed_file : (f : List ℕ) (words : List (List ℕ)) → IsOne f words
+    → ArePlaced (Read (Some f) ∷ []) words
+placed_file f words h =
+    subst (ArePlaced (Read (Some f) ∷ [])) (sym h.0) ((h.1, refl), tt)
 
-pub two_files : (a : Access) (x y : List ℕ) (words : List (List ℕ)) →
-    ArePlaced ((Named Read, Name x) ∷ (Named a, Name y) ∷ []) words → words ≡ x ∷ y ∷ []
-two_files a x y [] h = absurd h
-two_files a x y (w ∷ []) h = absurd h.1
-two_files a x y (w ∷ v ∷ []) h =
-    let one = same_name x w h.0 in
-    let other = same_name y v h.1.0 in
-    cc
-two_files a x y (w ∷ v ∷ u ∷ more) h = absurd h.1.1
+pub same_file : (x y : List ℕ) (words : List (List ℕ)) → ArePlaced (Read (Some x) ∷ []) words
+    → ArePlaced (Read (Some y) ∷ []) words → x ≡ y
+same_file x y words h k =
+    ap (λ xs. get_or xs 0 []) (sym (one_file x words h).0 ∙ (one_file y words k).0)
 
-pub placed_files : (a : Access) (x y : List ℕ) (words : List (List ℕ)) → words ≡ x ∷ y ∷ [] →
-    ArePlaced ((Named Read, Name x) ∷ (Named a, Name y) ∷ []) words
-placed_files a x y words e =
-    subst (ArePlaced ((Named Read, Name x) ∷ (Named a, Name y) ∷ [])) (sym e) (refl, (refl, tt))
+-- two files that are read
+pub two_read : (x y : List ℕ) (words : List (List ℕ))
+    → ArePlaced (Read (Some x) ∷ Read (Some y) ∷ []) words → AreTwo x y words
+two_read x y [] h = absurd h
+two_read x y (w ∷ []) h = absurd h.1
+two_read x y (w ∷ v ∷ []) h =
+    let one : x ≡ w = same_name x w h.0.1 in
+    let other : y ≡ v = same_name y v h.1.0.1 in (
+      cc,
+      subst (λ z. 0 < length z) (sym one) h.0.0,
+      subst (λ z. 0 < length z) (sym other) h.1.0.0,
+    )
+two_read x y (w ∷ v ∷ u ∷ more) h = absurd h.1.1
 
-pub same_files : (a : Access) (x y v w : List ℕ) (words : List (List ℕ)) →
-    ArePlaced ((Named Read, Name x) ∷ (Named a, Name y) ∷ []) words →
-    ArePlaced ((Named Read, Name v) ∷ (Named a, Name w) ∷ []) words → (x ≡ v) × (y ≡ w)
-same_files a x y v w words h k =
-    let e = sym (two_files a x y words h) ∙ two_files a v w words k in
+pub placed_read : (x y : List ℕ) (words : List (List ℕ)) → AreTwo x y words
+    → ArePlaced (Read (Some x) ∷ Read (Some y) ∷ []) words
+placed_read x y words h =
+    subst (ArePlaced (Read (Some x) ∷ Read (Some y) ∷ [])) (sym h.0)
+    ((h.1, refl), ((h.2, refl), tt))
+
+pub same_read : (x y v w : List ℕ) (words : List (List ℕ))
+    → ArePlaced (Read (Some x) ∷ Read (Some y) ∷ []) words
+    → ArePlaced (Read (Some v) ∷ Read (Some w) ∷ []) words → (x ≡ v) × (y ≡ w)
+same_read x y v w words h k =
+    let e = sym (two_read x y words h).0 ∙ (two_read v w words k).0 in
     (ap (λ xs. get_or xs 0 []) e, ap (λ xs. get_or xs 1 []) e)
 
--- a word that is a number, and a file
+-- a file that is read, and one that is written
+pub two_files : (x y : List ℕ) (words : List (List ℕ))
+    → ArePlaced (Read (Some x) ∷ Write (Some y) ∷ []) words → AreTwo x y words
+two_files x y [] h = absurd h
+two_files x y (w ∷ []) h = absurd h.1
+two_files x y (w ∷ v ∷ []) h =
+    let one : x ≡ w = same_name x w h.0.1 in
+    let other : y ≡ v = same_name y v h.1.0.1 in (
+      cc,
+      subst (λ z. 0 < length z) (sym one) h.0.0,
+      subst (λ z. 0 < length z) (sym other) h.1.0.0,
+    )
+two_files x y (w ∷ v ∷ u ∷ more) h = absurd h.1.1
+
+pub placed_files : (x y : List ℕ) (words : List (List ℕ)) → AreTwo x y words
+    → ArePlaced (Read (Some x) ∷ Write (Some y) ∷ []) words
+placed_files x y words h =
+    subst (ArePlaced (Read (Some x) ∷ Write (Some y) ∷ [])) (sym h.0)
+    ((h.1, refl), ((h.2, refl), tt))
+
+same_files : (x y v w : List ℕ) (words : List (List ℕ))
+    → ArePlaced (Read (Some x) ∷ Write (Some y) ∷ []) words
+    → ArePlaced (Read (Some v) ∷ Write (Some w) ∷ []) words → (x ≡ v) × (y ≡ w)
+same_files x y v w words h k =
+    let e = sym (two_files x y words h).0 ∙ (two_files v w words k).0 in
+    (ap (λ xs. get_or xs 0 []) e, ap (λ xs. get_or xs 1 []) e)
+
+-- a word that is a number, and a file that is written
 abbrev pub IsSeedWord : List ℕ → ℕ → Type 0
 IsSeedWord word n = IsNumber 0 (2 ^ 32 - 1) word n
 
-pub seed_and_file : (n : ℕ) (y : List ℕ) (words : List (List ℕ)) →
-    ArePlaced ((Between 0 (2 ^ 32 - 1), Amount n) ∷ (Named Write, Name y) ∷ []) words →
-    (word : List ℕ) × (words ≡ word ∷ y ∷ []) × IsSeedWord word n
+abbrev pub ArePlacedSeed : (n : ℕ) (y : List ℕ) → List (List ℕ) → Type 0
+ArePlacedSeed n y = ArePlaced (Number 0 (2 ^ 32 - 1) 0 n ∷ Write (Some y) ∷ [])
+
+pub seed_and_file : (n : ℕ) (y : List ℕ) (words : List (List ℕ)) → ArePlacedSeed n y words
+    → (word : List ℕ) × AreTwo word y words × IsSeedWord word n
 seed_and_file n y [] h = absurd h
 seed_and_file n y (w ∷ []) h = absurd h.1
 seed_and_file n y (w ∷ v ∷ []) h =
-    let same = same_amount n h.0.0 h.0.2 in
-    let other = same_name y v h.1.0 in
-    (w, (cc), subst (IsSeedWord w) (sym same) h.0.1)
+    let other : y ≡ v = same_name y v h.1.0.1 in
+    (w, ((cc), h.0.digits.0, subst (λ z. 0 < length z) (sym other) h.1.0.0), h.0)
 seed_and_file n y (w ∷ v ∷ u ∷ more) h = absurd h.1.1
 
-pub placed_seed : (word : List ℕ) (n : ℕ) (y : List ℕ) (words : List (List ℕ)) →
-    words ≡ word ∷ y ∷ [] → IsSeedWord word n →
-    ArePlaced ((Between 0 (2 ^ 32 - 1), Amount n) ∷ (Named Write, Name y) ∷ []) words
-placed_seed word n y words e h =
-    subst (ArePlaced ((Between 0 (2 ^ 32 - 1), Amount n) ∷ (Named Write, Name y) ∷ [])) (sym e)
-    ((n, h, refl), (refl, tt))
+pub placed_seed : (word : List ℕ) (n : ℕ) (y : List ℕ) (words : List (List ℕ))
+    → AreTwo word y words → IsSeedWord word n → ArePlacedSeed n y words
+placed_seed word n y words e h = subst (ArePlacedSeed n y) (sym e.0) (h, ((e.2, refl), tt))
 
-seed_one : (word : List ℕ) (n m : ℕ) → IsSeedWord word n → IsSeedWord word m → n ≡ m
-seed_one word n m h k = sym h.value ∙ k.value
-
-same_seeds : (n m : ℕ) (y w : List ℕ) (words : List (List ℕ)) →
-    ArePlaced ((Between 0 (2 ^ 32 - 1), Amount n) ∷ (Named Write, Name y) ∷ []) words →
-    ArePlaced ((Between 0 (2 ^ 32 - 1), Amount m) ∷ (Named Write, Name w) ∷ []) words →
-    (n ≡ m) × (y ≡ w)
+same_seeds : (n m : ℕ) (y w : List ℕ) (words : List (List ℕ)) → ArePlacedSeed n y words
+    → ArePlacedSeed m w words → (n ≡ m) × (y ≡ w)
 same_seeds n m y w words h k =
     let one = seed_and_file n y words h in
     let other = seed_and_file m w words k in
-    let e = sym one.1 ∙ other.1 in
+    let e = sym one.1.0 ∙ other.1.0 in
     let word = ap (λ xs. get_or xs 0 []) e in (
-      seed_one other.0 n m (subst (λ x. IsSeedWord x n) word one.2) other.2,
+      sym (subst (λ x. IsSeedWord x n) word one.2).value ∙ other.2.value,
       ap (λ xs. get_or xs 1 []) e,
     )
 
@@ -417,14 +399,6 @@ as_command w g c h =
       },
     )
 
-pub same_file : (x y : List ℕ) (words : List (List ℕ)) → ArePlaced ((Named Read, Name x) ∷ []) words →
-    ArePlaced ((Named Read, Name y) ∷ []) words → x ≡ y
-same_file x y words h k =
-    ap (λ xs. get_or xs 0 []) (sym (one_file x words h) ∙ one_file y words k)
-
-pub says_one : (g : Given) (s : Setting) (n m : ℕ) → SaysNumber g s n → SaysNumber g s m → n ≡ m
-says_one g s n m h k = set_one (kind_of s) (g (role.Option s)) n m h k
-
 -- what is given beside a verified file is what the command has there
 pub alone_by : (g : Given) (v v' k k' : Option (List ℕ)) (b b' : Bool) → SaysName g Verify v
     → SaysName g Verify v' → SaysName g Code k → SaysName g Code k' → SaysFlag g NoBatch b
@@ -432,7 +406,7 @@ pub alone_by : (g : Given) (v v' k k' : Option (List ℕ)) (b b' : Bool) → Say
 alone_by g v v' k k' b b' verified verified' code code' batch batch' h =
     subst (λ x. IsTrue (is_alone x k' b')) (names_one g Verify v v' verified verified')
     (subst (λ x. IsTrue (is_alone v x b')) (names_one g Code k k' code code')
-    (subst (λ x. IsTrue (is_alone v k x)) (flag_one g NoBatch b b' refl batch batch') h))
+    (subst (λ x. IsTrue (is_alone v k x)) (flag_one g NoBatch b b' batch batch') h))
 
 -- what is given says of nodes that run one thing
 abbrev execution : (file : List ℕ) (nodes budget : ℕ) (code verified layout : Option (List ℕ))
@@ -458,8 +432,8 @@ one_execution g e f file p q =
     let code = names_one g Code e.code f.code p.1.1.0 q.1.1.0 in
     let verified = names_one g Verify e.verified f.verified p.1.1.1.0 q.1.1.1.0 in
     let layout = names_one g Layout e.layout f.layout p.1.1.1.1.0 q.1.1.1.1.0 in
-    let brief = flag_one g Brief e.brief f.brief refl p.1.1.1.1.1.0 q.1.1.1.1.1.0 in
-    let batch = flag_one g NoBatch e.no_batch f.no_batch refl p.1.1.1.1.1.1.0 q.1.1.1.1.1.1.0 in
+    let brief = flag_one g Brief e.brief f.brief p.1.1.1.1.1.0 q.1.1.1.1.1.0 in
+    let batch = flag_one g NoBatch e.no_batch f.no_batch p.1.1.1.1.1.1.0 q.1.1.1.1.1.1.0 in
     ap (λ x. record e { file = x }) file
     ∙ ap (λ x. execution f.file x e.budget e.code e.verified e.layout e.brief e.no_batch) nodes
     ∙ ap (λ x. execution f.file f.nodes x e.code e.verified e.layout e.brief e.no_batch) budget
@@ -522,8 +496,8 @@ replay file record_file verified brief =
 one_of_word : (g : Given) (w : CommandWord) (a b : Arguments w)
     → IsOfRow (row_of (command w a)) g → IsOfRow (row_of (command w b)) g → a ≡ b
 one_of_word g word.Rewrite a b p q =
-    let same = same_files Write a.input a.output b.input b.output _ p.places q.places in
-    let batch = flag_one g NoBatch a.no_batch b.no_batch refl p.options.0 q.options.0 in
+    let same = same_files a.input a.output b.input b.output _ p.places q.places in
+    let batch = flag_one g NoBatch a.no_batch b.no_batch p.options.0 q.options.0 in
     ap (λ x. record a { input = x }) same.0
     ∙ ap (λ x. record b { output = x; no_batch = a.no_batch }) same.1
     ∙ ap (λ x. record b { no_batch = x }) batch
@@ -555,9 +529,9 @@ one_of_word g word.Sim a b p q =
     ∙ ap (λ x. sim b.execution b.order x a.lanes) loss
     ∙ ap (λ x. sim b.execution b.order b.loss x) lanes
 one_of_word g word.Replay a b p q =
-    let files = same_files Read a.file a.record_file b.file b.record_file _ p.places q.places in
+    let files = same_read a.file a.record_file b.file b.record_file _ p.places q.places in
     let verified = names_one g Verify a.verified b.verified p.options.0 q.options.0 in
-    let brief = flag_one g Brief a.brief b.brief refl p.options.1.0 q.options.1.0 in
+    let brief = flag_one g Brief a.brief b.brief p.options.1.0 q.options.1.0 in
     ap (λ x. replay x a.record_file a.verified a.brief) files.0
     ∙ ap (λ x. replay b.file x a.verified a.brief) files.1
     ∙ ap (λ x. replay b.file b.record_file x a.brief) verified
@@ -566,7 +540,7 @@ one_of_word g word.Generate a b p q =
     let same = same_seeds a.number b.number a.output b.output _ p.places q.places in
     ap (λ x. record a { number = x }) same.0 ∙ ap (λ x. record b { output = x }) same.1
 one_of_word g word.Assemble a b p q =
-    let files = same_files Write a.text a.output b.text b.output _ p.places q.places in
+    let files = same_files a.text a.output b.text b.output _ p.places q.places in
     ap (λ x. record a { text = x }) files.0 ∙ ap (λ x. record b { output = x }) files.1
 
 one_row : (g : Given) (c d : Command) → IsOfRow (row_of c) g → IsOfRow (row_of d) g
@@ -578,41 +552,11 @@ one_row g c d p q e =
     a.1 ∙ ap (command w) (one_of_word g w a.0 b.0 (subst (λ x. IsOfRow (row_of x) g) a.1 p)
     (subst (λ x. IsOfRow (row_of x) g) b.1 q)) ∙ sym b.1
 
--- ---- words of a row, and what they give
-
-pub cut_of : (row : Row) (words : List (List ℕ)) (r : AreOfRow row words) →
-    IsCut (settings_in row.options) words r.arguments
-cut_of row words r = record { words_are = r.words_are; are_arguments = r.are_arguments }
-
-abbrev of : List Argument → Given
-of arguments r = words_for r arguments
-
-set_given : (g : Given) (options : List (Setting × Value)) (arguments : List Argument) →
-    ((r : Role) → g r ≡ words_for r arguments) → AreSet options arguments → AreGiven options g
-set_given g [] arguments e h = tt
-set_given g (option ∷ options) arguments e h = (
-  subst (λ vs. IsSet (kind_of option.0) vs option.1) (sym (e (role.Option option.0))) h.0,
-  set_given g options arguments e h.1,
-)
-
-pub given_set : (g : Given) (options : List (Setting × Value)) (arguments : List Argument) →
-    ((r : Role) → g r ≡ words_for r arguments) → AreGiven options g → AreSet options arguments
-given_set g [] arguments e h = tt
-given_set g (option ∷ options) arguments e h = (
-  subst (λ vs. IsSet (kind_of option.0) vs option.1) (e (role.Option option.0)) h.0,
-  given_set g options arguments e h.1,
-)
-
-pub row_given : (row : Row) (words : List (List ℕ)) (r : AreOfRow row words) → (g : Given) →
-    ((x : Role) → g x ≡ words_for x r.arguments) → IsOfRow row g
-row_given row words r g e = record {
-  places = subst (ArePlaced row.places) (sym (e role.Operand)) r.places;
-  options = set_given g row.options r.arguments e r.options;
-}
+-- ---- what words ask for
 
 -- the options of a command are those of its word
 settings_by : (w : CommandWord) (a : Arguments w)
-    → settings_in (row_of (command w a)).options ≡ settings_of w
+    → valued (row_of (command w a)).options ≡ offered (settings_of w)
 settings_by word.Rewrite a = refl
 settings_by word.Run a = refl
 settings_by word.List a = refl
@@ -623,99 +567,83 @@ settings_by word.Generate a = refl
 settings_by word.Assemble a = refl
 
 word_settings : (w : CommandWord) (c : Command) → text_of w ≡ (row_of c).word
-    → settings_in (row_of c).options ≡ settings_of w
+    → valued (row_of c).options ≡ offered (settings_of w)
 word_settings w c e =
     let is = of_word w c e in
-    ap (λ d. settings_in (row_of d).options) is.1 ∙ settings_by w is.0
+    ap (λ d. valued (row_of d).options) is.1 ∙ settings_by w is.0
 
-pub same_head : (v w : List ℕ) (vs ws : List (List ℕ)) → v ∷ vs ≡ w ∷ ws → v ≡ w
-same_head v w vs ws e = cc
-
-pub same_tail : (v w : List ℕ) (vs ws : List (List ℕ)) → v ∷ vs ≡ w ∷ ws → vs ≡ ws
-same_tail v w vs ws e = cc
-
--- what is asked by a word and the words behind it
-pub record Behind (w : CommandWord) (words : List (List ℕ)) (c : Command) : Type 0 where
+-- a command that is asked for by a word and the words behind it
+record IsBehind (w : CommandWord) (rest words : List (List ℕ)) (c : Command) : Type 0 where
   pub word_is : (row_of c).word ≡ text_of w
-  pub of_row : AreOfRow (row_of c) words
-  pub fits : IsFit c
+  pub asks : Asks words c
+  pub is_cut : IsCut (settings_of w) rest asks.of_row.arguments
 
-pub behind : (first : List ℕ) (rest words : List (List ℕ)) (w : CommandWord) (c : Command) →
-    words ≡ first ∷ rest → text_of w ≡ first → Asks words c → Behind w rest c
+behind : (first : List ℕ) (rest words : List (List ℕ)) (w : CommandWord) (c : Command)
+    → words ≡ first ∷ rest → text_of w ≡ first → Asks words c → IsBehind w rest words c
 behind first rest words w c e f h =
-    let g = sym h.words_are ∙ e in
+    let word = same_head _ _ _ _ (sym h.of_row.words_are ∙ e) ∙ sym f in
     record {
-      word_is = same_head _ _ _ _ g ∙ sym f;
-      of_row = subst (AreOfRow (row_of c)) (same_tail _ _ _ _ g) h.of_row;
-      fits = h.fits;
+      word_is = word;
+      asks = h;
+      is_cut = row_cut (row_of c) (settings_of w) first rest words
+          (word_settings w c (sym word)) e h.of_row;
     }
 
--- the words behind are arguments of the command's options
-pub behind_cut : (w : CommandWord) (words : List (List ℕ)) (c : Command) (h : Behind w words c) →
-    IsCut (settings_of w) words h.of_row.arguments
-behind_cut w words c h =
-    subst (λ ss. IsCut ss words h.of_row.arguments) (word_settings w c (sym h.word_is))
-    (cut_of (row_of c) words h.of_row)
-
-pub completed : (w : CommandWord) (words : List (List ℕ)) (c : Command) (m : ArgMatches) →
-    Reads (settings_of w) words m → Behind w words c → Completes (text_of w) (given_by m) c
-completed w words c m r h =
-    let same = same_cut (settings_of w) words r.arguments h.of_row.arguments r.is_cut (behind_cut w words c h) in
+completed : (w : CommandWord) (rest words : List (List ℕ)) (c : Command) (m : ArgMatches)
+    → Reads (settings_of w) rest m → IsBehind w rest words c
+    → Completes (text_of w) (given_by m) c
+completed w rest words c m r h =
+    let xs = h.asks.of_row.arguments in
+    let same = same_cut (settings_of w) rest r.arguments xs r.is_cut h.is_cut in
     record {
       word_is = h.word_is;
-      of_row = row_given (row_of c) words h.of_row (given_by m) (λ x. r.gives x ∙ ap (words_for x) same);
-      fits = h.fits;
+      of_row = row_given (row_of c) (settings_of w) words (given_by m)
+          (word_settings w c (sym h.word_is)) h.asks.of_row
+          (λ x. r.gives x ∙ ap (words_for x) same);
+      fits = h.asks.fits;
     }
 
-pub asked : (first : List ℕ) (rest words : List (List ℕ)) (w : CommandWord) (c : Command) (m : ArgMatches) →
-    words ≡ first ∷ rest → text_of w ≡ first → Reads (settings_of w) rest m →
-    Completes (text_of w) (given_by m) c → Asks words c
+asked : (first : List ℕ) (rest words : List (List ℕ)) (w : CommandWord) (c : Command)
+    (m : ArgMatches) → words ≡ first ∷ rest → text_of w ≡ first → Reads (settings_of w) rest m
+    → Completes (text_of w) (given_by m) c → Asks words c
 asked first rest words w c m e f r h = record {
-  behind = rest;
-  words_are = e ∙ ap (λ v. v ∷ rest) (sym f ∙ sym h.word_is);
-  of_row = record {
-    arguments = r.arguments;
-    words_are = r.is_cut.words_are;
-    are_arguments = (subst (λ ss. IsCut ss rest r.arguments) (sym (word_settings w c (sym h.word_is))) r.is_cut).are_arguments;
-    places = subst (ArePlaced (row_of c).places) (r.gives role.Operand) h.of_row.places;
-    options = given_set (given_by m) (row_of c).options r.arguments r.gives h.of_row.options;
-  };
+  of_row = row_back (row_of c) (settings_of w) first rest words m
+      (word_settings w c (sym h.word_is)) e (h.word_is ∙ f) r h.of_row;
   fits = h.fits;
 }
 
 pub only_one : (words : List (List ℕ)) (c d : Command) → Asks words c → Asks words d → c ≡ d
+unfolding behind
 only_one words c d p q =
-    let e = sym p.words_are ∙ q.words_are in
-    let row = subst (AreOfRow (row_of d)) (sym (same_tail _ _ _ _ e)) q.of_row in
     let w = command_word c in
-    let b : Behind w p.behind c = record { word_is = sym (word_is c); of_row = p.of_row; fits = p.fits } in
-    let k : Behind w p.behind d =
-    record {
-      word_is = sym (same_head _ _ _ _ e) ∙ sym (word_is c);
-      of_row = row;
-      fits = q.fits;
-    } in
-    let same = same_cut (settings_of w) p.behind p.of_row.arguments row.arguments
-    (behind_cut w p.behind c b) (behind_cut w p.behind d k) in
-    one_row (of p.of_row.arguments) c d
-    (row_given (row_of c) p.behind p.of_row (of p.of_row.arguments) (λ x. refl))
-    (row_given (row_of d) p.behind row (of p.of_row.arguments) (λ x. ap (words_for x) same))
-    (same_head _ _ _ _ e)
+    let first = (row_of c).word in
+    let e = p.of_row.words_are in
+    let b = behind first _ words w c e (word_is c) p in
+    let k = behind first _ words w d e (word_is c) q in
+    let xs = p.of_row.arguments in
+    let same = same_cut (settings_of w) _ xs q.of_row.arguments b.is_cut k.is_cut in
+    one_row (given_of xs) c d
+    (row_given (row_of c) (settings_of w) words (given_of xs) (word_settings w c (word_is c))
+    p.of_row (gives xs))
+    (row_given (row_of d) (settings_of w) words (given_of xs)
+    (word_settings w d (sym k.word_is)) q.of_row
+    (λ x. gives xs x ∙ ap (words_for x) same))
+    (sym (k.word_is ∙ word_is c))
 
 pub answers : (first : List ℕ) (rest words : List (List ℕ)) (w : CommandWord) (m : ArgMatches)
-    (r : Option OfCode) → words ≡ first ∷ rest → text_of w ≡ first → Reads (settings_of w) rest m →
-    MatchOption r ((c : Command) → Completes (text_of w) (given_by m) c → ⊥)
-    (λ c. Completes (text_of w) (given_by m) (meaning_of c)) →
-    MatchOption r ((c : Command) → Asks words c → ⊥) (λ c. Asks words (meaning_of c))
+    (r : Option OfCode) → words ≡ first ∷ rest → text_of w ≡ first → Reads (settings_of w) rest m
+    → MatchOption r ((c : Command) → Completes (text_of w) (given_by m) c → ⊥)
+    (λ c. Completes (text_of w) (given_by m) (meaning_of c))
+    → MatchOption r ((c : Command) → Asks words c → ⊥) (λ c. Asks words (meaning_of c))
 answers first rest words w m None e f reads h = λ c k.
-    h c (completed w rest c m reads (behind first rest words w c e f k))
+    h c (completed w rest words c m reads (behind first rest words w c e f k))
 answers first rest words w m (Some x) e f reads h =
     asked first rest words w (meaning_of x) m e f reads h
 
-pub answers_none : (first : List ℕ) (rest words : List (List ℕ)) (w : CommandWord) →
-    words ≡ first ∷ rest → text_of w ≡ first →
-    ((arguments : List Argument) → IsCut (settings_of w) rest arguments → ⊥) →
-    (c : Command) → Asks words c → ⊥
+pub answers_none : (first : List ℕ) (rest words : List (List ℕ)) (w : CommandWord)
+    → words ≡ first ∷ rest → text_of w ≡ first
+    → ((arguments : List Argument) → IsCut (settings_of w) rest arguments → ⊥)
+    → (c : Command) → Asks words c → ⊥
+unfolding behind
 answers_none first rest words w e f none c h =
-    let b = behind first rest words w c e f h in
-    none b.of_row.arguments (behind_cut w rest c b)
+    let b = behind first rest words w c e f h in none h.of_row.arguments b.is_cut

@@ -1,52 +1,38 @@
 -- What is given says of `time` one thing, and its costs.
-use Rattle.std.proofs.Common.{◌≡◌, ◌≢◌, ℕ, ◌≤◌, Bool, List, [], ◌∷◌, get_or, Option, None, refl, sym, ap, ◌∙◌, subst, arith}
+use Rattle.std.proofs.Common.{◌≡◌, ℕ, ◌≤◌, Bool, List, [], ◌∷◌, Option, None, refl, ap, ◌∙◌, subst, arith}
 use Rattle.std.specs.Prelude.{IsTrue}
-use Rattle.command_line.specs.declared.table.Kind.{Kind}
 use Rattle.command_line.specs.declared.table.Kind.TheVariants.{Number}
-use Rattle.command_line.specs.declared.table.Role.{Role}
-use Rattle.command_line.specs.declared.table.Role.TheVariants as role
 use Rattle.command_line.specs.declared.table.Setting.{Setting}
 use Rattle.command_line.specs.declared.table.Setting.TheVariants.{Nodes, Budget, Layout, Verify, NoBatch, Latency, Line, Handling}
 use Rattle.command_line.specs.Tasks.{is_alone}
-use Rattle.command_line.specs.Table.{Amount, kind_of}
-use Rattle.command_line.specs.Arguments.{IsSet}
-use Rattle.command_line.specs.Reading.{IsOfRow, SaysFlag, SaysName, SaysNumber}
-use Rattle.command_line.specs.Views.{TimeArguments, IsFitView, Time, row_of}
+use Rattle.command_line.specs.Table.{kind_of, name_of}
+use Rattle.command_line.specs.Views.{TimeArguments, Time, view_row}
+use Rattle.command_line.specs.Reading.{IsNumberOf, IsOfRow, SaysFlag, SaysName, SaysNumber}
 use Rattle.command_line.proofs.Rows.{flag_one, names_one, same_file, says_one, set_by}
 
 abbrev Given : Type 0
-Given = Role → List (List ℕ)
-
--- words that begin alike are told apart by their second letters
-pub other_second : (v w : List ℕ) → v ≡ w → get_or v 1 0 ≢ get_or w 1 0 → ⊥
-other_second v w e h = h (ap (λ x. get_or x 1 0) e)
+Given = List ℕ → List (List ℕ)
 
 -- a number that is said is no higher than its kind has it
 set_low : (low high default n : ℕ) (values : List (List ℕ)) → default ≤ high
-    → IsSet (Number low high default) values (Amount n) → n ≤ high
-set_low low high default n [] fits h =
-    let same : n ≡ default = cc in omega (arith, same, fits)
-set_low low high default n (w ∷ []) fits h =
-    let same : n ≡ h.0 = cc in
-    let below = h.1.below in
-    omega (arith, same, below)
+    → IsNumberOf (Number low high default) values n → n ≤ high
+set_low low high default n [] fits h = omega (arith, h, fits)
+set_low low high default n (w ∷ []) fits h = h.below
 set_low low high default n (w ∷ x ∷ more) fits h = absurd h
 
 pub says_low : (g : Given) (s : Setting) (low high default n : ℕ) → default ≤ high
     → kind_of s ≡ Number low high default → SaysNumber g s n → n ≤ high
 says_low g s low high default n fits kind h =
-    set_low low high default n (g (role.Option s)) fits
-    (set_by g s (g (role.Option s)) (Number low high default) n refl kind h)
+    set_low low high default n (g (name_of s)) fits
+    (set_by g s (g (name_of s)) (Number low high default) n refl kind h)
 
 -- what is given beside a verified file is what the view has there
-pub time_alone : (g : Given) (a : TimeArguments) (v : Option (List ℕ)) (b : Bool)
-    → SaysName g Verify v → SaysFlag g NoBatch b → IsOfRow (row_of (Time a)) g → IsFitView (Time a)
-    → IsTrue (is_alone v None b)
-time_alone g a v b verified batch row fits =
-    subst (λ x. IsTrue (is_alone x None b))
-    (names_one g Verify a.verified v row.options.1.1.0 verified)
-    (subst (λ x. IsTrue (is_alone a.verified None x))
-    (flag_one g NoBatch a.no_batch b refl row.options.1.1.1.1.0 batch) fits)
+pub view_alone : (g : Given) (v v' : Option (List ℕ)) (b b' : Bool) → SaysName g Verify v
+    → SaysName g Verify v' → SaysFlag g NoBatch b → SaysFlag g NoBatch b'
+    → IsTrue (is_alone v None b) → IsTrue (is_alone v' None b')
+view_alone g v v' b b' verified verified' batch batch' alone =
+    subst (λ x. IsTrue (is_alone x None b')) (names_one g Verify v v' verified verified')
+    (subst (λ x. IsTrue (is_alone v None x)) (flag_one g NoBatch b b' batch batch') alone)
 
 abbrev of : (file : List ℕ) (nodes budget : ℕ) (verified layout : Option (List ℕ)) (no_batch : Bool)
     (latency line handling : ℕ) → TimeArguments
@@ -62,15 +48,15 @@ of file nodes budget verified layout no_batch latency line handling = record {
   handling = handling;
 }
 
-pub one_time : (g : Given) (a b : TimeArguments) → IsOfRow (row_of (Time a)) g
-    → IsOfRow (row_of (Time b)) g → a ≡ b
+pub one_time : (g : Given) (a b : TimeArguments) → IsOfRow (view_row (Time a)) g
+    → IsOfRow (view_row (Time b)) g → a ≡ b
 one_time g a b p q =
     let file = same_file a.file b.file _ p.places q.places in
     let nodes = says_one g Nodes a.nodes b.nodes p.options.0 q.options.0 in
     let budget = says_one g Budget a.budget b.budget p.options.1.0 q.options.1.0 in
     let verified = names_one g Verify a.verified b.verified p.options.1.1.0 q.options.1.1.0 in
     let layout = names_one g Layout a.layout b.layout p.options.1.1.1.0 q.options.1.1.1.0 in
-    let batch = flag_one g NoBatch a.no_batch b.no_batch refl p.options.1.1.1.1.0 q.options.1.1.1.1.0 in
+    let batch = flag_one g NoBatch a.no_batch b.no_batch p.options.1.1.1.1.0 q.options.1.1.1.1.0 in
     let latency = says_one g Latency a.latency b.latency p.options.1.1.1.1.1.0 q.options.1.1.1.1.1.0 in
     let line = says_one g Line a.line b.line p.options.1.1.1.1.1.1.0 q.options.1.1.1.1.1.1.0 in
     let handling = says_one g Handling a.handling b.handling p.options.1.1.1.1.1.1.1.0 q.options.1.1.1.1.1.1.1.0 in

@@ -10,10 +10,9 @@ use Rattle.clap.specs.Kinds.{or_else}
 use Rattle.clap.specs.Takes.{is_given}
 use Rattle.clap.specs.Faults.{is_simple_and_free, is_free_app, defaults_fault, default_fault, given_default_fault, check_fault}
 use Rattle.command_line.specs.declared.table.Setting.{Setting}
-use Rattle.command_line.specs.Table.{option_word, kind_of}
-use Rattle.command_line.specs.Arguments.{option_of, HasOption, takes_value}
-use Rattle.command_line.specs.Reading.{name_of, rule_for, rule_by, operand_rule, app_for}
-use Rattle.command_line.proofs.Words.{dashed, no_operand}
+use Rattle.command_line.specs.Table.{is_valued, name_of, option_word}
+use Rattle.command_line.specs.Reading.{rule_for, rule_by, operand_rule, app_for}
+use Rattle.command_line.proofs.Words.{HasOption, dashed, no_operand, option_of}
 
 -- the arguments as they are built
 abbrev pub option_rule : Bool → List ℕ → Rule
@@ -24,7 +23,7 @@ option_rule valued name = record (rule_by valued name) {
 }
 
 abbrev pub rule : Setting → Rule
-rule s = option_rule (takes_value (kind_of s)) (name_of s)
+rule s = option_rule (is_valued s) (name_of s)
 
 abbrev pub operands : Rule
 operands = record operand_rule {
@@ -57,7 +56,7 @@ filled_rules : (settings : List Setting) → filled_from 2 (map rule_for setting
     ≡ map rule settings
 filled_rules [] = refl
 filled_rules (s ∷ settings) =
-    filled_by (takes_value (kind_of s)) (name_of s) settings (filled_rules settings)
+    filled_by (is_valued s) (name_of s) settings (filled_rules settings)
 
 abbrev app_of_rules : List Rule → App
 app_of_rules rs = record { top = record (shape []) { rules = rs }; subs = [] }
@@ -71,12 +70,12 @@ built_is settings =
 each : (p : Rule → Bool) → ((valued : Bool) (name : List ℕ) → p (option_rule valued name) ≡ true) →
     (settings : List Setting) → list_all p (map rule settings) ≡ true
 each p h [] = refl
-each p h (s ∷ settings) = rw (h (takes_value (kind_of s)) (name_of s)) (each p h settings)
+each p h (s ∷ settings) = rw (h (is_valued s) (name_of s)) (each p h settings)
 
 none_of : (p : Rule → Bool) → ((valued : Bool) (name : List ℕ) → p (option_rule valued name) ≡ false) →
     (settings : List Setting) → list_any p (map rule settings) ≡ false
 none_of p h [] = refl
-none_of p h (s ∷ settings) = rw (h (takes_value (kind_of s)) (name_of s)) (none_of p h settings)
+none_of p h (s ∷ settings) = rw (h (is_valued s) (name_of s)) (none_of p h settings)
 
 raw_by : (b : Bool) (name : List ℕ) (rs : List Rule) → list_all (λ (a : Rule). a.is_simple) rs ≡ true →
     list_all (λ (a : Rule). a.is_simple) (rule_by b name ∷ rs) ≡ true
@@ -85,7 +84,7 @@ raw_by false name rs e = e
 
 raw_each : (settings : List Setting) → list_all (λ (a : Rule). a.is_simple) (map rule_for settings) ≡ true
 raw_each [] = refl
-raw_each (s ∷ settings) = raw_by (takes_value (kind_of s)) (name_of s) (map rule_for settings) (raw_each settings)
+raw_each (s ∷ settings) = raw_by (is_valued s) (name_of s) (map rule_for settings) (raw_each settings)
 
 -- ---- which argument a name is of
 
@@ -108,7 +107,7 @@ find_long : (settings : List Setting) (name : List ℕ) →
     find (is_long name) (map rule settings) ≡ option_map rule (option_of settings (45 ∷ 45 ∷ name))
 find_long [] name = refl
 find_long (s ∷ settings) name =
-    rw (long_by (takes_value (kind_of s)) (name_of s) name, same_dashed s name)
+    rw (long_by (is_valued s) (name_of s) name, same_dashed s name)
     (go (bytes_eq (name_of s) name) (find_long settings name))
   where
     go : (b : Bool) →
@@ -134,7 +133,7 @@ find_id : (settings : List Setting) (name : List ℕ) →
     find (has_id name) (map rule settings) ≡ option_map rule (option_of settings (45 ∷ 45 ∷ name))
 find_id [] name = refl
 find_id (s ∷ settings) name =
-    rw (id_by (takes_value (kind_of s)) (name_of s) name, same_dashed s name)
+    rw (id_by (is_valued s) (name_of s) name, same_dashed s name)
     (go (bytes_eq (name_of s) name) (find_id settings name))
   where
     go : (b : Bool) →
@@ -145,7 +144,7 @@ find_id (s ∷ settings) name =
     go true e = refl
     go false e = e
 
-rule_at : (s : Setting) (b : Bool) → takes_value (kind_of s) ≡ b →
+rule_at : (s : Setting) (b : Bool) → is_valued s ≡ b →
     Some (rule s) ≡ Some (option_rule b (name_of s))
 rule_at s b e = ap (λ v. Some (option_rule v (name_of s))) e
 
@@ -199,7 +198,7 @@ no_place [] n = refl
 no_place (s ∷ settings) n =
     let more = no_place settings n in
     ap (λ b. fold (λ k a. k + (if has_place a then 1 else 0)) (n + (if b then 1 else 0))
-    (map rule settings)) (unplaced_by (takes_value (kind_of s)) (name_of s))
+    (map rule settings)) (unplaced_by (is_valued s) (name_of s))
     ∙ ap (λ m. fold (λ k a. k + (if has_place a then 1 else 0)) m (map rule settings))
     (omega arith) ∙ more
 
@@ -252,7 +251,7 @@ no_defaults rows settings =
     none : (xs : List Setting) → fold with_default rows (map rule xs) ≡ rows
     none [] = refl
     none (s ∷ xs) = ap (λ r. fold with_default r (map rule xs))
-        (no_default rows (rule s) (bare (takes_value (kind_of s)) (name_of s))) ∙ none xs
+        (no_default rows (rule s) (bare (is_valued s) (name_of s))) ∙ none xs
 
 -- at the end nothing is refused for what the arguments have not
 no_default_fault : (rows : List Row) (a : Rule) → a.defaults ≡ [] → default_fault rows a ≡ []
@@ -271,7 +270,7 @@ option_defaults : (rows : List Row) (settings : List Setting) →
 unfolding defaults_fault
 option_defaults rows [] = refl
 option_defaults rows (s ∷ settings) =
-    let bare = bare_by (takes_value (kind_of s)) (name_of s) in
+    let bare = bare_by (is_valued s) (name_of s) in
     ap (λ k. or_else k (defaults_fault (with_default rows (rule s)) (map rule settings)))
     (no_default_fault rows (rule s) bare)
     ∙ ap (λ r. defaults_fault r (map rule settings)) (no_default rows (rule s) bare)

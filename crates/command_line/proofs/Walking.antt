@@ -1,7 +1,8 @@
 -- What `clap` makes of words that are arguments, and of others.
 use Rattle.std.proofs.Common.{◌≡◌, inl, inr, ℕ, Bool, true, false, ◌==◌, ◌&&◌, List, Option, Some, None, cond, bytes_eq, [], ◌∷◌, ◌++◌, eqb-true, refl, sym, ap, ◌∙◌, subst, arith, codes}
 use Rattle.std.specs.List.{fold, flat_map, before_first, after_first}
-use Rattle.std.specs.Prelude.{option_map}
+use Rattle.std.specs.Prelude.{All, drop, option_map}
+use Rattle.std.proofs.lemmas.List.Elements.{All-nil, All-cons, All-head, All-tail}
 use Rattle.std.proofs.lemmas.Slice.Eq.{bytes_eq-Decides}
 use Rattle.clap.specs.Lexer.{long_of, short_of}
 use Rattle.clap.specs.Kinds.{Kinds, or_else}
@@ -12,11 +13,10 @@ use Rattle.clap.specs.declared.error.kind.ErrorKind.{ErrorKind}
 use Rattle.clap.specs.declared.error.kind.ErrorKind.TheVariants.{UnknownArgument, TooManyValues, InvalidValue}
 use Rattle.clap.specs.Faults.{walk_fault, turn_fault, settle_fault}
 use Rattle.command_line.specs.declared.table.Setting.{Setting}
-use Rattle.command_line.specs.Table.{option_word, kind_of}
-use Rattle.command_line.specs.Asks.{IsPlain}
-use Rattle.command_line.specs.Arguments.{Argument, Operand, Apart, Joined, Bare, words_of, IsArgument, AreArguments, option_of, HasOption, takes_value}
-use Rattle.command_line.specs.Reading.{name_of, IsCut, IsLong, IsReadable, AreReadable}
-use Rattle.command_line.proofs.Words.{Long, long_alone, long_joined, word_found, has_equals, cut_at, uncut, has_option}
+use Rattle.command_line.specs.Table.{is_valued, name_of, offered, option_word}
+use Rattle.command_line.specs.Asks.{Argument, Operand, Apart, Joined, Bare, IsArgument, IsPlain, words_of}
+use Rattle.command_line.specs.Reading.{IsCut, IsLong, IsReadable, AreReadable}
+use Rattle.command_line.proofs.Words.{HasOption, Long, long_alone, long_joined, word_found, has_equals, cut_at, uncut, has_offered, has_option, option_in, option_of}
 use Rattle.command_line.proofs.Told.{rules, rule, option_rule, operands, shape, by_long, by_id, long_rule}
 
 and_false : (b : Bool) → (b && false) ≡ false
@@ -207,7 +207,7 @@ module _ (settings : List Setting) where
           long_rule settings name ∙ ap (option_map rule) is in
           (UnknownArgument, rw (q.dashes, q.long, none) refl)
       go (Some s) is u q =
-          by (takes_value (kind_of s)) u q (long_rule settings name ∙ ap (option_map rule) is)
+          by (is_valued s) u q (long_rule settings name ∙ ap (option_map rule) is)
         where
           by : (b : Bool) (u : Option (List ℕ)) → Long word name u →
               arg_by_long c name ≡ Some (option_rule b (name_of s)) →
@@ -244,9 +244,9 @@ module _ (settings : List Setting) where
   -- the rows with what the argument gives
   abbrev pub give : Argument → List Row → List Row
   give (Operand word) rows = with_values (codes "operand") AsWritten CommandLine (word ∷ []) rows
-  give (Apart s value) rows = with_values (name_of s) AsWritten CommandLine (value ∷ []) rows
-  give (Joined s value) rows = with_values (name_of s) AsWritten CommandLine (value ∷ []) rows
-  give (Bare s) rows = with_values (name_of s) AsWritten CommandLine ([] ∷ []) rows
+  give (Apart word value) rows = with_values (drop 2 word) AsWritten CommandLine (value ∷ []) rows
+  give (Joined word value) rows = with_values (drop 2 word) AsWritten CommandLine (value ∷ []) rows
+  give (Bare word) rows = with_values (drop 2 word) AsWritten CommandLine ([] ∷ []) rows
 
   -- what the words of an argument come to
   pub record Consumes (a : Argument) (h : Held) (b : Bool) : Type 0 where
@@ -259,8 +259,9 @@ module _ (settings : List Setting) where
     pub passes : settle_fault c false next ≡ []
     pub rows : (settled c next).rows ≡ give a (settled c h).rows
 
-  pub consumes : (a : Argument) (h : Held) (b : Bool) → IsArgument settings a → Consumes a h b
-  consumes (Operand word) h b k =
+  consumes_operand : (word : List ℕ) (h : Held) (b : Bool) → IsPlain word
+      → Consumes (Operand word) h b
+  consumes_operand word h b k =
       let p = plain word k in
       record {
         next = pushed (codes "operand") word (settled c h);
@@ -270,10 +271,13 @@ module _ (settings : List Setting) where
         passes = (settled_operand word h).0;
         rows = (settled_operand word h).1;
       }
-  consumes (Apart s value) h b k =
-      let p = plain value k.1 in
-      let e = by_id settings s true k.0 in
-      let l = by_long settings s true k.0 in
+
+  consumes_apart : (s : Setting) (value : List ℕ) (h : Held) (b : Bool) → HasOption settings s true
+      → IsPlain value → Consumes (Apart (option_word s) value) h b
+  consumes_apart s value h b has k =
+      let p = plain value k in
+      let e = by_id settings s true has in
+      let l = by_long settings s true has in
       let w = long_alone s in
       record {
         next = valued (name_of s) value h;
@@ -290,8 +294,11 @@ module _ (settings : List Setting) where
         passes = (settled_value (name_of s) value h e).0;
         rows = (settled_value (name_of s) value h e).1;
       }
-  consumes (Joined s value) h b k =
-      let l = by_long settings s true k in
+
+  consumes_joined : (s : Setting) (value : List ℕ) (h : Held) (b : Bool)
+      → HasOption settings s true → Consumes (Joined (option_word s) value) h b
+  consumes_joined s value h b has =
+      let l = by_long settings s true has in
       let w = long_joined s value in
       let word = option_word s ++ (61 ∷ value) in
       record {
@@ -303,8 +310,11 @@ module _ (settings : List Setting) where
         passes = refl;
         rows = refl;
       }
-  consumes (Bare s) h b k =
-      let l = by_long settings s false k in
+
+  consumes_bare : (s : Setting) (h : Held) (b : Bool) → HasOption settings s false
+      → Consumes (Bare (option_word s)) h b
+  consumes_bare s h b has =
+      let l = by_long settings s false has in
       let w = long_alone s in
       record {
         next = reacted c (option_rule false (name_of s)) [] h;
@@ -316,6 +326,23 @@ module _ (settings : List Setting) where
         rows = refl;
       }
 
+  abbrev pub Is : Argument → Type 0
+  Is = IsArgument (offered settings)
+
+  pub consumes : (a : Argument) (h : Held) (b : Bool) → Is a → Consumes a h b
+  consumes (Operand word) h b k = consumes_operand word h b k
+  consumes (Apart word value) h b k =
+      let o = option_in settings word true k.0 in
+      subst (λ w. Consumes (Apart w value) h b) o.word_is
+      (consumes_apart o.setting value h b o.has k.1)
+  consumes (Joined word value) h b k =
+      let o = option_in settings word true k in
+      subst (λ w. Consumes (Joined w value) h b) o.word_is
+      (consumes_joined o.setting value h b o.has)
+  consumes (Bare word) h b k =
+      let o = option_in settings word false k in
+      subst (λ w. Consumes (Bare w) h b) o.word_is (consumes_bare o.setting h b o.has)
+
   abbrev pub give_all : List Argument → List Row → List Row
   give_all [] rows = rows
   give_all (a ∷ more) rows = give_all more (give a rows)
@@ -326,14 +353,14 @@ module _ (settings : List Setting) where
 
   -- words that are arguments have no fault, and give what the arguments give
   pub takes_all : (arguments : List Argument) (h : Held) (b : Bool) →
-      AreArguments settings arguments → settle_fault c false h ≡ [] →
+      All Is arguments → settle_fault c false h ≡ [] →
       (total (at h (waits b)) (flat_map words_of arguments) ≡ [])
       × ((settled c (fold (walked c []) (at h (waits b)) (flat_map words_of arguments)).held).rows
       ≡ give_all arguments (settled c h).rows)
   takes_all [] h b k e = (at_end (at h (waits b)) ∙ e, refl)
   takes_all (a ∷ more) h b k e =
-      let s = consumes a h b k.0 in
-      let m = takes_all more s.next s.waiting_next k.1 s.passes in (
+      let s = consumes a h b (All-head Is a more k) in
+      let m = takes_all more s.next s.waiting_next (All-tail Is a more k) s.passes in (
         s.faults (flat_map words_of more)
             ∙ ap (λ f. or_else f (total (at s.next (waits s.waiting_next)) (flat_map words_of more))) e
             ∙ m.0,
@@ -360,7 +387,7 @@ module _ (settings : List Setting) where
 
   -- an argument, and those of the words behind it
   more_cut : (a : Argument) (words rest : List (List ℕ)) → words ≡ words_of a ++ rest →
-      IsArgument settings a → Reading rest → Reading words
+      Is a → Reading rest → Reading words
   more_cut a words rest is k reading h b e =
       let s = consumes a h b k in
       let m = reading s.next s.waiting_next
@@ -368,7 +395,7 @@ module _ (settings : List Setting) where
         a ∷ m.0,
         record {
           words_are = is ∙ ap (λ ws. words_of a ++ ws) m.1.words_are;
-          are_arguments = (k, m.1.are_arguments);
+          are_arguments = All-cons Is a m.0 k m.1.are_arguments;
         },
       )
 
@@ -384,7 +411,8 @@ module _ (settings : List Setting) where
       word ≡ option_word s ++ (61 ∷ value) → HasOption settings s b → Reading rest →
       Reading (word ∷ rest)
   joined_cut s word value rest true is k reading h b e =
-      more_cut (Joined s value) (word ∷ rest) rest (ap (λ w. w ∷ rest) is) k reading h b e
+      more_cut (Joined (option_word s) value) (word ∷ rest) rest (ap (λ w. w ∷ rest) is)
+      (has_offered settings s true k) reading h b e
   joined_cut s word value rest false is k reading h b e =
       absurd (refuses (at h (waits b)) (option_word s ++ (61 ∷ value)) rest TooManyValues
       (given_turn _ (name_of s) value h b (long_joined s value) (by_long settings s false k))
@@ -402,7 +430,7 @@ module _ (settings : List Setting) where
       ∙ or_none (settle_fault c false h) _ (sym first ∙ e) in
       absurd (cc)
   apart_cut s (value ∷ more) k (inl p, r) behind h b e =
-      more_cut (Apart s value) _ more refl (k, p) behind h b e
+      more_cut (Apart (option_word s) value) _ more refl (has_offered settings s true k, p) behind h b e
   apart_cut s (value ∷ more) k (inr p, r) behind h b e =
       let l = by_long settings s true k in
       let first = step (at h (waits b)) _ (option_word s) (value ∷ more) _
@@ -422,7 +450,8 @@ module _ (settings : List Setting) where
   alone_cut s word rest true is k r reading behind =
       subst (λ w. Reading (w ∷ rest)) (sym is) (apart_cut s rest k r behind)
   alone_cut s word rest false is k r reading behind =
-      more_cut (Bare s) (word ∷ rest) rest (ap (λ w. w ∷ rest) is) k reading
+      more_cut (Bare (option_word s)) (word ∷ rest) rest (ap (λ w. w ∷ rest) is)
+      (has_offered settings s false k) reading
 
   long_cut : (x : ℕ) (xs : List ℕ) (rest : List (List ℕ)) → AreReadable rest → Reading rest →
       Behind rest → Reading ((45 ∷ 45 ∷ x ∷ xs) ∷ rest)
@@ -440,14 +469,14 @@ module _ (settings : List Setting) where
 
           by : (b : Bool) → has_equals (x ∷ xs) ≡ b → Reading ((45 ∷ 45 ∷ x ∷ xs) ∷ rest)
           by true e =
-              joined_cut s _ (after_first (λ d. d == 61) (x ∷ xs)) rest (takes_value (kind_of s))
+              joined_cut s _ (after_first (λ d. d == 61) (x ∷ xs)) rest (is_valued s)
               (ap (λ w. 45 ∷ 45 ∷ w) (cut_at (x ∷ xs) e)
               ∙ ap (λ w. w ++ (61 ∷ after_first (λ d. d == 61) (x ∷ xs))) (sym word))
-              (has_option settings _ s (takes_value (kind_of s)) is refl) reading
+              (has_option settings _ s (is_valued s) is refl) reading
           by false e =
-              alone_cut s _ rest (takes_value (kind_of s))
+              alone_cut s _ rest (is_valued s)
               (ap (λ w. 45 ∷ 45 ∷ w) (sym (uncut (x ∷ xs) e)) ∙ sym word)
-              (has_option settings _ s (takes_value (kind_of s)) is refl) r reading behind
+              (has_option settings _ s (is_valued s) is refl) r reading behind
 
   word_cut : (word : List ℕ) (rest : List (List ℕ)) → IsReadable word → AreReadable rest →
       Reading rest → Behind rest → Reading (word ∷ rest)
@@ -458,7 +487,7 @@ module _ (settings : List Setting) where
       subst (λ w. Reading (w ∷ rest)) (sym parts.2) (long_cut parts.0 parts.1 rest r reading behind)
 
   pub reads_all : (words : List (List ℕ)) → AreReadable words → Reading words
-  reads_all [] r h b e = ([], record { words_are = refl; are_arguments = tt })
+  reads_all [] r h b e = ([], record { words_are = refl; are_arguments = All-nil Is })
   reads_all (word ∷ []) r h b e = word_cut word [] r.0 tt (reads_all [] tt) tt h b e
   reads_all (word ∷ value ∷ more) r h b e =
       word_cut word (value ∷ more) r.0 r.1 (reads_all (value ∷ more) r.1) (reads_all more r.1.1) h b e

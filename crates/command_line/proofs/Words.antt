@@ -1,15 +1,27 @@
 -- The words of options.
-use Rattle.std.proofs.Common.{◌≡◌, ℕ, suc, Bool, true, false, ◌==◌, ◌||◌, ◌+◌, ◌<◌, List, length, take, get_or, Some, eqb-true, cond, bytes_eq, [], ◌∷◌, ◌++◌, slice_index, refl, sym, ap, ◌∙◌, arith, codes, length-append, Option, None}
+use Rattle.std.proofs.Common.{◌≡◌, ◌⊎◌, ℕ, suc, Bool, true, false, ◌==◌, ◌||◌, ◌+◌, ◌<◌, List, length, take, get_or, Some, eqb-true, cond, bytes_eq, unwrap_or, [], ◌∷◌, ◌++◌, slice_index, refl, sym, ap, ◌∙◌, subst, arith, codes, length-append, Option, None, inl, inr}
+use Rattle.std.specs.Prelude.{Contains, find}
+use Rattle.std.proofs.lemmas.List.Elements.{Contains-append_right, Contains-append_cases}
 use Rattle.std.specs.List.{list_any, position_or_len, before_first, after_first}
 use Rattle.std.proofs.lemmas.List.Sums.{passes_at_first, split_at_first}
 use Rattle.std.proofs.lemmas.Slice.Eq.{bytes_eq-Decides}
 use Rattle.clap.specs.Lexer.{long_of}
 use Rattle.command_line.specs.declared.table.Setting.{Setting}
-use Rattle.command_line.specs.declared.table.Setting.TheVariants.{Nodes, Order, Budget, Layout, Code, Verify, Record, Brief, NoBatch, Loss, PerNode, From, To, Block, Node, Latency, Line, Handling}
-use Rattle.command_line.specs.Table.{option_word, kind_of}
+use Rattle.command_line.specs.declared.table.Setting.TheVariants.{Nodes}
+use Rattle.command_line.specs.declared.table.CommandWord.TheVariants as word
+use Rattle.command_line.specs.declared.table.ViewWord.TheVariants as view
+use Rattle.command_line.specs.Table.{is_valued, name_of, offered, option_word, settings_of, view_settings}
 use Rattle.command_line.specs.Asks.{IsPlain}
-use Rattle.command_line.specs.Arguments.{option_of, HasOption, takes_value}
-use Rattle.command_line.specs.Reading.{name_of, IsLong}
+use Rattle.command_line.specs.Reading.{IsLong}
+
+-- the option of a word
+abbrev pub option_of : List Setting → List ℕ → Option Setting
+option_of settings word = find (λ s. bytes_eq (option_word s) word) settings
+
+-- a command with these options has such an option
+pub record HasOption (settings : List Setting) (setting : Setting) (valued : Bool) : Type 0 where
+  pub there : option_of settings (option_word setting) ≡ Some setting
+  pub kind : is_valued setting ≡ valued
 
 abbrev pub has_equals : List ℕ → Bool
 has_equals word = list_any (λ c. c == 61) word
@@ -17,83 +29,19 @@ has_equals word = list_any (λ c. c == 61) word
 -- an option's word is two dashes and its name
 pub dashed : (s : Setting) → option_word s ≡ 45 ∷ 45 ∷ name_of s
 dashed Nodes = refl
-dashed Order = refl
-dashed Budget = refl
-dashed Layout = refl
-dashed Code = refl
-dashed Verify = refl
-dashed Record = refl
-dashed Brief = refl
-dashed NoBatch = refl
-dashed Loss = refl
-dashed PerNode = refl
-dashed From = refl
-dashed To = refl
-dashed Block = refl
-dashed Node = refl
-dashed Latency = refl
-dashed Line = refl
-dashed Handling = refl
+dashed s = refl
 
 pub no_equals : (s : Setting) → has_equals (option_word s) ≡ false
 no_equals Nodes = refl
-no_equals Order = refl
-no_equals Budget = refl
-no_equals Layout = refl
-no_equals Code = refl
-no_equals Verify = refl
-no_equals Record = refl
-no_equals Brief = refl
-no_equals NoBatch = refl
-no_equals Loss = refl
-no_equals PerNode = refl
-no_equals From = refl
-no_equals To = refl
-no_equals Block = refl
-no_equals Node = refl
-no_equals Latency = refl
-no_equals Line = refl
-no_equals Handling = refl
+no_equals s = refl
 
 dash_first : (s : Setting) (v : List ℕ) → slice_index (option_word s ++ v) 0 ≡ 45
 dash_first Nodes v = refl
-dash_first Order v = refl
-dash_first Budget v = refl
-dash_first Layout v = refl
-dash_first Code v = refl
-dash_first Verify v = refl
-dash_first Record v = refl
-dash_first Brief v = refl
-dash_first NoBatch v = refl
-dash_first Loss v = refl
-dash_first PerNode v = refl
-dash_first From v = refl
-dash_first To v = refl
-dash_first Block v = refl
-dash_first Node v = refl
-dash_first Latency v = refl
-dash_first Line v = refl
-dash_first Handling v = refl
+dash_first s v = refl
 
 pub not_plain : (s : Setting) (w : List ℕ) → w ≡ option_word s → IsPlain w → ⊥
 not_plain Nodes w e p = p.no_dash (ap (λ x. slice_index x 0) e)
-not_plain Order w e p = p.no_dash (ap (λ x. slice_index x 0) e)
-not_plain Budget w e p = p.no_dash (ap (λ x. slice_index x 0) e)
-not_plain Layout w e p = p.no_dash (ap (λ x. slice_index x 0) e)
-not_plain Code w e p = p.no_dash (ap (λ x. slice_index x 0) e)
-not_plain Verify w e p = p.no_dash (ap (λ x. slice_index x 0) e)
-not_plain Record w e p = p.no_dash (ap (λ x. slice_index x 0) e)
-not_plain Brief w e p = p.no_dash (ap (λ x. slice_index x 0) e)
-not_plain NoBatch w e p = p.no_dash (ap (λ x. slice_index x 0) e)
-not_plain Loss w e p = p.no_dash (ap (λ x. slice_index x 0) e)
-not_plain PerNode w e p = p.no_dash (ap (λ x. slice_index x 0) e)
-not_plain From w e p = p.no_dash (ap (λ x. slice_index x 0) e)
-not_plain To w e p = p.no_dash (ap (λ x. slice_index x 0) e)
-not_plain Block w e p = p.no_dash (ap (λ x. slice_index x 0) e)
-not_plain Node w e p = p.no_dash (ap (λ x. slice_index x 0) e)
-not_plain Latency w e p = p.no_dash (ap (λ x. slice_index x 0) e)
-not_plain Line w e p = p.no_dash (ap (λ x. slice_index x 0) e)
-not_plain Handling w e p = p.no_dash (ap (λ x. slice_index x 0) e)
+not_plain s w e p = p.no_dash (ap (λ x. slice_index x 0) e)
 
 pub not_plain_joined : (s : Setting) (v w : List ℕ) → w ≡ option_word s ++ (61 ∷ v) → IsPlain w → ⊥
 not_plain_joined s v w e p = p.no_dash (ap (λ x. slice_index x 0) e ∙ dash_first s (61 ∷ v))
@@ -101,43 +49,11 @@ not_plain_joined s v w e p = p.no_dash (ap (λ x. slice_index x 0) e ∙ dash_fi
 -- an option's name is not that of operands
 pub no_operand : (s : Setting) → bytes_eq (codes "operand") (name_of s) ≡ false
 no_operand Nodes = refl
-no_operand Order = refl
-no_operand Budget = refl
-no_operand Layout = refl
-no_operand Code = refl
-no_operand Verify = refl
-no_operand Record = refl
-no_operand Brief = refl
-no_operand NoBatch = refl
-no_operand Loss = refl
-no_operand PerNode = refl
-no_operand From = refl
-no_operand To = refl
-no_operand Block = refl
-no_operand Node = refl
-no_operand Latency = refl
-no_operand Line = refl
-no_operand Handling = refl
+no_operand s = refl
 
 pub no_option : (s : Setting) → bytes_eq (name_of s) (codes "operand") ≡ false
 no_option Nodes = refl
-no_option Order = refl
-no_option Budget = refl
-no_option Layout = refl
-no_option Code = refl
-no_option Verify = refl
-no_option Record = refl
-no_option Brief = refl
-no_option NoBatch = refl
-no_option Loss = refl
-no_option PerNode = refl
-no_option From = refl
-no_option To = refl
-no_option Block = refl
-no_option Node = refl
-no_option Latency = refl
-no_option Line = refl
-no_option Handling = refl
+no_option s = refl
 
 -- a word of two dashes and more is an option
 pub record Long (word name : List ℕ) (value : Option (List ℕ)) : Type 0 where
@@ -146,102 +62,22 @@ pub record Long (word name : List ℕ) (value : Option (List ℕ)) : Type 0 wher
 
 pub long_joined : (s : Setting) (v : List ℕ) → Long (option_word s ++ (61 ∷ v)) (name_of s) (Some v)
 long_joined Nodes v = record { dashes = refl; long = refl }
-long_joined Order v = record { dashes = refl; long = refl }
-long_joined Budget v = record { dashes = refl; long = refl }
-long_joined Layout v = record { dashes = refl; long = refl }
-long_joined Code v = record { dashes = refl; long = refl }
-long_joined Verify v = record { dashes = refl; long = refl }
-long_joined Record v = record { dashes = refl; long = refl }
-long_joined Brief v = record { dashes = refl; long = refl }
-long_joined NoBatch v = record { dashes = refl; long = refl }
-long_joined Loss v = record { dashes = refl; long = refl }
-long_joined PerNode v = record { dashes = refl; long = refl }
-long_joined From v = record { dashes = refl; long = refl }
-long_joined To v = record { dashes = refl; long = refl }
-long_joined Block v = record { dashes = refl; long = refl }
-long_joined Node v = record { dashes = refl; long = refl }
-long_joined Latency v = record { dashes = refl; long = refl }
-long_joined Line v = record { dashes = refl; long = refl }
-long_joined Handling v = record { dashes = refl; long = refl }
+long_joined s v = record { dashes = refl; long = refl }
 
 pub long_alone : (s : Setting) → Long (option_word s) (name_of s) None
 long_alone Nodes = record { dashes = refl; long = refl }
-long_alone Order = record { dashes = refl; long = refl }
-long_alone Budget = record { dashes = refl; long = refl }
-long_alone Layout = record { dashes = refl; long = refl }
-long_alone Code = record { dashes = refl; long = refl }
-long_alone Verify = record { dashes = refl; long = refl }
-long_alone Record = record { dashes = refl; long = refl }
-long_alone Brief = record { dashes = refl; long = refl }
-long_alone NoBatch = record { dashes = refl; long = refl }
-long_alone Loss = record { dashes = refl; long = refl }
-long_alone PerNode = record { dashes = refl; long = refl }
-long_alone From = record { dashes = refl; long = refl }
-long_alone To = record { dashes = refl; long = refl }
-long_alone Block = record { dashes = refl; long = refl }
-long_alone Node = record { dashes = refl; long = refl }
-long_alone Latency = record { dashes = refl; long = refl }
-long_alone Line = record { dashes = refl; long = refl }
-long_alone Handling = record { dashes = refl; long = refl }
+long_alone s = record { dashes = refl; long = refl }
 
 -- an option's word is long
 pub is_long_joined : (s : Setting) (v : List ℕ) → IsLong (option_word s ++ (61 ∷ v))
 is_long_joined Nodes v =
     record { more = omega (arith, length-append (codes "--nodes") (61 ∷ v)); first = refl; second = refl }
-is_long_joined Order v =
-    record { more = omega (arith, length-append (codes "--order") (61 ∷ v)); first = refl; second = refl }
-is_long_joined Budget v =
-    record { more = omega (arith, length-append (codes "--budget") (61 ∷ v)); first = refl; second = refl }
-is_long_joined Layout v =
-    record { more = omega (arith, length-append (codes "--layout") (61 ∷ v)); first = refl; second = refl }
-is_long_joined Code v =
-    record { more = omega (arith, length-append (codes "--code") (61 ∷ v)); first = refl; second = refl }
-is_long_joined Verify v =
-    record { more = omega (arith, length-append (codes "--verify") (61 ∷ v)); first = refl; second = refl }
-is_long_joined Record v =
-    record { more = omega (arith, length-append (codes "--record") (61 ∷ v)); first = refl; second = refl }
-is_long_joined Brief v =
-    record { more = omega (arith, length-append (codes "--brief") (61 ∷ v)); first = refl; second = refl }
-is_long_joined NoBatch v =
-    record { more = omega (arith, length-append (codes "--no-batch") (61 ∷ v)); first = refl; second = refl }
-is_long_joined Loss v =
-    record { more = omega (arith, length-append (codes "--loss") (61 ∷ v)); first = refl; second = refl }
-is_long_joined PerNode v =
-    record { more = omega (arith, length-append (codes "--per-node") (61 ∷ v)); first = refl; second = refl }
-is_long_joined From v =
-    record { more = omega (arith, length-append (codes "--from") (61 ∷ v)); first = refl; second = refl }
-is_long_joined To v =
-    record { more = omega (arith, length-append (codes "--to") (61 ∷ v)); first = refl; second = refl }
-is_long_joined Block v =
-    record { more = omega (arith, length-append (codes "--block") (61 ∷ v)); first = refl; second = refl }
-is_long_joined Node v =
-    record { more = omega (arith, length-append (codes "--node") (61 ∷ v)); first = refl; second = refl }
-is_long_joined Latency v =
-    record { more = omega (arith, length-append (codes "--latency") (61 ∷ v)); first = refl; second = refl }
-is_long_joined Line v =
-    record { more = omega (arith, length-append (codes "--line") (61 ∷ v)); first = refl; second = refl }
-is_long_joined Handling v =
-    record { more = omega (arith, length-append (codes "--handling") (61 ∷ v)); first = refl; second = refl }
+is_long_joined s v =
+    record { more = omega (arith, length-append (option_word s) (61 ∷ v)); first = refl; second = refl }
 
 pub is_long_alone : (s : Setting) → IsLong (option_word s)
 is_long_alone Nodes = record { more = omega arith; first = refl; second = refl }
-is_long_alone Order = record { more = omega arith; first = refl; second = refl }
-is_long_alone Budget = record { more = omega arith; first = refl; second = refl }
-is_long_alone Layout = record { more = omega arith; first = refl; second = refl }
-is_long_alone Code = record { more = omega arith; first = refl; second = refl }
-is_long_alone Verify = record { more = omega arith; first = refl; second = refl }
-is_long_alone Record = record { more = omega arith; first = refl; second = refl }
-is_long_alone Brief = record { more = omega arith; first = refl; second = refl }
-is_long_alone NoBatch = record { more = omega arith; first = refl; second = refl }
-is_long_alone Loss = record { more = omega arith; first = refl; second = refl }
-is_long_alone PerNode = record { more = omega arith; first = refl; second = refl }
-is_long_alone From = record { more = omega arith; first = refl; second = refl }
-is_long_alone To = record { more = omega arith; first = refl; second = refl }
-is_long_alone Block = record { more = omega arith; first = refl; second = refl }
-is_long_alone Node = record { more = omega arith; first = refl; second = refl }
-is_long_alone Latency = record { more = omega arith; first = refl; second = refl }
-is_long_alone Line = record { more = omega arith; first = refl; second = refl }
-is_long_alone Handling = record { more = omega arith; first = refl; second = refl }
+is_long_alone s = record { more = omega arith; first = refl; second = refl }
 
 pub equals_inside : (xs ys : List ℕ) → has_equals (xs ++ (61 ∷ ys)) ≡ true
 equals_inside [] ys = refl
@@ -252,13 +88,6 @@ equals_inside (x ∷ xs) ys =
 different : (xs ys : List ℕ) → has_equals xs ≡ false → has_equals ys ≡ true → xs ≡ ys → ⊥
 different xs ys e f g =
     let h : false ≡ true = sym e ∙ ap has_equals g ∙ f in absurd (cc)
-
-pub not_assigned : (s : Setting) (name v : List ℕ) → option_word s ≡ name ++ (61 ∷ v) → ⊥
-not_assigned s name v e =
-    different (option_word s) (name ++ (61 ∷ v)) (no_equals s) (equals_inside name v) e
-
-pub not_joined : (s t : Setting) (v : List ℕ) → option_word s ≡ option_word t ++ (61 ∷ v) → ⊥
-not_joined s t v e = not_assigned s (option_word t) v e
 
 or_false : (a b : Bool) → (a || b) ≡ false → b ≡ false
 or_false true b e = absurd (cc)
@@ -288,14 +117,6 @@ same_parts (x ∷ xs) (y ∷ ys) vs ws p q e =
     rest : (z : ℕ) (zs : List ℕ) → has_equals (z ∷ zs) ≡ false → has_equals zs ≡ false
     rest z zs f = or_false (z == 61) (has_equals zs) f
 
--- options of one word are one option
-pub same_option :
-    (settings : List Setting) (s t : Setting) (a b : Bool) →
-    HasOption settings s a → HasOption settings t b → option_word s ≡ option_word t → s ≡ t
-same_option settings s t a b h k e =
-    let same : Some s ≡ Some t = sym h.there ∙ ap (option_of settings) e ∙ k.there in
-    cc
-
 -- the option that is found has the word
 pub word_found : (settings : List Setting) (w : List ℕ) (s : Setting) →
     option_of settings w ≡ Some s → option_word s ≡ w
@@ -311,7 +132,7 @@ word_found (t ∷ settings) w s e =
     found false h f more = more f
 
 pub has_option : (settings : List Setting) (w : List ℕ) (s : Setting) (valued : Bool) →
-    option_of settings w ≡ Some s → takes_value (kind_of s) ≡ valued → HasOption settings s valued
+    option_of settings w ≡ Some s → is_valued s ≡ valued → HasOption settings s valued
 has_option settings w s valued e k = record {
   there = ap (option_of settings) (word_found settings w s e) ∙ e;
   kind = k;
@@ -351,3 +172,154 @@ uncut (x ∷ xs) e = go (x == 61) refl e (uncut xs)
         let k : 1 + position_or_len (λ c. c == 61) xs ≡ suc (position_or_len (λ c. c == 61) xs) =
         omega arith in
         rw h (ap (λ n. take n (x ∷ xs)) k ∙ ap (λ ys. x ∷ ys) (more f))
+
+-- ---- the options that a command offers
+
+-- each option is one of these, and has a word of its own
+abbrev all_settings : List Setting
+all_settings =
+    settings_of word.Run ++ (settings_of word.One ++ (settings_of word.Sim
+    ++ (view_settings view.Trace ++ view_settings view.Time)))
+
+abbrev setting_at : List ℕ → Setting
+setting_at word = unwrap_or (option_of all_settings word) Nodes
+
+setting_found : (s : Setting) → setting_at (option_word s) ≡ s
+setting_found Nodes = refl
+setting_found s = refl
+
+same_setting : (s t : Setting) → option_word s ≡ option_word t → s ≡ t
+same_setting s t e = sym (setting_found s) ∙ ap setting_at e ∙ setting_found t
+
+-- the option is one of these
+abbrev IsAmong : Setting → List Setting → Type 0
+IsAmong s [] = ⊥
+IsAmong s (t ∷ ts) = (t ≡ s) ⊎ IsAmong s ts
+
+found_by : (s t : Setting) (ts : List Setting) (b : Bool)
+    → bytes_eq (option_word t) (option_word s) ≡ b
+    → (b ≡ false → option_of ts (option_word s) ≡ Some s)
+    → cond b (Some t) (option_of ts (option_word s)) ≡ Some s
+found_by s t ts true e more =
+    ap (λ x. Some x)
+    (same_setting t s ((bytes_eq-Decides (option_word t) (option_word s)).0 e))
+found_by s t ts false e more = more refl
+
+found : (s : Setting) (ts : List Setting) → IsAmong s ts → option_of ts (option_word s) ≡ Some s
+found s [] h = absurd h
+found s (t ∷ ts) (inl h) =
+    found_by s t ts (bytes_eq (option_word t) (option_word s)) refl
+    (λ no.
+    let yes = (bytes_eq-Decides (option_word t) (option_word s)).1 (ap option_word h) in
+    let bad : true ≡ false = sym yes ∙ no in absurd (cc))
+found s (t ∷ ts) (inr h) =
+    found_by s t ts (bytes_eq (option_word t) (option_word s)) refl (λ no. found s ts h)
+
+-- the option that is found is one of these
+among_by : (w : List ℕ) (s t : Setting) (ts : List Setting) (b : Bool)
+    → cond b (Some t) (option_of ts w) ≡ Some s → (option_of ts w ≡ Some s → IsAmong s ts)
+    → IsAmong s (t ∷ ts)
+among_by w s t ts true e more = inl (cc)
+among_by w s t ts false e more = inr (more e)
+
+among : (w : List ℕ) (s : Setting) (ts : List Setting) → option_of ts w ≡ Some s → IsAmong s ts
+among w s [] e = absurd (cc)
+among w s (t ∷ ts) e = among_by w s t ts (bytes_eq (option_word t) w) e (among w s ts)
+
+abbrev entry : Setting → List ℕ × Bool
+entry s = (option_word s, is_valued s)
+
+offers : (settings : List Setting) (s : Setting) → IsAmong s settings
+    → Contains (offered settings) (entry s)
+offers [] s h = absurd h
+offers (t ∷ ts) s (inl here) = (0, omega arith, ap entry here)
+offers (t ∷ ts) s (inr more) =
+    Contains-append_right (entry t ∷ []) (offered ts) (entry s) (offers ts s more)
+
+-- an option that the command has is offered by its word
+pub has_offered : (settings : List Setting) (s : Setting) (b : Bool) → HasOption settings s b
+    → Contains (offered settings) (option_word s, b)
+has_offered settings s b h =
+    subst (λ x. Contains (offered settings) (option_word s, x)) h.kind
+    (offers settings s (among (option_word s) s settings h.there))
+
+record IsFound (settings : List Setting) (word : List ℕ) (b : Bool) : Type 0 where
+  pub setting : Setting
+  pub word_is : option_word setting ≡ word
+  pub kind : is_valued setting ≡ b
+  pub among : IsAmong setting settings
+
+only : (x y : List ℕ × Bool) → Contains (x ∷ []) y → x ≡ y
+only x y h =
+    let zero : h.0 ≡ 0 = omega (arith, h.1) in subst (λ k. get_or (x ∷ []) k y ≡ y) zero h.2
+
+found_in : (settings : List Setting) (word : List ℕ) (b : Bool)
+    → Contains (offered settings) (word, b) → IsFound settings word b
+found_in [] word b has = absurd (omega (arith, has.1))
+found_in (t ∷ ts) word b has =
+    elim (Contains-append_cases (entry t ∷ []) (offered ts) (word, b) has) [
+      | inl here ↦
+          let same = only (entry t) (word, b) here in
+          record {
+            setting = t;
+            word_is = ap (λ (p : List ℕ × Bool). p.0) same;
+            kind = ap (λ (p : List ℕ × Bool). p.1) same;
+            among = inl refl;
+          }
+      | inr more ↦
+          let rest = found_in ts word b more in
+          record {
+            setting = rest.setting;
+            word_is = rest.word_is;
+            kind = rest.kind;
+            among = inr rest.among;
+          }
+    ]
+
+-- the option that a word is which is offered
+pub record IsOption (settings : List Setting) (word : List ℕ) (b : Bool) : Type 0 where
+  pub setting : Setting
+  pub word_is : option_word setting ≡ word
+  pub has : HasOption settings setting b
+
+pub option_in : (settings : List Setting) (word : List ℕ) (b : Bool)
+    → Contains (offered settings) (word, b) → IsOption settings word b
+option_in settings word b has =
+    let o = found_in settings word b has in
+    record {
+      setting = o.setting;
+      word_is = o.word_is;
+      has = record { there = found o.setting settings o.among; kind = o.kind };
+    }
+
+-- a word that is offered isn't plain, nor has it an equals sign
+pub offered_plain : (settings : List Setting) (word : List ℕ) (b : Bool)
+    → Contains (offered settings) (word, b) → (w : List ℕ) → w ≡ word → IsPlain w → ⊥
+offered_plain settings word b has w e p =
+    let o = option_in settings word b has in not_plain o.setting w (e ∙ sym o.word_is) p
+
+pub offered_joined : (settings : List Setting) (word : List ℕ) (b : Bool)
+    → Contains (offered settings) (word, b) → (v w : List ℕ) → w ≡ word ++ (61 ∷ v) → IsPlain w → ⊥
+offered_joined settings word b has v w e p =
+    let o = option_in settings word b has in
+    not_plain_joined o.setting v w (e ∙ ap (λ x. x ++ (61 ∷ v)) (sym o.word_is)) p
+
+pub offered_whole : (settings : List Setting) (word : List ℕ) (b : Bool)
+    → Contains (offered settings) (word, b) → has_equals word ≡ false
+offered_whole settings word b has =
+    let o = option_in settings word b has in
+    ap has_equals (sym o.word_is) ∙ no_equals o.setting
+
+pub offered_apart : (settings : List Setting) (word : List ℕ) (b : Bool)
+    → Contains (offered settings) (word, b) → (name v : List ℕ) → word ≡ name ++ (61 ∷ v) → ⊥
+offered_apart settings word b has name v e =
+    different word (name ++ (61 ∷ v)) (offered_whole settings word b has) (equals_inside name v) e
+
+-- a word is offered with a value, or without one
+pub other_kind : (settings : List Setting) (word : List ℕ) → Contains (offered settings) (word, true)
+    → Contains (offered settings) (word, false) → ⊥
+other_kind settings word h k =
+    let o = option_in settings word true h in
+    let p = option_in settings word false k in
+    let same = same_setting o.setting p.setting (o.word_is ∙ sym p.word_is) in
+    let bad : true ≡ false = sym o.has.kind ∙ ap is_valued same ∙ p.has.kind in absurd (cc)

@@ -1,8 +1,8 @@
 -- What it is that the words of the command line ask for a command.
-use Rattle.std.specs.Prelude.{◌≡◌, ◌≢◌, ℕ, ◌<◌, ◌≤◌, ◌^◌, nat_le, Bool, true, false, if◌then◌else◌, List, [], ◌∷◌, ◌++◌, length, map, All, Contains, None, Some, bytes_eq, slice_index}
+use Rattle.std.specs.Prelude.{◌≡◌, ◌≢◌, ℕ, ◌<◌, ◌≤◌, ◌^◌, nat_le, Bool, true, false, if◌then◌else◌, List, [], ◌∷◌, ◌++◌, length, map, All, Contains, None, Some, bytes_eq, codes, slice_index}
 use Rattle.std.specs.List.{flat_map}
 use Rattle.std.specs.Str.Parse.{IsNumeral, digits_value}
-use Rattle.command_line.specs.Tasks.{Task, Saying, Number, MaybeNumber, Read, Write, Flag, Row, task_row, IsFitTask}
+use Rattle.command_line.specs.Tasks.{Task, Saying, Number, MaybeNumber, MaybeAddress, Read, Write, Flag, Row, task_row, IsFitTask}
 use Rattle.command_line.specs.Commands.{Command, row_of, IsFit}
 
 -- an argument behind the command's word: an operand, which is a word of its own; or an option, by
@@ -64,6 +64,14 @@ pub record IsNumber (low high : ℕ) (word : List ℕ) (number : ℕ) : Type 0 w
   pub above : low ≤ number
   pub below : number ≤ high
 
+-- a word is an address, in 1 to 8 hexadecimal digits of either case behind 0x
+pub record IsAddress (word : List ℕ) (address : ℕ) : Type 0 where
+  pub digits : List ℕ
+  pub word_is : word ≡ codes "0x" ++ digits
+  pub numeral : IsNumeral 16 digits
+  pub few : length digits ≤ 8
+  pub value : digits_value 16 digits ≡ address
+
 -- what is said by the values of an option, which is there at most once
 abbrev pub IsSaid : Saying → List (List ℕ) → Type 0
 IsSaid (Number low high default number) [] = number ≡ default
@@ -71,6 +79,9 @@ IsSaid (Number low high default number) (word ∷ []) = IsNumber low high word n
 IsSaid (MaybeNumber low high number) [] = number ≡ None
 IsSaid (MaybeNumber low high number) (word ∷ []) =
     (n : ℕ) × IsNumber low high word n × (number ≡ Some n)
+IsSaid (MaybeAddress address) [] = address ≡ None
+IsSaid (MaybeAddress address) (word ∷ []) =
+    (a : ℕ) × IsAddress word a × (address ≡ Some a)
 IsSaid (Read name) [] = name ≡ None
 IsSaid (Read name) (word ∷ []) = (0 < length word) × (name ≡ Some word)
 IsSaid (Write name) [] = name ≡ None

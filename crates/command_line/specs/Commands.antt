@@ -1,7 +1,6 @@
 -- The commands of the program, in one table.
-use Rattle.std.specs.Prelude.{ℕ, ◌-◌, ◌^◌, Bool, List, [], ◌∷◌, ◌++◌, Some, codes}
-use Rattle.std.specs.List.{flat_map}
-use Rattle.command_line.specs.Tasks.{RunArguments, OneArguments, SimArguments, ReplayArguments, IsFitTask, Row, Saying, Number, Read, Write, Flag, task_row, read_in}
+use Rattle.std.specs.Prelude.{ℕ, ◌-◌, ◌^◌, Bool, List, [], ◌∷◌, Some, codes}
+use Rattle.command_line.specs.Tasks.{RunArguments, OneArguments, SimArguments, ReplayArguments, IsFitTask, Row, Number, Read, Write, Flag, task_row, read_in, written_in}
 use Rattle.command_line.specs.Tasks as task
 
 -- write the rewritten executable of the one in a file into another, without batches where these are
@@ -79,11 +78,5 @@ IsFit command = Unit {0}
 abbrev pub reads : Command → List (List ℕ)
 reads command = read_in (row_of command)
 
-abbrev pub written_by : Saying → List (List ℕ)
-written_by (Write (Some name)) = name ∷ []
-written_by saying = []
-
 abbrev pub writes : Command → List (List ℕ)
-writes command =
-    flat_map written_by (row_of command).places
-    ++ flat_map (λ option. written_by option.1) (row_of command).options
+writes command = written_in (row_of command)

@@ -1,4 +1,3 @@
-pub mod Arguments
 pub mod Asks
 pub mod Commands
 pub mod Costs

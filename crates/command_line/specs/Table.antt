@@ -1,15 +1,18 @@
--- The options of the code, and the rows of the table as these have them. The options are those of
--- the viewer's views too.
-use Rattle.std.specs.Prelude.{ℕ, ◌-◌, ◌^◌, Bool, List, [], ◌∷◌, ◌++◌, Option, None, Some, codes}
-use Rattle.std.specs.List.{flat_map}
-use Rattle.command_line.specs.declared.table.Access.{Access}
-use Rattle.command_line.specs.declared.table.Access.TheVariants.{Read, Write}
+-- Helps the code alone: its options, by their words and kinds, and those of each command and
+-- view.
+use Rattle.std.specs.Prelude.{ℕ, ◌-◌, ◌^◌, Bool, false, List, [], ◌∷◌, None, codes, drop, map}
+use Rattle.command_line.specs.declared.table.Access.TheVariants as access
+use Rattle.command_line.specs.declared.table.CommandWord.{CommandWord}
+use Rattle.command_line.specs.declared.table.CommandWord.TheVariants as word
 use Rattle.command_line.specs.declared.table.Kind.{Kind}
 use Rattle.command_line.specs.declared.table.Kind.TheVariants.{Number, MaybeNumber, MaybeAddress, File, Flag}
 use Rattle.command_line.specs.declared.table.Setting.{Setting}
 use Rattle.command_line.specs.declared.table.Setting.TheVariants.{Nodes, Order, Budget, Layout, Code, Verify, Record, Brief, NoBatch, Loss, PerNode, From, To, Block, Node, Latency, Line, Handling}
-use Rattle.command_line.specs.Tasks.{Execution}
-use Rattle.command_line.specs.Commands.{Command, Rewrite, Run, Listing, One, Sim, Replay, Generate, Assemble}
+use Rattle.command_line.specs.declared.table.ViewWord.{ViewWord}
+use Rattle.command_line.specs.declared.table.ViewWord.TheVariants as view
+use Rattle.command_line.specs.Tasks.{Saying}
+use Rattle.command_line.specs.Tasks as saying
+use Rattle.command_line.specs.Asks.{takes_value}
 
 -- the word of an option
 abbrev pub option_word : Setting → List ℕ
@@ -37,10 +40,10 @@ abbrev pub kind_of : Setting → Kind
 kind_of Nodes = Number 1 16 1
 kind_of Order = Number 0 (2 ^ 32 - 1) 0
 kind_of Budget = Number 1 (2 ^ 32) 100000000
-kind_of Layout = File Read
-kind_of Code = File Read
-kind_of Verify = File Read
-kind_of Record = File Write
+kind_of Layout = File access.Read
+kind_of Code = File access.Read
+kind_of Verify = File access.Read
+kind_of Record = File access.Write
 kind_of Brief = Flag
 kind_of NoBatch = Flag
 kind_of Loss = MaybeNumber 0 (2 ^ 32 - 1)
@@ -53,107 +56,67 @@ kind_of Latency = Number 0 1000000 1200
 kind_of Line = Number 0 1000000 300
 kind_of Handling = Number 0 1000000 300
 
--- the place of an operand, which stands behind the command's word without an option: the name of
--- a file, or a number
-pub data OperandKind : Type 0 where
-  Named : (access : Access) → OperandKind
-  Between : (low high : ℕ) → OperandKind
+-- what an option of a kind says where it is left out
+abbrev pub left_out : Kind → Saying
+left_out (Number low high default) = saying.Number low high default default
+left_out (MaybeNumber low high) = saying.MaybeNumber low high None
+left_out MaybeAddress = saying.MaybeAddress None
+left_out (File access.Read) = saying.Read None
+left_out (File access.Write) = saying.Write None
+left_out Flag = saying.Flag false
 
--- what a place or an option says: a number; a number that may be left out, or an address that may
--- be; the name of a file; no name; or whether a flag is there
-pub data Value : Type 0 where
-  Amount : ℕ → Value
-  MaybeAmount : Option ℕ → Value
-  MaybeAt : Option ℕ → Value
-  Name : List ℕ → Value
-  NoName : Value
-  Switch : Bool → Value
+-- whether an option takes a value
+abbrev pub is_valued : Setting → Bool
+is_valued setting = takes_value (left_out (kind_of setting))
 
--- the name of a file that may be left out
-abbrev pub name_or_none : Option (List ℕ) → Value
-name_or_none None = NoName
-name_or_none (Some name) = Name name
+-- options by their words, and whether each takes a value
+abbrev pub offered : List Setting → List (List ℕ × Bool)
+offered settings = map (λ s. (option_word s, is_valued s)) settings
 
--- a row of the table: the command's word, its places and its options, with what each says
-pub record Row : Type 0 where
-  pub word : List ℕ
-  pub places : List (OperandKind × Value)
-  pub options : List (Setting × Value)
+-- the name of an option, without its dashes
+abbrev pub name_of : Setting → List ℕ
+name_of setting = drop 2 (option_word setting)
 
--- the options of nodes that run, with what each says
-abbrev pub execution_options : Execution → List (Setting × Value)
-execution_options e =
-    (Nodes, Amount e.nodes) ∷ (Budget, Amount e.budget) ∷ (Code, name_or_none e.code)
-    ∷ (Verify, name_or_none e.verified) ∷ (Layout, name_or_none e.layout)
-    ∷ (Brief, Switch e.brief) ∷ (NoBatch, Switch e.no_batch) ∷ []
+-- the text of a command's word, and the command's options
+abbrev pub text_of : CommandWord → List ℕ
+text_of word.Rewrite = codes "rewrite"
+text_of word.Run = codes "run"
+text_of word.List = codes "list"
+text_of word.One = codes "one"
+text_of word.Sim = codes "sim"
+text_of word.Replay = codes "replay"
+text_of word.Generate = codes "gen"
+text_of word.Assemble = codes "asm"
 
--- the table
-abbrev pub row_of : Command → Row
-row_of (Rewrite a) = record {
-  word = codes "rewrite";
-  places = (Named Read, Name a.input) ∷ (Named Write, Name a.output) ∷ [];
-  options = (NoBatch, Switch a.no_batch) ∷ [];
-}
-row_of (Run a) = record {
-  word = codes "run";
-  places = (Named Read, Name a.execution.file) ∷ [];
-  options = (Record, name_or_none a.record_file) ∷ execution_options a.execution;
-}
-row_of (Listing a) = record {
-  word = codes "list";
-  places = (Named Read, Name a.file) ∷ [];
-  options = [];
-}
-row_of (One a) = record {
-  word = codes "one";
-  places = (Named Read, Name a.file) ∷ [];
-  options =
-      (Nodes, Amount a.nodes) ∷ (Order, Amount a.order) ∷ (Budget, Amount a.budget)
-      ∷ (Layout, name_or_none a.layout) ∷ [];
-}
-row_of (Sim a) = record {
-  word = codes "sim";
-  places = (Named Read, Name a.execution.file) ∷ [];
-  options =
-      (Order, Amount a.order) ∷ (Loss, MaybeAmount a.loss) ∷ (PerNode, MaybeAmount a.lanes)
-      ∷ execution_options a.execution;
-}
-row_of (Replay a) = record {
-  word = codes "replay";
-  places = (Named Read, Name a.file) ∷ (Named Read, Name a.record_file) ∷ [];
-  options = (Verify, name_or_none a.verified) ∷ (Brief, Switch a.brief) ∷ [];
-}
-row_of (Generate a) = record {
-  word = codes "gen";
-  places = (Between 0 (2 ^ 32 - 1), Amount a.number) ∷ (Named Write, Name a.output) ∷ [];
-  options = [];
-}
-row_of (Assemble a) = record {
-  word = codes "asm";
-  places = (Named Read, Name a.text) ∷ (Named Write, Name a.output) ∷ [];
-  options = [];
-}
+abbrev pub execution_settings : List Setting
+execution_settings = Nodes ∷ Budget ∷ Code ∷ Verify ∷ Layout ∷ Brief ∷ NoBatch ∷ []
 
--- the options that a command has
-abbrev pub settings_in : List (Setting × Value) → List Setting
-settings_in [] = []
-settings_in (option ∷ options) = option.0 ∷ settings_in options
+abbrev pub settings_of : CommandWord → List Setting
+settings_of word.Rewrite = NoBatch ∷ []
+settings_of word.Run = Record ∷ execution_settings
+settings_of word.List = []
+settings_of word.One = Nodes ∷ Order ∷ Budget ∷ Layout ∷ []
+settings_of word.Sim = Order ∷ Loss ∷ PerNode ∷ execution_settings
+settings_of word.Replay = Verify ∷ Brief ∷ []
+settings_of word.Generate = []
+settings_of word.Assemble = []
 
--- the file of a place or of an option, where it is used so
-abbrev pub file_for : Access → Access → Value → List (List ℕ)
-file_for Read Read (Name file) = file ∷ []
-file_for Write Write (Name file) = file ∷ []
-file_for wanted access value = []
+-- the text of a view's word, and the view's options
+abbrev pub view_text : ViewWord → List ℕ
+view_text view.Help = codes "--help"
+view_text view.Code = codes "code"
+view_text view.Trace = codes "trace"
+view_text view.Blocks = codes "blocks"
+view_text view.Page = codes "page"
+view_text view.Time = codes "time"
+view_text view.Cost = codes "cost"
 
-abbrev pub file_at : Access → OperandKind × Value → List (List ℕ)
-file_at wanted (Named access, value) = file_for wanted access value
-file_at wanted (Between low high, value) = []
-
-abbrev pub file_given : Access → Kind → Value → List (List ℕ)
-file_given wanted (File access) value = file_for wanted access value
-file_given wanted kind value = []
-
-abbrev pub files_of : Access → Row → List (List ℕ)
-files_of wanted row =
-    flat_map (file_at wanted) row.places
-    ++ flat_map (λ option. file_given wanted (kind_of option.0) option.1) row.options
+abbrev pub view_settings : ViewWord → List Setting
+view_settings view.Help = []
+view_settings view.Code = Verify ∷ NoBatch ∷ []
+view_settings view.Trace = Verify ∷ From ∷ To ∷ Block ∷ Node ∷ []
+view_settings view.Blocks = Verify ∷ []
+view_settings view.Page = Verify ∷ From ∷ To ∷ []
+view_settings view.Time =
+    Nodes ∷ Budget ∷ Verify ∷ Layout ∷ NoBatch ∷ Latency ∷ Line ∷ Handling ∷ []
+view_settings view.Cost = Verify ∷ NoBatch ∷ []

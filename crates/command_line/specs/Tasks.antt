@@ -56,11 +56,12 @@ pub data Task : Type 0 where
   Replay : ReplayArguments → Task
 
 -- what a place or an option says: a number from low to high, which is the default where it is left
--- out; a number that may be left out; the name of a file that is read, or of one that is written,
--- where it isn't left out; or whether a flag is there
+-- out; a number, or an address, that may be left out; the name of a file that is read, or of one
+-- that is written, where it isn't left out; or whether a flag is there
 pub data Saying : Type 0 where
   Number : (low high default number : ℕ) → Saying
   MaybeNumber : (low high : ℕ) (number : Option ℕ) → Saying
+  MaybeAddress : (address : Option ℕ) → Saying
   Read : (name : Option (List ℕ)) → Saying
   Write : (name : Option (List ℕ)) → Saying
   Flag : (there : Bool) → Saying
@@ -143,10 +144,18 @@ IsFitTask (Run a) = IsKept a.record_file a.execution.nodes × IsAlone a.executio
 IsFitTask (Sim a) = IsAlone a.execution × AreFew a.execution.nodes a.loss a.lanes
 IsFitTask task = Unit {0}
 
--- the names of the files that a row reads
+-- the names of the files that a row reads, and of those that it writes
 abbrev pub read_by : Saying → List (List ℕ)
 read_by (Read (Some name)) = name ∷ []
 read_by saying = []
 
 abbrev pub read_in : Row → List (List ℕ)
 read_in row = flat_map read_by row.places ++ flat_map (λ option. read_by option.1) row.options
+
+abbrev pub written_by : Saying → List (List ℕ)
+written_by (Write (Some name)) = name ∷ []
+written_by saying = []
+
+abbrev pub written_in : Row → List (List ℕ)
+written_in row =
+    flat_map written_by row.places ++ flat_map (λ option. written_by option.1) row.options

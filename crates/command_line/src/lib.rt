@@ -1,15 +1,15 @@
 #![tactic(auto)]
 //! The words of the command lines, of the program's and of the viewer's, and what they ask for.
 
-ghost use Rattle.std.specs.Prelude.{◌≡◌, ℕ, ◌-◌, ◌^◌, Bool, List, [], ◌∷◌, codes, Option};
+ghost use Rattle.std.specs.Prelude.{◌≡◌, ℕ, ◌-◌, ◌^◌, Bool, List, codes, Option};
 ghost use Rattle.std.specs.Prelude.{option_map, IfOk, MatchOption};
 ghost use Rattle.command_line.specs.Commands as model;
 ghost use Rattle.command_line.specs.Tasks.{AreFew, is_alone};
 ghost use Rattle.command_line.specs.Asks.{Asks, IsNumber};
-ghost use Rattle.command_line.specs.Table.{kind_of};
+ghost use Rattle.command_line.specs.Table.{text_of};
 ghost use Rattle.command_line.specs.Meaning.{file_name, lanes_of, loss_of, meaning_of};
-ghost use Rattle.command_line.specs.Reading.{Completes, SaysFlag, SaysMaybe, SaysName};
-ghost use Rattle.command_line.specs.Reading.{SaysNumber, given_by, text_of};
+ghost use Rattle.command_line.specs.Reading.{AreTwo, Completes, IsOne, SaysFlag, SaysMaybe};
+ghost use Rattle.command_line.specs.Reading.{SaysName, SaysNumber, given_by, id_of};
 
 use clap::ArgMatches;
 use dsm_io::Text;
@@ -26,7 +26,7 @@ mod table;
 mod view;
 
 pub use cost::Cost;
-pub use view::{TimeArguments, View, view_of};
+pub use view::{CodeArguments, RecordedFiles, TimeArguments, View, view_of};
 
 /// What the program is to do.
 #[derive(Clone, Copy)]
@@ -162,26 +162,32 @@ pub enum Machine {
     Lanes(LaneCount),
 }
 
-/// The one operand, the name of a file.
+/// The one operand, the name of a file, which isn't empty.
 fn file_in<'a>(matches: &ArgMatches<'a>) -> Option<&'a str>
     ensures { MatchOption result
-        ((f : List ℕ) → given_by matches.now Role.Operand ≡ f ∷ [] → ⊥)
-        (λ f. given_by matches.now Role.Operand ≡ f.now ∷ []) }
+        ((f : List ℕ) → IsOne f (given_by matches.now (id_of Role.Operand)) → ⊥)
+        (λ f. IsOne f.now (given_by matches.now (id_of Role.Operand))) }
 {
     match given_for(matches, Role::Operand) {
-        Given::One(file) => Some(file),
+        Given::One(file) => { if file.is_empty() { None } else { Some(file) } }
         Given::Nothing | Given::Two(_, _) | Given::More => None,
     }
 }
 
-/// The two operands.
+/// The two operands, neither of which is empty.
 fn two_operands_in<'a>(matches: &ArgMatches<'a>) -> Option<(&'a str, &'a str)>
     ensures { MatchOption result
-        ((f g : List ℕ) → given_by matches.now Role.Operand ≡ f ∷ g ∷ [] → ⊥)
-        (λ p. given_by matches.now Role.Operand ≡ p.0.now ∷ p.1.now ∷ []) }
+        ((f g : List ℕ) → AreTwo f g (given_by matches.now (id_of Role.Operand)) → ⊥)
+        (λ p. AreTwo p.0.now p.1.now (given_by matches.now (id_of Role.Operand))) }
 {
     match given_for(matches, Role::Operand) {
-        Given::Two(one, other) => Some((one, other)),
+        Given::Two(one, other) => {
+            if one.is_empty() || other.is_empty() {
+                None
+            } else {
+                Some((one, other))
+            }
+        }
         Given::Nothing | Given::One(_) | Given::More => None,
     }
 }
@@ -333,7 +339,6 @@ fn machine_of(nodes: NodeCount, loss: Option<u32>, lanes: Option<LaneCount>) -> 
 
 /// Whether a flag is there.
 fn flag_in(matches: &ArgMatches<'_>, setting: Setting) -> Option<bool>
-    requires flag { kind_of setting ≡ Kind.Flag }
     ensures there { MatchOption result
         ((b : Bool) → SaysFlag (given_by matches.now) setting b → ⊥)
         (λ b. SaysFlag (given_by matches.now) setting b) }

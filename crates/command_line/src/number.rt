@@ -1,8 +1,7 @@
 //! Numbers, and addresses.
 
 ghost use Rattle.std.specs.Prelude.{◌≡◌, ◌≢◌, ◌≤◌, ◌++◌, ℕ, List, MatchOption, codes};
-ghost use Rattle.command_line.specs.Asks.{IsNumber, most_digits};
-ghost use Rattle.command_line.specs.Arguments.{IsAddress};
+ghost use Rattle.command_line.specs.Asks.{IsAddress, IsNumber, most_digits};
 
 /// The most hexadecimal digits of an address.
 const MOST_ADDRESS_DIGITS: usize = 8;

@@ -1,12 +1,11 @@
 //! The arguments behind a command's word, as `clap` reads them.
 
-ghost use Rattle.std.specs.Prelude.{◌≡◌, ◌≢◌, ◌⊎◌, ◌∷◌, ◌↔◌, [], ℕ, List, IsTrue, IfOk, MatchOption};
-ghost use Rattle.std.specs.Prelude.{false, map};
+ghost use Rattle.std.specs.Prelude.{◌≡◌, ◌↔◌, [], ℕ, List, IsTrue, IfOk, MatchOption};
+ghost use Rattle.std.specs.Prelude.{false};
 ghost use Rattle.clap.specs.Words.{app_of, rule_of};
-ghost use Rattle.command_line.specs.Asks.{IsPlain};
-ghost use Rattle.command_line.specs.Arguments.{Argument};
-ghost use Rattle.command_line.specs.Reading.{IsCut, Reads, app_for, rule_for, given_by, IsGivenAs};
-ghost use Rattle.command_line.specs.Reading.{IsLong, AreReadable};
+ghost use Rattle.command_line.specs.Asks.{Argument, IsPlain};
+ghost use Rattle.command_line.specs.Reading.{IsCut, Reads, app_for, rule_for, given_by, id_of, IsGivenAs};
+ghost use Rattle.command_line.specs.Reading.{AreReadable, AreThree, IsLong};
 
 use crate::table::{Role, Setting};
 use clap::error::ErrorKind;
@@ -106,7 +105,7 @@ pub(crate) enum Given<'a> {
 
 /// What a role is given.
 pub(crate) fn given_for<'a>(matches: &ArgMatches<'a>, role: Role) -> Given<'a>
-    ensures { IsGivenAs (given_by matches.now role) result }
+    ensures { IsGivenAs (given_by matches.now (id_of role)) result }
 {
     let Some(words) = matches.get_raw(role.id()) else {
         return Given::Nothing;
@@ -119,18 +118,24 @@ pub(crate) fn given_for<'a>(matches: &ArgMatches<'a>, role: Role) -> Given<'a>
     }
 }
 
-/// The three operands.
+/// The three operands, none of which is empty.
 pub(crate) fn three_operands_in<'a>(matches: &ArgMatches<'a>) -> Option<(&'a str, &'a str, &'a str)>
     ensures { MatchOption result
-        ((f g h : List ℕ) → given_by matches.now Role.Operand ≡ f ∷ g ∷ h ∷ [] → ⊥)
-        (λ p. given_by matches.now Role.Operand ≡ p.0.now ∷ p.1.now ∷ p.2.now ∷ []) }
+        ((f g h : List ℕ) → AreThree f g h (given_by matches.now (id_of Role.Operand)) → ⊥)
+        (λ p. AreThree p.0.now p.1.now p.2.now (given_by matches.now (id_of Role.Operand))) }
 {
     let words = matches.get_raw(Role::Operand.id())?;
     match words {
         [] => None,
         [_] => None,
         [_, _] => None,
-        [one, other, third] => Some((*one, *other, *third)),
+        [one, other, third] => {
+            if one.is_empty() || other.is_empty() || third.is_empty() {
+                None
+            } else {
+                Some((*one, *other, *third))
+            }
+        }
         _ => None,
     }
 }

@@ -2,9 +2,9 @@
 
 ghost use Rattle.std.specs.Prelude.{◌≡◌, ◌≢◌, MatchOption};
 ghost use Rattle.command_line.specs.Table as model;
-ghost use Rattle.command_line.specs.Arguments as rule;
-ghost use Rattle.command_line.specs.Reading.{id_of, name_of, settings_of, text_of};
-ghost use Rattle.command_line.specs.Views.{view_settings, view_text};
+ghost use Rattle.command_line.specs.Reading.{id_of};
+ghost use Rattle.command_line.specs.Table.{is_valued, name_of, settings_of, text_of};
+ghost use Rattle.command_line.specs.Table.{view_settings, view_text};
 
 /// How a command uses a file.
 #[derive(Clone, Copy)]
@@ -81,6 +81,7 @@ pub(crate) enum ViewWord {
     Blocks,
     Page,
     Time,
+    Cost,
 }
 
 impl CommandWord {
@@ -157,6 +158,7 @@ impl ViewWord {
             "blocks" => Some(ViewWord::Blocks),
             "page" => Some(ViewWord::Page),
             "time" => Some(ViewWord::Time),
+            "cost" => Some(ViewWord::Cost),
             _ => None,
         }
     }
@@ -167,10 +169,16 @@ impl ViewWord {
     {
         match self {
             ViewWord::Help => &[],
-            ViewWord::Code => &[Setting::NoBatch],
-            ViewWord::Trace => &[Setting::From, Setting::To, Setting::Block, Setting::Node],
-            ViewWord::Blocks => &[],
-            ViewWord::Page => &[Setting::From, Setting::To],
+            ViewWord::Code => &[Setting::Verify, Setting::NoBatch],
+            ViewWord::Trace => &[
+                Setting::Verify,
+                Setting::From,
+                Setting::To,
+                Setting::Block,
+                Setting::Node,
+            ],
+            ViewWord::Blocks => &[Setting::Verify],
+            ViewWord::Page => &[Setting::Verify, Setting::From, Setting::To],
             ViewWord::Time => &[
                 Setting::Nodes,
                 Setting::Budget,
@@ -181,6 +189,7 @@ impl ViewWord {
                 Setting::Line,
                 Setting::Handling,
             ],
+            ViewWord::Cost => &[Setting::Verify, Setting::NoBatch],
         }
     }
 }
@@ -261,7 +270,7 @@ impl Setting {
 
     /// Whether it takes a value.
     pub(crate) fn takes_value(self) -> bool
-        ensures { result ≡ rule.takes_value (model.kind_of self) }
+        ensures { result ≡ is_valued self }
     {
         match self.kind() {
             Kind::Number { .. } | Kind::MaybeNumber { .. } | Kind::MaybeAddress | Kind::File(_) =>

@@ -2,10 +2,11 @@
 
 ghost use Rattle.std.specs.Prelude.{◌≡◌, ℕ, codes, IfOk, MatchOption, Option};
 ghost use Rattle.command_line.specs.Costs.{IsCost};
-ghost use Rattle.command_line.specs.Reading.{given_by, SaysAt, SaysMaybe, SaysNumber};
-ghost use Rattle.command_line.specs.Table.{kind_of};
-ghost use Rattle.command_line.specs.Views.{View as Asked, AsksView, IsViewGiven, meaning_of_view};
-ghost use Rattle.command_line.specs.Views.{view_text};
+ghost use Rattle.command_line.specs.Reading.{AreOfCode, given_by, IsViewGiven, SaysAt};
+ghost use Rattle.command_line.specs.Reading.{SaysMaybe, SaysNumber};
+ghost use Rattle.command_line.specs.Table.{kind_of, view_text};
+ghost use Rattle.command_line.specs.Views.{CodeArguments as AskedCode, View as Asked, AsksView};
+ghost use Rattle.command_line.specs.Views.{code_of, meaning_of_view};
 
 use crate::cost::Cost;
 use crate::number::address_of;
@@ -25,41 +26,56 @@ use std::alloc::{AllocError, Global};
 pub enum View<'a> {
     /// Tell how the viewer is called.
     Help,
-    /// Show the rewritten code of the executable in a file: with `no_batch`, no run of accesses
-    /// shares a check.
-    Code {
-        file: &'a str,
-        no_batch: bool,
-    },
-    /// Show what each event of a run did, a line an event: of the run of the executable in `file`
-    /// whose record is in the file `record_file`. Where they are given, only events with stamps
-    /// that are at least `from` and at most `to`, those that are about the block in which the
-    /// address `block` lies, and those of the node `node`.
+    /// Show rewritten code.
+    Code(CodeArguments<'a>),
+    /// Show what each event of a recorded run did, a line an event. Where they are given, only
+    /// events with stamps that are at least `from` and at most `to`, those that are about the
+    /// block in which the address `block` lies, and those of the node `node`.
     Trace {
-        file: &'a str,
-        record_file: &'a str,
+        run: RecordedFiles<'a>,
         from: Option<u64>,
         to: Option<u64>,
         block: Option<u32>,
         node: Option<u8>,
     },
-    /// Show what each block cost in a run: of the run of the executable in `file` whose record is
-    /// in the file `record_file`.
+    /// Show what each block cost in a recorded run.
     Blocks {
-        file: &'a str,
-        record_file: &'a str,
+        run: RecordedFiles<'a>,
     },
-    /// Write a page that draws such a run into the file `output`: where they are given, of events
-    /// with stamps that are at least `from` and at most `to`.
+    /// Write a page that draws a recorded run into the file `output`: where they are given, of
+    /// events with stamps that are at least `from` and at most `to`.
     Page {
-        file: &'a str,
-        record_file: &'a str,
+        run: RecordedFiles<'a>,
         output: &'a str,
         from: Option<u64>,
         to: Option<u64>,
     },
     /// Run nodes by a clock, and show what they spend their time on.
     Time(TimeArguments<'a>),
+    /// Show what checks cost in rewritten code.
+    Cost(CodeArguments<'a>),
+}
+
+/// What `code` and `cost` are given.
+#[derive(Clone, Copy, Debug, PartialEq, Eq)]
+pub struct CodeArguments<'a> {
+    /// The file of the executable.
+    pub file: &'a str,
+    /// The file of a verified executable that has the code, where one is named.
+    pub verified: Option<&'a str>,
+    /// Whether no run of accesses shares a check.
+    pub no_batch: bool,
+}
+
+/// The files of a recorded run.
+#[derive(Clone, Copy, Debug, PartialEq, Eq)]
+pub struct RecordedFiles<'a> {
+    /// The file of the executable.
+    pub file: &'a str,
+    /// The file of the record.
+    pub record_file: &'a str,
+    /// The file of a verified executable that has the code, where one is named.
+    pub verified: Option<&'a str>,
 }
 
 /// What `time` is given.
@@ -98,15 +114,43 @@ fn help_of<'a>(matches: &ArgMatches<'a>) -> Option<View<'a>>
     }
 }
 
+/// What `code` and `cost` are given.
+fn code_arguments_in<'a>(matches: &ArgMatches<'a>) -> Option<CodeArguments<'a>>
+    ensures { MatchOption result
+        ((a : AskedCode) → AreOfCode (given_by matches.now) a → ⊥)
+        (λ a. AreOfCode (given_by matches.now) (code_of a)) }
+{
+    let file = file_in(matches)?;
+    let verified = name_in(matches, Setting::Verify)?;
+    let no_batch = flag_in(matches, Setting::NoBatch)?;
+    if !is_alone(verified, None, no_batch) {
+        return None;
+    }
+    Some(CodeArguments {
+        file,
+        verified,
+        no_batch,
+    })
+}
+
 /// The view `code`.
 fn code_of<'a>(matches: &ArgMatches<'a>) -> Option<View<'a>>
     ensures { MatchOption result
         ((v : Asked) → IsViewGiven (codes "code") (given_by matches.now) v → ⊥)
         (λ v. IsViewGiven (codes "code") (given_by matches.now) (meaning_of_view v)) }
 {
-    let file = file_in(matches)?;
-    let no_batch = flag_in(matches, Setting::NoBatch)?;
-    Some(View::Code { file, no_batch })
+    let arguments = code_arguments_in(matches)?;
+    Some(View::Code(arguments))
+}
+
+/// The view `cost`.
+fn cost_of<'a>(matches: &ArgMatches<'a>) -> Option<View<'a>>
+    ensures { MatchOption result
+        ((v : Asked) → IsViewGiven (codes "cost") (given_by matches.now) v → ⊥)
+        (λ v. IsViewGiven (codes "cost") (given_by matches.now) (meaning_of_view v)) }
+{
+    let arguments = code_arguments_in(matches)?;
+    Some(View::Cost(arguments))
 }
 
 /// The address that an option has. None in it where the option is not there.
@@ -148,13 +192,18 @@ fn trace_of<'a>(matches: &ArgMatches<'a>) -> Option<View<'a>>
         (λ v. IsViewGiven (codes "trace") (given_by matches.now) (meaning_of_view v)) }
 {
     let (file, record_file) = two_operands_in(matches)?;
+    let verified = name_in(matches, Setting::Verify)?;
     let from = maybe_number_in(matches, Setting::From)?;
     let to = maybe_number_in(matches, Setting::To)?;
     let block = address_in(matches)?;
     let node = node_in(matches)?;
-    Some(View::Trace {
+    let run = RecordedFiles {
         file,
         record_file,
+        verified,
+    };
+    Some(View::Trace {
+        run,
         from,
         to,
         block,
@@ -169,7 +218,13 @@ fn blocks_of<'a>(matches: &ArgMatches<'a>) -> Option<View<'a>>
         (λ v. IsViewGiven (codes "blocks") (given_by matches.now) (meaning_of_view v)) }
 {
     let (file, record_file) = two_operands_in(matches)?;
-    Some(View::Blocks { file, record_file })
+    let verified = name_in(matches, Setting::Verify)?;
+    let run = RecordedFiles {
+        file,
+        record_file,
+        verified,
+    };
+    Some(View::Blocks { run })
 }
 
 /// The view `page`.
@@ -179,11 +234,16 @@ fn page_of<'a>(matches: &ArgMatches<'a>) -> Option<View<'a>>
         (λ v. IsViewGiven (codes "page") (given_by matches.now) (meaning_of_view v)) }
 {
     let (file, record_file, output) = three_operands_in(matches)?;
+    let verified = name_in(matches, Setting::Verify)?;
     let from = maybe_number_in(matches, Setting::From)?;
     let to = maybe_number_in(matches, Setting::To)?;
-    Some(View::Page {
+    let run = RecordedFiles {
         file,
         record_file,
+        verified,
+    };
+    Some(View::Page {
+        run,
         output,
         from,
         to,
@@ -247,6 +307,7 @@ fn view_in<'a>(word: ViewWord, matches: &ArgMatches<'a>) -> Option<View<'a>>
         ViewWord::Blocks => blocks_of(matches),
         ViewWord::Page => page_of(matches),
         ViewWord::Time => time_of(matches),
+        ViewWord::Cost => cost_of(matches),
     }
 }
 

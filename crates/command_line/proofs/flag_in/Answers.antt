@@ -6,14 +6,14 @@ use Rattle.command_line.proofs.flag_in.Goals as goal
 pub returns-in-Nothing : goal.returns-in-Nothing
 returns-in-Nothing c = record {
   there =
-      flag_at (given_by c.args.matches.now) c.args.setting [] false c.requires.flag
+      flag_at (given_by c.args.matches.now) c.args.setting [] false
       c.in-Nothing.ensures refl;
 }
 
 pub returns-in-One : goal.returns-in-One
 returns-in-One c = record {
   there =
-      flag_at (given_by c.args.matches.now) c.args.setting _ true c.requires.flag
+      flag_at (given_by c.args.matches.now) c.args.setting _ true
       c.in-One.ensures refl;
 }
 

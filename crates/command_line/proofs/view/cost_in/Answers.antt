@@ -1,4 +1,3 @@
-use Rattle.std.proofs.Common.{rules}
 use Rattle.command_line.specs.Reading.{given_by}
 use Rattle.command_line.proofs.Times.{says_low}
 use Rattle.command_line.proofs.view.cost_in.Goals as goal

@@ -1,30 +1,55 @@
 use Rattle.std.proofs.Common.{refl}
-use Rattle.command_line.specs.declared.table.Access.TheVariants.{Read}
+use Rattle.command_line.specs.declared.table.ViewWord.TheVariants as word
 use Rattle.command_line.specs.Reading.{given_by}
-use Rattle.command_line.proofs.Rows.{placed_files, two_files}
-use Rattle.command_line.proofs.Viewing.{as_trace}
+use Rattle.command_line.proofs.Rows.{placed_read, two_read}
+use Rattle.command_line.proofs.Viewing.{as_view}
 use Rattle.command_line.proofs.view.trace_of.Goals as goal
+
+pub returns-in_err-file : goal.returns-in_err-file
+returns-in_err-file c =
+    rw c.from_residual.ensures (λ v h.
+    let r = as_view word.Trace (given_by c.args.matches.now) v h in
+    c.in_err-file.ensures r.0.0.file r.0.0.record_file (two_read r.0.0.file r.0.0.record_file _ r.1.of_row.places))
+
+pub returns-in_err-verified : goal.returns-in_err-verified
+returns-in_err-verified c =
+    rw c.from_residual-in_err-verified.ensures (λ v h.
+    let r = as_view word.Trace (given_by c.args.matches.now) v h in
+    c.in_err-verified.ensures r.0.0.verified r.1.of_row.options.0)
 
 pub returns-in_err-from : goal.returns-in_err-from
 returns-in_err-from c =
     rw c.from_residual-in_err-from.ensures (λ v h.
-    let r = as_trace (given_by c.args.matches.now) v h in
-    c.in_err-from.ensures r.2 r.6.options.0)
+    let r = as_view word.Trace (given_by c.args.matches.now) v h in
+    c.in_err-from.ensures r.0.1 r.1.of_row.options.1.0)
 
 pub returns-in_err-to : goal.returns-in_err-to
 returns-in_err-to c =
     rw c.from_residual-in_err-to.ensures (λ v h.
-    let r = as_trace (given_by c.args.matches.now) v h in
-    c.in_err-to.ensures r.3 r.6.options.1.0)
+    let r = as_view word.Trace (given_by c.args.matches.now) v h in
+    c.in_err-to.ensures r.0.2 r.1.of_row.options.1.1.0)
 
 pub returns-in_err-block : goal.returns-in_err-block
 returns-in_err-block c =
     rw c.from_residual-in_err-block.ensures (λ v h.
-    let r = as_trace (given_by c.args.matches.now) v h in
-    c.in_err-block.ensures r.4 r.6.options.1.1.0)
+    let r = as_view word.Trace (given_by c.args.matches.now) v h in
+    c.in_err-block.ensures r.0.3 r.1.of_row.options.1.1.1.0)
 
 pub returns-in_err-node : goal.returns-in_err-node
 returns-in_err-node c =
     rw c.from_residual-in_err-node.ensures (λ v h.
-    let r = as_trace (given_by c.args.matches.now) v h in
-    c.in_err-node.ensures r.5 r.6.options.1.1.1.0)
+    let r = as_view word.Trace (given_by c.args.matches.now) v h in
+    c.in_err-node.ensures r.0.4 r.1.of_row.options.1.1.1.1.0)
+
+pub returns : goal.returns
+returns c = record {
+  word_is = refl;
+  fits = tt;
+  of_row = record {
+    places = placed_read c.in_ok-file.file.now c.in_ok-file.record_file.now _ c.in_ok-file.ensures;
+    options = (
+      c.in_ok-verified.ensures,
+      (c.in_ok-from.ensures, (c.in_ok-to.ensures, (c.in_ok-block.ensures, (c.in_ok-node.ensures, tt)))),
+    );
+  };
+}

@@ -1,6 +1,6 @@
 use Rattle.std.proofs.Common.{◌∙◌, rules}
 use Rattle.command_line.specs.Reading.{Reads}
-use Rattle.command_line.specs.Views.{view_settings}
+use Rattle.command_line.specs.Table.{view_settings}
 use Rattle.command_line.proofs.Viewing.{answers, only_one, view_word, word_is}
 use Rattle.command_line.proofs.view.view_of.Goals as goal
 
@@ -23,3 +23,6 @@ returns-in-Some-2-clause-asks c =
 
 pub returns-in-Some-2-clause-only : goal.returns-in-Some-2-clause-only
 returns-in-Some-2-clause-only c = only_one c.args.words.now
+
+pub returns-in-None-clause-only : goal.returns-in-None-clause-only
+returns-in-None-clause-only c = only_one c.args.words.now
