@@ -17,13 +17,19 @@ messages  about a block, of a node about it, of code that asks for it; most firs
 2           node 1 read 1 exclusive 0 upgrade 0 invalidations 0
 1           code 00010008";
 
-const CALLS: [Row; 3] = [
+const CALLS: [Row; 4] = [
     ("blocks IN R", 0, &[COSTS, "\n"], ""),
     (
         "blocks IN IN",
         7,
         &[],
         "shasta: record refused 40 at line 1\n",
+    ),
+    (
+        "blocks IN R --verify IN",
+        4,
+        &[],
+        "shasta: code refused 50 NoPlan\n",
     ),
     ("blocks A R", 3, &[], "shasta: cannot read A\n"),
 ];
@@ -51,7 +57,7 @@ const SECTIONS: &str = "00000000 00000000 00000000 00000000 00000000 00000000 00
 const HEADER: [(usize, u8); 5] = [(32, 0x70), (33, 0x20), (46, 40), (48, 5), (50, 4)];
 
 /// The executable of the program, with these symbols.
-fn named(alloc: Global) -> Result<Vec<u8>, Fail> {
+pub(crate) fn named(alloc: Global) -> Result<Vec<u8>, Fail> {
     let mut file = executable(alloc, ROW, &[7, 0, 0, 0], 64)?;
     for (offset, byte) in HEADER {
         if let Some(place) = file.get_mut(offset) {

@@ -6,10 +6,11 @@ use test_calls::calls::{Called, Expected, Held, Outside, sure, words_of};
 use views::shasta_view;
 
 /// How the viewer is called.
-pub(crate) const USAGE: &str = "usage: shasta_view code IN [--no-batch]
-       shasta_view trace IN RECORD [--from S] [--to S] [--block 0xA] [--node I]
-       shasta_view blocks IN RECORD
-       shasta_view page IN RECORD OUT [--from S] [--to S]
+pub(crate) const USAGE: &str = "usage: shasta_view code IN [--verify FILE | --no-batch]
+       shasta_view cost IN [--verify FILE | --no-batch]
+       shasta_view trace IN RECORD [--verify FILE] [--from S] [--to S] [--block 0xA] [--node I]
+       shasta_view blocks IN RECORD [--verify FILE]
+       shasta_view page IN RECORD OUT [--verify FILE] [--from S] [--to S]
        shasta_view time IN [--nodes N] [--budget B] [--layout FILE] [--verify FILE | --no-batch] \
     [--latency L] [--line P] [--handling H]
        shasta_view --help

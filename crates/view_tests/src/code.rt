@@ -4,7 +4,7 @@ use crate::calls::{Row, USAGE, show, try_view, try_views};
 use std::alloc::Global;
 use std::str::from_utf8;
 use std::test::Fail;
-use test_calls::calls::{Faults, Held, NO_FAULTS, executable, sure};
+use test_calls::calls::{Faults, Held, NO_FAULTS, executable, rewritten, sure};
 use test_calls::samples::HI;
 
 /// A program that loads a word, whose line may be read.
@@ -65,7 +65,7 @@ const LOADS_CODE: &str = "00010000: 000202b7 lui x5, 0x20                   ; as
 ";
 
 /// Calls where IN holds the first program.
-const CALLS: [Row; 10] = [
+const CALLS: [Row; 11] = [
     ("code IN", 0, &[HEAD, HI_CODE], ""),
     ("code --no-batch IN", 0, &[HEAD, HI_CODE], ""),
     ("--help", 0, &[USAGE], ""),
@@ -75,7 +75,20 @@ const CALLS: [Row; 10] = [
     ("code IN --brief", 2, &[], USAGE),
     ("--help IN", 2, &[], USAGE),
     ("list IN", 2, &[], USAGE),
+    ("code IN --verify IN --no-batch", 2, &[], USAGE),
     ("code a", 3, &[], "shasta: cannot read a\n"),
+];
+
+/// And where V holds the file that `rewrite` makes of it.
+const VERIFIED: [Row; 3] = [
+    ("code IN --verify V", 0, &[HEAD, HI_CODE], ""),
+    (
+        "code --verify=IN IN",
+        4,
+        &[],
+        "shasta: code refused 50 NoPlan\n",
+    ),
+    ("code IN --verify A", 3, &[], "shasta: cannot read A\n"),
 ];
 
 /// And where it holds the second.
@@ -97,6 +110,14 @@ fn try_code(alloc: Global, program: &str, rows: &[Row]) -> Result<(), Fail> {
 fn shows_code(rt: HostRuntime) -> Result<(), Fail> {
     try_code(rt.alloc(), HI, &CALLS)?;
     try_code(rt.alloc(), LOADS, &LOADS_CALLS)
+}
+
+#[test]
+fn shows_verified_code(rt: HostRuntime) -> Result<(), Fail> {
+    let alloc = rt.alloc();
+    let file = executable(alloc, HI, b"", 64)?;
+    let verified = rewritten(&rt, &file)?;
+    try_views(alloc, &[("IN", &file), ("V", &verified)], &VERIFIED)
 }
 
 /// Fails the test where the code of a file has a run, or none, and this says otherwise.

@@ -8,6 +8,8 @@ mod calls;
 #[cfg(test)]
 mod code;
 #[cfg(test)]
+mod cost;
+#[cfg(test)]
 mod lines;
 #[cfg(test)]
 mod page;

@@ -10,7 +10,7 @@ use test_calls::calls::words_of;
 /// which stamp, to which, of the block of which address, and of which node.
 type Asked = Option<(Option<u64>, Option<u64>, Option<u32>, Option<u8>)>;
 
-const LINES: [(&str, Asked); 12] = [
+const LINES: [(&str, Asked); 14] = [
     ("trace a r", Some((None, None, None, None))),
     (
         "trace --from 72057594037927935 a --to=0 r",
@@ -27,6 +27,8 @@ const LINES: [(&str, Asked); 12] = [
     ("trace a r --block 0x+1", None),
     ("trace a r --block 0x123456789", None),
     ("trace a r --node 16", None),
+    ("trace --verify=v a r", Some((None, None, None, None))),
+    ("trace a r --verify", None),
     ("trace a", None),
     ("trace a r --no-batch", None),
 ];
@@ -42,13 +44,12 @@ fn asked_of(alloc: Global, words: &[Text]) -> Result<Asked, AllocError> {
 fn trace_of(view: &View<'_>) -> Asked {
     match view {
         View::Trace {
-            file,
-            record_file,
+            run,
             from,
             to,
             block,
             node,
-        } if *file == "a" && *record_file == "r" => Some((*from, *to, *block, *node)),
+        } if run.file == "a" && run.record_file == "r" => Some((*from, *to, *block, *node)),
         _ => None,
     }
 }

@@ -23,7 +23,7 @@ const WRITTEN: [(&str, &str); 4] = [
 ];
 
 /// Calls that write none; B is the record with one entry changed, whose message isn't there yet.
-const UNWRITTEN: [Row; 5] = [
+const UNWRITTEN: [Row; 6] = [
     ("page IN R", 2, &[], USAGE),
     ("page A R OUT", 3, &[], "shasta: cannot read A\n"),
     (
@@ -31,6 +31,12 @@ const UNWRITTEN: [Row; 5] = [
         4,
         &[],
         "shasta: executable refused 1 Short\n",
+    ),
+    (
+        "page IN R OUT --verify IN",
+        4,
+        &[],
+        "shasta: code refused 50 NoPlan\n",
     ),
     (
         "page IN IN OUT",

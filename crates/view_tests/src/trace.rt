@@ -2,7 +2,7 @@
 
 use crate::calls::{Row, try_views};
 use std::test::Fail;
-use test_calls::calls::executable;
+use test_calls::calls::{executable, rewritten};
 
 /// A processor other than 0 loads a shared word; each exits with code 0.
 pub(crate) const ROW: &str = "lui x5, 0x20; beq x10, x0, end; lw x6, 0(x5); end:; addi x10, x0, 0;
@@ -61,14 +61,26 @@ const LAST: &str = "15 node 1: 00010014 ecall; commits; ends
 16 node 1: takes Bye from 1
 ";
 
-/// B is the record with one entry changed, whose message
-/// isn't there yet.
-const CALLS: [Row; 6] = [
+/// B is the record with one entry changed, whose message isn't there yet; V is the file that
+/// `rewrite` makes.
+const CALLS: [Row; 8] = [
     (
         "trace IN R",
         0,
         &[HEAD, FIRST, BEGUN, TOLD, SERVED, LAST],
         "",
+    ),
+    (
+        "trace IN R --verify V",
+        0,
+        &[HEAD, FIRST, BEGUN, TOLD, SERVED, LAST],
+        "",
+    ),
+    (
+        "trace IN R --verify IN",
+        4,
+        &[],
+        "shasta: code refused 50 NoPlan\n",
     ),
     ("trace --from 9 IN --to=9 R --node 1", 0, &[HEAD, TOLD], ""),
     (
@@ -97,8 +109,10 @@ fn shows_a_run(rt: HostRuntime) -> Result<(), Fail> {
     let alloc = rt.alloc();
     let program = executable(alloc, ROW, &[7, 0, 0, 0], 64)?;
     let broken = RECORD.replace(alloc, "take 9 1 0", "take 8 1 0")?;
+    let verified = rewritten(&rt, &program)?;
     let files = [
         ("IN", program.as_slice()),
+        ("V", verified.as_slice()),
         ("R", RECORD.as_bytes()),
         ("B", broken.as_bytes()),
     ];

@@ -1,6 +1,10 @@
+mod Counted
 mod Shown
 mod Entries
+mod Inputs
 mod Viewed
+mod Coded
+mod Costed
 mod Ordered
 mod Lines
 mod Ends

@@ -1,16 +1,14 @@
 -- What is shown of a rewriting.
-use Rattle.std.proofs.Common.{◌≡◌, ◌≢◌, ℕ, ◌+◌, ◌≤◌, List, [], ◌∷◌, length, map, ap, subst, arith, refl, ◌⊎◌, inl, inr}
+use Rattle.std.proofs.Common.{◌≡◌, ℕ, ◌+◌, ◌≤◌, List, [], ◌∷◌, length, map, ap, arith, refl}
 use Rattle.std.proofs.lemmas.List.{length-map}
-use Rattle.std.specs.Prelude.{Contains}
 use Rattle.exec_map.specs.Contents.{program_of}
 use Rattle.rv32_program.specs.Program.{Program}
 use Rattle.templates.specs.declared.plans.PlanEntry.{PlanEntry}
-use Rattle.templates.specs.Code.{HasCode, code_of}
-use Rattle.templates.specs.Plans.{Serves, StartsNoRun, StartsRun}
-use Rattle.templates.specs.Runs.{IsRun}
+use Rattle.templates.specs.Code.{HasCode}
 use Rattle.jump_map.specs.Image.{Cell, PlacedItem, IsExpansion, IsRewriting, address_of_word, head_of, image_words, most_words, plan_items, read_cell, words_at}
 use Rattle.code_view.specs.Code.{IsShown}
 use Rattle.code_view.specs.declared.view.CodeView.{CodeView}
+use Rattle.views.proofs.Counted.{has_runs}
 
 -- each item has one word
 words_count : (head : ℕ → ℕ) (at : ℕ) (items : List PlacedItem)
@@ -27,18 +25,10 @@ few_words p plan image h =
     let few = h.few in
     omega (arith, count, same, cells, few)
 
-run_of : (p : Program) (e : PlanEntry) → StartsNoRun e ⊎ StartsRun p.code e → e.run ≢ 0
-    → IsRun p.code e.address e.run
-run_of p e (inl none) some = absurd (some none.run)
-run_of p e (inr starts) some = starts.run
-
 pub is_shown : (v : CodeView) → HasCode (program_of v.program.now) v.code.now
     → IsRewriting (program_of v.program.now) v.plan.now v.image.now → IsShown v
 is_shown v code h = record {
   code = code;
-  runs = record {
-    each = λ e there some. subst (λ c. IsRun c e.address e.run) code
-        (run_of (program_of v.program.now) e (h.admissible.serves e there).run some);
-  };
+  runs = has_runs (program_of v.program.now) v.code.now v.plan.now v.image.now code h;
   few = few_words (program_of v.program.now) v.plan.now v.image.now h.expansion;
 }

@@ -1,8 +1,7 @@
 -- The view `time`: its files, its text, and how it succeeds and fails.
-use Rattle.std.proofs.Common.{◌≡◌, ◌⊎◌, ℕ, ◌<◌, ◌≤◌, List, [], ◌∷◌, ◌++◌, length, take, drop, Option, Some, None, option_map, refl, sym, ap, ◌∙◌, subst, inl, inr, arith, append_assoc, append-nil}
-use Rattle.std.specs.Prelude.{All, Bool, Contains, false, not}
+use Rattle.std.proofs.Common.{◌≡◌, ℕ, List, [], ◌++◌, take, drop, Option, Some, None, refl, sym, ap, ◌∙◌, subst, inl, inr, append_assoc, append-nil}
+use Rattle.std.specs.Prelude.{All, false}
 use Rattle.std.proofs.lemmas.List.{take-append-drop}
-use Rattle.std.proofs.lemmas.List.Elements.{Contains-append_left, Contains-append_right, Contains-append_cases}
 use Rattle.node_model.specs.Node.{Work}
 use Rattle.node_model.specs.Core.{opening_core, after}
 use Rattle.node_model.specs.Outcome.{Outcome}
@@ -14,36 +13,30 @@ use Rattle.dsm_io.specs.Causes.{Appends, AppendsPrefix}
 use Rattle.dsm_io.specs.States.{FilesState, SinkState}
 use Rattle.text_output.specs.declared.failure.Failure.{Failure}
 use Rattle.text_output.specs.declared.failure.Failure.TheVariants.{Input, NotWritten, Refused, Layout, Record, Text, Output, OutOfMemory}
-use Rattle.text_output.specs.Failures.{FailsAs, IsLike, IsNever, IsNoRefusal, IsPutFailure, Puts}
+use Rattle.text_output.specs.Failures.{FailsAs, IsLike, IsNever, IsPutFailure, Puts}
 use Rattle.text_output.proofs.Pieces.{fails_too, never, prefix_of, put_fails}
-use Rattle.judged_files.specs.Failures.{file_limit, AreContents, IsContent, IsNamedFailure, IsReadFailure}
 use Rattle.judged_files.specs.Inputs.{Inputs}
 use Rattle.judged_files.specs.Refusals.{IsBadRunLayout, IsRunRefused}
 use Rattle.prepared_run.specs.Outcomes.{IsTextOfOutcome, text_of}
 use Rattle.prepared_run.specs.Ready.{GivesRuns}
 use Rattle.prepared_run.proofs.Interleaving.{of_run}
-use Rattle.views.specs.Failures.{AreTimed, IsFailure, IsSuccess, IsTextOfTime, IsTimingFailure}
+use Rattle.views.specs.Failures.{IsFailure, IsSuccess, IsTextOfTime}
 use Rattle.views.specs.Headline.{AreTold, Prints}
 use Rattle.views.specs.Time.{IsTimeText, PrintsTime, costs_of, time_text, timed}
-use Rattle.views.proofs.Runs.{later_read, only_of}
-use Rattle.views.proofs.Viewed.{content_is, no_refusal}
+use Rattle.views.specs.Inputs.{AreInputs, list_of, time_files}
+use Rattle.views.proofs.Inputs.{inputs_are}
 
 -- 1. What is read
 
--- the file of a name that may be left out
-abbrev named : Option (List ℕ) → List (List ℕ)
-named None = []
-named (Some name) = name ∷ []
-
 reads_with : (a : TimeArguments) (verified layout : Option (List ℕ))
     → reads (Time (record a { verified = verified; layout = layout }))
-    ≡ a.file ∷ (named verified ++ named layout)
+    ≡ list_of (time_files (record a { verified = verified; layout = layout }))
 reads_with a None None = refl
 reads_with a None (Some layout) = refl
 reads_with a (Some verified) None = refl
 reads_with a (Some verified) (Some layout) = refl
 
-reads_are : (a : TimeArguments) → reads (Time a) ≡ a.file ∷ (named a.verified ++ named a.layout)
+pub reads_are : (a : TimeArguments) → reads (Time a) ≡ list_of (time_files a)
 reads_are a = reads_with a a.verified a.layout
 
 -- and it writes none
@@ -57,139 +50,11 @@ writes_with a (Some verified) (Some layout) = refl
 pub writes_none : (a : TimeArguments) → writes (Time a) ≡ []
 writes_none a = writes_with a a.verified a.layout
 
-first_of : (name : List ℕ) → Contains (name ∷ []) name
-first_of name = (0, omega arith, refl)
-
-among : (o : Option (List ℕ)) (name : List ℕ) → o ≡ Some name → Contains (named o) name
-among o name e = subst (λ x. Contains (named x) name) (sym e) (first_of name)
-
-of_named : (o : Option (List ℕ)) (name : List ℕ) → Contains (named o) name → o ≡ Some name
-of_named None name h = absurd (omega (arith, h.1))
-of_named (Some other) name h = ap Some (sym (only_of other name h))
-
-read_of : (a : TimeArguments) (name : List ℕ)
-    → Contains ((a.file ∷ []) ++ (named a.verified ++ named a.layout)) name
-    → Contains (reads (Time a)) name
-read_of a name h = subst (λ ns. Contains ns name) (sym (reads_are a)) h
-
-pub reads_file : (a : TimeArguments) → Contains (reads (Time a)) a.file
-reads_file a =
-    read_of a a.file (Contains-append_left (a.file ∷ []) (named a.verified ++ named a.layout) a.file
-    (first_of a.file))
-
-pub reads_verified : (a : TimeArguments) (name : List ℕ) → a.verified ≡ Some name
-    → Contains (reads (Time a)) name
-reads_verified a name e =
-    read_of a name (Contains-append_right (a.file ∷ []) (named a.verified ++ named a.layout) name
-    (Contains-append_left (named a.verified) (named a.layout) name (among a.verified name e)))
-
-pub reads_layout : (a : TimeArguments) (name : List ℕ) → a.layout ≡ Some name
-    → Contains (reads (Time a)) name
-reads_layout a name e =
-    read_of a name (Contains-append_right (a.file ∷ []) (named a.verified ++ named a.layout) name
-    (Contains-append_right (named a.verified) (named a.layout) name (among a.layout name e)))
-
--- and nothing else
-abbrev IsRead : TimeArguments → List ℕ → Type 0
-IsRead a name = (name ≡ a.file) ⊎ ((a.verified ≡ Some name) ⊎ (a.layout ≡ Some name))
-
-reads_only : (a : TimeArguments) (name : List ℕ) → Contains (reads (Time a)) name → IsRead a name
-reads_only a name h =
-    elim (Contains-append_cases (a.file ∷ []) (named a.verified ++ named a.layout) name
-    (subst (λ ns. Contains ns name) (reads_are a) h)) [
-      | inl first ↦ inl (only_of a.file name first)
-      | inr more ↦ inr (elim (Contains-append_cases (named a.verified) (named a.layout) name more) [
-        | inl k ↦ inl (of_named a.verified name k)
-        | inr k ↦ inr (of_named a.layout name k)
-      ])
-    ]
-
--- a file of a name that may be left out wasn't read, after others
-pub named_unread : (a : TimeArguments) (files between now : FilesState) (o : Option (List ℕ))
-    (f : Failure) → ((n : List ℕ) → between.held n ≡ files.held n)
-    → ((n : List ℕ) → files.failed_reads n ≤ between.failed_reads n)
-    → ((name : List ℕ) → o ≡ Some name → Contains (reads (Time a)) name)
-    → IsNamedFailure between now o f → IsTimingFailure a files now f
-named_unread a files between now o f same low there h =
-    (h.0, there h.0 h.1, later_read files between now h.0 f (same h.0) (low h.0) h.2)
-
-pub content_before : (files between : FilesState) (o bytes : Option (List ℕ))
-    → ((n : List ℕ) → between.held n ≡ files.held n) → AreContents between o bytes
-    → AreContents files o bytes
-content_before files between None bytes same h = h
-content_before files between (Some name) None same h = h
-content_before files between (Some name) (Some bytes) same h =
-    subst (λ o. IsContent o bytes) (same name) h
-
--- what was read is what the files are told to have
-named_is : (files : FilesState) (contents : List ℕ → List ℕ) (o bytes : Option (List ℕ))
-    → AreContents files o bytes
-    → ((name : List ℕ) → o ≡ Some name → files.held name ≡ Some (contents name))
-    → bytes ≡ option_map contents o
-named_is files contents None bytes h told = h
-named_is files contents (Some name) None h told = absurd h
-named_is files contents (Some name) (Some bytes) h told =
-    ap Some (content_is (files.held name) bytes (contents name) h (told name refl))
-
-abbrev inputs : List ℕ → (code verified layout : Option (List ℕ)) → List ℕ → Bool → Inputs
-inputs executable code verified layout text batches = record {
-  executable = executable;
-  code = code;
-  verified = verified;
-  layout = layout;
-  text = text;
-  batches = batches;
-}
-
-pub inputs_are : (a : TimeArguments) (files : FilesState) (i : Inputs)
-    (contents : List ℕ → List ℕ) → AreTimed files a i → AreTold (Time a) files contents
-    → i ≡ timed a contents
-inputs_are a files i contents h told =
-    let one = content_is (files.held a.file) i.executable (contents a.file) h.executable
-    (told a.file (reads_file a)) in
-    let three = named_is files contents a.verified i.verified h.verified
-    (λ name e. told name (reads_verified a name e)) in
-    let four = named_is files contents a.layout i.layout h.layout
-    (λ name e. told name (reads_layout a name e)) in
-    let first = contents a.file in
-    let third = option_map contents a.verified in
-    let fourth = option_map contents a.layout in
-    ap (λ x. inputs x i.code i.verified i.layout i.text i.batches) one
-    ∙ ap (λ x. inputs first x i.verified i.layout i.text i.batches) h.code
-    ∙ ap (λ x. inputs first None x i.layout i.text i.batches) three
-    ∙ ap (λ x. inputs first None third x i.text i.batches) four
-    ∙ ap (λ x. inputs first None third fourth x i.batches) h.text
-    ∙ ap (λ x. inputs first None third fourth [] x) h.batches
-
--- what was read isn't too long
-short_content : (o : Option (List ℕ)) (bytes content : List ℕ) → IsContent o bytes
-    → o ≡ Some content → file_limit < length content → ⊥
-short_content o bytes content h is long =
-    let same = ap length (content_is o bytes content h is) in
-    let fits = h.fits in
-    omega (arith, same, fits, long)
-
-short_named : (files : FilesState) (o bytes : Option (List ℕ)) (name content : List ℕ)
-    → AreContents files o bytes → o ≡ Some name → files.held name ≡ Some content
-    → file_limit < length content → ⊥
-short_named files None bytes name content h e is long = absurd (cc)
-short_named files (Some other) None name content h e is long = h
-short_named files (Some other) (Some bytes) name content h e is long =
-    short_content (files.held other) bytes content h (ap files.held (same_inside other name e) ∙ is)
-    long
-  where
-    same_inside : (x y : List ℕ) → Some x ≡ Some y → x ≡ y
-    same_inside x y e = cc
-
-pub not_long : (a : TimeArguments) (files : FilesState) (i : Inputs) (name content : List ℕ)
-    → AreTimed files a i → Contains (reads (Time a)) name → files.held name ≡ Some content
-    → file_limit < length content → ⊥
-not_long a files i name content h there is long = elim (reads_only a name there) [
-  | inl e ↦ short_content (files.held a.file) i.executable content h.executable
-      (ap files.held (sym e) ∙ is) long
-  | inr (inl e) ↦ short_named files a.verified i.verified name content h.verified e is long
-  | inr (inr e) ↦ short_named files a.layout i.layout name content h.layout e is long
-]
+pub files_are : (a : TimeArguments) (files : FilesState) (i : Inputs)
+    (contents : List ℕ → List ℕ) → AreInputs files (time_files a) i
+    → AreTold (Time a) files contents → i ≡ timed a contents
+files_are a files i contents h told =
+    inputs_are (Time a) (time_files a) files i contents (reads_are a) h told
 
 -- 2. The text
 
@@ -278,29 +143,29 @@ time_unput inputs a text before now f is h =
     (never (IsRunRefused inputs)) (never (IsBadRunLayout inputs a.nodes)) h
 
 pub time_succeeds : (a : TimeArguments) (files : FilesState) (before now : SinkState) (i : Inputs)
-    → AreTimed files a i → Puts (IsTextOfTime i a) 0 before now
+    → AreInputs files (time_files a) i → Puts (IsTextOfTime i a) 0 before now
     → IsSuccess (Time a) files before now
 time_succeeds a files before now i h puts = λ contents told. record {
   text = puts.0;
-  is = subst (λ x. IsTextOfTime x a puts.0 0) (inputs_are a files i contents h told) puts.1;
+  is = subst (λ x. IsTextOfTime x a puts.0 0) (files_are a files i contents h told) puts.1;
   put = puts.2;
 }
 
 pub time_fails : (a : TimeArguments) (files files_now : FilesState) (before now : SinkState)
-    (i : Inputs) (f : Failure) → AreTimed files a i
+    (i : Inputs) (f : Failure) → AreInputs files (time_files a) i
     → FailsAs (IsTextOfTime i a) (IsRunRefused i) (IsBadRunLayout i a.nodes) before now f
     → IsFailure (Time a) files files_now before now f
 time_fails a files files_now before now i (Input line) h failed = absurd failed
 time_fails a files files_now before now i (NotWritten line) h failed = absurd failed
 time_fails a files files_now before now i (Refused line) h failed = (
   failed.1,
-  λ contents told. subst (λ x. IsRunRefused x line.items) (inputs_are a files i contents h told)
+  λ contents told. subst (λ x. IsRunRefused x line.items) (files_are a files i contents h told)
       failed.0,
 )
 time_fails a files files_now before now i (Layout line) h failed = (
   failed.1,
   λ contents told. subst (λ x. IsBadRunLayout x a.nodes line.items)
-      (inputs_are a files i contents h told) failed.0,
+      (files_are a files i contents h told) failed.0,
 )
 time_fails a files files_now before now i (Record line) h failed = absurd failed
 time_fails a files files_now before now i (Text line) h failed = failed
@@ -308,7 +173,7 @@ time_fails a files files_now before now i Output h failed = (
   failed.0,
   λ contents told. record {
     text = failed.1.0;
-    is = subst (λ x. IsTextOfTime x a failed.1.0 failed.1.1) (inputs_are a files i contents h told)
+    is = subst (λ x. IsTextOfTime x a failed.1.0 failed.1.1) (files_are a files i contents h told)
         failed.1.2;
     put = failed.1.3;
   },
@@ -317,26 +182,10 @@ time_fails a files files_now before now i OutOfMemory h failed = λ contents tol
   | inl same ↦ inl same
   | inr part ↦ inr (record {
     text = part.0;
-    is = subst (λ x. IsTextOfTime x a part.0 part.1) (inputs_are a files i contents h told) part.2;
+    is = subst (λ x. IsTextOfTime x a part.0 part.1) (files_are a files i contents h told) part.2;
     put = part.3;
   })
 ]
-
-pub unread_fails : (a : TimeArguments) (files files_now : FilesState) (state : SinkState)
-    (f : Failure) → IsTimingFailure a files files_now f
-    → IsFailure (Time a) files files_now state state f
-unread_fails a files files_now state (Input line) h = (refl, (h.0, h.1, h.2))
-unread_fails a files files_now state (NotWritten line) h = absurd h.2
-unread_fails a files files_now state (Refused line) h = absurd h.2
-unread_fails a files files_now state (Layout line) h = absurd h.2
-unread_fails a files files_now state (Record line) h = absurd h.2
-unread_fails a files files_now state (Text line) h = h.2
-unread_fails a files files_now state Output h = absurd h.2
-unread_fails a files files_now state OutOfMemory h = λ contents told. inl refl
-
-pub unread_no_refusal : (a : TimeArguments) (files files_now : FilesState) (f : Failure)
-    → IsTimingFailure a files files_now f → IsNoRefusal f
-unread_no_refusal a files files_now f h = no_refusal files files_now h.0 f h.2
 
 -- 4. What is printed tells of the original
 

@@ -1,18 +1,16 @@
 -- What the answer of a view says of the whole.
-use Rattle.std.proofs.Common.{◌≡◌, ◌⊎◌, ℕ, ◌<◌, Bool, not, List, [], ◌∷◌, length, Option, Some, None, refl, sym, ap, ◌∙◌, subst, inl, inr, arith, get_or}
-use Rattle.std.specs.Prelude.{Contains, IfErr, IfSome, MatchOption, OnOk, Result, Ok, Err}
-use Rattle.command_line.specs.Views.{View, Help, Code, AsksView, meaning_of_view, reads}
+use Rattle.std.proofs.Common.{◌≡◌, ◌⊎◌, ℕ, List, Option, Some, None, refl, subst, inl, inr, arith}
+use Rattle.std.specs.Prelude.{IfErr, MatchOption, OnOk, Result, Ok, Err}
+use Rattle.command_line.specs.Views.{View, Help, AsksView, meaning_of_view}
 use Rattle.command_line.specs.declared.view.View.{View as OfCode}
 use Rattle.dsm_io.specs.Causes.{Appends}
 use Rattle.dsm_io.specs.States.{FilesState, SinkState}
 use Rattle.text_output.specs.declared.failure.Failure.{Failure}
 use Rattle.text_output.specs.declared.failure.Failure.TheVariants.{Input, NotWritten, Refused, Layout, Record, Text, Output, OutOfMemory}
-use Rattle.judged_files.specs.Failures.{file_limit, IsContent, IsReadFailure}
-use Rattle.judged_files.specs.Code.{Planned, IsUnrewritten}
-use Rattle.text_output.specs.Failures.{FailsAs, IsNever, IsNoRefusal, IsPutFailure, Puts, line_of, status_of}
+use Rattle.text_output.specs.Failures.{IsPutFailure, line_of, status_of}
 use Rattle.text_output.specs.Text.{out_of_memory}
 use Rattle.views.specs.Answers.{IsFault, IsRefusalStatus}
-use Rattle.views.specs.Failures.{IsFailure, IsSuccess, IsTextOfCode}
+use Rattle.views.specs.Failures.{IsFailure, IsSuccess}
 use Rattle.views.specs.Headline.{AreTold, IsLayoutRefused, IsRecordRefused, IsRefused, Prints, PrintsPrefix, usage}
 
 -- 1. What the words ask for, and where they ask for nothing
@@ -29,42 +27,7 @@ pub none_as : (words : List (List ℕ)) (r : Option OfCode) → r ≡ None
 none_as words r e h =
     subst (λ o. MatchOption o ((v : View) → AsksView words v → ⊥) (λ v. AsksView words (meaning_of_view v))) e h
 
--- 2. The file that a view reads
-
-reads_file : (file : List ℕ) (no_batch : Bool) → Contains (reads (Code file no_batch)) file
-reads_file file no_batch = (0, omega arith, refl)
-
-pub reads_only : (file : List ℕ) (no_batch : Bool) (name : List ℕ)
-    → Contains (reads (Code file no_batch)) name → name ≡ file
-reads_only file no_batch name h =
-    let there : h.0 < length (file ∷ []) = h.1 in
-    let zero : h.0 ≡ 0 = omega (arith, there) in
-    sym (subst (λ k. get_or (file ∷ []) k name ≡ name) zero h.2)
-
-pub content_is : (o : Option (List ℕ)) (bytes content : List ℕ) → IsContent o bytes
-    → o ≡ Some content → bytes ≡ content
-content_is o bytes content h is =
-    subst (λ (x : Option (List ℕ)). IfSome x (λ c. bytes ≡ c)) is h.same
-
--- what was read is what the file is told to have
-file_is : (file : List ℕ) (no_batch : Bool) (files : FilesState) (bytes : List ℕ)
-    (contents : List ℕ → List ℕ) → IsContent (files.held file) bytes
-    → AreTold (Code file no_batch) files contents → bytes ≡ contents file
-file_is file no_batch files bytes contents h told =
-    content_is (files.held file) bytes (contents file) h (told file (reads_file file no_batch))
-
--- what was read isn't too long
-pub is_short : (file : List ℕ) (no_batch : Bool) (files : FilesState) (bytes name content : List ℕ)
-    → IsContent (files.held file) bytes → Contains (reads (Code file no_batch)) name
-    → files.held name ≡ Some content → file_limit < length content → ⊥
-is_short file no_batch files bytes name content h there is long =
-    let at : files.held file ≡ Some content =
-    ap files.held (sym (reads_only file no_batch name there)) ∙ is in
-    let same = ap length (content_is (files.held file) bytes content h at) in
-    let fits = h.fits in
-    omega (arith, same, fits, long)
-
--- 3. How a view succeeds, and how it fails
+-- 2. How the usage text is put, and how not
 
 pub help_succeeds : (files : FilesState) (before now : SinkState) (text : List ℕ) → text ≡ usage
     → Appends before.taken now.taken text → IsSuccess Help files before now
@@ -82,75 +45,7 @@ help_fails files files_now before now text Output is h =
     (h.0, λ contents told. record { text = text; is = is; put = h.1 })
 help_fails files files_now before now text OutOfMemory is h = λ contents told. inl h
 
-pub code_succeeds : (file : List ℕ) (no_batch : Bool) (files : FilesState) (before now : SinkState)
-    (bytes : List ℕ) → IsContent (files.held file) bytes
-    → Puts (IsTextOfCode (not no_batch) bytes) 0 before now
-    → IsSuccess (Code file no_batch) files before now
-code_succeeds file no_batch files before now bytes h puts = λ contents told. record {
-  text = puts.0;
-  is = subst (λ b. IsTextOfCode (not no_batch) b puts.0 0)
-      (file_is file no_batch files bytes contents h told) puts.1;
-  put = puts.2;
-}
-
-pub code_fails : (file : List ℕ) (no_batch : Bool) (files files_now : FilesState) (before now : SinkState)
-    (bytes : List ℕ) (f : Failure) → IsContent (files.held file) bytes
-    → FailsAs (IsTextOfCode (not no_batch) bytes) (IsUnrewritten (Planned (not no_batch)) bytes) IsNever before now f
-    → IsFailure (Code file no_batch) files files_now before now f
-code_fails file no_batch files files_now before now bytes (Input line) h failed = absurd failed
-code_fails file no_batch files files_now before now bytes (NotWritten line) h failed = absurd failed
-code_fails file no_batch files files_now before now bytes (Refused line) h failed = (
-  failed.1,
-  λ contents told. subst (λ b. IsUnrewritten (Planned (not no_batch)) b line.items)
-      (file_is file no_batch files bytes contents h told) failed.0,
-)
-code_fails file no_batch files files_now before now bytes (Layout line) h failed = absurd failed.0
-code_fails file no_batch files files_now before now bytes (Record line) h failed = absurd failed
-code_fails file no_batch files files_now before now bytes (Text line) h failed = failed
-code_fails file no_batch files files_now before now bytes Output h failed = (
-  failed.0,
-  λ contents told. record {
-    text = failed.1.0;
-    is = subst (λ b. IsTextOfCode (not no_batch) b failed.1.0 0)
-        (file_is file no_batch files bytes contents h told) failed.1.2;
-    put = failed.1.3;
-  },
-)
-code_fails file no_batch files files_now before now bytes OutOfMemory h failed = λ contents told. elim failed [
-  | inl same ↦ inl same
-  | inr part ↦ inr (record {
-    text = part.0;
-    is = subst (λ b. IsTextOfCode (not no_batch) b part.0 0)
-        (file_is file no_batch files bytes contents h told) part.2;
-    put = part.3;
-  })
-]
-
-pub read_fails : (file : List ℕ) (no_batch : Bool) (files files_now : FilesState) (state : SinkState)
-    (f : Failure) → IsReadFailure files files_now file f
-    → IsFailure (Code file no_batch) files files_now state state f
-read_fails file no_batch files files_now state (Input line) h =
-    (refl, (file, reads_file file no_batch, h))
-read_fails file no_batch files files_now state (NotWritten line) h = absurd h
-read_fails file no_batch files files_now state (Refused line) h = absurd h
-read_fails file no_batch files files_now state (Layout line) h = absurd h
-read_fails file no_batch files files_now state (Record line) h = absurd h
-read_fails file no_batch files files_now state (Text line) h = h
-read_fails file no_batch files files_now state Output h = absurd h
-read_fails file no_batch files files_now state OutOfMemory h = λ contents told. inl refl
-
-pub no_refusal : (files files_now : FilesState) (name : List ℕ) (f : Failure)
-    → IsReadFailure files files_now name f → IsNoRefusal f
-no_refusal files files_now name (Input line) h = inl refl
-no_refusal files files_now name (NotWritten line) h = absurd h
-no_refusal files files_now name (Refused line) h = absurd h
-no_refusal files files_now name (Layout line) h = absurd h
-no_refusal files files_now name (Record line) h = absurd h
-no_refusal files files_now name (Text line) h = absurd h
-no_refusal files files_now name Output h = absurd h
-no_refusal files files_now name OutOfMemory h = inr refl
-
--- 4. What the status of a failure says
+-- 3. What the status of a failure says
 
 abbrev IsFailing : ℕ → Type 0
 IsFailing status = (status ≡ 3) ⊎ ((status ≡ 5) ⊎ IsRefusalStatus status)
@@ -295,7 +190,7 @@ line_five (Text line) five = absurd (omega (arith, five))
 line_five Output five = absurd (omega (arith, five))
 line_five OutOfMemory five = refl
 
--- 5. What follows in one arm of a result
+-- 4. What follows in one arm of a result
 
 pub on_ok_as : {T E : Type 0} (P Q : Type 0) (r : Result T E) → (P → Q) → OnOk r P → OnOk r Q
 on_ok_as P Q (Ok x) f h = f h

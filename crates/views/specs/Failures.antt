@@ -1,7 +1,7 @@
 -- Helps the code alone: how a view fails, and how it succeeds.
-use Rattle.std.specs.Prelude.{◌≡◌, ℕ, ◌<◌, ◌⊎◌, Bool, not, List, [], ◌∷◌, ◌++◌, All, Option, None, Some, IfSome, Contains}
+use Rattle.std.specs.Prelude.{◌≡◌, ℕ, ◌<◌, ◌⊎◌, List, [], ◌∷◌, ◌++◌, All, Option, None, Some, IfSome}
 use Rattle.dsm_io.specs.States.{FilesState, SinkState}
-use Rattle.command_line.specs.Views.{View, TimeArguments, Time, reads}
+use Rattle.command_line.specs.Views.{RecordedFiles, TimeArguments, View}
 use Rattle.code_view.specs.Code.{code_text}
 use Rattle.code_view.specs.declared.view.CodeView.{CodeView}
 use Rattle.node_model.specs.Node.{Work}
@@ -11,7 +11,6 @@ use Rattle.replay.specs.Replay.{TellsWholeRun}
 use Rattle.text_output.specs.declared.failure.Failure.{Failure}
 use Rattle.text_output.specs.declared.failure.Failure.TheVariants.{Input, NotWritten, Refused, Layout, Record, Text, Output, OutOfMemory}
 use Rattle.text_output.specs.Failures.{FailsAs, IsWriteFailure, status_of}
-use Rattle.judged_files.specs.Failures.{AreContents, IsContent, IsReadFailure}
 use Rattle.prepared_run.specs.Replays.{IsReplayRefusal, IsReplayRefused, IsBadReplayLayout, IsBadRecord}
 use Rattle.judged_files.specs.Inputs.{Inputs}
 use Rattle.prepared_run.specs.Ready.{work_for}
@@ -24,20 +23,22 @@ use Rattle.run_trace.specs.Given.{traced_of}
 use Rattle.run_trace.specs.Traced.{Traced}
 use Rattle.run_trace.specs.Trace.{IsTraceOf}
 use Rattle.run_trace.specs.Tracing.{HasTraced, plan_traced, record_traced, work_traced}
-use Rattle.views.specs.Trace.{recorded, IsTraceText}
+use Rattle.views.specs.Code.{IsCodeText}
+use Rattle.views.specs.Inputs.{AreInputs, IsInputFailure, run_files}
+use Rattle.views.specs.Trace.{IsTraceText}
 use Rattle.views.specs.Blocks.{AreCostsOfRun, IsCostsText}
 use Rattle.views.specs.Answers.{IsReadFault, IsPutFault, IsWriteFault, IsRefusalStatus}
 use Rattle.views.specs.Page.{IsPageText}
 use Rattle.views.specs.Time.{IsTimeText, costs_of}
-use Rattle.views.specs.Headline.{AreTold, IsCodeText, IsRefused, IsLayoutRefused, IsRecordRefused, Prints, PrintsPrefix}
+use Rattle.views.specs.Headline.{AreTold, IsRefused, IsLayoutRefused, IsRecordRefused, Prints, PrintsPrefix}
 
 -- the text of what is shown
 abbrev pub shown_text : CodeView → List ℕ
 shown_text v = code_text v.program.now v.plan.now v.image.now
 
 -- the text of rewritten code, with any status
-abbrev pub IsTextOfCode : Bool → List ℕ → List ℕ → ℕ → Type 0
-IsTextOfCode batches file text status = IsCodeText batches file text
+abbrev pub IsTextOfCode : Inputs → List ℕ → ℕ → Type 0
+IsTextOfCode inputs text status = IsCodeText inputs text
 
 -- the text of a trace, with any status
 abbrev pub IsTextOfTrace : Inputs → Selection → List ℕ → ℕ → Type 0
@@ -66,33 +67,6 @@ FailsAsRun IsTextFor inputs before now (Record line) =
 FailsAsRun IsTextFor inputs before now f =
     FailsAs IsTextFor (IsReplayRefused inputs) (IsBadReplayLayout inputs) before now f
 
--- the inputs are what the two files of a recorded run are told to hold
-pub record AreRecorded (files : FilesState) (file record_file : List ℕ) (inputs : Inputs) : Type 0
-  where
-    pub executable : IsContent (files.held file) inputs.executable
-    pub text : IsContent (files.held record_file) inputs.text
-    pub rest : inputs ≡ recorded inputs.executable inputs.text
-
--- one of the two files wasn't read
-abbrev pub IsRecordingFailure : (file record_file : List ℕ) → FilesState → FilesState → Failure
-    → Type 0
-IsRecordingFailure file record_file before now f =
-    (name : List ℕ) × ((name ≡ file) ⊎ (name ≡ record_file)) × IsReadFailure before now name f
-
--- the inputs are what the files of `time` are told to hold
-pub record AreTimed (files : FilesState) (a : TimeArguments) (inputs : Inputs) : Type 0 where
-  pub executable : IsContent (files.held a.file) inputs.executable
-  pub code : inputs.code ≡ None
-  pub verified : AreContents files a.verified inputs.verified
-  pub layout : AreContents files a.layout inputs.layout
-  pub text : inputs.text ≡ []
-  pub batches : inputs.batches ≡ not a.no_batch
-
--- one of the files of `time` wasn't read
-abbrev pub IsTimingFailure : TimeArguments → FilesState → FilesState → Failure → Type 0
-IsTimingFailure a before now f =
-    (name : List ℕ) × Contains (reads (Time a)) name × IsReadFailure before now name f
-
 -- the record tells of a whole run
 abbrev pub TellsWhole : Work → Kept → Type 0
 TellsWhole work kept = (told : List Told) × TellsWholeRun work kept told
@@ -110,26 +84,25 @@ HasGoneOnTo to t seen None = (trace : List Traced)
 HasGoneOnTo to t seen (Some x) = HasTraced t (seen ++ traced_of x ∷ [])
 
 -- the record tells of a run that is refused, or is refused itself, or its executable is
-pub record IsRunRefused (file record_file : List ℕ) (files : FilesState) (f : Failure) : Type 0
-  where
-    pub inputs : Inputs
-    pub are_recorded : AreRecorded files file record_file inputs
-    pub refusal : IsReplayRefusal inputs f
+pub record IsRunRefused (run : RecordedFiles) (files : FilesState) (f : Failure) : Type 0 where
+  pub inputs : Inputs
+  pub are_inputs : AreInputs files (run_files run) inputs
+  pub refusal : IsReplayRefusal inputs f
 
--- a file holds the page of the recorded run of two files
-pub record IsPageWritten (file record_file output : List ℕ) (s : Selection)
+-- a file holds the page of a recorded run
+pub record IsPageWritten (run : RecordedFiles) (output : List ℕ) (s : Selection)
     (before now : FilesState) : Type 0
   where
     pub inputs : Inputs
-    pub are_recorded : AreRecorded before file record_file inputs
+    pub are_inputs : AreInputs before (run_files run) inputs
     pub written : IfSome (now.held output) (IsPageText inputs s)
 
--- the page of the recorded run of two files could not be written
-pub record IsPageUnwritten (file record_file output : List ℕ) (s : Selection)
+-- the page of a recorded run could not be written
+pub record IsPageUnwritten (run : RecordedFiles) (output : List ℕ) (s : Selection)
     (before now : FilesState) (f : Failure) : Type 0
   where
     pub inputs : Inputs
-    pub are_recorded : AreRecorded before file record_file inputs
+    pub are_inputs : AreInputs before (run_files run) inputs
     pub page : List ℕ
     pub is_page : IsPageText inputs s page
     pub failure : IsWriteFailure before now output f
@@ -139,13 +112,12 @@ abbrev pub AreSame : FilesState → FilesState → Type 0
 AreSame before now = (name : List ℕ) → now.held name ≡ before.held name
 
 -- how the page of a recorded run fails
-abbrev pub IsPageFailure : (file record_file output : List ℕ) → Selection → FilesState → FilesState
+abbrev pub IsPageFailure : RecordedFiles → (output : List ℕ) → Selection → FilesState → FilesState
     → Failure → Type 0
-IsPageFailure file record_file output s before now f =
+IsPageFailure run output s before now f =
     (AreSame before now
-    × (IsRecordingFailure file record_file before now f
-    ⊎ IsRunRefused file record_file before f))
-    ⊎ IsPageUnwritten file record_file output s before now f
+    × (IsInputFailure (run_files run) before now f ⊎ IsRunRefused run before f))
+    ⊎ IsPageUnwritten run output s before now f
 
 -- how a view succeeds: its whole text was put
 abbrev pub IsSuccess : View → FilesState → SinkState → SinkState → Type 0

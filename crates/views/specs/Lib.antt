@@ -1,7 +1,10 @@
+pub mod Code
+pub mod Cost
 pub mod Trace
 pub mod Blocks
 pub mod Page
 pub mod Time
 pub mod Headline
 pub mod Answers
+pub mod Inputs
 pub mod Failures

@@ -14,18 +14,19 @@ use Rattle.run_trace.specs.Tracing.{HasTraced, plan_traced, record_traced, work_
 use Rattle.block_view.specs.event_text.declared.shown.EventFilter.{EventFilter}
 use Rattle.block_view.specs.event_text.Events.{event_line}
 use Rattle.block_view.specs.event_text.Shown.{head, shown, trace_text}
+use Rattle.command_line.specs.Views.{RecordedFiles}
 use Rattle.judged_files.specs.Inputs.{Inputs}
 use Rattle.prepared_run.specs.Replays.{IsWorkOf}
 use Rattle.views.specs.declared.trace.Selection.{Selection}
 
--- what a view of a recorded run reads: an executable, and the text of a record
-abbrev pub recorded : (executable text : List ℕ) → Inputs
-recorded executable text = record {
-  executable = executable;
+-- what is read of a recorded run, where files have these contents
+abbrev pub recorded : RecordedFiles → (List ℕ → List ℕ) → Inputs
+recorded run contents = record {
+  executable = contents run.file;
   code = None;
-  verified = None;
+  verified = option_map contents run.verified;
   layout = None;
-  text = text;
+  text = contents run.record_file;
   batches = true;
 }
 

@@ -2,19 +2,20 @@
 
 ghost use Rattle.std.specs.Prelude.{◌≡◌, IfErr, OnOk};
 ghost use Rattle.dsm_io.specs.Causes.{Appends};
-ghost use Rattle.judged_files.specs.Code.{Planned, IsUnrewritten};
+ghost use Rattle.judged_files.specs.Given.{bytes_of};
 ghost use Rattle.text_output.specs.Failures.{FailsAs, IsLike, IsNever, Puts};
 ghost use Rattle.code_view.specs.Code.{IsShown, code_text};
 ghost use Rattle.exec_map.specs.Contents.{program_of};
 ghost use Rattle.jump_map.specs.Image.{IsRewriting};
+ghost use Rattle.views.specs.Code.{IsCodeless};
 ghost use Rattle.views.specs.Failures.{IsTextOfCode, shown_text};
 
 use code_view::CodeView;
 use dsm_io::Sink;
 use exec_map::Program;
 use flow_graph::Graph;
-use judged_files::code::planned_rewriting;
-use judged_files::input::{elf_of, program_of};
+use judged_files::code::rewriting_of;
+use judged_files::input::{Inputs, elf_of, program_of};
 use judged_files::refusal::Subject;
 use rewriter::Rewritten;
 use std::alloc::Global;
@@ -23,21 +24,21 @@ use text_output::{Failure, put};
 /// The text is put in pieces of about so many bytes.
 const PIECE: usize = 0x1_0000;
 
-/// Puts the text of the rewritten code of the executable in a file, with batches or without.
+/// Puts the text of the rewritten code of the executable among these files, which a verified one
+/// may hold.
 pub(crate) fn put_code<O: Sink>(
     alloc: Global,
-    file: &[u8],
-    batches: bool,
+    inputs: &Inputs<'_>,
     out: &mut O,
 ) -> Result<(), Failure>
-    ensures ok { OnOk result
-        (Puts (IsTextOfCode batches file.now) 0 (O.state out.old) (O.state out.new)) }
-    ensures failure { IfErr result (FailsAs (IsTextOfCode batches file.now)
-        (IsUnrewritten (Planned batches) file.now) IsNever (O.state out.old) (O.state out.new)) }
+    ensures ok { OnOk result (Puts (IsTextOfCode (bytes_of inputs.now)) 0
+        (O.state out.old) (O.state out.new)) }
+    ensures failure { IfErr result (FailsAs (IsTextOfCode (bytes_of inputs.now))
+        (IsCodeless (bytes_of inputs.now)) IsNever (O.state out.old) (O.state out.new)) }
 {
-    let elf = elf_of(alloc, Subject::Executable, file)?;
+    let elf = elf_of(alloc, Subject::Executable, inputs.executable)?;
     let program = program_of(alloc, &elf)?;
-    let rewritten = planned_rewriting(alloc, &program, batches)?;
+    let rewritten = rewriting_of(alloc, &program, &elf, inputs.batches, inputs.verified)?;
     put_rewritten(alloc, &program, &rewritten, out)
 }
 

@@ -4,6 +4,8 @@
 
 mod blocks;
 mod code;
+mod cost;
+mod input;
 mod page;
 mod recorded;
 mod text;

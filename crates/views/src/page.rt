@@ -13,14 +13,17 @@ ghost use Rattle.run_trace.specs.Tracing.{plan_traced, record_traced, work_trace
 ghost use Rattle.block_view.specs.event_text.Shown.{shown};
 ghost use Rattle.page_view.specs.page_events.Shown.{kept};
 ghost use Rattle.prepared_run.specs.Replays.{IsReplayRefusal};
+ghost use Rattle.command_line.specs.Views.{recorded_of};
 ghost use Rattle.judged_files.specs.Given.{bytes_of};
 ghost use Rattle.prepared_run.specs.Ready.{work_for};
 ghost use Rattle.views.specs.Failures.{IsPageFailure, IsPageWritten, TellsWhole};
 ghost use Rattle.views.specs.Page.{HasAddedOn, IsPageText, drawn_text};
 
-use crate::recorded::{RecordedRun, judged_run, next_event_to, read_recorded};
+use crate::input::{read_inputs, run_files};
+use crate::recorded::{RecordedRun, judged_run, next_event_to};
 use crate::trace::Selection;
 use block_view::event_text::{EventFilter, is_passed_shown, is_shown, shown_law};
+use command_line::RecordedFiles;
 use dsm_io::Files;
 use flow_graph::Graph;
 use judged_files::input::{Inputs, elf_of};
@@ -32,24 +35,22 @@ use run_trace::{Traced, Tracer, Until, WordPassed};
 use std::alloc::{AllocError, Global};
 use text_output::{Failure, write_file};
 
-/// Writes the page of the events that are asked for, of the run of an executable whose record is in
-/// a file, into another file.
+/// Writes the page of the events that are asked for, of a recorded run, into a file.
 pub(crate) fn write_page<F: Files>(
     alloc: Global,
     files: &mut F,
-    file: &str,
-    record_file: &str,
+    run: &RecordedFiles<'_>,
     output: &str,
     selection: Selection,
 ) -> Result<(), Failure>
-    ensures ok { OnOk result (IsPageWritten file.now record_file.now output.now selection
+    ensures ok { OnOk result (IsPageWritten (recorded_of run.now) output.now selection
         (F.state files.old) (F.state files.new)) }
-    ensures failure { IfErr result (IsPageFailure file.now record_file.now output.now selection
+    ensures failure { IfErr result (IsPageFailure (recorded_of run.now) output.now selection
         (F.state files.old) (F.state files.new)) }
     ensures others { (n : List ℕ) → n ≢ output.now
         → (F.state files.new).held n ≡ (F.state files.old).held n }
 {
-    let read = read_recorded(alloc, files, file, record_file)?;
+    let read = read_inputs(alloc, files, run_files(run))?;
     let page = page_of(alloc, &read.lend(), selection)?;
     write_file(alloc, files, output, &page)
 }

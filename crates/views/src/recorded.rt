@@ -1,6 +1,6 @@
-//! A recorded run: its files, what is judged of them, and its events.
+//! A recorded run: what is judged of it, and its events.
 
-ghost use Rattle.std.specs.Prelude.{◌≡◌, ◌⊎◌, ◌≤◌, ℕ, List, IfErr, IfOk, OnOk};
+ghost use Rattle.std.specs.Prelude.{◌≡◌, ◌⊎◌, ℕ, List, IfErr, IfOk, OnOk};
 ghost use Rattle.node_model.specs.Node.{Work as OfRun};
 ghost use Rattle.rewriting_law.specs.Bounds.{RunsRewritten};
 ghost use Rattle.run_trace.specs.Traced.{Traced as OfEvent};
@@ -9,7 +9,7 @@ ghost use Rattle.run_trace.specs.Tracing.{record_traced, work_traced};
 ghost use Rattle.judged_files.specs.Executables.{ReadsAs};
 ghost use Rattle.text_output.specs.Failures.{IsRecordRefusal};
 ghost use Rattle.prepared_run.specs.Replays.{IsReplayRefusal, IsBrokenRun, IsWorkOf};
-ghost use Rattle.judged_files.specs.Given.{bytes_of, contents_of};
+ghost use Rattle.judged_files.specs.Given.{bytes_of};
 ghost use Rattle.prepared_run.specs.Ready.{work_for};
 ghost use Rattle.run_record.specs.Record.{IsRecord};
 ghost use Rattle.run_record.specs.declared.Record.{Record as Kept};
@@ -18,12 +18,11 @@ ghost use Rattle.replay.specs.Refusals.{IsFirstBroken, IsUnfinished};
 ghost use Rattle.replay.specs.Replay.{IsReplay};
 ghost use Rattle.replay.specs.declared.refused.ReplayRule.{ReplayRule as Rules};
 ghost use Rattle.replay.specs.declared.refused.ReplayRefused.TheVariants.{Broken};
-ghost use Rattle.views.specs.Failures.{AreRecorded, HasGoneOnTo, IsRecordingFailure, TellsWhole};
+ghost use Rattle.views.specs.Failures.{HasGoneOnTo, TellsWhole};
 
 use dsm_core::Outcome;
-use dsm_io::Files;
 use elf32_read::Elf;
-use judged_files::input::{InputFiles, Inputs, read_file};
+use judged_files::input::Inputs;
 use prepared_run::{Prepared, event_line, prepare_replay};
 use replay::{ReplayRefused, replay, replay_law};
 use run_record::Record;
@@ -38,33 +37,6 @@ pub(crate) struct RecordedRun<'a> {
     pub(crate) prepared: Prepared<'a>,
     /// Its record, which tells of a whole run.
     pub(crate) kept: Record,
-}
-
-/// Reads the files of a recorded run: the executable, and the record, in this order.
-pub(crate) fn read_recorded<F: Files>(
-    alloc: Global,
-    files: &mut F,
-    file: &str,
-    record_file: &str,
-) -> Result<InputFiles, Failure>
-    ensures ok { IfOk result (λ r. AreRecorded (F.state files.old) file.now record_file.now
-        (contents_of r)) }
-    ensures failure { IfErr result (IsRecordingFailure file.now record_file.now
-        (F.state files.old) (F.state files.new)) }
-    ensures contents { (n : List ℕ) → (F.state files.new).held n ≡ (F.state files.old).held n }
-    ensures writes { (n : List ℕ)
-        → (F.state files.old).failed_writes n ≤ (F.state files.new).failed_writes n }
-{
-    let executable = read_file(alloc, files, file)?;
-    let text = read_file(alloc, files, record_file)?;
-    Ok(InputFiles {
-        executable,
-        code: None,
-        verified: None,
-        layout: None,
-        text,
-        batches: true,
-    })
 }
 
 /// Judges the executable, which was read, and the record, and makes the run once more: what it is

@@ -1,57 +1,28 @@
 //! `time`: a run of nodes by a clock, and what they spend their time on.
 
-ghost use Rattle.std.specs.Prelude.{◌≡◌, ◌≤◌, ◌++◌, ◌∷◌, [], ℕ, List, Some, length, Contains};
-ghost use Rattle.std.specs.Prelude.{IfErr, IfOk, MatchResult, OnOk};
+ghost use Rattle.std.specs.Prelude.{◌≡◌, ◌++◌, ◌∷◌, []};
+ghost use Rattle.std.specs.Prelude.{IfErr, IfOk, OnOk};
 ghost use Rattle.std.specs.Fmt.{decimal};
 ghost use Rattle.dsm_core.specs.CoreParts.{outcome_of};
 ghost use Rattle.timed_sim.specs.Clock.{AreInRange};
 ghost use Rattle.dsm_io.specs.Causes.{Appends};
 ghost use Rattle.command_line.specs.Views.{time_of};
 ghost use Rattle.text_output.specs.Failures.{FailsAs, IsLike, IsNever, Puts};
-ghost use Rattle.judged_files.specs.Given.{bytes_of, contents_of};
+ghost use Rattle.judged_files.specs.Given.{bytes_of};
 ghost use Rattle.judged_files.specs.Refusals.{IsBadRunLayout, IsRunRefused};
 ghost use Rattle.prepared_run.specs.Outcomes.{text_of};
-ghost use Rattle.views.specs.Failures.{AreTimed, IsTextOfTime, IsTimingFailure};
+ghost use Rattle.views.specs.Failures.{IsTextOfTime};
 ghost use Rattle.views.specs.Time as model;
 
 use command_line::TimeArguments;
-use dsm_io::{Files, Sink};
+use dsm_io::Sink;
 use itoa::Buffer;
-use judged_files::input::{InputFiles, Inputs, elf_of, read_file, read_named};
+use judged_files::input::{Inputs, elf_of};
 use judged_files::refusal::Subject;
 use prepared_run::{prepare, put_outcome};
 use std::alloc::{AllocError, Global};
 use text_output::{Failure, push_count, put};
 use timed_sim::{Costs, Spent, Timed, simulate_by_clock};
-
-/// Reads the files of a run by a clock: the executable, the verified one and the layout, in this
-/// order.
-pub(crate) fn read_timed<F: Files>(
-    alloc: Global,
-    files: &mut F,
-    arguments: &TimeArguments<'_>,
-) -> Result<InputFiles, Failure>
-    ensures ok { IfOk result (λ r. AreTimed (F.state files.old) (time_of arguments.now)
-        (contents_of r)) }
-    ensures failure { IfErr result (IsTimingFailure (time_of arguments.now)
-        (F.state files.old) (F.state files.new)) }
-    ensures contents { (n : List ℕ) → (F.state files.new).held n ≡ (F.state files.old).held n }
-    ensures writes { (n : List ℕ)
-        → (F.state files.old).failed_writes n ≤ (F.state files.new).failed_writes n }
-{
-    let executable = read_file(alloc, files, arguments.file)?;
-    let verified = read_named(alloc, files, arguments.verified)?;
-    let layout = read_named(alloc, files, arguments.layout)?;
-    let text = Vec::new(alloc);
-    Ok(InputFiles {
-        executable,
-        code: None,
-        verified,
-        layout,
-        text,
-        batches: !arguments.no_batch,
-    })
-}
 
 /// Runs the rewritten code of the executable among these files, which a verified one may hold, on
 /// nodes by a clock; puts the text of the outcome, and what the nodes spent their time on.

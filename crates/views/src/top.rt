@@ -16,14 +16,14 @@ ghost use Rattle.views.specs.Time.{PrintsTime};
 
 use crate::blocks::put_blocks;
 use crate::code::put_code;
+use crate::cost::put_cost;
+use crate::input::{code_files, read_inputs, run_files, time_files};
 use crate::page::write_page;
-use crate::recorded::read_recorded;
 use crate::text::USAGE;
-use crate::time::{put_time, read_timed};
+use crate::time::put_time;
 use crate::trace::{Selection, put_trace};
 use command_line::{View, view_of};
 use dsm_io::{Files, Sink, Text};
-use judged_files::input::read_file;
 use std::alloc::Global;
 use text_output::{Failure, put, tell, tell_out_of_memory};
 
@@ -151,19 +151,22 @@ fn answer<F: Files, O: Sink>(
 {
     match view {
         View::Help => put(out, USAGE.as_bytes()),
-        View::Code { file, no_batch } => {
-            let bytes = read_file(alloc, files, file)?;
-            put_code(alloc, &bytes, !*no_batch, out)
+        View::Code(arguments) => {
+            let read = read_inputs(alloc, files, code_files(arguments))?;
+            put_code(alloc, &read.lend(), out)
+        }
+        View::Cost(arguments) => {
+            let read = read_inputs(alloc, files, code_files(arguments))?;
+            put_cost(alloc, &read.lend(), out)
         }
         View::Trace {
-            file,
-            record_file,
+            run,
             from,
             to,
             block,
             node,
         } => {
-            let read = read_recorded(alloc, files, file, record_file)?;
+            let read = read_inputs(alloc, files, run_files(run))?;
             let selection = Selection {
                 from: *from,
                 to: *to,
@@ -172,13 +175,12 @@ fn answer<F: Files, O: Sink>(
             };
             put_trace(alloc, &read.lend(), selection, out)
         }
-        View::Blocks { file, record_file } => {
-            let read = read_recorded(alloc, files, file, record_file)?;
+        View::Blocks { run } => {
+            let read = read_inputs(alloc, files, run_files(run))?;
             put_blocks(alloc, &read.lend(), out)
         }
         View::Page {
-            file,
-            record_file,
+            run,
             output,
             from,
             to,
@@ -189,10 +191,10 @@ fn answer<F: Files, O: Sink>(
                 address: None,
                 node: None,
             };
-            write_page(alloc, files, file, record_file, output, selection)
+            write_page(alloc, files, run, output, selection)
         }
         View::Time(arguments) => {
-            let read = read_timed(alloc, files, arguments)?;
+            let read = read_inputs(alloc, files, time_files(arguments))?;
             put_time(alloc, &read.lend(), arguments, out)
         }
     }

@@ -1,22 +1,28 @@
-use Rattle.std.proofs.Common.{not, ◌≡◌, ℕ, List, refl, subst, sym}
+use Rattle.std.proofs.Common.{◌≡◌, ℕ, List, refl, subst, sym}
 use Rattle.std.specs.Prelude.{Contains}
 use Rattle.std.proofs.lemmas.Result.{err_from_is_err_and}
-use Rattle.command_line.specs.Views.{Help, Code, Trace, Blocks, meaning_of_view, reads, Page, Time, time_of}
+use Rattle.command_line.specs.Views.{Help, Code, Cost, Trace, Blocks, Page, Time, code_of, meaning_of_view, reads, recorded_of, time_of}
 use Rattle.dsm_io.specs.Causes.{Appends}
 use Rattle.dsm_io.specs.States.{SinkState, FilesState}
-use Rattle.judged_files.specs.Code.{Planned, IsUnrewritten}
 use Rattle.text_output.specs.Failures.{FailsAs, IsNever, IsPutFailure, Puts}
-use Rattle.judged_files.specs.Failures.{IsContent}
 use Rattle.judged_files.specs.Given.{bytes_of, contents_of}
 use Rattle.judged_files.specs.Refusals.{IsBadRunLayout, IsRunRefused}
-use Rattle.views.specs.Failures.{AreRecorded, FailsAsRun, IsFailure, IsSuccess, IsTextOfBlocks, IsTextOfCode, IsTextOfTime, IsTextOfTrace, AreKept, AreTimed, IsPageFailure, IsPageWritten}
-use Rattle.views.specs.declared.trace.Selection.{Selection}
-use Rattle.views.proofs.Runs.{blocks_of_run, not_long, run_fails, run_succeeds, trace_of_run, unread_fails, unread_no_refusal}
-use Rattle.views.specs.Headline.{usage, AreTold, AreWritten}
-use Rattle.views.proofs.Viewed.{code_fails, code_succeeds, err_as, help_fails, help_succeeds, on_ok_as}
 use Rattle.views.specs.Answers.{AreLeft}
-use Rattle.views.proofs.Written.{asked_for, err_all, nothing_left, nothing_written, ok_all, page_fails, page_kept, page_left, page_longer, page_succeeds, page_written}
+use Rattle.views.specs.Code.{IsCodeless}
+use Rattle.views.specs.Cost.{IsTextOfCost}
+use Rattle.views.specs.Failures.{FailsAsRun, IsFailure, IsSuccess, IsTextOfBlocks, IsTextOfCode, IsTextOfTime, IsTextOfTrace, AreKept, IsPageFailure, IsPageWritten}
+use Rattle.views.specs.Headline.{usage, AreTold, AreWritten}
+use Rattle.views.specs.Inputs.{AreInputs, IsInputFailure, code_files, names_of, run_files, time_files}
+use Rattle.views.specs.declared.trace.Selection.{Selection}
+use Rattle.views.proofs.Coded as coding
+use Rattle.views.proofs.Coded.{code_fails, code_succeeds}
+use Rattle.views.proofs.Costed as costing
+use Rattle.views.proofs.Costed.{cost_fails, cost_succeeds}
+use Rattle.views.proofs.Inputs.{not_long, unread_fails, unread_no_refusal}
+use Rattle.views.proofs.Runs.{blocks_of_run, blocks_writes_none, run_fails, run_succeeds, trace_of_run, trace_writes_none}
 use Rattle.views.proofs.Timed as timing
+use Rattle.views.proofs.Viewed.{err_as, help_fails, help_succeeds, on_ok_as}
+use Rattle.views.proofs.Written.{asked_for, err_all, nothing_left, nothing_written, ok_all, page_fails, page_kept, page_left, page_longer, page_succeeds, page_written}
 use Rattle.views.proofs.top.answer.Goals as goal
 
 pub returns-in-Help-clause-ok : goal.returns-in-Help-clause-ok
@@ -43,37 +49,183 @@ returns-in-Help-clause-failure g c =
     (err_as (IsPutFailure before now text) (IsFailure Help files files before now) c.put.result
     (λ f h. help_fails files files before now text f is h) c.put.ensures.failure)
 
-pub returns-in_ok-bytes-in-Code-clause-ok : goal.returns-in_ok-bytes-in-Code-clause-ok
-returns-in_ok-bytes-in-Code-clause-ok g c =
+pub returns-in_ok-read-in-Code-clause-ok : goal.returns-in_ok-read-in-Code-clause-ok
+returns-in_ok-read-in-Code-clause-ok g c =
     let files : FilesState = g.F.Files.state c.args.files.now in
     let before : SinkState = g.O.Sink.state c.args.out.now in
     let now : SinkState = g.O.Sink.state c.put_code.new.out in
-    let file = c.in-Code.file.now in
-    let no_batch = c.in-Code.no_batch in
-    let bytes = c.deref.result.now in
-    let content : IsContent (files.held file) bytes =
-    subst (IsContent (files.held file)) (sym c.deref.ensures.value) c.in_ok-bytes-in-Code.ensures.ok in
+    let a = code_of c.in-Code.arguments in
+    let inputs = bytes_of c.lend.result in
+    let held : AreInputs files (code_files a) inputs =
+    subst (λ n. AreInputs files n inputs) c.code_files.ensures
+    (subst (AreInputs files (names_of c.code_files.result)) (sym c.lend.ensures.value)
+    c.in_ok-read-in-Code.ensures.ok) in
     rw c.in-Code.is
-    (on_ok_as (Puts (IsTextOfCode (not no_batch) bytes) 0 before now)
-    (IsSuccess (Code file no_batch) files before now) c.put_code.result
-    (code_succeeds file no_batch files before now bytes content) c.put_code.ensures.ok)
+    (on_ok_as (Puts (IsTextOfCode inputs) 0 before now) (IsSuccess (Code a) files before now) c.put_code.result
+    (code_succeeds a files before now inputs held) c.put_code.ensures.ok)
 
-pub returns-in_ok-bytes-in-Code-clause-failure : goal.returns-in_ok-bytes-in-Code-clause-failure
-returns-in_ok-bytes-in-Code-clause-failure g c =
+pub returns-in_ok-read-in-Code-clause-failure : goal.returns-in_ok-read-in-Code-clause-failure
+returns-in_ok-read-in-Code-clause-failure g c =
     let files : FilesState = g.F.Files.state c.args.files.now in
-    let files_now : FilesState = g.F.Files.state c.read_file.new.files in
+    let files_now : FilesState = g.F.Files.state c.read_inputs.new.files in
     let before : SinkState = g.O.Sink.state c.args.out.now in
     let now : SinkState = g.O.Sink.state c.put_code.new.out in
-    let file = c.in-Code.file.now in
-    let no_batch = c.in-Code.no_batch in
-    let bytes = c.deref.result.now in
-    let content : IsContent (files.held file) bytes =
-    subst (IsContent (files.held file)) (sym c.deref.ensures.value) c.in_ok-bytes-in-Code.ensures.ok in
+    let a = code_of c.in-Code.arguments in
+    let inputs = bytes_of c.lend.result in
+    let held : AreInputs files (code_files a) inputs =
+    subst (λ n. AreInputs files n inputs) c.code_files.ensures
+    (subst (AreInputs files (names_of c.code_files.result)) (sym c.lend.ensures.value)
+    c.in_ok-read-in-Code.ensures.ok) in
     rw c.in-Code.is
-    (err_as (FailsAs (IsTextOfCode (not no_batch) bytes) (IsUnrewritten (Planned (not no_batch)) bytes) IsNever
-    before now)
-    (IsFailure (Code file no_batch) files files_now before now) c.put_code.result
-    (λ f h. code_fails file no_batch files files_now before now bytes f content h) c.put_code.ensures.failure)
+    (err_as (FailsAs (IsTextOfCode inputs) (IsCodeless inputs) IsNever before now)
+    (IsFailure (Code a) files files_now before now) c.put_code.result
+    (λ f h. code_fails a files files_now before now inputs f held h) c.put_code.ensures.failure)
+
+pub returns-in_ok-read-in-Code-clause-longer : goal.returns-in_ok-read-in-Code-clause-longer
+returns-in_ok-read-in-Code-clause-longer g c = λ name content among is long.
+    let files : FilesState = g.F.Files.state c.args.files.now in
+    let a = code_of c.in-Code.arguments in
+    let inputs = contents_of c.in_ok-read-in-Code.read in
+    let held : AreInputs files (code_files a) inputs =
+    subst (λ n. AreInputs files n inputs) c.code_files.ensures c.in_ok-read-in-Code.ensures.ok in
+    absurd (not_long (Code a) (code_files a) files inputs name content (coding.reads_are a) held
+    (subst (λ x. Contains (reads (meaning_of_view x)) name) c.in-Code.is among) is long)
+
+pub returns-in_err-read-in-Code-clause-failure : goal.returns-in_err-read-in-Code-clause-failure
+returns-in_err-read-in-Code-clause-failure g c =
+    let files : FilesState = g.F.Files.state c.args.files.now in
+    let files_now : FilesState = g.F.Files.state c.read_inputs.new.files in
+    let state : SinkState = g.O.Sink.state c.args.out.now in
+    let a = code_of c.in-Code.arguments in
+    let p = err_from_is_err_and c.from_residual.result c.from_residual.ensures.1 in
+    rw (c.in-Code.is, p.1, p.2) (unread_fails (Code a) (code_files a) (coding.reads_are a) files files_now state
+    c.in_err-read-in-Code.field-0.0
+    (subst (λ n. IsInputFailure n files files_now c.in_err-read-in-Code.field-0.0)
+    c.code_files.ensures c.in_err-read-in-Code.ensures.failure))
+
+pub returns-in_err-read-in-Code-clause-longer : goal.returns-in_err-read-in-Code-clause-longer
+returns-in_err-read-in-Code-clause-longer g c = λ name content among is long.
+    let files : FilesState = g.F.Files.state c.args.files.now in
+    let files_now : FilesState = g.F.Files.state c.read_inputs.new.files in
+    let p = err_from_is_err_and c.from_residual.result c.from_residual.ensures.1 in
+    rw (p.1, p.2) (unread_no_refusal (names_of c.code_files.result) files files_now
+    c.in_err-read-in-Code.field-0.0 c.in_err-read-in-Code.ensures.failure)
+
+pub returns-in_ok-read-in-Code-clause-written : goal.returns-in_ok-read-in-Code-clause-written
+returns-in_ok-read-in-Code-clause-written g c =
+    let files : FilesState = g.F.Files.state c.args.files.now in
+    let files_now : FilesState = g.F.Files.state c.read_inputs.new.files in
+    let a = code_of c.in-Code.arguments in
+    rw c.in-Code.is (ok_all ((contents : List ℕ → List ℕ) → AreTold (Code a) files contents
+    → AreWritten (Code a) contents files_now) c.put_code.result
+    (λ contents told. nothing_written (Code a) contents files_now (coding.writes_none a)))
+
+pub returns-in_ok-read-in-Code-clause-left : goal.returns-in_ok-read-in-Code-clause-left
+returns-in_ok-read-in-Code-clause-left g c =
+    let files : FilesState = g.F.Files.state c.args.files.now in
+    let files_now : FilesState = g.F.Files.state c.read_inputs.new.files in
+    let a = code_of c.in-Code.arguments in
+    rw c.in-Code.is (err_all (λ f. (contents : List ℕ → List ℕ) → AreTold (Code a) files contents
+    → AreLeft (Code a) contents files files_now) c.put_code.result
+    (λ f contents told. nothing_left (Code a) contents files files_now (coding.writes_none a)))
+
+pub returns-in_err-read-in-Code-clause-left : goal.returns-in_err-read-in-Code-clause-left
+returns-in_err-read-in-Code-clause-left g c =
+    let files : FilesState = g.F.Files.state c.args.files.now in
+    let files_now : FilesState = g.F.Files.state c.read_inputs.new.files in
+    let a = code_of c.in-Code.arguments in
+    let p = err_from_is_err_and c.from_residual.result c.from_residual.ensures.1 in
+    rw (c.in-Code.is, p.1)
+    (λ contents told. nothing_left (Code a) contents files files_now (coding.writes_none a))
+
+pub returns-in_ok-read-in-Cost-clause-ok : goal.returns-in_ok-read-in-Cost-clause-ok
+returns-in_ok-read-in-Cost-clause-ok g c =
+    let files : FilesState = g.F.Files.state c.args.files.now in
+    let before : SinkState = g.O.Sink.state c.args.out.now in
+    let now : SinkState = g.O.Sink.state c.put_cost.new.out in
+    let a = code_of c.in-Cost.arguments in
+    let inputs = bytes_of c.lend-in-Cost.result in
+    let held : AreInputs files (code_files a) inputs =
+    subst (λ n. AreInputs files n inputs) c.code_files-in-Cost.ensures
+    (subst (AreInputs files (names_of c.code_files-in-Cost.result)) (sym c.lend-in-Cost.ensures.value)
+    c.in_ok-read-in-Cost.ensures.ok) in
+    rw c.in-Cost.is
+    (on_ok_as (Puts (IsTextOfCost inputs) 0 before now) (IsSuccess (Cost a) files before now) c.put_cost.result
+    (cost_succeeds a files before now inputs held) c.put_cost.ensures.ok)
+
+pub returns-in_ok-read-in-Cost-clause-failure : goal.returns-in_ok-read-in-Cost-clause-failure
+returns-in_ok-read-in-Cost-clause-failure g c =
+    let files : FilesState = g.F.Files.state c.args.files.now in
+    let files_now : FilesState = g.F.Files.state c.read_inputs-in-Cost.new.files in
+    let before : SinkState = g.O.Sink.state c.args.out.now in
+    let now : SinkState = g.O.Sink.state c.put_cost.new.out in
+    let a = code_of c.in-Cost.arguments in
+    let inputs = bytes_of c.lend-in-Cost.result in
+    let held : AreInputs files (code_files a) inputs =
+    subst (λ n. AreInputs files n inputs) c.code_files-in-Cost.ensures
+    (subst (AreInputs files (names_of c.code_files-in-Cost.result)) (sym c.lend-in-Cost.ensures.value)
+    c.in_ok-read-in-Cost.ensures.ok) in
+    rw c.in-Cost.is
+    (err_as (FailsAs (IsTextOfCost inputs) (IsCodeless inputs) IsNever before now)
+    (IsFailure (Cost a) files files_now before now) c.put_cost.result
+    (λ f h. cost_fails a files files_now before now inputs f held h) c.put_cost.ensures.failure)
+
+pub returns-in_ok-read-in-Cost-clause-longer : goal.returns-in_ok-read-in-Cost-clause-longer
+returns-in_ok-read-in-Cost-clause-longer g c = λ name content among is long.
+    let files : FilesState = g.F.Files.state c.args.files.now in
+    let a = code_of c.in-Cost.arguments in
+    let inputs = contents_of c.in_ok-read-in-Cost.read in
+    let held : AreInputs files (code_files a) inputs =
+    subst (λ n. AreInputs files n inputs) c.code_files-in-Cost.ensures c.in_ok-read-in-Cost.ensures.ok in
+    absurd (not_long (Cost a) (code_files a) files inputs name content (costing.reads_are a) held
+    (subst (λ x. Contains (reads (meaning_of_view x)) name) c.in-Cost.is among) is long)
+
+pub returns-in_err-read-in-Cost-clause-failure : goal.returns-in_err-read-in-Cost-clause-failure
+returns-in_err-read-in-Cost-clause-failure g c =
+    let files : FilesState = g.F.Files.state c.args.files.now in
+    let files_now : FilesState = g.F.Files.state c.read_inputs-in-Cost.new.files in
+    let state : SinkState = g.O.Sink.state c.args.out.now in
+    let a = code_of c.in-Cost.arguments in
+    let p = err_from_is_err_and c.from_residual-in_err-read-in-Cost.result c.from_residual-in_err-read-in-Cost.ensures.1 in
+    rw (c.in-Cost.is, p.1, p.2) (unread_fails (Cost a) (code_files a) (costing.reads_are a) files files_now state
+    c.in_err-read-in-Cost.field-0.0
+    (subst (λ n. IsInputFailure n files files_now c.in_err-read-in-Cost.field-0.0)
+    c.code_files-in-Cost.ensures c.in_err-read-in-Cost.ensures.failure))
+
+pub returns-in_err-read-in-Cost-clause-longer : goal.returns-in_err-read-in-Cost-clause-longer
+returns-in_err-read-in-Cost-clause-longer g c = λ name content among is long.
+    let files : FilesState = g.F.Files.state c.args.files.now in
+    let files_now : FilesState = g.F.Files.state c.read_inputs-in-Cost.new.files in
+    let p = err_from_is_err_and c.from_residual-in_err-read-in-Cost.result c.from_residual-in_err-read-in-Cost.ensures.1 in
+    rw (p.1, p.2) (unread_no_refusal (names_of c.code_files-in-Cost.result) files files_now
+    c.in_err-read-in-Cost.field-0.0 c.in_err-read-in-Cost.ensures.failure)
+
+pub returns-in_ok-read-in-Cost-clause-written : goal.returns-in_ok-read-in-Cost-clause-written
+returns-in_ok-read-in-Cost-clause-written g c =
+    let files : FilesState = g.F.Files.state c.args.files.now in
+    let files_now : FilesState = g.F.Files.state c.read_inputs-in-Cost.new.files in
+    let a = code_of c.in-Cost.arguments in
+    rw c.in-Cost.is (ok_all ((contents : List ℕ → List ℕ) → AreTold (Cost a) files contents
+    → AreWritten (Cost a) contents files_now) c.put_cost.result
+    (λ contents told. nothing_written (Cost a) contents files_now (costing.writes_none a)))
+
+pub returns-in_ok-read-in-Cost-clause-left : goal.returns-in_ok-read-in-Cost-clause-left
+returns-in_ok-read-in-Cost-clause-left g c =
+    let files : FilesState = g.F.Files.state c.args.files.now in
+    let files_now : FilesState = g.F.Files.state c.read_inputs-in-Cost.new.files in
+    let a = code_of c.in-Cost.arguments in
+    rw c.in-Cost.is (err_all (λ f. (contents : List ℕ → List ℕ) → AreTold (Cost a) files contents
+    → AreLeft (Cost a) contents files files_now) c.put_cost.result
+    (λ f contents told. nothing_left (Cost a) contents files files_now (costing.writes_none a)))
+
+pub returns-in_err-read-in-Cost-clause-left : goal.returns-in_err-read-in-Cost-clause-left
+returns-in_err-read-in-Cost-clause-left g c =
+    let files : FilesState = g.F.Files.state c.args.files.now in
+    let files_now : FilesState = g.F.Files.state c.read_inputs-in-Cost.new.files in
+    let a = code_of c.in-Cost.arguments in
+    let p = err_from_is_err_and c.from_residual-in_err-read-in-Cost.result c.from_residual-in_err-read-in-Cost.ensures.1 in
+    rw (c.in-Cost.is, p.1)
+    (λ contents told. nothing_left (Cost a) contents files files_now (costing.writes_none a))
 
 pub returns-in_ok-read-in-Trace-clause-ok : goal.returns-in_ok-read-in-Trace-clause-ok
 returns-in_ok-read-in-Trace-clause-ok g c =
@@ -81,137 +233,203 @@ returns-in_ok-read-in-Trace-clause-ok g c =
     let before : SinkState = g.O.Sink.state c.args.out.now in
     let now : SinkState = g.O.Sink.state c.put_trace.new.out in
     let a = c.in-Trace in
+    let run = recorded_of a.run' in
     let s : Selection = record { from = a.from; to = a.to; address = a.block; node = a.node } in
-    let inputs = bytes_of c.lend.result in
-    let held : AreRecorded files a.file.now a.record_file.now inputs =
-    subst (AreRecorded files a.file.now a.record_file.now) (sym c.lend.ensures.value) c.in_ok-read-in-Trace.ensures.ok in
+    let inputs = bytes_of c.lend-in-Trace.result in
+    let held : AreInputs files (run_files run) inputs =
+    subst (λ n. AreInputs files n inputs) c.run_files.ensures
+    (subst (AreInputs files (names_of c.run_files.result)) (sym c.lend-in-Trace.ensures.value)
+    c.in_ok-read-in-Trace.ensures.ok) in
     rw c.in-Trace.is
-    (on_ok_as (Puts (IsTextOfTrace inputs s) 0 before now)
-    (IsSuccess (Trace a.file.now a.record_file.now a.from a.to a.block a.node) files before now) c.put_trace.result
-    (run_succeeds (Trace a.file.now a.record_file.now a.from a.to a.block a.node) a.file.now a.record_file.now
-    (λ i. IsTextOfTrace i s) (trace_of_run a.file.now a.record_file.now a.from a.to a.block a.node) files before now
-    inputs held) c.put_trace.ensures.ok)
+    (on_ok_as (Puts (IsTextOfTrace inputs s) 0 before now) (IsSuccess (Trace run a.from a.to a.block a.node) files before now) c.put_trace.result
+    (run_succeeds (Trace run a.from a.to a.block a.node) run
+    (λ i. IsTextOfTrace i s) (trace_of_run run a.from a.to a.block a.node) files before now inputs held) c.put_trace.ensures.ok)
 
 pub returns-in_ok-read-in-Trace-clause-failure : goal.returns-in_ok-read-in-Trace-clause-failure
 returns-in_ok-read-in-Trace-clause-failure g c =
     let files : FilesState = g.F.Files.state c.args.files.now in
-    let files_now : FilesState = g.F.Files.state c.read_recorded.new.files in
+    let files_now : FilesState = g.F.Files.state c.read_inputs-in-Trace.new.files in
     let before : SinkState = g.O.Sink.state c.args.out.now in
     let now : SinkState = g.O.Sink.state c.put_trace.new.out in
     let a = c.in-Trace in
+    let run = recorded_of a.run' in
     let s : Selection = record { from = a.from; to = a.to; address = a.block; node = a.node } in
-    let inputs = bytes_of c.lend.result in
-    let held : AreRecorded files a.file.now a.record_file.now inputs =
-    subst (AreRecorded files a.file.now a.record_file.now) (sym c.lend.ensures.value) c.in_ok-read-in-Trace.ensures.ok in
+    let inputs = bytes_of c.lend-in-Trace.result in
+    let held : AreInputs files (run_files run) inputs =
+    subst (λ n. AreInputs files n inputs) c.run_files.ensures
+    (subst (AreInputs files (names_of c.run_files.result)) (sym c.lend-in-Trace.ensures.value)
+    c.in_ok-read-in-Trace.ensures.ok) in
     rw c.in-Trace.is
     (err_as (FailsAsRun (IsTextOfTrace inputs s) inputs before now)
-    (IsFailure (Trace a.file.now a.record_file.now a.from a.to a.block a.node) files files_now before now)
-    c.put_trace.result
-    (λ f h. run_fails (Trace a.file.now a.record_file.now a.from a.to a.block a.node) a.file.now a.record_file.now
-    (λ i. IsTextOfTrace i s) (trace_of_run a.file.now a.record_file.now a.from a.to a.block a.node) files files_now
-    before now inputs f held h) c.put_trace.ensures.failure)
+    (IsFailure (Trace run a.from a.to a.block a.node) files files_now before now) c.put_trace.result
+    (λ f h. run_fails (Trace run a.from a.to a.block a.node) run
+    (λ i. IsTextOfTrace i s) (trace_of_run run a.from a.to a.block a.node) files files_now before now
+    inputs f held h) c.put_trace.ensures.failure)
 
 pub returns-in_ok-read-in-Trace-clause-longer : goal.returns-in_ok-read-in-Trace-clause-longer
 returns-in_ok-read-in-Trace-clause-longer g c = λ name content among is long.
     let files : FilesState = g.F.Files.state c.args.files.now in
     let a = c.in-Trace in
-    let v = Trace a.file.now a.record_file.now a.from a.to a.block a.node in
-    absurd (not_long v a.file.now a.record_file.now files (contents_of c.in_ok-read-in-Trace.read) name content refl
-    c.in_ok-read-in-Trace.ensures.ok (subst (λ x. Contains (reads (meaning_of_view x)) name) c.in-Trace.is among) is long)
+    let run = recorded_of a.run' in
+    let s : Selection = record { from = a.from; to = a.to; address = a.block; node = a.node } in
+    let inputs = contents_of c.in_ok-read-in-Trace.read in
+    let held : AreInputs files (run_files run) inputs =
+    subst (λ n. AreInputs files n inputs) c.run_files.ensures c.in_ok-read-in-Trace.ensures.ok in
+    absurd (not_long (Trace run a.from a.to a.block a.node) (run_files run) files inputs name content ((trace_of_run run a.from a.to a.block a.node).reads_are) held
+    (subst (λ x. Contains (reads (meaning_of_view x)) name) c.in-Trace.is among) is long)
 
 pub returns-in_err-read-in-Trace-clause-failure : goal.returns-in_err-read-in-Trace-clause-failure
 returns-in_err-read-in-Trace-clause-failure g c =
     let files : FilesState = g.F.Files.state c.args.files.now in
-    let files_now : FilesState = g.F.Files.state c.read_recorded.new.files in
+    let files_now : FilesState = g.F.Files.state c.read_inputs-in-Trace.new.files in
     let state : SinkState = g.O.Sink.state c.args.out.now in
     let a = c.in-Trace in
-    let p = err_from_is_err_and c.from_residual-in_err-read-in-Trace.result
-    c.from_residual-in_err-read-in-Trace.ensures.1 in
-    rw (c.in-Trace.is, p.1, p.2) (unread_fails (Trace a.file.now a.record_file.now a.from a.to a.block a.node)
-    a.file.now a.record_file.now refl files files_now state c.in_err-read-in-Trace.field-0.0
-    c.in_err-read-in-Trace.ensures.failure)
+    let run = recorded_of a.run' in
+    let s : Selection = record { from = a.from; to = a.to; address = a.block; node = a.node } in
+    let p = err_from_is_err_and c.from_residual-in_err-read-in-Trace.result c.from_residual-in_err-read-in-Trace.ensures.1 in
+    rw (c.in-Trace.is, p.1, p.2) (unread_fails (Trace run a.from a.to a.block a.node) (run_files run) ((trace_of_run run a.from a.to a.block a.node).reads_are) files files_now state
+    c.in_err-read-in-Trace.field-0.0
+    (subst (λ n. IsInputFailure n files files_now c.in_err-read-in-Trace.field-0.0)
+    c.run_files.ensures c.in_err-read-in-Trace.ensures.failure))
 
 pub returns-in_err-read-in-Trace-clause-longer : goal.returns-in_err-read-in-Trace-clause-longer
 returns-in_err-read-in-Trace-clause-longer g c = λ name content among is long.
     let files : FilesState = g.F.Files.state c.args.files.now in
-    let files_now : FilesState = g.F.Files.state c.read_recorded.new.files in
+    let files_now : FilesState = g.F.Files.state c.read_inputs-in-Trace.new.files in
+    let p = err_from_is_err_and c.from_residual-in_err-read-in-Trace.result c.from_residual-in_err-read-in-Trace.ensures.1 in
+    rw (p.1, p.2) (unread_no_refusal (names_of c.run_files.result) files files_now
+    c.in_err-read-in-Trace.field-0.0 c.in_err-read-in-Trace.ensures.failure)
+
+pub returns-in_ok-read-in-Trace-clause-written : goal.returns-in_ok-read-in-Trace-clause-written
+returns-in_ok-read-in-Trace-clause-written g c =
+    let files : FilesState = g.F.Files.state c.args.files.now in
+    let files_now : FilesState = g.F.Files.state c.read_inputs-in-Trace.new.files in
     let a = c.in-Trace in
-    let p = err_from_is_err_and c.from_residual-in_err-read-in-Trace.result
-    c.from_residual-in_err-read-in-Trace.ensures.1 in
-    rw (p.1, p.2) (unread_no_refusal a.file.now a.record_file.now files files_now c.in_err-read-in-Trace.field-0.0
-    c.in_err-read-in-Trace.ensures.failure)
+    let run = recorded_of a.run' in
+    let s : Selection = record { from = a.from; to = a.to; address = a.block; node = a.node } in
+    rw c.in-Trace.is (ok_all ((contents : List ℕ → List ℕ) → AreTold (Trace run a.from a.to a.block a.node) files contents
+    → AreWritten (Trace run a.from a.to a.block a.node) contents files_now) c.put_trace.result
+    (λ contents told. nothing_written (Trace run a.from a.to a.block a.node) contents files_now (trace_writes_none run a.from a.to a.block a.node)))
+
+pub returns-in_ok-read-in-Trace-clause-left : goal.returns-in_ok-read-in-Trace-clause-left
+returns-in_ok-read-in-Trace-clause-left g c =
+    let files : FilesState = g.F.Files.state c.args.files.now in
+    let files_now : FilesState = g.F.Files.state c.read_inputs-in-Trace.new.files in
+    let a = c.in-Trace in
+    let run = recorded_of a.run' in
+    let s : Selection = record { from = a.from; to = a.to; address = a.block; node = a.node } in
+    rw c.in-Trace.is (err_all (λ f. (contents : List ℕ → List ℕ) → AreTold (Trace run a.from a.to a.block a.node) files contents
+    → AreLeft (Trace run a.from a.to a.block a.node) contents files files_now) c.put_trace.result
+    (λ f contents told. nothing_left (Trace run a.from a.to a.block a.node) contents files files_now (trace_writes_none run a.from a.to a.block a.node)))
+
+pub returns-in_err-read-in-Trace-clause-left : goal.returns-in_err-read-in-Trace-clause-left
+returns-in_err-read-in-Trace-clause-left g c =
+    let files : FilesState = g.F.Files.state c.args.files.now in
+    let files_now : FilesState = g.F.Files.state c.read_inputs-in-Trace.new.files in
+    let a = c.in-Trace in
+    let run = recorded_of a.run' in
+    let s : Selection = record { from = a.from; to = a.to; address = a.block; node = a.node } in
+    let p = err_from_is_err_and c.from_residual-in_err-read-in-Trace.result c.from_residual-in_err-read-in-Trace.ensures.1 in
+    rw (c.in-Trace.is, p.1)
+    (λ contents told. nothing_left (Trace run a.from a.to a.block a.node) contents files files_now (trace_writes_none run a.from a.to a.block a.node))
 
 pub returns-in_ok-read-in-Blocks-clause-ok : goal.returns-in_ok-read-in-Blocks-clause-ok
 returns-in_ok-read-in-Blocks-clause-ok g c =
     let files : FilesState = g.F.Files.state c.args.files.now in
     let before : SinkState = g.O.Sink.state c.args.out.now in
     let now : SinkState = g.O.Sink.state c.put_blocks.new.out in
-    let a = c.in-Blocks in
+    let run = recorded_of c.in-Blocks.run' in
     let inputs = bytes_of c.lend-in-Blocks.result in
-    let held : AreRecorded files a.file.now a.record_file.now inputs =
-    subst (AreRecorded files a.file.now a.record_file.now) (sym c.lend-in-Blocks.ensures.value)
-    c.in_ok-read-in-Blocks.ensures.ok in
+    let held : AreInputs files (run_files run) inputs =
+    subst (λ n. AreInputs files n inputs) c.run_files-in-Blocks.ensures
+    (subst (AreInputs files (names_of c.run_files-in-Blocks.result)) (sym c.lend-in-Blocks.ensures.value)
+    c.in_ok-read-in-Blocks.ensures.ok) in
     rw c.in-Blocks.is
-    (on_ok_as (Puts (IsTextOfBlocks inputs) 0 before now)
-    (IsSuccess (Blocks a.file.now a.record_file.now) files before now) c.put_blocks.result
-    (run_succeeds (Blocks a.file.now a.record_file.now) a.file.now a.record_file.now IsTextOfBlocks
-    (blocks_of_run a.file.now a.record_file.now) files before now inputs held) c.put_blocks.ensures.ok)
+    (on_ok_as (Puts (IsTextOfBlocks inputs) 0 before now) (IsSuccess (Blocks run) files before now) c.put_blocks.result
+    (run_succeeds (Blocks run) run IsTextOfBlocks (blocks_of_run run) files before now inputs held) c.put_blocks.ensures.ok)
 
 pub returns-in_ok-read-in-Blocks-clause-failure : goal.returns-in_ok-read-in-Blocks-clause-failure
 returns-in_ok-read-in-Blocks-clause-failure g c =
     let files : FilesState = g.F.Files.state c.args.files.now in
-    let files_now : FilesState = g.F.Files.state c.read_recorded-in-Blocks.new.files in
+    let files_now : FilesState = g.F.Files.state c.read_inputs-in-Blocks.new.files in
     let before : SinkState = g.O.Sink.state c.args.out.now in
     let now : SinkState = g.O.Sink.state c.put_blocks.new.out in
-    let a = c.in-Blocks in
+    let run = recorded_of c.in-Blocks.run' in
     let inputs = bytes_of c.lend-in-Blocks.result in
-    let held : AreRecorded files a.file.now a.record_file.now inputs =
-    subst (AreRecorded files a.file.now a.record_file.now) (sym c.lend-in-Blocks.ensures.value)
-    c.in_ok-read-in-Blocks.ensures.ok in
+    let held : AreInputs files (run_files run) inputs =
+    subst (λ n. AreInputs files n inputs) c.run_files-in-Blocks.ensures
+    (subst (AreInputs files (names_of c.run_files-in-Blocks.result)) (sym c.lend-in-Blocks.ensures.value)
+    c.in_ok-read-in-Blocks.ensures.ok) in
     rw c.in-Blocks.is
     (err_as (FailsAsRun (IsTextOfBlocks inputs) inputs before now)
-    (IsFailure (Blocks a.file.now a.record_file.now) files files_now before now) c.put_blocks.result
-    (λ f h. run_fails (Blocks a.file.now a.record_file.now) a.file.now a.record_file.now IsTextOfBlocks
-    (blocks_of_run a.file.now a.record_file.now) files files_now before now inputs f held h)
-    c.put_blocks.ensures.failure)
+    (IsFailure (Blocks run) files files_now before now) c.put_blocks.result
+    (λ f h. run_fails (Blocks run) run IsTextOfBlocks (blocks_of_run run) files files_now before now inputs
+    f held h) c.put_blocks.ensures.failure)
 
 pub returns-in_ok-read-in-Blocks-clause-longer : goal.returns-in_ok-read-in-Blocks-clause-longer
 returns-in_ok-read-in-Blocks-clause-longer g c = λ name content among is long.
     let files : FilesState = g.F.Files.state c.args.files.now in
-    let a = c.in-Blocks in
-    let v = Blocks a.file.now a.record_file.now in
-    absurd (not_long v a.file.now a.record_file.now files (contents_of c.in_ok-read-in-Blocks.read) name content refl
-    c.in_ok-read-in-Blocks.ensures.ok (subst (λ x. Contains (reads (meaning_of_view x)) name) c.in-Blocks.is among) is
-    long)
+    let run = recorded_of c.in-Blocks.run' in
+    let inputs = contents_of c.in_ok-read-in-Blocks.read in
+    let held : AreInputs files (run_files run) inputs =
+    subst (λ n. AreInputs files n inputs) c.run_files-in-Blocks.ensures c.in_ok-read-in-Blocks.ensures.ok in
+    absurd (not_long (Blocks run) (run_files run) files inputs name content ((blocks_of_run run).reads_are) held
+    (subst (λ x. Contains (reads (meaning_of_view x)) name) c.in-Blocks.is among) is long)
 
 pub returns-in_err-read-in-Blocks-clause-failure : goal.returns-in_err-read-in-Blocks-clause-failure
 returns-in_err-read-in-Blocks-clause-failure g c =
     let files : FilesState = g.F.Files.state c.args.files.now in
-    let files_now : FilesState = g.F.Files.state c.read_recorded-in-Blocks.new.files in
+    let files_now : FilesState = g.F.Files.state c.read_inputs-in-Blocks.new.files in
     let state : SinkState = g.O.Sink.state c.args.out.now in
-    let a = c.in-Blocks in
-    let p = err_from_is_err_and c.from_residual-in_err-read-in-Blocks.result
-    c.from_residual-in_err-read-in-Blocks.ensures.1 in
-    rw (c.in-Blocks.is, p.1, p.2) (unread_fails (Blocks a.file.now a.record_file.now) a.file.now a.record_file.now refl
-    files files_now state c.in_err-read-in-Blocks.field-0.0 c.in_err-read-in-Blocks.ensures.failure)
+    let run = recorded_of c.in-Blocks.run' in
+    let p = err_from_is_err_and c.from_residual-in_err-read-in-Blocks.result c.from_residual-in_err-read-in-Blocks.ensures.1 in
+    rw (c.in-Blocks.is, p.1, p.2) (unread_fails (Blocks run) (run_files run) ((blocks_of_run run).reads_are) files files_now state
+    c.in_err-read-in-Blocks.field-0.0
+    (subst (λ n. IsInputFailure n files files_now c.in_err-read-in-Blocks.field-0.0)
+    c.run_files-in-Blocks.ensures c.in_err-read-in-Blocks.ensures.failure))
 
 pub returns-in_err-read-in-Blocks-clause-longer : goal.returns-in_err-read-in-Blocks-clause-longer
 returns-in_err-read-in-Blocks-clause-longer g c = λ name content among is long.
     let files : FilesState = g.F.Files.state c.args.files.now in
-    let files_now : FilesState = g.F.Files.state c.read_recorded-in-Blocks.new.files in
-    let a = c.in-Blocks in
-    let p = err_from_is_err_and c.from_residual-in_err-read-in-Blocks.result
-    c.from_residual-in_err-read-in-Blocks.ensures.1 in
-    rw (p.1, p.2) (unread_no_refusal a.file.now a.record_file.now files files_now c.in_err-read-in-Blocks.field-0.0
-    c.in_err-read-in-Blocks.ensures.failure)
+    let files_now : FilesState = g.F.Files.state c.read_inputs-in-Blocks.new.files in
+    let p = err_from_is_err_and c.from_residual-in_err-read-in-Blocks.result c.from_residual-in_err-read-in-Blocks.ensures.1 in
+    rw (p.1, p.2) (unread_no_refusal (names_of c.run_files-in-Blocks.result) files files_now
+    c.in_err-read-in-Blocks.field-0.0 c.in_err-read-in-Blocks.ensures.failure)
+
+pub returns-in_ok-read-in-Blocks-clause-written : goal.returns-in_ok-read-in-Blocks-clause-written
+returns-in_ok-read-in-Blocks-clause-written g c =
+    let files : FilesState = g.F.Files.state c.args.files.now in
+    let files_now : FilesState = g.F.Files.state c.read_inputs-in-Blocks.new.files in
+    let run = recorded_of c.in-Blocks.run' in
+    rw c.in-Blocks.is (ok_all ((contents : List ℕ → List ℕ) → AreTold (Blocks run) files contents
+    → AreWritten (Blocks run) contents files_now) c.put_blocks.result
+    (λ contents told. nothing_written (Blocks run) contents files_now (blocks_writes_none run)))
+
+pub returns-in_ok-read-in-Blocks-clause-left : goal.returns-in_ok-read-in-Blocks-clause-left
+returns-in_ok-read-in-Blocks-clause-left g c =
+    let files : FilesState = g.F.Files.state c.args.files.now in
+    let files_now : FilesState = g.F.Files.state c.read_inputs-in-Blocks.new.files in
+    let run = recorded_of c.in-Blocks.run' in
+    rw c.in-Blocks.is (err_all (λ f. (contents : List ℕ → List ℕ) → AreTold (Blocks run) files contents
+    → AreLeft (Blocks run) contents files files_now) c.put_blocks.result
+    (λ f contents told. nothing_left (Blocks run) contents files files_now (blocks_writes_none run)))
+
+pub returns-in_err-read-in-Blocks-clause-left : goal.returns-in_err-read-in-Blocks-clause-left
+returns-in_err-read-in-Blocks-clause-left g c =
+    let files : FilesState = g.F.Files.state c.args.files.now in
+    let files_now : FilesState = g.F.Files.state c.read_inputs-in-Blocks.new.files in
+    let run = recorded_of c.in-Blocks.run' in
+    let p = err_from_is_err_and c.from_residual-in_err-read-in-Blocks.result c.from_residual-in_err-read-in-Blocks.ensures.1 in
+    rw (c.in-Blocks.is, p.1)
+    (λ contents told. nothing_left (Blocks run) contents files files_now (blocks_writes_none run))
 
 pub returns-in-Page-clause-ok : goal.returns-in-Page-clause-ok
 returns-in-Page-clause-ok g c =
     let files : FilesState = g.F.Files.state c.args.files.now in
     let state : SinkState = g.O.Sink.state c.args.out.now in
     let a = c.in-Page in
-    rw c.in-Page.is (ok_all (IsSuccess (Page a.file.now a.record_file.now a.output.now a.from a.to) files state state) c.write_page.result
-    (page_succeeds a.file.now a.record_file.now a.output.now a.from a.to files state))
+    rw c.in-Page.is (ok_all (IsSuccess (Page (recorded_of a.run') a.output.now a.from a.to) files state state) c.write_page.result
+    (page_succeeds (recorded_of a.run') a.output.now a.from a.to files state))
 
 pub returns-in-Page-clause-failure : goal.returns-in-Page-clause-failure
 returns-in-Page-clause-failure g c =
@@ -219,16 +437,16 @@ returns-in-Page-clause-failure g c =
     let files_now : FilesState = g.F.Files.state c.write_page.new.files in
     let state : SinkState = g.O.Sink.state c.args.out.now in
     let a = c.in-Page in
-    rw c.in-Page.is (err_as (IsPageFailure a.file.now a.record_file.now a.output.now (asked_for a.from a.to) files files_now)
-    (IsFailure (Page a.file.now a.record_file.now a.output.now a.from a.to) files files_now state state) c.write_page.result
-    (λ f h. page_fails a.file.now a.record_file.now a.output.now a.from a.to files files_now state f h) c.write_page.ensures.failure)
+    rw c.in-Page.is (err_as (IsPageFailure (recorded_of a.run') a.output.now (asked_for a.from a.to) files files_now)
+    (IsFailure (Page (recorded_of a.run') a.output.now a.from a.to) files files_now state state) c.write_page.result
+    (λ f h. page_fails (recorded_of a.run') a.output.now a.from a.to files files_now state f h) c.write_page.ensures.failure)
 
 pub returns-in-Page-clause-longer : goal.returns-in-Page-clause-longer
 returns-in-Page-clause-longer g c = λ name content among is long.
     let files : FilesState = g.F.Files.state c.args.files.now in
     let files_now : FilesState = g.F.Files.state c.write_page.new.files in
     let a = c.in-Page in
-    page_longer a.file.now a.record_file.now a.output.now a.from a.to files files_now c.write_page.result name content
+    page_longer (recorded_of a.run') a.output.now a.from a.to files files_now c.write_page.result name content
     c.write_page.ensures.ok c.write_page.ensures.failure
     (subst (λ x. Contains (reads (meaning_of_view x)) name) c.in-Page.is among) is long
 
@@ -237,8 +455,8 @@ returns-in-Page-clause-kept g c =
     let files : FilesState = g.F.Files.state c.args.files.now in
     let files_now : FilesState = g.F.Files.state c.write_page.new.files in
     let a = c.in-Page in
-    err_as (IsPageFailure a.file.now a.record_file.now a.output.now (asked_for a.from a.to) files files_now) (AreKept files files_now)
-    c.write_page.result (λ f h. page_kept a.file.now a.record_file.now a.output.now (asked_for a.from a.to) files files_now f h)
+    err_as (IsPageFailure (recorded_of a.run') a.output.now (asked_for a.from a.to) files files_now) (AreKept files files_now)
+    c.write_page.result (λ f h. page_kept (recorded_of a.run') a.output.now (asked_for a.from a.to) files files_now f h)
     c.write_page.ensures.failure
 
 pub returns-in-Page-clause-written : goal.returns-in-Page-clause-written
@@ -246,18 +464,18 @@ returns-in-Page-clause-written g c =
     let files : FilesState = g.F.Files.state c.args.files.now in
     let files_now : FilesState = g.F.Files.state c.write_page.new.files in
     let a = c.in-Page in
-    rw c.in-Page.is (on_ok_as (IsPageWritten a.file.now a.record_file.now a.output.now (asked_for a.from a.to) files files_now)
-    ((contents : List ℕ → List ℕ) → AreTold (Page a.file.now a.record_file.now a.output.now a.from a.to) files contents → AreWritten (Page a.file.now a.record_file.now a.output.now a.from a.to) contents files_now)
-    c.write_page.result (λ h. page_written a.file.now a.record_file.now a.output.now a.from a.to files files_now h) c.write_page.ensures.ok)
+    rw c.in-Page.is (on_ok_as (IsPageWritten (recorded_of a.run') a.output.now (asked_for a.from a.to) files files_now)
+    ((contents : List ℕ → List ℕ) → AreTold (Page (recorded_of a.run') a.output.now a.from a.to) files contents → AreWritten (Page (recorded_of a.run') a.output.now a.from a.to) contents files_now)
+    c.write_page.result (λ h. page_written (recorded_of a.run') a.output.now a.from a.to files files_now h) c.write_page.ensures.ok)
 
 pub returns-in-Page-clause-left : goal.returns-in-Page-clause-left
 returns-in-Page-clause-left g c =
     let files : FilesState = g.F.Files.state c.args.files.now in
     let files_now : FilesState = g.F.Files.state c.write_page.new.files in
     let a = c.in-Page in
-    rw c.in-Page.is (err_as (IsPageFailure a.file.now a.record_file.now a.output.now (asked_for a.from a.to) files files_now)
-    (λ f. (contents : List ℕ → List ℕ) → AreTold (Page a.file.now a.record_file.now a.output.now a.from a.to) files contents → AreLeft (Page a.file.now a.record_file.now a.output.now a.from a.to) contents files files_now)
-    c.write_page.result (λ f h contents told. page_left a.file.now a.record_file.now a.output.now a.from a.to files files_now f h contents)
+    rw c.in-Page.is (err_as (IsPageFailure (recorded_of a.run') a.output.now (asked_for a.from a.to) files files_now)
+    (λ f. (contents : List ℕ → List ℕ) → AreTold (Page (recorded_of a.run') a.output.now a.from a.to) files contents → AreLeft (Page (recorded_of a.run') a.output.now a.from a.to) contents files files_now)
+    c.write_page.result (λ f h contents told. page_left (recorded_of a.run') a.output.now a.from a.to files files_now f h contents)
     c.write_page.ensures.failure)
 
 pub returns-in-Help-clause-written : goal.returns-in-Help-clause-written
@@ -276,42 +494,6 @@ returns-in-Help-clause-left g c =
     → AreLeft (Help) contents files files_now) c.put.result
     (λ f contents told. nothing_left (Help) contents files files_now refl))
 
-pub returns-in_ok-bytes-in-Code-clause-written : goal.returns-in_ok-bytes-in-Code-clause-written
-returns-in_ok-bytes-in-Code-clause-written g c =
-    let files : FilesState = g.F.Files.state c.args.files.now in
-    let files_now : FilesState = g.F.Files.state c.read_file.new.files in
-    let a = c.in-Code in
-    rw c.in-Code.is (ok_all ((contents : List ℕ → List ℕ) → AreTold (Code a.file.now a.no_batch) files contents
-    → AreWritten (Code a.file.now a.no_batch) contents files_now) c.put_code.result
-    (λ contents told. nothing_written (Code a.file.now a.no_batch) contents files_now refl))
-
-pub returns-in_ok-bytes-in-Code-clause-left : goal.returns-in_ok-bytes-in-Code-clause-left
-returns-in_ok-bytes-in-Code-clause-left g c =
-    let files : FilesState = g.F.Files.state c.args.files.now in
-    let files_now : FilesState = g.F.Files.state c.read_file.new.files in
-    let a = c.in-Code in
-    rw c.in-Code.is (err_all (λ f. (contents : List ℕ → List ℕ) → AreTold (Code a.file.now a.no_batch) files contents
-    → AreLeft (Code a.file.now a.no_batch) contents files files_now) c.put_code.result
-    (λ f contents told. nothing_left (Code a.file.now a.no_batch) contents files files_now refl))
-
-pub returns-in_ok-read-in-Trace-clause-written : goal.returns-in_ok-read-in-Trace-clause-written
-returns-in_ok-read-in-Trace-clause-written g c =
-    let files : FilesState = g.F.Files.state c.args.files.now in
-    let files_now : FilesState = g.F.Files.state c.read_recorded.new.files in
-    let a = c.in-Trace in
-    rw c.in-Trace.is (ok_all ((contents : List ℕ → List ℕ) → AreTold (Trace a.file.now a.record_file.now a.from a.to a.block a.node) files contents
-    → AreWritten (Trace a.file.now a.record_file.now a.from a.to a.block a.node) contents files_now) c.put_trace.result
-    (λ contents told. nothing_written (Trace a.file.now a.record_file.now a.from a.to a.block a.node) contents files_now refl))
-
-pub returns-in_ok-read-in-Trace-clause-left : goal.returns-in_ok-read-in-Trace-clause-left
-returns-in_ok-read-in-Trace-clause-left g c =
-    let files : FilesState = g.F.Files.state c.args.files.now in
-    let files_now : FilesState = g.F.Files.state c.read_recorded.new.files in
-    let a = c.in-Trace in
-    rw c.in-Trace.is (err_all (λ f. (contents : List ℕ → List ℕ) → AreTold (Trace a.file.now a.record_file.now a.from a.to a.block a.node) files contents
-    → AreLeft (Trace a.file.now a.record_file.now a.from a.to a.block a.node) contents files files_now) c.put_trace.result
-    (λ f contents told. nothing_left (Trace a.file.now a.record_file.now a.from a.to a.block a.node) contents files files_now refl))
-
 pub returns-in_ok-read-in-Time-clause-ok : goal.returns-in_ok-read-in-Time-clause-ok
 returns-in_ok-read-in-Time-clause-ok g c =
     let files : FilesState = g.F.Files.state c.args.files.now in
@@ -319,8 +501,10 @@ returns-in_ok-read-in-Time-clause-ok g c =
     let now : SinkState = g.O.Sink.state c.put_time.new.out in
     let a = time_of c.in-Time.arguments in
     let inputs = bytes_of c.lend-in-Time.result in
-    let held : AreTimed files a inputs =
-    subst (AreTimed files a) (sym c.lend-in-Time.ensures.value) c.in_ok-read-in-Time.ensures.ok in
+    let held : AreInputs files (time_files a) inputs =
+    subst (λ n. AreInputs files n inputs) c.time_files.ensures
+    (subst (AreInputs files (names_of c.time_files.result)) (sym c.lend-in-Time.ensures.value)
+    c.in_ok-read-in-Time.ensures.ok) in
     rw c.in-Time.is
     (on_ok_as (Puts (IsTextOfTime inputs a) 0 before now) (IsSuccess (Time a) files before now) c.put_time.result
     (timing.time_succeeds a files before now inputs held) c.put_time.ensures.ok)
@@ -328,50 +512,54 @@ returns-in_ok-read-in-Time-clause-ok g c =
 pub returns-in_ok-read-in-Time-clause-failure : goal.returns-in_ok-read-in-Time-clause-failure
 returns-in_ok-read-in-Time-clause-failure g c =
     let files : FilesState = g.F.Files.state c.args.files.now in
-    let files_now : FilesState = g.F.Files.state c.read_timed.new.files in
+    let files_now : FilesState = g.F.Files.state c.read_inputs-in-Time.new.files in
     let before : SinkState = g.O.Sink.state c.args.out.now in
     let now : SinkState = g.O.Sink.state c.put_time.new.out in
     let a = time_of c.in-Time.arguments in
     let inputs = bytes_of c.lend-in-Time.result in
-    let held : AreTimed files a inputs =
-    subst (AreTimed files a) (sym c.lend-in-Time.ensures.value) c.in_ok-read-in-Time.ensures.ok in
+    let held : AreInputs files (time_files a) inputs =
+    subst (λ n. AreInputs files n inputs) c.time_files.ensures
+    (subst (AreInputs files (names_of c.time_files.result)) (sym c.lend-in-Time.ensures.value)
+    c.in_ok-read-in-Time.ensures.ok) in
     rw c.in-Time.is
     (err_as (FailsAs (IsTextOfTime inputs a) (IsRunRefused inputs) (IsBadRunLayout inputs a.nodes) before now)
     (IsFailure (Time a) files files_now before now) c.put_time.result
     (λ f h. timing.time_fails a files files_now before now inputs f held h) c.put_time.ensures.failure)
 
 pub returns-in_ok-read-in-Time-clause-longer : goal.returns-in_ok-read-in-Time-clause-longer
-returns-in_ok-read-in-Time-clause-longer g c = λ name content there is long.
+returns-in_ok-read-in-Time-clause-longer g c = λ name content among is long.
     let files : FilesState = g.F.Files.state c.args.files.now in
     let a = time_of c.in-Time.arguments in
-    absurd (timing.not_long a files (contents_of c.in_ok-read-in-Time.read) name content
-    c.in_ok-read-in-Time.ensures.ok (subst (λ x. Contains (reads (meaning_of_view x)) name) c.in-Time.is there) is long)
+    let inputs = contents_of c.in_ok-read-in-Time.read in
+    let held : AreInputs files (time_files a) inputs =
+    subst (λ n. AreInputs files n inputs) c.time_files.ensures c.in_ok-read-in-Time.ensures.ok in
+    absurd (not_long (Time a) (time_files a) files inputs name content (timing.reads_are a) held
+    (subst (λ x. Contains (reads (meaning_of_view x)) name) c.in-Time.is among) is long)
 
 pub returns-in_err-read-in-Time-clause-failure : goal.returns-in_err-read-in-Time-clause-failure
 returns-in_err-read-in-Time-clause-failure g c =
     let files : FilesState = g.F.Files.state c.args.files.now in
-    let files_now : FilesState = g.F.Files.state c.read_timed.new.files in
+    let files_now : FilesState = g.F.Files.state c.read_inputs-in-Time.new.files in
     let state : SinkState = g.O.Sink.state c.args.out.now in
     let a = time_of c.in-Time.arguments in
-    let p = err_from_is_err_and c.from_residual-in_err-read-in-Time.result
-    c.from_residual-in_err-read-in-Time.ensures.1 in
-    rw (c.in-Time.is, p.1, p.2) (timing.unread_fails a files files_now state c.in_err-read-in-Time.field-0.0
-    c.in_err-read-in-Time.ensures.failure)
+    let p = err_from_is_err_and c.from_residual-in_err-read-in-Time.result c.from_residual-in_err-read-in-Time.ensures.1 in
+    rw (c.in-Time.is, p.1, p.2) (unread_fails (Time a) (time_files a) (timing.reads_are a) files files_now state
+    c.in_err-read-in-Time.field-0.0
+    (subst (λ n. IsInputFailure n files files_now c.in_err-read-in-Time.field-0.0)
+    c.time_files.ensures c.in_err-read-in-Time.ensures.failure))
 
 pub returns-in_err-read-in-Time-clause-longer : goal.returns-in_err-read-in-Time-clause-longer
-returns-in_err-read-in-Time-clause-longer g c = λ name content there is long.
+returns-in_err-read-in-Time-clause-longer g c = λ name content among is long.
     let files : FilesState = g.F.Files.state c.args.files.now in
-    let files_now : FilesState = g.F.Files.state c.read_timed.new.files in
-    let a = time_of c.in-Time.arguments in
-    let p = err_from_is_err_and c.from_residual-in_err-read-in-Time.result
-    c.from_residual-in_err-read-in-Time.ensures.1 in
-    rw (p.1, p.2) (timing.unread_no_refusal a files files_now c.in_err-read-in-Time.field-0.0
-    c.in_err-read-in-Time.ensures.failure)
+    let files_now : FilesState = g.F.Files.state c.read_inputs-in-Time.new.files in
+    let p = err_from_is_err_and c.from_residual-in_err-read-in-Time.result c.from_residual-in_err-read-in-Time.ensures.1 in
+    rw (p.1, p.2) (unread_no_refusal (names_of c.time_files.result) files files_now
+    c.in_err-read-in-Time.field-0.0 c.in_err-read-in-Time.ensures.failure)
 
 pub returns-in_ok-read-in-Time-clause-written : goal.returns-in_ok-read-in-Time-clause-written
 returns-in_ok-read-in-Time-clause-written g c =
     let files : FilesState = g.F.Files.state c.args.files.now in
-    let files_now : FilesState = g.F.Files.state c.read_timed.new.files in
+    let files_now : FilesState = g.F.Files.state c.read_inputs-in-Time.new.files in
     let a = time_of c.in-Time.arguments in
     rw c.in-Time.is (ok_all ((contents : List ℕ → List ℕ) → AreTold (Time a) files contents
     → AreWritten (Time a) contents files_now) c.put_time.result
@@ -380,7 +568,7 @@ returns-in_ok-read-in-Time-clause-written g c =
 pub returns-in_ok-read-in-Time-clause-left : goal.returns-in_ok-read-in-Time-clause-left
 returns-in_ok-read-in-Time-clause-left g c =
     let files : FilesState = g.F.Files.state c.args.files.now in
-    let files_now : FilesState = g.F.Files.state c.read_timed.new.files in
+    let files_now : FilesState = g.F.Files.state c.read_inputs-in-Time.new.files in
     let a = time_of c.in-Time.arguments in
     rw c.in-Time.is (err_all (λ f. (contents : List ℕ → List ℕ) → AreTold (Time a) files contents
     → AreLeft (Time a) contents files files_now) c.put_time.result
@@ -389,8 +577,8 @@ returns-in_ok-read-in-Time-clause-left g c =
 pub returns-in_err-read-in-Time-clause-left : goal.returns-in_err-read-in-Time-clause-left
 returns-in_err-read-in-Time-clause-left g c =
     let files : FilesState = g.F.Files.state c.args.files.now in
-    let files_now : FilesState = g.F.Files.state c.read_timed.new.files in
+    let files_now : FilesState = g.F.Files.state c.read_inputs-in-Time.new.files in
     let a = time_of c.in-Time.arguments in
-    let p = err_from_is_err_and c.from_residual-in_err-read-in-Time.result
-    c.from_residual-in_err-read-in-Time.ensures.1 in
-    rw (c.in-Time.is, p.1) (λ contents told. nothing_left (Time a) contents files files_now (timing.writes_none a))
+    let p = err_from_is_err_and c.from_residual-in_err-read-in-Time.result c.from_residual-in_err-read-in-Time.ensures.1 in
+    rw (c.in-Time.is, p.1)
+    (λ contents told. nothing_left (Time a) contents files files_now (timing.writes_none a))
