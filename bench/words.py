@@ -18,11 +18,11 @@ def ends(program, command, file, budget, options):
     return b"\nprocessor 0 " in printed and b"\nprocessor 0 stopped" not in printed
 
 
-def least_budget(program, command, file, options):
+def least_budget(program, command, file, options, most=MOST):
     """The least budget by which the executable ends, or None."""
-    if not ends(program, command, file, MOST, options):
+    if not ends(program, command, file, most, options):
         return None
-    low, high = 0, MOST
+    low, high = 0, most
     while high - low > 1:
         middle = (low + high) // 2
         if ends(program, command, file, middle, options):
@@ -47,4 +47,5 @@ def main():
         print(f"| `{name}` | {steps:,} | {batches / steps:.2f} | {single / steps:.2f} |", flush=True)
 
 
-main()
+if __name__ == "__main__":
+    main()
