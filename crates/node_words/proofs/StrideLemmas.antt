@@ -144,28 +144,38 @@ pub tried_stride : (t : Bool) (image : List Cell) (m : MicroOp) (from to : Going
 tried_stride true image m from to b b' few here steps = stride_of_one image m from to b b' few here steps
 tried_stride false image m from to b b' few here stays = stays
 
--- a silent word, where no stride was executed
-pub stride_of_silent : (image : List Cell) (from mid to : Going) (b m b' : ExecState) → Stays from b mid m
-    → Follows image (next_outcome (program_of m.local.program) image (lane_of m.lane (word_address mid.at)) (local_of m.local))
-    (ground_of m.local) (word_address to.at) b'.lane b'.local
-    → to.left + 1 ≡ mid.left → to.at < 2 ^ 32 → StridesBy image from b to b'
-stride_of_silent image from mid to b m b' stays follows one low =
-    let left : to.left + 1 ≡ from.left = one ∙ ap (λ (g : Going). g.left) stays.place in
-    let count : 1 ≡ from.left - to.left = omega (arith, left) in
+-- a silent word
+pub stride_of_silent : (image : List Cell) (from to : Going) (b b' : ExecState)
+    → Follows image (next_outcome (program_of b.local.program) image (lane_of b.lane (word_address from.at)) (local_of b.local))
+    (ground_of b.local) (word_address to.at) b'.lane b'.local
+    → to.left + 1 ≡ from.left → to.at < 2 ^ 32 → StridesBy image from b to b'
+stride_of_silent image from to b b' follows one low =
+    let count : 1 ≡ from.left - to.left = omega (arith, one) in
     record {
-      some = omega (arith, left);
+      some = omega (arith, one);
       low = low;
       goes = λ words. subst (λ (n : ℕ). GoesFurther image b from.at words b' to.at (words + n)) count
-          (goes_both image from.at words from.at words to.at (words + 1) b m b'
-          (goes_none image from.at words b m stays.lane stays.local)
-          (subst (λ (at : ℕ). GoesFurther image m at words b' to.at (words + 1)) (ap (λ (g : Going). g.at) stays.place)
-          (goes_one image mid.at words to.at m b' follows)));
+          (goes_one image from.at words to.at b b' follows);
     }
 
-pub stays_still : (from mid : Going) (b m b' : ExecState) → Stays from b mid m → b'.lane ≡ m.lane → b'.local ≡ m.local
-    → Stays from b mid b'
-stays_still from mid b m b' stays lane local = record {
-  place = stays.place;
-  lane = lane ∙ stays.lane;
-  local = local ∙ stays.local;
+-- 4. What is tried after a try that changed nothing
+
+pub after_stays : (image : List Cell) (from mid to : Going) (b m b' : ExecState) → Stays from b mid m
+    → StridesBy image mid m to b' → StridesBy image from b to b'
+after_stays image from mid to b m b' stays strides = record {
+  some = subst (λ (g : Going). to.left < g.left) stays.place strides.some;
+  low = strides.low;
+  goes = λ words. goes_both image from.at words from.at words to.at (words + (from.left - to.left)) b m b'
+      (goes_none image from.at words b m stays.lane stays.local)
+      (subst (λ (g : Going). GoesFurther image m g.at words b' to.at (words + (g.left - to.left))) stays.place
+      (strides.goes words));
+}
+
+pub tried_after : (t : Bool) (image : List Cell) (from mid to : Going) (b m b' : ExecState) → Stays from b mid m
+    → IsTried t (StridesBy image mid m to b') mid m to b' → IsTried t (StridesBy image from b to b') from b to b'
+tried_after true image from mid to b m b' stays strides = after_stays image from mid to b m b' stays strides
+tried_after false image from mid to b m b' stays still = record {
+  place = still.place ∙ stays.place;
+  lane = still.lane ∙ stays.lane;
+  local = still.local ∙ stays.local;
 }

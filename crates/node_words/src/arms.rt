@@ -9,12 +9,13 @@ ghost use Rattle.rv32_decode.specs.declared.LoadKind.{LoadKind};
 ghost use Rattle.byte_range.specs.Window.{is_in_window};
 ghost use Rattle.rv32_ops.specs.Operations as operations;
 ghost use Rattle.node_model.specs.rv32_step.Registers.{reg, registers_of};
-ghost use Rattle.node_model.specs.rv32_step.declared.Demand.TheVariants.{Jumps, Sets};
+ghost use Rattle.node_model.specs.rv32_step.declared.Demand.TheVariants.{Jumps, Loads, Sets, Stores};
 ghost use Rattle.node_model.specs.micro_op.Micro as micro;
 ghost use Rattle.node_model.specs.micro_op.Micro.{Demands, Enters, meaning_of, sum_address};
 ghost use Rattle.node_model.specs.jump_map.Image.{Cell, image_base, most_words};
 ghost use Rattle.node_model.specs.Node as model;
 ghost use Rattle.node_words.specs.Address.{word_address};
+ghost use Rattle.node_words.specs.GoingOn.{DoesNext};
 ghost use Rattle.node_words.specs.Kept.{StepsTo, local_of};
 ghost use Rattle.node_words.specs.Strides.{Gives, IsStored, IsStoredOr, IsTried, StepsBy};
 
@@ -131,7 +132,7 @@ impl<'a> ExecState<'a> {
             going.old self.old going.new self.new }
         ensures counts { self.new.counts ≡ self.old.counts }
     {
-        let next = address_of(going.at as u32 + 1);
+        let next = address_of(going.at + 1);
         self.lane.registers.set(op.rd, next);
         going.to(1, op.imm);
         true
@@ -198,26 +199,30 @@ impl<'a> ExecState<'a> {
                 going.on(1, 1);
                 true
             }
-            None => self.load_far(kind, op, going),
+            None => {
+                if self.load_far(kind, op) {
+                    going.on(1, 1);
+                    true
+                } else {
+                    false
+                }
+            }
         }
     }
 
     /// The same wherever the address lies.
     #[inline(never)]
-    fn load_far(&mut self, kind: LoadKind, op: &MicroOp, going: &mut Going) -> bool
-        requires room { 0 < going.old.left }
-        requires low { going.old.at < most_words }
-        requires means { meaning_of image_base op.now (registers_of self.old.lane.registers)
-            ≡ micro.loads kind op.now (registers_of self.old.lane.registers) }
-        ensures tried { (image : List Cell) → IsTried result
-            (StepsBy image op.now going.old self.old going.new self.new)
-            going.old self.old going.new self.new }
+    fn load_far(&mut self, kind: LoadKind, op: &MicroOp) -> bool
+        ensures does { result ≡ true → DoesNext self.old
+            (Loads kind op.now.rd (sum_address op.now (registers_of self.old.lane.registers)))
+            self.new }
+        ensures same { result ≡ false → (self.new.lane ≡ self.old.lane)
+            × (self.new.local ≡ self.old.local) }
         ensures counts { self.new.counts ≡ self.old.counts }
     {
         let address = self.sum_by(op);
         if kind.width().is_aligned(address) {
             self.load_apart(kind, op.rd, address);
-            going.on(1, 1);
             true
         } else {
             false
@@ -241,28 +246,28 @@ impl<'a> ExecState<'a> {
         if self.local.store_near(width, address, value) {
             going.on(1, 1);
             true
+        } else if self.store_far(width, op) {
+            going.on(1, 1);
+            true
         } else {
-            self.store_far(width, op, going)
+            false
         }
     }
 
     /// The same wherever the address lies.
     #[inline(never)]
-    fn store_far(&mut self, width: Width, op: &MicroOp, going: &mut Going) -> bool
-        requires room { 0 < going.old.left }
-        requires low { going.old.at < most_words }
-        requires means { meaning_of image_base op.now (registers_of self.old.lane.registers)
-            ≡ micro.stores width op.now (registers_of self.old.lane.registers) }
-        ensures tried { (image : List Cell) → IsTried result
-            (StepsBy image op.now going.old self.old going.new self.new)
-            going.old self.old going.new self.new }
+    fn store_far(&mut self, width: Width, op: &MicroOp) -> bool
+        ensures does { result ≡ true → DoesNext self.old
+            (Stores width (sum_address op.now (registers_of self.old.lane.registers))
+            (reg (registers_of self.old.lane.registers) op.now.rs2)) self.new }
+        ensures same { result ≡ false → (self.new.lane ≡ self.old.lane)
+            × (self.new.local ≡ self.old.local) }
         ensures counts { self.new.counts ≡ self.old.counts }
     {
         let address = self.sum_by(op);
         if width.is_aligned(address) {
             let value = self.lane.registers.get(op.rs2);
             self.store(width, address, value);
-            going.on(1, 1);
             true
         } else {
             false

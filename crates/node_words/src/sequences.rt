@@ -30,15 +30,16 @@ impl<'a> ExecState<'a> {
     #[inline(always)]
     pub(crate) fn over(&self, c: Cond, behind: usize, micros: &[MicroOp], going: &mut Going) -> bool
         requires room { 18 ≤ going.old.left }
+        requires low { going.old.at < most_words }
         requires few { behind ≤ 1 }
         requires polls { (i : ℕ) → i < behind → IsPolled micros.now (going.old.at + i) }
         requires there { IsOver micros.now (going.old.at + behind) (branch_kind c) }
         ensures strides { IsStriddenBy micros.now result going.old self.now going.new self.now }
     {
-        let first = going.at + behind;
+        let first = going.at as usize + behind;
         let words = behind as u64;
         if self.holds(c, &micros[first]) {
-            going.on(words + 1, behind + 2);
+            going.on(words + 1, behind as u32 + 2);
         } else {
             going.to(words + 2, micros[first + 1].imm);
         }
@@ -53,7 +54,7 @@ impl<'a> ExecState<'a> {
         requires there { IsJump micros.now (going.old.at + 1) }
         ensures strides { IsStriddenBy micros.now result going.old self.now going.new self.now }
     {
-        self.jump(2, &micros[going.at + 1], going)
+        self.jump(2, &micros[going.at as usize + 1], going)
     }
 
     /// A poll and an indirect jump.
@@ -68,13 +69,14 @@ impl<'a> ExecState<'a> {
             (StridesBy image.now going.old self.now going.new self.now)
             going.old self.now going.new self.now }
     {
-        self.enter(2, &micros[going.at + 1], image, going)
+        self.enter(2, &micros[going.at as usize + 1], image, going)
     }
 
     /// Two words that put a number into a register.
     #[inline(always)]
     pub(crate) fn number(&mut self, micros: &[MicroOp], going: &mut Going) -> bool
         requires room { 18 ≤ going.old.left }
+        requires low { going.old.at < most_words }
         requires there { IsNumber micros.now going.old.at }
         ensures strides { IsStriddenBy micros.now result going.old self.old going.new self.new }
         ensures counts { self.new.counts ≡ self.old.counts }
@@ -94,7 +96,7 @@ impl<'a> ExecState<'a> {
         ensures counts { self.new.counts ≡ self.old.counts }
     {
         self.put_number(micros, going);
-        self.jump(3, &micros[going.at + 2], going)
+        self.jump(3, &micros[going.at as usize + 2], going)
     }
 
     /// Puts a number that two words have into a register.
@@ -108,8 +110,8 @@ impl<'a> ExecState<'a> {
         ensures local { self.new.local ≡ self.old.local }
         ensures counts { self.new.counts ≡ self.old.counts }
     {
-        let upper = &micros[going.at];
-        let number = upper.imm.wrapping_add(micros[going.at + 1].imm);
+        let upper = &micros[going.at as usize];
+        let number = upper.imm.wrapping_add(micros[going.at as usize + 1].imm);
         self.lane.registers.set(upper.rd, number);
     }
 
@@ -123,18 +125,19 @@ impl<'a> ExecState<'a> {
         going: &mut Going,
     ) -> bool
         requires room { 18 ≤ going.old.left }
+        requires low { going.old.at < most_words }
         requires few { spilled ≤ 2 }
         requires there { IsRead micros.now going.old.at spilled (kind_of_load kind) }
         ensures strides { IsStriddenBy micros.now result going.old self.old going.new self.new }
         ensures counts { self.new.counts ≡ self.old.counts }
     {
-        let first = going.at + spilled;
+        let first = going.at as usize + spilled;
         let look = &micros[first];
         match self.value_checked(kind, self.sum_by(look)) {
             Some(value) => {
                 self.leave(spilled, look.rd, micros[first + 1].rd);
                 self.lane.registers.set(micros[first + 8].rd, value);
-                going.on(8 + 2 * spilled as u64, 9 + 2 * spilled);
+                going.on(8 + 2 * spilled as u64, 9 + 2 * spilled as u32);
                 true
             }
             None => false,
@@ -151,17 +154,18 @@ impl<'a> ExecState<'a> {
         going: &mut Going,
     ) -> bool
         requires room { 18 ≤ going.old.left }
+        requires low { going.old.at < most_words }
         requires few { spilled ≤ 2 }
         requires there { IsWrite micros.now going.old.at spilled (store_kind width) }
         ensures strides { IsStriddenBy micros.now result going.old self.old going.new self.new }
         ensures counts { self.new.counts ≡ self.old.counts }
     {
-        let first = going.at + spilled;
+        let first = going.at as usize + spilled;
         let look = &micros[first];
         let value = self.lane.registers.get(micros[first + 7].rs2);
         if self.put_checked(width, self.sum_by(look), value) {
             self.leave(spilled, look.rd, micros[first + 1].rd);
-            going.on(7 + 2 * spilled as u64, 8 + 2 * spilled);
+            going.on(7 + 2 * spilled as u64, 8 + 2 * spilled as u32);
             true
         } else {
             false
@@ -172,18 +176,19 @@ impl<'a> ExecState<'a> {
     #[inline(always)]
     pub(crate) fn flag(&mut self, spilled: usize, micros: &[MicroOp], going: &mut Going) -> bool
         requires room { 18 ≤ going.old.left }
+        requires low { going.old.at < most_words }
         requires few { spilled ≤ 1 }
         requires there { IsFlagged micros.now going.old.at spilled }
         ensures strides { IsStriddenBy micros.now result going.old self.old going.new self.new }
         ensures counts { self.new.counts ≡ self.old.counts }
     {
-        let first = going.at + spilled;
+        let first = going.at as usize + spilled;
         let look = &micros[first];
         match self.value_unlike_flag(self.sum_by(look)) {
             Some(value) => {
                 self.leave_one(spilled == 1, 0, look.rd, FLAG_WORD);
                 self.lane.registers.set(micros[first + 2].rd, value);
-                going.on(5 + 2 * spilled as u64, 7 + 2 * spilled);
+                going.on(5 + 2 * spilled as u64, 7 + 2 * spilled as u32);
                 true
             }
             None => false,
@@ -199,13 +204,14 @@ impl<'a> ExecState<'a> {
         going: &mut Going,
     ) -> bool
         requires room { 18 ≤ going.old.left }
+        requires low { going.old.at < most_words }
         requires few { spilled ≤ 3 }
         requires there { IsReadHead micros.now going.old.at spilled }
         ensures strides { IsStriddenBy micros.now result going.old self.old going.new self.new }
         ensures counts { self.new.counts ≡ self.old.counts }
     {
         if self.head(2, spilled, micros, going) {
-            going.on(12 + 2 * spilled as u64, 16 + 2 * spilled);
+            going.on(12 + 2 * spilled as u64, 16 + 2 * spilled as u32);
             true
         } else {
             false
@@ -221,13 +227,14 @@ impl<'a> ExecState<'a> {
         going: &mut Going,
     ) -> bool
         requires room { 18 ≤ going.old.left }
+        requires low { going.old.at < most_words }
         requires few { spilled ≤ 3 }
         requires there { IsWriteHead micros.now going.old.at spilled }
         ensures strides { IsStriddenBy micros.now result going.old self.old going.new self.new }
         ensures counts { self.new.counts ≡ self.old.counts }
     {
         if self.head(0xff, spilled, micros, going) {
-            going.on(11 + 2 * spilled as u64, 15 + 2 * spilled);
+            going.on(11 + 2 * spilled as u64, 15 + 2 * spilled as u32);
             true
         } else {
             false
@@ -253,7 +260,7 @@ impl<'a> ExecState<'a> {
         ensures same { result ≡ false → self.new.lane ≡ self.old.lane }
         ensures counts { self.new.counts ≡ self.old.counts }
     {
-        let first = going.at + spilled;
+        let first = going.at as usize + spilled;
         let low = &micros[first];
         let high = &micros[first + 5];
         match self

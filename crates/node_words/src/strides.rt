@@ -22,16 +22,16 @@ const MOST_AT_ONCE: u64 = 18;
 /// The number of the next word, and how many more words there may be.
 #[derive(Clone, Copy)]
 pub(crate) struct Going {
-    pub(crate) at: usize,
+    pub(crate) at: u32,
     pub(crate) left: u64,
 }
 
 impl Going {
     /// So many words were executed, and the word so much further on follows.
     #[inline(always)]
-    pub(crate) fn on(&mut self, words: u64, further: usize)
+    pub(crate) fn on(&mut self, words: u64, further: u32)
         requires room { words ≤ self.old.left }
-        requires low { self.old.at + further < 2 ^ 64 }
+        requires low { self.old.at + further < 2 ^ 32 }
         ensures at { self.new.at ≡ self.old.at + further }
         ensures left { self.new.left + words ≡ self.old.left }
     {
@@ -47,7 +47,7 @@ impl Going {
         ensures low { self.new.at < 2 ^ 32 }
         ensures left { self.new.left + words ≡ self.old.left }
     {
-        self.at = number as usize;
+        self.at = number;
         self.left -= words;
     }
 }
@@ -65,18 +65,30 @@ impl<'a> ExecState<'a> {
     {
         let (micros, strides) = image.tables();
         let mut going = Going {
-            at: from as usize,
+            at: from,
             left: most,
         };
         while going.left >= MOST_AT_ONCE {
-            if !self.go_on(image, strides, micros, &mut going) {
-                return Progress {
-                    at: going.at as u32,
-                    words: most - going.left,
-                };
+            let done = match strides.get(going.at as usize) {
+                Some(kind) => {
+                    self.sequence(*kind, image, micros, &mut going)
+                        || self.one(*kind, image, &micros[going.at as usize], &mut going)
+                }
+                None => false,
+            };
+            if !done {
+                match self.step_apart(image, going.at) {
+                    Some(next) => going.to(1, next),
+                    None => {
+                        return Progress {
+                            at: going.at,
+                            words: most - going.left,
+                        };
+                    }
+                }
             }
         }
-        let last = self.run_singly(image, going.at as u32, going.left);
+        let last = self.run_singly(image, going.at, going.left);
         Progress {
             at: last.at,
             words: most - going.left + last.words,
@@ -104,62 +116,6 @@ impl<'a> ExecState<'a> {
         Progress { at, words }
     }
 
-    /// Executes the stride of the next word, or a silent word. Says whether it does; else nothing
-    /// changes.
-    #[inline(always)]
-    fn go_on(
-        &mut self,
-        image: &Image,
-        strides: &[StrideKind],
-        micros: &[MicroOp],
-        going: &mut Going,
-    ) -> bool
-        requires few { length image.now ≤ most_words }
-        requires micros { AreMicrosOf image.now micros.now }
-        requires strides { HasStrides micros.now strides.now }
-        requires room { 18 ≤ going.old.left }
-        requires low { going.old.at < 2 ^ 32 }
-        ensures tried { IsTried result
-            (StridesBy image.now going.old self.old going.new self.new)
-            going.old self.old going.new self.new }
-        ensures counts { self.new.counts ≡ self.old.counts }
-    {
-        if self.stride_on(image, strides, micros, going) {
-            return true;
-        }
-        match self.step_apart(image, going.at as u32) {
-            Some(next) => {
-                going.to(1, next);
-                true
-            }
-            None => false,
-        }
-    }
-
-    /// Executes the stride of the next word. Says whether it does; else nothing changes.
-    #[inline(always)]
-    fn stride_on(
-        &mut self,
-        image: &Image,
-        strides: &[StrideKind],
-        micros: &[MicroOp],
-        going: &mut Going,
-    ) -> bool
-        requires few { length image.now ≤ most_words }
-        requires micros { AreMicrosOf image.now micros.now }
-        requires strides { HasStrides micros.now strides.now }
-        requires room { 18 ≤ going.old.left }
-        ensures tried { IsTried result
-            (StridesBy image.now going.old self.old going.new self.new)
-            going.old self.old going.new self.new }
-        ensures counts { self.new.counts ≡ self.old.counts }
-    {
-        match strides.get(going.at) {
-            Some(kind) => self.stride(*kind, image, micros, going),
-            None => false,
-        }
-    }
-
     /// Executes a micro-op at an index, and gives the index of the word that follows. `None` where
     /// the path that serves every word has to; then nothing changed.
     #[inline(always)]
@@ -170,21 +126,18 @@ impl<'a> ExecState<'a> {
             self.old.lane self.old.local self.new.lane self.new.local result }
         ensures counts { self.new.counts ≡ self.old.counts }
     {
-        let mut going = Going {
-            at: at as usize,
-            left: 1,
-        };
+        let mut going = Going { at, left: 1 };
         if self.one(StrideKind::plain(op), image, op, &mut going) {
-            Some(going.at as u32)
+            Some(going.at)
         } else {
             None
         }
     }
 
-    /// Executes what begins with the next word, of this kind. Says whether it does; else nothing
-    /// changes.
+    /// Executes the whole sequence that begins with the next word, if its kind is that of one. Says
+    /// whether it does; else nothing changes.
     #[inline(always)]
-    fn stride(
+    fn sequence(
         &mut self,
         kind: StrideKind,
         image: &Image,
@@ -251,7 +204,8 @@ impl<'a> ExecState<'a> {
             StrideKind::WriteHead1 => self.write_head(1, micros, going),
             StrideKind::WriteHead2 => self.write_head(2, micros, going),
             StrideKind::WriteHead3 => self.write_head(3, micros, going),
-            _ => self.one(kind, image, &micros[going.at], going),
+            // Words by themselves
+            _ => false,
         }
     }
 

@@ -20,3 +20,9 @@ returns-in-Some-clause-tried c image =
     steps_next image op (Loads c.args.kind op.rd a) c.args.going.now c.on.new.self b b' means c.on.ensures.left
     c.on.ensures.at c.requires.low (loads b b' c.args.kind op.rd a gives.aligned
     (load_leaves b b' c.args.kind op.rd a v gives (λ at t. record (lane_of b.lane at) { registers = c.set.ensures t }) refl))
+
+pub returns-then-load_far-clause-tried : goal.returns-then-load_far-clause-tried
+returns-then-load_far-clause-tried c image =
+    let op = c.args.op.now in
+    steps_next image op _ c.args.going.now c.on-then-load_far.new.self c.args.self.now c.load_far.new.self c.requires.means
+    c.on-then-load_far.ensures.left c.on-then-load_far.ensures.at c.requires.low (c.if-load_far.ensures.does refl)

@@ -1,9 +1,10 @@
 use Rattle.std.proofs.Common.{refl, subst, sym, ◌∙◌}
-use Rattle.node_model.specs.micro_op.Micro.{Demands}
+use Rattle.node_model.specs.micro_op.Micro.{Demands, sum_address}
+use Rattle.node_model.specs.rv32_step.Registers.{reg, registers_of}
 use Rattle.node_model.specs.rv32_step.declared.Demand.TheVariants.{Stores}
 use Rattle.node_words.specs.declared.exec_state.ExecState.{ExecState}
+use Rattle.node_words.specs.GoingOn.{DoesNext}
 use Rattle.node_words.specs.Kept.{Shelf}
-use Rattle.node_words.specs.Strides.{IsTried, StepsBy}
 use Rattle.node_words.proofs.AccessLemmas.{shared_stored}
 use Rattle.node_words.proofs.StrideLemmas.{steps_next, store_leaves, stores}
 use Rattle.node_words.proofs.exec_state.ExecState.store_by.Goals as goal
@@ -25,12 +26,14 @@ returns-then-store_near-clause-tried c image =
     steps_next image op (Stores w a v) c.args.going.now c.on.new.self b b' means c.on.ensures.left c.on.ensures.at
     c.requires.low (stores b b' w a v stored.aligned (store_leaves b b' w a v stored))
 
-pub returns-else-store_near-clause-tried : goal.returns-else-store_near-clause-tried
-returns-else-store_near-clause-tried c image =
+pub returns-then-store_far-clause-tried : goal.returns-then-store_far-clause-tried
+returns-then-store_far-clause-tried c image =
     let b = c.args.self.now in
-    let from = c.args.going.now in
-    let to = c.store_far.new.going in
     let b' = c.store_far.new.self in
-    subst (λ (s : Shelf). let m : ExecState = record b { local = s } in
-    IsTried c.store_far.result (StepsBy image c.args.op.now from m to b') from m to b')
-    (c.if-store_near.ensures.elsewhere refl) (c.store_far.ensures.tried image)
+    let op = c.args.op.now in
+    let f = registers_of b.lane.registers in
+    let d = Stores c.args.width (sum_address op f) (reg f op.rs2) in
+    steps_next image op d c.args.going.now c.on-then-store_far.new.self b b' c.requires.means c.on-then-store_far.ensures.left c.on-then-store_far.ensures.at
+    c.requires.low
+    (subst (λ (s : Shelf). let m : ExecState = record b { local = s } in DoesNext m d b')
+    (c.if-store_near.ensures.elsewhere refl) (c.if-store_far.ensures.does refl))
