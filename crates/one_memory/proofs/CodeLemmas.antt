@@ -9,7 +9,7 @@ use Rattle.elf32_read.specs.Elf.{Elf}
 use Rattle.exec_map.specs.Contents.{IsNextCode}
 use Rattle.micro_op.specs.Micro.{index_address}
 use Rattle.micro_op.specs.declared.micro_op.MicroOp.{MicroOp}
-use Rattle.one_memory.specs.Machine.{Serves}
+use Rattle.one_memory.specs.Machine.{AreOps, Serves}
 
 pub get_push_before : {X : Type 0} (xs : List X) (y : X) (k : ℕ) → k < length xs → slice_get (xs ++ y ∷ []) k ≡ slice_get xs k
 get_push_before [] y k h = absurd (omega arith)
@@ -35,10 +35,6 @@ each_push P xs y each last k x is = elim (cases_lt k (length xs)) [
         absurd (cc)
   ]
 ]
-
--- the ops that are read from an index on
-abbrev pub AreOps : Elf → ℕ → List MicroOp → Type 0
-AreOps e first ops = (k : ℕ) (op : MicroOp) → slice_get ops k ≡ Some op → Serves e (index_address 0 (first + k)) op
 
 pub no_ops : (e : Elf) (first : ℕ) → AreOps e first []
 no_ops e first k op is = absurd (cc)

@@ -2,7 +2,7 @@ mod ServeLemmas
 mod ReadLemmas
 mod ReservedLemmas
 mod StepLemmas
-mod ServedLemmas
+mod GoingLemmas
 mod StoreLemmas
 mod BreakLemmas
 mod CodeLemmas

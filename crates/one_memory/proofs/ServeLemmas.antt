@@ -1,5 +1,5 @@
 -- What a micro-op serves.
-use Rattle.std.proofs.Common.{◌≡◌, ℕ, ◌+◌, Option, Some, None, refl, sym, ap, ◌∙◌, subst, length, get_or, ltb}
+use Rattle.std.proofs.Common.{◌≡◌, ℕ, ◌+◌, List, Option, Some, None, refl, sym, ap, ◌∙◌, subst, length, get_or, ltb}
 use Rattle.std.specs.Prelude.{slice_get, is_some, IfSome}
 use Rattle.std.proofs.lemmas.Bool.{ltb-true}
 use Rattle.std.proofs.lemmas.Option.{slice_get_read}
@@ -12,8 +12,7 @@ use Rattle.rv32_step.specs.OneMemory.{Processor, request_at, request_for}
 use Rattle.micro_op.specs.Micro.{Meaning, Unserved, Demands, Enters, IsMicroOf, Meets as Does, meaning_of, index_address}
 use Rattle.micro_op.specs.declared.micro_op.MicroOp.{MicroOp}
 use Rattle.micro_op.specs.declared.MicroKind.TheVariants.{Slow}
-use Rattle.one_memory.specs.declared.code.CodeRegion.{CodeRegion}
-use Rattle.one_memory.specs.Machine.{Serving, IsDemandAt, Serves, IsStretchOf}
+use Rattle.one_memory.specs.Machine.{AreOps, Serving, IsDemandAt, Serves}
 
 serves_by : (e : Elf) (a : ℕ) (i : Instr) (q : Processor) (m : Meaning) → Some i ≡ code_at e a → Does m (demand_of i q.registers a) → Serving m (IsDemandAt e a q)
 serves_by e a i q Unserved here does = tt
@@ -33,12 +32,12 @@ pub serves_slow : (e : Elf) (a : ℕ) (op : MicroOp) → op.kind ≡ Slow → Se
 serves_slow e a op is = record { serves = λ q. rw is tt }
 
 -- the micro-op that stands for an index
-pub get_serves : (e : Elf) (s : CodeRegion) (at k : ℕ) (r : Option MicroOp) → IsStretchOf e s → index_address 0 (s.first + k) ≡ index_address 0 at → r ≡ slice_get s.ops.items k → IfSome r (Serves e (index_address 0 at))
-get_serves e s at k None of same is = tt
-get_serves e s at k (Some op) of same is = subst (λ a. Serves e a op) same (of.serve k op (sym is))
+get_serves : (e : Elf) (first : ℕ) (ops : List MicroOp) (at k : ℕ) (r : Option MicroOp) → AreOps e first ops → index_address 0 (first + k) ≡ index_address 0 at → r ≡ slice_get ops k → IfSome r (Serves e (index_address 0 at))
+get_serves e first ops at k None of same is = tt
+get_serves e first ops at k (Some op) of same is = subst (λ a. Serves e a op) same (of k op (sym is))
 
 -- the one that is got at a place
-pub got_serves : (e : Elf) (s : CodeRegion) (at k : ℕ) (g : Option (Bor MicroOp)) → IsStretchOf e s → index_address 0 (s.first + k) ≡ index_address 0 at → is_some g ≡ ltb k (length s.ops.items) → IfSome g (λ x. x.now ≡ get_or s.ops.items k x.now) → IfSome g (λ x. Serves e (index_address 0 at) x.now)
-got_serves e s at k None of same is there = tt
-got_serves e s at k (Some x) of same is there =
-    get_serves e s at k (Some x.now) of same (sym (slice_get_read s.ops.items (length s.ops.items) k x.now refl (ltb-true k (length s.ops.items) (sym is)) there))
+pub got_serves : (e : Elf) (first : ℕ) (ops : List MicroOp) (at k : ℕ) (g : Option (Bor MicroOp)) → AreOps e first ops → index_address 0 (first + k) ≡ index_address 0 at → is_some g ≡ ltb k (length ops) → IfSome g (λ x. x.now ≡ get_or ops k x.now) → IfSome g (λ x. Serves e (index_address 0 at) x.now)
+got_serves e first ops at k None of same is there = tt
+got_serves e first ops at k (Some x) of same is there =
+    get_serves e first ops at k (Some x.now) of same (sym (slice_get_read ops (length ops) k x.now refl (ltb-true k (length ops) (sym is)) there))

@@ -1,5 +1,5 @@
 -- Steps of one processor after another, and the state that the parts stand for.
-use Rattle.std.proofs.Common.{◌≡◌, ◌≢◌, ℕ, zero, suc, ◌+◌, ◌<◌, Bool, false, List, [], ◌∷◌, ◌++◌, length, set, Option, Some, None, refl, sym, ap, ◌∙◌, subst, arith, inl, inr}
+use Rattle.std.proofs.Common.{◌≡◌, ◌≢◌, ℕ, zero, suc, ◌+◌, ◌-◌, ◌<◌, Bool, false, List, [], ◌∷◌, ◌++◌, length, set, Option, Some, None, refl, sym, ap, ◌∙◌, subst, arith, inl, inr}
 use Rattle.std.specs.Prelude.{slice_get, is_some, IsSome}
 use Rattle.std.specs.Option.{option_map_or}
 use Rattle.std.proofs.Math.Path.{fun_ext}
@@ -65,6 +65,41 @@ turn_more p n m m1 m2 k k1 k2 code runs turns answers = λ nodes all.
             ∙ ap (λ (t : State). (t.processors p).exit) (sym so_far.state) ∙ ap (λ (q : Processor). q.exit) here ∙ runs
       ];
     })
+
+-- the state after some steps and some more
+after_both : (original : Original) (p n j : ℕ) (s : State) → after_steps original p (n + j) s ≡ after_steps original p j (after_steps original p n s)
+after_both original p n zero s =
+    let same : n + 0 ≡ n = omega arith in
+    ap (λ (i : ℕ). after_steps original p i s) same
+after_both original p n (suc j) s =
+    let more : n + suc j ≡ suc (n + j) = omega arith in
+    ap (λ (i : ℕ). after_steps original p i s) more ∙ ap (λ (t : State). (step original t p).state) (after_both original p n j s)
+
+-- some steps and some more
+pub turns_both : (p n j : ℕ) (m m1 m2 : MemoryParts) (k k1 k2 : ProcessorParts) → IsSameCode m m1 → Turns p n m k m1 k1 → Turns p j m1 k1 m2 k2 → Turns p (n + j) m k m2 k2
+turns_both p n j m m1 m2 k k1 k2 code first last = λ nodes all.
+    let original = original_on m nodes in
+    let s = state_among (with_one all p (processor_of k)) m in
+    let s1 = state_among (with_one all p (processor_of k1)) m1 in
+    let s2 = state_among (with_one all p (processor_of k2)) m2 in
+    let one = first nodes all in
+    let other = subst (λ (o : Original). AreTurns o p j s1 s2) (same_original m m1 nodes code) (last nodes all) in
+    record {
+      state = other.state ∙ ap (after_steps original p j) one.state ∙ sym (after_both original p n j s);
+      runs = λ i lt. elim (cases_lt i n) [
+        | inl below ↦ one.runs i below
+        | inr above ↦
+            let at : n + (i - n) ≡ i = omega (arith, above) in
+            subst (λ (x : ℕ). ((after_steps original p x s).processors p).exit ≡ None) at
+            (ap (λ (t : State). (t.processors p).exit) (after_both original p n (i - n) s ∙ ap (after_steps original p (i - n)) (sym one.state)) ∙ other.runs (i - n) (omega (arith, lt, above)))
+      ];
+    }
+
+-- some steps, some more, and one
+pub turns_and_one : (p n j : ℕ) (m m1 m2 m3 : MemoryParts) (k k1 k2 k3 : ProcessorParts) → IsSameCode m m1 → IsSameCode m1 m2 → k2.exit ≡ None → Turns p n m k m1 k1 → Turns p j m1 k1 m2 k2 → Answers p (request (program_of m2.program) (processor_of k2)) m2 k2 m3 k3 → Turns p (n + j + 1) m k m3 k3
+turns_and_one p n j m m1 m2 m3 k k1 k2 k3 code more runs first last answers =
+    turn_more p (n + j) m m2 m3 k k2 k3 (record { program = more.program ∙ code.program; layout = more.layout ∙ code.layout }) runs
+    (turns_both p n j m m1 m2 k k1 k2 code first last) answers
 
 -- so many processors are as at the start
 pub record AreFirst (original : Original) (ks : List ProcessorParts) (count : ℕ) : Type 0 where

@@ -1,5 +1,6 @@
 pub mod ByOrder
 pub mod Machine
+pub mod Going
 pub mod Turns
 pub mod Stretches
 pub mod Reserving

@@ -1,5 +1,5 @@
 -- Helps the code alone: the parts of the machine, and the state that they stand for.
-use Rattle.std.specs.Prelude.{◌≡◌, ℕ, ◌+◌, ◌%◌, ◌^◌, ◌==◌, if◌then◌else◌, Bool, true, false, List, Option, Some, None, slice_get, slice_index_or}
+use Rattle.std.specs.Prelude.{◌≡◌, ℕ, ◌+◌, ◌%◌, ◌^◌, ◌==◌, if◌then◌else◌, List, Option, Some, None, slice_get, slice_index_or}
 use Rattle.std.specs.Option.{option_map_or}
 use Rattle.elf32_read.specs.Elf.{Elf}
 use Rattle.exec_map.specs.Contents.{program_of, first_byte}
@@ -109,9 +109,12 @@ pub record Serves (e : Elf) (a : ℕ) (op : MicroOp) : Type 0 where
   pub serves : (q : Processor) → Serving (meaning_of 0 op q.registers) (IsDemandAt e a q)
 
 -- the micro-ops of the words from an index on
+abbrev pub AreOps : Elf → ℕ → List MicroOp → Type 0
+AreOps e first ops =
+    (k : ℕ) (op : MicroOp) → slice_get ops k ≡ Some op → Serves e (index_address 0 (first + k)) op
+
 pub record IsStretchOf (e : Elf) (s : CodeRegion) : Type 0 where
-  pub serve : (k : ℕ) (op : MicroOp) → slice_get s.ops.items k ≡ Some op
-      → Serves e (index_address 0 (s.first + k)) op
+  pub serve : AreOps e s.first s.ops.items
 
 -- the code of a program
 pub record IsCodeOf (e : Elf) (code : CodeTable) : Type 0 where
@@ -176,23 +179,3 @@ abbrev pub Steps : ℕ → ℕ → MemoryParts → OriginalState → MemoryParts
 Steps p at m body m' body' move =
     Answers p (request (program_of m.program) (processor_of (at_index at body)))
     m (at_index at body) m' (after_move move at body')
-
--- what a micro-op does is served, and is of this kind
-abbrev pub Served : Meaning → (Demand → Type 0) → Type 0
-Served Unserved P = ⊥
-Served (Demands d) P = P d
-Served (Enters original) P = ⊥
-
--- processor p has done what the micro-op of the word at an index does, and goes to another index
-abbrev pub IsServed : ℕ → MicroOp → ℕ → MemoryParts → OriginalState → ℕ → MemoryParts
-    → OriginalState → Type 0
-IsServed p op at m body at' m' body' =
-    Served (meaning_of 0 op (registers_of body.registers))
-    (λ d. Meets p d at m body m' body' (To at'))
-
--- it has been done, or nothing has changed
-abbrev pub IsTried : Bool → Type 0 → ℕ → MemoryParts → OriginalState → ℕ → MemoryParts
-    → OriginalState → Type 0
-IsTried true Done at m body at' m' body' =
-    Done × (m'.program ≡ m.program) × (m'.layout ≡ m.layout)
-IsTried false Done at m body at' m' body' = (at' ≡ at) × (m' ≡ m) × (body' ≡ body)

@@ -1,8 +1,7 @@
 //! The code of a program, decoded once.
 
-ghost use Rattle.std.specs.Prelude.{◌≡◌, ◌+◌, ◌*◌, ◌%◌, ◌^◌, ◌<◌, ◌≤◌, ℕ, length, IfOk, IfSome};
+ghost use Rattle.std.specs.Prelude.{◌≡◌, ◌+◌, ◌*◌, ◌%◌, ◌<◌, ◌≤◌, length, IfOk};
 ghost use Rattle.elf32_read.specs.Elf.{Elf};
-ghost use Rattle.micro_op.specs.Micro.{index_address};
 ghost use Rattle.one_memory.specs.Machine.{IsCodeOf, IsStretchOf, Serves};
 
 use exec_map::Program;
@@ -16,8 +15,8 @@ const GAP: u32 = 4096;
 #[derive(Drop)]
 pub struct CodeRegion {
     /// The index of the first word, which is its address by four.
-    first: u32,
-    ops: Vec<MicroOp>,
+    pub first: u32,
+    pub ops: Vec<MicroOp>,
 }
 
 /// The micro-ops of all code words. Stretches that lie far apart are apart.
@@ -44,24 +43,17 @@ impl CodeTable {
         Ok(CodeTable { near, far })
     }
 
-    /// The micro-op of the word with an index, where that is in the first stretch.
-    #[inline(always)]
-    pub fn fetch_near(&self, at: u32) -> Option<&MicroOp>
-        ensures serves { (e : Elf) → IsCodeOf e self.now
-            → IfSome result (λ op. Serves e (index_address 0 at) op.now) }
+    /// The region of the word with an index; any one where none has it.
+    pub fn region(&self, at: u32) -> &CodeRegion
+        ensures stretch { (e : Elf) → IsCodeOf e self.now → IsStretchOf e result.now }
     {
-        self.near.get(at)
-    }
-
-    /// The micro-op of a word that isn't in the first stretch.
-    pub fn fetch_far(&self, at: u32) -> Option<&MicroOp>
-        ensures serves { (e : Elf) → IsCodeOf e self.now
-            → IfSome result (λ op. Serves e (index_address 0 at) op.now) }
-    {
+        if self.near.has(at) {
+            return &self.near;
+        }
         let behind = self.far.partition_point(|stretch| stretch.first <= at);
         match behind.checked_sub(1) {
-            Some(last) => self.far[last].get(at),
-            None => None,
+            Some(last) => &self.far[last],
+            None => &self.near,
         }
     }
 }
@@ -99,13 +91,9 @@ impl CodeRegion {
         4 * (self.first + self.ops.len() as u32)
     }
 
-    /// The micro-op of the word with an index, where it is in the stretch.
-    #[inline(always)]
-    fn get(&self, at: u32) -> Option<&MicroOp>
-        ensures serves { (e : Elf) → IsStretchOf e self.now
-            → IfSome result (λ op. Serves e (index_address 0 at) op.now) }
-    {
-        self.ops.get(at.wrapping_sub(self.first) as usize)
+    /// Whether the word with an index is in the stretch.
+    fn has(&self, at: u32) -> bool {
+        (at.wrapping_sub(self.first) as usize) < self.ops.len()
     }
 }
 

@@ -14,6 +14,7 @@ ghost use Rattle.one_memory.specs.Shown.{byte_shown};
 mod breaks;
 mod by_order;
 mod code;
+mod going;
 mod law;
 mod memory;
 mod processor;

@@ -11,13 +11,10 @@ ghost use Rattle.rv32_step.specs.Registers.{registers_of};
 ghost use Rattle.rv32_step.specs.OneMemory as model;
 ghost use Rattle.llsc.specs.Reservation.{holds as model_holds};
 ghost use Rattle.rv32_program.specs.declared.Class.TheVariants.{Unmapped};
-ghost use Rattle.micro_op.specs.Micro as micro;
-ghost use Rattle.micro_op.specs.Micro.{Demands, meaning_of, sum_address, index_address};
+ghost use Rattle.micro_op.specs.Micro.{index_address};
 ghost use Rattle.one_memory.specs.Machine.{MemoryParts, processor_of, at_index, after_move};
 ghost use Rattle.one_memory.specs.Machine.{byte_seen, IsStored, Answers, Meets, Steps};
-ghost use Rattle.one_memory.specs.Machine.{IsCodeOf, IsServed, IsTried};
 ghost use Rattle.one_memory.specs.Stretches.{reaches_or_stands};
-ghost use Rattle.one_memory.specs.Turns.{Turns};
 
 use crate::memory::Memory;
 use block_layout::Block;

@@ -1,8 +1,17 @@
+use Rattle.std.proofs.Common.{refl}
 use Rattle.rv32_step.specs.declared.Demand.TheVariants.{Sets}
-use Rattle.one_memory.proofs.ServedLemmas.{met_is_tried}
+use Rattle.one_memory.specs.declared.processor.OriginalState.{OriginalState}
+use Rattle.one_memory.specs.Going.{place_of}
+use Rattle.one_memory.proofs.GoingLemmas.{goes_by, sets_next}
 use Rattle.one_memory.proofs.served.constant.Goals as goal
 
-pub returns : goal.returns
-returns c p m =
+pub returns-clause-goes : goal.returns-clause-goes
+returns-clause-goes c p m =
     let op = c.args.op.now in
-    met_is_tried p c.args.at.now c.set.new.at m c.args.body.now c.set.new.body op (Sets op.rd op.imm) c.requires (c.set.ensures p m)
+    let from = c.args.going.now in
+    let to = c.on.new.self in
+    let b = c.args.body.now in
+    let b' : OriginalState = record b { registers = c.set.new.self } in
+    goes_by p op (Sets op.rd op.imm) m m b b' from to c.requires.means
+    (sets_next p (place_of from) (place_of to) op.rd op.imm m b b' c.on.ensures.place c.set.ensures refl refl)
+    c.on.ensures.extent c.on.ensures.left refl refl

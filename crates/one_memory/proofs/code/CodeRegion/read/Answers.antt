@@ -1,6 +1,7 @@
 use Rattle.std.proofs.Common.{◌≡◌, ◌+◌, ◌/◌, length, subst, sym, arith}
 use Rattle.micro_op.specs.Micro.{index_address}
-use Rattle.one_memory.proofs.CodeLemmas.{AreOps, ops_push}
+use Rattle.one_memory.specs.Machine.{AreOps}
+use Rattle.one_memory.proofs.CodeLemmas.{ops_push}
 use Rattle.one_memory.proofs.code.CodeRegion.read.Goals as goal
 
 pub loop-ops-preserved : goal.loop-ops-preserved

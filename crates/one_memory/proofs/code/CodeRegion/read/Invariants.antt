@@ -1,5 +1,5 @@
 use Rattle.std.proofs.Common.{◌≡◌, ◌+◌, ◌-◌, ◌*◌, ◌/◌, ◌≤◌, length}
-use Rattle.one_memory.proofs.CodeLemmas.{AreOps}
+use Rattle.one_memory.specs.Machine.{AreOps}
 use Rattle.one_memory.proofs.code.CodeRegion.read.Given as goal
 
 abbrev pub invariant-loop-ops : goal.invariant-loop-ops

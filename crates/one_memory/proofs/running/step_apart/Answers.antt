@@ -1,4 +1,0 @@
-use Rattle.one_memory.proofs.running.step_apart.Goals as goal
-
-pub step_by-requires-clause-serves : goal.step_by-requires-clause-serves
-step_by-requires-clause-serves c = c.in-Some.ensures.serves c.args.memory.now.program c.requires.code
