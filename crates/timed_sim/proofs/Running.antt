@@ -1,5 +1,5 @@
 -- A run by a clock on its way, and its end.
-use Rattle.std.proofs.Common.{◌≡◌, ◌⊎◌, ℕ, zero, suc, ◌+◌, ◌*◌, ◌<◌, ◌≤◌, List, [], ◌∷◌, ◌++◌, map, length, get_or, Some, Result, Ok, Err, refl, sym, ap, ◌∙◌, subst, inl, inr, arith, length-append}
+use Rattle.std.proofs.Common.{◌≡◌, ◌⊎◌, ℕ, zero, suc, ◌+◌, ◌*◌, ◌^◌, ◌<◌, ◌≤◌, List, [], ◌∷◌, ◌++◌, map, length, get_or, Some, Result, Ok, Err, refl, sym, ap, ◌∙◌, subst, inl, inr, arith, length-append}
 use Rattle.std.specs.Prelude.{All, max, IfOk, OnOk}
 use Rattle.std.specs.List.{range_with_len}
 use Rattle.std.proofs.Math.Nat.{mul-le-mul, le-max_right}
@@ -15,7 +15,7 @@ use Rattle.timed_sim.specs.declared.clocks.Clocks.{Clocks}
 use Rattle.timed_sim.specs.declared.costs.Costs.{Costs}
 use Rattle.timed_sim.specs.declared.costs.Spent.{Spent}
 use Rattle.timed_sim.specs.Clock.{Due, Times, AreNext, IsOutcomeByClock, clock_of, events_in, idle_until, last_clock, next, nothing_spent, opening_times, times_after, times_after_all}
-use Rattle.timed_sim.specs.Stored.{AreClocks, AreSameTimes, HasEnded, HasMade, times_of}
+use Rattle.timed_sim.specs.Stored.{AreClocks, AreSameTimes, AreWithin, HasEnded, HasMade, times_of}
 use Rattle.timed_sim.specs.Stretches.{HaveMade}
 use Rattle.timed_sim.proofs.Next.{IsNextAt, next_same}
 use Rattle.timed_sim.proofs.Steps.{times_same}
@@ -298,3 +298,22 @@ sums n times spent last ended =
     subst (λ (xs : List Spent). All (λ s. clock_of s ≡ last) xs) (sym ended.spent_is)
     (sums_in last times.spent 0 n (λ i least most. subst (λ z. clock_of (times.spent i) ≤ z)
     (sym ended.last_is) (last_high n i times.spent (omega (arith, most)))))
+
+-- 5. How late the last node is over
+
+last_within : (n most : ℕ) (f : ℕ → Spent) → ((i : ℕ) → i < n → clock_of (f i) ≤ most)
+    → last_clock n f ≤ most
+last_within zero most f low = omega arith
+last_within (suc k) most f low =
+    let before = last_within k most f (λ i below. low i (omega (arith, below))) in
+    let here = low k (omega arith) in
+    omega (arith, before, here)
+
+-- so many turns take each clock no further than so many of the greatest steps
+pub ends_within : (n turns : ℕ) (times : Times) (spent : List Spent) (last : ℕ)
+    → AreWithin n (2 ^ 26 * turns) times → turns ≤ 2 ^ 64 → HasEnded n times spent last
+    → last ≤ 2 ^ 100
+ends_within n turns times spent last within few ended =
+    let low = last_within n (2 ^ 26 * turns) times.spent within.clocks in
+    let is = ended.last_is in
+    omega (arith, low, few, is)

@@ -32,6 +32,20 @@ pub record AreInRange (costs : Costs) : Type 0 where
 abbrev pub clock_of : Spent → ℕ
 clock_of s = s.words + s.to_read + s.to_write + s.handling + s.idle
 
+-- what two have spent, and what several have, together
+abbrev pub both_spent : Spent → Spent → Spent
+both_spent s t = record {
+  words = s.words + t.words;
+  to_read = s.to_read + t.to_read;
+  to_write = s.to_write + t.to_write;
+  handling = s.handling + t.handling;
+  idle = s.idle + t.idle;
+}
+
+abbrev pub spent_beside : Spent → List Spent → Spent
+spent_beside s [] = s
+spent_beside s (t ∷ ts) = spent_beside (both_spent s t) ts
+
 -- what each node has spent; what its last word that wanted a block wanted it for; and when the
 -- messages on their way from j to i arrive, in the order of the list
 pub record Times : Type 0 where
@@ -41,6 +55,10 @@ pub record Times : Type 0 where
 
 abbrev pub nothing_spent : Spent
 nothing_spent = record { words = 0; to_read = 0; to_write = 0; handling = 0; idle = 0 }
+
+-- what nodes have spent together
+abbrev pub total_spent : List Spent → Spent
+total_spent ss = spent_beside nothing_spent ss
 
 abbrev pub opening_times : Times
 opening_times = record { spent = λ i. nothing_spent; needs = λ i. Read; arrivals = λ j i. [] }

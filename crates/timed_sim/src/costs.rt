@@ -1,7 +1,7 @@
 //! What events cost, and what nodes have spent their time on.
 
-ghost use Rattle.std.specs.Prelude.{◌≡◌, ◌^◌, ◌<◌, ◌≤◌};
-ghost use Rattle.timed_sim.specs.Clock.{clock_of, idle_until};
+ghost use Rattle.std.specs.Prelude.{◌≡◌, ◌+◌, ◌^◌, ◌<◌, ◌≤◌, All, length};
+ghost use Rattle.timed_sim.specs.Clock.{both_spent, clock_of, idle_until, total_spent};
 
 /// What messages cost, in the time of one word. Each is a million at most.
 #[derive(Clone, Copy, Debug, PartialEq, Eq)]
@@ -47,6 +47,20 @@ impl Spent {
         self.words + self.to_read + self.to_write + self.handling + self.idle
     }
 
+    /// What two nodes have spent together.
+    fn with(&self, other: &Spent) -> Spent
+        requires fits { clock_of self.now + clock_of other.now < 2 ^ 128 }
+        ensures value { result ≡ both_spent self.now other.now }
+    {
+        Spent {
+            words: self.words + other.words,
+            to_read: self.to_read + other.to_read,
+            to_write: self.to_write + other.to_write,
+            handling: self.handling + other.handling,
+            idle: self.idle + other.idle,
+        }
+    }
+
     /// The same, once the node has been idle until a time.
     pub(crate) fn idle_until(mut self, time: u128) -> Spent
         requires time { clock_of self ≤ time }
@@ -56,4 +70,18 @@ impl Spent {
         self.idle += time - clock;
         self
     }
+}
+
+/// What up to 16 nodes have spent together.
+pub fn total_spent(spent: &[Spent]) -> Spent
+    requires few { length spent.now ≤ 16 }
+    requires fits { All (λ s. clock_of s ≤ 2 ^ 100) spent.now }
+    ensures value { result ≡ total_spent spent.now }
+    ensures most { clock_of result ≤ 2 ^ 104 }
+{
+    let mut total = NOTHING;
+    for more in spent {
+        total = total.with(more);
+    }
+    total
 }

@@ -9,6 +9,6 @@ mod links;
 mod run;
 mod stretch;
 
-pub use costs::{Costs, Spent};
+pub use costs::{Costs, Spent, total_spent};
 pub use dsm_core;
 pub use run::{Timed, simulate_by_clock};

@@ -51,6 +51,7 @@ pub fn simulate_by_clock(alloc: Global, work: &Work<'_>, costs: &Costs) -> Resul
         (outcome_of t.outcome) t.spent.items t.time) }
     // What each node has spent its time on adds up to the time of the run.
     ensures sums { IfOk result (λ t. All (λ s. clock_of s ≡ t.time) t.spent.items) }
+    ensures most { IfOk result (λ t. t.time ≤ 2 ^ 100) }
 {
     layout_law();
     progress_law();

@@ -1,5 +1,5 @@
 -- Each turn makes the next event by the rule; no core run has as many events as there are turns.
-use Rattle.std.proofs.Common.{◌≡◌, ◌+◌, ◌*◌, ◌^◌, List, IfOk, All, sym, ◌∙◌, subst, arith}
+use Rattle.std.proofs.Common.{◌≡◌, ◌≤◌, ◌+◌, ◌*◌, ◌^◌, List, IfOk, All, sym, ◌∙◌, subst, arith}
 use Rattle.std.proofs.lemmas.Result.{IfOk-weaker}
 use Rattle.dsm_core.specs.node_model.Node.{Work}
 use Rattle.dsm_core.specs.node_model.Core.{Core, IsOver}
@@ -12,7 +12,7 @@ use Rattle.timed_sim.specs.declared.run.Timed.{Timed}
 use Rattle.timed_sim.specs.Clock.{IsOutcomeByClock, Times, clock_of, opening_times}
 use Rattle.timed_sim.specs.Stored.{AreWithin, HasEnded, times_in}
 use Rattle.timed_sim.proofs.Made.{opening_within, times_kept, within_more, within_same}
-use Rattle.timed_sim.proofs.Running.{IsOnItsWay, both_ok, not_so_long, outcome_by_clock, sums, way_all, way_first}
+use Rattle.timed_sim.proofs.Running.{IsOnItsWay, both_ok, ends_within, not_so_long, outcome_by_clock, sums, way_all, way_first}
 use Rattle.timed_sim.proofs.run.simulate_by_clock.Goals as goal
 
 pub loop-turn-init : goal.loop-turn-init
@@ -106,4 +106,21 @@ returns-then-not-branch-clause-sums c =
     (λ (t : Timed). HasEnded q.core.layout.nodes (times_in q) t.spent.items t.time)
     (λ (t : Timed). All (λ s. clock_of s ≡ t.time) t.spent.items)
     (λ t ended. sums q.core.layout.nodes (times_in q) t.spent.items t.time ended)
+    c.timed.ensures.times
+
+pub returns-then-not-branch-clause-most : goal.returns-then-not-branch-clause-most
+returns-then-not-branch-clause-most c =
+    let l = c.loop-turn in
+    let r = l.run in
+    let q = c.make_next.new.self in
+    let kept = c.in_ok-make_next.ensures.kept c.if-not-branch.true in
+    let within : AreWithin q.core.layout.nodes (2 ^ 26 * l._turn) (times_in q) =
+    subst (λ (w : Work). AreWithin w.layout.nodes (2 ^ 26 * l._turn) (times_in q)) (sym kept.work)
+    (subst (λ (t : Times). AreWithin r.core.layout.nodes (2 ^ 26 * l._turn) t) (sym (times_kept r q kept))
+    l.invariant.within) in
+    let few : l._turn ≤ 2 ^ 64 = let lt = c.loop-turn-test.true in omega (arith, lt) in
+    IfOk-weaker c.timed.result
+    (λ (t : Timed). HasEnded q.core.layout.nodes (times_in q) t.spent.items t.time)
+    (λ (t : Timed). t.time ≤ 2 ^ 100)
+    (λ t ended. ends_within q.core.layout.nodes l._turn (times_in q) t.spent.items t.time within few ended)
     c.timed.ensures.times
