@@ -1,0 +1,31 @@
+-- What a run on so many nodes took, and what is computed of it.
+use Rattle.std.specs.Prelude.{ℕ, ◌+◌, ◌*◌, ◌/◌, ◌%◌, ◌^◌, ◌≤◌, max, if◌then◌else◌, List, ◌++◌, Option, None, Some, codes}
+use Rattle.std.specs.Fmt.{decimal}
+use Rattle.speedup_page.specs.declared.row.Row.{Row}
+use Rattle.speedup_page.specs.declared.row.Shares.{Shares}
+
+-- all that the nodes spent together
+abbrev pub whole_of : Shares → ℕ
+whole_of s = s.words + s.to_read + s.to_write + s.handling + s.idle
+
+-- it isn't so much that a drawing has no room for it
+abbrev pub IsFit : Row → Type 0
+IsFit r = whole_of r.spent ≤ 2 ^ 110
+
+-- THE SPEED-UP over the original on one processor, in hundredths: its steps for each unit of the
+-- run's time, rounded down. There is one where both ended by themselves.
+abbrev pub speedup_of : (base : Option ℕ) → Row → Option ℕ
+speedup_of None r = None
+speedup_of (Some steps) r = if r.stopped then None else Some (100 * steps / max r.time 1)
+
+-- so many parts of the whole, where that has so many in all
+abbrev pub share_of : (parts whole part : ℕ) → ℕ
+share_of parts whole part = parts * part / max whole 1
+
+-- a text, and a number behind it
+unfoldable pub numbered : List ℕ → ℕ → List ℕ
+numbered text n = text ++ decimal n
+
+-- hundredths as a number with two decimals
+unfoldable pub hundredths_text : ℕ → List ℕ
+hundredths_text n = decimal (n / 100) ++ (numbered (codes ".") (n / 10 % 10) ++ decimal (n % 10))
