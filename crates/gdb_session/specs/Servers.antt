@@ -43,3 +43,9 @@ abbrev pub packet_of : After → List ℕ → List ℕ
 packet_of GoesOn answer = framed answer
 packet_of Leaves answer = framed answer
 packet_of IsKilled answer = []
+
+-- the packet that was put last, after an answer
+abbrev pub last_behind : After → (last answer : List ℕ) → List ℕ
+last_behind GoesOn last answer = framed answer
+last_behind Leaves last answer = framed answer
+last_behind IsKilled last answer = last

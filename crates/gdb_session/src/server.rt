@@ -131,7 +131,8 @@ impl Server {
               answer = answer;
             })
             self.old.reading.body (request_of self.old.reading.body)
-            × (out.new.items ≡ out.old.items ++ model.packet_of after answer)) }
+            × (out.new.items ≡ out.old.items ++ model.packet_of after answer)
+            × (self.new.last ≡ model.last_behind after self.old.last answer)) }
         ensures after { IfOk result (λ after.
             after ≡ after_request (request_of self.old.reading.body)) }
     {
@@ -153,6 +154,8 @@ impl Server {
     ) -> Result<(), AllocError>
         ensures reading { self.new.reading ≡ self.old.reading }
         ensures session { self.new.session ≡ self.old.session }
+        ensures last { OnOk result (self.new.last
+            ≡ model.last_behind after self.old.last body.now) }
         ensures puts { OnOk result
             (out.new.items ≡ out.old.items ++ model.packet_of after body.now) }
     {

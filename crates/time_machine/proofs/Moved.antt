@@ -6,7 +6,7 @@ use Rattle.time_machine.specs.declared.run.Hit.{Hit}
 use Rattle.time_machine.specs.declared.step.NextStep.{NextStep}
 use Rattle.time_machine.specs.declared.stops.Stop.{Stop}
 use Rattle.time_machine.specs.Stand.{Run, Stand}
-use Rattle.time_machine.specs.Stops.{step_at, is_met, hit_at, met_behind}
+use Rattle.time_machine.specs.Stops.{came_at, step_at, is_met, hit_at, met_behind}
 use Rattle.time_machine.specs.Moves.{EndsForward}
 use Rattle.time_machine.specs.Hits.{IsLatest, later}
 
@@ -35,24 +35,29 @@ pub record IsOnWay (r : Run) (stops : List Stop) (from to : ℕ) (made : Option 
     pub made_is : made ≡ step_at r s.position
 
 -- a pick more was made
-pub record IsOneMore (s t : Stand) (next : Option NextStep) : Type 0 where
+pub record IsOneMore (s t : Stand) (next : Option NextStep) (came : Option ℕ) : Type 0 where
   pub run_is : t.run ≡ s.run
   pub position_is : t.position ≡ s.position + 1
   pub next_is : next ≡ step_at t.run t.position
+  pub came_is : came ≡ came_at s.run s.position
 
-module _ (r : Run) (stops : List Stop) (from to : ℕ) (made next : Option NextStep) (s t : Stand)
-    (way : IsOnWay r stops from to made s) (more : IsOneMore s t next) (below : s.position < to) where
+module _ (r : Run) (stops : List Stop) (from to : ℕ) (made next : Option NextStep) (came : Option ℕ) (s t : Stand)
+    (way : IsOnWay r stops from to made s) (more : IsOneMore s t next came) (below : s.position < to) where
+  came_there : came ≡ came_at r s.position
+  came_there = more.came_is ∙ ap (λ (x : Run). came_at x s.position) way.run_is
+
   next_there : next ≡ step_at r (s.position + 1)
   next_there =
       more.next_is ∙ ap (λ (x : Run). step_at x t.position) (more.run_is ∙ way.run_is)
       ∙ ap (step_at r) more.position_is
 
-  pub met_there : (met : Option ℕ) → met ≡ position (is_met made next) stops → met ≡ met_behind r stops s.position
+  pub met_there : (met : Option ℕ) → met ≡ position (is_met made next came) stops → met ≡ met_behind r stops s.position
   met_there met is =
-      is ∙ ap (λ (m : Option NextStep). position (is_met m next) stops) way.made_is
-      ∙ ap (λ (n : Option NextStep). position (is_met (step_at r s.position) n) stops) next_there
+      is ∙ ap (λ (m : Option NextStep). position (is_met m next came) stops) way.made_is
+      ∙ ap (λ (n : Option NextStep). position (is_met (step_at r s.position) n came) stops) next_there
+      ∙ ap (λ (o : Option ℕ). position (is_met (step_at r s.position) (step_at r (s.position + 1)) o) stops) came_there
 
-  pub goes_on : None ≡ position (is_met made next) stops → IsOnWay r stops from to next t
+  pub goes_on : None ≡ position (is_met made next came) stops → IsOnWay r stops from to next t
   goes_on is =
       let one = more.position_is in
       let low = way.from_there in
@@ -65,7 +70,7 @@ module _ (r : Run) (stops : List Stop) (from to : ℕ) (made next : Option NextS
         made_is = next_there ∙ ap (step_at r) (sym one);
       }
 
-  pub stops_there : (i : ℕ) → Some i ≡ position (is_met made next) stops → EndsForward r stops from to (Some i) t.position
+  pub stops_there : (i : ℕ) → Some i ≡ position (is_met made next came) stops → EndsForward r stops from to (Some i) t.position
   stops_there i is = record {
     last = s.position;
     behind = more.position_is;

@@ -3,11 +3,12 @@ use Rattle.std.proofs.Common.{◌≡◌, ℕ, zero, suc, ◌+◌, List, [], ◌�
 use Rattle.std.specs.Prelude.{option_and_then, slice_get}
 use Rattle.std.specs.Option.{option_map}
 use Rattle.std.proofs.lemmas.Option.{slice_get-map}
-use Rattle.rv32_step.specs.OneMemory.{Original, State, Pick as ModelPick, Allowed, IsRun, after_pick, opening, run}
+use Rattle.rv32_step.specs.OneMemory.{Original, State, Pick as ModelPick, Allowed, IsRun, Step, Break, after_pick, opening, run}
 use Rattle.one_memory.specs.declared.Pick.{Pick}
 use Rattle.one_memory.specs.Shown.{pick_of}
 use Rattle.time_machine.specs.Stand.{Run, IsInterleaved, original_in, picks_in, state_at}
-use Rattle.time_machine.specs.Stops.{step_at, step_by}
+use Rattle.time_machine.specs.Hits.{IsOfOne}
+use Rattle.time_machine.specs.Stops.{came_at, came_by, step_at, step_by}
 
 run_one : (o : Original) (s : State) (ks : List ModelPick) (n : ℕ) (k : ModelPick) → slice_get ks n ≡ Some k → run o s (take (suc n) ks) ≡ after_pick o (run o s (take n ks)) k
 run_one o s [] n k there = absurd (cc)
@@ -51,3 +52,21 @@ module _ (r : Run) (k : ℕ) (pick : Pick) (o : Original) (s : State) (original 
       ap (λ (o : Original). step_by o s (pick_of pick)) original
       ∙ ap (λ (s : State). step_by (original_in r) s (pick_of pick)) state
       ∙ ap (option_and_then (step_by (original_in r) (state_at r k))) (sym (pick_there r k pick there))
+
+of_one : (o : Original) (s : State) (pick : ModelPick) → Allowed o s pick → IsOfOne o.nodes pick
+of_one o s (Step p) is = is.0
+of_one o s (Break p q) is = tt
+
+-- behind a pick
+module _ (r : Run) (k : ℕ) (pick : Pick) (o : Original) (s : State) (original : o ≡ original_in r)
+    (state : s ≡ state_at r (k + 1)) (there : slice_get r.picks k ≡ Some pick) where
+  pub of_one_here : IsInterleaved r → IsOfOne o.nodes (pick_of pick)
+  of_one_here is =
+      subst (λ (o : Original). IsOfOne o.nodes (pick_of pick)) (sym original)
+      (of_one (original_in r) (state_at r k) (pick_of pick) (allowed_there r k pick is there))
+
+  pub came_here : came_by o s (pick_of pick) ≡ came_at r k
+  came_here =
+      ap (λ (o : Original). came_by o s (pick_of pick)) original
+      ∙ ap (λ (s : State). came_by (original_in r) s (pick_of pick)) state
+      ∙ ap (option_and_then (came_by (original_in r) (state_at r (k + 1)))) (sym (pick_there r k pick there))

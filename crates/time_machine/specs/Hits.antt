@@ -1,10 +1,16 @@
 -- Helps the code alone: the last pick that hits a stop.
 use Rattle.std.specs.Prelude.{◌≡◌, ℕ, ◌<◌, List, Option, Some, None}
+use Rattle.rv32_step.specs.OneMemory.{Pick, Step, Break}
 use Rattle.time_machine.specs.declared.run.Hit.{Hit}
 use Rattle.time_machine.specs.declared.stops.Stop.{Stop}
 use Rattle.time_machine.specs.Stand.{Run}
 use Rattle.time_machine.specs.Stops.{hit_at}
 use Rattle.time_machine.specs.Moves.{IsLastHit}
+
+-- the processor of a step is one of so many
+abbrev pub IsOfOne : (processors : ℕ) → Pick → Type 0
+IsOfOne n (Step p) = p < n
+IsOfOne n (Break p q) = Unit {0}
 
 -- of the picks before a position
 abbrev pub IsLatest : Run → List Stop → (before : ℕ) → Option Hit → Type 0

@@ -4,7 +4,7 @@ use Rattle.std.specs.Option.{option_map_or}
 use Rattle.rv32_decode.specs.Widths.{size_of, width_of}
 use Rattle.rv32_step.specs.OneMemory.{Original, State, Pick, Step, Break, Access, Nothing, Reads, Writes, WritesIf, Exchanges, step}
 use Rattle.time_machine.specs.declared.stops.Stop.{Stop}
-use Rattle.time_machine.specs.declared.stops.Stop.TheVariants.{At, StepOf, Watch as Watched}
+use Rattle.time_machine.specs.declared.stops.Stop.TheVariants.{At, StepOf, Watch as Watched, AtOf, WatchOf}
 use Rattle.time_machine.specs.declared.stops.Watch.{Watch}
 use Rattle.time_machine.specs.declared.stops.WatchKind.{WatchKind}
 use Rattle.time_machine.specs.declared.stops.WatchKind.TheVariants as watch
@@ -56,21 +56,37 @@ is_watched w t =
     && nat_lt t.address (w.address + w.size)
 
 -- a step is what the stop names: it begins at an address, it is a processor's, or it touches what
--- is watched
+-- is watched; or it is a processor's, and does one of both
 abbrev pub hits : Stop → NextStep → Bool
 hits (At a) n = option_map_or (λ pc. pc == a) n.start false
 hits (StepOf p) n = n.processor == p
 hits (Watched w) n = option_map_or (is_watched w) n.touch false
+hits (AtOf p a) n = n.processor == p && option_map_or (λ pc. pc == a) n.start false
+hits (WatchOf p w) n = n.processor == p && option_map_or (is_watched w) n.touch false
 
 abbrev pub is_hit : Option NextStep → Stop → Bool
 is_hit n stop = option_map_or (hits stop) n false
 
--- between a step that was made and the next: an address is met before the step from it, all else
--- behind the step that hits it
-abbrev pub is_met : (made next : Option NextStep) → Stop → Bool
-is_met made next (At a) = is_hit next (At a)
-is_met made next (StepOf p) = is_hit made (StepOf p)
-is_met made next (Watched w) = is_hit made (Watched w)
+-- where the processor of a pick stands, unless it goes on with a call
+abbrev pub came_by : Original → State → Pick → Option ℕ
+came_by original s (Step p) = (next_step original s p).start
+came_by original s (Break p q) = None
+
+-- where the processor of pick k stands behind it
+abbrev pub came_at : Run → (k : ℕ) → Option ℕ
+came_at r k =
+    option_and_then (came_by (original_in r) (state_at r (k + 1))) (slice_get (picks_in r) k)
+
+-- Between a step that was made and the next: an address is met before a step that begins there, an
+-- address of one processor as soon as this has come there, and all else behind the step that hits
+-- it.
+abbrev pub is_met : (made next : Option NextStep) → (came : Option ℕ) → Stop → Bool
+is_met made next came (At a) = is_hit next (At a)
+is_met made next came (StepOf p) = is_hit made (StepOf p)
+is_met made next came (Watched w) = is_hit made (Watched w)
+is_met made next came (AtOf p a) =
+    is_hit made (StepOf p) && option_map_or (λ pc. pc == a) came false
+is_met made next came (WatchOf p w) = is_hit made (WatchOf p w)
 
 -- the first of the stops that pick k hits
 abbrev pub hit_at : Run → List Stop → (k : ℕ) → Option ℕ
@@ -78,4 +94,5 @@ hit_at r stops k = position (is_hit (step_at r k)) stops
 
 -- the first of the stops that is met behind pick k
 abbrev pub met_behind : Run → List Stop → (k : ℕ) → Option ℕ
-met_behind r stops k = position (is_met (step_at r k) (step_at r (k + 1))) stops
+met_behind r stops k =
+    position (is_met (step_at r k) (step_at r (k + 1)) (came_at r k)) stops

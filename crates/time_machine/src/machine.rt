@@ -3,12 +3,12 @@
 ghost use Rattle.std.specs.Prelude.{◌≡◌, ◌+◌, ◌^◌, ◌<◌, ◌≤◌, ℕ, length, Some, None, IfOk, OnOk, OnErr};
 ghost use Rattle.one_memory.specs.Machine.{original_of, state_of};
 ghost use Rattle.time_machine.specs.Stand.{Stand, IsInterleaved, original_in, state_at};
-ghost use Rattle.time_machine.specs.Stops.{step_at};
+ghost use Rattle.time_machine.specs.Stops.{came_at, hit_at, step_at};
 ghost use Rattle.time_machine.specs.Moves.{EndsForward, EndsBackward};
 
 use crate::run::PickedRun;
 use crate::step::NextStep;
-use crate::stops::{Stop, first_met};
+use crate::stops::{Stop, first_hit, first_met};
 use block_layout::Layout;
 use exec_map::Program;
 use one_memory::{OneMemory, Pick};
@@ -132,9 +132,9 @@ impl<'a> TimeMachine<'a> {
     {
         let mut made = self.next_step();
         while self.position() < to {
-            self.advance()?;
+            let came = self.advance()?;
             let next = self.next_step();
-            if let Some(stop) = first_met(stops, made, next) {
+            if let Some(stop) = first_met(stops, made, next, came) {
                 return Ok(Some(stop));
             }
             made = next;
@@ -179,19 +179,28 @@ impl<'a> TimeMachine<'a> {
         Ok(())
     }
 
-    /// Makes the next pick. Fails, with nothing changed, where there is no memory for a byte of
-    /// output.
-    fn advance(&mut self) -> Result<(), AllocError>
+    /// Makes the next pick, and says where its processor stands behind it, unless this goes on with
+    /// a call. Fails, with nothing changed, where there is no memory for a byte of output.
+    fn advance(&mut self) -> Result<Option<u32>, AllocError>
         requires { self.old.position < length self.old.run.picks }
         ensures run { self.new.run ≡ self.old.run }
         ensures ok { OnOk result (self.new.position ≡ self.old.position + 1) }
+        ensures came { IfOk result (λ came. came ≡ came_at self.old.run self.old.position) }
         ensures err { OnErr result (self.new.position ≡ self.old.position) }
     {
         // brings: the number of picks has room
         let _picks = self.run.len();
         self.run.make(&mut self.machine, self.position)?;
+        let came = self.run.came(&self.machine, self.position);
         self.position += 1;
-        Ok(())
+        Ok(came)
+    }
+
+    /// The first of the stops that the next step hits.
+    pub fn hit_here(&self, stops: &[Stop]) -> Option<usize>
+        ensures { result ≡ hit_at self.now.run stops.now self.now.position }
+    {
+        first_hit(stops, self.next_step())
     }
 
     /// The step that the next pick is, if it is one.

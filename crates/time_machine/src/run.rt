@@ -6,10 +6,10 @@ ghost use Rattle.rv32_step.specs.OneMemory.{Allowed, after_pick};
 ghost use Rattle.one_memory.specs.Machine.{original_of, state_of};
 ghost use Rattle.one_memory.specs.Shown.{pick_of};
 ghost use Rattle.time_machine.specs.Stand.{IsInterleaved, original_in, state_at};
-ghost use Rattle.time_machine.specs.Stops.{step_at};
+ghost use Rattle.time_machine.specs.Stops.{came_at, step_at};
 ghost use Rattle.time_machine.specs.Hits.{IsLatest, later as model_later};
 
-use crate::step::{NextStep, step_of};
+use crate::step::{NextStep, came_by, step_of};
 use crate::stops::{Stop, first_hit};
 use block_layout::Layout;
 use exec_map::Program;
@@ -91,6 +91,17 @@ impl<'a> PickedRun<'a> {
     {
         let pick = *self.picks.get(k)?;
         step_of(self.program, machine, pick)
+    }
+
+    /// Where the processor of pick `k` stands behind it, unless it goes on with a call. None for a
+    /// break.
+    pub fn came(&self, machine: &OneMemory<'_>, k: usize) -> Option<u32>
+        requires there { k < length self.now.picks }
+        requires original { original_of machine.now ≡ original_in self.now }
+        requires state { state_of machine.now ≡ state_at self.now (k + 1) }
+        ensures { result ≡ came_at self.now k }
+    {
+        came_by(machine, self.picks[k])
     }
 
     /// The last of so many picks that hits one of the stops.

@@ -8,7 +8,9 @@ ghost use Rattle.rv32_program.specs.Program.{class_at, is_mapped, is_writable};
 ghost use Rattle.rv32_step.specs.OneMemory as model;
 ghost use Rattle.one_memory.specs.Machine.{original_of, state_of};
 ghost use Rattle.one_memory.specs.Shown.{pick_of};
-ghost use Rattle.time_machine.specs.Stops.{touch_of, next_step as model_step, step_by};
+ghost use Rattle.time_machine.specs.Hits.{IsOfOne};
+ghost use Rattle.time_machine.specs.Stops.{came_by as model_came, touch_of, next_step as model_step};
+ghost use Rattle.time_machine.specs.Stops.{step_by};
 
 use exec_map::{Class, Program};
 use one_memory::{OneMemory, Pick};
@@ -54,6 +56,17 @@ pub(crate) fn step_of(
 {
     match pick {
         Pick::Step(p) => Some(next_step(program, machine, p)),
+        Pick::Break { .. } => None,
+    }
+}
+
+/// Where the processor of a pick stands, unless it goes on with a call. None for a break.
+pub(crate) fn came_by(machine: &OneMemory<'_>, pick: Pick) -> Option<u32>
+    requires { IsOfOne (original_of machine.now).nodes (pick_of pick) }
+    ensures { result ≡ model_came (original_of machine.now) (state_of machine.now) (pick_of pick) }
+{
+    match pick {
+        Pick::Step(p) => start(machine, p),
         Pick::Break { .. } => None,
     }
 }

@@ -15,6 +15,11 @@ pub enum Stop {
     StepOf(u8),
     /// A step of any processor that touches what is watched.
     Watch(Watch),
+    /// A step of the processor of this number that begins at this address. Forwards it is met as
+    /// soon as the processor has come there.
+    AtOf(u8, u32),
+    /// A step of the processor of this number that touches what is watched.
+    WatchOf(u8, Watch),
 }
 
 /// So many bytes from an address on that are watched.
@@ -40,24 +45,29 @@ pub(crate) fn first_hit(stops: &[Stop], step: Option<NextStep>) -> Option<usize>
     stops.iter().position(|stop| is_hit(step, *stop))
 }
 
-/// The first of the stops that is met between a step that was made and the next.
+/// The first of the stops that is met between a step that was made, where its processor came to, and
+/// the next.
 pub(crate) fn first_met(
     stops: &[Stop],
     made: Option<NextStep>,
     next: Option<NextStep>,
+    came: Option<u32>,
 ) -> Option<usize>
-    ensures { result ≡ position (model.is_met made next) stops.now }
+    ensures { result ≡ position (model.is_met made next came) stops.now }
 {
-    stops.iter().position(|stop| is_met(made, next, *stop))
+    stops
+        .iter()
+        .position(|stop| is_met(made, next, came, *stop))
 }
 
-/// Whether a stop is met between a step that was made and the next.
-fn is_met(made: Option<NextStep>, next: Option<NextStep>, stop: Stop) -> bool
-    ensures { result ≡ model.is_met made next stop }
+/// Whether a stop is met between a step that was made, where its processor came to, and the next.
+fn is_met(made: Option<NextStep>, next: Option<NextStep>, came: Option<u32>, stop: Stop) -> bool
+    ensures { result ≡ model.is_met made next came stop }
 {
     match stop {
         Stop::At(_) => is_hit(next, stop),
-        Stop::StepOf(_) | Stop::Watch(_) => is_hit(made, stop),
+        Stop::AtOf(p, address) => is_hit(made, Stop::StepOf(p)) && begins_at(came, address),
+        Stop::StepOf(_) | Stop::Watch(_) | Stop::WatchOf(..) => is_hit(made, stop),
     }
 }
 
@@ -79,6 +89,8 @@ fn hits(stop: Stop, step: NextStep) -> bool
         Stop::At(address) => begins_at(step.start, address),
         Stop::StepOf(p) => step.processor == p,
         Stop::Watch(watch) => touches(step.touch, watch),
+        Stop::AtOf(p, address) => step.processor == p && begins_at(step.start, address),
+        Stop::WatchOf(p, watch) => step.processor == p && touches(step.touch, watch),
     }
 }
 

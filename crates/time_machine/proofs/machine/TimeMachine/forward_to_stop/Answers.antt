@@ -24,13 +24,14 @@ returns-in-Some-clause-ends c =
     let s = c.loop-made.self in
     let t = c.advance.new.self in
     let first = c.args.self.now in
-    let more : IsOneMore s t c.next_step-next.result = record {
+    let more : IsOneMore s t c.next_step-next.result c.in_ok-came.came = record {
       run_is = c.advance.ensures.run;
-      position_is = c.in_ok-advance.ensures.ok;
+      position_is = c.in_ok-came.ensures.ok;
       next_is = c.next_step-next.ensures;
+      came_is = c.in_ok-came.ensures.came;
     } in
     let below : s.position < c.args.to = omega (arith, c.loop-made-test.true, c.position.ensures.value) in
-    stops_there first.run c.args.stops.now first.position c.args.to c.loop-made.made c.next_step-next.result s t c.loop-made.invariant more below
+    stops_there first.run c.args.stops.now first.position c.args.to c.loop-made.made c.next_step-next.result c.in_ok-came.came s t c.loop-made.invariant more below
     c.in-Some.stop (sym c.in-Some.is ∙ c.first_met.ensures)
 
 pub loop-made-preserved : goal.loop-made-preserved
@@ -38,13 +39,14 @@ loop-made-preserved c =
     let s = c.loop-made.self in
     let t = c.advance.new.self in
     let first = c.args.self.now in
-    let more : IsOneMore s t c.next_step-next.result = record {
+    let more : IsOneMore s t c.next_step-next.result c.in_ok-came.came = record {
       run_is = c.advance.ensures.run;
-      position_is = c.in_ok-advance.ensures.ok;
+      position_is = c.in_ok-came.ensures.ok;
       next_is = c.next_step-next.ensures;
+      came_is = c.in_ok-came.ensures.came;
     } in
     let below : s.position < c.args.to = omega (arith, c.loop-made-test.true, c.position.ensures.value) in
-    goes_on first.run c.args.stops.now first.position c.args.to c.loop-made.made c.next_step-next.result s t c.loop-made.invariant more below
+    goes_on first.run c.args.stops.now first.position c.args.to c.loop-made.made c.next_step-next.result c.in_ok-came.came s t c.loop-made.invariant more below
     (sym c.in_default.is ∙ c.first_met.ensures)
 
 pub returns-clause-ends : goal.returns-clause-ends

@@ -1,0 +1,11 @@
+#![tactic(auto)]
+//! A run on one memory as a target of the debugger: what is seen from a position in it, where its
+//! motions end, and the commands of `monitor`.
+
+mod commands;
+mod run;
+mod stops;
+
+pub use gdb_session;
+pub use run::DebuggedRun;
+pub use time_machine;

@@ -1,0 +1,3 @@
+pub mod Transcripts
+pub mod Ends
+pub mod Parts
