@@ -13,7 +13,7 @@ use Rattle.command_line.specs.declared.table.Role.{Role}
 use Rattle.command_line.specs.declared.table.CommandWord.{CommandWord}
 use Rattle.command_line.specs.declared.table.CommandWord.TheVariants as word
 use Rattle.command_line.specs.declared.Command.{Command as OfCode}
-use Rattle.command_line.specs.Tasks.{Execution, RunArguments, OneArguments, SimArguments, ReplayArguments, Number, MaybeNumber, Read, Write, Flag, AreFew, IsAlone, execution_options, is_alone}
+use Rattle.command_line.specs.Tasks.{Execution, RunArguments, OneArguments, SimArguments, ReplayArguments, Number, Read, Write, Flag, AreFew, IsAlone, execution_options, is_alone}
 use Rattle.command_line.specs.Commands.{RewriteArguments, ListArguments, GenerateArguments, AssembleArguments, Command, Rewrite, Run, Listing, One, Sim, Replay, Generate, Assemble, IsFit, row_of}
 use Rattle.command_line.specs.Asks.{Argument, ArePlaced, Asks, IsNumber, IsSaid, valued}
 use Rattle.command_line.specs.Meaning.{meaning_of}
@@ -35,7 +35,7 @@ given_raw m r id o f e =
     ∙ raw_values-rows (found_of m) (id_of r)))
 
 -- an option says one number
-number_one : (k : Kind) (values : List (List ℕ)) (n m : ℕ) → IsNumberOf k values n
+pub number_one : (k : Kind) (values : List (List ℕ)) (n m : ℕ) → IsNumberOf k values n
     → IsNumberOf k values m → n ≡ m
 number_one (kind.Number low high default) [] n m h k = h ∙ sym k
 number_one (kind.Number low high default) (x ∷ []) n m h k = sym h.value ∙ k.value
@@ -262,7 +262,7 @@ placed_files x y words h =
     subst (ArePlaced (Read (Some x) ∷ Write (Some y) ∷ [])) (sym h.0)
     ((h.1, refl), ((h.2, refl), tt))
 
-same_files : (x y v w : List ℕ) (words : List (List ℕ))
+pub same_files : (x y v w : List ℕ) (words : List (List ℕ))
     → ArePlaced (Read (Some x) ∷ Write (Some y) ∷ []) words
     → ArePlaced (Read (Some v) ∷ Write (Some w) ∷ []) words → (x ≡ v) × (y ≡ w)
 same_files x y v w words h k =

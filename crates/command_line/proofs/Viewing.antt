@@ -9,13 +9,13 @@ use Rattle.command_line.specs.declared.table.ViewWord.TheVariants as word
 use Rattle.command_line.specs.declared.view.View.{View as OfCode}
 use Rattle.command_line.specs.Tasks.{Read}
 use Rattle.command_line.specs.Asks.{Argument, ArePlaced, valued}
-use Rattle.command_line.specs.Views.{View, CodeArguments, RecordedFiles, TimeArguments, Help, Code, Trace, Blocks, Page, Time, Cost, AsksView, IsFitView, code_options, meaning_of_view, view_row}
+use Rattle.command_line.specs.Views.{View, CodeArguments, RecordedFiles, TimeArguments, Help, Code, Trace, Blocks, Page, Time, Cost, Speedup, AsksView, IsFitView, code_options, meaning_of_view, view_row}
 use Rattle.command_line.specs.Table.{name_of, offered, view_settings, view_text}
 use Rattle.command_line.specs.Reading.{AreGiven, AreOfCode, IsCut, IsOfRow, IsViewGiven, Reads, given_by, id_of, words_for}
 use Rattle.command_line.proofs.Addresses.{at_one}
 use Rattle.command_line.proofs.Cuts.{same_cut}
 use Rattle.command_line.proofs.Given.{given_of, gives, row_back, row_cut, row_given, same_head}
-use Rattle.command_line.proofs.Times.{one_time}
+use Rattle.command_line.proofs.Times.{one_speedup, one_time}
 use Rattle.command_line.proofs.Triples.{same_three}
 use Rattle.command_line.proofs.Rows.{flag_one, maybes_one, names_one, same_file, same_read}
 
@@ -34,6 +34,7 @@ Arguments word.Blocks = RecordedFiles
 Arguments word.Page = RecordedFiles × List ℕ × Option ℕ × Option ℕ
 Arguments word.Time = TimeArguments
 Arguments word.Cost = CodeArguments
+Arguments word.Speedup = TimeArguments × List ℕ
 
 abbrev pub view : (w : ViewWord) → Arguments w → View
 view word.Help a = Help
@@ -43,6 +44,7 @@ view word.Blocks a = Blocks a
 view word.Page a = Page a.0 a.1 a.2 a.3
 view word.Time a = Time a
 view word.Cost a = Cost a
+view word.Speedup a = Speedup a.0 a.1
 
 abbrev pub view_word : View → ViewWord
 view_word Help = word.Help
@@ -52,6 +54,7 @@ view_word (Blocks run) = word.Blocks
 view_word (Page run output from to) = word.Page
 view_word (Time a) = word.Time
 view_word (Cost a) = word.Cost
+view_word (Speedup a output) = word.Speedup
 
 abbrev IsWhole : View → ViewWord → Type 0
 IsWhole v w = (a : Arguments w) × (v ≡ view w a)
@@ -64,6 +67,7 @@ arguments_of (Blocks run) = (run, refl)
 arguments_of (Page run output from to) = ((run, output, from, to), refl)
 arguments_of (Time a) = (a, refl)
 arguments_of (Cost a) = (a, refl)
+arguments_of (Speedup a output) = ((a, output), refl)
 
 pub word_is : (v : View) → view_text (view_word v) ≡ (view_row v).word
 word_is Help = refl
@@ -73,11 +77,13 @@ word_is (Blocks run) = refl
 word_is (Page run output from to) = refl
 word_is (Time a) = refl
 word_is (Cost a) = refl
+word_is (Speedup a output) = refl
 
 -- views differ in their words
 abbrev view_words : List ViewWord
 view_words =
-    word.Help ∷ word.Code ∷ word.Trace ∷ word.Blocks ∷ word.Page ∷ word.Time ∷ word.Cost ∷ []
+    word.Help ∷ word.Code ∷ word.Trace ∷ word.Blocks ∷ word.Page ∷ word.Time ∷ word.Cost
+    ∷ word.Speedup ∷ []
 
 abbrev word_at : List ℕ → ViewWord
 word_at text = unwrap_or (find (λ w. bytes_eq (view_text w) text) view_words) word.Help
@@ -90,6 +96,7 @@ word_found word.Blocks = refl
 word_found word.Page = refl
 word_found word.Time = refl
 word_found word.Cost = refl
+word_found word.Speedup = refl
 
 same_word : (v w : ViewWord) → view_text v ≡ view_text w → v ≡ w
 same_word v w e = sym (word_found v) ∙ ap word_at e ∙ word_found w
@@ -185,6 +192,9 @@ one_of_word g word.Page (run, output, from, to) (run', output', from', to') p q 
 one_of_word g word.Time a b p q = ap (λ x. Time x) (one_time g a b p q)
 one_of_word g word.Cost a b p q =
     ap (λ x. Cost x) (one_code g a b p.places q.places p.options q.options)
+one_of_word g word.Speedup (a, output) (b, output') p q =
+    let same = one_speedup g a b output output' p q in
+    ap (λ x. Speedup x output) same.0 ∙ ap (λ x. Speedup b x) same.1
 
 one_view : (g : Given) (v w : View) → IsOfRow (view_row v) g → IsOfRow (view_row w) g
     → (view_row v).word ≡ (view_row w).word → v ≡ w
@@ -205,6 +215,7 @@ settings_by word.Blocks a = refl
 settings_by word.Page a = refl
 settings_by word.Time a = refl
 settings_by word.Cost a = refl
+settings_by word.Speedup a = refl
 
 word_settings : (w : ViewWord) (v : View) → view_text w ≡ (view_row v).word
     → valued (view_row v).options ≡ offered (view_settings w)

@@ -80,8 +80,7 @@ IsSaid (MaybeNumber low high number) [] = number ≡ None
 IsSaid (MaybeNumber low high number) (word ∷ []) =
     (n : ℕ) × IsNumber low high word n × (number ≡ Some n)
 IsSaid (MaybeAddress address) [] = address ≡ None
-IsSaid (MaybeAddress address) (word ∷ []) =
-    (a : ℕ) × IsAddress word a × (address ≡ Some a)
+IsSaid (MaybeAddress address) (word ∷ []) = (a : ℕ) × IsAddress word a × (address ≡ Some a)
 IsSaid (Read name) [] = name ≡ None
 IsSaid (Read name) (word ∷ []) = (0 < length word) × (name ≡ Some word)
 IsSaid (Write name) [] = name ≡ None

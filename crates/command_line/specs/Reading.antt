@@ -10,6 +10,7 @@ use Rattle.command_line.specs.declared.table.Access.TheVariants as access
 use Rattle.command_line.specs.declared.table.Kind.{Kind}
 use Rattle.command_line.specs.declared.table.Kind.TheVariants as kind
 use Rattle.command_line.specs.declared.table.Setting.{Setting}
+use Rattle.command_line.specs.declared.table.Setting.TheVariants.{Nodes}
 use Rattle.command_line.specs.declared.table.Role.{Role}
 use Rattle.command_line.specs.declared.table.Role.TheVariants as role
 use Rattle.command_line.specs.declared.parsing.Given.{Given}
@@ -17,7 +18,7 @@ use Rattle.command_line.specs.declared.parsing.Given.TheVariants as are
 use Rattle.command_line.specs.Tasks.{Saying, Number, MaybeNumber, MaybeAddress, Read, Write, Flag, Row, is_alone}
 use Rattle.command_line.specs.Commands.{Command, IsFit, row_of}
 use Rattle.command_line.specs.Asks.{Argument, ArePlaced, IsArgument, IsPlain, IsSaid, operand_in, value_in, words_of}
-use Rattle.command_line.specs.Views.{CodeArguments, View, IsFitView, code_options, view_row}
+use Rattle.command_line.specs.Views.{CodeArguments, TimeArguments, View, IsFitView, code_options, time_options, view_row}
 use Rattle.command_line.specs.Table.{is_valued, kind_of, name_of, offered, option_word}
 
 -- the name under which `clap` keeps what a role is given
@@ -161,6 +162,15 @@ pub record AreOfCode (given : List ℕ → List (List ℕ)) (a : CodeArguments) 
   pub places : ArePlaced (Read (Some a.file) ∷ []) (given (id_of role.Operand))
   pub options : AreGiven (code_options a) given
   pub alone : IsTrue (is_alone a.verified None a.no_batch)
+
+-- so are those of a run by a clock, beside its file and the count of its nodes
+pub record AreOfTime (given : List ℕ → List (List ℕ)) (a : TimeArguments) : Type 0 where
+  pub options : AreGiven (time_options a) given
+  pub alone : IsTrue (is_alone a.verified None a.no_batch)
+
+-- what is given says this number of the most nodes
+abbrev pub SaysMost : (List ℕ → List (List ℕ)) → ℕ → Type 0
+SaysMost given number = IsSaid (Number 1 16 16 number) (given (name_of Nodes))
 
 -- two dashes and more behind them
 pub record IsLong (word : List ℕ) : Type 0 where

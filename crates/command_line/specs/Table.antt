@@ -110,6 +110,10 @@ view_text view.Blocks = codes "blocks"
 view_text view.Page = codes "page"
 view_text view.Time = codes "time"
 view_text view.Cost = codes "cost"
+view_text view.Speedup = codes "speedup"
+
+abbrev pub time_settings : List Setting
+time_settings = Nodes ∷ Budget ∷ Verify ∷ Layout ∷ NoBatch ∷ Latency ∷ Line ∷ Handling ∷ []
 
 abbrev pub view_settings : ViewWord → List Setting
 view_settings view.Help = []
@@ -117,6 +121,6 @@ view_settings view.Code = Verify ∷ NoBatch ∷ []
 view_settings view.Trace = Verify ∷ From ∷ To ∷ Block ∷ Node ∷ []
 view_settings view.Blocks = Verify ∷ []
 view_settings view.Page = Verify ∷ From ∷ To ∷ []
-view_settings view.Time =
-    Nodes ∷ Budget ∷ Verify ∷ Layout ∷ NoBatch ∷ Latency ∷ Line ∷ Handling ∷ []
+view_settings view.Time = time_settings
 view_settings view.Cost = Verify ∷ NoBatch ∷ []
+view_settings view.Speedup = time_settings

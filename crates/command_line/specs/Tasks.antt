@@ -100,15 +100,13 @@ task_row (Run a) = record {
 task_row (One a) = record {
   word = codes "one";
   places = Read (Some a.file) ∷ [];
-  options =
-      nodes_option a.nodes ∷ order_option a.order ∷ budget_option a.budget
+  options = nodes_option a.nodes ∷ order_option a.order ∷ budget_option a.budget
       ∷ (codes "--layout", Read a.layout) ∷ [];
 }
 task_row (Sim a) = record {
   word = codes "sim";
   places = Read (Some a.execution.file) ∷ [];
-  options =
-      order_option a.order ∷ (codes "--loss", MaybeNumber 0 (2 ^ 32 - 1) a.loss)
+  options = order_option a.order ∷ (codes "--loss", MaybeNumber 0 (2 ^ 32 - 1) a.loss)
       ∷ (codes "--per-node", MaybeNumber 2 4 a.lanes) ∷ execution_options a.execution;
 }
 task_row (Replay a) = record {

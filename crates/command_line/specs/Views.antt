@@ -56,6 +56,8 @@ pub data View : Type 0 where
   Time : TimeArguments → View
   -- show what checks cost in rewritten code
   Cost : CodeArguments → View
+  -- run by a clock 1 node, 2, 4 and so on to the most, and write a page of their speed-up
+  Speedup : (a : TimeArguments) (output : List ℕ) → View
 
 -- options that several views have
 abbrev pub verify_option : Option (List ℕ) → List ℕ × Saying
@@ -66,6 +68,19 @@ from_option stamp = (codes "--from", MaybeNumber 0 (2 ^ 56 - 1) stamp)
 
 abbrev pub to_option : Option ℕ → List ℕ × Saying
 to_option stamp = (codes "--to", MaybeNumber 0 (2 ^ 56 - 1) stamp)
+
+-- the most nodes of several runs
+abbrev pub most_nodes_option : ℕ → List ℕ × Saying
+most_nodes_option nodes = (codes "--nodes", Number 1 16 16 nodes)
+
+-- the options of a run by a clock beside that of its nodes
+abbrev pub time_options : TimeArguments → List (List ℕ × Saying)
+time_options a =
+    budget_option a.budget ∷ verify_option a.verified ∷ (codes "--layout", Read a.layout)
+    ∷ (codes "--no-batch", Flag a.no_batch)
+    ∷ (codes "--latency", Number 0 1000000 1200 a.latency)
+    ∷ (codes "--line", Number 0 1000000 300 a.line)
+    ∷ (codes "--handling", Number 0 1000000 300 a.handling) ∷ []
 
 -- the options of code that is shown
 abbrev pub code_options : CodeArguments → List (List ℕ × Saying)
@@ -99,17 +114,17 @@ view_row (Page run output from to) = record {
 view_row (Time a) = record {
   word = codes "time";
   places = Read (Some a.file) ∷ [];
-  options =
-      nodes_option a.nodes ∷ budget_option a.budget ∷ verify_option a.verified
-      ∷ (codes "--layout", Read a.layout) ∷ (codes "--no-batch", Flag a.no_batch)
-      ∷ (codes "--latency", Number 0 1000000 1200 a.latency)
-      ∷ (codes "--line", Number 0 1000000 300 a.line)
-      ∷ (codes "--handling", Number 0 1000000 300 a.handling) ∷ [];
+  options = nodes_option a.nodes ∷ time_options a;
 }
 view_row (Cost a) = record {
   word = codes "cost";
   places = Read (Some a.file) ∷ [];
   options = code_options a;
+}
+view_row (Speedup a output) = record {
+  word = codes "speedup";
+  places = Read (Some a.file) ∷ Write (Some output) ∷ [];
+  options = most_nodes_option a.nodes ∷ time_options a;
 }
 
 -- a view has nothing too much: beside a verified file no word that batches aren't wanted
@@ -117,6 +132,7 @@ abbrev pub IsFitView : View → Type 0
 IsFitView (Code a) = IsTrue (is_alone a.verified None a.no_batch)
 IsFitView (Time a) = IsTrue (is_alone a.verified None a.no_batch)
 IsFitView (Cost a) = IsTrue (is_alone a.verified None a.no_batch)
+IsFitView (Speedup a output) = IsTrue (is_alone a.verified None a.no_batch)
 IsFitView view = Unit {0}
 
 -- the names of the files that a view reads, and of those that it writes
@@ -164,3 +180,4 @@ meaning_of_view (asked.Blocks run) = Blocks (recorded_of run)
 meaning_of_view (asked.Page run output from to) = Page (recorded_of run) output.now from to
 meaning_of_view (asked.Time a) = Time (time_of a)
 meaning_of_view (asked.Cost a) = Cost (code_of a)
+meaning_of_view (asked.Speedup arguments output) = Speedup (time_of arguments) output.now

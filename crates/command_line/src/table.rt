@@ -82,6 +82,7 @@ pub(crate) enum ViewWord {
     Page,
     Time,
     Cost,
+    Speedup,
 }
 
 impl CommandWord {
@@ -159,6 +160,7 @@ impl ViewWord {
             "page" => Some(ViewWord::Page),
             "time" => Some(ViewWord::Time),
             "cost" => Some(ViewWord::Cost),
+            "speedup" => Some(ViewWord::Speedup),
             _ => None,
         }
     }
@@ -179,7 +181,7 @@ impl ViewWord {
             ],
             ViewWord::Blocks => &[Setting::Verify],
             ViewWord::Page => &[Setting::Verify, Setting::From, Setting::To],
-            ViewWord::Time => &[
+            ViewWord::Time | ViewWord::Speedup => &[
                 Setting::Nodes,
                 Setting::Budget,
                 Setting::Verify,

@@ -1,12 +1,13 @@
 //! The words of the viewer's command line, and what they ask for.
 
-ghost use Rattle.std.specs.Prelude.{◌≡◌, ℕ, codes, IfOk, MatchOption, Option};
+ghost use Rattle.std.specs.Prelude.{◌≡◌, ℕ, codes, IfOk, IfSome, MatchOption, Option};
 ghost use Rattle.command_line.specs.Costs.{IsCost};
-ghost use Rattle.command_line.specs.Reading.{AreOfCode, given_by, IsViewGiven, SaysAt};
-ghost use Rattle.command_line.specs.Reading.{SaysMaybe, SaysNumber};
+ghost use Rattle.command_line.specs.Reading.{AreOfCode, AreOfTime, given_by, IsViewGiven, SaysAt};
+ghost use Rattle.command_line.specs.Reading.{SaysMaybe, SaysMost, SaysNumber};
 ghost use Rattle.command_line.specs.Table.{kind_of, view_text};
-ghost use Rattle.command_line.specs.Views.{CodeArguments as AskedCode, View as Asked, AsksView};
-ghost use Rattle.command_line.specs.Views.{code_of, meaning_of_view};
+ghost use Rattle.command_line.specs.Views.{CodeArguments as AskedCode, TimeArguments as AskedTime};
+ghost use Rattle.command_line.specs.Views.{View as Asked, AsksView};
+ghost use Rattle.command_line.specs.Views.{code_of, meaning_of_view, time_of as asked_time};
 
 use crate::cost::Cost;
 use crate::number::address_of;
@@ -54,6 +55,12 @@ pub enum View<'a> {
     Time(TimeArguments<'a>),
     /// Show what checks cost in rewritten code.
     Cost(CodeArguments<'a>),
+    /// Run 1 node by a clock, 2, 4 and so on to the most, and write a page of their speed-up into
+    /// the file `output`.
+    Speedup {
+        arguments: TimeArguments<'a>,
+        output: &'a str,
+    },
 }
 
 /// What `code` and `cost` are given.
@@ -78,7 +85,7 @@ pub struct RecordedFiles<'a> {
     pub verified: Option<&'a str>,
 }
 
-/// What `time` is given.
+/// What `time` is given, and `speedup`, whose runs are of 1 node up to so many.
 #[derive(Clone, Copy, Debug, PartialEq, Eq)]
 pub struct TimeArguments<'a> {
     /// The file of the executable, whose rewritten code the nodes run.
@@ -263,14 +270,18 @@ fn cost_in(matches: &ArgMatches<'_>, setting: Setting) -> Option<Cost>
     Some(cost)
 }
 
-/// The view `time`.
-fn time_of<'a>(matches: &ArgMatches<'a>) -> Option<View<'a>>
-    ensures { MatchOption result
-        ((v : Asked) → IsViewGiven (codes "time") (given_by matches.now) v → ⊥)
-        (λ v. IsViewGiven (codes "time") (given_by matches.now) (meaning_of_view v)) }
+/// What `time` and `speedup` are given beside this file and this count of nodes.
+fn time_arguments_in<'a>(
+    matches: &ArgMatches<'a>,
+    file: &'a str,
+    nodes: NodeCount,
+) -> Option<TimeArguments<'a>>
+    ensures given { MatchOption result
+        ((a : AskedTime) → AreOfTime (given_by matches.now) a → ⊥)
+        (λ a. AreOfTime (given_by matches.now) (asked_time a)) }
+    ensures file { IfSome result (λ a. a.file.now ≡ file.now) }
+    ensures nodes { IfSome result (λ a. a.nodes ≡ nodes) }
 {
-    let file = file_in(matches)?;
-    let nodes = nodes_in(matches)?;
     let budget = budget_in(matches)?;
     let verified = name_in(matches, Setting::Verify)?;
     let layout = name_in(matches, Setting::Layout)?;
@@ -281,7 +292,7 @@ fn time_of<'a>(matches: &ArgMatches<'a>) -> Option<View<'a>>
     if !is_alone(verified, None, no_batch) {
         return None;
     }
-    Some(View::Time(TimeArguments {
+    Some(TimeArguments {
         file,
         nodes,
         budget,
@@ -291,7 +302,48 @@ fn time_of<'a>(matches: &ArgMatches<'a>) -> Option<View<'a>>
         latency,
         line,
         handling,
-    }))
+    })
+}
+
+/// The view `time`.
+fn time_of<'a>(matches: &ArgMatches<'a>) -> Option<View<'a>>
+    ensures { MatchOption result
+        ((v : Asked) → IsViewGiven (codes "time") (given_by matches.now) v → ⊥)
+        (λ v. IsViewGiven (codes "time") (given_by matches.now) (meaning_of_view v)) }
+{
+    let file = file_in(matches)?;
+    let nodes = nodes_in(matches)?;
+    match time_arguments_in(matches, file, nodes) {
+        Some(arguments) => Some(View::Time(arguments)),
+        None => None,
+    }
+}
+
+/// The most nodes of `speedup`, which are 16 where the option is not there.
+fn most_nodes_in(matches: &ArgMatches<'_>) -> Option<NodeCount>
+    ensures { MatchOption result ((n : ℕ) → SaysMost (given_by matches.now) n → ⊥)
+        (λ c. SaysMost (given_by matches.now) c) }
+{
+    match given_for(matches, Role::Option(Setting::Nodes)) {
+        Given::Nothing => NodeCount::of(16),
+        Given::One(_) => nodes_in(matches),
+        Given::Two(_, _) => None,
+        Given::More => None,
+    }
+}
+
+/// The view `speedup`.
+fn speedup_of<'a>(matches: &ArgMatches<'a>) -> Option<View<'a>>
+    ensures { MatchOption result
+        ((v : Asked) → IsViewGiven (codes "speedup") (given_by matches.now) v → ⊥)
+        (λ v. IsViewGiven (codes "speedup") (given_by matches.now) (meaning_of_view v)) }
+{
+    let (file, output) = two_operands_in(matches)?;
+    let nodes = most_nodes_in(matches)?;
+    match time_arguments_in(matches, file, nodes) {
+        Some(arguments) => Some(View::Speedup { arguments, output }),
+        None => None,
+    }
 }
 
 /// The view of a word that is a view's, with these arguments.
@@ -308,6 +360,7 @@ fn view_in<'a>(word: ViewWord, matches: &ArgMatches<'a>) -> Option<View<'a>>
         ViewWord::Page => page_of(matches),
         ViewWord::Time => time_of(matches),
         ViewWord::Cost => cost_of(matches),
+        ViewWord::Speedup => speedup_of(matches),
     }
 }
 

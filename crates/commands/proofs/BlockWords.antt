@@ -9,7 +9,7 @@ use Rattle.block_layout.specs.Text.{HasFields, IsHexadecimal, Name, text_lines}
 use Rattle.block_layout.specs.declared.layout.BlockRange.{BlockRange}
 use Rattle.block_layout.specs.declared.ranges.Lines.{Lines}
 use Rattle.run_record.specs.Telling.{HasWords}
-use Rattle.judged_files.specs.Layouts.{IsLayoutBy}
+use Rattle.judged_files.specs.Layouts.{IsLayoutOfLines}
 
 word_low : (word : List ℕ) (n : ℕ) → IsHexadecimal word n → n < 2 ^ 32
 word_low word n h =
@@ -36,7 +36,7 @@ all_words (line ∷ more) named (inr h) =
 
 -- so do those of a layout that a text gives, or none
 pub named_words : (text : Option (List ℕ)) (shared : List Lines) (nodes : ℕ) (layout : Shape)
-    → IsLayoutBy text shared nodes layout → All HasWords layout.named
+    → IsLayoutOfLines text shared nodes layout → All HasWords layout.named
 named_words None shared nodes layout h =
     subst (λ (s : Shape). All HasWords s.named) (sym h) (All-nil HasWords)
 named_words (Some text) shared nodes layout h = all_words (text_lines text) layout.named h.named

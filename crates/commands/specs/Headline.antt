@@ -31,7 +31,7 @@ use Rattle.dsm_io.specs.States.{FilesState, SinkState}
 use Rattle.judged_files.specs.Executables.{IsProgramOf}
 use Rattle.judged_files.specs.Inputs.{Inputs}
 use Rattle.commands.specs.Inputs.{inputs_of}
-use Rattle.judged_files.specs.Layouts.{IsLayoutFor}
+use Rattle.judged_files.specs.Layouts.{IsLayoutOfExecutable}
 use Rattle.commands.specs.LaneRuns.{IsLaneRunOf}
 use Rattle.prepared_run.specs.Outcomes.{status_of, told, text_of}
 use Rattle.commands.specs.Records.{record_of}
@@ -115,7 +115,7 @@ pub record IsOutcomeByOrder (inputs : Inputs) (nodes order budget : ℕ) (outcom
     pub elf : Elf
     pub executable : IsProgramOf inputs.executable elf
     pub layout : Shape
-    pub laid_out : IsLayoutFor elf inputs.layout nodes layout
+    pub laid_out : IsLayoutOfExecutable elf inputs.layout nodes layout
     pub ordered : IsRunByOrder (record { program = program_of elf; layout = layout; nodes = nodes })
         budget order outcome.output outcome.ends
     pub counts : outcome.counts ≡ []

@@ -69,6 +69,5 @@ pub record PrintsOriginal (task : Task) (contents : List ℕ → List ℕ)
 
 -- each file that the command reads is told to have its content
 abbrev pub AreFilesTold : Task → FilesState → (List ℕ → List ℕ) → Type 0
-AreFilesTold task files contents =
-    (name : List ℕ) → Contains (read_in (task_row task)) name
+AreFilesTold task files contents = (name : List ℕ) → Contains (read_in (task_row task)) name
     → files.held name ≡ Some (contents name)

@@ -7,14 +7,15 @@ use Rattle.block_layout.specs.Layout.{Shape}
 use Rattle.block_layout.specs.Text.{IsLayoutOf}
 
 -- the layout of shared lines that a text is, for so many nodes; without a text each line is a block
-abbrev pub IsLayoutBy : Option (List ℕ) → List Lines → ℕ → Shape → Type 0
-IsLayoutBy None shared nodes layout =
+abbrev pub IsLayoutOfLines : Option (List ℕ) → List Lines → ℕ → Shape → Type 0
+IsLayoutOfLines None shared nodes layout =
     layout ≡ record { shared = shared; named = []; nodes = nodes }
-IsLayoutBy (Some text) shared nodes layout = IsLayoutOf text shared nodes layout
+IsLayoutOfLines (Some text) shared nodes layout = IsLayoutOf text shared nodes layout
 
 -- the layout of the executable's shared lines
-pub record IsLayoutFor (elf : Elf) (text : Option (List ℕ)) (nodes : ℕ) (layout : Shape) : Type 0
+pub record IsLayoutOfExecutable (elf : Elf) (text : Option (List ℕ)) (nodes : ℕ)
+    (layout : Shape) : Type 0
   where
     pub shared : List Lines
     pub lines : AreSharedRanges elf shared
-    pub reads : IsLayoutBy text shared nodes layout
+    pub reads : IsLayoutOfLines text shared nodes layout

@@ -3,7 +3,7 @@
 ghost use Rattle.std.specs.Prelude.{option_map, IfOk, IfErr};
 ghost use Rattle.block_layout.specs.Layout.{IsValid};
 ghost use Rattle.text_output.specs.Failures.{IsRefusal, IsNever};
-ghost use Rattle.judged_files.specs.Layouts.{IsLayoutFor};
+ghost use Rattle.judged_files.specs.Layouts.{IsLayoutOfExecutable};
 ghost use Rattle.judged_files.specs.Refusals.{IsFaultyLayout};
 ghost use Rattle.judged_files.specs.Records.{AreFaultyBlocks, IsLayoutOfBlocks};
 ghost use Rattle.run_limits.specs.Ranges.{IsNodeCount};
@@ -25,7 +25,7 @@ pub fn layout_for(
     nodes: NodeCount,
 ) -> Result<Layout, Failure>
     ensures ok { IfOk result
-        (IsLayoutFor program.now (option_map (λ text. text.now) text.entry) nodes) }
+        (IsLayoutOfExecutable program.now (option_map (λ text. text.now) text.entry) nodes) }
     ensures valid { IfOk result IsValid }
     ensures refused { IfErr result (IsRefusal IsNever
         (IsFaultyLayout program.now (option_map (λ text. text.now) text.entry) nodes)) }

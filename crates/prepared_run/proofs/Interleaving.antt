@@ -19,7 +19,7 @@ use Rattle.replay.specs.rewriting_law.CoreRun.{picks_of}
 use Rattle.replay.specs.rewriting_law.Interleaving.{EndsAs, original_by_node, original_after}
 use Rattle.judged_files.specs.Code.{Choice, choice_of}
 use Rattle.judged_files.specs.Inputs.{Inputs}
-use Rattle.judged_files.specs.Layouts.{IsLayoutFor}
+use Rattle.judged_files.specs.Layouts.{IsLayoutOfExecutable}
 use Rattle.prepared_run.specs.WholeRuns.{IsRunOf, IsRunOfCode, IsWholeRun}
 use Rattle.prepared_run.specs.Interleaved.{IsInterleaved, IsLaidOutBy, TellsOfOriginal, least_steps}
 use Rattle.prepared_run.specs.Outcomes.{told, outcome_tail, text_of}
@@ -129,7 +129,7 @@ text_as false o = refl
 
 -- the layout that a text gives, or none, is over the executable's shared lines
 pub layout_given : (elf : Elf) (text : Option (List ℕ)) (nodes : ℕ) (layout : Shape)
-    → IsLayoutFor elf text nodes layout
+    → IsLayoutOfExecutable elf text nodes layout
     → AreSharedRanges elf layout.shared × IsLaidOutBy text nodes layout
 layout_given elf None nodes layout h = (
   subst (λ (s : Shape). AreSharedRanges elf s.shared) (sym h.reads) h.lines,

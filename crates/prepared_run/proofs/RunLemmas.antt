@@ -25,7 +25,7 @@ use Rattle.judged_files.specs.Code.{Choice, choice_of, IsChosen, IsFileOf, IsRew
 use Rattle.judged_files.specs.Executables.{IsProgramOf}
 use Rattle.prepared_run.specs.Ready.{GivesCode, GivesRuns, IsAskedWork}
 use Rattle.judged_files.specs.Inputs.{Inputs}
-use Rattle.judged_files.specs.Layouts.{IsLayoutBy, IsLayoutFor}
+use Rattle.judged_files.specs.Layouts.{IsLayoutOfLines, IsLayoutOfExecutable}
 use Rattle.prepared_run.specs.WholeRuns.{HasMail}
 use Rattle.judged_files.specs.Records.{IsLayoutOfBlocks}
 
@@ -43,17 +43,17 @@ laid_by class.Private t e = (λ h. cc, λ h. (let bad = sym e ∙ h in cc))
 laid_by class.Unmapped t e = (λ h. cc, λ h. (let bad = sym e ∙ h in cc))
 
 pub shape_facts : (text : Option (List ℕ)) (shared : _) (nodes : ℕ) (layout : Shape)
-    → IsLayoutBy text shared nodes layout → (layout.shared ≡ shared) × (layout.nodes ≡ nodes)
+    → IsLayoutOfLines text shared nodes layout → (layout.shared ≡ shared) × (layout.nodes ≡ nodes)
 shape_facts None shared nodes layout h =
     (ap (λ (s : Shape). s.shared) h, ap (λ (s : Shape). s.nodes) h)
 shape_facts (Some text) shared nodes layout h = (h.shared_is, h.nodes_is)
 
 pub nodes_of : (elf : Elf) (text : Option (List ℕ)) (nodes : ℕ) (layout : Shape)
-    → IsLayoutFor elf text nodes layout → layout.nodes ≡ nodes
+    → IsLayoutOfExecutable elf text nodes layout → layout.nodes ≡ nodes
 nodes_of elf text nodes layout h = (shape_facts text h.shared nodes layout h.reads).1
 
 pub laid_over : (elf : Elf) (text : Option (List ℕ)) (nodes : ℕ) (layout : Shape)
-    → IsLayoutFor elf text nodes layout → IsLaidOver (program_of elf) layout
+    → IsLayoutOfExecutable elf text nodes layout → IsLaidOver (program_of elf) layout
 laid_over elf text nodes layout h line =
     laid_by (class_of_line elf line) (is_shared_line layout line)
     (shared_as layout line
@@ -243,7 +243,7 @@ module _ (choice : Choice) (file : List ℕ) (budget : ℕ) (elf : Elf) (plan : 
 -- a run of the code is a run of the inputs, where a file of code is that, and the layout is theirs
 pub gives_runs : (inputs : Inputs) (nodes budget : ℕ) (elf : Elf) (plan : List PlanEntry)
     (image : List Cell) (layout : Shape) → IsFileOf (rewritten_elf elf image plan) inputs.code
-    → IsLayoutFor elf inputs.layout nodes layout
+    → IsLayoutOfExecutable elf inputs.layout nodes layout
     → GivesCode (choice_of inputs.batches inputs.verified) inputs.executable elf plan
     (work_with elf image layout budget)
     → GivesRuns inputs nodes budget (work_with elf image layout budget)
@@ -263,7 +263,7 @@ pub asked_work : (inputs : Inputs) (nodes budget : ℕ) (elf : Elf) (plan : List
     (image : List Cell) (layout : Shape)
     → AreReady (choice_of inputs.batches inputs.verified) inputs.executable elf plan image layout
     → IsFileOf (rewritten_elf elf image plan) inputs.code
-    → IsLayoutFor elf inputs.layout nodes layout
+    → IsLayoutOfExecutable elf inputs.layout nodes layout
     → IsAskedWork inputs nodes budget elf plan (work_with elf image layout budget)
 asked_work inputs nodes budget elf plan image layout ready code laid_out = record {
   rewritten = ready.rewritten;

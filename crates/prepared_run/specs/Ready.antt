@@ -15,7 +15,7 @@ use Rattle.rewrite_verify.specs.rewriter.RewrittenFile.{rewritten_elf}
 use Rattle.judged_files.specs.Code.{Choice, IsFileOf, IsRewritingOf, choice_of}
 use Rattle.prepared_run.specs.Replays.{IsWorkOf}
 use Rattle.judged_files.specs.Inputs.{Inputs}
-use Rattle.judged_files.specs.Layouts.{IsLayoutFor}
+use Rattle.judged_files.specs.Layouts.{IsLayoutOfExecutable}
 
 -- what the nodes run by prepared parts
 abbrev pub work_for : Prepared → Work
@@ -52,7 +52,7 @@ pub record IsAskedWork (inputs : Inputs) (nodes budget : ℕ) (elf : Elf) (plan 
       plan work.image
   pub program : work.program ≡ program_of elf
   pub code : IsFileOf (rewritten_elf elf work.image plan) inputs.code
-  pub laid_out : IsLayoutFor elf inputs.layout nodes work.layout
+  pub laid_out : IsLayoutOfExecutable elf inputs.layout nodes work.layout
   pub count : work.layout.nodes ≡ nodes
   pub limit : work.budget ≡ budget
 

@@ -16,7 +16,7 @@ use Rattle.replay.specs.rewriting_law.Interleaving.{Interleaves, IsCoherent, ori
 use Rattle.replay.specs.rewriting_law.Licence.{AllLicensed}
 use Rattle.rewrite_verify.specs.rewriter.RewrittenFile.{rewritten_elf}
 use Rattle.judged_files.specs.Inputs.{Inputs}
-use Rattle.judged_files.specs.Layouts.{IsLayoutFor}
+use Rattle.judged_files.specs.Layouts.{IsLayoutOfExecutable}
 
 -- one of the lists between n nodes holds a message
 abbrev pub HasMail : ℕ → Core → Type 0
@@ -83,6 +83,6 @@ pub record IsRunOf (inputs : Inputs) (nodes budget : ℕ) (work : Work) (own : L
   pub of_code : IsRunOfCode (choice_of inputs.batches inputs.verified) inputs.executable elf plan
       work own outcome
   pub code : IsFileOf (rewritten_elf elf work.image plan) inputs.code
-  pub laid_out : IsLayoutFor elf inputs.layout nodes work.layout
+  pub laid_out : IsLayoutOfExecutable elf inputs.layout nodes work.layout
   pub count : work.layout.nodes ≡ nodes
   pub limit : work.budget ≡ budget

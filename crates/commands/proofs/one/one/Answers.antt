@@ -11,7 +11,7 @@ use Rattle.judged_files.specs.declared.refusal.Subject.TheVariants.{Executable}
 use Rattle.text_output.specs.Failures.{IsNever}
 use Rattle.judged_files.specs.Given.{bytes_of}
 use Rattle.commands.specs.Headline.{IsOutcomeByOrder, IsTextWith}
-use Rattle.judged_files.specs.Layouts.{IsLayoutFor}
+use Rattle.judged_files.specs.Layouts.{IsLayoutOfExecutable}
 use Rattle.commands.specs.Refusals.{IsBadLayout}
 use Rattle.judged_files.specs.Refusals.{IsFaultyLayout}
 use Rattle.text_output.proofs.Pieces.{never, refused_first}
@@ -76,7 +76,7 @@ returns-clause-ok g c =
       elf = e;
       executable = record { reads = c.in_ok-elf.ensures.ok; accepted = c.in_ok-program.ensures.acceptable };
       layout = layout;
-      laid_out = subst (λ x. IsLayoutFor x inputs.layout n layout) c.in_ok-program.ensures.ok c.in_ok-layout.ensures.ok;
+      laid_out = subst (λ x. IsLayoutOfExecutable x inputs.layout n layout) c.in_ok-program.ensures.ok c.in_ok-layout.ensures.ok;
       ordered = ordered;
       counts = refl;
     } in
@@ -104,7 +104,7 @@ returns-clause-failure g c =
       elf = e;
       executable = record { reads = c.in_ok-elf.ensures.ok; accepted = c.in_ok-program.ensures.acceptable };
       layout = layout;
-      laid_out = subst (λ x. IsLayoutFor x inputs.layout n layout) c.in_ok-program.ensures.ok c.in_ok-layout.ensures.ok;
+      laid_out = subst (λ x. IsLayoutOfExecutable x inputs.layout n layout) c.in_ok-program.ensures.ok c.in_ok-layout.ensures.ok;
       ordered = ordered;
       counts = refl;
     } in

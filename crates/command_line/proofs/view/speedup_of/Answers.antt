@@ -1,0 +1,39 @@
+use Rattle.std.proofs.Common.{refl, subst, sym}
+use Rattle.command_line.specs.declared.table.Role.TheVariants as role
+use Rattle.command_line.specs.declared.table.ViewWord.TheVariants as word
+use Rattle.command_line.specs.Reading.{AreTwo, SaysMost, given_by, id_of}
+use Rattle.command_line.proofs.Rows.{placed_files, two_files}
+use Rattle.command_line.proofs.Viewing.{as_view}
+use Rattle.command_line.proofs.view.speedup_of.Goals as goal
+
+pub returns-in_err-file : goal.returns-in_err-file
+returns-in_err-file c =
+    rw c.from_residual.ensures (λ v h.
+    let r = as_view word.Speedup (given_by c.args.matches.now) v h in
+    c.in_err-file.ensures r.0.0.file r.0.1 (two_files r.0.0.file r.0.1 _ r.1.of_row.places))
+
+pub returns-in_err-nodes : goal.returns-in_err-nodes
+returns-in_err-nodes c =
+    rw c.from_residual-in_err-nodes.ensures (λ v h.
+    let r = as_view word.Speedup (given_by c.args.matches.now) v h in
+    c.in_err-nodes.ensures r.0.0.nodes r.1.of_row.options.0)
+
+pub returns-in-None : goal.returns-in-None
+returns-in-None c = λ v h.
+    let r = as_view word.Speedup (given_by c.args.matches.now) v h in
+    c.in-None.ensures.given r.0.0 (record { options = r.1.of_row.options.1; alone = r.1.fits })
+
+pub returns-in-Some : goal.returns-in-Some
+returns-in-Some c =
+    let g = given_by c.args.matches.now in
+    let a = c.in-Some.ensures in
+    let output = c.in_ok-file.output.now in
+    record {
+      word_is = refl;
+      fits = a.given.alone;
+      of_row = record {
+        places = placed_files c.in-Some.arguments.file.now output _
+            (subst (λ f. AreTwo f output (g (id_of role.Operand))) (sym a.file) c.in_ok-file.ensures);
+        options = (subst (SaysMost g) (sym a.nodes) c.in_ok-nodes.ensures, a.given.options);
+      };
+    }
