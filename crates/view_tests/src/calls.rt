@@ -13,6 +13,8 @@ pub(crate) const USAGE: &str = "usage: shasta_view code IN [--verify FILE | --no
        shasta_view page IN RECORD OUT [--verify FILE] [--from S] [--to S]
        shasta_view time IN [--nodes N] [--budget B] [--layout FILE] [--verify FILE | --no-batch] \
     [--latency L] [--line P] [--handling H]
+       shasta_view speedup IN OUT [--nodes N] [--budget B] [--layout FILE] \
+    [--verify FILE | --no-batch] [--latency L] [--line P] [--handling H]
        shasta_view --help
 ";
 
@@ -47,4 +49,13 @@ pub(crate) fn try_views(alloc: Global, files: &[(&str, &[u8])], rows: &[Row]) ->
         try_view(alloc, held, row)?;
     }
     Ok(())
+}
+
+/// Makes a call, fails the test where it answers otherwise, and gives what OUT then holds.
+pub(crate) fn written(alloc: Global, files: &[(&str, &[u8])], row: &Row) -> Result<Vec<u8>, Fail> {
+    let (line, status, out, err) = *row;
+    let answer = Expected { status, out, err };
+    let called = show(alloc, sure(files), line)?;
+    called.expect(alloc, line, &answer)?;
+    Ok(called.written)
 }

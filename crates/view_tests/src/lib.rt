@@ -14,6 +14,8 @@ mod lines;
 #[cfg(test)]
 mod page;
 #[cfg(test)]
+mod speedup;
+#[cfg(test)]
 mod time;
 #[cfg(test)]
 mod trace;

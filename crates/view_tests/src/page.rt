@@ -1,11 +1,11 @@
 //! `page`, of the run of two nodes whose trace `trace` puts.
 
-use crate::calls::{Row, USAGE, show};
+use crate::calls::{Row, USAGE, written};
 use crate::trace::{RECORD, ROW};
 use std::alloc::Global;
 use std::str::from_utf8;
 use std::test::Fail;
-use test_calls::calls::{Expected, executable, expect_text, sure};
+use test_calls::calls::{executable, expect_text};
 
 /// What the page's file holds before.
 const BEFORE: &str = "before";
@@ -51,15 +51,6 @@ const UNWRITTEN: [Row; 6] = [
         "shasta: record refused 44 at node 0 entry 2\n",
     ),
 ];
-
-/// Makes a call, fails the test where it answers otherwise, and gives what OUT then holds.
-fn written(alloc: Global, files: &[(&str, &[u8])], row: &Row) -> Result<Vec<u8>, Fail> {
-    let (line, status, out, err) = *row;
-    let answer = Expected { status, out, err };
-    let called = show(alloc, sure(files), line)?;
-    called.expect(alloc, line, &answer)?;
-    Ok(called.written)
-}
 
 /// Fails the test where a call doesn't write a page that says this of its events.
 fn try_page(

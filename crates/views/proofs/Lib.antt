@@ -14,3 +14,5 @@ mod Runs
 mod Pages
 mod Written
 mod Timed
+mod Sped
+mod Speeding

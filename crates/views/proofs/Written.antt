@@ -176,7 +176,7 @@ unwritten_status run output s before now (Text line) h = absurd h.failure
 unwritten_status run output s before now Output h = absurd h.failure
 unwritten_status run output s before now OutOfMemory h = inr refl
 
-no_both : (n : ℕ) → (n ≡ 3) ⊎ (n ≡ 5) → IsRefusalStatus n → ⊥
+pub no_both : (n : ℕ) → (n ≡ 3) ⊎ (n ≡ 5) → IsRefusalStatus n → ⊥
 no_both n h k = omega (arith, h, k)
 
 pub page_kept : (run : RecordedFiles) (output : List ℕ) (s : Selection) (before now : FilesState) (f : Failure)
@@ -244,7 +244,7 @@ page_longer run output from to before now (Err f) name content ok failure among 
 rose_before : (a b c : ℕ) → a ≤ b → Rose b c → Rose a c
 rose_before a b c low rose = omega (arith, low, rose)
 
-write_before : (before between now : FilesState) (output : List ℕ) (f : Failure)
+pub write_before : (before between now : FilesState) (output : List ℕ) (f : Failure)
     → between.held output ≡ before.held output → before.failed_writes output ≤ between.failed_writes output
     → IsWriteFailure between now output f → IsWriteFailure before now output f
 write_before before between now output (Input line) same low h = absurd h
@@ -261,7 +261,7 @@ write_before before between now output OutOfMemory same low h = elim h [
       inr (rose_before (before.failed_writes output) (between.failed_writes output) (now.failed_writes output) low rose)
 ]
 
-held_is : (held : Option (List ℕ)) (bytes : List ℕ) (P : List ℕ → Type 0) → P bytes
+pub held_is : (held : Option (List ℕ)) (bytes : List ℕ) (P : List ℕ → Type 0) → P bytes
     → IfSome held (λ content. content ≡ bytes) → IfSome held P
 held_is None bytes P p h = h
 held_is (Some content) bytes P p h = subst P (sym h) p

@@ -2,7 +2,7 @@
 use Rattle.std.specs.Prelude.{◌≡◌, ℕ, List, [], ◌++◌, Some, None, IfSome, Contains, codes}
 use Rattle.dsm_io.specs.Causes.{Appends, AppendsPrefix}
 use Rattle.dsm_io.specs.States.{FilesState, SinkState}
-use Rattle.command_line.specs.Views.{View, Help, Code, Cost, Trace, Blocks, reads, Page, Time, writes}
+use Rattle.command_line.specs.Views.{View, Help, Code, Cost, Trace, Blocks, reads, Page, Speedup, Time, writes}
 use Rattle.judged_files.specs.Refusals.{IsBadRunLayout, IsRunRefused}
 use Rattle.prepared_run.specs.Replays.{IsReplayRefused, IsBadReplayLayout, IsBadRecord}
 use Rattle.views.specs.Code.{IsCodeText, IsCodeless, coded}
@@ -11,6 +11,7 @@ use Rattle.views.specs.Trace.{recorded, IsTraceText}
 use Rattle.views.specs.Blocks.{AreCostsOfRun}
 use Rattle.views.specs.Page.{IsPageText}
 use Rattle.views.specs.Time.{IsTimeText, costs_of, timed}
+use Rattle.views.specs.Speedup.{IsBadLayoutOf, IsSpeedupPage, counts_to}
 
 -- how the viewer is called
 unfoldable pub usage : List ℕ
@@ -23,7 +24,9 @@ usage =
     ++ (codes "       shasta_view page IN RECORD OUT [--verify FILE] [--from S] [--to S]\n"
     ++ (codes "       shasta_view time IN [--nodes N] [--budget B] [--layout FILE]"
     ++ (codes " [--verify FILE | --no-batch] [--latency L] [--line P] [--handling H]\n"
-    ++ codes "       shasta_view --help\n")))))))
+    ++ (codes "       shasta_view speedup IN OUT [--nodes N] [--budget B] [--layout FILE]"
+    ++ (codes " [--verify FILE | --no-batch] [--latency L] [--line P] [--handling H]\n"
+    ++ codes "       shasta_view --help\n")))))))))
 
 -- the text of a view, where files have these contents
 abbrev pub IsText : View → (List ℕ → List ℕ) → List ℕ → Type 0
@@ -35,6 +38,7 @@ IsText (Trace run from to block i) contents text =
     (record { from = from; to = to; address = block; node = i }) text
 IsText (Blocks run) contents text = AreCostsOfRun (recorded run contents) text
 IsText (Page run output from to) contents text = text ≡ []
+IsText (Speedup a output) contents text = text ≡ []
 IsText (Time a) contents text = IsTimeText (timed a contents) a.nodes a.budget (costs_of a) text
 
 -- what a view writes into a file
@@ -42,6 +46,7 @@ abbrev pub IsWritten : View → (List ℕ → List ℕ) → List ℕ → Type 0
 IsWritten (Page run output from to) contents bytes =
     IsPageText (recorded run contents)
     (record { from = from; to = to; address = None; node = None }) bytes
+IsWritten (Speedup a output) contents bytes = IsSpeedupPage (timed a contents) a bytes
 IsWritten view contents bytes = ⊥
 
 -- the files that a view writes hold what it writes
@@ -59,6 +64,7 @@ IsRefused (Trace run from to block i) contents line = IsReplayRefused (recorded 
 IsRefused (Blocks run) contents line = IsReplayRefused (recorded run contents) line
 IsRefused (Page run output from to) contents line = IsReplayRefused (recorded run contents) line
 IsRefused (Time a) contents line = IsRunRefused (timed a contents) line
+IsRefused (Speedup a output) contents line = IsRunRefused (timed a contents) line
 
 -- the layout of a view, or of its record, is refused with this line
 abbrev pub IsLayoutRefused : View → (List ℕ → List ℕ) → List ℕ → Type 0
@@ -68,6 +74,8 @@ IsLayoutRefused (Blocks run) contents line = IsBadReplayLayout (recorded run con
 IsLayoutRefused (Page run output from to) contents line =
     IsBadReplayLayout (recorded run contents) line
 IsLayoutRefused (Time a) contents line = IsBadRunLayout (timed a contents) a.nodes line
+IsLayoutRefused (Speedup a output) contents line =
+    IsBadLayoutOf (timed a contents) (counts_to a.nodes) line
 IsLayoutRefused view contents line = ⊥
 
 -- a view's record is refused with this line

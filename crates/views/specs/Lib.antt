@@ -4,7 +4,9 @@ pub mod Trace
 pub mod Blocks
 pub mod Page
 pub mod Time
+pub mod Speedup
 pub mod Headline
 pub mod Answers
 pub mod Inputs
 pub mod Failures
+pub mod SpeedupEnds

@@ -8,6 +8,7 @@ mod cost;
 mod input;
 mod page;
 mod recorded;
+mod speedup;
 mod text;
 mod time;
 mod top;

@@ -10,5 +10,7 @@ pub(crate) const USAGE: &str = concat!(
     "       shasta_view page IN RECORD OUT [--verify FILE] [--from S] [--to S]\n",
     "       shasta_view time IN [--nodes N] [--budget B] [--layout FILE]",
     " [--verify FILE | --no-batch] [--latency L] [--line P] [--handling H]\n",
+    "       shasta_view speedup IN OUT [--nodes N] [--budget B] [--layout FILE]",
+    " [--verify FILE | --no-batch] [--latency L] [--line P] [--handling H]\n",
     "       shasta_view --help\n",
 );

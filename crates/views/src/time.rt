@@ -47,7 +47,7 @@ pub(crate) fn put_time<O: Sink>(
 }
 
 /// What messages cost.
-fn costs_of(arguments: &TimeArguments<'_>) -> Costs
+pub(crate) fn costs_of(arguments: &TimeArguments<'_>) -> Costs
     ensures value { result ≡ model.costs_of (time_of arguments.now) }
     ensures range { AreInRange result }
 {

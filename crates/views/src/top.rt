@@ -19,6 +19,7 @@ use crate::code::put_code;
 use crate::cost::put_cost;
 use crate::input::{code_files, read_inputs, run_files, time_files};
 use crate::page::write_page;
+use crate::speedup::write_speedup;
 use crate::text::USAGE;
 use crate::time::put_time;
 use crate::trace::{Selection, put_trace};
@@ -197,5 +198,6 @@ fn answer<F: Files, O: Sink>(
             let read = read_inputs(alloc, files, time_files(arguments))?;
             put_time(alloc, &read.lend(), arguments, out)
         }
+        View::Speedup { arguments, output } => write_speedup(alloc, files, arguments, output),
     }
 }

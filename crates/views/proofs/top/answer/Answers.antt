@@ -1,7 +1,7 @@
 use Rattle.std.proofs.Common.{◌≡◌, ℕ, List, refl, subst, sym}
 use Rattle.std.specs.Prelude.{Contains}
 use Rattle.std.proofs.lemmas.Result.{err_from_is_err_and}
-use Rattle.command_line.specs.Views.{Help, Code, Cost, Trace, Blocks, Page, Time, code_of, meaning_of_view, reads, recorded_of, time_of}
+use Rattle.command_line.specs.Views.{Help, Code, Cost, Trace, Blocks, Page, Speedup, Time, code_of, meaning_of_view, reads, recorded_of, time_of}
 use Rattle.dsm_io.specs.Causes.{Appends}
 use Rattle.dsm_io.specs.States.{SinkState, FilesState}
 use Rattle.text_output.specs.Failures.{FailsAs, IsNever, IsPutFailure, Puts}
@@ -13,6 +13,7 @@ use Rattle.views.specs.Cost.{IsTextOfCost}
 use Rattle.views.specs.Failures.{FailsAsRun, IsFailure, IsSuccess, IsTextOfBlocks, IsTextOfCode, IsTextOfTime, IsTextOfTrace, AreKept, IsPageFailure, IsPageWritten}
 use Rattle.views.specs.Headline.{usage, AreTold, AreWritten}
 use Rattle.views.specs.Inputs.{AreInputs, IsInputFailure, code_files, names_of, run_files, time_files}
+use Rattle.views.specs.SpeedupEnds.{IsSpeedupFailure, IsSpeedupWritten}
 use Rattle.views.specs.declared.trace.Selection.{Selection}
 use Rattle.views.proofs.Coded as coding
 use Rattle.views.proofs.Coded.{code_fails, code_succeeds}
@@ -20,6 +21,7 @@ use Rattle.views.proofs.Costed as costing
 use Rattle.views.proofs.Costed.{cost_fails, cost_succeeds}
 use Rattle.views.proofs.Inputs.{not_long, unread_fails, unread_no_refusal}
 use Rattle.views.proofs.Runs.{blocks_of_run, blocks_writes_none, run_fails, run_succeeds, trace_of_run, trace_writes_none}
+use Rattle.views.proofs.Sped.{speedup_fails, speedup_kept, speedup_left, speedup_longer, speedup_succeeds, speedup_written}
 use Rattle.views.proofs.Timed as timing
 use Rattle.views.proofs.Viewed.{err_as, help_fails, help_succeeds, on_ok_as}
 use Rattle.views.proofs.Written.{asked_for, err_all, nothing_left, nothing_written, ok_all, page_fails, page_kept, page_left, page_longer, page_succeeds, page_written}
@@ -582,3 +584,58 @@ returns-in_err-read-in-Time-clause-left g c =
     let p = err_from_is_err_and c.from_residual-in_err-read-in-Time.result c.from_residual-in_err-read-in-Time.ensures.1 in
     rw (c.in-Time.is, p.1)
     (λ contents told. nothing_left (Time a) contents files files_now (timing.writes_none a))
+
+pub returns-in-Speedup-clause-ok : goal.returns-in-Speedup-clause-ok
+returns-in-Speedup-clause-ok g c =
+    let files : FilesState = g.F.Files.state c.args.files.now in
+    let state : SinkState = g.O.Sink.state c.args.out.now in
+    let a = c.in-Speedup in
+    rw c.in-Speedup.is (ok_all (IsSuccess (Speedup (time_of a.arguments) a.output.now) files state state) c.write_speedup.result
+    (speedup_succeeds (time_of a.arguments) a.output.now files state))
+
+pub returns-in-Speedup-clause-failure : goal.returns-in-Speedup-clause-failure
+returns-in-Speedup-clause-failure g c =
+    let files : FilesState = g.F.Files.state c.args.files.now in
+    let files_now : FilesState = g.F.Files.state c.write_speedup.new.files in
+    let state : SinkState = g.O.Sink.state c.args.out.now in
+    let a = c.in-Speedup in
+    rw c.in-Speedup.is (err_as (IsSpeedupFailure (time_of a.arguments) a.output.now files files_now)
+    (IsFailure (Speedup (time_of a.arguments) a.output.now) files files_now state state) c.write_speedup.result
+    (λ f h. speedup_fails (time_of a.arguments) a.output.now files files_now state f h) c.write_speedup.ensures.failure)
+
+pub returns-in-Speedup-clause-longer : goal.returns-in-Speedup-clause-longer
+returns-in-Speedup-clause-longer g c = λ name content among is long.
+    let files : FilesState = g.F.Files.state c.args.files.now in
+    let files_now : FilesState = g.F.Files.state c.write_speedup.new.files in
+    let a = c.in-Speedup in
+    speedup_longer (time_of a.arguments) a.output.now files files_now c.write_speedup.result name content
+    c.write_speedup.ensures.ok c.write_speedup.ensures.failure
+    (subst (λ x. Contains (reads (meaning_of_view x)) name) c.in-Speedup.is among) is long
+
+pub returns-in-Speedup-clause-kept : goal.returns-in-Speedup-clause-kept
+returns-in-Speedup-clause-kept g c =
+    let files : FilesState = g.F.Files.state c.args.files.now in
+    let files_now : FilesState = g.F.Files.state c.write_speedup.new.files in
+    let a = c.in-Speedup in
+    err_as (IsSpeedupFailure (time_of a.arguments) a.output.now files files_now) (AreKept files files_now)
+    c.write_speedup.result (λ f h. speedup_kept (time_of a.arguments) a.output.now files files_now f h)
+    c.write_speedup.ensures.failure
+
+pub returns-in-Speedup-clause-written : goal.returns-in-Speedup-clause-written
+returns-in-Speedup-clause-written g c =
+    let files : FilesState = g.F.Files.state c.args.files.now in
+    let files_now : FilesState = g.F.Files.state c.write_speedup.new.files in
+    let a = c.in-Speedup in
+    rw c.in-Speedup.is (on_ok_as (IsSpeedupWritten (time_of a.arguments) a.output.now files files_now)
+    ((contents : List ℕ → List ℕ) → AreTold (Speedup (time_of a.arguments) a.output.now) files contents → AreWritten (Speedup (time_of a.arguments) a.output.now) contents files_now)
+    c.write_speedup.result (λ h. speedup_written (time_of a.arguments) a.output.now files files_now h) c.write_speedup.ensures.ok)
+
+pub returns-in-Speedup-clause-left : goal.returns-in-Speedup-clause-left
+returns-in-Speedup-clause-left g c =
+    let files : FilesState = g.F.Files.state c.args.files.now in
+    let files_now : FilesState = g.F.Files.state c.write_speedup.new.files in
+    let a = c.in-Speedup in
+    rw c.in-Speedup.is (err_as (IsSpeedupFailure (time_of a.arguments) a.output.now files files_now)
+    (λ f. (contents : List ℕ → List ℕ) → AreTold (Speedup (time_of a.arguments) a.output.now) files contents → AreLeft (Speedup (time_of a.arguments) a.output.now) contents files files_now)
+    c.write_speedup.result (λ f h contents told. speedup_left (time_of a.arguments) a.output.now files files_now f h contents)
+    c.write_speedup.ensures.failure)

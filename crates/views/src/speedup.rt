@@ -1,0 +1,253 @@
+//! `speedup`: runs of nodes by a clock, and the page of their speed-up.
+
+ghost use Rattle.std.specs.Prelude.{◌≡◌, ◌≢◌, ◌≤◌, ◌^◌, ◌∷◌, [], ◌++◌, ℕ, All, List, length};
+ghost use Rattle.std.specs.Prelude.{Contains, IfErr, IfOk, OnOk};
+ghost use Rattle.std.specs.List.{list_any};
+ghost use Rattle.dsm_core.specs.CoreParts.{outcome_of};
+ghost use Rattle.timed_sim.specs.Clock.{clock_of};
+ghost use Rattle.speedup_page.specs.Page.{page_text};
+ghost use Rattle.speedup_page.specs.Rows.{IsFit};
+ghost use Rattle.command_line.specs.Views.{time_of};
+ghost use Rattle.text_output.specs.Failures.{IsRefusal};
+ghost use Rattle.judged_files.specs.Executables.{ReadsAs};
+ghost use Rattle.judged_files.specs.Given.{bytes_of};
+ghost use Rattle.judged_files.specs.Refusals.{IsBadRunLayout, IsRunRefused};
+ghost use Rattle.views.specs.Speedup as model;
+ghost use Rattle.views.specs.Speedup.{AreRowsOf, IsBaseOf, IsRowOf, IsSpeedupPage};
+ghost use Rattle.views.specs.SpeedupEnds.{IsSpeedupFailure, IsSpeedupRefusal, IsSpeedupWritten};
+ghost use Rattle.views.specs.Time.{costs_of as asked_costs};
+
+use crate::input::{read_inputs, time_files};
+use crate::time::costs_of;
+use command_line::TimeArguments;
+use dsm_io::Files;
+use elf32_read::Elf;
+use exec_map::End;
+use judged_files::input::{Inputs, elf_of};
+use judged_files::refusal::Subject;
+use lone_run::{LoneRun, run_alone};
+use prepared_run::prepare;
+use run_limits::NodeCount;
+use speedup_page::{Parameters, Row, Shares, SpeedupPage, push_page};
+use std::alloc::{AllocError, Global};
+use text_output::{Failure, write_file};
+use timed_sim::{Timed, simulate_by_clock, total_spent};
+
+/// Writes the page of the speed-up of the executable in a file, on 1 node up to so many, into
+/// another file.
+pub(crate) fn write_speedup<F: Files>(
+    alloc: Global,
+    files: &mut F,
+    arguments: &TimeArguments<'_>,
+    output: &str,
+) -> Result<(), Failure>
+    ensures ok { OnOk result (IsSpeedupWritten (time_of arguments.now) output.now
+        (F.state files.old) (F.state files.new)) }
+    ensures failure { IfErr result (IsSpeedupFailure (time_of arguments.now) output.now
+        (F.state files.old) (F.state files.new)) }
+    ensures others { (n : List ℕ) → n ≢ output.now
+        → (F.state files.new).held n ≡ (F.state files.old).held n }
+{
+    let read = read_inputs(alloc, files, time_files(arguments))?;
+    let page = page_of(alloc, &read.lend(), arguments)?;
+    write_file(alloc, files, output, &page)
+}
+
+/// The page of the executable among these files.
+fn page_of(
+    alloc: Global,
+    inputs: &Inputs<'_>,
+    arguments: &TimeArguments<'_>,
+) -> Result<Vec<u8>, Failure>
+    ensures ok { IfOk result (λ page. IsSpeedupPage (bytes_of inputs.now) (time_of arguments.now)
+        page.items) }
+    ensures failure { IfErr result
+        (IsSpeedupRefusal (bytes_of inputs.now) (model.counts_to arguments.now.nodes)) }
+{
+    let elf = elf_of(alloc, Subject::Executable, inputs.executable)?;
+    let counts = counts_to(alloc, arguments.nodes)?;
+    let base = base_of(alloc, &elf, inputs, arguments)?;
+    let rows = rows_of(alloc, &elf, inputs, arguments, &counts)?;
+    let page = page_with(alloc, arguments, base, &rows)?;
+    Ok(page)
+}
+
+/// The page of these rows.
+fn page_with(
+    alloc: Global,
+    arguments: &TimeArguments<'_>,
+    base: Option<u64>,
+    rows: &[Row],
+) -> Result<Vec<u8>, AllocError>
+    requires { All IsFit rows.now }
+    ensures { IfOk result (λ page. page.items
+        ≡ page_text (model.parameters_of (time_of arguments.now)) base rows.now) }
+{
+    let shown = SpeedupPage {
+        parameters: parameters_of(arguments),
+        base,
+        rows,
+    };
+    let mut page = Vec::new(alloc);
+    push_page(&mut page, &shown)?;
+    Ok(page)
+}
+
+/// What the page says of what was asked for.
+fn parameters_of(arguments: &TimeArguments<'_>) -> Parameters
+    ensures { result ≡ model.parameters_of (time_of arguments.now) }
+{
+    Parameters {
+        nodes: arguments.nodes,
+        budget: arguments.budget,
+        latency: arguments.latency.number(),
+        line: arguments.line.number(),
+        handling: arguments.handling.number(),
+        layout: arguments.layout.is_some(),
+        verified: arguments.verified.is_some(),
+        no_batch: arguments.no_batch,
+    }
+}
+
+/// How many steps the original makes on one processor, where it ends by itself.
+fn base_of(
+    alloc: Global,
+    elf: &Elf<'_>,
+    inputs: &Inputs<'_>,
+    arguments: &TimeArguments<'_>,
+) -> Result<Option<u64>, Failure>
+    requires reads { ReadsAs (bytes_of inputs.now).executable elf.now }
+    ensures ok { IfOk result (IsBaseOf (bytes_of inputs.now) arguments.now.budget) }
+    ensures refused { IfErr result (IsRefusal (IsRunRefused (bytes_of inputs.now))
+        (IsBadRunLayout (bytes_of inputs.now) 1)) }
+{
+    let prepared = prepare(alloc, elf, inputs, NodeCount::ONE, arguments.budget)?;
+    let run = run_alone(alloc, &prepared.program, &prepared.layout, arguments.budget)?;
+    Ok(base_from(&run))
+}
+
+/// How many steps such a run has, where it ended by itself.
+fn base_from(run: &LoneRun) -> Option<u64>
+    ensures { result ≡ model.base_from run.now.steps run.now.end }
+{
+    match run.end {
+        End::Exited(_) => Some(run.steps),
+        End::Stopped(_) => None,
+    }
+}
+
+/// The rows of these numbers of nodes.
+fn rows_of(
+    alloc: Global,
+    elf: &Elf<'_>,
+    inputs: &Inputs<'_>,
+    arguments: &TimeArguments<'_>,
+    counts: &[NodeCount],
+) -> Result<Vec<Row>, Failure>
+    requires reads { ReadsAs (bytes_of inputs.now).executable elf.now }
+    ensures ok { IfOk result (λ rows. AreRowsOf (bytes_of inputs.now) arguments.now.budget
+        (asked_costs (time_of arguments.now)) counts.now rows.items) }
+    ensures fit { IfOk result (λ rows. All IsFit rows.items) }
+    ensures refused { IfErr result (IsSpeedupRefusal (bytes_of inputs.now) counts.now) }
+{
+    let mut rows = Vec::new(alloc);
+    for nodes in counts {
+        let row = row_of(alloc, elf, inputs, arguments, *nodes)?;
+        push_row(&mut rows, row)?;
+    }
+    Ok(rows)
+}
+
+/// Appends a row.
+fn push_row(rows: &mut Vec<Row>, row: Row) -> Result<(), AllocError>
+    ensures { OnOk result (rows.new.items ≡ rows.old.items ++ row ∷ []) }
+{
+    rows.push(row)?;
+    Ok(())
+}
+
+/// The numbers of nodes: 1, 2, 4 and 8, as far as these are below the most, and the most.
+fn counts_to(alloc: Global, most: NodeCount) -> Result<Vec<NodeCount>, AllocError>
+    ensures value { IfOk result (λ counts. counts.items ≡ model.counts_to most) }
+    ensures first { IfOk result (λ counts. Contains counts.items 1) }
+{
+    let mut counts = Vec::new(alloc);
+    for number in [1, 2, 4, 8] {
+        if number < u64::from(most.number()) {
+            push_count(&mut counts, number)?;
+        }
+    }
+    counts.push(most)?;
+    Ok(counts)
+}
+
+/// Appends a number of nodes.
+fn push_count(counts: &mut Vec<NodeCount>, number: u64) -> Result<(), AllocError>
+    requires some { 1 ≤ number }
+    requires few { number ≤ 16 }
+    ensures { OnOk result (counts.new.items ≡ counts.old.items ++ number ∷ []) }
+{
+    match NodeCount::of(number) {
+        Some(nodes) => {
+            counts.push(nodes)?;
+            Ok(())
+        }
+        None => unreachable!(),
+    }
+}
+
+/// The row of so many nodes.
+fn row_of(
+    alloc: Global,
+    elf: &Elf<'_>,
+    inputs: &Inputs<'_>,
+    arguments: &TimeArguments<'_>,
+    nodes: NodeCount,
+) -> Result<Row, Failure>
+    requires reads { ReadsAs (bytes_of inputs.now).executable elf.now }
+    ensures ok { IfOk result (IsRowOf (bytes_of inputs.now) arguments.now.budget
+        (asked_costs (time_of arguments.now)) nodes) }
+    ensures fits { IfOk result IsFit }
+    ensures refused { IfErr result (IsRefusal (IsRunRefused (bytes_of inputs.now))
+        (IsBadRunLayout (bytes_of inputs.now) nodes)) }
+{
+    let prepared = prepare(alloc, elf, inputs, nodes, arguments.budget)?;
+    let timed = simulate_by_clock(alloc, &prepared.work(), &costs_of(arguments))?;
+    Ok(row_from(nodes.number(), &timed))
+}
+
+/// The row of a run by a clock on so many nodes.
+fn row_from(nodes: u8, timed: &Timed) -> Row
+    requires few { length timed.now.spent.items ≤ 16 }
+    requires sums { All (λ s. clock_of s ≡ timed.now.time) timed.now.spent.items }
+    requires most { timed.now.time ≤ 2 ^ 100 }
+    ensures value { result ≡ model.row_from nodes (outcome_of timed.now.outcome).ends
+        timed.now.spent.items timed.now.time }
+    ensures fits { IsFit result }
+{
+    let spent = total_spent(&timed.spent);
+    Row {
+        nodes,
+        stopped: is_any_stopped(&timed.outcome.ends),
+        time: timed.time,
+        spent: Shares {
+            words: spent.words,
+            to_read: spent.to_read,
+            to_write: spent.to_write,
+            handling: spent.handling,
+            idle: spent.idle,
+        },
+    }
+}
+
+/// Whether the budget stopped a processor.
+fn is_any_stopped(ends: &[End]) -> bool
+    ensures { result ≡ list_any model.is_stopped ends.now }
+{
+    for end in ends {
+        if let End::Stopped(_) = end {
+            return true;
+        }
+    }
+    false
+}
