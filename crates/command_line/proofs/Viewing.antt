@@ -9,7 +9,7 @@ use Rattle.command_line.specs.declared.table.ViewWord.TheVariants as word
 use Rattle.command_line.specs.declared.view.View.{View as OfCode}
 use Rattle.command_line.specs.Tasks.{Read}
 use Rattle.command_line.specs.Asks.{Argument, ArePlaced, valued}
-use Rattle.command_line.specs.Views.{View, CodeArguments, RecordedFiles, TimeArguments, Help, Code, Trace, Blocks, Page, Time, Cost, Speedup, AsksView, IsFitView, code_options, meaning_of_view, view_row}
+use Rattle.command_line.specs.Views.{View, CodeArguments, RecordedFiles, TimeArguments, Help, Code, Trace, Blocks, Page, Time, Cost, Gdb, Speedup, AsksView, IsFitView, code_options, meaning_of_view, view_row}
 use Rattle.command_line.specs.Table.{name_of, offered, view_settings, view_text}
 use Rattle.command_line.specs.Reading.{AreGiven, AreOfCode, IsCut, IsOfRow, IsViewGiven, Reads, given_by, id_of, words_for}
 use Rattle.command_line.proofs.Addresses.{at_one}
@@ -35,6 +35,7 @@ Arguments word.Page = RecordedFiles × List ℕ × Option ℕ × Option ℕ
 Arguments word.Time = TimeArguments
 Arguments word.Cost = CodeArguments
 Arguments word.Speedup = TimeArguments × List ℕ
+Arguments word.Gdb = RecordedFiles
 
 abbrev pub view : (w : ViewWord) → Arguments w → View
 view word.Help a = Help
@@ -45,6 +46,7 @@ view word.Page a = Page a.0 a.1 a.2 a.3
 view word.Time a = Time a
 view word.Cost a = Cost a
 view word.Speedup a = Speedup a.0 a.1
+view word.Gdb a = Gdb a
 
 abbrev pub view_word : View → ViewWord
 view_word Help = word.Help
@@ -55,6 +57,7 @@ view_word (Page run output from to) = word.Page
 view_word (Time a) = word.Time
 view_word (Cost a) = word.Cost
 view_word (Speedup a output) = word.Speedup
+view_word (Gdb run) = word.Gdb
 
 abbrev IsWhole : View → ViewWord → Type 0
 IsWhole v w = (a : Arguments w) × (v ≡ view w a)
@@ -68,6 +71,7 @@ arguments_of (Page run output from to) = ((run, output, from, to), refl)
 arguments_of (Time a) = (a, refl)
 arguments_of (Cost a) = (a, refl)
 arguments_of (Speedup a output) = ((a, output), refl)
+arguments_of (Gdb run) = (run, refl)
 
 pub word_is : (v : View) → view_text (view_word v) ≡ (view_row v).word
 word_is Help = refl
@@ -78,12 +82,13 @@ word_is (Page run output from to) = refl
 word_is (Time a) = refl
 word_is (Cost a) = refl
 word_is (Speedup a output) = refl
+word_is (Gdb run) = refl
 
 -- views differ in their words
 abbrev view_words : List ViewWord
 view_words =
     word.Help ∷ word.Code ∷ word.Trace ∷ word.Blocks ∷ word.Page ∷ word.Time ∷ word.Cost
-    ∷ word.Speedup ∷ []
+    ∷ word.Speedup ∷ word.Gdb ∷ []
 
 abbrev word_at : List ℕ → ViewWord
 word_at text = unwrap_or (find (λ w. bytes_eq (view_text w) text) view_words) word.Help
@@ -97,6 +102,7 @@ word_found word.Page = refl
 word_found word.Time = refl
 word_found word.Cost = refl
 word_found word.Speedup = refl
+word_found word.Gdb = refl
 
 same_word : (v w : ViewWord) → view_text v ≡ view_text w → v ≡ w
 same_word v w e = sym (word_found v) ∙ ap word_at e ∙ word_found w
@@ -195,6 +201,10 @@ one_of_word g word.Cost a b p q =
 one_of_word g word.Speedup (a, output) (b, output') p q =
     let same = one_speedup g a b output output' p q in
     ap (λ x. Speedup x output) same.0 ∙ ap (λ x. Speedup b x) same.1
+one_of_word g word.Gdb a b p q =
+    let files = same_read a.file a.record_file b.file b.record_file _ p.places q.places in
+    let verified = names_one g Verify a.verified b.verified p.options.0 q.options.0 in
+    ap (λ x. Gdb x) (one_run a b files.0 files.1 verified)
 
 one_view : (g : Given) (v w : View) → IsOfRow (view_row v) g → IsOfRow (view_row w) g
     → (view_row v).word ≡ (view_row w).word → v ≡ w
@@ -216,6 +226,7 @@ settings_by word.Page a = refl
 settings_by word.Time a = refl
 settings_by word.Cost a = refl
 settings_by word.Speedup a = refl
+settings_by word.Gdb a = refl
 
 word_settings : (w : ViewWord) (v : View) → view_text w ≡ (view_row v).word
     → valued (view_row v).options ≡ offered (view_settings w)

@@ -111,6 +111,7 @@ view_text view.Page = codes "page"
 view_text view.Time = codes "time"
 view_text view.Cost = codes "cost"
 view_text view.Speedup = codes "speedup"
+view_text view.Gdb = codes "gdb"
 
 abbrev pub time_settings : List Setting
 time_settings = Nodes ∷ Budget ∷ Verify ∷ Layout ∷ NoBatch ∷ Latency ∷ Line ∷ Handling ∷ []
@@ -124,3 +125,4 @@ view_settings view.Page = Verify ∷ From ∷ To ∷ []
 view_settings view.Time = time_settings
 view_settings view.Cost = Verify ∷ NoBatch ∷ []
 view_settings view.Speedup = time_settings
+view_settings view.Gdb = Verify ∷ []

@@ -83,6 +83,7 @@ pub(crate) enum ViewWord {
     Time,
     Cost,
     Speedup,
+    Gdb,
 }
 
 impl CommandWord {
@@ -161,6 +162,7 @@ impl ViewWord {
             "time" => Some(ViewWord::Time),
             "cost" => Some(ViewWord::Cost),
             "speedup" => Some(ViewWord::Speedup),
+            "gdb" => Some(ViewWord::Gdb),
             _ => None,
         }
     }
@@ -192,6 +194,7 @@ impl ViewWord {
                 Setting::Handling,
             ],
             ViewWord::Cost => &[Setting::Verify, Setting::NoBatch],
+            ViewWord::Gdb => &[Setting::Verify],
         }
     }
 }

@@ -61,6 +61,10 @@ pub enum View<'a> {
         arguments: TimeArguments<'a>,
         output: &'a str,
     },
+    /// Show a recorded run to GDB, on one memory.
+    Gdb {
+        run: RecordedFiles<'a>,
+    },
 }
 
 /// What `code` and `cost` are given.
@@ -346,6 +350,22 @@ fn speedup_of<'a>(matches: &ArgMatches<'a>) -> Option<View<'a>>
     }
 }
 
+/// The view `gdb`.
+fn gdb_of<'a>(matches: &ArgMatches<'a>) -> Option<View<'a>>
+    ensures { MatchOption result
+        ((v : Asked) → IsViewGiven (codes "gdb") (given_by matches.now) v → ⊥)
+        (λ v. IsViewGiven (codes "gdb") (given_by matches.now) (meaning_of_view v)) }
+{
+    let (file, record_file) = two_operands_in(matches)?;
+    let verified = name_in(matches, Setting::Verify)?;
+    let run = RecordedFiles {
+        file,
+        record_file,
+        verified,
+    };
+    Some(View::Gdb { run })
+}
+
 /// The view of a word that is a view's, with these arguments.
 fn view_in<'a>(word: ViewWord, matches: &ArgMatches<'a>) -> Option<View<'a>>
     ensures { MatchOption result
@@ -361,6 +381,7 @@ fn view_in<'a>(word: ViewWord, matches: &ArgMatches<'a>) -> Option<View<'a>>
         ViewWord::Time => time_of(matches),
         ViewWord::Cost => cost_of(matches),
         ViewWord::Speedup => speedup_of(matches),
+        ViewWord::Gdb => gdb_of(matches),
     }
 }
 
