@@ -1,6 +1,7 @@
 #![tactic(auto)]
 //! `shasta_view` shows what `shasta` does: the rewritten code of an RV32 executable.
 
+use byte_source::StdSource;
 use dsm_io::{RealFiles, StdSink, Text};
 use std::alloc::AllocError;
 use std::env;
@@ -10,10 +11,18 @@ use views::{shasta_view, tell_out_of_memory};
 
 fn main(rt: HostRuntime) -> ExitCode {
     let mut files = RealFiles::new(rt);
+    let mut source = StdSource::new(rt);
     let mut out = StdSink::output(rt);
     let mut err = StdSink::errors(rt);
     let status = match words(&rt) {
-        Ok(words) => shasta_view(rt.alloc(), &words, &mut files, &mut out, &mut err),
+        Ok(words) => shasta_view(
+            rt.alloc(),
+            &words,
+            &mut files,
+            &mut source,
+            &mut out,
+            &mut err,
+        ),
         Err(_) => tell_out_of_memory(&mut err),
     };
     ExitCode::from(status)

@@ -1,5 +1,6 @@
 //! Calls of the viewer on files in memory.
 
+use byte_source::MemSource;
 use std::alloc::Global;
 use std::test::Fail;
 use test_calls::calls::{Called, Expected, Held, Outside, sure, words_of};
@@ -15,17 +16,32 @@ pub(crate) const USAGE: &str = "usage: shasta_view code IN [--verify FILE | --no
     [--latency L] [--line P] [--handling H]
        shasta_view speedup IN OUT [--nodes N] [--budget B] [--layout FILE] \
     [--verify FILE | --no-batch] [--latency L] [--line P] [--handling H]
+       shasta_view gdb IN RECORD [--verify FILE]
        shasta_view --help
 ";
 
 /// Calls the viewer on files with these words, with spaces between them, and then reads OUT.
 pub(crate) fn show(alloc: Global, held: Held<'_>, line: &str) -> Result<Called, Fail> {
+    show_to(alloc, held, line, b"", &[])
+}
+
+/// Calls the viewer so where these bytes come from the standard input. Its reads with these numbers
+/// fail.
+pub(crate) fn show_to(
+    alloc: Global,
+    held: Held<'_>,
+    line: &str,
+    heard: &[u8],
+    fails: &[u64],
+) -> Result<Called, Fail> {
     let words = words_of(alloc, line)?;
     let mut outside = Outside::of(alloc, held)?;
+    let mut source = MemSource::new(heard.to_vec(alloc)?, fails.to_vec(alloc)?);
     let status = shasta_view(
         alloc,
         &words,
         &mut outside.files,
+        &mut source,
         &mut outside.out,
         &mut outside.err,
     );

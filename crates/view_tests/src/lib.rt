@@ -10,6 +10,8 @@ mod code;
 #[cfg(test)]
 mod cost;
 #[cfg(test)]
+mod gdb;
+#[cfg(test)]
 mod lines;
 #[cfg(test)]
 mod page;

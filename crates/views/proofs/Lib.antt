@@ -16,3 +16,4 @@ mod Written
 mod Timed
 mod Sped
 mod Speeding
+mod Debugged

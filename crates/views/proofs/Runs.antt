@@ -42,7 +42,7 @@ pub record IsOfRun (v : View) (run : RecordedFiles) (IsTextFor : Inputs → List
     pub kept : (contents : List ℕ → List ℕ) (line : List ℕ)
         → IsBadRecord (recorded run contents) line → IsRecordRefused v contents line
 
-abbrev with_verified : RecordedFiles → Option (List ℕ) → RecordedFiles
+abbrev pub with_verified : RecordedFiles → Option (List ℕ) → RecordedFiles
 with_verified run verified = record run { verified = verified }
 
 trace_with : (run : RecordedFiles) (from to block one : Option ℕ) (verified : Option (List ℕ))

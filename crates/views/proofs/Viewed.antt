@@ -9,8 +9,9 @@ use Rattle.text_output.specs.declared.failure.Failure.{Failure}
 use Rattle.text_output.specs.declared.failure.Failure.TheVariants.{Input, NotWritten, Refused, Layout, Record, Text, Output, OutOfMemory}
 use Rattle.text_output.specs.Failures.{IsPutFailure, line_of, status_of}
 use Rattle.text_output.specs.Text.{out_of_memory}
-use Rattle.views.specs.Answers.{IsFault, IsRefusalStatus}
-use Rattle.views.specs.Failures.{IsFailure, IsSuccess}
+use Rattle.gdb_server.specs.Ends.{Streams}
+use Rattle.views.specs.Answers.{IsFault, IsRefusalStatus, IsSourceFault, cannot_read_input}
+use Rattle.views.specs.Failures.{IsFailure, IsShownFailure, IsSourceFailure, IsSuccess}
 use Rattle.views.specs.Headline.{AreTold, IsLayoutRefused, IsRecordRefused, IsRefused, Prints, PrintsPrefix, usage}
 
 -- 1. What the words ask for, and where they ask for nothing
@@ -61,10 +62,48 @@ failing v files files_now before now (Text line) h = absurd h
 failing v files files_now before now Output h = inl refl
 failing v files files_now before now OutOfMemory h = inr (inl refl)
 
-pub fault_of : (v : View) (files files_now : FilesState) (before now : SinkState) (f : Failure)
-    (Told : List ℕ → Type 0) → IsFailure v files files_now before now f → Told (line_of f)
-    → status_of f ≡ 3 → IsFault v files files_now before now Told
-fault_of v files files_now before now (Input line) Told h told three =
+-- no failure but one of status 3 is of the input
+pub source_status : (v : View) (files : FilesState) (io : Streams) (f : Failure)
+    → IsSourceFailure v files io f → status_of f ≡ 3
+source_status v files io (Input line) h = refl
+source_status v files io (NotWritten line) h = absurd h
+source_status v files io (Refused line) h = absurd h
+source_status v files io (Layout line) h = absurd h
+source_status v files io (Record line) h = absurd h
+source_status v files io (Text line) h = absurd h
+source_status v files io Output h = absurd h
+source_status v files io OutOfMemory h = absurd h
+
+pub but_for_source : (v : View) (files files_now : FilesState) (io : Streams) (f : Failure)
+    → IsShownFailure v files files_now io f → (status_of f ≡ 3 → ⊥)
+    → IsFailure v files files_now io.output io.output_after f
+but_for_source v files files_now io f h other = elim h [
+  | inl failure ↦ failure
+  | inr source ↦ absurd (other (source_status v files io f source))
+]
+
+pub shown_failing : (v : View) (files files_now : FilesState) (io : Streams) (f : Failure)
+    → IsShownFailure v files files_now io f → IsFailing (status_of f)
+shown_failing v files files_now io f h = elim h [
+  | inl failure ↦ failing v files files_now io.output io.output_after f failure
+  | inr source ↦ inl (source_status v files io f source)
+]
+
+source_fault_of : (v : View) (files : FilesState) (io : Streams) (f : Failure) (Told : List ℕ → Type 0)
+    → IsSourceFailure v files io f → Told (line_of f) → IsSourceFault v files io × Told cannot_read_input
+source_fault_of v files io (Input line) Told h told = (h.0, subst Told h.1 told)
+source_fault_of v files io (NotWritten line) Told h told = absurd h
+source_fault_of v files io (Refused line) Told h told = absurd h
+source_fault_of v files io (Layout line) Told h told = absurd h
+source_fault_of v files io (Record line) Told h told = absurd h
+source_fault_of v files io (Text line) Told h told = absurd h
+source_fault_of v files io Output Told h told = absurd h
+source_fault_of v files io OutOfMemory Told h told = absurd h
+
+failure_fault_of : (v : View) (files files_now : FilesState) (io : Streams) (f : Failure)
+    (Told : List ℕ → Type 0) → IsFailure v files files_now io.output io.output_after f → Told (line_of f)
+    → status_of f ≡ 3 → IsFault v files files_now io Told
+failure_fault_of v files files_now io (Input line) Told h told three =
     let fault = h.1 in
     inl (
       h.0,
@@ -77,16 +116,24 @@ fault_of v files files_now before now (Input line) Told h told three =
         ],
       ),
     )
-fault_of v files files_now before now (NotWritten line) Told h told three =
+failure_fault_of v files files_now io (NotWritten line) Told h told three =
     let fault = h.1 in
     let write = fault.1 in
     inl (h.0, inr (fault.0, (write.0, write.1, write.2, subst Told write.3 told)))
-fault_of v files files_now before now (Refused line) Told h told three = absurd (omega (arith, three))
-fault_of v files files_now before now (Layout line) Told h told three = absurd (omega (arith, three))
-fault_of v files files_now before now (Record line) Told h told three = absurd (omega (arith, three))
-fault_of v files files_now before now (Text line) Told h told three = absurd h
-fault_of v files files_now before now Output Told h told three = inr (h, told)
-fault_of v files files_now before now OutOfMemory Told h told three = absurd (omega (arith, three))
+failure_fault_of v files files_now io (Refused line) Told h told three = absurd (omega (arith, three))
+failure_fault_of v files files_now io (Layout line) Told h told three = absurd (omega (arith, three))
+failure_fault_of v files files_now io (Record line) Told h told three = absurd (omega (arith, three))
+failure_fault_of v files files_now io (Text line) Told h told three = absurd h
+failure_fault_of v files files_now io Output Told h told three = inr (inl (h, told))
+failure_fault_of v files files_now io OutOfMemory Told h told three = absurd (omega (arith, three))
+
+pub fault_of : (v : View) (files files_now : FilesState) (io : Streams) (f : Failure)
+    (Told : List ℕ → Type 0) → IsShownFailure v files files_now io f → Told (line_of f)
+    → status_of f ≡ 3 → IsFault v files files_now io Told
+fault_of v files files_now io f Told h told three = elim h [
+  | inl failure ↦ failure_fault_of v files files_now io f Told failure told three
+  | inr source ↦ inr (inr (source_fault_of v files io f Told source told))
+]
 
 pub refusal_of : (v : View) (files files_now : FilesState) (before now : SinkState) (f : Failure)
     (Told : List ℕ → Type 0) → IsFailure v files files_now before now f → Told (line_of f)

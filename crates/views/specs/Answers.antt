@@ -1,11 +1,12 @@
 -- Why the viewer answers a fault.
-use Rattle.std.specs.Prelude.{◌≡◌, ℕ, ◌⊎◌, List, IfSome, Contains}
+use Rattle.std.specs.Prelude.{◌≡◌, ℕ, ◌⊎◌, List, IfSome, Contains, codes}
 use Rattle.dsm_io.specs.Causes.{Rose}
 use Rattle.dsm_io.specs.States.{FilesState, SinkState}
-use Rattle.command_line.specs.Views.{View, reads, writes}
+use Rattle.command_line.specs.Views.{View, Gdb, reads, writes}
 use Rattle.judged_files.specs.Failures.{IsTooLong}
 use Rattle.judged_files.specs.Text.{cannot_read, too_long}
 use Rattle.text_output.specs.Text.{cannot_write, cannot_write_output}
+use Rattle.gdb_server.specs.Ends.{Streams}
 use Rattle.views.specs.Headline.{AreTold, IsWritten, PrintsPrefix}
 
 -- a file that the view reads couldn't be read, or is too long, and the line says so
@@ -40,14 +41,25 @@ IsPutFault view files before now =
     × ((contents : List ℕ → List ℕ) → AreTold view files contents
     → PrintsPrefix view contents before now)
 
+-- the input failed where a debugger was served, and a text that the view asks for was being put
+abbrev pub IsSourceFault : View → FilesState → Streams → Type 0
+IsSourceFault (Gdb run) files io =
+    Rose io.input.faults io.input_after.faults
+    × ((contents : List ℕ → List ℕ) → AreTold (Gdb run) files contents
+    → PrintsPrefix (Gdb run) contents io.output io.output_after)
+IsSourceFault view files io = ⊥
+
+abbrev pub cannot_read_input : List ℕ
+cannot_read_input = cannot_read (codes "standard input")
+
 -- why a view answers a fault, and the line that is told: its file failed, and nothing was put; or
--- the output failed
-abbrev pub IsFault : View → FilesState → FilesState → SinkState → SinkState → (List ℕ → Type 0)
-    → Type 0
-IsFault view before now out_before out Told =
-    ((out.taken ≡ out_before.taken)
+-- the output failed; or the input did
+abbrev pub IsFault : View → FilesState → FilesState → Streams → (List ℕ → Type 0) → Type 0
+IsFault view before now io Told =
+    ((io.output_after.taken ≡ io.output.taken)
     × (IsReadFault view before now Told ⊎ IsWriteFault view before now Told))
-    ⊎ (IsPutFault view before out_before out × Told cannot_write_output)
+    ⊎ ((IsPutFault view before io.output io.output_after × Told cannot_write_output)
+    ⊎ (IsSourceFault view before io × Told cannot_read_input))
 
 -- the status of a refusal: of an executable, of the layout of a record, or of a record
 abbrev pub IsRefusalStatus : ℕ → Type 0

@@ -1,6 +1,8 @@
 -- Helps the code alone: how a view fails, and how it succeeds.
 use Rattle.std.specs.Prelude.{◌≡◌, ℕ, ◌<◌, ◌⊎◌, List, [], ◌∷◌, ◌++◌, All, Option, None, Some, IfSome}
+use Rattle.dsm_io.specs.Causes.{Rose}
 use Rattle.dsm_io.specs.States.{FilesState, SinkState}
+use Rattle.gdb_server.specs.Ends.{Streams}
 use Rattle.command_line.specs.Views.{RecordedFiles, TimeArguments, View}
 use Rattle.code_view.specs.Code.{code_text}
 use Rattle.code_view.specs.declared.view.CodeView.{CodeView}
@@ -24,10 +26,11 @@ use Rattle.run_trace.specs.Traced.{Traced}
 use Rattle.run_trace.specs.Trace.{IsTraceOf}
 use Rattle.run_trace.specs.Tracing.{HasTraced, plan_traced, record_traced, work_traced}
 use Rattle.views.specs.Code.{IsCodeText}
+use Rattle.views.specs.Debugger.{HasShown, HasShownPart, HasShownUpTo, IsSessionText, IsUntouched}
 use Rattle.views.specs.Inputs.{AreInputs, IsInputFailure, run_files}
 use Rattle.views.specs.Trace.{IsTraceText}
 use Rattle.views.specs.Blocks.{AreCostsOfRun, IsCostsText}
-use Rattle.views.specs.Answers.{IsReadFault, IsPutFault, IsWriteFault, IsRefusalStatus}
+use Rattle.views.specs.Answers.{IsReadFault, IsPutFault, IsSourceFault, IsWriteFault, IsRefusalStatus, cannot_read_input}
 use Rattle.views.specs.Page.{IsPageText}
 use Rattle.views.specs.Time.{IsTimeText, costs_of}
 use Rattle.views.specs.Headline.{AreTold, IsRefused, IsLayoutRefused, IsRecordRefused, Prints, PrintsPrefix}
@@ -47,6 +50,10 @@ IsTextOfTrace inputs s text status = IsTraceText inputs s text
 -- the text of what blocks cost in a run, with any status
 abbrev pub IsTextOfBlocks : Inputs → List ℕ → ℕ → Type 0
 IsTextOfBlocks inputs text status = AreCostsOfRun inputs text
+
+-- a text that is put to a debugger, with any status
+abbrev pub IsTextOfSession : Inputs → List ℕ → ℕ → Type 0
+IsTextOfSession inputs text status = IsSessionText inputs text
 
 -- the text of a run by a clock, with any status
 abbrev pub IsTextOfTime : Inputs → TimeArguments → List ℕ → ℕ → Type 0
@@ -124,7 +131,7 @@ abbrev pub IsSuccess : View → FilesState → SinkState → SinkState → Type 
 IsSuccess view files before now =
     (contents : List ℕ → List ℕ) → AreTold view files contents → Prints view contents before now
 
--- how a view fails
+-- how a view fails, but for the input
 abbrev pub IsFailure : View → FilesState → FilesState → SinkState → SinkState → Failure → Type 0
 IsFailure view files files_now before now (Input line) =
     (now.taken ≡ before.taken) × IsReadFault view files files_now (λ l. line.items ≡ l)
@@ -152,3 +159,55 @@ IsFailure view files files_now before now (Text line) = ⊥
 abbrev pub AreKept : FilesState → FilesState → Failure → Type 0
 AreKept before now f =
     IsRefusalStatus (status_of f) → (name : List ℕ) → now.held name ≡ before.held name
+
+-- how a view fails because the input did: the line says so
+abbrev pub IsSourceFailure : View → FilesState → Streams → Failure → Type 0
+IsSourceFailure view files io (Input line) =
+    IsSourceFault view files io × (line.items ≡ cannot_read_input)
+IsSourceFailure view files io f = ⊥
+
+-- how a view fails that may read the input
+abbrev pub IsShownFailure : View → FilesState → FilesState → Streams → Failure → Type 0
+IsShownFailure view files files_now io f =
+    IsFailure view files files_now io.output io.output_after f ⊎ IsSourceFailure view files io f
+
+-- the input couldn't be read, and the line says so; or memory is wanted for it
+abbrev pub IsInputFault : Failure → Type 0
+IsInputFault (Input line) = line.items ≡ cannot_read_input
+IsInputFault OutOfMemory = Unit {0}
+IsInputFault f = ⊥
+
+-- how serving a debugger fails
+abbrev pub FailsAsSession : Inputs → Streams → Failure → Type 0
+FailsAsSession inputs io (Input line) =
+    (line.items ≡ cannot_read_input) × Rose io.input.faults io.input_after.faults
+    × HasShownUpTo inputs io
+FailsAsSession inputs io (Refused line) = IsReplayRefused inputs line.items × IsUntouched io
+FailsAsSession inputs io (Layout line) = IsBadReplayLayout inputs line.items × IsUntouched io
+FailsAsSession inputs io (Record line) = IsBadRecord inputs line.items × IsUntouched io
+FailsAsSession inputs io Output =
+    Rose io.output.faults io.output_after.faults × HasShownPart inputs io
+FailsAsSession inputs io OutOfMemory =
+    IsUntouched io ⊎ (HasShownUpTo inputs io ⊎ HasShownPart inputs io)
+FailsAsSession inputs io (NotWritten line) = ⊥
+FailsAsSession inputs io (Text line) = ⊥
+
+-- a debugger was served at the recorded run in these files
+pub record HasShownRun (run : RecordedFiles) (files : FilesState) (io : Streams) : Type 0 where
+  pub inputs : Inputs
+  pub are_inputs : AreInputs files (run_files run) inputs
+  pub shown : HasShown inputs io
+
+-- serving a debugger at the recorded run in these files failed
+pub record IsRunUnshown (run : RecordedFiles) (files : FilesState) (io : Streams) (f : Failure)
+    : Type 0
+  where
+    pub inputs : Inputs
+    pub are_inputs : AreInputs files (run_files run) inputs
+    pub fails : FailsAsSession inputs io f
+
+-- a file wasn't read, or serving a debugger failed
+abbrev pub IsShowFailure : RecordedFiles → FilesState → FilesState → Streams → Failure → Type 0
+IsShowFailure run files files_now io f =
+    (IsInputFailure (run_files run) files files_now f × IsUntouched io)
+    ⊎ IsRunUnshown run files io f

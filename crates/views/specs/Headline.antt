@@ -2,13 +2,14 @@
 use Rattle.std.specs.Prelude.{◌≡◌, ℕ, List, [], ◌++◌, Some, None, IfSome, Contains, codes}
 use Rattle.dsm_io.specs.Causes.{Appends, AppendsPrefix}
 use Rattle.dsm_io.specs.States.{FilesState, SinkState}
-use Rattle.command_line.specs.Views.{View, Help, Code, Cost, Trace, Blocks, reads, Page, Speedup, Time, writes}
+use Rattle.command_line.specs.Views.{View, Help, Code, Cost, Gdb, Trace, Blocks, reads, Page, Speedup, Time, writes}
 use Rattle.judged_files.specs.Refusals.{IsBadRunLayout, IsRunRefused}
 use Rattle.prepared_run.specs.Replays.{IsReplayRefused, IsBadReplayLayout, IsBadRecord}
 use Rattle.views.specs.Code.{IsCodeText, IsCodeless, coded}
 use Rattle.views.specs.Cost.{IsCostText}
 use Rattle.views.specs.Trace.{recorded, IsTraceText}
 use Rattle.views.specs.Blocks.{AreCostsOfRun}
+use Rattle.views.specs.Debugger.{IsSessionText}
 use Rattle.views.specs.Page.{IsPageText}
 use Rattle.views.specs.Time.{IsTimeText, costs_of, timed}
 use Rattle.views.specs.Speedup.{IsBadLayoutOf, IsSpeedupPage, counts_to}
@@ -26,7 +27,8 @@ usage =
     ++ (codes " [--verify FILE | --no-batch] [--latency L] [--line P] [--handling H]\n"
     ++ (codes "       shasta_view speedup IN OUT [--nodes N] [--budget B] [--layout FILE]"
     ++ (codes " [--verify FILE | --no-batch] [--latency L] [--line P] [--handling H]\n"
-    ++ codes "       shasta_view --help\n")))))))))
+    ++ (codes "       shasta_view gdb IN RECORD [--verify FILE]\n"
+    ++ codes "       shasta_view --help\n"))))))))))
 
 -- the text of a view, where files have these contents
 abbrev pub IsText : View → (List ℕ → List ℕ) → List ℕ → Type 0
@@ -40,6 +42,7 @@ IsText (Blocks run) contents text = AreCostsOfRun (recorded run contents) text
 IsText (Page run output from to) contents text = text ≡ []
 IsText (Speedup a output) contents text = text ≡ []
 IsText (Time a) contents text = IsTimeText (timed a contents) a.nodes a.budget (costs_of a) text
+IsText (Gdb run) contents text = IsSessionText (recorded run contents) text
 
 -- what a view writes into a file
 abbrev pub IsWritten : View → (List ℕ → List ℕ) → List ℕ → Type 0
@@ -65,6 +68,7 @@ IsRefused (Blocks run) contents line = IsReplayRefused (recorded run contents) l
 IsRefused (Page run output from to) contents line = IsReplayRefused (recorded run contents) line
 IsRefused (Time a) contents line = IsRunRefused (timed a contents) line
 IsRefused (Speedup a output) contents line = IsRunRefused (timed a contents) line
+IsRefused (Gdb run) contents line = IsReplayRefused (recorded run contents) line
 
 -- the layout of a view, or of its record, is refused with this line
 abbrev pub IsLayoutRefused : View → (List ℕ → List ℕ) → List ℕ → Type 0
@@ -76,6 +80,7 @@ IsLayoutRefused (Page run output from to) contents line =
 IsLayoutRefused (Time a) contents line = IsBadRunLayout (timed a contents) a.nodes line
 IsLayoutRefused (Speedup a output) contents line =
     IsBadLayoutOf (timed a contents) (counts_to a.nodes) line
+IsLayoutRefused (Gdb run) contents line = IsBadReplayLayout (recorded run contents) line
 IsLayoutRefused view contents line = ⊥
 
 -- a view's record is refused with this line
@@ -83,6 +88,7 @@ abbrev pub IsRecordRefused : View → (List ℕ → List ℕ) → List ℕ → T
 IsRecordRefused (Trace run from to block i) contents line = IsBadRecord (recorded run contents) line
 IsRecordRefused (Blocks run) contents line = IsBadRecord (recorded run contents) line
 IsRecordRefused (Page run output from to) contents line = IsBadRecord (recorded run contents) line
+IsRecordRefused (Gdb run) contents line = IsBadRecord (recorded run contents) line
 IsRecordRefused view contents line = ⊥
 
 -- each file that a view reads is told to have its content

@@ -5,6 +5,7 @@ pub mod Blocks
 pub mod Page
 pub mod Time
 pub mod Speedup
+pub mod Debugger
 pub mod Headline
 pub mod Answers
 pub mod Inputs

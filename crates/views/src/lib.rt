@@ -5,6 +5,7 @@
 mod blocks;
 mod code;
 mod cost;
+mod debugger;
 mod input;
 mod page;
 mod recorded;

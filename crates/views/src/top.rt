@@ -2,40 +2,46 @@
 
 ghost use Rattle.std.specs.Prelude.{◌≡◌, ◌≢◌, ◌≤◌, ◌⊎◌, ◌<◌, ℕ, List, Some, length, Contains};
 ghost use Rattle.std.specs.Prelude.{IfErr, OnOk, MatchResult};
-ghost use Rattle.command_line.specs.Views.{View as Asked, Time, TimeArguments, AsksView};
-ghost use Rattle.command_line.specs.Views.{meaning_of_view, reads, writes};
+ghost use Rattle.command_line.specs.Views.{View as Asked, Gdb, RecordedFiles, Time, TimeArguments};
+ghost use Rattle.command_line.specs.Views.{AsksView, meaning_of_view, reads, writes};
 ghost use Rattle.text_output.specs.Answers.{Tells};
 ghost use Rattle.judged_files.specs.Failures.{file_limit};
-ghost use Rattle.text_output.specs.Failures.{IsNoRefusal};
+ghost use Rattle.text_output.specs.Failures.{IsNoRefusal, status_of};
 ghost use Rattle.text_output.specs.Text.{out_of_memory};
 ghost use Rattle.views.specs.Headline.{AreTold, IsLayoutRefused, IsRecordRefused, IsRefused};
 ghost use Rattle.views.specs.Headline.{AreWritten, Prints, PrintsPrefix, usage};
 ghost use Rattle.views.specs.Answers.{AreLeft, IsFault, IsRefusalStatus};
-ghost use Rattle.views.specs.Failures.{AreKept, IsFailure, IsSuccess};
+ghost use Rattle.views.specs.Failures.{AreKept, IsFailure, IsShownFailure, IsSuccess};
+ghost use Rattle.views.specs.Debugger.{HasShown};
 ghost use Rattle.views.specs.Time.{PrintsTime};
+ghost use Rattle.views.specs.Trace.{recorded};
 
 use crate::blocks::put_blocks;
 use crate::code::put_code;
 use crate::cost::put_cost;
+use crate::debugger::show_run;
 use crate::input::{code_files, read_inputs, run_files, time_files};
 use crate::page::write_page;
 use crate::speedup::write_speedup;
 use crate::text::USAGE;
 use crate::time::put_time;
 use crate::trace::{Selection, put_trace};
+use byte_source::Source;
 use command_line::{View, view_of};
 use dsm_io::{Files, Sink, Text};
 use std::alloc::Global;
 use text_output::{Failure, put, tell, tell_out_of_memory};
 
 /// Shows what the words ask for, or writes it into a file, and answers the status: 0 where the
-/// whole text was put or the file written; 2 for a faulty command line; 3 where a file or the
-/// output failed; 4 where the executable or a verified file is refused; 5 where it was out of
-/// memory; 6 where the layout, or that of a record, is refused; 7 where the record is.
-pub fn shasta_view<F: Files, O: Sink, E: Sink>(
+/// whole text was put, the file written or a debugger served; 2 for a faulty command line; 3 where a
+/// file, the output or the source failed; 4 where the executable or a verified file is refused; 5
+/// where it was out of memory; 6 where the layout, or that of a record, is refused; 7 where the
+/// record is.
+pub fn shasta_view<F: Files, S: Source, O: Sink, E: Sink>(
     alloc: Global,
     words: &[Text],
     files: &mut F,
+    source: &mut S,
     out: &mut O,
     err: &mut E,
 ) -> u8
@@ -59,6 +65,23 @@ pub fn shasta_view<F: Files, O: Sink, E: Sink>(
         → AreTold (Time a) (F.state files.old) contents → result ≡ 0
         → PrintsTime a contents (O.state out.old) (O.state out.new) }
 
+    // Of `gdb` the bytes put are a transcript of those that came from the source, over the run on
+    // one memory whose picks the run of the record stands for. No other view reads the source, nor
+    // does `gdb` where it refuses.
+    ensures gdb { (run : RecordedFiles) (contents : List ℕ → List ℕ)
+        → AsksView words.now (Gdb run)
+        → AreTold (Gdb run) (F.state files.old) contents → result ≡ 0
+        → HasShown (recorded run contents) (record {
+          input = S.state source.old;
+          input_after = S.state source.new;
+          output = O.state out.old;
+          output_after = O.state out.new;
+        }) }
+    ensures unread { ((run : RecordedFiles) → AsksView words.now (Gdb run) → ⊥)
+        → S.state source.new ≡ S.state source.old }
+    ensures unheard { (result ≡ 2) ⊎ IsRefusalStatus result
+        → S.state source.new ≡ S.state source.old }
+
     // Status 4 is for a refused executable or a verified file that is that of no rewriting; the
     // refusal is told.
     ensures refused { (v : Asked) (contents : List ℕ → List ℕ) → AsksView words.now v
@@ -81,9 +104,16 @@ pub fn shasta_view<F: Files, O: Sink, E: Sink>(
 
     // Status 3 comes only where a count of faults rose in this call, or a file is too long; its
     // line names which. A fault of a file comes before anything is put, one of the output only
-    // where a text that the words ask for is being put. A file that is too long is never shown.
+    // where a text that the words ask for is being put, and one of the source only where such a
+    // text of `gdb` is. A file that is too long is never shown.
     ensures fault { (v : Asked) → AsksView words.now v → result ≡ 3
-        → IsFault v (F.state files.old) (F.state files.new) (O.state out.old) (O.state out.new)
+        → IsFault v (F.state files.old) (F.state files.new)
+        (record {
+          input = S.state source.old;
+          input_after = S.state source.new;
+          output = O.state out.old;
+          output_after = O.state out.new;
+        })
         (Tells (E.state err.old) (E.state err.new)) }
     ensures longer { (v : Asked) (name content : List ℕ) → AsksView words.now v
         → Contains (reads v) name → (F.state files.old).held name ≡ Some content
@@ -117,7 +147,7 @@ pub fn shasta_view<F: Files, O: Sink, E: Sink>(
         }
         Err(_) => return tell_out_of_memory(err),
     };
-    match answer(alloc, &view, files, out) {
+    match show(alloc, &view, files, source, out) {
         Ok(()) => 0,
         Err(failure) => {
             tell(err, failure.line());
@@ -126,13 +156,65 @@ pub fn shasta_view<F: Files, O: Sink, E: Sink>(
     }
 }
 
-/// Reads the files of a view, and puts the view's text, or writes it into the view's file.
+/// Shows what a view asks for: to a debugger, or by its text alone.
+fn show<F: Files, S: Source, O: Sink>(
+    alloc: Global,
+    view: &View<'_>,
+    files: &mut F,
+    source: &mut S,
+    out: &mut O,
+) -> Result<(), Failure>
+    ensures ok { OnOk result (IsSuccess (meaning_of_view view.now) (F.state files.old)
+        (O.state out.old) (O.state out.new)) }
+    ensures gdb { OnOk result ((run : RecordedFiles) (contents : List ℕ → List ℕ)
+        → meaning_of_view view.now ≡ Gdb run
+        → AreTold (Gdb run) (F.state files.old) contents
+        → HasShown (recorded run contents) (record {
+          input = S.state source.old;
+          input_after = S.state source.new;
+          output = O.state out.old;
+          output_after = O.state out.new;
+        })) }
+    ensures failure { IfErr result (IsShownFailure (meaning_of_view view.now) (F.state files.old)
+        (F.state files.new) (record {
+          input = S.state source.old;
+          input_after = S.state source.new;
+          output = O.state out.old;
+          output_after = O.state out.new;
+        })) }
+    ensures unread { ((run : RecordedFiles)
+        → meaning_of_view view.now ≡ Gdb run → ⊥)
+        → S.state source.new ≡ S.state source.old }
+    ensures unheard { IfErr result (λ f. IsRefusalStatus (status_of f)
+        → S.state source.new ≡ S.state source.old) }
+    ensures longer { (name content : List ℕ) → Contains (reads (meaning_of_view view.now)) name
+        → (F.state files.old).held name ≡ Some content → file_limit < length content
+        → MatchResult result (λ _. ⊥) IsNoRefusal }
+    ensures others { (n : List ℕ) → (Contains (writes (meaning_of_view view.now)) n → ⊥)
+        → (F.state files.new).held n ≡ (F.state files.old).held n }
+    ensures kept { IfErr result (AreKept (F.state files.old) (F.state files.new)) }
+    ensures written { OnOk result ((contents : List ℕ → List ℕ)
+        → AreTold (meaning_of_view view.now) (F.state files.old) contents
+        → AreWritten (meaning_of_view view.now) contents (F.state files.new)) }
+    ensures left { IfErr result (λ f. (contents : List ℕ → List ℕ)
+        → AreTold (meaning_of_view view.now) (F.state files.old) contents
+        → AreLeft (meaning_of_view view.now) contents (F.state files.old) (F.state files.new)) }
+{
+    match view {
+        View::Gdb { run } => show_run(alloc, run, files, source, out),
+        _ => answer(alloc, view, files, out),
+    }
+}
+
+/// Reads the files of a view that shows nothing to a debugger, and puts the view's text, or writes
+/// it into the view's file.
 fn answer<F: Files, O: Sink>(
     alloc: Global,
     view: &View<'_>,
     files: &mut F,
     out: &mut O,
 ) -> Result<(), Failure>
+    requires { (run : RecordedFiles) → meaning_of_view view.now ≡ Gdb run → ⊥ }
     ensures ok { OnOk result (IsSuccess (meaning_of_view view.now) (F.state files.old)
         (O.state out.old) (O.state out.new)) }
     ensures failure { IfErr result (IsFailure (meaning_of_view view.now) (F.state files.old)
@@ -199,5 +281,6 @@ fn answer<F: Files, O: Sink>(
             put_time(alloc, &read.lend(), arguments, out)
         }
         View::Speedup { arguments, output } => write_speedup(alloc, files, arguments, output),
+        View::Gdb { .. } => unreachable!(),
     }
 }

@@ -1,4 +1,4 @@
-use Rattle.std.proofs.Common.{◌≡◌, ℕ, List, refl, subst, sym}
+use Rattle.std.proofs.Common.{◌≡◌, ℕ, List, ap, refl, subst, sym}
 use Rattle.std.specs.Prelude.{Contains}
 use Rattle.std.proofs.lemmas.Result.{err_from_is_err_and}
 use Rattle.command_line.specs.Views.{Help, Code, Cost, Trace, Blocks, Page, Speedup, Time, code_of, meaning_of_view, reads, recorded_of, time_of}
@@ -639,3 +639,7 @@ returns-in-Speedup-clause-left g c =
     (λ f. (contents : List ℕ → List ℕ) → AreTold (Speedup (time_of a.arguments) a.output.now) files contents → AreLeft (Speedup (time_of a.arguments) a.output.now) contents files files_now)
     c.write_speedup.result (λ f h contents told. speedup_left (time_of a.arguments) a.output.now files files_now f h contents)
     c.write_speedup.ensures.failure)
+
+pub unreachable-requires : goal.unreachable-requires
+unreachable-requires g c =
+    c.requires _ (ap meaning_of_view c.in-Gdb.is)

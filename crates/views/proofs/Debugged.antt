@@ -1,0 +1,303 @@
+-- The view that serves a debugger: how it succeeds, and how it fails.
+use Rattle.std.proofs.Common.{◌≡◌, ℕ, ◌<◌, List, [], ◌++◌, length, Option, Some, None, Result, Ok, Err, map, refl, sym, ap, subst, inl, inr, arith, append-nil}
+use Rattle.std.specs.Prelude.{Contains, IfErr, MatchResult, OnOk}
+use Rattle.command_line.specs.Views.{RecordedFiles, View, Gdb, meaning_of_view, reads, writes}
+use Rattle.command_line.specs.declared.view.RecordedFiles.{RecordedFiles as Files}
+use Rattle.command_line.specs.declared.view.View.{View as OfCode}
+use Rattle.command_line.specs.declared.view.View.TheVariants as asked
+use Rattle.dsm_io.specs.Causes.{Appends, Rose}
+use Rattle.dsm_io.specs.States.{FilesState, SinkState}
+use Rattle.text_output.specs.declared.failure.Failure.{Failure}
+use Rattle.text_output.specs.declared.failure.Failure.TheVariants.{Input, NotWritten, Refused, Layout, Record, Text, Output, OutOfMemory}
+use Rattle.text_output.specs.Failures.{IsNoRefusal, PutsPrefix, status_of}
+use Rattle.text_output.proofs.Pieces.{prefix_of}
+use Rattle.judged_files.specs.Failures.{file_limit}
+use Rattle.judged_files.specs.Inputs.{Inputs}
+use Rattle.prepared_run.specs.Ready.{work_for}
+use Rattle.prepared_run.specs.Replays.{IsReplayRefusal, IsWorkOf}
+use Rattle.prepared_run.specs.declared.ready.Prepared.{Prepared}
+use Rattle.run_record.specs.declared.Record.{Record as Kept}
+use Rattle.one_memory.specs.Shown.{pick_of}
+use Rattle.one_memory.specs.declared.Pick.{Pick}
+use Rattle.record_picks.specs.Picks.{ArePicksOf, IsInterleaved as OfWork}
+use Rattle.time_machine.specs.Stand.{Run, Stand, IsInterleaved}
+use Rattle.debugged_run.specs.Commands.{Tells}
+use Rattle.debugged_run.specs.Motions.{Moves}
+use Rattle.debugged_run.specs.Seen.{seen_from}
+use Rattle.gdb_server.specs.Ends.{Streams}
+use Rattle.gdb_server.specs.Transcripts.{Standing, opening, Serves}
+use Rattle.views.specs.Answers.{IsRefusalStatus}
+use Rattle.views.specs.Debugger.{HasShown, HasShownPart, HasShownUpTo, IsSessionText, IsShown, IsUntouched}
+use Rattle.views.specs.Failures.{FailsAsRun, FailsAsSession, HasShownRun, IsFailure, IsInputFault, IsShowFailure, IsShownFailure, IsSuccess, IsTextOfSession}
+use Rattle.views.specs.Headline.{AreTold, PrintsPrefix}
+use Rattle.views.specs.Inputs.{AreInputs, list_of, run_files}
+use Rattle.views.specs.Trace.{recorded}
+use Rattle.views.proofs.Inputs.{not_long, unread_fails, unread_no_refusal}
+use Rattle.views.proofs.Runs.{IsOfRun, run_fails, run_inputs, run_succeeds, with_verified}
+
+-- 1. What the view reads and writes
+
+gdb_with : (run : RecordedFiles) (verified : Option (List ℕ))
+    → reads (Gdb (with_verified run verified))
+    ≡ list_of (run_files (with_verified run verified))
+gdb_with run None = refl
+gdb_with run (Some verified) = refl
+
+gdb_of_run : (run : RecordedFiles) → IsOfRun (Gdb run) run IsTextOfSession
+gdb_of_run run = record {
+  reads_are = gdb_with run run.verified;
+  text = λ contents t s h. h;
+  refused = λ contents line h. h;
+  laid_out = λ contents line h. h;
+  kept = λ contents line h. h;
+}
+
+writes_with : (run : RecordedFiles) (verified : Option (List ℕ))
+    → writes (Gdb (with_verified run verified)) ≡ []
+writes_with run None = refl
+writes_with run (Some verified) = refl
+
+pub gdb_writes_none : (run : RecordedFiles) → writes (Gdb run) ≡ []
+gdb_writes_none run = writes_with run run.verified
+
+-- no other view has its meaning
+abbrev IsOther : View → Type 0
+IsOther (Gdb run) = ⊥
+IsOther v = Unit {0}
+
+pub is_other : (x : OfCode) → ((run : Files) → x ≡ asked.Gdb run → ⊥)
+    → (run : RecordedFiles) → meaning_of_view x ≡ Gdb run → ⊥
+is_other asked.Help other run is = subst IsOther is tt
+is_other (asked.Code a) other run is = subst IsOther is tt
+is_other (asked.Trace own from to block one) other run is = subst IsOther is tt
+is_other (asked.Blocks own) other run is = subst IsOther is tt
+is_other (asked.Page own output from to) other run is = subst IsOther is tt
+is_other (asked.Time a) other run is = subst IsOther is tt
+is_other (asked.Cost a) other run is = subst IsOther is tt
+is_other (asked.Speedup a output) other run is = subst IsOther is tt
+is_other (asked.Gdb own) other run is = other own refl
+
+abbrev run_in : View → (otherwise : RecordedFiles) → RecordedFiles
+run_in (Gdb run) otherwise = run
+run_in v otherwise = otherwise
+
+pub same_gdb : (run other : RecordedFiles) → Gdb run ≡ Gdb other
+    → run ≡ other
+same_gdb run other is = ap (λ v. run_in v run) is
+
+-- 2. What was put is a text of the view
+
+transcript : (inputs : Inputs) (first : Stand) (heard put : List ℕ) (standing : Standing Stand)
+    → IsShown inputs first → Serves seen_from Moves Tells (opening first) heard put standing
+    → IsSessionText inputs put
+transcript inputs first heard put standing shown serves = record {
+  first = first;
+  shown = shown;
+  heard = heard;
+  put = put;
+  standing = standing;
+  serves = serves;
+  byte = 0;
+  piece = [];
+  begins = (0, inl refl);
+  text_is = sym (append-nil put);
+}
+
+part_put : (inputs : Inputs) (before now : SinkState) (text : List ℕ) → IsSessionText inputs text
+    → Appends before.taken now.taken text → PutsPrefix (IsTextOfSession inputs) before now
+part_put inputs before now text is put =
+    (text, 0, is, prefix_of before.taken now.taken text [] text (sym (append-nil text)) put)
+
+up_to_put : (inputs : Inputs) (io : Streams) → HasShownUpTo inputs io
+    → PutsPrefix (IsTextOfSession inputs) io.output io.output_after
+up_to_put inputs io h =
+    let s = h.stopped in
+    part_put inputs io.output io.output_after s.put
+    (transcript inputs h.first s.heard s.put s.standing h.shown s.serves) s.was_put
+
+broken_put : (inputs : Inputs) (io : Streams) → HasShownPart inputs io
+    → PutsPrefix (IsTextOfSession inputs) io.output io.output_after
+broken_put inputs io h =
+    let b = h.broken in
+    let is : IsSessionText inputs (b.put ++ b.piece) = record {
+      first = h.first;
+      shown = h.shown;
+      heard = b.heard;
+      put = b.put;
+      standing = b.standing;
+      serves = b.serves;
+      byte = b.byte;
+      piece = b.piece;
+      begins = b.begins;
+      text_is = refl;
+    } in
+    part_put inputs io.output io.output_after (b.put ++ b.piece) is b.was_put
+
+-- 3. How the view succeeds
+
+pub shown_as_told : (run : RecordedFiles) (files : FilesState) (io : Streams)
+    → HasShownRun run files io → (contents : List ℕ → List ℕ)
+    → AreTold (Gdb run) files contents → HasShown (recorded run contents) io
+shown_as_told run files io h contents told =
+    subst (λ i. HasShown i io)
+    (run_inputs (Gdb run) run files h.inputs contents (gdb_of_run run).reads_are
+    h.are_inputs told) h.shown
+
+pub shown_succeeds : (run : RecordedFiles) (files : FilesState) (io : Streams)
+    → HasShownRun run files io → IsSuccess (Gdb run) files io.output io.output_after
+shown_succeeds run files io h =
+    let s = h.shown.served in
+    run_succeeds (Gdb run) run IsTextOfSession (gdb_of_run run) files io.output
+    io.output_after h.inputs h.are_inputs
+    (s.put, transcript h.inputs h.shown.first s.heard s.put s.standing h.shown.shown s.serves, s.was_put)
+
+-- 4. How it fails
+
+taken_same : (io : Streams) → IsUntouched io → io.output_after.taken ≡ io.output.taken
+taken_same io h = ap (λ (s : SinkState). s.taken) h.output
+
+-- but for the input, as a view of a recorded run
+by_run : (run : RecordedFiles) (files files_now : FilesState) (io : Streams) (inputs : Inputs)
+    (f : Failure) → AreInputs files (run_files run) inputs
+    → FailsAsRun (IsTextOfSession inputs) inputs io.output io.output_after f
+    → IsShownFailure (Gdb run) files files_now io f
+by_run run files files_now io inputs f are h =
+    inl (run_fails (Gdb run) run IsTextOfSession (gdb_of_run run) files files_now io.output
+    io.output_after inputs f are h)
+
+prefix_told : (run : RecordedFiles) (files : FilesState) (io : Streams) (inputs : Inputs)
+    → AreInputs files (run_files run) inputs
+    → PutsPrefix (IsTextOfSession inputs) io.output io.output_after → (contents : List ℕ → List ℕ)
+    → AreTold (Gdb run) files contents
+    → PrintsPrefix (Gdb run) contents io.output io.output_after
+prefix_told run files io inputs are part contents told = record {
+  text = part.0;
+  is = subst (λ i. IsSessionText i part.0)
+      (run_inputs (Gdb run) run files inputs contents (gdb_of_run run).reads_are are told) part.2;
+  put = part.3;
+}
+
+session_fails : (run : RecordedFiles) (files files_now : FilesState) (io : Streams) (inputs : Inputs)
+    (f : Failure) → AreInputs files (run_files run) inputs → FailsAsSession inputs io f
+    → IsShownFailure (Gdb run) files files_now io f
+session_fails run files files_now io inputs (Input line) are h =
+    inr ((h.1, prefix_told run files io inputs are (up_to_put inputs io h.2)), h.0)
+session_fails run files files_now io inputs (NotWritten line) are h = absurd h
+session_fails run files files_now io inputs (Refused line) are h =
+    by_run run files files_now io inputs (Refused line) are (h.0, taken_same io h.1)
+session_fails run files files_now io inputs (Layout line) are h =
+    by_run run files files_now io inputs (Layout line) are (h.0, taken_same io h.1)
+session_fails run files files_now io inputs (Record line) are h =
+    by_run run files files_now io inputs (Record line) are (h.0, taken_same io h.1)
+session_fails run files files_now io inputs (Text line) are h = absurd h
+session_fails run files files_now io inputs Output are h =
+    by_run run files files_now io inputs Output are (h.0, broken_put inputs io h.1)
+session_fails run files files_now io inputs OutOfMemory are h =
+    by_run run files files_now io inputs OutOfMemory are (elim h [
+      | inl untouched ↦ inl (taken_same io untouched)
+      | inr (inl up_to) ↦ inr (up_to_put inputs io up_to)
+      | inr (inr part) ↦ inr (broken_put inputs io part)
+    ])
+
+pub shown_fails : (run : RecordedFiles) (files files_now : FilesState) (io : Streams) (f : Failure)
+    → IsShowFailure run files files_now io f → IsShownFailure (Gdb run) files files_now io f
+shown_fails run files files_now io f h = elim h [
+  | inl unread ↦ inl (subst (λ s. IsFailure (Gdb run) files files_now io.output s f) (sym unread.1.output)
+      (unread_fails (Gdb run) (run_files run) (gdb_of_run run).reads_are files files_now io.output
+      f unread.0))
+  | inr unshown ↦
+      session_fails run files files_now io unshown.inputs f unshown.are_inputs unshown.fails
+]
+
+-- a refusal comes before anything is read of the input
+session_unheard : (inputs : Inputs) (io : Streams) (f : Failure) → FailsAsSession inputs io f
+    → IsRefusalStatus (status_of f) → io.input_after ≡ io.input
+session_unheard inputs io (Input line) h status = absurd (omega (arith, status))
+session_unheard inputs io (NotWritten line) h status = absurd h
+session_unheard inputs io (Refused line) h status = h.1.input
+session_unheard inputs io (Layout line) h status = h.1.input
+session_unheard inputs io (Record line) h status = h.1.input
+session_unheard inputs io (Text line) h status = absurd h
+session_unheard inputs io Output h status = absurd (omega (arith, status))
+session_unheard inputs io OutOfMemory h status = absurd (omega (arith, status))
+
+pub shown_unheard : (run : RecordedFiles) (files files_now : FilesState) (io : Streams) (f : Failure)
+    → IsShowFailure run files files_now io f → IsRefusalStatus (status_of f)
+    → io.input_after ≡ io.input
+shown_unheard run files files_now io f h status = elim h [
+  | inl unread ↦ unread.1.input
+  | inr unshown ↦ session_unheard unshown.inputs io f unshown.fails status
+]
+
+-- a file that is too long is no refusal
+pub shown_longer : {T : Type 0} (run : RecordedFiles) (files files_now : FilesState) (io : Streams)
+    (r : Result T Failure) (name content : List ℕ) → OnOk r (HasShownRun run files io)
+    → IfErr r (IsShowFailure run files files_now io) → Contains (reads (Gdb run)) name
+    → files.held name ≡ Some content → file_limit < length content → MatchResult r (λ _. ⊥) IsNoRefusal
+shown_longer run files files_now io (Ok x) name content ok failure among is long =
+    not_long (Gdb run) (run_files run) files ok.inputs name content
+    (gdb_of_run run).reads_are ok.are_inputs among is long
+shown_longer run files files_now io (Err f) name content ok failure among is long = elim failure [
+  | inl unread ↦ unread_no_refusal (run_files run) files files_now f unread.0
+  | inr unshown ↦ absurd (not_long (Gdb run) (run_files run) files unshown.inputs name content
+      (gdb_of_run run).reads_are unshown.are_inputs among is long)
+]
+
+-- 5. The run that is shown, and a session's own ends
+
+abbrev pub run_of : Prepared → (nodes : ℕ) → List Pick → Run
+run_of prepared nodes picks = record {
+  program = prepared.program;
+  layout = prepared.layout;
+  nodes = nodes;
+  picks = picks;
+}
+
+-- as many processors as the layout has make an interleaved run
+pub with_nodes : (prepared : Prepared) (nodes : ℕ) (picks : List Pick) → nodes ≡ prepared.layout.nodes
+    → OfWork (work_for prepared) (map pick_of picks) → IsInterleaved (run_of prepared nodes picks)
+with_nodes prepared nodes picks nodes_are h =
+    subst (λ n. IsInterleaved (run_of prepared n picks)) (sym nodes_are) h
+
+pub is_shown : (inputs : Inputs) (prepared : Prepared) (kept : Kept) (nodes : ℕ) (picks : List Pick) (s : Stand)
+    → IsWorkOf inputs kept prepared.program prepared.rewritten.plan (work_for prepared)
+    → nodes ≡ prepared.layout.nodes
+    → ArePicksOf (work_for prepared) prepared.rewritten.plan kept (map pick_of picks)
+    → IsInterleaved (run_of prepared nodes picks)
+    → s ≡ record { run = run_of prepared nodes picks; position = 0 } → IsShown inputs s
+is_shown inputs prepared kept nodes picks s asked nodes_are are interleaved stands =
+    subst (IsShown inputs) (sym stands) (record {
+      kept = kept;
+      plan = prepared.rewritten.plan;
+      work = work_for prepared;
+      asked = asked;
+      layout = refl;
+      nodes = nodes_are;
+      picks = are;
+      interleaved = interleaved;
+      start = refl;
+    })
+
+-- what is refused before the session is of a recorded run
+pub refused_session : (inputs : Inputs) (io : Streams) (f : Failure) → IsUntouched io
+    → IsReplayRefusal inputs f → FailsAsSession inputs io f
+refused_session inputs io (Input line) untouched h = absurd h
+refused_session inputs io (NotWritten line) untouched h = absurd h
+refused_session inputs io (Refused line) untouched h = (h, untouched)
+refused_session inputs io (Layout line) untouched h = (h, untouched)
+refused_session inputs io (Record line) untouched h = (h, untouched)
+refused_session inputs io (Text line) untouched h = absurd h
+refused_session inputs io Output untouched h = absurd h
+refused_session inputs io OutOfMemory untouched h = inl untouched
+
+-- the input failed
+pub unheard_session : (inputs : Inputs) (io : Streams) (f : Failure) → IsInputFault f
+    → Rose io.input.faults io.input_after.faults → HasShownUpTo inputs io → FailsAsSession inputs io f
+unheard_session inputs io (Input line) is rose h = (is, rose, h)
+unheard_session inputs io (NotWritten line) is rose h = absurd is
+unheard_session inputs io (Refused line) is rose h = absurd is
+unheard_session inputs io (Layout line) is rose h = absurd is
+unheard_session inputs io (Record line) is rose h = absurd is
+unheard_session inputs io (Text line) is rose h = absurd is
+unheard_session inputs io Output is rose h = absurd is
+unheard_session inputs io OutOfMemory is rose h = inr (inl h)
