@@ -3,7 +3,7 @@
 
     bench/budgets.py PROGRAM OTHER [--programs N] [--first N]
 
-PROGRAM and OTHER are two builds of shasta: this one, and that of the landing before. `gen` makes an
+PROGRAM and OTHER are two builds of shasta: this one, and an earlier one. `gen` makes an
 executable of each number, 5,000 of them from 0 on, which executes some 166,000 words. A budget that
 the number gives ends two runs of three somewhere among them. PROGRAM's `run` and its `sim` on one
 node, and OTHER's `run`, must print the same bytes with the same status, with batches and with

@@ -12,13 +12,15 @@ var counter = new Counter();
 print(JSON.stringify(counter.counts));
 print(Object.keys(counter.counts).sort().join(' '));
 
-function primes(limit) {
-  var found = [];
-  for (var number = 2; number < limit; ++number)
-    if (found.every(function (prime) { return number % prime !== 0; }))
-      found.push(number);
-  return found;
+function path(number) {
+  var steps = [number];
+  while (number !== 1) {
+    number = number % 2 === 0 ? number / 2 : 3 * number + 1;
+    steps.push(number);
+  }
+  return steps;
 }
-print(primes(200).length, primes(200).slice(-3));
+print(path(27).length, path(97).slice(-3));
+print(path(27).every(function (step) { return step < 10000; }));
 try { undefinedName; } catch (error) { print(error.name); }
 print(1 / 3, Math.sqrt(2), 1e21, 0.1 + 0.2, parseFloat('2.5e-7'));

@@ -1,20 +1,19 @@
 -- Closures, coroutines, strings, errors and numbers that aren't whole.
-local function primes(limit)
+local function path(number)
   return coroutine.wrap(function()
-    local crossed = {}
-    for number = 2, limit do
-      if not crossed[number] then
-        for multiple = number * number, limit, number do crossed[multiple] = true end
-        coroutine.yield(number)
-      end
+    local seen = {}
+    while not seen[number] do
+      seen[number] = true
+      coroutine.yield(number)
+      number = number % 2 == 0 and number // 2 or 3 * number + 1
     end
   end)
 end
 
 local words, count = {}, 0
-for prime in primes(500) do
+for step in path(27) do
   count = count + 1
-  words[count] = string.format("%03d-%x", prime % 97, prime)
+  words[count] = string.format("%03d-%x", step % 97, step)
 end
 table.sort(words)
 print(count, words[1], words[count], #table.concat(words, ","))
