@@ -1,8 +1,6 @@
 #![tactic(auto)]
 //! The batches of a plan: runs of accesses that are checked once.
 
-ghost use Rattle.std.specs.Prelude.{◌≡◌, ℕ};
-
 mod batches;
 mod runs;
 mod stretches;

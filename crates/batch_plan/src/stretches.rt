@@ -1,6 +1,6 @@
 //! Stretches: words that may be the beginning of a run.
 
-ghost use Rattle.std.specs.Prelude.{◌≡◌, ◌+◌, ◌^◌, ◌<◌, MatchOption};
+ghost use Rattle.std.specs.Prelude.{◌≡◌, ◌+◌, ◌<◌, MatchOption};
 ghost use Rattle.templates.specs.Code.{Ascends, code_of};
 ghost use Rattle.templates.specs.Runs.{is_access, may_stand};
 ghost use Rattle.batch_plan.specs.Stretches.{IsRunPrefix, IsStretchOf};

@@ -1,6 +1,6 @@
 //! A layout, and its look-ups.
 
-ghost use Rattle.std.specs.Prelude.{◌≡◌, ◌<◌, ◌≤◌, ◌^◌, IfOk};
+ghost use Rattle.std.specs.Prelude.{◌≡◌, ◌<◌, ◌≤◌, IfOk};
 ghost use Rattle.block_layout.specs.Layout as model;
 ghost use Rattle.block_layout.specs.Layout.{IsValid, has_line};
 ghost use Rattle.block_layout.specs.Index.{IsLastBegun, IsPieceOf};
@@ -55,7 +55,7 @@ impl Model for Layout {
 }
 
 impl Layout {
-    ghost use Rattle.std.specs.Prelude.{◌≡◌, ◌<◌, ◌≤◌, ◌^◌, IfOk};
+    ghost use Rattle.std.specs.Prelude.{◌≡◌, ◌<◌, ◌≤◌, IfOk};
     ghost use Rattle.block_layout.specs.Layout as model;
     ghost use Rattle.block_layout.specs.Layout.{IsValid};
     ghost use Rattle.block_layout.specs.Index.{IsIndex, IsLastBegun, IsPieceOf};

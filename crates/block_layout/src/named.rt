@@ -1,6 +1,6 @@
 //! The ranges that a text names.
 
-ghost use Rattle.std.specs.Prelude.{◌≡◌, ℕ, ◌+◌, ◌*◌, ◌/◌, ◌<◌, ◌≤◌, ◌^◌, true, None, List, []};
+ghost use Rattle.std.specs.Prelude.{◌≡◌, ◌+◌, ◌/◌, ◌<◌, List, []};
 ghost use Rattle.std.specs.Prelude.{◌∷◌, ◌++◌, find, IfOk};
 ghost use Rattle.block_layout.specs.Layout.{names};
 ghost use Rattle.block_layout.specs.Reading.{IsNew, IsCutRange};

@@ -43,14 +43,6 @@ impl Ranges {
         Ranges { items }
     }
 
-    /// The list of the ranges. Takes no memory.
-    pub fn into_vec(self) -> Vec<Lines>
-        ensures value { result.items ≡ self }
-        ensures ranges { AreRanges self }
-    {
-        self.items
-    }
-
     /// The ranges, ascending.
     pub fn as_slice(&self) -> &[Lines]
         ensures value { result.now ≡ self.now }

@@ -1,12 +1,11 @@
 //! Reads a layout's text.
 
-ghost use Rattle.std.specs.Prelude.{◌≡◌, ℕ, ◌+◌, ◌<◌, ◌≤◌, ◌^◌, true, false, ◌∷◌, [], length, find};
-ghost use Rattle.std.specs.Prelude.{position, ◌==◌, IsSome, IfSome, IfOk, IsErrOf, IfErr};
+ghost use Rattle.std.specs.Prelude.{◌≡◌, ℕ, ◌+◌, ◌<◌, ◌≤◌, true, false, ◌∷◌, [], length};
+ghost use Rattle.std.specs.Prelude.{position, ◌==◌, IfSome, IfOk, IsErrOf};
 ghost use Rattle.std.specs.Prelude.{MatchBool, MatchOption};
 ghost use Rattle.block_layout.specs.Layout as model;
-ghost use Rattle.block_layout.specs.Layout.{Shape, IsValid, names, is_in};
+ghost use Rattle.block_layout.specs.Layout.{Shape, IsValid};
 ghost use Rattle.block_layout.specs.Text.{text_lines, IsLayoutOf, IsFirstFault, IsFirstBroken};
-ghost use Rattle.block_layout.specs.Index.{IsIndexBelow};
 ghost use Rattle.block_layout.specs.Reading.{IsCutRange, IsNew, IsAllShared, LacksShared, Overlaps};
 ghost use Rattle.block_layout.specs.Reading.{IsSound, IsBroken, IsAdded, IsFault, IsTaken};
 ghost use Rattle.block_layout.specs.Reading.{lines_left};

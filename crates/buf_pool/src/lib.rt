@@ -140,13 +140,6 @@ impl Pool {
         self.free.len() as u8
     }
 
-    /// How many slots it has.
-    pub fn slots(&self) -> u8
-        ensures { result ≡ self.now.slots }
-    {
-        self.slots
-    }
-
     /// For how many bytes its buffers have room.
     pub fn bytes(&self) -> u32
         ensures bytes { result ≡ self.now.bytes }

@@ -9,4 +9,4 @@ mod window;
 pub use bytes::{load_at, store_at};
 pub use lines::{LineMemory, LineRange};
 pub use range::ByteRange;
-pub use window::Window;
+pub use window::{WINDOW_START, Window};

@@ -1,6 +1,6 @@
 //! A range of bytes that starts at an address.
 
-ghost use Rattle.std.specs.Prelude.{◌≡◌, ◌+◌, ◌-◌, ◌^◌, ◌<◌, ◌≤◌, ◌++◌, ℕ, true, IfOk, length};
+ghost use Rattle.std.specs.Prelude.{◌≡◌, ◌+◌, ◌-◌, ◌^◌, ◌<◌, ◌≤◌, ◌++◌, ℕ, IfOk, length};
 ghost use Rattle.std.specs.Prelude.{replicate};
 ghost use Rattle.rv32_decode.specs.Widths.{size_of};
 ghost use Rattle.byte_range.specs.Memory.{raw, stored};

@@ -1,6 +1,6 @@
 //! The bytes of a processor's own window.
 
-ghost use Rattle.std.specs.Prelude.{◌≡◌, ◌+◌, ◌*◌, ◌/◌, ◌%◌, ◌^◌, ◌<◌, ◌≤◌, ℕ, true, Some, None};
+ghost use Rattle.std.specs.Prelude.{◌≡◌, ◌^◌, ◌<◌, ℕ, true, Some, None};
 ghost use Rattle.std.specs.Prelude.{IfOk, if◌then◌else◌};
 ghost use Rattle.rv32_decode.specs.Widths.{is_aligned};
 ghost use Rattle.byte_range.specs.Memory.{raw, stored};
@@ -11,8 +11,8 @@ use rv32_decode::Width;
 use std::alloc::{AllocError, Global};
 use std::marker::Model;
 
-/// The first address of the window.
-const BASE: u32 = 0x7fff_0000;
+/// The first address of the window. A program's segments end there or below it.
+pub const WINDOW_START: u32 = 0x7fff_0000;
 
 /// How many bytes the window has.
 const LENGTH: u32 = 0x1_0000;
@@ -40,7 +40,7 @@ impl Window {
         ensures zeros { IfOk result (λ w. window_memory w ≡ (λ _. 0)) }
     {
         Ok(Window {
-            bytes: ByteRange::zeros(alloc, BASE, LENGTH as usize)?,
+            bytes: ByteRange::zeros(alloc, WINDOW_START, LENGTH as usize)?,
         })
     }
 
@@ -54,7 +54,7 @@ impl Window {
             then Some (raw width (window_memory self.now) address) else None) }
         ensures byte { (n : ℕ) → result ≡ Some n → width ≡ Width.Byte → n < 2 ^ 8 }
     {
-        if address.wrapping_sub(BASE) < LENGTH {
+        if address.wrapping_sub(WINDOW_START) < LENGTH {
             Some(self.bytes.load(width, address))
         } else {
             None
@@ -71,7 +71,7 @@ impl Window {
             (if is_in_window address then stored width (window_memory self.old) address value
             else window_memory self.old) }
     {
-        let inside = address.wrapping_sub(BASE) < LENGTH;
+        let inside = address.wrapping_sub(WINDOW_START) < LENGTH;
         if inside {
             self.bytes.store(width, address, value);
         }

@@ -1,5 +1,5 @@
 -- What contracts see of a source of bytes.
-use Rattle.std.specs.Prelude.{◌≡◌, ℕ, List, [], ◌∷◌, ◌++◌, Option}
+use Rattle.std.specs.Prelude.{◌≡◌, ℕ, List, [], ◌++◌, Option}
 use Rattle.std.specs.Option.{option_map}
 use Rattle.dsm_io.specs.Schedule.{Schedule}
 

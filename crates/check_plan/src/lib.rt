@@ -1,8 +1,6 @@
 #![tactic(auto)]
 //! The plan of a program: templates, and scratch registers that are dead where they can be.
 
-ghost use Rattle.std.specs.Prelude.{◌≡◌, ℕ};
-
 mod laws;
 mod planning;
 mod scratches;

@@ -1,6 +1,6 @@
 //! Scratch registers by what is dead.
 
-ghost use Rattle.std.specs.Prelude.{◌≡◌, ◌<◌, ◌≤◌, Some, IfOk, IfErr, slice_get, slice_index_or};
+ghost use Rattle.std.specs.Prelude.{◌≡◌, ◌<◌, Some, IfOk, IfErr, slice_get, slice_index_or};
 ghost use Rattle.std.specs.Prelude.{take};
 ghost use Rattle.rv32_decode.specs.Fields.{bit};
 ghost use Rattle.templates.specs.Plans.{no_scratch};

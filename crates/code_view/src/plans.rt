@@ -1,7 +1,6 @@
 //! What a plan says of a place, as a text.
 
 ghost use Rattle.std.specs.Prelude.{◌≡◌, ◌++◌, OnOk};
-ghost use Rattle.std.specs.Fmt.{decimal};
 ghost use Rattle.code_view.specs.Plans.{plan_text, poll_text, run_text, scratch_text};
 ghost use Rattle.code_view.specs.Plans.{scratches_text, spill_mark};
 

@@ -9,8 +9,8 @@ ghost use Rattle.templates.specs.Sequences.{batch_sequence};
 ghost use Rattle.jump_map.specs.Image.{most_words};
 ghost use Rattle.code_view.specs.Code.{head, padded, original_text, place_line, place_text};
 ghost use Rattle.code_view.specs.Code.{cell_with, cell_line, word_line, word_lines, words_of};
-ghost use Rattle.code_view.specs.Code.{numbers_text, notes_text, entry_text, code_text};
-ghost use Rattle.code_view.specs.Code.{IsShown, IsEntryShown};
+ghost use Rattle.code_view.specs.Code.{numbers_text, notes_text, entry_text};
+ghost use Rattle.code_view.specs.Code.{IsEntryShown};
 
 use crate::names::{commit_mark, part_name};
 use crate::plans::push_plan;
@@ -47,20 +47,6 @@ pub struct CodeView<'a> {
 }
 
 impl<'a> CodeView<'a> {
-    /// Appends the whole text.
-    pub fn push_code(&self, alloc: Global, out: &mut Vec<u8>) -> Result<(), AllocError>
-        requires shown { IsShown self.now }
-        ensures { OnOk result (out.new.items ≡ out.old.items
-            ++ code_text self.now.program.now self.now.plan.now self.now.image.now) }
-    {
-        self.push_head(alloc, out)?;
-        let mut number = 1;
-        for entry in self.plan.entries() {
-            number = self.push_entry(alloc, entry, number, out)?;
-        }
-        Ok(())
-    }
-
     /// Appends what stands before the text of the first entry: the lines that explain the columns,
     /// and that of word 0.
     pub fn push_head(&self, alloc: Global, out: &mut Vec<u8>) -> Result<(), AllocError>

@@ -1,12 +1,12 @@
 -- The buffer of a wait is in one place.
-use Rattle.std.proofs.Common.{◌≡◌, ◌≢◌, ℕ, zero, suc, ◌+◌, ◌<◌, ◌≤◌, Bool, true, false, not, cond, eqb, ◌&&◌, ◌||◌, Option, Some, None, List, [], ◌∷◌, ◌++◌, refl, sym, ap, ◌∙◌, subst, arith, inl, inr}
+use Rattle.std.proofs.Common.{◌≡◌, ◌≢◌, ℕ, zero, suc, ◌+◌, ◌<◌, Bool, true, false, not, cond, eqb, ◌&&◌, Option, Some, None, List, [], ◌∷◌, ◌++◌, refl, sym, ap, ◌∙◌, subst, arith, inl, inr}
 use Rattle.std.proofs.lemmas.Bool.Decides.{eqb_tells, nat_tests}
-use Rattle.coherence.specs.Messages.{Need, Read, Write, HomeMessage, Ask, Done, ForwardMessage, FwdRead, FwdWrite, Inval, Grant, ResponseMessage, Data, Ack, Message, ToHome, Forward, Response, Answer, Unanswered, ByData, ByGrant, Wait, is_none, is_unanswered}
+use Rattle.coherence.specs.Messages.{Need, HomeMessage, Ask, Done, ForwardMessage, FwdRead, FwdWrite, Inval, Grant, ResponseMessage, Data, Ack, Message, ToHome, Forward, Response, Wait, is_none, is_unanswered}
 use Rattle.coherence.specs.Table.{sum_below, has_from, write_forward}
 use Rattle.coherence.specs.Machine.{Wire, Core, Setting}
 use Rattle.coherence.specs.Claims.{carries, one_if, carrying, asked_by, is_answered, buffer_places}
-use Rattle.coherence.proofs.View.{View, if_to_home, if_forward, if_response, part, view}
-use Rattle.coherence.proofs.Picture.{Place, InForward, InData, InWait, is_in_forward, is_in_data, Flight, InvalFlight, AckFlight, NoFlight, has_inval, has_ack, is_out, Phase, Idle, ReadOpen, WriteOpen, ReadDone, WriteDone, Picture, target, is_some, ask_in, done_in, to_home_in, forwards_in, responses_in, wait_for, wait_in, answer_in, Once, AreRequests, Shows, WellFormed, HasPicture}
+use Rattle.coherence.proofs.View.{if_to_home, if_forward, if_response, part, view}
+use Rattle.coherence.proofs.Picture.{Place, InForward, InData, InWait, is_in_forward, is_in_data, Flight, InvalFlight, AckFlight, NoFlight, has_inval, has_ack, is_out, Phase, Idle, ReadOpen, WriteOpen, ReadDone, WriteDone, Picture, target, is_some, ask_in, to_home_in, forwards_in, responses_in, wait_for, wait_in, answer_in, Once, WellFormed, HasPicture}
 use Rattle.coherence.proofs.Weights.{sum_change}
 use Rattle.coherence.proofs.Asks.{asked_of}
 

@@ -1,7 +1,7 @@
 //! Files and a sink in memory, of whose calls some are to fail.
 
 ghost use Rattle.std.specs.Prelude.{◌≡◌, ◌≢◌, ◌<◌, ◌≤◌, ◌↔◌, ◌⊎◌, ◌++◌, ℕ, List, [], map, length};
-ghost use Rattle.std.specs.Prelude.{option_copied, IfOk, IfSome, OnOk, OnErr, IsErr, IsErrOf};
+ghost use Rattle.std.specs.Prelude.{IfOk, IfSome, OnOk, OnErr, IsErr, IsErrOf};
 ghost use Rattle.dsm_io.specs.Pairs.{first_content, content_of, Writes};
 ghost use Rattle.dsm_io.specs.Schedule.{IsDue, schedule_of, after_call, after_fault};
 
@@ -42,15 +42,6 @@ impl MemFiles {
             store: Store::new(alloc, held),
             schedule: Schedule::new(fails),
         }
-    }
-
-    /// What the name holds, or `None` where it has no file.
-    pub fn held(&self, name: &str) -> Option<&[u8]>
-        ensures first { option_copied result ≡ first_content self.now.pairs name.now }
-        ensures held { IfSome result (λ bytes.
-            (⟦<MemFiles as Files>⟧.state self.now).held name.now ≡ Some bytes.now) }
-    {
-        self.store.content(name)
     }
 }
 

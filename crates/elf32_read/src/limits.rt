@@ -13,10 +13,10 @@ const COUNT_LIMIT: usize = 1000;
 const SIZE_LIMIT: u64 = 1 << 30;
 
 /// The only flag that an executable may have: its memory is totally ordered.
-const TOTAL_STORE_ORDER: u32 = 0x10;
+pub const TOTAL_STORE_ORDER: u32 = 0x10;
 
 /// Addresses are below this number.
-const ADDRESS_END: u64 = 1 << 32;
+pub const ADDRESS_END: u64 = 1 << 32;
 
 /// Whether an executable may have these flags, segments and sections.
 pub fn are_in_limits(flags: u32, segments: &[Segment<'_>], sections: &[Section<'_>]) -> bool

@@ -1,17 +1,18 @@
 //! The rules that a file is judged by.
 
-ghost use Rattle.std.specs.Prelude.{◌≡◌, ◌+◌, ◌≤◌, ℕ, false, position, length, IfSome, IfNone};
-ghost use Rattle.std.specs.Prelude.{MatchOption, Some};
+ghost use Rattle.std.specs.Prelude.{◌≡◌, ◌+◌, ◌≤◌, position, length, IfSome, IfNone};
+ghost use Rattle.std.specs.Prelude.{Some};
 ghost use Rattle.elf32_read.specs.Fields as fields;
 ghost use Rattle.elf32_read.specs.Refusals as model;
 ghost use Rattle.elf32_read.specs.Reading as reading;
-ghost use Rattle.elf32_read.specs.Judging.{HasTables, NoHeader, NoRuleBelow};
+ghost use Rattle.elf32_read.specs.Judging.{HasTables, NoRuleBelow};
 
 use crate::FileRule;
 use crate::headers::{
     FILE_HEADER_SIZE, FileHeader, PROGRAM_HEADER_SIZE, ProgramHeader, SECTION_HEADER_SIZE,
     file_header, program_header,
 };
+use crate::limits::{ADDRESS_END, TOTAL_STORE_ORDER};
 
 /// The type of an executable.
 const EXECUTABLE: u16 = 2;
@@ -19,17 +20,11 @@ const EXECUTABLE: u16 = 2;
 /// The machine RISC-V.
 const RISCV: u16 = 243;
 
-/// The only flag that a file may have: its memory is totally ordered.
-const TOTAL_STORE_ORDER: u32 = 0x10;
-
 const LOADABLE: u32 = 1;
 
 const DYNAMIC_LINKING: u32 = 2;
 
 const INTERPRETER: u32 = 3;
-
-/// Addresses are below this number.
-const ADDRESS_END: u64 = 1 << 32;
 
 /// The first rule that fits the file.
 pub fn first_broken(file: &[u8]) -> Option<FileRule>

@@ -9,9 +9,9 @@ use Rattle.std.proofs.lemmas.List.FromFn.{map-range_with_len_more}
 use Rattle.elf32_read.specs.declared.headers.FileHeader.{FileHeader}
 use Rattle.elf32_read.specs.Elf.{Segment, Section}
 use Rattle.elf32_read.specs.Fields as fields
-use Rattle.elf32_read.specs.Fields.{program_header_at, section_header_at, program_headers}
+use Rattle.elf32_read.specs.Fields.{section_header_at}
 use Rattle.elf32_read.specs.Reading as reading
-use Rattle.elf32_read.specs.Reading.{elf_of, has_range, is_load, segment_in}
+use Rattle.elf32_read.specs.Reading.{elf_of, has_range}
 use Rattle.elf32_write.specs.Layout.{word, zeros, placed, aligned, names, name_list, names_words, segments_end, sections_end, names_offset, table_offset, table_of, program_words, program_table, segment_bytes, section_words, name_offset, section_bytes, section_table, section_part}
 use Rattle.elf32_write.specs.Writable.{has_section_words, is_plain}
 use Rattle.elf32_write.specs.Room.{sections_room, room_limit}

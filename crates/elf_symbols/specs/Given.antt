@@ -1,5 +1,5 @@
 -- Helps the code alone: what the symbols of the code stand for, and the one found so far.
-use Rattle.std.specs.Prelude.{◌≡◌, ℕ, ◌<◌, ◌≤◌, true, false, List, ◌∷◌, ◌++◌, All, map, Option, MatchOption}
+use Rattle.std.specs.Prelude.{◌≡◌, ℕ, ◌<◌, ◌≤◌, true, false, List, ◌∷◌, ◌++◌, All, Option, MatchOption}
 use Rattle.elf_symbols.specs.declared.Symbol as declared
 use Rattle.elf_symbols.specs.Symbols.{Symbol, covers}
 

@@ -1,6 +1,6 @@
 -- The functions that an executable names
 -- (System V ABI, "Object Files": Symbol Table, String Table, Special Sections).
-use Rattle.std.specs.Prelude.{ℕ, ◌+◌, ◌*◌, ◌/◌, ◌%◌, ◌≤◌, Bool, not, ◌&&◌, ◌||◌, ◌==◌, nat_lt, nat_le, if◌then◌else◌, List, [], ◌∷◌, length, slice_index, Option, codes}
+use Rattle.std.specs.Prelude.{ℕ, ◌+◌, ◌*◌, ◌/◌, ◌%◌, Bool, not, ◌&&◌, ◌||◌, ◌==◌, nat_lt, nat_le, if◌then◌else◌, List, [], ◌∷◌, length, slice_index, Option, codes}
 use Rattle.std.specs.List.{range_with_len, flat_map, find, list_all}
 use Rattle.std.specs.Str.{bytes_eq}
 use Rattle.elf32_read.specs.Elf.{Elf, Section}

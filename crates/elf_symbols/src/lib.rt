@@ -6,9 +6,11 @@ ghost use Rattle.elf32_read.specs.Segments.{section_of};
 ghost use Rattle.elf_symbols.specs.Given.{IsFound, symbol_of};
 ghost use Rattle.elf_symbols.specs.Symbols as model;
 
+mod shown;
 mod table;
 
 use elf32_read::{Elf, Section};
+pub use shown::push_shown;
 use std::alloc::{AllocError, Global};
 use std::marker::Model;
 use table::functions_in;

@@ -1,7 +1,7 @@
 //! Where the code words stand.
 
-ghost use Rattle.std.specs.Prelude.{◌≡◌, ◌+◌, ◌%◌, ◌^◌, ◌<◌, ◌≤◌, ◌&&◌, ◌==◌, ℕ, List, true, false};
-ghost use Rattle.std.specs.Prelude.{length, map, nat_le, IfOk, IfSome, IfNone, All};
+ghost use Rattle.std.specs.Prelude.{◌≡◌, ◌+◌, ◌%◌, ◌^◌, ◌<◌, ◌≤◌, ◌&&◌, ◌==◌, ℕ, true, false};
+ghost use Rattle.std.specs.Prelude.{map, IfOk, IfSome, IfNone, All};
 ghost use Rattle.std.specs.List.{filter, filter_map};
 ghost use Rattle.std.specs.List.Sorted.{IsPermutation};
 ghost use Rattle.elf32_read.specs.Elf.{are_placed};

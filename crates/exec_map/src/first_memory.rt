@@ -1,7 +1,7 @@
 //! The memory that a program starts with, by flat lines: those that are shared, and those that no
 //! processor may write.
 
-ghost use Rattle.std.specs.Prelude.{◌≡◌, ℕ, IfOk};
+ghost use Rattle.std.specs.Prelude.{◌≡◌, IfOk};
 ghost use Rattle.exec_map.specs.Contents.{first_byte};
 ghost use Rattle.block_layout.specs.Layout.{AreRanges};
 ghost use Rattle.byte_range.specs.Lines.{lines_memory, Ascend};

@@ -1,7 +1,7 @@
 #![tactic(auto)]
 //! The program of an executable: the class of each line, the bytes that it starts with, its code.
 
-ghost use Rattle.std.specs.Prelude.{◌≡◌, ◌+◌, ◌%◌, ◌^◌, ◌<◌, ◌≤◌, ◌++◌, ℕ, false, length};
+ghost use Rattle.std.specs.Prelude.{◌≡◌, ◌+◌, ◌^◌, ◌<◌, ◌≤◌, ◌++◌, ℕ, false, length};
 ghost use Rattle.std.specs.Prelude.{slice_index, map, take, IfOk, OnErr, OnOk, IsErrOf, IfSome};
 ghost use Rattle.std.specs.Prelude.{IfNone};
 ghost use Rattle.rv32_decode.specs.Widths.{size_of};
@@ -31,7 +31,7 @@ use std::marker::Model;
 use stretches::NumberRange;
 
 /// The first line of the window of which each processor has its own.
-const PRIVATE_FIRST: u32 = 0x1ff_fc00;
+pub const PRIVATE_FIRST: u32 = 0x1ff_fc00;
 
 /// The line after that window's last.
 const PRIVATE_END: u32 = 0x200_0000;

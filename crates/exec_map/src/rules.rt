@@ -1,12 +1,12 @@
 //! The rules that an executable is judged by.
 
-ghost use Rattle.std.specs.Prelude.{◌≡◌, ◌+◌, ◌<◌, ◌≤◌, ℕ, Bool, true, false, not, map, nat_lt};
-ghost use Rattle.std.specs.Prelude.{position, IfSome, IfNone, MatchOption, length};
+ghost use Rattle.std.specs.Prelude.{◌≡◌, ◌+◌, ◌<◌, ℕ, true, false, map, nat_lt};
+ghost use Rattle.std.specs.Prelude.{position, IfSome, IfNone};
 ghost use Rattle.std.specs.List.{list_any};
 ghost use Rattle.elf32_read.specs.Segments.{segment_of, section_of};
 ghost use Rattle.exec_map.specs.Contents as contents;
 ghost use Rattle.exec_map.specs.Refusals as model;
-ghost use Rattle.exec_map.specs.Index.{AreSorted, AreSearchable, AreCode, IsIndex, NoRuleBelow};
+ghost use Rattle.exec_map.specs.Index.{AreSorted, AreSearchable, IsIndex, NoRuleBelow};
 ghost use Rattle.exec_map.specs.Index.{common_line, is_of_kind};
 
 use crate::stretches::NumberRange;

@@ -7,6 +7,7 @@ ghost use Rattle.exec_map.specs.Index as index;
 ghost use Rattle.exec_map.specs.Refusals as rules;
 
 use crate::Class;
+use byte_range::WINDOW_START;
 use elf32_read::{Section, Segment};
 
 /// PF_X of a segment's permissions.
@@ -14,9 +15,6 @@ const EXECUTABLE: u32 = 1;
 
 /// PF_W of a segment's permissions.
 const WRITABLE: u32 = 2;
-
-/// Addresses from here on are no program's.
-const ADDRESS_LIMIT: u64 = 0x7fff_0000;
 
 /// Whether the segment's words may be executed.
 pub fn is_executable(s: &Segment<'_>) -> bool
@@ -91,7 +89,7 @@ pub fn holds(s: &Segment<'_>, address: u32) -> bool
 pub fn is_too_high(s: &Segment<'_>) -> bool
     ensures { result ≡ rules.is_too_high (segment_of s.now) }
 {
-    has_memory(s) && end(s) > ADDRESS_LIMIT
+    has_memory(s) && end(s) > u64::from(WINDOW_START)
 }
 
 /// Whether the segment is writable and executable.

@@ -1,6 +1,6 @@
 -- What contracts see of a node's copy of the shared memory.
-use Rattle.std.specs.Prelude.{◌≡◌, ℕ, zero, suc, ◌+◌, ◌*◌, ◌/◌, ◌%◌, if◌then◌else◌, nat_lt, List, [], ◌∷◌, length, slice_index, slice_range}
-use Rattle.block_layout.specs.Layout.{Shape, IsValid, is_shared, shared_before, shared_lines, blocks, start, lines}
+use Rattle.std.specs.Prelude.{◌≡◌, ℕ, zero, suc, ◌+◌, ◌*◌, ◌/◌, ◌%◌, ◌<◌, if◌then◌else◌, nat_lt, List, [], ◌∷◌, length, slice_index, slice_range}
+use Rattle.block_layout.specs.Layout.{Shape, IsValid, is_shared, shared_before, shared_lines, blocks, start, lines, first_line}
 
 -- the layout, and the bytes of the shared lines, ascending
 pub record Copy : Type 0 where
@@ -41,3 +41,9 @@ bytes_from memory at (suc n) = memory at ∷ bytes_from memory (at + 1) n
 pub record IsCopy (layout : Shape) (bytes : List ℕ) : Type 0 where
   pub valid : IsValid layout
   pub len : length bytes ≡ 64 * shared_lines layout
+
+-- the bytes of a block are those of its addresses
+pub record CopyLaws (c : Copy) : Type 0 where
+  pub len : (b : ℕ) → b < blocks c.layout → length (bytes_of c b) ≡ 64 * lines c.layout b
+  pub get : (b k : ℕ) → b < blocks c.layout → k < 64 * lines c.layout b
+      → slice_index (bytes_of c b) k ≡ memory c (64 * first_line c.layout b + k)

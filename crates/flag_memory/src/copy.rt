@@ -4,7 +4,7 @@ ghost use Rattle.std.specs.Prelude.{◌≡◌, ◌+◌, ◌-◌, ◌*◌, ◌/�
 ghost use Rattle.std.specs.Prelude.{length, slice_index};
 ghost use Rattle.block_layout.specs.Layout.{is_shared, shared_lines, blocks, lines, first_line};
 ghost use Rattle.block_layout.specs.Update.{changed};
-ghost use Rattle.rv32_decode.specs.Widths.{size_of, is_aligned};
+ghost use Rattle.rv32_decode.specs.Widths.{is_aligned};
 ghost use Rattle.byte_range.specs.Memory.{raw, stored};
 ghost use Rattle.flag_memory.specs.Copy.{memory, bytes_of, place};
 ghost use Rattle.flag_memory.specs.Flag.{flags};

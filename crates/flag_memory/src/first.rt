@@ -42,13 +42,6 @@ impl<'a> FirstBytes<'a> {
         FirstBytes { items }
     }
 
-    /// The list of the ranges. Takes no memory.
-    pub fn into_vec(self) -> Vec<FirstRange<'a>>
-        ensures { map range_of result.items ≡ self.entry }
-    {
-        self.items
-    }
-
     /// The ranges, ascending.
     pub fn as_slice(&self) -> &[FirstRange<'a>]
         ensures value { map range_of result.now ≡ self.now }

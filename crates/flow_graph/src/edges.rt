@@ -1,7 +1,6 @@
 //! The direct successors of an instruction.
 
-ghost use Rattle.std.specs.Prelude.{◌≡◌, ◌+◌, ◌^◌, ◌<◌, ◌⊎◌, ◌↔◌, ℕ, Some};
-ghost use Rattle.rv32_program.specs.Liveness.{Next as IsNext};
+ghost use Rattle.std.specs.Prelude.{◌≡◌, ◌+◌, ◌^◌, ◌<◌, Some};
 ghost use Rattle.flow_graph.specs.Edges.{ends_flow, next_of, goes_back, goes_anywhere};
 
 use rv32_decode::Instr;

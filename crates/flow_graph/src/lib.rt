@@ -1,8 +1,6 @@
 #![tactic(auto)]
 //! The flow graph of a program: its code words, and where control goes from each directly.
 
-ghost use Rattle.std.specs.Prelude.{◌≡◌, ℕ};
-
 mod code;
 mod edges;
 mod graph;

@@ -5,9 +5,9 @@ use Rattle.std.specs.Fmt.{digit_glyph}
 use Rattle.std.proofs.lemmas.Grind.{common_steps}
 use Rattle.std.proofs.lemmas.Bool.Decides.{nat_tests}
 use Rattle.std.proofs.lemmas.List.Sums.{sum_by-append}
-use Rattle.gdb_remote.specs.declared.reader.Phase.TheVariants.{Between, Within, Escaped}
-use Rattle.gdb_remote.specs.declared.reader.Event.{Event}
-use Rattle.gdb_remote.specs.declared.reader.Event.TheVariants.{Packet, Damaged}
+use Rattle.gdb_remote.specs.declared.reader.ReaderState.TheVariants.{Between, Within, Escaped}
+use Rattle.gdb_remote.specs.declared.reader.PacketEvent.{PacketEvent}
+use Rattle.gdb_remote.specs.declared.reader.PacketEvent.TheVariants.{Packet, Damaged}
 use Rattle.gdb_remote.specs.Frames.{checksum, escape_of, escaped, framed}
 use Rattle.gdb_remote.specs.Hexadecimal.{byte_digits, digit_value, pair_value}
 use Rattle.gdb_remote.specs.Readings.{Reading, Step, quiet, telling, gained, step, step_in, within_step, escaped_step, reading_after, events_of, is_sum}
@@ -135,7 +135,7 @@ other_sum : (c : ℕ) (o : Option ℕ) → o ≢ Some c → is_sum c o ≡ false
 other_sum c None h = refl
 other_sum c (Some n) h = ne_eqb n c (λ e. h (ap Some e))
 
-abbrev judged_events : Bool → List Event
+abbrev judged_events : Bool → List PacketEvent
 judged_events true = Packet ∷ []
 judged_events false = Damaged ∷ []
 

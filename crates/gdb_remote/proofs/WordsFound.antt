@@ -1,10 +1,10 @@
 -- Each word is found, since none is the beginning of another.
 use Rattle.std.proofs.Common.{◌≡◌, ℕ, List, ◌++◌, Some, refl}
-use Rattle.gdb_remote.specs.declared.words.Word.{Word}
-use Rattle.gdb_remote.specs.declared.words.Word.TheVariants.{Status, Registers, Register, Memory, Features, Description, Threads, MoreThreads, ThreadText, IsAlive, CurrentThread, Attached, Actions, Choose, ChooseToMove, SetPoint, ClearPoint, NoAcknowledgements, Act, Continue, ContinueWith, Step, StepWith, ContinueBack, StepBack, Monitor, Detach, Kill, WriteRegisters, WriteRegister, WriteMemory, WriteBytes}
+use Rattle.gdb_remote.specs.declared.words.Keyword.{Keyword}
+use Rattle.gdb_remote.specs.declared.words.Keyword.TheVariants.{Status, Registers, Register, Memory, Features, Description, Threads, MoreThreads, ThreadText, IsAlive, CurrentThread, Attached, Actions, Choose, ChooseToMove, SetPoint, ClearPoint, NoAcknowledgements, Act, Continue, ContinueWith, Step, StepWith, ContinueBack, StepBack, Monitor, Detach, Kill, WriteRegisters, WriteRegister, WriteMemory, WriteBytes}
 use Rattle.gdb_remote.specs.Words.{all_words, found_word, word_text}
 
-pub found : (w : Word) (rest : List ℕ) → found_word all_words (word_text w ++ rest) ≡ Some (w, rest)
+pub found : (w : Keyword) (rest : List ℕ) → found_word all_words (word_text w ++ rest) ≡ Some (w, rest)
 unfolding all_words
 found Status rest = refl
 found Registers rest = refl

@@ -1,21 +1,21 @@
 -- Packets as they are read, byte by byte (GDB manual, 'Remote Protocol: Overview').
 use Rattle.std.specs.Prelude.{ℕ, ◌+◌, ◌%◌, ◌==◌, nat_lt, if◌then◌else◌, List, [], ◌∷◌, ◌++◌, length, bit_xor, Option, Some, None, option_to_list, Bool, false}
-use Rattle.gdb_remote.specs.declared.reader.Phase.{Phase}
-use Rattle.gdb_remote.specs.declared.reader.Phase.TheVariants.{Between, Within, Escaped, High, Low, Skipping}
-use Rattle.gdb_remote.specs.declared.reader.Event.{Event}
-use Rattle.gdb_remote.specs.declared.reader.Event.TheVariants.{Packet, Damaged, TooLong, Interrupt, Acknowledged, AskedAgain}
+use Rattle.gdb_remote.specs.declared.reader.ReaderState.{ReaderState}
+use Rattle.gdb_remote.specs.declared.reader.ReaderState.TheVariants.{Between, Within, Escaped, High, Low, Skipping}
+use Rattle.gdb_remote.specs.declared.reader.PacketEvent.{PacketEvent}
+use Rattle.gdb_remote.specs.declared.reader.PacketEvent.TheVariants.{Packet, Damaged, TooLong, Interrupt, Acknowledged, AskedAgain}
 use Rattle.gdb_remote.specs.Hexadecimal.{pair_value}
 
 -- where a reader stands in a packet, the body so far, and the checksum of what was sent of it
 pub record Reading : Type 0 where
-  pub phase : Phase
+  pub phase : ReaderState
   pub body : List ℕ
   pub sum : ℕ
 
 -- what a reader is after a byte, and what the byte ends
 pub record Step : Type 0 where
   pub reading : Reading
-  pub event : Option Event
+  pub event : Option PacketEvent
 
 -- a reader that stands between two packets
 abbrev pub new_reading : Reading
@@ -28,10 +28,10 @@ packet_size = 4096
 abbrev pub quiet : Reading → Step
 quiet r = record { reading = r; event = None }
 
-abbrev pub telling : Event → Reading → Step
+abbrev pub telling : PacketEvent → Reading → Step
 telling e r = record { reading = r; event = Some e }
 
-abbrev pub in_phase : Phase → Reading → Reading
+abbrev pub in_phase : ReaderState → Reading → Reading
 in_phase p r = record { phase = p; body = r.body; sum = r.sum }
 
 -- a packet begins
@@ -87,7 +87,7 @@ skipping_step r b =
     else if b == 36 then quiet begun
     else quiet r
 
-abbrev pub step_in : Phase → Reading → ℕ → Step
+abbrev pub step_in : ReaderState → Reading → ℕ → Step
 step_in Between r b = between_step r b
 step_in Within r b = within_step r b
 step_in Escaped r b = escaped_step r b
@@ -103,6 +103,6 @@ abbrev pub reading_after : Reading → List ℕ → Reading
 reading_after r [] = r
 reading_after r (b ∷ bs) = reading_after (step r b).reading bs
 
-abbrev pub events_of : Reading → List ℕ → List Event
+abbrev pub events_of : Reading → List ℕ → List PacketEvent
 events_of r [] = []
 events_of r (b ∷ bs) = option_to_list (step r b).event ++ events_of (step r b).reading bs

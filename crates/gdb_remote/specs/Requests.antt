@@ -1,20 +1,19 @@
 -- The request that a packet's body spells (GDB manual, 'Packets', 'General Query Packets').
 use Rattle.std.specs.Prelude.{ℕ, ◌+◌, ◌-◌, ◌^◌, ◌==◌, ◌||◌, nat_lt, nat_le, List, [], ◌∷◌, Option, Some, None, if◌then◌else◌, bytes_eq, codes, take, drop, option_and_then, option_map, position, unwrap_or}
-use Rattle.gdb_remote.specs.declared.words.Word.{Word}
-use Rattle.gdb_remote.specs.declared.words.Word.TheVariants as word
+use Rattle.gdb_remote.specs.declared.words.Keyword.{Keyword}
+use Rattle.gdb_remote.specs.declared.words.Keyword.TheVariants as word
 use Rattle.gdb_remote.specs.declared.request.Thread.{Thread}
 use Rattle.gdb_remote.specs.declared.request.Thread.TheVariants.{All, Any, Of}
 use Rattle.gdb_remote.specs.declared.request.PointKind.{PointKind}
 use Rattle.gdb_remote.specs.declared.request.PointKind.TheVariants as kind
 use Rattle.gdb_remote.specs.declared.request.Point.{Point}
-use Rattle.gdb_remote.specs.declared.request.Direction.{Direction}
 use Rattle.gdb_remote.specs.declared.request.Direction.TheVariants.{Forwards, Backwards}
 use Rattle.gdb_remote.specs.declared.request.Look.TheVariants as look
-use Rattle.gdb_remote.specs.declared.request.Setting.TheVariants as setting
+use Rattle.gdb_remote.specs.declared.request.SessionSetting.TheVariants as setting
 use Rattle.gdb_remote.specs.declared.request.Extent.{Extent}
 use Rattle.gdb_remote.specs.declared.request.Extent.TheVariants as extent
-use Rattle.gdb_remote.specs.declared.request.Request.{Request}
-use Rattle.gdb_remote.specs.declared.request.Request.TheVariants.{Look, Set, Go, Monitor, Detach, Kill, Write, Malformed, Unknown}
+use Rattle.gdb_remote.specs.declared.request.DebuggerRequest.{DebuggerRequest}
+use Rattle.gdb_remote.specs.declared.request.DebuggerRequest.TheVariants.{Look, Set, Go, Monitor, Detach, Kill, Write, Malformed, Unknown}
 use Rattle.gdb_remote.specs.Hexadecimal.{number_of}
 use Rattle.gdb_remote.specs.Words.{all_words, found_word}
 
@@ -75,16 +74,16 @@ point_of text = do
   Some (record { kind = k; address = a; length = l })
 
 -- a request, where its arguments can be read
-abbrev pub read_as : {A : Type 0} → (A → Request) → Option A → Request
+abbrev pub read_as : {A : Type 0} → (A → DebuggerRequest) → Option A → DebuggerRequest
 read_as f o = unwrap_or (option_map f o) Malformed
 
 -- a request that has no arguments
-abbrev pub alone : List ℕ → Request → Request
+abbrev pub alone : List ℕ → DebuggerRequest → DebuggerRequest
 alone [] r = r
 alone (b ∷ bs) r = Unknown
 
 -- a request whose argument is a signal, which the target doesn't get
-abbrev pub signalled : List ℕ → Request → Request
+abbrev pub signalled : List ℕ → DebuggerRequest → DebuggerRequest
 signalled text r = read_as (λ n. r) (number_of text)
 
 -- an address, and how many bytes are wanted
@@ -96,7 +95,7 @@ memory_of text = do
   Some (a, n)
 
 -- of the actions of threads only the first counts: one that has no thread is of all of them
-abbrev pub act : List ℕ → Thread → Option Request
+abbrev pub act : List ℕ → Thread → Option DebuggerRequest
 act verb thread =
     if bytes_eq (take 1 verb) (codes "c") || bytes_eq (take 1 verb) (codes "C")
     then Some (Go Forwards (extent.Run thread))
@@ -104,12 +103,12 @@ act verb thread =
     then Some (Go Forwards (extent.Step thread))
     else None
 
-abbrev pub first_action : List ℕ → Option Request
+abbrev pub first_action : List ℕ → Option DebuggerRequest
 first_action action =
     unwrap_or (option_map (λ p. thread_of p.1 >>= act p.0) (cut 58 action)) (act action All)
 
 -- the request of a word and what stands behind it
-abbrev pub request_with : Word → List ℕ → Request
+abbrev pub request_with : Keyword → List ℕ → DebuggerRequest
 request_with word.Status rest = alone rest (Look look.Status)
 request_with word.Registers rest = alone rest (Look look.Registers)
 request_with word.Register rest = read_as (λ n. Look (look.Register n)) (number_of rest)
@@ -145,6 +144,6 @@ request_with word.WriteRegister rest = Write
 request_with word.WriteMemory rest = Write
 request_with word.WriteBytes rest = Write
 
-unfoldable pub request_of : List ℕ → Request
+unfoldable pub request_of : List ℕ → DebuggerRequest
 request_of text =
     unwrap_or (option_map (λ p. request_with p.0 p.1) (found_word all_words text)) Unknown

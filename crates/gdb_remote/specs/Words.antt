@@ -1,10 +1,10 @@
 -- The words with which requests begin (GDB manual, 'Packets', 'General Query Packets').
 use Rattle.std.specs.Prelude.{ℕ, List, [], ◌∷◌, Option, Some, None, if◌then◌else◌, bytes_eq, codes, length, take, drop, Bool}
-use Rattle.gdb_remote.specs.declared.words.Word.{Word}
-use Rattle.gdb_remote.specs.declared.words.Word.TheVariants.{Status, Registers, Register, Memory, Features, Description, Threads, MoreThreads, ThreadText, IsAlive, CurrentThread, Attached, Actions, Choose, ChooseToMove, SetPoint, ClearPoint, NoAcknowledgements, Act, Continue, ContinueWith, Step, StepWith, ContinueBack, StepBack, Monitor, Detach, Kill, WriteRegisters, WriteRegister, WriteMemory, WriteBytes}
+use Rattle.gdb_remote.specs.declared.words.Keyword.{Keyword}
+use Rattle.gdb_remote.specs.declared.words.Keyword.TheVariants.{Status, Registers, Register, Memory, Features, Description, Threads, MoreThreads, ThreadText, IsAlive, CurrentThread, Attached, Actions, Choose, ChooseToMove, SetPoint, ClearPoint, NoAcknowledgements, Act, Continue, ContinueWith, Step, StepWith, ContinueBack, StepBack, Monitor, Detach, Kill, WriteRegisters, WriteRegister, WriteMemory, WriteBytes}
 
 -- how each word is spelled
-abbrev pub word_text : Word → List ℕ
+abbrev pub word_text : Keyword → List ℕ
 word_text Status = codes "?"
 word_text Registers = codes "g"
 word_text Register = codes "p"
@@ -38,7 +38,7 @@ word_text WriteRegister = codes "P"
 word_text WriteMemory = codes "M"
 word_text WriteBytes = codes "X"
 
-unfoldable pub all_words : List Word
+unfoldable pub all_words : List Keyword
 all_words =
     Status ∷ Registers ∷ Register ∷ Memory ∷ Features ∷ Description ∷ Threads ∷ MoreThreads
     ∷ ThreadText ∷ IsAlive ∷ CurrentThread ∷ Attached ∷ Actions ∷ Choose ∷ ChooseToMove ∷ SetPoint
@@ -51,7 +51,7 @@ abbrev pub begins_with : List ℕ → List ℕ → Bool
 begins_with head text = bytes_eq (take (length head) text) head
 
 -- the first word with which a text begins, and what stands behind it
-abbrev pub found_word : List Word → List ℕ → Option (Word × List ℕ)
+abbrev pub found_word : List Keyword → List ℕ → Option (Keyword × List ℕ)
 found_word [] text = None
 found_word (w ∷ ws) text =
     if begins_with (word_text w) text then Some (w, drop (length (word_text w)) text)

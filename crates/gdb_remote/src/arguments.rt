@@ -2,47 +2,49 @@
 
 ghost use Rattle.std.specs.Prelude.{◌≡◌, ◌<◌, ◌==◌, Some, None, IfSome, MatchOption, length, position};
 ghost use Rattle.gdb_remote.specs.Requests as model;
-ghost use Rattle.gdb_remote.specs.declared.words.Word.TheVariants as word;
+ghost use Rattle.gdb_remote.specs.declared.words.Keyword.TheVariants as word;
 
 use crate::hexadecimal::number_of;
-use crate::request::{Direction, Extent, Look, Point, PointKind, Request, Setting, Thread};
+use crate::request::{
+    DebuggerRequest, Direction, Extent, Look, Point, PointKind, SessionSetting, Thread,
+};
 
-pub(crate) fn look(look: Look) -> Request
-    ensures { result ≡ Request.Look look }
+pub(crate) fn look(look: Look) -> DebuggerRequest
+    ensures { result ≡ DebuggerRequest.Look look }
 {
-    Request::Look { look }
+    DebuggerRequest::Look { look }
 }
 
-pub(crate) fn set(setting: Setting) -> Request
-    ensures { result ≡ Request.Set setting }
+pub(crate) fn set(setting: SessionSetting) -> DebuggerRequest
+    ensures { result ≡ DebuggerRequest.Set setting }
 {
-    Request::Set { setting }
+    DebuggerRequest::Set { setting }
 }
 
-pub(crate) fn go(direction: Direction, extent: Extent) -> Request
-    ensures { result ≡ Request.Go direction extent }
+pub(crate) fn go(direction: Direction, extent: Extent) -> DebuggerRequest
+    ensures { result ≡ DebuggerRequest.Go direction extent }
 {
-    Request::Go { direction, extent }
+    DebuggerRequest::Go { direction, extent }
 }
 
 /// A request that has no arguments.
-pub(crate) fn alone(rest: &[u8], request: Request) -> Request
+pub(crate) fn alone(rest: &[u8], request: DebuggerRequest) -> DebuggerRequest
     ensures { result ≡ model.alone rest.now request }
 {
     if rest.is_empty() {
         request
     } else {
-        Request::Unknown
+        DebuggerRequest::Unknown
     }
 }
 
 /// A request whose argument is a signal, which the target doesn't get.
-pub(crate) fn signalled(rest: &[u8], request: Request) -> Request
+pub(crate) fn signalled(rest: &[u8], request: DebuggerRequest) -> DebuggerRequest
     ensures { result ≡ model.signalled rest.now request }
 {
     match number_of(rest) {
         Some(_) => request,
-        None => Request::Malformed,
+        None => DebuggerRequest::Malformed,
     }
 }
 
@@ -154,21 +156,21 @@ fn point_of(text: &[u8]) -> Option<Point>
     })
 }
 
-pub(crate) fn register_with(rest: &[u8]) -> Request
+pub(crate) fn register_with(rest: &[u8]) -> DebuggerRequest
     ensures { result ≡ model.request_with word.Register rest.now }
 {
     match number_of(rest) {
         Some(number) => look(Look::Register { number }),
-        None => Request::Malformed,
+        None => DebuggerRequest::Malformed,
     }
 }
 
-pub(crate) fn memory_with(rest: &[u8]) -> Request
+pub(crate) fn memory_with(rest: &[u8]) -> DebuggerRequest
     ensures { result ≡ model.request_with word.Memory rest.now }
 {
     match memory_of(rest) {
         Some((address, length)) => look(Look::Memory { address, length }),
-        None => Request::Malformed,
+        None => DebuggerRequest::Malformed,
     }
 }
 
@@ -182,81 +184,81 @@ fn memory_of(text: &[u8]) -> Option<(u32, u64)>
     Some((address, length))
 }
 
-pub(crate) fn description_with(rest: &[u8]) -> Request
+pub(crate) fn description_with(rest: &[u8]) -> DebuggerRequest
     ensures { result ≡ model.request_with word.Description rest.now }
 {
     match number_pair(rest) {
         Some((offset, length)) => look(Look::Description { offset, length }),
-        None => Request::Malformed,
+        None => DebuggerRequest::Malformed,
     }
 }
 
-pub(crate) fn thread_text_with(rest: &[u8]) -> Request
+pub(crate) fn thread_text_with(rest: &[u8]) -> DebuggerRequest
     ensures { result ≡ model.request_with word.ThreadText rest.now }
 {
     match thread_of(rest) {
         Some(thread) => look(Look::ThreadText { thread }),
-        None => Request::Malformed,
+        None => DebuggerRequest::Malformed,
     }
 }
 
-pub(crate) fn is_alive_with(rest: &[u8]) -> Request
+pub(crate) fn is_alive_with(rest: &[u8]) -> DebuggerRequest
     ensures { result ≡ model.request_with word.IsAlive rest.now }
 {
     match thread_of(rest) {
         Some(thread) => look(Look::IsAlive { thread }),
-        None => Request::Malformed,
+        None => DebuggerRequest::Malformed,
     }
 }
 
-pub(crate) fn choose_with(rest: &[u8]) -> Request
+pub(crate) fn choose_with(rest: &[u8]) -> DebuggerRequest
     ensures { result ≡ model.request_with word.Choose rest.now }
 {
     match thread_of(rest) {
-        Some(thread) => set(Setting::Choose { thread }),
-        None => Request::Malformed,
+        Some(thread) => set(SessionSetting::Choose { thread }),
+        None => DebuggerRequest::Malformed,
     }
 }
 
-pub(crate) fn choose_to_move_with(rest: &[u8]) -> Request
+pub(crate) fn choose_to_move_with(rest: &[u8]) -> DebuggerRequest
     ensures { result ≡ model.request_with word.ChooseToMove rest.now }
 {
     match thread_of(rest) {
-        Some(thread) => set(Setting::ChooseToMove { thread }),
-        None => Request::Malformed,
+        Some(thread) => set(SessionSetting::ChooseToMove { thread }),
+        None => DebuggerRequest::Malformed,
     }
 }
 
-pub(crate) fn set_point_with(rest: &[u8]) -> Request
+pub(crate) fn set_point_with(rest: &[u8]) -> DebuggerRequest
     ensures { result ≡ model.request_with word.SetPoint rest.now }
 {
     match point_of(rest) {
-        Some(point) => set(Setting::SetPoint { point }),
-        None => Request::Malformed,
+        Some(point) => set(SessionSetting::SetPoint { point }),
+        None => DebuggerRequest::Malformed,
     }
 }
 
-pub(crate) fn clear_point_with(rest: &[u8]) -> Request
+pub(crate) fn clear_point_with(rest: &[u8]) -> DebuggerRequest
     ensures { result ≡ model.request_with word.ClearPoint rest.now }
 {
     match point_of(rest) {
-        Some(point) => set(Setting::ClearPoint { point }),
-        None => Request::Malformed,
+        Some(point) => set(SessionSetting::ClearPoint { point }),
+        None => DebuggerRequest::Malformed,
     }
 }
 
 /// The request of the first action of threads.
-pub(crate) fn action_with(rest: &[u8]) -> Request
+pub(crate) fn action_with(rest: &[u8]) -> DebuggerRequest
     ensures { result ≡ model.request_with word.Act rest.now }
 {
     match first_action(front(rest, b';')) {
         Some(request) => request,
-        None => Request::Malformed,
+        None => DebuggerRequest::Malformed,
     }
 }
 
 /// The request of an action, which may name a thread.
-fn first_action(action: &[u8]) -> Option<Request>
+fn first_action(action: &[u8]) -> Option<DebuggerRequest>
     ensures { result ≡ model.first_action action.now }
 {
     match cut(action, b':') {
@@ -266,7 +268,7 @@ fn first_action(action: &[u8]) -> Option<Request>
 }
 
 /// The request of an action of this thread. Signals are left out.
-fn act(verb: &[u8], thread: Thread) -> Option<Request>
+fn act(verb: &[u8], thread: Thread) -> Option<DebuggerRequest>
     ensures { result ≡ model.act verb.now thread }
 {
     if verb.starts_with(b"c") || verb.starts_with(b"C") {

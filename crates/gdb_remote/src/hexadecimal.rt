@@ -1,6 +1,6 @@
 //! Numbers and bytes in hexadecimal digits.
 
-ghost use Rattle.std.specs.Prelude.{◌≡◌, ◌<◌, ◌++◌, ◌∷◌, [], false, IfSome, IfOk, OnOk, MatchOption, option_map};
+ghost use Rattle.std.specs.Prelude.{◌≡◌, ◌<◌, ◌++◌, [], false, IfSome, IfOk, OnOk, option_map};
 ghost use Rattle.std.specs.Fmt.{digit_glyph};
 ghost use Rattle.gdb_remote.specs.Hexadecimal.{byte_digits, bytes_digits, word_digits, digit_value};
 ghost use Rattle.gdb_remote.specs.Hexadecimal.{pair_value, number_of, bytes_of};

@@ -5,9 +5,9 @@ ghost use Rattle.gdb_remote.specs.Frames.{checksum, escaped, framed};
 ghost use Rattle.gdb_remote.specs.Hexadecimal.{pair_value};
 ghost use Rattle.gdb_remote.specs.Readings.{Reading, events_of, reading_after};
 ghost use Rattle.gdb_remote.specs.Words.{all_words, found_word, word_text};
-ghost use Rattle.gdb_remote.specs.declared.reader.Event.TheVariants.{Packet, Damaged};
-ghost use Rattle.gdb_remote.specs.declared.reader.Phase.TheVariants.{Between};
-ghost use Rattle.gdb_remote.specs.declared.words.Word.{Word as Words};
+ghost use Rattle.gdb_remote.specs.declared.reader.PacketEvent.TheVariants.{Packet, Damaged};
+ghost use Rattle.gdb_remote.specs.declared.reader.ReaderState.TheVariants.{Between};
+ghost use Rattle.gdb_remote.specs.declared.words.Keyword.{Keyword as Words};
 
 /// What a reader makes of packets. A caller uses the clauses; the call does nothing.
 pub fn packet_law()

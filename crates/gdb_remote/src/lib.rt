@@ -13,7 +13,7 @@ mod words;
 pub use frame::push_framed;
 pub use hexadecimal::{bytes_of, push_bytes, push_word};
 pub use law::{packet_law, word_law};
-pub use reader::{Event, INTERRUPT, PACKET_SIZE, Phase, Reader};
+pub use reader::{INTERRUPT, PACKET_SIZE, PacketEvent, Reader, ReaderState};
 pub use request::{
-    Direction, Extent, Look, Point, PointKind, Request, Setting, Thread, request_of,
+    DebuggerRequest, Direction, Extent, Look, Point, PointKind, SessionSetting, Thread, request_of,
 };

@@ -17,7 +17,7 @@ pub const INTERRUPT: u8 = 3;
 
 /// Where a reader stands.
 #[derive(Clone, Copy, Debug)]
-pub enum Phase {
+pub enum ReaderState {
     /// Between two packets.
     Between,
     /// Behind a `$`.
@@ -34,7 +34,7 @@ pub enum Phase {
 
 /// What a byte ends.
 #[derive(Clone, Copy, Debug)]
-pub enum Event {
+pub enum PacketEvent {
     /// A packet, with the checksum that it has to have.
     Packet,
     /// A packet with another checksum.
@@ -52,7 +52,7 @@ pub enum Event {
 /// A reader of packets.
 #[derive(Drop)]
 pub struct Reader {
-    phase: Phase,
+    phase: ReaderState,
     body: Vec<u8>,
     /// The sum of what was sent, modulo 256.
     sum: u8,
@@ -72,7 +72,7 @@ impl Reader {
         ensures { result ≡ new_reading }
     {
         Reader {
-            phase: Phase::Between,
+            phase: ReaderState::Between,
             body: Vec::new(alloc),
             sum: 0,
         }
@@ -86,32 +86,32 @@ impl Reader {
     }
 
     /// Reads a byte, and says what it ends. Where memory runs out, nothing is read.
-    pub fn read(&mut self, byte: u8) -> Result<Option<Event>, AllocError>
+    pub fn read(&mut self, byte: u8) -> Result<Option<PacketEvent>, AllocError>
         ensures event { IfOk result (λ e. e ≡ (step self.old byte).event) }
         ensures reading { OnOk result (self.new ≡ (step self.old byte).reading) }
         ensures err { OnErr result (self.new ≡ self.old) }
     {
         match self.phase {
-            Phase::Between => Ok(self.read_between(byte)),
-            Phase::Within => {
+            ReaderState::Between => Ok(self.read_between(byte)),
+            ReaderState::Within => {
                 self.read_within(byte)?;
                 Ok(None)
             }
-            Phase::Escaped => {
+            ReaderState::Escaped => {
                 self.read_escaped(byte)?;
                 Ok(None)
             }
-            Phase::High => {
-                self.phase = Phase::Low { high: byte };
+            ReaderState::High => {
+                self.phase = ReaderState::Low { high: byte };
                 Ok(None)
             }
-            Phase::Low { high } => Ok(Some(self.judge(high, byte))),
-            Phase::Skipping => Ok(self.skip(byte)),
+            ReaderState::Low { high } => Ok(Some(self.judge(high, byte))),
+            ReaderState::Skipping => Ok(self.skip(byte)),
         }
     }
 
     /// Reads a byte between two packets.
-    fn read_between(&mut self, byte: u8) -> Option<Event>
+    fn read_between(&mut self, byte: u8) -> Option<PacketEvent>
         ensures event { result ≡ (between_step self.old byte).event }
         ensures reading { self.new ≡ (between_step self.old byte).reading }
     {
@@ -120,9 +120,9 @@ impl Reader {
                 self.begin();
                 None
             }
-            INTERRUPT => Some(Event::Interrupt),
-            b'+' => Some(Event::Acknowledged),
-            b'-' => Some(Event::AskedAgain),
+            INTERRUPT => Some(PacketEvent::Interrupt),
+            b'+' => Some(PacketEvent::Acknowledged),
+            b'-' => Some(PacketEvent::AskedAgain),
             _ => None,
         }
     }
@@ -131,7 +131,7 @@ impl Reader {
     fn begin(&mut self)
         ensures { self.new ≡ begun }
     {
-        self.phase = Phase::Within;
+        self.phase = ReaderState::Within;
         self.body.clear();
         self.sum = 0;
     }
@@ -142,10 +142,10 @@ impl Reader {
         ensures err { OnErr result (self.new ≡ self.old) }
     {
         match byte {
-            b'#' => self.phase = Phase::High,
+            b'#' => self.phase = ReaderState::High,
             b'$' => self.begin(),
             ESCAPE => {
-                self.phase = Phase::Escaped;
+                self.phase = ReaderState::Escaped;
                 self.sum = self.sum.wrapping_add(byte);
             }
             _ => self.gain(byte, byte)?,
@@ -159,7 +159,7 @@ impl Reader {
         ensures err { OnErr result (self.new ≡ self.old) }
     {
         match byte {
-            b'#' => self.phase = Phase::High,
+            b'#' => self.phase = ReaderState::High,
             b'$' => self.begin(),
             _ => self.gain(byte, byte ^ ESCAPE_BIT)?,
         }
@@ -172,36 +172,36 @@ impl Reader {
         ensures err { OnErr result (self.new ≡ self.old) }
     {
         if self.body.len() >= PACKET_SIZE {
-            self.phase = Phase::Skipping;
+            self.phase = ReaderState::Skipping;
             return Ok(());
         }
         self.body.push(meant)?;
-        self.phase = Phase::Within;
+        self.phase = ReaderState::Within;
         self.sum = self.sum.wrapping_add(sent);
         Ok(())
     }
 
     /// Judges the checksum that was sent.
-    fn judge(&mut self, high: u8, low: u8) -> Event
+    fn judge(&mut self, high: u8, low: u8) -> PacketEvent
         ensures event { Some result ≡ (judged self.old high low).event }
         ensures reading { self.new ≡ (judged self.old high low).reading }
     {
-        self.phase = Phase::Between;
+        self.phase = ReaderState::Between;
         match byte_of(high, low) {
-            Some(sum) if sum == self.sum => Event::Packet,
-            _ => Event::Damaged,
+            Some(sum) if sum == self.sum => PacketEvent::Packet,
+            _ => PacketEvent::Damaged,
         }
     }
 
     /// Passes a byte of a packet that is too long.
-    fn skip(&mut self, byte: u8) -> Option<Event>
+    fn skip(&mut self, byte: u8) -> Option<PacketEvent>
         ensures event { result ≡ (skipping_step self.old byte).event }
         ensures reading { self.new ≡ (skipping_step self.old byte).reading }
     {
         match byte {
             b'#' => {
-                self.phase = Phase::Between;
-                Some(Event::TooLong)
+                self.phase = ReaderState::Between;
+                Some(PacketEvent::TooLong)
             }
             b'$' => {
                 self.begin();

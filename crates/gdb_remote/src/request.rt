@@ -8,7 +8,7 @@ use crate::arguments::{
     is_alive_with, look, memory_with, register_with, set, set_point_with, signalled,
     thread_text_with,
 };
-use crate::words::{Word, word_of};
+use crate::words::{Keyword, word_of};
 
 /// A run of the thread that is chosen to move.
 const RUN: Extent = Extent::Run {
@@ -90,7 +90,7 @@ pub enum Look {
 
 /// What sets something for later requests.
 #[derive(Clone, Copy, Debug)]
-pub enum Setting {
+pub enum SessionSetting {
     /// The thread of which registers and memory are told.
     Choose { thread: Thread },
     /// The thread that steps.
@@ -112,12 +112,12 @@ pub enum Extent {
 
 /// What a debugger asks for.
 #[derive(Clone, Copy, Debug)]
-pub enum Request {
+pub enum DebuggerRequest {
     Look {
         look: Look,
     },
     Set {
-        setting: Setting,
+        setting: SessionSetting,
     },
     Go {
         direction: Direction,
@@ -139,50 +139,51 @@ pub enum Request {
 
 /// The request that a packet's body spells.
 #[tactic(auto, unfolding(crate::specs::Requests::request_of))]
-pub fn request_of(text: &[u8]) -> Request
+pub fn request_of(text: &[u8]) -> DebuggerRequest
     ensures { result ≡ request_of text.now }
 {
     match word_of(text) {
         Some((word, rest)) => request_with(word, rest),
-        None => Request::Unknown,
+        None => DebuggerRequest::Unknown,
     }
 }
 
 /// The request of a word and what stands behind it.
-fn request_with(word: Word, rest: &[u8]) -> Request
+fn request_with(word: Keyword, rest: &[u8]) -> DebuggerRequest
     ensures { result ≡ request_with word rest.now }
 {
     match word {
-        Word::Status => alone(rest, look(Look::Status)),
-        Word::Registers => alone(rest, look(Look::Registers)),
-        Word::Register => register_with(rest),
-        Word::Memory => memory_with(rest),
-        Word::Features => look(Look::Features),
-        Word::Description => description_with(rest),
-        Word::Threads => alone(rest, look(Look::Threads)),
-        Word::MoreThreads => alone(rest, look(Look::MoreThreads)),
-        Word::ThreadText => thread_text_with(rest),
-        Word::IsAlive => is_alive_with(rest),
-        Word::CurrentThread => alone(rest, look(Look::CurrentThread)),
-        Word::Attached => look(Look::Attached),
-        Word::Actions => alone(rest, look(Look::Actions)),
-        Word::Choose => choose_with(rest),
-        Word::ChooseToMove => choose_to_move_with(rest),
-        Word::SetPoint => set_point_with(rest),
-        Word::ClearPoint => clear_point_with(rest),
-        Word::NoAcknowledgements => alone(rest, set(Setting::NoAcknowledgements)),
-        Word::Act => action_with(rest),
-        Word::Continue => alone(rest, go(Direction::Forwards, RUN)),
-        Word::ContinueWith => signalled(rest, go(Direction::Forwards, RUN)),
-        Word::Step => alone(rest, go(Direction::Forwards, STEP)),
-        Word::StepWith => signalled(rest, go(Direction::Forwards, STEP)),
-        Word::ContinueBack => alone(rest, go(Direction::Backwards, RUN)),
-        Word::StepBack => alone(rest, go(Direction::Backwards, STEP)),
-        Word::Monitor => Request::Monitor,
-        Word::Detach => Request::Detach,
-        Word::Kill => Request::Kill,
-        Word::WriteRegisters | Word::WriteRegister | Word::WriteMemory | Word::WriteBytes => {
-            Request::Write
-        }
+        Keyword::Status => alone(rest, look(Look::Status)),
+        Keyword::Registers => alone(rest, look(Look::Registers)),
+        Keyword::Register => register_with(rest),
+        Keyword::Memory => memory_with(rest),
+        Keyword::Features => look(Look::Features),
+        Keyword::Description => description_with(rest),
+        Keyword::Threads => alone(rest, look(Look::Threads)),
+        Keyword::MoreThreads => alone(rest, look(Look::MoreThreads)),
+        Keyword::ThreadText => thread_text_with(rest),
+        Keyword::IsAlive => is_alive_with(rest),
+        Keyword::CurrentThread => alone(rest, look(Look::CurrentThread)),
+        Keyword::Attached => look(Look::Attached),
+        Keyword::Actions => alone(rest, look(Look::Actions)),
+        Keyword::Choose => choose_with(rest),
+        Keyword::ChooseToMove => choose_to_move_with(rest),
+        Keyword::SetPoint => set_point_with(rest),
+        Keyword::ClearPoint => clear_point_with(rest),
+        Keyword::NoAcknowledgements => alone(rest, set(SessionSetting::NoAcknowledgements)),
+        Keyword::Act => action_with(rest),
+        Keyword::Continue => alone(rest, go(Direction::Forwards, RUN)),
+        Keyword::ContinueWith => signalled(rest, go(Direction::Forwards, RUN)),
+        Keyword::Step => alone(rest, go(Direction::Forwards, STEP)),
+        Keyword::StepWith => signalled(rest, go(Direction::Forwards, STEP)),
+        Keyword::ContinueBack => alone(rest, go(Direction::Backwards, RUN)),
+        Keyword::StepBack => alone(rest, go(Direction::Backwards, STEP)),
+        Keyword::Monitor => DebuggerRequest::Monitor,
+        Keyword::Detach => DebuggerRequest::Detach,
+        Keyword::Kill => DebuggerRequest::Kill,
+        Keyword::WriteRegisters
+        | Keyword::WriteRegister
+        | Keyword::WriteMemory
+        | Keyword::WriteBytes => { DebuggerRequest::Write }
     }
 }

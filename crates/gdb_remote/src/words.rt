@@ -5,7 +5,7 @@ ghost use Rattle.gdb_remote.specs.Words.{all_words, found_word, word_text};
 
 /// A word with which a request begins. None is the beginning of another.
 #[derive(Clone, Copy, Debug)]
-pub enum Word {
+pub enum Keyword {
     Status,
     Registers,
     Register,
@@ -41,85 +41,85 @@ pub enum Word {
     WriteBytes,
 }
 
-const WORDS: [Word; 32] = [
-    Word::Status,
-    Word::Registers,
-    Word::Register,
-    Word::Memory,
-    Word::Features,
-    Word::Description,
-    Word::Threads,
-    Word::MoreThreads,
-    Word::ThreadText,
-    Word::IsAlive,
-    Word::CurrentThread,
-    Word::Attached,
-    Word::Actions,
-    Word::Choose,
-    Word::ChooseToMove,
-    Word::SetPoint,
-    Word::ClearPoint,
-    Word::NoAcknowledgements,
-    Word::Act,
-    Word::Continue,
-    Word::ContinueWith,
-    Word::Step,
-    Word::StepWith,
-    Word::ContinueBack,
-    Word::StepBack,
-    Word::Monitor,
-    Word::Detach,
-    Word::Kill,
-    Word::WriteRegisters,
-    Word::WriteRegister,
-    Word::WriteMemory,
-    Word::WriteBytes,
+const WORDS: [Keyword; 32] = [
+    Keyword::Status,
+    Keyword::Registers,
+    Keyword::Register,
+    Keyword::Memory,
+    Keyword::Features,
+    Keyword::Description,
+    Keyword::Threads,
+    Keyword::MoreThreads,
+    Keyword::ThreadText,
+    Keyword::IsAlive,
+    Keyword::CurrentThread,
+    Keyword::Attached,
+    Keyword::Actions,
+    Keyword::Choose,
+    Keyword::ChooseToMove,
+    Keyword::SetPoint,
+    Keyword::ClearPoint,
+    Keyword::NoAcknowledgements,
+    Keyword::Act,
+    Keyword::Continue,
+    Keyword::ContinueWith,
+    Keyword::Step,
+    Keyword::StepWith,
+    Keyword::ContinueBack,
+    Keyword::StepBack,
+    Keyword::Monitor,
+    Keyword::Detach,
+    Keyword::Kill,
+    Keyword::WriteRegisters,
+    Keyword::WriteRegister,
+    Keyword::WriteMemory,
+    Keyword::WriteBytes,
 ];
 
-impl Word {
+impl Keyword {
     /// How the word is spelled.
     fn text(self) -> &'static [u8]
         ensures { result.now ≡ word_text self }
     {
         match self {
-            Word::Status => b"?",
-            Word::Registers => b"g",
-            Word::Register => b"p",
-            Word::Memory => b"m",
-            Word::Features => b"qSupported",
-            Word::Description => b"qXfer:features:read:target.xml:",
-            Word::Threads => b"qfThreadInfo",
-            Word::MoreThreads => b"qsThreadInfo",
-            Word::ThreadText => b"qThreadExtraInfo,",
-            Word::IsAlive => b"T",
-            Word::CurrentThread => b"qC",
-            Word::Attached => b"qAttached",
-            Word::Actions => b"vCont?",
-            Word::Choose => b"Hg",
-            Word::ChooseToMove => b"Hc",
-            Word::SetPoint => b"Z",
-            Word::ClearPoint => b"z",
-            Word::NoAcknowledgements => b"QStartNoAckMode",
-            Word::Act => b"vCont;",
-            Word::Continue => b"c",
-            Word::ContinueWith => b"C",
-            Word::Step => b"s",
-            Word::StepWith => b"S",
-            Word::ContinueBack => b"bc",
-            Word::StepBack => b"bs",
-            Word::Monitor => b"qRcmd,",
-            Word::Detach => b"D",
-            Word::Kill => b"k",
-            Word::WriteRegisters => b"G",
-            Word::WriteRegister => b"P",
-            Word::WriteMemory => b"M",
-            Word::WriteBytes => b"X",
+            Keyword::Status => b"?",
+            Keyword::Registers => b"g",
+            Keyword::Register => b"p",
+            Keyword::Memory => b"m",
+            Keyword::Features => b"qSupported",
+            Keyword::Description => b"qXfer:features:read:target.xml:",
+            Keyword::Threads => b"qfThreadInfo",
+            Keyword::MoreThreads => b"qsThreadInfo",
+            Keyword::ThreadText => b"qThreadExtraInfo,",
+            Keyword::IsAlive => b"T",
+            Keyword::CurrentThread => b"qC",
+            Keyword::Attached => b"qAttached",
+            Keyword::Actions => b"vCont?",
+            Keyword::Choose => b"Hg",
+            Keyword::ChooseToMove => b"Hc",
+            Keyword::SetPoint => b"Z",
+            Keyword::ClearPoint => b"z",
+            Keyword::NoAcknowledgements => b"QStartNoAckMode",
+            Keyword::Act => b"vCont;",
+            Keyword::Continue => b"c",
+            Keyword::ContinueWith => b"C",
+            Keyword::Step => b"s",
+            Keyword::StepWith => b"S",
+            Keyword::ContinueBack => b"bc",
+            Keyword::StepBack => b"bs",
+            Keyword::Monitor => b"qRcmd,",
+            Keyword::Detach => b"D",
+            Keyword::Kill => b"k",
+            Keyword::WriteRegisters => b"G",
+            Keyword::WriteRegister => b"P",
+            Keyword::WriteMemory => b"M",
+            Keyword::WriteBytes => b"X",
         }
     }
 }
 
 /// The word with which a text begins, and what stands behind it.
-pub(crate) fn word_of(text: &[u8]) -> Option<(Word, &[u8])>
+pub(crate) fn word_of(text: &[u8]) -> Option<(Keyword, &[u8])>
     ensures { MatchOption result (found_word all_words text.now ≡ None)
         (λ p. found_word all_words text.now ≡ Some (p.0, p.1.now)) }
 {
@@ -127,7 +127,7 @@ pub(crate) fn word_of(text: &[u8]) -> Option<(Word, &[u8])>
 }
 
 /// The first of these words with which a text begins, and what stands behind it.
-fn word_among<'a>(words: &[Word], text: &'a [u8]) -> Option<(Word, &'a [u8])>
+fn word_among<'a>(words: &[Keyword], text: &'a [u8]) -> Option<(Keyword, &'a [u8])>
     ensures { MatchOption result (found_word words.now text.now ≡ None)
         (λ p. found_word words.now text.now ≡ Some (p.0, p.1.now)) }
 {

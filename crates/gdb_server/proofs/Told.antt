@@ -12,7 +12,7 @@ use Rattle.gdb_session.specs.declared.target.Motion.{Motion}
 use Rattle.gdb_session.specs.declared.target.Stop.{Stop}
 use Rattle.gdb_session.specs.Servers.{Server, is_request, last_after}
 use Rattle.gdb_session.specs.Views.{View}
-use Rattle.gdb_server.specs.declared.End.{End}
+use Rattle.gdb_server.specs.declared.ServeEnd.{ServeEnd}
 use Rattle.gdb_server.specs.declared.ServeError.{ServeError}
 use Rattle.gdb_server.specs.declared.ServeError.TheVariants.{Input, Output, OutOfMemory}
 use Rattle.gdb_server.specs.Transcripts.{Standing, opening, event_of, heard_by, put_at_once, IsAnswered, IsAnsweredIf, Hears, Serves}
@@ -134,7 +134,7 @@ module _ {T : Type 0} (view : T → View) (moves : T → Motion → List Point �
     none_broken = w.none_broken;
   }
 
-  pub ends : (t : T) (io : Streams) (x : Standing T) (count : ℕ) (end : End) (last : T) (w : IsServing t io x count)
+  pub ends : (t : T) (io : Streams) (x : Standing T) (count : ℕ) (end : ServeEnd) (last : T) (w : IsServing t io x count)
       → x.target ≡ last → IsEnd end x.after w.heard io.input_after.rest → HasServed view moves tells t io end last
   ends t io x count end last w same is = record {
     heard = w.heard;

@@ -9,8 +9,8 @@ use Rattle.gdb_session.specs.declared.session.After.TheVariants.{GoesOn, Leaves,
 use Rattle.gdb_session.specs.declared.target.Motion.{Motion}
 use Rattle.gdb_session.specs.declared.target.Stop.{Stop}
 use Rattle.gdb_session.specs.Views.{View}
-use Rattle.gdb_server.specs.declared.End.{End}
-use Rattle.gdb_server.specs.declared.End.TheVariants.{InputEnds, Left, Killed}
+use Rattle.gdb_server.specs.declared.ServeEnd.{ServeEnd}
+use Rattle.gdb_server.specs.declared.ServeEnd.TheVariants.{InputEnds, Left, Killed}
 use Rattle.gdb_server.specs.declared.ServeError.{ServeError}
 use Rattle.gdb_server.specs.declared.ServeError.TheVariants.{Input, Output, OutOfMemory}
 use Rattle.gdb_server.specs.Transcripts.{Standing, opening, put_at_once, Hears, Serves}
@@ -27,7 +27,7 @@ abbrev pub most_heard : ℕ
 most_heard = 2 ^ 64 - 1
 
 -- the debugger left or killed the run with its last byte, or no more bytes come
-abbrev pub IsEnd : End → After → (heard : List ℕ) → Option (List ℕ) → Type 0
+abbrev pub IsEnd : ServeEnd → After → (heard : List ℕ) → Option (List ℕ) → Type 0
 IsEnd InputEnds after heard rest =
     (after ≡ GoesOn) × (IsAtEnd rest ⊎ (length heard ≡ most_heard))
 IsEnd Left after heard rest = after ≡ Leaves
@@ -36,7 +36,7 @@ IsEnd Killed after heard rest = after ≡ IsKilled
 -- the bytes put are a transcript of the bytes that came, up to this standing
 pub record HasServed {T : Type 0} (view : T → View)
     (moves : T → Motion → List Point → Stop → T → Type 0) (tells : T → List ℕ → List ℕ → T → Type 0)
-    (t : T) (io : Streams) (end : End) (last : T) : Type 0 where
+    (t : T) (io : Streams) (end : ServeEnd) (last : T) : Type 0 where
   pub heard : List ℕ
   pub put : List ℕ
   pub standing : Standing T

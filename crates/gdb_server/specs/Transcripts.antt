@@ -1,6 +1,6 @@
 -- What a server puts for the bytes of a debugger, one after another.
 use Rattle.std.specs.Prelude.{◌≡◌, ℕ, List, [], ◌∷◌, ◌++◌, Option, Bool, true, false}
-use Rattle.gdb_session.specs.gdb_remote.declared.reader.Event.{Event}
+use Rattle.gdb_session.specs.gdb_remote.declared.reader.PacketEvent.{PacketEvent}
 use Rattle.gdb_session.specs.gdb_remote.declared.request.Point.{Point}
 use Rattle.gdb_session.specs.gdb_remote.Readings.{new_reading, step}
 use Rattle.gdb_session.specs.gdb_remote.Requests.{request_of}
@@ -28,7 +28,7 @@ opening t = record {
 }
 
 -- what a byte ends, if it ends anything
-abbrev pub event_of : Server → (byte : ℕ) → Option Event
+abbrev pub event_of : Server → (byte : ℕ) → Option PacketEvent
 event_of s byte = (step s.reading byte).event
 
 -- the server behind a byte, before a request is answered

@@ -14,7 +14,7 @@ use std::alloc::{AllocError, Global};
 
 /// How serving a debugger ends.
 #[derive(Clone, Copy, Debug, PartialEq, Eq)]
-pub enum End {
+pub enum ServeEnd {
     /// No more bytes come, or 2^64 - 1 did.
     InputEnds,
     /// The debugger left.
@@ -64,7 +64,7 @@ pub fn serve<T: Target, S: Source, O: Sink>(
     target: &mut T,
     source: &mut S,
     out: &mut O,
-) -> Result<End, ServeError>
+) -> Result<ServeEnd, ServeError>
     ensures served { IfOk result (λ end. HasServed T.view T.moves T.tells target.old
         (record {
           input = S.state source.old;
@@ -83,15 +83,15 @@ pub fn serve<T: Target, S: Source, O: Sink>(
     let mut server = Server::new(alloc);
     for _count in 0..u64::MAX {
         let Some(byte) = source.next()? else {
-            return Ok(End::InputEnds);
+            return Ok(ServeEnd::InputEnds);
         };
         match hear(alloc, &mut server, target, byte, out)? {
             After::GoesOn => {}
-            After::Leaves => return Ok(End::Left),
-            After::IsKilled => return Ok(End::Killed),
+            After::Leaves => return Ok(ServeEnd::Left),
+            After::IsKilled => return Ok(ServeEnd::Killed),
         }
     }
-    Ok(End::InputEnds)
+    Ok(ServeEnd::InputEnds)
 }
 
 /// Hears a byte, and says whether the debugger stays. What is put at once goes out before a request

@@ -3,12 +3,12 @@ use Rattle.std.specs.Prelude.{ℕ, ◌≡◌, List, [], drop, Option, Some, None
 use Rattle.gdb_remote.specs.declared.request.Point.{Point}
 use Rattle.gdb_remote.specs.declared.request.Direction.{Direction}
 use Rattle.gdb_remote.specs.declared.request.Extent.{Extent}
-use Rattle.gdb_remote.specs.declared.request.Request.{Request}
-use Rattle.gdb_remote.specs.declared.request.Request.TheVariants.{Look, Set, Go, Monitor, Detach, Kill, Write, Malformed, Unknown}
+use Rattle.gdb_remote.specs.declared.request.DebuggerRequest.{DebuggerRequest}
+use Rattle.gdb_remote.specs.declared.request.DebuggerRequest.TheVariants.{Look, Set, Go, Monitor, Detach, Kill, Write, Malformed, Unknown}
 use Rattle.gdb_session.specs.declared.session.After.{After}
 use Rattle.gdb_session.specs.declared.session.After.TheVariants.{GoesOn, Leaves, IsKilled}
 use Rattle.gdb_session.specs.declared.target.Motion.{Motion}
-use Rattle.gdb_session.specs.declared.target.Reach.{Reach}
+use Rattle.gdb_session.specs.declared.target.MotionReach.{MotionReach}
 use Rattle.gdb_session.specs.declared.target.Stop.{Stop}
 use Rattle.gdb_remote.specs.Hexadecimal.{bytes_of}
 use Rattle.gdb_session.specs.Views.{View}
@@ -29,7 +29,7 @@ Stands x session answer =
 
 -- the run goes on, if the processor is one that there is
 abbrev pub GoesSo : {T : Type 0} → (T → Motion → List Point → Stop → T → Type 0) → Exchange T
-    → Direction → Option Reach → Type 0
+    → Direction → Option MotionReach → Type 0
 GoesSo moves x d None = Stands x x.session refused
 GoesSo moves x d (Some r) =
     (stop : Stop)
@@ -51,7 +51,7 @@ Tells tells t (Some command) t' answer =
 -- a request whose packet has this body is answered
 abbrev pub AnswersRequest : {T : Type 0} → (T → View)
     → (T → Motion → List Point → Stop → T → Type 0) → (T → List ℕ → List ℕ → T → Type 0)
-    → Exchange T → List ℕ → Request → Type 0
+    → Exchange T → List ℕ → DebuggerRequest → Type 0
 AnswersRequest view moves tells x body (Look l) =
     Stands x x.session (look_text x.session (view x.target) l)
 AnswersRequest view moves tells x body (Set s) =
@@ -68,7 +68,7 @@ AnswersRequest view moves tells x body Malformed = Stands x x.session refused
 AnswersRequest view moves tells x body Unknown = Stands x x.session []
 
 -- whether the debugger stays
-abbrev pub after_request : Request → After
+abbrev pub after_request : DebuggerRequest → After
 after_request Detach = Leaves
 after_request Kill = IsKilled
 after_request r = GoesOn

@@ -1,7 +1,7 @@
 -- What is put back for the bytes of a debugger (GDB manual, 'Packet Acknowledgment').
 use Rattle.std.specs.Prelude.{ℕ, ◌++◌, Bool, true, false, List, [], ◌∷◌, Option, Some, None, if◌then◌else◌}
-use Rattle.gdb_remote.specs.declared.reader.Event.{Event}
-use Rattle.gdb_remote.specs.declared.reader.Event.TheVariants.{Packet, Damaged, TooLong, Interrupt, Acknowledged, AskedAgain}
+use Rattle.gdb_remote.specs.declared.reader.PacketEvent.{PacketEvent}
+use Rattle.gdb_remote.specs.declared.reader.PacketEvent.TheVariants.{Packet, Damaged, TooLong, Interrupt, Acknowledged, AskedAgain}
 use Rattle.gdb_session.specs.declared.session.After.{After}
 use Rattle.gdb_session.specs.declared.session.After.TheVariants.{GoesOn, Leaves, IsKilled}
 use Rattle.gdb_remote.specs.Frames.{framed}
@@ -19,12 +19,12 @@ abbrev pub acknowledgement : Session → ℕ → List ℕ
 acknowledgement s sign = if s.acknowledges then sign ∷ [] else []
 
 -- the packet that was put last, after an event: a packet that is too long is refused
-abbrev pub last_after : List ℕ → Option Event → List ℕ
+abbrev pub last_after : List ℕ → Option PacketEvent → List ℕ
 last_after last (Some TooLong) = framed refused
 last_after last e = last
 
 -- what is put for an event: a packet is acknowledged, and a damaged one asked for again
-abbrev pub put_for : Session → List ℕ → Option Event → List ℕ
+abbrev pub put_for : Session → List ℕ → Option PacketEvent → List ℕ
 put_for s last (Some Packet) = acknowledgement s 43
 put_for s last (Some Damaged) = acknowledgement s 45
 put_for s last (Some TooLong) = acknowledgement s 43 ++ framed refused
@@ -34,7 +34,7 @@ put_for s last (Some Acknowledged) = []
 put_for s last None = []
 
 -- whether an event is a request that is to be answered
-abbrev pub is_request : Option Event → Bool
+abbrev pub is_request : Option PacketEvent → Bool
 is_request (Some Packet) = true
 is_request e = false
 

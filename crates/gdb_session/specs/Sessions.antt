@@ -11,12 +11,12 @@ use Rattle.gdb_remote.specs.declared.request.Extent.{Extent}
 use Rattle.gdb_remote.specs.declared.request.Extent.TheVariants as extent
 use Rattle.gdb_remote.specs.declared.request.Look.{Look}
 use Rattle.gdb_remote.specs.declared.request.Look.TheVariants.{Status, Registers, Register, Memory, Features, Description, Threads, MoreThreads, ThreadText, IsAlive, CurrentThread, Attached, Actions}
-use Rattle.gdb_remote.specs.declared.request.Setting.{Setting}
-use Rattle.gdb_remote.specs.declared.request.Setting.TheVariants.{Choose, ChooseToMove, SetPoint, ClearPoint, NoAcknowledgements}
+use Rattle.gdb_remote.specs.declared.request.SessionSetting.{SessionSetting}
+use Rattle.gdb_remote.specs.declared.request.SessionSetting.TheVariants.{Choose, ChooseToMove, SetPoint, ClearPoint, NoAcknowledgements}
 use Rattle.gdb_session.specs.declared.target.Doing.{Doing}
 use Rattle.gdb_session.specs.declared.target.Doing.TheVariants.{Runs, Exited, Waits}
-use Rattle.gdb_session.specs.declared.target.Reach.{Reach}
-use Rattle.gdb_session.specs.declared.target.Reach.TheVariants as reach
+use Rattle.gdb_session.specs.declared.target.MotionReach.{MotionReach}
+use Rattle.gdb_session.specs.declared.target.MotionReach.TheVariants as reach
 use Rattle.gdb_session.specs.declared.target.Stop.{Stop}
 use Rattle.gdb_session.specs.declared.target.Why.{Why}
 use Rattle.gdb_session.specs.declared.target.Why.TheVariants as why
@@ -221,7 +221,7 @@ processor_or p Any = p
 processor_or p (Of q) = q
 
 -- the answer to what sets something, and the session then
-abbrev pub setting_text : Session → (processors : ℕ) → Setting → List ℕ
+abbrev pub setting_text : Session → (processors : ℕ) → SessionSetting → List ℕ
 setting_text s n (Choose t) = if is_choice n t then done else refused
 setting_text s n (ChooseToMove t) = if is_choice n t then done else refused
 setting_text s n (SetPoint p) =
@@ -229,7 +229,7 @@ setting_text s n (SetPoint p) =
 setting_text s n (ClearPoint p) = done
 setting_text s n NoAcknowledgements = done
 
-abbrev pub after_setting : Session → (processors : ℕ) → Setting → Session
+abbrev pub after_setting : Session → (processors : ℕ) → SessionSetting → Session
 after_setting s n (Choose t) =
     if is_choice n t then record s { general = processor_or s.general t } else s
 after_setting s n (ChooseToMove t) = if is_choice n t then record s { moving = t } else s
@@ -248,15 +248,15 @@ moving_of s (Of p) = Of p
 
 -- how far the run goes, if the processor that is named is one that there is: a step is of the
 -- processor that is looked at, where none is named
-abbrev pub run_of : (processors : ℕ) → Thread → Option Reach
+abbrev pub run_of : (processors : ℕ) → Thread → Option MotionReach
 run_of n All = Some reach.Run
 run_of n Any = Some reach.Run
 run_of n (Of p) = if nat_lt p n then Some (reach.RunOf p) else None
 
-abbrev pub step_of : (processors processor : ℕ) → Option Reach
+abbrev pub step_of : (processors processor : ℕ) → Option MotionReach
 step_of n p = if nat_lt p n then Some (reach.Step p) else None
 
-abbrev pub reach_among : Session → (processors : ℕ) → Extent → Option Reach
+abbrev pub reach_among : Session → (processors : ℕ) → Extent → Option MotionReach
 reach_among s n (extent.Run t) = run_of n (moving_of s t)
 reach_among s n (extent.Step t) = step_of n (processor_or s.general (moving_of s t))
 

@@ -12,4 +12,4 @@ mod telling;
 pub use gdb_remote;
 pub use server::Server;
 pub use session::{After, Session};
-pub use target::{Doing, Motion, PC, Reach, Stop, Target, Why};
+pub use target::{Doing, Motion, MotionReach, PC, Stop, Target, Why};

@@ -10,7 +10,7 @@ ghost use Rattle.gdb_session.specs.Sessions.{new_session};
 
 use crate::session::{After, Session};
 use crate::target::Target;
-use gdb_remote::{Event, Reader, push_framed};
+use gdb_remote::{PacketEvent, Reader, push_framed};
 use std::alloc::{AllocError, Global};
 use std::marker::Model;
 
@@ -63,7 +63,7 @@ impl Server {
     fn hear(
         &mut self,
         alloc: Global,
-        event: Option<Event>,
+        event: Option<PacketEvent>,
         out: &mut Vec<u8>,
     ) -> Result<bool, AllocError>
         ensures reading { self.new.reading ≡ self.old.reading }
@@ -74,17 +74,17 @@ impl Server {
         ensures asked { IfOk result (λ asked. asked ≡ model.is_request event) }
     {
         match event {
-            Some(Event::Packet) => {
+            Some(PacketEvent::Packet) => {
                 self.acknowledge(b'+', out)?;
                 return Ok(true);
             }
-            Some(Event::Damaged) => self.acknowledge(b'-', out)?,
-            Some(Event::TooLong) => {
+            Some(PacketEvent::Damaged) => self.acknowledge(b'-', out)?,
+            Some(PacketEvent::TooLong) => {
                 self.acknowledge(b'+', out)?;
                 self.put(alloc, b"E01", out)?;
             }
-            Some(Event::AskedAgain) => out.extend_from_slice(&self.last)?,
-            Some(Event::Interrupt) | Some(Event::Acknowledged) | None => {}
+            Some(PacketEvent::AskedAgain) => out.extend_from_slice(&self.last)?,
+            Some(PacketEvent::Interrupt) | Some(PacketEvent::Acknowledged) | None => {}
         }
         Ok(false)
     }

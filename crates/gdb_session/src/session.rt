@@ -7,10 +7,11 @@ ghost use Rattle.gdb_remote.specs.Requests.{request_of};
 ghost use Rattle.gdb_session.specs.Sessions as model;
 
 use crate::look::push_look;
-use crate::target::{Motion, Reach, Stop, Target, Why};
+use crate::target::{Motion, MotionReach, Stop, Target, Why};
 use crate::telling::push_stop;
 use gdb_remote::{
-    Direction, Extent, Point, PointKind, Request, Setting, Thread, bytes_of, push_bytes, request_of,
+    DebuggerRequest, Direction, Extent, Point, PointKind, SessionSetting, Thread, bytes_of,
+    push_bytes, request_of,
 };
 use std::alloc::{AllocError, Global};
 use std::marker::Model;
@@ -112,7 +113,7 @@ impl Session {
         &mut self,
         alloc: Global,
         target: &mut T,
-        request: Request,
+        request: DebuggerRequest,
         body: &[u8],
         out: &mut Vec<u8>,
     ) -> Result<After, AllocError>
@@ -128,37 +129,37 @@ impl Session {
         ensures after { IfOk result (λ after. after ≡ after_request request) }
     {
         match request {
-            Request::Look { look } => {
+            DebuggerRequest::Look { look } => {
                 push_look(alloc, self, target, look, out)?;
                 Ok(After::GoesOn)
             }
-            Request::Set { setting } => {
+            DebuggerRequest::Set { setting } => {
                 let processors = target.processors();
                 self.set(processors, setting, out)?;
                 Ok(After::GoesOn)
             }
-            Request::Go { direction, extent } => {
+            DebuggerRequest::Go { direction, extent } => {
                 self.go(target, direction, extent, out)?;
                 Ok(After::GoesOn)
             }
-            Request::Monitor => {
+            DebuggerRequest::Monitor => {
                 command(alloc, target, body, out)?;
                 Ok(After::GoesOn)
             }
-            Request::Detach => {
+            DebuggerRequest::Detach => {
                 out.extend_from_slice(b"OK")?;
                 Ok(After::Leaves)
             }
-            Request::Kill => Ok(After::IsKilled),
-            Request::Write => {
+            DebuggerRequest::Kill => Ok(After::IsKilled),
+            DebuggerRequest::Write => {
                 out.extend_from_slice(b"E30")?;
                 Ok(After::GoesOn)
             }
-            Request::Malformed => {
+            DebuggerRequest::Malformed => {
                 out.extend_from_slice(b"E01")?;
                 Ok(After::GoesOn)
             }
-            Request::Unknown => Ok(After::GoesOn),
+            DebuggerRequest::Unknown => Ok(After::GoesOn),
         }
     }
 
@@ -166,7 +167,7 @@ impl Session {
     fn set(
         &mut self,
         processors: u16,
-        setting: Setting,
+        setting: SessionSetting,
         out: &mut Vec<u8>,
     ) -> Result<(), AllocError>
         ensures session { OnOk result (self.new ≡ model.after_setting self.old processors setting) }
@@ -174,14 +175,14 @@ impl Session {
             (out.new.items ≡ out.old.items ++ model.setting_text self.old processors setting) }
     {
         match setting {
-            Setting::Choose { thread } => self.choose(processors, thread, out),
-            Setting::ChooseToMove { thread } => self.choose_to_move(processors, thread, out),
-            Setting::SetPoint { point } => self.set_point(point, out),
-            Setting::ClearPoint { point } => {
+            SessionSetting::Choose { thread } => self.choose(processors, thread, out),
+            SessionSetting::ChooseToMove { thread } => self.choose_to_move(processors, thread, out),
+            SessionSetting::SetPoint { point } => self.set_point(point, out),
+            SessionSetting::ClearPoint { point } => {
                 remove_point(&mut self.points, point);
                 out.extend_from_slice(b"OK")
             }
-            Setting::NoAcknowledgements => {
+            SessionSetting::NoAcknowledgements => {
                 self.acknowledges = false;
                 out.extend_from_slice(b"OK")
             }
@@ -196,9 +197,9 @@ impl Session {
         out: &mut Vec<u8>,
     ) -> Result<(), AllocError>
         ensures session { OnOk result
-            (self.new ≡ model.after_setting self.old processors (Setting.Choose thread)) }
+            (self.new ≡ model.after_setting self.old processors (SessionSetting.Choose thread)) }
         ensures text { OnOk result (out.new.items ≡ out.old.items
-            ++ model.setting_text self.old processors (Setting.Choose thread)) }
+            ++ model.setting_text self.old processors (SessionSetting.Choose thread)) }
     {
         if !is_choice(processors, thread) {
             return out.extend_from_slice(b"E01");
@@ -214,10 +215,10 @@ impl Session {
         thread: Thread,
         out: &mut Vec<u8>,
     ) -> Result<(), AllocError>
-        ensures session { OnOk result
-            (self.new ≡ model.after_setting self.old processors (Setting.ChooseToMove thread)) }
+        ensures session { OnOk result (self.new
+            ≡ model.after_setting self.old processors (SessionSetting.ChooseToMove thread)) }
         ensures text { OnOk result (out.new.items ≡ out.old.items
-            ++ model.setting_text self.old processors (Setting.ChooseToMove thread)) }
+            ++ model.setting_text self.old processors (SessionSetting.ChooseToMove thread)) }
     {
         if !is_choice(processors, thread) {
             return out.extend_from_slice(b"E01");
@@ -229,9 +230,9 @@ impl Session {
     /// Sets a point, if there is room for it.
     fn set_point(&mut self, point: Point, out: &mut Vec<u8>) -> Result<(), AllocError>
         ensures session { OnOk result
-            (self.new ≡ model.after_setting self.old 0 (Setting.SetPoint point)) }
+            (self.new ≡ model.after_setting self.old 0 (SessionSetting.SetPoint point)) }
         ensures text { OnOk result (out.new.items ≡ out.old.items
-            ++ model.setting_text self.old 0 (Setting.SetPoint point)) }
+            ++ model.setting_text self.old 0 (SessionSetting.SetPoint point)) }
     {
         remove_point(&mut self.points, point);
         if self.points.len() >= MOST_POINTS {
@@ -268,7 +269,7 @@ impl Session {
         &mut self,
         target: &mut T,
         direction: Direction,
-        reach: Option<Reach>,
+        reach: Option<MotionReach>,
         out: &mut Vec<u8>,
     ) -> Result<(), AllocError>
         requires empty { out.old.items ≡ [] }
@@ -291,7 +292,7 @@ impl Session {
     }
 
     /// How far a run goes, if the processor that steps is one that there is.
-    fn reach_of(&self, processors: u16, extent: Extent) -> Option<Reach>
+    fn reach_of(&self, processors: u16, extent: Extent) -> Option<MotionReach>
         ensures { result ≡ model.reach_among self.now processors extent }
     {
         match extent {
@@ -390,22 +391,24 @@ fn processor_or(processor: u16, thread: Thread) -> u16
 }
 
 /// How far a run of a thread goes, if there is its processor.
-fn run_of(processors: u16, thread: Thread) -> Option<Reach>
+fn run_of(processors: u16, thread: Thread) -> Option<MotionReach>
     ensures { result ≡ model.run_of processors thread }
 {
     match thread {
-        Thread::All | Thread::Any => Some(Reach::Run),
-        Thread::Of { processor } if processor < processors => Some(Reach::RunOf { processor }),
+        Thread::All | Thread::Any => Some(MotionReach::Run),
+        Thread::Of { processor } if processor < processors => Some(MotionReach::RunOf {
+            processor,
+        }),
         Thread::Of { .. } => None,
     }
 }
 
 /// A step of a processor, if there is such a one.
-fn step_of(processors: u16, processor: u16) -> Option<Reach>
+fn step_of(processors: u16, processor: u16) -> Option<MotionReach>
     ensures { result ≡ model.step_of processors processor }
 {
     if processor < processors {
-        Some(Reach::Step { processor })
+        Some(MotionReach::Step { processor })
     } else {
         None
     }

@@ -1,6 +1,6 @@
 //! What a session is about: a run of processors, seen from where it stands.
 
-ghost use Rattle.std.specs.Prelude.{◌≡◌, ◌<◌, ℕ, List, IfOk, OnOk};
+ghost use Rattle.std.specs.Prelude.{◌≡◌, ◌<◌, ℕ, List, IfOk};
 ghost use Rattle.gdb_session.specs.Views.{View};
 ghost use Rattle.gdb_remote.specs.declared.request.Point.{Point as Points};
 ghost use Rattle.gdb_session.specs.declared.target.Motion.{Motion as Motions};
@@ -23,7 +23,7 @@ pub enum Doing {
 
 /// How far a run goes.
 #[derive(Clone, Copy, Debug)]
-pub enum Reach {
+pub enum MotionReach {
     /// To a point, or to the end of the run.
     Run,
     /// To a point of this processor, or to the end of the run: the debugger awaits no stop of
@@ -37,7 +37,7 @@ pub enum Reach {
 #[derive(Clone, Copy, Debug)]
 pub struct Motion {
     pub direction: Direction,
-    pub reach: Reach,
+    pub reach: MotionReach,
 }
 
 /// Why a run stopped.

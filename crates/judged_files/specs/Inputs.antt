@@ -1,5 +1,5 @@
 -- What is read for a command.
-use Rattle.std.specs.Prelude.{ℕ, Bool, List, Option}
+use Rattle.std.specs.Prelude.{ℕ, Bool, List, [], Option, None, Some}
 
 -- the bytes of the executable, and the text of the record or of the assembly, which are none where
 -- a command reads none; those of the rewritten executable, of a verified one and of the layout,
@@ -11,3 +11,8 @@ pub record Inputs : Type 0 where
   pub layout : Option (List ℕ)
   pub text : List ℕ
   pub batches : Bool
+
+-- the bytes of a file, which are none where there is no file
+abbrev pub bytes_in : (List ℕ → List ℕ) → Option (List ℕ) → List ℕ
+bytes_in contents None = []
+bytes_in contents (Some name) = contents name

@@ -1,6 +1,6 @@
 -- An image that a JAL spans has no far jump.
-use Rattle.std.proofs.Common.{◌≡◌, ◌≢◌, ℕ, ℤ, zero, suc, ◌+◌, ◌*◌, ◌<◌, ◌≤◌, ◌==◌, ◌++◌, Bool, true, false, List, [], ◌∷◌, map, length, length-append, Option, Some, None, refl, sym, ap, ◌∙◌, subst, arith}
-use Rattle.std.specs.Prelude.{Contains, slice_index_or, ◌&&◌, cond, nat_le}
+use Rattle.std.proofs.Common.{◌≡◌, ◌≢◌, ℕ, ℤ, zero, suc, ◌+◌, ◌<◌, ◌≤◌, ◌==◌, ◌++◌, Bool, true, false, List, [], ◌∷◌, map, length, length-append, Option, Some, None, refl, sym, ap, ◌∙◌, subst, arith}
+use Rattle.std.specs.Prelude.{slice_index_or, cond, nat_le}
 use Rattle.std.proofs.lemmas.List.{length-map}
 use Rattle.std.proofs.lemmas.Bool.Decides.{nat_tests}
 use Rattle.rv32_decode.specs.declared.Instr.{Instr}
@@ -11,7 +11,7 @@ use Rattle.rv32_decode.specs.declared.Width.{Width}
 use Rattle.templates.specs.rv32_program.Program.{Program}
 use Rattle.templates.specs.rv32_program.Targets.{offset_address}
 use Rattle.runtime_words.specs.declared.RtWord.{RtWord}
-use Rattle.runtime_words.specs.declared.RtWord.TheVariants.{Native, Far, TrapOff}
+use Rattle.runtime_words.specs.declared.RtWord.TheVariants.{Far, TrapOff}
 use Rattle.runtime_words.specs.Reading.{read_word}
 use Rattle.templates.specs.declared.places.Part.{Part}
 use Rattle.templates.specs.declared.places.Part.TheVariants.{Single, Head, Fast, Fallback}
@@ -20,8 +20,8 @@ use Rattle.templates.specs.declared.plans.Scratches.{Scratches}
 use Rattle.templates.specs.declared.reaches.Reach.{Reach}
 use Rattle.templates.specs.Plans.{is_flag_checked}
 use Rattle.templates.specs.Runs.{reach_of, code_from}
-use Rattle.templates.specs.Sequences.{ItemWord, Runs, GoesTo, SequenceItem, items_of, items_in, place_items, instruction_items, poll_first, load_sequence, flag_load_sequence, read_sequence, write_sequence, spill_by, reload_by, spills, reloads, state_look, jump_sequence, branch_sequence, is_multiple_of_four, to_head, reloads_of_run, spills_of_run, mask_readable, head_items, run_items, fast_items, batch_items}
-use Rattle.jump_map.specs.Image.{Cell, ImageWord, PlacedItem, read_cell, placed_items, address_in, part_of_entry, entry_items, plan_items, words_at, words_before, head_of, image_words, address_of_word, item_word, is_near, jump_word, IsRewriting, HasNoFar}
+use Rattle.templates.specs.Sequences.{ItemWord, Runs, GoesTo, SequenceItem, items_in, place_items, instruction_items, poll_first, load_sequence, read_sequence, write_sequence, spill_by, reload_by, spills, reloads, jump_sequence, branch_sequence, is_multiple_of_four, to_head, reloads_of_run, mask_readable, head_items, run_items, batch_items}
+use Rattle.jump_map.specs.Image.{Cell, ImageWord, PlacedItem, read_cell, placed_items, address_in, part_of_entry, entry_items, plan_items, words_at, words_before, head_of, image_words, address_of_word, item_word, jump_word, IsRewriting, HasNoFar}
 use Rattle.jump_map.proofs.LayingLemmas.{words_length}
 
 -- 1. No sequence has a far jump of its own

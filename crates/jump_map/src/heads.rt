@@ -1,6 +1,6 @@
 //! Where the words of each place begin, by a guess or by halving.
 
-ghost use Rattle.std.specs.Prelude.{◌≡◌, ◌+◌, ◌<◌, ◌≤◌, ◌++◌, ◌∷◌, [], length, IfOk, OnOk, OnErr};
+ghost use Rattle.std.specs.Prelude.{◌≡◌, ◌+◌, ◌<◌, ◌≤◌, ◌++◌, ◌∷◌, [], IfOk, OnOk, OnErr};
 ghost use Rattle.std.specs.Prelude.{IfSome, Some};
 ghost use Rattle.jump_map.specs.Heads.{start, start_of, head_start, single_start, end_of};
 ghost use Rattle.jump_map.specs.Heads.{head_number};

@@ -1,6 +1,6 @@
 //! Rewritten code, and the maps between original and rewritten addresses.
 
-ghost use Rattle.std.specs.Prelude.{◌≡◌, ◌≤◌, ℕ, List, length, option_copied, IfOk, IfSome};
+ghost use Rattle.std.specs.Prelude.{◌≡◌, ◌≤◌, ℕ, List, length, option_copied, IfOk};
 ghost use Rattle.std.specs.Prelude.{IsErrOf};
 ghost use Rattle.templates.specs.rv32_program.Program.{Program};
 ghost use Rattle.templates.specs.declared.plans.PlanEntry.{PlanEntry};

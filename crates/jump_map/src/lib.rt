@@ -1,8 +1,6 @@
 #![tactic(auto)]
 //! Rewritten code, and the maps between original and rewritten addresses.
 
-ghost use Rattle.std.specs.Prelude.{◌≡◌, ℕ};
-
 mod building;
 mod cells;
 mod heads;

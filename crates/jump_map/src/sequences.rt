@@ -119,7 +119,7 @@ fn over(c: Cond) -> StrideKind
     }
 }
 
-/// The same behind a poll.
+/// The branch past a jump and that jump, behind a poll.
 fn poll_over(c: Cond) -> StrideKind
     ensures { (micros : List MicroOp) (k : ℕ) → IsPolled micros k
         → IsOver micros (k + 1) (branch_kind c) → Begins micros k result }

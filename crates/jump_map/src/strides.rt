@@ -3,7 +3,7 @@
 //! That is one word, or a whole sequence of which the word is the first. Each word has a kind of
 //! stride, so a machine may begin anywhere. The operands stay with the micro-ops of the words.
 
-ghost use Rattle.std.specs.Prelude.{◌≡◌, ℕ, List};
+ghost use Rattle.std.specs.Prelude.{ℕ, List};
 ghost use Rattle.micro_op.specs.declared.micro_op.MicroOp.{MicroOp};
 ghost use Rattle.jump_map.specs.Strides.{IsPlain, IsWhole};
 
@@ -71,7 +71,7 @@ pub enum StrideKind {
     OverGe,
     OverLtu,
     OverGeu,
-    /// The same behind a poll.
+    /// A poll, a branch past the jump behind it, and that jump.
     PollOverEq,
     PollOverNe,
     PollOverLt,
@@ -84,7 +84,7 @@ pub enum StrideKind {
     PollEnter,
     /// The two words that put a number into a register.
     Number,
-    /// The same, and a jump.
+    /// The two words that put a number into a register, and a jump.
     Call,
     /// A load whose line's state is tested, with no scratch register spilled.
     ReadByte0,
@@ -92,13 +92,13 @@ pub enum StrideKind {
     ReadWord0,
     ReadByteU0,
     ReadHalfU0,
-    /// The same with one spilled, the second.
+    /// A load whose line's state is tested, with one scratch register spilled, the second.
     ReadByte1,
     ReadHalf1,
     ReadWord1,
     ReadByteU1,
     ReadHalfU1,
-    /// The same with both spilled.
+    /// A load whose line's state is tested, with both scratch registers spilled.
     ReadByte2,
     ReadHalf2,
     ReadWord2,

@@ -1,6 +1,6 @@
 -- What a run of nodes of several processors gives: the bytes printed, how each processor ended, and
 -- what each node counted over its lanes.
-use Rattle.std.specs.Prelude.{◌≡◌, ℕ, List, Option, Some, map}
+use Rattle.std.specs.Prelude.{◌≡◌, List, Option, Some, map}
 use Rattle.std.specs.List.{range_with_len}
 use Rattle.rv32_program.specs.declared.End.{End}
 use Rattle.node_model.specs.declared.NodeCounts.{NodeCounts}

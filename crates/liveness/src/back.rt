@@ -1,7 +1,7 @@
 //! The predecessors of each node.
 
-ghost use Rattle.std.specs.Prelude.{◌≡◌, ◌<◌, ◌≤◌, ◌+◌, ◌*◌, ◌/◌, ◌^◌, ℕ, true, false, length};
-ghost use Rattle.std.specs.Prelude.{get_or, OnOk, IfOk, Some, slice_get};
+ghost use Rattle.std.specs.Prelude.{◌≡◌, ◌<◌, ◌+◌, ◌*◌, ◌/◌, ◌^◌, ℕ, true, false, length};
+ghost use Rattle.std.specs.Prelude.{get_or, OnOk, IfOk, Some};
 ghost use Rattle.liveness.specs.Chains.{Falls, Within, IsInto, StayInto};
 ghost use Rattle.liveness.specs.Leads.{Leads};
 

@@ -1,8 +1,6 @@
 #![tactic(auto)]
 //! Registers that are live, and dead, at each code word of a program, by paths.
 
-ghost use Rattle.std.specs.Prelude.{◌≡◌, ℕ};
-
 mod back;
 mod live;
 mod node;

@@ -1,7 +1,7 @@
 //! Code words as nodes of a graph, by their numbers.
 
-ghost use Rattle.std.specs.Prelude.{◌≡◌, ◌≢◌, ◌<◌, ◌↔◌, ℕ, List, IfOk, Some};
-ghost use Rattle.rv32_decode.specs.Registers.{IsMember, destination};
+ghost use Rattle.std.specs.Prelude.{◌≡◌, ◌≢◌, ◌<◌, ◌↔◌, ℕ, List, IfOk};
+ghost use Rattle.rv32_decode.specs.Registers.{IsMember};
 ghost use Rattle.rv32_program.specs.Liveness.{Uses, uses_all};
 ghost use Rattle.templates.specs.declared.code.CodeWord.{CodeWord as TheWord};
 ghost use Rattle.flow_graph.specs.Edges.{edges_of};

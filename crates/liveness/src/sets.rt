@@ -1,6 +1,6 @@
 //! The sets of the registers that are live at each node, by a worklist, and dead after it.
 
-ghost use Rattle.std.specs.Prelude.{◌≡◌, ◌<◌, ◌^◌, ◌↔◌, ◌⊎◌, ℕ, length, List, IsTrue, IfOk, get_or};
+ghost use Rattle.std.specs.Prelude.{◌≡◌, ◌<◌, ◌^◌, ◌↔◌, ◌⊎◌, ℕ, length, IfOk, get_or};
 ghost use Rattle.std.specs.Prelude.{slice_get, Some};
 ghost use Rattle.rv32_decode.specs.Registers.{IsMember};
 ghost use Rattle.rv32_program.specs.Liveness.{leaves_code};

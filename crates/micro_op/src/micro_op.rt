@@ -1,6 +1,6 @@
 //! A micro-op, and how it is made of an instruction.
 
-ghost use Rattle.std.specs.Prelude.{◌≡◌, ◌+◌, ◌*◌, ◌%◌, ◌^◌, ◌↔◌, ◌==◌, ℕ, not, IsTrue};
+ghost use Rattle.std.specs.Prelude.{◌≡◌, ◌%◌, ◌↔◌, ◌==◌, ℕ, not, IsTrue};
 ghost use Rattle.std.specs.Prelude.{MatchOption};
 ghost use Rattle.rv32_decode.specs.Fields.{unsigned};
 ghost use Rattle.micro_op.specs.Micro.{IsMicroOf, IsEntryOf, Meets, meaning_of, index_address};

@@ -1,8 +1,6 @@
 #![tactic(auto)]
 //! The polls of a plan: where a loop may close.
 
-ghost use Rattle.std.specs.Prelude.{◌≡◌, ℕ};
-
 mod polls;
 
 pub use flow_graph;

@@ -1,6 +1,6 @@
 //! Which places poll.
 
-ghost use Rattle.std.specs.Prelude.{◌≡◌, ◌^◌, ◌<◌, ◌≤◌, false, length, map};
+ghost use Rattle.std.specs.Prelude.{◌≡◌, ◌<◌, false, map};
 ghost use Rattle.templates.specs.Code.{code_of};
 ghost use Rattle.templates.specs.Plans.{closes_loop, closes_loop_at};
 ghost use Rattle.templates.specs.WholePlan.{IsCheckPlan, IsPlanOf};

@@ -1,6 +1,6 @@
 //! What the bytes of a plan say of one place.
 
-ghost use Rattle.std.specs.Prelude.{◌≡◌, ◌<◌, ℕ, Some, IfSome, length};
+ghost use Rattle.std.specs.Prelude.{◌≡◌, ◌<◌, Some, IfSome, length};
 ghost use Rattle.templates.specs.declared.plans.PlanEntry.{PlanEntry as Entry};
 ghost use Rattle.templates.specs.declared.plans.Scratch.{Scratch as OneScratch};
 ghost use Rattle.templates.specs.declared.plans.Scratches.{Scratches as AllScratches};

@@ -1,8 +1,6 @@
 #![tactic(auto)]
 //! Verifies the file of a rewritten program that something else made, by any admissible plan.
 
-ghost use Rattle.std.specs.Prelude.{◌≡◌, ℕ};
-
 mod code;
 mod entries;
 mod law;

@@ -1,6 +1,6 @@
 //! Whether an entry serves its place.
 
-ghost use Rattle.std.specs.Prelude.{◌≡◌, ◌≢◌, ◌↔◌, ◌⊎◌, IsTrue, IsSome, Some};
+ghost use Rattle.std.specs.Prelude.{◌≡◌, ◌↔◌, ◌⊎◌, IsTrue, IsSome, Some};
 ghost use Rattle.templates.specs.Code.{code_of};
 ghost use Rattle.templates.specs.Plans.{HasOneScratch, HasScratchesAt, HasSoMany, HasTwoScratches};
 ghost use Rattle.templates.specs.Plans.{IsScratch, Serves, StartsNoRun, StartsRun};

@@ -1,6 +1,6 @@
 //! Whether a file is that of a rewriting of its original.
 
-ghost use Rattle.std.specs.Prelude.{◌≡◌, List, IfOk, IfErr, MatchResult, OnOk};
+ghost use Rattle.std.specs.Prelude.{◌≡◌, List, IfOk, IfErr, OnOk};
 ghost use Rattle.exec_map.specs.Contents.{program_of};
 ghost use Rattle.templates.specs.declared.plans.PlanEntry.{PlanEntry};
 ghost use Rattle.rewriter.specs.jump_map.Image.{Cell, IsRewriting};

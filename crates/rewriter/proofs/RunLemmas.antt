@@ -1,5 +1,5 @@
 -- The runs of a plan are runs of its code; and what holds of a rewriting by it.
-use Rattle.std.proofs.Common.{◌≡◌, ℕ, List, Result, Ok, Err, subst, inl, inr}
+use Rattle.std.proofs.Common.{◌≡◌, List, Result, Ok, Err, subst, inl, inr}
 use Rattle.std.specs.Prelude.{IfOk}
 use Rattle.rv32_program.specs.Program.{Program}
 use Rattle.templates.specs.declared.code.CodeWord.{CodeWord}

@@ -1,6 +1,6 @@
 //! The bytes that a rewritten file has of a plan and of an image.
 
-ghost use Rattle.std.specs.Prelude.{◌≡◌, ◌<◌, ◌+◌, if◌then◌else◌, length, slice_get, Some};
+ghost use Rattle.std.specs.Prelude.{◌≡◌, ◌<◌, ◌+◌, length, slice_get, Some};
 ghost use Rattle.std.specs.Prelude.{option_map, IfOk};
 ghost use Rattle.jump_map.specs.Image.{most_words};
 ghost use Rattle.rewriter.specs.RewrittenFile as model;

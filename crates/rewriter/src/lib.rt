@@ -1,8 +1,6 @@
 #![tactic(auto)]
 //! Rewrites a program: the plan of its places, and the image of that plan.
 
-ghost use Rattle.std.specs.Prelude.{◌≡◌, ℕ};
-
 mod comparing;
 mod file;
 mod file_bytes;

@@ -2,7 +2,7 @@
 //! The limits of a run: budgets and counts, each of a type that holds its range, and the bound of
 //! stamps.
 
-ghost use Rattle.std.specs.Prelude.{◌≡◌, ◌*◌, ◌^◌, ◌≤◌, MatchOption};
+ghost use Rattle.std.specs.Prelude.{◌≡◌, ◌*◌, MatchOption};
 ghost use Rattle.run_limits.specs.Ranges.{IsBudget, IsLaneCount, IsNodeCount};
 
 use std::marker::Model;

@@ -4,7 +4,7 @@ use Rattle.node_model.specs.dsm_messages.declared.messages.Wire.{Wire}
 use Rattle.node_model.specs.declared.Entry.{Entry as JournalEntry}
 use Rattle.node_model.specs.Node.{Work, Node, opening_node, word_step}
 use Rattle.node_model.specs.Turns.{words_before, journaled}
-use Rattle.node_model.specs.Core.{Core, Event, opening_core, IsCoreRun, after}
+use Rattle.node_model.specs.Core.{Event, opening_core, IsCoreRun, after}
 use Rattle.run_order.specs.OwnRun.{last_take}
 use Rattle.run_order.specs.Takes.{IsTakeWithin, AreTakesWithin}
 use Rattle.run_order.proofs.History.{LocalEvent, of, Local}

@@ -21,7 +21,7 @@ MayDo work n Executes = may_execute (standing_of work n) ≡ true
 MayDo work n (Takes j wire) =
     (j < work.layout.nodes) × (may_take (standing_of work n) ≡ true)
 
--- these history, each allowed where the node stands, lead from one node to another
+-- these events, each allowed where the node stands, lead from one node to another
 abbrev pub LeadsBy : Work → Node → List LocalEvent → Node → Type 0
 LeadsBy work n [] m = n ≡ m
 LeadsBy work n (d ∷ ds) m = MayDo work n d × LeadsBy work (turn_of work n d).node ds m
@@ -40,7 +40,7 @@ sent_to work k n (d ∷ ds) =
     wires_to (turn_of work n d).node.stamp k (turn_of work n d).sends
     ++ sent_to work k (turn_of work n d).node ds
 
--- The nodes below n have made these history each, and of each list what was taken and then what is
+-- The nodes below n have made these events each, and of each list what was taken and then what is
 -- there is what was there and then what was sent.
 pub record HaveDone (work : Work) (c d : Core) (history : ℕ → List LocalEvent) : Type 0 where
   pub nodes : (i : ℕ) → i < work.layout.nodes → LeadsBy work (c.nodes i) (history i) (d.nodes i)

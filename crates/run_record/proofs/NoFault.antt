@@ -5,7 +5,6 @@ use Rattle.std.specs.List.{All, list_all}
 use Rattle.std.specs.Fmt.{decimal, digits, digit_glyph}
 use Rattle.std.proofs.lemmas.Bool.{and_parts, cases_lt}
 use Rattle.std.proofs.lemmas.Bool.Decides.{nat_tests}
-use Rattle.std.proofs.lemmas.List.{append_cancel_left}
 use Rattle.block_layout.specs.declared.layout.BlockRange.{BlockRange}
 use Rattle.node_model.specs.declared.Entry.{Entry}
 use Rattle.rv32_text.specs.Listing.{word_digits}
@@ -20,7 +19,7 @@ use Rattle.run_record.specs.Record.{IsRecord, IsBlockLine, IsTakeBehind, AreTake
 use Rattle.run_record.specs.Rules.{Awaits, Version, Nodes, Budget, Batch, Code, Range, Node, Take, Nothing, Breaks, Leads, HasNumber, HasTake, HasBadStamp, IsBroken, IsFirstBroken, IsFirstFault, awaited_behind_batch, entry_of, node_awaited, number_of, number_of_version, stamp_of, text_lines}
 use Rattle.run_record.specs.Telling.{HasWords, IsOfWords}
 use Rattle.run_record.specs.Text.{number_line, version_of, version_line, batch_line, code_line, home_end, block_line, block_lines, take_line, told_of, take_lines, journal_lines, record_text}
-use Rattle.run_record.proofs.Fields.{Without, decimal_without, number_told}
+use Rattle.run_record.proofs.Fields.{Without, decimal_without}
 use Rattle.run_record.proofs.Growing.{awaited_here, awaited_end}
 use Rattle.run_record.proofs.LineFeeds.{line_then}
 use Rattle.run_record.proofs.Told.{AreLow, line_told, told_low, take_line_told, same_entry, first_of, rest_of, whole}

@@ -11,7 +11,7 @@ use Rattle.run_record.specs.Rules.{Awaits, IsInGrammar, Breaks, IsBroken, IsFirs
 use Rattle.run_record.specs.Rules as awaits
 use Rattle.run_record.specs.declared.version.Version.{Version as Versions}
 use Rattle.block_layout.specs.declared.layout.BlockRange.{BlockRange}
-use Rattle.run_record.specs.Rules.{IsNodeLine, HasRange}
+use Rattle.run_record.specs.Rules.{HasRange}
 use Rattle.run_record.proofs.LineFeeds.{some_line, lines_begin}
 
 number_low : (rule : RecordRule) → 40 ≤ number_of rule

@@ -30,13 +30,6 @@ impl Blocks {
         Blocks { ranges }
     }
 
-    /// The vector of the ranges. Takes no memory.
-    pub fn into_vec(self) -> Vec<BlockRange>
-        ensures { result.items ≡ self }
-    {
-        self.ranges
-    }
-
     /// The ranges.
     pub fn as_slice(&self) -> &[BlockRange]
         ensures { result.now ≡ self.now }
@@ -67,13 +60,6 @@ impl Journals {
         ensures { result ≡ items_of journals.items }
     {
         Journals { journals }
-    }
-
-    /// The vector of the journals. Takes no memory.
-    pub fn into_vec(self) -> Vec<Vec<Entry>>
-        ensures { items_of result.items ≡ self }
-    {
-        self.journals
     }
 
     /// The journals.

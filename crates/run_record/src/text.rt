@@ -1,6 +1,6 @@
 //! The text of a record, put at the end of what is there.
 
-ghost use Rattle.std.specs.Prelude.{◌≡◌, ◌++◌, ◌∷◌, ◌≤◌, [], ℕ, All, OnOk};
+ghost use Rattle.std.specs.Prelude.{◌≡◌, ◌++◌, ◌∷◌, [], ℕ, All, OnOk};
 ghost use Rattle.std.specs.Fmt.{decimal};
 ghost use Rattle.rv32_text.specs.Listing.{word_digits};
 ghost use Rattle.run_record.specs.Lists.{items_of};

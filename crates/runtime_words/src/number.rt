@@ -1,7 +1,6 @@
 //! The number of a word of rewritten code, of a type that holds its range.
 
 ghost use Rattle.std.specs.Prelude.{◌≡◌, ◌+◌, ◌*◌, ◌/◌, ◌%◌, ◌^◌, ◌<◌};
-ghost use Rattle.rv32_decode.specs.Fields.{field};
 ghost use Rattle.runtime_words.specs.Reading.{far_number};
 
 use std::marker::Model;

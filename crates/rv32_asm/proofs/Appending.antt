@@ -62,7 +62,7 @@ stands_by : (all before rest : List Statement) (s : Statement) (last : Option Op
     → AreSound all → NeedsSegment s
     → (place_behind before).last ≡ last → (a : ℕ) × (here (place_behind before) ≡ Some a)
 stands_by all before rest s (Some o) e sound needs is = (end_of o, ap (λ (l : Option Open). option_map end_of l) is)
-stands_by all before rest s None e sound needs is = absurd (sound before s rest rule.SegmentsSoFar e (inl (needs, is)))
+stands_by all before rest s None e sound needs is = absurd (sound before s rest rule.Place e (inl (needs, is)))
 
 -- a line that needs a segment has an address
 pub stands : (all before rest : List Statement) (s : Statement) → all ≡ before ++ s ∷ rest → AreSound all
@@ -97,7 +97,7 @@ even_at : (all before rest : List Statement) (w : Written) (a : ℕ) → all ≡
     → here (place_behind before) ≡ Some a
     → a % 4 ≢ 0 → ⊥
 even_at all before rest w a e sound at odd =
-    sound before (Instruction w) rest rule.SegmentsSoFar e
+    sound before (Instruction w) rest rule.Place e
     (inr (inl (tt, subst (λ (o : Option ℕ). IsSomeAnd o (λ a. a % 4 ≢ 0)) (sym at) odd)))
 
 none_left : (all before rest : List Statement) (labels : Labels) (w : Written) → all ≡ before ++ Instruction w ∷ rest
@@ -122,7 +122,7 @@ err_left : (all before rest : List Statement) (w : Written) (r : AsmRule) → al
 err_left all before rest w rule.Range e sound h = sound before (Instruction w) rest rule.Range e h
 err_left all before rest w rule.Name e sound h = sound before (Instruction w) rest rule.Name e h.1
 err_left all before rest w rule.Syntax e sound h = h
-err_left all before rest w rule.SegmentsSoFar e sound h = h
+err_left all before rest w rule.Place e sound h = h
 err_left all before rest w rule.Size e sound h = h
 err_left all before rest w rule.Empty e sound h = h
 

@@ -33,7 +33,7 @@ same_number : (r q : AsmRule) → number_of r ≡ number_of q → r ≡ q
 same_number rule.Syntax rule.Syntax e = refl
 same_number rule.Range rule.Range e = refl
 same_number rule.Name rule.Name e = refl
-same_number rule.SegmentsSoFar rule.SegmentsSoFar e = refl
+same_number rule.Place rule.Place e = refl
 same_number rule.Size rule.Size e = refl
 same_number rule.Empty rule.Empty e = refl
 same_number r q e = absurd (omega (arith, e))

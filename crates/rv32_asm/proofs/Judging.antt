@@ -34,7 +34,7 @@ refused_by : (all before : List Statement) (w : Written) (r : AsmRule)
 refused_by all before w rule.Range h = h
 refused_by all before w rule.Name h = h
 refused_by all before w rule.Syntax h = h
-refused_by all before w rule.SegmentsSoFar h = h
+refused_by all before w rule.Place h = h
 refused_by all before w rule.Size h = h
 refused_by all before w rule.Empty h = h
 
@@ -67,7 +67,7 @@ below_range : (all before : List Statement) (s : Statement) → (s ≡ Unread �
 below_range all before s read rule.Syntax less b = read b
 below_range all before s read rule.Range less b = omega (arith, less)
 below_range all before s read rule.Name less b = omega (arith, less)
-below_range all before s read rule.SegmentsSoFar less b = omega (arith, less)
+below_range all before s read rule.Place less b = omega (arith, less)
 below_range all before s read rule.Size less b = omega (arith, less)
 below_range all before s read rule.Empty less b = omega (arith, less)
 
@@ -77,7 +77,7 @@ below_name : (all before : List Statement) (s : Statement) → (s ≡ Unread →
 below_name all before s read range rule.Syntax less b = read b
 below_name all before s read range rule.Range less b = range b
 below_name all before s read range rule.Name less b = omega (arith, less)
-below_name all before s read range rule.SegmentsSoFar less b = omega (arith, less)
+below_name all before s read range rule.Place less b = omega (arith, less)
 below_name all before s read range rule.Size less b = omega (arith, less)
 below_name all before s read range rule.Empty less b = omega (arith, less)
 
@@ -87,6 +87,6 @@ pub names_lowest : (all before : List Statement) (s : Statement) (r : AsmRule) �
 names_lowest all before s rule.Range read h = (h, λ other less b. below_range all before s read other less b)
 names_lowest all before s rule.Name read h = (h.1, λ other less b. below_name all before s read h.0 other less b)
 names_lowest all before s rule.Syntax read h = absurd h
-names_lowest all before s rule.SegmentsSoFar read h = absurd h
+names_lowest all before s rule.Place read h = absurd h
 names_lowest all before s rule.Size read h = absurd h
 names_lowest all before s rule.Empty read h = absurd h

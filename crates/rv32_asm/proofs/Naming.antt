@@ -124,7 +124,7 @@ pub offset_refused : (all : List Statement) (at : Option ℕ) (reach : ℕ) (t :
 offset_refused all at reach t rule.Range h = inl h
 offset_refused all at reach t rule.Name h = (unknown_far all at reach t h, h)
 offset_refused all at reach t rule.Syntax h = absurd h
-offset_refused all at reach t rule.SegmentsSoFar h = absurd h
+offset_refused all at reach t rule.Place h = absurd h
 offset_refused all at reach t rule.Size h = absurd h
 offset_refused all at reach t rule.Empty h = absurd h
 
@@ -145,7 +145,7 @@ offset_found all at reach t address (Ok None) h o =
 offset_found all at reach t address (Err rule.Range) h o = inr (address, h.0, o)
 offset_found all at reach t address (Err rule.Name) h o = absurd o
 offset_found all at reach t address (Err rule.Syntax) h o = absurd o
-offset_found all at reach t address (Err rule.SegmentsSoFar) h o = absurd o
+offset_found all at reach t address (Err rule.Place) h o = absurd o
 offset_found all at reach t address (Err rule.Size) h o = absurd o
 offset_found all at reach t address (Err rule.Empty) h o = absurd o
 

@@ -254,7 +254,7 @@ jump_err all at rd t rule.Range low f = inr f
 jump_err all at rd t rule.Name low f =
     ((λ out. elim out [ inl out ↦ out (low, omega (arith, ints), omega (arith, ints), refl) | inr far ↦ f.0 far ]), f.1)
 jump_err all at rd t rule.Syntax low f = absurd f
-jump_err all at rd t rule.SegmentsSoFar low f = absurd f
+jump_err all at rd t rule.Place low f = absurd f
 jump_err all at rd t rule.Size low f = absurd f
 jump_err all at rd t rule.Empty low f = absurd f
 
@@ -270,6 +270,6 @@ branch_err all at c a b t rule.Name low below f = (
   f.1,
 )
 branch_err all at c a b t rule.Syntax low below f = absurd f
-branch_err all at c a b t rule.SegmentsSoFar low below f = absurd f
+branch_err all at c a b t rule.Place low below f = absurd f
 branch_err all at c a b t rule.Size low below f = absurd f
 branch_err all at c a b t rule.Empty low below f = absurd f

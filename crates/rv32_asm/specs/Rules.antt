@@ -14,7 +14,7 @@ abbrev pub number_of : AsmRule → ℕ
 number_of rule.Syntax = 60
 number_of rule.Range = 61
 number_of rule.Name = 62
-number_of rule.SegmentsSoFar = 63
+number_of rule.Place = 63
 number_of rule.Size = 64
 number_of rule.Empty = 65
 
@@ -112,7 +112,7 @@ abbrev pub Breaks : (all before : List Statement) → Statement → AsmRule → 
 Breaks all before s rule.Syntax = s ≡ Unread
 Breaks all before s rule.Range = BreaksRange all before s
 Breaks all before s rule.Name = BreaksName all before s
-Breaks all before s rule.SegmentsSoFar = IsMisplaced (place_behind before) s
+Breaks all before s rule.Place = IsMisplaced (place_behind before) s
 Breaks all before s rule.Size = IsPastLimits (behind (place_behind before) s)
 Breaks all before s rule.Empty = ⊥
 

@@ -15,7 +15,7 @@ pub enum AsmRule {
     Name,
     /// What appends, names or adds stands in a segment, words stand at multiples of 4, and nothing
     /// is appended behind zeros.
-    SegmentsSoFar,
+    Place,
     /// The segment ends at 2^32 or below, there are at most 999 segments, and at most 2^24 bytes
     /// are appended.
     Size,
@@ -35,7 +35,7 @@ impl AsmRule {
             AsmRule::Syntax => 60,
             AsmRule::Range => 61,
             AsmRule::Name => 62,
-            AsmRule::SegmentsSoFar => 63,
+            AsmRule::Place => 63,
             AsmRule::Size => 64,
             AsmRule::Empty => 65,
         }

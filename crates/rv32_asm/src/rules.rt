@@ -79,7 +79,7 @@ fn broken_rule<'a>(
         return Some(rule);
     }
     if is_misplaced(place, statement) {
-        return Some(AsmRule::SegmentsSoFar);
+        return Some(AsmRule::Place);
     }
     if is_past_limits(place.behind(statement)) {
         return Some(AsmRule::Size);

@@ -1,6 +1,6 @@
 //! Texts that keep the rules.
 
-ghost use Rattle.std.specs.Prelude.{◌≡◌, ℕ, OnOk, IsErrOf};
+ghost use Rattle.std.specs.Prelude.{ℕ, OnOk, IsErrOf};
 ghost use Rattle.rv32_asm.specs.Rules.{IsSoundText, IsFirstFault};
 ghost use Rattle.rv32_asm.specs.declared.refused.AsmRule.{AsmRule as Rules};
 ghost use Rattle.rv32_asm.specs.declared.refused.AsmRefused.TheVariants as refused;

@@ -1,6 +1,6 @@
 //! From words to instructions, by the fields of a word.
 
-ghost use Rattle.std.specs.Prelude.{◌≡◌, ◌+◌, ◌-◌, ◌*◌, ◌/◌, ◌%◌, ◌^◌, ◌<◌, ◌≤◌, ℕ, ◌⊎◌, count_by};
+ghost use Rattle.std.specs.Prelude.{◌≡◌, ◌-◌, ◌^◌, ◌<◌, ◌≤◌, ℕ, ◌⊎◌, count_by};
 ghost use Rattle.std.specs.Prelude.{Some};
 ghost use Rattle.rv32_decode.specs.Fields.{field, bit};
 ghost use Rattle.rv32_decode.specs.Rows.{instruction_of, rows, fits, branch_table, load_table};

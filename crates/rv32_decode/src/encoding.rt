@@ -1,6 +1,6 @@
 //! From instructions to words, by the six formats.
 
-ghost use Rattle.std.specs.Prelude.{◌≡◌, ◌+◌, ◌*◌, ◌^◌, ◌<◌, ℕ, Some};
+ghost use Rattle.std.specs.Prelude.{◌≡◌, ◌+◌, ◌^◌, ◌<◌, ℕ, Some};
 ghost use Rattle.rv32_decode.specs.Codes.{branch_code, load_code, store_code, imm_code};
 ghost use Rattle.rv32_decode.specs.Codes.{shift_codes, op_codes, amo_code, illegal_word, ordered};
 ghost use Rattle.rv32_decode.specs.Formats.{r_word, i_word, s_word, b_word, u_word, j_word};

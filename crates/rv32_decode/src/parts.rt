@@ -1,6 +1,6 @@
 //! The parts of an instruction, each of a type that holds its range.
 
-ghost use Rattle.std.specs.Prelude.{◌≡◌, ◌+◌, ◌-◌, ◌*◌, ◌/◌, ◌%◌, ◌^◌, ◌<◌, ◌≤◌, ℕ, ℤ, pos, negsuc};
+ghost use Rattle.std.specs.Prelude.{◌≡◌, ◌+◌, ◌-◌, ◌*◌, ◌%◌, ◌^◌, ◌<◌, ◌≤◌, ℕ, ℤ, pos, negsuc};
 ghost use Rattle.std.specs.Prelude.{◌≤ℤ◌, cond, nat_lt};
 ghost use Rattle.rv32_decode.specs.Fields.{field, imm_i, imm_s, imm_b, imm_j, signed, unsigned};
 

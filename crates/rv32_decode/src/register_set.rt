@@ -1,7 +1,6 @@
 //! Sets of registers.
 
-ghost use Rattle.std.specs.Prelude.{◌≡◌, ◌≢◌, ℕ, ◌<◌, ◌↔◌, ◌⊎◌, IsTrue};
-ghost use Rattle.rv32_decode.specs.Fields.{field};
+ghost use Rattle.std.specs.Prelude.{◌≡◌, ℕ, ◌<◌, ◌↔◌, ◌⊎◌, IsTrue};
 
 use crate::parts::Reg;
 use std::marker::Model;

@@ -1,6 +1,6 @@
 //! The widths of loads and stores.
 
-ghost use Rattle.std.specs.Prelude.{◌≡◌, ◌%◌, ◌*◌, ℕ};
+ghost use Rattle.std.specs.Prelude.{◌≡◌, ◌%◌};
 ghost use Rattle.rv32_decode.specs.Widths as model;
 
 use crate::{LoadKind, Width};

@@ -1,6 +1,6 @@
 //! Instructions, read.
 
-ghost use Rattle.std.specs.Prelude.{◌≡◌, ℕ, ℤ, pos, negsuc, ◌≤ℤ◌, ◌<◌, ◌^◌, ◌++◌, ◌==◌, List};
+ghost use Rattle.std.specs.Prelude.{◌≡◌, ℕ, ℤ, pos, negsuc, ◌≤ℤ◌, ◌<◌, ◌^◌, ◌++◌};
 ghost use Rattle.std.specs.Prelude.{codes, true, IfSome, MatchOption};
 ghost use Rattle.rv32_decode.specs.declared.Instr.TheVariants as model;
 ghost use Rattle.rv32_lines.specs.Reading.{capped, clipped, IsReadCommand, is_mark};

@@ -1,6 +1,6 @@
 //! The mnemonics of instructions, read.
 
-ghost use Rattle.std.specs.Prelude.{◌≡◌, ◌++◌, Bool, List, ℕ, codes, IfSome, MatchOption, Some};
+ghost use Rattle.std.specs.Prelude.{◌≡◌, ◌++◌, Bool, List, ℕ, codes, IfSome, Some};
 ghost use Rattle.rv32_decode.specs.declared.AmoOp.{AmoOp as AmoOps};
 ghost use Rattle.rv32_decode.specs.declared.Cond.{Cond as Conds};
 ghost use Rattle.rv32_decode.specs.declared.ImmOp.{ImmOp as ImmOps};

@@ -2,7 +2,7 @@
 
 ghost use Rattle.std.specs.Prelude.{◌≡◌, ℕ, ℤ, negsuc, suc, ◌++◌, List, codes, IsSome, IfSome};
 ghost use Rattle.std.specs.Prelude.{MatchOption, Some};
-ghost use Rattle.rv32_lines.specs.Reading.{capped, clipped, EndsDigits, IsRegisterThen};
+ghost use Rattle.rv32_lines.specs.Reading.{capped, clipped, IsRegisterThen};
 ghost use Rattle.rv32_lines.specs.Reading.{IsSignedThen, IsNumeralThen, radix, IsReadTarget};
 ghost use Rattle.rv32_lines.specs.Reading.{IsTargetText};
 ghost use Rattle.rv32_lines.specs.Statements.{IsTarget};

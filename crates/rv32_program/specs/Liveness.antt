@@ -1,6 +1,6 @@
 -- Live registers, by paths: a register is live at an address where some path from it reaches a use
 -- of the register before a definition of it.
-use Rattle.std.specs.Prelude.{◌≡◌, ℕ, ◌+◌, ◌⊎◌, Bool, true, false, IsTrue, Contains, Option, Some, None}
+use Rattle.std.specs.Prelude.{◌≡◌, ℕ, ◌+◌, ◌⊎◌, Bool, true, false, IsTrue, Contains, Option, Some}
 use Rattle.rv32_decode.specs.Registers.{sources, destination}
 use Rattle.rv32_decode.specs.declared.Instr.{Instr}
 use Rattle.rv32_decode.specs.declared.Instr.TheVariants.{Jal, Jalr, Branch, Ecall, Ebreak, Illegal}

@@ -3,7 +3,7 @@
 use Rattle.std.specs.Prelude.{◌≡◌, ℕ, ◌+◌, ◌/◌, ◌%◌, ◌^◌, ◌≤◌, Bool, true, false, ◌||◌, ◌==◌, if◌then◌else◌, Option, Some}
 use Rattle.rv32_decode.specs.declared.Instr.{Instr}
 use Rattle.rv32_program.specs.declared.Class.{Class}
-use Rattle.rv32_program.specs.declared.Class.TheVariants.{Shared, ReadOnly, Private, Unmapped}
+use Rattle.rv32_program.specs.declared.Class.TheVariants.{Shared, Private, Unmapped}
 use Rattle.rv32_program.specs.declared.CallKind.{CallKind}
 use Rattle.rv32_program.specs.declared.CallKind.TheVariants.{Exit, Write, Unknown}
 

@@ -2,7 +2,7 @@
 //! What a program is: classes of lines, code and the paths through it, calls, and how a processor
 //! ends.
 
-ghost use Rattle.std.specs.Prelude.{◌≡◌, ◌==◌, ℕ};
+ghost use Rattle.std.specs.Prelude.{◌≡◌, ◌==◌};
 ghost use Rattle.rv32_program.specs.Program as model;
 ghost use Rattle.rv32_program.specs.Targets.{aligned, aligned_target};
 

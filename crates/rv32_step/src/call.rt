@@ -1,6 +1,6 @@
 //! What a call asks for.
 
-ghost use Rattle.std.specs.Prelude.{◌≡◌, ◌+◌, ◌*◌, ◌^◌, ◌<◌, ◌≤◌, ℕ};
+ghost use Rattle.std.specs.Prelude.{◌≡◌, ◌+◌, ◌^◌, ◌<◌, ℕ};
 ghost use Rattle.rv32_step.specs.Registers.{registers_of};
 ghost use Rattle.rv32_step.specs.Demands as model;
 

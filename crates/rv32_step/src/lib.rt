@@ -2,8 +2,6 @@
 //! What a step is: what an instruction and a call ask for, and the original processors on one
 //! memory.
 
-ghost use Rattle.std.specs.Prelude.{◌≡◌, ◌+◌, ◌*◌, ◌^◌, ◌<◌, ◌≤◌, ℕ};
-
 mod call;
 mod demands;
 mod registers;

@@ -1,6 +1,6 @@
 //! The registers of a processor.
 
-ghost use Rattle.std.specs.Prelude.{◌≡◌, ◌+◌, ◌*◌, ◌^◌, ◌<◌, ◌≤◌, ℕ};
+ghost use Rattle.std.specs.Prelude.{◌≡◌, ℕ};
 ghost use Rattle.rv32_step.specs.Registers.{reg, put, registers_of, first_values};
 
 use rv32_decode::Reg;
@@ -32,6 +32,15 @@ impl Registers {
         values[10] = u32::from(processor);
         values[11] = u32::from(processors);
         Registers { values }
+    }
+
+    /// The same values once more.
+    pub fn copy(&self) -> Registers
+        ensures { result ≡ self.now }
+    {
+        Registers {
+            values: self.values,
+        }
     }
 
     #[tactic(auto, using(crate::proofs::RegisterLemmas::reads))]

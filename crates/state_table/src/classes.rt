@@ -47,14 +47,6 @@ impl LineClasses {
         LineClasses { items }
     }
 
-    /// The list of the classes. Takes no memory.
-    pub fn into_vec(self) -> Vec<LineClass>
-        ensures value { result.items ≡ self }
-        ensures classes { AreClasses self }
-    {
-        self.items
-    }
-
     /// The classes, ascending.
     pub fn as_slice(&self) -> &[LineClass]
         ensures value { result.now ≡ self.now }

@@ -1,6 +1,6 @@
 //! Batches: the sequence of a run, whose accesses are served by one check.
 
-ghost use Rattle.std.specs.Prelude.{◌≡◌, ◌+◌, ◌*◌, ◌≤◌, ◌≤ℤ◌, ◌++◌, [], length, pos, OnOk, OnErr};
+ghost use Rattle.std.specs.Prelude.{◌≡◌, ◌+◌, ◌*◌, ◌≤◌, ◌≤ℤ◌, [], length, pos, OnOk, OnErr};
 ghost use Rattle.arrayvec.specs.ArrayVec.{array_vec_len};
 ghost use Rattle.templates.specs.declared.places.Part.TheVariants.{Head, Fast, Fallback};
 ghost use Rattle.templates.specs.Code.{code_of};

@@ -1,10 +1,10 @@
 //! When a word of rewritten code commits a step of the original.
 
-ghost use Rattle.std.specs.Prelude.{◌≡◌, ℕ, List, find, length, option_copied};
+ghost use Rattle.std.specs.Prelude.{◌≡◌, List, find, length, option_copied};
 ghost use Rattle.templates.specs.Code.{code_of};
 ghost use Rattle.templates.specs.Runs.{code_from};
 ghost use Rattle.templates.specs.Sequences.{SequenceItem, items_of, items_in, place_items};
-ghost use Rattle.templates.specs.Sequences.{instruction_items, jump_sequence, is_multiple_of_four};
+ghost use Rattle.templates.specs.Sequences.{instruction_items};
 ghost use Rattle.templates.specs.Commits.{is_word_of, IsCommitKind};
 ghost use Rattle.templates.specs.Committing.{CommitsAt, IsLoadCommit, IsFlagLoadCommit, kind_at};
 

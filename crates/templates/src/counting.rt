@@ -1,6 +1,6 @@
 //! How many words a sequence has.
 
-ghost use Rattle.std.specs.Prelude.{◌≡◌, ◌+◌, ◌%◌, ◌≤◌, ℕ, [], length};
+ghost use Rattle.std.specs.Prelude.{◌≡◌, ◌+◌, ◌%◌, ◌≤◌, [], length};
 ghost use Rattle.templates.specs.Counting.{spilled_count, IsLoadLength, IsJumpLength};
 ghost use Rattle.templates.specs.Counting.{IsBranchLength};
 ghost use Rattle.templates.specs.Sequences.{items_of, place_items, instruction_items};

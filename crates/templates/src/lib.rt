@@ -1,8 +1,6 @@
 #![tactic(auto)]
 //! The templates of rewritten code: places, plans, and the sequence of each place.
 
-ghost use Rattle.std.specs.Prelude.{◌≡◌, ℕ};
-
 pub mod batches;
 pub mod code;
 pub mod commits;

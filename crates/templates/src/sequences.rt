@@ -1,15 +1,15 @@
 //! The templates: the sequence of each place.
 
-ghost use Rattle.std.specs.Prelude.{◌≡◌, ◌+◌, ◌*◌, ◌%◌, ◌^◌, ◌<◌, ◌≤◌, ◌++◌, ◌∷◌, [], Some, map};
+ghost use Rattle.std.specs.Prelude.{◌≡◌, ◌+◌, ◌*◌, ◌%◌, ◌<◌, ◌≤◌, [], Some};
 ghost use Rattle.std.specs.Prelude.{length, OnOk, OnErr, pos};
 ghost use Rattle.arrayvec.specs.ArrayVec.{array_vec_len};
 ghost use Rattle.templates.specs.Sequences.{upper_part, lower_part, constant, to_head, spill};
-ghost use Rattle.templates.specs.Sequences.{spills, reload, reloads, state_look, flag_word};
+ghost use Rattle.templates.specs.Sequences.{spills, reload, reloads, state_look};
 ghost use Rattle.templates.specs.Sequences.{flag_load_sequence, read_sequence, write_sequence};
-ghost use Rattle.templates.specs.Sequences.{load_sequence, store_sequence, branch_sequence};
-ghost use Rattle.templates.specs.Sequences.{jump_sequence, is_multiple_of_four, checking, own};
-ghost use Rattle.templates.specs.Sequences.{inverse, spill_offset, items_of, place_items};
-ghost use Rattle.templates.specs.Sequences.{poll_first, instruction_items};
+ghost use Rattle.templates.specs.Sequences.{load_sequence, store_sequence};
+ghost use Rattle.templates.specs.Sequences.{checking, own};
+ghost use Rattle.templates.specs.Sequences.{inverse, spill_offset, items_of};
+ghost use Rattle.templates.specs.Sequences.{instruction_items};
 ghost use Rattle.templates.specs.Plans.{is_flag_checked};
 ghost use Rattle.templates.specs.Expansion.{Appends};
 ghost use Rattle.templates.specs.Writing.{IsWritten, IsLonger, jump_items, branch_items};

@@ -7,5 +7,5 @@ mod output;
 mod text;
 
 pub use failure::Failure;
-pub use output::{put, tell, tell_out_of_memory, write_file};
+pub use output::{PIECE, put, tell, tell_out_of_memory, write_file};
 pub use text::{push_address, push_count, push_number};

@@ -11,6 +11,9 @@ use crate::failure::Failure;
 use dsm_io::{FileError, Files, Sink, SinkError};
 use std::alloc::{AllocError, Global};
 
+/// A long text is put in pieces of about so many bytes.
+pub const PIECE: usize = 0x1_0000;
+
 /// Puts a piece of a command's text.
 pub fn put<O: Sink>(out: &mut O, piece: &[u8]) -> Result<(), Failure>
     ensures ok { OnOk result (Appends (O.state out.old).taken (O.state out.new).taken piece.now) }

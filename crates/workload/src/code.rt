@@ -1,6 +1,6 @@
 //! The code that a number makes, part by part.
 
-ghost use Rattle.std.specs.Prelude.{◌≡◌, ◌*◌, ◌/◌, ◌%◌, ◌^◌, ◌<◌, ◌≤◌, ◌++◌, IfOk, OnOk, length};
+ghost use Rattle.std.specs.Prelude.{◌≡◌, ◌*◌, ◌/◌, ◌%◌, ◌<◌, ◌≤◌, ◌++◌, IfOk, OnOk, length};
 ghost use Rattle.workload.specs.Generated as model;
 
 use crate::assembler::{add, addi, amoadd, beq, blt, bne, jump, lui, lw, sb, slli, srli, sw};

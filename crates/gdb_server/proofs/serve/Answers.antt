@@ -4,7 +4,7 @@ use Rattle.std.proofs.lemmas.Result.{err_from_is_err_and}
 use Rattle.byte_source.specs.Sources.{Gives, IsAtEnd}
 use Rattle.gdb_session.specs.declared.session.After.{After}
 use Rattle.gdb_session.specs.declared.session.After.TheVariants.{GoesOn, Leaves, IsKilled}
-use Rattle.gdb_server.specs.declared.End.TheVariants.{InputEnds, Left, Killed}
+use Rattle.gdb_server.specs.declared.ServeEnd.TheVariants.{InputEnds, Left, Killed}
 use Rattle.gdb_server.specs.Parts.{standing, HasHeard}
 use Rattle.gdb_server.proofs.Told.{IsServing, breaks, ends, goes_on, same_input, stops, streams}
 use Rattle.gdb_server.proofs.serve.Goals as goal

@@ -1,16 +1,15 @@
 -- What a miss has cost in messages where it ends.
-use Rattle.std.proofs.Common.{◌≡◌, ℕ, ◌+◌, ◌*◌, ◌<◌, ◌≤◌, ◌⊎◌, Bool, true, false, cond, eqb, ltb, List, [], ◌∷◌, Option, Some, None, refl, sym, ap, ◌∙◌, subst, inl, inr, arith}
+use Rattle.std.proofs.Common.{◌≡◌, ℕ, ◌+◌, ◌*◌, ◌<◌, ◌≤◌, ◌⊎◌, Bool, true, false, cond, eqb, ltb, [], ◌∷◌, Option, Some, None, refl, sym, ap, ◌∙◌, inl, inr, arith}
 use Rattle.std.specs.Prelude.{◌&&◌}
 use Rattle.std.proofs.lemmas.Bool.Decides.{nat_tests}
-use Rattle.block_layout.specs.Layout.{Shape, blocks, home}
+use Rattle.block_layout.specs.Layout.{Shape, blocks}
 use Rattle.coherence.specs.Messages as m
-use Rattle.coherence.specs.Table.{Effect, home_row, row}
+use Rattle.coherence.specs.Table.{Effect, row}
 use Rattle.coherence.specs.Machine.{Wire as BlockWire, Core as BlockCore, Setting, local, row_of, after}
 use Rattle.coherence.proofs.Theorem.{all_costs, all_rows}
 use Rattle.home_directory.specs.dsm_messages.declared.messages.Need.{Need}
 use Rattle.home_directory.specs.dsm_messages.declared.messages.Need.TheVariants as need
 use Rattle.home_directory.specs.dsm_messages.declared.messages.Message.TheVariants.{Done}
-use Rattle.home_directory.specs.dsm_messages.declared.messages.Wire.{Wire}
 use Rattle.home_directory.specs.declared.directory.Busy.{Busy}
 use Rattle.dsm_protocol.specs.Abstraction.{Contents, need_of, busy_of, wires_of, home_in, setting_of}
 use Rattle.dsm_protocol.specs.Sound.{IsLaid}
@@ -18,7 +17,7 @@ use Rattle.dsm_protocol.proofs.Taking.{home_is}
 use Rattle.dsm_protocol.proofs.Promised.{proper}
 use Rattle.dsm_protocol.specs.node_model.Node.{Work}
 use Rattle.dsm_protocol.specs.node_model.Core.{Core}
-use Rattle.rewriting_law.specs.ProtocolLists.{messages_of, HasProtocolList, cost_in, EndsMisses}
+use Rattle.rewriting_law.specs.ProtocolLists.{messages_of, HasProtocolList, EndsMisses}
 
 some_if : {A : Type 0} (u : Bool) (o : Option A) (a : A) → cond u o None ≡ Some a → (u ≡ true)
     × (o ≡ Some a)

@@ -1,5 +1,5 @@
 -- Where the words of sequences lead.
-use Rattle.std.proofs.Common.{◌≡◌, ℕ, ◌*◌, ◌/◌, ◌%◌, Bool, true, false, cond, eqb, List, [], ◌∷◌, ◌++◌}
+use Rattle.std.proofs.Common.{ℕ, ◌%◌, Bool, true, false, cond, eqb, List, [], ◌∷◌, ◌++◌}
 use Rattle.std.specs.Prelude.{◌&&◌, not}
 use Rattle.rv32_decode.specs.Widths.{width_of, is_aligned}
 use Rattle.rv32_decode.specs.declared.LoadKind.{LoadKind}

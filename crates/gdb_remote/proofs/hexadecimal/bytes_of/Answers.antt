@@ -1,4 +1,4 @@
-use Rattle.std.proofs.Common.{◌≡◌, ◌≤◌, length, get_or, drop, rules, arith, Some, sym}
+use Rattle.std.proofs.Common.{◌≡◌, ◌≤◌, length, get_or, drop, rules, arith, Some}
 use Rattle.gdb_remote.specs.Hexadecimal.{bytes_of, pair_value}
 use Rattle.gdb_remote.proofs.Hexadecimals.{bytes_of_pair, byte_read}
 use Rattle.gdb_remote.proofs.hexadecimal.bytes_of.Goals as goal

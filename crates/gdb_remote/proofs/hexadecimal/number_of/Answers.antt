@@ -1,4 +1,4 @@
-use Rattle.std.proofs.Common.{◌≡◌, ◌<◌, length, drop, arith, length-drop, sym, ◌∙◌}
+use Rattle.std.proofs.Common.{◌<◌, length, drop, arith, length-drop, sym, ◌∙◌}
 use Rattle.gdb_remote.proofs.Hexadecimals.{too_long, number_of_some}
 use Rattle.gdb_remote.proofs.hexadecimal.number_of.Goals as goal
 

@@ -1,5 +1,5 @@
-use Rattle.std.proofs.Common.{[], ◌∷◌, ◌+◌, refl}
-use Rattle.jump_map.specs.Strides.{StandFrom, mask, scratch_of, skip}
+use Rattle.std.proofs.Common.{◌+◌, refl}
+use Rattle.jump_map.specs.Strides.{mask, scratch_of, skip}
 use Rattle.jump_map.proofs.SequenceLemmas.{stand_two}
 use Rattle.jump_map.proofs.sequences.read_at.Goals as goal
 

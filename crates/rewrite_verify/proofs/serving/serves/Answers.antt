@@ -1,4 +1,4 @@
-use Rattle.std.proofs.Common.{◌≡◌, ◌∙◌, false, sym, rules}
+use Rattle.std.proofs.Common.{◌∙◌, false, sym, rules}
 use Rattle.std.proofs.lemmas.Bool.{false≢true}
 use Rattle.rewrite_verify.proofs.serving.serves.Goals as goal
 use Rattle.rewrite_verify.proofs.serving.serves.Goals.{then-eq, else-eq, then-has_single, else-has_single}

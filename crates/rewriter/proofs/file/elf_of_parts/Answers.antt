@@ -1,5 +1,5 @@
 use Rattle.std.proofs.Common.{◌≡◌, ◌∙◌, ◌++◌, [], ◌∷◌, map, ap, true}
-use Rattle.elf32_read.specs.Elf.{Elf, is_in_limits}
+use Rattle.elf32_read.specs.Elf.{is_in_limits}
 use Rattle.elf32_read.specs.Segments.{elf_with, section_of}
 use Rattle.rewriter.specs.RewrittenFile.{elf_of_parts}
 use Rattle.rewriter.proofs.SizeLemmas.{in_limits}
