@@ -1,5 +1,5 @@
 -- Messages without their buffers.
-use Rattle.std.specs.Prelude.{ℕ, Option, Some, None}
+use Rattle.std.specs.Prelude.{ℕ, Some, None}
 use Rattle.dsm_messages.specs.declared.messages.Message.{Message}
 use Rattle.dsm_messages.specs.declared.messages.Message.TheVariants.{Read, Write, FwdRead, FwdWrite, Inval, Data, Grant, Ack, Done, Bye}
 use Rattle.dsm_messages.specs.declared.messages.Post.{Post}

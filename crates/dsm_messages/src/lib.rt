@@ -5,4 +5,4 @@ mod headers;
 mod messages;
 
 pub use headers::{Header, Headers, MessageKind, Sent, headers_of};
-pub use messages::{Message, Need, Post, Sends, Wire};
+pub use messages::{Message, Need, Post, Sends, Wire, push_some};

@@ -1,6 +1,7 @@
 //! Messages between nodes.
 
-ghost use Rattle.std.specs.Prelude.{◌≡◌, IfOk};
+ghost use Rattle.std.specs.Prelude.{◌≡◌, [], IfOk};
+ghost use Rattle.std.specs.Option.{option_to_list};
 
 use arrayvec::ArrayVec;
 use block_layout::Block;
@@ -156,5 +157,16 @@ impl Piece for Wire {
     }
 }
 
-/// What one event sends, in order.
+/// What one event sends, in order. Who makes events has one such list, and hands it on by
+/// reference: it has room for 18 messages in place, though most events send one.
 pub type Sends = ArrayVec<Post, 18>;
+
+/// Sends a message, where there is one, and nothing is sent before it.
+pub fn push_some(sends: &mut Sends, post: Option<Post>)
+    requires nothing { sends.old.items ≡ [] }
+    ensures value { sends.new.items ≡ option_to_list post }
+{
+    if let Some(post) = post {
+        sends.push(post);
+    }
+}

@@ -1,8 +1,8 @@
 -- The buffers of nodes and lists are those of the core for which they stand.
-use Rattle.std.proofs.Common.{◌≡◌, ℕ, zero, suc, ◌+◌, ◌<◌, Bool, true, false, not, cond, eqb, ltb, ◌&&◌, List, [], ◌∷◌, refl, sym, ap, ◌∙◌, subst, Option, Some, None, arith}
+use Rattle.std.proofs.Common.{◌≡◌, ℕ, zero, suc, ◌+◌, ◌<◌, Bool, true, false, not, eqb, ltb, ◌&&◌, List, [], ◌∷◌, refl, sym, ap, ◌∙◌, Option, Some, None, arith}
 use Rattle.std.specs.Prelude.{is_some}
 use Rattle.std.proofs.lemmas.Bool.Decides.{nat_tests}
-use Rattle.block_layout.specs.Layout.{Shape, IsValid, blocks, home}
+use Rattle.block_layout.specs.Layout.{Shape, blocks, home}
 use Rattle.home_directory.specs.dsm_messages.declared.messages.Message.{Message}
 use Rattle.home_directory.specs.dsm_messages.declared.messages.Message.TheVariants.{Read, Write, FwdRead, FwdWrite, Inval, Data, Grant, Ack, Done, Bye}
 use Rattle.home_directory.specs.declared.directory.Request.{Request}
@@ -19,7 +19,7 @@ use Rattle.dsm_protocol.specs.Abstraction.{Contents, home_in, wires_of, requests
 use Rattle.dsm_protocol.specs.Sound.{IsLaid}
 use Rattle.dsm_protocol.specs.Events.{Leads}
 use Rattle.dsm_protocol.specs.Holds.{Holds}
-use Rattle.dsm_protocol.specs.Buffers.{carrying, asked_by, is_answered, buffer_places, AreInOnePlace}
+use Rattle.dsm_protocol.specs.Buffers.{carrying, asked_by, is_answered, AreInOnePlace}
 use Rattle.dsm_protocol.proofs.Promised.{proper}
 
 without : (r b j i d : ℕ) (ms : List Message)

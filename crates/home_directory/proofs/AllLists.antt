@@ -1,5 +1,5 @@
 -- All lists together, where one has changed.
-use Rattle.std.proofs.Common.{◌≡◌, ◌≢◌, ℕ, zero, suc, ◌+◌, ◌-◌, ◌<◌, ◌≤◌, Bool, true, false, eqb, cond, List, [], ◌∷◌, ◌++◌, length, get_or, set, refl, sym, ap, ◌∙◌, subst, inl, inr, Option, Some, None, arith, length-append}
+use Rattle.std.proofs.Common.{◌≡◌, ◌≢◌, ℕ, zero, suc, ◌+◌, ◌-◌, ◌<◌, ◌≤◌, true, false, eqb, List, [], ◌∷◌, ◌++◌, length, set, refl, sym, ap, ◌∙◌, subst, inl, inr, Option, Some, None, arith, length-append}
 use Rattle.std.proofs.lemmas.Bool.Decides.{eqb_tells, leb_tells, nat_tests}
 use Rattle.std.proofs.lemmas.List.{get_or-set_same, get_or-set_other, get_or_past, length-set}
 use Rattle.std.proofs.lemmas.List.Elements.{filter-append}
@@ -7,7 +7,7 @@ use Rattle.home_directory.specs.declared.directory.Request.{Request}
 use Rattle.home_directory.specs.declared.request_lists.Slot.{Slot}
 use Rattle.home_directory.specs.declared.request_lists.BlockList.{BlockList}
 use Rattle.home_directory.specs.Effects.{requests_for}
-use Rattle.home_directory.specs.Lists.{place_at, request_at, list_at, walk, requests_in, all_of, Runs, Each, IsOf, Stands, IsKept, AreEmpty}
+use Rattle.home_directory.specs.Lists.{place_at, request_at, list_at, requests_in, all_of, Each, IsOf, Stands, IsKept, AreEmpty}
 use Rattle.home_directory.proofs.Lists.{runs_same, runs_walk, each_block}
 
 all_for : (b : ℕ) (qs : List Request) → Each (λ q. q.block ≡ b) qs → requests_for b qs ≡ qs

@@ -1,6 +1,5 @@
 -- The lists through the array of places: how they stay, grow and shrink.
-use Rattle.std.proofs.Common.{◌≡◌, ◌≢◌, ℕ, zero, suc, ◌+◌, ◌-◌, ◌<◌, ◌≤◌, Bool, true, false, eqb, ◌||◌, List, [], ◌∷◌, ◌++◌, length, get_or, set, replicate, refl, sym, ap, ◌∙◌, subst, inl, inr, Option, Some, None, arith, length-append}
-use Rattle.std.specs.Prelude.{⊤}
+use Rattle.std.proofs.Common.{◌≡◌, ◌≢◌, ℕ, zero, suc, ◌+◌, ◌<◌, ◌≤◌, Bool, true, false, eqb, ◌||◌, List, [], ◌∷◌, ◌++◌, length, replicate, refl, sym, ap, ◌∙◌, subst, inl, inr, Option, Some, None, arith, length-append}
 use Rattle.std.proofs.lemmas.Bool.Decides.{eqb_tells, nat_tests}
 use Rattle.std.proofs.lemmas.List.{get_or_past, get_or_append_left, get_or-replicate, length-replicate}
 use Rattle.std.proofs.Math.Seq.{get_or-append_seam}
@@ -9,8 +8,8 @@ use Rattle.home_directory.specs.declared.request_lists.Slot.{Slot}
 use Rattle.home_directory.specs.declared.request_lists.ListEnds.{ListEnds}
 use Rattle.home_directory.specs.declared.request_lists.BlockList.{BlockList}
 use Rattle.home_directory.specs.Home.{waits}
-use Rattle.home_directory.specs.Effects.{requests_for, members}
-use Rattle.home_directory.specs.Lists.{place_at, request_at, next_at, list_at, first_of, with_first, walk, requests_in, all_of, Path, Runs, AreEmpty, Each, AreOnce, IsOf, Stands, IsKept}
+use Rattle.home_directory.specs.Effects.{members}
+use Rattle.home_directory.specs.Lists.{place_at, request_at, next_at, first_of, walk, requests_in, all_of, Path, Runs, AreEmpty, Each, AreOnce, IsOf, Stands, IsKept}
 
 abbrev pub no_place : Slot
 no_place = record { request = None; next = None }

@@ -1,5 +1,5 @@
 -- Helps the code alone: the requests that wait, in lists through one array of places.
-use Rattle.std.specs.Prelude.{◌≡◌, ◌≢◌, ℕ, zero, suc, ◌+◌, ◌-◌, ◌<◌, ◌≤◌, ⊤, Bool, true, false, List, [], ◌∷◌, ◌++◌, length, slice_index_or, Option, None, Some}
+use Rattle.std.specs.Prelude.{◌≡◌, ◌≢◌, ℕ, zero, suc, ◌+◌, ◌-◌, ◌<◌, ◌≤◌, ⊤, false, List, [], ◌∷◌, ◌++◌, length, slice_index_or, Option, None, Some}
 use Rattle.home_directory.specs.declared.directory.Request.{Request}
 use Rattle.home_directory.specs.declared.request_lists.Slot.{Slot}
 use Rattle.home_directory.specs.declared.request_lists.ListEnds.{ListEnds}

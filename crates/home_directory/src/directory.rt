@@ -118,6 +118,23 @@ impl Directory {
         self.entries[block as usize].busy
     }
 
+    /// The node that owns a block, where this node is the home.
+    pub fn owner(&self, block: Block) -> u8
+        requires block { block < blocks self.now.layout }
+        ensures value { result ≡ ((entries_of self.now).entry block).owner }
+    {
+        self.entries[block as usize].owner
+    }
+
+    /// Whether a node shares a block, where this node is the home.
+    pub fn is_sharer(&self, block: Block, node: u8) -> bool
+        requires block { block < blocks self.now.layout }
+        requires node { node < 16 }
+        ensures value { result ≡ ((entries_of self.now).entry block).sharers node }
+    {
+        self.entries[block as usize].sharers[node as usize]
+    }
+
     /// How many requests wait here.
     pub fn pending(&self) -> u8
         ensures value { result ≡ (entries_of self.now).occupancy }
@@ -125,34 +142,47 @@ impl Directory {
         self.waiting.len()
     }
 
-    /// Read or Write from a node: the row that the table has for it, or none.
-    pub fn ask(&mut self, from: u8, block: Block, need: Need, buf: Buf) -> Sends
+    /// Read or Write from a node: the row that the table has for it, or none. It leaves what is
+    /// sent, in order.
+    pub fn ask(&mut self, from: u8, block: Block, need: Need, buf: Buf, sends: &mut Sends)
+        requires nothing { sends.old.items ≡ [] }
         ensures entries { entries_of self.new ≡ (ask_effect self.old from block need buf).entries }
-        ensures sends { result.items ≡ (ask_effect self.old from block need buf).sends }
+        ensures sends { sends.new.items ≡ (ask_effect self.old from block need buf).sends }
         ensures layout { self.new.layout ≡ self.old.layout }
         ensures me { self.new.me ≡ self.old.me }
     {
         let nodes = self.layout.nodes();
         if !self.is_home(block) {
-            return Sends::new();
+            return;
         }
         let entry = &mut self.entries[block as usize];
-        ask_at(entry, &mut self.waiting, nodes, block, from, need, buf)
+        ask_at(
+            entry,
+            &mut self.waiting,
+            nodes,
+            block,
+            from,
+            need,
+            buf,
+            sends,
+        );
     }
 
-    /// Done from a node: the row that the table has for it, or none.
-    pub fn done(&mut self, from: u8, block: Block) -> Sends
+    /// Done from a node: the row that the table has for it, or none. It leaves what is sent, in
+    /// order.
+    pub fn done(&mut self, from: u8, block: Block, sends: &mut Sends)
+        requires nothing { sends.old.items ≡ [] }
         ensures entries { entries_of self.new ≡ (done_effect self.old from block).entries }
-        ensures sends { result.items ≡ (done_effect self.old from block).sends }
+        ensures sends { sends.new.items ≡ (done_effect self.old from block).sends }
         ensures layout { self.new.layout ≡ self.old.layout }
         ensures me { self.new.me ≡ self.old.me }
     {
         let nodes = self.layout.nodes();
         if !self.is_home(block) {
-            return Sends::new();
+            return;
         }
         let entry = &mut self.entries[block as usize];
-        done_at(entry, &mut self.waiting, nodes, block, from)
+        done_at(entry, &mut self.waiting, nodes, block, from, sends);
     }
 }
 
@@ -165,7 +195,9 @@ fn ask_at(
     from: u8,
     need: Need,
     buf: Buf,
-) -> Sends
+    sends: &mut Sends,
+)
+    requires nothing { sends.old.items ≡ [] }
     requires few { nodes ≤ 16 }
     requires block { block < waiting.old.blocks }
     ensures entry { let home = home_of entry.old waiting.old.requests block in
@@ -174,14 +206,14 @@ fn ask_at(
         AreAfter block waiting.old.requests waiting.new.requests
         (after_ask nodes home block from need buf).home }
     ensures sends { let home = home_of entry.old waiting.old.requests block in
-        result.items ≡ (after_ask nodes home block from need buf).sends }
+        sends.new.items ≡ (after_ask nodes home block from need buf).sends }
     ensures blocks { waiting.new.blocks ≡ waiting.old.blocks }
 {
     if from >= nodes {
-        return Sends::new();
+        return;
     }
     match entry.busy {
-        None => start(entry, nodes, block, from, need, buf),
+        None => start(entry, nodes, block, from, need, buf, sends),
         Some(busy) => {
             if busy.node != from && !waiting.has(block, from) && !waiting.is_full() {
                 waiting.join(Request {
@@ -191,7 +223,6 @@ fn ask_at(
                     buf,
                 });
             }
-            Sends::new()
         }
     }
 }
@@ -203,7 +234,9 @@ fn done_at(
     nodes: u8,
     block: Block,
     from: u8,
-) -> Sends
+    sends: &mut Sends,
+)
+    requires nothing { sends.old.items ≡ [] }
     requires few { nodes ≤ 16 }
     requires block { block < waiting.old.blocks }
     ensures entry { let home = home_of entry.old waiting.old.requests block in
@@ -212,18 +245,18 @@ fn done_at(
         AreAfter block waiting.old.requests waiting.new.requests
         (after_done nodes home block from).home }
     ensures sends { let home = home_of entry.old waiting.old.requests block in
-        result.items ≡ (after_done nodes home block from).sends }
+        sends.new.items ≡ (after_done nodes home block from).sends }
     ensures blocks { waiting.new.blocks ≡ waiting.old.blocks }
 {
     if from >= nodes {
-        return Sends::new();
+        return;
     }
     match entry.busy {
         Some(busy) if busy.node == from => {
             end_request(entry, busy.need, from);
-            start_next(entry, waiting, nodes, block)
+            start_next(entry, waiting, nodes, block, sends);
         }
-        _ => Sends::new(),
+        _ => {}
     }
 }
 
@@ -235,13 +268,14 @@ fn start(
     from: u8,
     need: Need,
     buf: Buf,
-) -> Sends
+    sends: &mut Sends,
+)
+    requires nothing { sends.old.items ≡ [] }
     requires few { nodes ≤ 16 }
     requires node { from < nodes }
     ensures entry { entry_of entry.new ≡ (start_of nodes entry.old block from need buf).entry }
-    ensures sends { result.items ≡ (start_of nodes entry.old block from need buf).sends }
+    ensures sends { sends.new.items ≡ (start_of nodes entry.old block from need buf).sends }
 {
-    let mut sends = Sends::new();
     let sharer = entry.sharers[from as usize];
     match need {
         Need::Read => {
@@ -260,13 +294,13 @@ fn start(
         Need::Write => {
             entry.busy = Some(Busy { need, node: from });
             if sharer {
-                let acks = invalidate(&mut sends, *entry, from, nodes, block, from);
+                let acks = invalidate(sends, *entry, from, nodes, block, from);
                 sends.push(Post {
                     to: from,
                     message: Message::Grant { block, acks, buf },
                 });
             } else {
-                let acks = invalidate(&mut sends, *entry, entry.owner, nodes, block, from);
+                let acks = invalidate(sends, *entry, entry.owner, nodes, block, from);
                 sends.push(Post {
                     to: entry.owner,
                     message: Message::FwdWrite {
@@ -279,7 +313,6 @@ fn start(
             }
         }
     }
-    sends
 }
 
 /// Sends an Inval to each sharer but one, ascending, and gives their number.
@@ -316,24 +349,34 @@ fn start_next(
     waiting: &mut RequestLists,
     nodes: u8,
     block: Block,
-) -> Sends
+    sends: &mut Sends,
+)
+    requires nothing { sends.old.items ≡ [] }
     requires few { nodes ≤ 16 }
     requires block { block < waiting.old.blocks }
     ensures entry { let next = next_of nodes entry.old block waiting.old.requests in
         entry_of entry.new ≡ next.entry }
     ensures waiting { let home = home_of entry.old waiting.old.requests block in
         AreAfter block waiting.old.requests waiting.new.requests (first_leaves home) }
-    ensures sends { result.items ≡ (next_of nodes entry.old block waiting.old.requests).sends }
+    ensures sends { sends.new.items ≡ (next_of nodes entry.old block waiting.old.requests).sends }
     ensures blocks { waiting.new.blocks ≡ waiting.old.blocks }
 {
     match waiting.take_first(block) {
         Some(request) => {
             if request.from >= nodes {
-                return Sends::new();
+                return;
             }
-            start(entry, nodes, block, request.from, request.need, request.buf)
+            start(
+                entry,
+                nodes,
+                block,
+                request.from,
+                request.need,
+                request.buf,
+                sends,
+            );
         }
-        None => Sends::new(),
+        None => {}
     }
 }
 

@@ -4,13 +4,12 @@
 //! A node that misses a block waits for it: [`Waits::want`]. [`Waits::on`] has the rows of the
 //! table of messages for the node that has a block or waits for it, and completes the waits.
 
-ghost use Rattle.std.specs.Prelude.{◌≡◌, ◌+◌, ◌<◌, ◌≤◌, [], ◌∷◌, None, Some, IfOk, is_some, length};
+ghost use Rattle.std.specs.Prelude.{◌≡◌, ◌<◌, ◌≤◌, [], None, Some, IfOk, length};
 ghost use Rattle.std.specs.Prelude.{MatchOption, option_map};
 ghost use Rattle.home_directory.specs.declared.wait.Wait.{Wait};
 ghost use Rattle.block_layout.specs.Layout.{blocks};
 ghost use Rattle.home_directory.specs.state_table.States.{state_of};
 ghost use Rattle.home_directory.specs.Table.{meets, state_in_wait, request};
-ghost use Rattle.home_directory.specs.Home.{post};
 ghost use Rattle.miss_handlers.specs.Waits.{AreWaits, wait_of};
 ghost use Rattle.miss_handlers.specs.Effects.{miss_of, states_after, waits_after, pool_after_miss};
 ghost use Rattle.miss_handlers.specs.Effects.{post_of, buffers};
@@ -23,7 +22,7 @@ use block_layout::{Block, Layout};
 use buf_pool::{Buf, Pool};
 pub use home_directory;
 use home_directory::Wait;
-use home_directory::dsm_messages::{Message, Need, Post, Sends};
+use home_directory::dsm_messages::{Message, Need, Post};
 use home_directory::state_table::{State, States};
 pub use home_directory::{dsm_messages, flag_memory, state_table};
 pub use llsc;
@@ -174,13 +173,4 @@ fn request(need: Need, block: Block, buf: Buf) -> Message
         Need::Read => Message::Read { block, buf },
         Need::Write => Message::Write { block, buf },
     }
-}
-
-/// One message to send.
-fn one(to: u8, message: Message) -> Sends
-    ensures { result.items ≡ post to message ∷ [] }
-{
-    let mut sends = Sends::new();
-    sends.push(Post { to, message });
-    sends
 }

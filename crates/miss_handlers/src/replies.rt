@@ -18,18 +18,18 @@ ghost use Rattle.miss_handlers.specs.Effects.{buffers};
 ghost use Rattle.miss_handlers.specs.Completion.{completion_of};
 
 use crate::search::{find, is_waited_for, takes_ack, takes_data, takes_grant};
-use crate::{Waiting, Waits, one};
+use crate::{Waiting, Waits};
 use block_layout::Block;
 use buf_pool::{Buf, Pool};
-use home_directory::dsm_messages::{Message, Need, Sends};
+use home_directory::dsm_messages::{Message, Need, Post};
 use home_directory::flag_memory::Copy32;
 use home_directory::state_table::{State, States};
 use home_directory::{Answer, Wait};
 use llsc::Reservation;
 
 impl Waits {
-    /// A message from a node: the row that the table has for it, or none. The messages to a home
-    /// and the last of a node have no row here.
+    /// A message from a node: the row that the table has for it, or none, and what that sends. The
+    /// messages to a home and the last of a node have no row here.
     pub fn on(
         &mut self,
         from: u8,
@@ -38,14 +38,14 @@ impl Waits {
         copy: &mut Copy32,
         held: &mut Reservation,
         pool: &mut Pool,
-    ) -> Sends
+    ) -> Option<Post>
         requires pool { pool.old.free + length self.old.waits ≤ pool.old.slots }
         requires states { states.old.layout ≡ self.old.layout }
         requires copy { copy.old.layout ≡ self.old.layout }
         ensures effect { let old = node_blocks self.old states.old copy.old held.old in
             let new = node_blocks self.new states.new copy.new held.new in
             let effect = message_effect self.old.layout old from message in
-            HasEffect new result.items effect }
+            HasEffect new (option_to_list result) effect }
         ensures pool { let old = node_blocks self.old states.old copy.old held.old in
             let effect = message_effect self.old.layout old from message in
             pool.new ≡ pool_after pool.old effect.gives_back }
@@ -79,7 +79,7 @@ impl Waits {
                 self.answer(from, block, answer, states, copy, held, pool)
             }
             Message::Ack { block } => self.ack(from, block, states, copy, held, pool),
-            _ => Sends::new(),
+            _ => None,
         }
     }
 
@@ -94,14 +94,14 @@ impl Waits {
         states: &mut States,
         copy: &Copy32,
         held: &Reservation,
-    ) -> Sends
+    ) -> Option<Post>
         requires states { states.old.layout ≡ self.now.layout }
         requires copy { copy.now.layout ≡ self.now.layout }
         ensures effect { let old = node_blocks self.now states.old copy.now held.now in
             let new = node_blocks self.now states.new copy.now held.now in
             let message = (Message.FwdRead block requester buf) in
             let effect = message_effect self.now.layout old from message in
-            HasEffect new result.items effect }
+            HasEffect new (option_to_list result) effect }
         ensures states_layout { states.new.layout ≡ states.old.layout }
         ensures program { states.new.program ≡ states.old.program }
     {
@@ -113,16 +113,16 @@ impl Waits {
         {
             copy.take(block, &mut buf);
             states.set(block, State::Shared);
-            one(
-                requester,
-                Message::Data {
+            Some(Post {
+                to: requester,
+                message: Message::Data {
                     block,
                     acks: 0,
                     buf,
                 },
-            )
+            })
         } else {
-            Sends::new()
+            None
         }
     }
 
@@ -138,14 +138,14 @@ impl Waits {
         states: &mut States,
         copy: &mut Copy32,
         held: &mut Reservation,
-    ) -> Sends
+    ) -> Option<Post>
         requires states { states.old.layout ≡ self.now.layout }
         requires copy { copy.old.layout ≡ self.now.layout }
         ensures effect { let old = node_blocks self.now states.old copy.old held.old in
             let new = node_blocks self.now states.new copy.new held.new in
             let message = (Message.FwdWrite block requester acks buf) in
             let effect = message_effect self.now.layout old from message in
-            HasEffect new result.items effect }
+            HasEffect new (option_to_list result) effect }
         ensures states_layout { states.new.layout ≡ states.old.layout }
         ensures program { states.new.program ≡ states.old.program }
         ensures copy_layout { copy.new.layout ≡ copy.old.layout }
@@ -158,9 +158,12 @@ impl Waits {
         {
             copy.take(block, &mut buf);
             self.give_up(block, states, copy, held);
-            one(requester, Message::Data { block, acks, buf })
+            Some(Post {
+                to: requester,
+                message: Message::Data { block, acks, buf },
+            })
         } else {
-            Sends::new()
+            None
         }
     }
 
@@ -173,13 +176,13 @@ impl Waits {
         states: &mut States,
         copy: &mut Copy32,
         held: &mut Reservation,
-    ) -> Sends
+    ) -> Option<Post>
         requires states { states.old.layout ≡ self.now.layout }
         requires copy { copy.old.layout ≡ self.now.layout }
         ensures effect { let old = node_blocks self.now states.old copy.old held.old in
             let new = node_blocks self.now states.new copy.new held.new in
             let effect = message_effect self.now.layout old from (Message.Inval block requester) in
-            HasEffect new result.items effect }
+            HasEffect new (option_to_list result) effect }
         ensures states_layout { states.new.layout ≡ states.old.layout }
         ensures program { states.new.program ≡ states.old.program }
         ensures copy_layout { copy.new.layout ≡ copy.old.layout }
@@ -190,9 +193,12 @@ impl Waits {
             && requester < self.layout.nodes()
         {
             self.give_up(block, states, copy, held);
-            one(requester, Message::Ack { block })
+            Some(Post {
+                to: requester,
+                message: Message::Ack { block },
+            })
         } else {
-            Sends::new()
+            None
         }
     }
 
@@ -226,14 +232,14 @@ impl Waits {
         copy: &mut Copy32,
         held: &Reservation,
         pool: &mut Pool,
-    ) -> Sends
+    ) -> Option<Post>
         requires pool { pool.old.free + length self.old.waits ≤ pool.old.slots }
         requires states { states.old.layout ≡ self.old.layout }
         requires copy { copy.old.layout ≡ self.old.layout }
         ensures effect { let old = node_blocks self.old states.old copy.old held.now in
             let new = node_blocks self.new states.new copy.new held.now in
             let effect = message_effect self.old.layout old from (bringing block answer) in
-            HasEffect new result.items effect }
+            HasEffect new (option_to_list result) effect }
         ensures pool { let old = node_blocks self.old states.old copy.old held.now in
             let effect = message_effect self.old.layout old from (bringing block answer) in
             pool.new ≡ pool_after pool.old effect.gives_back }
@@ -244,7 +250,7 @@ impl Waits {
         ensures copy_layout { copy.new.layout ≡ copy.old.layout }
     {
         if !self.takes(from, block, &answer, states) {
-            return Sends::new();
+            return None;
         }
         match self.take_out(block) {
             None => unreachable!(),
@@ -293,14 +299,14 @@ impl Waits {
         copy: &mut Copy32,
         held: &Reservation,
         pool: &mut Pool,
-    ) -> Sends
+    ) -> Option<Post>
         requires pool { pool.old.free + length self.old.waits ≤ pool.old.slots }
         requires states { states.old.layout ≡ self.old.layout }
         requires copy { copy.old.layout ≡ self.old.layout }
         ensures effect { let old = node_blocks self.old states.old copy.old held.now in
             let new = node_blocks self.new states.new copy.new held.now in
             let effect = message_effect self.old.layout old from (Message.Ack block) in
-            HasEffect new result.items effect }
+            HasEffect new (option_to_list result) effect }
         ensures pool { let old = node_blocks self.old states.old copy.old held.now in
             let effect = message_effect self.old.layout old from (Message.Ack block) in
             pool.new ≡ pool_after pool.old effect.gives_back }
@@ -311,10 +317,10 @@ impl Waits {
         ensures copy_layout { copy.new.layout ≡ copy.old.layout }
     {
         if block >= self.layout.blocks() {
-            return Sends::new();
+            return None;
         }
         if !takes_ack(&self.waits, block) {
-            return Sends::new();
+            return None;
         }
         match self.take_out(block) {
             None => unreachable!(),
@@ -338,7 +344,7 @@ impl Waits {
         states: &mut States,
         copy: &mut Copy32,
         pool: &mut Pool,
-    ) -> Sends
+    ) -> Option<Post>
         requires none { wait_of self.old block ≡ None }
         requires good { IsWaitFor self.old.layout block wait }
         requires few { length self.old.waits < 2 }
@@ -352,7 +358,7 @@ impl Waits {
         ensures wait { let row = completion_of self.old states.old copy.old block wait in
             wait_of self.new ≡ changed (wait_of self.old) block row.block.wait }
         ensures sends { let row = completion_of self.old states.old copy.old block wait in
-            result.items ≡ row.sends }
+            option_to_list result ≡ row.sends }
         ensures pool { let row = completion_of self.old states.old copy.old block wait in
             pool.new ≡ pool_after pool.old row.gives_back }
         ensures count { buffers pool.new self.new ≡ buffers pool.old self.old + 1 }
@@ -363,11 +369,14 @@ impl Waits {
     {
         if !is_complete(&wait.answer, wait.counted) {
             self.add(block, wait);
-            return Sends::new();
+            return None;
         }
         states.set(block, state_for(wait.need));
         use_answer(wait.answer, block, copy, pool);
-        one(self.layout.home(block), Message::Done { block })
+        Some(Post {
+            to: self.layout.home(block),
+            message: Message::Done { block },
+        })
     }
 
     /// Whether there is a wait for a block.

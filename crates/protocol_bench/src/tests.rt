@@ -4,7 +4,7 @@ use crate::drive::{layout_of, nodes_of, take, take_all, want};
 use buf_pool::{Buf, Pool};
 use dsm_protocol::Protocol;
 use home_directory::Directory;
-use home_directory::dsm_messages::{Message, Need, Post};
+use home_directory::dsm_messages::{Message, Need, Post, Sends};
 use state_table::State;
 use std::alloc::{AllocError, Global};
 use std::test::Fail;
@@ -54,9 +54,11 @@ fn state(protocol: &Protocol, node: u8) -> &'static str {
     }
 }
 
-/// Nodes take messages of block 0: the node and the sender; the state there afterwards; and the
+/// A node takes a message of block 0: the node and the sender; the state there afterwards; and the
 /// first message from the node to another then, with its requester and its number of Acks.
-const TAKES: [(u8, u8, &str, u8, (&str, u8, u8)); 6] = [
+type TakeRow = (u8, u8, &'static str, u8, (&'static str, u8, u8));
+
+const TAKES: [TakeRow; 6] = [
     (0, 0, "shared", 1, ("Inval", 0, 0)),
     (0, 1, "shared", 0, ("Grant", 0, 1)),
     (1, 0, "pending", 0, ("Ack", 0, 0)),
@@ -65,32 +67,49 @@ const TAKES: [(u8, u8, &str, u8, (&str, u8, u8)); 6] = [
     (0, 0, "exclusive", 0, ("FwdWrite", 1, 0)),
 ];
 
+/// Has a node take a message, and fails the test where something else is so then.
+fn try_take(protocol: &mut Protocol, row: &TakeRow) -> Result<(), Fail> {
+    let (node, from, left, to, message) = *row;
+    let taken = take(protocol, node, from)?;
+    if taken && state(protocol, node) == left && first(protocol, to, node) == message {
+        return Ok(());
+    }
+    Err(Fail::new(format_args!("node {node} takes from {from}")))
+}
+
 #[test]
 fn two_sharers_upgrade_at_once(rt: HostRuntime) -> Result<(), Fail> {
     let mut protocol = nodes_of(rt.alloc(), 1, 2)?;
-    assert!(rt; want(&mut protocol, 1, 0, Need::Read)?);
-    assert_eq!(rt; take_all(&mut protocol)?, 4);
-    assert!(rt; want(&mut protocol, 0, 0, Need::Write)?);
-    assert!(rt; want(&mut protocol, 1, 0, Need::Write)?);
-    for (node, from, left, to, message) in TAKES {
-        assert!(rt; take(&mut protocol, node, from)?);
-        assert_eq!(rt; state(&protocol, node), left);
-        assert_eq!(rt; first(&protocol, to, node), message);
+    let shared = want(&mut protocol, 1, 0, Need::Read)? && take_all(&mut protocol)? == 4;
+    let both = want(&mut protocol, 0, 0, Need::Write)? && want(&mut protocol, 1, 0, Need::Write)?;
+    if !shared || !both {
+        return Err(Fail::from("no read, or not two wants to write"));
+    }
+    for row in &TAKES {
+        try_take(&mut protocol, row)?;
     }
     Ok(())
+}
+
+/// Has a node want block 0, and fails the test where so many messages aren't taken then.
+fn try_want(protocol: &mut Protocol, node: u8, need: Need, takes: u64) -> Result<(), Fail> {
+    if want(protocol, node, 0, need)? && take_all(protocol)? == takes {
+        return Ok(());
+    }
+    Err(Fail::new(format_args!("node {node} wants")))
 }
 
 #[test]
 fn write_among_sixteen_sharers_takes_33_messages(rt: HostRuntime) -> Result<(), Fail> {
     let mut protocol = nodes_of(rt.alloc(), 1, 16)?;
     for node in 1..16u8 {
-        assert!(rt; want(&mut protocol, node, 0, Need::Read)?);
-        assert_eq!(rt; take_all(&mut protocol)?, 4);
+        try_want(&mut protocol, node, Need::Read, 4)?;
     }
-    assert!(rt; want(&mut protocol, 3, 0, Need::Write)?);
-    assert_eq!(rt; take_all(&mut protocol)?, 33);
-    assert_eq!(rt; state(&protocol, 3), "exclusive");
-    Ok(())
+    try_want(&mut protocol, 3, Need::Write, 33)?;
+    if state(&protocol, 3) == "exclusive" {
+        return Ok(());
+    }
+    Err(Fail::from("the block isn't exclusive"))
 }
 
 /// A buffer with room for a block of one line.
@@ -104,24 +123,38 @@ fn home_of_sixteen_sharers_answers_a_write(rt: HostRuntime) -> Result<(), Fail> 
     let layout = layout_of(rt.alloc(), 1, 16)?;
     let mut directory = Directory::new(rt.alloc(), &layout, 0, 16)?;
     for node in 1..16u8 {
-        let forwards = directory.ask(node, 0, Need::Read, buffer(rt.alloc())?);
-        assert_eq!(rt; forwards.len(), 1);
-        let next = directory.done(node, 0);
-        assert_eq!(rt; next.len(), 0);
+        let mut forwards = Sends::new();
+        directory.ask(node, 0, Need::Read, buffer(rt.alloc())?, &mut forwards);
+        let mut next = Sends::new();
+        directory.done(node, 0, &mut next);
+        if forwards.len() != 1 || next.len() != 0 {
+            return Err(Fail::new(format_args!("node {node} reads")));
+        }
     }
-    let sends = directory.ask(3, 0, Need::Write, buffer(rt.alloc())?);
-    let receivers = [0, 1, 2, 4, 5, 6, 7, 8, 9, 10, 11, 12, 13, 14, 15];
-    assert_eq!(rt; sends.len(), 16);
-    for (k, node) in receivers.iter().enumerate() {
-        assert_eq!(rt; sent(&sends.as_slice()[k]), (*node, ("Inval", 3, 0)));
+    let mut sends = Sends::new();
+    directory.ask(3, 0, Need::Write, buffer(rt.alloc())?, &mut sends);
+    if are_answers(sends.as_slice()) {
+        return Ok(());
     }
-    assert_eq!(rt; sent(&sends.as_slice()[15]), (3, ("Grant", 0, 15)));
-    Ok(())
+    Err(Fail::from("other messages"))
 }
 
 /// The receiver of a message, and its parts.
 fn sent(post: &Post) -> (u8, (&'static str, u8, u8)) {
     (post.to, parts(&post.message))
+}
+
+/// Who has a block but node 3.
+const OTHERS: [u8; 15] = [0, 1, 2, 4, 5, 6, 7, 8, 9, 10, 11, 12, 13, 14, 15];
+
+/// Whether the others are sent an Inval each, and then node 3 a Grant that tells of 15 Acks.
+fn are_answers(sends: &[Post]) -> bool {
+    for (post, node) in sends.iter().zip(OTHERS) {
+        if sent(post) != (node, ("Inval", 3, 0)) {
+            return false;
+        }
+    }
+    sends.len() == 16 && sent(&sends[15]) == (3, ("Grant", 0, 15))
 }
 
 /// What node 0 takes of two blocks: a Write, or a Done; the sender and the block; and the requester
@@ -146,16 +179,20 @@ fn requests_for_two_blocks_wait_each_in_order(rt: HostRuntime) -> Result<(), Fai
     let layout = layout_of(rt.alloc(), 2, 4)?;
     let mut directory = Directory::new(rt.alloc(), &layout, 0, 4)?;
     for (asks, from, block, requester) in AT_HOME {
-        let sends = if asks {
-            directory.ask(from, block, Need::Write, buffer(rt.alloc())?)
+        let mut sends = Sends::new();
+        if asks {
+            let buf = buffer(rt.alloc())?;
+            directory.ask(from, block, Need::Write, buf, &mut sends);
         } else {
-            directory.done(from, block)
-        };
+            directory.done(from, block, &mut sends);
+        }
         let begun = match sends.as_slice().first() {
             Some(post) => sent(post).1.1,
             None => 0,
         };
-        assert_eq!(rt; begun, requester);
+        if begun != requester {
+            return Err(Fail::new(format_args!("from {from} of block {block}")));
+        }
     }
     Ok(())
 }

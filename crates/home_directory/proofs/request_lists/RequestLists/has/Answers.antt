@@ -1,4 +1,4 @@
-use Rattle.std.proofs.Common.{◌≡◌, ◌<◌, ap, ◌∙◌, sym, false, [], None, arith, length}
+use Rattle.std.proofs.Common.{◌≡◌, ◌<◌, ap, ◌∙◌, arith, length}
 use Rattle.home_directory.specs.declared.request_lists.BlockList.{BlockList}
 use Rattle.home_directory.specs.Home.{waits}
 use Rattle.home_directory.specs.Effects.{requests_for, members}

@@ -1,11 +1,10 @@
-use Rattle.std.proofs.Common.{◌≡◌, ◌<◌, ap, ◌∙◌, sym, true, false, set, ℕ, [], Some, None, List, arith, length, refl, subst}
+use Rattle.std.proofs.Common.{◌≡◌, ◌<◌, ap, ◌∙◌, sym, true, false, set, ℕ, Some, None, List, arith, length, refl, subst}
 use Rattle.std.proofs.lemmas.Grind.{common_steps}
 use Rattle.std.proofs.lemmas.List.{get_or_default, length-set}
-use Rattle.home_directory.specs.declared.request_lists.ListEnds.{ListEnds}
 use Rattle.home_directory.specs.declared.request_lists.BlockList.{BlockList}
 use Rattle.home_directory.specs.declared.request_lists.Slot.{Slot}
 use Rattle.home_directory.specs.Home.{waits}
-use Rattle.home_directory.specs.Effects.{requests_for, members}
+use Rattle.home_directory.specs.Effects.{requests_for}
 use Rattle.home_directory.specs.Lists.{Requests, place_at, list_at, HasJoined, all_of}
 use Rattle.home_directory.proofs.JoinLeave.{list_found, place_found, IsJoined, place_within, last_within, joins_none, joins_some}
 use Rattle.home_directory.proofs.request_lists.RequestLists.join.Goals as goal

@@ -1,4 +1,4 @@
-use Rattle.std.proofs.Common.{◌≡◌, ◌≤◌, length}
+use Rattle.std.proofs.Common.{◌≡◌, length}
 use Rattle.home_directory.specs.Lists.{AreEmpty}
 use Rattle.home_directory.proofs.request_lists.RequestLists.new.Given as goal
 

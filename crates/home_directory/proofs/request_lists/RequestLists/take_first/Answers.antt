@@ -1,4 +1,4 @@
-use Rattle.std.proofs.Common.{◌≡◌, ◌<◌, ◌≤◌, ◌-◌, ap, ◌∙◌, sym, false, set, ℕ, [], ◌∷◌, Some, None, List, Option, arith, length, refl, subst}
+use Rattle.std.proofs.Common.{◌≡◌, ◌<◌, ◌-◌, ap, ◌∙◌, sym, false, set, ℕ, [], Some, None, List, Option, arith, length, subst}
 use Rattle.std.proofs.lemmas.Grind.{common_steps}
 use Rattle.std.proofs.lemmas.List.{set-get_or}
 use Rattle.home_directory.specs.declared.directory.Request.{Request}
@@ -6,8 +6,8 @@ use Rattle.home_directory.specs.declared.request_lists.ListEnds.{ListEnds}
 use Rattle.home_directory.specs.declared.request_lists.BlockList.{BlockList}
 use Rattle.home_directory.specs.declared.request_lists.Slot.{Slot}
 use Rattle.home_directory.specs.Effects.{requests_for}
-use Rattle.home_directory.specs.Lists.{Requests, place_at, list_at, request_at, IsKept, IsFirstTaken, all_of}
-use Rattle.home_directory.proofs.JoinLeave.{list_found, place_found, list, head, head_holds, head_within, head_node, some_wait, kept_taken, first_taken, none_there, ends_then}
+use Rattle.home_directory.specs.Lists.{Requests, place_at, list_at, IsKept, IsFirstTaken, all_of}
+use Rattle.home_directory.proofs.JoinLeave.{list_found, place_found, head, head_holds, head_within, head_node, some_wait, kept_taken, first_taken, none_there, ends_then}
 use Rattle.home_directory.proofs.request_lists.RequestLists.take_first.Goals as goal
 use Rattle.home_directory.proofs.request_lists.RequestLists.take_first.Goals.{in-Some-next, in-None-next}
 
