@@ -7,16 +7,18 @@ use Rattle.rv32_decode.specs.Widths.{is_aligned, width_of}
 use Rattle.rv32_ops.specs.Operations.{extend}
 use Rattle.rv32_program.specs.declared.Class.{Class}
 use Rattle.rv32_program.specs.declared.Class.TheVariants.{Shared, ReadOnly, Private}
-use Rattle.byte_range.specs.Memory.{raw, stored}
-use Rattle.byte_range.specs.Window.{window_memory, is_in_window}
-use Rattle.exec_map.specs.Contents.{class_of_line, first_byte}
-use Rattle.byte_range.specs.Range.{Range}
-use Rattle.node_model.specs.rv32_step.Memory.{byte_by, private_after, shared_after}
-use Rattle.node_model.specs.flag_memory.Flag.{flag_byte}
+use Rattle.node_memory.specs.byte_range.Memory.{raw, stored}
+use Rattle.node_memory.specs.byte_range.Window.{window_memory, is_in_window}
+use Rattle.node_memory.specs.exec_map.Contents.{class_of_line, first_byte}
+use Rattle.node_memory.specs.byte_range.Range.{Range}
+use Rattle.node_memory.specs.rv32_step.Memory.{byte_by, private_after, shared_after}
+use Rattle.node_memory.specs.flag_memory.Flag.{flag_byte}
 use Rattle.node_words.specs.declared.exec_state.ExecState.{ExecState}
-use Rattle.node_words.specs.Kept.{Shelf, ground_of, lane_of, local_of}
-use Rattle.node_words.specs.Strides.{Gives, IsLoaded, IsStored, IsStoredOr}
-use Rattle.node_words.proofs.MemoryLemmas.{raw_in_line, window_is_private}
+use Rattle.node_memory.specs.Shelf.{Shelf, ground_of, local_of}
+use Rattle.node_words.specs.Kept.{lane_of}
+use Rattle.node_memory.specs.Shelf.{IsLoaded}
+use Rattle.node_words.specs.Strides.{Gives, IsStored, IsStoredOr}
+use Rattle.node_memory.proofs.MemoryLemmas.{raw_in_line, window_is_private}
 
 -- what the bytes of a line of a class make is what a load gives
 given : (b : ExecState) (k : LoadKind) (w : Width) (c : Class) (a n v : ℕ) → w ≡ width_of k → is_aligned w a ≡ true

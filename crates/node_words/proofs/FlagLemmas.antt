@@ -6,14 +6,14 @@ use Rattle.rv32_decode.specs.declared.LoadKind.TheVariants.{Word as WordLoad}
 use Rattle.rv32_decode.specs.declared.Width.TheVariants.{Word}
 use Rattle.rv32_decode.specs.Widths.{is_aligned}
 use Rattle.rv32_ops.specs.Operations.{alu, taken}
-use Rattle.node_model.specs.rv32_step.Memory.{load_value}
-use Rattle.node_model.specs.rv32_step.Registers.{reg, put}
-use Rattle.node_model.specs.rv32_step.Demands.{branch_demand}
-use Rattle.node_model.specs.rv32_step.declared.Demand.TheVariants.{Loads, Sets}
-use Rattle.node_model.specs.micro_op.declared.MicroKind.TheVariants as kind
-use Rattle.node_model.specs.micro_op.Micro.{Demands}
-use Rattle.node_model.specs.jump_map.Strides.{IsFlagged, StandFrom, flag_look, op_of}
-use Rattle.node_model.specs.Node.{ProcessorState, NodeMemory, byte_at, set_register}
+use Rattle.node_memory.specs.rv32_step.Memory.{load_value}
+use Rattle.node_memory.specs.rv32_step.Registers.{reg, put}
+use Rattle.node_memory.specs.rv32_step.Demands.{branch_demand}
+use Rattle.node_memory.specs.rv32_step.declared.Demand.TheVariants.{Loads, Sets}
+use Rattle.node_memory.specs.micro_op.declared.MicroKind.TheVariants as kind
+use Rattle.node_memory.specs.micro_op.Micro.{Demands}
+use Rattle.node_memory.specs.jump_map.Strides.{IsFlagged, StandFrom, flag_look, op_of}
+use Rattle.node_memory.specs.node_model.Node.{ProcessorState, NodeMemory, byte_at, set_register}
 use Rattle.node_words.specs.Address.{word_address}
 use Rattle.node_words.specs.Strides.{left_one}
 use Rattle.node_words.proofs.ReachLemmas.{Code, Reaches, reaches_both}

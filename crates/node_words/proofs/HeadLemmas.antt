@@ -3,12 +3,12 @@ use Rattle.std.proofs.Common.{◌≡◌, ◌≢◌, ℕ, zero, suc, ◌+◌, ◌
 use Rattle.std.specs.Prelude.{bit_and, bit_or}
 use Rattle.rv32_decode.specs.declared.LoadKind.TheVariants as load_kind
 use Rattle.rv32_ops.specs.Operations.{alu}
-use Rattle.node_model.specs.rv32_step.Registers.{reg, put}
-use Rattle.node_model.specs.rv32_step.declared.Demand.TheVariants.{Loads, Sets}
-use Rattle.node_model.specs.micro_op.declared.MicroKind.TheVariants as kind
-use Rattle.node_model.specs.micro_op.Micro.{Demands}
-use Rattle.node_model.specs.jump_map.Strides.{AreApart, IsReadHead, IsWriteHead, LooksTwice, Scratch, StandFrom, TakeBack, mask, op_of, second_look, skip}
-use Rattle.node_model.specs.Node.{ProcessorState, NodeMemory}
+use Rattle.node_memory.specs.rv32_step.Registers.{reg, put}
+use Rattle.node_memory.specs.rv32_step.declared.Demand.TheVariants.{Loads, Sets}
+use Rattle.node_memory.specs.micro_op.declared.MicroKind.TheVariants as kind
+use Rattle.node_memory.specs.micro_op.Micro.{Demands}
+use Rattle.node_memory.specs.jump_map.Strides.{AreApart, IsReadHead, IsWriteHead, LooksTwice, Scratch, StandFrom, TakeBack, mask, op_of, second_look, skip}
+use Rattle.node_memory.specs.node_model.Node.{ProcessorState, NodeMemory}
 use Rattle.node_words.specs.Strides.{left_by_head}
 use Rattle.node_words.proofs.ReachLemmas.{Code, Reaches, reaches_both}
 use Rattle.node_words.proofs.RegisterLemmas.{first_back, put_back, put_here, put_other, put_over, put_swap, put_twice, second_back}

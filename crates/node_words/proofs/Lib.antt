@@ -1,7 +1,5 @@
 pub mod StepLemmas
-pub mod MemoryLemmas
 pub mod WordLemmas
-pub mod ShelfLemmas
 pub mod AccessLemmas
 pub mod StrideLemmas
 pub mod UndoLogLemmas
@@ -12,3 +10,4 @@ pub mod SequenceLemmas
 pub mod FlagLemmas
 pub mod HeadLemmas
 pub mod WholeLemmas
+pub use Rattle.node_memory.proofs as node_memory

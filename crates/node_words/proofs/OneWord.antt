@@ -7,18 +7,18 @@ use Rattle.rv32_decode.specs.declared.LoadKind.TheVariants.{Word as WordLoad}
 use Rattle.rv32_decode.specs.declared.Width.{Width}
 use Rattle.rv32_decode.specs.declared.Width.TheVariants.{Byte, Word}
 use Rattle.rv32_decode.specs.Widths.{is_aligned, width_of}
-use Rattle.node_model.specs.rv32_step.Memory.{load_value}
-use Rattle.node_model.specs.rv32_step.Registers.{reg, put}
-use Rattle.node_model.specs.rv32_step.OneMemory.{next_pc}
-use Rattle.node_model.specs.rv32_step.declared.Demand.TheVariants.{Branches, Continues, Jumps, Loads, Sets, Stores}
-use Rattle.node_model.specs.micro_op.declared.micro_op.MicroOp.{MicroOp}
-use Rattle.node_model.specs.micro_op.declared.MicroKind.TheVariants as kind
-use Rattle.node_model.specs.micro_op.Micro.{Demands, meaning_of}
-use Rattle.node_model.specs.jump_map.Image.{image_base}
-use Rattle.node_model.specs.jump_map.Strides.{StandsAt, op_of, spill_address}
-use Rattle.node_model.specs.Node.{ProcessorState, NodeMemory, Spill, byte_at, region_of, local_stored, lane_stored}
+use Rattle.node_memory.specs.rv32_step.Memory.{load_value}
+use Rattle.node_memory.specs.rv32_step.Registers.{reg, put}
+use Rattle.node_memory.specs.rv32_step.OneMemory.{next_pc}
+use Rattle.node_memory.specs.rv32_step.declared.Demand.TheVariants.{Branches, Continues, Jumps, Loads, Sets, Stores}
+use Rattle.node_memory.specs.micro_op.declared.micro_op.MicroOp.{MicroOp}
+use Rattle.node_memory.specs.micro_op.declared.MicroKind.TheVariants as kind
+use Rattle.node_memory.specs.micro_op.Micro.{Demands, meaning_of}
+use Rattle.node_memory.specs.jump_map.Image.{image_base}
+use Rattle.node_memory.specs.jump_map.Strides.{StandsAt, op_of, spill_address}
+use Rattle.node_memory.specs.node_model.Node.{ProcessorState, NodeMemory, Spill, byte_at, region_of, local_stored, lane_stored}
 use Rattle.node_words.specs.Address.{word_address}
-use Rattle.node_words.proofs.MemoryLemmas.{memory_region}
+use Rattle.node_memory.proofs.MemoryLemmas.{memory_region}
 use Rattle.node_words.proofs.StepLemmas.{put_zero}
 use Rattle.node_words.proofs.ReachLemmas.{Code, Reaches, reaches_by}
 use Rattle.node_words.proofs.RegisterLemmas.{reg_zero}

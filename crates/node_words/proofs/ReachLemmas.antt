@@ -1,26 +1,27 @@
 -- Words of an image, one after another, whatever body a node has between them.
 use Rattle.std.proofs.Common.{◌≡◌, ◌≢◌, ℕ, zero, suc, ◌+◌, ◌<◌, ◌≤◌, true, List, [], length, Option, Some, None, refl, sym, ap, ◌∙◌, subst, arith}
-use Rattle.exec_map.specs.Contents.{program_of}
+use Rattle.node_memory.specs.exec_map.Contents.{program_of}
 use Rattle.rv32_program.specs.Program.{Program}
-use Rattle.node_model.specs.rv32_step.declared.Demand.{Demand}
-use Rattle.node_model.specs.rv32_step.declared.Demand.TheVariants.{Continues, Jumps}
-use Rattle.node_model.specs.micro_op.declared.micro_op.MicroOp.{MicroOp}
-use Rattle.node_model.specs.micro_op.declared.MicroKind.{MicroKind}
-use Rattle.node_model.specs.micro_op.declared.MicroKind.TheVariants.{Slow}
-use Rattle.node_model.specs.micro_op.Micro.{Meaning, Unserved, Demands, Enters, EntersAt, Meets, meaning_by, meaning_of}
-use Rattle.node_model.specs.runtime_words.declared.RtWord.{RtWord}
-use Rattle.node_model.specs.runtime_words.declared.RtWord.TheVariants.{Native, Poll, Xjalr, Far}
-use Rattle.node_model.specs.templates.declared.places.Place.{Place}
-use Rattle.node_model.specs.jump_map.declared.image.ImageWord.{ImageWord}
-use Rattle.node_model.specs.jump_map.Image.{Cell, address_of_word, image_base, most_words, read_cell}
-use Rattle.node_model.specs.jump_map.Maps.{fetch}
-use Rattle.node_model.specs.jump_map.Micro.{AreMicrosOf, IsMicroAnswer, IsMicroAt, IsMicroWord}
-use Rattle.node_model.specs.jump_map.Strides.{StandsAt}
-use Rattle.node_model.specs.Node.{ProcessorState, NodeMemory, Node, Work, WordOutcome, Running, Want, Nothing_counted, can_execute, counts_after, execute_at, execute_read, lane_after, native, next_outcome, phase_after, place_address, printed_also, stop_at, word_outcome}
-use Rattle.node_model.specs.Turns.{Turn, after_word, after_wants, each_block_once, is_ended, silent, want_all, wants_of, with_byes, word_turn}
+use Rattle.node_memory.specs.rv32_step.declared.Demand.{Demand}
+use Rattle.node_memory.specs.rv32_step.declared.Demand.TheVariants.{Continues, Jumps}
+use Rattle.node_memory.specs.micro_op.declared.micro_op.MicroOp.{MicroOp}
+use Rattle.node_memory.specs.micro_op.declared.MicroKind.{MicroKind}
+use Rattle.node_memory.specs.micro_op.declared.MicroKind.TheVariants.{Slow}
+use Rattle.node_memory.specs.micro_op.Micro.{Meaning, Unserved, Demands, Enters, EntersAt, Meets, meaning_by, meaning_of}
+use Rattle.node_memory.specs.runtime_words.declared.RtWord.{RtWord}
+use Rattle.node_memory.specs.runtime_words.declared.RtWord.TheVariants.{Native, Poll, Xjalr, Far}
+use Rattle.node_memory.specs.templates.declared.places.Place.{Place}
+use Rattle.node_memory.specs.jump_map.declared.image.ImageWord.{ImageWord}
+use Rattle.node_memory.specs.jump_map.Image.{Cell, address_of_word, image_base, most_words, read_cell}
+use Rattle.node_memory.specs.jump_map.Maps.{fetch}
+use Rattle.node_memory.specs.jump_map.Micro.{AreMicrosOf, IsMicroAnswer, IsMicroAt, IsMicroWord}
+use Rattle.node_memory.specs.jump_map.Strides.{StandsAt}
+use Rattle.node_memory.specs.node_model.Node.{ProcessorState, NodeMemory, Node, Work, WordOutcome, Running, Want, Nothing_counted, can_execute, counts_after, execute_at, execute_read, lane_after, native, next_outcome, phase_after, place_address, printed_also, stop_at, word_outcome}
+use Rattle.node_memory.specs.node_model.Turns.{Turn, after_word, after_wants, each_block_once, is_ended, silent, want_all, wants_of, with_byes, word_turn}
 use Rattle.node_words.specs.declared.exec_state.ExecState.{ExecState}
 use Rattle.node_words.specs.Address.{word_address}
-use Rattle.node_words.specs.Kept.{Ground, ground_of, lane_of, local_of}
+use Rattle.node_memory.specs.Shelf.{Ground, ground_of, local_of}
+use Rattle.node_words.specs.Kept.{lane_of}
 use Rattle.node_words.specs.GoingOn.{GoesFurther, node_on, phase_on}
 use Rattle.node_words.specs.Runs.{GoesOnBy}
 use Rattle.node_words.proofs.StepLemmas.{far_is, fetch_word, got_below}

@@ -2,7 +2,7 @@
 use Rattle.std.proofs.Common.{◌≡◌, ◌≢◌, ℕ, Bool, true, false, cond, eqb, ltb, ◌&&◌, refl, sym, ap, ◌∙◌, inl, inr, arith}
 use Rattle.std.proofs.Math.Path.{fun_ext}
 use Rattle.std.proofs.lemmas.Bool.Decides.{eqb_tells, nat_tests}
-use Rattle.node_model.specs.rv32_step.Registers.{reg, put}
+use Rattle.node_memory.specs.rv32_step.Registers.{reg, put}
 use Rattle.node_words.proofs.StepLemmas.{put_zero}
 
 apart : (a b : ℕ) → a ≢ b → eqb a b ≡ false

@@ -11,18 +11,18 @@ use Rattle.rv32_decode.specs.declared.Width.{Width}
 use Rattle.rv32_decode.specs.declared.Width.TheVariants as width
 use Rattle.rv32_decode.specs.Widths.{is_aligned, width_of}
 use Rattle.rv32_ops.specs.Operations.{alu, taken}
-use Rattle.node_model.specs.rv32_step.Memory.{load_value}
-use Rattle.node_model.specs.rv32_step.Registers.{reg, put}
-use Rattle.node_model.specs.rv32_step.Demands.{branch_demand}
-use Rattle.node_model.specs.rv32_step.declared.Demand.TheVariants.{Jumps, Loads, Sets, Stores}
-use Rattle.node_model.specs.micro_op.declared.micro_op.MicroOp.{MicroOp}
-use Rattle.node_model.specs.micro_op.declared.MicroKind.{MicroKind}
-use Rattle.node_model.specs.micro_op.declared.MicroKind.TheVariants as kind
-use Rattle.node_model.specs.micro_op.Kinds.{branch_kind, kind_of_load, store_kind}
-use Rattle.node_model.specs.micro_op.Micro.{Demands, branches, loads, meaning_by, meaning_of, stores}
-use Rattle.node_model.specs.jump_map.Image.{image_base}
-use Rattle.node_model.specs.jump_map.Strides.{AreApart, IsAccess, IsJump, IsNumber, IsOver, IsPolled, IsRead, IsWrite, Keep, Scratch, StandFrom, StandsAt, TakeBack, mask, op_of, skip, state_look}
-use Rattle.node_model.specs.Node.{ProcessorState, NodeMemory, byte_at, is_readable_state, is_writable_state, lane_stored, local_stored, set_register}
+use Rattle.node_memory.specs.rv32_step.Memory.{load_value}
+use Rattle.node_memory.specs.rv32_step.Registers.{reg, put}
+use Rattle.node_memory.specs.rv32_step.Demands.{branch_demand}
+use Rattle.node_memory.specs.rv32_step.declared.Demand.TheVariants.{Jumps, Loads, Sets, Stores}
+use Rattle.node_memory.specs.micro_op.declared.micro_op.MicroOp.{MicroOp}
+use Rattle.node_memory.specs.micro_op.declared.MicroKind.{MicroKind}
+use Rattle.node_memory.specs.micro_op.declared.MicroKind.TheVariants as kind
+use Rattle.node_memory.specs.micro_op.Kinds.{branch_kind, kind_of_load, store_kind}
+use Rattle.node_memory.specs.micro_op.Micro.{Demands, branches, loads, meaning_by, meaning_of, stores}
+use Rattle.node_memory.specs.jump_map.Image.{image_base}
+use Rattle.node_memory.specs.jump_map.Strides.{AreApart, IsAccess, IsJump, IsNumber, IsOver, IsPolled, IsRead, IsWrite, Keep, Scratch, StandFrom, StandsAt, TakeBack, mask, op_of, skip, state_look}
+use Rattle.node_memory.specs.node_model.Node.{ProcessorState, NodeMemory, byte_at, is_readable_state, is_writable_state, lane_stored, local_stored, set_register}
 use Rattle.node_words.specs.Address.{word_address}
 use Rattle.node_words.specs.Strides.{left_by_check}
 use Rattle.node_words.proofs.StepLemmas.{put_zero}

@@ -6,49 +6,50 @@ use Rattle.rv32_decode.specs.declared.LoadKind.{LoadKind}
 use Rattle.rv32_decode.specs.declared.LoadKind.TheVariants.{Word as WordLoad}
 use Rattle.rv32_decode.specs.Widths.{is_aligned}
 use Rattle.rv32_ops.specs.Operations.{amo}
-use Rattle.node_model.specs.rv32_step.Memory.{load_value}
-use Rattle.node_model.specs.llsc.Reservation.{holds}
+use Rattle.node_memory.specs.rv32_step.Memory.{load_value}
+use Rattle.node_memory.specs.llsc.Reservation.{holds}
 use Rattle.rv32_decode.specs.declared.Width.{Width}
 use Rattle.rv32_decode.specs.declared.Width.TheVariants.{Word}
 use Rattle.rv32_program.specs.Program.{Program}
-use Rattle.node_model.specs.micro_op.declared.micro_op.MicroOp.{MicroOp}
-use Rattle.node_model.specs.micro_op.declared.MicroKind.{MicroKind}
-use Rattle.node_model.specs.micro_op.Micro.{Meaning, meaning_by, meaning_of}
-use Rattle.node_model.specs.jump_map.Image.{Cell, image_base}
+use Rattle.node_memory.specs.micro_op.declared.micro_op.MicroOp.{MicroOp}
+use Rattle.node_memory.specs.micro_op.declared.MicroKind.{MicroKind}
+use Rattle.node_memory.specs.micro_op.Micro.{Meaning, meaning_by, meaning_of}
+use Rattle.node_memory.specs.jump_map.Image.{Cell, image_base}
 use Rattle.node_words.specs.declared.lane.ProcessorState as kept
 use Rattle.node_words.specs.declared.lane.WordOutcome as kept_outcome
-use Rattle.node_model.specs.Node.{ProcessorState, NodeMemory, WordOutcome, Next, To, Waits, SameWord, only_moves, lane_after_call, Nothing_counted, Region, Memory, StateOf, Spill, Elsewhere, native, store_if, put_byte, print_byte, byte_at, is_mapped_state, is_readable_state, execute_at, execute_read, next_outcome, place_address, indirect, load, store, phase_after, lane_after, region_of, set_register}
+use Rattle.node_memory.specs.node_model.Node.{ProcessorState, NodeMemory, WordOutcome, Next, To, Waits, SameWord, only_moves, lane_after_call, Nothing_counted, Region, Memory, StateOf, Spill, Elsewhere, native, store_if, put_byte, print_byte, byte_at, is_mapped_state, is_readable_state, execute_at, execute_read, next_outcome, place_address, indirect, load, store, phase_after, lane_after, region_of, set_register}
 use Rattle.std.proofs.Common.{eqb, ◌&&◌}
 use Rattle.std.specs.Prelude.{position}
 use Rattle.std.specs.Option.{option_map}
 use Rattle.std.proofs.lemmas.Bool.Decides.{nat_tests}
-use Rattle.node_model.specs.dsm_messages.declared.messages.Need.TheVariants.{Read}
-use Rattle.node_model.specs.rv32_step.Demands.{cut_short}
-use Rattle.node_model.specs.rv32_step.Registers.{put, registers_of}
-use Rattle.node_model.specs.jump_map.Image.{address_of_word}
-use Rattle.node_model.specs.jump_map.Maps.{new_of, begins_at}
-use Rattle.node_model.specs.rv32_step.OneMemory.{Exchanges, next_pc}
+use Rattle.node_memory.specs.dsm_messages.declared.messages.Need.TheVariants.{Read}
+use Rattle.node_memory.specs.rv32_step.Demands.{cut_short}
+use Rattle.node_memory.specs.rv32_step.Registers.{put, registers_of}
+use Rattle.node_memory.specs.jump_map.Image.{address_of_word}
+use Rattle.node_memory.specs.jump_map.Maps.{new_of, begins_at}
+use Rattle.node_memory.specs.rv32_step.OneMemory.{Exchanges, next_pc}
 use Rattle.std.proofs.Common.{◌-◌, [], ◌∷◌, leb, length, zero, suc}
 use Rattle.std.specs.Prelude.{slice_get}
 use Rattle.rv32_decode.specs.Fields.{unsigned}
-use Rattle.node_model.specs.rv32_step.declared.Demand.{Demand}
-use Rattle.node_model.specs.rv32_step.declared.Demand.TheVariants.{Continues, Jumps, Reserves, StoresIf, Updates}
-use Rattle.node_model.specs.rv32_step.Registers.{reg}
-use Rattle.node_model.specs.micro_op.declared.MicroKind.TheVariants.{Slow}
-use Rattle.node_model.specs.micro_op.Micro.{Unserved, Demands, Enters as EntersBy, Meets, EntersAt}
-use Rattle.node_model.specs.runtime_words.declared.RtWord.{RtWord}
-use Rattle.node_model.specs.runtime_words.declared.RtWord.TheVariants.{Native, Poll, Xjalr, Far}
-use Rattle.node_model.specs.templates.declared.places.Place.{Place}
-use Rattle.node_model.specs.runtime_words.Reading.{read_word}
-use Rattle.exec_map.specs.Contents.{program_of}
-use Rattle.node_model.specs.jump_map.declared.image.ImageWord.{ImageWord}
-use Rattle.node_model.specs.jump_map.Image.{read_cell, most_words}
-use Rattle.node_model.specs.jump_map.Maps.{fetch}
-use Rattle.node_model.specs.jump_map.Micro.{IsMicroWord}
+use Rattle.node_memory.specs.rv32_step.declared.Demand.{Demand}
+use Rattle.node_memory.specs.rv32_step.declared.Demand.TheVariants.{Continues, Jumps, Reserves, StoresIf, Updates}
+use Rattle.node_memory.specs.rv32_step.Registers.{reg}
+use Rattle.node_memory.specs.micro_op.declared.MicroKind.TheVariants.{Slow}
+use Rattle.node_memory.specs.micro_op.Micro.{Unserved, Demands, Enters as EntersBy, Meets, EntersAt}
+use Rattle.node_memory.specs.runtime_words.declared.RtWord.{RtWord}
+use Rattle.node_memory.specs.runtime_words.declared.RtWord.TheVariants.{Native, Poll, Xjalr, Far}
+use Rattle.node_memory.specs.templates.declared.places.Place.{Place}
+use Rattle.node_memory.specs.runtime_words.Reading.{read_word}
+use Rattle.node_memory.specs.exec_map.Contents.{program_of}
+use Rattle.node_memory.specs.jump_map.declared.image.ImageWord.{ImageWord}
+use Rattle.node_memory.specs.jump_map.Image.{read_cell, most_words}
+use Rattle.node_memory.specs.jump_map.Maps.{fetch}
+use Rattle.node_memory.specs.jump_map.Micro.{IsMicroWord}
 use Rattle.node_words.specs.Kept.{StepsOr}
-use Rattle.node_words.specs.Kept.{Shelf, Ground, ground_of, LeavesBehind, Does, Follows, StepsTo, lane_of, local_of}
+use Rattle.node_memory.specs.Shelf.{Shelf, Ground, ground_of, local_of}
+use Rattle.node_words.specs.Kept.{LeavesBehind, Does, Follows, StepsTo, lane_of}
 use Rattle.node_words.specs.Address.{word_address}
-use Rattle.node_model.specs.Turns.{wants_of}
+use Rattle.node_memory.specs.node_model.Turns.{wants_of}
 
 -- an update that stores this new word
 abbrev pub updated_to : Program → ProcessorState → NodeMemory → ℕ → ℕ → ℕ → ℕ → WordOutcome

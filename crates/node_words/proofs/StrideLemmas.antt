@@ -3,25 +3,26 @@ use Rattle.std.proofs.Common.{◌≡◌, ℕ, ◌+◌, ◌-◌, ◌^◌, ◌<◌
 use Rattle.rv32_decode.specs.declared.LoadKind.{LoadKind}
 use Rattle.rv32_decode.specs.declared.Width.{Width}
 use Rattle.rv32_decode.specs.Widths.{is_aligned, width_of}
-use Rattle.exec_map.specs.Contents.{program_of}
-use Rattle.node_model.specs.rv32_step.OneMemory.{next_pc}
-use Rattle.node_model.specs.rv32_step.Registers.{put, registers_of}
-use Rattle.node_model.specs.rv32_step.declared.Demand.{Demand}
-use Rattle.node_model.specs.rv32_step.declared.Demand.TheVariants.{Jumps, Loads, Sets, Stores}
-use Rattle.node_model.specs.micro_op.declared.micro_op.MicroOp.{MicroOp}
-use Rattle.node_model.specs.micro_op.declared.MicroKind.{MicroKind}
-use Rattle.node_model.specs.micro_op.declared.MicroKind.TheVariants.{Jump}
-use Rattle.node_model.specs.micro_op.Micro.{Demands, Meaning, meaning_by, meaning_of}
-use Rattle.node_model.specs.jump_map.Image.{Cell, image_base, most_words}
-use Rattle.node_model.specs.jump_map.Micro.{IsMicroAt}
-use Rattle.node_model.specs.Node.{Next, Region, To, load, next_outcome, only_moves, region_of, set_register, store}
+use Rattle.node_memory.specs.exec_map.Contents.{program_of}
+use Rattle.node_memory.specs.rv32_step.OneMemory.{next_pc}
+use Rattle.node_memory.specs.rv32_step.Registers.{put, registers_of}
+use Rattle.node_memory.specs.rv32_step.declared.Demand.{Demand}
+use Rattle.node_memory.specs.rv32_step.declared.Demand.TheVariants.{Jumps, Loads, Sets, Stores}
+use Rattle.node_memory.specs.micro_op.declared.micro_op.MicroOp.{MicroOp}
+use Rattle.node_memory.specs.micro_op.declared.MicroKind.{MicroKind}
+use Rattle.node_memory.specs.micro_op.declared.MicroKind.TheVariants.{Jump}
+use Rattle.node_memory.specs.micro_op.Micro.{Demands, Meaning, meaning_by, meaning_of}
+use Rattle.node_memory.specs.jump_map.Image.{Cell, image_base, most_words}
+use Rattle.node_memory.specs.jump_map.Micro.{IsMicroAt}
+use Rattle.node_memory.specs.node_model.Node.{Next, Region, To, load, next_outcome, only_moves, region_of, set_register, store}
 use Rattle.node_words.specs.declared.exec_state.ExecState.{ExecState}
 use Rattle.node_words.specs.declared.strides.Going.{Going}
 use Rattle.node_words.specs.Address.{word_address}
 use Rattle.node_words.specs.GoingOn.{DoesNext, GoesFurther}
-use Rattle.node_words.specs.Kept.{Follows, LeavesBehind, StepsTo, ground_of, lane_of, local_of}
+use Rattle.node_memory.specs.Shelf.{ground_of, local_of}
+use Rattle.node_words.specs.Kept.{Follows, LeavesBehind, StepsTo, lane_of}
 use Rattle.node_words.specs.Strides.{Gives, IsStored, IsTried, Stays, StepsBy, StridesBy}
-use Rattle.node_words.proofs.MemoryLemmas.{memory_region}
+use Rattle.node_memory.proofs.MemoryLemmas.{memory_region}
 use Rattle.node_words.proofs.StepLemmas.{load_next, micro_step, next_follows, put_zero, store_next, to_follows}
 use Rattle.node_words.proofs.OneWord.{is_place}
 use Rattle.node_words.proofs.WordLemmas.{goes_both, goes_none, goes_one}

@@ -1,43 +1,31 @@
--- What micro-ops change, and what takes it back.
-use Rattle.std.proofs.Common.{◌≡◌, ℕ, zero, suc, ◌+◌, ◌-◌, ◌*◌, ◌/◌, ◌%◌, ◌^◌, ◌<◌, ◌≤◌, ◌&&◌, ◌++◌, Bool, true, false, cond, leb, ltb, eqb, List, [], ◌∷◌, Option, Some, None, refl, ap, sym, ◌∙◌, subst, arith, inl, inr}
+-- Bytes that stores overwrite, and what puts them back.
+use Rattle.std.proofs.Common.{◌≡◌, ℕ, zero, suc, ◌+◌, ◌-◌, ◌*◌, ◌/◌, ◌%◌, ◌^◌, ◌<◌, ◌≤◌, ◌&&◌, ◌++◌, Bool, true, false, cond, leb, ltb, List, [], ◌∷◌, refl, ap, sym, ◌∙◌, subst, arith}
 use Rattle.std.proofs.Math.Path.{fun_ext}
-use Rattle.std.proofs.lemmas.Bool.Decides.{nat_tests, eqb_tells}
-use Rattle.std.specs.Prelude.{All, length, slice_index, slice_set}
-use Rattle.std.proofs.lemmas.Grind.{get_or-set_at}
-use Rattle.std.proofs.lemmas.List.{get_or-set_other, get_or_append_left, get_or_push, length_push}
+use Rattle.std.proofs.lemmas.Bool.Decides.{nat_tests}
+use Rattle.std.specs.Prelude.{All, length}
+use Rattle.std.proofs.lemmas.List.{get_or_append_left, get_or_push, length_push}
 use Rattle.std.specs.Prelude.{get_or}
 use Rattle.std.proofs.lemmas.List.Elements.{All-nil, All-push}
 use Rattle.rv32_decode.specs.declared.LoadKind.{LoadKind}
 use Rattle.rv32_decode.specs.declared.Width.{Width}
 use Rattle.rv32_decode.specs.declared.Width.TheVariants.{Byte, Half, Word}
-use Rattle.rv32_decode.specs.Widths.{is_aligned, size_of, width_of}
-use Rattle.byte_range.specs.Memory.{raw, stored}
+use Rattle.rv32_decode.specs.Widths.{is_aligned, size_of}
+use Rattle.node_memory.specs.byte_range.Memory.{raw, stored}
 use Rattle.rv32_program.specs.Program.{Program, class_at}
 use Rattle.rv32_program.specs.declared.Class.{Class}
 use Rattle.rv32_program.specs.declared.Class.TheVariants.{Shared, ReadOnly, Private, Unmapped}
-use Rattle.node_model.specs.rv32_step.Memory.{shared_after, private_after, byte_by}
-use Rattle.node_model.specs.rv32_step.Registers.{reg, put, registers_of}
-use Rattle.node_model.specs.rv32_step.Demands.{branch_demand}
-use Rattle.node_model.specs.rv32_step.declared.Demand.{Demand}
-use Rattle.node_model.specs.rv32_step.declared.Demand.TheVariants.{Sets, Continues, Jumps, Branches, Loads, Stores, Calls, Traps, Reserves, StoresIf, Updates}
-use Rattle.exec_map.specs.Contents.{program_of}
-use Rattle.node_model.specs.flag_memory.Flag.{flag_byte}
-use Rattle.node_model.specs.micro_op.declared.micro_op.MicroOp.{MicroOp}
-use Rattle.node_model.specs.micro_op.declared.MicroKind.{MicroKind}
-use Rattle.node_model.specs.micro_op.declared.MicroKind.TheVariants as kind
-use Rattle.node_model.specs.micro_op.Micro.{Meaning, Unserved, Demands, Enters as EntersBy, meaning_by, meaning_of, sum_address}
-use Rattle.node_model.specs.jump_map.Image.{Cell, image_base}
-use Rattle.rv32_program.specs.declared.Exit.TheVariants.{Misaligned}
-use Rattle.node_model.specs.rv32_step.OneMemory.{next_pc}
-use Rattle.node_model.specs.jump_map.Maps.{new_of}
-use Rattle.node_words.proofs.StepLemmas.{put_zero}
-use Rattle.node_model.specs.Node.{ProcessorState, NodeMemory, WordOutcome, Region, Memory, StateOf, Spill, Elsewhere, native, indirect, load, store, lane_after, region_of, set_register, byte_at, exit_by, only_moves, enter, Move, Next, Again, To, Enters, Waits, Leaves}
+use Rattle.node_memory.specs.rv32_step.Memory.{shared_after, private_after, byte_by}
+use Rattle.node_memory.specs.exec_map.Contents.{program_of}
+use Rattle.node_memory.specs.flag_memory.Flag.{flag_byte}
+use Rattle.node_memory.specs.node_model.Node.{ProcessorState, NodeMemory, WordOutcome, Region, Memory, StateOf, Spill, Elsewhere, load, store, region_of, byte_at}
 use Rattle.node_words.specs.declared.lane.ProcessorState as kept
-use Rattle.node_words.specs.declared.undo_log.Note.{Note}
+use Rattle.node_words.specs.declared.store_log.Note.{Note}
+use Rattle.node_words.specs.declared.store_log.StoreLog.{StoreLog}
 use Rattle.node_words.specs.declared.undo_log.Saved.{Saved}
-use Rattle.node_words.specs.Address.{word_address}
-use Rattle.node_words.specs.Kept.{Shelf, Ground, Follows, LeavesBehind, StepsTo, ground_of, lane_of, local_of}
-use Rattle.node_words.specs.UndoLogs.{Held, held_of, held_stored, undone, taken_back, IsAlignedNote, store_width, HasBytes, NotesOr, Saves, TakesBack, TouchesOnly}
+use Rattle.node_memory.specs.Shelf.{Shelf, Ground, ground_of, local_of}
+use Rattle.node_words.specs.Kept.{LeavesBehind, lane_of}
+use Rattle.node_words.specs.declared.exec_state.ExecState.{ExecState}
+use Rattle.node_words.specs.UndoLogs.{Held, held_of, held_stored, undone, taken_back, IsAlignedNote, HasBytes, Notes, Saves, StaysUndoable, TakesBack}
 
 -- 1. Bytes that are put back
 
@@ -142,182 +130,7 @@ pub taken_back_push : (p : Program) (ns : List Note) (n : Note) (h : Held) → t
 taken_back_push p [] n h = refl
 taken_back_push p (m ∷ ns) n h = ap (undone p m) (taken_back_push p ns n h)
 
--- 2. What a micro-op may change
-
--- it stores, or changes one register at most
-abbrev pub Changes : Option Width → MicroOp → (ℕ → ℕ) → Meaning → Type 0
-Changes (Some w) op registers m = m ≡ Demands (Stores w (sum_address op registers) (reg registers op.rs2))
-Changes None op registers Unserved = Unit {0}
-Changes None op registers (EntersBy original) = Unit {0}
-Changes None op registers (Demands (Sets r value)) = r ≡ op.rd
-Changes None op registers (Demands Continues) = Unit {0}
-Changes None op registers (Demands (Jumps r target)) = r ≡ op.rd
-Changes None op registers (Demands (Branches target)) = Unit {0}
-Changes None op registers (Demands (Loads k r a)) = r ≡ op.rd
-Changes None op registers (Demands d) = ⊥
-
-branch_changes : (t : Bool) (target : ℕ) (op : MicroOp) (registers : ℕ → ℕ) → Changes None op registers (Demands (branch_demand t target))
-branch_changes true target op registers = tt
-branch_changes false target op registers = tt
-
-pub kind_changes : (k : MicroKind) (base : ℕ) (op : MicroOp) (registers : ℕ → ℕ) → Changes (store_width k) op registers (meaning_by k base op registers)
-kind_changes kind.Slow base op registers = tt
-kind_changes kind.Nothing base op registers = tt
-kind_changes kind.Constant base op registers = refl
-kind_changes kind.Jump base op registers = refl
-kind_changes kind.JumpBy base op registers = refl
-kind_changes kind.EnterBy base op registers = tt
-kind_changes kind.BranchEq base op registers = branch_changes _ _ op registers
-kind_changes kind.BranchNe base op registers = branch_changes _ _ op registers
-kind_changes kind.BranchLt base op registers = branch_changes _ _ op registers
-kind_changes kind.BranchGe base op registers = branch_changes _ _ op registers
-kind_changes kind.BranchLtu base op registers = branch_changes _ _ op registers
-kind_changes kind.BranchGeu base op registers = branch_changes _ _ op registers
-kind_changes kind.LoadByte base op registers = refl
-kind_changes kind.LoadHalf base op registers = refl
-kind_changes kind.LoadWord base op registers = refl
-kind_changes kind.LoadByteU base op registers = refl
-kind_changes kind.LoadHalfU base op registers = refl
-kind_changes kind.StoreByte base op registers = refl
-kind_changes kind.StoreHalf base op registers = refl
-kind_changes kind.StoreWord base op registers = refl
-kind_changes kind.AddImm base op registers = refl
-kind_changes kind.SltImm base op registers = refl
-kind_changes kind.SltuImm base op registers = refl
-kind_changes kind.XorImm base op registers = refl
-kind_changes kind.OrImm base op registers = refl
-kind_changes kind.AndImm base op registers = refl
-kind_changes kind.SllImm base op registers = refl
-kind_changes kind.SrlImm base op registers = refl
-kind_changes kind.SraImm base op registers = refl
-kind_changes kind.Add base op registers = refl
-kind_changes kind.Sub base op registers = refl
-kind_changes kind.Sll base op registers = refl
-kind_changes kind.Slt base op registers = refl
-kind_changes kind.Sltu base op registers = refl
-kind_changes kind.Xor base op registers = refl
-kind_changes kind.Srl base op registers = refl
-kind_changes kind.Sra base op registers = refl
-kind_changes kind.Or base op registers = refl
-kind_changes kind.And base op registers = refl
-kind_changes kind.Mul base op registers = refl
-kind_changes kind.Mulh base op registers = refl
-kind_changes kind.Mulhsu base op registers = refl
-kind_changes kind.Mulhu base op registers = refl
-kind_changes kind.Div base op registers = refl
-kind_changes kind.Divu base op registers = refl
-kind_changes kind.Rem base op registers = refl
-kind_changes kind.Remu base op registers = refl
-
--- an outcome changes at most one register, and no byte
-pub record ChangesOne (rd : ℕ) (l : ProcessorState) (n : NodeMemory) (o : WordOutcome) : Type 0 where
-  pub registers : (r : ℕ) → (0 < r → r ≡ rd → ⊥) → o.lane.registers r ≡ l.registers r
-  pub private : o.lane.private ≡ l.private
-  pub local : o.local ≡ n
-
-put_other : (registers : ℕ → ℕ) (rd value r : ℕ) → (0 < r → r ≡ rd → ⊥) → put registers rd value r ≡ registers r
-unfolding put
-put_other registers rd value r other = go (eqb r rd) refl (ltb 0 rd) refl
-  where
-    go : (t : Bool) → eqb r rd ≡ t → (u : Bool) → ltb 0 rd ≡ u → cond (t && u) value (registers r) ≡ registers r
-    go true e true f =
-        let same : r ≡ rd = grind (arith, nat_tests) in
-        let some : 0 < rd = grind (arith, nat_tests) in
-        absurd (other (subst (λ (x : ℕ). 0 < x) (sym same) some) same)
-    go true e false f = refl
-    go false e u f = refl
-
-set_changes : (l : ProcessorState) (n : NodeMemory) (rd value : ℕ) (o : WordOutcome) → o.lane ≡ set_register l rd value → o.local ≡ n → ChangesOne rd l n o
-set_changes l n rd value o lane local = record {
-  registers = λ r other. ap (λ (x : ProcessorState). x.registers r) lane ∙ put_other l.registers rd value r other;
-  private = ap (λ (x : ProcessorState). x.private) lane;
-  local = local;
-}
-
-same_changes : (l : ProcessorState) (n : NodeMemory) (rd : ℕ) (o : WordOutcome) → o.lane ≡ l → o.local ≡ n → ChangesOne rd l n o
-same_changes l n rd o lane local = record {
-  registers = λ r other. ap (λ (x : ProcessorState). x.registers r) lane;
-  private = ap (λ (x : ProcessorState). x.private) lane;
-  local = local;
-}
-
-load_changes : (program : Program) (l : ProcessorState) (n : NodeMemory) (k : LoadKind) (r a : ℕ) (region : Region) → ChangesOne r l n (load program l n k r a region)
-load_changes program l n k r a Memory = set_changes l n r _ _ refl refl
-load_changes program l n k r a (StateOf line) = set_changes l n r _ _ refl refl
-load_changes program l n k r a (Spill j) = set_changes l n r _ _ refl refl
-load_changes program l n k r a Elsewhere = set_changes l n r _ _ refl refl
-
--- a demand that stores nothing
-demand_changes : (d : Demand) (op : MicroOp) (registers : ℕ → ℕ) (program : Program) (place at : ℕ) (l : ProcessorState) (n : NodeMemory) → Changes None op registers (Demands d) → ChangesOne op.rd l n (native program place at l n d)
-demand_changes (Sets r value) op registers program place at l n is = rw is (set_changes l n op.rd _ _ refl refl)
-demand_changes Continues op registers program place at l n is = same_changes l n op.rd _ refl refl
-demand_changes (Jumps r target) op registers program place at l n is = rw is (go (eqb (target % 4) 0))
-  where
-    go : (t : Bool) → ChangesOne op.rd l n (cond t (only_moves (set_register l op.rd (next_pc at)) n (To target)) (exit_by l n (Misaligned place)))
-    go true = set_changes l n op.rd _ _ refl refl
-    go false = same_changes l n op.rd _ refl refl
-demand_changes (Branches target) op registers program place at l n is = go (eqb (target % 4) 0)
-  where
-    go : (t : Bool) → ChangesOne op.rd l n (cond t (only_moves l n (To target)) (exit_by l n (Misaligned place)))
-    go true = same_changes l n op.rd _ refl refl
-    go false = same_changes l n op.rd _ refl refl
-demand_changes (Loads k r a) op registers program place at l n is = rw is (go (is_aligned (width_of k) a))
-  where
-    go : (t : Bool) → ChangesOne op.rd l n (cond t (load program l n k op.rd a (region_of a)) (exit_by l n (Misaligned place)))
-    go true = load_changes program l n k op.rd a (region_of a)
-    go false = same_changes l n op.rd _ refl refl
-demand_changes (Stores w a value) op registers program place at l n is = absurd is
-demand_changes Calls op registers program place at l n is = absurd is
-demand_changes (Traps e) op registers program place at l n is = absurd is
-demand_changes (Reserves r a) op registers program place at l n is = absurd is
-demand_changes (StoresIf r a value) op registers program place at l n is = absurd is
-demand_changes (Updates o r a value) op registers program place at l n is = absurd is
-
-enter_changes : (place rd : ℕ) (l : ProcessorState) (n : NodeMemory) (original : ℕ) → ChangesOne rd l n (indirect place l n 0 original)
-enter_changes place rd l n original = go (eqb (original % 4) 0)
-  where
-    go : (t : Bool) → ChangesOne rd l n (cond t (only_moves (set_register l 0 (next_pc place)) n (Enters original)) (exit_by l n (Misaligned place)))
-    go true = record {
-      registers = λ r other. ap (λ (g : ℕ → ℕ). g r) (put_zero l.registers (next_pc place));
-      private = refl;
-      local = refl;
-    }
-    go false = same_changes l n rd _ refl refl
-
--- the processor's next address is all that a move changes of what takes it back
-entered_same : (l : ProcessorState) (original : ℕ) (new : Option ℕ) → ((enter l original new).registers ≡ l.registers) × ((enter l original new).private ≡ l.private)
-entered_same l original None = (refl, refl)
-entered_same l original (Some new) = (refl, refl)
-
-moved_same : (image : List Cell) (l : ProcessorState) (m : Move) → ((lane_after image l m).registers ≡ l.registers) × ((lane_after image l m).private ≡ l.private)
-moved_same image l Next = (refl, refl)
-moved_same image l Again = (refl, refl)
-moved_same image l (To address) = (refl, refl)
-moved_same image l (Enters original) = entered_same l original (new_of image original)
-moved_same image l (Waits resume want more) = (refl, refl)
-moved_same image l (Leaves e) = (refl, refl)
-
--- 3. What takes back one micro-op more
-
--- another lane and what words see, of which a micro-op changed one register and these bytes
-pub record After (rd : ℕ) (l : kept.ProcessorState) (s : Shelf) (l' : kept.ProcessorState) (s' : Shelf) (h : Held) : Type 0 where
-  pub touches : TouchesOnly rd l s l' s'
-  pub held : held_of l' s' ≡ h
-
-mild_after : (image : List Cell) (rd at k : ℕ) (l : kept.ProcessorState) (s : Shelf) (l' : kept.ProcessorState) (s' : Shelf) (o : WordOutcome) → ChangesOne rd (lane_of l (word_address at)) (local_of s) o → Follows image o (ground_of s) (word_address k) l' s' → After rd l s l' s' (held_of l s)
-mild_after image rd at k l s l' s' o one f =
-    let moved = moved_same image o.lane o.move in
-    let local = f.local ∙ one.local in
-    let private : (lane_of l' (word_address k)).private ≡ (lane_of l (word_address at)).private = ap (λ (x : ProcessorState). x.private) f.lane ∙ moved.1 ∙ one.private in
-    record {
-      touches = record {
-        registers = λ r other. ap (λ (x : ProcessorState). x.registers r) f.lane ∙ ap (λ (g : ℕ → ℕ). g r) moved.0 ∙ one.registers r other;
-        state = ap (λ (x : NodeMemory). x.state) local;
-        reservation = ap (λ (x : NodeMemory). x.reservation) local;
-        ground_same = f.ground_same;
-      };
-      held = λ t. record { copy = (local t).copy; private = private t };
-    }
+-- 2. Stores that are noted
 
 -- what a store changes
 pub record ChangesBytes (l : ProcessorState) (n : NodeMemory) (o : WordOutcome) (h : Held) : Type 0 where
@@ -332,169 +145,195 @@ store_changes program l n w a v (StateOf line) = record { registers = refl; held
 store_changes program l n w a v (Spill k) = record { registers = refl; held = refl; state = refl; reservation = refl }
 store_changes program l n w a v Elsewhere = record { registers = refl; held = refl; state = refl; reservation = refl }
 
-native_stores : (program : Program) (place at : ℕ) (l : ProcessorState) (n : NodeMemory) (w : Width) (a v : ℕ) → is_aligned w a ≡ true → native program place at l n (Stores w a v) ≡ store program l n w a v (region_of a)
-native_stores program place at l n w a v aligned = rw aligned refl
-
-store_after : (image : List Cell) (rd at k : ℕ) (l : kept.ProcessorState) (s : Shelf) (l' : kept.ProcessorState) (s' : Shelf) (o : WordOutcome) (held : Held) → ChangesBytes (lane_of l (word_address at)) (local_of s) o held → Follows image o (ground_of s) (word_address k) l' s' → After rd l s l' s' held
-store_after image rd at k l s l' s' o held bytes f =
-    let moved = moved_same image o.lane o.move in
-    let private : (lane_of l' (word_address k)).private ≡ o.lane.private = ap (λ (x : ProcessorState). x.private) f.lane ∙ moved.1 in
-    let same : held_of l' s' ≡ held_at o.lane o.local = λ t. record { copy = (f.local t).copy; private = private t } in
-    record {
-      touches = record {
-        registers = λ r other. ap (λ (x : ProcessorState). x.registers r) f.lane ∙ ap (λ (g : ℕ → ℕ). g r) moved.0 ∙ ap (λ (g : ℕ → ℕ). g r) bytes.registers;
-        state = ap (λ (x : NodeMemory). x.state) f.local ∙ bytes.state;
-        reservation = ap (λ (x : NodeMemory). x.reservation) f.local ∙ bytes.reservation;
-        ground_same = f.ground_same;
-      };
-      held = same ∙ bytes.held;
-    }
-
--- a micro-op, noted, may be taken back
-meaning_taken : (image : List Cell) (w : Option Width) (op : MicroOp) (m : Meaning) (at k : ℕ) (l : kept.ProcessorState) (s : Shelf) (l' : kept.ProcessorState) (s' : Shelf) (old new : List Note)
-    → Changes w op (registers_of l.registers) m → StepsTo image m at l s l' s' (Some k)
-    → NotesOr (byte_at (program_of s.program) (lane_of l (word_address at)) (local_of s)) w (sum_address op (registers_of l.registers)) old new
-    → TouchesOnly op.rd l s l' s' × (taken_back (program_of s.program) new (held_of l' s') ≡ taken_back (program_of s.program) old (held_of l s))
-meaning_taken image None op Unserved at k l s l' s' old new is steps notes = absurd steps
-meaning_taken image None op (EntersBy original) at k l s l' s' old new is steps notes =
-    let after = mild_after image op.rd at k l s l' s' _ (enter_changes (word_address at) op.rd (lane_of l (word_address at)) (local_of s) original) (steps (word_address at)) in
-    (after.touches, ap (λ (h : Held). taken_back (program_of s.program) new h) after.held ∙ ap (λ (ns : List Note). taken_back (program_of s.program) ns (held_of l s)) notes)
-meaning_taken image None op (Demands d) at k l s l' s' old new is steps notes =
-    let after = mild_after image op.rd at k l s l' s' _ (demand_changes d op (registers_of l.registers) (program_of s.program) at (word_address at) (lane_of l (word_address at)) (local_of s) is) (steps at) in
-    (after.touches, ap (λ (h : Held). taken_back (program_of s.program) new h) after.held ∙ ap (λ (ns : List Note). taken_back (program_of s.program) ns (held_of l s)) notes)
-meaning_taken image (Some w) op m at k l s l' s' old new is steps notes =
-    let p = program_of s.program in
-    let a = sum_address op (registers_of l.registers) in
-    let v = reg (registers_of l.registers) op.rs2 in
-    let lane = lane_of l (word_address at) in
-    let n : Note = record { width = w; address = a; value = notes.value } in
-    let stores = subst (λ (x : Meaning). StepsTo image x at l s l' s' (Some k)) is steps in
-    let follows = subst (λ (o : WordOutcome). Follows image o (ground_of s) (word_address k) l' s') (native_stores p at (word_address at) lane (local_of s) w a v notes.aligned) (stores at) in
-    let after = store_after image op.rd at k l s l' s' _ _ (store_changes p lane (local_of s) w a v (region_of a)) follows in
-    let undo : undone p n (held_of l' s') ≡ held_of l s =
-    ap (undone p n) after.held ∙ undone_over p w a v notes.value (held_of l s) (region_of a) ∙ undone_same p lane (local_of s) w a notes.value (region_of a) notes.aligned notes.bytes in
-    (after.touches, ap (λ (ns : List Note). taken_back p ns (held_of l' s')) notes.note ∙ taken_back_push p old n (held_of l' s') ∙ ap (taken_back p old) undo)
-
-notes_aligned : (bytes : ℕ → ℕ) (w : Option Width) (a : ℕ) (old new : List Note) → NotesOr bytes w a old new → All IsAlignedNote old → All IsAlignedNote new
-notes_aligned bytes None a old new notes all = subst (All IsAlignedNote) (sym notes) all
-notes_aligned bytes (Some w) a old new notes all =
-    subst (All IsAlignedNote) (sym notes.note) (All-push IsAlignedNote old (record { width = w; address = a; value = notes.value }) all notes.aligned)
-
 pub seen_program : (s seen : Shelf) → ground_of s ≡ ground_of seen → program_of s.program ≡ program_of seen.program
 seen_program s seen same = ap (λ (g : Ground). program_of g.program) same
 
--- a micro-op more, that was noted, is taken back too
-pub taken_on : (image : List Cell) (op : MicroOp) (at k : ℕ) (l : kept.ProcessorState) (s : Shelf) (l' : kept.ProcessorState) (s' : Shelf) (saved : Saved) (old new : List Note) (first : kept.ProcessorState) (seen : Shelf)
-    → op.rd < 32 → StepsTo image (meaning_of image_base op (registers_of l.registers)) at l s l' s' (Some k)
-    → NotesOr (byte_at (program_of s.program) (lane_of l (word_address at)) (local_of s)) (store_width op.kind) (sum_address op (registers_of l.registers)) old new
-    → TakesBack saved old l s first seen → TakesBack saved new l' s' first seen
-taken_on image op at k l s l' s' saved old new first seen low steps notes back =
-    let taken = meaning_taken image (store_width op.kind) op (meaning_of image_base op (registers_of l.registers)) at k l s l' s' old new (kind_changes op.kind image_base op (registers_of l.registers)) steps notes in
-    let program = seen_program s seen back.ground_same in
-    record {
-      aligned = notes_aligned _ (store_width op.kind) _ old new notes back.aligned;
-      saves = back.saves;
-      others = λ r other. taken.0.registers r (λ some same. let high = other some in omega (arith, high, same, low)) ∙ back.others r other;
-      held = ap (λ (p : Program). taken_back p new (held_of l' s')) (sym program) ∙ taken.1 ∙ ap (λ (p : Program). taken_back p old (held_of l s)) program ∙ back.held;
-      state = taken.0.state ∙ back.state;
-      reservation = taken.0.reservation ∙ back.reservation;
-      ground_same = taken.0.ground_same ∙ back.ground_same;
-    }
-
-noted_same : (p : Program) (l : ProcessorState) (n : NodeMemory) (w : Option Width) (a : ℕ) (old new : List Note) → NotesOr (byte_at p l n) w a old new → taken_back p new (held_at l n) ≡ taken_back p old (held_at l n)
-noted_same p l n None a old new notes = ap (λ (ns : List Note). taken_back p ns (held_at l n)) notes
-noted_same p l n (Some w) a old new notes =
+-- what is noted, and not stored over yet
+noted_still : (p : Program) (l : ProcessorState) (n : NodeMemory) (w : Width) (a : ℕ) (old new : List Note)
+    → Notes (byte_at p l n) w a old new → taken_back p new (held_at l n) ≡ taken_back p old (held_at l n)
+noted_still p l n w a old new notes =
     let m : Note = record { width = w; address = a; value = notes.value } in
-    ap (λ (ns : List Note). taken_back p ns (held_at l n)) notes.note ∙ taken_back_push p old m (held_at l n) ∙ ap (taken_back p old) (undone_same p l n w a notes.value (region_of a) notes.aligned notes.bytes)
+    ap (λ (ns : List Note). taken_back p ns (held_at l n)) notes.note ∙ taken_back_push p old m (held_at l n)
+    ∙ ap (taken_back p old) (undone_same p l n w a notes.value (region_of a) notes.aligned notes.bytes)
 
--- as is one that was noted, and not executed
-pub taken_still : (op : MicroOp) (at : ℕ) (l : kept.ProcessorState) (s : Shelf) (l' : kept.ProcessorState) (s' : Shelf) (saved : Saved) (old new : List Note) (first : kept.ProcessorState) (seen : Shelf)
-    → l' ≡ l → s' ≡ s
-    → NotesOr (byte_at (program_of s.program) (lane_of l (word_address at)) (local_of s)) (store_width op.kind) (sum_address op (registers_of l.registers)) old new
-    → TakesBack saved old l s first seen → TakesBack saved new l' s' first seen
-taken_still op at l s l' s' saved old new first seen lane shelf notes back =
-    let program = seen_program s seen back.ground_same in
-    let same : TakesBack saved new l s first seen = record {
-      aligned = notes_aligned _ (store_width op.kind) _ old new notes back.aligned;
-      saves = back.saves;
-      others = back.others;
-      held = ap (λ (p : Program). taken_back p new (held_of l s)) (sym program) ∙ noted_same (program_of s.program) (lane_of l (word_address at)) (local_of s) (store_width op.kind) _ old new notes ∙ ap (λ (p : Program). taken_back p old (held_of l s)) program ∙ back.held;
-      state = back.state;
-      reservation = back.reservation;
-      ground_same = back.ground_same;
-    } in
-    subst (λ (x : kept.ProcessorState). TakesBack saved new x s' first seen) (sym lane) (subst (λ (x : Shelf). TakesBack saved new l x first seen) (sym shelf) same)
+-- and stored over
+noted_over : (p : Program) (l : ProcessorState) (n : NodeMemory) (w : Width) (a v : ℕ) (old new : List Note)
+    → Notes (byte_at p l n) w a old new
+    → taken_back p new (held_stored p w a v (held_at l n) (region_of a)) ≡ taken_back p old (held_at l n)
+noted_over p l n w a v old new notes =
+    let m : Note = record { width = w; address = a; value = notes.value } in
+    let h = held_stored p w a v (held_at l n) (region_of a) in
+    ap (λ (ns : List Note). taken_back p ns h) notes.note ∙ taken_back_push p old m h
+    ∙ ap (taken_back p old) (undone_over p w a v notes.value (held_at l n) (region_of a)
+    ∙ undone_same p l n w a notes.value (region_of a) notes.aligned notes.bytes)
 
-pub taken_by : (op : MicroOp) (image : List Cell) (at : ℕ) (o : Option ℕ) (l : kept.ProcessorState) (s : Shelf) (l' : kept.ProcessorState) (s' : Shelf) (saved : Saved) (old new : List Note) (first : kept.ProcessorState) (seen : Shelf)
-    → op.rd < 32 → StepsTo image (meaning_of image_base op (registers_of l.registers)) at l s l' s' o
-    → NotesOr (byte_at (program_of s.program) (lane_of l (word_address at)) (local_of s)) (store_width op.kind) (sum_address op (registers_of l.registers)) old new
-    → TakesBack saved old l s first seen → TakesBack saved new l' s' first seen
-taken_by op image at None l s l' s' saved old new first seen low steps notes back = taken_still op at l s l' s' saved old new first seen steps.0 steps.1 notes back
-taken_by op image at (Some k) l s l' s' saved old new first seen low steps notes back = taken_on image op at k l s l' s' saved old new first seen low steps notes back
+notes_aligned : (bytes : ℕ → ℕ) (w : Width) (a : ℕ) (old new : List Note) → Notes bytes w a old new
+    → All IsAlignedNote old → All IsAlignedNote new
+notes_aligned bytes w a old new notes all =
+    subst (All IsAlignedNote) (sym notes.note)
+    (All-push IsAlignedNote old (record { width = w; address = a; value = notes.value }) all notes.aligned)
 
--- a micro-op that doesn't store has nothing to be noted
-pub none_noted : (f : ℕ → ℕ) (w : Option Width) (a : ℕ) (notes : List Note) → None ≡ w → NotesOr f w a notes notes
-none_noted f None a notes is = refl
-none_noted f (Some w) a notes is = absurd (cc)
+pub undoable_same : (b : ExecState) → StaysUndoable b b
+undoable_same b on = (on, λ saved first seen back. back)
+
+pub undoable_both : (b m b' : ExecState) → StaysUndoable b m → StaysUndoable m b' → StaysUndoable b b'
+undoable_both b m b' first next on =
+    let one = first on in
+    let two = next one.0 in
+    (two.0, λ saved f seen back. two.1 saved f seen (one.1 saved f seen back))
+
+back_same : (p : Program) (old new : List Note) (h h' : Held) → new ≡ old → h' ≡ h
+    → taken_back p new h' ≡ taken_back p old h
+back_same p old new h h' notes held = λ t. taken_back p (notes t) (held t)
+
+back_held : (p q : Program) (new : List Note) (h h' : Held) → p ≡ q → h' ≡ h
+    → taken_back q new h' ≡ taken_back p new h
+back_held p q new h h' program held = λ t. taken_back (sym program t) new (held t)
+
+-- what changes no byte, and of what words see nothing
+pub undoable_mild : (b b' : ExecState) → b'.log ≡ b.log → held_of b'.lane b'.local ≡ held_of b.lane b.local
+    → local_of b'.local ≡ local_of b.local → ground_of b'.local ≡ ground_of b.local → StaysUndoable b b'
+undoable_mild b b' log held local ground on = (
+  ap (λ (x : StoreLog). x.on) log ∙ on,
+  λ saved first seen back. record {
+    aligned = subst (All IsAlignedNote) (ap (λ (x : StoreLog). x.notes.items) (sym log)) back.aligned;
+    saves = back.saves;
+    held = back_same (program_of seen.program) b.log.notes.items b'.log.notes.items (held_of b.lane b.local)
+        (held_of b'.lane b'.local) (ap (λ (x : StoreLog). x.notes.items) log) held ∙ back.held;
+    state = ap (λ (x : NodeMemory). x.state) local ∙ back.state;
+    reservation = ap (λ (x : NodeMemory). x.reservation) local ∙ back.reservation;
+    ground_same = ground ∙ back.ground_same;
+  },
+)
+
+-- a store that is noted, and made
+pub undoable_stored : (b b' : ExecState) (w : Width) (a v at : ℕ) → b'.log.on ≡ b.log.on
+    → (b.log.on ≡ true → Notes (byte_at (program_of b.local.program) (lane_of b.lane at) (local_of b.local)) w a
+    b.log.notes.items b'.log.notes.items)
+    → LeavesBehind (store (program_of b.local.program) (lane_of b.lane at) (local_of b.local) w a v (region_of a))
+    (ground_of b.local) at b'.lane b'.local
+    → StaysUndoable b b'
+undoable_stored b b' w a v at same noted leaves on =
+    let p = program_of b.local.program in
+    let l = lane_of b.lane at in
+    let n = local_of b.local in
+    let old = b.log.notes.items in
+    let new = b'.log.notes.items in
+    let notes = noted on in
+    let bytes = store_changes p l n w a v (region_of a) in
+    let o = store p l n w a v (region_of a) in
+    let left : held_of b'.lane b'.local ≡ held_at o.lane o.local =
+    λ t. record { copy = (leaves.local t).copy; private = (leaves.lane t).private } in
+    let held : held_of b'.lane b'.local ≡ held_stored p w a v (held_of b.lane b.local) (region_of a) =
+    left ∙ bytes.held in (
+      same ∙ on,
+      λ saved first seen back.
+          let program = seen_program b.local seen back.ground_same in
+          record {
+            aligned = notes_aligned _ w a old new notes back.aligned;
+            saves = back.saves;
+            held = back_held p (program_of seen.program) new _ _ program held ∙ noted_over p l n w a v old new notes
+                ∙ ap (λ (q : Program). taken_back q old (held_of b.lane b.local)) program ∙ back.held;
+            state = ap (λ (x : NodeMemory). x.state) leaves.local ∙ bytes.state ∙ back.state;
+            reservation = ap (λ (x : NodeMemory). x.reservation) leaves.local ∙ bytes.reservation ∙ back.reservation;
+            ground_same = leaves.ground_same ∙ back.ground_same;
+          },
+    )
+
+-- and one that is noted, and not made
+pub undoable_noted : (b b' : ExecState) (w : Width) (a at : ℕ) → b'.log.on ≡ b.log.on
+    → (b.log.on ≡ true → Notes (byte_at (program_of b.local.program) (lane_of b.lane at) (local_of b.local)) w a
+    b.log.notes.items b'.log.notes.items)
+    → b'.lane ≡ b.lane → b'.local ≡ b.local → StaysUndoable b b'
+undoable_noted b b' w a at same noted lane local on =
+    let p = program_of b.local.program in
+    let l = lane_of b.lane at in
+    let n = local_of b.local in
+    let old = b.log.notes.items in
+    let new = b'.log.notes.items in
+    let notes = noted on in
+    let held : held_of b'.lane b'.local ≡ held_of b.lane b.local = λ t. held_of (lane t) (local t) in (
+      same ∙ on,
+      λ saved first seen back.
+          let program = seen_program b.local seen back.ground_same in
+          record {
+            aligned = notes_aligned _ w a old new notes back.aligned;
+            saves = back.saves;
+            held = back_held p (program_of seen.program) new _ _ program held ∙ noted_still p l n w a old new notes
+                ∙ ap (λ (q : Program). taken_back q old (held_of b.lane b.local)) program ∙ back.held;
+            state = ap (λ (x : Shelf). (local_of x).state) local ∙ back.state;
+            reservation = ap (λ (x : Shelf). x.reservation) local ∙ back.reservation;
+            ground_same = ap ground_of local ∙ back.ground_same;
+          },
+    )
+
+-- one that is refused
+pub undoable_refused : (b b' : ExecState) → b'.lane ≡ b.lane → b'.local ≡ b.local → b'.log.on ≡ b.log.on
+    → b'.log.notes.items ≡ b.log.notes.items → StaysUndoable b b'
+undoable_refused b b' lane local same notes on = (
+  same ∙ on,
+  λ saved first seen back. subst (λ (ns : List Note). TakesBack saved ns b'.lane b'.local first seen) (sym notes)
+      (subst (λ (l : kept.ProcessorState). TakesBack saved b.log.notes.items l b'.local first seen) (sym lane)
+      (subst (λ (s : Shelf). TakesBack saved b.log.notes.items b.lane s first seen) (sym local) back)),
+)
+
+-- the same, by the log as it was noted into
+pub undoable_logged : (b b' : ExecState) (w : Width) (x a v : ℕ) (log : StoreLog) → x ≡ a → log.on ≡ b.log.on
+    → (b.log.on ≡ true → Notes (byte_at (program_of b.local.program) (lane_of b.lane 0) (local_of b.local)) w x
+    b.log.notes.items log.notes.items) → b'.log ≡ log
+    → LeavesBehind (store (program_of b.local.program) (lane_of b.lane 0) (local_of b.local) w a v (region_of a))
+    (ground_of b.local) 0 b'.lane b'.local → StaysUndoable b b'
+undoable_logged b b' w x a v log is same noted logged leaves =
+    let m = byte_at (program_of b.local.program) (lane_of b.lane 0) (local_of b.local) in
+    undoable_stored b b' w a v 0 (ap (λ (y : StoreLog). y.on) logged ∙ same)
+    (λ on. subst (λ (y : StoreLog). Notes m w a b.log.notes.items y.notes.items) (sym logged)
+    (subst (λ (y : ℕ). Notes m w y b.log.notes.items log.notes.items) is (noted on))) leaves
+
+pub undoable_left : (b b' : ExecState) (w : Width) (a : ℕ) (log : StoreLog) → log.on ≡ b.log.on
+    → (b.log.on ≡ true → Notes (byte_at (program_of b.local.program) (lane_of b.lane 0) (local_of b.local)) w a
+    b.log.notes.items log.notes.items) → b'.log ≡ log → b'.lane ≡ b.lane → b'.local ≡ b.local → StaysUndoable b b'
+undoable_left b b' w a log same noted logged lane local =
+    let m = byte_at (program_of b.local.program) (lane_of b.lane 0) (local_of b.local) in
+    undoable_noted b b' w a 0 (ap (λ (y : StoreLog). y.on) logged ∙ same)
+    (λ on. subst (λ (y : StoreLog). Notes m w a b.log.notes.items y.notes.items) (sym logged) (noted on)) lane local
+
+-- a load
+load_keeps : (program : Program) (l : ProcessorState) (n : NodeMemory) (k : LoadKind) (r a : ℕ) (region : Region)
+    → ((load program l n k r a region).lane.private ≡ l.private) × ((load program l n k r a region).local ≡ n)
+load_keeps program l n k r a Memory = (refl, refl)
+load_keeps program l n k r a (StateOf line) = (refl, refl)
+load_keeps program l n k r a (Spill j) = (refl, refl)
+load_keeps program l n k r a Elsewhere = (refl, refl)
+
+pub undoable_loaded : (b b' : ExecState) (k : LoadKind) (r a at : ℕ) → b'.log ≡ b.log
+    → LeavesBehind (load (program_of b.local.program) (lane_of b.lane at) (local_of b.local) k r a (region_of a))
+    (ground_of b.local) at b'.lane b'.local
+    → StaysUndoable b b'
+undoable_loaded b b' k r a at log leaves =
+    let keeps = load_keeps (program_of b.local.program) (lane_of b.lane at) (local_of b.local) k r a (region_of a) in
+    let local = leaves.local ∙ keeps.1 in
+    let private = ap (λ (x : ProcessorState). x.private) leaves.lane ∙ keeps.0 in
+    undoable_mild b b' log (λ t. record { copy = (local t).copy; private = private t }) local leaves.ground_same
+
+-- where no store is noted there is nothing to be taken back
+pub undoable_off : (b b' : ExecState) → b.log.on ≡ false → StaysUndoable b b'
+undoable_off b b' off on = let both : true ≡ false = sym on ∙ off in absurd (cc)
 
 -- no word is taken back by an empty undo_log
 pub taken_none : (saved : Saved) (l : kept.ProcessorState) (s : Shelf) → Saves saved l → TakesBack saved [] l s l s
 taken_none saved l s saves = record {
   aligned = All-nil IsAlignedNote;
   saves = saves;
-  others = λ r other. refl;
   held = refl;
   state = refl;
   reservation = refl;
   ground_same = refl;
 }
 
--- 4. Registers that are saved, and put back
-
-reg_some : (f : ℕ → ℕ) (r : ℕ) → 0 < r → reg f r ≡ f r
-unfolding reg
-reg_some f r some = let t : eqb r 0 ≡ false = grind (arith, nat_tests) in rw t refl
-
-put_at : (f : ℕ → ℕ) (k v : ℕ) → 0 < k → put f k v k ≡ v
-unfolding put
-put_at f k v some =
-    let t : eqb k k ≡ true = grind (arith, nat_tests) in
-    let u : ltb 0 k ≡ true = grind (arith, nat_tests) in
-    rw (t, u) refl
-
-pub saved_on : (regs : List ℕ) (f : ℕ → ℕ) (k v : ℕ) → length regs ≡ 32 → 0 < k → k < 32 → v ≡ reg f k
-    → ((r : ℕ) → 0 < r → r < k → slice_index regs r ≡ f r)
-    → (r : ℕ) → 0 < r → r < k + 1 → slice_index (slice_set regs k v) r ≡ f r
-saved_on regs f k v len some low is before r more high = elim (eqb_tells r k) [
-  | inl e ↦ get_or-set_at regs k r v 0 e.1 (omega (arith, len, low)) ∙ is ∙ reg_some f k some ∙ ap f (sym e.1)
-  | inr e ↦ get_or-set_other regs k r v 0 e.1 ∙ before r more (let apart = e.1 in below r k high apart)
-]
-  where
-    below : (r k : ℕ) → r < k + 1 → (r ≡ k → ⊥) → r < k
-    below r k high apart = omega (arith, high, apart)
-
-pub restored_on : (old new : ℕ → ℕ) (saved : List ℕ) (k n v : ℕ) → new ≡ put old n v → n ≡ k → v ≡ slice_index saved k → 0 < k
-    → ((r : ℕ) → 0 < r → r < k → old r ≡ slice_index saved r)
-    → (r : ℕ) → 0 < r → r < k + 1 → new r ≡ slice_index saved r
-restored_on old new saved k n v is at value some before r more high = elim (eqb_tells r k) [
-  | inl e ↦ ap (λ (g : ℕ → ℕ). g r) is ∙ ap (λ x. put old x v r) at ∙ ap (put old k v) e.1 ∙ put_at old k v some ∙ value ∙ ap (slice_index saved) (sym e.1)
-  | inr e ↦ ap (λ (g : ℕ → ℕ). g r) is ∙ ap (λ x. put old x v r) at ∙ put_other old k v r (λ _. e.1) ∙ before r more (below r k high e.1)
-]
-  where
-    below : (r k : ℕ) → r < k + 1 → (r ≡ k → ⊥) → r < k
-    below r k high apart = omega (arith, high, apart)
-
-pub others_on : (old new first : ℕ → ℕ) (k n v : ℕ) → new ≡ put old n v → n ≡ k → k < 32
-    → ((r : ℕ) → (0 < r → 32 ≤ r) → old r ≡ first r)
-    → (r : ℕ) → (0 < r → 32 ≤ r) → new r ≡ first r
-others_on old new first k n v is at low before r other =
-    ap (λ (g : ℕ → ℕ). g r) is ∙ ap (λ x. put old x v r) at ∙ put_other old k v r (λ some same. let high = other some in omega (arith, high, same, low)) ∙ before r other
-
--- 5. Taking back
+-- 3. Taking back
 
 abbrev pub Unchanged : (l : kept.ProcessorState) (s : Shelf) (l' : kept.ProcessorState) (s' : Shelf) → Type 0
-Unchanged l s l' s' = ((r : ℕ) → registers_of l'.registers r ≡ registers_of l.registers r)
-    × ((local_of s').state ≡ (local_of s).state) × (s'.reservation ≡ s.reservation)
+Unchanged l s l' s' = ((local_of s').state ≡ (local_of s).state) × (s'.reservation ≡ s.reservation)
 
 pub store_back : (at : ℕ) (l : kept.ProcessorState) (s : Shelf) (l' : kept.ProcessorState) (s' : Shelf) (n : Note)
     → LeavesBehind (store (program_of s.program) (lane_of l at) (local_of s) n.width n.address n.value (region_of n.address)) (ground_of s) at l' s'
@@ -505,7 +344,6 @@ store_back at l s l' s' n leaves =
     let same : held_of l' s' ≡ held_at o.lane o.local = λ t. record { copy = (leaves.local t).copy; private = (leaves.lane t).private } in (
       same ∙ bytes.held,
       (
-        λ r. ap (λ (x : ProcessorState). x.registers r) leaves.lane ∙ ap (λ (g : ℕ → ℕ). g r) bytes.registers,
         ap (λ (x : NodeMemory). x.state) leaves.local ∙ bytes.state,
         ap (λ (x : NodeMemory). x.reservation) leaves.local ∙ bytes.reservation,
       ),

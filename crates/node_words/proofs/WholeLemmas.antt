@@ -7,20 +7,21 @@ use Rattle.rv32_decode.specs.declared.LoadKind.TheVariants.{Word as WordLoad}
 use Rattle.rv32_decode.specs.declared.Width.{Width}
 use Rattle.rv32_ops.specs.Operations.{taken}
 use Rattle.rv32_program.specs.Program.{Program}
-use Rattle.exec_map.specs.Contents.{program_of}
-use Rattle.node_model.specs.rv32_step.Memory.{load_value}
-use Rattle.node_model.specs.rv32_step.Registers.{reg, registers_of}
-use Rattle.node_model.specs.micro_op.Kinds.{branch_kind, kind_of_load, store_kind}
-use Rattle.node_model.specs.micro_op.declared.micro_op.MicroOp.{MicroOp}
-use Rattle.node_model.specs.micro_op.declared.MicroKind.{MicroKind}
-use Rattle.node_model.specs.micro_op.Micro.{Enters, Meaning, meaning_by, meaning_of, sum_address}
-use Rattle.node_model.specs.jump_map.Image.{image_base, most_words}
-use Rattle.node_model.specs.jump_map.Strides.{IsEntry, IsFlagged, IsJump, IsNumber, IsOver, IsPolled, IsRead, IsReadHead, IsWrite, IsWriteHead, StandsAt}
-use Rattle.node_model.specs.Node.{NodeMemory, ProcessorState, byte_at, is_readable_state, is_writable_state, lane_stored, local_stored, set_register}
+use Rattle.node_memory.specs.exec_map.Contents.{program_of}
+use Rattle.node_memory.specs.rv32_step.Memory.{load_value}
+use Rattle.node_memory.specs.rv32_step.Registers.{reg, registers_of}
+use Rattle.node_memory.specs.micro_op.Kinds.{branch_kind, kind_of_load, store_kind}
+use Rattle.node_memory.specs.micro_op.declared.micro_op.MicroOp.{MicroOp}
+use Rattle.node_memory.specs.micro_op.declared.MicroKind.{MicroKind}
+use Rattle.node_memory.specs.micro_op.Micro.{Enters, Meaning, meaning_by, meaning_of, sum_address}
+use Rattle.node_memory.specs.jump_map.Image.{image_base, most_words}
+use Rattle.node_memory.specs.jump_map.Strides.{IsEntry, IsFlagged, IsJump, IsNumber, IsOver, IsPolled, IsRead, IsReadHead, IsWrite, IsWriteHead, StandsAt}
+use Rattle.node_memory.specs.node_model.Node.{NodeMemory, ProcessorState, byte_at, is_readable_state, is_writable_state, lane_stored, local_stored, set_register}
 use Rattle.node_words.specs.declared.exec_state.ExecState.{ExecState}
 use Rattle.node_words.specs.Address.{word_address}
 use Rattle.node_words.specs.GoingOn.{GoesFurther}
-use Rattle.node_words.specs.Kept.{StepsTo, ground_of, lane_of, local_of}
+use Rattle.node_memory.specs.Shelf.{ground_of, local_of}
+use Rattle.node_words.specs.Kept.{StepsTo, lane_of}
 use Rattle.node_words.specs.declared.strides.Going.{Going}
 use Rattle.node_words.specs.Strides.{Gives, IsStored, StridesBy, left_by_check, left_by_head, left_one, state_at}
 use Rattle.node_words.proofs.StepLemmas.{got_below, micro_step}

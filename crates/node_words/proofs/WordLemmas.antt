@@ -1,14 +1,15 @@
 -- A node after a word, by what the word left.
 use Rattle.std.proofs.Common.{◌≡◌, ◌≢◌, ℕ, zero, suc, ◌+◌, ◌<◌, ◌≤◌, true, List, [], refl, sym, ap, ◌∙◌, subst, inl, inr, arith}
 use Rattle.std.proofs.lemmas.Bool.Decides.{eqb_tells}
-use Rattle.exec_map.specs.Contents.{program_of}
-use Rattle.node_model.specs.jump_map.Image.{Cell}
+use Rattle.node_memory.specs.exec_map.Contents.{program_of}
+use Rattle.node_memory.specs.jump_map.Image.{Cell}
 use Rattle.node_words.specs.declared.exec_state.ExecState.{ExecState}
 use Rattle.node_words.specs.declared.lane.ProcessorState as kept
 use Rattle.node_words.specs.Address.{word_address}
-use Rattle.node_model.specs.Node.{Node, Work, Phase, Running, Want, WordOutcome, can_execute, counts_after, printed_also, stop_at, next_outcome, word_outcome}
-use Rattle.node_model.specs.Turns.{Turn, silent, want_all, each_block_once, with_byes, is_ended, after_word, after_wants, word_turn}
-use Rattle.node_words.specs.Kept.{Shelf, Ground, Follows, ground_of, lane_of, local_of}
+use Rattle.node_memory.specs.node_model.Node.{Node, Work, Phase, Running, Want, WordOutcome, can_execute, counts_after, printed_also, stop_at, next_outcome, word_outcome}
+use Rattle.node_memory.specs.node_model.Turns.{Turn, silent, want_all, each_block_once, with_byes, is_ended, after_word, after_wants, word_turn}
+use Rattle.node_memory.specs.Shelf.{Shelf, Ground, ground_of, local_of}
+use Rattle.node_words.specs.Kept.{Follows, lane_of}
 use Rattle.node_words.specs.GoingOn.{BodyGoesOn, GoesFurther, node_on, phase_on}
 use Rattle.node_words.specs.Runs.{GoesOnBy}
 
@@ -132,7 +133,8 @@ goes_one image at words k b b' follows = record {
 pub goes_none : (image : List Cell) (at words : ℕ) (b b' : ExecState) → b'.lane ≡ b.lane → b'.local ≡ b.local
     → GoesFurther image b at words b' at words
 goes_none image at words b b' lane local =
-    let same : ◌≡◌ {A = ExecState} (record b' { counts = b.counts }) b = λ t. record { lane = lane t; local = local t; counts = b.counts } in
+    let same : ◌≡◌ {A = ExecState} (record b' { counts = b.counts; log = b.log }) b =
+    λ t. record { lane = lane t; local = local t; counts = b.counts; log = b.log } in
     record {
       more = omega arith;
       ground_same = ap ground_of local;

@@ -1,14 +1,15 @@
 -- Helps the code alone: bodies from word to word.
 use Rattle.std.specs.Prelude.{◌≡◌, ℕ, zero, suc, ◌+◌, ◌^◌, ◌<◌, ◌≤◌, true, List, Some}
-use Rattle.node_model.specs.rv32_step.declared.Demand.{Demand}
-use Rattle.node_model.specs.micro_op.Micro.{Demands}
-use Rattle.exec_map.specs.Contents.{program_of}
-use Rattle.node_model.specs.jump_map.Image.{Cell}
+use Rattle.node_memory.specs.rv32_step.declared.Demand.{Demand}
+use Rattle.node_memory.specs.micro_op.Micro.{Demands}
+use Rattle.node_memory.specs.exec_map.Contents.{program_of}
+use Rattle.node_memory.specs.jump_map.Image.{Cell}
 use Rattle.node_words.specs.Address.{word_address}
 use Rattle.node_words.specs.declared.exec_state.ExecState.{ExecState}
-use Rattle.node_model.specs.Node.{Node, Work, Phase, Running, can_execute}
+use Rattle.node_memory.specs.node_model.Node.{Node, Work, Phase, Running, can_execute}
 use Rattle.node_words.specs.Runs.{GoesOnBy}
-use Rattle.node_words.specs.Kept.{local_of, lane_of, ground_of, StepsTo}
+use Rattle.node_memory.specs.Shelf.{local_of, ground_of}
+use Rattle.node_words.specs.Kept.{lane_of, StepsTo}
 
 -- the phase of a node that may execute words, after so many that go on
 abbrev pub phase_on : Phase → (words : ℕ) → Phase

@@ -1,96 +1,27 @@
--- Helps the code alone: what a node keeps, what that stands for, and what one word does to it.
-use Rattle.std.specs.Prelude.{◌≡◌, ℕ, ◌+◌, ◌-◌, ◌^◌, ◌/◌, ◌<◌, ◌≤◌, true, false, if◌then◌else◌, List, [], ◌∷◌, Option, Some, None, slice_index}
-use Rattle.elf32_read.specs.Elf.{Elf}
-use Rattle.block_layout.specs.Layout.{Shape, is_shared}
-use Rattle.byte_range.specs.Lines.{LineBytes, lines_memory}
-use Rattle.byte_range.specs.Window.{window_memory}
-use Rattle.exec_map.specs.SharedLines.{HasReadOnlyLines}
-use Rattle.exec_map.specs.Contents.{program_of, class_of_line, first_byte, is_shared as is_shared_class}
-use Rattle.rv32_program.specs.declared.Class.TheVariants.{ReadOnly}
+-- Helps the code alone: what a processor keeps, and what one word does to it and to the node.
+use Rattle.std.specs.Prelude.{◌≡◌, ℕ, List, [], Option, Some, None, slice_index}
+use Rattle.node_memory.specs.byte_range.Window.{window_memory}
+use Rattle.node_memory.specs.exec_map.Contents.{program_of}
 use Rattle.rv32_program.specs.declared.End.TheVariants.{Exited}
-use Rattle.node_model.specs.rv32_step.Registers.{registers_of}
-use Rattle.node_model.specs.state_table.States.{States, line_byte}
-use Rattle.node_model.specs.state_table.LineClasses.{class_byte}
-use Rattle.node_model.specs.flag_memory.Copy.{Copy, memory, place}
-use Rattle.node_model.specs.flag_memory.Flag.{flag_byte}
-use Rattle.node_model.specs.micro_op.Micro.{Meaning, Unserved, Demands, Enters as EntersBy}
-use Rattle.node_model.specs.jump_map.Image.{Cell}
+use Rattle.node_memory.specs.rv32_step.Registers.{registers_of}
+use Rattle.node_memory.specs.micro_op.Micro.{Meaning, Unserved, Demands, Enters as EntersBy}
+use Rattle.node_memory.specs.jump_map.Image.{Cell}
 use Rattle.node_words.specs.Address.{word_address}
-use Rattle.node_model.specs.declared.NodeCounts.{NodeCounts}
+use Rattle.node_memory.specs.node_model.declared.NodeCounts.{NodeCounts}
 use Rattle.node_words.specs.declared.lane.ProcessorState as kept
 use Rattle.node_words.specs.declared.lane.Move as kept_move
 use Rattle.node_words.specs.declared.lane.Move.TheVariants as kept_to
 use Rattle.node_words.specs.declared.lane.Resume as kept_resume
 use Rattle.node_words.specs.declared.lane.Resume.TheVariants as kept_on
-use Rattle.node_words.specs.declared.lane.Want as kept_want
-use Rattle.node_words.specs.declared.lane.Wants as kept_wants
 use Rattle.node_words.specs.declared.lane.Tally as kept_tally
 use Rattle.node_words.specs.declared.lane.Tally.TheVariants as kept_count
 use Rattle.node_words.specs.declared.lane.WordOutcome as kept_outcome
 use Rattle.node_words.specs.declared.serve.Following as kept_following
 use Rattle.node_words.specs.declared.serve.Following.TheVariants as kept_after
 use Rattle.node_words.specs.declared.serve.Served as kept_served
-use Rattle.node_words.specs.declared.region.Region as kept_region
-use Rattle.node_words.specs.declared.region.Region.TheVariants as kept_at
-use Rattle.node_model.specs.Node.{ProcessorState, NodeMemory, Phase, Waiting, Ended, WordOutcome, Move, Next, Again, To, Enters, Waits, Leaves, Resume, PastWord, SameWord, ByLines, Want, Tally, Nothing_counted, FalseMiss, FallsBack, Region, Memory, StateOf, Spill, Elsewhere, first_state, native, indirect, lane_after, phase_after, stop_at, counts_after}
-use Rattle.node_model.specs.Turns.{wants_of}
-
--- what contracts see of what words see of their node
-pub record Shelf : Type 0 where
-  pub program : Elf
-  pub states : States
-  pub copy : Copy
-  pub reservation : Option ℕ
-
--- what no word and no message changes of it
-pub record Ground : Type 0 where
-  pub program : Elf
-  pub layout : Shape
-
-abbrev pub ground_of : Shelf → Ground
-ground_of s = record { program = s.program; layout = s.copy.layout }
-
--- the shared lines of the layout are those of the program, as tests of a line
-abbrev pub HasSharedLines : Elf → Shape → Type 0
-HasSharedLines e layout =
-    (line : ℕ) → is_shared layout line ≡ is_shared_class (class_of_line e line)
-
--- the states and the copy are those of the program's shared lines, and the state bytes of the other
--- lines are those of the start
-pub record HasLines (e : Elf) (states : States) (copy : Copy) : Type 0 where
-  pub one : states.layout ≡ copy.layout
-  pub shared : HasSharedLines e copy.layout
-  pub others : (line : ℕ) → is_shared copy.layout line ≡ false
-      → class_byte states.program line ≡ first_state (class_of_line e line) false
-  pub low : (line : ℕ) → is_shared copy.layout line ≡ true → line < 2 ^ 25
-
--- the bytes of the read-only lines are those that the program begins with
-pub record HasFixed (e : Elf) (fixed : LineBytes) : Type 0 where
-  pub lines : HasReadOnlyLines e fixed
-  pub low : (line : ℕ) → class_of_line e line ≡ ReadOnly → line < 2 ^ 25
-  pub bytes : lines_memory fixed (first_byte e) ≡ first_byte e
-
--- lines from an address on that are shared, and are the first of all
-pub record AreFirstLines (layout : Shape) (base len : ℕ) : Type 0 where
-  pub fits : base + len ≤ 2 ^ 32
-  pub first : (a : ℕ) → base ≤ a → a < base + len
-      → (is_shared layout (a / 64) ≡ true) × (place layout a ≡ a - base)
-
--- the place of an address's byte among those of the shared lines, where its line is shared
-abbrev pub IsPlace : Shape → ℕ → Option ℕ → Type 0
-IsPlace layout a None = is_shared layout (a / 64) ≡ false
-IsPlace layout a (Some k) = (is_shared layout (a / 64) ≡ true) × (k ≡ place layout a)
-
--- the copy by address; outside of the shared lines it holds flag words
-unfoldable pub copy_of : Copy → ℕ → ℕ
-copy_of c a = if is_shared c.layout (a / 64) then memory c a else flag_byte a
-
-abbrev pub local_of : Shelf → NodeMemory
-local_of s = record {
-  copy = copy_of s.copy;
-  state = line_byte s.states;
-  reservation = s.reservation;
-}
+use Rattle.node_memory.specs.node_model.Node.{ProcessorState, Phase, Waiting, Ended, WordOutcome, Move, Next, Again, To, Enters, Waits, Leaves, Resume, PastWord, SameWord, ByLines, Want, Tally, Nothing_counted, FalseMiss, FallsBack, native, indirect, lane_after, phase_after, stop_at, counts_after}
+use Rattle.node_memory.specs.node_model.Turns.{wants_of}
+use Rattle.node_memory.specs.Shelf.{Shelf, Ground, ground_of, local_of, want_of, others_of, all_wants}
 
 abbrev pub lane_of : kept.ProcessorState → ℕ → ProcessorState
 lane_of l at = record {
@@ -102,31 +33,10 @@ lane_of l at = record {
   spills = slice_index l.spills;
 }
 
-abbrev pub region_by : kept_region.Region → Region
-region_by kept_at.Memory = Memory
-region_by (kept_at.StateOf line) = StateOf line
-region_by (kept_at.Spill k) = Spill k
-region_by kept_at.Elsewhere = Elsewhere
-
 abbrev pub resume_of : kept_resume.Resume → Resume
 resume_of kept_on.PastWord = PastWord
 resume_of kept_on.SameWord = SameWord
 resume_of (kept_on.ByLines need low high) = ByLines need low high
-
-abbrev pub want_of : kept_want.Want → Want
-want_of w = record { at = w.at; need = w.need }
-
--- the wants behind the first
-abbrev pub others_of : Option kept_want.Want → List Want
-others_of None = []
-others_of (Some w) = want_of w ∷ []
-
-abbrev pub all_wants : kept_wants.Wants → List Want
-all_wants w = want_of w.first ∷ others_of w.other
-
-abbrev pub wants_in : Option kept_wants.Wants → List Want
-wants_in None = []
-wants_in (Some w) = all_wants w
 
 abbrev pub move_of : kept_move.Move → Move
 move_of kept_to.Next = Next

@@ -1,7 +1,7 @@
 -- Words of a node, one after another.
 use Rattle.std.specs.Prelude.{◌≡◌, ℕ, zero, suc, true}
-use Rattle.node_model.specs.Node.{Node, Work, can_execute}
-use Rattle.node_model.specs.Turns.{silent, word_turn}
+use Rattle.node_memory.specs.node_model.Node.{Node, Work, can_execute}
+use Rattle.node_memory.specs.node_model.Turns.{silent, word_turn}
 
 -- a node goes on to another by so many words, each of which prints nothing and sends nothing
 abbrev pub GoesOnBy : Work → ℕ → Node → Node → Type 0

@@ -2,23 +2,20 @@
 use Rattle.std.specs.Prelude.{◌≡◌, ℕ, ◌+◌, ◌-◌, ◌/◌, ◌%◌, ◌^◌, ◌<◌, ◌≤◌, Bool, true, false, ◌==◌, if◌then◌else◌, nat_le, List, Some, length}
 use Rattle.rv32_decode.specs.declared.LoadKind.{LoadKind}
 use Rattle.rv32_decode.specs.declared.Width.{Width}
-use Rattle.rv32_decode.specs.declared.Width.TheVariants.{Byte}
 use Rattle.rv32_decode.specs.Widths.{is_aligned, width_of}
-use Rattle.byte_range.specs.Memory.{raw}
-use Rattle.rv32_program.specs.Program.{class_at}
-use Rattle.rv32_program.specs.declared.Class.TheVariants.{Shared}
-use Rattle.exec_map.specs.Contents.{program_of}
-use Rattle.node_model.specs.rv32_step.Memory.{load_value}
-use Rattle.node_model.specs.rv32_step.Registers.{reg, registers_of}
-use Rattle.node_model.specs.micro_op.declared.micro_op.MicroOp.{MicroOp}
-use Rattle.node_model.specs.micro_op.Micro.{meaning_of}
-use Rattle.node_model.specs.jump_map.Image.{Cell, image_base, most_words}
-use Rattle.node_model.specs.jump_map.Micro.{AreMicrosOf}
-use Rattle.node_model.specs.Node.{ProcessorState, Memory, byte_at, set_register, store}
+use Rattle.node_memory.specs.exec_map.Contents.{program_of}
+use Rattle.node_memory.specs.rv32_step.Memory.{load_value}
+use Rattle.node_memory.specs.rv32_step.Registers.{reg, registers_of}
+use Rattle.node_memory.specs.micro_op.declared.micro_op.MicroOp.{MicroOp}
+use Rattle.node_memory.specs.micro_op.Micro.{meaning_of}
+use Rattle.node_memory.specs.jump_map.Image.{Cell, image_base, most_words}
+use Rattle.node_memory.specs.jump_map.Micro.{AreMicrosOf}
+use Rattle.node_memory.specs.node_model.Node.{ProcessorState, Memory, byte_at, set_register, store}
 use Rattle.node_words.specs.declared.exec_state.ExecState.{ExecState}
 use Rattle.node_words.specs.declared.strides.Going.{Going}
 use Rattle.node_words.specs.GoingOn.{GoesFurther}
-use Rattle.node_words.specs.Kept.{Shelf, LeavesBehind, StepsTo, ground_of, lane_of, local_of}
+use Rattle.node_memory.specs.Shelf.{ground_of, local_of}
+use Rattle.node_words.specs.Kept.{LeavesBehind, StepsTo, lane_of}
 
 -- a body does what a micro-op means, by one word
 pub record StepsBy (image : List Cell) (m : MicroOp) (from : Going) (b : ExecState) (to : Going)
@@ -52,14 +49,6 @@ abbrev pub IsStriddenBy : List MicroOp → Bool → Going → ExecState → Goin
 IsStriddenBy micros result from b to b' =
     (image : List Cell) → length image ≤ most_words → AreMicrosOf image micros
     → IsTried result (StridesBy image from b to b') from b to b'
-
--- the bytes of a shared line from an aligned address on make this number
-pub record IsLoaded (s : Shelf) (w : Width) (a n : ℕ) : Type 0 where
-  pub aligned : is_aligned w a ≡ true
-  pub shared : class_at (program_of s.program) a ≡ Shared
-  pub low : a < 2 ^ 31
-  pub value : n ≡ raw w (local_of s).copy a
-  pub byte : w ≡ Byte → n < 2 ^ 8
 
 -- what a load from an address gives, where that is aligned and below the state table
 pub record Gives (b : ExecState) (k : LoadKind) (a value : ℕ) : Type 0 where

@@ -1,21 +1,19 @@
 -- Helps the code alone: what takes words back.
-use Rattle.std.specs.Prelude.{◌≡◌, ℕ, ◌+◌, ◌*◌, ◌/◌, ◌%◌, ◌^◌, ◌<◌, ◌≤◌, true, List, [], ◌∷◌, ◌++◌, Option, Some, None, slice_index, All}
+use Rattle.std.specs.Prelude.{◌≡◌, ℕ, ◌+◌, ◌*◌, ◌/◌, ◌%◌, ◌^◌, ◌<◌, true, List, [], ◌∷◌, ◌++◌, All}
 use Rattle.rv32_decode.specs.declared.Width.{Width}
-use Rattle.rv32_decode.specs.declared.Width.TheVariants.{Byte, Half, Word}
 use Rattle.rv32_decode.specs.Widths.{is_aligned, size_of}
-use Rattle.byte_range.specs.Memory.{stored}
-use Rattle.byte_range.specs.Window.{window_memory}
+use Rattle.node_memory.specs.byte_range.Memory.{stored}
+use Rattle.node_memory.specs.byte_range.Window.{window_memory}
 use Rattle.rv32_program.specs.Program.{Program, class_at}
-use Rattle.node_model.specs.rv32_step.Memory.{shared_after, private_after}
-use Rattle.node_model.specs.rv32_step.Registers.{registers_of}
-use Rattle.exec_map.specs.Contents.{program_of}
-use Rattle.node_model.specs.micro_op.declared.MicroKind.{MicroKind}
-use Rattle.node_model.specs.micro_op.declared.MicroKind.TheVariants as kind
+use Rattle.node_memory.specs.rv32_step.Memory.{shared_after, private_after}
+use Rattle.node_memory.specs.exec_map.Contents.{program_of}
 use Rattle.node_words.specs.declared.lane.ProcessorState as kept
-use Rattle.node_words.specs.declared.undo_log.Note.{Note}
+use Rattle.node_words.specs.declared.store_log.Note.{Note}
 use Rattle.node_words.specs.declared.undo_log.Saved.{Saved}
-use Rattle.node_model.specs.Node.{Region, Memory, StateOf, Spill, Elsewhere, region_of}
-use Rattle.node_words.specs.Kept.{Shelf, ground_of, lane_of, local_of, copy_of}
+use Rattle.node_words.specs.declared.exec_state.ExecState.{ExecState}
+use Rattle.node_memory.specs.node_model.Node.{Region, Memory, StateOf, Spill, Elsewhere, region_of}
+use Rattle.node_memory.specs.Shelf.{Shelf, ground_of, local_of, copy_of}
+use Rattle.node_words.specs.Kept.{lane_of}
 
 -- the bytes that stores change: the copy's, and those of the window
 pub record Held : Type 0 where
@@ -47,13 +45,6 @@ taken_back program (n ∷ ns) h = undone program n (taken_back program ns h)
 abbrev pub IsAlignedNote : Note → Type 0
 IsAlignedNote n = is_aligned n.width n.address ≡ true
 
--- how many bytes a micro-op of this kind stores, where it stores
-abbrev pub store_width : MicroKind → Option Width
-store_width kind.StoreByte = Some Byte
-store_width kind.StoreHalf = Some Half
-store_width kind.StoreWord = Some Word
-store_width k = None
-
 -- the number's bytes are those from an address on
 abbrev pub HasBytes : (ℕ → ℕ) → Width → (a value : ℕ) → Type 0
 HasBytes bytes w a value =
@@ -66,44 +57,39 @@ pub record Notes (memory : ℕ → ℕ) (w : Width) (a : ℕ) (old new : List No
   pub aligned : is_aligned w a ≡ true
   pub bytes : HasBytes memory w a value
 
--- what a micro-op overwrites at an address is noted, where it stores so many bytes; or it stores
--- none
-abbrev pub NotesOr : (ℕ → ℕ) → Option Width → (a : ℕ) → (old new : List Note) → Type 0
-NotesOr bytes None a old new = new ≡ old
-NotesOr bytes (Some w) a old new = Notes bytes w a old new
-
 -- the lane's registers and words are saved
 pub record Saves (saved : Saved) (l : kept.ProcessorState) : Type 0 where
-  pub registers : (r : ℕ) → 0 < r → r < 32
-      → slice_index saved.registers r ≡ registers_of l.registers r
+  pub registers : saved.registers ≡ l.registers
   pub written : saved.written ≡ l.written
   pub off : saved.off ≡ l.off
   pub spills : saved.spills ≡ l.spills
 
--- what was saved and noted takes a lane, and what words see, back to others
-pub record TakesBack (saved : Saved) (notes : List Note) (l : kept.ProcessorState) (s : Shelf)
+-- what was saved and noted takes these bytes, and what else words see, back to those of another
+-- lane and to what its words saw
+pub record TakesBytesBack (saved : Saved) (notes : List Note) (h : Held) (s : Shelf)
     (first : kept.ProcessorState) (seen : Shelf) : Type 0 where
   pub aligned : All IsAlignedNote notes
   pub saves : Saves saved first
-  pub others : (r : ℕ) → (0 < r → 32 ≤ r)
-      → registers_of l.registers r ≡ registers_of first.registers r
-  pub held : taken_back (program_of seen.program) notes (held_of l s) ≡ held_of first seen
+  pub held : taken_back (program_of seen.program) notes h ≡ held_of first seen
   pub state : (local_of s).state ≡ (local_of seen).state
   pub reservation : s.reservation ≡ seen.reservation
   pub ground_same : ground_of s ≡ ground_of seen
+
+-- what was saved and noted takes a lane, and what words see, back to others. Of the lane it takes
+-- the bytes back alone, since all else is saved
+abbrev pub TakesBack : Saved → List Note → kept.ProcessorState → Shelf → kept.ProcessorState
+    → Shelf → Type 0
+TakesBack saved notes l s first seen = TakesBytesBack saved notes (held_of l s) s first seen
+
+-- while stores are noted, whatever takes a body back takes back what it becomes
+abbrev pub StaysUndoable : ExecState → ExecState → Type 0
+StaysUndoable b b' = b.log.on ≡ true → (b'.log.on ≡ true)
+    × ((saved : Saved) (first : kept.ProcessorState) (seen : Shelf)
+    → TakesBack saved b.log.notes.items b.lane b.local first seen
+    → TakesBack saved b'.log.notes.items b'.lane b'.local first seen)
 
 -- lanes and what words see that differ in nothing
 pub record AreSame (l : kept.ProcessorState) (s : Shelf) (first : kept.ProcessorState)
     (seen : Shelf) : Type 0 where
   pub lane : (at : ℕ) → lane_of l at ≡ lane_of first at
   pub local : local_of s ≡ local_of seen
-
--- a micro-op changes no register but this one, and of what words see but the bytes
-pub record TouchesOnly (rd : ℕ) (l : kept.ProcessorState) (s : Shelf) (l' : kept.ProcessorState)
-    (s' : Shelf)
-    : Type 0 where
-  pub registers : (r : ℕ) → (0 < r → r ≡ rd → ⊥)
-      → registers_of l'.registers r ≡ registers_of l.registers r
-  pub state : (local_of s').state ≡ (local_of s).state
-  pub reservation : s'.reservation ≡ s.reservation
-  pub ground_same : ground_of s' ≡ ground_of s

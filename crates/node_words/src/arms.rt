@@ -6,32 +6,34 @@
 ghost use Rattle.std.specs.Prelude.{◌≡◌, ◌≢◌, ◌+◌, ◌*◌, ◌/◌, ◌^◌, ◌<◌, ◌≤◌, ℕ, List, Some};
 ghost use Rattle.std.specs.Prelude.{IfSome, true, false};
 ghost use Rattle.rv32_decode.specs.declared.LoadKind.{LoadKind};
-ghost use Rattle.byte_range.specs.Window.{is_in_window};
+ghost use Rattle.node_memory.specs.byte_range.Window.{is_in_window};
 ghost use Rattle.rv32_ops.specs.Operations as operations;
-ghost use Rattle.node_model.specs.rv32_step.Registers.{reg, registers_of};
-ghost use Rattle.node_model.specs.rv32_step.declared.Demand.TheVariants.{Jumps, Loads, Sets, Stores};
-ghost use Rattle.node_model.specs.micro_op.Micro as micro;
-ghost use Rattle.node_model.specs.micro_op.Micro.{Demands, Enters, meaning_of, sum_address};
-ghost use Rattle.node_model.specs.jump_map.Image.{Cell, image_base, most_words};
-ghost use Rattle.node_model.specs.Node as model;
+ghost use Rattle.node_memory.specs.rv32_step.Registers.{reg, registers_of};
+ghost use Rattle.node_memory.specs.rv32_step.declared.Demand.TheVariants.{Jumps, Loads, Sets};
+ghost use Rattle.node_memory.specs.micro_op.Micro as micro;
+ghost use Rattle.node_memory.specs.micro_op.Micro.{Demands, Enters, meaning_of, sum_address};
+ghost use Rattle.node_memory.specs.jump_map.Image.{Cell, image_base, most_words};
+ghost use Rattle.node_memory.specs.node_model.Node as model;
 ghost use Rattle.node_words.specs.Address.{word_address};
 ghost use Rattle.node_words.specs.GoingOn.{DoesNext};
-ghost use Rattle.node_words.specs.Kept.{StepsTo, local_of};
+ghost use Rattle.node_memory.specs.exec_map.Contents.{program_of};
+ghost use Rattle.rv32_decode.specs.Widths.{is_aligned};
+ghost use Rattle.node_memory.specs.Shelf.{ground_of, local_of};
+ghost use Rattle.node_words.specs.Kept.{LeavesBehind, StepsTo, lane_of};
 ghost use Rattle.node_words.specs.Strides.{Gives, IsStored, IsStoredOr, IsTried, StepsBy};
+ghost use Rattle.node_words.specs.UndoLogs.{StaysUndoable};
 
 use crate::exec_state::ExecState;
 use crate::lane::address_of;
-use crate::lines::{is_readable, is_writable};
 use crate::strides::Going;
-use node_model::jump_map::{IMAGE_BASE, Image};
-use node_model::micro_op::MicroOp;
-use node_model::runtime_words::FLAG_WORD;
+use node_memory::byte_range::WINDOW_START;
+use node_memory::jump_map::{IMAGE_BASE, Image};
+use node_memory::micro_op::MicroOp;
+use node_memory::runtime_words::FLAG_WORD;
+use node_memory::{is_readable, is_writable};
 use rv32_decode::{Cond, LoadKind, Op, Width};
 use rv32_ops::{alu, extend, taken};
 use rv32_program::addresses::MEMORY_END;
-
-/// The first address of the window.
-const WINDOW: u32 = 0x7fff_0000;
 
 impl<'a> ExecState<'a> {
     /// Puts a number into a register.
@@ -45,6 +47,8 @@ impl<'a> ExecState<'a> {
             (StepsBy image op.now going.old self.old going.new self.new)
             going.old self.old going.new self.new }
         ensures counts { self.new.counts ≡ self.old.counts }
+        ensures log { self.new.log ≡ self.old.log }
+        ensures undoable { StaysUndoable self.old self.new }
     {
         self.lane.registers.set(op.rd, op.imm);
         going.on(1, 1);
@@ -62,6 +66,8 @@ impl<'a> ExecState<'a> {
             (StepsBy image op.now going.old self.old going.new self.new)
             going.old self.old going.new self.new }
         ensures counts { self.new.counts ≡ self.old.counts }
+        ensures log { self.new.log ≡ self.old.log }
+        ensures undoable { StaysUndoable self.old self.new }
     {
         let value = alu(o, self.lane.registers.get(op.rs1), op.imm);
         self.lane.registers.set(op.rd, value);
@@ -80,6 +86,8 @@ impl<'a> ExecState<'a> {
             (StepsBy image op.now going.old self.old going.new self.new)
             going.old self.old going.new self.new }
         ensures counts { self.new.counts ≡ self.old.counts }
+        ensures log { self.new.log ≡ self.old.log }
+        ensures undoable { StaysUndoable self.old self.new }
     {
         let a = self.lane.registers.get(op.rs1);
         let value = alu(o, a, self.lane.registers.get(op.rs2));
@@ -99,6 +107,8 @@ impl<'a> ExecState<'a> {
             (StepsBy image op.now going.old self.old going.new self.new)
             going.old self.old going.new self.new }
         ensures counts { self.new.counts ≡ self.old.counts }
+        ensures log { self.new.log ≡ self.old.log }
+        ensures undoable { StaysUndoable self.old self.new }
     {
         let a = self.lane.registers.get(op.rs1);
         let value = alu_apart(o, a, self.lane.registers.get(op.rs2));
@@ -131,6 +141,8 @@ impl<'a> ExecState<'a> {
             (StepsBy image op.now going.old self.old going.new self.new)
             going.old self.old going.new self.new }
         ensures counts { self.new.counts ≡ self.old.counts }
+        ensures log { self.new.log ≡ self.old.log }
+        ensures undoable { StaysUndoable self.old self.new }
     {
         let next = address_of(going.at + 1);
         self.lane.registers.set(op.rd, next);
@@ -192,6 +204,8 @@ impl<'a> ExecState<'a> {
             (StepsBy image op.now going.old self.old going.new self.new)
             going.old self.old going.new self.new }
         ensures counts { self.new.counts ≡ self.old.counts }
+        ensures log { self.new.log ≡ self.old.log }
+        ensures undoable { StaysUndoable self.old self.new }
     {
         match self.local.load_near(kind.width(), self.sum_by(op)) {
             Some(raw) => {
@@ -210,7 +224,9 @@ impl<'a> ExecState<'a> {
         }
     }
 
-    /// The same wherever the address lies.
+    /// Loads wherever the address lies, and says whether it does: not where it is misaligned, or
+    /// neither of a line nor of the window.
+    #[tactic(auto, using(crate::proofs::UndoLogLemmas::undoable_same))]
     #[inline(never)]
     fn load_far(&mut self, kind: LoadKind, op: &MicroOp) -> bool
         ensures does { result ≡ true → DoesNext self.old
@@ -219,6 +235,8 @@ impl<'a> ExecState<'a> {
         ensures same { result ≡ false → (self.new.lane ≡ self.old.lane)
             × (self.new.local ≡ self.old.local) }
         ensures counts { self.new.counts ≡ self.old.counts }
+        ensures log { self.new.log ≡ self.old.log }
+        ensures undoable { StaysUndoable self.old self.new }
     {
         let address = self.sum_by(op);
         if kind.width().is_aligned(address) {
@@ -240,8 +258,13 @@ impl<'a> ExecState<'a> {
             (StepsBy image op.now going.old self.old going.new self.new)
             going.old self.old going.new self.new }
         ensures counts { self.new.counts ≡ self.old.counts }
+        ensures log { result ≡ false → self.new.log ≡ self.old.log }
+        ensures undoable { StaysUndoable self.old self.new }
     {
         let address = self.sum_by(op);
+        if !self.log.admits(&self.lane, &self.local, width, address) {
+            return false;
+        }
         let value = self.lane.registers.get(op.rs2);
         if self.local.store_near(width, address, value) {
             going.on(1, 1);
@@ -254,15 +277,23 @@ impl<'a> ExecState<'a> {
         }
     }
 
-    /// The same wherever the address lies.
+    /// Stores wherever the address lies, and says whether it does.
     #[inline(never)]
     fn store_far(&mut self, width: Width, op: &MicroOp) -> bool
-        ensures does { result ≡ true → DoesNext self.old
-            (Stores width (sum_address op.now (registers_of self.old.lane.registers))
-            (reg (registers_of self.old.lane.registers) op.now.rs2)) self.new }
+        ensures aligned { result ≡ is_aligned width
+            (sum_address op.now (registers_of self.old.lane.registers)) }
+        ensures leaves { result ≡ true → (at : ℕ)
+            → let registers = registers_of self.old.lane.registers in
+            let address = sum_address op.now registers in
+            LeavesBehind
+            (model.store (program_of self.old.local.program) (lane_of self.old.lane at)
+            (local_of self.old.local) width address (reg registers op.now.rs2)
+            (model.region_of address)) (ground_of self.old.local) at self.new.lane
+            self.new.local }
         ensures same { result ≡ false → (self.new.lane ≡ self.old.lane)
             × (self.new.local ≡ self.old.local) }
         ensures counts { self.new.counts ≡ self.old.counts }
+        ensures log { self.new.log ≡ self.old.log }
     {
         let address = self.sum_by(op);
         if width.is_aligned(address) {
@@ -306,7 +337,7 @@ impl<'a> ExecState<'a> {
         }
     }
 
-    /// The same, whichever line it is.
+    /// What a load from an address gives where its line may be read, whichever line it is.
     #[inline(never)]
     fn value_readable(&self, kind: LoadKind, address: u32) -> Option<u32>
         ensures value { IfSome result (Gives self.now kind address) }
@@ -344,7 +375,7 @@ impl<'a> ExecState<'a> {
         }
     }
 
-    /// The same, whichever line it is.
+    /// What a load from an address gives, whichever line it is.
     #[inline(never)]
     fn value_far(&self, kind: LoadKind, address: u32) -> Option<u32>
         ensures value { IfSome result (Gives self.now kind address) }
@@ -374,6 +405,7 @@ impl<'a> ExecState<'a> {
         ensures writable { result ≡ true →
             model.is_writable_state ((local_of self.old.local).state (address / 64)) ≡ true }
         ensures counts { self.new.counts ≡ self.old.counts }
+        ensures log { self.new.log ≡ self.old.log }
     {
         if self.local.store_writable(width, address, value) {
             return true;
@@ -381,7 +413,7 @@ impl<'a> ExecState<'a> {
         self.put_far(width, address, value)
     }
 
-    /// The same, whichever line it is.
+    /// Stores at an address where its line may be written, whichever line it is.
     #[inline(never)]
     fn put_far(&mut self, width: Width, address: u32, value: u32) -> bool
         ensures stores { IsStoredOr result (IsStored self.old width address value self.new)
@@ -389,6 +421,7 @@ impl<'a> ExecState<'a> {
         ensures writable { result ≡ true →
             model.is_writable_state ((local_of self.old.local).state (address / 64)) ≡ true }
         ensures counts { self.new.counts ≡ self.old.counts }
+        ensures log { self.new.log ≡ self.old.log }
     {
         if !width.is_aligned(address) || !is_writable(self.local.state(address / 64)) {
             return false;
@@ -406,7 +439,7 @@ impl<'a> ExecState<'a> {
 fn is_in_window(address: u32) -> bool
     ensures { result ≡ is_in_window address }
 {
-    WINDOW <= address && address < MEMORY_END
+    WINDOW_START <= address && address < MEMORY_END
 }
 
 /// The result of an operation that is slow.

@@ -1,31 +1,34 @@
 //! What a node executes words on: its processor's part, and what words see of the node.
 
-ghost use Rattle.std.specs.Prelude.{◌≡◌, ◌+◌, ◌*◌, ◌/◌, ◌%◌, ◌^◌, ◌<◌, ◌≤◌, ℕ, true};
+ghost use Rattle.std.specs.Prelude.{◌≡◌, ◌/◌, ◌%◌, ◌^◌, ◌<◌, ◌≤◌, ℕ, true};
 ghost use Rattle.rv32_decode.specs.Widths.{width_of, is_aligned};
 ghost use Rattle.rv32_program.specs.Program.{class_at};
 ghost use Rattle.rv32_program.specs.declared.Class.TheVariants.{Shared};
-ghost use Rattle.exec_map.specs.Contents.{program_of};
-ghost use Rattle.byte_range.specs.Memory.{raw};
-ghost use Rattle.node_model.specs.rv32_step.Memory.{load_value};
-ghost use Rattle.node_model.specs.Node as model;
-ghost use Rattle.node_words.specs.Kept.{ground_of, local_of, lane_of, LeavesBehind};
-ghost use Rattle.node_model.specs.flag_memory.Flag.{flag_byte as flag_at};
+ghost use Rattle.node_memory.specs.exec_map.Contents.{program_of};
+ghost use Rattle.node_memory.specs.byte_range.Memory.{raw};
+ghost use Rattle.node_memory.specs.rv32_step.Memory.{load_value};
+ghost use Rattle.node_memory.specs.node_model.Node as model;
+ghost use Rattle.node_memory.specs.Shelf.{ground_of, local_of};
+ghost use Rattle.node_words.specs.Kept.{lane_of, LeavesBehind};
+ghost use Rattle.node_memory.specs.flag_memory.Flag.{flag_byte as flag_at};
 
 use crate::lane::ProcessorState;
-use crate::node_memory::NodeMemory;
-use crate::region::{Region, region_of};
-use node_model::NodeCounts;
-use node_model::runtime_words::FLAG_WORD;
+use crate::store_log::StoreLog;
+use node_memory::node_model::NodeCounts;
+use node_memory::runtime_words::FLAG_WORD;
+use node_memory::{NodeMemory, Region, region_of};
 use rv32_decode::{LoadKind, Reg, Width};
 use rv32_ops::extend;
 use rv32_program::addresses::{SPILLS, STATE_LINES, STATE_TABLE};
 
-/// A processor's part, what words see of their node, and what the node counts.
+/// A processor's part, what words see of their node, what the node counts, and what stores
+/// overwrite, where that is noted.
 #[derive(Drop)]
 pub struct ExecState<'a> {
     pub lane: ProcessorState,
     pub local: NodeMemory<'a>,
     pub counts: NodeCounts,
+    pub log: StoreLog,
 }
 
 impl<'a> ExecState<'a> {
@@ -38,6 +41,7 @@ impl<'a> ExecState<'a> {
             (local_of self.old.local) kind rd address (model.region_of address))
             (ground_of self.old.local) at self.new.lane self.new.local }
         ensures counts { self.new.counts ≡ self.old.counts }
+        ensures log { self.new.log ≡ self.old.log }
     {
         let width = kind.width();
         if address >= SPILLS && width == Width::Word {
@@ -62,6 +66,7 @@ impl<'a> ExecState<'a> {
             (local_of self.old.local) kind rd address (model.region_of address))
             (ground_of self.old.local) at self.new.lane self.new.local }
         ensures counts { self.new.counts ≡ self.old.counts }
+        ensures log { self.new.log ≡ self.old.log }
     {
         let value = match region_of(address) {
             Region::Memory => extend(kind, self.memory(kind.width(), address)),
@@ -81,6 +86,7 @@ impl<'a> ExecState<'a> {
             (local_of self.old.local) kind rd address (model.region_of address))
             (ground_of self.old.local) at self.new.lane self.new.local }
         ensures counts { self.new.counts ≡ self.old.counts }
+        ensures log { self.new.log ≡ self.old.log }
     {
         let line = address.wrapping_sub(STATE_TABLE);
         if line < STATE_LINES {
@@ -110,16 +116,7 @@ impl<'a> ExecState<'a> {
             (local_of self.now.local)) address }
         ensures byte { width ≡ Width.Byte → result < 2 ^ 8 }
     {
-        if let Some(raw) = self.local.load(width, address) {
-            return raw;
-        }
-        if let Some(raw) = self.lane.private.load(width, address) {
-            return raw;
-        }
-        match self.local.load_fixed(width, address) {
-            Some(raw) => raw,
-            None => flag(width, address),
-        }
+        memory_of(&self.lane, &self.local, width, address)
     }
 
     /// Stores at an aligned address.
@@ -131,6 +128,7 @@ impl<'a> ExecState<'a> {
             (local_of self.old.local) width address value (model.region_of address))
             (ground_of self.old.local) at self.new.lane self.new.local }
         ensures counts { self.new.counts ≡ self.old.counts }
+        ensures log { self.new.log ≡ self.old.log }
     {
         if address >= SPILLS && width == Width::Word {
             self.lane.spills[spill_of(address)] = value;
@@ -149,6 +147,7 @@ impl<'a> ExecState<'a> {
             (local_of self.old.local) width address value (model.region_of address))
             (ground_of self.old.local) at self.new.lane self.new.local }
         ensures counts { self.new.counts ≡ self.old.counts }
+        ensures log { self.new.log ≡ self.old.log }
     {
         match region_of(address) {
             Region::Memory => {
@@ -157,6 +156,30 @@ impl<'a> ExecState<'a> {
             Region::Spill(k) => self.lane.spills[k] = value,
             Region::StateOf(_) | Region::Elsewhere => {}
         }
+    }
+}
+
+/// The number that the bytes from an address on make, to a processor and what its words see.
+pub(crate) fn memory_of(
+    lane: &ProcessorState,
+    local: &NodeMemory<'_>,
+    width: Width,
+    address: u32,
+) -> u32
+    requires { is_aligned width address ≡ true }
+    ensures value { (at : ℕ) → result ≡ raw width (model.byte_at (program_of local.now.program)
+        (lane_of lane.now at) (local_of local.now)) address }
+    ensures byte { width ≡ Width.Byte → result < 2 ^ 8 }
+{
+    if let Some(raw) = local.load(width, address) {
+        return raw;
+    }
+    if let Some(raw) = lane.private.load(width, address) {
+        return raw;
+    }
+    match local.load_fixed(width, address) {
+        Some(raw) => raw,
+        None => flag(width, address),
     }
 }
 
@@ -179,7 +202,7 @@ fn flag_byte(address: u32) -> u8
 }
 
 /// The number that the bytes of the flag word from an address on make.
-#[tactic(auto, unfolding(byte_range::specs::Memory::raw))]
+#[tactic(auto, unfolding(crate::specs::Bytes::raw))]
 fn flag(width: Width, address: u32) -> u32
     requires { is_aligned width address ≡ true }
     ensures value { result ≡ raw width flag_at address }

@@ -1,13 +1,14 @@
 //! What is a processor's own, and what a word did.
 
-ghost use Rattle.std.specs.Prelude.{◌≡◌, ◌+◌, ◌*◌, ◌%◌, ◌^◌, ℕ, None};
+ghost use Rattle.std.specs.Prelude.{◌≡◌, ◌%◌, None};
 ghost use Rattle.node_words.specs.Address.{word_address};
 
-use byte_range::Window;
-use exec_map::Exit;
-use node_model::dsm_messages::Need;
-use node_model::jump_map::IMAGE_BASE;
-use node_model::rv32_step::Registers;
+use node_memory::byte_range::Window;
+use node_memory::dsm_messages::Need;
+use node_memory::exec_map::Exit;
+use node_memory::jump_map::IMAGE_BASE;
+use node_memory::rv32_step::Registers;
+use node_memory::{Want, Wants};
 
 /// A processor in rewritten code, but for the position of its next word.
 #[derive(Drop)]
@@ -33,20 +34,6 @@ pub enum Resume {
     /// Past the next word, where the lines of two addresses meet the need then; else at the next
     /// word.
     ByLines { need: Need, low: u32, high: u32 },
-}
-
-/// What a word wants: that the line of an address may be read, or written.
-#[derive(Clone, Copy, PartialEq, Eq)]
-pub struct Want {
-    pub at: u32,
-    pub need: Need,
-}
-
-/// What a word wants that waits: a line, and maybe another.
-#[derive(Clone, Copy, PartialEq, Eq)]
-pub struct Wants {
-    pub first: Want,
-    pub other: Option<Want>,
 }
 
 /// Where a processor goes after a word.

@@ -8,25 +8,20 @@
 mod arms;
 mod exec_state;
 mod lane;
-mod lines;
-mod node_memory;
-mod region;
 mod sequences;
 mod serve;
 mod silent;
 mod slow_path;
+mod store_log;
 mod strides;
 mod undo_log;
 
-pub use byte_range;
-pub use exec_map;
 pub use exec_state::ExecState;
-pub use lane::{ProcessorState, Resume, Tally, Want, Wants, address_of, index_of};
-pub use node_memory::NodeMemory;
-pub use node_model;
-pub use node_model::{
-    dsm_messages, flag_memory, home_directory, jump_map, micro_op, miss_handlers, runtime_words,
-    rv32_step,
+pub use lane::{ProcessorState, Resume, Tally, address_of, index_of};
+pub use node_memory::{
+    NodeMemory, Want, Wants, byte_range, dsm_messages, exec_map, flag_memory, home_directory,
+    jump_map, micro_op, miss_handlers, node_model, runtime_words, rv32_step,
 };
 pub use serve::{Following, Progress, Served};
-pub use undo_log::{Note, Saved, UndoLog};
+pub use store_log::{Note, StoreLog};
+pub use undo_log::{Saved, UndoLog};

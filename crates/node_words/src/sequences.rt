@@ -5,23 +5,24 @@
 
 ghost use Rattle.std.specs.Prelude.{◌≡◌, ◌+◌, ◌%◌, ◌^◌, ◌<◌, ◌≤◌, ℕ, true, false, length};
 ghost use Rattle.std.specs.Prelude.{bit_and, bit_or};
-ghost use Rattle.node_model.specs.micro_op.Kinds.{branch_kind, kind_of_load, store_kind};
-ghost use Rattle.node_model.specs.micro_op.declared.micro_op.MicroOp.{MicroOp};
-ghost use Rattle.node_model.specs.jump_map.Image.{most_words};
-ghost use Rattle.node_model.specs.jump_map.Micro.{AreMicrosOf};
-ghost use Rattle.node_model.specs.jump_map.Strides.{IsEntry, IsFlagged, IsHead, IsJump, IsNumber};
-ghost use Rattle.node_model.specs.jump_map.Strides.{IsOver, IsPolled, IsRead, IsReadHead, IsWrite};
-ghost use Rattle.node_model.specs.jump_map.Strides.{IsWriteHead, StandsAt};
-ghost use Rattle.node_model.specs.Node.{set_register};
+ghost use Rattle.node_memory.specs.micro_op.Kinds.{branch_kind, kind_of_load, store_kind};
+ghost use Rattle.node_memory.specs.micro_op.declared.micro_op.MicroOp.{MicroOp};
+ghost use Rattle.node_memory.specs.jump_map.Image.{most_words};
+ghost use Rattle.node_memory.specs.jump_map.Micro.{AreMicrosOf};
+ghost use Rattle.node_memory.specs.jump_map.Strides.{IsEntry, IsFlagged, IsHead, IsJump, IsNumber};
+ghost use Rattle.node_memory.specs.jump_map.Strides.{IsOver, IsPolled, IsRead, IsReadHead, IsWrite};
+ghost use Rattle.node_memory.specs.jump_map.Strides.{IsWriteHead, StandsAt};
+ghost use Rattle.node_memory.specs.node_model.Node.{set_register};
 ghost use Rattle.node_words.specs.Kept.{lane_of};
 ghost use Rattle.node_words.specs.Strides.{IsStriddenBy, IsTried, StridesBy, left_by_check};
 ghost use Rattle.node_words.specs.Strides.{left_by_head, left_one, state_at};
+ghost use Rattle.node_words.specs.UndoLogs.{StaysUndoable};
 
 use crate::exec_state::ExecState;
 use crate::strides::Going;
-use node_model::jump_map::Image;
-use node_model::micro_op::MicroOp;
-use node_model::runtime_words::FLAG_WORD;
+use node_memory::jump_map::Image;
+use node_memory::micro_op::MicroOp;
+use node_memory::runtime_words::FLAG_WORD;
 use rv32_decode::{Cond, LoadKind, Reg, Width};
 use rv32_program::addresses::STATE_TABLE;
 
@@ -80,13 +81,14 @@ impl<'a> ExecState<'a> {
         requires there { IsNumber micros.now going.old.at }
         ensures strides { IsStriddenBy micros.now result going.old self.old going.new self.new }
         ensures counts { self.new.counts ≡ self.old.counts }
+        ensures undoable { StaysUndoable self.old self.new }
     {
         self.put_number(micros, going);
         going.on(2, 2);
         true
     }
 
-    /// The same, and a jump.
+    /// The two words that put a number into a register, and a jump.
     #[inline(always)]
     pub(crate) fn far_call(&mut self, micros: &[MicroOp], going: &mut Going) -> bool
         requires room { 18 ≤ going.old.left }
@@ -94,6 +96,7 @@ impl<'a> ExecState<'a> {
         requires jump { IsJump micros.now (going.old.at + 2) }
         ensures strides { IsStriddenBy micros.now result going.old self.old going.new self.new }
         ensures counts { self.new.counts ≡ self.old.counts }
+        ensures undoable { StaysUndoable self.old self.new }
     {
         self.put_number(micros, going);
         self.jump(3, &micros[going.at as usize + 2], going)
@@ -109,6 +112,7 @@ impl<'a> ExecState<'a> {
             ((upper.imm + lower.imm) % 2 ^ 32) }
         ensures local { self.new.local ≡ self.old.local }
         ensures counts { self.new.counts ≡ self.old.counts }
+        ensures undoable { StaysUndoable self.old self.new }
     {
         let upper = &micros[going.at as usize];
         let number = upper.imm.wrapping_add(micros[going.at as usize + 1].imm);
@@ -116,6 +120,7 @@ impl<'a> ExecState<'a> {
     }
 
     /// A load whose line's state is tested, with so many registers spilled.
+    #[tactic(auto, using(crate::proofs::UndoLogLemmas::undoable_same))]
     #[inline(always)]
     pub(crate) fn read(
         &mut self,
@@ -130,6 +135,7 @@ impl<'a> ExecState<'a> {
         requires there { IsRead micros.now going.old.at spilled (kind_of_load kind) }
         ensures strides { IsStriddenBy micros.now result going.old self.old going.new self.new }
         ensures counts { self.new.counts ≡ self.old.counts }
+        ensures undoable { StaysUndoable self.old self.new }
     {
         let first = going.at as usize + spilled;
         let look = &micros[first];
@@ -159,11 +165,16 @@ impl<'a> ExecState<'a> {
         requires there { IsWrite micros.now going.old.at spilled (store_kind width) }
         ensures strides { IsStriddenBy micros.now result going.old self.old going.new self.new }
         ensures counts { self.new.counts ≡ self.old.counts }
+        ensures undoable { StaysUndoable self.old self.new }
     {
         let first = going.at as usize + spilled;
         let look = &micros[first];
+        let address = self.sum_by(look);
+        if !self.log.admits(&self.lane, &self.local, width, address) {
+            return false;
+        }
         let value = self.lane.registers.get(micros[first + 7].rs2);
-        if self.put_checked(width, self.sum_by(look), value) {
+        if self.put_checked(width, address, value) {
             self.leave(spilled, look.rd, micros[first + 1].rd);
             going.on(7 + 2 * spilled as u64, 8 + 2 * spilled as u32);
             true
@@ -173,6 +184,7 @@ impl<'a> ExecState<'a> {
     }
 
     /// A load that looks at its value, with so many registers spilled.
+    #[tactic(auto, using(crate::proofs::UndoLogLemmas::undoable_same))]
     #[inline(always)]
     pub(crate) fn flag(&mut self, spilled: usize, micros: &[MicroOp], going: &mut Going) -> bool
         requires room { 18 ≤ going.old.left }
@@ -181,6 +193,7 @@ impl<'a> ExecState<'a> {
         requires there { IsFlagged micros.now going.old.at spilled }
         ensures strides { IsStriddenBy micros.now result going.old self.old going.new self.new }
         ensures counts { self.new.counts ≡ self.old.counts }
+        ensures undoable { StaysUndoable self.old self.new }
     {
         let first = going.at as usize + spilled;
         let look = &micros[first];
@@ -209,6 +222,7 @@ impl<'a> ExecState<'a> {
         requires there { IsReadHead micros.now going.old.at spilled }
         ensures strides { IsStriddenBy micros.now result going.old self.old going.new self.new }
         ensures counts { self.new.counts ≡ self.old.counts }
+        ensures undoable { StaysUndoable self.old self.new }
     {
         if self.head(2, spilled, micros, going) {
             going.on(12 + 2 * spilled as u64, 16 + 2 * spilled as u32);
@@ -232,6 +246,7 @@ impl<'a> ExecState<'a> {
         requires there { IsWriteHead micros.now going.old.at spilled }
         ensures strides { IsStriddenBy micros.now result going.old self.old going.new self.new }
         ensures counts { self.new.counts ≡ self.old.counts }
+        ensures undoable { StaysUndoable self.old self.new }
     {
         if self.head(0xff, spilled, micros, going) {
             going.on(11 + 2 * spilled as u64, 15 + 2 * spilled as u32);
@@ -243,6 +258,7 @@ impl<'a> ExecState<'a> {
 
     /// Tests that these bits of the states of both lines of a batch are clear, and leaves the
     /// scratch registers as its head does.
+    #[tactic(auto, using(crate::proofs::UndoLogLemmas::undoable_same))]
     #[inline(always)]
     fn head(&mut self, bits: u8, spilled: usize, micros: &[MicroOp], going: &Going) -> bool
         requires few { spilled ≤ 3 }
@@ -259,6 +275,7 @@ impl<'a> ExecState<'a> {
         ensures local { self.new.local ≡ self.old.local }
         ensures same { result ≡ false → self.new.lane ≡ self.old.lane }
         ensures counts { self.new.counts ≡ self.old.counts }
+        ensures undoable { StaysUndoable self.old self.new }
     {
         let first = going.at as usize + spilled;
         let low = &micros[first];
@@ -284,6 +301,7 @@ impl<'a> ExecState<'a> {
             ≡ left_by_check spilled s t (lane_of self.old.lane at) }
         ensures local { self.new.local ≡ self.old.local }
         ensures counts { self.new.counts ≡ self.old.counts }
+        ensures undoable { StaysUndoable self.old self.new }
     {
         self.leave_one(spilled == 2, 0, s, 0);
         self.leave_one(spilled >= 1, 1, t, STATE_TABLE);
@@ -298,6 +316,7 @@ impl<'a> ExecState<'a> {
             ≡ left_one spilled word r value (lane_of self.old.lane at) }
         ensures local { self.new.local ≡ self.old.local }
         ensures counts { self.new.counts ≡ self.old.counts }
+        ensures undoable { StaysUndoable self.old self.new }
     {
         if spilled {
             self.lane.spills[word] = self.lane.registers.get(r);

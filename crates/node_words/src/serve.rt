@@ -1,19 +1,22 @@
 //! One word of a node: by its micro-op, or by the path that serves every word.
 
 ghost use Rattle.std.specs.Prelude.{◌≡◌, ◌+◌, ◌^◌, ◌<◌, ◌≤◌, ℕ, Some, None, length};
-ghost use Rattle.exec_map.specs.Contents.{program_of};
-ghost use Rattle.node_model.specs.jump_map.Image.{most_words};
-ghost use Rattle.node_model.specs.Node as model;
+ghost use Rattle.node_memory.specs.exec_map.Contents.{program_of};
+ghost use Rattle.node_memory.specs.jump_map.Image.{most_words};
+ghost use Rattle.node_memory.specs.node_model.Node as model;
 ghost use Rattle.node_words.specs.Address.{word_address};
-ghost use Rattle.node_words.specs.Kept.{StepsOr, Serves, ground_of, local_of, lane_of, move_of};
+ghost use Rattle.node_memory.specs.Shelf.{ground_of, local_of};
+ghost use Rattle.node_words.specs.Kept.{StepsOr, Serves, lane_of, move_of};
 ghost use Rattle.node_words.specs.Kept.{resume_of, tally_of, phase_by, wants_by};
-ghost use Rattle.node_model.specs.Turns.{wants_of};
+ghost use Rattle.node_memory.specs.node_model.Turns.{wants_of};
+ghost use Rattle.node_words.specs.UndoLogs.{StaysUndoable};
 
 use crate::exec_state::ExecState;
-use crate::lane::{Move, Resume, Tally, Wants};
-use exec_map::Exit;
-use node_model::NodeCounts;
-use node_model::jump_map::{IMAGE_BASE, Image};
+use crate::lane::{Move, Resume, Tally};
+use node_memory::Wants;
+use node_memory::exec_map::Exit;
+use node_memory::jump_map::{IMAGE_BASE, Image};
+use node_memory::node_model::NodeCounts;
 
 /// What follows a word.
 #[derive(Clone, Copy, PartialEq, Eq)]
@@ -47,6 +50,7 @@ pub struct Progress {
 impl<'a> ExecState<'a> {
     /// Executes the word with an index by its micro-op, and gives the index of the word that
     /// follows. `None` where the path that serves every word has to; then nothing changed.
+    #[tactic(auto, using(crate::proofs::UndoLogLemmas::undoable_same))]
     #[inline(always)]
     pub fn step_at(&mut self, image: &Image, at: u32) -> Option<u32>
         requires { length image.now ≤ most_words }
@@ -54,6 +58,8 @@ impl<'a> ExecState<'a> {
             image.now (lane_of self.old.lane (word_address at)) (local_of self.old.local))
             self.old.lane self.old.local self.new.lane self.new.local result }
         ensures counts { self.new.counts ≡ self.old.counts }
+        ensures log { result ≡ None → self.new.log ≡ self.old.log }
+        ensures undoable { StaysUndoable self.old self.new }
     {
         match image.micro(at) {
             Some(op) => self.step(image, op, at),

@@ -2,21 +2,23 @@
 //! they are executed in a row with those that micro-ops serve.
 
 ghost use Rattle.std.specs.Prelude.{◌≡◌, ◌*◌, ◌≤◌, ◌<◌, ℕ, List, length};
-ghost use Rattle.exec_map.specs.Contents.{program_of};
-ghost use Rattle.node_model.specs.rv32_step.Demands as demands;
-ghost use Rattle.node_model.specs.rv32_step.Registers.{registers_of};
-ghost use Rattle.node_model.specs.jump_map.Image.{Cell, most_words};
-ghost use Rattle.node_model.specs.Node as model;
+ghost use Rattle.node_memory.specs.exec_map.Contents.{program_of};
+ghost use Rattle.node_memory.specs.rv32_step.Demands as demands;
+ghost use Rattle.node_memory.specs.rv32_step.Registers.{registers_of};
+ghost use Rattle.node_memory.specs.jump_map.Image.{Cell, most_words};
+ghost use Rattle.node_memory.specs.node_model.Node as model;
 ghost use Rattle.node_words.specs.Address.{word_address};
-ghost use Rattle.node_words.specs.Kept.{StepsOr, Does, Shelf, ground_of, local_of, lane_of};
+ghost use Rattle.node_memory.specs.Shelf.{Shelf, ground_of, local_of};
+ghost use Rattle.node_words.specs.Kept.{StepsOr, Does, lane_of};
 ghost use Rattle.node_words.specs.declared.lane.ProcessorState.{ProcessorState};
+ghost use Rattle.node_words.specs.UndoLogs.{StaysUndoable};
 
 use crate::exec_state::ExecState;
 use crate::lane::{Move, Tally, WordOutcome, address_of};
 use crate::slow_path::place_address;
-use node_model::jump_map::{IMAGE_BASE, Image, ImageWord};
-use node_model::runtime_words::RtWord;
-use node_model::rv32_step::Demand;
+use node_memory::jump_map::{IMAGE_BASE, Image, ImageWord};
+use node_memory::runtime_words::RtWord;
+use node_memory::rv32_step::Demand;
 use rv32_decode::{Instr, Reg, Width};
 
 impl<'a> ExecState<'a> {
@@ -30,6 +32,7 @@ impl<'a> ExecState<'a> {
             image.now (lane_of self.old.lane (word_address at)) (local_of self.old.local))
             self.old.lane self.old.local self.new.lane self.new.local result }
         ensures counts { self.new.counts ≡ self.old.counts }
+        ensures undoable { StaysUndoable self.old self.new }
     {
         match self.step_at(image, at) {
             Some(next) => Some(next),
@@ -37,7 +40,8 @@ impl<'a> ExecState<'a> {
         }
     }
 
-    /// The same, apart from the words that are executed most.
+    /// Executes the word with an index where it is silent, in a call of its own: this keeps the
+    /// loop small, and is for words that are seldom executed.
     #[inline(never)]
     pub(crate) fn step_apart(&mut self, image: &Image, at: u32) -> Option<u32>
         requires { length image.now ≤ most_words }
@@ -45,6 +49,7 @@ impl<'a> ExecState<'a> {
             image.now (lane_of self.old.lane (word_address at)) (local_of self.old.local))
             self.old.lane self.old.local self.new.lane self.new.local result }
         ensures counts { self.new.counts ≡ self.old.counts }
+        ensures undoable { StaysUndoable self.old self.new }
     {
         self.step_on(image, at)
     }
@@ -52,12 +57,14 @@ impl<'a> ExecState<'a> {
     /// Executes the word with an index where it is silent: an indirect jump that keeps a link and
     /// enters a sequence, an access that is one step of an aligned word, or a check that finds its
     /// lines as it needs them. `None` for every other word; then nothing changed.
+    #[tactic(auto, using(crate::proofs::UndoLogLemmas::undoable_same))]
     #[inline(never)]
     fn silent_at(&mut self, image: &Image, at: u32) -> Option<u32>
         ensures steps { StepsOr image.now (model.next_outcome (program_of self.old.local.program)
             image.now (lane_of self.old.lane (word_address at)) (local_of self.old.local))
             self.old.lane self.old.local self.new.lane self.new.local result }
         ensures counts { self.new.counts ≡ self.old.counts }
+        ensures undoable { StaysUndoable self.old self.new }
     {
         match image.fetch(address_of(at)) {
             None => None,
@@ -65,13 +72,15 @@ impl<'a> ExecState<'a> {
         }
     }
 
-    /// The same of a word that was fetched.
+    /// Executes a word that was fetched, where it is silent; else `None`.
+    #[tactic(auto, using(crate::proofs::UndoLogLemmas::undoable_same))]
     fn silent_read(&mut self, image: &Image, fetched: ImageWord, at: u32) -> Option<u32>
         ensures steps { StepsOr image.now (model.execute_read (program_of self.old.local.program)
             fetched.place fetched.what (lane_of self.old.lane (word_address at))
             (local_of self.old.local))
             self.old.lane self.old.local self.new.lane self.new.local result }
         ensures counts { self.new.counts ≡ self.old.counts }
+        ensures undoable { StaysUndoable self.old self.new }
     {
         let place = place_address(fetched.place);
         match fetched.what {
@@ -80,13 +89,15 @@ impl<'a> ExecState<'a> {
         }
     }
 
-    /// The same of a word of a place.
+    /// Executes a word of a place, where it is silent; else `None`.
+    #[tactic(auto, using(crate::proofs::UndoLogLemmas::undoable_same))]
     fn silent_by(&mut self, image: &Image, place: u32, what: RtWord, at: u32) -> Option<u32>
         ensures steps { let address = word_address at in
             StepsOr image.now (model.execute (program_of self.old.local.program) place address what
             (lane_of self.old.lane address) (local_of self.old.local))
             self.old.lane self.old.local self.new.lane self.new.local result }
         ensures counts { self.new.counts ≡ self.old.counts }
+        ensures undoable { StaysUndoable self.old self.new }
     {
         match what {
             RtWord::Xjalr { rd, rs1, imm } => {
@@ -108,11 +119,13 @@ impl<'a> ExecState<'a> {
 
     /// Enters the sequence of an original address, and keeps the address of the next place in a
     /// register. `None` where there is no such sequence; then nothing changed.
+    #[tactic(auto, using(crate::proofs::UndoLogLemmas::undoable_same))]
     fn enter_from(&mut self, image: &Image, place: u32, rd: Reg, original: u32) -> Option<u32>
         ensures steps { (at : ℕ) → StepsOr image.now (model.indirect place
             (lane_of self.old.lane (word_address at)) (local_of self.old.local) rd original)
             self.old.lane self.old.local self.new.lane self.new.local result }
         ensures counts { self.new.counts ≡ self.old.counts }
+        ensures undoable { StaysUndoable self.old self.new }
     {
         if original % 4 != 0 {
             return None;
@@ -122,8 +135,9 @@ impl<'a> ExecState<'a> {
         Some((new - IMAGE_BASE) / 4)
     }
 
-    /// Executes a native word that accesses an aligned word in one step. `None` for every other
-    /// one; then nothing changed.
+    /// Executes a native word that accesses an aligned word in one step, where stores aren't noted.
+    /// `None` for every other one; then nothing changed.
+    #[tactic(auto, using(crate::proofs::UndoLogLemmas::undoable_off))]
     fn silent_native(&mut self, place: u32, i: Instr, at: u32) -> Option<u32>
         ensures steps { (image : List Cell) → let address = word_address at in
             StepsOr image (model.native (program_of self.old.local.program) place address
@@ -131,7 +145,11 @@ impl<'a> ExecState<'a> {
             (demands.demand_of i (registers_of self.old.lane.registers) address))
             self.old.lane self.old.local self.new.lane self.new.local result }
         ensures counts { self.new.counts ≡ self.old.counts }
+        ensures undoable { StaysUndoable self.old self.new }
     {
+        if self.log.on {
+            return None;
+        }
         match self.demand(i, address_of(at)) {
             Demand::Reserves(r, address) if Width::Word.is_aligned(address) => {
                 let _ = self.reserve_or_exit(place, r, address);

@@ -1,32 +1,34 @@
 //! The path that serves every word.
 
-ghost use Rattle.std.specs.Prelude.{◌≡◌, ◌+◌, ◌*◌, ◌/◌, ◌%◌, ◌^◌, ◌<◌, ◌≤◌, ℕ, true, None};
-ghost use Rattle.exec_map.specs.Contents.{program_of};
+ghost use Rattle.std.specs.Prelude.{◌≡◌, ◌+◌, ◌*◌, ◌/◌, ◌%◌, ◌^◌, ◌<◌, ℕ, true, None};
+ghost use Rattle.node_memory.specs.exec_map.Contents.{program_of};
 ghost use Rattle.rv32_program.specs.Targets.{offset_address};
-ghost use Rattle.node_model.specs.rv32_step.declared.Demand.TheVariants.{Sets, Jumps, Branches, Loads, Stores};
-ghost use Rattle.node_model.specs.rv32_step.declared.Demand.TheVariants.{Reserves, StoresIf, Updates};
-ghost use Rattle.node_model.specs.rv32_step.declared.CallStep.TheVariants.{Puts, Returns};
-ghost use Rattle.node_model.specs.rv32_step.Demands as demands;
-ghost use Rattle.node_model.specs.rv32_step.Registers.{reg, registers_of};
-ghost use Rattle.byte_range.specs.Memory.{raw};
+ghost use Rattle.node_memory.specs.rv32_step.declared.Demand.TheVariants.{Sets, Jumps, Branches};
+ghost use Rattle.node_memory.specs.rv32_step.declared.Demand.TheVariants.{Loads, Stores, Reserves};
+ghost use Rattle.node_memory.specs.rv32_step.declared.Demand.TheVariants.{StoresIf, Updates};
+ghost use Rattle.node_memory.specs.rv32_step.declared.CallStep.TheVariants.{Puts, Returns};
+ghost use Rattle.node_memory.specs.rv32_step.Demands as demands;
+ghost use Rattle.node_memory.specs.rv32_step.Registers.{reg, registers_of};
+ghost use Rattle.node_memory.specs.byte_range.Memory.{raw};
 ghost use Rattle.rv32_decode.specs.Widths.{is_aligned};
-ghost use Rattle.node_model.specs.rv32_step.Memory.{load_value};
-ghost use Rattle.node_model.specs.Node as model;
+ghost use Rattle.node_memory.specs.rv32_step.Memory.{load_value};
+ghost use Rattle.node_memory.specs.node_model.Node as model;
 ghost use Rattle.node_words.specs.Address.{word_address};
-ghost use Rattle.node_words.specs.Kept.{Does, Shelf, ground_of, local_of, lane_of};
+ghost use Rattle.node_memory.specs.Shelf.{Shelf, ground_of, local_of};
+ghost use Rattle.node_words.specs.Kept.{Does, lane_of};
 ghost use Rattle.node_words.specs.declared.lane.ProcessorState.{ProcessorState};
 
 use crate::exec_state::ExecState;
 use crate::lane::{
     Move, Resume, Tally, WordOutcome, address_of, exit_by, index_of, only_moves, wait_for,
 };
-use crate::lines::{is_fixed, is_mapped, is_readable, is_writable};
-use exec_map::Exit;
-use node_model::dsm_messages::Need;
-use node_model::jump_map::{Image, ImageWord};
-use node_model::runtime_words::RtWord;
-use node_model::rv32_step::{CallStep, Demand, call_step, cut_short, demand_of};
-use node_model::templates::Place;
+use node_memory::dsm_messages::Need;
+use node_memory::exec_map::Exit;
+use node_memory::jump_map::{Image, ImageWord};
+use node_memory::node_model::templates::Place;
+use node_memory::runtime_words::RtWord;
+use node_memory::rv32_step::{CallStep, Demand, call_step, cut_short, demand_of};
+use node_memory::{is_fixed, is_mapped, is_readable, is_writable};
 use rv32_decode::{AmoOp, Imm12, Instr, LoadKind, Reg, Width};
 use rv32_ops::amo;
 
@@ -421,7 +423,7 @@ impl<'a> ExecState<'a> {
     }
 
     /// The byte of an address.
-    #[tactic(auto, unfolding(byte_range::specs::Memory::raw))]
+    #[tactic(auto, unfolding(crate::specs::Bytes::raw))]
     fn byte(&self, address: u32) -> u8
         ensures { (at : ℕ) → result ≡ model.byte_at (program_of self.now.local.program)
             (lane_of self.now.lane at) (local_of self.now.local) address }

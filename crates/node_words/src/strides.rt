@@ -1,19 +1,21 @@
 //! Words in a row, by strides: one `match` for each, whether it is a word or a whole sequence.
 
-ghost use Rattle.std.specs.Prelude.{◌≡◌, ◌+◌, ◌-◌, ◌^◌, ◌<◌, ◌≤◌, ℕ, true, length};
-ghost use Rattle.node_model.specs.rv32_step.Registers.{registers_of};
-ghost use Rattle.node_model.specs.micro_op.Micro.{meaning_of};
-ghost use Rattle.node_model.specs.jump_map.Image.{image_base, most_words};
-ghost use Rattle.node_model.specs.jump_map.Micro.{AreMicrosOf};
-ghost use Rattle.node_model.specs.jump_map.Strides.{HasStrides, IsPlain, IsStride};
+ghost use Rattle.std.specs.Prelude.{◌≡◌, ◌+◌, ◌-◌, ◌^◌, ◌<◌, ◌≤◌, ℕ, true, false, None, length};
+ghost use Rattle.node_memory.specs.rv32_step.Registers.{registers_of};
+ghost use Rattle.node_memory.specs.micro_op.Micro.{meaning_of};
+ghost use Rattle.node_memory.specs.jump_map.Image.{image_base, most_words};
+ghost use Rattle.node_memory.specs.jump_map.Micro.{AreMicrosOf};
+ghost use Rattle.node_memory.specs.jump_map.Strides.{IsPlain, IsStride};
 ghost use Rattle.node_words.specs.GoingOn.{BodyGoesOn, GoesFurther};
-ghost use Rattle.node_words.specs.Kept.{StepsTo, ground_of};
+ghost use Rattle.node_memory.specs.Shelf.{ground_of};
+ghost use Rattle.node_words.specs.Kept.{StepsTo};
 ghost use Rattle.node_words.specs.Strides.{IsTried, StepsBy, StridesBy};
+ghost use Rattle.node_words.specs.UndoLogs.{StaysUndoable};
 
 use crate::exec_state::ExecState;
 use crate::serve::Progress;
-use node_model::jump_map::{Image, StrideKind};
-use node_model::micro_op::MicroOp;
+use node_memory::jump_map::{Image, StrideKind};
+use node_memory::micro_op::MicroOp;
 use rv32_decode::{Cond, LoadKind, Op, Width};
 
 /// No stride has more words.
@@ -62,6 +64,7 @@ impl<'a> ExecState<'a> {
         ensures most { result.words ≤ most }
         ensures ground { ground_of self.new.local ≡ ground_of self.old.local }
         ensures counts { self.new.counts ≡ self.old.counts }
+        ensures undoable { StaysUndoable self.old self.new }
     {
         let (micros, strides) = image.tables();
         let mut going = Going {
@@ -103,6 +106,7 @@ impl<'a> ExecState<'a> {
             (words + result.words) }
         ensures most { result.words ≤ most }
         ensures counts { self.new.counts ≡ self.old.counts }
+        ensures undoable { StaysUndoable self.old self.new }
     {
         let mut at = from;
         let mut words = 0;
@@ -125,6 +129,8 @@ impl<'a> ExecState<'a> {
             (meaning_of image_base op.now (registers_of self.old.lane.registers)) at
             self.old.lane self.old.local self.new.lane self.new.local result }
         ensures counts { self.new.counts ≡ self.old.counts }
+        ensures log { result ≡ None → self.new.log ≡ self.old.log }
+        ensures undoable { StaysUndoable self.old self.new }
     {
         let mut going = Going { at, left: 1 };
         if self.one(StrideKind::plain(op), image, op, &mut going) {
@@ -136,6 +142,7 @@ impl<'a> ExecState<'a> {
 
     /// Executes the whole sequence that begins with the next word, if its kind is that of one. Says
     /// whether it does; else nothing changes.
+    #[tactic(auto, using(crate::proofs::UndoLogLemmas::undoable_same))]
     #[inline(always)]
     fn sequence(
         &mut self,
@@ -152,6 +159,7 @@ impl<'a> ExecState<'a> {
             (StridesBy image.now going.old self.old going.new self.new)
             going.old self.old going.new self.new }
         ensures counts { self.new.counts ≡ self.old.counts }
+        ensures undoable { StaysUndoable self.old self.new }
     {
         match kind {
             StrideKind::OverEq => self.over(Cond::Eq, 0, micros, going),
@@ -211,6 +219,7 @@ impl<'a> ExecState<'a> {
 
     /// Executes the next word, whose micro-op has this kind of stride. Says whether it does; else
     /// nothing changes.
+    #[tactic(auto, using(crate::proofs::UndoLogLemmas::undoable_same))]
     #[inline(always)]
     fn one(&mut self, kind: StrideKind, image: &Image, op: &MicroOp, going: &mut Going) -> bool
         requires plain { IsPlain kind op.now }
@@ -220,6 +229,8 @@ impl<'a> ExecState<'a> {
             (StepsBy image.now op.now going.old self.old going.new self.new)
             going.old self.old going.new self.new }
         ensures counts { self.new.counts ≡ self.old.counts }
+        ensures log { result ≡ false → self.new.log ≡ self.old.log }
+        ensures undoable { StaysUndoable self.old self.new }
     {
         match kind {
             StrideKind::Nothing => nothing(going),

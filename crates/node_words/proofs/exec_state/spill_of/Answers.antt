@@ -1,5 +1,5 @@
 use Rattle.std.proofs.Common.{arith, refl}
-use Rattle.node_words.proofs.MemoryLemmas.{spill_region}
+use Rattle.node_memory.proofs.MemoryLemmas.{spill_region}
 use Rattle.node_words.proofs.exec_state.spill_of.Goals as goal
 
 pub returns-clause-region : goal.returns-clause-region

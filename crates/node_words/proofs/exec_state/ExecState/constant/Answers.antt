@@ -1,8 +1,9 @@
 use Rattle.std.proofs.Common.{refl}
-use Rattle.node_model.specs.rv32_step.declared.Demand.TheVariants.{Sets}
+use Rattle.node_memory.specs.rv32_step.declared.Demand.TheVariants.{Sets}
 use Rattle.node_words.specs.declared.exec_state.ExecState.{ExecState}
 use Rattle.node_words.specs.Kept.{lane_of}
 use Rattle.node_words.proofs.StrideLemmas.{sets, steps_next}
+use Rattle.node_words.proofs.UndoLogLemmas.{undoable_mild}
 use Rattle.node_words.proofs.exec_state.ExecState.constant.Goals as goal
 
 pub returns-clause-tried : goal.returns-clause-tried
@@ -12,3 +13,9 @@ returns-clause-tried c image =
     let op = c.args.op.now in
     steps_next image op (Sets op.rd op.imm) c.args.going.now c.on.new.self b b' c.requires.means c.on.ensures.left c.on.ensures.at
     c.requires.low (sets b b' op.rd op.imm (λ at t. record (lane_of b.lane at) { registers = c.set.ensures t }) refl)
+
+pub returns-clause-undoable : goal.returns-clause-undoable
+returns-clause-undoable c =
+    let b = c.args.self.now in
+    let b' : ExecState = record b { lane = record b.lane { registers = c.set.new.self } } in
+    undoable_mild b b' refl refl refl refl

@@ -1,7 +1,8 @@
 use Rattle.std.proofs.Common.{◌≡◌, ℕ, ◌*◌, ◌-◌, ◌/◌, ap, arith, rules, subst, sym}
-use Rattle.node_model.specs.Node.{indirect}
+use Rattle.node_memory.specs.node_model.Node.{indirect}
 use Rattle.node_words.specs.Address.{word_address}
-use Rattle.node_words.specs.Kept.{Follows, ground_of, lane_of, local_of}
+use Rattle.node_memory.specs.Shelf.{ground_of, local_of}
+use Rattle.node_words.specs.Kept.{Follows, lane_of}
 use Rattle.node_words.proofs.StepLemmas.{enter_follows, new_address}
 use Rattle.node_words.proofs.exec_state.ExecState.enter.Goals as goal
 

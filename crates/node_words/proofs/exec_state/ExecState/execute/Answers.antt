@@ -1,11 +1,12 @@
 use Rattle.std.proofs.Common.{refl, ap, ◌≡◌, subst, ℕ, ◌+◌, ◌/◌, ◌*◌, ◌%◌, ◌^◌, arith}
-use Rattle.exec_map.specs.Contents.{program_of}
-use Rattle.node_model.specs.rv32_step.Demands.{demand_of}
-use Rattle.node_model.specs.rv32_step.Registers.{reg, registers_of}
-use Rattle.node_model.specs.jump_map.Image.{address_of_word}
-use Rattle.node_model.specs.Node.{To, native, indirect, miss_r, miss_w, prepare}
+use Rattle.node_memory.specs.exec_map.Contents.{program_of}
+use Rattle.node_memory.specs.rv32_step.Demands.{demand_of}
+use Rattle.node_memory.specs.rv32_step.Registers.{reg, registers_of}
+use Rattle.node_memory.specs.jump_map.Image.{address_of_word}
+use Rattle.node_memory.specs.node_model.Node.{To, native, indirect, miss_r, miss_w, prepare}
 use Rattle.node_words.specs.Address.{word_address}
-use Rattle.node_words.specs.Kept.{ground_of, Does, lane_of, local_of}
+use Rattle.node_memory.specs.Shelf.{ground_of, local_of}
+use Rattle.node_words.specs.Kept.{Does, lane_of}
 use Rattle.node_words.proofs.exec_state.ExecState.execute.Goals as goal
 
 pub returns-in-Native-clause-does : goal.returns-in-Native-clause-does

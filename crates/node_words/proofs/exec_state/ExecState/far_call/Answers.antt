@@ -1,5 +1,5 @@
 use Rattle.std.proofs.Common.{◌+◌, ◌%◌, ◌^◌, Bool, sym, ap, ◌∙◌, subst, refl, arith}
-use Rattle.node_model.specs.micro_op.declared.micro_op.MicroOp.{MicroOp}
+use Rattle.node_memory.specs.micro_op.declared.micro_op.MicroOp.{MicroOp}
 use Rattle.node_words.specs.Strides.{IsTried, StridesBy}
 use Rattle.node_words.proofs.ReachLemmas.{Code, code_of}
 use Rattle.node_words.proofs.WholeLemmas.{call_goes, found_at, strides_by}

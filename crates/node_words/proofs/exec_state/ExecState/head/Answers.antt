@@ -1,14 +1,16 @@
 use Rattle.std.proofs.Common.{rules, ◌≡◌, ℕ, ◌+◌, ◌/◌, ◌<◌, ◌^◌, sym, ap, ◌∙◌, subst, refl}
 use Rattle.std.specs.Prelude.{bit_and, bit_or}
-use Rattle.node_model.specs.rv32_step.Registers.{registers_of}
-use Rattle.node_model.specs.micro_op.declared.micro_op.MicroOp.{MicroOp}
-use Rattle.node_model.specs.micro_op.declared.MicroKind.TheVariants as kind
-use Rattle.node_model.specs.micro_op.Micro.{sum_address}
-use Rattle.node_model.specs.jump_map.Strides.{op_of, second_look, state_look}
-use Rattle.node_words.specs.Kept.{lane_of, local_of}
+use Rattle.node_memory.specs.rv32_step.Registers.{registers_of}
+use Rattle.node_memory.specs.micro_op.declared.micro_op.MicroOp.{MicroOp}
+use Rattle.node_memory.specs.micro_op.declared.MicroKind.TheVariants as kind
+use Rattle.node_memory.specs.micro_op.Micro.{sum_address}
+use Rattle.node_memory.specs.jump_map.Strides.{op_of, second_look, state_look}
+use Rattle.node_memory.specs.Shelf.{local_of}
+use Rattle.node_words.specs.Kept.{lane_of}
 use Rattle.node_words.specs.Strides.{left_by_head, left_one, state_at}
 use Rattle.node_words.proofs.SequenceLemmas.{begins}
 use Rattle.node_words.proofs.WholeLemmas.{found_at, read_at, stands_below}
+use Rattle.node_words.proofs.UndoLogLemmas.{undoable_both}
 use Rattle.node_words.proofs.exec_state.ExecState.head.Goals as goal
 
 pub bounds-micros-first : goal.bounds-micros-first
@@ -100,3 +102,12 @@ returns-in-Some-clause-small c done there =
     c.in-Some.ensures.state
     ∙ ap (λ (a : ℕ). (local_of b.local).state (a / 64)) (c.sum_by-2.ensures ∙ ap (λ (m : MicroOp). sum_address m f) high) in
     subst (λ (n : ℕ). n < 2 ^ 8) (λ i. bit_or (s1 i) (s2 i)) c.in-Some.ensures.small
+
+pub returns-in-Some-clause-undoable : goal.returns-in-Some-clause-undoable
+returns-in-Some-clause-undoable c =
+    let b = c.args.self.now in
+    let one = c.leave_one.new.self in
+    let two = c.leave_one-in-Some.new.self in
+    undoable_both b two c.leave_one-in-Some-2.new.self
+    (undoable_both b one two c.leave_one.ensures.undoable c.leave_one-in-Some.ensures.undoable)
+    c.leave_one-in-Some-2.ensures.undoable

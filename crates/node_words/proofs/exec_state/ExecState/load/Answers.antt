@@ -3,14 +3,15 @@ use Rattle.rv32_decode.specs.Widths.{width_of}
 use Rattle.rv32_decode.specs.declared.Width.{Width}
 use Rattle.rv32_ops.specs.Operations.{extend}
 use Rattle.rv32_program.specs.declared.Class.TheVariants.{Shared, ReadOnly}
-use Rattle.node_model.specs.rv32_step.Registers.{put, registers_of}
-use Rattle.byte_range.specs.Memory.{raw}
-use Rattle.node_model.specs.flag_memory.Flag.{flag_byte}
-use Rattle.byte_range.specs.Window.{window_memory}
-use Rattle.exec_map.specs.Contents.{program_of, class_of_line, first_byte}
-use Rattle.node_model.specs.Node.{Region, load}
-use Rattle.node_words.specs.Kept.{ground_of, LeavesBehind, lane_of, local_of}
-use Rattle.node_words.proofs.MemoryLemmas.{raw_in_line, memory_region}
+use Rattle.node_memory.specs.rv32_step.Registers.{put, registers_of}
+use Rattle.node_memory.specs.byte_range.Memory.{raw}
+use Rattle.node_memory.specs.flag_memory.Flag.{flag_byte}
+use Rattle.node_memory.specs.byte_range.Window.{window_memory}
+use Rattle.node_memory.specs.exec_map.Contents.{program_of, class_of_line, first_byte}
+use Rattle.node_memory.specs.node_model.Node.{Region, load}
+use Rattle.node_memory.specs.Shelf.{ground_of, local_of}
+use Rattle.node_words.specs.Kept.{LeavesBehind, lane_of}
+use Rattle.node_memory.proofs.MemoryLemmas.{raw_in_line, memory_region}
 use Rattle.node_words.proofs.exec_state.ExecState.load.Goals as goal
 
 pub returns-in-Some-clause-leaves : goal.returns-in-Some-clause-leaves

@@ -1,10 +1,11 @@
 use Rattle.std.proofs.Common.{refl, sym, ap, ◌∙◌}
-use Rattle.node_model.specs.micro_op.Micro.{Demands}
-use Rattle.node_model.specs.rv32_step.declared.Demand.TheVariants.{Loads}
+use Rattle.node_memory.specs.micro_op.Micro.{Demands}
+use Rattle.node_memory.specs.rv32_step.declared.Demand.TheVariants.{Loads}
 use Rattle.node_words.specs.declared.exec_state.ExecState.{ExecState}
 use Rattle.node_words.specs.Kept.{lane_of}
 use Rattle.node_words.proofs.AccessLemmas.{loaded_gives}
 use Rattle.node_words.proofs.StrideLemmas.{load_leaves, loads, steps_next}
+use Rattle.node_words.proofs.UndoLogLemmas.{undoable_mild}
 use Rattle.node_words.proofs.exec_state.ExecState.load_by.Goals as goal
 
 pub returns-in-Some-clause-tried : goal.returns-in-Some-clause-tried
@@ -26,3 +27,9 @@ returns-then-load_far-clause-tried c image =
     let op = c.args.op.now in
     steps_next image op _ c.args.going.now c.on-then-load_far.new.self c.args.self.now c.load_far.new.self c.requires.means
     c.on-then-load_far.ensures.left c.on-then-load_far.ensures.at c.requires.low (c.if-load_far.ensures.does refl)
+
+pub returns-in-Some-clause-undoable : goal.returns-in-Some-clause-undoable
+returns-in-Some-clause-undoable c =
+    let b = c.args.self.now in
+    let b' : ExecState = record b { lane = record b.lane { registers = c.set.new.self } } in
+    undoable_mild b b' refl refl refl refl

@@ -1,13 +1,14 @@
 use Rattle.std.proofs.Common.{◌≡◌, ℕ, refl, ap, sym, ◌∙◌, subst}
 use Rattle.rv32_decode.specs.declared.Width.{Width}
 use Rattle.rv32_ops.specs.Operations.{extend}
-use Rattle.node_model.specs.rv32_step.Registers.{put, registers_of}
-use Rattle.node_model.specs.rv32_step.Memory.{load_value}
-use Rattle.byte_range.specs.Memory.{raw}
-use Rattle.exec_map.specs.Contents.{program_of}
-use Rattle.node_model.specs.Node.{Region, Memory, StateOf, Spill, Elsewhere, load, region_of, byte_at}
-use Rattle.node_words.specs.Kept.{ground_of, LeavesBehind, lane_of, local_of, region_by}
-use Rattle.node_words.specs.declared.region.Region as kept_region
+use Rattle.node_memory.specs.rv32_step.Registers.{put, registers_of}
+use Rattle.node_memory.specs.rv32_step.Memory.{load_value}
+use Rattle.node_memory.specs.byte_range.Memory.{raw}
+use Rattle.node_memory.specs.exec_map.Contents.{program_of}
+use Rattle.node_memory.specs.node_model.Node.{Region, Memory, StateOf, Spill, Elsewhere, load, region_of, byte_at}
+use Rattle.node_memory.specs.Shelf.{ground_of, local_of, region_by}
+use Rattle.node_words.specs.Kept.{LeavesBehind, lane_of}
+use Rattle.node_memory.specs.declared.region.Region as kept_region
 use Rattle.node_words.proofs.exec_state.ExecState.load_elsewhere.Goals as goal
 use Rattle.node_words.proofs.exec_state.ExecState.load_elsewhere.Goals.{in-Memory, in-StateOf, in-Spill, in-Elsewhere}
 

@@ -1,9 +1,10 @@
 use Rattle.std.proofs.Common.{◌≡◌, true, sym, ap, ◌∙◌}
 use Rattle.rv32_decode.specs.Widths.{is_aligned, width_of}
 use Rattle.rv32_decode.specs.declared.Width.{Width}
-use Rattle.exec_map.specs.Contents.{program_of}
-use Rattle.node_model.specs.Node.{region_of}
-use Rattle.node_words.specs.Kept.{lane_of, local_of, tally_of, move_of}
+use Rattle.node_memory.specs.exec_map.Contents.{program_of}
+use Rattle.node_memory.specs.node_model.Node.{region_of}
+use Rattle.node_memory.specs.Shelf.{local_of}
+use Rattle.node_words.specs.Kept.{lane_of, tally_of, move_of}
 use Rattle.node_words.specs.declared.lane.WordOutcome.{WordOutcome}
 use Rattle.node_words.proofs.StepLemmas.{load_next}
 use Rattle.node_words.proofs.exec_state.ExecState.load_or_exit.Goals as goal

@@ -1,8 +1,9 @@
 use Rattle.std.proofs.Common.{subst}
-use Rattle.exec_map.specs.Contents.{program_of}
-use Rattle.node_model.specs.rv32_step.declared.Demand.{Demand}
-use Rattle.node_model.specs.Node.{native}
-use Rattle.node_words.specs.Kept.{ground_of, Does, lane_of, local_of}
+use Rattle.node_memory.specs.exec_map.Contents.{program_of}
+use Rattle.node_memory.specs.rv32_step.declared.Demand.{Demand}
+use Rattle.node_memory.specs.node_model.Node.{native}
+use Rattle.node_memory.specs.Shelf.{ground_of, local_of}
+use Rattle.node_words.specs.Kept.{Does, lane_of}
 use Rattle.node_words.proofs.exec_state.ExecState.native.Goals as goal
 
 pub returns-clause-does : goal.returns-clause-does

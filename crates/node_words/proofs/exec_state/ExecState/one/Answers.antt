@@ -1,10 +1,10 @@
 use Rattle.std.proofs.Common.{◌≡◌, Bool, true, false, Some, ap, refl, subst, sym}
-use Rattle.node_model.specs.rv32_step.Registers.{registers_of}
-use Rattle.node_model.specs.micro_op.declared.MicroKind.{MicroKind}
-use Rattle.node_model.specs.micro_op.Micro.{Meaning, meaning_by}
-use Rattle.node_model.specs.jump_map.Image.{image_base}
-use Rattle.node_model.specs.jump_map.Strides.{IsPlain}
-use Rattle.node_model.specs.jump_map.declared.strides.StrideKind.{StrideKind}
+use Rattle.node_memory.specs.rv32_step.Registers.{registers_of}
+use Rattle.node_memory.specs.micro_op.declared.MicroKind.{MicroKind}
+use Rattle.node_memory.specs.micro_op.Micro.{Meaning, meaning_by}
+use Rattle.node_memory.specs.jump_map.Image.{image_base}
+use Rattle.node_memory.specs.jump_map.Strides.{IsPlain}
+use Rattle.node_memory.specs.jump_map.declared.strides.StrideKind.{StrideKind}
 use Rattle.node_words.specs.Kept.{StepsTo}
 use Rattle.node_words.specs.Strides.{IsTried, StepsBy}
 use Rattle.node_words.proofs.StrideLemmas.{jumps}

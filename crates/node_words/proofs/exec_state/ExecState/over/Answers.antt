@@ -1,7 +1,7 @@
 use Rattle.std.proofs.Common.{◌+◌, sym, ap, ◌∙◌, refl, arith}
 use Rattle.rv32_ops.specs.Operations.{taken}
-use Rattle.node_model.specs.rv32_step.Registers.{reg, registers_of}
-use Rattle.node_model.specs.micro_op.declared.micro_op.MicroOp.{MicroOp}
+use Rattle.node_memory.specs.rv32_step.Registers.{reg, registers_of}
+use Rattle.node_memory.specs.micro_op.declared.micro_op.MicroOp.{MicroOp}
 use Rattle.node_words.proofs.ReachLemmas.{Code, code_of}
 use Rattle.node_words.proofs.WholeLemmas.{found_at, jump_behind, over_behind, read_at, stands_low, strides_by}
 use Rattle.node_words.proofs.exec_state.ExecState.over.Goals as goal

@@ -1,7 +1,7 @@
 use Rattle.std.proofs.Common.{◌≡◌, ℕ, ◌+◌, ◌*◌, ◌/◌, Bool, true, false, Some, subst, refl, arith}
-use Rattle.node_model.specs.rv32_step.Registers.{registers_of}
-use Rattle.node_model.specs.micro_op.declared.micro_op.MicroOp.{MicroOp}
-use Rattle.node_model.specs.micro_op.Micro.{Enters, sum_address}
+use Rattle.node_memory.specs.rv32_step.Registers.{registers_of}
+use Rattle.node_memory.specs.micro_op.declared.micro_op.MicroOp.{MicroOp}
+use Rattle.node_memory.specs.micro_op.Micro.{Enters, sum_address}
 use Rattle.node_words.specs.declared.exec_state.ExecState.{ExecState}
 use Rattle.node_words.specs.declared.strides.Going.{Going}
 use Rattle.node_words.specs.Kept.{StepsTo}

@@ -1,7 +1,8 @@
 use Rattle.std.proofs.Common.{◌≡◌, ◌+◌, ℕ, true, false, sym, ap, ◌∙◌, refl, subst, Some}
-use Rattle.exec_map.specs.Contents.{program_of}
-use Rattle.node_model.specs.Node.{WordOutcome, Next, only_moves, lane_after_call, put_byte, is_mapped_state, is_readable_state}
-use Rattle.node_words.specs.Kept.{ground_of, Does, local_of, lane_of}
+use Rattle.node_memory.specs.exec_map.Contents.{program_of}
+use Rattle.node_memory.specs.node_model.Node.{WordOutcome, Next, only_moves, lane_after_call, put_byte, is_mapped_state, is_readable_state}
+use Rattle.node_memory.specs.Shelf.{ground_of, local_of}
+use Rattle.node_words.specs.Kept.{Does, lane_of}
 use Rattle.node_words.specs.declared.lane.Move.TheVariants as again
 use Rattle.node_words.specs.declared.lane.Tally.TheVariants as counted
 use Rattle.node_words.proofs.StepLemmas.{put_mapped, put_unmapped, put_waits}

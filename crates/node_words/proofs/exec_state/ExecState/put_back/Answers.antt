@@ -1,7 +1,7 @@
 use Rattle.std.proofs.Common.{List, refl, sym, ap, ◌∙◌, subst, All}
-use Rattle.exec_map.specs.Contents.{program_of}
+use Rattle.node_memory.specs.exec_map.Contents.{program_of}
 use Rattle.rv32_program.specs.Program.{Program}
-use Rattle.node_words.specs.declared.undo_log.Note.{Note}
+use Rattle.node_words.specs.declared.store_log.Note.{Note}
 use Rattle.node_words.specs.UndoLogs.{IsAlignedNote, held_of, taken_back, undone}
 use Rattle.node_words.proofs.UndoLogLemmas.{store_back, taken_back_push, seen_program, aligned_last, aligned_front, no_note}
 use Rattle.node_words.proofs.exec_state.ExecState.put_back.Goals as goal
@@ -10,7 +10,7 @@ pub loop-note-init : goal.loop-note-init
 loop-note-init c = record {
   aligned = c.requires.aligned;
   held = refl;
-  same = (λ r. refl, refl, refl);
+  same = (refl, refl);
   ground = refl;
   counts = refl;
 }
@@ -33,7 +33,7 @@ loop-note-preserved c =
           ∙ sym (taken_back_push p ns n (held_of l.self.lane l.self.local))
           ∙ ap (λ (xs : List Note). taken_back p xs (held_of l.self.lane l.self.local)) (sym c.in-Some.ensures.items)
           ∙ l.invariant.held;
-      same = (λ r. done.1.0 r ∙ same.0 r, done.1.1 ∙ same.1, done.1.2 ∙ same.2);
+      same = (done.1.0 ∙ same.0, done.1.1 ∙ same.1);
       ground = (c.store.ensures.leaves 0).ground_same ∙ l.invariant.ground;
       counts = c.store.ensures.counts ∙ l.invariant.counts;
     }
@@ -44,14 +44,11 @@ returns-clause-held c =
     let p = program_of c.args.self.now.local.program in
     ap (λ (xs : List Note). taken_back p xs (held_of l.self.lane l.self.local)) (sym (no_note l.notes.items (sym l.notes.ok.0 ∙ c.in_default.ensures.cases.0))) ∙ l.invariant.held
 
-pub returns-clause-registers : goal.returns-clause-registers
-returns-clause-registers c = c.loop-note.invariant.same.0
-
 pub returns-clause-state : goal.returns-clause-state
-returns-clause-state c = c.loop-note.invariant.same.1
+returns-clause-state c = c.loop-note.invariant.same.0
 
 pub returns-clause-reservation : goal.returns-clause-reservation
-returns-clause-reservation c = c.loop-note.invariant.same.2
+returns-clause-reservation c = c.loop-note.invariant.same.1
 
 pub returns-clause-ground : goal.returns-clause-ground
 returns-clause-ground c = c.loop-note.invariant.ground

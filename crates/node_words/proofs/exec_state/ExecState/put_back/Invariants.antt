@@ -1,6 +1,6 @@
 use Rattle.std.proofs.Common.{◌≡◌, All}
-use Rattle.exec_map.specs.Contents.{program_of}
-use Rattle.node_words.specs.Kept.{ground_of}
+use Rattle.node_memory.specs.exec_map.Contents.{program_of}
+use Rattle.node_memory.specs.Shelf.{ground_of}
 use Rattle.node_words.specs.UndoLogs.{IsAlignedNote, held_of, taken_back}
 use Rattle.node_words.proofs.UndoLogLemmas.{Unchanged}
 use Rattle.node_words.proofs.exec_state.ExecState.put_back.Given as goal

@@ -1,6 +1,6 @@
 use Rattle.std.proofs.Common.{◌≡◌, ◌/◌, subst, refl, true}
-use Rattle.node_model.specs.Node.{is_writable_state}
-use Rattle.node_words.specs.Kept.{Shelf, local_of}
+use Rattle.node_memory.specs.node_model.Node.{is_writable_state}
+use Rattle.node_memory.specs.Shelf.{Shelf, local_of}
 use Rattle.node_words.specs.Strides.{IsStored, IsStoredOr}
 use Rattle.node_words.proofs.AccessLemmas.{shared_stored}
 use Rattle.node_words.proofs.exec_state.ExecState.put_checked.Goals as goal

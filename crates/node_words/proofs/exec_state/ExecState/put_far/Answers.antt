@@ -1,6 +1,6 @@
 use Rattle.std.proofs.Common.{◌∙◌, ap, cond, sym, Bool}
-use Rattle.byte_range.specs.Memory.{stored}
-use Rattle.byte_range.specs.Window.{window_memory}
+use Rattle.node_memory.specs.byte_range.Memory.{stored}
+use Rattle.node_memory.specs.byte_range.Window.{window_memory}
 use Rattle.node_words.proofs.AccessLemmas.{stored_or, window_stored}
 use Rattle.node_words.proofs.exec_state.ExecState.put_far.Goals as goal
 

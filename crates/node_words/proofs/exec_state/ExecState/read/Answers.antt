@@ -1,15 +1,17 @@
 use Rattle.std.proofs.Common.{◌≡◌, ◌+◌, ◌*◌, ap, ◌∙◌, refl, arith}
 use Rattle.std.specs.Prelude.{slice_index_or}
-use Rattle.node_model.specs.rv32_step.Registers.{registers_of}
-use Rattle.node_model.specs.micro_op.declared.micro_op.MicroOp.{MicroOp}
-use Rattle.node_model.specs.micro_op.declared.MicroKind.TheVariants as kind
-use Rattle.node_model.specs.micro_op.Micro.{sum_address}
-use Rattle.node_model.specs.jump_map.Strides.{op_of, state_look}
-use Rattle.node_model.specs.Node.{ProcessorState, set_register}
+use Rattle.node_memory.specs.rv32_step.Registers.{registers_of}
+use Rattle.node_memory.specs.micro_op.declared.micro_op.MicroOp.{MicroOp}
+use Rattle.node_memory.specs.micro_op.declared.MicroKind.TheVariants as kind
+use Rattle.node_memory.specs.micro_op.Micro.{sum_address}
+use Rattle.node_memory.specs.jump_map.Strides.{op_of, state_look}
+use Rattle.node_memory.specs.node_model.Node.{ProcessorState, set_register}
 use Rattle.node_words.specs.Kept.{lane_of}
 use Rattle.node_words.proofs.ReachLemmas.{Code, code_of}
 use Rattle.node_words.proofs.SequenceLemmas.{begins}
 use Rattle.node_words.proofs.WholeLemmas.{found_at, read_at, read_goes, stands_low, strides_by}
+use Rattle.node_words.specs.declared.exec_state.ExecState.{ExecState}
+use Rattle.node_words.proofs.UndoLogLemmas.{undoable_both, undoable_mild}
 use Rattle.node_words.proofs.exec_state.ExecState.read.Goals as goal
 
 pub returns-in-Some-clause-strides : goal.returns-in-Some-clause-strides
@@ -38,3 +40,10 @@ returns-in-Some-clause-strides c image few are =
     (λ k. (λ i. record (lane_of c.leave.new.self.lane k) { registers = c.set.ensures i })
     ∙ ap (λ (l : ProcessorState). set_register l element.rd c.in-Some.value) (c.leave.ensures.lane k))
     c.leave.ensures.local)
+
+pub returns-in-Some-clause-undoable : goal.returns-in-Some-clause-undoable
+returns-in-Some-clause-undoable c =
+    let b = c.args.self.now in
+    let m = c.leave.new.self in
+    let b' : ExecState = record m { lane = record m.lane { registers = c.set.new.self } } in
+    undoable_both b m b' c.leave.ensures.undoable (undoable_mild m b' refl refl refl refl)

@@ -1,5 +1,5 @@
 use Rattle.std.proofs.Common.{rules, Fits, w64, ◌+◌, ◌*◌, refl, arith}
-use Rattle.node_model.specs.jump_map.Strides.{skip}
+use Rattle.node_memory.specs.jump_map.Strides.{skip}
 use Rattle.node_words.proofs.ReachLemmas.{Code, code_of}
 use Rattle.node_words.proofs.WholeLemmas.{read_head_goes, stands_below, stands_low, strides_by}
 use Rattle.node_words.proofs.exec_state.ExecState.read_head.Goals as goal

@@ -2,9 +2,10 @@ use Rattle.std.proofs.Common.{◌≡◌, true, Some, sym, ap, ◌∙◌}
 use Rattle.rv32_decode.specs.declared.LoadKind.TheVariants.{Word as WordLoad}
 use Rattle.rv32_decode.specs.declared.Width.TheVariants.{Word}
 use Rattle.rv32_decode.specs.Widths.{is_aligned}
-use Rattle.exec_map.specs.Contents.{program_of}
-use Rattle.node_model.specs.Node.{NodeMemory, region_of}
-use Rattle.node_words.specs.Kept.{lane_of, local_of, tally_of, move_of}
+use Rattle.node_memory.specs.exec_map.Contents.{program_of}
+use Rattle.node_memory.specs.node_model.Node.{NodeMemory, region_of}
+use Rattle.node_memory.specs.Shelf.{local_of}
+use Rattle.node_words.specs.Kept.{lane_of, tally_of, move_of}
 use Rattle.node_words.specs.declared.lane.WordOutcome.{WordOutcome}
 use Rattle.node_words.proofs.StepLemmas.{load_next}
 use Rattle.node_words.proofs.exec_state.ExecState.reserve_or_exit.Goals as goal

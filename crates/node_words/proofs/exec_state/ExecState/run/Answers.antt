@@ -1,20 +1,23 @@
 use Rattle.std.specs.Prelude.{slice_index_or}
 use Rattle.std.proofs.lemmas.Option.{slice_get_read, slice_get_within}
 use Rattle.std.proofs.Common.{◌≡◌, ℕ, ◌-◌, ◌<◌, ◌≤◌, ◌∙◌, Bool, false, List, Option, length, ap, arith, refl, subst, sym}
-use Rattle.exec_map.specs.Contents.{program_of}
-use Rattle.node_model.specs.micro_op.declared.micro_op.MicroOp.{MicroOp}
-use Rattle.node_model.specs.jump_map.Image.{Cell, most_words}
-use Rattle.node_model.specs.jump_map.Micro.{AreMicrosOf, IsMicroAnswer, IsMicroAt}
-use Rattle.node_model.specs.jump_map.Strides.{HasStrides, IsPlain, IsStride}
-use Rattle.node_model.specs.jump_map.declared.strides.StrideKind.{StrideKind}
-use Rattle.node_model.specs.Node.{next_outcome}
+use Rattle.node_memory.specs.exec_map.Contents.{program_of}
+use Rattle.node_memory.specs.micro_op.declared.micro_op.MicroOp.{MicroOp}
+use Rattle.node_memory.specs.jump_map.Image.{Cell, most_words}
+use Rattle.node_memory.specs.jump_map.Micro.{AreMicrosOf, IsMicroAnswer, IsMicroAt}
+use Rattle.node_memory.specs.jump_map.Strides.{HasStrides, IsPlain, IsStride}
+use Rattle.node_memory.specs.jump_map.declared.strides.StrideKind.{StrideKind}
+use Rattle.node_memory.specs.node_model.Node.{next_outcome}
 use Rattle.node_words.specs.declared.exec_state.ExecState.{ExecState}
 use Rattle.node_words.specs.declared.strides.Going.{Going}
 use Rattle.node_words.specs.Address.{word_address}
 use Rattle.node_words.specs.GoingOn.{BodyGoesOn}
-use Rattle.node_words.specs.Kept.{Follows, ground_of, lane_of, local_of}
+use Rattle.node_memory.specs.Shelf.{ground_of, local_of}
+use Rattle.node_words.specs.Kept.{Follows, lane_of}
 use Rattle.node_words.specs.Strides.{IsTried, Stays, StepsBy, StridesBy}
 use Rattle.node_words.proofs.StrideLemmas.{after_stays, stride_of_silent, tried_after, tried_stride}
+use Rattle.node_words.specs.UndoLogs.{StaysUndoable}
+use Rattle.node_words.proofs.UndoLogLemmas.{undoable_both, undoable_same}
 use Rattle.node_words.proofs.WholeLemmas.{found_at}
 use Rattle.node_words.proofs.WordLemmas.{body_starts, goes_by, goes_none}
 use Rattle.node_words.proofs.exec_state.ExecState.run.Goals as goal
@@ -55,13 +58,15 @@ tried_one t image micros is found from mid to b m b' few are stride read stays t
 -- what was tried, by other names
 abbrev Joined : Bool → List Cell → (from : Going) (b : ExecState) (to : Going) (b' : ExecState) → Type 0
 Joined t image from b to b' = IsTried t (StridesBy image from b to b') from b to b' × (b'.counts ≡ b.counts)
+    × StaysUndoable b b'
 
 joined : (t t' : Bool) (image : List Cell) (from to to' : Going) (b m m' : ExecState) → t' ≡ t → to' ≡ to → m' ≡ m
-    → IsTried t (StridesBy image from b to m) from b to m → m.counts ≡ b.counts → Joined t' image from b to' m'
-joined t t' image from to to' b m m' result place state tried counts =
+    → IsTried t (StridesBy image from b to m) from b to m → m.counts ≡ b.counts → StaysUndoable b m
+    → Joined t' image from b to' m'
+joined t t' image from to to' b m m' result place state tried counts undoable =
     subst (λ (r : Bool). Joined r image from b to' m') (sym result)
     (subst (λ (g : Going). Joined t image from b g m') (sym place)
-    (subst (λ (s : ExecState). Joined t image from b to s) (sym state) (tried, counts)))
+    (subst (λ (s : ExecState). Joined t image from b to s) (sym state) (tried, counts, undoable)))
 
 pub loop-going-init : goal.loop-going-init
 loop-going-init c =
@@ -75,6 +80,7 @@ loop-going-init c =
       low = c.ranges.from.fits;
       ground = refl;
       counts = refl;
+      undoable = undoable_same b;
     }
 
 pub one-requires-clause-plain : goal.one-requires-clause-plain
@@ -109,7 +115,7 @@ loop-going-preserved c =
     let going = c.match-get.going in
     let all : Joined c.match-get.done image g b going m = elim c.match-get.branch [
       | in-Some+then-sequence w ↦ joined w.sequence.result _ image g _ _ b _ _ w.done-is w.going-is w.self-is
-          w.sequence.ensures.tried w.sequence.ensures.counts
+          w.sequence.ensures.tried w.sequence.ensures.counts w.sequence.ensures.undoable
       | in-Some+else-sequence w ↦ joined w.one.result _ image g _ _ b _ _ w.done-is w.going-is w.self-is
           (tried_one w.one.result image c.tables.result.0.now w.in-Some.kind.now w.index-micros-going.result g
           w.sequence.new.going w.one.new.going b w.sequence.new.self w.one.new.self c.requires c.tables.ensures.micros
@@ -117,8 +123,9 @@ loop-going-preserved c =
           w.in-Some.ensures.lookup.3.0 w.in-Some.ensures.lookup.1)
           w.index-micros-going.is w.if-sequence.ensures.tried w.one.ensures.tried)
           (w.one.ensures.counts ∙ w.sequence.ensures.counts)
+          (undoable_both b w.sequence.new.self w.one.new.self w.sequence.ensures.undoable w.one.ensures.undoable)
       | in-None w ↦ joined false _ image g g _ b b _ w.done-is w.going-is w.self-is
-          (record { place = refl; lane = refl; local = refl }) refl
+          (record { place = refl; lane = refl; local = refl }) refl (undoable_same b)
     ] in
     let stride = subst (λ (r : Bool). IsTried r (StridesBy image g b going m) g b going m) c.if-not-done.false all.0 in
     let some = stride.some in
@@ -131,6 +138,7 @@ loop-going-preserved c =
       low = stride.low;
       ground = (stride.goes 0).ground_same ∙ i.ground;
       counts = all.1 ∙ i.counts;
+      undoable = undoable_both c.args.self.now b m i.undoable all.2;
     }
 
 pub loop-going-preserved-in-Some-step_apart : goal.loop-going-preserved-in-Some-step_apart
@@ -147,7 +155,7 @@ loop-going-preserved-in-Some-step_apart c =
     let going = c.to.new.self in
     let all : Joined c.match-get.done image g b mid m = elim c.match-get.branch [
       | in-Some+then-sequence w ↦ joined w.sequence.result _ image g _ _ b _ _ w.done-is w.going-is w.self-is
-          w.sequence.ensures.tried w.sequence.ensures.counts
+          w.sequence.ensures.tried w.sequence.ensures.counts w.sequence.ensures.undoable
       | in-Some+else-sequence w ↦ joined w.one.result _ image g _ _ b _ _ w.done-is w.going-is w.self-is
           (tried_one w.one.result image c.tables.result.0.now w.in-Some.kind.now w.index-micros-going.result g
           w.sequence.new.going w.one.new.going b w.sequence.new.self w.one.new.self c.requires c.tables.ensures.micros
@@ -155,8 +163,9 @@ loop-going-preserved-in-Some-step_apart c =
           w.in-Some.ensures.lookup.3.0 w.in-Some.ensures.lookup.1)
           w.index-micros-going.is w.if-sequence.ensures.tried w.one.ensures.tried)
           (w.one.ensures.counts ∙ w.sequence.ensures.counts)
+          (undoable_both b w.sequence.new.self w.one.new.self w.sequence.ensures.undoable w.one.ensures.undoable)
       | in-None w ↦ joined false _ image g g _ b b _ w.done-is w.going-is w.self-is
-          (record { place = refl; lane = refl; local = refl }) refl
+          (record { place = refl; lane = refl; local = refl }) refl (undoable_same b)
     ] in
     let stays = subst (λ (r : Bool). IsTried r (StridesBy image g b mid m) g b mid m) c.if-not-done.true all.0 in
     let outcome = next_outcome (program_of m.local.program) image (lane_of m.lane (word_address mid.at)) (local_of m.local) in
@@ -174,6 +183,8 @@ loop-going-preserved-in-Some-step_apart c =
       low = stride.low;
       ground = (stride.goes 0).ground_same ∙ i.ground;
       counts = c.step_apart.ensures.counts ∙ all.1 ∙ i.counts;
+      undoable = undoable_both c.args.self.now m b' (undoable_both c.args.self.now b m i.undoable all.2)
+          c.step_apart.ensures.undoable;
     }
 
 pub returns-clause-words : goal.returns-clause-words
@@ -204,7 +215,7 @@ returns-in-None-step_apart-clause-words c =
     let b' = c.step_apart.new.self in
     let all : Joined c.match-get.done image g b mid m = elim c.match-get.branch [
       | in-Some+then-sequence w ↦ joined w.sequence.result _ image g _ _ b _ _ w.done-is w.going-is w.self-is
-          w.sequence.ensures.tried w.sequence.ensures.counts
+          w.sequence.ensures.tried w.sequence.ensures.counts w.sequence.ensures.undoable
       | in-Some+else-sequence w ↦ joined w.one.result _ image g _ _ b _ _ w.done-is w.going-is w.self-is
           (tried_one w.one.result image c.tables.result.0.now w.in-Some.kind.now w.index-micros-going.result g
           w.sequence.new.going w.one.new.going b w.sequence.new.self w.one.new.self c.requires c.tables.ensures.micros
@@ -212,8 +223,9 @@ returns-in-None-step_apart-clause-words c =
           w.in-Some.ensures.lookup.3.0 w.in-Some.ensures.lookup.1)
           w.index-micros-going.is w.if-sequence.ensures.tried w.one.ensures.tried)
           (w.one.ensures.counts ∙ w.sequence.ensures.counts)
+          (undoable_both b w.sequence.new.self w.one.new.self w.sequence.ensures.undoable w.one.ensures.undoable)
       | in-None w ↦ joined false _ image g g _ b b _ w.done-is w.going-is w.self-is
-          (record { place = refl; lane = refl; local = refl }) refl
+          (record { place = refl; lane = refl; local = refl }) refl (undoable_same b)
     ] in
     let stays = subst (λ (r : Bool). IsTried r (StridesBy image g b mid m) g b mid m) c.if-not-done.true all.0 in
     let steps = c.in-None-step_apart.ensures.steps in
@@ -231,7 +243,7 @@ returns-in-None-step_apart-clause-ground c =
     let mid = c.match-get.going in
     let all : Joined c.match-get.done image g b mid m = elim c.match-get.branch [
       | in-Some+then-sequence w ↦ joined w.sequence.result _ image g _ _ b _ _ w.done-is w.going-is w.self-is
-          w.sequence.ensures.tried w.sequence.ensures.counts
+          w.sequence.ensures.tried w.sequence.ensures.counts w.sequence.ensures.undoable
       | in-Some+else-sequence w ↦ joined w.one.result _ image g _ _ b _ _ w.done-is w.going-is w.self-is
           (tried_one w.one.result image c.tables.result.0.now w.in-Some.kind.now w.index-micros-going.result g
           w.sequence.new.going w.one.new.going b w.sequence.new.self w.one.new.self c.requires c.tables.ensures.micros
@@ -239,8 +251,38 @@ returns-in-None-step_apart-clause-ground c =
           w.in-Some.ensures.lookup.3.0 w.in-Some.ensures.lookup.1)
           w.index-micros-going.is w.if-sequence.ensures.tried w.one.ensures.tried)
           (w.one.ensures.counts ∙ w.sequence.ensures.counts)
+          (undoable_both b w.sequence.new.self w.one.new.self w.sequence.ensures.undoable w.one.ensures.undoable)
       | in-None w ↦ joined false _ image g g _ b b _ w.done-is w.going-is w.self-is
-          (record { place = refl; lane = refl; local = refl }) refl
+          (record { place = refl; lane = refl; local = refl }) refl (undoable_same b)
     ] in
     let stays = subst (λ (r : Bool). IsTried r (StridesBy image g b mid m) g b mid m) c.if-not-done.true all.0 in
     ap ground_of (c.in-None-step_apart.ensures.steps.1 ∙ stays.local) ∙ c.loop-going.invariant.ground
+
+pub returns-clause-undoable : goal.returns-clause-undoable
+returns-clause-undoable c =
+    let l = c.loop-going in
+    undoable_both c.args.self.now l.self c.run_singly-last.new.self l.invariant.undoable c.run_singly-last.ensures.undoable
+
+pub returns-in-None-step_apart-clause-undoable : goal.returns-in-None-step_apart-clause-undoable
+returns-in-None-step_apart-clause-undoable c =
+    let image = c.args.image.now in
+    let g = c.loop-going.going in
+    let b = c.loop-going.self in
+    let m = c.match-get.self in
+    let mid = c.match-get.going in
+    let all : Joined c.match-get.done image g b mid m = elim c.match-get.branch [
+      | in-Some+then-sequence w ↦ joined w.sequence.result _ image g _ _ b _ _ w.done-is w.going-is w.self-is
+          w.sequence.ensures.tried w.sequence.ensures.counts w.sequence.ensures.undoable
+      | in-Some+else-sequence w ↦ joined w.one.result _ image g _ _ b _ _ w.done-is w.going-is w.self-is
+          (tried_one w.one.result image c.tables.result.0.now w.in-Some.kind.now w.index-micros-going.result g
+          w.sequence.new.going w.one.new.going b w.sequence.new.self w.one.new.self c.requires c.tables.ensures.micros
+          (stride_found c.tables.result.0.now c.tables.result.1.now g.at w.in-Some.kind.now c.tables.ensures.strides
+          w.in-Some.ensures.lookup.3.0 w.in-Some.ensures.lookup.1)
+          w.index-micros-going.is w.if-sequence.ensures.tried w.one.ensures.tried)
+          (w.one.ensures.counts ∙ w.sequence.ensures.counts)
+          (undoable_both b w.sequence.new.self w.one.new.self w.sequence.ensures.undoable w.one.ensures.undoable)
+      | in-None w ↦ joined false _ image g g _ b b _ w.done-is w.going-is w.self-is
+          (record { place = refl; lane = refl; local = refl }) refl (undoable_same b)
+    ] in
+    undoable_both c.args.self.now m c.step_apart.new.self
+    (undoable_both c.args.self.now b m c.loop-going.invariant.undoable all.2) c.step_apart.ensures.undoable

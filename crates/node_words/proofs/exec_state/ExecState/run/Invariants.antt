@@ -1,6 +1,7 @@
 use Rattle.std.proofs.Common.{◌≡◌, ◌-◌, ◌^◌, ◌<◌, ◌≤◌}
 use Rattle.node_words.specs.GoingOn.{BodyGoesOn}
-use Rattle.node_words.specs.Kept.{ground_of}
+use Rattle.node_memory.specs.Shelf.{ground_of}
+use Rattle.node_words.specs.UndoLogs.{StaysUndoable}
 use Rattle.node_words.proofs.exec_state.ExecState.run.Given as goal
 
 abbrev pub invariant-loop-going : goal.invariant-loop-going
@@ -10,6 +11,7 @@ invariant-loop-going l = record {
   low : l.going.at < 2 ^ 32;
   ground : ground_of l.self.local ≡ ground_of l.initial.self.local;
   counts : l.self.counts ≡ l.initial.self.counts;
+  undoable : StaysUndoable l.initial.self l.self;
 }
 
 abbrev pub decreases-loop-going : goal.decreases-loop-going

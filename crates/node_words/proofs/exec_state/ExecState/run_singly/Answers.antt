@@ -1,6 +1,7 @@
 use Rattle.std.proofs.Common.{◌≡◌, ℕ, ◌+◌, ◌∙◌, arith, refl, subst}
 use Rattle.node_words.specs.GoingOn.{GoesFurther}
 use Rattle.node_words.proofs.WordLemmas.{goes_both, goes_none, goes_one}
+use Rattle.node_words.proofs.UndoLogLemmas.{undoable_both, undoable_same}
 use Rattle.node_words.proofs.exec_state.ExecState.run_singly.Goals as goal
 
 pub loop-words-init : goal.loop-words-init
@@ -12,6 +13,7 @@ loop-words-init c =
           (goes_none c.args.image.now c.args.from w b b refl refl);
       most = omega arith;
       counts = refl;
+      undoable = undoable_same b;
     }
 
 pub loop-words-preserved : goal.loop-words-preserved
@@ -27,6 +29,7 @@ loop-words-preserved c =
           (goes_one image l.at (w + l.words) c.in-Some.next l.self b' c.in-Some.ensures.steps));
       most = omega (arith, c.loop-words-test.true);
       counts = c.step_on.ensures.counts ∙ l.invariant.counts;
+      undoable = undoable_both b l.self b' l.invariant.undoable c.step_on.ensures.undoable;
     }
 
 pub returns-in-None-clause-goes : goal.returns-in-None-clause-goes
@@ -36,3 +39,8 @@ returns-in-None-clause-goes c w =
     let steps = c.in-None.ensures.steps in
     goes_both image c.args.from w l.at (w + l.words) l.at (w + l.words) c.args.self.now l.self c.step_on.new.self
     (l.invariant.goes w) (goes_none image l.at (w + l.words) l.self c.step_on.new.self steps.0 steps.1)
+
+pub returns-in-None-clause-undoable : goal.returns-in-None-clause-undoable
+returns-in-None-clause-undoable c =
+    let l = c.loop-words in
+    undoable_both c.args.self.now l.self c.step_on.new.self l.invariant.undoable c.step_on.ensures.undoable

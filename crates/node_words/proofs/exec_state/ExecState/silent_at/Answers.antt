@@ -1,10 +1,11 @@
 use Rattle.std.proofs.Common.{◌∙◌, Option, ap, subst}
-use Rattle.exec_map.specs.Contents.{program_of}
-use Rattle.node_model.specs.jump_map.declared.image.ImageWord.{ImageWord}
-use Rattle.node_model.specs.jump_map.Maps.{fetch}
-use Rattle.node_model.specs.Node.{execute_at}
+use Rattle.node_memory.specs.exec_map.Contents.{program_of}
+use Rattle.node_memory.specs.jump_map.declared.image.ImageWord.{ImageWord}
+use Rattle.node_memory.specs.jump_map.Maps.{fetch}
+use Rattle.node_memory.specs.node_model.Node.{execute_at}
 use Rattle.node_words.specs.Address.{word_address}
-use Rattle.node_words.specs.Kept.{StepsOr, lane_of, local_of}
+use Rattle.node_memory.specs.Shelf.{local_of}
+use Rattle.node_words.specs.Kept.{StepsOr, lane_of}
 use Rattle.node_words.proofs.exec_state.ExecState.silent_at.Goals as goal
 
 pub returns-in-Some-clause-steps : goal.returns-in-Some-clause-steps

@@ -1,8 +1,9 @@
 use Rattle.std.proofs.Common.{◌≡◌, ◌+◌, ◌/◌, ◌*◌, ◌%◌, ◌^◌, ℕ, subst, arith}
-use Rattle.node_model.specs.rv32_step.Registers.{reg, registers_of}
-use Rattle.node_model.specs.Node.{batch, indirect, miss_w, need_of_run, prepare}
+use Rattle.node_memory.specs.rv32_step.Registers.{reg, registers_of}
+use Rattle.node_memory.specs.node_model.Node.{batch, indirect, miss_w, need_of_run, prepare}
 use Rattle.node_words.specs.Address.{word_address}
-use Rattle.node_words.specs.Kept.{StepsOr, lane_of, local_of}
+use Rattle.node_memory.specs.Shelf.{local_of}
+use Rattle.node_words.specs.Kept.{StepsOr, lane_of}
 use Rattle.node_words.proofs.exec_state.ExecState.silent_by.Goals as goal
 
 pub returns-in-Xjalr-clause-steps : goal.returns-in-Xjalr-clause-steps

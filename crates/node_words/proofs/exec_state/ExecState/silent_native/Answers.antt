@@ -1,12 +1,13 @@
 use Rattle.std.proofs.Common.{◌≡◌, ◌∙◌, true, ap, sym, rules}
-use Rattle.exec_map.specs.Contents.{program_of}
+use Rattle.node_memory.specs.exec_map.Contents.{program_of}
 use Rattle.rv32_decode.specs.declared.Width.TheVariants.{Word}
 use Rattle.rv32_decode.specs.Widths.{is_aligned}
-use Rattle.node_model.specs.rv32_step.declared.Demand.TheVariants.{Reserves, StoresIf, Updates}
-use Rattle.node_model.specs.rv32_step.Demands.{demand_of}
-use Rattle.node_model.specs.rv32_step.Registers.{registers_of}
+use Rattle.node_memory.specs.rv32_step.declared.Demand.TheVariants.{Reserves, StoresIf, Updates}
+use Rattle.node_memory.specs.rv32_step.Demands.{demand_of}
+use Rattle.node_memory.specs.rv32_step.Registers.{registers_of}
 use Rattle.node_words.specs.Address.{word_address}
-use Rattle.node_words.specs.Kept.{lane_of, local_of}
+use Rattle.node_memory.specs.Shelf.{local_of}
+use Rattle.node_words.specs.Kept.{lane_of}
 use Rattle.node_words.proofs.StepLemmas.{native_next, reserves_next, stores_if_next, updates_next}
 use Rattle.node_words.proofs.exec_state.ExecState.silent_native.Goals as goal
 

@@ -1,7 +1,8 @@
 use Rattle.std.proofs.Common.{subst, refl}
-use Rattle.exec_map.specs.Contents.{program_of}
-use Rattle.node_model.specs.Node.{store, region_of}
-use Rattle.node_words.specs.Kept.{ground_of, Shelf, LeavesBehind, lane_of, local_of}
+use Rattle.node_memory.specs.exec_map.Contents.{program_of}
+use Rattle.node_memory.specs.node_model.Node.{store, region_of}
+use Rattle.node_memory.specs.Shelf.{ground_of, Shelf, local_of}
+use Rattle.node_words.specs.Kept.{LeavesBehind, lane_of}
 use Rattle.node_words.proofs.exec_state.ExecState.store.Goals as goal
 
 pub returns-then-not-store-clause-leaves : goal.returns-then-not-store-clause-leaves

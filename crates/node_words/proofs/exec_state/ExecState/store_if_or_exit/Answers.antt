@@ -1,10 +1,11 @@
 use Rattle.std.proofs.Common.{◌≡◌, ℕ, true, None, sym, ap, ◌∙◌}
 use Rattle.rv32_decode.specs.declared.Width.TheVariants.{Word}
 use Rattle.rv32_decode.specs.Widths.{is_aligned}
-use Rattle.exec_map.specs.Contents.{program_of}
-use Rattle.node_model.specs.llsc.Reservation.{holds}
-use Rattle.node_model.specs.Node.{ProcessorState, NodeMemory, region_of, set_register}
-use Rattle.node_words.specs.Kept.{lane_of, local_of, tally_of, move_of}
+use Rattle.node_memory.specs.exec_map.Contents.{program_of}
+use Rattle.node_memory.specs.llsc.Reservation.{holds}
+use Rattle.node_memory.specs.node_model.Node.{ProcessorState, NodeMemory, region_of, set_register}
+use Rattle.node_memory.specs.Shelf.{local_of}
+use Rattle.node_words.specs.Kept.{lane_of, tally_of, move_of}
 use Rattle.node_words.specs.declared.lane.WordOutcome.{WordOutcome}
 use Rattle.node_words.proofs.StepLemmas.{store_next}
 use Rattle.node_words.proofs.exec_state.ExecState.store_if_or_exit.Goals as goal

@@ -1,11 +1,12 @@
 use Rattle.std.proofs.Common.{◌≡◌, ℕ, true, sym, ap, ◌∙◌, subst}
 use Rattle.rv32_decode.specs.declared.Width.TheVariants.{Word}
 use Rattle.rv32_decode.specs.Widths.{is_aligned}
-use Rattle.exec_map.specs.Contents.{program_of}
+use Rattle.node_memory.specs.exec_map.Contents.{program_of}
 use Rattle.rv32_ops.specs.Operations.{amo}
-use Rattle.node_model.specs.Node.{ProcessorState, region_of, set_register, update}
+use Rattle.node_memory.specs.node_model.Node.{ProcessorState, region_of, set_register, update}
 use Rattle.node_words.specs.declared.lane.ProcessorState as kept
-use Rattle.node_words.specs.Kept.{ground_of, Does, lane_of, local_of, tally_of, move_of}
+use Rattle.node_memory.specs.Shelf.{ground_of, local_of}
+use Rattle.node_words.specs.Kept.{Does, lane_of, tally_of, move_of}
 use Rattle.node_words.specs.declared.lane.WordOutcome.{WordOutcome}
 use Rattle.node_words.proofs.StepLemmas.{store_next, updated_to}
 use Rattle.node_words.proofs.exec_state.ExecState.update_or_exit.Goals as goal

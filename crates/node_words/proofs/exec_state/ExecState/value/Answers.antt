@@ -2,10 +2,11 @@
 use Rattle.std.proofs.Common.{ap, ◌∙◌}
 use Rattle.rv32_decode.specs.declared.Width.{Width}
 use Rattle.rv32_ops.specs.Operations.{extend}
-use Rattle.byte_range.specs.Memory.{raw}
-use Rattle.exec_map.specs.Contents.{program_of}
-use Rattle.node_model.specs.Node.{byte_at}
-use Rattle.node_words.specs.Kept.{lane_of, local_of}
+use Rattle.node_memory.specs.byte_range.Memory.{raw}
+use Rattle.node_memory.specs.exec_map.Contents.{program_of}
+use Rattle.node_memory.specs.node_model.Node.{byte_at}
+use Rattle.node_memory.specs.Shelf.{local_of}
+use Rattle.node_words.specs.Kept.{lane_of}
 use Rattle.node_words.proofs.exec_state.ExecState.value.Goals as goal
 
 pub returns : goal.returns

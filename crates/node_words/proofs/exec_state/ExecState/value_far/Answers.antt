@@ -1,8 +1,8 @@
 use Rattle.std.proofs.Common.{◌∙◌, sym}
-use Rattle.byte_range.specs.Memory.{raw}
-use Rattle.byte_range.specs.Window.{window_memory, is_in_window}
+use Rattle.node_memory.specs.byte_range.Memory.{raw}
+use Rattle.node_memory.specs.byte_range.Window.{window_memory, is_in_window}
 use Rattle.node_words.proofs.AccessLemmas.{fixed_gives, shared_gives, window_gives}
-use Rattle.node_words.proofs.MemoryLemmas.{in_window}
+use Rattle.node_memory.proofs.MemoryLemmas.{in_window}
 use Rattle.node_words.proofs.exec_state.ExecState.value_far.Goals as goal
 
 pub returns-in-Some : goal.returns-in-Some

@@ -1,7 +1,7 @@
 use Rattle.std.proofs.Common.{rules, Fits, w64, ◌≡◌, ℕ, ◌+◌, ◌*◌, ◌%◌, ◌^◌, ◌<◌, sym, ◌∙◌, refl, arith}
 use Rattle.std.proofs.lemmas.Nat.{and_mask}
 use Rattle.std.specs.Prelude.{bit_and, bit_or}
-use Rattle.node_model.specs.jump_map.Strides.{skip}
+use Rattle.node_memory.specs.jump_map.Strides.{skip}
 use Rattle.node_words.specs.Strides.{state_at}
 use Rattle.node_words.proofs.ReachLemmas.{Code, code_of}
 use Rattle.node_words.proofs.WholeLemmas.{stands_below, stands_low, strides_by, write_head_goes}
