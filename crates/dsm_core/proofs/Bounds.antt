@@ -1,5 +1,5 @@
 -- A core's stamps are in range, and so are the runs that go on from it.
-use Rattle.std.proofs.Common.{◌≡◌, ℕ, ◌+◌, ◌*◌, ◌^◌, ◌<◌, ◌≤◌, List, ◌∷◌, ◌++◌, length, sym, subst, arith, length-append, ◌∙◌}
+use Rattle.std.proofs.Common.{◌≡◌, ℕ, ◌+◌, ◌*◌, ◌^◌, ◌<◌, ◌≤◌, List, ◌++◌, length, sym, subst, arith, length-append}
 use Rattle.std.specs.Prelude.{All}
 use Rattle.std.proofs.lemmas.Nat.{mul-le}
 use Rattle.block_layout.specs.Layout.{IsValid}
@@ -10,7 +10,7 @@ use Rattle.rewriting_law.specs.dsm_messages.declared.messages.Wire.{Wire}
 use Rattle.run_order.specs.node_model.Node.{Work, Node, IsLaidOver}
 use Rattle.run_order.specs.node_model.Core.{Core, Event, IsCoreRun, opening_core, after, AreAlike}
 use Rattle.run_order.specs.OwnRun.{Stamped, OnlyAdds, events_of}
-use Rattle.rewriting_law.specs.Bounds.{RunsRewritten, most_events}
+use Rattle.rewriting_law.specs.Bounds.{most_events}
 use Rattle.dsm_core.specs.CoreParts.{CoreParts, work_of, core_of, IsCore, IsLedTo, GoesOnTo, HasStampsInRange}
 use Rattle.dsm_core.specs.CoreSteps.{GoesOnFor}
 use Rattle.dsm_core.proofs.CoreRuns.{goes_also, run_append, run_alike}

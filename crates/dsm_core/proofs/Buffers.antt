@@ -1,5 +1,5 @@
 -- The buffers of a core are each in one place, as those of the nodes and lists that it shows.
-use Rattle.std.proofs.Common.{◌≡◌, ℕ, zero, suc, ◌+◌, ◌<◌, List, sym, ap, ◌∙◌, subst, arith, refl}
+use Rattle.std.proofs.Common.{◌≡◌, ℕ, zero, suc, ◌<◌, List, ap, arith, refl}
 use Rattle.std.specs.Prelude.{is_some}
 use Rattle.block_layout.specs.Layout.{Shape, IsValid, blocks, home}
 use Rattle.rv32_program.specs.Program.{IsAccepted}
@@ -12,7 +12,7 @@ use Rattle.coherence.specs.Table.{sum_below}
 use Rattle.coherence.specs.Claims.{one_if}
 use Rattle.rewriting_law.specs.dsm_protocol.World.{World}
 use Rattle.rewriting_law.specs.dsm_protocol.Holds.{Holds}
-use Rattle.rewriting_law.specs.dsm_protocol.Buffers.{carrying, asked_by, is_answered, buffer_places, AreInOnePlace}
+use Rattle.rewriting_law.specs.dsm_protocol.Buffers.{carrying, asked_by, is_answered, AreInOnePlace}
 use Rattle.rewriting_law.specs.ProtocolLists.{messages_of, world_shown, HasProtocolList}
 use Rattle.rewriting_law.specs.Interleaving.{original_after}
 use Rattle.dsm_core.specs.CoreParts.{CoreParts, work_of, core_of, IsCore}

@@ -14,7 +14,7 @@ use Rattle.node_machine.specs.NodeState.{node_of}
 use Rattle.rewriting_law.specs.dsm_protocol.Queue.{Queue, wires_of, AreQueues}
 use Rattle.rewriting_law.specs.Bounds.{RunsRewritten}
 use Rattle.dsm_core.specs.CoreParts.{CoreParts, work_of, core_with, core_of, HaveWork, IsLedTo, IsCore, AreParts, GoesOnTo, HasStampsInRange}
-use Rattle.dsm_core.specs.CoreSteps.{node_or, SameWorks, MayExecute, IsStamped, IsFirstStamped, CanMake, HaveMade, HaveKept, AreFirst, GoesOnFor}
+use Rattle.dsm_core.specs.CoreSteps.{node_or, SameWorks, MayExecute, IsStamped, CanMake, AreFirst, GoesOnFor}
 
 -- 1. Cores that are alike make the same events
 

@@ -1,5 +1,5 @@
 -- What the laws of progress and of stamps say of a core.
-use Rattle.std.proofs.Common.{◌≡◌, ◌≢◌, ℕ, ◌<◌, List, [], ◌∷◌, ◌++◌, refl, sym, ap, ◌∙◌, subst}
+use Rattle.std.proofs.Common.{◌≡◌, ◌≢◌, ℕ, ◌<◌, List, [], sym, ap, ◌∙◌, subst}
 use Rattle.block_layout.specs.Layout.{IsValid}
 use Rattle.rv32_program.specs.Program.{IsAccepted}
 use Rattle.rewriting_law.specs.templates.declared.plans.PlanEntry.{PlanEntry}
@@ -8,7 +8,7 @@ use Rattle.rewriting_law.specs.dsm_messages.declared.messages.Wire.{Wire}
 use Rattle.run_order.specs.node_model.declared.Standing.TheVariants.{Over}
 use Rattle.run_order.specs.node_model.Node.{Work, Node, Resume, Waiting, IsLaidOver, standing_of}
 use Rattle.run_order.specs.node_model.Core.{Core, Event, May, IsOver, IsCoreRun, opening_core, after, AreAlike}
-use Rattle.run_order.specs.OwnRun.{Stamped, StandsForOwnRun, AreEventsOf, events_of, run_of}
+use Rattle.run_order.specs.OwnRun.{Stamped, StandsForOwnRun, events_of, run_of}
 use Rattle.dsm_core.specs.CoreParts.{CoreParts, work_of, core_of, IsCore}
 use Rattle.dsm_core.proofs.CoreRuns.{alike_also, alike_back, may_alike}
 

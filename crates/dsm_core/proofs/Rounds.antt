@@ -1,5 +1,5 @@
 -- Rounds of events until every node is over.
-use Rattle.std.proofs.Common.{◌≡◌, ◌≢◌, ℕ, ◌+◌, ◌<◌, ◌≤◌, ltb, true, false, refl, sym, ap, ◌∙◌, subst, inl, inr, arith}
+use Rattle.std.proofs.Common.{◌≡◌, ◌≢◌, ℕ, ◌+◌, ◌<◌, ltb, true, false, refl, sym, ◌∙◌, subst, inl, inr, arith}
 use Rattle.std.proofs.lemmas.Bool.Decides.{leb_tells, nat_tests}
 use Rattle.run_order.specs.node_model.declared.Standing.{Standing}
 use Rattle.run_order.specs.node_model.declared.Standing.TheVariants.{Running, AtPoll, Waiting, Ended, Over}

@@ -3,7 +3,7 @@ use Rattle.std.proofs.Common.{◌≡◌, ℕ, ◌<◌, List, [], ◌∷◌, map,
 use Rattle.rewriting_law.specs.dsm_messages.declared.messages.Post.{Post}
 use Rattle.rewriting_law.specs.dsm_messages.declared.messages.Wire.{Wire}
 use Rattle.rewriting_law.specs.dsm_messages.Headers.{sent_by}
-use Rattle.run_order.specs.node_model.Node.{Work, Node, opening_node}
+use Rattle.run_order.specs.node_model.Node.{opening_node}
 use Rattle.run_order.specs.node_model.Turns.{word_turn, take_turn}
 use Rattle.run_order.specs.node_model.Core.{Core, Exec, Take}
 use Rattle.node_machine.specs.declared.node_state.NodeState.{NodeState}

@@ -16,8 +16,8 @@ use Rattle.node_machine.specs.NodeState.{node_of, work_of as work_at}
 use Rattle.node_machine.specs.Runs.{HasExecuted, GoesOnBy as HasGoneBy}
 use Rattle.rewriting_law.specs.dsm_protocol.Queue.{Queue, SameWires, IsSent}
 use Rattle.dsm_core.specs.CoreParts.{core_with, GoesOnTo}
-use Rattle.dsm_core.specs.CoreWords.{GoesOnBy, HasExecutedOn, HasPassed}
-use Rattle.dsm_core.specs.CoreSteps.{node_or, SameNodes, HavePassed, HaveExecutedOn, GoesOnFor}
+use Rattle.dsm_core.specs.CoreWords.{GoesOnBy, HasExecutedOn, HasPassed, HasPassedWords}
+use Rattle.dsm_core.specs.CoreSteps.{node_or, SameNodes, HavePassed, HavePassedWords, HaveExecutedOn, GoesOnFor}
 use Rattle.dsm_core.proofs.CoreSteps.{same_node, same_work, set_node, turned}
 use Rattle.dsm_core.proofs.CoreRuns.{alike_also, alike_same, goes_nowhere, goes_once, goes_also, for_one, for_also}
 
@@ -103,6 +103,16 @@ alone_turn n i m c d t a = record {
   ];
   lists = λ j k bj bk. ap (λ z. cond (eqb j i) (z ++ wires_to t.node.stamp k t.sends) z)
       (sym (a.lists j k));
+}
+
+alone_alike : (n i : ℕ) (m : Node) (c d e : Core) → IsNodeAlone n i m c d → IsNodeAlone n i m c e
+    → AreAlike n d e
+alone_alike n i m c d e p q = record {
+  nodes = λ k bk. elim (eqb_tells k i) [
+    | inl t ↦ subst (λ z. d.nodes z ≡ e.nodes z) (sym t.1) (p.node ∙ sym q.node)
+    | inr t ↦ p.others k t.1 ∙ sym (q.others k t.1)
+  ];
+  lists = λ j k bj bk. p.lists j k ∙ sym (q.lists j k);
 }
 
 -- 3. Words one after another
@@ -227,6 +237,38 @@ passed n i ns x y len bi is turn can work lists e have =
           ])) can;
     }
 
+pub passed_words : (n i words : ℕ) (ns : List NodeState) (x y : NodeState) → length ns ≡ n → i < n
+    → x ≡ get_or ns i x → HasGoneBy (work_at x) words (node_of x) (node_of y)
+    → can_execute (node_of y).phase ≡ true → HavePassedWords n i words ns (set ns i y)
+passed_words n i words ns x y len bi is goes can work lists e have =
+    let below : i < length ns = subst (λ z. i < z) (sym len) bi in
+    let k0 = work.layout.nodes in
+    let d = opening_node work i in
+    let bi0 : i < k0 = subst (λ z. i < z) (sym e) bi in
+    let same : SameNodes ns ns = record { nodes = refl; works = refl } in
+    let base : Core = core_with work ns lists in
+    let after : Core = core_with work (set ns i y) lists in
+    let m = node_of y in
+    let n0 : Node = node_or ns i d in
+    let gone : HasGoneBy work words n0 m =
+    subst (λ (z : Node). HasGoneBy work words z m) (same_node ns ns i x d below same is)
+    (subst (λ (z : Work). HasGoneBy z words (node_of x) m)
+    (same_work work ns ns i x below same is have) goes) in
+    let w = node_goes work i words base n0 m bi0 refl gone in
+    record {
+      last = w.last;
+      goes_on = w.goes;
+      alike = alike_also k0 after (with_turn base i (silent m)) w.last (record {
+        nodes = λ k bk. set_node ns i k y (opening_node work k) below;
+        lists = λ j k bj bk. sym (no_more (eqb j i) (base.list j k));
+      }) (alone_alike k0 i m base (with_turn base i (silent m)) w.last
+          (turn_alone k0 i m base) w.alone);
+      may = may_word work after i m bi0 (set_node ns i i y d below ∙ (elim (eqb_tells i i) [
+        | inl s ↦ rw s.0 refl
+        | inr s ↦ absurd (s.1 refl)
+      ])) can;
+    }
+
 -- 5. Where words lead
 
 pub words_go : (work : Work) (i k : ℕ) (c d : Core) → GoesOnBy work i k c d → GoesOnTo work c d
@@ -250,6 +292,12 @@ passed_goes true work i c d may passed kept =
     goes_once work c d (Exec i) may (passed refl).event
 passed_goes false work i c d may passed kept =
     subst (λ (z : Core). GoesOnTo work c z) (sym (kept refl)) (goes_nowhere work c)
+
+pub passed_words_go : (work : Work) (i words : ℕ) (c d : Core) → HasPassedWords work i words c d
+    → GoesOnTo work c d
+passed_words_go work i words c d p =
+    goes_also work c p.last d (words_go work i words c p.last p.goes_on)
+    (record { more = []; is_run = tt; leads = p.alike })
 
 pub ran_goes : {E : Type 0} (r : Result ℕ E) (work : Work) (i : ℕ) (c d : Core)
     → IfOk r (λ words. HasExecutedOn work i words c d) → OnErr r (d ≡ c) → GoesOnTo work c d

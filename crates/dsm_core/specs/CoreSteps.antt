@@ -1,5 +1,5 @@
 -- Helps the code alone: events of nodes and lists, as they are stored.
-use Rattle.std.specs.Prelude.{◌≡◌, ◌≢◌, ℕ, ◌<◌, ◌≤◌, ◌^◌, Bool, true, false, if◌then◌else◌, List, [], ◌∷◌, map, slice_index_or, length}
+use Rattle.std.specs.Prelude.{◌≡◌, ◌≢◌, ℕ, ◌<◌, ◌≤◌, ◌^◌, Bool, true, if◌then◌else◌, List, [], ◌∷◌, map, slice_index_or, length}
 use Rattle.rewriting_law.specs.dsm_messages.declared.messages.Wire.{Wire}
 use Rattle.run_order.specs.node_model.Node.{Work, Node, opening_node, can_execute}
 use Rattle.run_order.specs.node_model.Core.{Core, Event, Exec, Take, May, event_step, AreAlike}
@@ -7,7 +7,7 @@ use Rattle.node_machine.specs.declared.node_state.NodeState.{NodeState}
 use Rattle.node_machine.specs.NodeState.{node_of, work_of as work_at, HasRoom}
 use Rattle.rewriting_law.specs.dsm_protocol.Queue.{Queue, wires_of}
 use Rattle.dsm_core.specs.CoreParts.{core_with, HaveWork, GoesOnTo}
-use Rattle.dsm_core.specs.CoreWords.{HasExecutedOn, HasPassed}
+use Rattle.dsm_core.specs.CoreWords.{HasExecutedOn, HasPassed, HasPassedWords}
 
 -- node i, where there is one
 abbrev pub node_or : List NodeState → ℕ → Node → Node
@@ -63,6 +63,12 @@ HaveKept n old_nodes new_nodes old_lists new_lists = (work : Work) → work.layo
 abbrev pub HavePassed : (n i : ℕ) (old new : List NodeState) → Type 0
 HavePassed n i old new = (work : Work) (lists : List Queue) → work.layout.nodes ≡ n
     → HaveWork work old → HasPassed work i (core_with work old lists) (core_with work new lists)
+
+-- node i has passed so many words, whatever they run
+abbrev pub HavePassedWords : (n i words : ℕ) (old new : List NodeState) → Type 0
+HavePassedWords n i words old new = (work : Work) (lists : List Queue) → work.layout.nodes ≡ n
+    → HaveWork work old
+    → HasPassedWords work i words (core_with work old lists) (core_with work new lists)
 
 -- node i has executed so many words, whatever they run
 abbrev pub HaveExecutedOn : (n i words : ℕ) (old_nodes new_nodes : List NodeState)

@@ -28,6 +28,14 @@ pub record HasPassed (work : Work) (i : ℕ) (c d : Core) : Type 0 where
   pub event : AreAlike work.layout.nodes d (event_step work c (Exec i))
   pub may : May work d (Exec i)
 
+-- node i has executed so many words, each of which printed nothing and sent nothing, and may
+-- execute another
+pub record HasPassedWords (work : Work) (i words : ℕ) (c d : Core) : Type 0 where
+  pub last : Core
+  pub goes_on : GoesOnBy work i words c last
+  pub alike : AreAlike work.layout.nodes d last
+  pub may : May work d (Exec i)
+
 -- each node has executed so many words, by number, of which each printed nothing and sent nothing,
 -- and what may execute a word still may
 pub record HaveEachPassed (work : Work) (words : ℕ → ℕ) (c d : Core) : Type 0 where

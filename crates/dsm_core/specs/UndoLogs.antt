@@ -17,7 +17,7 @@ abbrev pub HaveGone : (words : ℕ → ℕ) → ℕ → (old new : List NodeStat
 HaveGone words k old new = (i : ℕ) (d : NodeState) → i < k
     → HasGone (words i) (slice_index_or old i d) (slice_index_or new i d)
 
--- the undo_logs take the nodes below k back to others
+-- the undo logs take the nodes below k back to others
 abbrev pub TakeBack : ℕ → List NodeUndoLog → (nodes first : List NodeState) → Type 0
 TakeBack k undo_logs nodes first = (i : ℕ) (d : NodeState) (t : NodeUndoLog) → i < k
     → TakesNodeBack (slice_index_or undo_logs i t) (slice_index_or nodes i d)

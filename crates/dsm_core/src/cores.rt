@@ -1,6 +1,6 @@
 //! n nodes that run rewritten code, and the n × n lists of messages between them.
 
-ghost use Rattle.std.specs.Prelude.{◌≡◌, ◌≢◌, ◌<◌, ◌≤◌, ◌^◌, ◌↔◌, ℕ, List, [], ◌∷◌, true, false};
+ghost use Rattle.std.specs.Prelude.{◌≡◌, ◌≢◌, ◌<◌, ◌≤◌, ◌^◌, ◌↔◌, ℕ, List, [], true, false};
 ghost use Rattle.std.specs.Prelude.{length, slice_index_or, IfOk, OnOk, OnErr, MatchOption};
 ghost use Rattle.run_order.specs.node_model.declared.Standing.TheVariants.{Over};
 ghost use Rattle.run_order.specs.node_model.Node.{Resume, Waiting, standing_of};
@@ -12,7 +12,8 @@ ghost use Rattle.rewriting_law.specs.ProtocolLists.{world_shown};
 ghost use Rattle.rewriting_law.specs.dsm_protocol.Buffers.{AreInOnePlace};
 ghost use Rattle.dsm_core.specs.CoreParts.{work_of, work_in, core_of, event_of, AreParts, GoesOnTo};
 ghost use Rattle.dsm_core.specs.CoreParts.{HasStampsInRange};
-ghost use Rattle.dsm_core.specs.CoreWords.{HasPassed, HasExecutedOn, HaveEachPassed};
+ghost use Rattle.dsm_core.specs.CoreWords.{HasPassed, HasPassedWords, HasExecutedOn};
+ghost use Rattle.dsm_core.specs.CoreWords.{HaveEachPassed};
 ghost use Rattle.dsm_core.specs.CoreSteps.{GoesOnFor};
 ghost use Rattle.dsm_core.specs.Seen.{IsFirstIn, IsSeen};
 ghost use Rattle.node_machine.specs.NodeState.{node_of, work_of as work_at};
@@ -20,7 +21,7 @@ ghost use Rattle.node_machine.specs.NodeState.{node_of, work_of as work_at};
 use crate::parts::Parts;
 use crate::seen::{Incoming, Seen};
 use crate::steps::first_nodes;
-use crate::undo_logs::{Stop, UndoLogs};
+use crate::undo_logs::{StoppedEarly, UndoLogs};
 use crate::work::Work;
 use block_layout::{Layout, layout_law};
 use node_machine::Node;
@@ -221,6 +222,19 @@ impl<'a> Core<'a> {
         self.parts.exec_silent(node)
     }
 
+    /// Executes words of a node, as long as they print nothing and send nothing, and the node may
+    /// execute another behind them: at most so many. It gives how many.
+    pub fn run_silent(&mut self, node: u8, most: u64) -> u64
+        requires enabled { May (work_of self.old) (core_of self.old) (model.Exec node) }
+        ensures passed { HasPassedWords (work_of self.old) node result
+            (core_of self.old) (core_of self.new) }
+        ensures most { result ≤ most }
+        ensures work { work_of self.new ≡ work_of self.old }
+    {
+        self.bounds();
+        self.parts.run_silent(node, most)
+    }
+
     /// Each node executes so many words, by its number, where their micro-ops serve all of them:
     /// such words print nothing and send nothing, and a node that may execute a word still may.
     /// Otherwise nothing changes, and the answer tells a node that stopped early.
@@ -228,7 +242,7 @@ impl<'a> Core<'a> {
         &mut self,
         words: &[u32; 16],
         undo_logs: &mut UndoLogs,
-    ) -> Result<(), Stop>
+    ) -> Result<(), StoppedEarly>
         requires undo_logs { undo_logs.old ≡ self.old.layout.nodes }
         requires nodes { self.old.layout.nodes ≤ 16 }
         requires enabled { (i : ℕ) → i < self.old.layout.nodes

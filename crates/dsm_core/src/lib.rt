@@ -17,5 +17,5 @@ pub use parts::Parts;
 pub use rewriting_law;
 pub use run_order;
 pub use seen::{Incoming, Seen};
-pub use undo_logs::{Stop, UndoLogs};
+pub use undo_logs::{StoppedEarly, UndoLogs};
 pub use work::Work;

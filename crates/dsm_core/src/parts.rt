@@ -6,13 +6,16 @@ ghost use Rattle.run_order.specs.node_model.Core as model;
 ghost use Rattle.run_order.specs.node_model.Core.{May, IsOver, AreAlike, event_step};
 ghost use Rattle.node_machine.specs.NodeState.{node_of, work_of as work_at};
 ghost use Rattle.dsm_core.specs.CoreParts.{work_of, core_of, event_of, AreParts, HasStampsInRange};
-ghost use Rattle.dsm_core.specs.CoreWords.{HasPassed, HasExecutedOn, HaveEachPassed};
+ghost use Rattle.dsm_core.specs.CoreWords.{HasPassed, HasPassedWords, HasExecutedOn};
+ghost use Rattle.dsm_core.specs.CoreWords.{HaveEachPassed};
 ghost use Rattle.dsm_core.specs.Seen.{IsFirstIn, IsSeen};
 
 use crate::cores::Event;
 use crate::seen::{Incoming, Seen, first, make_seen};
-use crate::steps::{are_over, exec_silent, has_mail, has_wire, is_enabled, make, run_until_send};
-use crate::undo_logs::{Stop, UndoLogs, run_each_undoable};
+use crate::steps::{
+    are_over, exec_silent, has_mail, has_wire, is_enabled, make, run_silent, run_until_send,
+};
+use crate::undo_logs::{StoppedEarly, UndoLogs, run_each_undoable};
 use block_layout::Layout;
 use node_machine::Node;
 use node_machine::exec_map::Program;
@@ -155,13 +158,28 @@ impl<'a> Parts<'a> {
         exec_silent(&mut self.nodes, count, node)
     }
 
+    /// A node executes words that print nothing and send nothing, at most so many.
+    pub(crate) fn run_silent(&mut self, node: u8, most: u64) -> u64
+        requires parts { AreParts self.old }
+        requires range { HasStampsInRange self.old.layout.nodes (core_of self.old) }
+        requires enabled { May (work_of self.old) (core_of self.old) (model.Exec node) }
+        ensures parts { AreParts self.new }
+        ensures work { work_of self.new ≡ work_of self.old }
+        ensures passed { HasPassedWords (work_of self.old) node result
+            (core_of self.old) (core_of self.new) }
+        ensures most { result ≤ most }
+    {
+        let count = self.layout.nodes();
+        run_silent(&mut self.nodes, count, node, most)
+    }
+
     /// Each node executes so many words, by its number, where their micro-ops serve all of them;
     /// otherwise nothing changes.
     pub(crate) fn run_each_undoable(
         &mut self,
         words: &[u32; 16],
         undo_logs: &mut UndoLogs,
-    ) -> Result<(), Stop>
+    ) -> Result<(), StoppedEarly>
         requires parts { AreParts self.old }
         requires range { HasStampsInRange self.old.layout.nodes (core_of self.old) }
         requires undo_logs { undo_logs.old ≡ self.old.layout.nodes }

@@ -1,7 +1,7 @@
 //! Events of nodes that run rewritten code, and of the lists between them.
 
-ghost use Rattle.std.specs.Prelude.{◌≡◌, ◌≢◌, ◌<◌, ◌↔◌, ℕ, List, [], true, false, length, IfOk};
-ghost use Rattle.std.specs.Prelude.{OnOk, OnErr};
+ghost use Rattle.std.specs.Prelude.{◌≡◌, ◌≢◌, ◌<◌, ◌≤◌, ◌↔◌, ℕ, List, [], true, false, length};
+ghost use Rattle.std.specs.Prelude.{IfOk, OnOk, OnErr};
 ghost use Rattle.run_order.specs.node_model.Node.{Work, IsLaidOver, standing_of};
 ghost use Rattle.run_order.specs.node_model.Core as model;
 ghost use Rattle.rewriting_law.specs.dsm_protocol.Queue.{Queue as Stored, AreQueues, SameWires, HasRoom};
@@ -10,6 +10,7 @@ ghost use Rattle.dsm_core.specs.CoreParts.{work_in, core_with, event_of, HaveWor
 ghost use Rattle.run_order.specs.node_model.Core.{IsOver};
 ghost use Rattle.dsm_core.specs.CoreSteps.{SameNodes, SameWorks, HasNodeRoom, CanExecute, HaveMade};
 ghost use Rattle.dsm_core.specs.CoreSteps.{HaveKept, HavePassed, HaveExecutedOn, AreFirst, CanMake};
+ghost use Rattle.dsm_core.specs.CoreSteps.{HavePassedWords};
 
 use crate::cores::Event;
 use crate::work;
@@ -196,6 +197,19 @@ pub(crate) fn exec_silent(nodes: &mut Vec<Node<'_>>, count: u8, node: u8) -> boo
     ensures same { result ≡ false → SameNodes nodes.old.items nodes.new.items }
 {
     nodes[node as usize].exec_silent()
+}
+
+/// A node executes words that print nothing and send nothing, at most so many, and it is given how
+/// many.
+pub(crate) fn run_silent(nodes: &mut Vec<Node<'_>>, count: u8, node: u8, most: u64) -> u64
+    requires count { length nodes.old.items ≡ count }
+    requires allowed { CanExecute count nodes.old.items node }
+    ensures count { length nodes.new.items ≡ count }
+    ensures works { SameWorks nodes.old.items nodes.new.items }
+    ensures passed { HavePassedWords count node result nodes.old.items nodes.new.items }
+    ensures most { result ≤ most }
+{
+    nodes[node as usize].run_silent(most)
 }
 
 /// A node executes a word. Where its micro-op serves it no room is needed.

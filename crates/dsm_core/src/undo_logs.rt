@@ -3,7 +3,7 @@
 ghost use Rattle.std.specs.Prelude.{◌≡◌, ◌<◌, ◌≤◌, ℕ, List, IfOk, OnErr, length, slice_index_or};
 ghost use Rattle.node_machine.specs.declared.node_state.NodeState.{NodeState};
 ghost use Rattle.run_order.specs.node_model.Node as model;
-ghost use Rattle.dsm_core.specs.CoreSteps.{SameWorks, MayExecute, IsStamped, node_or};
+ghost use Rattle.dsm_core.specs.CoreSteps.{SameWorks, MayExecute, IsStamped};
 ghost use Rattle.dsm_core.specs.UndoLogs.{HaveGone, TakeBack, AreSameBelow, AreSameFrom};
 
 use node_machine::{Node, NodeUndoLog};
@@ -40,7 +40,7 @@ impl UndoLogs {
 
 /// A node that stopped before it had executed as many words as it was to.
 #[derive(Clone, Copy, Debug, PartialEq, Eq)]
-pub struct Stop {
+pub struct StoppedEarly {
     /// The node.
     pub node: u8,
     /// How many words it had executed.
@@ -54,7 +54,7 @@ pub(crate) fn run_each_undoable(
     undo_logs: &mut Vec<NodeUndoLog>,
     count: u8,
     words: &[u32; 16],
-) -> Result<(), Stop>
+) -> Result<(), StoppedEarly>
     requires count { length nodes.old.items ≡ count }
     requires undo_logs { length undo_logs.old.items ≡ count }
     requires few { count ≤ 16 }
@@ -73,7 +73,7 @@ pub(crate) fn run_each_undoable(
         let made = nodes[node as usize].run_undoable(most, &mut undo_logs[node as usize]);
         if made < u64::from(most) {
             take_back(nodes, undo_logs, node + 1);
-            return Err(Stop { node, words: made });
+            return Err(StoppedEarly { node, words: made });
         }
     }
     Ok(())

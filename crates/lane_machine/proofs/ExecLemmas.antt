@@ -19,7 +19,8 @@ use Rattle.node_machine.specs.node_words.declared.exec_state.ExecState.{ExecStat
 use Rattle.node_machine.specs.node_words.declared.lane.ProcessorState as kept
 use Rattle.node_machine.specs.node_words.declared.serve.Served.{Served}
 use Rattle.node_machine.specs.node_words.Address.{word_address}
-use Rattle.node_machine.specs.node_words.Kept.{lane_of, local_of, phase_by}
+use Rattle.node_machine.specs.node_words.node_memory.Shelf.{local_of}
+use Rattle.node_machine.specs.node_words.Kept.{lane_of, phase_by}
 use Rattle.lane_model.specs.node_model.Node.{Node, Work, Want, Phase, Running, Resumed, Waiting, Ended, can_execute, word_outcome}
 use Rattle.lane_model.specs.node_model.Turns.{Turn, after_word, block_at, byes_to, each_block_once, is_ended, wants_of, want_in, with_miss}
 use Rattle.node_machine.specs.declared.protocol_state.ProtocolState.{ProtocolState}

@@ -5,7 +5,8 @@ use Rattle.std.proofs.lemmas.Bool.Decides.{eqb_tells, nat_tests}
 use Rattle.home_directory.specs.declared.wait.Wait.{Wait}
 use Rattle.home_directory.specs.Home.{first_entry}
 use Rattle.node_machine.specs.node_words.declared.exec_state.ExecState.{ExecState}
-use Rattle.node_machine.specs.node_words.Kept.{lane_of, local_of}
+use Rattle.node_machine.specs.node_words.node_memory.Shelf.{local_of}
+use Rattle.node_machine.specs.node_words.Kept.{lane_of}
 use Rattle.lane_model.specs.node_model.declared.NodeCounts.{NodeCounts}
 use Rattle.lane_model.specs.node_model.Node.{Node, Running, counts_after}
 use Rattle.lane_model.specs.node_model.Turns.{is_ended}

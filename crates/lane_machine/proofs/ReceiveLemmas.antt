@@ -1,5 +1,5 @@
 -- A message at a node of several lanes, by what the node stores.
-use Rattle.std.proofs.Common.{◌≡◌, ◌≢◌, ℕ, zero, suc, ◌<◌, ◌≤◌, ◌⊎◌, Bool, true, false, List, [], ◌∷◌, length, map, set, get_or, Some, None, refl, sym, ap, ◌∙◌, subst, inl, inr, arith}
+use Rattle.std.proofs.Common.{◌≡◌, ◌≢◌, ℕ, zero, suc, ◌<◌, ◌≤◌, ◌⊎◌, Bool, true, false, List, [], ◌∷◌, length, set, get_or, Some, None, refl, sym, ap, ◌∙◌, subst, inl, inr, arith}
 use Rattle.std.specs.Prelude.{is_some}
 use Rattle.std.proofs.Math.Seq.{map-set_same}
 use Rattle.std.proofs.lemmas.List.{map-set, get_or-map, length-map, get_or-set_same}
@@ -10,7 +10,8 @@ use Rattle.home_directory.specs.Home.{first_entry}
 use Rattle.node_machine.specs.miss_handlers.Waits.{NodeWaits, wait_of}
 use Rattle.node_machine.specs.miss_handlers.Effects.{named_block}
 use Rattle.node_machine.specs.node_words.declared.exec_state.ExecState.{ExecState}
-use Rattle.node_machine.specs.node_words.Kept.{lane_of, local_of}
+use Rattle.node_machine.specs.node_words.node_memory.Shelf.{local_of}
+use Rattle.node_machine.specs.node_words.Kept.{lane_of}
 use Rattle.lane_model.specs.node_model.Node.{Node, Running}
 use Rattle.lane_model.specs.node_model.Turns.{Turn, handled}
 use Rattle.node_machine.specs.declared.protocol_state.ProtocolState.{ProtocolState}

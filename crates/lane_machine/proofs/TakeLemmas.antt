@@ -8,7 +8,7 @@ use Rattle.home_directory.specs.dsm_messages.declared.messages.Wire.{Wire}
 use Rattle.home_directory.specs.Effects.{entry_at, entries_of, members}
 use Rattle.home_directory.specs.Home.{count_of}
 use Rattle.node_machine.specs.node_words.declared.exec_state.ExecState.{ExecState}
-use Rattle.node_machine.specs.node_words.Kept.{local_of}
+use Rattle.node_machine.specs.node_words.node_memory.Shelf.{local_of}
 use Rattle.lane_model.specs.node_model.Node.{Node, Running}
 use Rattle.lane_model.specs.node_model.Turns.{Turn, byes_to, is_ended, later, handled, words_before}
 use Rattle.node_machine.specs.declared.protocol_state.ProtocolState.{ProtocolState}

@@ -11,7 +11,8 @@ use Rattle.node_machine.specs.node_words.declared.exec_state.ExecState.{ExecStat
 use Rattle.node_machine.specs.node_words.declared.lane.ProcessorState as kept
 use Rattle.node_machine.specs.node_words.declared.serve.Served.{Served}
 use Rattle.node_machine.specs.node_words.Address.{word_address}
-use Rattle.node_machine.specs.node_words.Kept.{Ground, Serves, ground_of, lane_of, local_of, wants_by}
+use Rattle.node_machine.specs.node_words.node_memory.Shelf.{Ground, ground_of, local_of}
+use Rattle.node_machine.specs.node_words.Kept.{Serves, lane_of, wants_by}
 use Rattle.lane_model.specs.node_model.Node.{Node, Work, next_outcome, word_outcome}
 use Rattle.lane_model.specs.node_model.Turns.{each_block_once, wants_of}
 use Rattle.node_machine.specs.declared.protocol_state.ProtocolState.{ProtocolState}

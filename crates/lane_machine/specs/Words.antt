@@ -1,6 +1,6 @@
 -- Helps the code alone: where a word stores, and what becomes of a reservation then, or once a
 -- block was given up.
-use Rattle.std.specs.Prelude.{ℕ, Bool, true, false, Option, Some, None}
+use Rattle.std.specs.Prelude.{ℕ, true, false, Option, Some, None}
 use Rattle.block_layout.specs.Layout.{Shape}
 use Rattle.llsc.specs.Reservation.{cleared}
 use Rattle.rv32_step.specs.Reservations.{after_other}

@@ -1,7 +1,7 @@
 //! What a lane's word wants of blocks: the node asks for those that none of its lanes waits for,
 //! and for the others the lane waits with their holders.
 
-ghost use Rattle.std.specs.Prelude.{◌≡◌, ◌+◌, ◌/◌, ◌^◌, ◌≤◌, ◌<◌, ◌||◌, ◌++◌, ℕ, [], ◌∷◌};
+ghost use Rattle.std.specs.Prelude.{◌≡◌, ◌+◌, ◌^◌, ◌≤◌, ◌<◌, ◌||◌, ◌++◌, ℕ, [], ◌∷◌};
 ghost use Rattle.std.specs.Prelude.{None, Some, true, false, List, Bool, Option, length, is_some};
 ghost use Rattle.std.specs.Option.{option_to_list};
 ghost use Rattle.block_layout.specs.Layout.{blocks, block_of};
@@ -12,8 +12,10 @@ ghost use Rattle.lane_model.specs.node_model.Node as model;
 ghost use Rattle.lane_model.specs.node_model.Turns as turns;
 ghost use Rattle.home_directory.specs.Table.{meets};
 ghost use Rattle.state_table.specs.States.{state_of};
-ghost use Rattle.node_machine.specs.node_words.Kept.{ground_of, local_of, all_wants, wants_by};
-ghost use Rattle.node_machine.specs.NodeState.{layout_of, IsProtocolState, AreCountsBelow, HasBegun};
+ghost use Rattle.node_machine.specs.node_words.node_memory.Shelf.{ground_of, local_of, all_wants};
+ghost use Rattle.node_machine.specs.node_words.Kept.{wants_by};
+ghost use Rattle.node_machine.specs.NodeState.{layout_of, IsProtocolState, AreCountsBelow};
+ghost use Rattle.node_machine.specs.NodeState.{HasBegun};
 ghost use Rattle.node_machine.specs.ProtocolState.{is_unmet, AreUnmet};
 ghost use Rattle.lane_model.specs.Turns as lanes;
 ghost use Rattle.lane_machine.specs.Waits.{wait_among, all_waits, awaits_of, AreApart};

@@ -5,7 +5,7 @@ ghost use Rattle.std.specs.Prelude.{is_some, length};
 ghost use Rattle.exec_map.specs.Contents.{program_of};
 ghost use Rattle.lane_model.specs.node_model.Node as model;
 ghost use Rattle.lane_model.specs.node_model.Turns as turns;
-ghost use Rattle.node_machine.specs.node_words.Kept.{local_of};
+ghost use Rattle.node_machine.specs.node_words.node_memory.Shelf.{local_of};
 ghost use Rattle.node_machine.specs.NodeState.{AreCountsBelow};
 ghost use Rattle.lane_model.specs.Nodes as lanes;
 ghost use Rattle.lane_model.specs.Turns as moves;

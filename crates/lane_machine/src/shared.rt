@@ -6,7 +6,7 @@ ghost use Rattle.lane_model.specs.node_model.Node as model;
 ghost use Rattle.lane_model.specs.node_model.Turns as turns;
 ghost use Rattle.home_directory.specs.Home.{first_entry};
 ghost use Rattle.home_directory.specs.Effects.{entry_at};
-ghost use Rattle.node_machine.specs.node_words.Kept.{local_of};
+ghost use Rattle.node_machine.specs.node_words.node_memory.Shelf.{local_of};
 ghost use Rattle.node_machine.specs.NodeState.{layout_of, entries_in, IsProtocolState};
 ghost use Rattle.lane_model.specs.Nodes.{LaneWork, LaneNode, first_shared};
 ghost use Rattle.lane_model.specs.Turns as moves;
@@ -30,7 +30,7 @@ use home_directory::Directory;
 use home_directory::dsm_messages::{Sends, Wire};
 use llsc::Reservation;
 use node_machine::miss_handlers::Waits;
-use node_machine::node_words::ExecState;
+use node_machine::node_words::{ExecState, StoreLog};
 use node_machine::{
     NO_COUNTS, NodeCounts, PAGE_BYTES, ProtocolState, SharedState, Standing, Turn, WAITS,
     ended_standing, first_local,
@@ -184,6 +184,7 @@ fn first_body<'a>(
         },
         local: first_local(alloc, program, layout, me)?,
         counts: NO_COUNTS,
+        log: StoreLog::off(alloc),
     };
     Ok(Box::new(alloc, body)?)
 }

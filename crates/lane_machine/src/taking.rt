@@ -7,7 +7,7 @@ ghost use Rattle.llsc.specs.Reservation.{cleared};
 ghost use Rattle.node_machine.specs.miss_handlers.Effects.{named_block};
 ghost use Rattle.lane_model.specs.node_model.Node as model;
 ghost use Rattle.lane_model.specs.node_model.Turns as turns;
-ghost use Rattle.node_machine.specs.node_words.Kept.{ground_of, local_of};
+ghost use Rattle.node_machine.specs.node_words.node_memory.Shelf.{ground_of, local_of};
 ghost use Rattle.node_machine.specs.NodeState.{layout_of, AreCountsBelow};
 ghost use Rattle.node_machine.specs.ProtocolState.{turn_by, is_order};
 ghost use Rattle.lane_model.specs.Nodes.{LaneWork, LaneNode};

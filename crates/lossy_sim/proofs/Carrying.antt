@@ -1,13 +1,10 @@
 -- What a link has under way: what was offered and not delivered.
-use Rattle.std.proofs.Common.{◌≡◌, ◌≢◌, ℕ, zero, suc, ◌+◌, ◌-◌, ◌<◌, ◌≤◌, Bool, Option, Some, None, List, [], ◌∷◌, ◌++◌, length, refl, ap, sym, ◌∙◌, subst, arith, append_assoc}
-use Rattle.std.specs.Prelude.{Contains, All}
+use Rattle.std.proofs.Common.{◌≡◌, ℕ, ◌+◌, ◌-◌, List, [], ◌∷◌, ◌++◌, refl, ap, sym, ◌∙◌, subst, append_assoc}
 use Rattle.std.proofs.lemmas.List.{append-nil, append_cancel_left}
-use Rattle.lossy_link.specs.Sender.{Sending, Offers, Acknowledges}
-use Rattle.lossy_link.specs.Receiver.{Receiving, Delivers, held}
-use Rattle.lossy_link.specs.Packets.{Makes, Receives}
-use Rattle.lossy_link.specs.declared.packet.Packet.{Packet}
+use Rattle.lossy_link.specs.Sender.{Sending, Offers}
+use Rattle.lossy_link.specs.Receiver.{Receiving, Delivers}
 use Rattle.lossy_link.specs.Runs.{Event, Offer, Make, Receive, Deliver, Acknowledge, Link, new_link, Leads, IsLossyRun, offered, delivered}
-use Rattle.lossy_link.proofs.Prefix.{Goes, every_run}
+use Rattle.lossy_link.proofs.Prefix.{every_run}
 
 module _ {A : Type 0} where
   -- one event more behind a run

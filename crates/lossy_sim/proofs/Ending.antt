@@ -1,18 +1,13 @@
 -- A run with loss ends.
 use Rattle.std.proofs.Common.{◌≡◌, ◌≢◌, ℕ, zero, suc, ◌+◌, ◌*◌, ◌/◌, ◌%◌, ◌^◌, ◌<◌, ◌≤◌, ◌⊎◌, ◌==◌, ◌&&◌, Bool, true, false, List, [], ◌∷◌, ◌++◌, length, refl, ap, sym, ◌∙◌, subst, inl, inr, ⊎_elim, arith, length-append}
 use Rattle.std.specs.Prelude.{if◌then◌else◌, filter}
-use Rattle.std.specs.List.{range_with_len}
 use Rattle.std.proofs.lemmas.Nat.{mul-le}
-use Rattle.block_layout.specs.Layout.{IsValid}
-use Rattle.rv32_program.specs.Program.{IsAccepted}
-use Rattle.templates.specs.declared.plans.PlanEntry.{PlanEntry}
-use Rattle.node_model.specs.jump_map.Image.{IsRewriting}
 use Rattle.random_order.specs.Orders.{following}
 use Rattle.dsm_messages.specs.declared.messages.Wire.{Wire}
 use Rattle.lossy_link.specs.Receiver.{Receiving}
 use Rattle.node_model.specs.declared.Standing.{Standing}
 use Rattle.node_model.specs.declared.Standing.TheVariants.{Running, AtPoll, Waiting, Ended, Over}
-use Rattle.node_model.specs.Node.{Work, Node, IsLaidOver, standing_of}
+use Rattle.node_model.specs.Node.{Work, Node, standing_of}
 use Rattle.node_model.specs.Turns as turns
 use Rattle.node_model.specs.Turns.{word_turn, take_turn}
 use Rattle.node_model.specs.Core.{Core, Event, Exec, Take, May, IsCoreRun, may_execute, may_take, wires_to, event_step, after, opening_core}
@@ -22,9 +17,8 @@ use Rattle.dsm_core.proofs.Promised.{RunsGoOn}
 use Rattle.dsm_core.proofs.Bounds.{AreShort}
 use Rattle.shared_sim.specs.ByOrder.{events_at, all_events}
 use Rattle.shared_sim.proofs.Choices.{IsBelow, head_false, none_in, none_at}
-use Rattle.lossy_sim.specs.Links.{LossyLink, HasNetworkTurn, with_offered, new_link}
-use Rattle.lossy_sim.specs.UnderWay.{Carries, StandFor}
-use Rattle.lossy_sim.specs.WithLoss.{State, Turn, Ordinary, Network, HasMade, HasEvent, HaveNetworkTurns, IsForNetwork, FollowsLoss, AreAllOver, opening_state, ordinary, is_allowed, has_next, choices, with_receiver}
+use Rattle.lossy_sim.specs.Links.{LossyLink, with_offered, new_link}
+use Rattle.lossy_sim.specs.WithLoss.{State, Turn, Ordinary, Network, HasMade, HasEvent, HaveNetworkTurns, FollowsLoss, AreAllOver, opening_state, ordinary, is_allowed, has_next, choices, with_receiver}
 use Rattle.lossy_sim.proofs.UnderWay.{le_or_above}
 use Rattle.lossy_sim.proofs.Standing.{Stands, picked_may, event_stands, network_stands, opening_stands}
 use Rattle.lossy_sim.proofs.Nearing.{Near, IsCounted, near_more, near_any, near_needs, near_turn, counted_turn, next_of_turn}

@@ -1,14 +1,14 @@
 -- The next message of a link comes within so many network turns.
-use Rattle.std.proofs.Common.{◌≡◌, ◌≢◌, ℕ, zero, suc, ◌+◌, ◌-◌, ◌*◌, ◌%◌, ◌^◌, ◌<◌, ◌≤◌, ◌⊎◌, ◌==◌, ◌&&◌, ◌||◌, not, Bool, true, false, cond, Option, Some, None, List, [], ◌∷◌, ◌++◌, length, map, slice_get, get_or, set, refl, ap, sym, ◌∙◌, subst, inl, inr, ⊎_elim, arith, length-append, length-set, ne_eqb, ◌/◌}
-use Rattle.std.specs.Prelude.{Contains, All, if◌then◌else◌, is_some, min}
+use Rattle.std.proofs.Common.{◌≡◌, ◌≢◌, ℕ, zero, suc, ◌+◌, ◌-◌, ◌^◌, ◌<◌, ◌≤◌, ◌⊎◌, ◌==◌, ◌&&◌, ◌||◌, not, Bool, true, false, Option, Some, None, List, [], ◌∷◌, ◌++◌, length, map, slice_get, get_or, set, refl, ap, sym, ◌∙◌, subst, inl, inr, ⊎_elim, arith, length-append, length-set, ne_eqb, ◌/◌}
+use Rattle.std.specs.Prelude.{Contains, if◌then◌else◌, is_some, min}
 use Rattle.std.specs.Option.{option_to_list}
 use Rattle.std.specs.List.{flat_map, range_with_len}
-use Rattle.std.proofs.Math.Nat.{min-le_left, min-le_right, min-eq_left, min-eq_right}
+use Rattle.std.proofs.Math.Nat.{min-le_left, min-eq_left, min-eq_right}
 use Rattle.std.proofs.lemmas.Nat.{mod_below}
-use Rattle.random_order.specs.Orders.{choice, after_turns}
+use Rattle.random_order.specs.Orders.{after_turns}
 use Rattle.dsm_messages.specs.declared.messages.Wire.{Wire}
 use Rattle.lossy_link.specs.Sender.{Sending, Acknowledges, number_offered}
-use Rattle.lossy_link.specs.Receiver.{Receiving, IsWanted, held}
+use Rattle.lossy_link.specs.Receiver.{Receiving, IsWanted}
 use Rattle.lossy_link.specs.Packets.{Receives}
 use Rattle.lossy_link.specs.declared.packet.Packet.{Packet}
 use Rattle.lossy_link.specs.Runs as lossy

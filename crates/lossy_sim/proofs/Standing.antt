@@ -1,20 +1,19 @@
 -- Nodes and links stand for a core, turn by turn.
-use Rattle.std.proofs.Common.{◌≡◌, ◌≢◌, ℕ, zero, suc, ◌+◌, ◌*◌, ◌<◌, ◌≤◌, ◌==◌, ◌&&◌, Bool, true, false, cond, Option, Some, None, List, [], ◌∷◌, ◌++◌, slice_get, refl, ap, sym, ◌∙◌, subst, inl, inr, ⊎_elim, eq-eqb, ne_eqb, arith}
+use Rattle.std.proofs.Common.{◌≡◌, ◌≢◌, ℕ, zero, suc, ◌+◌, ◌*◌, ◌<◌, ◌==◌, Bool, true, false, cond, Option, Some, None, List, [], ◌∷◌, ◌++◌, slice_get, refl, ap, sym, ◌∙◌, subst, ⊎_elim, eq-eqb, ne_eqb}
 use Rattle.std.specs.Prelude.{if◌then◌else◌, is_some, filter}
 use Rattle.std.proofs.lemmas.Bool.{cases_eq}
-use Rattle.block_layout.specs.Update.{changed}
-use Rattle.random_order.specs.Orders.{following, choice}
+use Rattle.random_order.specs.Orders.{following}
 use Rattle.dsm_messages.specs.declared.messages.Wire.{Wire}
 use Rattle.lossy_link.specs.Receiver.{Receiving, Delivers, held}
-use Rattle.node_model.specs.Node.{Work, Node, standing_of, opening_node}
+use Rattle.node_model.specs.Node.{Work, Node, standing_of}
 use Rattle.node_model.specs.Turns as turns
 use Rattle.node_model.specs.Turns.{word_turn, take_turn}
 use Rattle.node_model.specs.Core.{Core, Event, Exec, Take, May, IsCoreRun, may_execute, may_take, wires_to, with_turn, with_list, take_first, event_step, after, opening_core}
 use Rattle.shared_sim.specs.ByOrder.{all_events, pick_among}
 use Rattle.shared_sim.proofs.Choices.{IsBelow, AllBelow, all_below, both_true}
-use Rattle.lossy_sim.specs.Links.{LossyLink, new_link, with_offered}
+use Rattle.lossy_sim.specs.Links.{LossyLink, with_offered}
 use Rattle.lossy_sim.specs.UnderWay.{Carries, StandFor}
-use Rattle.lossy_sim.specs.WithLoss.{State, Turn, Ordinary, Network, HasMade, HasEvent, HaveNetworkTurns, IsTurn, FollowsLoss, opening_state, ordinary, is_allowed, has_next, choices, with_receiver}
+use Rattle.lossy_sim.specs.WithLoss.{State, Turn, Ordinary, Network, HasMade, HasEvent, HaveNetworkTurns, FollowsLoss, opening_state, ordinary, is_allowed, has_next, choices, with_receiver}
 use Rattle.lossy_sim.proofs.UnderWay.{new_carries, offered_carries, delivered_carries, network_carries}
 
 abbrev pub Stands : ℕ → State → Core → Type 0

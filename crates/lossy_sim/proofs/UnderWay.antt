@@ -1,5 +1,5 @@
 -- What is under way on a link, event by event.
-use Rattle.std.proofs.Common.{◌≡◌, ℕ, zero, suc, ◌+◌, ◌<◌, ◌≤◌, ◌⊎◌, Bool, true, false, ◌==◌, cond, Option, Some, None, List, [], ◌∷◌, ◌++◌, length, map, slice_get, refl, ap, sym, ◌∙◌, subst, inl, inr, ⊎_elim, arith, append_assoc, append-nil}
+use Rattle.std.proofs.Common.{◌≡◌, ℕ, zero, suc, ◌+◌, ◌<◌, ◌≤◌, ◌⊎◌, Bool, true, false, ◌==◌, Option, Some, None, List, [], ◌∷◌, ◌++◌, length, map, slice_get, refl, ap, sym, ◌∙◌, subst, inl, inr, ⊎_elim, arith, append_assoc, append-nil}
 use Rattle.std.proofs.Math.Nat.{min-le_left}
 use Rattle.std.specs.Prelude.{Contains, All, if◌then◌else◌}
 use Rattle.std.specs.Option.{option_to_list}
@@ -8,7 +8,7 @@ use Rattle.std.proofs.lemmas.List.Elements.{All-nil, All-cons, All-head, All-tai
 use Rattle.dsm_messages.specs.declared.messages.Wire.{Wire}
 use Rattle.lossy_link.specs.Sender.{Sending, Acknowledges, number_offered}
 use Rattle.lossy_link.specs.Receiver.{Receiving, Delivers}
-use Rattle.lossy_link.specs.Packets.{Makes, Receives}
+use Rattle.lossy_link.specs.Packets.{Receives}
 use Rattle.lossy_link.specs.declared.packet.Packet.{Packet}
 use Rattle.lossy_link.specs.Runs.{Event, Offer, Make, Receive, Deliver, Acknowledge, Link, IsLossyRun}
 use Rattle.lossy_link.specs.Runs as lossy

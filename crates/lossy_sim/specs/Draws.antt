@@ -1,7 +1,6 @@
 -- Helps the code alone: a network turn of a link, draw by draw.
-use Rattle.std.specs.Prelude.{◌≡◌, ℕ, ◌==◌, Bool, if◌then◌else◌, List, [], ◌∷◌, ◌++◌}
+use Rattle.std.specs.Prelude.{◌≡◌, ℕ, ◌==◌, Bool, if◌then◌else◌, [], ◌∷◌, ◌++◌}
 use Rattle.random_order.specs.Orders.{after_turns}
-use Rattle.lossy_link.specs.Receiver.{Receiving}
 use Rattle.lossy_link.specs.Packets.{Receives}
 use Rattle.lossy_link.specs.declared.packet.Packet.{Packet}
 use Rattle.dsm_messages.specs.declared.messages.Wire.{Wire}

@@ -1,7 +1,7 @@
 #![tactic(auto)]
 //! Runs of nodes on one thread, over links that lose, repeat and keep back packets.
 
-ghost use Rattle.std.specs.Prelude.{◌≡◌, ◌+◌, ◌*◌, ◌≤◌, ℕ, List, Some, length};
+ghost use Rattle.std.specs.Prelude.{◌+◌, ◌*◌, ◌≤◌, ℕ, List, length};
 ghost use Rattle.node_model.specs.Node.{Work};
 ghost use Rattle.node_model.specs.Core.{IsCoreRun, opening_core, after};
 ghost use Rattle.dsm_core.specs.rewriting_law.Bounds.{RunsRewritten, most_events};

@@ -3,9 +3,8 @@
 ghost use Rattle.std.specs.Prelude.{◌≡◌, ◌+◌, ◌^◌, ◌<◌, ◌==◌, ◌&&◌, not, ℕ, [], ◌∷◌, ◌++◌, true};
 ghost use Rattle.std.specs.Prelude.{if◌then◌else◌, IfOk, OnOk};
 ghost use Rattle.random_order.specs.Orders.{following, choice};
-ghost use Rattle.lossy_link.specs.Sender.{number_offered, IsInWindow};
+ghost use Rattle.lossy_link.specs.Sender.{number_offered};
 ghost use Rattle.lossy_link.specs.Receiver.{Receiving, Delivers};
-ghost use Rattle.lossy_link.specs.Packets.{Makes};
 ghost use Rattle.lossy_sim.specs.Links.{LossyLink, HasNetworkTurn, new_link, with_offered};
 ghost use Rattle.lossy_sim.specs.Links.{packet_at, packets_drawn, in_a_row, is_given};
 ghost use Rattle.lossy_sim.specs.WithLoss.{has_next};

@@ -15,7 +15,8 @@ use Rattle.node_words.specs.declared.serve.Following.TheVariants as following_by
 use Rattle.node_words.specs.Address.{word_address}
 use Rattle.node_words.specs.node_model.Node.{Node, Work, Phase, Running, Resumed, Waiting, Ended, Tally, Nothing_counted, FalseMiss, FallsBack, can_execute, counts_after, printed_also, stop_at, stop_or, word_outcome}
 use Rattle.node_words.specs.node_model.Turns.{silent, want_all, each_block_once, with_byes, byes_to, is_ended, after_word, word_turn}
-use Rattle.node_words.specs.Kept.{Shelf, Ground, Follows, Serves, phase_by, wants_by, ground_of, lane_of, local_of}
+use Rattle.node_words.specs.node_memory.Shelf.{Shelf, Ground, ground_of, local_of}
+use Rattle.node_words.specs.Kept.{Follows, Serves, phase_by, wants_by, lane_of}
 use Rattle.node_machine.specs.NodeState.{work_of, node_of, layout_of, with_parts, AreCountsBelow, WaitsInPhase, HasBegun}
 use Rattle.node_machine.specs.ProtocolState.{turn_by}
 use Rattle.node_machine.specs.Wanted.{wants_along, wants_of_word}

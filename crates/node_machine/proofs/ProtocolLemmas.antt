@@ -32,8 +32,8 @@ use Rattle.node_words.specs.declared.exec_state.ExecState.{ExecState}
 use Rattle.node_machine.specs.declared.protocol_state.ProtocolState.{ProtocolState}
 use Rattle.node_words.specs.node_model.Node.{Node, Want, first_state}
 use Rattle.node_words.specs.node_model.Turns.{silent, holding, block_at, by_row, by_row_or, count_row, count_want, with_state, with_miss, want_in, is_same_want}
-use Rattle.node_words.specs.Kept.{Shelf, copy_of, local_of}
-use Rattle.node_words.specs.Blocks.{ShelfLaws, blocks_at}
+use Rattle.node_words.specs.node_memory.Shelf.{Shelf, copy_of, local_of}
+use Rattle.node_words.specs.node_memory.Blocks.{ShelfLaws, blocks_at}
 use Rattle.node_machine.specs.NodeState.{entries_in, layout_of, with_parts, IsProtocolState}
 use Rattle.node_machine.specs.ProtocolState.{HomeSide, NodeSide, HasRouted, is_order, is_unmet, turn_by}
 use Rattle.node_machine.proofs.BlockLemmas.{LineLaws, set_states, same_states, put_bytes, same_copy, block_is, is_out, byte_in, byte_out}

@@ -24,7 +24,7 @@ use Rattle.node_words.specs.node_model.Node.{Node, Work, NodeMemory, Phase, Runn
 use Rattle.node_words.specs.node_model.Turns.{Turn, handled, journaled, later, resumed, has_no_wait, after_message, take_turn, with_byes, is_ended, by_row_or, holding, words_before}
 use Rattle.node_machine.specs.NodeState.{work_of, node_of, layout_of, with_all, phase_resumed, lane_after_wait, counts_after_wait, AreCountsBelow, WaitsInPhase}
 use Rattle.node_machine.specs.ProtocolState.{turn_by}
-use Rattle.node_words.specs.Kept.{local_of}
+use Rattle.node_words.specs.node_memory.Shelf.{local_of}
 use Rattle.node_machine.proofs.NodeStateLemmas.{counts_up, tally_below}
 use Rattle.node_machine.proofs.WaitLemmas.{waits_count}
 

@@ -20,7 +20,8 @@ use Rattle.node_machine.specs.declared.states.LaneState.{LaneState}
 use Rattle.node_machine.specs.States as states
 use Rattle.node_words.specs.node_model.Node.{Node, Work, ProcessorState, NodeMemory, Phase, Running, Resumed, Waiting, Ended, can_execute, counts_after, lane_resumed, tally_resumed, stop_or}
 use Rattle.node_words.specs.node_model.Turns.{words_before}
-use Rattle.node_words.specs.Kept.{lane_of, local_of, resume_of}
+use Rattle.node_words.specs.node_memory.Shelf.{local_of}
+use Rattle.node_words.specs.Kept.{lane_of, resume_of}
 
 abbrev pub phase_of : kept.Phase → Phase
 phase_of kept_phase.Running = Running

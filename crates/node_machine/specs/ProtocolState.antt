@@ -12,8 +12,8 @@ use Rattle.rv32_program.specs.Program.{line_of}
 use Rattle.node_machine.specs.declared.protocol_state.ProtocolState.{ProtocolState}
 use Rattle.node_words.specs.node_model.Node.{Node, NodeMemory, Want, is_mapped_state, is_readable_state, is_fixed_state, is_writable_state}
 use Rattle.node_words.specs.node_model.Turns.{Turn}
-use Rattle.node_words.specs.Kept.{Shelf}
-use Rattle.node_words.specs.Blocks.{blocks_at}
+use Rattle.node_words.specs.node_memory.Shelf.{Shelf}
+use Rattle.node_words.specs.node_memory.Blocks.{blocks_at}
 
 abbrev pub turn_by : Node → List Post → Option ℕ → Turn
 turn_by n sends printed = record { node = n; sends = sends; printed = printed }

@@ -5,7 +5,7 @@ use Rattle.node_machine.specs.declared.node_state.NodeState.{NodeState}
 use Rattle.node_machine.specs.declared.undo_log.NodeUndoLog.{NodeUndoLog}
 use Rattle.node_machine.specs.NodeState.{IsNode}
 
--- the undo_log takes a node back to another
+-- the undo log takes a node back to another
 pub record TakesNodeBack (t : NodeUndoLog) (f first : NodeState) : Type 0 where
   pub words : TakesBack t.words.saved t.words.notes.items
       f.shared.body.value.lane f.shared.body.value.local

@@ -1,11 +1,11 @@
 //! A node: its processor, what words see of it, and its part of the protocol.
 
-ghost use Rattle.std.specs.Prelude.{◌≡◌, ◌+◌, ◌^◌, ◌<◌, ◌==◌, ◌≤◌, ℕ, true, false, None, IfOk};
+ghost use Rattle.std.specs.Prelude.{◌≡◌, ◌+◌, ◌^◌, ◌<◌, ◌==◌, ◌≤◌, true, false, None, IfOk};
 ghost use Rattle.std.specs.Prelude.{OnOk, if◌then◌else◌, length, option_and_then, is_some};
 ghost use Rattle.std.specs.Prelude.{MatchOption, Some, IfSome};
 ghost use Rattle.block_layout.specs.Layout.{blocks};
 ghost use Rattle.rv32_decode.specs.Widths.{width_of, is_aligned};
-ghost use Rattle.node_words.specs.rv32_step.Registers.{reg, registers_of};
+ghost use Rattle.node_words.specs.rv32_step.Registers.{registers_of};
 ghost use Rattle.node_words.specs.rv32_step.Memory.{load_value};
 ghost use Rattle.node_words.specs.jump_map.declared.image.ImageWord.{ImageWord};
 ghost use Rattle.node_words.specs.exec_map.Contents.{program_of};
@@ -40,9 +40,9 @@ use node_words::miss_handlers::Waits;
 use node_words::node_model::{Entry, NodeCounts, OutByte, Standing};
 use node_words::runtime_words::RtWord;
 use node_words::rv32_step::Registers;
-use node_words::{ExecState, ProcessorState, address_of, index_of};
+use node_words::{ExecState, ProcessorState, StoreLog, address_of, index_of};
 use run_limits::Budget;
-use rv32_decode::{LoadKind, Reg};
+use rv32_decode::LoadKind;
 use state_table::State;
 use std::alloc::{AllocError, Global};
 use std::marker::Model;
@@ -105,6 +105,7 @@ impl<'a> Node<'a> {
             },
             local: first_local(alloc, program, layout, me)?,
             counts: NO_COUNTS,
+            log: StoreLog::off(alloc),
         };
         let protocol = ProtocolState {
             directory: Directory::new(alloc, layout, me, layout.nodes())?,
@@ -191,13 +192,6 @@ impl<'a> Node<'a> {
         self.inner.touch()
     }
 
-    /// What a register holds.
-    pub fn register(&self, r: Reg) -> u32
-        ensures value { result ≡ reg (node_of self.now).lane.registers r }
-    {
-        self.registers().get(r)
-    }
-
     /// The registers.
     pub fn registers(&self) -> &Registers
         ensures value { registers_of result.now ≡ (node_of self.now).lane.registers }
@@ -260,6 +254,23 @@ impl<'a> Node<'a> {
         ensures value { result ≡ ((node_of self.now).entry block).busy }
     {
         self.inner.shared.protocol.directory.busy(block)
+    }
+
+    /// The owner of a block, where this node is the home.
+    pub fn owner(&self, block: Block) -> u8
+        requires block { block < blocks (work_of self.now).layout }
+        ensures value { result ≡ ((node_of self.now).entry block).owner }
+    {
+        self.inner.shared.protocol.directory.owner(block)
+    }
+
+    /// Whether a node shares a block, where this node is the home.
+    pub fn is_sharer(&self, block: Block, node: u8) -> bool
+        requires block { block < blocks (work_of self.now).layout }
+        requires node { node < 16 }
+        ensures value { result ≡ ((node_of self.now).entry block).sharers node }
+    {
+        self.inner.shared.protocol.directory.is_sharer(block, node)
     }
 
     /// How many requests wait at this home.
@@ -351,9 +362,9 @@ impl<'a> Node<'a> {
         self.inner.exec_silent()
     }
 
-    /// Executes words by their micro-ops, as long as those serve them and the undo_log has room, at
+    /// Executes words by their micro-ops, as long as those serve them and the undo log has room, at
     /// most so many, and fewer than the budget has left; it gives how many. They print nothing and
-    /// send nothing, and the undo_log takes them back.
+    /// send nothing, and the undo log takes them back.
     pub fn run_undoable(&mut self, most: u32, undo_log: &mut NodeUndoLog) -> u64
         requires may { 1 ≤ most → model.can_execute (node_of self.old).phase ≡ true }
         requires stamp { (node_of self.old).stamp < 2 ^ 56 }
@@ -367,7 +378,7 @@ impl<'a> Node<'a> {
         self.inner.run_undoable(most, undo_log)
     }
 
-    /// Takes back the words of a undo_log.
+    /// Takes back the words of an undo log.
     pub fn take_back(&mut self, undo_log: &mut NodeUndoLog)
         requires back { (first : Stored) × TakesNodeBack undo_log.old self.old first }
         ensures back { (first : Stored) → TakesNodeBack undo_log.old self.old first

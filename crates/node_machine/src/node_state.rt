@@ -1,15 +1,16 @@
 //! What a node stores, and its events. How the parts fit together is said by each call's clauses,
 //! and kept by the type of the node above it.
 
-ghost use Rattle.std.specs.Prelude.{◌≡◌, ◌+◌, ◌*◌, ◌^◌, ◌<◌, ◌≤◌, ◌&&◌, ◌++◌, ◌⊎◌};
+ghost use Rattle.std.specs.Prelude.{◌≡◌, ◌+◌, ◌^◌, ◌<◌, ◌≤◌, ◌++◌, ◌⊎◌};
 ghost use Rattle.std.specs.Prelude.{if◌then◌else◌, ℕ, [], true, false, None, Option, length};
 ghost use Rattle.node_words.specs.node_model.Node as model;
 ghost use Rattle.node_words.specs.node_model.Turns as turns;
-ghost use Rattle.node_words.specs.Kept.{ground_of, local_of, wants_by};
+ghost use Rattle.node_words.specs.node_memory.Shelf.{ground_of, local_of};
+ghost use Rattle.node_words.specs.Kept.{wants_by};
 ghost use Rattle.node_machine.specs.Wanted.{wants_along, wanted_in, wants_of_word};
 ghost use Rattle.node_machine.specs.NodeState.{work_of, node_of, layout_of, with_parts, phase_of};
-ghost use Rattle.node_machine.specs.NodeState.{HasRoom, IsNode, IsProtocolState, AreCountsBelow, HasBegun};
-ghost use Rattle.node_machine.specs.NodeState.{with_all};
+ghost use Rattle.node_machine.specs.NodeState.{HasRoom, IsNode, IsProtocolState, AreCountsBelow};
+ghost use Rattle.node_machine.specs.NodeState.{HasBegun, with_all};
 ghost use Rattle.node_machine.specs.ProtocolState.{turn_by, AreUnmet};
 ghost use Rattle.node_machine.specs.Runs.{HasExecuted, GoesOnBy};
 

@@ -1,19 +1,19 @@
 //! What words see of their node at the start.
 
-ghost use Rattle.std.specs.Prelude.{◌≡◌, ◌+◌, ◌*◌, ◌^◌, ◌<◌, ◌≤◌, ℕ, IfOk, OnOk};
+ghost use Rattle.std.specs.Prelude.{◌≡◌, ◌*◌, ◌<◌, ℕ, IfOk, OnOk};
 ghost use Rattle.node_words.specs.exec_map.Contents.{program_of};
 ghost use Rattle.block_layout.specs.Layout.{blocks};
 ghost use Rattle.block_layout.specs.Update.{changed};
 ghost use Rattle.state_table.specs.States.{state_of};
 ghost use Rattle.node_words.specs.flag_memory.Copy.{bytes_of};
 ghost use Rattle.node_words.specs.node_model.Node as model;
-ghost use Rattle.node_words.specs.Kept.{local_of};
+ghost use Rattle.node_words.specs.node_memory.Shelf.{local_of};
 ghost use Rattle.node_machine.specs.Opening.{AreFixedClasses, classes_of, opening_state};
 ghost use Rattle.node_machine.specs.Opening.{opening_bytes};
 
 use block_layout::{Block, Layout, layout_law};
 use node_words::NodeMemory;
-use node_words::exec_map::{Lines, Program, first_bytes_law, read_only_memory};
+use node_words::exec_map::{Lines, PRIVATE_FIRST, Program, first_bytes_law, read_only_memory};
 use node_words::flag_memory::{Copy32, FirstBytes, copy_law};
 use state_table::{EXCLUSIVE, LineClass, LineClasses, READ_ONLY, State, States};
 use std::alloc::{AllocError, Global};
@@ -69,17 +69,14 @@ fn all_classes(alloc: Global, ranges: &[Lines]) -> Result<Vec<LineClass>, AllocE
         })?;
     }
     classes.push(LineClass {
-        first: WINDOW_FIRST,
+        first: PRIVATE_FIRST,
         lines: WINDOW_LINES,
         byte: EXCLUSIVE,
     })?;
     Ok(classes)
 }
 
-/// The first line of the private window.
-const WINDOW_FIRST: u32 = 0x01ff_fc00;
-
-/// How many lines it has.
+/// How many lines the private window has.
 const WINDOW_LINES: u32 = 0x400;
 
 /// Gives the blocks that are homed at a node their first bytes, and makes them exclusive there;

@@ -1,6 +1,6 @@
 //! What a node keeps of blocks beside their states and bytes: its part of the protocol.
 
-ghost use Rattle.std.specs.Prelude.{◌≡◌, ◌+◌, ◌/◌, ◌^◌, ◌≤◌, ◌<◌, ◌⊎◌, ◌&&◌, nat_lt, ℕ, [], ◌∷◌};
+ghost use Rattle.std.specs.Prelude.{◌≡◌, ◌+◌, ◌^◌, ◌≤◌, ◌<◌, ◌⊎◌, ◌&&◌, nat_lt, ℕ, [], ◌∷◌};
 ghost use Rattle.std.specs.Prelude.{◌++◌, None, Some, true, false, List, Option, length};
 ghost use Rattle.std.specs.Option.{option_to_list};
 ghost use Rattle.state_table.specs.States.{state_of};
@@ -12,16 +12,17 @@ ghost use Rattle.node_words.specs.miss_handlers.Waits.{wait_of};
 ghost use Rattle.node_words.specs.miss_handlers.Rows.{row_of};
 ghost use Rattle.node_words.specs.node_model.Node as model;
 ghost use Rattle.node_words.specs.node_model.Turns as turns;
-ghost use Rattle.node_words.specs.Kept.{ground_of, local_of, want_of, others_of, all_wants};
-ghost use Rattle.node_words.specs.Blocks.{ShelfLaws};
-ghost use Rattle.node_machine.specs.NodeState.{layout_of, with_parts, IsProtocolState, AreCountsBelow};
+ghost use Rattle.node_words.specs.node_memory.Shelf.{ground_of, local_of, want_of, others_of};
+ghost use Rattle.node_words.specs.node_memory.Shelf.{all_wants};
+ghost use Rattle.node_machine.specs.NodeState.{layout_of, with_parts, IsProtocolState};
+ghost use Rattle.node_machine.specs.NodeState.{AreCountsBelow};
 ghost use Rattle.node_machine.specs.ProtocolState.{HasRouted, turn_by, is_unmet, is_order};
 ghost use Rattle.node_machine.specs.Wanted.{wants_along, wanted_list};
 
 use crate::wanted::{WantedBlocks, wanted_of};
 use block_layout::{Block, layout_law};
 use buf_pool::Pool;
-use node_words::dsm_messages::{Message, Need, Post, Sends};
+use node_words::dsm_messages::{Message, Need, Post, Sends, push_some};
 use node_words::home_directory::Directory;
 use node_words::miss_handlers::Waits;
 use node_words::node_model::NodeCounts;
@@ -187,26 +188,35 @@ impl ProtocolState {
         layout_law();
         body.local.laws();
         let order = is_order(&message);
-        *sends = self.route(&mut body.local, from, message);
+        sends.clear();
+        self.route(&mut body.local, from, message, sends);
         body.local.laws();
         let given = gives_up(order, sends.len());
         body.counts = count_row(body.counts, given, sends.len());
     }
 
     /// A message from a node, but for the counts.
-    fn route(&mut self, local: &mut NodeMemory<'_>, from: u8, message: Message) -> Sends
+    fn route(&mut self, local: &mut NodeMemory<'_>, from: u8, message: Message, sends: &mut Sends)
+        requires nothing { sends.old.items ≡ [] }
         requires protocol { IsProtocolState local.old.copy.layout self.old }
         ensures routed { HasRouted local.old.copy.layout self.old self.new local.old local.new
-            result.items from message }
+            sends.new.items from message }
         ensures protocol { IsProtocolState local.old.copy.layout self.new }
         ensures me { self.new.directory.me ≡ self.old.directory.me }
         ensures ground { ground_of local.new ≡ ground_of local.old }
     {
         match message {
-            Message::Read { block, buf } => self.directory.ask(from, block, Need::Read, buf),
-            Message::Write { block, buf } => self.directory.ask(from, block, Need::Write, buf),
-            Message::Done { block } => self.directory.done(from, block),
-            message => local.on(from, message, &mut self.waits, &mut self.pool),
+            Message::Read { block, buf } => {
+                self.directory.ask(from, block, Need::Read, buf, sends);
+            }
+            Message::Write { block, buf } => {
+                self.directory.ask(from, block, Need::Write, buf, sends);
+            }
+            Message::Done { block } => self.directory.done(from, block, sends),
+            message => {
+                let post = local.on(from, message, &mut self.waits, &mut self.pool);
+                push_some(sends, post);
+            }
         }
     }
 }

@@ -1,8 +1,8 @@
 //! What takes back words of a node.
 
-ghost use Rattle.std.specs.Prelude.{◌≡◌, ◌+◌, ◌*◌, ◌^◌, ◌<◌, ◌≤◌, ℕ, true, IfOk};
+ghost use Rattle.std.specs.Prelude.{◌≡◌, ◌+◌, ◌^◌, ◌<◌, ◌≤◌, true};
 ghost use Rattle.node_words.specs.node_model.Node as model;
-ghost use Rattle.node_machine.specs.NodeState.{work_of, node_of, phase_of, IsNode};
+ghost use Rattle.node_machine.specs.NodeState.{work_of, node_of, IsNode};
 ghost use Rattle.node_machine.specs.Runs.{GoesOnBy};
 ghost use Rattle.node_machine.specs.UndoLogs.{TakesNodeBack};
 ghost use Rattle.node_machine.specs.declared.node_state.NodeState as stored;
@@ -22,7 +22,7 @@ pub struct NodeUndoLog {
 }
 
 impl NodeUndoLog {
-    /// A undo_log of no words.
+    /// An undo log of no words.
     pub fn new(alloc: Global) -> Result<NodeUndoLog, AllocError> {
         Ok(NodeUndoLog {
             words: node_words::UndoLog::new(alloc)?,
@@ -35,9 +35,9 @@ impl NodeUndoLog {
 }
 
 impl<'a> NodeState<'a> {
-    /// Executes words by their micro-ops, as long as those serve them and the undo_log has room, at
+    /// Executes words by their micro-ops, as long as those serve them and the undo log has room, at
     /// most so many, and fewer than the budget has left; it gives how many. They print nothing and
-    /// send nothing, and the undo_log takes them back.
+    /// send nothing, and the undo log takes them back.
     pub fn run_undoable(&mut self, most: u32, undo_log: &mut NodeUndoLog) -> u64
         requires node { IsNode self.old }
         requires may { 1 ≤ most → model.can_execute (node_of self.old).phase ≡ true }
@@ -71,7 +71,7 @@ impl<'a> NodeState<'a> {
         stretch.words
     }
 
-    /// Takes back the words of a undo_log.
+    /// Takes back the words of an undo log.
     pub fn take_back(&mut self, undo_log: &mut NodeUndoLog)
         requires back { (first : stored.NodeState) × TakesNodeBack undo_log.old self.old first }
         ensures back { (first : stored.NodeState) → TakesNodeBack undo_log.old self.old first

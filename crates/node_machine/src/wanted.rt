@@ -4,7 +4,7 @@ ghost use Rattle.std.specs.Prelude.{◌≡◌, not, false};
 ghost use Rattle.std.specs.Option.{option_map_or};
 ghost use Rattle.node_words.specs.home_directory.Table.{meets};
 ghost use Rattle.node_words.specs.node_model.Node as model;
-ghost use Rattle.node_words.specs.Kept.{local_of, want_of};
+ghost use Rattle.node_words.specs.node_memory.Shelf.{local_of, want_of};
 ghost use Rattle.node_machine.specs.Wanted as look;
 
 use block_layout::{Block, layout_law};

@@ -1,5 +1,5 @@
 -- A wire in front of one list of many.
-use Rattle.std.proofs.Common.{◌≡◌, ◌≢◌, ℕ, zero, suc, remove, ◌-◌, ◌+◌, ◌<◌, ◌≤◌, Option, Some, None, List, [], ◌∷◌, ◌++◌, set, get_or, length, length-set, refl, ap, ap₂, ◌∙◌, sym, subst, arith, eq-eqb, ne_eqb, ⊎_elim, Vec, Global, le_of_suc-le-suc, not-suc-le-zero}
+use Rattle.std.proofs.Common.{◌≡◌, ◌≢◌, ℕ, zero, suc, remove, ◌-◌, ◌+◌, ◌<◌, ◌≤◌, Option, Some, None, List, [], ◌∷◌, ◌++◌, set, get_or, length, ap, ap₂, ◌∙◌, sym, subst, arith, eq-eqb, ne_eqb, ⊎_elim, Vec, Global, le_of_suc-le-suc, not-suc-le-zero}
 use Rattle.std.proofs.lemmas.Bool.{cases_eq}
 use Rattle.std.specs.declared.collections.VecDeque.{VecDeque}
 use Rattle.dsm_messages.specs.declared.messages.Wire.{Wire}

@@ -1,5 +1,5 @@
 -- Rows that have come to their end.
-use Rattle.std.proofs.Common.{◌≡◌, ℕ, zero, suc, List, [], ◌∷◌, ◌++◌, map, length, refl, ap, ap₂, ◌∙◌, sym, subst, subst₂, arith, get_or, remove, ◌<◌, Vec, Global}
+use Rattle.std.proofs.Common.{◌≡◌, ℕ, List, [], ◌∷◌, ◌++◌, map, length, refl, ap, ap₂, ◌∙◌, sym, subst, subst₂, arith, get_or, remove, ◌<◌, Vec, Global}
 use Rattle.std.specs.declared.collections.VecDeque.{VecDeque}
 use Rattle.atomic_table.specs.Seated.{TableId}
 use Rattle.dsm_messages.specs.declared.messages.Wire.{Wire}

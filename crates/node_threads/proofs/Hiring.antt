@@ -1,5 +1,5 @@
 -- Lists that are taken from the front, and built from behind.
-use Rattle.std.proofs.Common.{◌≡◌, ℕ, ◌<◌, None, List, [], ◌∷◌, ◌++◌, map, length, get_or, remove, refl, ap, ap₂, ◌∙◌, sym, subst, append_assoc, lt_irrefl}
+use Rattle.std.proofs.Common.{◌≡◌, ◌<◌, None, List, [], ◌∷◌, ◌++◌, map, length, get_or, remove, refl, ap, ap₂, ◌∙◌, sym, subst, append_assoc, lt_irrefl}
 use Rattle.node_threads.specs.Crew.{AllIdle}
 use Rattle.node_threads.specs.declared.worker.Worker.{Worker}
 

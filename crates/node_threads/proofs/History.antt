@@ -6,7 +6,7 @@ use Rattle.dsm_protocol.specs.node_model.Node.{Work, Node, Phase, Running, Resum
 use Rattle.dsm_protocol.specs.node_model.Turns.{Turn, word_turn}
 use Rattle.dsm_protocol.specs.node_model.Core.{wires_to, may_execute}
 use Rattle.dsm_core.specs.node_machine.Runs.{GoesOnBy}
-use Rattle.dsm_core.specs.run_order.Apart.{LocalEvent, Executes, Takes, MayDo, LeadsBy, turn_of, taken_from, sent_to}
+use Rattle.dsm_core.specs.run_order.Apart.{LocalEvent, Executes, Takes, LeadsBy, turn_of, taken_from, sent_to}
 
 pub leads_append : (work : Work) (n u m : Node) (ds es : List LocalEvent) → LeadsBy work n ds u
     → LeadsBy work u es m → LeadsBy work n (ds ++ es) m

@@ -1,8 +1,8 @@
 -- Links are opened row by row.
-use Rattle.std.proofs.Common.{◌≡◌, ℕ, zero, suc, ◌+◌, List, [], ◌∷◌, ◌++◌, map, length, refl, ap, ap₂, ◌∙◌, sym, subst, subst₂, arith, Vec, Global}
+use Rattle.std.proofs.Common.{◌≡◌, ℕ, suc, ◌+◌, List, [], ◌∷◌, ◌++◌, map, length, refl, ap, ap₂, ◌∙◌, sym, subst, arith, Vec, Global}
 use Rattle.atomic_table.specs.Seated.{TableId}
 use Rattle.fifo_link.specs.End.{End}
-use Rattle.node_threads.specs.Mesh.{BeginRows, Crosses, tail, Opens, OpensRow, Unused, Fresh}
+use Rattle.node_threads.specs.Mesh.{BeginRows, Crosses, tail, OpensRow, Unused, Fresh}
 use Rattle.node_threads.specs.Works.{links_of}
 
 abbrev L : Vec End Global → List End

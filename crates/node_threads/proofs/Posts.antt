@@ -7,7 +7,6 @@ use Rattle.dsm_messages.specs.declared.messages.Wire.{Wire}
 use Rattle.dsm_protocol.specs.node_model.Core.{wires_to}
 use Rattle.fifo_link.specs.End.{End}
 use Rattle.dsm_core.specs.run_order.Apart.{Takes, taken_from}
-use Rattle.node_threads.specs.Rows.{wires_at}
 use Rattle.node_threads.specs.Works.{through, waiting, links_of, in_hand}
 use Rattle.node_threads.proofs.Entries.{wires_same, wires_other, wires_get, map_same}
 

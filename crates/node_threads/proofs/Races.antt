@@ -12,10 +12,11 @@ use Rattle.dsm_core.specs.node_machine.NodeState.{node_of, work_of}
 use Rattle.fifo_link.specs.End.{End}
 use Rattle.dsm_core.specs.run_order.Apart.{LocalEvent, LeadsBy, taken_from, sent_to}
 use Rattle.node_threads.specs.Rows.{wires_at}
-use Rattle.node_threads.specs.Works.{Works, HasRows, IsReady, through, waiting, links_of, in_hand}
-use Rattle.node_threads.specs.Mesh.{BeginRows, Crosses, Gathers, GathersRow, AsLong, Unused, Fresh, IsMesh, first, tail}
+use Rattle.node_threads.specs.Works.{Works, IsReady, through, waiting, links_of, in_hand}
+use Rattle.node_threads.specs.Mesh.{Crosses, Gathers, GathersRow, AsLong, Unused, Fresh, IsMesh, tail}
 use Rattle.node_threads.specs.Crew.{AllIdle, AllWork, AreNodesOf, HandsFit, RowsOf, hand_at, list_of}
-use Rattle.node_threads.specs.Races.{HaveRaced, node_or}
+use Rattle.dsm_core.specs.CoreSteps.{node_or}
+use Rattle.node_threads.specs.Races.{HaveRaced}
 use Rattle.node_threads.specs.declared.worker.Worker.{Worker}
 use Rattle.node_threads.proofs.Working.{links_len}
 

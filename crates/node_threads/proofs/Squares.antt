@@ -3,16 +3,16 @@ use Rattle.std.proofs.Common.{◌≡◌, ℕ, zero, suc, ◌+◌, ◌*◌, ◌<�
 use Rattle.std.proofs.lemmas.List.{get_or-map, get_or_append_left, get_or-append-add, length-map, length-append}
 use Rattle.std.specs.declared.collections.VecDeque.{VecDeque}
 use Rattle.dsm_messages.specs.declared.messages.Wire.{Wire}
-use Rattle.dsm_protocol.specs.node_model.Node.{Work, Node, opening_node}
+use Rattle.dsm_protocol.specs.node_model.Node.{Work, opening_node}
 use Rattle.dsm_core.specs.node_machine.declared.node_state.NodeState.{NodeState}
-use Rattle.dsm_core.specs.node_machine.NodeState.{node_of, work_of}
 use Rattle.dsm_core.specs.run_order.Apart.{HaveDone, taken_from, sent_to}
 use Rattle.dsm_protocol.specs.Queue.{Queue, no_queue, wires_of}
 use Rattle.message_queues.proofs.Squares.{list_in, place_below}
 use Rattle.dsm_core.specs.CoreParts.{HaveWork, core_with}
 use Rattle.node_threads.specs.Rows.{wires_at}
 use Rattle.node_threads.specs.Crew.{RowsOf, AreNodesOf, flat, list_of}
-use Rattle.node_threads.specs.Races.{HaveRaced, node_or}
+use Rattle.dsm_core.specs.CoreSteps.{node_or}
+use Rattle.node_threads.specs.Races.{HaveRaced}
 
 abbrev Q : VecDeque Wire Global → List Wire
 Q o = o.items

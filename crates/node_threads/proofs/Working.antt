@@ -12,7 +12,6 @@ use Rattle.dsm_core.specs.node_machine.declared.node_state.NodeState.{NodeState}
 use Rattle.dsm_core.specs.node_machine.NodeState.{node_of, work_of}
 use Rattle.dsm_core.specs.run_order.Apart.{LocalEvent, Executes, MayDo, LeadsBy, turn_of, taken_from, sent_to}
 use Rattle.fifo_link.specs.End.{End}
-use Rattle.node_threads.specs.Rows.{wires_at}
 use Rattle.node_threads.specs.Works.{Works, HasRows, standing, through, waiting, links_of, in_hand}
 use Rattle.node_threads.specs.declared.worker.Worker.{Worker}
 use Rattle.node_threads.proofs.Entries.{wires_same, wires_other, wires_get, map_same}

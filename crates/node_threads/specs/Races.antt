@@ -1,18 +1,14 @@
 -- Nodes that made events apart, each in its thread, and the lists between them.
-use Rattle.std.specs.Prelude.{◌≡◌, ℕ, ◌<◌, List, ◌++◌, map, length, slice_index_or, Vec}
+use Rattle.std.specs.Prelude.{◌≡◌, ℕ, ◌<◌, List, ◌++◌, length, Vec}
 use Rattle.std.specs.declared.alloc.Global.{Global}
 use Rattle.std.specs.declared.collections.VecDeque.{VecDeque}
 use Rattle.dsm_messages.specs.declared.messages.Wire.{Wire}
 use Rattle.dsm_protocol.specs.node_model.Node.{Work, Node}
 use Rattle.dsm_core.specs.node_machine.declared.node_state.NodeState.{NodeState}
-use Rattle.dsm_core.specs.node_machine.NodeState.{node_of}
 use Rattle.dsm_core.specs.run_order.Apart.{LocalEvent, LeadsBy, HaveDone, taken_from, sent_to}
 use Rattle.dsm_core.specs.CoreParts.{CoreParts, work_of, core_of}
+use Rattle.dsm_core.specs.CoreSteps.{node_or}
 use Rattle.node_threads.specs.Crew.{RowsOf, AreNodesOf, list_of}
-
--- node i, where there is one
-abbrev pub node_or : List NodeState → ℕ → Node → Node
-node_or nodes i n = slice_index_or (map node_of nodes) i n
 
 -- the nodes have made some history each, and the rows of lists have changed by them
 pub record HaveRaced (work : Work) (olds : List NodeState)

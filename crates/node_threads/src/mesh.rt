@@ -1,6 +1,6 @@
 //! A link from each node to each.
 
-ghost use Rattle.std.specs.Prelude.{◌≡◌, ◌≤◌, IfOk, map};
+ghost use Rattle.std.specs.Prelude.{◌≤◌, IfOk, map};
 ghost use Rattle.node_threads.specs.Mesh.{OpensRow, IsMesh};
 
 use fifo_link::{SendEnd, TakeEnd, link};

@@ -115,7 +115,7 @@ impl Pace {
         }
     }
 
-    /// Whether it is time to poll_link whether its node comes round.
+    /// Whether it is time to look whether its node comes round.
     pub fn may_come_round(&self) -> bool {
         self.made >= self.until
     }

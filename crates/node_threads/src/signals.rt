@@ -19,17 +19,17 @@ const ASLEEP: u64 = 2;
 /// How many milliseconds a node sleeps at most.
 const NAP: u64 = 4;
 
-/// A word that many threads poll_link at, with nothing else on its lines of the host.
+/// A word that many threads look at, with nothing else on its lines of the host.
 #[derive(Drop)]
-struct Word {
+struct PaddedWord {
     _before: [u64; 16],
     word: AtomicU64,
     _after: [u64; 16],
 }
 
-impl Word {
-    fn new(value: u64) -> Word {
-        Word {
+impl PaddedWord {
+    fn new(value: u64) -> PaddedWord {
+        PaddedWord {
             _before: [0; 16],
             word: AtomicU64::new(value),
             _after: [0; 16],
@@ -47,9 +47,9 @@ impl Word {
 /// The signals of nodes.
 #[derive(Drop)]
 pub struct Signals {
-    signals: Vec<Word>,
+    signals: Vec<PaddedWord>,
     /// How many nodes have not begun to work, sleep or work no more.
-    away: Word,
+    away: PaddedWord,
 }
 
 impl Signals {
@@ -58,11 +58,11 @@ impl Signals {
     pub fn new(alloc: Global, nodes: usize) -> Result<Signals, AllocError> {
         let mut signals = Vec::new(alloc);
         for _ in 0..nodes {
-            signals.push(Word::new(IDLE))?;
+            signals.push(PaddedWord::new(IDLE))?;
         }
         Ok(Signals {
             signals,
-            away: Word::new(nodes as u64),
+            away: PaddedWord::new(nodes as u64),
         })
     }
 

@@ -173,18 +173,22 @@ after_take w i e = record { takes = (cursor_at w i).takes + 1; words = 0; last =
 abbrev left_by : ℕ → Cursor → Record → List Told
 left_by i c r = told_in i (c.takes + 1) c.last (left_of c (entries_of r i))
 
-left_followed : (w v : Cursors) (i k : ℕ) (c : Cursor) → v.rec.now ≡ w.rec.now
+left_followed : (w v : Cursors) (k : ℕ) (c : Cursor) → v.rec.now ≡ w.rec.now
     → cursor_at v k ≡ c → left_at v k ≡ left_by k c w.rec.now
-left_followed w v i k c rec own =
+left_followed w v k c rec own =
     ap (λ z. left_by k z v.rec.now) own ∙ ap (λ z. left_by k c z) rec
+
+pub left_same : (w v : Cursors) (k : ℕ) → v.rec.now ≡ w.rec.now → cursor_at v k ≡ cursor_at w k
+    → left_at v k ≡ left_at w k
+left_same w v k rec same = left_followed w v k (cursor_at w k) rec same
 
 pub others_left : (w v : Cursors) (i : ℕ) (c : Cursor) → HasFollowed w i c v → (k : ℕ) → k ≢ i
     → left_at v k ≡ left_at w k
-others_left w v i c f k other = left_followed w v i k (cursor_at w k) f.rec_is (f.others k other)
+others_left w v i c f k other = left_same w v k f.rec_is (f.others k other)
 
 pub own_left : (w v : Cursors) (i : ℕ) (c : Cursor) → HasFollowed w i c v
     → left_at v i ≡ left_by i c w.rec.now
-own_left w v i c f = left_followed w v i i c f.rec_is f.own
+own_left w v i c f = left_followed w v i c f.rec_is f.own
 
 pub word_now : (w v : Cursors) (i : ℕ) → HasFollowed w i (after_word w i) v
     → AreNow i (word_next w i) (behind_word w i) (left_at w) (left_at v) (last_at w) (last_at v)
@@ -355,18 +359,18 @@ words_none w i =
       others = λ k other. refl;
     }
 
-pub words_more : (w v u : Cursors) (i k : ℕ) → HasFollowed w i (words_after w i k) v
-    → HasFollowed v i (after_word v i) u → HasFollowed w i (words_after w i (k + 1)) u
-words_more w v u i k f g =
+pub words_also : (w v u : Cursors) (i j k : ℕ) → HasFollowed w i (words_after w i j) v
+    → HasFollowed v i (words_after v i k) u → HasFollowed w i (words_after w i (j + k)) u
+words_also w v u i j k f g =
     let c = cursor_at w i in
-    let a : (c.words + k) + 1 ≡ c.words + (k + 1) = omega arith in
-    let b : (c.last + k) + 1 ≡ c.last + (k + 1) = omega arith in
+    let a : (c.words + j) + k ≡ c.words + (j + k) = omega arith in
+    let b : (c.last + j) + k ≡ c.last + (j + k) = omega arith in
     record {
       rec_is = g.rec_is ∙ f.rec_is;
       own = g.own ∙ ap (λ (z : Cursor). record {
         takes = z.takes;
-        words = z.words + 1;
-        last = z.last + 1;
+        words = z.words + k;
+        last = z.last + k;
       }) f.own ∙ ap₂ (λ x y. record { takes = c.takes; words = x; last = y }) a b;
       others = λ j other. g.others j other ∙ f.others j other;
     }
@@ -514,20 +518,20 @@ words_first_of w m words x e h is lt le =
 
 -- 11. In the middle of words
 
-pub mid_word : (w v : Cursors) (i k words : ℕ) (e : JournalEntry)
-    → HasFollowed w i (words_after w i k) v → k < words
-    → (cursor_at w i).words + words ≤ e.words → (cursor_at v i).words < e.words
-mid_word w v i k words e f lt le =
+pub mid_words : (w v : Cursors) (i k more words : ℕ) (e : JournalEntry)
+    → HasFollowed w i (words_after w i k) v → k + more ≤ words
+    → (cursor_at w i).words + words ≤ e.words → (cursor_at v i).words + more ≤ e.words
+mid_words w v i k more words e f le within =
     let at : (cursor_at v i).words ≡ (cursor_at w i).words + k =
     ap (λ (c : Cursor). c.words) f.own in omega arith
 
-pub mid_first : (w v : Cursors) (i k words : ℕ) → HasFollowed w i (words_after w i k) v
-    → k < words → ComesFirst w w.rec.now.nodes (last_at w i + words) i
-    → ComesFirst v v.rec.now.nodes (last_at v i + 1) i
-mid_first w v i k words f lt first =
+pub mid_first : (w v : Cursors) (i k more words : ℕ) → HasFollowed w i (words_after w i k) v
+    → k + more ≤ words → ComesFirst w w.rec.now.nodes (last_at w i + words) i
+    → ComesFirst v v.rec.now.nodes (last_at v i + more) i
+mid_first w v i k more words f le first =
     let at : last_at v i ≡ last_at w i + k = ap (λ (c : Cursor). c.last) f.own in
-    subst (λ (r : Record). ComesFirst v r.nodes (last_at v i + 1) i) (sym f.rec_is)
-    (first_sooner v w.rec.now.nodes (last_at w i + words) (last_at v i + 1) i (omega arith)
+    subst (λ (r : Record). ComesFirst v r.nodes (last_at v i + more) i) (sym f.rec_is)
+    (first_sooner v w.rec.now.nodes (last_at w i + words) (last_at v i + more) i (omega arith)
     (first_kept w v i w.rec.now.nodes (last_at w i + words) (words_after w i k) f first))
 
 pub mid_node : (w v : Cursors) (i k : ℕ) (c : Cursor) → HasFollowed w i c v → k < w.rec.now.nodes

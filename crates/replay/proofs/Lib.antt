@@ -6,3 +6,4 @@ pub mod Cursors
 pub mod Runs
 pub mod Whole
 pub mod Passing
+pub mod Stretches

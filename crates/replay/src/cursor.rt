@@ -163,6 +163,20 @@ impl<'a> Cursors<'a> {
         }
     }
 
+    /// A node has executed so many words more.
+    pub(crate) fn follow_words(&mut self, node: u8, entry: Entry, words: u64)
+        requires lawful { AreLawful self.old }
+        requires node { node < self.old.rec.now.nodes }
+        requires entry { IsEntryOf self.old node entry }
+        requires words { (cursor_at self.old node).words + words ≤ entry.words }
+        ensures followed { let c = cursor_at self.old node in HasFollowed self.old node
+            (record { takes = c.takes; words = c.words + words; last = c.last + words }) self.new }
+    {
+        let cursor = &mut self.cursors[node as usize];
+        cursor.words += words;
+        cursor.last += words;
+    }
+
     /// A node has executed a word more.
     pub(crate) fn follow_word(&mut self, node: u8, entry: Entry)
         requires lawful { AreLawful self.old }

@@ -254,13 +254,42 @@ impl<'a> Replayer<'a> {
             self.old.cursors.rec.now rule i number }
     {
         let mut may = self.core.enabled(Event::Exec(node));
-        for _word in 0..words {
+        let mut made = 0;
+        while made < words {
             if !may {
                 return Err(self.broken(ReplayRule::NotThere, node));
             }
-            may = self.word(node, entry)?;
+            made += self.silent_words(node, entry, words - made);
+            if made < words {
+                may = self.word(node, entry)?;
+                made += 1;
+            }
         }
         Ok(())
+    }
+
+    /// A node executes words of an entry, which come before the events of all others, as long as
+    /// they print nothing and send nothing: at most so many. It gives how many.
+    fn silent_words(&mut self, node: u8, entry: Entry, most: u64) -> u64
+        requires running { IsRunning self.old }
+        requires node { node < self.old.cursors.rec.now.nodes }
+        requires entry { IsEntryOf self.old.cursors node entry }
+        requires words { (cursor_at self.old.cursors node).words + most ≤ entry.words }
+        requires first { ComesFirst self.old.cursors self.old.cursors.rec.now.nodes
+            (last_at self.old.cursors node + most) node }
+        requires may { May (work_of self.old.core) (core_of self.old.core) (Exec node) }
+        ensures running { IsRunning self.new }
+        ensures followed { let c = cursor_at self.old.cursors node in HasFollowed
+            self.old.cursors node
+            (record { takes = c.takes; words = c.words + result; last = c.last + result })
+            self.new.cursors }
+        ensures same { IsSame self.old self.new }
+        ensures most { result ≤ most }
+        ensures may { May (work_of self.new.core) (core_of self.new.core) (Exec node) }
+    {
+        let words = self.core.run_silent(node, most);
+        self.cursors.follow_words(node, entry, words);
+        words
     }
 
     /// A node executes a word of an entry, which comes before the events of all others, and whether

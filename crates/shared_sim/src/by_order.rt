@@ -1,17 +1,17 @@
 //! A core whose events follow an order.
 
-ghost use Rattle.std.specs.Prelude.{◌≡◌, ◌≤◌, ◌<◌, ℕ, [], ◌∷◌, true, false, length, slice_get};
-ghost use Rattle.std.specs.Prelude.{Some, IfOk, OnOk, OnErr, MatchOption};
+ghost use Rattle.std.specs.Prelude.{◌≡◌, ◌≤◌, ◌<◌, [], ◌∷◌, true, false, length};
+ghost use Rattle.std.specs.Prelude.{Some, IfOk, OnOk, MatchOption};
 ghost use Rattle.dsm_core.specs.node_model.Core.{Exec, May, IsOver, AreAlike, event_step, opening_core};
 ghost use Rattle.dsm_core.specs.rewriting_law.Bounds.{RunsRewritten};
 ghost use Rattle.dsm_core.specs.CoreParts.{work_of, work_in, core_of, event_of, outcome_of};
 ghost use Rattle.shared_sim.specs.ByOrder.{IsOutcomeByOrder, choices};
-ghost use Rattle.shared_sim.specs.Listing.{Lists, IsCalm};
+ghost use Rattle.shared_sim.specs.Listing.{IsCalm};
 ghost use Rattle.shared_sim.specs.Turns.{IsReady, LeadsOn, HasNoMail, maker};
 
 use crate::listing::Listing;
 use dsm_core::rewriting_law::progress_law;
-use dsm_core::{Core, Event, Outcome, Stop, UndoLogs, Work};
+use dsm_core::{Core, Event, Outcome, StoppedEarly, UndoLogs, Work};
 use random_order::{Order, order_of};
 use std::alloc::{AllocError, Global};
 
@@ -226,16 +226,15 @@ impl<'a> OrderedRun<'a> {
     {
         let turns = self.window.max(LEAST_WINDOW);
         if let Err(stop) = self.run_turns(turns) {
-            self.window = turns / 2;
-            self.run_before(stop, turns);
+            self.window = self.run_before(stop, turns);
             return false;
         }
         self.window = turns.saturating_mul(2).min(MOST_WINDOW);
         true
     }
 
-    /// Makes the turns before a node stops, where these aren't few.
-    fn run_before(&mut self, stop: Stop, most: u32)
+    /// Makes the turns before a node stops, where these aren't few, and tells how many they are.
+    fn run_before(&mut self, stop: StoppedEarly, most: u32) -> u32
         requires ready { IsReady self.old }
         requires some { 1 ≤ length (choices (work_of self.old.core) (core_of self.old.core)) }
         requires calm { IsCalm self.old.core.layout.nodes (core_of self.old.core) }
@@ -252,11 +251,12 @@ impl<'a> OrderedRun<'a> {
         if turns >= LEAST_WINDOW / 2 {
             let _ = self.run_turns(turns);
         }
+        turns
     }
 
     /// Makes so many turns at once, where no message is on its way and each of them is a word by a
     /// micro-op. Otherwise nothing changes, and the answer tells a node that stops before.
-    fn run_turns(&mut self, turns: u32) -> Result<(), Stop>
+    fn run_turns(&mut self, turns: u32) -> Result<(), StoppedEarly>
         requires ready { IsReady self.old }
         requires some { 1 ≤ length (choices (work_of self.old.core) (core_of self.old.core)) }
         requires calm { IsCalm self.old.core.layout.nodes (core_of self.old.core) }

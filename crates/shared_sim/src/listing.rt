@@ -1,6 +1,6 @@
 //! The events of a core that are allowed, listed node by node.
 
-ghost use Rattle.std.specs.Prelude.{◌≡◌, ◌≢◌, ◌≤◌, ◌<◌, ◌+◌, ◌*◌, ◌++◌, ℕ, [], true, false, map};
+ghost use Rattle.std.specs.Prelude.{◌≡◌, ◌≢◌, ◌≤◌, ◌<◌, ◌+◌, ◌++◌, ℕ, [], true, false, map};
 ghost use Rattle.std.specs.Prelude.{filter, length, slice_get, slice_index_or, Some, IfOk};
 ghost use Rattle.std.specs.Vec.{vec_capacity};
 ghost use Rattle.std.specs.List.{range_with_len};

@@ -14,7 +14,7 @@ ghost use Rattle.timed_sim.specs.Stored.{IsBelow, with_word};
 
 use crate::costs::{Costs, NOTHING, Spent};
 use crate::due::{Due, at_poll, earlier, from_clock, node_of};
-use crate::link::Link;
+use crate::link::Arrivals;
 use crate::links::{first_from, new_links, send, take};
 use block_layout::Layout;
 use dsm_core::node_machine::{Standing, WantedBlocks};
@@ -30,7 +30,7 @@ pub(crate) struct Clocks {
     /// What the last word of each that wanted a block wanted it for.
     pub(crate) needs: Vec<Need>,
     /// The links between them.
-    pub(crate) links: Vec<Link>,
+    pub(crate) links: Vec<Arrivals>,
 }
 
 impl Clocks {

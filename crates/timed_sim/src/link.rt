@@ -8,11 +8,11 @@ use std::marker::Model;
 
 /// When the messages on their way from one node to another arrive, in order.
 #[derive(Drop)]
-pub(crate) struct Link {
+pub(crate) struct Arrivals {
     times: Vec<u128>,
 }
 
-impl Model for Link {
+impl Model for Arrivals {
     ghost use Rattle.std.specs.Prelude.{ℕ, List};
 
     ghost Value = { List ℕ };
@@ -20,12 +20,12 @@ impl Model for Link {
     ghost view = { λ l. l.times.items };
 }
 
-impl Link {
+impl Arrivals {
     /// A link with no message on its way.
-    pub(crate) fn new(alloc: Global) -> Link
+    pub(crate) fn new(alloc: Global) -> Arrivals
         ensures none { result ≡ [] }
     {
-        Link {
+        Arrivals {
             times: Vec::new(alloc),
         }
     }

@@ -9,14 +9,14 @@ ghost use Rattle.timed_sim.specs.Stored.{due_of, link_at, AreLinks, HaveSent, Is
 
 use crate::costs::Costs;
 use crate::due::Due;
-use crate::link::Link;
+use crate::link::Arrivals;
 use block_layout::Layout;
 use dsm_core::Event;
 use dsm_core::rewriting_law::dsm_messages::{Header, Headers, MessageKind, Sent};
 use std::alloc::{AllocError, Global};
 
 /// Links between so many nodes, with no message on its way.
-pub(crate) fn new_links(alloc: Global, count: u8) -> Result<Vec<Link>, AllocError>
+pub(crate) fn new_links(alloc: Global, count: u8) -> Result<Vec<Arrivals>, AllocError>
     requires few { count ≤ 16 }
     ensures links { IfOk result (λ ls. AreLinks count ls.items) }
     ensures none { IfOk result (λ ls. (j i : ℕ) → link_at ls.items count j i ≡ []) }
@@ -24,13 +24,13 @@ pub(crate) fn new_links(alloc: Global, count: u8) -> Result<Vec<Link>, AllocErro
     let pairs = count as usize * count as usize;
     let mut links = Vec::with_capacity(alloc, pairs)?;
     for _pair in 0..pairs {
-        links.push_reserved(Link::new(alloc));
+        links.push_reserved(Arrivals::new(alloc));
     }
     Ok(links)
 }
 
 /// A node takes the first message from another, when it arrives.
-pub(crate) fn first_from(links: &[Link], count: u8, from: u8, node: u8) -> Option<Due>
+pub(crate) fn first_from(links: &[Arrivals], count: u8, from: u8, node: u8) -> Option<Due>
     requires links { AreLinks count links.now }
     requires from { from < count }
     requires node { node < count }
@@ -44,7 +44,7 @@ pub(crate) fn first_from(links: &[Link], count: u8, from: u8, node: u8) -> Optio
 }
 
 /// A message that an event takes is on its way no more.
-pub(crate) fn take(links: &mut Vec<Link>, count: u8, event: Event)
+pub(crate) fn take(links: &mut Vec<Arrivals>, count: u8, event: Event)
     requires links { AreLinks count links.old.items }
     requires below { IsBelow count (event_of event) }
     ensures links { AreLinks count links.new.items }
@@ -58,7 +58,7 @@ pub(crate) fn take(links: &mut Vec<Link>, count: u8, event: Event)
 
 /// A node sends messages at a time.
 pub(crate) fn send(
-    links: &mut Vec<Link>,
+    links: &mut Vec<Arrivals>,
     costs: &Costs,
     layout: &Layout,
     node: u8,

@@ -19,7 +19,7 @@ use crate::costs::{Costs, Spent};
 use crate::due::{Due, node_of};
 use block_layout::layout_law;
 use dsm_core::rewriting_law::progress_law;
-use dsm_core::{Core, Event, Outcome, Stop, UndoLogs, Work};
+use dsm_core::{Core, Event, Outcome, StoppedEarly, UndoLogs, Work};
 use std::alloc::{AllocError, Global};
 
 /// What a run by a clock gives.
@@ -153,7 +153,7 @@ impl<'a> TimedRun<'a> {
                 made
             }
             Err(stop) => {
-                self.window = window / 2;
+                self.window = stop.words.min(u64::from(MOST_WINDOW)) as u32;
                 self.make_words_before(stop, end)
             }
         }
@@ -161,7 +161,7 @@ impl<'a> TimedRun<'a> {
 
     /// Makes the words that nodes can execute before one of them stops, and says whether it made
     /// any.
-    fn make_words_before(&mut self, stop: Stop, end: u128) -> bool
+    fn make_words_before(&mut self, stop: StoppedEarly, end: u128) -> bool
         requires ready { IsReady self.old }
         requires within { AreWithin self.old.core.layout.nodes (2 ^ 100) (times_in self.old) }
         requires free { AreFree (work_of self.old.core) (times_in self.old)
@@ -185,7 +185,7 @@ impl<'a> TimedRun<'a> {
     /// Makes all words that nodes execute until a time, where micro-ops serve all of them, and says
     /// whether there are any. Otherwise the core and the clocks are as they were, and the answer
     /// tells a node that stopped early.
-    fn make_words_until(&mut self, end: u128) -> Result<bool, Stop>
+    fn make_words_until(&mut self, end: u128) -> Result<bool, StoppedEarly>
         requires ready { IsReady self.old }
         requires within { AreWithin self.old.core.layout.nodes (2 ^ 100) (times_in self.old) }
         requires free { AreFree (work_of self.old.core) (times_in self.old)

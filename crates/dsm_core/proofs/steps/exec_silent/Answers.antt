@@ -1,5 +1,5 @@
 -- The node's word is the core's event.
-use Rattle.std.proofs.Common.{◌≡◌, ◌<◌, ◌^◌, true, ◌∙◌, refl, sym, subst}
+use Rattle.std.proofs.Common.{◌≡◌, ◌<◌, ◌^◌, true, refl, sym, subst}
 use Rattle.run_order.specs.node_model.Node.{Node, can_execute}
 use Rattle.node_machine.specs.NodeState.{node_of, work_of as work_at}
 use Rattle.dsm_core.specs.CoreSteps.{SameNodes}

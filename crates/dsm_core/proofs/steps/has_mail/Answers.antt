@@ -1,5 +1,5 @@
 -- Each list of the loop was empty.
-use Rattle.std.proofs.Common.{◌≡◌, ◌≢◌, ◌<◌, true, false, List, [], ◌∷◌, refl, sym, subst, inl, inr, arith}
+use Rattle.std.proofs.Common.{◌≡◌, ◌≢◌, true, false, List, [], ◌∷◌, refl, sym, subst, inl, inr, arith}
 use Rattle.std.proofs.lemmas.Bool.Decides.{eqb_tells}
 use Rattle.rewriting_law.specs.dsm_messages.declared.messages.Wire.{Wire}
 use Rattle.rewriting_law.specs.dsm_protocol.Queue.{wires_of}

@@ -3,7 +3,7 @@ use Rattle.std.specs.Option.{option_to_list}
 use Rattle.block_layout.specs.Layout.{Shape, block_of}
 use Rattle.rv32_program.specs.Program.{line_of}
 use Rattle.lane_model.specs.node_model.Turns.{each_block_once}
-use Rattle.node_machine.specs.node_words.Kept.{Ground, want_of, others_of, all_wants}
+use Rattle.node_machine.specs.node_words.node_memory.Shelf.{Ground, want_of, others_of, all_wants}
 use Rattle.node_machine.specs.NodeState.{layout_of}
 use Rattle.node_machine.proofs.NodeStateLemmas.{counts_up}
 use Rattle.lane_model.specs.Turns.{blocks_of, still}

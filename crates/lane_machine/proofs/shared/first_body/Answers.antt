@@ -1,7 +1,7 @@
 -- What words see, in its box.
 use Rattle.std.proofs.Common.{◌∙◌, ap}
 use Rattle.node_machine.specs.node_words.declared.exec_state.ExecState.{ExecState}
-use Rattle.node_machine.specs.node_words.Kept.{local_of}
+use Rattle.node_machine.specs.node_words.node_memory.Shelf.{local_of}
 use Rattle.lane_machine.proofs.shared.first_body.Goals as goal
 
 pub returns-clause-local : goal.returns-clause-local

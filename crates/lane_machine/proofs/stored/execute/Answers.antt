@@ -21,7 +21,8 @@ use Rattle.node_machine.specs.node_words.declared.exec_state.ExecState.{ExecStat
 use Rattle.node_machine.specs.declared.protocol_state.ProtocolState.{ProtocolState}
 use Rattle.node_machine.specs.NodeState.{layout_of, IsProtocolState, AreCountsBelow}
 use Rattle.node_machine.proofs.NodeStateLemmas.{counts_up, served_below}
-use Rattle.node_machine.specs.node_words.Kept.{Ground, Serves, ground_of, lane_of, local_of, wants_by}
+use Rattle.node_machine.specs.node_words.node_memory.Shelf.{Ground, ground_of, local_of}
+use Rattle.node_machine.specs.node_words.Kept.{Serves, lane_of, wants_by}
 use Rattle.lane_machine.specs.declared.lane_protocol.LaneProtocol.{LaneProtocol}
 use Rattle.lane_machine.specs.Waits.{wait_among, place_among, waits_in, all_waits, AreApart}
 use Rattle.lane_machine.specs.Places.{wait_at, reserved_in}

@@ -1,6 +1,6 @@
 -- By the lemmas on lanes that go on, one after another.
 use Rattle.std.proofs.Common.{◌≡◌, ℕ, ◌+◌, ◌<◌, ◌^◌, ◌∙◌, ap, sym, subst, cond, true, false, refl, length, get_or, arith}
-use Rattle.node_machine.specs.node_words.Kept.{Shelf, local_of}
+use Rattle.node_machine.specs.node_words.node_memory.Shelf.{Shelf, local_of}
 use Rattle.lane_model.specs.node_model.Node.{Node, counts_after}
 use Rattle.lane_model.specs.node_model.Turns.{is_ended}
 use Rattle.node_machine.specs.NodeState.{AreCountsBelow}

@@ -1,5 +1,5 @@
 use Rattle.std.proofs.Common.{◌≡◌, ℕ, ◌+◌, ◌<◌, ◌≤◌, length, get_or}
-use Rattle.node_machine.specs.node_words.Kept.{local_of}
+use Rattle.node_machine.specs.node_words.node_memory.Shelf.{local_of}
 use Rattle.lane_model.specs.node_model.Node.{Node}
 use Rattle.node_machine.specs.NodeState.{AreCountsBelow}
 use Rattle.lane_model.specs.Nodes.{LaneNode}

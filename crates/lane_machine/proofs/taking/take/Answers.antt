@@ -5,7 +5,7 @@ use Rattle.std.specs.Box.{with_value}
 use Rattle.block_layout.specs.Layout.{Shape}
 use Rattle.exec_map.specs.Contents.{program_of}
 use Rattle.node_machine.specs.node_words.declared.exec_state.ExecState.{ExecState}
-use Rattle.node_machine.specs.node_words.Kept.{Ground, Shelf, ground_of, local_of}
+use Rattle.node_machine.specs.node_words.node_memory.Shelf.{Ground, Shelf, ground_of, local_of}
 use Rattle.lane_model.specs.node_model.declared.Entry.{Entry}
 use Rattle.lane_model.specs.node_model.Node.{Node}
 use Rattle.lane_model.specs.node_model.Turns.{byes_to, later, handled, words_before}

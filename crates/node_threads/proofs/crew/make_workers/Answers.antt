@@ -1,4 +1,4 @@
-use Rattle.std.proofs.Common.{rules, arith, ◌≡◌, ◌<◌, ◌++◌, [], ◌∷◌, None, map, length, append-nil, refl, sym, subst}
+use Rattle.std.proofs.Common.{rules, arith, ◌≡◌, ◌<◌, ◌++◌, [], None, map, length, append-nil, refl, sym, subst}
 use Rattle.node_threads.specs.Crew.{AllIdle}
 use Rattle.node_threads.specs.declared.worker.Worker.{Worker}
 use Rattle.node_threads.proofs.Hiring.{moved, idle_snoc}

@@ -1,5 +1,4 @@
-use Rattle.std.proofs.Common.{rules, arith, ◌≡◌, ◌++◌, ◌∷◌, [], length, append-nil, subst, sym, ap, ◌∙◌, map, ◌<◌}
-use Rattle.node_threads.specs.Mesh.{Gathers}
+use Rattle.std.proofs.Common.{rules, ◌≡◌, [], length, append-nil, ◌<◌}
 use Rattle.node_threads.proofs.Gathering.{rows_step, no_more, lists_snoc}
 use Rattle.node_threads.proofs.gather.gather.Goals as goal
 

@@ -1,4 +1,4 @@
-use Rattle.std.proofs.Common.{◌≡◌, ◌++◌, List, length, map}
+use Rattle.std.proofs.Common.{◌++◌, List, length, map}
 use Rattle.dsm_messages.specs.declared.messages.Wire.{Wire}
 use Rattle.node_threads.specs.Mesh.{Crosses, Gathers, AsLong}
 use Rattle.node_threads.specs.Works.{links_of}

@@ -1,4 +1,4 @@
-use Rattle.std.proofs.Common.{rules, arith, ◌≡◌, [], length, append-nil}
+use Rattle.std.proofs.Common.{rules, ◌≡◌, [], length, append-nil}
 use Rattle.node_threads.proofs.Gathering.{nothing_left}
 use Rattle.node_threads.proofs.gather.gather_row.Goals as goal
 

@@ -1,4 +1,4 @@
-use Rattle.std.proofs.Common.{rules, arith, refl, ◌≡◌, ◌<◌, ◌+◌, ◌++◌, ◌∙◌, ap, sym, suc, subst, ◌∷◌, [], length, ⊎_elim, ◌≤◌, add-zero}
+use Rattle.std.proofs.Common.{rules, arith, ◌≡◌, ◌<◌, ◌+◌, ◌++◌, ◌∙◌, ap, sym, suc, subst, ◌∷◌, [], length, ⊎_elim, ◌≤◌, add-zero}
 use Rattle.std.proofs.lemmas.Bool.{cases_lt}
 use Rattle.node_threads.specs.Works.{in_hand}
 use Rattle.node_threads.specs.Crew.{RowsOf, HandsFit, list_of, hand_at}

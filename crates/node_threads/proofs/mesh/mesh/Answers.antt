@@ -1,4 +1,4 @@
-use Rattle.std.proofs.Common.{rules, arith, ◌≡◌, ◌+◌, [], ◌∷◌, ◌∙◌, sym, length, length-append, ap, refl}
+use Rattle.std.proofs.Common.{arith, ◌≡◌, ◌+◌, ◌∙◌, length, length-append, ap}
 use Rattle.node_threads.proofs.MeshRows.{fresh_snoc, unused_none, opens_step}
 use Rattle.node_threads.proofs.mesh.mesh.Goals as goal
 

@@ -1,4 +1,4 @@
-use Rattle.std.proofs.Common.{◌≡◌, ◌≤◌, List, length, map}
+use Rattle.std.proofs.Common.{◌≡◌, length, map}
 use Rattle.node_threads.specs.Mesh.{Fresh, Crosses}
 use Rattle.node_threads.specs.Works.{links_of}
 use Rattle.node_threads.proofs.mesh.mesh.Given as goal

@@ -1,4 +1,4 @@
-use Rattle.std.proofs.Common.{◌≡◌, ◌∙◌, ap, sym, subst}
+use Rattle.std.proofs.Common.{◌≡◌, ◌∙◌, ap, subst}
 use Rattle.dsm_protocol.specs.node_model.Node.{Work}
 use Rattle.dsm_core.specs.run_order.OwnRun.{OnlyAdds}
 use Rattle.dsm_core.specs.CoreParts.{CoreParts, work_of, core_of}

@@ -1,6 +1,5 @@
-use Rattle.std.proofs.Common.{rules, ap, ◌++◌, ◌∙◌, ◌≡◌, ◌<◌, length, length-set, sym, subst, arith}
-use Rattle.node_threads.specs.Works.{waiting}
-use Rattle.node_threads.proofs.Posts.{post_step, post_skip}
+use Rattle.std.proofs.Common.{rules, ◌∙◌, length-set}
+use Rattle.node_threads.proofs.Posts.{post_step}
 use Rattle.node_threads.proofs.worker.post.Goals as goal
 
 pub loop-sends-preserved-in-Continue-1 : goal.loop-sends-preserved-in-Continue-1

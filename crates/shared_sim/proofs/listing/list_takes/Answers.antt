@@ -2,7 +2,6 @@ use Rattle.std.proofs.Common.{rules, ◌≡◌, ◌++◌, true, false, ap, sym, 
 use Rattle.std.specs.Vec.{vec_capacity, vec_items}
 use Rattle.std.proofs.lemmas.List.{append-nil}
 use Rattle.std.proofs.lemmas.List.{map-append}
-use Rattle.dsm_core.specs.node_model.Core.{Take}
 use Rattle.dsm_core.specs.CoreParts.{work_of, core_of, event_of}
 use Rattle.shared_sim.proofs.Choices.{take_told, takes_none, one_take_more}
 use Rattle.shared_sim.proofs.listing.list_takes.Goals as goal

@@ -1,5 +1,5 @@
 -- One word more, and few can follow.
-use Rattle.std.proofs.Common.{◌≡◌, ◌<◌, ◌^◌, ◌+◌, ◌∙◌, true, sym, subst, arith}
+use Rattle.std.proofs.Common.{◌≡◌, ◌<◌, ◌+◌, ◌∙◌, true, sym, subst, arith}
 use Rattle.run_order.specs.node_model.Node.{Work, Node, standing_of}
 use Rattle.run_order.specs.node_model.Core.{Exec, may_execute}
 use Rattle.node_machine.specs.NodeState.{node_of}

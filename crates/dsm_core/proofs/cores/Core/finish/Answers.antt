@@ -1,5 +1,5 @@
 -- A round more, and few can follow; where nothing is left to do every node is over.
-use Rattle.std.proofs.Common.{◌≡◌, ◌<◌, ◌^◌, ◌∙◌, true, sym, subst, arith}
+use Rattle.std.proofs.Common.{◌<◌, ◌∙◌, true, sym, subst, arith}
 use Rattle.run_order.specs.node_model.Node.{Work}
 use Rattle.dsm_core.specs.CoreParts.{work_of, core_of}
 use Rattle.dsm_core.specs.CoreSteps.{HasGone, one_if}

@@ -1,5 +1,5 @@
 -- A node more.
-use Rattle.std.proofs.Common.{◌≡◌, ◌<◌, false, true, ◌∙◌, refl, sym, ap, subst, inl, inr, arith}
+use Rattle.std.proofs.Common.{◌≡◌, ◌<◌, false, true, ◌∙◌, refl, sym, subst, inl, inr, arith}
 use Rattle.std.proofs.lemmas.Bool.Decides.{eqb_tells}
 use Rattle.block_layout.specs.Layout.{Shape}
 use Rattle.run_order.specs.node_model.Core.{Core}

@@ -1,5 +1,4 @@
 -- Words of the nodes and lists are those of the core.
-use Rattle.std.proofs.Common.{sym, subst}
 use Rattle.dsm_core.specs.CoreParts.{work_of, core_of}
 use Rattle.dsm_core.proofs.CoreRuns.{is_gone}
 use Rattle.dsm_core.proofs.Words.{ran_goes}

@@ -1,5 +1,5 @@
 -- One message more, and few can follow.
-use Rattle.std.proofs.Common.{◌^◌, ◌+◌, ◌∙◌, arith}
+use Rattle.std.proofs.Common.{◌∙◌, arith}
 use Rattle.run_order.specs.node_model.Core.{Take}
 use Rattle.dsm_core.specs.CoreParts.{work_of, core_of}
 use Rattle.dsm_core.proofs.CoreRuns.{for_one}

@@ -1,5 +1,5 @@
 -- First messages, and then words.
-use Rattle.std.proofs.Common.{◌≡◌, false, true, refl, sym, subst}
+use Rattle.std.proofs.Common.{false, true, refl, sym, subst}
 use Rattle.run_order.specs.node_model.Core.{Core, Exec, May}
 use Rattle.dsm_core.specs.CoreParts.{work_of, core_of}
 use Rattle.dsm_core.specs.CoreSteps.{HasGone, TakesNone, one_if}

@@ -1,8 +1,8 @@
 -- The lists that are stored are those of the core.
-use Rattle.std.proofs.Common.{◌≡◌, ℕ, ◌<◌, false, List, [], sym, subst}
+use Rattle.std.proofs.Common.{◌≡◌, ℕ, ◌<◌, false, List, [], subst}
 use Rattle.std.specs.Prelude.{◌↔◌}
-use Rattle.rewriting_law.specs.dsm_protocol.Queue.{Queue, AreQueues, wires_of}
-use Rattle.dsm_core.specs.CoreParts.{CoreParts, work_of, core_of, AreParts}
+use Rattle.rewriting_law.specs.dsm_protocol.Queue.{Queue, wires_of}
+use Rattle.dsm_core.specs.CoreParts.{CoreParts, core_of}
 use Rattle.dsm_core.proofs.parts.Parts.has_mail.Goals as goal
 
 pub returns : goal.returns

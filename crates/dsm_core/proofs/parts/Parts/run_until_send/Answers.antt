@@ -1,5 +1,5 @@
 -- Words of the nodes and lists are those of the core.
-use Rattle.std.proofs.Common.{◌≡◌, ℕ, ◌∙◌, refl, sym, subst}
+use Rattle.std.proofs.Common.{◌≡◌, ◌∙◌, sym, subst}
 use Rattle.run_order.specs.node_model.Core.{Exec, May}
 use Rattle.rewriting_law.specs.dsm_protocol.Queue.{AreQueues}
 use Rattle.dsm_core.specs.CoreParts.{CoreParts, work_of, core_with, core_of, AreParts, HasStampsInRange}

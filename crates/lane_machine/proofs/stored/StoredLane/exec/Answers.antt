@@ -6,7 +6,8 @@ use Rattle.block_layout.specs.Layout.{Shape}
 use Rattle.block_layout.specs.Update.{changed}
 use Rattle.node_machine.specs.node_words.declared.exec_state.ExecState.{ExecState}
 use Rattle.node_machine.specs.node_words.Address.{word_address}
-use Rattle.node_machine.specs.node_words.Kept.{Ground, ground_of, lane_of, phase_by}
+use Rattle.node_machine.specs.node_words.node_memory.Shelf.{Ground, ground_of}
+use Rattle.node_machine.specs.node_words.Kept.{lane_of, phase_by}
 use Rattle.lane_model.specs.node_model.Node.{word_outcome}
 use Rattle.lane_model.specs.node_model.Turns.{byes_to, each_block_once, is_ended, wants_of, words_before}
 use Rattle.node_machine.specs.NodeState.{layout_of, phase_of, AreCountsBelow}

@@ -1,6 +1,5 @@
 -- The draw decides.
-use Rattle.std.proofs.Common.{rules, ◌≡◌, ◌∙◌, true, false, sym, ap, subst, refl}
-use Rattle.dsm_messages.specs.declared.messages.Wire.{Wire}
+use Rattle.std.proofs.Common.{rules, ◌≡◌, ◌∙◌, true, false, sym, ap, subst}
 use Rattle.lossy_link.specs.Sender.{Acknowledges}
 use Rattle.lossy_sim.specs.Links.{LossyLink, is_given}
 use Rattle.lossy_sim.proofs.Drawn.{acknowledged}

@@ -1,5 +1,5 @@
 -- By the draw.
-use Rattle.std.proofs.Common.{rules, ◌≡◌, ◌/◌, ◌^◌, arith}
+use Rattle.std.proofs.Common.{rules, ◌/◌, ◌^◌, arith}
 use Rattle.std.proofs.lemmas.Nat.{mod_below}
 use Rattle.random_order.specs.Orders.{following}
 use Rattle.dsm_core.proofs.CoreSteps.{on_ok}

@@ -1,8 +1,6 @@
 -- Every packet of the window has its draw.
 use Rattle.std.proofs.Common.{◌≡◌, ◌∙◌, ◌<◌, length, sym, ap, subst, arith}
 use Rattle.std.specs.Prelude.{min}
-use Rattle.lossy_link.specs.Sender.{Sending}
-use Rattle.dsm_messages.specs.declared.messages.Wire.{Wire}
 use Rattle.lossy_sim.specs.Links.{LossyLink, packets_drawn}
 use Rattle.lossy_sim.specs.Draws.{HasBrought}
 use Rattle.lossy_sim.proofs.links.Link.network_turn.Goals as goal

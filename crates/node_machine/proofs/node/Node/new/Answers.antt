@@ -10,7 +10,8 @@ use Rattle.node_words.specs.home_directory.Effects.{entry_at, entries_of, reques
 use Rattle.node_words.specs.miss_handlers.Waits.{wait_of}
 use Rattle.node_words.specs.declared.exec_state.ExecState.{ExecState}
 use Rattle.node_words.specs.node_model.Node.{Node, Work, Running, opening_node}
-use Rattle.node_words.specs.Kept.{local_of, lane_of}
+use Rattle.node_words.specs.node_memory.Shelf.{local_of}
+use Rattle.node_words.specs.Kept.{lane_of}
 use Rattle.node_machine.specs.NodeState.{layout_of, entries_in}
 use Rattle.node_words.specs.Address.{word_address}
 use Rattle.node_machine.proofs.OpeningLemmas.{opening_entries, none_of}

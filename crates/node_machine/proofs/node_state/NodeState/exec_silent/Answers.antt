@@ -6,7 +6,8 @@ use Rattle.node_words.specs.declared.exec_state.ExecState.{ExecState}
 use Rattle.node_machine.specs.declared.node_state.NodeState.{NodeState}
 use Rattle.node_words.specs.Address.{word_address}
 use Rattle.node_words.specs.node_model.Node.{next_outcome}
-use Rattle.node_words.specs.Kept.{Ground, Follows, ground_of, lane_of, local_of}
+use Rattle.node_words.specs.node_memory.Shelf.{Ground, ground_of, local_of}
+use Rattle.node_words.specs.Kept.{Follows, lane_of}
 use Rattle.node_machine.specs.NodeState.{layout_of, phase_of, work_of, IsProtocolState, IsNode, AreCountsBelow}
 use Rattle.node_machine.proofs.NodeStateLemmas.{passed_turn, may_waits, counts_up}
 use Rattle.node_machine.proofs.node_state.NodeState.exec_silent.Goals as goal
@@ -64,6 +65,7 @@ none_changed c = kept_frame c.args.self.now c.step_at.new.self ((λ t. record {
   lane = c.in-None.ensures.steps.0 t;
   local = c.in-None.ensures.steps.1 t;
   counts = c.step_at.ensures.counts t;
+  log = c.in-None.ensures.log refl t;
 }) ∙ c.deref_mut.ensures.value)
 
 pub returns-in-None-clause-same : goal.returns-in-None-clause-same

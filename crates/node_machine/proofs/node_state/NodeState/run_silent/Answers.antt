@@ -5,7 +5,7 @@ use Rattle.node_words.specs.declared.exec_state.ExecState.{ExecState}
 use Rattle.node_words.specs.node_model.Node.{Node, can_execute}
 use Rattle.node_words.specs.GoingOn.{node_on}
 use Rattle.node_words.specs.Runs.{GoesOnBy}
-use Rattle.node_words.specs.Kept.{Ground, ground_of}
+use Rattle.node_words.specs.node_memory.Shelf.{Ground, ground_of}
 use Rattle.node_machine.specs.NodeState.{node_of, work_of, layout_of, phase_of, IsProtocolState, AreCountsBelow, WaitsInPhase}
 use Rattle.node_words.proofs.WordLemmas.{still_may}
 use Rattle.node_machine.proofs.NodeStateLemmas.{on_waits, counts_up}

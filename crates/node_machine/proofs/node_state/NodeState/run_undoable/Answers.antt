@@ -4,7 +4,7 @@ use Rattle.node_words.specs.exec_map.Contents.{program_of}
 use Rattle.node_words.specs.declared.exec_state.ExecState.{ExecState}
 use Rattle.node_words.specs.node_model.Node.{can_execute}
 use Rattle.node_words.specs.GoingOn.{BodyGoesOn}
-use Rattle.node_words.specs.Kept.{Ground, ground_of}
+use Rattle.node_words.specs.node_memory.Shelf.{Ground, ground_of}
 use Rattle.node_words.specs.UndoLogs.{TakesBack}
 use Rattle.node_machine.specs.NodeState.{layout_of, phase_of, IsProtocolState, AreCountsBelow, WaitsInPhase}
 use Rattle.node_words.proofs.WordLemmas.{still_may}

@@ -7,7 +7,8 @@ use Rattle.node_words.specs.declared.exec_state.ExecState.{ExecState}
 use Rattle.node_words.specs.Address.{word_address}
 use Rattle.node_words.specs.node_model.Node.{Node, next_outcome, word_outcome}
 use Rattle.node_words.specs.node_model.Turns.{want_all, each_block_once, is_ended, words_before}
-use Rattle.node_words.specs.Kept.{Ground, Serves, ground_of, lane_of, local_of, wants_by}
+use Rattle.node_words.specs.node_memory.Shelf.{Ground, ground_of, local_of}
+use Rattle.node_words.specs.Kept.{Serves, lane_of, wants_by}
 use Rattle.node_machine.specs.NodeState.{node_of, work_of, layout_of, phase_of, with_parts, entries_in, IsProtocolState, AreCountsBelow, WaitsInPhase}
 use Rattle.node_machine.specs.ProtocolState.{turn_by, AreUnmet}
 use Rattle.node_machine.specs.Wanted.{wants_along, wanted_in}

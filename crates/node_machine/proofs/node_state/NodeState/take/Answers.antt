@@ -11,7 +11,8 @@ use Rattle.node_words.specs.Address.{word_address}
 use Rattle.node_words.specs.node_model.Node.{Node}
 use Rattle.node_words.specs.node_model.Turns.{handled, journaled, later, words_before, with_byes, is_ended}
 use Rattle.node_words.specs.declared.lane.ProcessorState as kept
-use Rattle.node_words.specs.Kept.{Shelf, Ground, ground_of, lane_of, local_of}
+use Rattle.node_words.specs.node_memory.Shelf.{Shelf, Ground, ground_of, local_of}
+use Rattle.node_words.specs.Kept.{lane_of}
 use Rattle.node_machine.specs.NodeState.{node_of, layout_of, phase_of, with_all, entries_in, phase_resumed, lane_after_wait, counts_after_wait, IsProtocolState, AreCountsBelow, WaitsInPhase}
 use Rattle.node_machine.specs.ProtocolState.{turn_by}
 use Rattle.node_machine.specs.declared.states.LaneState.{LaneState}

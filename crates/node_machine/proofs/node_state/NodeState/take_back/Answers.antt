@@ -7,7 +7,8 @@ use Rattle.node_words.specs.home_directory.Effects.{entry_at, entries_of, member
 use Rattle.node_words.specs.miss_handlers.Waits.{wait_of}
 use Rattle.node_words.specs.declared.exec_state.ExecState.{ExecState}
 use Rattle.node_words.specs.Address.{word_address}
-use Rattle.node_words.specs.Kept.{Ground, ground_of, lane_of}
+use Rattle.node_words.specs.node_memory.Shelf.{Ground, ground_of}
+use Rattle.node_words.specs.Kept.{lane_of}
 use Rattle.node_words.specs.UndoLogs.{TakesBack}
 use Rattle.node_words.specs.node_model.Node.{can_execute}
 use Rattle.node_words.specs.node_model.Turns.{words_before}

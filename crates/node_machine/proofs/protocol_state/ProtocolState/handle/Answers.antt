@@ -12,8 +12,8 @@ returns-clause-turn c n me =
     let d = c.args.self.now in
     let law = c.layout_law.ensures in
     let laws : LineLaws = record { ends = law.ends; has = law.has; found = law.found; shared = law.shared; some = law.some } in
-    let body' : ExecState = record { lane = body.lane; local = c.route.new.local; counts = c.count_row-body.result } in
-    let posts = c.route.result.items in
+    let body' : ExecState = record body { local = c.route.new.local; counts = c.count_row-body.result } in
+    let posts = c.route.new.sends.items in
     let given : c.gives_up-given.result ≡ (is_order c.args.message && ltb 0 (length posts)) =
     c.gives_up-given.ensures ∙ (λ t. c.is_order-order.ensures t && ltb 0 (c.len.ensures.value t)) in
     let counts : c.count_row-body.result ≡ counted c.args.message posts body.counts =
@@ -24,11 +24,11 @@ returns-clause-turn c n me =
 pub returns-clause-few : goal.returns-clause-few
 returns-clause-few c =
     let body = c.args.body.now in
-    let body' : ExecState = record { lane = body.lane; local = c.route.new.local; counts = c.count_row-body.result } in
-    (routed_few body body' c.args.self.now c.route.new.self c.route.result.items c.args.message c.args.from c.route.ensures.routed).0
+    let body' : ExecState = record body { local = c.route.new.local; counts = c.count_row-body.result } in
+    (routed_few body body' c.args.self.now c.route.new.self c.route.new.sends.items c.args.message c.args.from c.route.ensures.routed).0
 
 pub returns-clause-none : goal.returns-clause-none
 returns-clause-none c =
     let body = c.args.body.now in
-    let body' : ExecState = record { lane = body.lane; local = c.route.new.local; counts = c.count_row-body.result } in
-    (routed_few body body' c.args.self.now c.route.new.self c.route.result.items c.args.message c.args.from c.route.ensures.routed).1
+    let body' : ExecState = record body { local = c.route.new.local; counts = c.count_row-body.result } in
+    (routed_few body body' c.args.self.now c.route.new.self c.route.new.sends.items c.args.message c.args.from c.route.ensures.routed).1

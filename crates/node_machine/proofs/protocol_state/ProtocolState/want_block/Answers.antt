@@ -34,7 +34,7 @@ returns-in-None-clause-turn c n before p =
     let d = c.args.self.now in
     let law = c.layout_law.ensures in
     let laws : LineLaws = record { ends = law.ends; has = law.has; found = law.found; shared = law.shared; some = law.some } in
-    let body' : ExecState = record { lane = body.lane; local = c.want.new.self; counts = body.counts } in
+    let body' : ExecState = record body { local = c.want.new.self; counts = body.counts } in
     let d' : ProtocolState = record { directory = d.directory; waits = c.want.new.waits; pool = c.want.new.pool } in
     let miss = miss_of d.waits body.local.states d.pool c.args.block c.args.need in
     let none : miss ≡ None = none_post miss c.in-None.ensures.post in
@@ -57,7 +57,7 @@ returns-in-Some-clause-turn c n before p =
     let d = c.args.self.now in
     let law = c.layout_law.ensures in
     let laws : LineLaws = record { ends = law.ends; has = law.has; found = law.found; shared = law.shared; some = law.some } in
-    let body' : ExecState = record { lane = body.lane; local = c.want.new.self; counts = c.count_want-body.result } in
+    let body' : ExecState = record body { local = c.want.new.self; counts = c.count_want-body.result } in
     let d' : ProtocolState = record { directory = d.directory; waits = c.want.new.waits; pool = c.want.new.pool } in
     let miss = miss_of d.waits body.local.states d.pool c.args.block c.args.need in
     let w : HasWanted d d' body.local c.want.new.self c.args.block c.args.need (c.in-Some.post ∷ []) miss = record {

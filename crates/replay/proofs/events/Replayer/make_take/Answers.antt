@@ -1,5 +1,5 @@
 -- The next take.
-use Rattle.std.proofs.Common.{◌≡◌, ◌≤◌, ◌∙◌, IfOk, ap, sym, subst}
+use Rattle.std.proofs.Common.{◌≤◌, ◌∙◌, IfOk, ap, sym, subst}
 use Rattle.run_order.specs.node_model.declared.Entry.{Entry as JournalEntry}
 use Rattle.run_order.specs.node_model.Core.{Take}
 use Rattle.replay.specs.Way.{cursor_at, ComesFirst, HasMadeOne}

@@ -1,5 +1,5 @@
 -- The next word.
-use Rattle.std.proofs.Common.{◌≡◌, ◌∙◌, ℕ, ◌+◌, ◌<◌, ◌≤◌, arith, [], ◌∷◌, ◌++◌, ap, refl, subst}
+use Rattle.std.proofs.Common.{◌∙◌, ℕ, ◌+◌, ◌<◌, ◌≤◌, arith, [], ◌∷◌, ◌++◌, ap, refl, subst}
 use Rattle.run_order.specs.node_model.declared.Entry.{Entry as JournalEntry}
 use Rattle.dsm_core.specs.declared.seen.Seen.{Seen}
 use Rattle.dsm_core.specs.CoreParts.{work_of}

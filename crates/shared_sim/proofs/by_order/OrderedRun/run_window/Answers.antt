@@ -7,6 +7,6 @@ pub returns-in-Err-clause-leads : goal.returns-in-Err-clause-leads
 returns-in-Err-clause-leads c =
     let r = c.args.self.now in
     let m = c.run_turns.new.self in
-    let n = c.run_before.new.self in
+    let n = c.run_before-self.new.self in
     leads_both (work_of r.core) (work_of m.core) r.order m.order n.order (core_of r.core) (core_of m.core) (core_of n.core)
-    c.in-Err.ensures.work c.in-Err.ensures.on c.run_before.ensures.leads
+    c.in-Err.ensures.work c.in-Err.ensures.on c.run_before-self.ensures.leads
