@@ -2,14 +2,14 @@
 use Rattle.std.proofs.Common.{◌≡◌, ℕ, ◌<◌, ◌≤◌, true, List, length, Option, Some, None, sym, subst, arith}
 use Rattle.gdb_remote.specs.declared.request.Direction.TheVariants.{Forwards, Backwards}
 use Rattle.gdb_remote.specs.declared.request.Point.{Point}
-use Rattle.gdb_session.specs.declared.target.Reach.{Reach}
+use Rattle.gdb_session.specs.declared.target.MotionReach.{MotionReach}
 use Rattle.gdb_session.specs.declared.target.Stop.{Stop as Told}
-use Rattle.time_machine.specs.declared.stops.Stop.{Stop}
+use Rattle.time_machine.specs.declared.stops.StopPoint.{StopPoint}
 use Rattle.time_machine.specs.Moves.{EndsForward, EndsBackward}
 use Rattle.time_machine.specs.Stand.{Run as Picked}
 use Rattle.debugged_run.specs.Motions.{Goes, GoesFrom, stops_of, place_here, point_met, watches, told_forwards, told_here, told_backwards, before_access, behind_access}
 
-module _ (r : Picked) (reach : Reach) (points : List Point) (stops : List Stop) (from : ℕ)
+module _ (r : Picked) (reach : MotionReach) (points : List Point) (stops : List StopPoint) (from : ℕ)
     (met : Option ℕ) (end to : ℕ) (told : Told) (are : stops ≡ stops_of reach points) where
   pub went_forwards : (last : ℕ) → last ≡ length r.picks → EndsForward r stops from last met end
       → told ≡ told_forwards reach r.picks (point_met reach points met) met end
@@ -17,7 +17,7 @@ module _ (r : Picked) (reach : Reach) (points : List Point) (stops : List Stop) 
       → Goes Forwards r reach points from told to
   went_forwards last all ends tells stands none =
       let there : EndsForward r (stops_of reach points) from last met end =
-      subst (λ (s : List Stop). EndsForward r s from last met end) are ends in
+      subst (λ (s : List StopPoint). EndsForward r s from last met end) are ends in
       subst (λ x. GoesFrom x r reach points from told to) (sym none)
       (met, end, subst (λ (n : ℕ). EndsForward r (stops_of reach points) from n met end) all there, tells, stands)
 
@@ -25,23 +25,23 @@ module _ (r : Picked) (reach : Reach) (points : List Point) (stops : List Stop) 
       → told ≡ told_backwards r.picks (point_met reach points met) met end
       → to ≡ behind_access (point_met reach points met) end → Goes Backwards r reach points from told to
   went_backwards ends tells stands =
-      (met, end, subst (λ (s : List Stop). EndsBackward r s from met end) are ends, tells, stands)
+      (met, end, subst (λ (s : List StopPoint). EndsBackward r s from met end) are ends, tells, stands)
 
 -- behind a run backwards that met a watchpoint a pick comes
-pub pick_comes : (r : Picked) (reach : Reach) (points : List Point) (stops : List Stop) (from : ℕ) (met : Option ℕ) (end : ℕ)
+pub pick_comes : (r : Picked) (reach : MotionReach) (points : List Point) (stops : List StopPoint) (from : ℕ) (met : Option ℕ) (end : ℕ)
     → from ≤ length r.picks → EndsBackward r stops from met end → watches (point_met reach points met) ≡ true → end < length r.picks
 pick_comes r reach points stops from None end within ends watch = absurd (cc)
 pick_comes r reach points stops from (Some i) end within ends watch = let e = ends.earlier in omega (arith, e, within)
 
 -- a run that is at a place already stays there
-pub stays_here : (r : Picked) (reach : Reach) (points : List Point) (from : ℕ) (x : Point) (told : Told) (to : ℕ)
+pub stays_here : (r : Picked) (reach : MotionReach) (points : List Point) (from : ℕ) (x : Point) (told : Told) (to : ℕ)
     → Some x ≡ place_here r reach points from → told ≡ told_here r.picks x from → to ≡ from
     → Goes Forwards r reach points from told to
 stays_here r reach points from x told to here tells stands =
     subst (λ o. GoesFrom o r reach points from told to) here (tells, stands)
 
 -- a run that is at no place goes from where it stands
-pub goes_from_here : (r : Picked) (reach : Reach) (points : List Point) (from : ℕ) (told : Told) (to : ℕ)
+pub goes_from_here : (r : Picked) (reach : MotionReach) (points : List Point) (from : ℕ) (told : Told) (to : ℕ)
     → None ≡ place_here r reach points from → GoesFrom None r reach points from told to
     → Goes Forwards r reach points from told to
 goes_from_here r reach points from told to none goes =

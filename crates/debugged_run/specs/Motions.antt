@@ -7,15 +7,15 @@ use Rattle.gdb_remote.specs.declared.request.Point.{Point}
 use Rattle.gdb_remote.specs.declared.request.PointKind.{PointKind}
 use Rattle.gdb_remote.specs.declared.request.PointKind.TheVariants.{Software, Hardware, Write, Read, Access}
 use Rattle.gdb_session.specs.declared.target.Motion.{Motion}
-use Rattle.gdb_session.specs.declared.target.Reach.{Reach}
-use Rattle.gdb_session.specs.declared.target.Reach.TheVariants.{Run, RunOf, Step}
+use Rattle.gdb_session.specs.declared.target.MotionReach.{MotionReach}
+use Rattle.gdb_session.specs.declared.target.MotionReach.TheVariants.{Run, RunOf, Step}
 use Rattle.gdb_session.specs.declared.target.Stop.{Stop as Told}
 use Rattle.gdb_session.specs.declared.target.Why.{Why}
 use Rattle.gdb_session.specs.declared.target.Why.TheVariants as why
 use Rattle.one_memory.specs.declared.Pick.{Pick}
 use Rattle.one_memory.specs.declared.Pick.TheVariants as pick
-use Rattle.time_machine.specs.declared.stops.Stop.{Stop}
-use Rattle.time_machine.specs.declared.stops.Stop.TheVariants.{At, StepOf, Watch as Watched, AtOf, WatchOf}
+use Rattle.time_machine.specs.declared.stops.StopPoint.{StopPoint}
+use Rattle.time_machine.specs.declared.stops.StopPoint.TheVariants.{At, StepOf, Watch as Watched, AtOf, WatchOf}
 use Rattle.time_machine.specs.declared.stops.Watch.{Watch}
 use Rattle.time_machine.specs.declared.stops.WatchKind.{WatchKind}
 use Rattle.time_machine.specs.declared.stops.WatchKind.TheVariants as watch
@@ -42,18 +42,18 @@ abbrev pub watch_by : WatchKind → Point → Watch
 watch_by kind x = record { kind = kind; address = x.address; size = x.length }
 
 -- what a point stops: an execution at its address, or an access to its bytes
-abbrev pub stop_by : PointKind → Point → Stop
+abbrev pub stop_by : PointKind → Point → StopPoint
 stop_by Software x = At x.address
 stop_by Hardware x = At x.address
 stop_by Write x = Watched (watch_by watch.Write x)
 stop_by Read x = Watched (watch_by watch.Read x)
 stop_by Access x = Watched (watch_by watch.Access x)
 
-abbrev pub stop_at : Point → Stop
+abbrev pub stop_at : Point → StopPoint
 stop_at x = stop_by x.kind x
 
 -- the same, of one processor alone
-abbrev pub alone : (processor : ℕ) → Stop → Stop
+abbrev pub alone : (processor : ℕ) → StopPoint → StopPoint
 alone p (At a) = AtOf p a
 alone p (Watched w) = WatchOf p w
 alone p (StepOf q) = StepOf q
@@ -65,7 +65,7 @@ abbrev pub number : ℕ → ℕ
 number p = min p 255
 
 -- what a motion stops at: points of any processor, points of one, or a step of one
-abbrev pub stops_of : Reach → List Point → List Stop
+abbrev pub stops_of : MotionReach → List Point → List StopPoint
 stops_of Run points = map stop_at points
 stops_of (RunOf p) points = map (λ x. alone (number p) (stop_at x)) points
 stops_of (Step p) points = StepOf (number p) ∷ []
@@ -85,12 +85,12 @@ abbrev pub mover_at : List Pick → (k : ℕ) → ℕ
 mover_at picks k = option_map_or mover (slice_get picks k) 0
 
 -- the point that was met, where a stop was, and the motion stops at points
-abbrev pub point_at : Reach → List Point → (i : ℕ) → Option Point
+abbrev pub point_at : MotionReach → List Point → (i : ℕ) → Option Point
 point_at Run points i = slice_get points i
 point_at (RunOf p) points i = slice_get points i
 point_at (Step p) points i = None
 
-abbrev pub point_met : Reach → List Point → Option ℕ → Option Point
+abbrev pub point_met : MotionReach → List Point → Option ℕ → Option Point
 point_met reach points None = None
 point_met reach points (Some i) = point_at reach points i
 
@@ -108,7 +108,7 @@ behind_access x n = if watches x then n + 1 else n
 
 -- forwards, an address is met by a run of any processor before the pick that begins there, and all
 -- else behind the pick
-abbrev pub pick_met : Reach → Option Point → (position : ℕ) → ℕ
+abbrev pub pick_met : MotionReach → Option Point → (position : ℕ) → ℕ
 pick_met Run x n = if option_map_or is_place x false then n else n - 1
 pick_met (RunOf p) x n = n - 1
 pick_met (Step p) x n = n - 1
@@ -122,7 +122,7 @@ why_of None x otherwise = otherwise
 why_of (Some i) x otherwise = option_map_or why_at x why.Stepped
 
 -- what is told of a position where a stop was met, or the end of the run
-abbrev pub told_forwards : Reach → List Pick → Option Point → Option ℕ → (position : ℕ) → Told
+abbrev pub told_forwards : MotionReach → List Pick → Option Point → Option ℕ → (position : ℕ) → Told
 told_forwards reach picks x met n =
     record { processor = mover_at picks (pick_met reach x n); why = why_of met x why.End }
 
@@ -133,7 +133,7 @@ told_backwards picks x hit n =
 
 -- The debugger goes on from a place by a step of the processor that stopped there, and then by a run
 -- of any. So such a run is at a place already, where the next step begins at one.
-abbrev pub place_here : Picked → Reach → List Point → (from : ℕ) → Option Point
+abbrev pub place_here : Picked → MotionReach → List Point → (from : ℕ) → Option Point
 place_here r Run points from =
     point_met Run (filter is_place points) (hit_at r (map stop_at (filter is_place points)) from)
 place_here r (RunOf p) points from = None
@@ -143,7 +143,7 @@ abbrev pub told_here : List Pick → Point → (position : ℕ) → Told
 told_here picks x n = record { processor = mover_at picks n; why = why_at x }
 
 -- forwards from one position the run stays at a place, or goes to another position
-abbrev pub GoesFrom : Option Point → Picked → Reach → List Point → (from : ℕ) → Told → (to : ℕ)
+abbrev pub GoesFrom : Option Point → Picked → MotionReach → List Point → (from : ℕ) → Told → (to : ℕ)
     → Type 0
 GoesFrom (Some x) r reach points from told to =
     (told ≡ told_here r.picks x from) × (to ≡ from)
@@ -154,7 +154,7 @@ GoesFrom None r reach points from told to =
     × (to ≡ before_access (point_met reach points met) end)
 
 -- from one position the run goes to another, and this is told of it
-abbrev pub Goes : Direction → Picked → Reach → List Point → (from : ℕ) → Told → (to : ℕ) → Type 0
+abbrev pub Goes : Direction → Picked → MotionReach → List Point → (from : ℕ) → Told → (to : ℕ) → Type 0
 Goes Forwards r reach points from told to =
     GoesFrom (place_here r reach points from) r reach points from told to
 Goes Backwards r reach points from told to =

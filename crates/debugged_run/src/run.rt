@@ -16,7 +16,7 @@ use crate::stops::{
 use block_layout::Layout;
 use exec_map::Program;
 use gdb_session::gdb_remote::{Direction, Point};
-use gdb_session::{Doing, Motion, PC, Reach, Stop, Target};
+use gdb_session::{Doing, Motion, MotionReach, PC, Stop, Target};
 use run_limits::NodeCount;
 use rv32_decode::Reg;
 use std::alloc::{AllocError, Global};
@@ -45,12 +45,14 @@ impl<'a> Model for DebuggedRun<'a> {
 }
 
 impl<'a> DebuggedRun<'a> {
-    /// The run of these picks, at its start.
+    /// The run of these picks, at its start. Of what it goes through it keeps copies of the
+    /// processors, in so many megabytes of 2^20 bytes.
     pub fn new(
         alloc: Global,
         program: &'a Program<'a>,
         layout: &'a Layout,
         nodes: NodeCount,
+        megabytes: u32,
         picks: Vec<Pick>,
     ) -> Result<DebuggedRun<'a>, AllocError>
         requires { IsInterleaved (record {
@@ -69,7 +71,7 @@ impl<'a> DebuggedRun<'a> {
           position = 0;
         }) }
     {
-        let machine = TimeMachine::new(alloc, program, layout, nodes, picks)?;
+        let machine = TimeMachine::new(alloc, program, layout, nodes, megabytes, picks)?;
         Ok(DebuggedRun {
             alloc,
             nodes,
@@ -78,7 +80,7 @@ impl<'a> DebuggedRun<'a> {
     }
 
     /// Goes forwards to what the motion stops at, or to the end of the run.
-    fn forwards(&mut self, reach: Reach, points: &[Point]) -> Result<Stop, AllocError>
+    fn forwards(&mut self, reach: MotionReach, points: &[Point]) -> Result<Stop, AllocError>
         ensures run { self.new.run ≡ self.old.run }
         ensures goes { IfOk result (λ stop. Goes Forwards self.old.run reach points.now
             self.old.position stop self.new.position) }
@@ -90,7 +92,11 @@ impl<'a> DebuggedRun<'a> {
     }
 
     /// Goes forwards from where it stands to what the motion stops at, or to the end of the run.
-    fn forwards_from_here(&mut self, reach: Reach, points: &[Point]) -> Result<Stop, AllocError>
+    fn forwards_from_here(
+        &mut self,
+        reach: MotionReach,
+        points: &[Point],
+    ) -> Result<Stop, AllocError>
         ensures run { self.new.run ≡ self.old.run }
         ensures goes { IfOk result (λ stop. GoesFrom None self.old.run reach points.now
             self.old.position stop self.new.position) }
@@ -114,22 +120,22 @@ impl<'a> DebuggedRun<'a> {
     }
 
     /// The first of the places at which a run of any processor stands already.
-    fn place_here(&self, reach: Reach, points: &[Point]) -> Result<Option<Point>, AllocError>
+    fn place_here(&self, reach: MotionReach, points: &[Point]) -> Result<Option<Point>, AllocError>
         ensures { IfOk result
             (λ x. x ≡ model_place self.now.run reach points.now self.now.position) }
     {
         match reach {
-            Reach::Run => {
+            MotionReach::Run => {
                 let places = places_of(self.alloc, points)?;
                 let stops = stops_at(self.alloc, &places)?;
                 Ok(point_met(reach, &places, self.machine.hit_here(&stops)))
             }
-            Reach::RunOf { .. } | Reach::Step { .. } => Ok(None),
+            MotionReach::RunOf { .. } | MotionReach::Step { .. } => Ok(None),
         }
     }
 
     /// Goes backwards to what the motion stops at, or to the beginning of the run.
-    fn backwards(&mut self, reach: Reach, points: &[Point]) -> Result<Stop, AllocError>
+    fn backwards(&mut self, reach: MotionReach, points: &[Point]) -> Result<Stop, AllocError>
         ensures run { self.new.run ≡ self.old.run }
         ensures goes { IfOk result (λ stop. Goes Backwards self.old.run reach points.now
             self.old.position stop self.new.position) }

@@ -4,25 +4,25 @@ ghost use Rattle.std.specs.Prelude.{◌≡◌, IfOk, filter, map};
 ghost use Rattle.debugged_run.specs.Motions as model;
 
 use gdb_session::gdb_remote::{Point, PointKind};
-use gdb_session::{Reach, Stop as Told, Why};
+use gdb_session::{MotionReach, Stop as Told, Why};
 use std::alloc::{AllocError, Global};
 use time_machine::one_memory::Pick;
-use time_machine::{Stop, Watch, WatchKind};
+use time_machine::{StopPoint, Watch, WatchKind};
 
 /// What a motion stops at.
 pub(crate) fn stops_of(
     alloc: Global,
-    reach: Reach,
+    reach: MotionReach,
     points: &[Point],
-) -> Result<Vec<Stop>, AllocError>
+) -> Result<Vec<StopPoint>, AllocError>
     ensures { IfOk result (λ stops. stops.items ≡ model.stops_of reach points.now) }
 {
     match reach {
-        Reach::Run => stops_at(alloc, points),
-        Reach::RunOf { processor } => stops_of_one(alloc, number(processor), points),
-        Reach::Step { processor } => {
+        MotionReach::Run => stops_at(alloc, points),
+        MotionReach::RunOf { processor } => stops_of_one(alloc, number(processor), points),
+        MotionReach::Step { processor } => {
             let mut stops = Vec::new(alloc);
-            stops.push(Stop::StepOf(number(processor)))?;
+            stops.push(StopPoint::StepOf(number(processor)))?;
             Ok(stops)
         }
     }
@@ -64,7 +64,7 @@ fn number(processor: u16) -> u8
 }
 
 /// The stops at points, of any processor.
-pub(crate) fn stops_at(alloc: Global, points: &[Point]) -> Result<Vec<Stop>, AllocError>
+pub(crate) fn stops_at(alloc: Global, points: &[Point]) -> Result<Vec<StopPoint>, AllocError>
     ensures { IfOk result (λ stops. stops.items ≡ map model.stop_at points.now) }
 {
     let mut stops = Vec::new(alloc);
@@ -75,7 +75,7 @@ pub(crate) fn stops_at(alloc: Global, points: &[Point]) -> Result<Vec<Stop>, All
 }
 
 /// The stops at points, of one processor alone.
-fn stops_of_one(alloc: Global, p: u8, points: &[Point]) -> Result<Vec<Stop>, AllocError>
+fn stops_of_one(alloc: Global, p: u8, points: &[Point]) -> Result<Vec<StopPoint>, AllocError>
     ensures { IfOk result (λ stops.
         stops.items ≡ map (λ x. model.alone p (model.stop_at x)) points.now) }
 {
@@ -87,14 +87,14 @@ fn stops_of_one(alloc: Global, p: u8, points: &[Point]) -> Result<Vec<Stop>, All
 }
 
 /// What a point stops: an execution at its address, or an access to its bytes.
-fn stop_at(point: Point) -> Stop
+fn stop_at(point: Point) -> StopPoint
     ensures { result ≡ model.stop_at point }
 {
     match point.kind {
-        PointKind::Software | PointKind::Hardware => Stop::At(point.address),
-        PointKind::Write => Stop::Watch(watch_by(WatchKind::Write, point)),
-        PointKind::Read => Stop::Watch(watch_by(WatchKind::Read, point)),
-        PointKind::Access => Stop::Watch(watch_by(WatchKind::Access, point)),
+        PointKind::Software | PointKind::Hardware => StopPoint::At(point.address),
+        PointKind::Write => StopPoint::Watch(watch_by(WatchKind::Write, point)),
+        PointKind::Read => StopPoint::Watch(watch_by(WatchKind::Read, point)),
+        PointKind::Access => StopPoint::Watch(watch_by(WatchKind::Access, point)),
     }
 }
 
@@ -110,18 +110,18 @@ fn watch_by(kind: WatchKind, point: Point) -> Watch
 }
 
 /// The same stop, of one processor alone.
-fn alone(p: u8, stop: Stop) -> Stop
+fn alone(p: u8, stop: StopPoint) -> StopPoint
     ensures { result ≡ model.alone p stop }
 {
     match stop {
-        Stop::At(address) => Stop::AtOf(p, address),
-        Stop::Watch(watch) => Stop::WatchOf(p, watch),
-        Stop::StepOf(_) | Stop::AtOf(..) | Stop::WatchOf(..) => stop,
+        StopPoint::At(address) => StopPoint::AtOf(p, address),
+        StopPoint::Watch(watch) => StopPoint::WatchOf(p, watch),
+        StopPoint::StepOf(_) | StopPoint::AtOf(..) | StopPoint::WatchOf(..) => stop,
     }
 }
 
 /// The point that was met, where a stop was, and the motion stops at points.
-pub(crate) fn point_met(reach: Reach, points: &[Point], stop: Option<usize>) -> Option<Point>
+pub(crate) fn point_met(reach: MotionReach, points: &[Point], stop: Option<usize>) -> Option<Point>
     ensures { result ≡ model.point_met reach points.now stop }
 {
     match stop {
@@ -131,15 +131,15 @@ pub(crate) fn point_met(reach: Reach, points: &[Point], stop: Option<usize>) -> 
 }
 
 /// The point with a number, where the motion stops at points.
-fn point_at(reach: Reach, points: &[Point], i: usize) -> Option<Point>
+fn point_at(reach: MotionReach, points: &[Point], i: usize) -> Option<Point>
     ensures { result ≡ model.point_at reach points.now i }
 {
     match reach {
-        Reach::Run | Reach::RunOf { .. } => {
+        MotionReach::Run | MotionReach::RunOf { .. } => {
             let point = points.get(i)?;
             Some(*point)
         }
-        Reach::Step { .. } => None,
+        MotionReach::Step { .. } => None,
     }
 }
 
@@ -176,7 +176,7 @@ pub(crate) fn before_access(point: Option<Point>, position: usize) -> usize
 
 /// What is told of a position where a stop was met, or the end of the run.
 pub(crate) fn told_forwards(
-    reach: Reach,
+    reach: MotionReach,
     picks: &[Pick],
     point: Option<Point>,
     met: Option<usize>,
@@ -217,12 +217,13 @@ pub(crate) fn told_here(picks: &[Pick], point: Point, position: usize) -> Told
 
 /// The pick that a stop concerns: forwards, an address is met by a run of any processor before the
 /// pick that begins there, and all else behind the pick.
-fn pick_met(reach: Reach, point: Option<Point>, position: usize) -> usize
+fn pick_met(reach: MotionReach, point: Option<Point>, position: usize) -> usize
     ensures { result ≡ model.pick_met reach point position }
 {
     match (reach, point) {
-        (Reach::Run, Some(point)) if !is_watch(point) => position,
-        (Reach::Run | Reach::RunOf { .. } | Reach::Step { .. }, _) => position.saturating_sub(1),
+        (MotionReach::Run, Some(point)) if !is_watch(point) => position,
+        (MotionReach::Run | MotionReach::RunOf { .. } | MotionReach::Step { .. }, _) =>
+            position.saturating_sub(1),
     }
 }
 

@@ -20,24 +20,6 @@ is_alone o program layout p l n =
     ∙ ap (λ x. record o { program = program; layout = x }) l
     ∙ ap (λ x. record o { program = program; layout = layout; nodes = x }) n
 
-more : (n : ℕ) → suc n ≡ n + 1
-more n = omega arith
-
--- the turns so far, and one more
-pub one_turn : (o : Original) (n : ℕ) (s t u : State) → AreTurns o 0 n s t
-    → (t.processors 0).exit ≡ None → u ≡ (step o t 0).state → AreTurns o 0 (n + 1) s u
-one_turn o n s t u turns runs is = record {
-  state = is ∙ ap (λ x. (step o x 0).state) turns.state
-      ∙ ap (λ k. after_steps o 0 k s) (more n);
-  runs = λ k lt. elim (cases_lt k n) [
-    | inl below ↦ turns.runs k below
-    | inr from ↦
-        let same : n ≡ k = omega (arith, lt, from) in
-        subst (λ i. ((after_steps o 0 i s).processors 0).exit ≡ None) same
-        (ap (λ (x : State). (x.processors 0).exit) (sym turns.state) ∙ runs)
-  ];
-}
-
 -- the first step of several
 after_first : (o : Original) (n : ℕ) (s : State)
     → after_steps o 0 (suc n) s ≡ after_steps o 0 n (step o s 0).state
@@ -150,10 +132,3 @@ run_whole program layout budget n s e turns fits ends is =
           (sym (run_is o n first) ∙ sym turns.state)
           ∙ ap (λ x. x ∷ []) (sym is);
     }
-
--- there is an exit where the answer to whether there is none is no
-pub some_of : (read exit : Option Exit) (b : Bool) → read ≡ exit → is_some read ≡ not b
-    → b ≡ false → IsSome exit
-some_of read None b same is no_exit =
-    let bad : false ≡ true = sym (ap is_some same) ∙ is ∙ ap not no_exit in absurd (cc)
-some_of read (Some x) b same is no_exit = refl

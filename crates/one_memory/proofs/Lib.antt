@@ -13,3 +13,5 @@ mod LoneLemmas
 mod MayBreakLemmas
 mod ReservingLemmas
 mod ShownLemmas
+mod ContainedLemmas
+mod CopyLemmas

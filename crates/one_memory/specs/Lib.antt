@@ -6,3 +6,4 @@ pub mod Stretches
 pub mod Reserving
 pub mod Running
 pub mod Shown
+pub mod Contained

@@ -1,9 +1,9 @@
 //! Which processor may break another's reservation: one that is about to store into a block.
 
-ghost use Rattle.std.specs.Prelude.{◌≡◌, ◌≤◌, ◌<◌, ◌&&◌, ◌||◌, false};
+ghost use Rattle.std.specs.Prelude.{◌≡◌, ◌<◌, ◌&&◌, ◌||◌, false};
 ghost use Rattle.exec_map.specs.Contents.{program_of};
 ghost use Rattle.rv32_decode.specs.Widths.{size_of};
-ghost use Rattle.rv32_step.specs.Registers.{registers_of, reg};
+ghost use Rattle.rv32_step.specs.Registers.{registers_of};
 ghost use Rattle.rv32_step.specs.Breaks as model;
 ghost use Rattle.one_memory.specs.Stretches.{reaches, reaches_as, reaches_by_any};
 ghost use Rattle.one_memory.specs.Stretches.{reaches_or_stands, store_base};

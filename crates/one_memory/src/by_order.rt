@@ -1,9 +1,9 @@
 //! Runs the original's processors on one memory, in the order that a number makes.
 
-ghost use Rattle.std.specs.Prelude.{◌≡◌, ◌≤◌, ◌<◌, ◌^◌, ◌∷◌, [], ◌&&◌, ℕ, None, not, nat_lt};
-ghost use Rattle.std.specs.Prelude.{is_some, length, slice_index, IfOk, OnOk};
+ghost use Rattle.std.specs.Prelude.{◌≡◌, ◌<◌, ◌∷◌, [], ◌&&◌, ℕ, None};
+ghost use Rattle.std.specs.Prelude.{length, slice_index, IfOk, OnOk};
 ghost use Rattle.exec_map.specs.Contents.{program_of};
-ghost use Rattle.rv32_step.specs.OneMemory.{Original, opening, step as model_step};
+ghost use Rattle.rv32_step.specs.OneMemory.{opening, step as model_step};
 ghost use Rattle.one_memory.specs.Machine.{state_of, original_of};
 ghost use Rattle.one_memory.specs.ByOrder.{IsRunByOrder, end_by, one_more, goes_on, ends_by};
 ghost use Rattle.one_memory.specs.Running.{IsRunning, HasRun, steps_of};

@@ -43,6 +43,18 @@ impl CodeTable {
         Ok(CodeTable { near, far })
     }
 
+    /// The same code once more, without decoding it anew.
+    pub fn copy(&self, alloc: Global) -> Result<CodeTable, AllocError>
+        ensures { (e : Elf) → IsCodeOf e self.now → IfOk result (IsCodeOf e) }
+    {
+        let near = self.near.copy(alloc)?;
+        let mut far = Vec::new(alloc);
+        for stretch in &self.far {
+            far.push(stretch.copy(alloc)?)?;
+        }
+        Ok(CodeTable { near, far })
+    }
+
     /// The region of the word with an index; any one where none has it.
     pub fn region(&self, at: u32) -> &CodeRegion
         ensures stretch { (e : Elf) → IsCodeOf e self.now → IsStretchOf e result.now }
@@ -80,6 +92,16 @@ impl CodeRegion {
         Ok(CodeRegion {
             first: address / 4,
             ops,
+        })
+    }
+
+    /// The same stretch once more.
+    fn copy(&self, alloc: Global) -> Result<CodeRegion, AllocError>
+        ensures { (e : Elf) → IsStretchOf e self.now → IfOk result (IsStretchOf e) }
+    {
+        Ok(CodeRegion {
+            first: self.first,
+            ops: Vec::from_slice(alloc, &self.ops)?,
         })
     }
 

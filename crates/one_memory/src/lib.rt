@@ -4,7 +4,7 @@
 ghost use Rattle.std.specs.Prelude.{◌≡◌, ◌<◌, ◌≤◌, ◌↔◌, ℕ, true, false, None, IfOk, OnOk, OnErr};
 ghost use Rattle.std.specs.Prelude.{IsErrOf, IsSome};
 ghost use Rattle.exec_map.specs.Contents.{program_of};
-ghost use Rattle.rv32_step.specs.OneMemory.{Original, Break, MayBreak, Allowed, opening, after_pick};
+ghost use Rattle.rv32_step.specs.OneMemory.{Break, MayBreak, Allowed, opening, after_pick};
 ghost use Rattle.rv32_step.specs.OneMemory.{step as model_step};
 ghost use Rattle.rv32_step.specs.Registers.{registers_of};
 ghost use Rattle.one_memory.specs.Machine.{state_of, original_of};
@@ -14,6 +14,7 @@ ghost use Rattle.one_memory.specs.Shown.{byte_shown};
 mod breaks;
 mod by_order;
 mod code;
+mod copying;
 mod going;
 mod law;
 mod memory;
@@ -27,6 +28,7 @@ use crate::memory::Memory;
 use crate::processor::{Processor, address_of, read_byte};
 use block_layout::Layout;
 pub use by_order::{OriginalOutcome, run_by_order};
+pub use copying::contained_law;
 use exec_map::{Exit, Program};
 pub use law::reservation_law;
 use run_limits::NodeCount;
@@ -189,8 +191,8 @@ impl<'a> OneMemory<'a> {
     }
 
     /// Executes so many instructions and steps of calls of processor `p`, or fewer where it ends.
-    /// Gives how many.
-    fn run_alone(&mut self, p: u8, most: u64) -> Result<u64, AllocError>
+    /// Gives how many. Fails only where memory runs out.
+    pub fn run_alone(&mut self, p: u8, most: u64) -> Result<u64, AllocError>
         requires node { p < (original_of self.old).nodes }
         requires runs { ((state_of self.old).processors p).exit ≡ None }
         ensures turns { IfOk result (λ n. AreTurns (original_of self.old) p n

@@ -1,6 +1,6 @@
 //! What all processors have in common.
 
-ghost use Rattle.std.specs.Prelude.{◌≡◌, ◌+◌, ◌*◌, ◌/◌, ◌^◌, ◌<◌, ◌≤◌, ◌∷◌, ◌++◌, [], ℕ, Bool};
+ghost use Rattle.std.specs.Prelude.{◌≡◌, ◌+◌, ◌/◌, ◌^◌, ◌<◌, ◌∷◌, ◌++◌, [], ℕ};
 ghost use Rattle.std.specs.Prelude.{true, false, Some, None, MatchOption, IfOk, IfSome, OnOk, OnErr};
 ghost use Rattle.std.specs.Prelude.{is_some, if◌then◌else◌};
 ghost use Rattle.exec_map.specs.Contents.{program_of, first_byte, is_shared};
@@ -9,7 +9,6 @@ ghost use Rattle.rv32_program.specs.declared.Class.TheVariants.{ReadOnly};
 ghost use Rattle.byte_range.specs.Memory.{raw, stored};
 ghost use Rattle.byte_range.specs.Lines.{lines_memory};
 ghost use Rattle.rv32_decode.specs.Widths.{is_aligned};
-ghost use Rattle.rv32_step.specs.OneMemory.{Processor as AnyProcessor};
 ghost use Rattle.block_layout.specs.Layout.{block_of as model_block_of};
 ghost use Rattle.rv32_step.specs.Registers.{registers_of};
 ghost use Rattle.rv32_step.specs.Reservations as model;
@@ -17,6 +16,7 @@ ghost use Rattle.one_memory.specs.Stretches.{reaches_or_stands};
 ghost use Rattle.one_memory.specs.Machine.{reserved_in};
 
 use crate::breaks::BlockOf;
+use crate::copying::copy_of_lines;
 use crate::reservations::Reservations;
 use block_layout::{Block, Layout};
 use byte_range::LineMemory;
@@ -78,6 +78,25 @@ impl<'a> Memory<'a> {
             shared: shared_memory(alloc, program)?,
             fixed: read_only_memory(alloc, program)?,
             output: Vec::new(alloc),
+        })
+    }
+
+    /// The same memory once more.
+    pub fn copy(&self, alloc: Global) -> Result<Memory<'a>, AllocError>
+        ensures program { IfOk result (λ m. m.program ≡ self.now.program) }
+        ensures layout { IfOk result (λ m. m.layout ≡ self.now.layout) }
+        ensures shared { (outside : ℕ → ℕ) → IfOk result (λ m.
+            lines_memory m.shared outside ≡ lines_memory self.now.shared outside) }
+        ensures reserved { IfOk result (λ m. m.reserved ≡ self.now.reserved) }
+        ensures output { IfOk result (λ m. m.output ≡ self.now.output) }
+    {
+        Ok(Memory {
+            program: self.program,
+            layout: self.layout,
+            reservations: self.reservations.copy(),
+            shared: copy_of_lines(alloc, self.program, &self.shared)?,
+            fixed: read_only_memory(alloc, self.program)?,
+            output: Vec::from_slice(alloc, &self.output)?,
         })
     }
 

@@ -1,8 +1,8 @@
 //! One processor, and what its next word does.
 
-ghost use Rattle.std.specs.Prelude.{◌≡◌, ◌+◌, ◌*◌, ◌/◌, ◌%◌, ◌^◌, ◌<◌, ◌≤◌, ◌&&◌, not, is_some, ℕ};
-ghost use Rattle.std.specs.Prelude.{true, false, Some, None, MatchOption, IfOk, IfSome, IsSome};
-ghost use Rattle.std.specs.Prelude.{OnOk, OnErr};
+ghost use Rattle.std.specs.Prelude.{◌≡◌, ◌+◌, ◌/◌, ◌%◌, ◌^◌, ◌<◌, ◌&&◌, not, is_some, ℕ};
+ghost use Rattle.std.specs.Prelude.{true, false, Some, None, MatchOption, IfOk};
+ghost use Rattle.std.specs.Prelude.{OnErr};
 ghost use Rattle.exec_map.specs.Contents.{program_of, is_shared};
 ghost use Rattle.byte_range.specs.Memory.{raw};
 ghost use Rattle.rv32_decode.specs.Widths.{is_aligned};
@@ -235,7 +235,7 @@ pub fn read(width: Width, address: u32, body: &OriginalState, memory: &Memory<'_
     }
 }
 
-/// The same, where the line isn't shared.
+/// What is read where the line isn't shared.
 #[inline(never)]
 fn read_apart(width: Width, address: u32, body: &OriginalState, memory: &Memory<'_>) -> Option<u32>
     requires aligned { is_aligned width address ≡ true }
@@ -304,7 +304,7 @@ pub fn put_at(
     put_apart(width, address, value, p, body, memory)
 }
 
-/// The same, where the line isn't shared.
+/// Stores where the line isn't shared.
 #[inline(never)]
 fn put_apart(
     width: Width,

@@ -43,6 +43,16 @@ impl Reservations {
         }
     }
 
+    /// The same reservations once more.
+    pub fn copy(&self) -> Reservations
+        ensures { result ≡ self.now }
+    {
+        Reservations {
+            each: self.each,
+            any: self.any,
+        }
+    }
+
     /// The address that processor `p` has reserved.
     pub fn get(&self, p: u8) -> Option<u32>
         requires { p < 16 }

@@ -2,3 +2,4 @@ mod Picks
 mod Started
 mod Touches
 mod Moved
+mod Kept

@@ -4,28 +4,29 @@ use Rattle.std.specs.Prelude.{position}
 use borrow.Author.Count.{below_more}
 use Rattle.time_machine.specs.declared.run.Hit.{Hit}
 use Rattle.time_machine.specs.declared.step.NextStep.{NextStep}
-use Rattle.time_machine.specs.declared.stops.Stop.{Stop}
+use Rattle.time_machine.specs.declared.stops.StopPoint.{StopPoint}
 use Rattle.time_machine.specs.Stand.{Run, Stand}
 use Rattle.time_machine.specs.Stops.{came_at, step_at, is_met, hit_at, met_behind}
 use Rattle.time_machine.specs.Moves.{EndsForward}
 use Rattle.time_machine.specs.Hits.{IsLatest, later}
 
 -- a pick more may hit a stop
-pub latest_more : (r : Run) (stops : List Stop) (k : ℕ) (latest : Option Hit) (hit : Option ℕ) → IsLatest r stops k latest → hit ≡ hit_at r stops k → IsLatest r stops (k + 1) (later latest k hit)
-latest_more r stops k None None are here = below_more (λ j. hit_at r stops j ≡ None) k are (sym here)
-latest_more r stops k (Some h) None is here = record {
+pub latest_more : (r : Run) (stops : List StopPoint) (from k : ℕ) (latest : Option Hit) (hit : Option ℕ) → IsLatest r stops from k latest → hit ≡ hit_at r stops k → IsLatest r stops from (k + 1) (later latest k hit)
+latest_more r stops from k None None are here = λ j low high.
+    below_more (λ j. from ≤ j → hit_at r stops j ≡ None) k (λ j high low. are j low high) (λ _. sym here) j high low
+latest_more r stops from k (Some h) None is here = record {
   earlier = let below = is.earlier in omega (arith, below);
   hits = is.hits;
   last = λ j behind below. below_more (λ j. h.pick < j → hit_at r stops j ≡ None) k (λ j low after. is.last j after low) (λ _. sym here) j below behind;
 }
-latest_more r stops k latest (Some i) are here = record {
+latest_more r stops from k latest (Some i) are here = record {
   earlier = omega arith;
   hits = sym here;
   last = λ j behind below. absurd (omega (arith, behind, below));
 }
 
 -- no stop was met from a position on, up to where a run stands
-pub record IsOnWay (r : Run) (stops : List Stop) (from to : ℕ) (made : Option NextStep) (s : Stand)
+pub record IsOnWay (r : Run) (stops : List StopPoint) (from to : ℕ) (made : Option NextStep) (s : Stand)
     : Type 0
   where
     pub run_is : s.run ≡ r
@@ -41,7 +42,7 @@ pub record IsOneMore (s t : Stand) (next : Option NextStep) (came : Option ℕ) 
   pub next_is : next ≡ step_at t.run t.position
   pub came_is : came ≡ came_at s.run s.position
 
-module _ (r : Run) (stops : List Stop) (from to : ℕ) (made next : Option NextStep) (came : Option ℕ) (s t : Stand)
+module _ (r : Run) (stops : List StopPoint) (from to : ℕ) (made next : Option NextStep) (came : Option ℕ) (s t : Stand)
     (way : IsOnWay r stops from to made s) (more : IsOneMore s t next came) (below : s.position < to) where
   came_there : came ≡ came_at r s.position
   came_there = more.came_is ∙ ap (λ (x : Run). came_at x s.position) way.run_is
@@ -81,7 +82,7 @@ module _ (r : Run) (stops : List Stop) (from to : ℕ) (made next : Option NextS
   }
 
 -- none was met at all
-pub goes_through : (r : Run) (stops : List Stop) (from to : ℕ) (made : Option NextStep) (s : Stand) → IsOnWay r stops from to made s → to ≤ s.position → EndsForward r stops from to None s.position
+pub goes_through : (r : Run) (stops : List StopPoint) (from to : ℕ) (made : Option NextStep) (s : Stand) → IsOnWay r stops from to made s → to ≤ s.position → EndsForward r stops from to None s.position
 goes_through r stops from to made s way end =
     let high = way.within in
     let all : s.position ≡ to = omega (arith, high, end) in

@@ -20,48 +20,48 @@ use Rattle.rv32_step.specs.declared.Demand.TheVariants.{Jumps, Branches, Loads, 
 use Rattle.rv32_decode.specs.declared.Instr.{Instr}
 use Rattle.rv32_step.specs.Demands.{call_step, cut_short, demand_of}
 use Rattle.rv32_step.specs.OneMemory.{Original, Processor, State, WritesIf, Request, Becomes, Prints, access_by, after_call, exit_of_access, request_at, request_by, request_for, request_of_call, request_unless, step}
-use Rattle.time_machine.specs.declared.step.Touch.{Touch}
+use Rattle.time_machine.specs.declared.step.TouchedBytes.{TouchedBytes}
 use Rattle.time_machine.specs.declared.step.TouchKind.{TouchKind}
 use Rattle.time_machine.specs.declared.step.TouchKind.TheVariants as touch
 use Rattle.time_machine.specs.Stops.{touch_of}
 
 -- what the step of processor p touches that meets a demand
-abbrev pub touch_met : Original → State → (p : ℕ) → Demand → Option Touch
+abbrev pub touch_met : Original → State → (p : ℕ) → Demand → Option TouchedBytes
 touch_met original s p d =
     touch_of (access_by original s p (s.processors p) (request_for original.program (s.processors p) d))
 
-abbrev pub of_width : TouchKind → Width → (address : ℕ) → Touch
+abbrev pub of_width : TouchKind → Width → (address : ℕ) → TouchedBytes
 of_width kind w a = record { kind = kind; address = a; size = size_of w }
 
 -- where it may be made
-abbrev pub made_if : Bool → Touch → Option Touch
+abbrev pub made_if : Bool → TouchedBytes → Option TouchedBytes
 made_if may t = if may then Some t else None
 
 byte_aligned : (a : ℕ) → is_aligned Byte a ≡ true
 byte_aligned a = grind (arith, nat_tests)
 
-never : (b : Bool) → ◌≡◌ {A = Option Touch} (if b then None else None) None
+never : (b : Bool) → ◌≡◌ {A = Option TouchedBytes} (if b then None else None) None
 never true = refl
 never false = refl
 
 -- a read, or a write of some kind, where the program's lines allow it
-abbrev pub may_read : Elf → Width → (address : ℕ) → Option Touch
+abbrev pub may_read : Elf → Width → (address : ℕ) → Option TouchedBytes
 may_read e w a = made_if (is_aligned w a && is_mapped (class_at (program_of e) a)) (of_width touch.Reads w a)
 
-abbrev pub may_write : Elf → TouchKind → Width → (address : ℕ) → Option Touch
+abbrev pub may_write : Elf → TouchKind → Width → (address : ℕ) → Option TouchedBytes
 may_write e kind w a = made_if (is_aligned w a && is_writable (class_at (program_of e) a)) (of_width kind w a)
 
 module _ (o : Original) (s : State) (p : ℕ) (e : Elf) (runs : o.program ≡ program_of e) where
-  abbrev of_request : Request → Option Touch
+  abbrev of_request : Request → Option TouchedBytes
   of_request asked = touch_of (access_by o s p (s.processors p) asked)
 
   -- what a demand touches that is met only where its access is aligned and may be made
-  unless : (d : Demand) (aligned may : Bool) (x y : Exit) (t : Option Touch) → of_request (request_by o.program (s.processors p) d) ≡ t → of_request (request_unless o.program (s.processors p) d (if aligned then (if may then None else Some x) else Some y)) ≡ (if aligned && may then t else None)
+  unless : (d : Demand) (aligned may : Bool) (x y : Exit) (t : Option TouchedBytes) → of_request (request_by o.program (s.processors p) d) ≡ t → of_request (request_unless o.program (s.processors p) d (if aligned then (if may then None else Some x) else Some y)) ≡ (if aligned && may then t else None)
   unless d true true x y t is = is
   unless d true false x y t is = refl
   unless d false may x y t is = refl
 
-  at : (d : Demand) (w : Width) (a : ℕ) (may : Bool) (t : Option Touch) → of_request (request_by o.program (s.processors p) d) ≡ t → of_request (request_unless o.program (s.processors p) d (exit_of_access (s.processors p).pc w a may)) ≡ (if is_aligned w a && may then t else None)
+  at : (d : Demand) (w : Width) (a : ℕ) (may : Bool) (t : Option TouchedBytes) → of_request (request_by o.program (s.processors p) d) ≡ t → of_request (request_unless o.program (s.processors p) d (exit_of_access (s.processors p).pc w a may)) ≡ (if is_aligned w a && may then t else None)
   at d w a may t is = unless d (is_aligned w a) may (Access (s.processors p).pc) (Misaligned (s.processors p).pc) t is
 
   read_there : (w : Width) (a : ℕ) → made_if (is_aligned w a && is_mapped (class_at o.program a)) (of_width touch.Reads w a) ≡ may_read e w a
@@ -114,7 +114,7 @@ module _ (o : Original) (s : State) (p : ℕ) (e : Elf) (runs : o.program ≡ pr
     pub calls : d ≡ Calls
     pub call_is : call ≡ call_step (s.processors p).registers (s.processors p).written
 
-  abbrev of_call : CallStep → Option Touch
+  abbrev of_call : CallStep → Option TouchedBytes
   of_call call = of_request (request_of_call o.program (s.processors p) call)
 
   called : (d : Demand) (call : CallStep) → IsCall d call → of_call call ≡ touch_met o s p d
@@ -142,7 +142,7 @@ module _ (o : Original) (s : State) (p : ℕ) (e : Elf) (runs : o.program ≡ pr
   pub branches : (target : ℕ) → None ≡ touch_met o s p (Branches target)
   branches target = sym (goes (Branches target) (target % 4 == 0) (Misaligned (s.processors p).pc) refl)
 
-  abbrev of_code : Option Instr → Option Touch
+  abbrev of_code : Option Instr → Option TouchedBytes
   of_code i = of_request (request_at o.program (s.processors p) i)
 
   pub no_code : None ≡ o.program.code (s.processors p).pc → None ≡ touch_of (step o s p).access

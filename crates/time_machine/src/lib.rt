@@ -1,6 +1,7 @@
 #![tactic(auto)]
 //! A run on one memory that is gone through pick by pick, forwards and backwards.
 
+mod checkpoints;
 mod machine;
 mod run;
 mod step;
@@ -8,4 +9,4 @@ mod stops;
 
 pub use machine::TimeMachine;
 pub use one_memory;
-pub use stops::{Stop, Watch, WatchKind};
+pub use stops::{StopPoint, Watch, WatchKind};

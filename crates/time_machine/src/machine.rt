@@ -1,14 +1,15 @@
 //! A position in a run, and its moves.
 
-ghost use Rattle.std.specs.Prelude.{◌≡◌, ◌+◌, ◌^◌, ◌<◌, ◌≤◌, ℕ, length, Some, None, IfOk, OnOk, OnErr};
+ghost use Rattle.std.specs.Prelude.{◌≡◌, ◌+◌, ◌<◌, ◌≤◌, length, true, Some, None, IfOk, OnOk, OnErr};
 ghost use Rattle.one_memory.specs.Machine.{original_of, state_of};
 ghost use Rattle.time_machine.specs.Stand.{Stand, IsInterleaved, original_in, state_at};
 ghost use Rattle.time_machine.specs.Stops.{came_at, hit_at, step_at};
 ghost use Rattle.time_machine.specs.Moves.{EndsForward, EndsBackward};
 
+use crate::checkpoints::{Checkpoints, bytes_of_copy};
 use crate::run::PickedRun;
 use crate::step::NextStep;
-use crate::stops::{Stop, first_hit, first_met};
+use crate::stops::{StopPoint, first_hit, first_met};
 use block_layout::Layout;
 use exec_map::Program;
 use one_memory::{OneMemory, Pick};
@@ -21,6 +22,7 @@ use std::marker::Model;
 #[derive(Drop)]
 pub struct TimeMachine<'a> {
     run: PickedRun<'a>,
+    checkpoints: Checkpoints<'a>,
     machine: OneMemory<'a>,
     position: usize,
 }
@@ -29,6 +31,7 @@ impl<'a> Model for TimeMachine<'a> {
     ghost use Rattle.std.specs.Prelude.{◌≡◌, ◌≤◌, length};
     ghost use Rattle.one_memory.specs.Machine.{original_of, state_of};
     ghost use Rattle.time_machine.specs.Stand.{Stand, original_in, state_at};
+    ghost use Rattle.time_machine.specs.Checkpoints.{AreOfRun};
 
     ghost Value = { Stand };
 
@@ -39,16 +42,19 @@ impl<'a> Model for TimeMachine<'a> {
 
     ghost invariant = { λ m. (original_of m.machine ≡ original_in m.run)
         × (state_of m.machine ≡ state_at m.run m.position)
-        × (m.position ≤ length m.run.picks) };
+        × (m.position ≤ length m.run.picks)
+        × AreOfRun m.run m.checkpoints };
 }
 
 impl<'a> TimeMachine<'a> {
-    /// The run of these picks, at its start.
+    /// The run of these picks, at its start. Of what it goes through it keeps copies of the
+    /// processors, in so many megabytes of 2^20 bytes.
     pub fn new(
         alloc: Global,
         program: &'a Program<'a>,
         layout: &'a Layout,
         nodes: NodeCount,
+        megabytes: u32,
         picks: Vec<Pick>,
     ) -> Result<TimeMachine<'a>, AllocError>
         requires { IsInterleaved (record {
@@ -74,8 +80,10 @@ impl<'a> TimeMachine<'a> {
             picks,
         };
         let machine = run.start(alloc)?;
+        let bytes = bytes_of_copy(alloc, program, nodes)?;
         Ok(TimeMachine {
             run,
+            checkpoints: Checkpoints::new(alloc, megabytes, bytes),
             machine,
             position: 0,
         })
@@ -121,7 +129,7 @@ impl<'a> TimeMachine<'a> {
     /// to a position, if none is met up to there.
     pub fn forward_to_stop(
         &mut self,
-        stops: &[Stop],
+        stops: &[StopPoint],
         to: usize,
     ) -> Result<Option<usize>, AllocError>
         requires ahead { self.old.position ≤ to }
@@ -147,13 +155,15 @@ impl<'a> TimeMachine<'a> {
     pub fn back_to_stop(
         &mut self,
         alloc: Global,
-        stops: &[Stop],
+        stops: &[StopPoint],
     ) -> Result<Option<usize>, AllocError>
         ensures run { self.new.run ≡ self.old.run }
         ensures ends { IfOk result (λ stop. EndsBackward self.old.run stops.now self.old.position
             stop self.new.position) }
     {
-        let latest = self.run.last_hit(alloc, stops, self.position)?;
+        let latest = self
+            .run
+            .last_hit(alloc, &self.checkpoints, stops, self.position)?;
         match latest {
             Some(hit) => {
                 self.go_to(alloc, hit.pick)?;
@@ -166,17 +176,34 @@ impl<'a> TimeMachine<'a> {
         }
     }
 
-    /// Goes to the start, where a position lies behind.
+    /// Goes to the nearest checkpoint up to a position, or to the start, unless it stands nearer.
     fn rewind(&mut self, alloc: Global, position: usize) -> Result<(), AllocError>
         requires { position ≤ length self.old.run.picks }
         ensures run { self.new.run ≡ self.old.run }
         ensures ok { OnOk result (self.new.position ≤ position) }
     {
-        if position < self.position {
-            self.machine = self.run.start(alloc)?;
-            self.position = 0;
+        if self.is_nearest(position) {
+            return Ok(());
         }
+        let checkpoint = self
+            .run
+            .checkpoint_before(alloc, &self.checkpoints, position)?;
+        self.machine = checkpoint.machine;
+        self.position = checkpoint.position;
         Ok(())
+    }
+
+    /// Whether it stands at a position or before it, and no checkpoint lies nearer.
+    fn is_nearest(&self, position: usize) -> bool
+        ensures { result ≡ true → self.now.position ≤ position }
+    {
+        if position < self.position {
+            return false;
+        }
+        match self.checkpoints.nearest(position) {
+            Some(checkpoint) => checkpoint.position <= self.position,
+            None => true,
+        }
     }
 
     /// Makes the next pick, and says where its processor stands behind it, unless this goes on with
@@ -193,11 +220,12 @@ impl<'a> TimeMachine<'a> {
         self.run.make(&mut self.machine, self.position)?;
         let came = self.run.came(&self.machine, self.position);
         self.position += 1;
+        self.checkpoints.pass(self.position, &self.machine);
         Ok(came)
     }
 
     /// The first of the stops that the next step hits.
-    pub fn hit_here(&self, stops: &[Stop]) -> Option<usize>
+    pub fn hit_here(&self, stops: &[StopPoint]) -> Option<usize>
         ensures { result ≡ hit_at self.now.run stops.now self.now.position }
     {
         first_hit(stops, self.next_step())

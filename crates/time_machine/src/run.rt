@@ -1,16 +1,17 @@
 //! A run on one memory, by its picks.
 
 ghost use Rattle.std.specs.Prelude.{◌≡◌, ◌+◌, ◌^◌, ◌<◌, ◌≤◌, length, IfOk, OnOk, OnErr};
-ghost use Rattle.exec_map.specs.Contents.{program_of};
 ghost use Rattle.rv32_step.specs.OneMemory.{Allowed, after_pick};
 ghost use Rattle.one_memory.specs.Machine.{original_of, state_of};
 ghost use Rattle.one_memory.specs.Shown.{pick_of};
 ghost use Rattle.time_machine.specs.Stand.{IsInterleaved, original_in, state_at};
+ghost use Rattle.time_machine.specs.Checkpoints.{IsAt, IsOfRun, AreOfRun};
 ghost use Rattle.time_machine.specs.Stops.{came_at, step_at};
 ghost use Rattle.time_machine.specs.Hits.{IsLatest, later as model_later};
 
+use crate::checkpoints::{Checkpoint, Checkpoints};
 use crate::step::{NextStep, came_by, step_of};
-use crate::stops::{Stop, first_hit};
+use crate::stops::{StopPoint, first_hit};
 use block_layout::Layout;
 use exec_map::Program;
 use one_memory::{OneMemory, Pick, StepRefused};
@@ -104,19 +105,67 @@ impl<'a> PickedRun<'a> {
         came_by(machine, self.picks[k])
     }
 
-    /// The last of so many picks that hits one of the stops.
+    /// A copy of the processors at the nearest position up to this one where there is a checkpoint,
+    /// or the processors at the start.
+    pub fn checkpoint_before(
+        &self,
+        alloc: Global,
+        checkpoints: &Checkpoints<'a>,
+        position: usize,
+    ) -> Result<Checkpoint<'a>, AllocError>
+        requires { AreOfRun self.now checkpoints.now }
+        ensures of_run { IfOk result (IsOfRun self.now) }
+        ensures before { IfOk result (λ c. c.position ≤ position) }
+    {
+        match checkpoints.nearest(position) {
+            Some(checkpoint) => Checkpoint::of(alloc, checkpoint.position, &checkpoint.machine),
+            None => Ok(Checkpoint {
+                position: 0,
+                machine: self.start(alloc)?,
+            }),
+        }
+    }
+
+    /// The last pick before a position that hits one of the stops. Looks behind the last checkpoint
+    /// first, then behind the one before it, and so on to the start.
     pub fn last_hit(
         &self,
         alloc: Global,
-        stops: &[Stop],
+        checkpoints: &Checkpoints<'a>,
+        stops: &[StopPoint],
         before: usize,
     ) -> Result<Option<Hit>, AllocError>
-        requires { before ≤ length self.now.picks }
-        ensures { IfOk result (IsLatest self.now stops.now before) }
+        requires of_run { AreOfRun self.now checkpoints.now }
+        requires within { before ≤ length self.now.picks }
+        ensures { IfOk result (IsLatest self.now stops.now 0 before) }
     {
-        let mut machine = self.start(alloc)?;
+        let mut end = before;
+        while end > 0 {
+            let from = self.checkpoint_before(alloc, checkpoints, end - 1)?;
+            let start = from.position;
+            if let Some(hit) = self.last_hit_from(start, from.machine, stops, end)? {
+                return Ok(Some(hit));
+            }
+            end = start;
+        }
+        Ok(None)
+    }
+
+    /// The last pick that hits one of the stops, from where the processors stand up to a position.
+    fn last_hit_from(
+        &self,
+        start: usize,
+        mut machine: OneMemory<'_>,
+        stops: &[StopPoint],
+        before: usize,
+    ) -> Result<Option<Hit>, AllocError>
+        requires at { IsAt self.now start machine }
+        requires ahead { start ≤ before }
+        requires within { before ≤ length self.now.picks }
+        ensures { IfOk result (IsLatest self.now stops.now start before) }
+    {
         let mut latest = None;
-        for k in 0..before {
+        for k in start..before {
             let hit = first_hit(stops, self.step(&machine, k));
             latest = later(latest, k, hit);
             self.make(&mut machine, k)?;

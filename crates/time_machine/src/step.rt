@@ -1,6 +1,6 @@
 //! The step that a processor makes next, before it is made.
 
-ghost use Rattle.std.specs.Prelude.{◌≡◌, ◌+◌, ◌^◌, ◌<◌, ◌≤◌, ◌&&◌, ◌==◌, if◌then◌else◌, Some, None};
+ghost use Rattle.std.specs.Prelude.{◌≡◌, ◌<◌, ◌&&◌, ◌==◌, if◌then◌else◌, Some, None};
 ghost use Rattle.exec_map.specs.Contents.{program_of};
 ghost use Rattle.llsc.specs.Reservation.{holds as model_holds};
 ghost use Rattle.rv32_decode.specs.Widths.{size_of, is_aligned};
@@ -28,7 +28,7 @@ pub(crate) enum TouchKind {
 
 /// The bytes that a step touches.
 #[derive(Clone, Copy)]
-pub(crate) struct Touch {
+pub(crate) struct TouchedBytes {
     pub kind: TouchKind,
     pub address: u32,
     pub size: u8,
@@ -40,7 +40,7 @@ pub(crate) struct Touch {
 pub(crate) struct NextStep {
     pub processor: u8,
     pub start: Option<u32>,
-    pub touch: Option<Touch>,
+    pub touch: Option<TouchedBytes>,
 }
 
 /// The step that a pick is, if it is one.
@@ -98,7 +98,7 @@ fn start(machine: &OneMemory<'_>, p: u8) -> Option<u32>
 }
 
 /// What the next step of processor `p` touches.
-fn touch_of_step(program: &Program<'_>, machine: &OneMemory<'_>, p: u8) -> Option<Touch>
+fn touch_of_step(program: &Program<'_>, machine: &OneMemory<'_>, p: u8) -> Option<TouchedBytes>
     requires program { (original_of machine.now).program ≡ program_of program.now }
     requires node { p < (original_of machine.now).nodes }
     ensures { result ≡ touch_of
@@ -120,7 +120,7 @@ fn touch_of_demand(
     program: &Program<'_>,
     machine: &OneMemory<'_>,
     p: u8,
-) -> Option<Touch>
+) -> Option<TouchedBytes>
     requires program { (original_of machine.now).program ≡ program_of program.now }
     requires node { p < (original_of machine.now).nodes }
     ensures { let original = original_of machine.now in let s = state_of machine.now in
@@ -164,7 +164,7 @@ fn holds(reserved: Option<u32>, address: u32) -> bool
 }
 
 /// A read of an address, where it may be made.
-fn read(program: &Program<'_>, width: Width, address: u32) -> Option<Touch>
+fn read(program: &Program<'_>, width: Width, address: u32) -> Option<TouchedBytes>
     ensures { result ≡ (if is_aligned width address
         && is_mapped (class_at (program_of program.now) address)
         then Some (record { kind = TouchKind.Reads; address = address; size = size_of width })
@@ -182,7 +182,7 @@ fn read(program: &Program<'_>, width: Width, address: u32) -> Option<Touch>
 }
 
 /// A write to an address, where it may be made.
-fn write(program: &Program<'_>, kind: TouchKind, width: Width, address: u32) -> Option<Touch>
+fn write(program: &Program<'_>, kind: TouchKind, width: Width, address: u32) -> Option<TouchedBytes>
     ensures { result ≡ (if is_aligned width address
         && is_writable (class_at (program_of program.now) address)
         then Some (record { kind = kind; address = address; size = size_of width })
@@ -198,10 +198,10 @@ fn write(program: &Program<'_>, kind: TouchKind, width: Width, address: u32) -> 
 }
 
 /// The bytes of an access of this width.
-fn touched(kind: TouchKind, width: Width, address: u32) -> Touch
+fn touched(kind: TouchKind, width: Width, address: u32) -> TouchedBytes
     ensures { result ≡ record { kind = kind; address = address; size = size_of width } }
 {
-    Touch {
+    TouchedBytes {
         kind,
         address,
         size: width.bytes(),

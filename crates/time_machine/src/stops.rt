@@ -1,14 +1,14 @@
 //! What a run is to stop at.
 
-ghost use Rattle.std.specs.Prelude.{◌≡◌, ◌+◌, ◌^◌, ◌<◌, ◌≤◌, ◌==◌, false, position};
+ghost use Rattle.std.specs.Prelude.{◌≡◌, ◌+◌, ◌<◌, ◌==◌, false, position};
 ghost use Rattle.std.specs.Option.{option_map_or};
 ghost use Rattle.time_machine.specs.Stops as model;
 
-use crate::step::{NextStep, Touch, TouchKind};
+use crate::step::{NextStep, TouchKind, TouchedBytes};
 
 /// What a run is to stop at.
 #[derive(Clone, Copy, Debug, PartialEq, Eq)]
-pub enum Stop {
+pub enum StopPoint {
     /// A step that begins at this address.
     At(u32),
     /// A step of the processor of this number.
@@ -39,7 +39,7 @@ pub enum WatchKind {
 }
 
 /// The first of the stops that a step hits, if it is one.
-pub(crate) fn first_hit(stops: &[Stop], step: Option<NextStep>) -> Option<usize>
+pub(crate) fn first_hit(stops: &[StopPoint], step: Option<NextStep>) -> Option<usize>
     ensures { result ≡ position (model.is_hit step) stops.now }
 {
     stops.iter().position(|stop| is_hit(step, *stop))
@@ -48,7 +48,7 @@ pub(crate) fn first_hit(stops: &[Stop], step: Option<NextStep>) -> Option<usize>
 /// The first of the stops that is met between a step that was made, where its processor came to, and
 /// the next.
 pub(crate) fn first_met(
-    stops: &[Stop],
+    stops: &[StopPoint],
     made: Option<NextStep>,
     next: Option<NextStep>,
     came: Option<u32>,
@@ -61,18 +61,24 @@ pub(crate) fn first_met(
 }
 
 /// Whether a stop is met between a step that was made, where its processor came to, and the next.
-fn is_met(made: Option<NextStep>, next: Option<NextStep>, came: Option<u32>, stop: Stop) -> bool
+fn is_met(
+    made: Option<NextStep>,
+    next: Option<NextStep>,
+    came: Option<u32>,
+    stop: StopPoint,
+) -> bool
     ensures { result ≡ model.is_met made next came stop }
 {
     match stop {
-        Stop::At(_) => is_hit(next, stop),
-        Stop::AtOf(p, address) => is_hit(made, Stop::StepOf(p)) && begins_at(came, address),
-        Stop::StepOf(_) | Stop::Watch(_) | Stop::WatchOf(..) => is_hit(made, stop),
+        StopPoint::At(_) => is_hit(next, stop),
+        StopPoint::AtOf(p, address) => is_hit(made, StopPoint::StepOf(p))
+            && begins_at(came, address),
+        StopPoint::StepOf(_) | StopPoint::Watch(_) | StopPoint::WatchOf(..) => is_hit(made, stop),
     }
 }
 
 /// Whether a step hits a stop, if it is one.
-fn is_hit(step: Option<NextStep>, stop: Stop) -> bool
+fn is_hit(step: Option<NextStep>, stop: StopPoint) -> bool
     ensures { result ≡ model.is_hit step stop }
 {
     match step {
@@ -82,15 +88,15 @@ fn is_hit(step: Option<NextStep>, stop: Stop) -> bool
 }
 
 /// Whether a step hits a stop.
-fn hits(stop: Stop, step: NextStep) -> bool
+fn hits(stop: StopPoint, step: NextStep) -> bool
     ensures { result ≡ model.hits stop step }
 {
     match stop {
-        Stop::At(address) => begins_at(step.start, address),
-        Stop::StepOf(p) => step.processor == p,
-        Stop::Watch(watch) => touches(step.touch, watch),
-        Stop::AtOf(p, address) => step.processor == p && begins_at(step.start, address),
-        Stop::WatchOf(p, watch) => step.processor == p && touches(step.touch, watch),
+        StopPoint::At(address) => begins_at(step.start, address),
+        StopPoint::StepOf(p) => step.processor == p,
+        StopPoint::Watch(watch) => touches(step.touch, watch),
+        StopPoint::AtOf(p, address) => step.processor == p && begins_at(step.start, address),
+        StopPoint::WatchOf(p, watch) => step.processor == p && touches(step.touch, watch),
     }
 }
 
@@ -105,7 +111,7 @@ fn begins_at(start: Option<u32>, address: u32) -> bool
 }
 
 /// Whether a step touches what is watched.
-fn touches(touch: Option<Touch>, watch: Watch) -> bool
+fn touches(touch: Option<TouchedBytes>, watch: Watch) -> bool
     ensures { result ≡ option_map_or (model.is_watched watch) touch false }
 {
     match touch {
@@ -115,7 +121,7 @@ fn touches(touch: Option<Touch>, watch: Watch) -> bool
 }
 
 /// Whether the bytes touched are watched.
-fn is_watched(watch: Watch, touch: Touch) -> bool
+fn is_watched(watch: Watch, touch: TouchedBytes) -> bool
     ensures { result ≡ model.is_watched watch touch }
 {
     let watched = u64::from(watch.address);

@@ -1,34 +1,31 @@
-use Rattle.std.proofs.Common.{◌≡◌, ◌+◌, ℕ, Option, ap, sym, ◌∙◌, subst, arith}
-use Rattle.std.specs.Prelude.{position}
-use Rattle.time_machine.specs.declared.run.Hit.{Hit}
-use Rattle.time_machine.specs.declared.step.NextStep.{NextStep}
+use Rattle.std.proofs.Common.{subst, arith}
 use Rattle.time_machine.specs.Hits.{IsLatest}
-use Rattle.time_machine.specs.Stops.{is_hit}
-use Rattle.time_machine.proofs.Moved.{latest_more}
+use Rattle.time_machine.proofs.Kept.{hit_joined, none_joined}
 use Rattle.time_machine.proofs.run.PickedRun.last_hit.Goals as goal
 
-pub loop-k-init : goal.loop-k-init
-loop-k-init c = record {
-  original = c.in_ok-machine.ensures.original;
-  state = c.in_ok-machine.ensures.state;
-  latest = λ k low. absurd (omega (arith, low));
+pub loop-end-init : goal.loop-end-init
+loop-end-init c = record {
+  within = omega arith;
+  none = λ k low high. absurd (omega (arith, low, high));
 }
 
-pub loop-k-preserved : goal.loop-k-preserved
-loop-k-preserved c =
-    let r = c.args.self.now in
-    let stops = c.args.stops.now in
-    let l = c.loop-k in
-    let hit = c.first_hit-hit.ensures ∙ ap (λ (n : Option NextStep). position (is_hit n) stops) c.step.ensures in
+pub returns-in-Some : goal.returns-in-Some
+returns-in-Some c =
+    let l = c.loop-end in
+    hit_joined c.args.self.now c.args.stops.now c.in_ok-from.from.position l.end c.args.before c.in-Some.hit l.invariant.within
+    (subst (IsLatest c.args.self.now c.args.stops.now c.in_ok-from.from.position l.end) c.in-Some.is c.in_ok-hit.ensures) l.invariant.none
+
+pub loop-end-preserved : goal.loop-end-preserved
+loop-end-preserved c =
+    let l = c.loop-end in
+    let before = c.in_ok-from.ensures.before in
+    let within = l.invariant.within in
+    let some = c.loop-end-test.true in
     record {
-      original = c.make.ensures.original;
-      state = c.in_ok-make.ensures.ok;
-      latest = subst (λ (x : Option Hit). IsLatest r stops (l.k + 1) x) (sym c.later-latest.ensures)
-          (latest_more r stops l.k l.latest c.first_hit-hit.result l.invariant.latest hit);
+      within = omega (arith, before, within, some);
+      none = none_joined c.args.self.now c.args.stops.now _ l.end c.args.before
+          (subst (IsLatest c.args.self.now c.args.stops.now _ l.end) c.in_default.is c.in_ok-hit.ensures) l.invariant.none;
     }
 
 pub returns : goal.returns
-returns c =
-    let l = c.loop-k in
-    let all : l.k ≡ c.args.before = omega (arith, c.loop-k-test.false, l.auto.k-end) in
-    subst (λ (n : ℕ). IsLatest c.args.self.now c.args.stops.now n l.latest) all l.invariant.latest
+returns c = λ k low high. c.loop-end.invariant.none k (omega (arith, c.loop-end-test.false)) high

@@ -1,12 +1,12 @@
-use Rattle.std.proofs.Common.{◌≡◌}
-use Rattle.one_memory.specs.Machine.{original_of, state_of}
-use Rattle.time_machine.specs.Stand.{original_in, state_at}
-use Rattle.time_machine.specs.Hits.{IsLatest}
+use Rattle.std.proofs.Common.{◌≡◌, ◌<◌, ◌≤◌, ℕ, None}
+use Rattle.time_machine.specs.Stops.{hit_at}
 use Rattle.time_machine.proofs.run.PickedRun.last_hit.Given as goal
 
-abbrev pub invariant-loop-k : goal.invariant-loop-k
-invariant-loop-k l = record {
-  original : original_of l.machine ≡ original_in l.self;
-  state : state_of l.machine ≡ state_at l.self l.k;
-  latest : IsLatest l.self l.stops l.k l.latest;
+abbrev pub invariant-loop-end : goal.invariant-loop-end
+invariant-loop-end l = record {
+  within : l.end ≤ l.before;
+  none : (k : ℕ) → l.end ≤ k → k < l.before → hit_at l.self l.stops k ≡ None;
 }
+
+abbrev pub decreases-loop-end : goal.decreases-loop-end
+decreases-loop-end l = l.end
