@@ -1,7 +1,7 @@
 -- What is kept of each block.
 use Rattle.std.proofs.Common.{◌≡◌, ◌≢◌, ℕ, zero, suc, ◌+◌, ◌<◌, ◌≤◌, Bool, true, false, cond, eqb, List, [], ◌∷◌, ◌++◌, length, map, filter, Option, Some, None, refl, sym, ap, ◌∙◌, subst, inl, inr, arith, slice_index_or}
 use Rattle.std.specs.Option.{option_map, option_map_or}
-use Rattle.std.specs.List.{range_with_len, flat_map}
+use Rattle.std.specs.List.{range_with_len}
 use Rattle.std.proofs.lemmas.Bool.{eq-eqb, ne_eqb}
 use Rattle.std.proofs.lemmas.Bool.Decides.{eqb_tells}
 use Rattle.std.proofs.lemmas.List.{length-append, append-nil, append_assoc, get_or_append_left}
@@ -12,16 +12,15 @@ use Rattle.node_model.specs.declared.NodeCounts.{NodeCounts}
 use Rattle.node_model.specs.Node.{no_counts}
 use Rattle.block_layout.specs.Update.{changed}
 use Rattle.event_text.specs.node_machine.declared.wanted.Wanted.{Wanted}
-use Rattle.event_text.specs.node_machine.declared.wanted.WantedBlocks.{WantedBlocks}
 use Rattle.event_text.specs.node_machine.Wanted.{wanted_in}
 use Rattle.event_text.specs.run_trace.declared.traced.WordTraced.{WordTraced}
 use Rattle.event_text.specs.run_trace.Given.{word_of}
-use Rattle.event_text.specs.run_trace.Traced.{Traced, What, Word, Taken}
+use Rattle.event_text.specs.run_trace.Traced.{Traced, Word}
 use Rattle.event_text.specs.run_trace.Sums.{count_asked, count_wants, count_in, counts_from}
 use Rattle.event_text.specs.Shown.{is_block}
 use Rattle.block_view.specs.declared.costs.BlockCosts.{BlockCosts}
 use Rattle.block_view.specs.Counts.{messages_in, wants_of, count_about, block_counts_from, misses_of, asks_in, times}
-use Rattle.block_view.specs.Kept.{counts_by, places_by, total_by, counts_at, IsCostOf, AreCostsOf, place_asked, counts_with, places_with, counts_for, places_for}
+use Rattle.block_view.specs.Kept.{counts_at, IsCostOf, AreCostsOf, place_asked, counts_with, places_with, counts_for, places_for}
 
 -- 1. Counts of nodes
 

@@ -1,27 +1,27 @@
 -- An event of a run counts of blocks of the layout alone.
-use Rattle.std.proofs.Common.{◌≡◌, ◌⊎◌, ℕ, ◌<◌, Bool, true, false, cond, ltb, eqb, ◌&&◌, List, [], ◌∷◌, ◌++◌, length, map, Option, Some, None, refl, sym, ap, ◌∙◌, inl, inr}
-use Rattle.std.specs.Prelude.{All, is_some, option_to_list}
+use Rattle.std.proofs.Common.{◌≡◌, ◌⊎◌, ℕ, ◌<◌, Bool, true, false, cond, ltb, eqb, ◌&&◌, List, [], ◌∷◌, length, map, Option, Some, None, refl, inl, inr}
+use Rattle.std.specs.Prelude.{All, option_to_list}
 use Rattle.std.specs.Option.{option_map, option_map_or}
 use Rattle.std.proofs.lemmas.Bool.{lt-ltb}
 use Rattle.std.proofs.lemmas.List.Elements.{All-nil, All-cons}
 use Rattle.std.proofs.lemmas.List.Elements.{All-append}
-use Rattle.block_layout.specs.Layout.{Shape, blocks, block_of, has_line, home, IsValid}
+use Rattle.block_layout.specs.Layout.{Shape, blocks, block_of, home}
 use Rattle.rv32_program.specs.Program.{line_of}
 use Rattle.home_directory.specs.dsm_messages.declared.messages.Message.{Message}
 use Rattle.home_directory.specs.dsm_messages.declared.messages.Message.TheVariants.{Read, Write, FwdRead, FwdWrite, Inval, Data, Grant, Ack, Done, Bye}
 use Rattle.home_directory.specs.dsm_messages.declared.messages.Wire.{Wire}
-use Rattle.home_directory.specs.dsm_messages.Headers.{header_of, sent_by}
+use Rattle.home_directory.specs.dsm_messages.Headers.{sent_by}
 use Rattle.home_directory.specs.Table.{HomeRow, NodeRow}
-use Rattle.miss_handlers.specs.Rows.{Row, AtHome, AtNode, clears, at_home, at_node}
+use Rattle.miss_handlers.specs.Rows.{Row, clears, at_home, at_node}
 use Rattle.templates.specs.declared.plans.PlanEntry.{PlanEntry}
 use Rattle.node_model.specs.Node.{Work, Node, Want}
-use Rattle.node_model.specs.Turns.{Turn, want_in, by_row_or, handled, journaled, after_word, each_block_once, wants_of}
+use Rattle.node_model.specs.Turns.{Turn, want_in, by_row_or, journaled, after_word, each_block_once, wants_of}
 use Rattle.node_model.specs.Node.{word_outcome}
 use Rattle.node_model.specs.Core.{Core, Event, Exec, Take, event_step}
 use Rattle.event_text.specs.run_order.OwnRun.{Stamped}
-use Rattle.event_text.specs.node_machine.Wanted.{block_with, wanted, wants_along, wants_of_word}
+use Rattle.event_text.specs.node_machine.Wanted.{block_with, wanted, wants_along}
 use Rattle.event_text.specs.node_machine.declared.wanted.Wanted.{Wanted}
-use Rattle.event_text.specs.run_trace.Traced.{Traced, What, Word, Taken, row_met, take_traced, word_traced, first_traced, traced_at}
+use Rattle.event_text.specs.run_trace.Traced.{Traced, Taken, take_traced, first_traced, traced_at}
 use Rattle.event_text.specs.run_trace.Trace.{trace_from}
 use Rattle.block_view.specs.Counts.{is_below, IsOfBlocks}
 

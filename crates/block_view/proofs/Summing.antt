@@ -1,5 +1,5 @@
 -- What a node counts is the sum of what it counts of each block.
-use Rattle.std.proofs.Common.{◌≡◌, ◌≢◌, ◌⊎◌, ℕ, zero, suc, ◌+◌, ◌<◌, ◌≤◌, Bool, true, false, cond, eqb, ltb, List, [], ◌∷◌, ◌++◌, length, filter, map, Option, Some, None, refl, sym, ap, ◌∙◌, subst, inl, inr, arith, add-zero}
+use Rattle.std.proofs.Common.{◌≡◌, ◌≢◌, ℕ, zero, suc, ◌+◌, ◌<◌, ◌≤◌, Bool, true, false, cond, eqb, List, [], ◌∷◌, length, Option, Some, None, refl, sym, ap, ◌∙◌, subst, inl, inr, arith, add-zero}
 use Rattle.std.specs.Prelude.{All}
 use Rattle.std.specs.Option.{option_map_or}
 use Rattle.std.specs.List.{range_with_len, sum_by}
@@ -15,10 +15,10 @@ use Rattle.node_model.specs.declared.NodeCounts.{NodeCounts}
 use Rattle.node_model.specs.Node.{Tally, Nothing_counted, FalseMiss, FallsBack, no_counts, counts_after}
 use Rattle.node_model.specs.Turns.{count_want, count_row}
 use Rattle.event_text.specs.node_machine.declared.wanted.Wanted.{Wanted}
-use Rattle.event_text.specs.run_trace.Traced.{OfWord, OfTake, Traced, What, Word, Taken}
+use Rattle.event_text.specs.run_trace.Traced.{OfTake, Traced, What, Word, Taken}
 use Rattle.event_text.specs.run_trace.Sums.{count_asked, count_wants, count_in, counts_from}
 use Rattle.event_text.specs.Shown.{is_block}
-use Rattle.block_view.specs.Counts.{wants_of, count_about, block_counts_from, block_counts, is_below, IsOfBlocks, AreSums, sum_over}
+use Rattle.block_view.specs.Counts.{wants_of, count_about, block_counts_from, is_below, IsOfBlocks, AreSums, sum_over}
 
 -- 1. Sums over a range
 

@@ -10,13 +10,13 @@ use Rattle.std.proofs.lemmas.Bool.Decides.{eqb_tells}
 use Rattle.std.proofs.lemmas.List.{length-append, append-nil, append_assoc, get_or_append_left}
 use Rattle.std.proofs.Math.Seq.{get_or-append_seam}
 use Rattle.event_text.specs.run_trace.declared.traced.Accessed.{Accessed}
-use Rattle.event_text.specs.run_trace.Traced.{Traced, What, Word, Taken}
+use Rattle.event_text.specs.run_trace.Traced.{Traced}
 use Rattle.block_view.specs.declared.sharing.Writer.{Writer}
 use Rattle.block_view.specs.declared.sharing.Writer.TheVariants as writer
 use Rattle.block_view.specs.declared.sharing.WrittenWords.{WrittenWords}
 use Rattle.block_view.specs.declared.sharing.Writers.{Writers}
 use Rattle.block_view.specs.Sharing.{Write, writes_in, written_at, writes_of, written_by, are_of_several, are_apart}
-use Rattle.block_view.specs.Writers.{write_of, Writes, AreOfTwo, AreOfOne, IsWriterOf, Meet, AreWordsOf, AreWritersOf, AreSharedBy, is_several, says_shared, shared_in, writes_with}
+use Rattle.block_view.specs.Writers.{write_of, Writes, AreOfTwo, IsWriterOf, AreWordsOf, AreWritersOf, AreSharedBy, is_several, says_shared, shared_in, writes_with}
 
 -- 1. One write more
 

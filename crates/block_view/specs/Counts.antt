@@ -1,12 +1,12 @@
 -- What the events of a run cost each block.
-use Rattle.std.specs.Prelude.{◌≡◌, ℕ, Bool, true, false, ◌==◌, ◌⊎◌, nat_lt, if◌then◌else◌, List, [], ◌∷◌, ◌++◌, length, map, filter, All, Option, None, Some}
+use Rattle.std.specs.Prelude.{◌≡◌, ℕ, Bool, true, false, ◌==◌, ◌⊎◌, nat_lt, if◌then◌else◌, List, [], ◌∷◌, length, map, filter, All, Option}
 use Rattle.std.specs.Option.{option_map_or}
 use Rattle.std.specs.List.{range_with_len, sum_by, count_by, flat_map}
 use Rattle.node_model.specs.declared.NodeCounts.{NodeCounts}
 use Rattle.node_model.specs.Node.{no_counts}
 use Rattle.node_model.specs.Turns.{count_row}
 use Rattle.event_text.specs.node_machine.declared.wanted.Wanted.{Wanted}
-use Rattle.event_text.specs.run_trace.Traced.{OfWord, OfTake, Traced, What, Word, Taken}
+use Rattle.event_text.specs.run_trace.Traced.{OfWord, Traced, What, Word, Taken}
 use Rattle.event_text.specs.run_trace.Sums.{count_wants, counts_from}
 use Rattle.event_text.specs.Shown.{is_block}
 

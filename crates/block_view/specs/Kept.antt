@@ -1,14 +1,12 @@
 -- Helps the code alone: what is kept of each block.
-use Rattle.std.specs.Prelude.{◌≡◌, ℕ, zero, suc, ◌+◌, ◌<◌, Bool, true, false, ◌==◌, if◌then◌else◌, List, [], ◌∷◌, ◌++◌, length, filter, map, slice_index_or, Option, None, Some, unwrap_or}
-use Rattle.std.specs.Option.{option_map_or, option_map, option_to_list}
+use Rattle.std.specs.Prelude.{◌≡◌, ℕ, zero, suc, ◌+◌, ◌<◌, Bool, true, false, ◌==◌, if◌then◌else◌, List, [], ◌∷◌, ◌++◌, length, slice_index_or, Option, unwrap_or}
+use Rattle.std.specs.Option.{option_to_list}
 use Rattle.std.specs.Ordering.{nat_cmp}
 use Rattle.std.specs.BTreeMap.{BTreeMap, get}
 use Rattle.block_layout.specs.Layout.{Shape, blocks}
 use Rattle.block_layout.specs.Update.{changed}
-use Rattle.templates.specs.declared.places.Place.{Place}
 use Rattle.node_model.specs.declared.NodeCounts.{NodeCounts}
 use Rattle.node_model.specs.Node.{no_counts}
-use Rattle.node_model.specs.Turns.{count_row}
 use Rattle.event_text.specs.node_machine.declared.wanted.Wanted.{Wanted}
 use Rattle.event_text.specs.run_trace.Traced.{Traced, What}
 use Rattle.event_text.specs.run_trace.Sums.{count_asked, count_in, counts_from}

@@ -1,11 +1,12 @@
 -- The lines of blocks.
-use Rattle.std.specs.Prelude.{◌≡◌, ℕ, ◌+◌, ◌-◌, ◌*◌, ◌<◌, Bool, false, ◌&&◌, nat_lt, nat_le, if◌then◌else◌, All, List, [], ◌∷◌, ◌++◌, length, map, replicate, unwrap_or, Option, None, Some, codes}
+use Rattle.std.specs.Prelude.{◌≡◌, ℕ, ◌+◌, ◌-◌, ◌*◌, ◌<◌, Bool, false, nat_lt, if◌then◌else◌, All, List, [], ◌∷◌, ◌++◌, length, map, replicate, unwrap_or, Option, None, Some, codes}
 use Rattle.std.specs.List.{range_with_len, flat_map}
 use Rattle.std.specs.List.Sorted.{IsStrictlySortedBy}
 use Rattle.std.specs.Fmt.{decimal, digits}
 use Rattle.std.specs.Ordering.{nat_cmp}
 use Rattle.std.specs.BTreeMap.{is_at}
 use Rattle.std.specs.Map.{keys_of, lookup}
+use Rattle.elf_symbols.specs.Shown.{shown_byte}
 use Rattle.elf_symbols.specs.Symbols.{Symbol, symbol_at}
 use Rattle.rv32_text.specs.Listing.{word_digits}
 use Rattle.block_layout.specs.Layout.{Shape, blocks, first_line, lines, home}
@@ -56,10 +57,6 @@ node_line i c = if nat_lt 0 c.messages
 
 abbrev pub node_lines : (ℕ → NodeCounts) → (nodes : ℕ) → List ℕ
 node_lines counts n = flat_map (λ i. node_line i (counts i)) (range_with_len 0 n)
-
--- a byte of a name: one that isn't a visible character of ASCII as `?`
-abbrev pub shown_byte : ℕ → ℕ
-shown_byte c = if nat_le 0x21 c && nat_le c 0x7e then c else 0x3f
 
 -- a function, and how far behind its first byte an address is
 abbrev pub function_text : (address : ℕ) → Option Symbol → List ℕ

@@ -14,24 +14,13 @@ ghost use Rattle.std.specs.Ordering.{nat_cmp};
 ghost use Rattle.std.specs.BTreeMap.{get};
 
 use block_layout::Block;
-use event_text::node_machine::{NodeCounts, Wanted, WantedBlocks};
+use event_text::node_machine::{NO_COUNTS, NodeCounts, Wanted, WantedBlocks};
 use event_text::run_trace::{TakeTraced, Tallied, Traced, What, WordTraced};
 use home_directory::dsm_messages::Need;
 use state_table::State;
 use std::alloc::{AllocError, Global};
 use std::collections::BTreeMap;
 use templates::Place;
-
-/// The counts of the start.
-pub(crate) const NO_COUNTS: NodeCounts = NodeCounts {
-    read: 0,
-    exclusive: 0,
-    upgrade: 0,
-    falses: 0,
-    invalidations: 0,
-    fallbacks: 0,
-    messages: 0,
-};
 
 /// What a block costs.
 #[derive(Drop)]

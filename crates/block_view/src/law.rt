@@ -1,6 +1,6 @@
 //! What holds of the sums over blocks.
 
-ghost use Rattle.std.specs.Prelude.{◌≡◌, ◌<◌, ℕ, List, All, slice_index_or};
+ghost use Rattle.std.specs.Prelude.{◌<◌, ℕ, List, All, slice_index_or};
 ghost use Rattle.block_layout.specs.Layout.{IsValid, blocks};
 ghost use Rattle.node_model.specs.Node.{Work, no_counts};
 ghost use Rattle.node_model.specs.Outcome.{counts_after};

@@ -65,7 +65,7 @@ impl<'a> Sums<'a> {
         self.sharing.add_access(word.node, Some(word.access))
     }
 
-    /// WrittenWords that only compute or read change no sum; the call does nothing.
+    /// Words that only compute or read change no sum; the call does nothing.
     pub fn laws(&self)
         ensures passed { (seen more : List OfEvent) → AreSumsOf self.now seen
             → All (IsPassed Write) more → AreSumsOf self.now (seen ++ more) }

@@ -1,7 +1,7 @@
 //! What each node counts in all.
 
-use crate::costs::{NO_COUNTS, counted};
-use event_text::node_machine::NodeCounts;
+use crate::costs::counted;
+use event_text::node_machine::{NO_COUNTS, NodeCounts};
 use event_text::run_trace::Traced;
 use std::alloc::{AllocError, Global};
 
@@ -12,7 +12,7 @@ pub(crate) struct Totals {
 }
 
 impl Totals {
-    ghost use Rattle.std.specs.Prelude.{◌≡◌, ℕ, List, length, IfOk, OnOk};
+    ghost use Rattle.std.specs.Prelude.{ℕ, IfOk, OnOk};
     ghost use Rattle.node_model.specs.declared.NodeCounts.{NodeCounts as OfNode};
     ghost use Rattle.node_model.specs.Node.{no_counts};
     ghost use Rattle.event_text.specs.run_trace.Given.{traced_of};

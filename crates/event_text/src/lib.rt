@@ -11,7 +11,9 @@ mod takes;
 pub use events::{push_event, push_passed};
 pub use law::shown_law;
 pub use names::{access_name, message_name, need_name, state_name};
-pub use parts::{push_decimal, push_header, push_if, push_number, push_original, push_state};
+pub use parts::{
+    push_address, push_decimal, push_header, push_if, push_number, push_original, push_state,
+};
 pub use run_trace;
 pub use run_trace::node_machine;
-pub use shown::{EventFilter, is_passed_shown, is_shown, push_head};
+pub use shown::{EventFilter, block_reached, is_block, is_passed_shown, is_shown, push_head};

@@ -58,7 +58,7 @@ pub fn push_if(out: &mut Vec<u8>, holds: bool, text: &[u8]) -> Result<(), AllocE
 }
 
 /// Appends an address.
-fn push_address(out: &mut Vec<u8>, address: u32) -> Result<(), AllocError>
+pub fn push_address(out: &mut Vec<u8>, address: u32) -> Result<(), AllocError>
     ensures { OnOk result (out.new.items ≡ out.old.items ++ model.address_text address) }
 {
     out.extend_from_slice(b"0x")?;

@@ -91,7 +91,7 @@ fn is_about(block: Block, what: &What) -> bool
 }
 
 /// Whether this is the block.
-fn is_block(block: Block, of: Option<Block>) -> bool
+pub fn is_block(block: Block, of: Option<Block>) -> bool
     ensures { result ≡ model.is_block block of }
 {
     match of {
@@ -117,7 +117,7 @@ fn one_wants(block: Block, wants: Option<WantedBlocks>) -> bool
 }
 
 /// The block that is accessed.
-fn block_reached(access: Option<Accessed>) -> Option<Block>
+pub fn block_reached(access: Option<Accessed>) -> Option<Block>
     ensures { result ≡ model.block_reached access }
 {
     match access {

@@ -1,20 +1,14 @@
 -- What is looked for among the events of a page.
-use Rattle.std.specs.Prelude.{ℕ, Bool, true, false, ◌&&◌, ◌||◌, ◌==◌, nat_lt, List, [], ◌∷◌, filter, length, Option, None, Some, option_and_then, position}
+use Rattle.std.specs.Prelude.{ℕ, Bool, false, ◌&&◌, ◌||◌, ◌==◌, nat_lt, List, [], ◌∷◌, filter, length, Option, None, option_and_then, position}
 use Rattle.std.specs.List.{list_any}
-use Rattle.std.specs.Option.{option_map, option_map_or}
 use Rattle.event_text.specs.node_machine.declared.wanted.Wanted.{Wanted}
 use Rattle.event_text.specs.run_trace.declared.traced.Accessed.{Accessed}
-use Rattle.event_text.specs.run_trace.Traced.{OfWord, What, Word, Taken, Traced}
+use Rattle.event_text.specs.run_trace.Traced.{What, Word, Taken, Traced}
+use Rattle.event_text.specs.Shown.{block_reached, is_block}
 use Rattle.page_events.specs.declared.sought.Sought.{Sought}
 use Rattle.page_events.specs.declared.sought.Sought.TheVariants.{Event, GoesOn, Misses, Takes, About, MissOf, TakeOf}
 
 -- 1. What an event is about
-
-abbrev pub is_block : (b : ℕ) → Option ℕ → Bool
-is_block b block = option_map_or (λ c. c == b) block false
-
-abbrev pub block_reached : Option Accessed → Option ℕ
-block_reached a = option_and_then (λ (a : Accessed). a.block) a
 
 abbrev pub block_wanted : Option Wanted → Option ℕ
 block_wanted w = option_and_then (λ (w : Wanted). w.block) w

@@ -1,6 +1,6 @@
 //! Where things are drawn, in pixels: a line down the page for each node, a row for each event.
 
-ghost use Rattle.std.specs.Prelude.{◌≡◌, ◌≤◌, ◌++◌, OnOk};
+ghost use Rattle.std.specs.Prelude.{◌≡◌, ◌++◌, OnOk};
 ghost use Rattle.std.specs.Fmt.{decimal};
 ghost use Rattle.event_text.specs.run_trace.Given.{traced_of};
 ghost use Rattle.page_events.specs.Places as model;

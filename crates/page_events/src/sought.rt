@@ -2,13 +2,14 @@
 
 ghost use Rattle.std.specs.Prelude.{◌≡◌, ◌+◌, ◌≤◌, if◌then◌else◌};
 ghost use Rattle.event_text.specs.node_machine.Wanted.{wanted_in};
-ghost use Rattle.event_text.specs.run_trace.Given.{word_of, what_of, traced_of};
+ghost use Rattle.event_text.specs.run_trace.Given.{what_of, traced_of};
 ghost use Rattle.page_events.specs.Sought as model;
 
 use crate::shown::Shown;
 use block_layout::Block;
 use event_text::node_machine::{Wanted, WantedBlocks};
-use event_text::run_trace::{Accessed, TakeTraced, Traced, What, WordTraced};
+use event_text::run_trace::{TakeTraced, Traced, What, WordTraced};
+use event_text::{block_reached, is_block};
 
 /// What is looked for among the events of a page.
 #[derive(Clone, Copy)]
@@ -115,16 +116,6 @@ fn is_take_from(from: u8, sent: u64, block: Block, what: &What) -> bool
     }
 }
 
-/// Whether this is the block.
-fn is_block(block: Block, of: Option<Block>) -> bool
-    ensures { result ≡ model.is_block block of }
-{
-    match of {
-        Some(of) => of == block,
-        None => false,
-    }
-}
-
 /// Whether an event is about a block.
 fn is_about(block: Block, what: &What) -> bool
     ensures { result ≡ model.is_about block (what_of what.now) }
@@ -164,16 +155,6 @@ fn block_wanted(want: Option<Wanted>) -> Option<Block>
 {
     match want {
         Some(want) => want.block,
-        None => None,
-    }
-}
-
-/// The block that is accessed.
-fn block_reached(access: Option<Accessed>) -> Option<Block>
-    ensures { result ≡ model.block_reached access }
-{
-    match access {
-        Some(accessed) => accessed.block,
         None => None,
     }
 }

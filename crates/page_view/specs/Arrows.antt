@@ -3,7 +3,6 @@ use Rattle.std.specs.Prelude.{ℕ, ◌+◌, ◌==◌, Bool, is_some, if◌then�
 use Rattle.std.specs.Fmt.{decimal}
 use Rattle.std.specs.Option.{option_map_or}
 use Rattle.std.specs.List.{flat_map}
-use Rattle.dsm_messages.specs.declared.headers.Header.{Header}
 use Rattle.dsm_messages.specs.declared.headers.Sent.{Sent}
 use Rattle.dsm_messages.specs.declared.headers.MessageKind.{MessageKind}
 use Rattle.dsm_messages.specs.declared.headers.MessageKind.TheVariants as kind

@@ -1,17 +1,14 @@
 -- The table of the blocks that events of the page are about.
-use Rattle.std.specs.Prelude.{ℕ, ◌+◌, ◌-◌, ◌*◌, ◌==◌, Bool, false, ◌&&◌, nat_lt, if◌then◌else◌, List, [], ◌++◌, Option, None, Some, codes}
+use Rattle.std.specs.Prelude.{ℕ, ◌+◌, ◌-◌, ◌*◌, ◌==◌, Bool, false, ◌&&◌, nat_lt, if◌then◌else◌, List, [], ◌++◌, Option, codes}
 use Rattle.std.specs.Fmt.{decimal}
 use Rattle.std.specs.Option.{option_map_or}
 use Rattle.std.specs.List.{flat_map}
 use Rattle.block_layout.specs.Layout.{Shape, blocks, first_line, lines, home}
-use Rattle.rv32_text.specs.Listing.{word_digits}
+use Rattle.page_events.specs.event_text.Parts.{address_text}
 use Rattle.page_events.specs.run_trace.Traced.{Traced}
 use Rattle.page_events.specs.declared.sought.Sought.TheVariants.{About, MissOf, TakeOf}
 use Rattle.page_events.specs.Sought.{first_block, other_block, row_of, count_of}
 use Rattle.page_events.specs.Places.{own_row}
-
-abbrev pub address_text : ℕ → List ℕ
-address_text a = codes "0x" ++ word_digits a
 
 -- the first and the last address of a block; a line has 64 bytes
 abbrev pub range_text : Shape → (b : ℕ) → List ℕ

@@ -1,7 +1,7 @@
 //! The messages, as arrows from where they are sent to where they are taken.
 
 ghost use Rattle.std.specs.Prelude.{◌≡◌, ◌++◌, OnOk};
-ghost use Rattle.page_events.specs.run_trace.Given.{traced_of, take_of, what_of};
+ghost use Rattle.page_events.specs.run_trace.Given.{traced_of, take_of};
 ghost use Rattle.page_view.specs.Arrows as model;
 
 use block_layout::Layout;

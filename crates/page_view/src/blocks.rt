@@ -7,18 +7,10 @@ ghost use Rattle.page_view.specs.Blocks as model;
 ghost use Rattle.page_events.specs.Sought.{count_of as count_events};
 
 use block_layout::{Block, Layout, layout_law};
+use page_events::event_text::push_address;
 use page_events::run_trace::Traced;
 use page_events::{Shown, Sought, count_of, first_block, other_block, own_row, push_count, row_of};
-use rv32_text::push_word;
 use std::alloc::AllocError;
-
-/// Appends an address.
-fn push_address(out: &mut Vec<u8>, address: u32) -> Result<(), AllocError>
-    ensures { OnOk result (out.new.items ≡ out.old.items ++ model.address_text address) }
-{
-    out.extend_from_slice(b"0x")?;
-    push_word(out, address)
-}
 
 /// Appends the first and the last address of a block.
 fn push_range(out: &mut Vec<u8>, layout: &Layout, block: Block) -> Result<(), AllocError>

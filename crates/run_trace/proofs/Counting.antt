@@ -1,5 +1,5 @@
 -- What an event counts, and what a run does.
-use Rattle.std.proofs.Common.{◌≡◌, ℕ, zero, suc, ◌+◌, Bool, true, false, cond, eqb, List, [], ◌∷◌, ◌++◌, length, map, Option, Some, None, refl, sym, ap, ◌∙◌, inl, inr, add-zero}
+use Rattle.std.proofs.Common.{◌≡◌, ℕ, ◌+◌, Bool, true, false, cond, eqb, List, [], ◌∷◌, ◌++◌, length, map, Option, Some, None, refl, sym, ap, ◌∙◌, inl, inr, add-zero}
 use Rattle.std.specs.Prelude.{is_some, option_to_list}
 use Rattle.std.specs.Option.{option_map, option_map_or}
 use Rattle.std.proofs.lemmas.Bool.{eq-eqb, ne_eqb}
@@ -12,19 +12,17 @@ use Rattle.home_directory.specs.dsm_messages.declared.messages.Message.TheVarian
 use Rattle.home_directory.specs.dsm_messages.declared.messages.Wire.{Wire}
 use Rattle.home_directory.specs.Table.{Miss, want_row}
 use Rattle.node_model.specs.miss_handlers.Effects.{block_facts}
-use Rattle.node_model.specs.miss_handlers.Rows.{Row, AtHome, AtNode, row_of, clears}
+use Rattle.node_model.specs.miss_handlers.Rows.{Row, AtHome, AtNode, clears}
 use Rattle.templates.specs.declared.plans.PlanEntry.{PlanEntry}
 use Rattle.rv32_program.specs.declared.End.TheVariants.{Stopped}
 use Rattle.node_model.specs.declared.NodeCounts.{NodeCounts}
 use Rattle.node_model.specs.Node.{Work, Node, Want, Phase, Running, Resumed, Waiting, Ended, Nothing_counted, lane_resumed, tally_resumed, counts_after, stop_or, word_outcome}
-use Rattle.node_model.specs.Turns.{Turn, block_at, holding, want_in, want_all, with_miss, with_byes, wants_of, each_block_once, count_want, count_row, after_word, after_wants, word_turn, by_row_or, handled, has_no_wait, resumed, journaled, after_message, take_turn, is_ended}
+use Rattle.node_model.specs.Turns.{Turn, block_at, want_in, want_all, with_miss, with_byes, wants_of, each_block_once, count_want, count_row, after_word, after_wants, word_turn, by_row_or, handled, has_no_wait, resumed, journaled, after_message, take_turn, is_ended}
 use Rattle.node_model.specs.Core.{Core, Event, Exec, Take, take_first, event_step, after}
 use Rattle.replay.specs.run_order.OwnRun.{Stamped, run_of}
-use Rattle.home_directory.specs.dsm_messages.declared.headers.Sent.{Sent}
 use Rattle.home_directory.specs.dsm_messages.Headers.{sent_by}
 use Rattle.replay.specs.node_machine.Wanted.{block_with, wanted, wants_along}
-use Rattle.replay.specs.node_machine.declared.wanted.Wanted.{Wanted}
-use Rattle.run_trace.specs.Traced.{Traced, What, Word, Taken, word_traced, row_met, is_waiting, tally_of_wait, take_traced, first_traced, what_at, traced_at}
+use Rattle.run_trace.specs.Traced.{Traced, What, Word, Taken, word_traced, row_met, is_waiting, tally_of_wait, take_traced, first_traced, traced_at}
 use Rattle.run_trace.specs.Trace.{trace_from}
 use Rattle.run_trace.specs.Sums.{count_asked, count_wants, count_in, counts_from}
 

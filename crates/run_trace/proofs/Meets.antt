@@ -1,6 +1,6 @@
 -- A message that meets a row is seen to: something is sent, or what is seen of its block or of the
 -- requests that wait has changed.
-use Rattle.std.proofs.Common.{◌≡◌, ℕ, zero, suc, ◌+◌, ◌⊎◌, Bool, true, false, not, cond, eqb, ltb, leb, ◌&&◌, ◌||◌, List, [], ◌∷◌, ◌++◌, Option, Some, None, refl, sym, ap, ◌∙◌, subst, inl, inr, arith, eq-eqb, ne_eqb}
+use Rattle.std.proofs.Common.{◌≡◌, ℕ, ◌+◌, ◌⊎◌, Bool, true, false, not, cond, eqb, ltb, leb, ◌&&◌, List, [], ◌∷◌, ◌++◌, Option, Some, None, refl, sym, ap, ◌∙◌, inl, inr}
 use Rattle.std.specs.Prelude.{is_some, is_none}
 use Rattle.buf_pool.specs.Pool.{Buffer}
 use Rattle.home_directory.specs.dsm_messages.declared.messages.Need.{Need}
@@ -11,10 +11,9 @@ use Rattle.home_directory.specs.dsm_messages.declared.messages.Post.{Post}
 use Rattle.home_directory.specs.declared.directory.Busy.{Busy}
 use Rattle.home_directory.specs.declared.directory.Request.{Request}
 use Rattle.home_directory.specs.declared.wait.Wait.{Wait}
-use Rattle.home_directory.specs.declared.wait.Answer.{Answer}
 use Rattle.home_directory.specs.declared.wait.Answer.TheVariants.{ByData, ByGrant}
-use Rattle.home_directory.specs.Home.{DirectoryEntry, Home, done_with, invals, others, count_of, post, waits}
-use Rattle.home_directory.specs.Table.{Start, HomeRow, start_row, start_at, start_or, start_home, next_start, next_or, ask_when, ask_row, done_when, done_row, done_home, first_leaves, BlockFacts, LocalBlock, NodeRow, without_block, data_row, grant_row, ack_row, completion, is_complete, with_answer, one_ack_more, is_write, is_shared, node_row}
+use Rattle.home_directory.specs.Home.{DirectoryEntry, Home, done_with, invals, others, post, waits}
+use Rattle.home_directory.specs.Table.{Start, HomeRow, start_row, start_at, start_or, start_home, next_start, ask_when, ask_row, done_when, done_row, done_home, first_leaves, BlockFacts, LocalBlock, NodeRow, without_block, data_row, grant_row, ack_row, completion, is_complete, with_answer, one_ack_more, is_write, is_shared, node_row}
 use Rattle.state_table.specs.declared.State.TheVariants.{Shared}
 use Rattle.state_table.specs.StateByte.{can_read}
 use Rattle.run_trace.specs.Taking.{answered_in, counted_in}

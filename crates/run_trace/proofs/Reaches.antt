@@ -1,5 +1,5 @@
 -- What words reach, case by case.
-use Rattle.std.proofs.Common.{◌≡◌, ℕ, ◌+◌, ◌-◌, ◌%◌, ◌^◌, ◌<◌, ◌≤◌, Bool, true, false, not, ◌&&◌, cond, ltb, eqb, List, [], ◌∷◌, ◌++◌, Option, None, Some, refl, arith}
+use Rattle.std.proofs.Common.{◌≡◌, ℕ, ◌+◌, ◌-◌, ◌%◌, ◌^◌, ◌<◌, ◌≤◌, Bool, true, false, not, ◌&&◌, cond, ltb, eqb, List, [], ◌∷◌, ◌++◌, None, Some, refl, arith}
 use Rattle.std.proofs.lemmas.Bool.Decides.{nat_tests}
 use Rattle.rv32_decode.specs.Widths.{width_of, is_aligned}
 use Rattle.rv32_decode.specs.declared.LoadKind.{LoadKind}
@@ -15,7 +15,7 @@ use Rattle.rv32_step.specs.declared.CallStep.TheVariants.{Puts}
 use Rattle.llsc.specs.Reservation.{holds}
 use Rattle.home_directory.specs.dsm_messages.declared.messages.Need.{Need}
 use Rattle.home_directory.specs.dsm_messages.declared.messages.Need.TheVariants.{Read}
-use Rattle.node_model.specs.Node.{ProcessorState, NodeMemory, WordOutcome, Memory, StateOf, Spill, Elsewhere, Next, Waits, SameWord, Want, region_of, byte_at, load, store, native, make_call, print_byte, only_moves, lane_after_call, is_mapped_state, is_readable_state, is_fixed_state, is_writable_state, miss_r, miss_w, prepare, one_refuses, unmet, batch, batch_by, indirect}
+use Rattle.node_model.specs.Node.{ProcessorState, NodeMemory, WordOutcome, StateOf, Spill, Elsewhere, Next, Waits, SameWord, Want, region_of, byte_at, load, store, native, make_call, print_byte, only_moves, lane_after_call, is_mapped_state, is_readable_state, is_fixed_state, is_writable_state, miss_r, miss_w, prepare, one_refuses, unmet, batch, batch_by, indirect}
 use Rattle.run_trace.specs.declared.traced.AccessKind.TheVariants as access
 use Rattle.run_trace.specs.declared.reach.WordAccess.TheVariants.{Nowhere, At, IfPrints}
 use Rattle.run_trace.specs.Looks.{IsReach, access_seen}

@@ -10,7 +10,7 @@ use Rattle.home_directory.specs.dsm_messages.Headers.{sent_by}
 use Rattle.node_model.specs.declared.Standing.{Standing}
 use Rattle.node_model.specs.declared.Standing.TheVariants as standing
 use Rattle.node_model.specs.Node.{Work, Node, Move, Next, Again, To, Enters, Waits, Leaves, Phase, Running, Resumed, Waiting, Ended, Nothing_counted, word_outcome, phase_after, end_of, standing_in, standing_of, has_all_byes}
-use Rattle.node_model.specs.Turns.{Turn, silent, with_byes, byes_to, is_ended, wants_of, each_block_once, after_word, after_wants}
+use Rattle.node_model.specs.Turns.{Turn, with_byes, byes_to, is_ended, wants_of, each_block_once, after_word, after_wants}
 use Rattle.node_model.specs.Core.{Core, Exec, may_execute}
 use Rattle.replay.specs.rewriting_law.CoreRun.{is_exit, is_wait}
 use Rattle.replay.specs.node_machine.declared.touch.Touch.{Touch}

@@ -1,29 +1,25 @@
 -- What a take left, by what is seen of it.
-use Rattle.std.proofs.Common.{◌≡◌, ℕ, ◌+◌, Bool, true, false, not, cond, eqb, ltb, ◌&&◌, ◌||◌, List, [], ◌∷◌, map, Option, Some, None, refl, sym, ap, ◌∙◌, subst, ⊎_elim, arith, eq-eqb, ne_eqb}
-use Rattle.std.specs.Prelude.{is_some, option_and_then}
-use Rattle.std.specs.Option.{option_map, option_map_or}
+use Rattle.std.proofs.Common.{◌≡◌, ℕ, ◌+◌, Bool, true, false, not, cond, eqb, ltb, ◌&&◌, ◌||◌, List, [], ◌∷◌, map, Option, Some, None, refl, sym, ap, ◌∙◌, ⊎_elim, arith, eq-eqb, ne_eqb}
+use Rattle.std.specs.Prelude.{is_some}
+use Rattle.std.specs.Option.{option_map}
 use Rattle.block_layout.specs.Layout.{Shape, blocks, home}
 use Rattle.block_layout.specs.Update.{changed}
-use Rattle.state_table.specs.declared.State.{State}
 use Rattle.home_directory.specs.dsm_messages.declared.messages.Message.{Message}
 use Rattle.home_directory.specs.dsm_messages.declared.messages.Message.TheVariants.{Read, Write, FwdRead, FwdWrite, Inval, Data, Grant, Ack, Done, Bye}
 use Rattle.buf_pool.specs.Pool.{Buffer}
 use Rattle.home_directory.specs.dsm_messages.declared.messages.Need.{Need}
 use Rattle.home_directory.specs.dsm_messages.declared.messages.Need.TheVariants.{Read as reading, Write as writing}
 use Rattle.home_directory.specs.dsm_messages.declared.messages.Post.{Post}
-use Rattle.home_directory.specs.dsm_messages.declared.messages.Wire.{Wire}
 use Rattle.home_directory.specs.dsm_messages.Headers.{header_of, sent_by}
 use Rattle.home_directory.specs.Table.{HomeRow, NodeRow, ask_row, done_row, node_row}
 use Rattle.node_model.specs.miss_handlers.Effects.{block_facts}
-use Rattle.node_model.specs.miss_handlers.Rows.{Holding, Row, AtHome, AtNode, row_of, ask_row_of, node_row_of, home_of, at_home, at_node}
+use Rattle.node_model.specs.miss_handlers.Rows.{AtHome, AtNode, row_of, ask_row_of, node_row_of, home_of, at_home, at_node}
 use Rattle.node_model.specs.declared.NodeCounts.{NodeCounts}
 use Rattle.node_model.specs.Node.{Work, Node, Phase, Running, Resumed, Waiting, Ended, Tally, Nothing_counted, FalseMiss, FallsBack, counts_after, end_of}
-use Rattle.node_model.specs.Turns.{Turn, block_at, holding, by_row_or, handled, has_no_wait, resumed, journaled, count_row, after_message, is_ended, take_turn}
-use Rattle.run_trace.specs.declared.takes.Sight.{Sight}
+use Rattle.node_model.specs.Turns.{Turn, block_at, holding, by_row_or, handled, has_no_wait, resumed, count_row, is_ended}
 use Rattle.replay.specs.node_machine.Wanted.{state_at}
 use Rattle.run_trace.specs.Traced.{state_if, ends_anew}
 use Rattle.run_trace.specs.Taking.{has_items, answered_in, counted_in, view_of, view_in, sight_of, is_apart, is_other, is_changed}
-use Rattle.run_trace.proofs.Counting.{byes_node, take_counts}
 use Rattle.run_trace.proofs.Meets.{OnSome, any, TellsHome, TellsNode, ask_on, done_on, node_on}
 
 -- 1. Whether something is seen to have changed

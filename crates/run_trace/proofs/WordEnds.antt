@@ -1,13 +1,12 @@
 -- What a word left, by what is seen of it.
-use Rattle.std.proofs.Common.{◌≡◌, ℕ, zero, suc, ◌+◌, ◌-◌, ◌≤◌, Bool, true, false, cond, eqb, not, ◌||◌, List, [], ◌∷◌, ◌++◌, length, map, take, Option, Some, None, refl, sym, ap, ◌∙◌, arith}
+use Rattle.std.proofs.Common.{◌≡◌, ℕ, zero, suc, ◌+◌, ◌-◌, Bool, true, false, cond, eqb, not, List, [], ◌∷◌, ◌++◌, length, map, take, Option, Some, None, refl, ap, ◌∙◌, arith}
 use Rattle.std.specs.Prelude.{is_some, option_and_then}
 use Rattle.std.specs.Option.{option_map, option_map_or}
 use Rattle.std.proofs.lemmas.List.{length-map, length-append, map-append}
 use Rattle.std.proofs.Math.Seq.{take-append_seam}
 use Rattle.block_layout.specs.Layout.{Shape}
 use Rattle.buf_pool.specs.Pool.{empty_buffer}
-use Rattle.rv32_program.specs.declared.End.{End}
-use Rattle.rv32_program.specs.declared.End.TheVariants.{Exited, Stopped}
+use Rattle.rv32_program.specs.declared.End.TheVariants.{Stopped}
 use Rattle.rv32_step.specs.OneMemory.{Access, Nothing, Reads, Writes, WritesIf, Exchanges, value_read}
 use Rattle.templates.specs.declared.commits.CommitKind.{CommitKind}
 use Rattle.templates.specs.declared.commits.CommitKind.TheVariants.{Never, Always, IfNotFlag, IfNoWait}
@@ -24,7 +23,7 @@ use Rattle.home_directory.specs.Home.{post}
 use Rattle.home_directory.specs.Table.{Miss, want_row}
 use Rattle.node_model.specs.miss_handlers.Effects.{block_facts}
 use Rattle.node_model.specs.declared.NodeCounts.{NodeCounts}
-use Rattle.node_model.specs.Node.{Work, Node, Want, Move, Next, Again, To, Enters, Waits, Leaves, Phase, Running, Resumed, Waiting, Ended, WordOutcome, word_outcome, phase_after, stop_at, end_of, is_at_poll, standing_in, has_all_byes, counts_after}
+use Rattle.node_model.specs.Node.{Work, Node, Want, Move, Next, Again, To, Enters, Waits, Leaves, Phase, Running, Resumed, Waiting, Ended, WordOutcome, word_outcome, phase_after, end_of, is_at_poll, standing_in, has_all_byes, counts_after}
 use Rattle.node_model.specs.declared.Standing.{Standing}
 use Rattle.node_model.specs.declared.Standing.TheVariants as standing
 use Rattle.node_model.specs.Turns.{Turn, block_at, want_in, want_all, with_miss, with_byes, byes_to, is_ended, count_want, wants_of, each_block_once, after_word, after_wants, word_turn}

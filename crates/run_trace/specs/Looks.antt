@@ -1,5 +1,5 @@
 -- Helps the code alone: what is seen of a word before and after it.
-use Rattle.std.specs.Prelude.{◌≡◌, ℕ, List, Bool, true, false, not, ◌||◌, ◌==◌, Option, None, Some, option_and_then, map}
+use Rattle.std.specs.Prelude.{◌≡◌, ℕ, List, Bool, true, false, not, ◌==◌, Option, None, Some, option_and_then, map}
 use Rattle.std.specs.Option.{option_map, option_map_or}
 use Rattle.rv32_step.specs.OneMemory.{Access, Nothing, Reads, Writes, WritesIf, Exchanges}
 use Rattle.rv32_program.specs.declared.End.{End}

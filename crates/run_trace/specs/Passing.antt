@@ -7,8 +7,8 @@ use Rattle.replay.specs.node_machine.declared.touch.Touch.TheVariants as touch
 use Rattle.run_trace.specs.declared.passed.Until.{Until}
 use Rattle.run_trace.specs.declared.passed.Until.TheVariants as until
 use Rattle.run_trace.specs.declared.passed.WordPassed.{WordPassed}
-use Rattle.run_trace.specs.declared.tracer.Stop.{Stop}
-use Rattle.run_trace.specs.declared.tracer.Stop.TheVariants.{Ended}
+use Rattle.run_trace.specs.declared.tracer.StretchEnd.{StretchEnd}
+use Rattle.run_trace.specs.declared.tracer.StretchEnd.TheVariants.{Ended}
 use Rattle.run_trace.specs.declared.tracer.Tracer.{Tracer}
 use Rattle.run_trace.specs.declared.traced.AccessKind.{AccessKind}
 use Rattle.run_trace.specs.declared.traced.AccessKind.TheVariants as access
@@ -80,6 +80,6 @@ ending until.Write (touch.Reads kind a) = None
 ending u (touch.Writes width a) = Some (touch.Writes width a)
 
 -- the word behind which a stretch was stopped, if it ended the pass
-abbrev pub word_ended : Stop → Option WordPassed
+abbrev pub word_ended : StretchEnd → Option WordPassed
 word_ended (Ended w) = Some w
 word_ended stop = None

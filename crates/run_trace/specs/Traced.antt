@@ -14,7 +14,7 @@ use Rattle.node_model.specs.miss_handlers.Rows.{Row, row_of, clears}
 use Rattle.templates.specs.declared.places.Place.{Place}
 use Rattle.templates.specs.declared.plans.PlanEntry.{PlanEntry}
 use Rattle.node_model.specs.jump_map.Maps.{old_of}
-use Rattle.node_model.specs.Node.{Work, Node, Tally, Nothing_counted, FalseMiss, FallsBack, Phase, Waiting, word_outcome, tally_resumed, end_of}
+use Rattle.node_model.specs.Node.{Work, Node, Tally, Nothing_counted, Phase, Waiting, word_outcome, tally_resumed, end_of}
 use Rattle.node_model.specs.Turns.{Turn, holding, after_wants, after_message}
 use Rattle.node_model.specs.Core.{Core, Event, Exec, Take}
 use Rattle.replay.specs.node_machine.Wanted.{block_with, state_at, wants_of_word}

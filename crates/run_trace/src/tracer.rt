@@ -9,7 +9,7 @@ use crate::takes::{sight_of, take_traced};
 use crate::traced::{Traced, What};
 use crate::words::{accessed_at, before_word, commits, place_of, word_traced};
 use block_layout::Block;
-use replay::dsm_core::{Event, Incoming, Work};
+use replay::dsm_core::{Core, Event, Incoming, Work};
 use replay::node_machine::Touch;
 use replay::run_record::Record;
 use replay::{ReplayRefused, Replayer, WordsAhead};
@@ -27,7 +27,7 @@ pub struct Tracer<'a> {
 
 /// Where the words of a stretch were stopped.
 #[derive(Clone, Copy)]
-enum Stop {
+enum StretchEnd {
     /// Behind a word that ends the pass.
     Ended(WordPassed),
     /// Before an event that does more than to access memory.
@@ -52,7 +52,6 @@ impl<'a> Tracer<'a> {
     ghost use Rattle.replay.specs.declared.refused.ReplayRule.{ReplayRule as Rules};
     ghost use Rattle.replay.specs.declared.refused.ReplayRefused.TheVariants.{Broken};
     ghost use Rattle.run_trace.specs.Traced.{Traced as OfEvent};
-    ghost use Rattle.run_trace.specs.Trace.{IsTraceSoFar};
     ghost use Rattle.run_trace.specs.Tracing.{HasTraced, HasGoneOn, HasTracedOne, IsSame};
     ghost use Rattle.run_trace.specs.Tracing.{IsFewer, events_to_trace, IsCodeOf, HasEntries};
     ghost use Rattle.run_trace.specs.Tracing.{work_traced, plan_traced, record_traced, replayer_in};
@@ -83,12 +82,12 @@ impl<'a> Tracer<'a> {
         })
     }
 
-    /// What is traced is the trace of the events made so far; the call does nothing.
-    pub fn promises(&self)
-        ensures so_far { (seen : List OfEvent) → HasTraced self.now seen
-            → IsTraceSoFar (work_traced self.now) (plan_traced self.now) (record_traced self.now)
-            seen }
-    {}
+    /// The core, as the events made so far have left it.
+    pub fn core(&self) -> &Core<'a>
+        ensures value { result.now ≡ core_in (replayer_in self.now) }
+    {
+        self.replayer.core()
+    }
 
     /// What the next event does; None where all were made and each node is over. Fails where an
     /// event can't be made as the record tells of it.
@@ -127,41 +126,42 @@ impl<'a> Tracer<'a> {
     {
         while let Some(stretch) = self.replayer.words_ahead() {
             match self.run_ahead(stretch, until) {
-                Stop::Ended(word) => return Some(word),
-                Stop::Before => return None,
-                Stop::Through => {}
+                StretchEnd::Ended(word) => return Some(word),
+                StretchEnd::Before => return None,
+                StretchEnd::Through => {}
             }
         }
         None
     }
 
     /// Makes words of a stretch, up to the first whose access ends the pass.
-    fn run_ahead(&mut self, stretch: WordsAhead, until: Until) -> Stop
+    fn run_ahead(&mut self, stretch: WordsAhead, until: Until) -> StretchEnd
         requires traced { (seen : List OfEvent) × HasTraced self.old seen }
         requires stretch { IsStretch (replayer_in self.old) stretch }
         requires some { 0 < stretch.words }
         ensures passed { (seen : List OfEvent) → HasTraced self.old seen
             → HasPassedOn until self.new seen (word_ended result) }
-        ensures fewer { result ≢ Stop.Before → events_to_trace self.new < events_to_trace self.old }
+        ensures fewer { result ≢ StretchEnd.Before
+            → events_to_trace self.new < events_to_trace self.old }
         ensures most { events_to_trace self.new ≤ events_to_trace self.old }
         ensures same { IsSame self.old self.new }
     {
         let mut stretch = stretch;
         while stretch.words > 0 {
             let Some(touch) = self.replayer.core().node(stretch.node).touch() else {
-                return Stop::Before;
+                return StretchEnd::Before;
             };
             if let Some(touch) = ending(until, touch) {
                 return match self.run_to_access(&mut stretch, touch) {
-                    Some(word) => Stop::Ended(word),
-                    None => Stop::Before,
+                    Some(word) => StretchEnd::Ended(word),
+                    None => StretchEnd::Before,
                 };
             }
             if !self.replayer.make_silent_word(&mut stretch) {
-                return Stop::Before;
+                return StretchEnd::Before;
             }
         }
-        Stop::Through
+        StretchEnd::Through
     }
 
     /// Makes the next word of a stretch, which touches memory so, and says what it did.

@@ -1,6 +1,6 @@
 use Rattle.std.proofs.Common.{◌++◌, ap, ◌∙◌}
 use Rattle.std.proofs.lemmas.Result.{on_ok_weaker}
-use Rattle.page_events.specs.run_trace.Given.{traced_of, take_of}
+use Rattle.page_events.specs.run_trace.Given.{traced_of}
 use Rattle.page_view.specs.Arrows.{arrow_text, sends_text}
 use Rattle.page_view.proofs.Chains.{ok_behind}
 use Rattle.page_view.proofs.arrows.push_taken.Goals as goal

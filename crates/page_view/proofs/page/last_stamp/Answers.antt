@@ -1,5 +1,4 @@
-use Rattle.std.proofs.Common.{◌≡◌, None, drop, sym, ap, ◌∙◌}
-use Rattle.page_events.specs.run_trace.Given.{traced_of}
+use Rattle.std.proofs.Common.{sym, ap, ◌∙◌}
 use Rattle.page_view.specs.Page.{last_stamp}
 use Rattle.page_events.proofs.Walks.{first_left, none_left}
 use Rattle.page_view.proofs.page.last_stamp.Goals as goal

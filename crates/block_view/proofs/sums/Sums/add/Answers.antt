@@ -1,4 +1,4 @@
-use Rattle.std.proofs.Common.{◌≡◌, ℕ, ap, sym, ◌∙◌, subst, slice_index_or}
+use Rattle.std.proofs.Common.{sym, ◌∙◌, subst, slice_index_or}
 use Rattle.node_model.specs.Node.{no_counts}
 use Rattle.event_text.specs.run_trace.Given.{traced_of}
 use Rattle.event_text.specs.run_trace.Sums.{counts_from}

@@ -1,6 +1,6 @@
-use Rattle.std.proofs.Common.{◌≡◌, ℕ, ◌<◌, ◌++◌, List, length, ap, sym, ◌∙◌, subst, arith, All}
+use Rattle.std.proofs.Common.{◌≡◌, ℕ, ◌<◌, ◌++◌, List, ap, ◌∙◌, subst, arith, All}
 use Rattle.std.proofs.lemmas.List.{append_assoc}
-use Rattle.block_layout.specs.Layout.{Shape, blocks}
+use Rattle.block_layout.specs.Layout.{blocks}
 use Rattle.block_view.specs.Counts.{block_counts, misses_of}
 use Rattle.block_view.specs.Order.{costly, IsOrder}
 use Rattle.block_view.specs.Text.{head, block_lines, section_of, IsAscending}

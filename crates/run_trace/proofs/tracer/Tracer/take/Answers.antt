@@ -5,7 +5,6 @@ use Rattle.home_directory.specs.dsm_messages.Headers.{header_of, sent_by}
 use Rattle.node_model.specs.Node.{Work, Node}
 use Rattle.node_model.specs.Core.{Event, May}
 use Rattle.replay.specs.run_order.OwnRun.{node_of as event_node}
-use Rattle.replay.specs.node_machine.NodeState.{node_of}
 use Rattle.replay.specs.dsm_core.declared.seen.Incoming.{Incoming}
 use Rattle.replay.specs.dsm_core.CoreParts.{CoreParts, core_of}
 use Rattle.replay.specs.dsm_core.Seen.{incoming_of, sends_of_take}

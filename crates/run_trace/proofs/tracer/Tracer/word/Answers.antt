@@ -3,7 +3,7 @@ use Rattle.std.proofs.Common.{◌<◌, ap, sym, subst, ◌∙◌}
 use Rattle.node_model.specs.Node.{Work, Node}
 use Rattle.node_model.specs.Core.{Event, May}
 use Rattle.replay.specs.run_order.OwnRun.{node_of as event_node}
-use Rattle.replay.specs.node_machine.NodeState.{node_of, work_of as work_at}
+use Rattle.replay.specs.node_machine.NodeState.{work_of as work_at}
 use Rattle.replay.specs.dsm_core.CoreParts.{CoreParts, work_of, core_of}
 use Rattle.replay.specs.Way.{core_in}
 use Rattle.run_trace.specs.Looks.{IsBefore, IsAfterWord}
