@@ -7,16 +7,16 @@ use Rattle.std.specs.declared.cmp.Ordering.TheVariants.{Equal, Greater}
 use Rattle.std.specs.Cmp.{nat_cmp_is}
 use Rattle.std.proofs.lemmas.Bool.Decides.{eqb_tells}
 use Rattle.std.proofs.lemmas.List.Sorted.{All-permutation}
-use Rattle.check_costs.specs.declared.table.Row.{Row}
+use Rattle.check_costs.specs.declared.table.FunctionCounts.{FunctionCounts}
 use Rattle.check_costs.specs.Text.{added, IsOrder}
 
 -- so much room is left above what is added
-abbrev room : Row → ℕ
+abbrev room : FunctionCounts → ℕ
 room r = 2 ^ 64 - 1 - added r.counts
 
-pub ordered : (xs ys : List Row) → IsPermutation xs ys → All (λ r. added r.counts < 2 ^ 64) xs
+pub ordered : (xs ys : List FunctionCounts) → IsPermutation xs ys → All (λ r. added r.counts < 2 ^ 64) xs
     → IsNonDecreasingBy room ys
-    → ((k : ℕ) (d : Row) → k + 1 < length ys → room (slice_index_or ys k d) ≡ room (slice_index_or ys (k + 1) d)
+    → ((k : ℕ) (d : FunctionCounts) → k + 1 < length ys → room (slice_index_or ys k d) ≡ room (slice_index_or ys (k + 1) d)
     → (slice_index_or ys k d).function ≤ (slice_index_or ys (k + 1) d).function)
     → IsOrder xs ys
 ordered xs ys same fit rising ties = record {
@@ -36,8 +36,8 @@ not_less a b low = elim (eqb_tells a b) [
   | inr apart ↦ ap is_lt (sym (nat_cmp_is a b Greater (let other = apart.1 in omega (arith, low, other))))
 ]
 
-pub sorted_by_function : (xs : List Row)
-    → ((k : ℕ) (d : Row) → k + 1 < length xs
+pub sorted_by_function : (xs : List FunctionCounts)
+    → ((k : ℕ) (d : FunctionCounts) → k + 1 < length xs
     → (slice_index_or xs k d).function ≤ (slice_index_or xs (k + 1) d).function)
     → IsSortedByKey (λ r. r.function) nat_cmp xs
 sorted_by_function xs rising = λ k d low within.

@@ -1,11 +1,12 @@
 -- The counts of functions as a table: those with most words added first, and their sum last.
-use Rattle.std.specs.Prelude.{◌≡◌, ℕ, zero, suc, ◌+◌, ◌-◌, ◌*◌, ◌/◌, ◌^◌, ◌<◌, ◌≤◌, nat_lt, nat_le, ◌&&◌, if◌then◌else◌, All, List, [], ◌∷◌, ◌++◌, codes, length, map, filter, replicate, slice_get, slice_index_or, Option, None, Some}
+use Rattle.std.specs.Prelude.{◌≡◌, ℕ, zero, suc, ◌+◌, ◌-◌, ◌*◌, ◌/◌, ◌^◌, ◌<◌, ◌≤◌, nat_lt, All, List, [], ◌∷◌, ◌++◌, codes, length, map, filter, replicate, slice_get, slice_index_or, Option, None, Some}
 use Rattle.std.specs.Fmt.{decimal}
 use Rattle.std.specs.List.{range_with_len}
 use Rattle.std.specs.List.Sorted.{IsPermutation}
+use Rattle.elf_symbols.specs.Shown.{shown_byte}
 use Rattle.elf_symbols.specs.Symbols.{Symbol}
 use Rattle.check_costs.specs.declared.counts.WordCounts.{WordCounts}
-use Rattle.check_costs.specs.declared.table.Row.{Row}
+use Rattle.check_costs.specs.declared.table.FunctionCounts.{FunctionCounts}
 use Rattle.check_costs.specs.Counts.{counts_by, total}
 
 -- 1. Lines
@@ -45,10 +46,6 @@ numbers_text c =
     number c.instructions ++ (number c.words ++ (column (per_hundred c.words c.instructions)
     ++ (checks_text c ++ others_text c)))
 
--- a byte of a name: one that isn't a visible character of ASCII as `?`
-abbrev pub shown_byte : ℕ → ℕ
-shown_byte c = if nat_le 0x21 c && nat_le c 0x7e then c else 0x3f
-
 -- the line of a sum
 abbrev pub sum_line : WordCounts → List ℕ
 sum_line c = numbers_text c ++ codes "  all code\n"
@@ -63,28 +60,28 @@ name_or (Some s) = map shown_byte s.name
 abbrev pub name_of : List Symbol → (function : ℕ) → List ℕ
 name_of symbols f = name_or (slice_get symbols f)
 
-abbrev pub row_line : List Symbol → Row → List ℕ
+abbrev pub row_line : List Symbol → FunctionCounts → List ℕ
 row_line symbols r =
     numbers_text r.counts ++ (codes "  " ++ (name_of symbols r.function ++ codes "\n"))
 
-abbrev pub row_lines : List Symbol → List Row → List ℕ
+abbrev pub row_lines : List Symbol → List FunctionCounts → List ℕ
 row_lines symbols [] = []
 row_lines symbols (r ∷ rs) = row_line symbols r ++ row_lines symbols rs
 
 -- the functions that have words, in the order of the table
-abbrev pub row_at : List WordCounts → (function : ℕ) → Row
+abbrev pub row_at : List WordCounts → (function : ℕ) → FunctionCounts
 row_at counts f = record { function = f; counts = slice_index_or counts f (counts_by 0 []) }
 
-abbrev pub rows : List WordCounts → List Row
+abbrev pub rows : List WordCounts → List FunctionCounts
 rows counts =
     filter (λ r. nat_lt 0 r.counts.words) (map (row_at counts) (range_with_len 0 (length counts)))
 
 -- the same rows by the words added: the most first, then in the order of the table
-pub record IsOrder (rows ranked : List Row) : Type 0 where
+pub record IsOrder (rows ranked : List FunctionCounts) : Type 0 where
   pub same : IsPermutation rows ranked
-  pub falling : (k : ℕ) (d : Row) → k + 1 < length ranked
+  pub falling : (k : ℕ) (d : FunctionCounts) → k + 1 < length ranked
       → added (slice_index_or ranked (k + 1) d).counts ≤ added (slice_index_or ranked k d).counts
-  pub ties : (k : ℕ) (d : Row) → k + 1 < length ranked
+  pub ties : (k : ℕ) (d : FunctionCounts) → k + 1 < length ranked
       → added (slice_index_or ranked k d).counts ≡ added (slice_index_or ranked (k + 1) d).counts
       → (slice_index_or ranked k d).function ≤ (slice_index_or ranked (k + 1) d).function
 
@@ -93,13 +90,13 @@ pub record IsOrder (rows ranked : List Row) : Type 0 where
 -- the head, the rows in their order, and their sum
 pub record IsTable (symbols : List Symbol) (counts : List WordCounts) (text : List ℕ) : Type 0
   where
-    pub ranked : List Row
+    pub ranked : List FunctionCounts
     pub order : IsOrder (rows counts) ranked
     pub text_is : text ≡ head ++ (row_lines symbols ranked ++ sum_line (total counts))
 
 -- 4. Helps the code alone: rows of functions below n, ascending, with numbers below 2^64
-pub record AreUpTo (rows : List Row) (n : ℕ) : Type 0 where
+pub record AreUpTo (rows : List FunctionCounts) (n : ℕ) : Type 0 where
   pub below : All (λ r. r.function < n) rows
   pub fit : All (λ r. added r.counts < 2 ^ 64) rows
-  pub ascending : (k : ℕ) (d : Row) → k + 1 < length rows
+  pub ascending : (k : ℕ) (d : FunctionCounts) → k + 1 < length rows
       → (slice_index_or rows k d).function ≤ (slice_index_or rows (k + 1) d).function

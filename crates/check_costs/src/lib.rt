@@ -10,4 +10,4 @@ mod table;
 pub use counts::{WordCounts, counts_of};
 pub use entries::push_kinds;
 pub use kinds::WordKind;
-pub use table::{Row, table_of};
+pub use table::{FunctionCounts, table_of};

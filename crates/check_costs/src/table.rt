@@ -1,13 +1,13 @@
 //! The counts of functions as a table.
 
-ghost use Rattle.std.specs.Prelude.{◌≡◌, ◌+◌, ◌<◌, ◌∷◌, ◌++◌, [], ℕ, length, map, nat_lt, IfOk, OnOk};
+ghost use Rattle.std.specs.Prelude.{◌≡◌, ◌+◌, ◌<◌, ◌∷◌, ◌++◌, [], ℕ, length, nat_lt, IfOk, OnOk};
 ghost use Rattle.std.specs.Prelude.{if◌then◌else◌};
 ghost use Rattle.check_costs.specs.Counts.{total};
 ghost use Rattle.check_costs.specs.Text as model;
 ghost use Rattle.check_costs.specs.Text.{IsOrder, IsTable, AreUpTo};
 
 use crate::counts::WordCounts;
-use elf_symbols::Symbols;
+use elf_symbols::{Symbols, push_shown};
 use itoa::Buffer;
 use std::alloc::{AllocError, Global};
 
@@ -16,7 +16,7 @@ const WIDTH: usize = 8;
 
 /// A row of the table: a function by its number, and its counts.
 #[derive(Clone, Copy)]
-pub struct Row {
+pub struct FunctionCounts {
     pub function: usize,
     pub counts: WordCounts,
 }
@@ -54,7 +54,7 @@ fn sum_of(counts: &[WordCounts]) -> Result<WordCounts, AllocError>
 }
 
 /// The rows of functions that have words, those with most words added first.
-fn in_order(alloc: Global, counts: &[WordCounts]) -> Result<Vec<Row>, AllocError>
+fn in_order(alloc: Global, counts: &[WordCounts]) -> Result<Vec<FunctionCounts>, AllocError>
     ensures { IfOk result (λ v. IsOrder (model.rows counts.now) v.items) }
 {
     let mut rows = rows_of(alloc, counts)?;
@@ -63,7 +63,7 @@ fn in_order(alloc: Global, counts: &[WordCounts]) -> Result<Vec<Row>, AllocError
 }
 
 /// Sorts rows by the words added, the most first, and those that add as many by their functions.
-fn sort(rows: &mut Vec<Row>) -> Result<(), AllocError>
+fn sort(rows: &mut Vec<FunctionCounts>) -> Result<(), AllocError>
     requires { (n : ℕ) × AreUpTo rows.old.items n }
     ensures { OnOk result (IsOrder rows.old.items rows.new.items) }
 {
@@ -79,7 +79,7 @@ fn added(counts: &WordCounts) -> usize
 }
 
 /// The rows of functions that have words, in the order of the table.
-fn rows_of(alloc: Global, counts: &[WordCounts]) -> Result<Vec<Row>, AllocError>
+fn rows_of(alloc: Global, counts: &[WordCounts]) -> Result<Vec<FunctionCounts>, AllocError>
     ensures value { IfOk result (λ v. v.items ≡ model.rows counts.now) }
     ensures ascending { IfOk result (λ v. AreUpTo v.items (length counts.now)) }
 {
@@ -91,18 +91,18 @@ fn rows_of(alloc: Global, counts: &[WordCounts]) -> Result<Vec<Row>, AllocError>
 }
 
 /// The row of a function.
-fn row_at(counts: &[WordCounts], function: usize) -> Row
+fn row_at(counts: &[WordCounts], function: usize) -> FunctionCounts
     requires { function < length counts.now }
     ensures { result ≡ model.row_at counts.now function }
 {
-    Row {
+    FunctionCounts {
         function,
         counts: counts[function],
     }
 }
 
 /// Appends a row, if it has words.
-fn push_row(rows: &mut Vec<Row>, row: Row) -> Result<(), AllocError>
+fn push_row(rows: &mut Vec<FunctionCounts>, row: FunctionCounts) -> Result<(), AllocError>
     ensures items { OnOk result (rows.new.items
         ≡ rows.old.items ++ (if nat_lt 0 row.counts.words then row ∷ [] else [])) }
     ensures ascending { OnOk result
@@ -125,7 +125,11 @@ fn push_head(out: &mut Vec<u8>) -> Result<(), AllocError>
 }
 
 /// Appends the lines of rows.
-fn push_rows(symbols: &Symbols<'_>, rows: &[Row], out: &mut Vec<u8>) -> Result<(), AllocError>
+fn push_rows(
+    symbols: &Symbols<'_>,
+    rows: &[FunctionCounts],
+    out: &mut Vec<u8>,
+) -> Result<(), AllocError>
     ensures { OnOk result (out.new.items
         ≡ out.old.items ++ model.row_lines symbols.now rows.now) }
 {
@@ -136,7 +140,11 @@ fn push_rows(symbols: &Symbols<'_>, rows: &[Row], out: &mut Vec<u8>) -> Result<(
 }
 
 /// Appends the line of a row: its numbers, and the name of its function.
-fn push_line(symbols: &Symbols<'_>, row: &Row, out: &mut Vec<u8>) -> Result<(), AllocError>
+fn push_line(
+    symbols: &Symbols<'_>,
+    row: &FunctionCounts,
+    out: &mut Vec<u8>,
+) -> Result<(), AllocError>
     ensures { OnOk result (out.new.items
         ≡ out.old.items ++ model.row_line symbols.now row.now) }
 {
@@ -162,27 +170,10 @@ fn push_name(symbols: &Symbols<'_>, function: usize, out: &mut Vec<u8>) -> Resul
         ≡ out.old.items ++ model.name_of symbols.now function) }
 {
     match symbols.functions().get(function) {
-        Some(symbol) => push_shown(symbol.name, out)?,
+        Some(symbol) => push_shown(out, symbol.name)?,
         None => out.extend_from_slice(b"in no function")?,
     }
     Ok(())
-}
-
-/// Appends a name, each byte that isn't a visible character of ASCII as `?`.
-fn push_shown(name: &[u8], out: &mut Vec<u8>) -> Result<(), AllocError>
-    ensures { OnOk result (out.new.items ≡ out.old.items ++ map model.shown_byte name.now) }
-{
-    for byte in name {
-        out.push(shown_byte(*byte))?;
-    }
-    Ok(())
-}
-
-/// A byte of a name as it is shown.
-fn shown_byte(byte: u8) -> u8
-    ensures { result ≡ model.shown_byte byte }
-{
-    if byte.is_ascii_graphic() { byte } else { b'?' }
 }
 
 /// Appends the numbers of a line.

@@ -3,7 +3,7 @@ use Rattle.std.proofs.Common.{◌≡◌, ℕ, MatchOption, List, [], ◌∷◌, 
 use Rattle.std.specs.Prelude.{find}
 use Rattle.clap.specs.declared.parser.matches.ArgMatches.{ArgMatches}
 use Rattle.command_line.specs.declared.table.Role.TheVariants as role
-use Rattle.command_line.specs.declared.table.Setting.TheVariants.{Verify, NoBatch, From, To, Block, Node}
+use Rattle.command_line.specs.declared.table.Setting.TheVariants.{Verify, NoBatch, From, To, Block, Node, Memory}
 use Rattle.command_line.specs.declared.table.ViewWord.{ViewWord}
 use Rattle.command_line.specs.declared.table.ViewWord.TheVariants as word
 use Rattle.command_line.specs.declared.view.View.{View as OfCode}
@@ -17,7 +17,7 @@ use Rattle.command_line.proofs.Cuts.{same_cut}
 use Rattle.command_line.proofs.Given.{given_of, gives, row_back, row_cut, row_given, same_head}
 use Rattle.command_line.proofs.Times.{one_speedup, one_time}
 use Rattle.command_line.proofs.Triples.{same_three}
-use Rattle.command_line.proofs.Rows.{flag_one, maybes_one, names_one, same_file, same_read}
+use Rattle.command_line.proofs.Rows.{flag_one, maybes_one, names_one, same_file, same_read, says_one}
 
 abbrev Given : Type 0
 Given = List ℕ → List (List ℕ)
@@ -35,7 +35,7 @@ Arguments word.Page = RecordedFiles × List ℕ × Option ℕ × Option ℕ
 Arguments word.Time = TimeArguments
 Arguments word.Cost = CodeArguments
 Arguments word.Speedup = TimeArguments × List ℕ
-Arguments word.Gdb = RecordedFiles
+Arguments word.Gdb = RecordedFiles × ℕ
 
 abbrev pub view : (w : ViewWord) → Arguments w → View
 view word.Help a = Help
@@ -46,7 +46,7 @@ view word.Page a = Page a.0 a.1 a.2 a.3
 view word.Time a = Time a
 view word.Cost a = Cost a
 view word.Speedup a = Speedup a.0 a.1
-view word.Gdb a = Gdb a
+view word.Gdb a = Gdb a.0 a.1
 
 abbrev pub view_word : View → ViewWord
 view_word Help = word.Help
@@ -57,7 +57,7 @@ view_word (Page run output from to) = word.Page
 view_word (Time a) = word.Time
 view_word (Cost a) = word.Cost
 view_word (Speedup a output) = word.Speedup
-view_word (Gdb run) = word.Gdb
+view_word (Gdb run memory) = word.Gdb
 
 abbrev IsWhole : View → ViewWord → Type 0
 IsWhole v w = (a : Arguments w) × (v ≡ view w a)
@@ -71,7 +71,7 @@ arguments_of (Page run output from to) = ((run, output, from, to), refl)
 arguments_of (Time a) = (a, refl)
 arguments_of (Cost a) = (a, refl)
 arguments_of (Speedup a output) = ((a, output), refl)
-arguments_of (Gdb run) = (run, refl)
+arguments_of (Gdb run memory) = ((run, memory), refl)
 
 pub word_is : (v : View) → view_text (view_word v) ≡ (view_row v).word
 word_is Help = refl
@@ -82,7 +82,7 @@ word_is (Page run output from to) = refl
 word_is (Time a) = refl
 word_is (Cost a) = refl
 word_is (Speedup a output) = refl
-word_is (Gdb run) = refl
+word_is (Gdb run memory) = refl
 
 -- views differ in their words
 abbrev view_words : List ViewWord
@@ -201,10 +201,11 @@ one_of_word g word.Cost a b p q =
 one_of_word g word.Speedup (a, output) (b, output') p q =
     let same = one_speedup g a b output output' p q in
     ap (λ x. Speedup x output) same.0 ∙ ap (λ x. Speedup b x) same.1
-one_of_word g word.Gdb a b p q =
-    let files = same_read a.file a.record_file b.file b.record_file _ p.places q.places in
-    let verified = names_one g Verify a.verified b.verified p.options.0 q.options.0 in
-    ap (λ x. Gdb x) (one_run a b files.0 files.1 verified)
+one_of_word g word.Gdb (run, memory) (run', memory') p q =
+    let files = same_read run.file run.record_file run'.file run'.record_file _ p.places q.places in
+    let verified = names_one g Verify run.verified run'.verified p.options.0 q.options.0 in
+    ap (λ x. Gdb x memory) (one_run run run' files.0 files.1 verified)
+    ∙ ap (λ x. Gdb run' x) (says_one g Memory memory memory' p.options.1.0 q.options.1.0)
 
 one_view : (g : Given) (v w : View) → IsOfRow (view_row v) g → IsOfRow (view_row w) g
     → (view_row v).word ≡ (view_row w).word → v ≡ w

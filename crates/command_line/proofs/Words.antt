@@ -179,7 +179,7 @@ uncut (x ∷ xs) e = go (x == 61) refl e (uncut xs)
 abbrev all_settings : List Setting
 all_settings =
     settings_of word.Run ++ (settings_of word.One ++ (settings_of word.Sim
-    ++ (view_settings view.Trace ++ view_settings view.Time)))
+    ++ (view_settings view.Trace ++ (view_settings view.Time ++ view_settings view.Gdb))))
 
 abbrev setting_at : List ℕ → Setting
 setting_at word = unwrap_or (option_of all_settings word) Nodes

@@ -2,6 +2,7 @@ pub mod Asks
 pub mod Commands
 pub mod Costs
 pub mod Meaning
+pub mod Megabytes
 pub mod Tasks
 pub mod Reading
 pub mod Table

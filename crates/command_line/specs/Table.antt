@@ -7,7 +7,7 @@ use Rattle.command_line.specs.declared.table.CommandWord.TheVariants as word
 use Rattle.command_line.specs.declared.table.Kind.{Kind}
 use Rattle.command_line.specs.declared.table.Kind.TheVariants.{Number, MaybeNumber, MaybeAddress, File, Flag}
 use Rattle.command_line.specs.declared.table.Setting.{Setting}
-use Rattle.command_line.specs.declared.table.Setting.TheVariants.{Nodes, Order, Budget, Layout, Code, Verify, Record, Brief, NoBatch, Loss, PerNode, From, To, Block, Node, Latency, Line, Handling}
+use Rattle.command_line.specs.declared.table.Setting.TheVariants.{Nodes, Order, Budget, Layout, Code, Verify, Record, Brief, NoBatch, Loss, PerNode, From, To, Block, Node, Latency, Line, Handling, Memory}
 use Rattle.command_line.specs.declared.table.ViewWord.{ViewWord}
 use Rattle.command_line.specs.declared.table.ViewWord.TheVariants as view
 use Rattle.command_line.specs.Tasks.{Saying}
@@ -34,6 +34,7 @@ option_word Node = codes "--node"
 option_word Latency = codes "--latency"
 option_word Line = codes "--line"
 option_word Handling = codes "--handling"
+option_word Memory = codes "--memory"
 
 -- what an option is given
 abbrev pub kind_of : Setting → Kind
@@ -55,6 +56,7 @@ kind_of Node = MaybeNumber 0 15
 kind_of Latency = Number 0 1000000 1200
 kind_of Line = Number 0 1000000 300
 kind_of Handling = Number 0 1000000 300
+kind_of Memory = Number 0 1000000 300
 
 -- what an option of a kind says where it is left out
 abbrev pub left_out : Kind → Saying
@@ -125,4 +127,4 @@ view_settings view.Page = Verify ∷ From ∷ To ∷ []
 view_settings view.Time = time_settings
 view_settings view.Cost = Verify ∷ NoBatch ∷ []
 view_settings view.Speedup = time_settings
-view_settings view.Gdb = Verify ∷ []
+view_settings view.Gdb = Verify ∷ Memory ∷ []

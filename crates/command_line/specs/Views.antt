@@ -58,8 +58,8 @@ pub data View : Type 0 where
   Cost : CodeArguments → View
   -- run by a clock 1 node, 2, 4 and so on to the most, and write a page of their speed-up
   Speedup : (a : TimeArguments) (output : List ℕ) → View
-  -- show a recorded run to GDB, on one memory
-  Gdb : (run : RecordedFiles) → View
+  -- show a recorded run to GDB, on one memory; checkpoints of it take at most so many megabytes
+  Gdb : (run : RecordedFiles) (memory : ℕ) → View
 
 -- options that several views have
 abbrev pub verify_option : Option (List ℕ) → List ℕ × Saying
@@ -128,10 +128,10 @@ view_row (Speedup a output) = record {
   places = Read (Some a.file) ∷ Write (Some output) ∷ [];
   options = most_nodes_option a.nodes ∷ time_options a;
 }
-view_row (Gdb run) = record {
+view_row (Gdb run memory) = record {
   word = codes "gdb";
   places = Read (Some run.file) ∷ Read (Some run.record_file) ∷ [];
-  options = verify_option run.verified ∷ [];
+  options = verify_option run.verified ∷ (codes "--memory", Number 0 1000000 300 memory) ∷ [];
 }
 
 -- a view has nothing too much: beside a verified file no word that batches aren't wanted
@@ -188,4 +188,4 @@ meaning_of_view (asked.Page run output from to) = Page (recorded_of run) output.
 meaning_of_view (asked.Time a) = Time (time_of a)
 meaning_of_view (asked.Cost a) = Cost (code_of a)
 meaning_of_view (asked.Speedup arguments output) = Speedup (time_of arguments) output.now
-meaning_of_view (asked.Gdb run) = Gdb (recorded_of run)
+meaning_of_view (asked.Gdb run memory) = Gdb (recorded_of run) memory

@@ -20,12 +20,14 @@ use std::alloc::{AllocError, Global};
 use table::{CommandWord, Kind, Role, Setting};
 
 mod cost;
+mod megabytes;
 mod number;
 mod parsing;
 mod table;
 mod view;
 
 pub use cost::Cost;
+pub use megabytes::Megabytes;
 pub use view::{CodeArguments, RecordedFiles, TimeArguments, View, view_of};
 
 /// What the program is to do.

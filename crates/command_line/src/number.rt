@@ -1,6 +1,6 @@
 //! Numbers, and addresses.
 
-ghost use Rattle.std.specs.Prelude.{◌≡◌, ◌≢◌, ◌≤◌, ◌++◌, ℕ, List, MatchOption, codes};
+ghost use Rattle.std.specs.Prelude.{◌≡◌, ◌≢◌, ◌++◌, ℕ, List, MatchOption, codes};
 ghost use Rattle.command_line.specs.Asks.{IsAddress, IsNumber, most_digits};
 
 /// The most hexadecimal digits of an address.

@@ -49,6 +49,7 @@ pub(crate) enum Setting {
     Latency,
     Line,
     Handling,
+    Memory,
 }
 
 /// What an argument is for.
@@ -194,7 +195,7 @@ impl ViewWord {
                 Setting::Handling,
             ],
             ViewWord::Cost => &[Setting::Verify, Setting::NoBatch],
-            ViewWord::Gdb => &[Setting::Verify],
+            ViewWord::Gdb => &[Setting::Verify, Setting::Memory],
         }
     }
 }
@@ -223,6 +224,7 @@ impl Setting {
             Setting::Latency => "latency",
             Setting::Line => "line",
             Setting::Handling => "handling",
+            Setting::Memory => "memory",
         }
     }
 
@@ -265,7 +267,7 @@ impl Setting {
                 high: 1_000_000,
                 default: 1200,
             },
-            Setting::Line | Setting::Handling => Kind::Number {
+            Setting::Line | Setting::Handling | Setting::Memory => Kind::Number {
                 low: 0,
                 high: 1_000_000,
                 default: 300,

@@ -10,6 +10,7 @@ ghost use Rattle.command_line.specs.Views.{View as Asked, AsksView};
 ghost use Rattle.command_line.specs.Views.{code_of, meaning_of_view, time_of as asked_time};
 
 use crate::cost::Cost;
+use crate::megabytes::Megabytes;
 use crate::number::address_of;
 use crate::parsing::{Given, arguments_in, given_for, three_operands_in};
 use crate::table::{Kind, Role, Setting, ViewWord};
@@ -61,9 +62,10 @@ pub enum View<'a> {
         arguments: TimeArguments<'a>,
         output: &'a str,
     },
-    /// Show a recorded run to GDB, on one memory.
+    /// Show a recorded run to GDB, on one memory. Checkpoints of it take at most `memory`.
     Gdb {
         run: RecordedFiles<'a>,
+        memory: Megabytes,
     },
 }
 
@@ -350,6 +352,17 @@ fn speedup_of<'a>(matches: &ArgMatches<'a>) -> Option<View<'a>>
     }
 }
 
+/// How much room the checkpoints of a run may take.
+fn memory_in(matches: &ArgMatches<'_>) -> Option<Megabytes>
+    ensures { MatchOption result
+        ((n : ℕ) → SaysNumber (given_by matches.now) Setting.Memory n → ⊥)
+        (λ m. SaysNumber (given_by matches.now) Setting.Memory m) }
+{
+    let number = number_in(matches, Setting::Memory)?;
+    let memory = Megabytes::of(number)?;
+    Some(memory)
+}
+
 /// The view `gdb`.
 fn gdb_of<'a>(matches: &ArgMatches<'a>) -> Option<View<'a>>
     ensures { MatchOption result
@@ -358,12 +371,13 @@ fn gdb_of<'a>(matches: &ArgMatches<'a>) -> Option<View<'a>>
 {
     let (file, record_file) = two_operands_in(matches)?;
     let verified = name_in(matches, Setting::Verify)?;
+    let memory = memory_in(matches)?;
     let run = RecordedFiles {
         file,
         record_file,
         verified,
     };
-    Some(View::Gdb { run })
+    Some(View::Gdb { run, memory })
 }
 
 /// The view of a word that is a view's, with these arguments.

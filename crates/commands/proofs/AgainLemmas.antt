@@ -1,11 +1,10 @@
 -- A replay of the record of a run is that run.
-use Rattle.std.proofs.Common.{◌≡◌, ℕ, zero, suc, ◌+◌, ◌<◌, ◌≤◌, ◌^◌, Bool, List, [], ◌∷◌, ◌++◌, length, map, Option, None, Some, refl, sym, ap, ◌∙◌, subst, arith}
-use Rattle.std.specs.Prelude.{All, AllPairs, slice_index_or}
-use Rattle.std.specs.List.{range_with_len}
+use Rattle.std.proofs.Common.{◌≡◌, ℕ, Bool, List, [], ◌∷◌, length, map, Option, Some, refl, sym, ap, ◌∙◌, subst, arith}
+use Rattle.std.specs.Prelude.{All}
 use Rattle.std.proofs.lemmas.List.FromFn.{get_or-map-range_with_len}
 use Rattle.elf32_read.specs.Elf.{Elf}
 use Rattle.exec_map.specs.Contents.{program_of, AreSharedRanges}
-use Rattle.block_layout.specs.Layout.{Shape, IsValid, is_in}
+use Rattle.block_layout.specs.Layout.{Shape, IsValid}
 use Rattle.block_layout.specs.declared.layout.BlockRange.{BlockRange}
 use Rattle.block_layout.specs.declared.ranges.Lines.{Lines}
 use Rattle.rv32_program.specs.Program.{Program}
@@ -17,7 +16,6 @@ use Rattle.rewriter.specs.RewrittenFile.{rewritten_elf}
 use Rattle.node_model.specs.Node.{Work}
 use Rattle.node_model.specs.Core.{Core, Event, IsOver, opening_core, after}
 use Rattle.node_model.specs.Outcome.{Outcome}
-use Rattle.node_model.specs.declared.Entry.{Entry}
 use Rattle.run_order.specs.OwnRun.{Stamped, StandsForOwnRun, run_of}
 use Rattle.rewriting_law.specs.Bounds.{RunsRewritten}
 use Rattle.run_record.specs.declared.Record.{Record}

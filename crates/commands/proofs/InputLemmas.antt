@@ -7,8 +7,8 @@ use Rattle.judged_files.specs.Failures.{file_limit, AreBytes, AreContents, IsCon
 use Rattle.command_line.specs.Tasks.{Execution, RunArguments, SimArguments}
 use Rattle.command_line.specs.Commands.{Command, Rewrite, Run, Listing, One, Sim, Replay, Generate, Assemble, reads}
 use Rattle.commands.specs.Failures.{AreInputs, AreRead}
-use Rattle.judged_files.specs.Inputs.{Inputs}
-use Rattle.commands.specs.Inputs.{FileNames, execution_files, file_names, bytes_in}
+use Rattle.judged_files.specs.Inputs.{Inputs, bytes_in}
+use Rattle.commands.specs.Inputs.{FileNames, execution_files, file_names}
 
 -- the file of a name that may be left out
 abbrev pub named : Option (List ℕ) → List (List ℕ)

@@ -1,5 +1,5 @@
 -- A whole run of nodes is an interleaved run of the original.
-use Rattle.std.proofs.Common.{◌≡◌, ◌≢◌, ℕ, zero, suc, ◌+◌, ◌*◌, ◌<◌, ◌≤◌, ◌&&◌, not, cond, eqb, Bool, true, false, List, [], ◌∷◌, ◌++◌, length, map, get_or, Option, Some, None, refl, sym, ap, ◌∙◌, subst, inl, inr, arith}
+use Rattle.std.proofs.Common.{◌≡◌, ℕ, zero, suc, ◌+◌, ◌*◌, ◌<◌, ◌≤◌, ◌&&◌, not, cond, eqb, Bool, true, false, List, [], ◌∷◌, ◌++◌, length, map, get_or, Option, Some, None, refl, sym, ap, ◌∙◌, subst, inl, inr, arith}
 use Rattle.std.specs.Prelude.{is_some, nat_lt, codes, IfSome, ◌^◌}
 use Rattle.std.specs.Fmt.{digits}
 use Rattle.std.specs.List.{filter, flat_map, range_with_len}
@@ -14,7 +14,7 @@ use Rattle.block_layout.specs.declared.ranges.Lines.{Lines}
 use Rattle.rv32_program.specs.declared.Exit.{Exit}
 use Rattle.rv32_step.specs.OneMemory.{Original, State, Pick, Step, is_of, opening, step, IsRun, run}
 use Rattle.random_order.specs.Orders.{following, choice}
-use Rattle.one_memory.specs.ByOrder.{FollowsOrder, end_by, goes_on, live, one_more}
+use Rattle.one_memory.specs.ByOrder.{FollowsOrder, goes_on, live, one_more}
 use Rattle.templates.specs.declared.plans.PlanEntry.{PlanEntry}
 use Rattle.node_model.specs.Outcome.{Outcome}
 use Rattle.node_model.specs.declared.Entry.{Entry}

@@ -1,13 +1,11 @@
 -- A record that tells of a run isn't refused.
-use Rattle.std.proofs.Common.{◌≡◌, ◌⊎◌, ℕ, ◌<◌, ◌≤◌, Bool, List, length, map, refl, sym, ap, ◌∙◌, subst, inl, inr, arith}
-use Rattle.std.specs.Prelude.{All}
+use Rattle.std.proofs.Common.{◌≡◌, ◌⊎◌, ℕ, Bool, List, length, sym, ap, ◌∙◌, subst, inl, inr, arith}
 use Rattle.std.proofs.lemmas.List.{length-map}
-use Rattle.rv32_decode.specs.declared.Instr.{Instr}
 use Rattle.rv32_program.specs.Program.{Program}
 use Rattle.elf32_read.specs.Elf.{Elf}
 use Rattle.elf32_read.proofs.Judging.{no_rule}
 use Rattle.exec_map.proofs.Judging.{no_rule as no_program_rule}
-use Rattle.exec_map.specs.Contents.{program_of, AreSharedRanges}
+use Rattle.exec_map.specs.Contents.{program_of}
 use Rattle.exec_map.specs.Refusals.{Fits}
 use Rattle.block_layout.specs.Layout.{Shape, IsValid}
 use Rattle.block_layout.specs.Text.{IsFirstBroken}
@@ -16,7 +14,7 @@ use Rattle.block_layout.specs.declared.ranges.Lines.{Lines}
 use Rattle.block_layout.specs.declared.refused.LayoutRule.{LayoutRule}
 use Rattle.templates.specs.declared.plans.PlanEntry.{PlanEntry}
 use Rattle.templates.specs.WholePlan.{IsPlanOf}
-use Rattle.jump_map.specs.Image.{Cell, IsRewriting, image_words, most_words, read_cell}
+use Rattle.jump_map.specs.Image.{Cell, IsRewriting, image_words, read_cell}
 use Rattle.rewriter.specs.RewrittenFile.{rewritten_elf}
 use Rattle.rewriter.specs.TooLarge.{IsTooLarge}
 use Rattle.rewrite_verify.specs.Refusals as verify
@@ -37,10 +35,9 @@ use Rattle.replay.specs.Told.{Told}
 use Rattle.judged_files.specs.Code.{Choice, Planned, Verified, choice_of, IsRewritingOf, IsUnchosen}
 use Rattle.judged_files.specs.Executables.{IsUnaccepted, ReadsAs}
 use Rattle.judged_files.specs.Inputs.{Inputs}
-use Rattle.judged_files.specs.Records.{AreFaultyBlocks, IsFaultyText, IsLayoutOfBlocks, IsTextOf}
-use Rattle.prepared_run.specs.Replays.{IsBadRecord, IsBadReplayLayout, IsBrokenRecord, IsBrokenRun, IsNoRecord, IsNoRecordOfCode, IsOutcomeOfReplay, IsReplayRefused, IsWorkOf}
+use Rattle.judged_files.specs.Records.{AreFaultyBlocks, IsLayoutOfBlocks, IsTextOf}
+use Rattle.prepared_run.specs.Replays.{IsBadRecord, IsBadReplayLayout, IsBrokenRun, IsOutcomeOfReplay, IsReplayRefused}
 use Rattle.commands.proofs.AgainLemmas.{HaveRecordLaws, one_elf, one_image, one_list, one_text, one_work, shared_some}
-use Rattle.commands.proofs.SharedRanges.{HasLines}
 
 -- the laws of plans, of texts, of ranges and of events: each is right or has a fault
 pub record HaveFaultLaws : Type 0 where

@@ -7,12 +7,12 @@ use Rattle.std.proofs.lemmas.Nat.{mul-le}
 use Rattle.std.proofs.lemmas.List.{length-map}
 use Rattle.std.proofs.lemmas.List.Elements.{All-nil, All-cons, All-weaker}
 use Rattle.std.proofs.lemmas.List.FromFn.{length-map-range_with_len}
-use Rattle.block_layout.specs.Layout.{IsValid, IsRange, is_block_size, is_home}
+use Rattle.block_layout.specs.Layout.{IsValid, IsRange, is_home}
 use Rattle.block_layout.specs.declared.layout.BlockRange.{BlockRange}
 use Rattle.block_layout.specs.declared.ranges.Lines.{Lines}
 use Rattle.rv32_program.specs.Program.{Program, IsAccepted}
 use Rattle.templates.specs.declared.plans.PlanEntry.{PlanEntry}
-use Rattle.jump_map.specs.Image.{Cell, IsRewriting, image_words, most_words, read_cell}
+use Rattle.jump_map.specs.Image.{Cell, IsRewriting, read_cell}
 use Rattle.node_model.specs.declared.Entry.{Entry}
 use Rattle.node_model.specs.Node.{Work, Node, IsLaidOver}
 use Rattle.node_model.specs.Core.{Core, Event, IsCoreRun, opening_core, after}
@@ -20,7 +20,7 @@ use Rattle.run_order.specs.OwnRun.{Stamped, StandsForOwnRun, run_of}
 use Rattle.run_order.specs.Takes.{AreTakesWithin}
 use Rattle.rewriting_law.specs.Bounds.{RunsRewritten, most_events}
 use Rattle.run_record.specs.Lists.{items_of}
-use Rattle.run_record.specs.Record.{IsBlockLine, IsTakeBehind, AreTakesBehind, IsCodeLength, IsRecord}
+use Rattle.run_record.specs.Record.{IsBlockLine, AreTakesBehind, IsCodeLength, IsRecord}
 use Rattle.commands.specs.Records.{record_at, record_of}
 
 -- ---- the ranges of the layout

@@ -1,9 +1,9 @@
 -- The files that commands read.
-use Rattle.std.specs.Prelude.{◌≡◌, ℕ, Bool, true, not, List, [], Option, None, Some, option_map, Contains}
+use Rattle.std.specs.Prelude.{◌≡◌, ℕ, Bool, true, not, List, Option, None, Some, option_map, Contains}
 use Rattle.dsm_io.specs.States.{FilesState}
 use Rattle.command_line.specs.Tasks.{Execution}
 use Rattle.command_line.specs.Commands.{Command, Rewrite, Run, Listing, One, Sim, Replay, Generate, Assemble, reads}
-use Rattle.judged_files.specs.Inputs.{Inputs}
+use Rattle.judged_files.specs.Inputs.{Inputs, bytes_in}
 
 -- the files that a command reads, each where it reads one: as an executable; as the rewritten
 -- executable; as a verified one, whose code is run in place of that by the program's own plan; as a
@@ -50,11 +50,6 @@ file_names (Replay a) = record no_file {
 }
 file_names (Generate a) = no_file
 file_names (Assemble a) = record no_file { text = Some a.text }
-
--- the bytes of a file, which are none where there is no file
-abbrev pub bytes_in : (List ℕ → List ℕ) → Option (List ℕ) → List ℕ
-bytes_in contents None = []
-bytes_in contents (Some name) = contents name
 
 -- what is read of such files, where they have these contents
 abbrev pub inputs_in : FileNames → (List ℕ → List ℕ) → Inputs

@@ -14,10 +14,7 @@ use judged_files::input::{elf_of, program_of};
 use judged_files::refusal::Subject;
 use rv32_text::line_of;
 use std::alloc::{AllocError, Global};
-use text_output::{Failure, put};
-
-/// The lines are put in pieces of about so many bytes.
-const PIECE: usize = 0x1_0000;
+use text_output::{Failure, PIECE, put};
 
 /// Puts the listing of the executable in a file; the status is 0.
 pub fn list<O: Sink>(alloc: Global, file: &[u8], out: &mut O) -> Result<u8, Failure>

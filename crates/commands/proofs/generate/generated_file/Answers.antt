@@ -1,9 +1,8 @@
-use Rattle.std.proofs.Common.{◌≡◌, ◌∙◌, ap, refl}
+use Rattle.std.proofs.Common.{◌∙◌, ap, refl}
 use Rattle.std.proofs.lemmas.Bool.{and_from}
 use Rattle.elf32_read.specs.Elf.{Elf}
 use Rattle.elf32_write.specs.Writable.{is_plain}
 use Rattle.std.specs.List.{list_all}
-use Rattle.workload.specs.Generated.{generated_elf}
 use Rattle.commands.proofs.generate.generated_file.Goals as goal
 
 -- it is in the limits, and has no sections

@@ -1,5 +1,5 @@
 -- One node more.
-use Rattle.std.proofs.Common.{◌≡◌, [], ◌∷◌, ◌++◌, List, ap, ap₂, ◌∙◌, sym, arith}
+use Rattle.std.proofs.Common.{[], ◌∷◌, ◌++◌, List, ap, ap₂, ◌∙◌, sym, arith}
 use Rattle.std.proofs.lemmas.List.FromFn.{map-range_with_len_more}
 use Rattle.node_model.specs.declared.Entry.{Entry}
 use Rattle.node_model.specs.Node.{Node}

@@ -1,8 +1,5 @@
-use Rattle.std.proofs.Common.{◌≡◌, List, length, ap, ◌∙◌, sym, map}
-use Rattle.std.specs.List.{range_with_len}
+use Rattle.std.proofs.Common.{length, ap, ◌∙◌, sym}
 use Rattle.block_layout.specs.Layout.{Shape}
-use Rattle.block_layout.specs.declared.layout.BlockRange.{BlockRange}
-use Rattle.node_model.specs.declared.Entry.{Entry}
 use Rattle.node_model.specs.Node.{Work}
 use Rattle.dsm_core.specs.CoreParts.{core_of, work_of}
 use Rattle.commands.proofs.RecordLemmas.{is_record}

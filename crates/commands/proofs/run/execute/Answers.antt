@@ -1,4 +1,3 @@
-use Rattle.std.proofs.Common.{◌≡◌}
 use Rattle.std.proofs.lemmas.Result.{err_from_is_err_and}
 use Rattle.command_line.specs.Meaning.{file_name}
 use Rattle.dsm_core.specs.CoreParts.{core_of, outcome_of, work_of}

@@ -1,4 +1,4 @@
-use Rattle.std.proofs.Common.{ℕ, ◌<◌, ◌≤◌, sym, subst, arith}
+use Rattle.std.proofs.Common.{subst, arith}
 use Rattle.dsm_core.specs.CoreParts.{outcome_of, work_in}
 use Rattle.smp_sim.specs.CoreParts.{work_with}
 use Rattle.smp_sim.specs.ByOrder.{IsLaneOutcomeByOrder}

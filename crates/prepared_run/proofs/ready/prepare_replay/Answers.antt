@@ -1,4 +1,4 @@
-use Rattle.std.proofs.Common.{◌≡◌, ◌<◌, ◌≤◌, ◌^◌, length, inl, inr, sym, subst}
+use Rattle.std.proofs.Common.{◌<◌, ◌≤◌, ◌^◌, length, inl, inr, sym, subst}
 use Rattle.std.proofs.lemmas.Result.{err_from_is_err_and}
 use Rattle.replay.specs.run_record.Record.{NamesOtherCode}
 use Rattle.judged_files.specs.Code.{choice_of, IsRewritingOf, IsUnchosen}
