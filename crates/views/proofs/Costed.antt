@@ -9,7 +9,6 @@ use Rattle.text_output.specs.Failures.{FailsAs, IsNever, Puts}
 use Rattle.views.specs.Code.{IsCodeless}
 use Rattle.views.specs.Cost.{IsTextOfCost}
 use Rattle.views.specs.Failures.{IsFailure, IsSuccess}
-use Rattle.views.specs.Headline.{AreTold}
 use Rattle.views.specs.Inputs.{AreInputs, code_files, list_of}
 use Rattle.views.proofs.Inputs.{inputs_are}
 

@@ -1,5 +1,5 @@
 -- What is counted of a rewriting, as a table.
-use Rattle.std.proofs.Common.{◌≡◌, ◌≢◌, ◌⊎◌, List, ℕ, ap, inl, inr, subst, sym, ◌∙◌}
+use Rattle.std.proofs.Common.{◌≡◌, ◌≢◌, ◌⊎◌, List, ℕ, inl, inr, subst, sym, ◌∙◌}
 use Rattle.std.specs.Prelude.{IfOk, Result, Ok, Err}
 use Rattle.elf32_read.specs.Elf.{Elf}
 use Rattle.exec_map.specs.Contents.{program_of}

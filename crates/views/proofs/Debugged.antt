@@ -27,9 +27,9 @@ use Rattle.debugged_run.specs.Seen.{seen_from}
 use Rattle.gdb_server.specs.Ends.{Streams}
 use Rattle.gdb_server.specs.Transcripts.{Standing, opening, Serves}
 use Rattle.views.specs.Answers.{IsRefusalStatus}
-use Rattle.views.specs.Debugger.{HasShown, HasShownPart, HasShownUpTo, IsSessionText, IsShown, IsUntouched}
+use Rattle.views.specs.Debugger.{HasShown, HasShownPart, HasShownUpTo, IsCutShort, IsSessionText, IsShown, IsUntouched}
 use Rattle.views.specs.Failures.{FailsAsRun, FailsAsSession, HasShownRun, IsFailure, IsInputFault, IsShowFailure, IsShownFailure, IsSuccess, IsTextOfSession}
-use Rattle.views.specs.Headline.{AreTold, PrintsPrefix}
+use Rattle.views.specs.Headline.{AreTold}
 use Rattle.views.specs.Inputs.{AreInputs, list_of, run_files}
 use Rattle.views.specs.Trace.{recorded}
 use Rattle.views.proofs.Inputs.{not_long, unread_fails, unread_no_refusal}
@@ -37,53 +37,53 @@ use Rattle.views.proofs.Runs.{IsOfRun, run_fails, run_inputs, run_succeeds, with
 
 -- 1. What the view reads and writes
 
-gdb_with : (run : RecordedFiles) (verified : Option (List ℕ))
-    → reads (Gdb (with_verified run verified))
+gdb_with : (run : RecordedFiles) (memory : ℕ) (verified : Option (List ℕ))
+    → reads (Gdb (with_verified run verified) memory)
     ≡ list_of (run_files (with_verified run verified))
-gdb_with run None = refl
-gdb_with run (Some verified) = refl
+gdb_with run memory None = refl
+gdb_with run memory (Some verified) = refl
 
-gdb_of_run : (run : RecordedFiles) → IsOfRun (Gdb run) run IsTextOfSession
-gdb_of_run run = record {
-  reads_are = gdb_with run run.verified;
+gdb_of_run : (run : RecordedFiles) (memory : ℕ) → IsOfRun (Gdb run memory) run IsTextOfSession
+gdb_of_run run memory = record {
+  reads_are = gdb_with run memory run.verified;
   text = λ contents t s h. h;
   refused = λ contents line h. h;
   laid_out = λ contents line h. h;
   kept = λ contents line h. h;
 }
 
-writes_with : (run : RecordedFiles) (verified : Option (List ℕ))
-    → writes (Gdb (with_verified run verified)) ≡ []
-writes_with run None = refl
-writes_with run (Some verified) = refl
+writes_with : (run : RecordedFiles) (memory : ℕ) (verified : Option (List ℕ))
+    → writes (Gdb (with_verified run verified) memory) ≡ []
+writes_with run memory None = refl
+writes_with run memory (Some verified) = refl
 
-pub gdb_writes_none : (run : RecordedFiles) → writes (Gdb run) ≡ []
-gdb_writes_none run = writes_with run run.verified
+pub gdb_writes_none : (run : RecordedFiles) (memory : ℕ) → writes (Gdb run memory) ≡ []
+gdb_writes_none run memory = writes_with run memory run.verified
 
 -- no other view has its meaning
 abbrev IsOther : View → Type 0
-IsOther (Gdb run) = ⊥
+IsOther (Gdb run memory) = ⊥
 IsOther v = Unit {0}
 
-pub is_other : (x : OfCode) → ((run : Files) → x ≡ asked.Gdb run → ⊥)
-    → (run : RecordedFiles) → meaning_of_view x ≡ Gdb run → ⊥
-is_other asked.Help other run is = subst IsOther is tt
-is_other (asked.Code a) other run is = subst IsOther is tt
-is_other (asked.Trace own from to block one) other run is = subst IsOther is tt
-is_other (asked.Blocks own) other run is = subst IsOther is tt
-is_other (asked.Page own output from to) other run is = subst IsOther is tt
-is_other (asked.Time a) other run is = subst IsOther is tt
-is_other (asked.Cost a) other run is = subst IsOther is tt
-is_other (asked.Speedup a output) other run is = subst IsOther is tt
-is_other (asked.Gdb own) other run is = other own refl
+pub is_other : (x : OfCode) → ((run : Files) (memory : ℕ) → x ≡ asked.Gdb run memory → ⊥)
+    → (run : RecordedFiles) (memory : ℕ) → meaning_of_view x ≡ Gdb run memory → ⊥
+is_other asked.Help other run memory is = subst IsOther is tt
+is_other (asked.Code a) other run memory is = subst IsOther is tt
+is_other (asked.Trace own from to block one) other run memory is = subst IsOther is tt
+is_other (asked.Blocks own) other run memory is = subst IsOther is tt
+is_other (asked.Page own output from to) other run memory is = subst IsOther is tt
+is_other (asked.Time a) other run memory is = subst IsOther is tt
+is_other (asked.Cost a) other run memory is = subst IsOther is tt
+is_other (asked.Speedup a output) other run memory is = subst IsOther is tt
+is_other (asked.Gdb own most) other run memory is = other own most refl
 
 abbrev run_in : View → (otherwise : RecordedFiles) → RecordedFiles
-run_in (Gdb run) otherwise = run
+run_in (Gdb run memory) otherwise = run
 run_in v otherwise = otherwise
 
-pub same_gdb : (run other : RecordedFiles) → Gdb run ≡ Gdb other
+pub same_gdb : (run other : RecordedFiles) (memory most : ℕ) → Gdb run memory ≡ Gdb other most
     → run ≡ other
-same_gdb run other is = ap (λ v. run_in v run) is
+same_gdb run other memory most is = ap (λ v. run_in v run) is
 
 -- 2. What was put is a text of the view
 
@@ -135,19 +135,19 @@ broken_put inputs io h =
 
 -- 3. How the view succeeds
 
-pub shown_as_told : (run : RecordedFiles) (files : FilesState) (io : Streams)
+pub shown_as_told : (run : RecordedFiles) (memory : ℕ) (files : FilesState) (io : Streams)
     → HasShownRun run files io → (contents : List ℕ → List ℕ)
-    → AreTold (Gdb run) files contents → HasShown (recorded run contents) io
-shown_as_told run files io h contents told =
+    → AreTold (Gdb run memory) files contents → HasShown (recorded run contents) io
+shown_as_told run memory files io h contents told =
     subst (λ i. HasShown i io)
-    (run_inputs (Gdb run) run files h.inputs contents (gdb_of_run run).reads_are
+    (run_inputs (Gdb run memory) run files h.inputs contents (gdb_of_run run memory).reads_are
     h.are_inputs told) h.shown
 
-pub shown_succeeds : (run : RecordedFiles) (files : FilesState) (io : Streams)
-    → HasShownRun run files io → IsSuccess (Gdb run) files io.output io.output_after
-shown_succeeds run files io h =
+pub shown_succeeds : (run : RecordedFiles) (memory : ℕ) (files : FilesState) (io : Streams)
+    → HasShownRun run files io → IsSuccess (Gdb run memory) files io.output io.output_after
+shown_succeeds run memory files io h =
     let s = h.shown.served in
-    run_succeeds (Gdb run) run IsTextOfSession (gdb_of_run run) files io.output
+    run_succeeds (Gdb run memory) run IsTextOfSession (gdb_of_run run memory) files io.output
     io.output_after h.inputs h.are_inputs
     (s.put, transcript h.inputs h.shown.first s.heard s.put s.standing h.shown.shown s.serves, s.was_put)
 
@@ -157,56 +157,72 @@ taken_same : (io : Streams) → IsUntouched io → io.output_after.taken ≡ io.
 taken_same io h = ap (λ (s : SinkState). s.taken) h.output
 
 -- but for the input, as a view of a recorded run
-by_run : (run : RecordedFiles) (files files_now : FilesState) (io : Streams) (inputs : Inputs)
+by_run : (run : RecordedFiles) (memory : ℕ) (files files_now : FilesState) (io : Streams) (inputs : Inputs)
     (f : Failure) → AreInputs files (run_files run) inputs
     → FailsAsRun (IsTextOfSession inputs) inputs io.output io.output_after f
-    → IsShownFailure (Gdb run) files files_now io f
-by_run run files files_now io inputs f are h =
-    inl (run_fails (Gdb run) run IsTextOfSession (gdb_of_run run) files files_now io.output
+    → IsShownFailure (Gdb run memory) files files_now io f
+by_run run memory files files_now io inputs f are h =
+    inl (run_fails (Gdb run memory) run IsTextOfSession (gdb_of_run run memory) files files_now io.output
     io.output_after inputs f are h)
 
-prefix_told : (run : RecordedFiles) (files : FilesState) (io : Streams) (inputs : Inputs)
-    → AreInputs files (run_files run) inputs
-    → PutsPrefix (IsTextOfSession inputs) io.output io.output_after → (contents : List ℕ → List ℕ)
-    → AreTold (Gdb run) files contents
-    → PrintsPrefix (Gdb run) contents io.output io.output_after
-prefix_told run files io inputs are part contents told = record {
-  text = part.0;
-  is = subst (λ i. IsSessionText i part.0)
-      (run_inputs (Gdb run) run files inputs contents (gdb_of_run run).reads_are are told) part.2;
-  put = part.3;
-}
-
-session_fails : (run : RecordedFiles) (files files_now : FilesState) (io : Streams) (inputs : Inputs)
+session_fails : (run : RecordedFiles) (memory : ℕ) (files files_now : FilesState) (io : Streams) (inputs : Inputs)
     (f : Failure) → AreInputs files (run_files run) inputs → FailsAsSession inputs io f
-    → IsShownFailure (Gdb run) files files_now io f
-session_fails run files files_now io inputs (Input line) are h =
-    inr ((h.1, prefix_told run files io inputs are (up_to_put inputs io h.2)), h.0)
-session_fails run files files_now io inputs (NotWritten line) are h = absurd h
-session_fails run files files_now io inputs (Refused line) are h =
-    by_run run files files_now io inputs (Refused line) are (h.0, taken_same io h.1)
-session_fails run files files_now io inputs (Layout line) are h =
-    by_run run files files_now io inputs (Layout line) are (h.0, taken_same io h.1)
-session_fails run files files_now io inputs (Record line) are h =
-    by_run run files files_now io inputs (Record line) are (h.0, taken_same io h.1)
-session_fails run files files_now io inputs (Text line) are h = absurd h
-session_fails run files files_now io inputs Output are h =
-    by_run run files files_now io inputs Output are (h.0, broken_put inputs io h.1)
-session_fails run files files_now io inputs OutOfMemory are h =
-    by_run run files files_now io inputs OutOfMemory are (elim h [
+    → IsShownFailure (Gdb run memory) files files_now io f
+session_fails run memory files files_now io inputs (Input line) are h =
+    inr (
+      (
+        h.1,
+        λ contents told. subst (λ i. HasShownUpTo i io)
+            (run_inputs (Gdb run memory) run files inputs contents (gdb_of_run run memory).reads_are are told) h.2,
+      ),
+      h.0,
+    )
+session_fails run memory files files_now io inputs (NotWritten line) are h = absurd h
+session_fails run memory files files_now io inputs (Refused line) are h =
+    by_run run memory files files_now io inputs (Refused line) are (h.0, taken_same io h.1)
+session_fails run memory files files_now io inputs (Layout line) are h =
+    by_run run memory files files_now io inputs (Layout line) are (h.0, taken_same io h.1)
+session_fails run memory files files_now io inputs (Record line) are h =
+    by_run run memory files files_now io inputs (Record line) are (h.0, taken_same io h.1)
+session_fails run memory files files_now io inputs (Text line) are h = absurd h
+session_fails run memory files files_now io inputs Output are h =
+    by_run run memory files files_now io inputs Output are (h.0, broken_put inputs io h.1)
+session_fails run memory files files_now io inputs OutOfMemory are h =
+    by_run run memory files files_now io inputs OutOfMemory are (elim h [
       | inl untouched ↦ inl (taken_same io untouched)
       | inr (inl up_to) ↦ inr (up_to_put inputs io up_to)
       | inr (inr part) ↦ inr (broken_put inputs io part)
     ])
 
-pub shown_fails : (run : RecordedFiles) (files files_now : FilesState) (io : Streams) (f : Failure)
-    → IsShowFailure run files files_now io f → IsShownFailure (Gdb run) files files_now io f
-shown_fails run files files_now io f h = elim h [
-  | inl unread ↦ inl (subst (λ s. IsFailure (Gdb run) files files_now io.output s f) (sym unread.1.output)
-      (unread_fails (Gdb run) (run_files run) (gdb_of_run run).reads_are files files_now io.output
+pub shown_fails : (run : RecordedFiles) (memory : ℕ) (files files_now : FilesState) (io : Streams) (f : Failure)
+    → IsShowFailure run files files_now io f → IsShownFailure (Gdb run memory) files files_now io f
+shown_fails run memory files files_now io f h = elim h [
+  | inl unread ↦ inl (subst (λ s. IsFailure (Gdb run memory) files files_now io.output s f) (sym unread.1.output)
+      (unread_fails (Gdb run memory) (run_files run) (gdb_of_run run memory).reads_are files files_now io.output
       f unread.0))
   | inr unshown ↦
-      session_fails run files files_now io unshown.inputs f unshown.are_inputs unshown.fails
+      session_fails run memory files files_now io unshown.inputs f unshown.are_inputs unshown.fails
+]
+
+session_cut : (inputs : Inputs) (io : Streams) (f : Failure) → FailsAsSession inputs io f
+    → IsCutShort inputs io
+session_cut inputs io (Input line) h = inr (inl h.2)
+session_cut inputs io (NotWritten line) h = absurd h
+session_cut inputs io (Refused line) h = inl h.1
+session_cut inputs io (Layout line) h = inl h.1
+session_cut inputs io (Record line) h = inl h.1
+session_cut inputs io (Text line) h = absurd h
+session_cut inputs io Output h = inr (inr h.1)
+session_cut inputs io OutOfMemory h = h
+
+pub shown_cut : (run : RecordedFiles) (memory : ℕ) (files files_now : FilesState) (io : Streams) (f : Failure)
+    → IsShowFailure run files files_now io f → (contents : List ℕ → List ℕ)
+    → AreTold (Gdb run memory) files contents → IsCutShort (recorded run contents) io
+shown_cut run memory files files_now io f h contents told = elim h [
+  | inl unread ↦ inl unread.1
+  | inr unshown ↦ subst (λ i. IsCutShort i io)
+      (run_inputs (Gdb run memory) run files unshown.inputs contents (gdb_of_run run memory).reads_are
+      unshown.are_inputs told) (session_cut unshown.inputs io f unshown.fails)
 ]
 
 -- a refusal comes before anything is read of the input
@@ -230,17 +246,17 @@ shown_unheard run files files_now io f h status = elim h [
 ]
 
 -- a file that is too long is no refusal
-pub shown_longer : {T : Type 0} (run : RecordedFiles) (files files_now : FilesState) (io : Streams)
+pub shown_longer : {T : Type 0} (run : RecordedFiles) (memory : ℕ) (files files_now : FilesState) (io : Streams)
     (r : Result T Failure) (name content : List ℕ) → OnOk r (HasShownRun run files io)
-    → IfErr r (IsShowFailure run files files_now io) → Contains (reads (Gdb run)) name
+    → IfErr r (IsShowFailure run files files_now io) → Contains (reads (Gdb run memory)) name
     → files.held name ≡ Some content → file_limit < length content → MatchResult r (λ _. ⊥) IsNoRefusal
-shown_longer run files files_now io (Ok x) name content ok failure among is long =
-    not_long (Gdb run) (run_files run) files ok.inputs name content
-    (gdb_of_run run).reads_are ok.are_inputs among is long
-shown_longer run files files_now io (Err f) name content ok failure among is long = elim failure [
+shown_longer run memory files files_now io (Ok x) name content ok failure among is long =
+    not_long (Gdb run memory) (run_files run) files ok.inputs name content
+    (gdb_of_run run memory).reads_are ok.are_inputs among is long
+shown_longer run memory files files_now io (Err f) name content ok failure among is long = elim failure [
   | inl unread ↦ unread_no_refusal (run_files run) files files_now f unread.0
-  | inr unshown ↦ absurd (not_long (Gdb run) (run_files run) files unshown.inputs name content
-      (gdb_of_run run).reads_are unshown.are_inputs among is long)
+  | inr unshown ↦ absurd (not_long (Gdb run memory) (run_files run) files unshown.inputs name content
+      (gdb_of_run run memory).reads_are unshown.are_inputs among is long)
 ]
 
 -- 5. The run that is shown, and a session's own ends

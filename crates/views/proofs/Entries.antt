@@ -1,11 +1,11 @@
 -- The text of rewritten code, which is put in pieces, an entry after another.
-use Rattle.std.proofs.Common.{◌≡◌, ℕ, ◌+◌, ◌<◌, ◌≤◌, List, [], ◌∷◌, ◌++◌, length, drop, refl, sym, ap, ◌∙◌, subst, arith, append-nil, append_assoc}
+use Rattle.std.proofs.Common.{◌≡◌, ℕ, ◌+◌, ◌<◌, ◌≤◌, List, [], ◌++◌, length, drop, refl, sym, ap, ◌∙◌, subst, append-nil, append_assoc}
 use Rattle.exec_map.specs.Contents.{program_of}
 use Rattle.templates.specs.declared.plans.PlanEntry.{PlanEntry}
-use Rattle.jump_map.specs.Image.{most_words, plan_items}
-use Rattle.code_view.specs.Code.{IsShown, IsEntryShown, entries_text, entry_text, head, word_line, words_of}
+use Rattle.jump_map.specs.Image.{plan_items}
+use Rattle.code_view.specs.Code.{entries_text, entry_text, words_of}
 use Rattle.code_view.specs.declared.view.CodeView.{CodeView}
-use Rattle.code_view.proofs.Lines.{count_past, front_of, member_of, none_left, past_entry}
+use Rattle.code_view.proofs.Lines.{count_past, front_of, none_left, past_entry}
 use Rattle.dsm_io.specs.Causes.{Appends}
 use Rattle.dsm_io.specs.States.{SinkState}
 use Rattle.text_output.specs.declared.failure.Failure.{Failure}

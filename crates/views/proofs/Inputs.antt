@@ -9,10 +9,10 @@ use Rattle.text_output.specs.declared.failure.Failure.{Failure}
 use Rattle.text_output.specs.declared.failure.Failure.TheVariants.{Input, NotWritten, Refused, Layout, Record, Text, Output, OutOfMemory}
 use Rattle.text_output.specs.Failures.{IsNoRefusal}
 use Rattle.judged_files.specs.Failures.{AreBytes, AreContents, IsContent, IsNamedFailure, IsReadFailure, IsTooLong, file_limit}
-use Rattle.judged_files.specs.Inputs.{Inputs}
+use Rattle.judged_files.specs.Inputs.{Inputs, bytes_in}
 use Rattle.views.specs.Failures.{IsFailure}
 use Rattle.views.specs.Headline.{AreTold}
-use Rattle.views.specs.Inputs.{AreInputs, FileNames, IsInputFailure, bytes_in, inputs_in, list_of, named}
+use Rattle.views.specs.Inputs.{AreInputs, FileNames, IsInputFailure, inputs_in, list_of, named}
 
 pub content_is : (o : Option (List ℕ)) (bytes content : List ℕ) → IsContent o bytes
     → o ≡ Some content → bytes ≡ content

@@ -1,5 +1,5 @@
 -- The events of a trace come by their stamps.
-use Rattle.std.proofs.Common.{◌≡◌, ℕ, ◌<◌, ◌≤◌, Bool, true, false, cond, ◌&&◌, List, [], ◌∷◌, ◌++◌, map, filter, Option, Some, None, refl, sym, ap, ◌∙◌, subst, arith, append-nil}
+use Rattle.std.proofs.Common.{◌≡◌, ℕ, ◌<◌, ◌≤◌, Bool, true, false, cond, ◌&&◌, List, [], ◌∷◌, ◌++◌, map, Option, Some, None, refl, sym, ap, ◌∙◌, subst, arith, append-nil}
 use Rattle.std.specs.Prelude.{All, nat_le, option_to_list}
 use Rattle.std.specs.Option.{option_map}
 use Rattle.std.proofs.lemmas.Bool.{lt-leb}
@@ -11,7 +11,7 @@ use Rattle.run_order.specs.OwnRun.{Stamped, maker}
 use Rattle.run_order.specs.Sorted.{AreSorted, PrecedesAll}
 use Rattle.run_record.specs.declared.Record.{Record}
 use Rattle.replay.specs.Told.{Told, maker_told, stamp_told, what_told}
-use Rattle.run_trace.specs.Traced.{Traced, What, traced_at, what_at}
+use Rattle.run_trace.specs.Traced.{Traced, What, what_at}
 use Rattle.run_trace.specs.Trace.{IsTraceOf, trace_from}
 use Rattle.block_view.specs.event_text.declared.shown.EventFilter.{EventFilter}
 use Rattle.block_view.specs.event_text.Shown.{is_shown, shown}

@@ -1,11 +1,11 @@
 -- What is shown of a rewriting.
-use Rattle.std.proofs.Common.{◌≡◌, ℕ, ◌+◌, ◌≤◌, List, [], ◌∷◌, length, map, ap, arith, refl}
+use Rattle.std.proofs.Common.{◌≡◌, ℕ, ◌+◌, ◌≤◌, List, [], ◌∷◌, length, ap, arith, refl}
 use Rattle.std.proofs.lemmas.List.{length-map}
 use Rattle.exec_map.specs.Contents.{program_of}
 use Rattle.rv32_program.specs.Program.{Program}
 use Rattle.templates.specs.declared.plans.PlanEntry.{PlanEntry}
 use Rattle.templates.specs.Code.{HasCode}
-use Rattle.jump_map.specs.Image.{Cell, PlacedItem, IsExpansion, IsRewriting, address_of_word, head_of, image_words, most_words, plan_items, read_cell, words_at}
+use Rattle.jump_map.specs.Image.{Cell, PlacedItem, IsExpansion, IsRewriting, address_of_word, head_of, most_words, plan_items, read_cell, words_at}
 use Rattle.code_view.specs.Code.{IsShown}
 use Rattle.code_view.specs.declared.view.CodeView.{CodeView}
 use Rattle.views.proofs.Counted.{has_runs}

@@ -12,7 +12,7 @@ use Rattle.text_output.specs.Text.{out_of_memory}
 use Rattle.gdb_server.specs.Ends.{Streams}
 use Rattle.views.specs.Answers.{IsFault, IsRefusalStatus, IsSourceFault, cannot_read_input}
 use Rattle.views.specs.Failures.{IsFailure, IsShownFailure, IsSourceFailure, IsSuccess}
-use Rattle.views.specs.Headline.{AreTold, IsLayoutRefused, IsRecordRefused, IsRefused, Prints, PrintsPrefix, usage}
+use Rattle.views.specs.Headline.{AreTold, IsLayoutRefused, IsRecordRefused, IsRefused, PrintsPrefix, usage}
 
 -- 1. What the words ask for, and where they ask for nothing
 

@@ -7,7 +7,9 @@ use Rattle.judged_files.specs.Failures.{IsTooLong}
 use Rattle.judged_files.specs.Text.{cannot_read, too_long}
 use Rattle.text_output.specs.Text.{cannot_write, cannot_write_output}
 use Rattle.gdb_server.specs.Ends.{Streams}
+use Rattle.views.specs.Debugger.{HasShownUpTo}
 use Rattle.views.specs.Headline.{AreTold, IsWritten, PrintsPrefix}
+use Rattle.views.specs.Trace.{recorded}
 
 -- a file that the view reads couldn't be read, or is too long, and the line says so
 abbrev pub IsReadFault : View → FilesState → FilesState → (List ℕ → Type 0) → Type 0
@@ -41,14 +43,15 @@ IsPutFault view files before now =
     × ((contents : List ℕ → List ℕ) → AreTold view files contents
     → PrintsPrefix view contents before now)
 
--- the input failed where a debugger was served, and a text that the view asks for was being put
+-- the input failed while a debugger was served
 abbrev pub IsSourceFault : View → FilesState → Streams → Type 0
-IsSourceFault (Gdb run) files io =
+IsSourceFault (Gdb run memory) files io =
     Rose io.input.faults io.input_after.faults
-    × ((contents : List ℕ → List ℕ) → AreTold (Gdb run) files contents
-    → PrintsPrefix (Gdb run) contents io.output io.output_after)
+    × ((contents : List ℕ → List ℕ) → AreTold (Gdb run memory) files contents
+    → HasShownUpTo (recorded run contents) io)
 IsSourceFault view files io = ⊥
 
+-- the line that says that the input couldn't be read
 abbrev pub cannot_read_input : List ℕ
 cannot_read_input = cannot_read (codes "standard input")
 

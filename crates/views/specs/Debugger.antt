@@ -1,5 +1,7 @@
 -- A recorded run, as GDB sees it.
-use Rattle.std.specs.Prelude.{◌≡◌, ℕ, List, ◌++◌, map}
+use Rattle.std.specs.Prelude.{◌≡◌, ℕ, ◌⊎◌, List, ◌++◌, map}
+use Rattle.byte_source.specs.Sources.{SourceState}
+use Rattle.dsm_io.specs.States.{SinkState}
 use Rattle.templates.specs.declared.plans.PlanEntry.{PlanEntry}
 use Rattle.node_model.specs.Node.{Work}
 use Rattle.run_record.specs.declared.Record.{Record}
@@ -13,7 +15,7 @@ use Rattle.debugged_run.specs.Motions.{Moves}
 use Rattle.debugged_run.specs.Seen.{seen_from}
 use Rattle.gdb_server.specs.Ends.{Streams, HasServed, HasBroken, HasStopped, IsBeginning}
 use Rattle.gdb_server.specs.Transcripts.{Standing, opening, Serves}
-use Rattle.gdb_server.specs.declared.End.{End}
+use Rattle.gdb_server.specs.declared.ServeEnd.{ServeEnd}
 
 -- The run on one memory whose picks the run of a record stands for, at its start. What is seen from
 -- a position in it is the state of the original's processors behind so many of these picks
@@ -29,11 +31,20 @@ pub record IsShown (inputs : Inputs) (s : Stand) : Type 0 where
   pub interleaved : IsInterleaved s.run
   pub start : s.position ≡ 0
 
+-- the input and the output, before and after
+abbrev pub streams : (input input_after : SourceState) (output output_after : SinkState) → Streams
+streams input input_after output output_after = record {
+  input = input;
+  input_after = input_after;
+  output = output;
+  output_after = output_after;
+}
+
 -- a debugger was served at this run: the bytes put are a transcript of the bytes that came
 pub record HasShown (inputs : Inputs) (io : Streams) : Type 0 where
   pub first : Stand
   pub shown : IsShown inputs first
-  pub end : End
+  pub end : ServeEnd
   pub last : Stand
   pub served : HasServed seen_from Moves Tells first io end last
 
@@ -53,6 +64,10 @@ pub record HasShownUpTo (inputs : Inputs) (io : Streams) : Type 0 where
 pub record IsUntouched (io : Streams) : Type 0 where
   pub input : io.input_after ≡ io.input
   pub output : io.output_after ≡ io.output
+
+-- serving a debugger was cut short, or never began
+abbrev pub IsCutShort : Inputs → Streams → Type 0
+IsCutShort inputs io = IsUntouched io ⊎ (HasShownUpTo inputs io ⊎ HasShownPart inputs io)
 
 -- a text that is put to a debugger: a transcript, and the beginning of what is put for a byte more
 pub record IsSessionText (inputs : Inputs) (text : List ℕ) : Type 0 where

@@ -26,7 +26,7 @@ use Rattle.run_trace.specs.Traced.{Traced}
 use Rattle.run_trace.specs.Trace.{IsTraceOf}
 use Rattle.run_trace.specs.Tracing.{HasTraced, plan_traced, record_traced, work_traced}
 use Rattle.views.specs.Code.{IsCodeText}
-use Rattle.views.specs.Debugger.{HasShown, HasShownPart, HasShownUpTo, IsSessionText, IsUntouched}
+use Rattle.views.specs.Debugger.{HasShown, HasShownPart, HasShownUpTo, IsCutShort, IsSessionText, IsUntouched}
 use Rattle.views.specs.Inputs.{AreInputs, IsInputFailure, run_files}
 use Rattle.views.specs.Trace.{IsTraceText}
 use Rattle.views.specs.Blocks.{AreCostsOfRun, IsCostsText}
@@ -187,8 +187,7 @@ FailsAsSession inputs io (Layout line) = IsBadReplayLayout inputs line.items × 
 FailsAsSession inputs io (Record line) = IsBadRecord inputs line.items × IsUntouched io
 FailsAsSession inputs io Output =
     Rose io.output.faults io.output_after.faults × HasShownPart inputs io
-FailsAsSession inputs io OutOfMemory =
-    IsUntouched io ⊎ (HasShownUpTo inputs io ⊎ HasShownPart inputs io)
+FailsAsSession inputs io OutOfMemory = IsCutShort inputs io
 FailsAsSession inputs io (NotWritten line) = ⊥
 FailsAsSession inputs io (Text line) = ⊥
 

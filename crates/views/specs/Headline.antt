@@ -27,7 +27,7 @@ usage =
     ++ (codes " [--verify FILE | --no-batch] [--latency L] [--line P] [--handling H]\n"
     ++ (codes "       shasta_view speedup IN OUT [--nodes N] [--budget B] [--layout FILE]"
     ++ (codes " [--verify FILE | --no-batch] [--latency L] [--line P] [--handling H]\n"
-    ++ (codes "       shasta_view gdb IN RECORD [--verify FILE]\n"
+    ++ (codes "       shasta_view gdb IN RECORD [--verify FILE] [--memory M]\n"
     ++ codes "       shasta_view --help\n"))))))))))
 
 -- the text of a view, where files have these contents
@@ -42,7 +42,7 @@ IsText (Blocks run) contents text = AreCostsOfRun (recorded run contents) text
 IsText (Page run output from to) contents text = text ≡ []
 IsText (Speedup a output) contents text = text ≡ []
 IsText (Time a) contents text = IsTimeText (timed a contents) a.nodes a.budget (costs_of a) text
-IsText (Gdb run) contents text = IsSessionText (recorded run contents) text
+IsText (Gdb run memory) contents text = IsSessionText (recorded run contents) text
 
 -- what a view writes into a file
 abbrev pub IsWritten : View → (List ℕ → List ℕ) → List ℕ → Type 0
@@ -68,7 +68,7 @@ IsRefused (Blocks run) contents line = IsReplayRefused (recorded run contents) l
 IsRefused (Page run output from to) contents line = IsReplayRefused (recorded run contents) line
 IsRefused (Time a) contents line = IsRunRefused (timed a contents) line
 IsRefused (Speedup a output) contents line = IsRunRefused (timed a contents) line
-IsRefused (Gdb run) contents line = IsReplayRefused (recorded run contents) line
+IsRefused (Gdb run memory) contents line = IsReplayRefused (recorded run contents) line
 
 -- the layout of a view, or of its record, is refused with this line
 abbrev pub IsLayoutRefused : View → (List ℕ → List ℕ) → List ℕ → Type 0
@@ -80,7 +80,7 @@ IsLayoutRefused (Page run output from to) contents line =
 IsLayoutRefused (Time a) contents line = IsBadRunLayout (timed a contents) a.nodes line
 IsLayoutRefused (Speedup a output) contents line =
     IsBadLayoutOf (timed a contents) (counts_to a.nodes) line
-IsLayoutRefused (Gdb run) contents line = IsBadReplayLayout (recorded run contents) line
+IsLayoutRefused (Gdb run memory) contents line = IsBadReplayLayout (recorded run contents) line
 IsLayoutRefused view contents line = ⊥
 
 -- a view's record is refused with this line
@@ -88,7 +88,7 @@ abbrev pub IsRecordRefused : View → (List ℕ → List ℕ) → List ℕ → T
 IsRecordRefused (Trace run from to block i) contents line = IsBadRecord (recorded run contents) line
 IsRecordRefused (Blocks run) contents line = IsBadRecord (recorded run contents) line
 IsRecordRefused (Page run output from to) contents line = IsBadRecord (recorded run contents) line
-IsRecordRefused (Gdb run) contents line = IsBadRecord (recorded run contents) line
+IsRecordRefused (Gdb run memory) contents line = IsBadRecord (recorded run contents) line
 IsRecordRefused view contents line = ⊥
 
 -- each file that a view reads is told to have its content

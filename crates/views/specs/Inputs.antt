@@ -5,7 +5,7 @@ use Rattle.command_line.specs.Meaning.{file_name}
 use Rattle.command_line.specs.Views.{CodeArguments, RecordedFiles, TimeArguments}
 use Rattle.text_output.specs.declared.failure.Failure.{Failure}
 use Rattle.judged_files.specs.Failures.{AreBytes, AreContents, IsContent, IsReadFailure}
-use Rattle.judged_files.specs.Inputs.{Inputs}
+use Rattle.judged_files.specs.Inputs.{Inputs, bytes_in}
 use Rattle.views.specs.declared.input.FileNames.{FileNames as OfCode}
 
 -- the files that a view reads, each where it reads one: as an executable; as a record; as a verified
@@ -78,10 +78,6 @@ IsInputFailure names before now f =
     (name : List ℕ) × Contains (list_of names) name × IsReadFailure before now name f
 
 -- what is read of such files, where they have these contents
-abbrev pub bytes_in : (List ℕ → List ℕ) → Option (List ℕ) → List ℕ
-bytes_in contents None = []
-bytes_in contents (Some name) = contents name
-
 abbrev pub inputs_in : FileNames → (List ℕ → List ℕ) → Inputs
 inputs_in names contents = record {
   executable = contents names.executable;

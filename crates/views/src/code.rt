@@ -1,6 +1,6 @@
 //! `code`: the rewritten code of an executable, as a text.
 
-ghost use Rattle.std.specs.Prelude.{◌≡◌, IfErr, OnOk};
+ghost use Rattle.std.specs.Prelude.{IfErr, OnOk};
 ghost use Rattle.dsm_io.specs.Causes.{Appends};
 ghost use Rattle.judged_files.specs.Given.{bytes_of};
 ghost use Rattle.text_output.specs.Failures.{FailsAs, IsLike, IsNever, Puts};
@@ -19,10 +19,7 @@ use judged_files::input::{Inputs, elf_of, program_of};
 use judged_files::refusal::Subject;
 use rewriter::Rewritten;
 use std::alloc::Global;
-use text_output::{Failure, put};
-
-/// The text is put in pieces of about so many bytes.
-const PIECE: usize = 0x1_0000;
+use text_output::{Failure, PIECE, put};
 
 /// Puts the text of the rewritten code of the executable among these files, which a verified one
 /// may hold.

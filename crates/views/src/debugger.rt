@@ -12,14 +12,14 @@ ghost use Rattle.prepared_run.specs.Ready.{work_for};
 ghost use Rattle.prepared_run.specs.Replays.{IsBrokenRun, IsWorkOf};
 ghost use Rattle.text_output.specs.Failures.{IsRecordRefusal};
 ghost use Rattle.command_line.specs.Views.{recorded_of};
-ghost use Rattle.views.specs.Debugger.{HasShown};
+ghost use Rattle.views.specs.Debugger.{HasShown, streams};
 ghost use Rattle.views.specs.Failures.{FailsAsSession, HasShownRun, IsInputFault, IsShowFailure};
 
 use crate::input::{read_inputs, run_files};
 use crate::recorded::refusal_of;
 use block_layout::Layout;
 use byte_source::Source;
-use command_line::RecordedFiles;
+use command_line::{Megabytes, RecordedFiles};
 use debugged_run::DebuggedRun;
 use dsm_io::{Files, Sink};
 use flow_graph::Graph;
@@ -34,56 +34,43 @@ use run_record::Record;
 use std::alloc::{AllocError, Global};
 use text_output::Failure;
 
-/// Serves a debugger at the run on one memory that a recorded run stands for.
+/// Serves a debugger at the run on one memory that a recorded run stands for. Checkpoints of it take
+/// at most so much memory.
 pub(crate) fn show_run<F: Files, S: Source, O: Sink>(
     alloc: Global,
     run: &RecordedFiles<'_>,
+    memory: Megabytes,
     files: &mut F,
     source: &mut S,
     out: &mut O,
 ) -> Result<(), Failure>
-    ensures ok { OnOk result (HasShownRun (recorded_of run.now) (F.state files.old) (record {
-      input = S.state source.old;
-      input_after = S.state source.new;
-      output = O.state out.old;
-      output_after = O.state out.new;
-    })) }
+    ensures ok { OnOk result (HasShownRun (recorded_of run.now) (F.state files.old)
+        (streams (S.state source.old) (S.state source.new) (O.state out.old) (O.state out.new))) }
     ensures failure { IfErr result
-        (IsShowFailure (recorded_of run.now) (F.state files.old) (F.state files.new) (record {
-          input = S.state source.old;
-          input_after = S.state source.new;
-          output = O.state out.old;
-          output_after = O.state out.new;
-        })) }
+        (IsShowFailure (recorded_of run.now) (F.state files.old) (F.state files.new)
+        (streams (S.state source.old) (S.state source.new) (O.state out.old) (O.state out.new))) }
     ensures contents { (n : List ℕ) → (F.state files.new).held n ≡ (F.state files.old).held n }
 {
     let read = read_inputs(alloc, files, run_files(run))?;
-    serve_run(alloc, &read.lend(), source, out)
+    serve_run(alloc, &read.lend(), memory, source, out)
 }
 
 /// Serves a debugger at the run of the record among these files and the executable among them.
 fn serve_run<S: Source, O: Sink>(
     alloc: Global,
     inputs: &Inputs<'_>,
+    memory: Megabytes,
     source: &mut S,
     out: &mut O,
 ) -> Result<(), Failure>
-    ensures ok { OnOk result (HasShown (bytes_of inputs.now) (record {
-      input = S.state source.old;
-      input_after = S.state source.new;
-      output = O.state out.old;
-      output_after = O.state out.new;
-    })) }
-    ensures failure { IfErr result (FailsAsSession (bytes_of inputs.now) (record {
-      input = S.state source.old;
-      input_after = S.state source.new;
-      output = O.state out.old;
-      output_after = O.state out.new;
-    })) }
+    ensures ok { OnOk result (HasShown (bytes_of inputs.now)
+        (streams (S.state source.old) (S.state source.new) (O.state out.old) (O.state out.new))) }
+    ensures failure { IfErr result (FailsAsSession (bytes_of inputs.now)
+        (streams (S.state source.old) (S.state source.new) (O.state out.old) (O.state out.new))) }
 {
     let elf = elf_of(alloc, Subject::Executable, inputs.executable)?;
     let (prepared, kept) = prepare_replay(alloc, &elf, inputs)?;
-    serve_prepared(alloc, &prepared, &kept, source, out)
+    serve_prepared(alloc, &prepared, &kept, memory, source, out)
 }
 
 /// Serves a debugger at the run of a record, which was made ready.
@@ -91,6 +78,7 @@ fn serve_prepared<S: Source, O: Sink>(
     alloc: Global,
     prepared: &Prepared<'_>,
     kept: &Record,
+    memory: Megabytes,
     source: &mut S,
     out: &mut O,
 ) -> Result<(), Failure>
@@ -102,21 +90,13 @@ fn serve_prepared<S: Source, O: Sink>(
     ensures ok { (inputs : Given)
         → IsWorkOf inputs kept.now prepared.now.program prepared.now.rewritten.plan
         (work_for prepared.now)
-        → OnOk result (HasShown inputs (record {
-          input = S.state source.old;
-          input_after = S.state source.new;
-          output = O.state out.old;
-          output_after = O.state out.new;
-        })) }
+        → OnOk result (HasShown inputs
+        (streams (S.state source.old) (S.state source.new) (O.state out.old) (O.state out.new))) }
     ensures failure { (inputs : Given)
         → IsWorkOf inputs kept.now prepared.now.program prepared.now.rewritten.plan
         (work_for prepared.now)
-        → IfErr result (FailsAsSession inputs (record {
-          input = S.state source.old;
-          input_after = S.state source.new;
-          output = O.state out.old;
-          output_after = O.state out.new;
-        })) }
+        → IfErr result (FailsAsSession inputs
+        (streams (S.state source.old) (S.state source.new) (O.state out.old) (O.state out.new))) }
 {
     let picks = picks_of(alloc, prepared, kept)?;
     let mut run = DebuggedRun::new(
@@ -124,6 +104,7 @@ fn serve_prepared<S: Source, O: Sink>(
         &prepared.program,
         &prepared.layout,
         nodes_of(&prepared.layout),
+        memory.number(),
         picks,
     )?;
     match serve(alloc, &mut run, source, out) {

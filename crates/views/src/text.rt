@@ -12,6 +12,6 @@ pub(crate) const USAGE: &str = concat!(
     " [--verify FILE | --no-batch] [--latency L] [--line P] [--handling H]\n",
     "       shasta_view speedup IN OUT [--nodes N] [--budget B] [--layout FILE]",
     " [--verify FILE | --no-batch] [--latency L] [--line P] [--handling H]\n",
-    "       shasta_view gdb IN RECORD [--verify FILE]\n",
+    "       shasta_view gdb IN RECORD [--verify FILE] [--memory M]\n",
     "       shasta_view --help\n",
 );

@@ -1,6 +1,6 @@
 //! The top call.
 
-ghost use Rattle.std.specs.Prelude.{◌≡◌, ◌≢◌, ◌≤◌, ◌⊎◌, ◌<◌, ℕ, List, Some, length, Contains};
+ghost use Rattle.std.specs.Prelude.{◌≡◌, ◌≢◌, ◌⊎◌, ◌<◌, ℕ, List, Some, length, Contains};
 ghost use Rattle.std.specs.Prelude.{IfErr, OnOk, MatchResult};
 ghost use Rattle.command_line.specs.Views.{View as Asked, Gdb, RecordedFiles, Time, TimeArguments};
 ghost use Rattle.command_line.specs.Views.{AsksView, meaning_of_view, reads, writes};
@@ -12,7 +12,7 @@ ghost use Rattle.views.specs.Headline.{AreTold, IsLayoutRefused, IsRecordRefused
 ghost use Rattle.views.specs.Headline.{AreWritten, Prints, PrintsPrefix, usage};
 ghost use Rattle.views.specs.Answers.{AreLeft, IsFault, IsRefusalStatus};
 ghost use Rattle.views.specs.Failures.{AreKept, IsFailure, IsShownFailure, IsSuccess};
-ghost use Rattle.views.specs.Debugger.{HasShown};
+ghost use Rattle.views.specs.Debugger.{HasShown, IsCutShort, streams};
 ghost use Rattle.views.specs.Time.{PrintsTime};
 ghost use Rattle.views.specs.Trace.{recorded};
 
@@ -66,18 +66,21 @@ pub fn shasta_view<F: Files, S: Source, O: Sink, E: Sink>(
         → PrintsTime a contents (O.state out.old) (O.state out.new) }
 
     // Of `gdb` the bytes put are a transcript of those that came from the source, over the run on
-    // one memory whose picks the run of the record stands for. No other view reads the source, nor
-    // does `gdb` where it refuses.
-    ensures gdb { (run : RecordedFiles) (contents : List ℕ → List ℕ)
-        → AsksView words.now (Gdb run)
-        → AreTold (Gdb run) (F.state files.old) contents → result ≡ 0
-        → HasShown (recorded run contents) (record {
-          input = S.state source.old;
-          input_after = S.state source.new;
-          output = O.state out.old;
-          output_after = O.state out.new;
-        }) }
-    ensures unread { ((run : RecordedFiles) → AsksView words.now (Gdb run) → ⊥)
+    // one memory whose picks the run of the record stands for. With another status they are one up
+    // to where the source or the output failed or memory was wanted, or nothing came and nothing was
+    // put. No other view reads the source, nor does `gdb` where it refuses.
+    ensures gdb { (run : RecordedFiles) (memory : ℕ) (contents : List ℕ → List ℕ)
+        → AsksView words.now (Gdb run memory)
+        → AreTold (Gdb run memory) (F.state files.old) contents → result ≡ 0
+        → HasShown (recorded run contents)
+        (streams (S.state source.old) (S.state source.new) (O.state out.old) (O.state out.new)) }
+    ensures cut_short { (run : RecordedFiles) (memory : ℕ) (contents : List ℕ → List ℕ)
+        → AsksView words.now (Gdb run memory)
+        → AreTold (Gdb run memory) (F.state files.old) contents → result ≢ 0
+        → IsCutShort (recorded run contents)
+        (streams (S.state source.old) (S.state source.new) (O.state out.old) (O.state out.new)) }
+    ensures unread { ((run : RecordedFiles) (memory : ℕ)
+        → AsksView words.now (Gdb run memory) → ⊥)
         → S.state source.new ≡ S.state source.old }
     ensures unheard { (result ≡ 2) ⊎ IsRefusalStatus result
         → S.state source.new ≡ S.state source.old }
@@ -108,12 +111,7 @@ pub fn shasta_view<F: Files, S: Source, O: Sink, E: Sink>(
     // text of `gdb` is. A file that is too long is never shown.
     ensures fault { (v : Asked) → AsksView words.now v → result ≡ 3
         → IsFault v (F.state files.old) (F.state files.new)
-        (record {
-          input = S.state source.old;
-          input_after = S.state source.new;
-          output = O.state out.old;
-          output_after = O.state out.new;
-        })
+        (streams (S.state source.old) (S.state source.new) (O.state out.old) (O.state out.new))
         (Tells (E.state err.old) (E.state err.new)) }
     ensures longer { (v : Asked) (name content : List ℕ) → AsksView words.now v
         → Contains (reads v) name → (F.state files.old).held name ≡ Some content
@@ -166,24 +164,21 @@ fn show<F: Files, S: Source, O: Sink>(
 ) -> Result<(), Failure>
     ensures ok { OnOk result (IsSuccess (meaning_of_view view.now) (F.state files.old)
         (O.state out.old) (O.state out.new)) }
-    ensures gdb { OnOk result ((run : RecordedFiles) (contents : List ℕ → List ℕ)
-        → meaning_of_view view.now ≡ Gdb run
-        → AreTold (Gdb run) (F.state files.old) contents
-        → HasShown (recorded run contents) (record {
-          input = S.state source.old;
-          input_after = S.state source.new;
-          output = O.state out.old;
-          output_after = O.state out.new;
-        })) }
+    ensures gdb { OnOk result ((run : RecordedFiles) (memory : ℕ) (contents : List ℕ → List ℕ)
+        → meaning_of_view view.now ≡ Gdb run memory
+        → AreTold (Gdb run memory) (F.state files.old) contents
+        → HasShown (recorded run contents)
+        (streams (S.state source.old) (S.state source.new) (O.state out.old) (O.state out.new))) }
+    ensures cut_short { IfErr result (λ f. (run : RecordedFiles) (memory : ℕ)
+        (contents : List ℕ → List ℕ) → meaning_of_view view.now ≡ Gdb run memory
+        → AreTold (Gdb run memory) (F.state files.old) contents
+        → IsCutShort (recorded run contents)
+        (streams (S.state source.old) (S.state source.new) (O.state out.old) (O.state out.new))) }
     ensures failure { IfErr result (IsShownFailure (meaning_of_view view.now) (F.state files.old)
-        (F.state files.new) (record {
-          input = S.state source.old;
-          input_after = S.state source.new;
-          output = O.state out.old;
-          output_after = O.state out.new;
-        })) }
-    ensures unread { ((run : RecordedFiles)
-        → meaning_of_view view.now ≡ Gdb run → ⊥)
+        (F.state files.new)
+        (streams (S.state source.old) (S.state source.new) (O.state out.old) (O.state out.new))) }
+    ensures unread { ((run : RecordedFiles) (memory : ℕ)
+        → meaning_of_view view.now ≡ Gdb run memory → ⊥)
         → S.state source.new ≡ S.state source.old }
     ensures unheard { IfErr result (λ f. IsRefusalStatus (status_of f)
         → S.state source.new ≡ S.state source.old) }
@@ -201,7 +196,7 @@ fn show<F: Files, S: Source, O: Sink>(
         → AreLeft (meaning_of_view view.now) contents (F.state files.old) (F.state files.new)) }
 {
     match view {
-        View::Gdb { run } => show_run(alloc, run, files, source, out),
+        View::Gdb { run, memory } => show_run(alloc, run, *memory, files, source, out),
         _ => answer(alloc, view, files, out),
     }
 }
@@ -214,7 +209,8 @@ fn answer<F: Files, O: Sink>(
     files: &mut F,
     out: &mut O,
 ) -> Result<(), Failure>
-    requires { (run : RecordedFiles) → meaning_of_view view.now ≡ Gdb run → ⊥ }
+    requires { (run : RecordedFiles) (memory : ℕ)
+        → meaning_of_view view.now ≡ Gdb run memory → ⊥ }
     ensures ok { OnOk result (IsSuccess (meaning_of_view view.now) (F.state files.old)
         (O.state out.old) (O.state out.new)) }
     ensures failure { IfErr result (IsFailure (meaning_of_view view.now) (F.state files.old)

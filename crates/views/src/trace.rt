@@ -33,10 +33,7 @@ use judged_files::refusal::Subject;
 use replay::replay_law;
 use run_trace::{Traced, Tracer, Until, WordPassed};
 use std::alloc::{AllocError, Global};
-use text_output::{Failure, put};
-
-/// The text is put in pieces of about so many bytes.
-const PIECE: usize = 0x1_0000;
+use text_output::{Failure, PIECE, put};
 
 /// Which events are asked for: all, but for what is given.
 #[derive(Clone, Copy)]

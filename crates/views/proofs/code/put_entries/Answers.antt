@@ -3,9 +3,8 @@ use Rattle.std.proofs.lemmas.Result.{err_from_is_err_and}
 use Rattle.dsm_io.specs.Causes.{Appends}
 use Rattle.dsm_io.specs.States.{SinkState}
 use Rattle.text_output.specs.Failures.{IsPutFailure}
-use Rattle.text_output.proofs.Pieces.{nothing_put}
 use Rattle.code_view.proofs.Lines.{member_of}
-use Rattle.views.proofs.Entries.{IsUnderWay, all_put, entry_gathered, lines_fail, lines_put, lines_stop}
+use Rattle.views.proofs.Entries.{IsUnderWay, entry_gathered, lines_fail, lines_put, lines_stop}
 use Rattle.views.proofs.code.put_entries.Goals as goal
 use Rattle.views.proofs.code.put_entries.Goals.{then-len-ge-PIECE+in_ok-put, else-len-ge-PIECE}
 

@@ -1,7 +1,5 @@
-use Rattle.std.proofs.Common.{◌≡◌, inl, inr, subst, sym}
+use Rattle.std.proofs.Common.{inl, inr, subst, sym}
 use Rattle.std.proofs.lemmas.Result.{err_from_is_err_and}
-use Rattle.exec_map.specs.Contents.{program_of}
-use Rattle.jump_map.specs.Image.{IsRewriting}
 use Rattle.judged_files.specs.Code.{IsUnchosen, choice_of}
 use Rattle.judged_files.specs.Executables.{IsProgramOf, IsRejection, IsUnread}
 use Rattle.judged_files.specs.Given.{bytes_of}

@@ -1,5 +1,4 @@
-use Rattle.std.proofs.Common.{◌≡◌, List, ap, subst, sym, ◌∙◌}
-use Rattle.elf_symbols.specs.Symbols.{functions_of}
+use Rattle.std.proofs.Common.{◌≡◌, ap, subst, sym, ◌∙◌}
 use Rattle.exec_map.specs.Contents.{program_of}
 use Rattle.templates.specs.Code.{HasCode, code_of}
 use Rattle.jump_map.specs.Image.{IsRewriting}

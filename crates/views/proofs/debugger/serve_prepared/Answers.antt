@@ -7,8 +7,7 @@ use Rattle.debugged_run.specs.Motions.{Moves}
 use Rattle.debugged_run.specs.Seen.{seen_from}
 use Rattle.gdb_server.specs.Ends.{Fails}
 use Rattle.gdb_server.specs.declared.ServeError.TheVariants.{Input, Output, OutOfMemory}
-use Rattle.gdb_server.proofs.Told.{streams}
-use Rattle.views.specs.Debugger.{IsShown}
+use Rattle.views.specs.Debugger.{streams, IsShown}
 use Rattle.views.proofs.Debugged.{is_shown, refused_session, unheard_session, with_nodes}
 use Rattle.views.proofs.Runs.{broken_refused}
 use Rattle.views.proofs.debugger.serve_prepared.Goals as goal

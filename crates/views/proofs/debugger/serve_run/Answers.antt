@@ -3,7 +3,6 @@ use Rattle.std.proofs.lemmas.Result.{err_from_is_err_and}
 use Rattle.block_layout.specs.Layout.{Shape}
 use Rattle.byte_source.specs.Sources.{SourceState}
 use Rattle.dsm_io.specs.States.{SinkState}
-use Rattle.gdb_server.proofs.Told.{streams}
 use Rattle.judged_files.specs.Executables.{IsUnread}
 use Rattle.judged_files.specs.Given.{bytes_of}
 use Rattle.judged_files.specs.declared.refusal.Subject.TheVariants.{Executable}
@@ -11,6 +10,7 @@ use Rattle.text_output.specs.Failures.{IsNever}
 use Rattle.text_output.proofs.Pieces.{never}
 use Rattle.prepared_run.specs.Replays.{IsBadReplayLayout}
 use Rattle.prepared_run.proofs.ReplayLemmas.{replay_refused}
+use Rattle.views.specs.Debugger.{streams}
 use Rattle.views.proofs.Debugged.{refused_session}
 use Rattle.views.proofs.debugger.serve_run.Goals as goal
 

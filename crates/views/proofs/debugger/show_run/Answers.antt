@@ -1,11 +1,9 @@
 use Rattle.std.proofs.Common.{inl, inr, refl, subst, sym}
 use Rattle.std.proofs.lemmas.Result.{err_from_is_err_and}
-use Rattle.byte_source.specs.Sources.{SourceState}
-use Rattle.dsm_io.specs.States.{FilesState, SinkState}
-use Rattle.gdb_server.proofs.Told.{streams}
+use Rattle.dsm_io.specs.States.{FilesState}
 use Rattle.judged_files.specs.Given.{bytes_of}
 use Rattle.command_line.specs.Views.{recorded_of}
-use Rattle.views.specs.Debugger.{HasShown}
+use Rattle.views.specs.Debugger.{streams, HasShown}
 use Rattle.views.specs.Failures.{FailsAsSession, HasShownRun, IsShowFailure}
 use Rattle.views.specs.Inputs.{AreInputs, IsInputFailure, names_of, run_files}
 use Rattle.views.proofs.Viewed.{err_as, on_ok_as}

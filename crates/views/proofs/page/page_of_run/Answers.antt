@@ -1,4 +1,4 @@
-use Rattle.std.proofs.Common.{◌≡◌, None, ◌++◌, ap, ◌∙◌}
+use Rattle.std.proofs.Common.{◌++◌, ap, ◌∙◌}
 use Rattle.block_view.specs.event_text.Shown.{shown}
 use Rattle.prepared_run.specs.Ready.{work_for}
 use Rattle.page_view.specs.Page.{page_text, text_of}

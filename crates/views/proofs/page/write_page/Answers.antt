@@ -2,7 +2,6 @@ use Rattle.std.proofs.Common.{◌≡◌, inl, inr, subst, sym, ◌∙◌}
 use Rattle.std.specs.Prelude.{IfSome}
 use Rattle.std.proofs.lemmas.Result.{err_from_is_err_and}
 use Rattle.dsm_io.specs.States.{FilesState}
-use Rattle.prepared_run.specs.Replays.{IsReplayRefusal}
 use Rattle.text_output.specs.Failures.{IsWriteFailure}
 use Rattle.judged_files.specs.Given.{bytes_of}
 use Rattle.command_line.specs.Views.{recorded_of}

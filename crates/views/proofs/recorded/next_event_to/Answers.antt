@@ -1,4 +1,4 @@
-use Rattle.std.proofs.Common.{◌<◌, [], ◌∷◌, ◌++◌, None, subst}
+use Rattle.std.proofs.Common.{[], ◌∷◌, ◌++◌, subst}
 use Rattle.run_trace.specs.Given.{traced_of}
 use Rattle.run_trace.specs.Tracing.{HasGoneOn, HasTraced, record_traced}
 use Rattle.views.proofs.Ends.{ends_later, ends_whole}

@@ -1,4 +1,4 @@
-use Rattle.std.proofs.Common.{◌≡◌, ◌++◌, ◌∙◌, inl, subst, sym}
+use Rattle.std.proofs.Common.{◌++◌, inl, subst}
 use Rattle.std.proofs.lemmas.Result.{err_from_is_err_and}
 use Rattle.dsm_core.specs.CoreParts.{outcome_of}
 use Rattle.command_line.specs.Views.{time_of}

@@ -642,4 +642,4 @@ returns-in-Speedup-clause-left g c =
 
 pub unreachable-requires : goal.unreachable-requires
 unreachable-requires g c =
-    c.requires _ (ap meaning_of_view c.in-Gdb.is)
+    c.requires _ _ (ap meaning_of_view c.in-Gdb.is)

@@ -1,12 +1,12 @@
-use Rattle.std.proofs.Common.{◌≡◌, ◌⊎◌, ℕ, List, sym, ◌∙◌, subst, inl, inr, rules, arith}
+use Rattle.std.proofs.Common.{◌≡◌, ◌⊎◌, sym, ◌∙◌, subst, inl, inr, rules, arith}
 use Rattle.std.specs.Prelude.{Contains}
 use Rattle.command_line.specs.Views.{AsksView, Gdb, Time, meaning_of_view, reads}
 use Rattle.dsm_io.specs.States.{SinkState, FilesState}
 use Rattle.text_output.specs.Answers.{Tells}
 use Rattle.text_output.specs.Failures.{line_of, status_of}
 use Rattle.gdb_server.specs.Ends.{Streams}
-use Rattle.gdb_server.proofs.Told.{streams}
 use Rattle.views.specs.Answers.{AreLeft, IsRefusalStatus}
+use Rattle.views.specs.Debugger.{streams}
 use Rattle.views.specs.Failures.{IsShownFailure, IsSuccess}
 use Rattle.views.specs.Headline.{AreTold, AreWritten, usage}
 use Rattle.views.proofs.Timed.{prints_time}
@@ -243,25 +243,32 @@ returns-in-Err-show-clause-time g c = λ a contents asks told zero.
     absurd (not_zero c.in-Err-show.failure (sym c.status.ensures.value ∙ zero))
 
 pub returns-in-Ok-clause-gdb : goal.returns-in-Ok-clause-gdb
-returns-in-Ok-clause-gdb g c = λ run contents asks told zero.
-    let same : meaning_of_view c.in-Ok-Some.view ≡ Gdb run =
-    c.in-Ok-Some.ensures.only (meaning_of_view c.in-Ok-Some.view) (Gdb run)
+returns-in-Ok-clause-gdb g c = λ run memory contents asks told zero.
+    let same : meaning_of_view c.in-Ok-Some.view ≡ Gdb run memory =
+    c.in-Ok-Some.ensures.only (meaning_of_view c.in-Ok-Some.view) (Gdb run memory)
     (asked_as c.args.words.now _ c.in-Ok-Some.view (search rules) c.in-Ok-Some.ensures.asks) asks in
-    c.in-Ok.ensures.gdb run contents same told
+    c.in-Ok.ensures.gdb run memory contents same told
+
+pub returns-in-Err-show-clause-cut_short : goal.returns-in-Err-show-clause-cut_short
+returns-in-Err-show-clause-cut_short g c = λ run memory contents asks told some.
+    let same : meaning_of_view c.in-Ok-Some.view ≡ Gdb run memory =
+    c.in-Ok-Some.ensures.only (meaning_of_view c.in-Ok-Some.view) (Gdb run memory)
+    (asked_as c.args.words.now _ c.in-Ok-Some.view (search rules) c.in-Ok-Some.ensures.asks) asks in
+    c.in-Err-show.ensures.cut_short run memory contents same told
 
 pub returns-in-Ok-clause-unread : goal.returns-in-Ok-clause-unread
 returns-in-Ok-clause-unread g c = λ other.
     let asks = asked_as c.args.words.now _ c.in-Ok-Some.view (search rules) c.in-Ok-Some.ensures.asks in
-    c.show.ensures.unread (λ run is. other run (subst (AsksView c.args.words.now) is asks))
+    c.show.ensures.unread (λ run memory is. other run memory (subst (AsksView c.args.words.now) is asks))
 
 pub returns-in-Err-show-clause-gdb : goal.returns-in-Err-show-clause-gdb
-returns-in-Err-show-clause-gdb g c = λ run contents asks told zero.
+returns-in-Err-show-clause-gdb g c = λ run memory contents asks told zero.
     absurd (not_zero c.in-Err-show.failure (sym c.status.ensures.value ∙ zero))
 
 pub returns-in-Err-show-clause-unread : goal.returns-in-Err-show-clause-unread
 returns-in-Err-show-clause-unread g c = λ other.
     let asks = asked_as c.args.words.now _ c.in-Ok-Some.view (search rules) c.in-Ok-Some.ensures.asks in
-    c.show.ensures.unread (λ run is. other run (subst (AsksView c.args.words.now) is asks))
+    c.show.ensures.unread (λ run memory is. other run memory (subst (AsksView c.args.words.now) is asks))
 
 pub returns-in-Err-show-clause-unheard : goal.returns-in-Err-show-clause-unheard
 returns-in-Err-show-clause-unheard g c = λ s.

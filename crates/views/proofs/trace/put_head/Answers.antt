@@ -1,5 +1,4 @@
 use Rattle.std.proofs.Common.{[], ◌++◌, append-nil, ap, refl, subst, sym, ◌∙◌}
-use Rattle.dsm_io.specs.Causes.{Appends}
 use Rattle.dsm_io.specs.States.{SinkState}
 use Rattle.block_view.specs.event_text.Shown.{head}
 use Rattle.text_output.specs.Failures.{FailsAs, IsLike, IsNever, IsPutFailure}
