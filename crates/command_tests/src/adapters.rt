@@ -1,10 +1,10 @@
 //! The adapters of the real system.
 
+use commands::{Gate, OpenGate};
 use dsm_io::{FileError, Files, RealFiles, Sink, StdSink, Text};
 use std::alloc::{AllocError, Global};
 use std::fs;
 use std::test::Fail;
-use test_calls::commands::{Gate, OpenGate};
 
 /// The bytes of a real file, or the text of the error.
 fn told(

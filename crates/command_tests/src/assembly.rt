@@ -1,8 +1,10 @@
 //! Executables of assembly texts.
 
+use crate::calls::{call, try_held};
+use crate::watch::CountingGate;
 use std::test::Fail;
-use test_calls::calls::{Expected, call, executable, sure, text_of, try_held};
-use test_calls::watch::Watch;
+use test_calls::calls::{Expected, sure};
+use test_calls::files::{executable, text_of};
 
 /// The program that writes its three bytes of data, as a text.
 const HI_TEXT: &str = ".segment rx 0x10000
@@ -44,7 +46,7 @@ fn assembles_a_program(rt: HostRuntime) -> Result<(), Fail> {
     let alloc = rt.alloc();
     let held = [("TEXT", HI_TEXT.as_bytes())];
     let line = "asm TEXT OUT";
-    let made = call(&rt, sure(&held), line, "OUT", &Watch::new(false))?;
+    let made = call(&rt, sure(&held), line, "OUT", &CountingGate::new(false))?;
     made.expect_bytes(line, b"")?;
     if made.written == executable(alloc, HI_WORDS, b"hi\n", 3)? {
         return Ok(());

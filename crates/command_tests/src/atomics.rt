@@ -1,8 +1,9 @@
 //! LR, SC and the AMOs on one memory and rewritten, and processors that share a counter.
 
+use crate::cases::{Case, Input, try_cases, try_codes, try_program};
 use std::test::Fail;
-use test_calls::calls::{NODE, text_of};
-use test_calls::cases::{Case, Input, try_case, try_program};
+use test_calls::calls::NODE;
+use test_calls::files::text_of;
 
 /// Programs whose data's memory has 64 bytes of zeros, and how each ends.
 const RESERVATIONS: [(&str, &str); 15] = [
@@ -69,10 +70,7 @@ const RESERVATIONS: [(&str, &str); 15] = [
 
 #[test]
 fn reserves_and_stores_where_reserved(rt: HostRuntime) -> Result<(), Fail> {
-    for (code, end) in RESERVATIONS {
-        try_program(&rt, code, "", end)?;
-    }
-    Ok(())
+    try_codes(&rt, &RESERVATIONS)
 }
 
 /// What stands before an AMO.
@@ -184,8 +182,5 @@ const CASES: [Case; 2] = [
 
 #[test]
 fn counts_by_two_processors(rt: HostRuntime) -> Result<(), Fail> {
-    for case in &CASES {
-        try_case(&rt, case)?;
-    }
-    Ok(())
+    try_cases(&rt, &CASES)
 }

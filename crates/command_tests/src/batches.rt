@@ -1,8 +1,8 @@
 //! Runs of accesses behind one check, and the same programs without batches.
 
+use crate::cases::{Case, Input, try_cases};
 use std::test::Fail;
 use test_calls::calls::NODE;
-use test_calls::cases::{Case, Input, try_case};
 
 /// A jump into the middle of a run of two.
 const JUMPS_INTO: &str = "lui x5, 0x20
@@ -116,8 +116,5 @@ const CASES: [Case; 6] = [
 
 #[test]
 fn answers_with_batches_and_without(rt: HostRuntime) -> Result<(), Fail> {
-    for case in &CASES {
-        try_case(&rt, case)?;
-    }
-    Ok(())
+    try_cases(&rt, &CASES)
 }

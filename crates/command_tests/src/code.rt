@@ -1,10 +1,12 @@
 //! Files of rewritten code: what `rewrite` writes, runs by them, and why one is refused.
 
+use crate::calls::{rewritten, try_held};
+use crate::cases::{Case, Input, try_cases};
 use std::sync::Wait;
 use std::test::Fail;
 use std::thread::Threads;
-use test_calls::calls::{Expected, NODE, executable, rewritten, try_held};
-use test_calls::cases::{Case, Input, try_case};
+use test_calls::calls::{Expected, NODE};
+use test_calls::files::executable;
 use test_calls::samples::HI;
 
 /// The rewritten file stands above the addresses that a program may have, so it is no input.
@@ -179,8 +181,5 @@ const READS: [Case; 3] = [
 
 #[test]
 fn reads_the_files_in_order(rt: HostRuntime) -> Result<(), Fail> {
-    for case in &READS {
-        try_case(&rt, case)?;
-    }
-    Ok(())
+    try_cases(&rt, &READS)
 }

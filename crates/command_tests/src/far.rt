@@ -1,10 +1,12 @@
 //! A direct jump past more rewritten words than a JAL reaches.
 
+use crate::calls::{call, rewritten, try_held};
+use crate::watch::CountingGate;
 use std::sync::Wait;
 use std::test::Fail;
 use std::thread::Threads;
-use test_calls::calls::{Expected, NODE, call, rewritten, sure, text_of, try_held};
-use test_calls::watch::Watch;
+use test_calls::calls::{Expected, NODE, sure};
+use test_calls::files::text_of;
 
 /// The executable of a jump past 100,000 loads, to which nothing leads.
 fn far_program(rt: &(impl Threads + Wait + Sync + AllocGlobal)) -> Result<Vec<u8>, Fail> {
@@ -14,7 +16,13 @@ fn far_program(rt: &(impl Threads + Wait + Sync + AllocGlobal)) -> Result<Vec<u8
     }
     text.push_str("last:\naddi x10, x0, 0\naddi x17, x0, 93\necall\n")?;
     let held = [("TEXT", text.as_bytes())];
-    let made = call(rt, sure(&held), "asm TEXT OUT", "OUT", &Watch::new(false))?;
+    let made = call(
+        rt,
+        sure(&held),
+        "asm TEXT OUT",
+        "OUT",
+        &CountingGate::new(false),
+    )?;
     Ok(made.written)
 }
 

@@ -2,15 +2,12 @@
 //! memory and rewritten. Above each stands its assembly without the last two instructions, which
 //! are `addi x17, x0, 93; ecall`; a branch's target is a distance.
 
+use crate::cases::try_codes;
 use std::test::Fail;
-use test_calls::cases::try_program;
 
 #[test]
 fn executes_each_instruction(rt: HostRuntime) -> Result<(), Fail> {
-    for (code, end) in PROGRAMS {
-        try_program(&rt, code, "", end)?;
-    }
-    Ok(())
+    try_codes(&rt, &PROGRAMS)
 }
 
 /// Programs, and how each ends.

@@ -1,11 +1,13 @@
 //! `sim` on nodes of several processors: what is printed under each order.
 
+use crate::calls::call;
 use crate::threads::{COUNTED, COUNTS};
+use crate::watch::CountingGate;
 use std::str::from_utf8;
 use std::test::Fail;
-use test_calls::calls::{Expected, NODE, call, executable, sure};
+use test_calls::calls::{Expected, NODE, sure};
+use test_calls::files::executable;
 use test_calls::samples::READS;
-use test_calls::watch::Watch;
 
 /// What four processors on two nodes end with where those but the first read a word of node 0: the
 /// line of node 1, up to what it counts by chance.
@@ -33,7 +35,13 @@ fn counts_on_one_node(rt: HostRuntime) -> Result<(), Fail> {
         "sim IN --per-node 2 --order 77",
         "sim IN --per-node 2 --order 4294967295 --no-batch",
     ] {
-        let called = call(&rt, sure(&[("IN", &file)]), line, "", &Watch::new(false))?;
+        let called = call(
+            &rt,
+            sure(&[("IN", &file)]),
+            line,
+            "",
+            &CountingGate::new(false),
+        )?;
         called.expect_bytes(line, &wanted)?;
     }
     Ok(())
@@ -52,7 +60,13 @@ fn reads_by_two_processors_of_a_node(rt: HostRuntime) -> Result<(), Fail> {
         "sim IN --nodes 2 --per-node 2 --order 77",
         "sim IN --nodes 2 --per-node 2 --order 4294967295",
     ] {
-        let called = call(&rt, sure(&[("IN", &file)]), line, "", &Watch::new(false))?;
+        let called = call(
+            &rt,
+            sure(&[("IN", &file)]),
+            line,
+            "",
+            &CountingGate::new(false),
+        )?;
         let chance = if from_utf8(&called.out)?.contains("false 1") {
             "1"
         } else {

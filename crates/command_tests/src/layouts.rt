@@ -1,9 +1,11 @@
 //! Runs with a layout: what it changes, and why it is refused.
 
 use crate::atomics::{COUNTED, COUNTER};
+use crate::cases::{Case, Input, try_case, try_cases};
+use std::sync::Wait;
 use std::test::Fail;
+use std::thread::Threads;
 use test_calls::calls::NODE;
-use test_calls::cases::{Case, Input, try_case};
 
 /// EBREAK alone, with one line of shared memory at 0x20000.
 const STOP: &str = "ebreak";
@@ -66,7 +68,9 @@ const BOTH_EXITED: &str = "output 0\n\nprocessor 0 exit 0\nprocessor 1 exit 0\n"
 const ONE_FAILED: &str = "output 0\n\nprocessor 0 exit 1\nprocessor 1 exit 0\n";
 
 /// A program of two processors, the size of its memory, a layout, and how it ends.
-const ON_TWO: [(&str, u32, &str, u8, &[&str]); 6] = [
+type TwoRow = (&'static str, u32, &'static str, u8, &'static [&'static str]);
+
+const ON_TWO: [TwoRow; 6] = [
     // the second node may be a home
     (STOP, 64, "0x20000 0x40 64 1", 1, &[BOTH_STOPPED]),
     // where both lines are one block, the store ends the reservation
@@ -152,39 +156,52 @@ const CASES: [Case; 7] = [
     },
 ];
 
+/// Makes the calls of the program that stops, with a layout that is refused.
+fn try_refused(
+    rt: &(impl Threads + Wait + Sync + AllocGlobal),
+    text: &'static str,
+    err: &'static str,
+) -> Result<(), Fail> {
+    let case = Case {
+        input: Input::Program(STOP, b"", 64),
+        text,
+        calls: &[
+            "one --layout=-x IN",
+            "run --layout=-x IN",
+            "sim --layout=-x IN",
+        ],
+        status: 6,
+        out: &[],
+        err,
+    };
+    try_case(rt, &case)
+}
+
+/// Makes the calls of a program of two processors.
+fn try_two(rt: &(impl Threads + Wait + Sync + AllocGlobal), row: &TwoRow) -> Result<(), Fail> {
+    let (code, size, text, status, out) = *row;
+    let case = Case {
+        input: Input::Program(code, b"", size),
+        text,
+        calls: &[
+            "one IN --layout L --nodes 2",
+            "sim IN --layout L --nodes 2 --brief",
+        ],
+        status,
+        out,
+        err: "",
+    };
+    try_case(rt, &case)
+}
+
 #[test]
 fn judges_the_layout(rt: HostRuntime) -> Result<(), Fail> {
-    for case in &CASES {
-        try_case(&rt, case)?;
-    }
+    try_cases(&rt, &CASES)?;
     for (text, err) in REFUSED {
-        let case = Case {
-            input: Input::Program(STOP, b"", 64),
-            text,
-            calls: &[
-                "one --layout=-x IN",
-                "run --layout=-x IN",
-                "sim --layout=-x IN",
-            ],
-            status: 6,
-            out: &[],
-            err,
-        };
-        try_case(&rt, &case)?;
+        try_refused(&rt, text, err)?;
     }
-    for (code, size, text, status, out) in ON_TWO {
-        let case = Case {
-            input: Input::Program(code, b"", size),
-            text,
-            calls: &[
-                "one IN --layout L --nodes 2",
-                "sim IN --layout L --nodes 2 --brief",
-            ],
-            status,
-            out,
-            err: "",
-        };
-        try_case(&rt, &case)?;
+    for row in &ON_TWO {
+        try_two(&rt, row)?;
     }
     Ok(())
 }

@@ -1,7 +1,7 @@
 //! `sim` on two nodes over links that lose packets: what is printed is as over links that don't.
 
+use crate::cases::{Case, Input, try_cases};
 use std::test::Fail;
-use test_calls::cases::{Case, Input, try_case};
 use test_calls::samples::{READ, READS, STAYED, STAYS, WAITED, WAITS};
 
 const CASES: [Case; 3] = [
@@ -46,8 +46,5 @@ const CASES: [Case; 3] = [
 
 #[test]
 fn runs_over_lossy_links(rt: HostRuntime) -> Result<(), Fail> {
-    for case in &CASES {
-        try_case(&rt, case)?;
-    }
-    Ok(())
+    try_cases(&rt, &CASES)
 }

@@ -2,15 +2,12 @@
 //! and rewritten. Above each stands its assembly without the last two instructions, which are
 //! `addi x17, x0, 93; ecall`.
 
+use crate::cases::try_programs;
 use std::test::Fail;
-use test_calls::cases::try_program;
 
 #[test]
 fn multiplies_and_divides(rt: HostRuntime) -> Result<(), Fail> {
-    for (code, data, end) in PROGRAMS {
-        try_program(&rt, code, data, end)?;
-    }
-    Ok(())
+    try_programs(&rt, &PROGRAMS)
 }
 
 /// Programs, the words of their data, and how each ends.

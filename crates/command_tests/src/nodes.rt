@@ -1,7 +1,7 @@
 //! `sim` on two nodes: how their processors end, and what they count.
 
+use crate::cases::{Case, Input, try_cases};
 use std::test::Fail;
-use test_calls::cases::{Case, Input, try_case};
 use test_calls::samples::{READ, READS, STAYED, STAYS, WAITED, WAITS};
 
 /// Programs whose data is zeros.
@@ -62,8 +62,5 @@ const CASES: [Case; 5] = [
 
 #[test]
 fn runs_two_nodes(rt: HostRuntime) -> Result<(), Fail> {
-    for case in &CASES {
-        try_case(&rt, case)?;
-    }
-    Ok(())
+    try_cases(&rt, &CASES)
 }

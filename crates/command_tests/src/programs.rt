@@ -1,8 +1,8 @@
 //! Small programs whose whole answers are known.
 
+use crate::cases::{Case, Input, try_cases, try_programs};
 use std::test::Fail;
 use test_calls::calls::NODE;
-use test_calls::cases::{Case, Input, try_case, try_program};
 use test_calls::samples::HI;
 
 /// A program that loads the flag word, whose line may be read.
@@ -109,10 +109,7 @@ processor 2 exit 0
 
 #[test]
 fn answers_for_a_program_that_writes(rt: HostRuntime) -> Result<(), Fail> {
-    for case in &CASES {
-        try_case(&rt, case)?;
-    }
-    Ok(())
+    try_cases(&rt, &CASES)
 }
 
 /// Programs that print nothing, their data, and how each ends.
@@ -159,8 +156,5 @@ const ENDINGS: [(&str, &str, &str); 13] = [
 
 #[test]
 fn ends_without_output(rt: HostRuntime) -> Result<(), Fail> {
-    for (code, data, end) in ENDINGS {
-        try_program(&rt, code, data, end)?;
-    }
-    Ok(())
+    try_programs(&rt, &ENDINGS)
 }

@@ -1,13 +1,15 @@
 //! `run` on two nodes in threads of their own, its record, and what a gate is told.
 
+use crate::calls::call;
+use crate::cases::{Case, Input, try_cases};
+use crate::watch::CountingGate;
 use std::str::from_utf8;
 use std::sync::Wait;
 use std::test::Fail;
 use std::thread::Threads;
-use test_calls::calls::{Expected, call, executable, sure};
-use test_calls::cases::{Case, Input, try_case};
+use test_calls::calls::{Expected, sure};
+use test_calls::files::executable;
 use test_calls::samples::{BLOCKS, READ, READS, STAYED, STAYS, STORES, USAGE, WAITED, WAITS};
-use test_calls::watch::Watch;
 
 /// Each of two processors adds 1 to a word a thousand times, by LR and SC, and says by an AMO on
 /// another line that it is done; processor 0 waits for both, and writes the word.
@@ -60,7 +62,7 @@ const HEAD: &str = "shasta-record 2\nnodes 2\nbudget 100000000\nbatch 1\ncode 15
 fn try_run(
     rt: &(impl Threads + Wait + Sync + AllocGlobal),
     file: &[u8],
-    gate: &Watch,
+    gate: &CountingGate,
 ) -> Result<(), Fail> {
     let line = "run IN --nodes 2 --record R";
     let called = call(rt, sure(&[("IN", file)]), line, "R", gate)?;
@@ -82,7 +84,7 @@ fn makes_events_in_threads(rt: HostRuntime) -> Result<(), Fail> {
     let file = executable(rt.alloc(), READS, b"\x07\x00\x00\x00", 64)?;
     let mut runs_through: u64 = 0;
     for _run in 0..100 {
-        let gate = Watch::new(false);
+        let gate = CountingGate::new(false);
         try_run(&rt, &file, &gate)?;
         if gate.made() >= 14 {
             runs_through = runs_through.saturating_add(1);
@@ -100,13 +102,13 @@ pub fn try_counting(
     rt: &(impl Threads + Wait + Sync + AllocGlobal),
     file: &[u8],
     words: &str,
-    gate: &Watch,
+    gate: &CountingGate,
 ) -> Result<(), Fail> {
     call(rt, sure(&[("IN", file)]), words, "", gate)?.expect_bytes(words, COUNTED)
 }
 
 /// Fails the test where one of two nodes came by the gate less than ten times.
-fn try_passed(gate: &Watch) -> Result<(), Fail> {
+fn try_passed(gate: &CountingGate) -> Result<(), Fail> {
     let [home, other] = gate.calls();
     if home >= 10 && other >= 10 {
         return Ok(());
@@ -123,13 +125,13 @@ pub const RUN: &str = "run IN --nodes 2 --record R --brief";
 fn passes_the_gate_before_each_event(rt: HostRuntime) -> Result<(), Fail> {
     let file = executable(rt.alloc(), COUNTS, b"", 128)?;
     for words in ["one IN --nodes 2", "sim IN --nodes 2 --brief"] {
-        let gate = Watch::new(false);
+        let gate = CountingGate::new(false);
         try_counting(&rt, &file, words, &gate)?;
         if gate.calls() != [0, 0] {
             return Err(Fail::new(format_args!("{words}")));
         }
     }
-    let gate = Watch::new(false);
+    let gate = CountingGate::new(false);
     try_counting(&rt, &file, RUN, &gate)?;
     try_passed(&gate)
 }
@@ -138,7 +140,7 @@ fn passes_the_gate_before_each_event(rt: HostRuntime) -> Result<(), Fail> {
 #[test]
 fn counts_behind_a_gate_that_holds(rt: HostRuntime) -> Result<(), Fail> {
     let file = executable(rt.alloc(), COUNTS, b"", 128)?;
-    let gate = Watch::new(true);
+    let gate = CountingGate::new(true);
     try_counting(&rt, &file, RUN, &gate)?;
     if gate.is_late() {
         return Err(Fail::from("node 1 made no event"));
@@ -191,10 +193,7 @@ const CASES: [Case; 4] = [
 
 #[test]
 fn runs_with_a_record(rt: HostRuntime) -> Result<(), Fail> {
-    for case in &CASES {
-        try_case(&rt, case)?;
-    }
-    Ok(())
+    try_cases(&rt, &CASES)
 }
 
 /// Whether a text is that of 200 bytes, each of which is `A` or `B`, and of two processors.
@@ -215,7 +214,7 @@ fn writes_bytes_that_another_stores(rt: HostRuntime) -> Result<(), Fail> {
     let file = executable(alloc, STORES, &data, 8192)?;
     let held = [("IN", file.as_slice()), ("BLOCKS", BLOCKS.as_bytes())];
     let line = "run IN --nodes 2 --record R --layout BLOCKS --brief";
-    let called = call(&rt, sure(&held), line, "R", &Watch::new(false))?;
+    let called = call(&rt, sure(&held), line, "R", &CountingGate::new(false))?;
     if called.status == 0
         && is_mixed(from_utf8(&called.out)?)
         && from_utf8(&called.written)?.contains(RECORDED)

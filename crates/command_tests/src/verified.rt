@@ -1,10 +1,12 @@
 //! Files of rewritten code by another plan than the program's own.
 
+use crate::calls::{rewritten, try_held};
 use crate::programs::{FALSE_LOAD, FALSE_MISS};
 use std::sync::Wait;
 use std::test::Fail;
 use std::thread::Threads;
-use test_calls::calls::{Expected, executable, push_words, rewritten, try_held};
+use test_calls::calls::Expected;
+use test_calls::files::{executable, push_words};
 use test_calls::samples::USAGE;
 
 /// The rewritten words of the program by a plan whose load spills x1, behind `sw x1, -4(x0)` and

@@ -1,11 +1,13 @@
 //! Runs by a file of rewritten code by another plan than the program's own, and their replays.
 
+use crate::calls::{call, try_held};
+use crate::watch::CountingGate;
 use std::str::from_utf8;
 use std::sync::Wait;
 use std::test::Fail;
 use std::thread::Threads;
-use test_calls::calls::{Expected, NODE, call, executable, sure, try_held};
-use test_calls::watch::Watch;
+use test_calls::calls::{Expected, NODE, sure};
+use test_calls::files::executable;
 
 /// Two loads by one register, which share a check by the program's own plan.
 const LOADS: &str = "lui x5, 0x20
@@ -38,7 +40,7 @@ fn written<'a>(
     line: &str,
     out: &[&str],
 ) -> Result<Vec<u8>, Fail> {
-    let called = call(rt, sure(held), line, "OUT", &Watch::new(false))?;
+    let called = call(rt, sure(held), line, "OUT", &CountingGate::new(false))?;
     let answer = Expected {
         status: 0,
         out,

@@ -1,11 +1,11 @@
 //! Nodes in threads by gates that are open, and nodes that wait: for messages that none tells them
 //! of, and for ever.
 
+use crate::cases::{Case, Input, try_cases};
 use crate::threads::{COUNTS, RUN, try_counting};
+use crate::watch::CountingGate;
 use std::test::Fail;
-use test_calls::calls::executable;
-use test_calls::cases::{Case, Input, try_case};
-use test_calls::watch::Watch;
+use test_calls::files::executable;
 
 /// Each processor reads a word of shared memory until another stores to it, which none does.
 const SPINS: &str = "lui x5, 0x20
@@ -68,10 +68,7 @@ const CASES: [Case; 3] = [
 /// Nodes that wait for what none sends are stopped by their budgets.
 #[test]
 fn spins_for_ever(rt: HostRuntime) -> Result<(), Fail> {
-    for case in &CASES {
-        try_case(&rt, case)?;
-    }
-    Ok(())
+    try_cases(&rt, &CASES)
 }
 
 /// Two nodes count, by an open gate.
@@ -79,7 +76,7 @@ fn spins_for_ever(rt: HostRuntime) -> Result<(), Fail> {
 fn counts_by_stretches(rt: HostRuntime) -> Result<(), Fail> {
     let file = executable(rt.alloc(), COUNTS, b"", 128)?;
     for _run in 0..20 {
-        try_counting(&rt, &file, RUN, &Watch::open())?;
+        try_counting(&rt, &file, RUN, &CountingGate::open())?;
     }
     Ok(())
 }
@@ -89,7 +86,7 @@ fn counts_by_stretches(rt: HostRuntime) -> Result<(), Fail> {
 fn counts_untold(rt: HostRuntime) -> Result<(), Fail> {
     let file = executable(rt.alloc(), COUNTS, b"", 128)?;
     for open in [false, true] {
-        try_counting(&rt, &file, RUN, &Watch::silent(open))?;
+        try_counting(&rt, &file, RUN, &CountingGate::silent(open))?;
     }
     Ok(())
 }

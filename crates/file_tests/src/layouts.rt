@@ -2,7 +2,7 @@
 
 ghost use Rattle.std.specs.Prelude.{◌<◌, ◌≤◌};
 
-use block_layout::{BlockRange, LayoutRefused, Lines, Ranges, layout_with, read_layout};
+use block_layout::{BlockRange, Layout, LayoutRefused, Lines, Ranges, layout_with, read_layout};
 use std::alloc::{AllocError, Global};
 use std::test::Fail;
 
@@ -47,9 +47,55 @@ fn judges_lines(rt: HostRuntime) -> Result<(), Fail> {
         ("0x20000 0x40 64 0\n0x20000 0x40 64 0\n", Some((34, 2))),
         ("0x20000 0x40 64 99\n", Some((35, 1))),
     ] {
-        assert_eq!(rt; fault_in(rt.alloc(), text)?, wanted, "at {text}");
+        if fault_in(rt.alloc(), text)? != wanted {
+            return Err(Fail::new(format_args!("{text}")));
+        }
     }
     Ok(())
+}
+
+/// Lines, and the block of each.
+const BLOCKS: [(u32, Option<u32>); 8] = [
+    (0x7ff, None),
+    (0x800, Some(0)),
+    (0x83f, Some(0)),
+    (0x840, Some(1)),
+    (0x841, Some(1)),
+    (0x842, Some(2)),
+    (0x87f, Some(63)),
+    (0x880, None),
+];
+
+/// Blocks: the home of each, its first line, how many it has, and how many are before it.
+const PLACES: [(u32, u8, u32, u32, u32); 3] = [
+    (0, 0, 0x800, 64, 0),
+    (1, 1, 0x840, 2, 0x40),
+    (63, 1, 0x87f, 1, 0x7f),
+];
+
+/// Whether lines have these blocks.
+fn has_blocks(layout: &Layout) -> bool {
+    for (line, wanted) in BLOCKS {
+        if layout.block_of(line) != wanted {
+            return false;
+        }
+    }
+    layout.blocks() == 64 && layout.shared_lines() == 128
+}
+
+/// Whether blocks have these places.
+fn has_places(layout: &Layout) -> bool {
+    for (block, home, first, lines, start) in PLACES {
+        if block >= layout.blocks()
+            || layout.home(block) != home
+            || layout.first_line(block) != first
+            || layout.lines(block) != lines
+            || layout.start(block) != start
+        {
+            return false;
+        }
+    }
+    true
 }
 
 #[test]
@@ -57,48 +103,35 @@ fn numbers_blocks(rt: HostRuntime) -> Result<(), Fail> {
     let ranges = shared(rt.alloc(), 128)?;
     let text = b"0x21000 0x80 128 *\n0x20000 0x1000 4096 0\n";
     let layout = read_layout(rt.alloc(), text, &ranges, 2)?;
-    assert_eq!(rt; layout.blocks(), 64);
-    assert_eq!(rt; layout.shared_lines(), 128);
-    for (line, wanted) in [
-        (0x7ff, None),
-        (0x800, Some(0)),
-        (0x83f, Some(0)),
-        (0x840, Some(1)),
-        (0x841, Some(1)),
-        (0x842, Some(2)),
-        (0x87f, Some(63)),
-        (0x880, None),
-    ] {
-        assert_eq!(rt; layout.block_of(line), wanted, "at {line}");
+    if has_blocks(&layout) && has_places(&layout) {
+        return Ok(());
     }
-    for (block, home, first, lines) in [(0, 0, 0x800, 64), (1, 1, 0x840, 2), (63, 1, 0x87f, 1)] {
-        if block < layout.blocks() {
-            assert_eq!(rt; layout.home(block), home, "at {block}");
-            assert_eq!(rt; layout.first_line(block), first, "at {block}");
-            assert_eq!(rt; layout.lines(block), lines, "at {block}");
-            assert_eq!(rt; layout.start(block), first - 0x800, "at {block}");
-        }
+    Err(Fail::from("other blocks"))
+}
+
+/// A page of shared lines, with node 1 for its home.
+const PAGE: BlockRange = BlockRange {
+    start: 0x20000,
+    length: 0x1000,
+    block: 4096,
+    home: Some(1),
+};
+
+/// The number and the line of the refusal of the page, named twice.
+fn fault_of_two(alloc: Global, ranges: &Ranges) -> Result<(u8, usize), Fail> {
+    match layout_with(alloc, &[PAGE, PAGE], ranges, 2) {
+        Err(LayoutRefused::Broken { rule, line }) => Ok((rule.number(), line)),
+        _ => Err(Fail::from("taken twice")),
     }
-    Ok(())
 }
 
 #[test]
 fn takes_ranges(rt: HostRuntime) -> Result<(), Fail> {
     let ranges = shared(rt.alloc(), 128)?;
-    let page = BlockRange {
-        start: 0x20000,
-        length: 0x1000,
-        block: 4096,
-        home: Some(1),
-    };
-    let layout = layout_with(rt.alloc(), &[page], &ranges, 2)?;
-    assert_eq!(rt; layout.blocks(), 65);
-    assert_eq!(rt; layout.ranges(), [page].as_slice());
-    match layout_with(rt.alloc(), &[page, page], &ranges, 2) {
-        Err(LayoutRefused::Broken { rule, line }) => {
-            assert_eq!(rt; (rule.number(), line), (34, 2));
-        }
-        _ => return Err(Fail::from("taken twice")),
+    let layout = layout_with(rt.alloc(), &[PAGE], &ranges, 2)?;
+    let taken = layout.blocks() == 65 && layout.ranges() == [PAGE].as_slice();
+    if taken && fault_of_two(rt.alloc(), &ranges)? == (34, 2) {
+        return Ok(());
     }
-    Ok(())
+    Err(Fail::from("other ranges"))
 }

@@ -1,7 +1,8 @@
 //! A file of another tool's layout: several sections, and a header that is passed over.
 
-use elf32_read::read_elf;
-use exec_map::{Class, Lines, accept};
+use crate::files::push_words;
+use elf32_read::{Section, Segment, read_elf};
+use exec_map::{Class, Lines, Program, accept};
 use std::alloc::{AllocError, Global};
 use std::test::Fail;
 
@@ -41,69 +42,80 @@ const SECTIONS: [[u32; 10]; 8] = [
 /// The file of these headers, with code of eight words.
 fn example(alloc: Global) -> Result<Vec<u8>, AllocError> {
     let mut file = Vec::new(alloc);
-    for word in HEADERS {
-        file.extend_from_slice(&word.to_le_bytes())?;
-    }
-    for _ in 0..8 {
-        file.extend_from_slice(&0x00000073_u32.to_le_bytes())?;
-    }
+    push_words(&mut file, &HEADERS)?;
+    push_words(&mut file, &[0x00000073; 8])?;
     file.resize(0x3d8, 0x55)?;
     file.extend_from_slice(NAMES)?;
     file.resize(0x420, 0)?;
     for header in &SECTIONS {
-        for word in header {
-            file.extend_from_slice(&word.to_le_bytes())?;
-        }
+        push_words(&mut file, header)?;
     }
     Ok(file)
 }
 
-#[test]
-fn reads_segments_and_sections(rt: HostRuntime) -> Result<(), Fail> {
-    let alloc = rt.alloc();
-    let file = example(alloc)?;
-    let e = read_elf(alloc, &file)?;
-    assert_eq!(rt; e.segments().len(), 2);
-    let data = e.segments()[1];
-    assert_eq!(rt; (data.flags, data.vaddr, data.memsz), (6, 0x113b4, 0x80));
-    assert_eq!(rt; data.bytes, [0x55; 32].as_slice());
-    let sections = e.sections();
-    assert_eq!(rt; sections.len(), 6);
-    assert_eq!(rt; sections[0].name, b".text".as_slice());
-    assert_eq!(rt; sections[0].bytes.len(), 32);
-    assert_eq!(rt; sections[1].bytes, [0x55; 0x300].as_slice());
-    assert_eq!(rt; sections[3].name, b".bss".as_slice());
-    assert_eq!(rt; (sections[3].size, sections[3].bytes.len()), (0x60, 0));
-    assert_eq!(rt; (sections[4].name.len(), sections[4].bytes.len()), (0, 4));
-    assert_eq!(rt; (sections[5].name.len(), sections[5].bytes.len()), (0, 0));
-    Ok(())
+/// Whether there are two segments, and the second is the data.
+fn are_segments(segments: &[Segment<'_>]) -> bool {
+    let [_, data] = segments else {
+        return false;
+    };
+    (data.flags, data.vaddr, data.memsz) == (6, 0x113b4, 0x80)
+        && data.bytes == [0x55; 32].as_slice()
+}
+
+/// Whether there are the six sections that have a name or bytes.
+fn are_sections(sections: &[Section<'_>]) -> bool {
+    let [text, constants, _, zeros, unnamed, outside] = sections else {
+        return false;
+    };
+    text.name == b".text".as_slice()
+        && text.bytes.len() == 32
+        && constants.bytes == [0x55; 0x300].as_slice()
+        && zeros.name == b".bss".as_slice()
+        && (zeros.size, zeros.bytes.len()) == (0x60, 0)
+        && (unnamed.name.len(), unnamed.bytes.len()) == (0, 4)
+        && (outside.name.len(), outside.bytes.len()) == (0, 0)
 }
 
 #[test]
-fn accepts_an_executable_of_sections(rt: HostRuntime) -> Result<(), Fail> {
-    let alloc = rt.alloc();
-    let file = example(alloc)?;
-    let e = read_elf(alloc, &file)?;
-    let program = accept(alloc, &e)?;
-    assert_eq!(rt; program.class(0x10000 / 64), Class::ReadOnly);
-    assert_eq!(rt; program.class(0x10380 / 64), Class::ReadOnly);
-    assert_eq!(rt; program.class(0x103c0 / 64), Class::Unmapped);
+fn reads_segments_and_sections(rt: HostRuntime) -> Result<(), Fail> {
+    let file = example(rt.alloc())?;
+    let e = read_elf(rt.alloc(), &file)?;
+    if are_segments(e.segments()) && are_sections(e.sections()) {
+        return Ok(());
+    }
+    Err(Fail::from("another segment or section"))
+}
+
+/// Whether a program has the lines and the code of these headers.
+fn is_mapped(alloc: Global, program: &Program<'_>) -> Result<bool, AllocError> {
     let shared = program.shared_ranges(alloc)?;
     let lines = Lines {
         first: 0x11380 / 64,
         lines: 3,
     };
-    assert_eq!(rt; shared.as_slice(), [lines].as_slice());
-    assert_eq!(rt; program.next_code(0), Some(0x10094));
-    assert_eq!(rt; program.next_code(0x100b1), None);
-    Ok(())
+    Ok(
+        shared.as_slice() == [lines].as_slice()
+            && program.class(0x10000 / 64) == Class::ReadOnly
+            && program.class(0x10380 / 64) == Class::ReadOnly
+            && program.class(0x103c0 / 64) == Class::Unmapped
+            && program.next_code(0) == Some(0x10094)
+            && program.next_code(0x100b1).is_none(),
+    )
 }
 
-/// 65,535 sections whose names begin in eight MiB of letters, which nothing ends: each is empty,
-/// and a look at the letters for each of them would take hours.
 #[test]
-fn reads_many_headers(rt: HostRuntime) -> Result<(), Fail> {
-    let alloc = rt.alloc();
+fn accepts_an_executable_of_sections(rt: HostRuntime) -> Result<(), Fail> {
+    let file = example(rt.alloc())?;
+    let e = read_elf(rt.alloc(), &file)?;
+    let program = accept(rt.alloc(), &e)?;
+    if is_mapped(rt.alloc(), &program)? {
+        return Ok(());
+    }
+    Err(Fail::from("other lines or other code"))
+}
+
+/// 65,535 sections whose names begin in eight MiB of letters, which nothing ends.
+fn example_of_many(alloc: Global) -> Result<Vec<u8>, AllocError> {
     let mut file = example(alloc)?;
     // e_shoff 0x10000, e_shnum 0xffff and e_shstrndx 1
     for (offset, byte) in [(33, 0), (34, 1), (48, 0xff), (49, 0xff), (50, 1)] {
@@ -112,22 +124,28 @@ fn reads_many_headers(rt: HostRuntime) -> Result<(), Fail> {
         }
     }
     file.resize(0x10000, 0)?;
-    let names = [0, 3, 0, 0, 0x29_0000, 0x80_0000, 0, 0, 1, 0];
-    for word in [0; 10].iter().chain(names.iter()) {
-        let word: u32 = *word;
-        file.extend_from_slice(&word.to_le_bytes())?;
-    }
+    push_words(&mut file, &[0; 10])?;
+    push_words(&mut file, &[0, 3, 0, 0, 0x29_0000, 0x80_0000, 0, 0, 1, 0])?;
     for number in 2..0xffff_u32 {
-        for word in [number, 1, 0, 0, 0, 0, 0, 0, 1, 0] {
-            file.extend_from_slice(&word.to_le_bytes())?;
-        }
+        push_words(&mut file, &[number, 1, 0, 0, 0, 0, 0, 0, 1, 0])?;
     }
     file.resize(0x29_0000, 0)?;
     file.resize(0xa9_0000, b'a')?;
-    let e = read_elf(alloc, &file)?;
-    assert_eq!(rt; e.sections().len(), 0xfffd);
+    Ok(file)
+}
+
+/// Each section is empty, and a look at the letters for each of them would take hours.
+#[test]
+fn reads_many_headers(rt: HostRuntime) -> Result<(), Fail> {
+    let file = example_of_many(rt.alloc())?;
+    let e = read_elf(rt.alloc(), &file)?;
     for section in e.sections() {
-        assert_eq!(rt; section.name.len(), 0);
+        if !section.name.is_empty() {
+            return Err(Fail::from("a name that ends"));
+        }
     }
-    Ok(())
+    if e.sections().len() == 0xfffd {
+        return Ok(());
+    }
+    Err(Fail::from("another number of sections"))
 }

@@ -6,7 +6,6 @@ ghost use Rattle.exec_map.specs.Contents.{program_of};
 ghost use Rattle.jump_map.specs.Image.{IsRewriting};
 ghost use Rattle.node_model.specs.Node.{IsLaidOver};
 
-use crate::files::{HI, executable};
 use block_layout::{Layout, default_layout};
 use elf32_read::{Elf, read_elf};
 use exec_map::{End, Exit, Program, accept};
@@ -19,6 +18,8 @@ use std::alloc::{AllocError, Global};
 use std::sync::Wait;
 use std::test::Fail;
 use std::thread::Threads;
+use test_calls::files::executable;
+use test_calls::samples::HI;
 use workload::program_of as generate;
 
 /// A processor other than 0 loads a shared word; each exits with code 0.
@@ -328,6 +329,16 @@ fn have_added(
     Ok(outcome.output.as_slice() == SUM && outcome.ends.as_slice() == ends.as_slice())
 }
 
+/// Whether nodes in threads, over links that hold one wire, have read, of which the first sent 30
+/// messages.
+fn have_raced(
+    rt: &(impl Threads + Wait + Sync + AllocGlobal),
+    core: Core<'_>,
+) -> Result<bool, AllocError> {
+    let raced = race_with(rt, rt.alloc(), core, 1, &OpenGate)?;
+    Ok(have_read(&raced, 30))
+}
+
 /// What nodes are to do.
 #[derive(Clone, Copy)]
 enum Case {
@@ -341,6 +352,23 @@ enum Case {
     Share,
     /// In threads, over links that hold one wire.
     Race,
+}
+
+/// Has nodes do so, and tells whether they did.
+fn does(
+    rt: &(impl Threads + Wait + Sync + AllocGlobal),
+    mut core: Core<'_>,
+    case: Case,
+) -> Result<bool, Fail> {
+    let done = match case {
+        Case::Finish(output, counts) => has_outcome(rt.alloc(), core, output, counts.as_slice())?,
+        Case::Print => have_printed(&mut core)?,
+        Case::Read => is_kept(core)?,
+        Case::Share => have_shared(&mut core)?,
+        Case::Add => have_added(rt, core)?,
+        Case::Race => have_raced(rt, core)?,
+    };
+    Ok(done)
 }
 
 /// Has so many nodes of a rewritten program do so, and tells whether they did.
@@ -358,16 +386,8 @@ fn has_come(
 {
     let alloc = rt.alloc();
     let layout = layout_over(alloc, program, nodes)?;
-    let mut core = core_of(alloc, rewritten, program, &layout)?;
-    let come = match case {
-        Case::Finish(output, counts) => has_outcome(alloc, core, output, counts.as_slice())?,
-        Case::Print => have_printed(&mut core)?,
-        Case::Read => is_kept(core)?,
-        Case::Share => have_shared(&mut core)?,
-        Case::Add => have_added(rt, core)?,
-        Case::Race => have_read(&race_with(rt, alloc, core, 1, &OpenGate)?, 30),
-    };
-    Ok(come)
+    let core = core_of(alloc, rewritten, program, &layout)?;
+    does(rt, core, case)
 }
 
 /// Has nodes of the program with this code and data do so, and fails the test where they don't.

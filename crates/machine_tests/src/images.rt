@@ -1,11 +1,13 @@
 //! The rewritten words of small programs.
 
-use crate::files::{HI, executable};
 use elf32_read::read_elf;
-use exec_map::accept;
+use exec_map::{Program, accept};
 use jump_map::Image;
 use rewriter::{Options, rewrite};
+use std::alloc::Global;
 use std::test::Fail;
+use test_calls::files::executable;
+use test_calls::samples::HI;
 
 /// A program, a place of it, where the sequences of the place begin, of how many bytes its batch
 /// is, and the words of the sequences and of what follows.
@@ -150,21 +152,34 @@ fn is_rewritten(image: &Image, sequence: &Sequence) -> bool {
         && (sequence.code != HI || image.len() == 10)
 }
 
+/// Whether a program is rewritten so.
+fn is_so(alloc: Global, program: &Program<'_>, sequence: &Sequence) -> Result<bool, Fail> {
+    let rewritten = rewrite(alloc, program, Options { batch: true })?;
+    Ok(is_rewritten(rewritten.image(), sequence))
+}
+
+/// Whether the place stands at its sequences where there are no batches.
+fn is_single(alloc: Global, program: &Program<'_>, sequence: &Sequence) -> Result<bool, Fail> {
+    let rewritten = rewrite(alloc, program, Options { batch: false })?;
+    Ok(rewritten.image().new_of(sequence.place) == Some(sequence.at))
+}
+
+/// Fails the test where the program of a sequence is rewritten otherwise.
+fn try_sequence(alloc: Global, sequence: &Sequence) -> Result<(), Fail> {
+    let file = executable(alloc, sequence.code, b"\x05", 64)?;
+    let elf = read_elf(alloc, &file)?;
+    let program = accept(alloc, &elf)?;
+    if is_so(alloc, &program, sequence)? && is_single(alloc, &program, sequence)? {
+        return Ok(());
+    }
+    let place = sequence.place;
+    Err(Fail::new(format_args!("another sequence at {place}")))
+}
+
 #[test]
 fn rewrites_places(rt: HostRuntime) -> Result<(), Fail> {
-    let alloc = rt.alloc();
     for sequence in &SEQUENCES {
-        let file = executable(alloc, sequence.code, b"\x05", 64)?;
-        let elf = read_elf(alloc, &file)?;
-        let program = accept(alloc, &elf)?;
-        let rewritten = rewrite(alloc, &program, Options { batch: true })?;
-        let single = rewrite(alloc, &program, Options { batch: false })?;
-        if !is_rewritten(rewritten.image(), sequence)
-            || single.image().new_of(sequence.place) != Some(sequence.at)
-        {
-            let place = sequence.place;
-            return Err(Fail::new(format_args!("another sequence at {place}")));
-        }
+        try_sequence(rt.alloc(), sequence)?;
     }
     Ok(())
 }

@@ -4,7 +4,6 @@ ghost use Rattle.exec_map.specs.Contents.{program_of};
 ghost use Rattle.jump_map.specs.Image.{IsRewriting};
 
 use crate::cores::layout_over;
-use crate::files::executable;
 use crate::lossy::READS;
 use elf32_read::read_elf;
 use exec_map::{End, Exit, Program, accept};
@@ -14,6 +13,7 @@ use run_limits::Budget;
 use smp_sim::smp_simulate;
 use std::alloc::Global;
 use std::test::Fail;
+use test_calls::files::executable;
 
 /// The outcome of a rewritten program on two nodes of two processors each, by the order of a
 /// number.
@@ -56,17 +56,23 @@ fn is_read_once(outcome: &Outcome) -> bool {
         && other.falses <= 1
 }
 
+/// Fails the test where, by the order of a number, each processor of node 1 reads.
+fn try_order(alloc: Global, program: &Program<'_>, order: u32) -> Result<(), Fail> {
+    let rewritten = rewrite(alloc, program, Options { batch: true })?;
+    if is_read_once(&run(alloc, &rewritten, program, order)?) {
+        return Ok(());
+    }
+    Err(Fail::from("one read for both processors of node 1"))
+}
+
 #[test]
 fn two_processors_of_a_node_wait_for_one_read(rt: HostRuntime) -> Result<(), Fail> {
     let alloc = rt.alloc();
     let file = executable(alloc, READS, &[7, 0, 0, 0], 64)?;
     let elf = read_elf(alloc, &file)?;
     let program = accept(alloc, &elf)?;
-    let rewritten = rewrite(alloc, &program, Options { batch: true })?;
     for order in [0, 1, 7, 4_294_967_295] {
-        if !is_read_once(&run(alloc, &rewritten, &program, order)?) {
-            return Err(Fail::from("one read for both processors of node 1"));
-        }
+        try_order(alloc, &program, order)?;
     }
     Ok(())
 }

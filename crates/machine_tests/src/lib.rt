@@ -4,8 +4,6 @@
 #[cfg(test)]
 mod cores;
 #[cfg(test)]
-mod files;
-#[cfg(test)]
 mod images;
 #[cfg(test)]
 mod lanes;

@@ -1,11 +1,10 @@
 //! Nodes over links that lose packets give what they give over links that don't.
 
-ghost use Rattle.std.specs.Prelude.{◌≡◌, ◌<◌, ◌≤◌};
+ghost use Rattle.std.specs.Prelude.{◌<◌};
 ghost use Rattle.exec_map.specs.Contents.{program_of};
 ghost use Rattle.jump_map.specs.Image.{IsRewriting};
 
 use crate::cores::layout_over;
-use crate::files::executable;
 use elf32_read::read_elf;
 use exec_map::{Program, accept};
 use lossy_sim::dsm_core::{Outcome, Work};
@@ -15,26 +14,13 @@ use rewriter::{Options, Rewritten, rewrite};
 use run_limits::Budget;
 use std::alloc::Global;
 use std::test::Fail;
+use test_calls::files::executable;
 
 /// A processor other than 0 loads a shared word; each exits with code 0.
 pub(crate) const READS: &str = "lui x5, 0x20
 beq x10, x0, end
 lw x6, 0(x5)
 end:
-addi x10, x0, 0
-addi x17, x0, 93
-ecall
-";
-
-/// Each processor adds to a shared word, again and again, and exits with code 0.
-const ADDS: &str = "lui x5, 0x20
-addi x7, x0, 50
-again:
-lw x6, 0(x5)
-addi x6, x6, 1
-sw x6, 0(x5)
-addi x7, x7, -1
-bne x7, x0, again
 addi x10, x0, 0
 addi x17, x0, 93
 ecall
@@ -75,16 +61,22 @@ fn is_kept(
     Ok(is_same(&with, &without))
 }
 
-/// Has two nodes run this code with each loss, and fails the test where one gives another outcome.
+/// Has two nodes run a program with a loss, and fails the test where that gives another outcome.
+fn try_loss(alloc: Global, program: &Program<'_>, loss: u32) -> Result<(), Fail> {
+    let rewritten = rewrite(alloc, program, Options { batch: true })?;
+    if is_kept(alloc, &rewritten, program, loss)? {
+        return Ok(());
+    }
+    Err(Fail::from("the outcome of the run without loss"))
+}
+
+/// Has two nodes run this code with each loss.
 fn try_losses(alloc: Global, code: &str, losses: &[u32]) -> Result<(), Fail> {
     let file = executable(alloc, code, &[7, 0, 0, 0], 64)?;
     let elf = read_elf(alloc, &file)?;
     let program = accept(alloc, &elf)?;
-    let rewritten = rewrite(alloc, &program, Options { batch: true })?;
     for loss in losses {
-        if !is_kept(alloc, &rewritten, &program, *loss)? {
-            return Err(Fail::from("the outcome of the run without loss"));
-        }
+        try_loss(alloc, &program, *loss)?;
     }
     Ok(())
 }

@@ -3,15 +3,16 @@
 ghost use Rattle.std.specs.Prelude.{◌≡◌, ◌<◌};
 ghost use Rattle.one_memory.specs.Machine.{original_of};
 
-use crate::files::{HI, executable};
-use block_layout::default_layout;
+use block_layout::{Layout, default_layout};
 use elf32_read::read_elf;
-use exec_map::{Exit, accept};
+use exec_map::{Exit, Program, accept};
 use one_memory::{OneMemory, StepRefused};
 use random_order::order_of;
 use run_limits::NodeCount;
 use std::alloc::{AllocError, Global};
 use std::test::Fail;
+use test_calls::files::executable;
+use test_calls::samples::HI;
 
 /// So many steps of a processor.
 fn run(machine: &mut OneMemory<'_>, p: u8, steps: usize) -> Result<(), StepRefused>
@@ -213,19 +214,30 @@ fn does(machine: &mut OneMemory<'_>, what: Play<'_>) -> Result<bool, Fail>
     }
 }
 
+/// The default layout of a program for two processors.
+fn layout_of(alloc: Global, program: &Program<'_>) -> Result<Layout, Fail> {
+    let ranges = program.shared_ranges(alloc)?;
+    let layout = default_layout(alloc, &ranges, 2)?;
+    Ok(layout)
+}
+
+/// Whether two processors of a program do so as they should.
+fn does_on(alloc: Global, program: &Program<'_>, what: Play<'_>) -> Result<bool, Fail> {
+    let Some(nodes) = NodeCount::of(2) else {
+        return Err(Fail::from("two is a number of nodes"));
+    };
+    let layout = layout_of(alloc, program)?;
+    let mut machine = OneMemory::new(alloc, program, &layout, nodes)?;
+    does(&mut machine, what)
+}
+
 /// Fails the test where two processors of this program, whose data's memory has 128 bytes, do
 /// otherwise than they should.
 fn try_play(alloc: Global, code: &str, what: Play<'_>) -> Result<(), Fail> {
     let file = executable(alloc, code, b"hi\n", 128)?;
     let elf = read_elf(alloc, &file)?;
     let program = accept(alloc, &elf)?;
-    let Some(nodes) = NodeCount::of(2) else {
-        return Err(Fail::from("two is a number of nodes"));
-    };
-    let ranges = program.shared_ranges(alloc)?;
-    let layout = default_layout(alloc, &ranges, 2)?;
-    let mut machine = OneMemory::new(alloc, &program, &layout, nodes)?;
-    if does(&mut machine, what)? {
+    if does_on(alloc, &program, what)? {
         return Ok(());
     }
     Err(Fail::from("two processors that do otherwise"))

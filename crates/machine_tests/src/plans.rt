@@ -2,15 +2,16 @@
 
 ghost use Rattle.std.specs.Prelude.{◌≡◌};
 
-use crate::files::executable;
 use check_plan::plan_checks;
 use elf32_read::read_elf;
-use exec_map::accept;
+use exec_map::{Program, accept};
 use flow_graph::Graph;
 use liveness::Live;
 use rv32_decode::Reg;
+use std::alloc::Global;
 use std::test::Fail;
 use templates::{Plan, Scratch};
+use test_calls::files::executable;
 
 const LOOP: &str = "addi x5, x0, 3
 again:
@@ -144,19 +145,29 @@ fn chosen(scratch: &Scratch) -> Chosen {
     (scratch.register.number(), scratch.spilled)
 }
 
-/// Whether all that is known of a program is so.
-fn is_known(live: &Live<'_>, plan: &Plan, known: &Known) -> bool {
-    for (address, edges) in known.edges {
-        if edges_of(live.graph(), *address) != *edges {
+/// Whether the edges at addresses are so.
+fn has_edges(graph: &Graph, all: &[(u32, Option<Edges>)]) -> bool {
+    for (address, edges) in all {
+        if edges_of(graph, *address) != *edges {
             return false;
         }
     }
-    for (address, dead) in known.dead {
+    true
+}
+
+/// Whether the dead registers at addresses are so.
+fn has_dead(live: &Live<'_>, all: &[(u32, Option<Dead>)]) -> bool {
+    for (address, dead) in all {
         if dead_of(live, *address, Reg::A0) != *dead {
             return false;
         }
     }
-    for (address, scratches) in known.scratches {
+    true
+}
+
+/// Whether the scratch registers at addresses are so.
+fn has_scratches(plan: &Plan, all: &[(u32, Option<(Chosen, Chosen)>)]) -> bool {
+    for (address, scratches) in all {
         if scratches_of(plan, *address) != *scratches {
             return false;
         }
@@ -164,20 +175,37 @@ fn is_known(live: &Live<'_>, plan: &Plan, known: &Known) -> bool {
     true
 }
 
+/// Whether all that is known of a program is so.
+fn is_known(live: &Live<'_>, plan: &Plan, known: &Known) -> bool {
+    has_edges(live.graph(), known.edges)
+        && has_dead(live, known.dead)
+        && has_scratches(plan, known.scratches)
+}
+
+/// Whether all of it is so of a program's graph.
+fn is_so(alloc: Global, program: &Program<'_>, known: &Known) -> Result<bool, Fail> {
+    let graph = Graph::of(alloc, program)?;
+    let live = Live::of(alloc, &graph)?;
+    let plan = plan_checks(alloc, &live)?;
+    Ok(is_known(&live, &plan, known))
+}
+
+/// Fails the test where something else is so of a program.
+fn try_known(alloc: Global, known: &Known) -> Result<(), Fail> {
+    let file = executable(alloc, known.code, b"\x05", 64)?;
+    let elf = read_elf(alloc, &file)?;
+    let program = accept(alloc, &elf)?;
+    if is_so(alloc, &program, known)? {
+        return Ok(());
+    }
+    let code = known.code;
+    Err(Fail::new(format_args!("the program {code}")))
+}
+
 #[test]
 fn edges_dead_registers_and_scratches(rt: HostRuntime) -> Result<(), Fail> {
-    let alloc = rt.alloc();
     for known in &KNOWN {
-        let file = executable(alloc, known.code, b"\x05", 64)?;
-        let elf = read_elf(alloc, &file)?;
-        let program = accept(alloc, &elf)?;
-        let graph = Graph::of(alloc, &program)?;
-        let live = Live::of(alloc, &graph)?;
-        let plan = plan_checks(alloc, &live)?;
-        if !is_known(&live, &plan, known) {
-            let code = known.code;
-            return Err(Fail::new(format_args!("the program {code}")));
-        }
+        try_known(rt.alloc(), known)?;
     }
     Ok(())
 }

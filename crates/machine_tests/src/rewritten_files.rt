@@ -1,25 +1,15 @@
 //! The file of a rewritten program: what it holds, and what is refused for it.
 
-use crate::files::{HI, executable};
 use elf32_read::{Elf, Section, read_elf};
 use exec_map::accept;
-use rewriter::{CodeRefused, FilePart, Options, Rewritten, rewrite};
+use rewriter::{CodeRefused, FilePart, Options, Rewritten};
 use std::alloc::Global;
 use std::test::Fail;
+use test_calls::files::{executable, rewritten_file};
+use test_calls::samples::HI;
 
 /// The templates of the places of `HI`: four plain words, a call, two plain words, a call, a stop.
 const TEMPLATES: [u8; 9] = [0, 0, 0, 0, 7, 0, 0, 7, 9];
-
-/// The file of the rewritten program of `HI`.
-fn rewritten_file(alloc: Global) -> Result<Vec<u8>, Fail> {
-    let file = executable(alloc, HI, b"hi\n", 3)?;
-    let elf = read_elf(alloc, &file)?;
-    let program = accept(alloc, &elf)?;
-    let rewritten = rewrite(alloc, &program, Options { batch: true })?;
-    let mut out = Vec::new(alloc);
-    rewritten.to_elf(alloc, &elf, &mut out)?;
-    Ok(out)
-}
 
 /// Whether an executable has three segments, of which the first is read-only, the second writable
 /// and the third code, and begins at the first place.
@@ -53,7 +43,8 @@ fn is_map(map: &Section<'_>) -> bool {
 #[test]
 fn writes_the_segments_the_plan_and_the_map(rt: HostRuntime) -> Result<(), Fail> {
     let alloc = rt.alloc();
-    let out = rewritten_file(alloc)?;
+    let file = executable(alloc, HI, b"hi\n", 3)?;
+    let out = rewritten_file(alloc, &file)?;
     let elf = read_elf(alloc, &out)?;
     let plan = elf.sections().get(0).ok_or("a plan")?;
     let map = elf.sections().get(1).ok_or("a map")?;
@@ -65,11 +56,11 @@ fn writes_the_segments_the_plan_and_the_map(rt: HostRuntime) -> Result<(), Fail>
 
 /// The part that is refused where the file's byte at an offset is changed, if one is.
 fn part_refused(alloc: Global, offset: usize) -> Result<Option<FilePart>, Fail> {
-    let mut out = rewritten_file(alloc)?;
+    let file = executable(alloc, HI, b"hi\n", 3)?;
+    let mut out = rewritten_file(alloc, &file)?;
     if let Some(byte) = out.get_mut(offset) {
         *byte ^= 1;
     }
-    let file = executable(alloc, HI, b"hi\n", 3)?;
     let original = read_elf(alloc, &file)?;
     let program = accept(alloc, &original)?;
     let elf = read_elf(alloc, &out)?;

@@ -1,12 +1,12 @@
 //! Files that are taken for a rewriting by the plan that they say, and those that are refused.
 
-use crate::files::{HI, executable};
 use elf32_read::read_elf;
 use exec_map::accept;
 use rewrite_verify::{VerifyRefused, verify};
-use rewriter::{Options, rewrite};
 use std::alloc::Global;
 use std::test::Fail;
+use test_calls::files::{executable, rewritten_file};
+use test_calls::samples::HI;
 
 const LOOP: &str = "addi x5, x0, 3
 again:
@@ -37,21 +37,9 @@ const PLANS: [(usize, &[u8], Option<Refusal>); 3] = [
     (0x301c, OTHER_LOOK, None),
 ];
 
-/// The file of the rewritten program of these words.
-fn rewritten_file(alloc: Global, code: &str) -> Result<Vec<u8>, Fail> {
-    let file = executable(alloc, code, b"hi\n", 3)?;
-    let elf = read_elf(alloc, &file)?;
-    let program = accept(alloc, &elf)?;
-    let rewritten = rewrite(alloc, &program, Options { batch: true })?;
-    let mut out = Vec::new(alloc);
-    rewritten.to_elf(alloc, &elf, &mut out)?;
-    Ok(out)
-}
-
-/// What a file is refused for as one of the program of these words, if it is.
-fn refusal(alloc: Global, code: &str, out: &[u8]) -> Result<Option<Refusal>, Fail> {
-    let file = executable(alloc, code, b"hi\n", 3)?;
-    let original = read_elf(alloc, &file)?;
+/// What a file is refused for as one of the program of an executable, if it is.
+fn refusal(alloc: Global, file: &[u8], out: &[u8]) -> Result<Option<Refusal>, Fail> {
+    let original = read_elf(alloc, file)?;
     let program = accept(alloc, &original)?;
     let elf = read_elf(alloc, out)?;
     match verify(alloc, &program, &original, &elf) {
@@ -67,11 +55,12 @@ fn refusal(alloc: Global, code: &str, out: &[u8]) -> Result<Option<Refusal>, Fai
 
 /// What the file of `HI` is refused for where its byte at an offset is changed.
 fn refusal_with(alloc: Global, offset: usize) -> Result<Option<Refusal>, Fail> {
-    let mut out = rewritten_file(alloc, HI)?;
+    let file = executable(alloc, HI, b"hi\n", 3)?;
+    let mut out = rewritten_file(alloc, &file)?;
     if let Some(byte) = out.get_mut(offset) {
         *byte ^= 1;
     }
-    refusal(alloc, HI, &out)
+    refusal(alloc, &file, &out)
 }
 
 /// The entry stands at 0x18 of the file, the code at 0x3000, the plan behind its 40 bytes, the map
@@ -105,10 +94,11 @@ fn put(out: &mut Vec<u8>, offset: usize, bytes: &[u8]) {
 #[test]
 fn takes_another_plan(rt: HostRuntime) -> Result<(), Fail> {
     let alloc = rt.alloc();
-    let mut out = rewritten_file(alloc, LOOP)?;
+    let file = executable(alloc, LOOP, b"hi\n", 3)?;
+    let mut out = rewritten_file(alloc, &file)?;
     for (offset, bytes, wanted) in PLANS {
         put(&mut out, offset, bytes);
-        if refusal(alloc, LOOP, &out)? != wanted {
+        if refusal(alloc, &file, &out)? != wanted {
             return Err(Fail::new(format_args!("at {offset}")));
         }
     }

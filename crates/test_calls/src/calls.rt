@@ -1,82 +1,14 @@
-//! Calls of the program on files in memory.
+//! The outside of a call in memory: its files, its output and its errors; and what a call did.
 
-use crate::watch::Watch;
-use commands::shasta;
+use crate::files::text_of;
 use dsm_io::{Files, MemFiles, MemSink, Text};
-use rv32_asm::assemble;
 use std::alloc::{AllocError, Global};
 use std::str::from_utf8;
-use std::sync::Wait;
 use std::test::Fail;
-use std::thread::Threads;
 
 /// The line of a node that counted nothing.
 pub const NODE: &str =
     "node 0 read 0 exclusive 0 upgrade 0 false 0 invalidations 0 fallbacks 0 messages 0\n";
-
-/// The file header of an executable with two program headers and no section header, and the start
-/// of the code's program header.
-const HEADERS: &str = "464c457f 00010101 00000000 00000000 00f30002 00000001 00010000 00000034
-    00000000 00000000 00200034 00000002 00000000 00000001 00001000 00010000 00010000";
-
-/// Appends words, each of eight hexadecimal digits, with spaces between them.
-pub fn push_words(bytes: &mut Vec<u8>, words: &str) -> Result<(), Fail> {
-    for word in words.split_whitespace() {
-        let word = u32::from_str_radix(word, 16)?;
-        bytes.extend_from_slice(&word.to_le_bytes())?;
-    }
-    Ok(())
-}
-
-/// Appends the number of bytes in the file and that in memory.
-pub fn push_sizes(bytes: &mut Vec<u8>, in_file: usize, in_memory: u32) -> Result<(), Fail> {
-    bytes.extend_from_slice(&u32::try_from(in_file)?.to_le_bytes())?;
-    bytes.extend_from_slice(&in_memory.to_le_bytes())?;
-    Ok(())
-}
-
-/// Appends the words of an assembly text, the first of which stands at 0x10000. A semicolon ends a
-/// line, as a line feed does.
-pub fn push_code(alloc: Global, bytes: &mut Vec<u8>, text: &str) -> Result<(), Fail> {
-    let lines = text.replace(alloc, ";", "\n")?;
-    let text = text_of(alloc, &[".segment rx 0x10000\n", &lines])?;
-    let assembled = assemble(alloc, text.as_bytes())?;
-    let elf = assembled.elf(alloc)?;
-    for segment in elf.segments() {
-        bytes.extend_from_slice(segment.bytes)?;
-    }
-    Ok(())
-}
-
-/// The executable of this code and data, of which the data's memory has so many bytes. The code is
-/// an assembly text.
-pub fn executable(alloc: Global, code: &str, data: &[u8], data_size: u32) -> Result<Vec<u8>, Fail> {
-    let mut words = Vec::new(alloc);
-    push_code(alloc, &mut words, code)?;
-    let mut file = Vec::new(alloc);
-    push_words(&mut file, HEADERS)?;
-    push_sizes(&mut file, words.len(), u32::try_from(words.len())?)?;
-    push_words(
-        &mut file,
-        "00000005 00001000 00000001 00002000 00020000 00020000",
-    )?;
-    push_sizes(&mut file, data.len(), data_size)?;
-    push_words(&mut file, "00000006 00001000")?;
-    file.resize(0x1000, 0)?;
-    file.extend_from_slice(&words)?;
-    file.resize(0x2000, 0)?;
-    file.extend_from_slice(data)?;
-    Ok(file)
-}
-
-/// Some texts, one after another.
-pub fn text_of(alloc: Global, parts: &[&str]) -> Result<String, AllocError> {
-    let mut text = String::new(alloc);
-    for part in parts {
-        text.push_str(part)?;
-    }
-    Ok(text)
-}
 
 /// Files with these names and contents, of which the calls with these numbers fail.
 fn files_of(alloc: Global, all: &[(&str, &[u8])], fails: &[u64]) -> Result<MemFiles, Fail> {
@@ -176,30 +108,6 @@ impl Outside {
     }
 }
 
-/// Calls the program on files with these words, with spaces between them, and with a gate that each
-/// worker passes before its events; and then reads the file that the call may write.
-pub fn call(
-    rt: &(impl Threads + Wait + Sync + AllocGlobal),
-    held: Held<'_>,
-    line: &str,
-    written: &str,
-    gate: &Watch,
-) -> Result<Called, Fail> {
-    let alloc = rt.alloc();
-    let words = words_of(alloc, line)?;
-    let mut outside = Outside::of(alloc, held)?;
-    let status = shasta(
-        rt,
-        alloc,
-        &words,
-        &mut outside.files,
-        &mut outside.out,
-        &mut outside.err,
-        gate,
-    );
-    outside.left(alloc, status, written)
-}
-
 /// What a call answers: its status, the parts of what the output takes, and what the errors take.
 #[derive(Clone, Copy)]
 pub struct Expected<'a> {
@@ -240,51 +148,10 @@ impl Called {
     }
 }
 
-/// Makes each call where these files are held, and fails the test where it answers otherwise.
-pub fn try_calls(
-    rt: &(impl Threads + Wait + Sync + AllocGlobal),
-    held: Held<'_>,
-    calls: &[&str],
-    answer: &Expected<'_>,
-) -> Result<(), Fail> {
-    let alloc = rt.alloc();
-    let gate = Watch::new(false);
-    for line in calls {
-        call(rt, held, line, "", &gate)?.expect(alloc, line, answer)?;
-    }
-    Ok(())
-}
-
 /// Files of which no call fails.
 pub fn sure<'a>(files: &'a [(&'a str, &'a [u8])]) -> Held<'a> {
     Held {
         files,
         faults: NO_FAULTS,
     }
-}
-
-/// Makes each call where no call of a file or a sink fails.
-pub fn try_held(
-    rt: &(impl Threads + Wait + Sync + AllocGlobal),
-    files: &[(&str, &[u8])],
-    calls: &[&str],
-    answer: &Expected<'_>,
-) -> Result<(), Fail> {
-    try_calls(rt, sure(files), calls, answer)
-}
-
-/// The file that `rewrite` makes of an executable.
-pub fn rewritten(
-    rt: &(impl Threads + Wait + Sync + AllocGlobal),
-    file: &[u8],
-) -> Result<Vec<u8>, Fail> {
-    let line = "rewrite IN OUT";
-    let called = call(rt, sure(&[("IN", file)]), line, "OUT", &Watch::new(false))?;
-    let answer = Expected {
-        status: 0,
-        out: &[],
-        err: "",
-    };
-    called.expect(rt.alloc(), line, &answer)?;
-    Ok(called.written)
 }

@@ -1,9 +1,6 @@
 #![tactic(auto)]
-//! Calls of the program on files in memory, and tables of them, for tests of the commands.
+//! What tests of calls share: executables of assembly texts, files in memory, and what a call did.
 
 pub mod calls;
-pub mod cases;
+pub mod files;
 pub mod samples;
-pub mod watch;
-
-pub use commands;

@@ -4,7 +4,7 @@ use crate::calls::{Row, try_views};
 use crate::trace::{RECORD, ROW};
 use std::alloc::Global;
 use std::test::Fail;
-use test_calls::calls::{executable, push_words};
+use test_calls::files::{executable, push_words};
 
 /// What its nodes count, and what its block costs: node 1 asks for it. The last line goes on with
 /// the name of the code, where it has one.

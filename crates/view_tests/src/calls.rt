@@ -16,7 +16,7 @@ pub(crate) const USAGE: &str = "usage: shasta_view code IN [--verify FILE | --no
     [--latency L] [--line P] [--handling H]
        shasta_view speedup IN OUT [--nodes N] [--budget B] [--layout FILE] \
     [--verify FILE | --no-batch] [--latency L] [--line P] [--handling H]
-       shasta_view gdb IN RECORD [--verify FILE]
+       shasta_view gdb IN RECORD [--verify FILE] [--memory M]
        shasta_view --help
 ";
 

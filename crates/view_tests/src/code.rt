@@ -4,7 +4,8 @@ use crate::calls::{Row, USAGE, show, try_view, try_views};
 use std::alloc::Global;
 use std::str::from_utf8;
 use std::test::Fail;
-use test_calls::calls::{Faults, Held, NO_FAULTS, executable, rewritten, sure};
+use test_calls::calls::{Faults, Held, NO_FAULTS, sure};
+use test_calls::files::{executable, rewritten_file};
 use test_calls::samples::HI;
 
 /// A program that loads a word, whose line may be read.
@@ -116,7 +117,7 @@ fn shows_code(rt: HostRuntime) -> Result<(), Fail> {
 fn shows_verified_code(rt: HostRuntime) -> Result<(), Fail> {
     let alloc = rt.alloc();
     let file = executable(alloc, HI, b"", 64)?;
-    let verified = rewritten(&rt, &file)?;
+    let verified = rewritten_file(alloc, &file)?;
     try_views(alloc, &[("IN", &file), ("V", &verified)], &VERIFIED)
 }
 

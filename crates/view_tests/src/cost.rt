@@ -3,7 +3,7 @@
 use crate::blocks::named;
 use crate::calls::{Row, USAGE, try_views};
 use std::test::Fail;
-use test_calls::calls::{executable, rewritten};
+use test_calls::files::{executable, rewritten_file};
 use test_calls::samples::HI;
 
 /// What stands in the columns: the words of the original and those of its checks, and the others.
@@ -82,7 +82,7 @@ const NAMED_CALLS: [Row; 1] = [("cost IN", 0, &NAMED, "")];
 fn counts_what_checks_cost(rt: HostRuntime) -> Result<(), Fail> {
     let alloc = rt.alloc();
     let file = executable(alloc, HI, b"", 64)?;
-    let verified = rewritten(&rt, &file)?;
+    let verified = rewritten_file(alloc, &file)?;
     let files = [("IN", file.as_slice()), ("V", &verified), ("T", b"text")];
     try_views(alloc, &files, &HI_CALLS)
 }

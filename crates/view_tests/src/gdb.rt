@@ -4,13 +4,17 @@ use crate::calls::{USAGE, show_to};
 use crate::trace::{RECORD, ROW};
 use std::alloc::Global;
 use std::test::Fail;
-use test_calls::calls::{Expected, Held, executable, sure};
+use test_calls::calls::{Expected, Held, sure};
+use test_calls::files::executable;
 
 /// Why a run of which nothing was asked yet has stopped.
 const FIRST: &str = "+$T05thread:00000001;#27";
 
 /// Its last step is one of the second processor.
 const END: &str = "+$T05thread:00000002;replaylog:end;#a3";
+
+/// Its first step is one of the first processor.
+const BEGINNING: &str = "+$T05thread:00000001;replaylog:begin;#70";
 
 /// The registers of the first processor at the beginning, each with its low byte first: the stack
 /// pointer is 7ffffff0, there are two processors, and the first instruction stands at 00010000.
@@ -38,7 +42,7 @@ type Session = (
 );
 
 /// B is the record with one entry changed, whose message isn't there yet.
-const SESSIONS: [Session; 12] = [
+const SESSIONS: [Session; 14] = [
     ("gdb IN R", "", &[], 0, &[], ""),
     ("gdb IN R", "$?#3f", &[], 0, &[FIRST], ""),
     ("gdb IN R", "$?#3f+$D#44$?#3f", &[], 0, &[FIRST, OK], ""),
@@ -51,6 +55,16 @@ const SESSIONS: [Session; 12] = [
         &[END, SEVEN, SEVEN, OK],
         "",
     ),
+    // back from the end, without checkpoints
+    (
+        "gdb IN R --memory 0",
+        "$c#63+$bc#c5+$D#44",
+        &[],
+        0,
+        &[END, BEGINNING, OK],
+        "",
+    ),
+    ("gdb IN R --memory 1000001", "$?#3f", &[], 2, &[], USAGE),
     // there is nothing at 0, and nothing can be written
     (
         "gdb IN R",

@@ -5,7 +5,8 @@ use crate::trace::ROW;
 use std::alloc::Global;
 use std::str::from_utf8;
 use std::test::Fail;
-use test_calls::calls::{executable, expect_text};
+use test_calls::calls::expect_text;
+use test_calls::files::executable;
 
 /// What the page's file holds before.
 const BEFORE: &str = "before";

@@ -4,7 +4,8 @@ use crate::calls::{Row, USAGE, show, try_views};
 use crate::trace::ROW;
 use std::str::from_utf8;
 use std::test::Fail;
-use test_calls::calls::{executable, sure};
+use test_calls::calls::sure;
+use test_calls::files::executable;
 
 /// Node 0 executes lui, bne, jal, addi, addi and call, from 0 to 6, and ends: it sends a Bye to
 /// itself, which is there at 6, and one to node 1, which is there at 106. It takes its own at 6, to

@@ -2,7 +2,7 @@
 
 use crate::calls::{Row, try_views};
 use std::test::Fail;
-use test_calls::calls::{executable, rewritten};
+use test_calls::files::{executable, rewritten_file};
 
 /// A processor other than 0 loads a shared word; each exits with code 0.
 pub(crate) const ROW: &str = "lui x5, 0x20; beq x10, x0, end; lw x6, 0(x5); end:; addi x10, x0, 0;
@@ -109,7 +109,7 @@ fn shows_a_run(rt: HostRuntime) -> Result<(), Fail> {
     let alloc = rt.alloc();
     let program = executable(alloc, ROW, &[7, 0, 0, 0], 64)?;
     let broken = RECORD.replace(alloc, "take 9 1 0", "take 8 1 0")?;
-    let verified = rewritten(&rt, &program)?;
+    let verified = rewritten_file(alloc, &program)?;
     let files = [
         ("IN", program.as_slice()),
         ("V", verified.as_slice()),

@@ -1,5 +1,5 @@
 -- The nodes run rewritten code.
-use Rattle.std.proofs.Common.{ℕ, ◌<◌, ◌≤◌, ◌^◌, List, sym, subst}
+use Rattle.std.proofs.Common.{◌<◌, ◌≤◌, ◌^◌, List, sym, subst}
 use Rattle.exec_map.specs.Contents.{program_of}
 use Rattle.jump_map.specs.Image.{Cell, IsRewriting}
 use Rattle.machine_tests.proofs.cores.core_of.Goals as goal

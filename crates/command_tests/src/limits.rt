@@ -1,10 +1,12 @@
 //! Refusals at the last place that a file may name: the last line of the longest layout, and the
 //! greatest number of segments.
 
+use crate::calls::try_held;
 use crate::refusals::try_refused;
 use std::alloc::Global;
 use std::test::Fail;
-use test_calls::calls::{Expected, executable, push_code, push_words, text_of, try_held};
+use test_calls::calls::Expected;
+use test_calls::files::{executable, push_code, push_words, text_of};
 use test_calls::samples::HI;
 
 /// The bytes of the longest file that is read.

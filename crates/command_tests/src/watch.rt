@@ -9,7 +9,7 @@ use std::thread;
 /// one, for a million turns at most; where these were not enough it is late. It may be open, and it
 /// may keep from every node that something was sent to it.
 #[derive(Drop)]
-pub struct Watch {
+pub struct CountingGate {
     holds: bool,
     open: bool,
     silent: bool,
@@ -18,24 +18,24 @@ pub struct Watch {
     late: AtomicBool,
 }
 
-impl Watch {
+impl CountingGate {
     /// A gate that was never passed, and whether it holds node 0 back.
-    pub fn new(holds: bool) -> Watch {
-        Watch::of(holds, false, false)
+    pub fn new(holds: bool) -> CountingGate {
+        CountingGate::of(holds, false, false)
     }
 
     /// A gate that is open.
-    pub fn open() -> Watch {
-        Watch::of(false, true, false)
+    pub fn open() -> CountingGate {
+        CountingGate::of(false, true, false)
     }
 
     /// A gate by which no node is told that something was sent to it, and whether it is open.
-    pub fn silent(open: bool) -> Watch {
-        Watch::of(false, open, true)
+    pub fn silent(open: bool) -> CountingGate {
+        CountingGate::of(false, open, true)
     }
 
-    fn of(holds: bool, open: bool, silent: bool) -> Watch {
-        Watch {
+    fn of(holds: bool, open: bool, silent: bool) -> CountingGate {
+        CountingGate {
             holds,
             open,
             silent,
@@ -62,7 +62,7 @@ impl Watch {
     }
 }
 
-impl Gate for Watch {
+impl Gate for CountingGate {
     fn turn(&self, node: u8, events: u64) {
         if let Some(calls) = self.calls.get(usize::from(node)) {
             calls.fetch_add(1, Ordering::SeqCst);

@@ -1,15 +1,15 @@
 //! Files and sinks that refuse one call, each in its turn.
 
+use crate::calls::{call, rewritten, try_calls};
 use crate::replays::NAMED;
+use crate::watch::CountingGate;
 use std::str::from_utf8;
 use std::sync::Wait;
 use std::test::Fail;
 use std::thread::Threads;
-use test_calls::calls::{
-    Called, Expected, Faults, Held, NO_FAULTS, call, executable, rewritten, try_calls,
-};
+use test_calls::calls::{Called, Expected, Faults, Held, NO_FAULTS};
+use test_calls::files::executable;
 use test_calls::samples::{READ, READS, WAITED};
-use test_calls::watch::Watch;
 
 /// A command, what is told where the first call of its files fails, where the second does, and so
 /// on, and the text that it prints where none fails.
@@ -170,7 +170,7 @@ fn try_files(
             ..NO_FAULTS
         };
         let held = Held { files, faults };
-        let called = call(rt, held, command.words, "OUT", &Watch::new(false))?;
+        let called = call(rt, held, command.words, "OUT", &CountingGate::new(false))?;
         let failed = !line.is_empty();
         let answer = Expected {
             status: if failed { 3 } else { 0 },
@@ -202,7 +202,7 @@ fn try_put(
     (status, line): (u8, &str),
     number: u64,
 ) -> Result<(), Fail> {
-    let called = call(rt, held, command.words, "OUT", &Watch::new(false))?;
+    let called = call(rt, held, command.words, "OUT", &CountingGate::new(false))?;
     if is_cut(&called, command.text, status, line)? {
         return Ok(());
     }

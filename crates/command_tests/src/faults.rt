@@ -1,8 +1,9 @@
 //! What is told where a command does no work.
 
+use crate::calls::try_held;
+use crate::cases::{Case, Input, try_cases};
 use std::test::Fail;
-use test_calls::calls::{Expected, try_held};
-use test_calls::cases::{Case, Input, try_case};
+use test_calls::calls::Expected;
 use test_calls::samples::USAGE;
 
 /// Each command that reads an executable, where its words, its file or its name are at fault.
@@ -89,10 +90,7 @@ const CASES: [Case; 5] = [
 
 #[test]
 fn tells_what_is_wrong(rt: HostRuntime) -> Result<(), Fail> {
-    for case in &CASES {
-        try_case(&rt, case)?;
-    }
-    Ok(())
+    try_cases(&rt, &CASES)
 }
 
 #[test]

@@ -1,13 +1,15 @@
 //! `replay` of records, and the executables that `gen` writes.
 
+use crate::calls::{call, try_held};
+use crate::watch::CountingGate;
 use std::alloc::Global;
 use std::str::from_utf8;
 use std::sync::Wait;
 use std::test::Fail;
 use std::thread::Threads;
-use test_calls::calls::{Called, Expected, call, executable, expect_text, sure, text_of, try_held};
+use test_calls::calls::{Called, Expected, expect_text, sure};
+use test_calls::files::{executable, text_of};
 use test_calls::samples::{BLOCKS, READ, READS, STORES, WAITED};
-use test_calls::watch::Watch;
 
 /// A record of the program that reads, on two nodes: the last word of node 0 has the stamp 6. Then
 /// it takes its own Bye, the Read that node 1 sends at 8, its own FwdRead, Done and the Bye of node
@@ -191,16 +193,22 @@ fn try_words(
     try_held(rt, files, &[words], &answer)
 }
 
+/// Replays a record whole, and without the counts.
+fn try_record(
+    rt: &(impl Threads + Wait + Sync + AllocGlobal),
+    file: &[u8],
+    record: &str,
+) -> Result<(), Fail> {
+    let held = [("IN", file), ("R", record.as_bytes())];
+    try_words(rt, &held, "replay IN R", 0, READ, "")?;
+    try_words(rt, &held, "replay --brief IN R", 0, WAITED, "")
+}
+
 #[test]
 fn replays_a_record(rt: HostRuntime) -> Result<(), Fail> {
     let file = reader(rt.alloc())?;
-    for record in [RECORD, NAMED] {
-        let held = [("IN", file.as_slice()), ("R", record.as_bytes())];
-        for (words, out) in [("replay IN R", READ), ("replay --brief IN R", WAITED)] {
-            try_words(&rt, &held, words, 0, out, "")?;
-        }
-    }
-    Ok(())
+    try_record(&rt, &file, RECORD)?;
+    try_record(&rt, &file, NAMED)
 }
 
 /// Replays a record with another part, and fails the test where another line is told.
@@ -219,16 +227,23 @@ fn try_refused(
     try_words(rt, &held, "replay IN R", status, "", &err)
 }
 
+/// Replays a record with each other part.
+fn try_records(
+    rt: &(impl Threads + Wait + Sync + AllocGlobal),
+    record: &str,
+    rows: &[(&str, &str, &str)],
+) -> Result<(), Fail> {
+    for (old, new, why) in rows {
+        let line = ["shasta: record refused ", *why, "\n"];
+        try_refused(rt, record, (*old, *new), 7, &line)?;
+    }
+    Ok(())
+}
+
 #[test]
 fn refuses_records(rt: HostRuntime) -> Result<(), Fail> {
-    for (old, new, why) in RECORDS {
-        let line = ["shasta: record refused ", why, "\n"];
-        try_refused(&rt, RECORD, (old, new), 7, &line)?;
-    }
-    for (old, new, why) in NAMED_RECORDS {
-        let line = ["shasta: record refused ", why, "\n"];
-        try_refused(&rt, NAMED, (old, new), 7, &line)?;
-    }
+    try_records(&rt, RECORD, &RECORDS)?;
+    try_records(&rt, NAMED, &NAMED_RECORDS)?;
     for (new, why) in LAYOUTS {
         let line = ["shasta: layout refused ", why, "\n"];
         try_refused(&rt, RECORD, ("batch 1\n", new), 6, &line)?;
@@ -271,7 +286,7 @@ fn done(
     words: &str,
     written: &str,
 ) -> Result<Called, Fail> {
-    let called = call(rt, sure(files), words, written, &Watch::new(false))?;
+    let called = call(rt, sure(files), words, written, &CountingGate::new(false))?;
     if called.status == 0 && called.err.is_empty() {
         return Ok(called);
     }

@@ -1,13 +1,13 @@
 //! Each refusal of a file with its line, alone and with another: the one that is judged first is
 //! told.
 
+use crate::calls::try_held;
 use std::alloc::Global;
 use std::sync::Wait;
 use std::test::Fail;
 use std::thread::Threads;
-use test_calls::calls::{
-    Expected, NODE, executable, push_code, push_sizes, push_words, text_of, try_held,
-};
+use test_calls::calls::{Expected, NODE};
+use test_calls::files::{executable, push_code, push_sizes, push_words, text_of};
 
 /// A program that exits with code 0.
 const CODE: &str = "addi x10, x0, 0; addi x17, x0, 93; ecall";
@@ -159,14 +159,44 @@ pub fn try_refused(
     try_held(rt, &[("IN", file)], &[words], &answer)
 }
 
-#[test]
-fn tells_why_a_file_is_refused(rt: HostRuntime) -> Result<(), Fail> {
-    for rule in &SMALL {
-        let mut file = executable(rt.alloc(), CODE, b"hi\n", 3)?;
-        break_by(&mut file, rule);
-        try_refused(&rt, &file, "list IN", rule.line)?;
+/// Has a file break a rule, and fails the test where another refusal is told by these words.
+fn try_rule(
+    rt: &(impl Threads + Wait + Sync + AllocGlobal),
+    whole: &[u8],
+    words: &str,
+    rule: &RefusalRow,
+) -> Result<(), Fail> {
+    let mut file = whole.to_vec(rt.alloc())?;
+    break_by(&mut file, rule);
+    try_refused(rt, &file, words, rule.line)
+}
+
+/// Has a file break each rule in its turn.
+fn try_each(
+    rt: &(impl Threads + Wait + Sync + AllocGlobal),
+    whole: &[u8],
+    words: &str,
+    rules: &[RefusalRow],
+) -> Result<(), Fail> {
+    for rule in rules {
+        try_rule(rt, whole, words, rule)?;
     }
     Ok(())
+}
+
+/// The same where the file is to be listed.
+pub fn try_rules(
+    rt: &(impl Threads + Wait + Sync + AllocGlobal),
+    whole: &[u8],
+    rules: &[RefusalRow],
+) -> Result<(), Fail> {
+    try_each(rt, whole, "list IN", rules)
+}
+
+#[test]
+fn tells_why_a_file_is_refused(rt: HostRuntime) -> Result<(), Fail> {
+    let file = executable(rt.alloc(), CODE, b"hi\n", 3)?;
+    try_rules(&rt, &file, &SMALL)
 }
 
 /// The flag of total store order breaks no rule.
@@ -354,12 +384,13 @@ pub fn file_of(alloc: Global, loads: usize) -> Result<Vec<u8>, Fail> {
 
 #[test]
 fn tells_the_lowest_refusal(rt: HostRuntime) -> Result<(), Fail> {
+    let alloc = rt.alloc();
+    let whole = file_of(alloc, 0)?;
     for (count, higher) in RULES.iter().enumerate() {
+        let mut file = whole.as_slice().to_vec(alloc)?;
+        break_by(&mut file, higher);
         for lower in RULES.iter().take(count + 1) {
-            let mut file = file_of(rt.alloc(), 0)?;
-            break_by(&mut file, higher);
-            break_by(&mut file, lower);
-            try_refused(&rt, &file, "list IN", lower.line)?;
+            try_rule(&rt, &file, "list IN", lower)?;
         }
     }
     Ok(())
@@ -370,11 +401,7 @@ fn tells_the_lowest_refusal(rt: HostRuntime) -> Result<(), Fail> {
 #[test]
 fn counts_the_words_last(rt: HostRuntime) -> Result<(), Fail> {
     let many = file_of(rt.alloc(), MANY)?;
-    for rule in &RULES {
-        let mut file = many.as_slice().to_vec(rt.alloc())?;
-        break_by(&mut file, rule);
-        try_refused(&rt, &file, "run IN", rule.line)?;
-    }
+    try_each(&rt, &many, "run IN", &RULES)?;
     try_refused(&rt, &many, "run IN", "20 CodeTooLarge 4230005 words")?;
     let answer = Expected {
         status: 4,

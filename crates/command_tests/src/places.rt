@@ -1,11 +1,13 @@
 //! Refusals of executables and of layouts at the first and the last place that they may name, and
 //! of two faulty lines the first.
 
-use crate::refusals::{RefusalRow, WHOLE, break_by, file_of, try_refused};
+use crate::calls::try_held;
+use crate::refusals::{RefusalRow, WHOLE, file_of, try_rules};
 use std::sync::Wait;
 use std::test::Fail;
 use std::thread::Threads;
-use test_calls::calls::{Expected, executable, text_of, try_held};
+use test_calls::calls::Expected;
+use test_calls::files::{executable, text_of};
 use test_calls::samples::HI;
 
 /// Rules that the file of a program which writes breaks: 8195 bytes, with two program headers, 32
@@ -282,23 +284,12 @@ const LAST: [RefusalRow; 3] = [
 
 #[test]
 fn names_the_first_and_the_last_place(rt: HostRuntime) -> Result<(), Fail> {
-    for rule in &SMALL {
-        let mut file = executable(rt.alloc(), HI, b"hi\n", 3)?;
-        break_by(&mut file, rule);
-        try_refused(&rt, &file, "list IN", rule.line)?;
-    }
-    for rule in &PLACES {
-        let mut file = file_of(rt.alloc(), 0)?;
-        break_by(&mut file, rule);
-        try_refused(&rt, &file, "list IN", rule.line)?;
-    }
-    for rule in &LAST {
-        let mut file = executable(rt.alloc(), HI, b"hi\n", 3)?;
-        file.resize(MOST, 0)?;
-        break_by(&mut file, rule);
-        try_refused(&rt, &file, "list IN", rule.line)?;
-    }
-    Ok(())
+    let alloc = rt.alloc();
+    let mut file = executable(alloc, HI, b"hi\n", 3)?;
+    try_rules(&rt, &file, &SMALL)?;
+    try_rules(&rt, &file_of(alloc, 0)?, &PLACES)?;
+    file.resize(MOST, 0)?;
+    try_rules(&rt, &file, &LAST)
 }
 
 /// A line of a layout that names the first of three shared lines.

@@ -1,10 +1,12 @@
 //! Rows of tables: programs and how they end, and calls and their answers.
 
-use crate::calls::{Expected, NODE, executable, push_code, text_of, try_held};
+use crate::calls::try_held;
 use std::alloc::Global;
 use std::sync::Wait;
 use std::test::Fail;
 use std::thread::Threads;
+use test_calls::calls::{Expected, NODE};
+use test_calls::files::{executable, push_code, text_of};
 
 /// What IN holds: bytes, or the executable of code, an assembly text, and of data, of which the
 /// memory has so many bytes.
@@ -58,6 +60,17 @@ pub fn try_case(rt: &(impl Threads + Wait + Sync + AllocGlobal), case: &Case) ->
     try_with(rt, &file, case.text.as_bytes(), case.calls, &answer)
 }
 
+/// Makes the calls of each case.
+pub fn try_cases(
+    rt: &(impl Threads + Wait + Sync + AllocGlobal),
+    cases: &[Case],
+) -> Result<(), Fail> {
+    for case in cases {
+        try_case(rt, case)?;
+    }
+    Ok(())
+}
+
 /// Makes each call of a file, and fails the test where it doesn't print a text alone.
 fn try_text(
     rt: &(impl Threads + Wait + Sync + AllocGlobal),
@@ -92,4 +105,27 @@ pub fn try_program(
     let run = text_of(alloc, &[&one, NODE])?;
     try_text(rt, &file, &["one IN"], status, &one)?;
     try_text(rt, &file, &["run IN", "sim IN"], status, &run)
+}
+
+/// Executes each program of these codes and data, whose ends are the third texts.
+pub fn try_programs(
+    rt: &(impl Threads + Wait + Sync + AllocGlobal),
+    programs: &[(&str, &str, &str)],
+) -> Result<(), Fail> {
+    for (code, data, end) in programs {
+        try_program(rt, code, data, end)?;
+    }
+    Ok(())
+}
+
+/// Executes each program of these codes, whose data's memory has zeros, and whose ends are the
+/// second texts.
+pub fn try_codes(
+    rt: &(impl Threads + Wait + Sync + AllocGlobal),
+    programs: &[(&str, &str)],
+) -> Result<(), Fail> {
+    for (code, end) in programs {
+        try_program(rt, code, "", end)?;
+    }
+    Ok(())
 }
