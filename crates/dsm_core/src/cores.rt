@@ -5,7 +5,8 @@ ghost use Rattle.std.specs.Prelude.{length, slice_index_or, IfOk, OnOk, OnErr, M
 ghost use Rattle.run_order.specs.node_model.declared.Standing.TheVariants.{Over};
 ghost use Rattle.run_order.specs.node_model.Node.{Resume, Waiting, standing_of};
 ghost use Rattle.run_order.specs.node_model.Core as model;
-ghost use Rattle.run_order.specs.node_model.Core.{May, AreAlike, IsOver, IsCoreRun, event_step, opening_core};
+ghost use Rattle.run_order.specs.node_model.Core.{May, AreAlike, IsOver, IsCoreRun, event_step};
+ghost use Rattle.run_order.specs.node_model.Core.{opening_core};
 ghost use Rattle.run_order.specs.OwnRun.{Stamped, StandsForOwnRun, OnlyAdds};
 ghost use Rattle.rewriting_law.specs.Bounds.{RunsRewritten, most_events};
 ghost use Rattle.rewriting_law.specs.ProtocolLists.{world_shown};

@@ -4,7 +4,8 @@ ghost use Rattle.std.specs.Prelude.{◌≡◌, ◌≢◌, ◌<◌, ◌≤◌, �
 ghost use Rattle.std.specs.Prelude.{IfOk, OnOk, OnErr};
 ghost use Rattle.run_order.specs.node_model.Node.{Work, IsLaidOver, standing_of};
 ghost use Rattle.run_order.specs.node_model.Core as model;
-ghost use Rattle.rewriting_law.specs.dsm_protocol.Queue.{Queue as Stored, AreQueues, SameWires, HasRoom};
+ghost use Rattle.rewriting_law.specs.dsm_protocol.Queue.{Queue as Stored, AreQueues, SameWires};
+ghost use Rattle.rewriting_law.specs.dsm_protocol.Queue.{HasRoom};
 ghost use Rattle.rewriting_law.specs.dsm_protocol.Queue.{wires_of};
 ghost use Rattle.dsm_core.specs.CoreParts.{work_in, core_with, event_of, HaveWork};
 ghost use Rattle.run_order.specs.node_model.Core.{IsOver};

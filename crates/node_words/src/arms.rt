@@ -14,6 +14,7 @@ ghost use Rattle.node_memory.specs.micro_op.Micro as micro;
 ghost use Rattle.node_memory.specs.micro_op.Micro.{Demands, Enters, meaning_of, sum_address};
 ghost use Rattle.node_memory.specs.jump_map.Image.{Cell, image_base, most_words};
 ghost use Rattle.node_memory.specs.node_model.Node as model;
+ghost use Rattle.node_memory.specs.node_model.Node.{set_register};
 ghost use Rattle.node_words.specs.Address.{word_address};
 ghost use Rattle.node_words.specs.GoingOn.{DoesNext};
 ghost use Rattle.node_memory.specs.exec_map.Contents.{program_of};
@@ -110,11 +111,25 @@ impl<'a> ExecState<'a> {
         ensures log { self.new.log ≡ self.old.log }
         ensures undoable { StaysUndoable self.old self.new }
     {
-        let a = self.lane.registers.get(op.rs1);
-        let value = alu_apart(o, a, self.lane.registers.get(op.rs2));
-        self.lane.registers.set(op.rd, value);
+        self.put_result(o, op);
         going.on(1, 1);
         true
+    }
+
+    /// Puts the result of an operation on two registers into a register.
+    #[inline(never)]
+    fn put_result(&mut self, o: Op, op: &MicroOp)
+        ensures lane { let registers = registers_of self.old.lane.registers in (at : ℕ)
+            → lane_of self.new.lane at ≡ set_register (lane_of self.old.lane at) op.now.rd
+            (operations.alu o (reg registers op.now.rs1) (reg registers op.now.rs2)) }
+        ensures local { self.new.local ≡ self.old.local }
+        ensures counts { self.new.counts ≡ self.old.counts }
+        ensures log { self.new.log ≡ self.old.log }
+        ensures undoable { StaysUndoable self.old self.new }
+    {
+        let a = self.lane.registers.get(op.rs1);
+        let value = alu(o, a, self.lane.registers.get(op.rs2));
+        self.lane.registers.set(op.rd, value);
     }
 
     /// A jump that keeps no link, where it is the last of so many words.
@@ -440,12 +455,4 @@ fn is_in_window(address: u32) -> bool
     ensures { result ≡ is_in_window address }
 {
     WINDOW_START <= address && address < MEMORY_END
-}
-
-/// The result of an operation that is slow.
-#[inline(never)]
-fn alu_apart(op: Op, a: u32, b: u32) -> u32
-    ensures { result ≡ operations.alu op a b }
-{
-    alu(op, a, b)
 }

@@ -43,7 +43,7 @@ impl StoreLog {
     }
 
     /// Notes what a store at an address overwrites, where stores are noted, and says whether the
-    /// store may be made: not where it is misaligned or there is no room, and then nothing is noted.
+    /// store may be made: not where it is misaligned or there is no room; then nothing is noted.
     #[inline(always)]
     pub(crate) fn admits(
         &mut self,
@@ -62,7 +62,7 @@ impl StoreLog {
         !self.on || self.note(lane, local, width, address)
     }
 
-    /// The same where stores are noted.
+    /// Notes what a store at an address overwrites, and says whether the store may be made.
     #[inline(never)]
     fn note(
         &mut self,

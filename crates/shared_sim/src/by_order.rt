@@ -2,7 +2,8 @@
 
 ghost use Rattle.std.specs.Prelude.{◌≡◌, ◌≤◌, ◌<◌, [], ◌∷◌, true, false, length};
 ghost use Rattle.std.specs.Prelude.{Some, IfOk, OnOk, MatchOption};
-ghost use Rattle.dsm_core.specs.node_model.Core.{Exec, May, IsOver, AreAlike, event_step, opening_core};
+ghost use Rattle.dsm_core.specs.node_model.Core.{Exec, May, IsOver, AreAlike, event_step};
+ghost use Rattle.dsm_core.specs.node_model.Core.{opening_core};
 ghost use Rattle.dsm_core.specs.rewriting_law.Bounds.{RunsRewritten};
 ghost use Rattle.dsm_core.specs.CoreParts.{work_of, work_in, core_of, event_of, outcome_of};
 ghost use Rattle.shared_sim.specs.ByOrder.{IsOutcomeByOrder, choices};

@@ -6,7 +6,8 @@ ghost use Rattle.dsm_core.specs.CoreParts.{work_of, core_of};
 ghost use Rattle.block_layout.specs.Update.{changed};
 ghost use Rattle.timed_sim.specs.Clock.{nothing_spent};
 ghost use Rattle.timed_sim.specs.Stored.{due_of, times_of, AreClocks, AreSameTimes, AreWithin};
-ghost use Rattle.timed_sim.specs.Stretches.{AreFree, IsFree, IsFrom, more_words, with_words, words_until};
+ghost use Rattle.timed_sim.specs.Stretches.{AreFree, IsFree, IsFrom, more_words, with_words};
+ghost use Rattle.timed_sim.specs.Stretches.{words_until};
 
 use crate::clocks::Clocks;
 use crate::due::Due;
