@@ -1,4 +1,5 @@
 mod Lists
+mod Silents
 mod Takes
 mod Traces
 mod Ways

@@ -20,7 +20,7 @@ use Rattle.run_trace.specs.Traced.{Traced}
 use Rattle.run_trace.specs.Trace.{IsTraceOf}
 use Rattle.run_trace.specs.Tracing.{HasTraced, IsSame, plan_traced, record_traced, work_traced}
 use Rattle.record_picks.specs.Picks.{ArePicksOf, IsInterleaved}
-use Rattle.record_picks.specs.Seen.{picks_seen, all_seen}
+use Rattle.record_picks.specs.Seen.{HasPickedOn, picks_seen, all_seen}
 use Rattle.record_picks.proofs.Lists.{made_run}
 use Rattle.record_picks.proofs.Traces.{AllReserve, of_trace}
 
@@ -43,6 +43,18 @@ picked_more work plan r t u picks more x way same traced is = record {
   picks_are = is ∙ ap (λ ks. ks ++ picks_seen x) way.picks_are
       ∙ ap (λ ks. all_seen way.seen ++ ks) (sym (append-nil (picks_seen x)))
       ∙ sym (flat_map-append picks_seen way.seen (x ∷ []));
+  work_is = same.work ∙ way.work_is;
+  plan_is = same.plan ∙ way.plan_is;
+  rec_is = same.rec_is ∙ way.rec_is;
+}
+
+-- words more
+pub picked_on : (work : Work) (plan : List PlanEntry) (r : Record) (t u : Tracer) (picks more : List Pick) (way : IsPicked work plan r t picks) → IsSame t u → HasPickedOn u way.seen picks more → IsPicked work plan r u more
+picked_on work plan r t u picks more way same on = record {
+  seen = way.seen ++ on.more;
+  traced = on.traced;
+  picks_are = on.picks_are ∙ ap (λ ks. ks ++ all_seen on.more) way.picks_are
+      ∙ sym (flat_map-append picks_seen way.seen on.more);
   work_is = same.work ∙ way.work_is;
   plan_is = same.plan ∙ way.plan_is;
   rec_is = same.rec_is ∙ way.rec_is;

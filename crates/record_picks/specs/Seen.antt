@@ -1,6 +1,8 @@
 -- Helps the code alone: the picks of events, by what is traced of them.
-use Rattle.std.specs.Prelude.{ℕ, if◌then◌else◌, List, [], ◌∷◌, Option, Some, None, flat_map}
+use Rattle.std.specs.Prelude.{◌≡◌, ℕ, if◌then◌else◌, List, [], ◌∷◌, ◌++◌, Option, Some, None, flat_map}
 use Rattle.rv32_step.specs.OneMemory.{Pick, Step, Break}
+use Rattle.run_trace.specs.declared.tracer.Tracer.{Tracer}
+use Rattle.run_trace.specs.Tracing.{HasTraced}
 use Rattle.run_trace.specs.Traced.{OfTake, Traced, What, Word, Taken}
 
 -- a break of the node's reservation, for the node that a message names
@@ -20,3 +22,9 @@ picks_seen x = picks_by x.node x.what
 
 abbrev pub all_seen : List Traced → List Pick
 all_seen trace = flat_map picks_seen trace
+
+-- events more were made, and their picks appended
+pub record HasPickedOn (t : Tracer) (seen : List Traced) (before now : List Pick) : Type 0 where
+  pub more : List Traced
+  pub traced : HasTraced t (seen ++ more)
+  pub picks_are : now ≡ before ++ all_seen more

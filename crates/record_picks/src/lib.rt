@@ -1,12 +1,16 @@
 #![tactic(auto)]
 //! What a recorded run stands for on one memory, pick by pick.
 
-ghost use Rattle.std.specs.Prelude.{◌≡◌, ◌⊎◌, ◌++◌, ◌∷◌, [], ℕ, map, IfOk, OnOk, IsErrOf};
+ghost use Rattle.std.specs.Prelude.{◌≡◌, ◌<◌, ◌≤◌, ◌⊎◌, ◌++◌, ◌∷◌, [], ℕ, List, map, true};
+ghost use Rattle.std.specs.Prelude.{IfOk, OnOk, IsErrOf};
 ghost use Rattle.std.specs.Prelude.{if◌then◌else◌};
 ghost use Rattle.std.specs.Option.{option_map, option_to_list};
 ghost use Rattle.rv32_step.specs.OneMemory.{Step};
 ghost use Rattle.one_memory.specs.Shown.{pick_of as model_pick};
 ghost use Rattle.run_trace.specs.Given.{traced_of, take_of};
+ghost use Rattle.run_trace.specs.Traced.{Traced as OfEvent};
+ghost use Rattle.run_trace.specs.Tracing.{HasTraced, IsSame, events_to_trace, replayer_in};
+ghost use Rattle.run_trace.specs.replay.Way.{IsStretch};
 ghost use Rattle.run_trace.specs.node_model.jump_map.Image.{IsRewriting};
 ghost use Rattle.run_trace.specs.replay.Refusals.{IsFirstBroken, IsUnfinished};
 ghost use Rattle.run_trace.specs.replay.declared.refused.ReplayRule.{ReplayRule as Rules};
@@ -16,13 +20,13 @@ ghost use Rattle.run_trace.specs.replay.rewriting_law.Bounds.{RunsRewritten};
 ghost use Rattle.run_trace.specs.replay.run_record.Record.{IsRecord};
 ghost use Rattle.templates.specs.Code.{HasCode};
 ghost use Rattle.record_picks.specs.Picks.{ArePicksOf, IsInterleaved};
-ghost use Rattle.record_picks.specs.Seen.{picks_seen, break_seen};
+ghost use Rattle.record_picks.specs.Seen.{picks_seen, break_seen, HasPickedOn};
 
 use one_memory::Pick;
-use replay::ReplayRefused;
 use replay::dsm_core::Work;
 use replay::rewriting_law::interleaving_law;
 use replay::run_record::Record;
+use replay::{ReplayRefused, WordsAhead};
 use run_trace::{TakeTraced, Traced, Tracer, What};
 use std::alloc::{AllocError, Global};
 use templates::{Code, Plan};
@@ -54,18 +58,67 @@ pub fn picks_of_record(
     interleaving_law();
     let mut tracer = Tracer::new(alloc, work, plan, code, rec)?;
     let mut picks = Vec::new(alloc);
-    while let Some(event) = tracer.next()? {
-        push_pick(&mut picks, &event)?;
+    loop {
+        push_silent(&mut tracer, &mut picks)?;
+        let Some(event) = tracer.next()? else {
+            return Ok(picks);
+        };
+        push_if(&mut picks, pick_of(&event))?;
     }
-    Ok(picks)
 }
 
-/// Appends the pick that an event stands for, if it stands for one.
-fn push_pick(picks: &mut Vec<Pick>, event: &Traced) -> Result<(), AllocError>
-    ensures { OnOk result (map model_pick picks.new.items
-        ≡ map model_pick picks.old.items ++ picks_seen (traced_of event.now)) }
+/// Makes words that only compute or access memory, as long as such words come next, and appends the
+/// steps that they commit.
+fn push_silent(tracer: &mut Tracer<'_>, picks: &mut Vec<Pick>) -> Result<(), AllocError>
+    requires traced { (seen : List OfEvent) × HasTraced tracer.old seen }
+    ensures picked { (seen : List OfEvent) → HasTraced tracer.old seen → OnOk result
+        (HasPickedOn tracer.new seen (map model_pick picks.old.items)
+        (map model_pick picks.new.items)) }
+    ensures same { OnOk result (IsSame tracer.old tracer.new) }
+    ensures most { OnOk result (events_to_trace tracer.new ≤ events_to_trace tracer.old) }
 {
-    match pick_of(event) {
+    while let Some(stretch) = tracer.words_ahead() {
+        if !push_stretch(tracer, stretch, picks)? {
+            return Ok(());
+        }
+    }
+    Ok(())
+}
+
+/// Makes words of a stretch, as long as they only compute or access memory, and appends the steps
+/// that they commit. It says whether it made all.
+fn push_stretch(
+    tracer: &mut Tracer<'_>,
+    stretch: WordsAhead,
+    picks: &mut Vec<Pick>,
+) -> Result<bool, AllocError>
+    requires traced { (seen : List OfEvent) × HasTraced tracer.old seen }
+    requires stretch { IsStretch (replayer_in tracer.old) stretch }
+    requires some { 0 < stretch.words }
+    ensures picked { (seen : List OfEvent) → HasTraced tracer.old seen → OnOk result
+        (HasPickedOn tracer.new seen (map model_pick picks.old.items)
+        (map model_pick picks.new.items)) }
+    ensures same { OnOk result (IsSame tracer.old tracer.new) }
+    ensures most { OnOk result (events_to_trace tracer.new ≤ events_to_trace tracer.old) }
+    ensures fewer { IfOk result (λ all. all ≡ true
+        → events_to_trace tracer.new < events_to_trace tracer.old) }
+{
+    let mut stretch = stretch;
+    while stretch.words > 0 {
+        let Some(commits) = tracer.make_silent_word(&mut stretch) else {
+            return Ok(false);
+        };
+        push_if(picks, step_by(stretch.node, commits))?;
+    }
+    Ok(true)
+}
+
+/// Appends a pick, if there is one.
+fn push_if(picks: &mut Vec<Pick>, pick: Option<Pick>) -> Result<(), AllocError>
+    ensures { OnOk result (map model_pick picks.new.items
+        ≡ map model_pick picks.old.items ++ option_to_list (option_map model_pick pick)) }
+{
+    match pick {
         Some(pick) => {
             picks.push(pick)?;
             Ok(())

@@ -1,10 +1,11 @@
 mod Entering
+mod Kinded
 mod Counting
 mod Reaches
 mod WordEnds
 mod Meets
 mod TakeEnds
 mod Silent
-mod Tracings
+pub mod Tracings
 mod Passes
 pub mod Wholes

@@ -101,16 +101,16 @@ is_on u t seen p = record {
 }
 
 pub same_self : (t : Tracer) → IsSame t t
-same_self t = record { work = refl; plan = refl; rec_is = refl; code = refl }
+same_self t = record { work = refl; plan = refl; rec_is = refl; kinds = refl }
 
-pub same_by : (t u : Tracer) → IsSameRun t.replayer u.replayer → u.plan.now ≡ t.plan.now → u.code.now ≡ t.code.now
+pub same_by : (t u : Tracer) → IsSameRun t.replayer u.replayer → u.plan.now ≡ t.plan.now → u.kinds ≡ t.kinds
     → IsSame t u
-same_by t u run plan code = record { work = run.work; plan = plan; rec_is = run.rec_is; code = code }
+same_by t u run plan kinds = record { work = run.work; plan = plan; rec_is = run.rec_is; kinds = kinds }
 
 pub same_on : (t u v : Tracer) → IsSame t u → IsSame u v → IsSame t v
 same_on t u v a b = record {
   work = b.work ∙ a.work;
   plan = b.plan ∙ a.plan;
   rec_is = b.rec_is ∙ a.rec_is;
-  code = b.code ∙ a.code;
+  kinds = b.kinds ∙ a.kinds;
 }

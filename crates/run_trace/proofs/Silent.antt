@@ -139,7 +139,7 @@ passed_word work plan c i u touch q is none = record {
   goes_on = access_passed work (c.nodes i) u touch (word_outcome work (c.nodes i)).access is.access none;
 }
 
-silent_commits : (work : Work) (plan : List PlanEntry) (c : Core) (i : ℕ) (r : Option Reached) → IsSilent work c (Exec i)
+pub silent_commits : (work : Work) (plan : List PlanEntry) (c : Core) (i : ℕ) (r : Option Reached) → IsSilent work c (Exec i)
     → r ≡ access_seen (word_outcome work (c.nodes i)).access
     → (false || commits_when (commit_at work.program plan (old_of work.image (c.nodes i).lane.at)) r false)
     ≡ (word_traced work plan (c.nodes i)).commits

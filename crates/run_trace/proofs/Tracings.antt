@@ -3,7 +3,6 @@ use Rattle.std.proofs.Common.{◌≡◌, ℕ, List, [], ◌∷◌, ◌++◌, map
 use Rattle.std.specs.Prelude.{option_to_list}
 use Rattle.std.specs.Option.{option_map}
 use Rattle.templates.specs.declared.plans.PlanEntry.{PlanEntry}
-use Rattle.templates.specs.Code.{HasCode}
 use Rattle.home_directory.specs.dsm_messages.declared.messages.Wire.{Wire}
 use Rattle.node_model.specs.Node.{Work, Node}
 use Rattle.node_model.specs.Core.{Core, Event, Exec, Take, May, AreAlike, opening_core, event_step, take_first, after}
@@ -17,7 +16,9 @@ use Rattle.node_model.specs.Turns.{word_turn, take_turn}
 use Rattle.run_trace.specs.Traced.{Traced, What, Word, Taken, OfWord, OfTake, what_at, traced_at, first_traced, word_traced, take_traced}
 use Rattle.run_trace.specs.Trace.{trace_from, trace_of}
 use Rattle.run_trace.specs.Given.{traced_of}
-use Rattle.run_trace.specs.Tracing.{HasTraced, HasTracedOne, HasEntries, IsCodeOf, IsSame, work_traced, plan_traced}
+use Rattle.run_trace.specs.Kinds.{AreKindsOf}
+use Rattle.run_trace.specs.declared.kinds.CommitKinds.{CommitKinds}
+use Rattle.run_trace.specs.Tracing.{HasTraced, HasTracedOne, HasKinds, IsSame, work_traced, plan_traced}
 
 what_alike : (work : Work) (plan : List PlanEntry) (c d : Core) (e : Event) → May work c e
     → AreAlike work.layout.nodes c d → what_at work plan c e ≡ what_at work plan d e
@@ -82,17 +83,18 @@ pub take_node : (work : Work) (c : Core) (i j : ℕ) (wire : Wire) (rest : List 
 take_node work c i j wire rest front = ap (λ ws. (take_first work c i j ws).nodes i) front
     ∙ rw (eq-eqb i i refl) refl
 
--- the code is that of the program
-code_same : (t u : Tracer) → IsCodeOf t → IsSame t u → IsCodeOf u
-code_same t u code same = subst (λ (w : Work). HasCode w.program u.code.now) (sym same.work)
-    (subst (λ c. HasCode (work_traced t).program c) (sym same.code) code)
+-- the kinds are those of the same words
+kinds_same : (t u : Tracer) → HasKinds t → IsSame t u → HasKinds u
+kinds_same t u kinds same = subst (λ (w : Work). AreKindsOf w.program (plan_traced u) w.image u.kinds) (sym same.work)
+    (subst (λ p. AreKindsOf (work_traced t).program p (work_traced t).image u.kinds) (sym same.plan)
+    (subst (λ (k : CommitKinds). AreKindsOf (work_traced t).program (plan_traced t) (work_traced t).image k) (sym same.kinds) kinds))
 
 -- one event more was made
 traced_after : (t u : Tracer) (seen : List Traced) (x : Traced) (told : Told) (h : HasTraced t seen)
     → HasMade u.replayer (h.before ++ told ∷ []) → May (work_traced t) (core_of (core_in t.replayer)) told.what.event
     → traced_at (work_traced t) (plan_traced t) (core_of (core_in t.replayer)) told.what ≡ Some x
-    → HasEntries u → IsSame t u → HasTraced u (seen ++ x ∷ [])
-traced_after t u seen x told h made may did entries same =
+    → IsSame t u → HasTraced u (seen ++ x ∷ [])
+traced_after t u seen x told h made may did same =
     let work = work_traced t in
     let plan = plan_traced t in
     let then = after work (opening_core work) (events_told h.before) in
@@ -101,36 +103,34 @@ traced_after t u seen x told h made may did entries same =
     record {
       before = h.before ++ told ∷ [];
       made = made;
-      code = code_same t u h.code same;
-      entries = entries;
+      kinds = kinds_same t u h.kinds same;
       seen_is = ap (λ l. l ++ x ∷ []) h.seen_is
           ∙ sym (trace_one work plan h.before told x is)
           ∙ ap₂ (λ w p. trace_of w p (h.before ++ told ∷ [])) (sym same.work) (sym same.plan);
     }
 
-pub traced_on : (t u : Tracer) (seen : List Traced) (x : Stored) (h : HasTraced t seen)
-    → HasTracedOne t u h.before x → IsSame t u → HasTraced u (seen ++ traced_of x ∷ [])
-traced_on t u seen x h one same =
-    traced_after t u seen (traced_of x) one.told h one.made one.may one.is one.entries same
+pub traced_on : (t u : Tracer) (seen : List Traced) (e : Event) (x : Stored) (h : HasTraced t seen)
+    → HasTracedOne t u h.before e x → IsSame t u → HasTraced u (seen ++ traced_of x ∷ [])
+traced_on t u seen e x h one same =
+    traced_after t u seen (traced_of x) one.told h one.made one.may one.is same
 
 -- a silent word more was made, which did this
 pub word_after : (t u : Tracer) (seen : List Traced) (i s : ℕ) (w : OfWord) (h : HasTraced t seen)
     → HasMadeWord t.replayer u.replayer h.before i → ((core_of (core_in u.replayer)).nodes i).stamp ≡ s
     → word_traced (work_traced t) (plan_traced t) ((core_of (core_in t.replayer)).nodes i) ≡ w
-    → HasEntries u → IsSame t u → HasTraced u (seen ++ record { stamp = s; node = i; what = Word w } ∷ [])
-word_after t u seen i s w h m stamp did entries same =
+    → IsSame t u → HasTraced u (seen ++ record { stamp = s; node = i; what = Word w } ∷ [])
+word_after t u seen i s w h m stamp did same =
     let work = work_traced t in
     let c = core_of (core_in t.replayer) in
     traced_after t u seen _ m.told h m.made (subst (λ e. May work c e) (sym m.event_is) m.may)
-    (exec_traced work (plan_traced t) c m.told.what i s w m.event_is (sym m.stamp ∙ stamp) did) entries same
+    (exec_traced work (plan_traced t) c m.told.what i s w m.event_is (sym m.stamp ∙ stamp) did) same
 
 -- none was made
 pub traced_still : (t u : Tracer) (seen : List Traced) (h : HasTraced t seen) → HasMade u.replayer h.before
-    → HasEntries u → IsSame t u → HasTraced u seen
-traced_still t u seen h made entries same = record {
+    → IsSame t u → HasTraced u seen
+traced_still t u seen h made same = record {
   before = h.before;
   made = made;
-  code = code_same t u h.code same;
-  entries = entries;
+  kinds = kinds_same t u h.kinds same;
   seen_is = h.seen_is ∙ ap₂ (λ w p. trace_of w p h.before) (sym same.work) (sym same.plan);
 }

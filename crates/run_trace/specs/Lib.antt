@@ -6,6 +6,7 @@ pub mod Looks
 pub mod Taking
 pub mod Tracing
 pub mod Entries
+pub mod Kinds
 pub mod Passing
 pub use Rattle.node_model.specs as node_model
 pub use Rattle.replay.specs.run_order as run_order

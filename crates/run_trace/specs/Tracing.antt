@@ -1,9 +1,8 @@
 -- A recorded run that is made once more, event by event.
-use Rattle.std.specs.Prelude.{◌≡◌, ◌<◌, ℕ, List, ◌∷◌, [], ◌++◌, Option, None, Some}
+use Rattle.std.specs.Prelude.{◌≡◌, ◌<◌, ℕ, Bool, List, ◌∷◌, [], ◌++◌, Option, None, Some}
 use Rattle.templates.specs.declared.plans.PlanEntry.{PlanEntry}
-use Rattle.templates.specs.Code.{HasCode}
 use Rattle.node_model.specs.Node.{Work}
-use Rattle.node_model.specs.Core.{May}
+use Rattle.node_model.specs.Core.{Event, May}
 use Rattle.replay.specs.run_record.declared.Record.{Record}
 use Rattle.replay.specs.dsm_core.CoreParts.{work_of, core_of}
 use Rattle.replay.specs.declared.events.Replayer.{Replayer}
@@ -11,8 +10,8 @@ use Rattle.replay.specs.Told.{Told}
 use Rattle.replay.specs.Way.{HasMade, core_in, record_in, events_left}
 use Rattle.run_trace.specs.declared.tracer.Tracer.{Tracer}
 use Rattle.run_trace.specs.declared.traced.Traced.{Traced as Stored}
-use Rattle.run_trace.specs.Traced.{Traced, traced_at}
-use Rattle.run_trace.specs.Entries.{AreEntriesOf}
+use Rattle.run_trace.specs.Traced.{OfWord, Traced, Word, traced_at, word_traced}
+use Rattle.run_trace.specs.Kinds.{AreKindsOf}
 use Rattle.run_trace.specs.Trace.{trace_of, IsTraceOf}
 use Rattle.run_trace.specs.Given.{traced_of}
 
@@ -28,20 +27,15 @@ plan_traced t = t.plan.now
 abbrev pub record_traced : Tracer → Record
 record_traced t = record_in t.replayer
 
--- the plan is looked at by the program's own code
-abbrev pub IsCodeOf : Tracer → Type 0
-IsCodeOf t = HasCode (work_traced t).program t.code.now
-
--- the entries are those of the plan
-abbrev pub HasEntries : Tracer → Type 0
-HasEntries t = AreEntriesOf (plan_traced t) t.entries
+-- it knows when the words of the rewritten code commit
+abbrev pub HasKinds : Tracer → Type 0
+HasKinds t = AreKindsOf (work_traced t).program (plan_traced t) (work_traced t).image t.kinds
 
 -- these are what the events did that were made so far
 pub record HasTraced (t : Tracer) (seen : List Traced) : Type 0 where
   pub before : List Told
   pub made : HasMade t.replayer before
-  pub code : IsCodeOf t
-  pub entries : HasEntries t
+  pub kinds : HasKinds t
   pub seen_is : seen ≡ trace_of (work_traced t) (plan_traced t) before
 
 -- one more is given, or all were
@@ -58,18 +52,36 @@ abbrev pub IsFewer : (old new : Tracer) → Option Stored → Type 0
 IsFewer old new None = Unit {0}
 IsFewer old new (Some x) = events_to_trace new < events_to_trace old
 
--- one event more was made, which did this
-pub record HasTracedOne (old new : Tracer) (before : List Told) (x : Stored) : Type 0 where
-  pub told : Told
-  pub made : HasMade new.replayer (before ++ told ∷ [])
-  pub entries : HasEntries new
-  pub may : May (work_traced old) (core_of (core_in old.replayer)) told.what.event
-  pub is : traced_at (work_traced old) (plan_traced old) (core_of (core_in old.replayer)) told.what
-      ≡ Some (traced_of x)
+-- this event was made, which did this
+pub record HasTracedOne (old new : Tracer) (before : List Told) (e : Event) (x : Stored) : Type 0
+  where
+    pub told : Told
+    pub event_is : told.what.event ≡ e
+    pub made : HasMade new.replayer (before ++ told ∷ [])
+    pub may : May (work_traced old) (core_of (core_in old.replayer)) told.what.event
+    pub is : traced_at (work_traced old) (plan_traced old) (core_of (core_in old.replayer)) told.what
+        ≡ Some (traced_of x)
+
+-- a word that only computes or accesses memory was made, and commits so
+pub record HasTracedSilent (old new : Tracer) (seen : List Traced) (node : ℕ) (commits : Bool)
+    : Type 0
+  where
+    pub stamp : ℕ
+    pub word : OfWord
+    pub word_is : word
+        ≡ word_traced (work_traced old) (plan_traced old)
+        ((core_of (core_in old.replayer)).nodes node)
+    pub commits_so : word.commits ≡ commits
+    pub traced : HasTraced new (seen ++ record { stamp = stamp; node = node; what = Word word } ∷ [])
+
+-- such a word was made, or none
+abbrev pub HasTracedIfSilent : (old new : Tracer) → List Traced → (node : ℕ) → Option Bool → Type 0
+HasTracedIfSilent old new seen node None = HasTraced new seen
+HasTracedIfSilent old new seen node (Some commits) = HasTracedSilent old new seen node commits
 
 -- the same rewritten code, plan and record
 pub record IsSame (old new : Tracer) : Type 0 where
   pub work : work_traced new ≡ work_traced old
   pub plan : plan_traced new ≡ plan_traced old
   pub rec_is : record_traced new ≡ record_traced old
-  pub code : new.code.now ≡ old.code.now
+  pub kinds : new.kinds ≡ old.kinds

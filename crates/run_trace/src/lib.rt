@@ -2,6 +2,7 @@
 //! What a recorded run did, event by event.
 
 mod entries;
+mod kinds;
 mod law;
 mod passed;
 mod reach;
@@ -12,6 +13,7 @@ mod words;
 
 pub use law::trace_law;
 pub use passed::{Until, WordPassed};
+pub use replay;
 pub use replay::node_machine;
 pub use traced::{AccessKind, Accessed, TakeTraced, Tallied, Traced, What, WordTraced};
 pub use tracer::Tracer;

@@ -3,11 +3,11 @@
 ghost use Rattle.std.specs.Prelude.{◌≡◌};
 ghost use Rattle.run_trace.specs.Taking.{block_of_first};
 
-use crate::entries::Entries;
+use crate::kinds::CommitKinds;
 use crate::passed::{Until, WordPassed, ending, reached_by_touch};
 use crate::takes::{sight_of, take_traced};
 use crate::traced::{Traced, What};
-use crate::words::{accessed_at, before_word, commits, place_of, word_traced};
+use crate::words::{accessed_at, before_word, commits, commits_silent, place_of, word_traced};
 use block_layout::Block;
 use replay::dsm_core::{Core, Event, Incoming, Work};
 use replay::node_machine::Touch;
@@ -19,10 +19,10 @@ use templates::{Code, Plan};
 /// A recorded run that is made once more, event by event.
 #[derive(Drop)]
 pub struct Tracer<'a> {
-    replayer: Replayer<'a>,
+    /// How far the run was made.
+    pub replayer: Replayer<'a>,
     plan: &'a Plan,
-    code: &'a Code,
-    entries: Entries,
+    kinds: CommitKinds,
 }
 
 /// Where the words of a stretch were stopped.
@@ -49,11 +49,13 @@ impl<'a> Tracer<'a> {
     ghost use Rattle.replay.specs.Told.{Told};
     ghost use Rattle.replay.specs.Refusals.{IsFirstBroken, IsUnfinished};
     ghost use Rattle.replay.specs.Way.{HasMade, IsRunning, IsNextOf, IsStretch, core_in};
+    ghost use Rattle.replay.specs.Way.{IsWordLess};
     ghost use Rattle.replay.specs.declared.refused.ReplayRule.{ReplayRule as Rules};
     ghost use Rattle.replay.specs.declared.refused.ReplayRefused.TheVariants.{Broken};
     ghost use Rattle.run_trace.specs.Traced.{Traced as OfEvent};
     ghost use Rattle.run_trace.specs.Tracing.{HasTraced, HasGoneOn, HasTracedOne, IsSame};
-    ghost use Rattle.run_trace.specs.Tracing.{IsFewer, events_to_trace, IsCodeOf, HasEntries};
+    ghost use Rattle.run_trace.specs.Tracing.{IsFewer, HasKinds, HasTracedIfSilent};
+    ghost use Rattle.run_trace.specs.Tracing.{events_to_trace};
     ghost use Rattle.run_trace.specs.Tracing.{work_traced, plan_traced, record_traced, replayer_in};
     ghost use Rattle.run_trace.specs.Passing.{HasPassedOn, passed_of, word_ended};
 
@@ -62,7 +64,7 @@ impl<'a> Tracer<'a> {
         alloc: Global,
         work: &Work<'a>,
         plan: &'a Plan,
-        code: &'a Code,
+        code: &Code,
         rec: &'a Record,
     ) -> Result<Tracer<'a>, AllocError>
         requires rewritten { RunsRewritten (work_in work.now) }
@@ -77,8 +79,7 @@ impl<'a> Tracer<'a> {
         Ok(Tracer {
             replayer: Replayer::new(alloc, work, rec)?,
             plan,
-            code,
-            entries: Entries::of(alloc, plan)?,
+            kinds: CommitKinds::of(alloc, work.image, plan, code)?,
         })
     }
 
@@ -111,6 +112,41 @@ impl<'a> Tracer<'a> {
             Event::Take { node, from } => self.take(node, from)?,
         };
         Ok(Some(traced))
+    }
+
+    /// The words of one node that come before the events of all others, where the next event is a
+    /// word that its node may execute. They are at least one.
+    pub fn words_ahead(&self) -> Option<WordsAhead>
+        requires traced { (seen : List OfEvent) × HasTraced self.now seen }
+        ensures words { IfSome result (IsStretch (replayer_in self.now)) }
+        ensures some { IfSome result (λ s. 0 < s.words) }
+    {
+        self.replayer.words_ahead()
+    }
+
+    /// Makes the next word of a stretch, where all that it does is to compute or to access memory,
+    /// and says whether it commits a step of the original. `None` where it does more: then nothing
+    /// is made, and `next` makes that word.
+    #[inline(always)]
+    pub fn make_silent_word(&mut self, stretch: &mut WordsAhead) -> Option<bool>
+        requires traced { (seen : List OfEvent) × HasTraced self.old seen }
+        requires stretch { IsStretch (replayer_in self.old) stretch.old }
+        requires some { 0 < stretch.old.words }
+        ensures made { (seen : List OfEvent) → HasTraced self.old seen
+            → HasTracedIfSilent self.old self.new seen stretch.old.node result }
+        ensures stretch { IfSome result (λ _. IsStretch (replayer_in self.new) stretch.new) }
+        ensures less { IfSome result (λ _. IsWordLess stretch.old stretch.new) }
+        ensures fewer { IfSome result (λ _. events_to_trace self.new < events_to_trace self.old) }
+        ensures most { events_to_trace self.new ≤ events_to_trace self.old }
+        ensures same { IsSame self.old self.new }
+    {
+        let node = self.replayer.core().node(stretch.node);
+        let commits = commits_silent(self.kinds.at(node.at()), node)?;
+        if self.replayer.make_silent_word(stretch) {
+            Some(commits)
+        } else {
+            None
+        }
     }
 
     /// Makes words that only compute or access memory, up to the first whose access ends the pass,
@@ -180,7 +216,7 @@ impl<'a> Tracer<'a> {
         let node = self.replayer.core().node(stretch.node);
         let reached = reached_by_touch(node, touch)?;
         let place = place_of(node);
-        let kind = self.entries.commit_at(self.plan, self.code, place);
+        let kind = self.kinds.at(node.at());
         if !self.replayer.make_silent_word(stretch) {
             return None;
         }
@@ -194,26 +230,21 @@ impl<'a> Tracer<'a> {
         })
     }
 
-    /// What the next event does, which is a word.
-    fn word(&mut self, node: u8) -> Result<Traced, ReplayRefused>
+    /// What the next event does, which is a word. Fails where it can't be made as the record tells
+    /// of it.
+    pub fn word(&mut self, node: u8) -> Result<Traced, ReplayRefused>
         requires running { IsRunning (replayer_in self.old) }
-        requires code { IsCodeOf self.old }
-        requires entries { HasEntries self.old }
+        requires kinds { HasKinds self.old }
         requires next { IsNextOf (replayer_in self.old) (Exec node) }
         ensures made { (before : List Told) → HasMade (replayer_in self.old) before
-            → IfOk result (HasTracedOne self.old self.new before) }
+            → IfOk result (HasTracedOne self.old self.new before (Exec node)) }
         ensures same { OnOk result (IsSame self.old self.new) }
         ensures fewer { OnOk result
             (events_to_trace self.new < events_to_trace self.old) }
         ensures refused { (rule : Rules) (i entry : ℕ) → IsErrOf result (Broken rule i entry)
             → IsFirstBroken (work_traced self.old) (record_traced self.old) rule i entry }
     {
-        let before = before_word(
-            self.replayer.core().node(node),
-            self.plan,
-            self.code,
-            &mut self.entries,
-        );
+        let before = before_word(self.replayer.core().node(node), &self.kinds);
         let seen = self.replayer.make(Event::Exec(node))?;
         let core = self.replayer.core();
         let after = core.node(node);
@@ -224,13 +255,13 @@ impl<'a> Tracer<'a> {
         })
     }
 
-    /// What the next event does, which is a take.
-    fn take(&mut self, node: u8, from: u8) -> Result<Traced, ReplayRefused>
+    /// What the next event does, which is a take. Fails where it can't be made as the record tells
+    /// of it.
+    pub fn take(&mut self, node: u8, from: u8) -> Result<Traced, ReplayRefused>
         requires running { IsRunning (replayer_in self.old) }
-        requires entries { HasEntries self.old }
         requires next { IsNextOf (replayer_in self.old) (Take node from) }
         ensures made { (before : List Told) → HasMade (replayer_in self.old) before
-            → IfOk result (HasTracedOne self.old self.new before) }
+            → IfOk result (HasTracedOne self.old self.new before (Take node from)) }
         ensures same { OnOk result (IsSame self.old self.new) }
         ensures fewer { OnOk result
             (events_to_trace self.new < events_to_trace self.old) }

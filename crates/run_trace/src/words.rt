@@ -1,19 +1,21 @@
 //! What a word did, by what is seen before and after it.
 
 ghost use Rattle.std.specs.Prelude.{◌≡◌, ◌-◌, ◌||◌, List, false, if◌then◌else◌, length, take};
+ghost use Rattle.std.specs.Prelude.{IfSome};
 ghost use Rattle.std.specs.Option.{option_map};
-ghost use Rattle.templates.specs.Code.{HasCode};
 ghost use Rattle.templates.specs.declared.plans.PlanEntry.{PlanEntry};
 ghost use Rattle.node_model.specs.jump_map.Maps.{old_of};
-ghost use Rattle.node_model.specs.Node.{Work, Node as OfNode, Tally, counts_after};
+ghost use Rattle.node_model.specs.Node.{Work, Node as OfNode, Tally, counts_after, word_outcome};
 ghost use Rattle.replay.specs.node_machine.NodeState.{work_of, node_of};
 ghost use Rattle.run_trace.specs.Given.{tally_of, word_of};
-ghost use Rattle.run_trace.specs.Entries.{AreEntriesOf};
+ghost use Rattle.run_trace.specs.Kinds.{AreKindsOf};
 ghost use Rattle.run_trace.specs.Looks.{IsBefore, IsAfterWord, reached_by, accessed_at, is_exited};
+ghost use Rattle.run_trace.specs.Looks.{access_seen};
 ghost use Rattle.run_trace.specs.Looks.{commits_when, waits_in};
 ghost use Rattle.run_trace.specs.Traced as trace;
 
-use crate::entries::Entries;
+use crate::kinds::CommitKinds;
+use crate::passed::reached_by_touch;
 use crate::reach::{Reached, WordAccess, reach_of};
 use crate::traced::{AccessKind, Accessed, Tallied, WordTraced};
 use block_layout::Layout;
@@ -22,7 +24,7 @@ use replay::dsm_core::Seen;
 use replay::node_machine::{Node, NodeCounts, Standing};
 use runtime_words::FLAG_WORD;
 use rv32_program::End;
-use templates::{Code, CommitKind, Place, Plan};
+use templates::{CommitKind, Place};
 
 /// What is seen of a word before it.
 #[derive(Clone, Copy)]
@@ -34,21 +36,14 @@ pub(crate) struct Before {
 }
 
 /// What is seen of a node's next word.
-pub(crate) fn before_word(
-    node: &Node<'_>,
-    plan: &Plan,
-    code: &Code,
-    entries: &mut Entries,
-) -> Before
-    requires entries { AreEntriesOf plan.now entries.old }
-    requires code { HasCode (work_of node.now).program code.now }
-    ensures before { IsBefore (work_of node.now) plan.now (node_of node.now) result }
-    ensures entries { AreEntriesOf plan.now entries.new }
+pub(crate) fn before_word(node: &Node<'_>, kinds: &CommitKinds) -> Before
+    ensures { (plan : List PlanEntry)
+        → AreKindsOf (work_of node.now).program plan (work_of node.now).image kinds.now
+        → IsBefore (work_of node.now) plan (node_of node.now) result }
 {
-    let place = place_of(node);
     Before {
-        place,
-        kind: entries.commit_at(plan, code, place),
+        place: place_of(node),
+        kind: kinds.at(node.at()),
         reach: reach_of(node),
         counts: node.counts(),
     }
@@ -158,6 +153,20 @@ pub(crate) fn commits(kind: CommitKind, reached: Option<Reached>, exits: bool, w
             CommitKind::IfNotFlag => reads_other(reached),
             CommitKind::IfNoWait => !waits,
         }
+}
+
+/// Whether a node's next word commits a step of the original, if its micro-op serves it; `None`
+/// where that doesn't tell.
+#[inline(always)]
+pub(crate) fn commits_silent(kind: CommitKind, node: &Node<'_>) -> Option<bool>
+    ensures { IfSome result (λ commits. commits ≡ commits_when kind
+        (access_seen (word_outcome (work_of node.now) (node_of node.now)).access) false) }
+{
+    match kind {
+        CommitKind::Never => Some(false),
+        CommitKind::Always | CommitKind::IfNoWait => Some(true),
+        CommitKind::IfNotFlag => Some(reads_other(reached_by_touch(node, node.touch()?))),
+    }
 }
 
 /// Whether a value is read that isn't the flag word.

@@ -16,12 +16,12 @@ returns-clause-next c = λ seen h.
           (let e = w.in_ok-traced-in-Exec.ensures in
           subst (λ u. HasTraced u (seen ++ traced_of x ∷ [])) (sym w.self-is)
           (subst (λ y. HasTraced w.word.new.self (seen ++ traced_of y ∷ [])) (sym w.traced-is)
-          (traced_on t w.word.new.self seen _ h (e.made h.before h.made) e.same)))
+          (traced_on t w.word.new.self seen _ _ h (e.made h.before h.made) e.same)))
       | in-Take+in_ok-traced-in-Take w ↦
           (let e = w.in_ok-traced-in-Take.ensures in
           subst (λ u. HasTraced u (seen ++ traced_of x ∷ [])) (sym w.self-is)
           (subst (λ y. HasTraced w.take.new.self (seen ++ traced_of y ∷ [])) (sym w.traced-is)
-          (traced_on t w.take.new.self seen _ h (e.made h.before h.made) e.same)))
+          (traced_on t w.take.new.self seen _ _ h (e.made h.before h.made) e.same)))
     ]
 
 pub returns-clause-fewer : goal.returns-clause-fewer

@@ -61,7 +61,7 @@ returns-then-not-make_silent_word-clause-passed c = λ seen h.
     let same = same_by t _ c.make_silent_word.ensures.same refl refl in
     ends_by c.args.until t _ seen None (c.loop-stretch.invariant.on seen h) (λ l k.
     subst (HasTraced _) (sym (append-nil l))
-    (traced_still t _ l k (c.if-not-make_silent_word.ensures.kept refl k.before k.made) k.entries same))
+    (traced_still t _ l k (c.if-not-make_silent_word.ensures.kept refl k.before k.made) same))
 
 pub returns-then-not-make_silent_word-clause-most : goal.returns-then-not-make_silent_word-clause-most
 returns-then-not-make_silent_word-clause-most c =
@@ -99,7 +99,7 @@ loop-stretch-preserved c =
           goes_by u t _ seen x on
           (passed_word (work_traced t) (plan_traced t) (core_of p0) i u c.in-Some.touch silent touch none)
           (λ l k. word_after t _ l i s did k (c.if-not-make_silent_word.ensures.passed k.before k.made refl)
-          refl refl k.entries same);
+          refl refl same);
       stretch = c.if-not-make_silent_word.ensures.stretch refl;
       few = omega (arith, few, left);
       fewer = omega (arith, fewer, left, made);

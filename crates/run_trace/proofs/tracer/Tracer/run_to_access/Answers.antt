@@ -1,13 +1,13 @@
 -- A word, by what it touches.
 use Rattle.std.proofs.Common.{◌||◌, false, [], ◌∷◌, ◌++◌, Some, refl, ap, sym, subst, ◌∙◌, append-nil, arith}
 use Rattle.block_layout.specs.Layout.{Shape}
-use Rattle.templates.specs.Commits.{commit_at}
 use Rattle.node_model.specs.jump_map.Maps.{old_of}
 use Rattle.node_model.specs.Node.{Work, Node, word_outcome}
 use Rattle.replay.specs.dsm_core.CoreParts.{CoreParts, work_of, core_of}
 use Rattle.replay.specs.Way.{core_in}
 use Rattle.run_trace.specs.declared.passed.WordPassed.{WordPassed}
 use Rattle.run_trace.specs.declared.tracer.Tracer.{Tracer}
+use Rattle.run_trace.specs.Kinds.{kind_in}
 use Rattle.run_trace.specs.Looks.{access_seen, accessed_at, commits_when}
 use Rattle.run_trace.specs.Passing.{passed_of}
 use Rattle.run_trace.specs.Tracing.{HasTraced, IsSame, work_traced, plan_traced}
@@ -31,13 +31,11 @@ returns-then-not-make_silent_word-clause-passed c = λ seen h.
     let u : Tracer = record {
       replayer = c.make_silent_word.new.self;
       plan = t.plan;
-      code = t.code;
-      entries = c.commit_at-kind.new.self;
+      kinds = t.kinds;
     } in
     let same : IsSame t u = same_by t u c.make_silent_word.ensures.same refl refl in
     subst (HasTraced u) (sym (append-nil seen))
-    (traced_still t u seen h (c.if-not-make_silent_word.ensures.kept refl h.before h.made)
-    c.commit_at-kind.ensures.entries same)
+    (traced_still t u seen h (c.if-not-make_silent_word.ensures.kept refl h.before h.made) same)
 
 pub returns-then-not-make_silent_word-clause-most : goal.returns-then-not-make_silent_word-clause-most
 returns-then-not-make_silent_word-clause-most c =
@@ -58,8 +56,7 @@ returns-clause-passed c = λ seen h.
     let u : Tracer = record {
       replayer = c.make_silent_word.new.self;
       plan = t.plan;
-      code = t.code;
-      entries = c.commit_at-kind.new.self;
+      kinds = t.kinds;
     } in
     let same : IsSame t u = same_by t u c.make_silent_word.ensures.same refl refl in
     let made = c.if-not-make_silent_word.ensures.passed h.before h.made refl in
@@ -71,8 +68,9 @@ returns-clause-passed c = λ seen h.
     let reads = sym c.in_ok-reached.was ∙ c.reached_by_touch.ensures
     ∙ (λ j. access_seen (word_outcome (work0 j) (node0 j)).access) in
     let place = c.place_of-place.ensures ∙ (λ j. old_of (work0 j).image (node0 j).lane.at) in
+    let at = c.at.ensures.value ∙ ap (λ (k : Node). k.lane.at) node0 in
     let commits = c.commits.ensures ∙ ap (λ k. false || commits_when k (Some r) false)
-    (c.commit_at-kind.ensures.kind work.program h.code ∙ ap (commit_at work.program plan) place) in
+    (c.at-kind.ensures.kind ∙ ap (kind_in t.kinds) at ∙ h.kinds ((core_of p0).nodes i).lane.at) in
     let layout = c.layout.ensures.value ∙ ap (λ (p : CoreParts). p.layout) core1
     ∙ ap (λ (w : Work). w.layout) same.work in
     let access = c.accessed_at.ensures ∙ ap (λ (l : Shape). accessed_at l r) layout in
@@ -88,5 +86,4 @@ returns-clause-passed c = λ seen h.
     } in
     subst (λ k. HasTraced u (seen ++ passed_of (record w { node = k }) ∷ [])) (sym left.node)
     (word_after t u seen i c.stamp.result _ h made (sym stamp)
-    (word_is work plan (core_of p0) i c.args.touch w r made.silent c.requires.touch reads place commits access)
-    c.commit_at-kind.ensures.entries same)
+    (word_is work plan (core_of p0) i c.args.touch w r made.silent c.requires.touch reads place commits access) same)

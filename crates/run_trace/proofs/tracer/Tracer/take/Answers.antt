@@ -62,8 +62,8 @@ returns-clause-made c = λ before h.
     } in
     record {
       told = m.told;
+      event_is = m.event_is;
       made = m.made;
-      entries = c.requires.entries;
       may = subst (λ e. May work (core_of p0) e) (sym m.event_is) m.may;
       is = take_traced_at work plan (core_of p0) m.told.what i j c.stamp.result wire rest (take_of c.take_traced.result) m.event_is
           (sym m.stamp ∙ ap (λ (e : Event). ((core_of p1).nodes (event_node e)).stamp) m.event_is

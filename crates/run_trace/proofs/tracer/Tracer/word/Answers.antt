@@ -6,6 +6,7 @@ use Rattle.replay.specs.run_order.OwnRun.{node_of as event_node}
 use Rattle.replay.specs.node_machine.NodeState.{work_of as work_at}
 use Rattle.replay.specs.dsm_core.CoreParts.{CoreParts, work_of, core_of}
 use Rattle.replay.specs.Way.{core_in}
+use Rattle.run_trace.specs.Kinds.{AreKindsOf}
 use Rattle.run_trace.specs.Looks.{IsBefore, IsAfterWord}
 use Rattle.run_trace.specs.Given.{word_of}
 use Rattle.run_trace.specs.Tracing.{work_traced, plan_traced}
@@ -31,9 +32,10 @@ returns-clause-made c = λ before h.
     let before_core = c.core.ensures.value in
     let before_node = c.node.ensures.value ∙ ap (λ (p : CoreParts). (core_of p).nodes i) before_core in
     let before_work = c.node.ensures.work ∙ ap work_of before_core in
+    let kinds = subst (λ (w : Work). AreKindsOf w.program plan w.image t.kinds) (sym before_work) c.requires.kinds in
     let look = subst (λ (w : Work). IsBefore w plan n c.before_word-before.result) before_work
     (subst (λ (k : Node). IsBefore (work_at c.node.result.now) plan k c.before_word-before.result) before_node
-    c.before_word-before.ensures.before) in
+    (c.before_word-before.ensures plan kinds)) in
     let all : IsAfterWord work plan n c.before_word-before.result c.in_ok-seen.seen c.layout.result.now c.node-after.result.now = record {
       before = look;
       node = led;
@@ -45,8 +47,8 @@ returns-clause-made c = λ before h.
     } in
     record {
       told = m.told;
+      event_is = m.event_is;
       made = m.made;
-      entries = c.before_word-before.ensures.entries;
       may = subst (λ e. May work (core_of p0) e) (sym m.event_is) m.may;
       is = exec_traced work plan (core_of p0) m.told.what i c.stamp.result (word_of c.word_traced.result) m.event_is
           (sym m.stamp ∙ ap (λ (e : Event). ((core_of p1).nodes (event_node e)).stamp) m.event_is
