@@ -22,7 +22,7 @@ use Rattle.check_costs.specs.Given.{AreCountsOf}
 times_of_both : (k : WordKind) (ks ls : List WordKind) → times k (ks ++ ls) ≡ times k ks + times k ls
 times_of_both k ks ls = sum_by-append (λ x. cond (is_kind k x) 1 0) ks ls
 
-plus_is : (m n : ℕ) (ks ls : List WordKind) → plus (counts_by m ks) (counts_by n ls) ≡ counts_by (m + n) (ks ++ ls)
+pub plus_is : (m n : ℕ) (ks ls : List WordKind) → plus (counts_by m ks) (counts_by n ls) ≡ counts_by (m + n) (ks ++ ls)
 plus_is m n ks ls = sym (λ j. record {
   instructions = m + n;
   words = length-append ks ls j;

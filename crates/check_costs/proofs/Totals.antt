@@ -41,7 +41,7 @@ none_there w n (suc k) a low =
       | inr other ↦ other.0
     ]
 
-one_there : (w n k a : ℕ) → a ≤ n → n < a + k → sum_by (λ f. cond (eqb n f) w 0) (range_with_len a k) ≡ w
+pub one_there : (w n k a : ℕ) → a ≤ n → n < a + k → sum_by (λ f. cond (eqb n f) w 0) (range_with_len a k) ≡ w
 one_there w n zero a low high = absurd (omega (arith, low, high))
 one_there w n (suc k) a low high = elim (eqb_tells n a) [
   | inl same ↦
@@ -58,7 +58,7 @@ one_there w n (suc k) a low high = elim (eqb_tells n a) [
       omega (arith, one, rest, here)
 ]
 
-sums_add : (f g : ℕ → ℕ) (xs : List ℕ) → sum_by (λ x. f x + g x) xs ≡ sum_by f xs + sum_by g xs
+pub sums_add : (f g : ℕ → ℕ) (xs : List ℕ) → sum_by (λ x. f x + g x) xs ≡ sum_by f xs + sum_by g xs
 sums_add f g [] = refl
 sums_add f g (x ∷ xs) =
     let one = sum_by-cons (λ y. f y + g y) x xs in
@@ -67,7 +67,7 @@ sums_add f g (x ∷ xs) =
     let rest = sums_add f g xs in
     omega (arith, one, two, three, rest)
 
-sums_same : (f g : ℕ → ℕ) (xs : List ℕ) → ((x : ℕ) → f x ≡ g x) → sum_by f xs ≡ sum_by g xs
+pub sums_same : (f g : ℕ → ℕ) (xs : List ℕ) → ((x : ℕ) → f x ≡ g x) → sum_by f xs ≡ sum_by g xs
 sums_same f g [] same = refl
 sums_same f g (x ∷ xs) same =
     let one = sum_by-cons f x xs in
@@ -114,7 +114,7 @@ all_functions symbols w (e ∷ es) =
 
 -- 2. The sums of the counts
 
-total_from : (number : WordCounts → ℕ) → ((c d : WordCounts) → number (plus c d) ≡ number c + number d)
+pub total_from : (number : WordCounts → ℕ) → ((c d : WordCounts) → number (plus c d) ≡ number c + number d)
     → (c : WordCounts) (cs : List WordCounts) → number (fold plus c cs) ≡ number c + sum_by number cs
 total_from number adds c [] = omega arith
 total_from number adds c (d ∷ ds) =
@@ -123,7 +123,7 @@ total_from number adds c (d ∷ ds) =
     let more = sum_by-cons number d ds in
     omega (arith, rest, one, more)
 
-sum_of_map : (number : WordCounts → ℕ) (f : ℕ → WordCounts) (xs : List ℕ)
+pub sum_of_map : (number : WordCounts → ℕ) (f : ℕ → WordCounts) (xs : List ℕ)
     → sum_by number (map f xs) ≡ sum_by (λ x. number (f x)) xs
 sum_of_map number f [] = refl
 sum_of_map number f (x ∷ xs) =
@@ -226,7 +226,7 @@ image_length p plan image h =
 
 -- 4. Each word is of one kind
 
-all_by_kind : (ks : List WordKind) → by_kind (counts_by 0 ks) ≡ length ks
+pub all_by_kind : (ks : List WordKind) → by_kind (counts_by 0 ks) ≡ length ks
 all_by_kind [] = refl
 all_by_kind (k ∷ ks) =
     let rest = all_by_kind ks in

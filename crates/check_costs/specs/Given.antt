@@ -12,6 +12,8 @@ use Rattle.check_costs.specs.declared.counts.WordCounts.{WordCounts}
 use Rattle.elf_symbols.specs.Symbols.{Symbol}
 use Rattle.check_costs.specs.Kinds.{check_of, kinds_in}
 use Rattle.check_costs.specs.Counts.{counts_in}
+use Rattle.check_costs.specs.declared.tally.Tally.{Tally}
+use Rattle.check_costs.specs.Tally.{Executed, tally_of}
 
 -- an access behind so many words of its check
 abbrev pub access_kinds : Template → Scratches → (words : ℕ) → List WordKind
@@ -37,3 +39,7 @@ pub record AreCountsOf (symbols : List Symbol) (code : ℕ → Option Instr) (es
     pub count : length counts ≡ length symbols + 1
     pub each : (f : ℕ) (d : WordCounts) → f < length symbols + 1
         → slice_index_or counts f d ≡ counts_in symbols code es f
+
+-- these words were executed, of so many functions and of none
+abbrev pub IsTallyOf : (functions : ℕ) → List Executed → Tally → Type 0
+IsTallyOf n words t = t.counts.items ≡ tally_of n words

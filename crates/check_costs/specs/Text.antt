@@ -6,6 +6,8 @@ use Rattle.std.specs.List.Sorted.{IsPermutation}
 use Rattle.elf_symbols.specs.Shown.{shown_byte}
 use Rattle.elf_symbols.specs.Symbols.{Symbol}
 use Rattle.check_costs.specs.declared.counts.WordCounts.{WordCounts}
+use Rattle.check_costs.specs.declared.table.Counted.{Counted}
+use Rattle.check_costs.specs.declared.table.Counted.TheVariants.{Instructions, Steps}
 use Rattle.check_costs.specs.declared.table.FunctionCounts.{FunctionCounts}
 use Rattle.check_costs.specs.Counts.{counts_by, total}
 
@@ -15,15 +17,24 @@ use Rattle.check_costs.specs.Counts.{counts_by, total}
 abbrev pub added : WordCounts → ℕ
 added c = c.words - c.instructions
 
--- the line that says what stands in the columns
-unfoldable pub head : List ℕ
-head =
-    codes "  instrs   words per 100     own    flag   state   store"
+-- what the first column counts
+abbrev pub first_column : Counted → List ℕ
+first_column Instructions = codes "  instrs"
+first_column Steps = codes "   steps"
+
+-- what stands in the other columns
+unfoldable pub columns : List ℕ
+columns =
+    codes "   words per 100     own    flag   state   store"
     ++ codes "   batch    poll    jump   spill  function\n"
 
--- a text at the right of its column
+-- the line that says what stands in all columns
+abbrev pub head : Counted → List ℕ
+head counted = first_column counted ++ columns
+
+-- a text at the right of its column, behind a space at least
 abbrev pub column : List ℕ → List ℕ
-column text = replicate (8 - length text) 32 ++ text
+column text = 32 ∷ (replicate (7 - length text) 32 ++ text)
 
 abbrev pub number : ℕ → List ℕ
 number n = column (decimal n)
@@ -88,11 +99,11 @@ pub record IsOrder (rows ranked : List FunctionCounts) : Type 0 where
 -- 3. The table
 
 -- the head, the rows in their order, and their sum
-pub record IsTable (symbols : List Symbol) (counts : List WordCounts) (text : List ℕ) : Type 0
-  where
-    pub ranked : List FunctionCounts
-    pub order : IsOrder (rows counts) ranked
-    pub text_is : text ≡ head ++ (row_lines symbols ranked ++ sum_line (total counts))
+pub record IsTable (counted : Counted) (symbols : List Symbol) (counts : List WordCounts)
+    (text : List ℕ) : Type 0 where
+  pub ranked : List FunctionCounts
+  pub order : IsOrder (rows counts) ranked
+  pub text_is : text ≡ head counted ++ (row_lines symbols ranked ++ sum_line (total counts))
 
 -- 4. Helps the code alone: rows of functions below n, ascending, with numbers below 2^64
 pub record AreUpTo (rows : List FunctionCounts) (n : ℕ) : Type 0 where

@@ -34,7 +34,7 @@ pub struct WordCounts {
 }
 
 impl WordCounts {
-    ghost use Rattle.std.specs.Prelude.{◌≡◌, IfSome};
+    ghost use Rattle.std.specs.Prelude.{◌≡◌, ◌∷◌, [], if◌then◌else◌, IfSome};
     ghost use Rattle.check_costs.specs.Counts.{counts_by, plus};
 
     /// That of so many instructions, and of words of these kinds.
@@ -71,6 +71,14 @@ impl WordCounts {
             jumps: self.jumps.checked_add(other.jumps)?,
             spills: self.spills.checked_add(other.spills)?,
         })
+    }
+
+    /// This cost with a word of a kind more, which perhaps commits a step, if there is room.
+    pub(crate) fn with_word(&self, kind: WordKind, commits: bool) -> Option<WordCounts>
+        ensures { IfSome result (λ c. c
+            ≡ plus self.now (counts_by (if commits then 1 else 0) (kind ∷ []))) }
+    {
+        self.plus(&WordCounts::of(usize::from(commits), &[kind]))
     }
 }
 

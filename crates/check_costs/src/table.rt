@@ -11,8 +11,15 @@ use elf_symbols::{Symbols, push_shown};
 use itoa::Buffer;
 use std::alloc::{AllocError, Global};
 
-/// How many characters a column takes at least.
-const WIDTH: usize = 8;
+/// How many characters a column takes at least, behind the space before it.
+const WIDTH: usize = 7;
+
+/// What the first column of a table counts: the instructions of code, or the steps of a run.
+#[derive(Clone, Copy, Debug, PartialEq, Eq)]
+pub enum Counted {
+    Instructions,
+    Steps,
+}
 
 /// A row of the table: a function by its number, and its counts.
 #[derive(Clone, Copy)]
@@ -25,15 +32,16 @@ pub struct FunctionCounts {
 /// words added first, and last the line of their sum. Fails also where a count has no room.
 pub fn table_of(
     alloc: Global,
+    counted: Counted,
     symbols: &Symbols<'_>,
     counts: &[WordCounts],
 ) -> Result<Vec<u8>, AllocError>
-    ensures { IfOk result (λ text. IsTable symbols.now counts.now text.items) }
+    ensures { IfOk result (λ text. IsTable counted symbols.now counts.now text.items) }
 {
     let ranked = in_order(alloc, counts)?;
     let sum = sum_of(counts)?;
     let mut text = Vec::new(alloc);
-    push_head(&mut text)?;
+    push_head(counted, &mut text)?;
     push_rows(symbols, &ranked, &mut text)?;
     push_sum(&sum, &mut text)?;
     Ok(text)
@@ -115,12 +123,24 @@ fn push_row(rows: &mut Vec<FunctionCounts>, row: FunctionCounts) -> Result<(), A
 }
 
 /// Appends the line that says what stands in the columns.
-#[tactic(auto, unfolding(crate::specs::Text::head))]
-fn push_head(out: &mut Vec<u8>) -> Result<(), AllocError>
-    ensures { OnOk result (out.new.items ≡ out.old.items ++ model.head) }
+#[tactic(auto, unfolding(crate::specs::Text::columns))]
+fn push_head(counted: Counted, out: &mut Vec<u8>) -> Result<(), AllocError>
+    ensures { OnOk result (out.new.items ≡ out.old.items ++ model.head counted) }
 {
-    out.extend_from_slice(b"  instrs   words per 100     own    flag   state   store")?;
+    push_first_column(counted, out)?;
+    out.extend_from_slice(b"   words per 100     own    flag   state   store")?;
     out.extend_from_slice(b"   batch    poll    jump   spill  function\n")?;
+    Ok(())
+}
+
+/// Appends what the first column counts.
+fn push_first_column(counted: Counted, out: &mut Vec<u8>) -> Result<(), AllocError>
+    ensures { OnOk result (out.new.items ≡ out.old.items ++ model.first_column counted) }
+{
+    match counted {
+        Counted::Instructions => out.extend_from_slice(b"  instrs")?,
+        Counted::Steps => out.extend_from_slice(b"   steps")?,
+    }
     Ok(())
 }
 
@@ -231,10 +251,11 @@ fn push_number(n: usize, out: &mut Vec<u8>) -> Result<(), AllocError>
     push_column(buffer.format(n).as_bytes(), out)
 }
 
-/// Appends a text at the right of its column.
+/// Appends a text at the right of its column, behind a space at least.
 fn push_column(text: &[u8], out: &mut Vec<u8>) -> Result<(), AllocError>
     ensures { OnOk result (out.new.items ≡ out.old.items ++ model.column text.now) }
 {
+    out.push(b' ')?;
     out.resize(out.len() + WIDTH.saturating_sub(text.len()), b' ')?;
     out.extend_from_slice(text)?;
     Ok(())

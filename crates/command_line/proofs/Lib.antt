@@ -7,5 +7,6 @@ pub mod Given
 pub mod Addresses
 pub mod Rows
 pub mod Triples
+pub mod Optional
 pub mod Times
 pub mod Viewing

@@ -2,28 +2,24 @@
 use Rattle.std.proofs.Common.{◌≡◌, ℕ, MatchOption, List, [], ◌∷◌, bytes_eq, unwrap_or, refl, sym, ap, ◌∙◌, subst, Option, Some, None}
 use Rattle.std.specs.Prelude.{find}
 use Rattle.clap.specs.declared.parser.matches.ArgMatches.{ArgMatches}
-use Rattle.command_line.specs.declared.table.Role.TheVariants as role
 use Rattle.command_line.specs.declared.table.Setting.TheVariants.{Verify, NoBatch, From, To, Block, Node, Memory}
 use Rattle.command_line.specs.declared.table.ViewWord.{ViewWord}
 use Rattle.command_line.specs.declared.table.ViewWord.TheVariants as word
 use Rattle.command_line.specs.declared.view.View.{View as OfCode}
-use Rattle.command_line.specs.Tasks.{Read}
 use Rattle.command_line.specs.Asks.{Argument, ArePlaced, valued}
 use Rattle.command_line.specs.Views.{View, CodeArguments, RecordedFiles, TimeArguments, Help, Code, Trace, Blocks, Page, Time, Cost, Gdb, Speedup, AsksView, IsFitView, code_options, meaning_of_view, view_row}
 use Rattle.command_line.specs.Table.{name_of, offered, view_settings, view_text}
-use Rattle.command_line.specs.Reading.{AreGiven, AreOfCode, IsCut, IsOfRow, IsViewGiven, Reads, given_by, id_of, words_for}
+use Rattle.command_line.specs.Reading.{AreGiven, IsCut, IsOfRow, IsViewGiven, Reads, given_by, words_for}
 use Rattle.command_line.proofs.Addresses.{at_one}
 use Rattle.command_line.proofs.Cuts.{same_cut}
 use Rattle.command_line.proofs.Given.{given_of, gives, row_back, row_cut, row_given, same_head}
 use Rattle.command_line.proofs.Times.{one_speedup, one_time}
+use Rattle.command_line.proofs.Optional.{same_one_or_two}
 use Rattle.command_line.proofs.Triples.{same_three}
 use Rattle.command_line.proofs.Rows.{flag_one, maybes_one, names_one, same_file, same_read, says_one}
 
 abbrev Given : Type 0
 Given = List ℕ → List (List ℕ)
-
-abbrev operand : List ℕ
-operand = id_of role.Operand
 
 -- a view, by its word and its arguments
 abbrev pub Arguments : ViewWord → Type 0
@@ -33,7 +29,7 @@ Arguments word.Trace = RecordedFiles × Option ℕ × Option ℕ × Option ℕ �
 Arguments word.Blocks = RecordedFiles
 Arguments word.Page = RecordedFiles × List ℕ × Option ℕ × Option ℕ
 Arguments word.Time = TimeArguments
-Arguments word.Cost = CodeArguments
+Arguments word.Cost = CodeArguments × Option (List ℕ)
 Arguments word.Speedup = TimeArguments × List ℕ
 Arguments word.Gdb = RecordedFiles × ℕ
 
@@ -44,7 +40,7 @@ view word.Trace a = Trace a.0 a.1 a.2 a.3 a.4
 view word.Blocks a = Blocks a
 view word.Page a = Page a.0 a.1 a.2 a.3
 view word.Time a = Time a
-view word.Cost a = Cost a
+view word.Cost a = Cost a.0 a.1
 view word.Speedup a = Speedup a.0 a.1
 view word.Gdb a = Gdb a.0 a.1
 
@@ -55,7 +51,7 @@ view_word (Trace run from to block node) = word.Trace
 view_word (Blocks run) = word.Blocks
 view_word (Page run output from to) = word.Page
 view_word (Time a) = word.Time
-view_word (Cost a) = word.Cost
+view_word (Cost a record_file) = word.Cost
 view_word (Speedup a output) = word.Speedup
 view_word (Gdb run memory) = word.Gdb
 
@@ -69,7 +65,7 @@ arguments_of (Trace run from to block node) = ((run, from, to, block, node), ref
 arguments_of (Blocks run) = (run, refl)
 arguments_of (Page run output from to) = ((run, output, from, to), refl)
 arguments_of (Time a) = (a, refl)
-arguments_of (Cost a) = (a, refl)
+arguments_of (Cost a record_file) = ((a, record_file), refl)
 arguments_of (Speedup a output) = ((a, output), refl)
 arguments_of (Gdb run memory) = ((run, memory), refl)
 
@@ -80,7 +76,7 @@ word_is (Trace run from to block node) = refl
 word_is (Blocks run) = refl
 word_is (Page run output from to) = refl
 word_is (Time a) = refl
-word_is (Cost a) = refl
+word_is (Cost a record_file) = refl
 word_is (Speedup a output) = refl
 word_is (Gdb run memory) = refl
 
@@ -132,24 +128,10 @@ pub no_place : (words : List (List ℕ)) → ArePlaced [] words → words ≡ []
 no_place [] h = refl
 no_place (w ∷ ws) h = absurd h
 
--- what is given says of code that is shown one thing
-pub as_code : (g : Given) (v : View) → IsViewGiven (view_text word.Code) g v
-    → (a : CodeArguments) × AreOfCode g a
-as_code g v h =
-    let r = as_view word.Code g v h in
-    (r.0, record { places = r.1.of_row.places; options = r.1.of_row.options; alone = r.1.fits })
-
-pub as_cost : (g : Given) (v : View) → IsViewGiven (view_text word.Cost) g v
-    → (a : CodeArguments) × AreOfCode g a
-as_cost g v h =
-    let r = as_view word.Cost g v h in
-    (r.0, record { places = r.1.of_row.places; options = r.1.of_row.options; alone = r.1.fits })
-
-one_code : (g : Given) (a b : CodeArguments) → ArePlaced (Read (Some a.file) ∷ []) (g operand)
-    → ArePlaced (Read (Some b.file) ∷ []) (g operand) → AreGiven (code_options a) g
+-- what is given says of code that is shown one thing, beside its file
+one_code : (g : Given) (a b : CodeArguments) → a.file ≡ b.file → AreGiven (code_options a) g
     → AreGiven (code_options b) g → a ≡ b
-one_code g a b p q x y =
-    let file = same_file a.file b.file _ p q in
+one_code g a b file x y =
     let verified = names_one g Verify a.verified b.verified x.0 y.0 in
     let batch = flag_one g NoBatch a.no_batch b.no_batch x.1.0 y.1.0 in
     ap (λ f. record a { file = f }) file
@@ -167,7 +149,8 @@ one_of_word : (g : Given) (w : ViewWord) (a b : Arguments w) → IsOfRow (view_r
     → IsOfRow (view_row (view w b)) g → view w a ≡ view w b
 one_of_word g word.Help a b p q = refl
 one_of_word g word.Code a b p q =
-    ap (λ x. Code x) (one_code g a b p.places q.places p.options q.options)
+    let file = same_file a.file b.file _ p.places q.places in
+    ap (λ x. Code x) (one_code g a b file p.options q.options)
 one_of_word g word.Trace (run, from, to, block, node) (run', from', to', block', node') p q =
     let files = same_read run.file run.record_file run'.file run'.record_file _ p.places q.places in
     let verified = names_one g Verify run.verified run'.verified p.options.0 q.options.0 in
@@ -196,8 +179,10 @@ one_of_word g word.Page (run, output, from, to) (run', output', from', to') p q 
     ∙ ap (λ x. Page run' output' from' x)
     (maybes_one g To to to' p.options.1.1.0 q.options.1.1.0)
 one_of_word g word.Time a b p q = ap (λ x. Time x) (one_time g a b p q)
-one_of_word g word.Cost a b p q =
-    ap (λ x. Cost x) (one_code g a b p.places q.places p.options q.options)
+one_of_word g word.Cost (a, record_file) (b, record_file') p q =
+    let files = same_one_or_two a.file b.file record_file record_file' _ p.places q.places in
+    ap (λ x. Cost x record_file) (one_code g a b files.0 p.options q.options)
+    ∙ ap (λ x. Cost b x) files.1
 one_of_word g word.Speedup (a, output) (b, output') p q =
     let same = one_speedup g a b output output' p q in
     ap (λ x. Speedup x output) same.0 ∙ ap (λ x. Speedup b x) same.1

@@ -78,6 +78,11 @@ AreThree one other third words =
     (words ≡ one ∷ other ∷ third ∷ []) × (0 < length one) × (0 < length other)
     × (0 < length third)
 
+-- what is given is one word, or two where there is another; none is empty
+abbrev pub AreOneOrTwo : (one : List ℕ) (other : Option (List ℕ)) → List (List ℕ) → Type 0
+AreOneOrTwo one None words = IsOne one words
+AreOneOrTwo one (Some other) words = AreTwo one other words
+
 -- the words of a role among the arguments
 abbrev pub words_for : Role → List Argument → List (List ℕ)
 words_for role.Operand arguments = flat_map operand_in arguments
@@ -157,9 +162,8 @@ pub record IsViewGiven (word : List ℕ) (given : List ℕ → List (List ℕ)) 
     pub of_row : IsOfRow (view_row view) given
     pub fits : IsFitView view
 
--- what is given are the file and the options of code that is shown, and nothing too much
+-- what is given are the options of code that is shown, beside its file, and nothing too much
 pub record AreOfCode (given : List ℕ → List (List ℕ)) (a : CodeArguments) : Type 0 where
-  pub places : ArePlaced (Read (Some a.file) ∷ []) (given (id_of role.Operand))
   pub options : AreGiven (code_options a) given
   pub alone : IsTrue (is_alone a.verified None a.no_batch)
 

@@ -1,5 +1,5 @@
 -- The views of the viewer, in a table of their own, and what it is that the words ask for a view.
-use Rattle.std.specs.Prelude.{ℕ, ◌-◌, ◌^◌, Bool, IsTrue, List, [], ◌∷◌, codes, Option, None, Some}
+use Rattle.std.specs.Prelude.{ℕ, ◌-◌, ◌^◌, Bool, IsTrue, List, [], ◌∷◌, codes, Option, None, Some, is_some, not, ◌&&◌}
 use Rattle.command_line.specs.declared.view.View.{View as OfCode}
 use Rattle.command_line.specs.declared.view.View.TheVariants as asked
 use Rattle.command_line.specs.declared.view.CodeArguments.{CodeArguments as CodeOfCode}
@@ -54,8 +54,8 @@ pub data View : Type 0 where
   Page : (run : RecordedFiles) (output : List ℕ) (from to : Option ℕ) → View
   -- run nodes by a clock, and show what they spend their time on
   Time : TimeArguments → View
-  -- show what checks cost in rewritten code
-  Cost : CodeArguments → View
+  -- show what checks cost in rewritten code; or, where a record is named, in its run
+  Cost : (arguments : CodeArguments) (record_file : Option (List ℕ)) → View
   -- run by a clock 1 node, 2, 4 and so on to the most, and write a page of their speed-up
   Speedup : (a : TimeArguments) (output : List ℕ) → View
   -- show a recorded run to GDB, on one memory; checkpoints of it take at most so many megabytes
@@ -88,6 +88,11 @@ time_options a =
 abbrev pub code_options : CodeArguments → List (List ℕ × Saying)
 code_options a = verify_option a.verified ∷ (codes "--no-batch", Flag a.no_batch) ∷ []
 
+-- the place of a file that is read, where one is named
+abbrev pub place_of : Option (List ℕ) → List Saying
+place_of None = []
+place_of (Some name) = Read (Some name) ∷ []
+
 -- the table
 abbrev pub view_row : View → Row
 view_row Help = record { word = codes "--help"; places = []; options = [] }
@@ -118,10 +123,10 @@ view_row (Time a) = record {
   places = Read (Some a.file) ∷ [];
   options = nodes_option a.nodes ∷ time_options a;
 }
-view_row (Cost a) = record {
+view_row (Cost arguments record_file) = record {
   word = codes "cost";
-  places = Read (Some a.file) ∷ [];
-  options = code_options a;
+  places = Read (Some arguments.file) ∷ place_of record_file;
+  options = code_options arguments;
 }
 view_row (Speedup a output) = record {
   word = codes "speedup";
@@ -134,11 +139,14 @@ view_row (Gdb run memory) = record {
   options = verify_option run.verified ∷ (codes "--memory", Number 0 1000000 300 memory) ∷ [];
 }
 
--- a view has nothing too much: beside a verified file no word that batches aren't wanted
+-- a view has nothing too much: beside a verified file, or a record, no word that batches aren't
+-- wanted
 abbrev pub IsFitView : View → Type 0
 IsFitView (Code a) = IsTrue (is_alone a.verified None a.no_batch)
 IsFitView (Time a) = IsTrue (is_alone a.verified None a.no_batch)
-IsFitView (Cost a) = IsTrue (is_alone a.verified None a.no_batch)
+IsFitView (Cost arguments record_file) =
+    IsTrue (is_alone arguments.verified None arguments.no_batch)
+    × IsTrue (not (is_some record_file && arguments.no_batch))
 IsFitView (Speedup a output) = IsTrue (is_alone a.verified None a.no_batch)
 IsFitView view = Unit {0}
 
@@ -186,6 +194,7 @@ meaning_of_view (asked.Trace run from to block node) =
 meaning_of_view (asked.Blocks run) = Blocks (recorded_of run)
 meaning_of_view (asked.Page run output from to) = Page (recorded_of run) output.now from to
 meaning_of_view (asked.Time a) = Time (time_of a)
-meaning_of_view (asked.Cost a) = Cost (code_of a)
+meaning_of_view (asked.Cost arguments record_file) =
+    Cost (code_of arguments) (file_name record_file)
 meaning_of_view (asked.Speedup arguments output) = Speedup (time_of arguments) output.now
 meaning_of_view (asked.Gdb run memory) = Gdb (recorded_of run) memory

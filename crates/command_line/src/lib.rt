@@ -8,8 +8,8 @@ ghost use Rattle.command_line.specs.Tasks.{AreFew, is_alone};
 ghost use Rattle.command_line.specs.Asks.{Asks, IsNumber};
 ghost use Rattle.command_line.specs.Table.{text_of};
 ghost use Rattle.command_line.specs.Meaning.{file_name, lanes_of, loss_of, meaning_of};
-ghost use Rattle.command_line.specs.Reading.{AreTwo, Completes, IsOne, SaysFlag, SaysMaybe};
-ghost use Rattle.command_line.specs.Reading.{SaysName, SaysNumber, given_by, id_of};
+ghost use Rattle.command_line.specs.Reading.{AreOneOrTwo, AreTwo, Completes, IsOne, SaysFlag};
+ghost use Rattle.command_line.specs.Reading.{SaysMaybe, SaysName, SaysNumber, given_by, id_of};
 
 use clap::ArgMatches;
 use dsm_io::Text;
@@ -191,6 +191,32 @@ fn two_operands_in<'a>(matches: &ArgMatches<'a>) -> Option<(&'a str, &'a str)>
             }
         }
         Given::Nothing | Given::One(_) | Given::More => None,
+    }
+}
+
+/// The first operand, and the second where there is one. Neither is empty.
+fn one_or_two_operands_in<'a>(matches: &ArgMatches<'a>) -> Option<(&'a str, Option<&'a str>)>
+    ensures { MatchOption result
+        ((f : List ℕ) (g : Option (List ℕ))
+        → AreOneOrTwo f g (given_by matches.now (id_of Role.Operand)) → ⊥)
+        (λ p. AreOneOrTwo p.0.now (file_name p.1) (given_by matches.now (id_of Role.Operand))) }
+{
+    match given_for(matches, Role::Operand) {
+        Given::One(one) => {
+            if one.is_empty() {
+                None
+            } else {
+                Some((one, None))
+            }
+        }
+        Given::Two(one, other) => {
+            if one.is_empty() || other.is_empty() {
+                None
+            } else {
+                Some((one, Some(other)))
+            }
+        }
+        Given::Nothing | Given::More => None,
     }
 }
 

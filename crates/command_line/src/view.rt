@@ -16,7 +16,7 @@ use crate::parsing::{Given, arguments_in, given_for, three_operands_in};
 use crate::table::{Kind, Role, Setting, ViewWord};
 use crate::{
     budget_in, file_in, flag_in, is_alone, maybe_number_in, name_in, nodes_in, number_in,
-    two_operands_in,
+    one_or_two_operands_in, two_operands_in,
 };
 use clap::ArgMatches;
 use dsm_io::Text;
@@ -54,8 +54,12 @@ pub enum View<'a> {
     },
     /// Run nodes by a clock, and show what they spend their time on.
     Time(TimeArguments<'a>),
-    /// Show what checks cost in rewritten code.
-    Cost(CodeArguments<'a>),
+    /// Show what checks cost in rewritten code; or, where the file of a record is named, in its
+    /// run.
+    Cost {
+        arguments: CodeArguments<'a>,
+        record_file: Option<&'a str>,
+    },
     /// Run 1 node by a clock, 2, 4 and so on to the most, and write a page of their speed-up into
     /// the file `output`.
     Speedup {
@@ -127,13 +131,13 @@ fn help_of<'a>(matches: &ArgMatches<'a>) -> Option<View<'a>>
     }
 }
 
-/// What `code` and `cost` are given.
-fn code_arguments_in<'a>(matches: &ArgMatches<'a>) -> Option<CodeArguments<'a>>
-    ensures { MatchOption result
+/// What `code` and `cost` are given beside this file.
+fn code_arguments_in<'a>(matches: &ArgMatches<'a>, file: &'a str) -> Option<CodeArguments<'a>>
+    ensures given { MatchOption result
         ((a : AskedCode) → AreOfCode (given_by matches.now) a → ⊥)
         (λ a. AreOfCode (given_by matches.now) (code_of a)) }
+    ensures file { IfSome result (λ a. a.file.now ≡ file.now) }
 {
-    let file = file_in(matches)?;
     let verified = name_in(matches, Setting::Verify)?;
     let no_batch = flag_in(matches, Setting::NoBatch)?;
     if !is_alone(verified, None, no_batch) {
@@ -152,8 +156,11 @@ fn code_of<'a>(matches: &ArgMatches<'a>) -> Option<View<'a>>
         ((v : Asked) → IsViewGiven (codes "code") (given_by matches.now) v → ⊥)
         (λ v. IsViewGiven (codes "code") (given_by matches.now) (meaning_of_view v)) }
 {
-    let arguments = code_arguments_in(matches)?;
-    Some(View::Code(arguments))
+    let file = file_in(matches)?;
+    match code_arguments_in(matches, file) {
+        Some(arguments) => Some(View::Code(arguments)),
+        None => None,
+    }
 }
 
 /// The view `cost`.
@@ -162,8 +169,19 @@ fn cost_of<'a>(matches: &ArgMatches<'a>) -> Option<View<'a>>
         ((v : Asked) → IsViewGiven (codes "cost") (given_by matches.now) v → ⊥)
         (λ v. IsViewGiven (codes "cost") (given_by matches.now) (meaning_of_view v)) }
 {
-    let arguments = code_arguments_in(matches)?;
-    Some(View::Cost(arguments))
+    let (file, record_file) = one_or_two_operands_in(matches)?;
+    match code_arguments_in(matches, file) {
+        Some(arguments) => {
+            if record_file.is_some() && arguments.no_batch {
+                return None;
+            }
+            Some(View::Cost {
+                arguments,
+                record_file,
+            })
+        }
+        None => None,
+    }
 }
 
 /// The address that an option has. None in it where the option is not there.

@@ -1,0 +1,4 @@
+mod Counted
+mod Labels
+mod Whole
+mod Words

@@ -1,0 +1,202 @@
+//! A recorded run whose words are counted.
+
+ghost use Rattle.std.specs.Prelude.{◌≡◌, ◌<◌, length, slice_index_or};
+ghost use Rattle.check_costs.specs.declared.labels.Label.{Label as OfWord};
+ghost use Rattle.run_trace.specs.node_model.jump_map.Image.{number_of_word};
+ghost use Rattle.run_trace.specs.Given.{what_of};
+ghost use Rattle.run_trace.specs.Traced as trace;
+
+use crate::RunCosts;
+use crate::nodes::nodes_of;
+use check_costs::elf_symbols::Symbols;
+use check_costs::{Label, Tally, labels_of};
+use run_trace::replay::ReplayRefused;
+use run_trace::replay::dsm_core::{Event, Work};
+use run_trace::replay::node_model::jump_map::IMAGE_BASE;
+use run_trace::replay::node_model::jump_map::templates::{Code, Plan};
+use run_trace::replay::run_record::Record;
+use run_trace::{Traced, Tracer, What};
+use std::alloc::{AllocError, Global};
+
+/// A recorded run that is made once more, and what its words count so far.
+#[derive(Drop)]
+pub(crate) struct Counting<'a> {
+    tracer: Tracer<'a>,
+    /// The labels of the words of rewritten code.
+    labels: Vec<Label>,
+    tally: Tally,
+}
+
+impl<'a> Counting<'a> {
+    ghost use Rattle.std.specs.Prelude.{◌≡◌, ◌⊎◌, ◌<◌, ℕ, List, [], IfOk, OnOk, IsErrOf, length, map};
+    ghost use Rattle.std.specs.List.{range_with_len};
+    ghost use Rattle.check_costs.specs.elf_symbols.Symbols.{Symbol};
+    ghost use Rattle.check_costs.specs.Tally.{tally_of};
+    ghost use Rattle.run_trace.specs.node_model.Core.{Exec, Take};
+    ghost use Rattle.run_trace.specs.node_model.Outcome.{counts_after};
+    ghost use Rattle.run_trace.specs.node_model.jump_map.Image.{IsRewriting};
+    ghost use Rattle.run_trace.specs.node_model.jump_map.templates.Code.{HasCode};
+    ghost use Rattle.run_trace.specs.replay.Refusals.{IsFirstBroken, IsUnfinished};
+    ghost use Rattle.run_trace.specs.replay.Way.{IsNextOf};
+    ghost use Rattle.run_trace.specs.replay.declared.refused.ReplayRule.{ReplayRule as Rules};
+    ghost use Rattle.run_trace.specs.replay.declared.refused.ReplayRefused.TheVariants.{Broken};
+    ghost use Rattle.run_trace.specs.replay.dsm_core.CoreParts as core;
+    ghost use Rattle.run_trace.specs.replay.rewriting_law.Bounds.{RunsRewritten};
+    ghost use Rattle.run_trace.specs.replay.run_record.Record.{IsRecord};
+    ghost use Rattle.run_trace.specs.Traced.{Traced as OfEvent};
+    ghost use Rattle.run_trace.specs.Tracing.{events_to_trace};
+    ghost use Rattle.run_costs.specs.Counting.{HasCounted, HasCountedOne, HasGoneOn, IsFewer};
+    ghost use Rattle.run_costs.specs.Counting.{IsSameRun, event_seen, words_seen};
+    ghost use Rattle.run_costs.specs.Counting.{work_in, plan_in, record_in};
+
+    /// At the start of a run.
+    pub(crate) fn new(
+        alloc: Global,
+        work: &Work<'a>,
+        plan: &'a Plan,
+        code: &Code,
+        rec: &'a Record,
+        symbols: &Symbols<'_>,
+    ) -> Result<Counting<'a>, AllocError>
+        requires rewritten { RunsRewritten (core.work_in work.now) }
+        requires plan { IsRewriting (core.work_in work.now).program plan.now
+            (core.work_in work.now).image }
+        requires code { HasCode (core.work_in work.now).program code.now }
+        requires record { IsRecord rec.now }
+        requires nodes { (core.work_in work.now).layout.nodes ≡ rec.now.nodes }
+        ensures start { IfOk result (λ c. HasCounted symbols.now c []) }
+        ensures work { IfOk result (λ c. work_in c ≡ core.work_in work.now) }
+        ensures plan { IfOk result (λ c. plan_in c ≡ plan.now) }
+        ensures rec { IfOk result (λ c. record_in c ≡ rec.now) }
+    {
+        Ok(Counting {
+            tracer: Tracer::new(alloc, work, plan, code, rec)?,
+            labels: labels_of(alloc, symbols, code, plan)?,
+            tally: Tally::new(alloc, symbols.functions().len())?,
+        })
+    }
+
+    /// Makes the next event, and says whether there was one. Fails where it can't be made as the
+    /// record tells of it, where a node isn't over after all, or where a count has no room.
+    pub(crate) fn next(&mut self) -> Result<bool, ReplayRefused>
+        requires counted { (symbols : List Symbol) × (seen : List OfEvent)
+            × HasCounted symbols self.old seen }
+        ensures next { (symbols : List Symbol) (seen : List OfEvent)
+            → HasCounted symbols self.old seen
+            → IfOk result (HasGoneOn symbols self.new seen) }
+        ensures same { OnOk result (IsSameRun self.old self.new) }
+        ensures fewer { IfOk result (IsFewer self.old self.new) }
+        ensures refused { (rule : Rules) (node entry : ℕ)
+            → IsErrOf result (Broken rule node entry)
+            → IsFirstBroken (work_in self.old) (record_in self.old) rule node entry
+            ⊎ IsUnfinished (work_in self.old) (record_in self.old) rule node entry }
+    {
+        let Some(event) = self.tracer.replayer.next() else {
+            self.tracer.replayer.finish()?;
+            return Ok(false);
+        };
+        self.make(event)?;
+        Ok(true)
+    }
+
+    /// Makes the next event.
+    fn make(&mut self, event: Event) -> Result<(), ReplayRefused>
+        requires counted { (symbols : List Symbol) × (seen : List OfEvent)
+            × HasCounted symbols self.old seen }
+        requires next { IsNextOf self.old.tracer.replayer (core.event_of event) }
+        ensures counted { (symbols : List Symbol) (seen : List OfEvent)
+            → HasCounted symbols self.old seen
+            → OnOk result (HasCountedOne symbols self.new seen) }
+        ensures same { OnOk result (IsSameRun self.old self.new) }
+        ensures fewer { OnOk result
+            (events_to_trace self.new.tracer < events_to_trace self.old.tracer) }
+        ensures refused { (rule : Rules) (i entry : ℕ) → IsErrOf result (Broken rule i entry)
+            → IsFirstBroken (work_in self.old) (record_in self.old) rule i entry }
+    {
+        match event {
+            Event::Exec(node) => self.word(node),
+            Event::Take { node, from } => self.take(node, from),
+        }
+    }
+
+    /// Makes the next event, which is a word, and counts it.
+    fn word(&mut self, node: u8) -> Result<(), ReplayRefused>
+        requires counted { (symbols : List Symbol) × (seen : List OfEvent)
+            × HasCounted symbols self.old seen }
+        requires next { IsNextOf self.old.tracer.replayer (Exec node) }
+        ensures counted { (symbols : List Symbol) (seen : List OfEvent)
+            → HasCounted symbols self.old seen
+            → OnOk result (HasCountedOne symbols self.new seen) }
+        ensures same { OnOk result (IsSameRun self.old self.new) }
+        ensures fewer { OnOk result
+            (events_to_trace self.new.tracer < events_to_trace self.old.tracer) }
+        ensures refused { (rule : Rules) (i entry : ℕ) → IsErrOf result (Broken rule i entry)
+            → IsFirstBroken (work_in self.old) (record_in self.old) rule i entry }
+    {
+        let at = self.tracer.replayer.core().node(node).at();
+        let label = label_at(&self.labels, at);
+        let traced = self.tracer.word(node)?;
+        self.tally.add(label, commits(&traced))?;
+        Ok(())
+    }
+
+    /// Makes the next event, which is a take.
+    fn take(&mut self, node: u8, from: u8) -> Result<(), ReplayRefused>
+        requires counted { (symbols : List Symbol) × (seen : List OfEvent)
+            × HasCounted symbols self.old seen }
+        requires next { IsNextOf self.old.tracer.replayer (Take node from) }
+        ensures counted { (symbols : List Symbol) (seen : List OfEvent)
+            → HasCounted symbols self.old seen
+            → OnOk result (HasCountedOne symbols self.new seen) }
+        ensures same { OnOk result (IsSameRun self.old self.new) }
+        ensures fewer { OnOk result
+            (events_to_trace self.new.tracer < events_to_trace self.old.tracer) }
+        ensures refused { (rule : Rules) (i entry : ℕ) → IsErrOf result (Broken rule i entry)
+            → IsFirstBroken (work_in self.old) (record_in self.old) rule i entry }
+    {
+        self.tracer.take(node, from)?;
+        Ok(())
+    }
+
+    /// What was counted, and what the nodes count.
+    pub(crate) fn costs(self, alloc: Global) -> Result<RunCosts, AllocError>
+        ensures counts { (symbols : List Symbol) (seen : List OfEvent)
+            → HasCounted symbols self.entry seen
+            → IfOk result (λ c. c.counts.items ≡ tally_of (length symbols)
+            (words_seen symbols (work_in self.entry) (plan_in self.entry) seen)) }
+        ensures nodes { (symbols : List Symbol) (seen : List OfEvent)
+            → HasCounted symbols self.entry seen
+            → IfOk result (λ c. c.nodes.items
+            ≡ counts_after (work_in self.entry) (map event_seen seen)) }
+    {
+        let nodes = nodes_of(alloc, self.tracer.replayer.core())?;
+        Ok(RunCosts {
+            counts: self.tally.into_counts(),
+            nodes,
+        })
+    }
+}
+
+/// The label of the word at an address, of which the first stands for an address without one.
+fn label_at(labels: &[Label], at: u32) -> Label
+    requires some { 0 < length labels.now }
+    ensures { (first : OfWord) → slice_index_or labels.now 0 first ≡ first
+        → result ≡ slice_index_or labels.now (number_of_word at) first }
+{
+    let number = (at.saturating_sub(IMAGE_BASE) / 4) as usize;
+    if number < labels.len() {
+        labels[number]
+    } else {
+        labels[0]
+    }
+}
+
+/// Whether an event commits a step of the original.
+fn commits(event: &Traced) -> bool
+    ensures { (w : trace.OfWord) → what_of event.now.what ≡ trace.Word w → result ≡ w.commits }
+{
+    match &event.what {
+        What::Word(word) => word.commits,
+        What::Take(_) => false,
+    }
+}
