@@ -8,7 +8,7 @@ use views::shasta_view;
 
 /// How the viewer is called.
 pub(crate) const USAGE: &str = "usage: shasta_view code IN [--verify FILE | --no-batch]
-       shasta_view cost IN [--verify FILE | --no-batch]
+       shasta_view cost IN [RECORD] [--verify FILE | --no-batch]
        shasta_view trace IN RECORD [--verify FILE] [--from S] [--to S] [--block 0xA] [--node I]
        shasta_view blocks IN RECORD [--verify FILE]
        shasta_view page IN RECORD OUT [--verify FILE] [--from S] [--to S]

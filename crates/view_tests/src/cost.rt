@@ -2,6 +2,7 @@
 
 use crate::blocks::named;
 use crate::calls::{Row, USAGE, try_views};
+use crate::trace::RECORD;
 use std::test::Fail;
 use test_calls::files::{executable, rewritten_file};
 use test_calls::samples::HI;
@@ -61,7 +62,7 @@ const HI_CALLS: [Row; 9] = [
     ("cost IN", 0, &HI_COSTS, ""),
     ("cost --verify V IN", 0, &HI_COSTS, ""),
     ("cost", 2, &[], USAGE),
-    ("cost IN IN", 2, &[], USAGE),
+    ("cost IN IN IN", 2, &[], USAGE),
     ("cost IN --nodes 2", 2, &[], USAGE),
     ("cost IN --verify V --no-batch", 2, &[], USAGE),
     ("cost A", 3, &[], "shasta: cannot read A\n"),
@@ -77,6 +78,63 @@ const HI_CALLS: [Row; 9] = [
 const PAIR_CALLS: [Row; 1] = [("cost --no-batch IN", 0, &APART, "")];
 
 const NAMED_CALLS: [Row; 1] = [("cost IN", 0, &NAMED, "")];
+
+/// Of a run, the steps of the original stand in the first column.
+const HEAD_OF_RUN: &str = "   steps   words per 100     own    flag   state   store";
+
+/// Of the run of `trace` by two nodes, whose stamps count the words of a node, but for the messages
+/// that it takes. Node 0 executes six words: lui, the branch, the word that leads away from it, addi,
+/// addi and ecall; of these all but the one that leads away commit a step. Node 1 doesn't branch
+/// away: it executes lui, the branch, the seven words of the load, of which the last commits, addi,
+/// addi and ecall. So `read`, which has the branch and the load, has 2 words of node 0 and 8 of
+/// node 1, of which 4 are the original's own, 5 check the load and one leads away, for 1 and 2 steps.
+/// `main` has 4 words and 4 steps of each. In all these are 18 words for 11 steps: node 0's journal
+/// tells of 6 words, and node 1's of 8 and 4.
+const RUN: [&str; 9] = [
+    HEAD_OF_RUN,
+    HEAD_OF_OTHERS,
+    "       3      10     333       4       5       0       0       0       0       1       0",
+    "  read\n",
+    "       8       8     100       8       0       0       0       0       0       0       0",
+    "  main\n",
+    "      11      18     163      12       5       0       0       0       0       1       0",
+    "  all code\n",
+    NODES,
+];
+
+/// What the nodes count, as `run` tells it.
+const NODES: &str =
+    "node 0 read 0 exclusive 0 upgrade 0 false 0 invalidations 0 fallbacks 0 messages 2
+node 1 read 1 exclusive 0 upgrade 0 false 0 invalidations 0 fallbacks 0 messages 2
+";
+
+/// R is the record of the run, and B the record with one entry changed, whose message isn't there
+/// yet.
+const RUN_CALLS: [Row; 8] = [
+    ("cost IN R", 0, &RUN, ""),
+    ("cost --verify V IN R", 0, &RUN, ""),
+    ("cost IN R R", 2, &[], USAGE),
+    ("cost IN R --no-batch", 2, &[], USAGE),
+    ("cost IN A", 3, &[], "shasta: cannot read A\n"),
+    (
+        "cost IN R --verify IN",
+        4,
+        &[],
+        "shasta: code refused 50 NoPlan\n",
+    ),
+    (
+        "cost IN IN",
+        7,
+        &[],
+        "shasta: record refused 40 at line 1\n",
+    ),
+    (
+        "cost IN B",
+        7,
+        &[],
+        "shasta: record refused 44 at node 0 entry 2\n",
+    ),
+];
 
 #[test]
 fn counts_what_checks_cost(rt: HostRuntime) -> Result<(), Fail> {
@@ -98,4 +156,19 @@ fn counts_it_without_batches(rt: HostRuntime) -> Result<(), Fail> {
 fn counts_it_by_function(rt: HostRuntime) -> Result<(), Fail> {
     let alloc = rt.alloc();
     try_views(alloc, &[("IN", &named(alloc)?)], &NAMED_CALLS)
+}
+
+#[test]
+fn counts_a_run(rt: HostRuntime) -> Result<(), Fail> {
+    let alloc = rt.alloc();
+    let file = named(alloc)?;
+    let broken = RECORD.replace(alloc, "take 9 1 0", "take 8 1 0")?;
+    let verified = rewritten_file(alloc, &file)?;
+    let files = [
+        ("IN", file.as_slice()),
+        ("V", verified.as_slice()),
+        ("R", RECORD.as_bytes()),
+        ("B", broken.as_bytes()),
+    ];
+    try_views(alloc, &files, &RUN_CALLS)
 }

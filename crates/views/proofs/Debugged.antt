@@ -73,7 +73,7 @@ is_other (asked.Trace own from to block one) other run memory is = subst IsOther
 is_other (asked.Blocks own) other run memory is = subst IsOther is tt
 is_other (asked.Page own output from to) other run memory is = subst IsOther is tt
 is_other (asked.Time a) other run memory is = subst IsOther is tt
-is_other (asked.Cost a) other run memory is = subst IsOther is tt
+is_other (asked.Cost a r) other run memory is = subst IsOther is tt
 is_other (asked.Speedup a output) other run memory is = subst IsOther is tt
 is_other (asked.Gdb own most) other run memory is = other own most refl
 

@@ -5,6 +5,7 @@ mod Inputs
 mod Viewed
 mod Coded
 mod Costed
+mod RunCosted
 mod Ordered
 mod Lines
 mod Ends

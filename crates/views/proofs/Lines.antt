@@ -61,11 +61,11 @@ same_on s t u h k = record {
   work = k.work ∙ h.work;
   plan = k.plan ∙ h.plan;
   rec_is = k.rec_is ∙ h.rec_is;
-  code = k.code ∙ h.code;
+  kinds = k.kinds ∙ h.kinds;
 }
 
 pub same_self : (t : Tracer) → IsSame t t
-same_self t = record { work = refl; plan = refl; rec_is = refl; code = refl }
+same_self t = record { work = refl; plan = refl; rec_is = refl; kinds = refl }
 
 -- more events
 pub events_gathered : (elf : Elf) (o : EventFilter) (first t u : Tracer) (start now : SinkState) (lines more : List ℕ)

@@ -8,7 +8,7 @@ use Rattle.templates.specs.Code.{HasCode}
 use Rattle.jump_map.specs.Image.{Cell, PlacedItem, IsExpansion, IsRewriting, address_of_word, head_of, most_words, plan_items, read_cell, words_at}
 use Rattle.code_view.specs.Code.{IsShown}
 use Rattle.code_view.specs.declared.view.CodeView.{CodeView}
-use Rattle.views.proofs.Counted.{has_runs}
+use Rattle.check_costs.proofs.Runs.{has_runs}
 
 -- each item has one word
 words_count : (head : ℕ → ℕ) (at : ℕ) (items : List PlacedItem)

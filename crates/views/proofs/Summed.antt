@@ -69,7 +69,7 @@ word_summed first t u layout s more w way same p passes adds laid_out =
     }
 
 same_back : (s t : Tracer) → IsSame s t → IsSame t s
-same_back s t h = record { work = sym h.work; plan = sym h.plan; rec_is = sym h.rec_is; code = sym h.code }
+same_back s t h = record { work = sym h.work; plan = sym h.plan; rec_is = sym h.rec_is; kinds = sym h.kinds }
 
 -- all were made
 pub whole_summed : (first t u : Tracer) (layout : Shape) (s : Sums) (way : IsSummed first t layout s) → IsSame t u

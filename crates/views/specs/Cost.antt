@@ -8,6 +8,7 @@ use Rattle.templates.specs.declared.plans.PlanEntry.{PlanEntry}
 use Rattle.templates.specs.Code.{HasCode}
 use Rattle.jump_map.specs.Image.{Cell}
 use Rattle.check_costs.specs.declared.counts.WordCounts.{WordCounts}
+use Rattle.check_costs.specs.declared.table.Counted.TheVariants.{Instructions}
 use Rattle.check_costs.specs.Counts.{AreSums, counts_of}
 use Rattle.check_costs.specs.Text.{IsTable}
 use Rattle.judged_files.specs.Inputs.{Inputs}
@@ -23,7 +24,7 @@ pub record IsTableOf (elf : Elf) (plan : List PlanEntry) (image : List Cell) (te
     pub code : List CodeWord
     pub is_code : HasCode (program_of elf) code
     pub sums : AreSums code image counts
-    pub table : IsTable (functions_of elf) counts text
+    pub table : IsTable Instructions (functions_of elf) counts text
 
 -- likewise of the rewritten code of an executable: that of the verified file, by the plan that the
 -- file says, where there is one; else that by the program's plan, with batches or without

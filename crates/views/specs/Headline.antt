@@ -7,6 +7,7 @@ use Rattle.judged_files.specs.Refusals.{IsBadRunLayout, IsRunRefused}
 use Rattle.prepared_run.specs.Replays.{IsReplayRefused, IsBadReplayLayout, IsBadRecord}
 use Rattle.views.specs.Code.{IsCodeText, IsCodeless, coded}
 use Rattle.views.specs.Cost.{IsCostText}
+use Rattle.views.specs.RunCost.{IsRunCostText, run_of}
 use Rattle.views.specs.Trace.{recorded, IsTraceText}
 use Rattle.views.specs.Blocks.{AreCostsOfRun}
 use Rattle.views.specs.Debugger.{IsSessionText}
@@ -18,7 +19,7 @@ use Rattle.views.specs.Speedup.{IsBadLayoutOf, IsSpeedupPage, counts_to}
 unfoldable pub usage : List ℕ
 usage =
     codes "usage: shasta_view code IN [--verify FILE | --no-batch]\n"
-    ++ (codes "       shasta_view cost IN [--verify FILE | --no-batch]\n"
+    ++ (codes "       shasta_view cost IN [RECORD] [--verify FILE | --no-batch]\n"
     ++ (codes "       shasta_view trace IN RECORD [--verify FILE] [--from S] [--to S]"
     ++ (codes " [--block 0xA] [--node I]\n"
     ++ (codes "       shasta_view blocks IN RECORD [--verify FILE]\n"
@@ -34,7 +35,8 @@ usage =
 abbrev pub IsText : View → (List ℕ → List ℕ) → List ℕ → Type 0
 IsText Help contents text = text ≡ usage
 IsText (Code a) contents text = IsCodeText (coded a contents) text
-IsText (Cost a) contents text = IsCostText (coded a contents) text
+IsText (Cost a None) contents text = IsCostText (coded a contents) text
+IsText (Cost a (Some r)) contents text = IsRunCostText (recorded (run_of a r) contents) text
 IsText (Trace run from to block i) contents text =
     IsTraceText (recorded run contents)
     (record { from = from; to = to; address = block; node = i }) text
@@ -62,7 +64,8 @@ AreWritten view contents now =
 abbrev pub IsRefused : View → (List ℕ → List ℕ) → List ℕ → Type 0
 IsRefused Help contents line = ⊥
 IsRefused (Code a) contents line = IsCodeless (coded a contents) line
-IsRefused (Cost a) contents line = IsCodeless (coded a contents) line
+IsRefused (Cost a None) contents line = IsCodeless (coded a contents) line
+IsRefused (Cost a (Some r)) contents line = IsReplayRefused (recorded (run_of a r) contents) line
 IsRefused (Trace run from to block i) contents line = IsReplayRefused (recorded run contents) line
 IsRefused (Blocks run) contents line = IsReplayRefused (recorded run contents) line
 IsRefused (Page run output from to) contents line = IsReplayRefused (recorded run contents) line
@@ -77,6 +80,8 @@ IsLayoutRefused (Trace run from to block i) contents line =
 IsLayoutRefused (Blocks run) contents line = IsBadReplayLayout (recorded run contents) line
 IsLayoutRefused (Page run output from to) contents line =
     IsBadReplayLayout (recorded run contents) line
+IsLayoutRefused (Cost a (Some r)) contents line =
+    IsBadReplayLayout (recorded (run_of a r) contents) line
 IsLayoutRefused (Time a) contents line = IsBadRunLayout (timed a contents) a.nodes line
 IsLayoutRefused (Speedup a output) contents line =
     IsBadLayoutOf (timed a contents) (counts_to a.nodes) line
@@ -88,6 +93,7 @@ abbrev pub IsRecordRefused : View → (List ℕ → List ℕ) → List ℕ → T
 IsRecordRefused (Trace run from to block i) contents line = IsBadRecord (recorded run contents) line
 IsRecordRefused (Blocks run) contents line = IsBadRecord (recorded run contents) line
 IsRecordRefused (Page run output from to) contents line = IsBadRecord (recorded run contents) line
+IsRecordRefused (Cost a (Some r)) contents line = IsBadRecord (recorded (run_of a r) contents) line
 IsRecordRefused (Gdb run memory) contents line = IsBadRecord (recorded run contents) line
 IsRecordRefused view contents line = ⊥
 

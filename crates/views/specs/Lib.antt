@@ -1,5 +1,6 @@
 pub mod Code
 pub mod Cost
+pub mod RunCost
 pub mod Trace
 pub mod Blocks
 pub mod Page

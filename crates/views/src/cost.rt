@@ -1,15 +1,23 @@
 //! `cost`: what the checks in the rewritten code of an executable cost, as a table.
 
-ghost use Rattle.std.specs.Prelude.{◌≡◌, IfErr, IfOk, OnOk};
+ghost use Rattle.std.specs.Prelude.{◌≡◌, ◌<◌, ℕ, List, None, Some, Contains, length};
+ghost use Rattle.std.specs.Prelude.{IfErr, IfOk, MatchResult, OnOk};
+ghost use Rattle.command_line.specs.Meaning.{file_name};
+ghost use Rattle.command_line.specs.Views.{Cost, code_of, reads};
 ghost use Rattle.exec_map.specs.Contents.{program_of as meaning_of};
 ghost use Rattle.jump_map.specs.Image.{IsRewriting};
 ghost use Rattle.judged_files.specs.Given.{bytes_of};
-ghost use Rattle.text_output.specs.Failures.{FailsAs, IsNever, IsRefusal, Puts};
+ghost use Rattle.judged_files.specs.Failures.{file_limit};
+ghost use Rattle.text_output.specs.Failures.{FailsAs, IsNever, IsNoRefusal, IsRefusal, Puts};
 ghost use Rattle.views.specs.Code.{IsCodeless};
 ghost use Rattle.views.specs.Cost.{IsTableOf, IsTextOfCost};
+ghost use Rattle.views.specs.Failures.{IsFailure, IsSuccess};
 
-use check_costs::{counts_of, table_of};
-use dsm_io::Sink;
+use crate::input::{code_files, read_inputs};
+use crate::run_cost::show_run_cost;
+use check_costs::{Counted, counts_of, table_of};
+use command_line::CodeArguments;
+use dsm_io::{Files, Sink};
 use elf_symbols::Symbols;
 use elf32_read::Elf;
 use exec_map::Program;
@@ -21,13 +29,55 @@ use rewriter::Rewritten;
 use std::alloc::{AllocError, Global};
 use text_output::{Failure, put};
 
-/// Puts the table of what the rewritten code of the executable among these files counts, which a
-/// verified one among them may hold.
-pub(crate) fn put_cost<O: Sink>(
+/// Reads the files that are named, and puts what checks cost in the rewritten code of the
+/// executable; or, where the file of a record is named, in its run.
+pub(crate) fn show_cost<F: Files, O: Sink>(
     alloc: Global,
-    inputs: &Inputs<'_>,
+    arguments: &CodeArguments<'_>,
+    record_file: Option<&str>,
+    files: &mut F,
     out: &mut O,
 ) -> Result<(), Failure>
+    ensures ok { OnOk result (IsSuccess (Cost (code_of arguments.now) (file_name record_file.entry))
+        (F.state files.old) (O.state out.old) (O.state out.new)) }
+    ensures failure { IfErr result (IsFailure (Cost (code_of arguments.now) (file_name record_file.entry))
+        (F.state files.old) (F.state files.new) (O.state out.old) (O.state out.new)) }
+    ensures longer { (name content : List ℕ)
+        → Contains (reads (Cost (code_of arguments.now) (file_name record_file.entry))) name
+        → (F.state files.old).held name ≡ Some content → file_limit < length content
+        → MatchResult result (λ _. ⊥) IsNoRefusal }
+    ensures same { (n : List ℕ) → (F.state files.new).held n ≡ (F.state files.old).held n }
+{
+    match record_file {
+        None => show_code_cost(alloc, arguments, files, out),
+        Some(record_file) => show_run_cost(alloc, arguments, record_file, files, out),
+    }
+}
+
+/// Reads the files of code, and puts what checks cost in it.
+fn show_code_cost<F: Files, O: Sink>(
+    alloc: Global,
+    arguments: &CodeArguments<'_>,
+    files: &mut F,
+    out: &mut O,
+) -> Result<(), Failure>
+    ensures ok { OnOk result (IsSuccess (Cost (code_of arguments.now) None)
+        (F.state files.old) (O.state out.old) (O.state out.new)) }
+    ensures failure { IfErr result (IsFailure (Cost (code_of arguments.now) None)
+        (F.state files.old) (F.state files.new) (O.state out.old) (O.state out.new)) }
+    ensures longer { (name content : List ℕ)
+        → Contains (reads (Cost (code_of arguments.now) None)) name
+        → (F.state files.old).held name ≡ Some content → file_limit < length content
+        → MatchResult result (λ _. ⊥) IsNoRefusal }
+    ensures same { (n : List ℕ) → (F.state files.new).held n ≡ (F.state files.old).held n }
+{
+    let read = read_inputs(alloc, files, code_files(arguments))?;
+    put_cost(alloc, &read.lend(), out)
+}
+
+/// Puts the table of what the rewritten code of the executable among these files counts, which a
+/// verified one among them may hold.
+fn put_cost<O: Sink>(alloc: Global, inputs: &Inputs<'_>, out: &mut O) -> Result<(), Failure>
     ensures ok { OnOk result (Puts (IsTextOfCost (bytes_of inputs.now)) 0
         (O.state out.old) (O.state out.new)) }
     ensures failure { IfErr result (FailsAs (IsTextOfCost (bytes_of inputs.now))
@@ -63,5 +113,5 @@ fn counts_text(
     let graph = Graph::of(alloc, program)?;
     let symbols = Symbols::of(alloc, elf)?;
     let counts = counts_of(alloc, &symbols, graph.code(), rewritten.plan())?;
-    table_of(alloc, &symbols, &counts)
+    table_of(alloc, Counted::Instructions, &symbols, &counts)
 }

@@ -9,6 +9,7 @@ mod debugger;
 mod input;
 mod page;
 mod recorded;
+mod run_cost;
 mod speedup;
 mod text;
 mod time;

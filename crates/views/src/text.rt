@@ -3,7 +3,7 @@
 /// How the viewer is called.
 pub(crate) const USAGE: &str = concat!(
     "usage: shasta_view code IN [--verify FILE | --no-batch]\n",
-    "       shasta_view cost IN [--verify FILE | --no-batch]\n",
+    "       shasta_view cost IN [RECORD] [--verify FILE | --no-batch]\n",
     "       shasta_view trace IN RECORD [--verify FILE] [--from S] [--to S]",
     " [--block 0xA] [--node I]\n",
     "       shasta_view blocks IN RECORD [--verify FILE]\n",

@@ -18,7 +18,7 @@ ghost use Rattle.views.specs.Trace.{recorded};
 
 use crate::blocks::put_blocks;
 use crate::code::put_code;
-use crate::cost::put_cost;
+use crate::cost::show_cost;
 use crate::debugger::show_run;
 use crate::input::{code_files, read_inputs, run_files, time_files};
 use crate::page::write_page;
@@ -234,10 +234,10 @@ fn answer<F: Files, O: Sink>(
             let read = read_inputs(alloc, files, code_files(arguments))?;
             put_code(alloc, &read.lend(), out)
         }
-        View::Cost(arguments) => {
-            let read = read_inputs(alloc, files, code_files(arguments))?;
-            put_cost(alloc, &read.lend(), out)
-        }
+        View::Cost {
+            arguments,
+            record_file,
+        } => show_cost(alloc, arguments, *record_file, files, out),
         View::Trace {
             run,
             from,

@@ -2,10 +2,12 @@ use Rattle.std.proofs.Common.{◌≡◌, ap, subst, sym, ◌∙◌}
 use Rattle.exec_map.specs.Contents.{program_of}
 use Rattle.templates.specs.Code.{HasCode, code_of}
 use Rattle.jump_map.specs.Image.{IsRewriting}
+use Rattle.check_costs.specs.declared.table.Counted.TheVariants.{Instructions}
 use Rattle.check_costs.specs.Counts.{AreSums, counts_of}
 use Rattle.check_costs.specs.Text.{IsTable}
+use Rattle.check_costs.proofs.Runs.{has_runs}
 use Rattle.views.specs.Cost.{IsTableOf}
-use Rattle.views.proofs.Counted.{has_runs, is_table_of, ok_as}
+use Rattle.views.proofs.Counted.{is_table_of, ok_as}
 use Rattle.views.proofs.cost.counts_text.Goals as goal
 
 pub counts_of-requires-clause-runs : goal.counts_of-requires-clause-runs
@@ -32,7 +34,7 @@ returns c =
     let sums : AreSums words image counts = c.in_ok-counts.ensures.sums (program_of elf) image code
     (subst (λ p. IsRewriting (program_of elf) p image) (sym c.plan.ensures.value) c.requires.rewriting) in
     let shown = c.deref.ensures.value in
-    ok_as (λ text. IsTable symbols c.deref.result.now text.items) (λ text. IsTableOf elf plan image text.items)
+    ok_as (λ text. IsTable Instructions symbols c.deref.result.now text.items) (λ text. IsTableOf elf plan image text.items)
     c.table_of.result
     (λ text table. is_table_of elf plan image words symbols counts text.items c.in_ok-symbols.ensures code is sums
-    (subst (λ cs. IsTable symbols cs text.items) shown table)) c.table_of.ensures
+    (subst (λ cs. IsTable Instructions symbols cs text.items) shown table)) c.table_of.ensures

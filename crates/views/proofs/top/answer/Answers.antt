@@ -1,6 +1,7 @@
 use Rattle.std.proofs.Common.{◌≡◌, ℕ, List, ap, refl, subst, sym}
 use Rattle.std.specs.Prelude.{Contains}
 use Rattle.std.proofs.lemmas.Result.{err_from_is_err_and}
+use Rattle.command_line.specs.Meaning.{file_name}
 use Rattle.command_line.specs.Views.{Help, Code, Cost, Trace, Blocks, Page, Speedup, Time, code_of, meaning_of_view, reads, recorded_of, time_of}
 use Rattle.dsm_io.specs.Causes.{Appends}
 use Rattle.dsm_io.specs.States.{SinkState, FilesState}
@@ -9,7 +10,6 @@ use Rattle.judged_files.specs.Given.{bytes_of, contents_of}
 use Rattle.judged_files.specs.Refusals.{IsBadRunLayout, IsRunRefused}
 use Rattle.views.specs.Answers.{AreLeft}
 use Rattle.views.specs.Code.{IsCodeless}
-use Rattle.views.specs.Cost.{IsTextOfCost}
 use Rattle.views.specs.Failures.{FailsAsRun, IsFailure, IsSuccess, IsTextOfBlocks, IsTextOfCode, IsTextOfTime, IsTextOfTrace, AreKept, IsPageFailure, IsPageWritten}
 use Rattle.views.specs.Headline.{usage, AreTold, AreWritten}
 use Rattle.views.specs.Inputs.{AreInputs, IsInputFailure, code_files, names_of, run_files, time_files}
@@ -17,8 +17,7 @@ use Rattle.views.specs.SpeedupEnds.{IsSpeedupFailure, IsSpeedupWritten}
 use Rattle.views.specs.declared.trace.Selection.{Selection}
 use Rattle.views.proofs.Coded as coding
 use Rattle.views.proofs.Coded.{code_fails, code_succeeds}
-use Rattle.views.proofs.Costed as costing
-use Rattle.views.proofs.Costed.{cost_fails, cost_succeeds}
+use Rattle.views.proofs.RunCosted.{writes_nothing}
 use Rattle.views.proofs.Inputs.{not_long, unread_fails, unread_no_refusal}
 use Rattle.views.proofs.Runs.{blocks_of_run, blocks_writes_none, run_fails, run_succeeds, trace_of_run, trace_writes_none}
 use Rattle.views.proofs.Sped.{speedup_fails, speedup_kept, speedup_left, speedup_longer, speedup_succeeds, speedup_written}
@@ -140,94 +139,36 @@ returns-in_err-read-in-Code-clause-left g c =
     rw (c.in-Code.is, p.1)
     (λ contents told. nothing_left (Code a) contents files files_now (coding.writes_none a))
 
-pub returns-in_ok-read-in-Cost-clause-ok : goal.returns-in_ok-read-in-Cost-clause-ok
-returns-in_ok-read-in-Cost-clause-ok g c =
-    let files : FilesState = g.F.Files.state c.args.files.now in
-    let before : SinkState = g.O.Sink.state c.args.out.now in
-    let now : SinkState = g.O.Sink.state c.put_cost.new.out in
-    let a = code_of c.in-Cost.arguments in
-    let inputs = bytes_of c.lend-in-Cost.result in
-    let held : AreInputs files (code_files a) inputs =
-    subst (λ n. AreInputs files n inputs) c.code_files-in-Cost.ensures
-    (subst (AreInputs files (names_of c.code_files-in-Cost.result)) (sym c.lend-in-Cost.ensures.value)
-    c.in_ok-read-in-Cost.ensures.ok) in
-    rw c.in-Cost.is
-    (on_ok_as (Puts (IsTextOfCost inputs) 0 before now) (IsSuccess (Cost a) files before now) c.put_cost.result
-    (cost_succeeds a files before now inputs held) c.put_cost.ensures.ok)
+pub returns-in-Cost-clause-ok : goal.returns-in-Cost-clause-ok
+returns-in-Cost-clause-ok g c = rw c.in-Cost.is c.show_cost.ensures.ok
 
-pub returns-in_ok-read-in-Cost-clause-failure : goal.returns-in_ok-read-in-Cost-clause-failure
-returns-in_ok-read-in-Cost-clause-failure g c =
-    let files : FilesState = g.F.Files.state c.args.files.now in
-    let files_now : FilesState = g.F.Files.state c.read_inputs-in-Cost.new.files in
-    let before : SinkState = g.O.Sink.state c.args.out.now in
-    let now : SinkState = g.O.Sink.state c.put_cost.new.out in
-    let a = code_of c.in-Cost.arguments in
-    let inputs = bytes_of c.lend-in-Cost.result in
-    let held : AreInputs files (code_files a) inputs =
-    subst (λ n. AreInputs files n inputs) c.code_files-in-Cost.ensures
-    (subst (AreInputs files (names_of c.code_files-in-Cost.result)) (sym c.lend-in-Cost.ensures.value)
-    c.in_ok-read-in-Cost.ensures.ok) in
-    rw c.in-Cost.is
-    (err_as (FailsAs (IsTextOfCost inputs) (IsCodeless inputs) IsNever before now)
-    (IsFailure (Cost a) files files_now before now) c.put_cost.result
-    (λ f h. cost_fails a files files_now before now inputs f held h) c.put_cost.ensures.failure)
+pub returns-in-Cost-clause-failure : goal.returns-in-Cost-clause-failure
+returns-in-Cost-clause-failure g c = rw c.in-Cost.is c.show_cost.ensures.failure
 
-pub returns-in_ok-read-in-Cost-clause-longer : goal.returns-in_ok-read-in-Cost-clause-longer
-returns-in_ok-read-in-Cost-clause-longer g c = λ name content among is long.
-    let files : FilesState = g.F.Files.state c.args.files.now in
-    let a = code_of c.in-Cost.arguments in
-    let inputs = contents_of c.in_ok-read-in-Cost.read in
-    let held : AreInputs files (code_files a) inputs =
-    subst (λ n. AreInputs files n inputs) c.code_files-in-Cost.ensures c.in_ok-read-in-Cost.ensures.ok in
-    absurd (not_long (Cost a) (code_files a) files inputs name content (costing.reads_are a) held
-    (subst (λ x. Contains (reads (meaning_of_view x)) name) c.in-Cost.is among) is long)
+pub returns-in-Cost-clause-longer : goal.returns-in-Cost-clause-longer
+returns-in-Cost-clause-longer g c = λ name content among is long.
+    c.show_cost.ensures.longer name content
+    (subst (λ x. Contains (reads (meaning_of_view x)) name) c.in-Cost.is among) is long
 
-pub returns-in_err-read-in-Cost-clause-failure : goal.returns-in_err-read-in-Cost-clause-failure
-returns-in_err-read-in-Cost-clause-failure g c =
+pub returns-in-Cost-clause-written : goal.returns-in-Cost-clause-written
+returns-in-Cost-clause-written g c =
     let files : FilesState = g.F.Files.state c.args.files.now in
-    let files_now : FilesState = g.F.Files.state c.read_inputs-in-Cost.new.files in
-    let state : SinkState = g.O.Sink.state c.args.out.now in
+    let files_now : FilesState = g.F.Files.state c.show_cost.new.files in
     let a = code_of c.in-Cost.arguments in
-    let p = err_from_is_err_and c.from_residual-in_err-read-in-Cost.result c.from_residual-in_err-read-in-Cost.ensures.1 in
-    rw (c.in-Cost.is, p.1, p.2) (unread_fails (Cost a) (code_files a) (costing.reads_are a) files files_now state
-    c.in_err-read-in-Cost.field-0.0
-    (subst (λ n. IsInputFailure n files files_now c.in_err-read-in-Cost.field-0.0)
-    c.code_files-in-Cost.ensures c.in_err-read-in-Cost.ensures.failure))
+    let r = file_name c.in-Cost.record_file in
+    rw c.in-Cost.is (ok_all ((contents : List ℕ → List ℕ) → AreTold (Cost a r) files contents
+    → AreWritten (Cost a r) contents files_now) c.show_cost.result
+    (λ contents told. nothing_written (Cost a r) contents files_now (writes_nothing a r)))
 
-pub returns-in_err-read-in-Cost-clause-longer : goal.returns-in_err-read-in-Cost-clause-longer
-returns-in_err-read-in-Cost-clause-longer g c = λ name content among is long.
+pub returns-in-Cost-clause-left : goal.returns-in-Cost-clause-left
+returns-in-Cost-clause-left g c =
     let files : FilesState = g.F.Files.state c.args.files.now in
-    let files_now : FilesState = g.F.Files.state c.read_inputs-in-Cost.new.files in
-    let p = err_from_is_err_and c.from_residual-in_err-read-in-Cost.result c.from_residual-in_err-read-in-Cost.ensures.1 in
-    rw (p.1, p.2) (unread_no_refusal (names_of c.code_files-in-Cost.result) files files_now
-    c.in_err-read-in-Cost.field-0.0 c.in_err-read-in-Cost.ensures.failure)
-
-pub returns-in_ok-read-in-Cost-clause-written : goal.returns-in_ok-read-in-Cost-clause-written
-returns-in_ok-read-in-Cost-clause-written g c =
-    let files : FilesState = g.F.Files.state c.args.files.now in
-    let files_now : FilesState = g.F.Files.state c.read_inputs-in-Cost.new.files in
+    let files_now : FilesState = g.F.Files.state c.show_cost.new.files in
     let a = code_of c.in-Cost.arguments in
-    rw c.in-Cost.is (ok_all ((contents : List ℕ → List ℕ) → AreTold (Cost a) files contents
-    → AreWritten (Cost a) contents files_now) c.put_cost.result
-    (λ contents told. nothing_written (Cost a) contents files_now (costing.writes_none a)))
-
-pub returns-in_ok-read-in-Cost-clause-left : goal.returns-in_ok-read-in-Cost-clause-left
-returns-in_ok-read-in-Cost-clause-left g c =
-    let files : FilesState = g.F.Files.state c.args.files.now in
-    let files_now : FilesState = g.F.Files.state c.read_inputs-in-Cost.new.files in
-    let a = code_of c.in-Cost.arguments in
-    rw c.in-Cost.is (err_all (λ f. (contents : List ℕ → List ℕ) → AreTold (Cost a) files contents
-    → AreLeft (Cost a) contents files files_now) c.put_cost.result
-    (λ f contents told. nothing_left (Cost a) contents files files_now (costing.writes_none a)))
-
-pub returns-in_err-read-in-Cost-clause-left : goal.returns-in_err-read-in-Cost-clause-left
-returns-in_err-read-in-Cost-clause-left g c =
-    let files : FilesState = g.F.Files.state c.args.files.now in
-    let files_now : FilesState = g.F.Files.state c.read_inputs-in-Cost.new.files in
-    let a = code_of c.in-Cost.arguments in
-    let p = err_from_is_err_and c.from_residual-in_err-read-in-Cost.result c.from_residual-in_err-read-in-Cost.ensures.1 in
-    rw (c.in-Cost.is, p.1)
-    (λ contents told. nothing_left (Cost a) contents files files_now (costing.writes_none a))
+    let r = file_name c.in-Cost.record_file in
+    rw c.in-Cost.is (err_all (λ f. (contents : List ℕ → List ℕ) → AreTold (Cost a r) files contents
+    → AreLeft (Cost a r) contents files files_now) c.show_cost.result
+    (λ f contents told. nothing_left (Cost a r) contents files files_now (writes_nothing a r)))
 
 pub returns-in_ok-read-in-Trace-clause-ok : goal.returns-in_ok-read-in-Trace-clause-ok
 returns-in_ok-read-in-Trace-clause-ok g c =
