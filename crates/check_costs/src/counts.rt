@@ -1,6 +1,6 @@
 //! What rewritten code counts, function by function.
 
-ghost use Rattle.std.specs.Prelude.{◌≡◌, ◌<◌, ◌++◌, ◌∷◌, [], length, set, slice_index_or};
+ghost use Rattle.std.specs.Prelude.{◌≡◌, ◌<◌, ◌+◌, ◌++◌, ◌∷◌, [], length, set, slice_index_or};
 ghost use Rattle.std.specs.Prelude.{All, List, replicate, IfOk, OnOk};
 ghost use Rattle.templates.specs.rv32_program.Program.{Program};
 ghost use Rattle.templates.specs.Code.{HasCode, code_of};
@@ -34,7 +34,7 @@ pub struct WordCounts {
 }
 
 impl WordCounts {
-    ghost use Rattle.std.specs.Prelude.{◌≡◌, ◌∷◌, [], if◌then◌else◌, IfSome};
+    ghost use Rattle.std.specs.Prelude.{◌≡◌, ◌∷◌, [], if◌then◌else◌, IfSome, OnOk};
     ghost use Rattle.check_costs.specs.Counts.{counts_by, plus};
 
     /// That of so many instructions, and of words of these kinds.
@@ -73,12 +73,36 @@ impl WordCounts {
         })
     }
 
-    /// This cost with a word of a kind more, which perhaps commits a step, if there is room.
-    pub(crate) fn with_word(&self, kind: WordKind, commits: bool) -> Option<WordCounts>
-        ensures { IfSome result (λ c. c
-            ≡ plus self.now (counts_by (if commits then 1 else 0) (kind ∷ []))) }
+    /// Counts a word of a kind more, which perhaps commits a step. Fails where a count has no room.
+    pub(crate) fn count_word(&mut self, kind: WordKind, commits: bool) -> Result<(), AllocError>
+        ensures { OnOk result (self.new
+            ≡ plus self.old (counts_by (if commits then 1 else 0) (kind ∷ []))) }
     {
-        self.plus(&WordCounts::of(usize::from(commits), &[kind]))
+        add_to(&mut self.instructions, usize::from(commits))?;
+        add_to(&mut self.words, 1)?;
+        match kind {
+            WordKind::Own => add_to(&mut self.own, 1),
+            WordKind::FlagCheck => add_to(&mut self.flag_checks, 1),
+            WordKind::StateCheck => add_to(&mut self.state_checks, 1),
+            WordKind::StoreCheck => add_to(&mut self.store_checks, 1),
+            WordKind::Batch => add_to(&mut self.batches, 1),
+            WordKind::Poll => add_to(&mut self.polls, 1),
+            WordKind::Jump => add_to(&mut self.jumps, 1),
+            WordKind::Spill => add_to(&mut self.spills, 1),
+        }
+    }
+}
+
+/// Adds to a count, if there is room.
+fn add_to(count: &mut usize, more: usize) -> Result<(), AllocError>
+    ensures { OnOk result (count.new ≡ count.old + more) }
+{
+    match count.checked_add(more) {
+        Some(sum) => {
+            *count = sum;
+            Ok(())
+        }
+        None => Err(AllocError),
     }
 }
 

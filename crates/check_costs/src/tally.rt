@@ -35,13 +35,8 @@ impl Tally {
             → OnOk result (IsTallyOf functions
             (words ++ record { label = label; commits = commits } ∷ []) self.new) }
     {
-        match self.counts[label.function].with_word(label.kind, commits) {
-            Some(counts) => {
-                self.counts[label.function] = counts;
-                Ok(())
-            }
-            None => Err(AllocError),
-        }
+        self.counts[label.function].count_word(label.kind, commits)?;
+        Ok(())
     }
 
     /// What each function counts, in the order of the table, and last code in none.

@@ -1,5 +1,5 @@
 -- A recorded run whose words are counted, with one event more.
-use Rattle.std.proofs.Common.{◌≡◌, ℕ, Bool, List, [], ◌∷◌, ◌++◌, length, map, get_or, refl, sym, ap, ◌∙◌, subst, append-nil}
+use Rattle.std.proofs.Common.{◌≡◌, ℕ, Bool, List, [], ◌∷◌, ◌++◌, length, map, get_or, refl, sym, ap, ◌∙◌, subst, append_assoc, append-nil}
 use Rattle.std.specs.Prelude.{option_to_list}
 use Rattle.std.specs.List.{range_with_len}
 use Rattle.std.specs.Option.{option_map, option_map_or}
@@ -25,11 +25,11 @@ use Rattle.run_trace.specs.declared.traced.Traced.{Traced as Stored}
 use Rattle.run_trace.specs.Given.{traced_of, what_of}
 use Rattle.run_trace.specs.Trace.{trace_from}
 use Rattle.run_trace.specs.Traced.{OfWord, Traced, What, Word, first_traced, traced_at, what_at, word_traced}
-use Rattle.run_trace.specs.Tracing.{HasTraced, HasTracedOne, IsSame, plan_traced, work_traced}
+use Rattle.run_trace.specs.Tracing.{HasTraced, HasTracedOne, HasTracedSilent, IsSame, plan_traced, work_traced}
 use Rattle.run_trace.proofs.Tracings.{traced_on}
 use Rattle.run_costs.specs.declared.counting.Counting.{Counting}
 use Rattle.run_costs.specs.Costs.{label_at, words_at, words_from}
-use Rattle.run_costs.specs.Counting.{HasCounted, HasCountedOne, event_seen, plan_in, words_seen, work_in}
+use Rattle.run_costs.specs.Counting.{HasCounted, HasCountedOne, HasCountedMore, event_seen, plan_in, words_seen, work_in}
 use Rattle.run_costs.proofs.Words.{nodes_alike, words_alike, words_more}
 
 -- 1. Events, by what is traced of them
@@ -108,6 +108,10 @@ seen_made t u before e x one =
 
 -- 2. One more
 
+pub none_more : (symbols : List Symbol) (c : Counting) (seen : List Traced) → HasCounted symbols c seen
+    → HasCountedMore symbols c seen
+none_more symbols c seen h = ([], subst (HasCounted symbols c) (sym (append-nil seen)) h)
+
 module _ (symbols : List Symbol) (c d : Counting) (seen : List Traced) (h : HasCounted symbols c seen)
     (same : IsSame c.tracer d.tracer) (labels : d.labels.items ≡ c.labels.items) where
   -- an event that was made, and executed these words
@@ -176,6 +180,29 @@ module _ (symbols : List Symbol) (c d : Counting) (seen : List Traced) (h : HasC
             label_is (commits_is did what) add,
       )
 
+  -- a word that only computes or accesses memory
+  pub silent_counted : (i : ℕ) (label : Label) (commits : Bool) → HasTracedSilent c.tracer d.tracer seen i commits
+      → May (work_in c) (core_of (core_in c.tracer.replayer)) (Exec i)
+      → label ≡ label_at symbols (work_in c) (plan_in c) ((core_of (core_in c.tracer.replayer)).nodes i).lane.at
+      → ((n : ℕ) (words : List Executed) → IsTallyOf n words c.tally
+      → IsTallyOf n (words ++ record { label = label; commits = commits } ∷ []) d.tally)
+      → HasCountedMore symbols d seen
+  silent_counted i label commits s may label_is add =
+      let x : Traced = record { stamp = s.stamp; node = i; what = Word s.word } in (
+        x ∷ [],
+        counted_word i x label commits s.traced may refl label_is
+            (sym s.commits_so ∙ ap (λ (w : OfWord). w.commits) s.word_is) add,
+      )
+
+  -- no event more
+  pub still_counted : HasTraced d.tracer seen → d.tally ≡ c.tally → HasCountedMore symbols d seen
+  still_counted traced kept = none_more symbols d seen (record {
+    traced = traced;
+    labels = labels ∙ h.labels ∙ (λ j. labels_of symbols (sym same.work j).program.code (sym same.plan j));
+    tallied = ap (λ (t : Tally). t.counts.items) kept ∙ h.tallied
+        ∙ (λ j. tally_of (length symbols) (words_seen symbols (sym same.work j) (sym same.plan j) seen));
+  })
+
   pub take_counted : (i k : ℕ) (x : Stored) → HasTracedOne c.tracer d.tracer h.traced.before (Take i k) x
       → d.tally ≡ c.tally → HasCountedOne symbols d seen
   take_counted i k x one kept =
@@ -189,3 +216,23 @@ module _ (symbols : List Symbol) (c d : Counting) (seen : List Traced) (h : HasC
             (ap (λ (t : Tally). t.counts.items) kept ∙ h.tallied
             ∙ ap (tally_of (length symbols)) (sym (append-nil (words_seen symbols work plan seen)))),
       )
+
+-- 3. Some more
+
+-- more behind some
+pub joined : (symbols : List Symbol) (c d : Counting) (seen : List Traced) → HasCountedMore symbols c seen
+    → ((l : List Traced) → HasCounted symbols c l → HasCountedMore symbols d l) → HasCountedMore symbols d seen
+joined symbols c d seen on next =
+    let more = next (seen ++ on.0) on.1 in
+    (on.0 ++ more.0, subst (HasCounted symbols d) (append_assoc seen on.0 more.0) more.1)
+
+pub same_self : (t : Tracer) → IsSame t t
+same_self t = record { work = refl; plan = refl; rec_is = refl; kinds = refl }
+
+pub same_on : (t u v : Tracer) → IsSame t u → IsSame u v → IsSame t v
+same_on t u v a b = record {
+  work = b.work ∙ a.work;
+  plan = b.plan ∙ a.plan;
+  rec_is = b.rec_is ∙ a.rec_is;
+  kinds = b.kinds ∙ a.kinds;
+}

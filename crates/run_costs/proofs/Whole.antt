@@ -17,7 +17,7 @@ use Rattle.run_trace.specs.Traced.{Traced}
 use Rattle.run_trace.specs.Tracing.{IsSame}
 use Rattle.run_costs.specs.declared.counting.Counting.{Counting}
 use Rattle.run_costs.specs.Costs.{AreCostsOf, words_from, words_told}
-use Rattle.run_costs.specs.Counting.{HasCounted, HasGoneOn, event_seen, plan_in, record_in, words_seen, work_in}
+use Rattle.run_costs.specs.Counting.{HasCounted, HasCountedMore, HasGoneOn, event_seen, plan_in, record_in, words_seen, work_in}
 use Rattle.run_costs.proofs.Counted.{seen_all}
 use Rattle.run_costs.proofs.Labels.{all_within}
 use Rattle.run_costs.proofs.Words.{words_count, steps_count}
@@ -38,6 +38,18 @@ pub on_way : (symbols : List Symbol) (work : Work) (plan : List PlanEntry) (r : 
     → IsOnWay symbols work plan r d
 on_way symbols work plan r c d way same on = record {
   seen = way.seen ++ on.0 ∷ [];
+  counted = on.1;
+  work_is = same.work ∙ way.work_is;
+  plan_is = same.plan ∙ way.plan_is;
+  rec_is = same.rec_is ∙ way.rec_is;
+}
+
+-- some events more
+pub on_further : (symbols : List Symbol) (work : Work) (plan : List PlanEntry) (r : Record) (c d : Counting)
+    (way : IsOnWay symbols work plan r c) → IsSame c.tracer d.tracer → HasCountedMore symbols d way.seen
+    → IsOnWay symbols work plan r d
+on_further symbols work plan r c d way same on = record {
+  seen = way.seen ++ on.0;
   counted = on.1;
   work_is = same.work ∙ way.work_is;
   plan_is = same.plan ∙ way.plan_is;

@@ -4,12 +4,14 @@ use Rattle.check_costs.specs.elf_symbols.Symbols.{Symbol}
 use Rattle.check_costs.specs.Given.{IsTallyOf}
 use Rattle.check_costs.specs.Tally.{Executed, labels_of}
 use Rattle.run_trace.specs.node_model.jump_map.templates.declared.plans.PlanEntry.{PlanEntry}
-use Rattle.run_trace.specs.node_model.Node.{Work}
+use Rattle.run_trace.specs.node_model.Node.{Work, Node}
 use Rattle.run_trace.specs.node_model.Core.{Event, Exec, Take, opening_core}
+use Rattle.run_trace.specs.replay.dsm_core.CoreParts.{core_of}
+use Rattle.run_trace.specs.replay.Way.{core_in}
 use Rattle.run_trace.specs.replay.run_record.declared.Record.{Record}
 use Rattle.run_trace.specs.Trace.{IsTraceOf}
 use Rattle.run_trace.specs.Traced.{Traced, What, Word, Taken}
-use Rattle.run_trace.specs.Tracing.{HasTraced, IsSame, events_to_trace, plan_traced, record_traced, work_traced}
+use Rattle.run_trace.specs.Tracing.{HasTraced, IsSame, events_to_trace, plan_traced, record_traced, replayer_in, work_traced}
 use Rattle.run_costs.specs.declared.counting.Counting.{Counting}
 use Rattle.run_costs.specs.Costs.{words_from}
 
@@ -21,6 +23,10 @@ plan_in c = plan_traced c.tracer
 
 abbrev pub record_in : Counting → Record
 record_in c = record_traced c.tracer
+
+-- a node, as the events made so far have left it
+abbrev pub node_in : Counting → (node : ℕ) → Node
+node_in c i = (core_of (core_in (replayer_in c.tracer))).nodes i
 
 -- an event, by what is traced of it
 abbrev pub event_by : (node : ℕ) → What → Event
@@ -44,6 +50,10 @@ pub record HasCounted (symbols : List Symbol) (c : Counting) (seen : List Traced
 -- one event more was made
 abbrev pub HasCountedOne : List Symbol → Counting → List Traced → Type 0
 HasCountedOne symbols c seen = (x : Traced) × HasCounted symbols c (seen ++ x ∷ [])
+
+-- some events more were made
+abbrev pub HasCountedMore : List Symbol → Counting → List Traced → Type 0
+HasCountedMore symbols c seen = (more : List Traced) × HasCounted symbols c (seen ++ more)
 
 -- the words of a whole run were counted
 pub record HasCountedAll (symbols : List Symbol) (c : Counting) (seen : List Traced) : Type 0 where

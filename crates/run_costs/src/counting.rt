@@ -10,11 +10,11 @@ use crate::RunCosts;
 use crate::nodes::nodes_of;
 use check_costs::elf_symbols::Symbols;
 use check_costs::{Label, Tally, labels_of};
-use run_trace::replay::ReplayRefused;
 use run_trace::replay::dsm_core::{Event, Work};
 use run_trace::replay::node_model::jump_map::IMAGE_BASE;
 use run_trace::replay::node_model::jump_map::templates::{Code, Plan};
 use run_trace::replay::run_record::Record;
+use run_trace::replay::{ReplayRefused, WordsAhead};
 use run_trace::{Traced, Tracer, What};
 use std::alloc::{AllocError, Global};
 
@@ -28,7 +28,8 @@ pub(crate) struct Counting<'a> {
 }
 
 impl<'a> Counting<'a> {
-    ghost use Rattle.std.specs.Prelude.{◌≡◌, ◌⊎◌, ◌<◌, ℕ, List, [], IfOk, OnOk, IsErrOf, length, map};
+    ghost use Rattle.std.specs.Prelude.{◌≡◌, ◌⊎◌, ◌<◌, ◌≤◌, ℕ, List, [], true, length, map};
+    ghost use Rattle.std.specs.Prelude.{IfOk, OnOk, IsErrOf};
     ghost use Rattle.std.specs.List.{range_with_len};
     ghost use Rattle.check_costs.specs.elf_symbols.Symbols.{Symbol};
     ghost use Rattle.check_costs.specs.Tally.{tally_of};
@@ -37,17 +38,19 @@ impl<'a> Counting<'a> {
     ghost use Rattle.run_trace.specs.node_model.jump_map.Image.{IsRewriting};
     ghost use Rattle.run_trace.specs.node_model.jump_map.templates.Code.{HasCode};
     ghost use Rattle.run_trace.specs.replay.Refusals.{IsFirstBroken, IsUnfinished};
-    ghost use Rattle.run_trace.specs.replay.Way.{IsNextOf};
+    ghost use Rattle.run_trace.specs.replay.Way.{IsNextOf, IsStretch, IsWordLess};
     ghost use Rattle.run_trace.specs.replay.declared.refused.ReplayRule.{ReplayRule as Rules};
     ghost use Rattle.run_trace.specs.replay.declared.refused.ReplayRefused.TheVariants.{Broken};
     ghost use Rattle.run_trace.specs.replay.dsm_core.CoreParts as core;
     ghost use Rattle.run_trace.specs.replay.rewriting_law.Bounds.{RunsRewritten};
     ghost use Rattle.run_trace.specs.replay.run_record.Record.{IsRecord};
     ghost use Rattle.run_trace.specs.Traced.{Traced as OfEvent};
-    ghost use Rattle.run_trace.specs.Tracing.{events_to_trace};
-    ghost use Rattle.run_costs.specs.Counting.{HasCounted, HasCountedOne, HasGoneOn, IsFewer};
-    ghost use Rattle.run_costs.specs.Counting.{IsSameRun, event_seen, words_seen};
-    ghost use Rattle.run_costs.specs.Counting.{work_in, plan_in, record_in};
+    ghost use Rattle.run_trace.specs.Tracing.{events_to_trace, replayer_in};
+    ghost use Rattle.run_costs.specs.Costs.{next_word};
+    ghost use Rattle.run_costs.specs.Counting.{HasCounted, HasCountedOne, HasCountedMore};
+    ghost use Rattle.run_costs.specs.Counting.{HasGoneOn, IsFewer, IsSameRun};
+    ghost use Rattle.run_costs.specs.Counting.{event_seen, words_seen};
+    ghost use Rattle.run_costs.specs.Counting.{work_in, plan_in, record_in, node_in};
 
     /// At the start of a run.
     pub(crate) fn new(
@@ -74,6 +77,95 @@ impl<'a> Counting<'a> {
             labels: labels_of(alloc, symbols, code, plan)?,
             tally: Tally::new(alloc, symbols.functions().len())?,
         })
+    }
+
+    /// Makes words that only compute or access memory, as long as such words come next, and counts
+    /// them. Fails where a count has no room.
+    pub(crate) fn count_silent(&mut self) -> Result<(), AllocError>
+        requires counted { (symbols : List Symbol) × (seen : List OfEvent)
+            × HasCounted symbols self.old seen }
+        ensures counted { (symbols : List Symbol) (seen : List OfEvent)
+            → HasCounted symbols self.old seen
+            → OnOk result (HasCountedMore symbols self.new seen) }
+        ensures same { OnOk result (IsSameRun self.old self.new) }
+        ensures most { OnOk result
+            (events_to_trace self.new.tracer ≤ events_to_trace self.old.tracer) }
+    {
+        while let Some(stretch) = self.tracer.words_ahead() {
+            if !self.count_stretch(stretch)? {
+                return Ok(());
+            }
+        }
+        Ok(())
+    }
+
+    /// Makes words of a stretch, as long as they only compute or access memory, and counts them. It
+    /// says whether it made all. Fails where a count has no room.
+    fn count_stretch(&mut self, stretch: WordsAhead) -> Result<bool, AllocError>
+        requires counted { (symbols : List Symbol) × (seen : List OfEvent)
+            × HasCounted symbols self.old seen }
+        requires stretch { IsStretch (replayer_in self.old.tracer) stretch }
+        requires some { 0 < stretch.words }
+        ensures counted { (symbols : List Symbol) (seen : List OfEvent)
+            → HasCounted symbols self.old seen
+            → OnOk result (HasCountedMore symbols self.new seen) }
+        ensures same { OnOk result (IsSameRun self.old self.new) }
+        ensures most { OnOk result
+            (events_to_trace self.new.tracer ≤ events_to_trace self.old.tracer) }
+        ensures fewer { IfOk result (λ all. all ≡ true
+            → events_to_trace self.new.tracer < events_to_trace self.old.tracer) }
+    {
+        let mut stretch = stretch;
+        while stretch.words > 0 {
+            if !self.count_silent_word(&mut stretch)? {
+                return Ok(false);
+            }
+        }
+        Ok(true)
+    }
+
+    /// Makes the next word of a stretch and counts it, where all that it does is to compute or to
+    /// access memory; else it makes none. It says whether it did. Fails where a count has no room.
+    #[inline(always)]
+    fn count_silent_word(&mut self, stretch: &mut WordsAhead) -> Result<bool, AllocError>
+        requires counted { (symbols : List Symbol) × (seen : List OfEvent)
+            × HasCounted symbols self.old seen }
+        requires stretch { IsStretch (replayer_in self.old.tracer) stretch.old }
+        requires some { 0 < stretch.old.words }
+        ensures counted { (symbols : List Symbol) (seen : List OfEvent)
+            → HasCounted symbols self.old seen
+            → OnOk result (HasCountedMore symbols self.new seen) }
+        ensures stretch { IfOk result (λ made. made ≡ true
+            → IsStretch (replayer_in self.new.tracer) stretch.new) }
+        ensures less { IfOk result (λ made. made ≡ true
+            → IsWordLess stretch.old stretch.new) }
+        ensures same { OnOk result (IsSameRun self.old self.new) }
+        ensures most { OnOk result
+            (events_to_trace self.new.tracer ≤ events_to_trace self.old.tracer) }
+        ensures fewer { IfOk result (λ made. made ≡ true
+            → events_to_trace self.new.tracer < events_to_trace self.old.tracer) }
+    {
+        let label = self.next_label(stretch.node);
+        let Some(commits) = self.tracer.make_silent_word(stretch) else {
+            return Ok(false);
+        };
+        self.tally.add(label, commits)?;
+        Ok(true)
+    }
+
+    /// The label of the word that a node executes next.
+    #[inline(always)]
+    fn next_label(&self, node: u8) -> Label
+        requires counted { (symbols : List Symbol) × (seen : List OfEvent)
+            × HasCounted symbols self.now seen }
+        requires node { node < (work_in self.now).layout.nodes }
+        ensures label { (symbols : List Symbol) (seen : List OfEvent)
+            → HasCounted symbols self.now seen
+            → result ≡ (next_word symbols (work_in self.now) (plan_in self.now)
+            (node_in self.now node)).label }
+        ensures function { result.function < length self.now.tally.counts.items }
+    {
+        label_at(&self.labels, self.tracer.core().node(node).at())
     }
 
     /// Makes the next event, and says whether there was one. Fails where it can't be made as the
@@ -133,8 +225,7 @@ impl<'a> Counting<'a> {
         ensures refused { (rule : Rules) (i entry : ℕ) → IsErrOf result (Broken rule i entry)
             → IsFirstBroken (work_in self.old) (record_in self.old) rule i entry }
     {
-        let at = self.tracer.replayer.core().node(node).at();
-        let label = label_at(&self.labels, at);
+        let label = self.next_label(node);
         let traced = self.tracer.word(node)?;
         self.tally.add(label, commits(&traced))?;
         Ok(())

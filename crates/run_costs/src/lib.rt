@@ -61,6 +61,10 @@ pub fn costs_of_record(
 {
     tally_law();
     let mut counting = Counting::new(alloc, work, plan, code, rec, symbols)?;
-    while counting.next()? {}
-    Ok(counting.costs(alloc)?)
+    loop {
+        counting.count_silent()?;
+        if !counting.next()? {
+            return Ok(counting.costs(alloc)?);
+        }
+    }
 }
